@@ -1,5 +1,5 @@
 -- Chains of operands, emitted operand by operand.
-use Rattle.std.proofs.Common.{◌≡◌, ℕ, zero, suc, ◌<◌, true, List, [], ◌∷◌, length, get_or, drop, take, refl, sym, ap, subst, arith}
+use Rattle.std.proofs.Common.{◌≡◌, ℕ, zero, suc, ◌<◌, true, List, [], ◌∷◌, length, get_or, drop, refl, sym, ap, subst, arith}
 use Rattle.std.proofs.lemmas.Bool.{and_parts}
 use Rattle.pb_text_tree.specs.declared.operator.Connective.{Connective}
 use Rattle.pb_text_tree.specs.declared.operator.Connective.TheVariants as connective
@@ -11,13 +11,9 @@ use Rattle.pb_typed_tree.specs.declared.term.Link.{Link}
 use Rattle.pb_normal.specs.View.{calculated, chained, term_view, term_views, link_views}
 use Rattle.pb_assembler_scheme.specs.Pieces.{Then}
 use Rattle.pb_assembler_scheme.specs.Scheme.{data_piece}
+use Rattle.pb_assembler_measures.proofs.Views.{chain_from}
 use Rattle.pb_assembler.specs.Emitted.{connected_behind}
 use Rattle.pb_normal.specs.Small.{is_small}
-
--- the operands from one of them on
-abbrev pub chain_from : Connective → List Term → normal.Term
-chain_from o [] = normal.Term.Truth true
-chain_from o (x ∷ xs) = chained (Binary (of_connective o)) (term_view x) (term_views xs)
 
 -- one more operand in front
 pub one_more : (o : Connective) (x y : normal.Term) → data_piece (Binary (of_connective o) x y) ≡ Then (data_piece y) (connected_behind o (data_piece x))
@@ -59,9 +55,3 @@ small_operand first [] k l b e h = absurd (omega arith)
 small_operand first (m ∷ ls) zero l b e h =
     subst (λ (n : Link). is_small (term_view n.operand) ≡ true) (sym e) (and_parts (is_small first) (is_small (term_view m.operand)) (small_head (Binary (of_arithmetic m.operator) first (term_view m.operand)) ls h)).1
 small_operand first (m ∷ ls) (suc k) l b e h = small_operand (Binary (of_arithmetic m.operator) first (term_view m.operand)) ls k l (omega arith) e h
-
-pub calculated_more : (first : normal.Term) (ls : List Link) (k : ℕ) (l : Link) → k < length ls → l ≡ get_or ls k l
-    → calculated first (link_views (take (suc k) ls)) ≡ Binary (of_arithmetic l.operator) (calculated first (link_views (take k ls))) (term_view l.operand)
-calculated_more first [] k l b e = absurd (omega arith)
-calculated_more first (m ∷ ls) zero l b e = ap (λ (n : Link). Binary (of_arithmetic n.operator) first (term_view n.operand)) (sym e)
-calculated_more first (m ∷ ls) (suc k) l b e = calculated_more (Binary (of_arithmetic m.operator) first (term_view m.operand)) ls k l (omega arith) e

@@ -17,9 +17,9 @@ use Rattle.pb_normal.specs.declared.normal.Equation.{Equation}
 use Rattle.pb_assembler_scheme.specs.Scheme.{equation_code}
 use Rattle.pb_assembler_accepted.proofs.Limits.{within_limits}
 use Rattle.pb_assembler.specs.Compiled.{bare_program, compiled_contents, all_compiled, has_fitting_carriers, IsReadyToCompile, AreReady}
-use Rattle.pb_assembler.specs.Measures.{AreMeasures}
-use Rattle.pb_assembler.specs.MeasureEquations.{IsProgram}
-use Rattle.pb_assembler.specs.declared.measures.Measures.{Measures}
+use Rattle.pb_assembler_measures.specs.Measures.{AreMeasures}
+use Rattle.pb_assembler_measures.specs.MeasureEquations.{IsProgram}
+use Rattle.pb_assembler_measures.specs.declared.measures.Measures.{Measures}
 use Rattle.pb_assembler_builder.proofs.Drafts.{append_one}
 use Rattle.pb_assembler_modules.proofs.StatedCounts.{cost_same}
 

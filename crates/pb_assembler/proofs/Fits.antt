@@ -39,7 +39,7 @@ use Rattle.pb_assembler_modules.specs.Module.{with_names, struct_names}
 use Rattle.pb_assembler.specs.Compiled.{bare_program, compiled_contents, all_compiled, has_fitting_fields, has_fitting_carriers, IsReadyToCompile, AreReady}
 use Rattle.pb_assembler.proofs.Names.{has_enumerator_names}
 use Rattle.pb_assembler.proofs.Fitting.{code_fits, code_some}
-use Rattle.pb_assembler.proofs.Ready.{AreFormsOf}
+use Rattle.pb_assembler_measures.proofs.MeasureMade.{AreFormsOf}
 
 pub between : (low end n : ℕ) → low ≤ n → n < end → is_between low end n ≡ true
 between low end n l h = and_from _ _ (le-leb low n l) (lt-ltb n end h)

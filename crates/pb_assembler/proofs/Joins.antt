@@ -1,8 +1,8 @@
 -- Chains of formulas, operand by operand, and quantifiers, slot by slot.
-use Rattle.std.proofs.Common.{◌≡◌, ℕ, zero, suc, ◌+◌, ◌<◌, Bool, true, false, List, [], ◌∷◌, ◌++◌, length, get_or, take, drop, ◌-◌, ◌≤◌, Option, Some, None, IfSome, refl, sym, ap, ◌∙◌, subst, arith, true≢false, Vec, Global, Box, inl, inr}
+use Rattle.std.proofs.Common.{◌≡◌, ℕ, zero, suc, ◌+◌, ◌<◌, Bool, true, false, List, [], ◌∷◌, ◌++◌, length, get_or, take, drop, ◌-◌, ◌≤◌, Option, Some, None, IfSome, refl, sym, ap, ◌∙◌, subst, arith, true≢false, inl, inr}
 use Rattle.std.proofs.lemmas.Bool.{and_parts, ltb-true}
-use Rattle.std.specs.Prelude.{nat_lt, box_value}
-use Rattle.std.proofs.lemmas.List.{nil_from_length, take_rest}
+use Rattle.std.specs.Prelude.{nat_lt}
+use Rattle.std.proofs.lemmas.List.{take_rest}
 use denote.Enum.Bare.{sameb}
 use Rattle.pb_sorts.specs.declared.carrier.Carrier.{Carrier}
 use Rattle.pb_text_tree.specs.declared.operator.Quantifier.{Quantifier}
@@ -11,7 +11,6 @@ use Rattle.pb_normal.specs.Normal.{Term, Test, Join, Each, Call}
 use Rattle.pb_normal.specs.contracts.formula.Junction.{the_type}
 use Rattle.pb_normal.specs.declared.formula.Junction.{Junction}
 use Rattle.pb_normal.specs.declared.formula.Junction.TheVariants.{And, Or}
-use Rattle.pb_normal.specs.declared.formula.Formula as formula
 use Rattle.pb_normal.specs.declared.formula.Formula.{Formula}
 use Rattle.pb_normal.specs.Normalisation.{dual}
 use Rattle.pb_normal.specs.View.{chained, nested, formula_view, formula_views}
@@ -24,7 +23,7 @@ use Rattle.pb_assembler.specs.Operands.{Guarded, early_test, guarded_by, IsLeft,
 use Rattle.pb_normal.specs.Small.{is_small, is_small_formula}
 use Rattle.pb_assembler.proofs.Awaited.{Awaits}
 use Rattle.pb_assembler.proofs.Emitting.{emits_then, emits_repeat, adds_from}
-use Rattle.pb_assembler.proofs.FormulaWeight.{weight, formulas_weight, positive, join_is}
+use Rattle.pb_assembler_measures.proofs.FormulaWeight.{weight, formulas_weight, positive}
 
 -- ---- the first test decides
 
@@ -81,21 +80,6 @@ tested_own Or t x = refl
 pub tested_other : (a : Junction) (t : Term) (x : Piece) → tested_piece (dual a) a t x ≡ Then (data_piece t) (Unless (neutral a) x)
 tested_other And t x = refl
 tested_other Or t x = refl
-
--- a chain of one operand, and one of several
-pub alone : (t x : Formula) (c : Junction) (first : Box Formula Global) (v : Vec Formula Global) → t ≡ formula.Join c first v → x ≡ box_value first → length v.items ≡ 0 → formula_view x ≡ formula_view t
-alone t x c first v is same none = join_is t x c first v [] is same (sym (nil_from_length v.items none))
-
-pub several : (t : Formula) (c : Junction) (first : Box Formula Global) (v : Vec Formula Global) → t ≡ formula.Join c first v → 0 < length v.items → None ≡ test_of (formula_view t)
-several t c first v is some = by v.items some ∙ ap test_of (join_is t (box_value first) c first v v.items is refl refl)
-  where
-    by : (fs : List Formula) → 0 < length fs → None ≡ test_of (chained (Join c) (formula_view (box_value first)) (formula_views fs))
-    by [] l = absurd (omega arith)
-    by (f ∷ fs) l = refl
-
-pub no_test : (q : Quantifier) (s : ℕ) (cs : List Carrier) (f : normal.Formula) → 0 < length cs → None ≡ test_of (nested q s cs f)
-no_test q s [] f l = absurd (omega arith)
-no_test q s (c ∷ cs) f l = refl
 
 -- ---- numbers stay small, and work less
 

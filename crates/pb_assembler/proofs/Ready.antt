@@ -18,7 +18,7 @@ use Rattle.pb_bytecode_program.specs.Machine.{Program}
 use Rattle.pb_normal.specs.Equations.{normal_equation}
 use Rattle.pb_normal.specs.Loops.{equation_loops, variable_shapes}
 use Rattle.pb_normal.specs.Normal.{Formula}
-use Rattle.pb_normal.specs.View.{formula_view, right_views, shapes_of}
+use Rattle.pb_normal.specs.View.{formula_view, shapes_of}
 use Rattle.pb_normal.specs.declared.normal.Equation.{Equation}
 use Rattle.pb_assembler_scheme.specs.Correct.{IsCompiled, quantifiers}
 use Rattle.pb_assembler_scheme.specs.Scheme.{equation_code}
@@ -29,7 +29,7 @@ use Rattle.pb_assembler_modules.specs.Module.{AreEquationsOf}
 use Rattle.pb_assembler.specs.Compiled.{bare_program, compiled_contents, all_compiled, IsReadyToCompile, AreReady}
 use Rattle.pb_normal.specs.Small.{is_small_formula}
 use Rattle.pb_assembler_modules.proofs.StatedCounts.{cost_same}
-use Rattle.pb_assembler.proofs.MeasureMade.{program, program_made}
+use Rattle.pb_assembler_measures.proofs.MeasureMade.{AreFormsOf, program, program_made}
 
 -- what is known of each of the equations
 pub record AreSound (spec : Spec) (E : List syntax.Equation) : Type 0 where
@@ -43,12 +43,6 @@ later spec X E h = record {
   small = λ k Y at. h.small (suc k) Y at;
   named = (and_parts (is_module_name X.name) (list_all (λ (Y : syntax.Equation). is_module_name Y.name) E) h.named).1;
 }
-
--- the equations of a normal form, and the carriers of their parameters
-pub record AreFormsOf (spec : Spec) (E : List syntax.Equation) (css : List (List Carrier)) (es : List Equation) : Type 0 where
-  pub rights : right_views es ≡ map (normal_equation spec) E
-  pub loops : map (λ (e : Equation). shapes_of e.loops.now) es ≡ map (equation_loops spec) E
-  pub parameters : map shapes_of css ≡ parameter_shapes spec E
 
 module _ (spec : Spec) (callees : List (List Carrier)) (calls : map shapes_of callees ≡ parameter_shapes spec spec.equations) where
   module _ (X : syntax.Equation) (cs : List Carrier) (e : Equation) (right : formula_view e.right ≡ normal_equation spec X) (loops : shapes_of e.loops.now ≡ equation_loops spec X) where

@@ -32,11 +32,12 @@ use Rattle.pb_assembler_accepted.specs.Made.{parameter_shapes}
 use Rattle.pb_assembler_modules.specs.Module.{struct_names, AreEquationsOf, IsCompiledModule, KeepsAllLimits}
 use Rattle.pb_assembler_modules.proofs.Modules.{counted as counted_structs}
 use Rattle.pb_assembler.specs.Compiled.{all_compiled, has_fitting_carriers, AreReady}
-use Rattle.pb_assembler.specs.MeasureEquations.{EachKeepsLimits}
+use Rattle.pb_assembler_measures.specs.MeasureEquations.{EachKeepsLimits}
 use Rattle.pb_assembler.proofs.Names.{has_enumerator_names, has_names}
 use Rattle.pb_assembler.proofs.Fits.{AreKnown, sorts_fit, between, callees_fit, equations_fit, compiled_long, instances_same, compiled_at}
-use Rattle.pb_assembler.proofs.MeasureExcess.{module_keeps}
-use Rattle.pb_assembler.proofs.Ready.{AreSound, AreFormsOf, ready, compiled_parameters, are_equations}
+use Rattle.pb_assembler_measures.proofs.MeasureExcess.{module_keeps}
+use Rattle.pb_assembler_measures.proofs.MeasureMade.{AreFormsOf}
+use Rattle.pb_assembler.proofs.Ready.{AreSound, ready, compiled_parameters, are_equations}
 
 of_each : {X : Type 0} (P : X → Type 0) (xs : List X) → All P xs → (k : ℕ) (x : X) → slice_get xs k ≡ Some x → P x
 of_each P xs all k x at = subst P (get_or_from_slice_get xs k x x at) (all k x (slice_get_within xs k x at))

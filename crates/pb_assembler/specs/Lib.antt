@@ -1,10 +1,3 @@
 pub mod Emitted
-pub mod Excess
-pub mod Measures
-pub mod MeasureTerms
-pub mod MeasureEquations
-pub mod MeasureFormulas
 pub mod Operands
-pub mod Reached
-pub mod Tests
 pub mod Compiled

@@ -8,10 +8,10 @@ ghost use Rattle.pb_assembler_builder.specs.Draft.{is_label};
 ghost use Rattle.pb_assembler.specs.Emitted.{Emits, block_end, called_piece, nowhere};
 ghost use Rattle.pb_normal.specs.Small.{are_small};
 
-use crate::argument::{any_tested, tested_range};
 use crate::emission::emit_plain;
 use crate::term::emit_term;
 use pb_assembler_builder::{Builder, Label};
+use pb_assembler_measures::{any_tested, tested_range};
 use pb_bytecode_program::{Leaf, Op};
 use pb_sorts::{Carrier, Range};
 use pb_typed_tree::Argument;

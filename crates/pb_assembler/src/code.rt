@@ -8,8 +8,8 @@ ghost use Rattle.pb_normal.specs.Small.{is_small_formula};
 
 use crate::emission::emit_plain;
 use crate::formula::{connective_of, emit_formula};
-use crate::measure_equation::outermost;
 use pb_assembler_builder::Builder;
+use pb_assembler_measures::outermost;
 use pb_bytecode_program::Op;
 use pb_normal::Formula;
 use pb_sorts::Layout;

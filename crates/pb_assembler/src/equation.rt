@@ -7,11 +7,11 @@ ghost use Rattle.pb_bytecode.specs.Views.{equation_contents};
 ghost use Rattle.pb_assembler.specs.Compiled.{all_compiled, compiled_contents};
 ghost use Rattle.pb_assembler.specs.Compiled.{has_fitting_carriers, has_fitting_fields, AreReady};
 ghost use Rattle.pb_assembler.specs.Compiled.{IsReadyToCompile};
-ghost use Rattle.pb_assembler.specs.MeasureEquations.{AreMeasuresOfAll, AreMeasuresOf};
+ghost use Rattle.pb_assembler_measures.specs.MeasureEquations.{AreMeasuresOfAll, AreMeasuresOf};
 
 use crate::code::equation_code;
-use crate::measures::Measures;
 use crate::name::copy_name;
+use pb_assembler_measures::Measures;
 use pb_bytecode::Equation;
 use pb_sorts::{Carrier, Layout};
 use std::alloc::{AllocError, Global};

@@ -10,14 +10,14 @@ ghost use Rattle.pb_assembler_scheme.specs.Scheme.{connective_of, deciding_leaf,
 ghost use Rattle.pb_assembler_scheme.specs.Scheme.{junction_of, neutral, test_piece};
 ghost use Rattle.pb_assembler.specs.Emitted.{Emits, nowhere};
 ghost use Rattle.pb_assembler.specs.Operands.{early_test, other_of, IsLeft};
-ghost use Rattle.pb_assembler.specs.Tests.{tested_term};
+ghost use Rattle.pb_assembler_measures.specs.Tests.{tested_term};
 ghost use Rattle.pb_normal.specs.Small.{is_small, is_small_formula};
 
 use crate::call::emit_call;
-use crate::callee::parameters_of;
 use crate::emission::emit_plain;
-use crate::test::{Test, as_test, emit_tested};
+use crate::test::emit_tested;
 use pb_assembler_builder::Builder;
+use pb_assembler_measures::{Test, as_test, junction_of, parameters_of};
 use pb_bytecode_program::{Connective, Leaf, Op};
 use pb_normal::{Formula, Junction};
 use pb_sorts::{Carrier, Layout};
@@ -51,16 +51,6 @@ pub(crate) fn connective_of(kind: Junction) -> Connective
     match kind {
         Junction::And => Connective::And,
         Junction::Or => Connective::Or,
-    }
-}
-
-/// The kind of the bracket that a quantifier's instances stand in.
-pub(crate) fn junction_of(quantifier: Quantifier) -> Junction
-    ensures { result ≡ junction_of quantifier }
-{
-    match quantifier {
-        Quantifier::Forall => Junction::And,
-        Quantifier::Exists => Junction::Or,
     }
 }
 

@@ -6,7 +6,7 @@ use Rattle.pb_text.specs.declared.error.TextRule.TheVariants.{UnknownByte, Unexp
 use Rattle.pb_text.specs.declared.error.TextFault.{TextFault}
 use Rattle.pb_typing_declarations.specs.TypingRule.{rule_number}
 use Rattle.pb_typing_declarations.specs.declared.fault.TypingFault.{TypingFault}
-use Rattle.pb_assembler.specs.declared.compile_error.Excess.{Excess}
+use Rattle.pb_assembler_measures.specs.declared.compile_error.Excess.{Excess}
 use Rattle.pb_bytecode.specs.FaultText as module_fault
 use Rattle.pb_bytecode.specs.LimitNumber.{limit_number}
 use Rattle.pb_bytecode.specs.declared.fault.ModuleFault.{ModuleFault}

@@ -2,8 +2,8 @@
 use Rattle.std.specs.Prelude.{◌≡◌, ℕ, List, [], ◌∷◌, ◌++◌, Option, Contains}
 use Rattle.pb_text_tree.specs.Form.{SpecForm}
 use Rattle.pb_text_meaning.specs.Erase.{erase}
-use Rattle.pb_assembler.specs.Excess.{IsFirstExcess}
-use Rattle.pb_assembler.specs.declared.compile_error.Excess.{Excess}
+use Rattle.pb_assembler_measures.specs.Excess.{IsFirstExcess}
+use Rattle.pb_assembler_measures.specs.declared.compile_error.Excess.{Excess}
 use Rattle.pb_bytecode.specs.Contents.{Contents}
 use Rattle.pb_model_tree.specs.Form.{ModelForm, PropertyForm}
 use Rattle.pb_model_properties.specs.Refusals.{IsRefusedModelText, IsRefusedModelType, LacksProperty}

@@ -7,8 +7,8 @@ use Rattle.pb_typing_rules.specs.Faults.{faults}
 use Rattle.pb_typing_rules.specs.WellTyped.{IsWellTyped}
 use Rattle.pb_typing_declarations.specs.declared.fault.TypingFault.{TypingFault}
 use Rattle.pb_text_meaning.specs.Erase.{erase}
-use Rattle.pb_assembler.specs.Excess.{IsFirstExcess}
-use Rattle.pb_assembler.specs.declared.compile_error.Excess.{Excess}
+use Rattle.pb_assembler_measures.specs.Excess.{IsFirstExcess}
+use Rattle.pb_assembler_measures.specs.declared.compile_error.Excess.{Excess}
 use Rattle.pb_bytecode.specs.Contents.{Contents}
 use Rattle.pb_bytecode.specs.Decoded as decoded
 use Rattle.pb_verifier.specs.Acceptance.{IsAccepted}

@@ -1,8 +1,8 @@
 use Rattle.std.proofs.Common.{List, sym, subst}
 use Rattle.pb_text_tree.specs.Form.{spec_form}
 use Rattle.pb_bytecode.specs.Decoded.{module_contents}
-use Rattle.pb_assembler.specs.MeasureEquations.{AreMeasuresOfAll}
-use Rattle.pb_assembler.specs.declared.measures.Measures.{Measures}
+use Rattle.pb_assembler_measures.specs.MeasureEquations.{AreMeasuresOfAll}
+use Rattle.pb_assembler_measures.specs.declared.measures.Measures.{Measures}
 use Rattle.pb_assembler.proofs.compiler.compile.Goals as goal
 
 pub module_of-requires-clause-measured : goal.module_of-requires-clause-measured

@@ -11,7 +11,7 @@ use Rattle.pb_bytecode.specs.Views.{equation_contents, initial_contents, sort_co
 use Rattle.pb_normal.specs.declared.normal.Equation.{Equation}
 use Rattle.pb_assembler_modules.specs.Module.{struct_names}
 use Rattle.pb_assembler.specs.Compiled.{all_compiled, AreReady, AreSorts}
-use Rattle.pb_assembler.specs.MeasureEquations.{AreMeasuresOfAll}
+use Rattle.pb_assembler_measures.specs.MeasureEquations.{AreMeasuresOfAll}
 use Rattle.pb_assembler.proofs.Names.{has_enumerator_names, text_named}
 use Rattle.pb_typing.proofs.Accepted.{accepted-well-typed}
 use Rattle.pb_assembler.proofs.Texts.{accepted_sorts}

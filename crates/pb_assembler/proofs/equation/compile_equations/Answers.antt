@@ -1,6 +1,6 @@
 use Rattle.std.proofs.Common.{get_or, refl, arith}
 use Rattle.std.proofs.lemmas.Option.{slice_get_read, slice_get-get_or}
-use Rattle.pb_assembler.specs.declared.measures.Measures.{Measures}
+use Rattle.pb_assembler_measures.specs.declared.measures.Measures.{Measures}
 use Rattle.pb_assembler.proofs.Equations.{made_equations, made_more, parameters_there, ready_next, text_there}
 use Rattle.pb_assembler.proofs.equation.compile_equations.Goals as goal
 

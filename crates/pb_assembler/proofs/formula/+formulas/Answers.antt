@@ -14,13 +14,13 @@ use Rattle.pb_assembler_scheme.specs.Pieces.{Piece, Plain, Unless, Choose}
 use Rattle.pb_assembler_scheme.specs.Scheme.{connective_of, data_piece, deciding_leaf, formula_piece, junction_of, neutral}
 use Rattle.pb_assembler.specs.Emitted.{Emits, nowhere}
 use Rattle.pb_assembler.specs.Operands.{Guarded, other_of}
-use Rattle.pb_assembler.specs.Tests.{tested_term}
+use Rattle.pb_assembler_measures.specs.Tests.{tested_term}
 use Rattle.pb_normal.specs.Small.{is_small_formula}
 use Rattle.pb_assembler.proofs.Awaited.{Awaits, awaits_all, awaits_then, awaits_unless, awaits_choose, awaits_no_more}
 use Rattle.pb_assembler.proofs.Emitting.{on_ok}
-use Rattle.pb_assembler.proofs.FormulaWeight.{formulas_weight, join_is, join_weighs}
+use Rattle.pb_assembler_measures.proofs.FormulaWeight.{formulas_weight, join_is, join_weighs}
 use Rattle.pb_assembler.proofs.Joins.{Begins, Closes, are_left, second_left, first_left, behind_first, repeated, test_step, test_small, left_weighs, tested_own, tested_other, next_own, small_rest, small_slot, small_body, begins_more, closes_more, each_repeated, each_other, bracket_emitted, other_kind, same_kind, untested}
-use Rattle.pb_assembler.proofs.Tests.{signed}
+use Rattle.pb_assembler_measures.proofs.Tests.{signed}
 use Rattle.pb_assembler.proofs.formula.+formulas.Goals as goal
 use Rattle.pb_assembler.proofs.formula.+formulas.Goals.{emit_inside-then-early, emit_inside-else-early, emit_outside-then-early, emit_outside-else-early}
 

@@ -1,6 +1,6 @@
 use Rattle.std.proofs.Common.{◌+◌, ◌-◌, ◌≤◌, length}
 use Rattle.pb_normal.specs.Normalisation.{dual}
-use Rattle.pb_assembler.proofs.FormulaWeight.{weight, formulas_weight}
+use Rattle.pb_assembler_measures.proofs.FormulaWeight.{weight, formulas_weight}
 use Rattle.pb_assembler.proofs.Joins.{AreLeft, Begins, Closes}
 use Rattle.pb_assembler.proofs.formula.+formulas.Given as goal
 

@@ -4,7 +4,7 @@ use Rattle.pb_bytecode_program.specs.declared.instruction.Op.TheVariants as op
 use Rattle.pb_assembler_scheme.specs.Pieces.{Plain, Unless}
 use Rattle.pb_assembler_scheme.specs.Scheme.{data_piece, deciding_leaf, neutral}
 use Rattle.pb_assembler.specs.Emitted.{Emits, nowhere}
-use Rattle.pb_assembler.specs.Tests.{tested_term}
+use Rattle.pb_assembler_measures.specs.Tests.{tested_term}
 use Rattle.pb_assembler.proofs.Emitting.{emits_then, unless_emitted}
 use Rattle.pb_assembler.proofs.formula.emit_test.Goals as goal
 

@@ -6,7 +6,7 @@ use Rattle.pb_typing.specs.declared.polarity.Polarity.{Polarity}
 use Rattle.pb_assembler_scheme.specs.Pieces.{Plain}
 use Rattle.pb_assembler_scheme.specs.Scheme.{data_piece}
 use Rattle.pb_assembler.specs.Emitted.{Emits, nowhere}
-use Rattle.pb_assembler.specs.Tests.{signed_term}
+use Rattle.pb_assembler_measures.specs.Tests.{signed_term}
 use Rattle.pb_assembler.proofs.Emitting.{emits_then, on_ok}
 use Rattle.pb_assembler.proofs.test.emit_tested.Goals as goal
 

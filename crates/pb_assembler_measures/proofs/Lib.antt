@@ -1,0 +1,16 @@
+pub mod Views
+pub mod Measured
+pub mod MeasureLoads
+pub mod MeasureTallies
+pub mod MeasureArguments
+pub mod FormulaWeight
+pub mod MeasureChains
+pub mod MeasureCosts
+pub mod MeasureCounts
+pub mod MeasureShapes
+pub mod MeasureSlots
+pub mod MeasureHeads
+pub mod MeasureEquation
+pub mod MeasureMade
+pub mod MeasureExcess
+pub mod Tests

@@ -1,0 +1,4 @@
+pub mod Nesting
+pub mod Reached
+pub mod ReachedBounds
+pub mod ReachedTexts
