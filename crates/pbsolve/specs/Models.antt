@@ -11,8 +11,8 @@ use Rattle.pb_model_properties.specs.Said.{satisfies, IsModelOf, IsTextOf}
 use Rattle.pb_model_properties.specs.Verdicts.{verdict_text}
 use Rattle.pb_report.specs.declared.answer.Answer.{Answer}
 use Rattle.pb_module_solver.specs.Answers.{IsAnswerOf, IsTooLarge}
-use Rattle.pbsolve.specs.declared.solve_fault.SolveFault.{SolveFault}
-use Rattle.pbsolve.specs.declared.solve_fault.SolveFault.TheVariants as solve_fault
+use Rattle.pb_faults.specs.declared.solve_fault.SolveFault.{SolveFault}
+use Rattle.pb_faults.specs.declared.solve_fault.SolveFault.TheVariants as solve_fault
 use Rattle.pbsolve.specs.Answers.{IsModuleOfForm}
 
 -- The verdict on a property is true exactly where the model satisfies it. The counts are those of

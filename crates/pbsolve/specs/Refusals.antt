@@ -1,4 +1,4 @@
--- What a fault says of the input.
+-- What a fault says of a text.
 use Rattle.std.specs.Prelude.{Contains, ℕ, List}
 use Rattle.pb_text_tree.specs.Form.{SpecForm}
 use Rattle.pb_text.specs.Parsing.{IsFirstFault, NoReading}
@@ -10,12 +10,10 @@ use Rattle.pb_text_meaning.specs.Erase.{erase}
 use Rattle.pb_assembler.specs.Excess.{IsFirstExcess}
 use Rattle.pb_assembler.specs.declared.compile_error.Excess.{Excess}
 use Rattle.pb_bytecode.specs.Contents.{Contents}
-use Rattle.pb_bytecode.specs.Decoded as decoded
-use Rattle.pb_verifier.specs.Acceptance.{IsAccepted}
 use Rattle.pb_module_solver.specs.Answers.{IsTooLarge}
-use Rattle.pbsolve.specs.declared.solve_fault.SolveFault.{SolveFault}
-use Rattle.pbsolve.specs.declared.solve_fault.SolveFault.TheVariants as solve_fault
-use Rattle.pbsolve.specs.Answers.{IsTheReading, IsModuleOfText, IsModuleOfCode, Spell}
+use Rattle.pb_faults.specs.declared.solve_fault.SolveFault.{SolveFault}
+use Rattle.pb_faults.specs.declared.solve_fault.SolveFault.TheVariants as solve_fault
+use Rattle.pbsolve.specs.Answers.{IsTheReading, IsModuleOfText}
 
 -- the bytes have no reading within the limits, and the rule is broken at its place
 abbrev pub IsRefusedText : List ℕ → TextFault → Type 0
@@ -39,16 +37,7 @@ abbrev pub IsUncompiledForm : SpecForm → SolveFault → Type 0
 IsUncompiledForm text (solve_fault.Limit excess) = IsFirstExcess (erase text) excess
 IsUncompiledForm text fault = ⊥
 
--- the bytes spell a module whose code is not accepted
-abbrev pub IsUnaccepted : List ℕ → Type 0
-IsUnaccepted bytes = (m : Contents) × Spell bytes m × (¬ IsAccepted m)
-
--- what a fault says of a verified module
-abbrev pub IsRefusedModule : Contents → SolveFault → Type 0
-IsRefusedModule m solve_fault.TooManyVertices = IsTooLarge m
-IsRefusedModule m fault = ⊥
-
--- What a fault says of the input of each command. Where it says ⊥ the command has no such fault.
+-- What a fault says of the text of each command. Where it says ⊥ the command has no such fault.
 
 -- `compile`: the module of a text is never refused, and no game is built
 abbrev pub IsUncompiled : List ℕ → SolveFault → Type 0
@@ -62,19 +51,3 @@ IsUncompiled bytes fault = ⊥
 abbrev pub IsRefused : List ℕ → SolveFault → Type 0
 IsRefused bytes solve_fault.TooManyVertices = (m : Contents) × IsModuleOfText bytes m × IsTooLarge m
 IsRefused bytes fault = IsUncompiled bytes fault
-
--- `list`: reading the bytes as a module meets this fault first
-abbrev pub IsUnlisted : List ℕ → SolveFault → Type 0
-IsUnlisted bytes (solve_fault.Module fault) = decoded.IsFirstFieldFault bytes fault
-IsUnlisted bytes fault = ⊥
-
--- `verify`: they spell none, or one whose code is not accepted
-abbrev pub IsUnverified : List ℕ → SolveFault → Type 0
-IsUnverified bytes (solve_fault.Acceptance fault) = IsUnaccepted bytes
-IsUnverified bytes fault = IsUnlisted bytes fault
-
--- `solve-code`: the module isn't verified, or has too large a game
-abbrev pub IsRefusedBytes : List ℕ → SolveFault → Type 0
-IsRefusedBytes bytes solve_fault.TooManyVertices =
-    (m : Contents) × IsModuleOfCode bytes m × IsTooLarge m
-IsRefusedBytes bytes fault = IsUnverified bytes fault
