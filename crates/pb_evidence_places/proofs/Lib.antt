@@ -1,0 +1,2 @@
+mod Carriers
+mod Placing

@@ -1,0 +1,4 @@
+pub mod Answers
+pub mod Delivery
+pub mod Outputs
+pub mod Refusals

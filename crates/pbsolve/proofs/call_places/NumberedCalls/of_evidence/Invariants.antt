@@ -1,9 +1,0 @@
-use Rattle.pb_call_places.specs.View.{said_by}
-use Rattle.pbsolve.specs.CallPlaces.{place_of_call}
-use Rattle.pbsolve.proofs.Placing.{ArePlacedTo}
-use Rattle.pbsolve.proofs.call_places.NumberedCalls.of_evidence.Given as goal
-
-abbrev pub invariant-loop-k : goal.invariant-loop-k
-invariant-loop-k l =
-    ArePlacedTo l.evidence.instances.items l.evidence.places.items l.evidence.dependencies.items l.evidence.divided
-    (place_of_call (said_by l.self.calls) l.self.layout.now) l.k l.places.items

@@ -1,7 +1,0 @@
-use Rattle.std.proofs.Common.{◌≡◌, ◌++◌, map, take}
-use Rattle.pb_call_places.specs.View.{said_by}
-use Rattle.pbsolve.specs.CallPlaces.{place_of_call}
-use Rattle.pbsolve.proofs.call_places.NumberedCalls.push_places.Given as goal
-
-abbrev pub invariant-loop-k : goal.invariant-loop-k
-invariant-loop-k l = l.places.items ≡ l.fn.places.items ++ map (place_of_call (said_by l.self.calls) l.self.layout.now l.caller) (take l.k l.called)
