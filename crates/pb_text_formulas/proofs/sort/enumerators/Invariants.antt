@@ -2,8 +2,8 @@ use Rattle.std.proofs.Common.{◌≡◌, ◌+◌, ◌-◌, ◌≤◌, suc, lengt
 use Rattle.pb_text_tree.specs.Form.{enumerator_form}
 use Rattle.pb_text_lexer.specs.Steps.{take_token}
 use Rattle.pb_text_lexer.proofs.LoopLemmas.{gathered}
-use Rattle.pb_text.specs.Reading.{enumerator, enumerators, is_bar}
-use Rattle.pb_text.proofs.sort.enumerators.Given as goal
+use Rattle.pb_text_formulas.specs.Reading.{enumerator, enumerators, is_bar}
+use Rattle.pb_text_formulas.proofs.sort.enumerators.Given as goal
 
 abbrev pub invariant-enumerators : goal.invariant-enumerators
 invariant-enumerators l = record {

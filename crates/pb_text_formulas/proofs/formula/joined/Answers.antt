@@ -1,7 +1,7 @@
 use Rattle.std.proofs.Common.{ap, ◌∙◌}
 use Rattle.pb_text_tree.specs.Form.{FormulaForm, formula_form, chained, link_forms}
 use Rattle.pb_text_tree.proofs.FormLemmas.{formula-chain}
-use Rattle.pb_text.proofs.formula.joined.Goals as goal
+use Rattle.pb_text_formulas.proofs.formula.joined.Goals as goal
 
 pub returns : goal.returns
 returns c =

@@ -3,9 +3,9 @@ use Rattle.std.proofs.lemmas.Result.{err_from_is_err_and}
 use Rattle.pb_errors.proofs.Faults.{if_fault}
 use Rattle.pb_text_tree.specs.Form.{sort_declaration_form}
 use Rattle.pb_text_lexer.specs.Steps.{kind}
-use Rattle.pb_text.specs.Reading.{is_name_kind, is_sort}
-use Rattle.pb_text.proofs.PartsLemmas.{kept, kept-none, parts-refused, kept-end, kept-more, kept-fails, declarations-append}
-use Rattle.pb_text.proofs.sort.sort_parts.Goals as goal
+use Rattle.pb_text_formulas.specs.Reading.{is_name_kind, is_sort}
+use Rattle.pb_text_formulas.proofs.PartsLemmas.{kept, kept-none, parts-refused, kept-end, kept-more, kept-fails, declarations-append}
+use Rattle.pb_text_formulas.proofs.sort.sort_parts.Goals as goal
 
 pub parts-init : goal.parts-init
 parts-init c =

@@ -2,8 +2,8 @@ use Rattle.std.proofs.Common.{◌≡◌, ◌+◌, ◌-◌, ◌≤◌, suc, lengt
 use Rattle.pb_text_tree.specs.Form.{sort_declaration_form}
 use Rattle.pb_text_lexer.specs.Steps.{nothing_between}
 use Rattle.pb_text_lexer.proofs.LoopLemmas.{gathered}
-use Rattle.pb_text.specs.Reading.{declaration, declarations, is_name_kind}
-use Rattle.pb_text.proofs.sort.declarations.Given as goal
+use Rattle.pb_text_formulas.specs.Reading.{declaration, declarations, is_name_kind}
+use Rattle.pb_text_formulas.proofs.sort.declarations.Given as goal
 
 abbrev pub invariant-declarations : goal.invariant-declarations
 invariant-declarations l = record {

@@ -9,7 +9,7 @@ ghost use Rattle.pb_text_lexer.specs.Steps as spec;
 ghost use Rattle.pb_text_lexer.specs.Steps.{Gives};
 ghost use Rattle.pb_text_terms.specs.Operators as operators;
 ghost use Rattle.pb_text_terms.specs.Reading as expressions;
-ghost use Rattle.pb_text.specs.Reading as reading;
+ghost use Rattle.pb_text_formulas.specs.Reading as reading;
 
 use crate::next::{open, unless};
 use pb_text_lexer::fault::{ReadingError, ReadingRule};
@@ -262,6 +262,9 @@ fn connectives_behind(
 
 /// A formula, in which so many levels may open. Most often no connective follows its first part at
 /// all.
+///
+/// The first token with which no formula goes on is refused as `ReadingRule::Unexpected`, and one
+/// that opens a level or is an operator more than may be as `ReadingRule::Limit`.
 #[cycle(formulas)]
 pub fn formula(input: &mut Input<'_>, alloc: Global, depth: u32) -> Result<Formula, ReadingError>
     ensures reads { Gives formula_form (reading.formula depth input.old) result input.new }

@@ -6,8 +6,8 @@ use Rattle.pb_text_tree.specs.Form.{enumerator_form}
 use Rattle.pb_text_lexer.specs.Steps.{kind, take_token}
 use Rattle.pb_text_lexer.specs.Tokens.{tok}
 use Rattle.pb_text_lexer.proofs.LoopLemmas.{gathered-none, gathered-more, gathered-end, gathered-item-fails}
-use Rattle.pb_text.specs.Reading.{enumerator, is_bar}
-use Rattle.pb_text.proofs.sort.enumerators.Goals as goal
+use Rattle.pb_text_formulas.specs.Reading.{enumerator, is_bar}
+use Rattle.pb_text_formulas.proofs.sort.enumerators.Goals as goal
 
 pub enumerators-init : goal.enumerators-init
 enumerators-init c = record {

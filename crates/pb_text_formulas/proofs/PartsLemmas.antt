@@ -8,7 +8,7 @@ use Rattle.pb_text_lexer.specs.declared.fault.Refusal.{Refusal}
 use Rattle.pb_text_lexer.specs.declared.fault.ReadingRule.TheVariants.{Unexpected}
 use Rattle.pb_text_lexer.specs.Grammar.{State}
 use Rattle.pb_text_lexer.specs.Steps.{Step, Outcome, and_then, ◌>>=◌, pure, kind, refusal, series, extended, nothing_between}
-use Rattle.pb_text.specs.Reading.{is_name_kind, is_sort, sort_part, some_sort_parts, sort_parts}
+use Rattle.pb_text_formulas.specs.Reading.{is_name_kind, is_sort, sort_part, some_sort_parts, sort_parts}
 
 abbrev parts_from : ℕ → Step (List SortDeclarationForm)
 parts_from = series sort_part is_sort nothing_between (λ sorts. sorts) (λ sorts u rest. sorts ++ rest)

@@ -18,8 +18,8 @@ use Rattle.pb_text_lexer.proofs.CorrectPlain.{Always, anywhere, then-plain, is-c
 use Rattle.pb_text_lexer.proofs.CorrectLeft.{unless_next-correct, extended-correct}
 use Rattle.pb_text_terms.specs.Grammar.{Name}
 use Rattle.pb_text_terms.specs.Reading.{name}
-use Rattle.pb_text.specs.Grammar.{Plain, Recognised, Enumerator, SortBy, SortDecl, SortPart, SortParts}
-use Rattle.pb_text.specs.Reading.{is_question, is_bar, is_name_kind, is_sort, plain, with_recogniser, enumerator, enumerators, sort_by, sort, declaration, declarations, sort_part, some_sort_parts, sort_parts}
+use Rattle.pb_text_formulas.specs.Grammar.{Plain, Recognised, Enumerator, SortBy, SortDecl, SortPart, SortParts}
+use Rattle.pb_text_formulas.specs.Reading.{is_question, is_bar, is_name_kind, is_sort, plain, with_recogniser, enumerator, enumerators, sort_by, sort, declaration, declarations, sort_part, some_sort_parts, sort_parts}
 use Rattle.pb_text_terms.proofs.CorrectVariable.{name-correct}
 
 -- ---- tokens that begin something

@@ -5,8 +5,8 @@ use Rattle.pb_text_tree.specs.Form.{FormulaForm, formula_form, link_forms}
 use Rattle.pb_text_lexer.specs.Grammar.{State}
 use Rattle.pb_text_lexer.proofs.LoopLemmas.{resumed}
 use Rattle.pb_text_terms.specs.Operators.{symbol}
-use Rattle.pb_text.specs.Reading.{operand, level}
-use Rattle.pb_text.proofs.formula.+formulas.Given as goal
+use Rattle.pb_text_formulas.specs.Reading.{operand, level}
+use Rattle.pb_text_formulas.proofs.formula.+formulas.Given as goal
 
 abbrev rank : Connective → ℕ
 rank And = 2

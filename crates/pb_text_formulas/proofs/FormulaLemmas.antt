@@ -19,7 +19,7 @@ use Rattle.pb_text_lexer.proofs.LoopLemmas.{placed, resumed-first-fails}
 use Rattle.pb_text_terms.specs.Operators.{symbol, is_connective}
 use Rattle.pb_text_terms.proofs.ReadLemmas.{resumed-alone-or-fails, no-connective}
 use Rattle.pb_text_terms.specs.Reading as expressions
-use Rattle.pb_text.specs.Reading.{begun, data_term, node, formula, quantification, primary, operand, level}
+use Rattle.pb_text_formulas.specs.Reading.{begun, data_term, node, formula, quantification, primary, operand, level}
 
 -- a level is a chain of its operands
 pub level-chain : (c : Connective) (depth : ℕ) (s : State)

@@ -5,8 +5,8 @@ use Rattle.pb_errors.proofs.Faults.{if_fault}
 use Rattle.pb_text_tree.specs.Form.{sort_declaration_form}
 use Rattle.pb_text_lexer.specs.Steps.{kind, nothing_between}
 use Rattle.pb_text_lexer.proofs.LoopLemmas.{gathered-none, gathered-more, gathered-end, gathered-item-fails}
-use Rattle.pb_text.specs.Reading.{declaration, is_name_kind}
-use Rattle.pb_text.proofs.sort.declarations.Goals as goal
+use Rattle.pb_text_formulas.specs.Reading.{declaration, is_name_kind}
+use Rattle.pb_text_formulas.proofs.sort.declarations.Goals as goal
 
 pub declarations-init : goal.declarations-init
 declarations-init c = record {

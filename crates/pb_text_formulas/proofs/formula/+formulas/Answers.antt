@@ -8,9 +8,9 @@ use Rattle.pb_text_lexer.specs.Tokens.{tok}
 use Rattle.pb_text_lexer.proofs.LoopLemmas.{resumed-first, resumed-first-fails, resumed-end, resumed-more, resumed-operator-fails, resumed-operand-fails}
 use Rattle.pb_text_terms.specs.Operators.{symbol, is_connective}
 use Rattle.pb_text_terms.proofs.ReadLemmas.{on-fewer}
-use Rattle.pb_text.specs.Reading.{operand}
-use Rattle.pb_text.proofs.FormulaLemmas.{level-chain, links-last, node-other, level-alone-or-fails, conjunction-fails, disjunction-fails, primary-fails, primary-alone-or-fails}
-use Rattle.pb_text.proofs.formula.+formulas.Goals as goal
+use Rattle.pb_text_formulas.specs.Reading.{operand}
+use Rattle.pb_text_formulas.proofs.FormulaLemmas.{level-chain, links-last, node-other, level-alone-or-fails, conjunction-fails, disjunction-fails, primary-fails, primary-alone-or-fails}
+use Rattle.pb_text_formulas.proofs.formula.+formulas.Goals as goal
 
 pub node-returns-in_default : goal.node-returns-in_default
 node-returns-in_default t c = rw c.refuse.ensures (record {

@@ -22,8 +22,8 @@ use Rattle.pb_text_terms.specs.Grammar.{Instance, IsTerm, Quantified, Quantified
 use Rattle.pb_text_terms.specs.Operators.{connected_by, is_quantifier}
 use Rattle.pb_text_terms.specs.Reading.{is_open}
 use Rattle.pb_text_terms.specs.Reading as expressions
-use Rattle.pb_text.specs.Grammar.{Begun, IsNode, IsFormula}
-use Rattle.pb_text.specs.Reading.{opening, begun, data_term, node, formula}
+use Rattle.pb_text_formulas.specs.Grammar.{Begun, IsNode, IsFormula}
+use Rattle.pb_text_formulas.specs.Reading.{opening, begun, data_term, node, formula}
 use Rattle.pb_text_terms.proofs.CorrectOperators.{term_goes}
 use Rattle.pb_text_terms.proofs.CorrectTerm.{term-correct, instance-correct}
 use Rattle.pb_text_terms.proofs.CorrectVariable.{head-kind-is, head-limited, quantified-correct, quantified-last}

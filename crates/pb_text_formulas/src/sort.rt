@@ -3,7 +3,7 @@
 ghost use Rattle.std.specs.Prelude.{◌≡◌, ◌≤◌, ◌<◌, length, OnOk, map};
 ghost use Rattle.pb_text_tree.specs.Form.{enumerator_form, sort_form, sort_declaration_form};
 ghost use Rattle.pb_text_lexer.specs.Steps.{Gives};
-ghost use Rattle.pb_text.specs.Reading as reading;
+ghost use Rattle.pb_text_formulas.specs.Reading as reading;
 
 use crate::next::unless;
 use pb_text_lexer::fault::{ReadingError, ReadingRule};
@@ -113,7 +113,8 @@ fn sort_part(input: &mut Input<'_>, alloc: Global) -> Result<Vec<SortDeclaration
     declarations(input, alloc)
 }
 
-/// Any number of sort parts.
+/// Any number of sort parts. The first token with which none goes on is refused as
+/// `ReadingRule::Unexpected`.
 pub fn sort_parts(
     input: &mut Input<'_>,
     alloc: Global,

@@ -5,7 +5,7 @@ ghost use Rattle.pb_text_lexer.specs.Kinds.{same_kind};
 ghost use Rattle.pb_text_lexer.specs.Steps as spec;
 ghost use Rattle.pb_text_lexer.specs.Steps.{GivesExactly};
 ghost use Rattle.pb_text_lexer.specs.Tokens.{tok};
-ghost use Rattle.pb_text.specs.Reading as reading;
+ghost use Rattle.pb_text_formulas.specs.Reading as reading;
 
 use pb_text_lexer::fault::{ReadingRule, Refusal};
 use pb_text_lexer::input::Input;
