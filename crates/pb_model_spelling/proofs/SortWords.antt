@@ -4,7 +4,7 @@ use Rattle.pb_text_tree.specs.Form.{EnumeratorForm, SortForm, struct, SortDeclar
 use Rattle.pb_text_lexer.specs.declared.kind.Kind.{Kind}
 use Rattle.pb_text_lexer.specs.declared.kind.Kind.TheVariants as k
 use Rattle.pb_text_lexer.specs.Grammar.{Is, One, Series, last, more}
-use Rattle.pb_text.specs.Grammar.{Plain, Recognised, Enumerator, SortBy, SortDecl, SortPart, SortParts}
+use Rattle.pb_text_formulas.specs.Grammar.{Plain, Recognised, Enumerator, SortBy, SortDecl, SortPart, SortParts}
 use Rattle.pb_text_meaning.specs.Erase.{erased_enumerator, erased_sort, erased_declaration}
 use Rattle.pb_text_printer.specs.Sayable.{Each, EachOf}
 use Rattle.pb_text_printer.proofs.SaidLemmas.{each-of}

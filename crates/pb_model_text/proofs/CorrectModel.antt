@@ -24,9 +24,10 @@ use Rattle.pb_text_terms.proofs.CorrectOperators.{term_goes, comma-apart, list_g
 use Rattle.pb_text_terms.proofs.CorrectInstance.{placed-correct}
 use Rattle.pb_text_terms.proofs.CorrectTerm.{term-correct}
 use Rattle.pb_text_terms.proofs.TermStarts.{deeper-some}
-use Rattle.pb_text.specs.Grammar.{SortParts}
-use Rattle.pb_text.specs.Reading.{is_name_kind, sort_parts, parameters}
-use Rattle.pb_text.proofs.CorrectSorts.{passes-kind, token-correct, many-correct, parts_go, sort_parts-correct}
+use Rattle.pb_text_formulas.specs.Grammar.{SortParts}
+use Rattle.pb_text_formulas.specs.Reading.{is_name_kind, sort_parts}
+use Rattle.pb_text.specs.Reading.{parameters}
+use Rattle.pb_text_formulas.proofs.CorrectSorts.{passes-kind, token-correct, many-correct, parts_go, sort_parts-correct}
 use Rattle.pb_text.proofs.CorrectText.{parameters_of, parameters-correct}
 use Rattle.pb_model_text.specs.Grammar.{IsFormula, IsAssignment, IsStep, Steps, IsInitialState, IsProperty, Properties, IsModel, IsModelText}
 use Rattle.pb_model_text.specs.Parsing.{BeginsModel, ModelStaysWithin}

@@ -17,7 +17,8 @@ use Rattle.pb_text_lexer.specs.Tokens.{Tok}
 use Rattle.pb_text_terms.specs.Operators.{connected_by}
 use Rattle.pb_text_terms.specs.Grammar.{Name, Variables, Placed, arguments_of, Equated, IsUnary}
 use Rattle.pb_text_terms.specs.Grammar.{IsTerm}
-use Rattle.pb_text.specs.Grammar.{SortParts, Declared}
+use Rattle.pb_text_formulas.specs.Grammar.{SortParts}
+use Rattle.pb_text.specs.Grammar.{Declared}
 use Rattle.pb_model_tree.specs.declared.formula.Modality.{Modality}
 use Rattle.pb_model_tree.specs.declared.formula.Modality.TheVariants as modality
 use Rattle.pb_model_tree.specs.Form.{StepSetForm, FormulaForm, AssignmentForm, StepForm}

@@ -21,7 +21,8 @@ use Rattle.pb_text_terms.specs.Operators.{is_times, is_division}
 use Rattle.pb_text_terms.specs.Grammar.{arguments_of}
 use Rattle.pb_text_terms.specs.Reading.{name, is_comma, is_open, placed, argument_list, equated}
 use Rattle.pb_text_terms.specs.Reading.{unary, term, variables}
-use Rattle.pb_text.specs.Reading.{is_name_kind, parameters, sort_parts}
+use Rattle.pb_text_formulas.specs.Reading.{is_name_kind, sort_parts}
+use Rattle.pb_text.specs.Reading.{parameters}
 use Rattle.pb_model_tree.specs.declared.formula.Modality.{Modality}
 use Rattle.pb_model_tree.specs.declared.formula.Modality.TheVariants as modality
 use Rattle.pb_model_tree.specs.Form.{StepSetForm, FormulaForm, AssignmentForm, StepForm}

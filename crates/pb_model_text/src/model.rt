@@ -11,7 +11,7 @@ use crate::scope::Scope;
 use crate::step::steps;
 use pb_limits::MAX_DEPTH;
 use pb_model_tree::{InitialState, Model, Property};
-use pb_text::sort::sort_parts;
+use pb_text_formulas::sort::sort_parts;
 use pb_text_lexer::fault::{ReadingError, ReadingRule};
 use pb_text_lexer::input::Input;
 use pb_text_lexer::kind::{Kind, same_kind};

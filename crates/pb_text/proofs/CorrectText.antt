@@ -24,13 +24,15 @@ use Rattle.pb_text_lexer.proofs.CorrectLeft.{unless_next-answers, extended-corre
 use Rattle.pb_text_terms.specs.Grammar.{Name, Variables, Instance, IsTerm}
 use Rattle.pb_text_terms.specs.Reading.{name, variables, is_open, is_comma}
 use Rattle.pb_text_terms.specs.Reading as expressions
-use Rattle.pb_text.specs.Grammar.{IsFormula, SortParts, SignOf, Declared, IsEquation, Equations, IsInitialInstance, IsSpec, IsText}
+use Rattle.pb_text_formulas.specs.Grammar.{IsFormula, SortParts}
+use Rattle.pb_text.specs.Grammar.{SignOf, Declared, IsEquation, Equations, IsInitialInstance, IsSpec, IsText}
 use Rattle.pb_text.specs.Parsing.{BeginsText, StaysWithin}
-use Rattle.pb_text.specs.Reading.{level, sign_by, sign_of, declared, parameters, right_side, equation, begins_equation, equations, initial_instance, sort_parts, text, whole_text}
+use Rattle.pb_text_formulas.specs.Reading.{level, sort_parts}
+use Rattle.pb_text.specs.Reading.{sign_by, sign_of, declared, parameters, right_side, equation, begins_equation, equations, initial_instance, text, whole_text}
 use Rattle.pb_text_terms.proofs.CorrectVariable.{head-kind-is, name-correct, variables-correct}
 use Rattle.pb_text_terms.proofs.CorrectTerm.{instance-correct}
-use Rattle.pb_text.proofs.CorrectFormula.{node_goes, formula_goes, formulas-correct}
-use Rattle.pb_text.proofs.CorrectSorts.{passes-kind, head-of, other-stops, token-correct, many-correct, parts_go, sort_parts-correct}
+use Rattle.pb_text_formulas.proofs.CorrectFormula.{node_goes, formula_goes, formulas-correct}
+use Rattle.pb_text_formulas.proofs.CorrectSorts.{passes-kind, head-of, other-stops, token-correct, many-correct, parts_go, sort_parts-correct}
 
 -- Before one of the tokens a fault stands: no list that begins with those up to it, and it, is a text within the limits.
 pub record IsFault (depth operators : ℕ) (tokens : List Tok) (bad : Refusal) : Type 0 where

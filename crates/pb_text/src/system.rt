@@ -7,11 +7,11 @@ ghost use Rattle.pb_text_lexer.specs.Steps.{Gives, GivesExactly};
 ghost use Rattle.pb_text.specs.Parsing.{depth_limit};
 ghost use Rattle.pb_text.specs.Reading as reading;
 
-use crate::formula::formula;
-use crate::next::unless;
-use crate::sort::sort_parts;
 use pb_fixpoint::Sign;
 use pb_limits::MAX_DEPTH;
+use pb_text_formulas::formula::formula;
+use pb_text_formulas::next::unless;
+use pb_text_formulas::sort::sort_parts;
 use pb_text_lexer::fault::{ReadingError, ReadingRule, Refusal};
 use pb_text_lexer::input::Input;
 use pb_text_lexer::kind::{Kind, same_kind};

@@ -12,7 +12,7 @@ use Rattle.pb_text_lexer.specs.Grammar.{State, Reads, Nothing}
 use Rattle.pb_text_lexer.specs.OpenGrammar.{last}
 use Rattle.pb_text_lexer.proofs.Correct.{st}
 use Rattle.pb_text_terms.specs.Grammar.{Quantified}
-use Rattle.pb_text.specs.Grammar.{Begun, IsNode, IsFormula}
+use Rattle.pb_text_formulas.specs.Grammar.{Begun, IsNode, IsFormula}
 use Rattle.pb_text_printer.specs.declared.level.Level.{Level}
 use Rattle.pb_text_printer.specs.declared.level.Level.TheVariants as level
 use Rattle.pb_text_printer.specs.Unplaced.{nowhere, unplaced_term, unplaced_formula}

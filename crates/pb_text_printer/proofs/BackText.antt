@@ -10,7 +10,8 @@ use Rattle.pb_text_lexer.specs.Grammar.{State, Reads, Is, One, First, last, more
 use Rattle.pb_text_lexer.specs.LeftGrammar.{Extended, Listed}
 use Rattle.pb_text_lexer.proofs.Correct.{st}
 use Rattle.pb_text_terms.specs.Grammar.{Variables}
-use Rattle.pb_text.specs.Grammar.{Enumerator, SortBy, SortDecl, SortParts, SignOf, Declared, IsEquation, IsInitialInstance, IsText, IsFormula}
+use Rattle.pb_text_formulas.specs.Grammar.{Enumerator, SortBy, SortDecl, SortParts, IsFormula}
+use Rattle.pb_text.specs.Grammar.{SignOf, Declared, IsEquation, IsInitialInstance, IsText}
 use Rattle.pb_text_printer.specs.Unplaced.{unplaced_name, unplaced_variables, unplaced_formula, unplaced_instance, unplaced_enumerator, unplaced_sort, unplaced_declaration, unplaced_range, unplaced_equation, unplaced}
 use Rattle.pb_text_printer.specs.Words.{Spells, Word, word, last_of_line, close_word, variable_words, instance_words, formula_words, is_word, semicolon_word, sign_word, enumerator_words, enumerators_words, sort_words, declaration_words, parameter_words, equation_words, sorts_words, text_words}
 use Rattle.pb_text_printer.specs.Sayable.{Each, EachOf, list_operators, formula_operators, InstanceSayable, SortSayable, DeclarationSayable, ParametersSayable, EquationSayable, TextSayable}

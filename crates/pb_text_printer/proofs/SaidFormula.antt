@@ -5,7 +5,7 @@ use Rattle.pb_text_lexer.specs.declared.kind.Kind.{Kind}
 use Rattle.pb_text_lexer.specs.declared.kind.Kind.TheVariants as k
 use Rattle.pb_text_lexer.specs.Grammar.{State, Reads, Nothing, First}
 use Rattle.pb_text_terms.specs.Grammar.{Quantified, IsTerm}
-use Rattle.pb_text.specs.Grammar.{Begun, Connections, IsNode, IsFormula}
+use Rattle.pb_text_formulas.specs.Grammar.{Begun, Connections, IsNode, IsFormula}
 use Rattle.pb_text_printer.specs.declared.level.Level.{Level}
 use Rattle.pb_text_printer.specs.declared.level.Level.TheVariants as level
 use Rattle.pb_text_printer.specs.Words.{formula_needs_no_brackets}

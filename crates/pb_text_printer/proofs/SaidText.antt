@@ -9,7 +9,8 @@ use Rattle.pb_text_lexer.specs.Grammar.{State, Reads, Is, One, Series, last, mor
 use Rattle.pb_text_lexer.specs.LeftGrammar.{Extended, Listed}
 use Rattle.pb_text_lexer.proofs.Correct.{st}
 use Rattle.pb_text_terms.specs.Grammar.{IsTerm}
-use Rattle.pb_text.specs.Grammar.{Enumerator, SortBy, SortDecl, SortPart, SortParts, SignOf, Declared, IsEquation, IsInitialInstance, IsSpec, IsText, IsFormula}
+use Rattle.pb_text_formulas.specs.Grammar.{Enumerator, SortBy, SortDecl, SortPart, SortParts, IsFormula}
+use Rattle.pb_text.specs.Grammar.{SignOf, Declared, IsEquation, IsInitialInstance, IsSpec, IsText}
 use Rattle.pb_text_printer.specs.Sayable.{Each, EachOf, IsName, AreVariables, list_operators, formula_operators, InstanceSayable, FormulaSayable, EnumeratorSayable, SortSayable, DeclarationSayable, ParametersSayable, EquationSayable, TextSayable}
 use Rattle.pb_text_printer.proofs.SaidLemmas.{Said, EachReadingIs, AreLexical, one-said, finish, first-said, each-of, total-none, listed-said, nothing-said, name-said, variables-said}
 use Rattle.pb_text_printer.proofs.SaidTerm.{instance-said, alone-said, term-said}

@@ -13,7 +13,7 @@ use Rattle.pb_bytecode_program.specs.declared.instruction.Op.TheVariants as op
 use Rattle.pb_verifier_states.specs.Join.{join_states}
 use Rattle.pb_bytecode_program.specs.Monotone.{IsCoveredAtLoop}
 use Rattle.pb_bytecode_program.proofs.Monotone.{AllEdges}
-use Rattle.pb_verifier_states.proofs.Covered.{flow_covered, solid_flow}
+use Rattle.pb_verifier_flow.proofs.Covered.{flow_covered, solid_flow}
 use Rattle.pb_verifier.specs.Pass.{then_table, put, joined_at, merge_state, merge_edges}
 use Rattle.pb_verifier_structure.specs.Structure.{IsStructured, IsProgramWithinLimits}
 use Rattle.pb_verifier.proofs.Targets.{TargetHolds, transfer_goes}

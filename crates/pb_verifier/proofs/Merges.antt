@@ -8,7 +8,7 @@ use Rattle.pb_bytecode_program.specs.Accepted.{Table, state_at, join_option, IsC
 use Rattle.pb_bytecode_program.proofs.Rules.{state_within}
 use Rattle.pb_verifier_states.specs.Join.{join_states}
 use Rattle.pb_verifier_states.proofs.Hulls.{join_covers, join_least, join_none}
-use Rattle.pb_verifier_states.proofs.Order.{through}
+use Rattle.pb_verifier_flow.proofs.Order.{through}
 use Rattle.pb_verifier.specs.Pass.{then_table, put, joined_at, merge_state, merge_edges}
 
 -- each known state is covered by what the other table has there

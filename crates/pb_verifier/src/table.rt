@@ -2,10 +2,11 @@
 
 ghost use Rattle.std.specs.Prelude.{◌≡◌, ◌≤◌, OnErr, OnOk, Some, None};
 ghost use Rattle.pb_limits.specs.declared.TheConstants.{MAX_INSTRUCTIONS};
-ghost use Rattle.pb_verifier_states.specs.Edges.{edges_of};
+ghost use Rattle.pb_verifier_flow.specs.Edges.{edges_of};
 ghost use Rattle.pb_verifier.specs.Pass.{merge_edges as merged_edges, merge_state as merged_state};
 
-use pb_verifier_states::{AbstractState, AcceptanceRule, Edges};
+use pb_verifier_flow::Edges;
+use pb_verifier_states::{AbstractState, AcceptanceRule};
 
 /// Joins a state into what is known at a place of the code (V15), if the two can be joined (V11).
 pub(crate) fn merge(

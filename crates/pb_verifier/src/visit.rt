@@ -14,7 +14,7 @@ ghost use Rattle.pb_verifier.specs.Pass.{merge_edges as merged_edges, then_table
 use crate::table::{merge, merge_edges};
 use pb_bytecode_program::Op;
 use pb_sorts::Carrier;
-use pb_verifier_states::flow::flow;
+use pb_verifier_flow::flow::flow;
 use pb_verifier_states::{AbstractState, AcceptanceRule, FlowError};
 
 /// What the instructions of a module may name: its sorts, by how many enumerators each has, and its

@@ -1,9 +1,4 @@
-pub mod Order
 pub mod Hulls
-pub mod Covered
 pub mod Ordered
-pub mod Pushes
 pub mod Arguments
-pub mod Ranges
-pub mod Dispatch
 pub mod Missing

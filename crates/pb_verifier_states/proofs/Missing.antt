@@ -1,9 +1,9 @@
 -- Instructions that find fewer operands than they take, or operands of another kind, are refused.
-use Rattle.std.proofs.Common.{◌≡◌, ℕ, ◌<◌, Bool, true, false, cond, List, [], ◌∷◌, length, reverse, Some, None, refl, ap, ◌∙◌, arith}
+use Rattle.std.proofs.Common.{◌≡◌, ◌<◌, Bool, true, false, cond, List, [], ◌∷◌, length, reverse, None, refl, arith}
 use Rattle.std.proofs.lemmas.Grind.{common_steps}
 use Rattle.std.proofs.lemmas.List.{length-reverse}
 use Rattle.pb_bytecode_program.specs.Abstract.{abstraction_of, same_kind}
-use Rattle.pb_bytecode_program.specs.Transfer.{AbstractState, Flow, abstract_pop_args, abstract_root, abstract_call, to_next_place, accepts}
+use Rattle.pb_bytecode_program.specs.Transfer.{Flow, abstract_pop_args, accepts}
 use Rattle.pb_bytecode_program.specs.declared.domain.AbstractValue.{AbstractValue}
 use Rattle.pb_bytecode_program.specs.declared.domain.AbstractValue.TheVariants as abstract
 use Rattle.pb_sorts.specs.declared.carrier.Carrier.{Carrier}
@@ -41,11 +41,3 @@ some_wrong_kind (c ∷ cs) (s ∷ ss) go h =
 
 pub wrong_kinds : (cs : List Carrier) (ss : List AbstractValue) (go : List AbstractValue → Flow) → are_of_kinds (reverse cs) ss ≡ false → abstract_pop_args (reverse cs) ss go ≡ None
 wrong_kinds cs ss go h = some_wrong_kind (reverse cs) ss go h
-
--- a call whose leaf would be a second root
-pub no_root : (cs : List Carrier) (k m : AbstractState) → m ≡ record k { operands = m.operands } → ((go : List AbstractValue → Flow) → abstract_pop_args (reverse cs) k.operands go ≡ go m.operands) → ((go : ℕ → Flow) → abstract_root m.brackets m.roots go ≡ None) → (q : ℕ) → abstract_call q k (Some cs) ≡ None
-no_root cs k m e h r q =
-    let b : m.brackets ≡ k.brackets = ap (λ (s : AbstractState). s.brackets) e in
-    let n : m.roots ≡ k.roots = ap (λ (s : AbstractState). s.roots) e in
-    let none = r (λ x. to_next_place q (record k { operands = m.operands; roots = x })) in
-    h _ ∙ (rw (b, n) at none)

@@ -2,7 +2,7 @@
 -- the order of the list, that the instruction breaks as a whole. Missing operands come before
 -- kinds, kinds before the divisor, the divisor before the result, the kinds of all arguments before
 -- their intervals, and the brackets before the root.
-use Rattle.std.specs.Prelude.{ℕ, Bool, not, ◌&&◌, List, [], ◌∷◌, length, reverse, Option, Some, None, is_some, nat_lt, nat_le, if◌then◌else◌, slice_get}
+use Rattle.std.specs.Prelude.{◌≡◌, ℕ, Bool, not, ◌&&◌, List, [], ◌∷◌, length, reverse, Option, Some, None, is_some, nat_lt, nat_le, if◌then◌else◌, slice_get}
 use Rattle.pb_limits.specs.declared.TheConstants.{MAX_BRACKETS}
 use Rattle.pb_bytecode_program.specs.declared.domain.AbstractValue.{AbstractValue}
 use Rattle.pb_bytecode_program.specs.Values.{divides}
@@ -91,3 +91,8 @@ named_rule sorts callees op.Close k = rule.Brackets
 named_rule sorts callees (op.Emit l) k = rule.Roots
 named_rule sorts callees (op.Call eq) k = named_at_call k.operands (slice_get callees eq)
 named_rule sorts callees _ k = rule.LoopStructure
+
+-- the rule is the one that is named where the instruction is refused
+abbrev pub IsNamed : Op → AbstractState → AcceptanceRule → Type 0
+IsNamed i k rule =
+    (sorts : List ℕ) (callees : List (List Carrier)) → rule ≡ named_rule sorts callees i k

@@ -6,7 +6,7 @@ ghost use Rattle.std.specs.Prelude.{if◌then◌else◌};
 ghost use Rattle.pb_bytecode_program.specs.Transfer.{Flow, abstract_close, abstract_end};
 ghost use Rattle.pb_bytecode_program.specs.Transfer.{abstract_root};
 ghost use Rattle.pb_bytecode_program.specs.declared.instruction.Op.TheVariants as op;
-ghost use Rattle.pb_verifier_states.specs.Flows.{IsNamed};
+ghost use Rattle.pb_verifier_states.specs.NamedRule.{IsNamed};
 
 use crate::rule::AcceptanceRule;
 use crate::state::AbstractState;

@@ -6,7 +6,7 @@ use Rattle.pb_model_tree.specs.Form.{step_form}
 use Rattle.pb_text_lexer.specs.Steps.{kind, nothing_between}
 use Rattle.pb_text_lexer.proofs.LoopLemmas.{gathered-none, gathered-more, gathered-end, gathered-item-fails}
 use Rattle.pb_model_text.specs.Reading.{step}
-use Rattle.pb_text.specs.Reading.{is_name_kind}
+use Rattle.pb_text_formulas.specs.Reading.{is_name_kind}
 use Rattle.pb_model_text.proofs.step.steps.Goals as goal
 
 pub steps-init : goal.steps-init

@@ -3,7 +3,7 @@ use Rattle.pb_model_tree.specs.Form.{step_form}
 use Rattle.pb_text_lexer.specs.Steps.{nothing_between}
 use Rattle.pb_text_lexer.proofs.LoopLemmas.{gathered}
 use Rattle.pb_model_text.specs.Reading.{step, steps}
-use Rattle.pb_text.specs.Reading.{is_name_kind}
+use Rattle.pb_text_formulas.specs.Reading.{is_name_kind}
 use Rattle.pb_model_text.proofs.step.steps.Given as goal
 
 abbrev pub invariant-steps : goal.invariant-steps

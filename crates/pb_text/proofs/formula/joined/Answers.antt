@@ -1,8 +1,0 @@
-use Rattle.std.proofs.Common.{ap, ◌∙◌}
-use Rattle.pb_text_tree.specs.Form.{FormulaForm, formula_form, chained, link_forms}
-use Rattle.pb_text_tree.proofs.FormLemmas.{formula-chain}
-use Rattle.pb_text.proofs.formula.joined.Goals as goal
-
-pub returns : goal.returns
-returns c =
-    formula-chain c.args.connective c.in_ok-first.first c.args.links ∙ ap (λ f. chained (FormulaForm.connected c.args.connective) (formula_form f) (link_forms c.args.links.items)) c.in_ok-first.ensures.ok

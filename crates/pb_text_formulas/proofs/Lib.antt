@@ -1,0 +1,4 @@
+pub mod PartsLemmas
+pub mod FormulaLemmas
+pub mod CorrectFormula
+pub mod CorrectSorts

@@ -1,0 +1,6 @@
+pub mod Order
+pub mod Covered
+pub mod Pushes
+pub mod Ranges
+pub mod Dispatch
+pub mod SecondRoot

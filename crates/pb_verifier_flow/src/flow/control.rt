@@ -1,0 +1,157 @@
+//! What flows from pushes and jumps.
+
+ghost use Rattle.std.specs.Prelude.{◌≡◌, ◌≤ℤ◌, IfOk, OnErr, List, None, Option, Some, slice_get, ℕ};
+ghost use Rattle.pb_verifier_flow.specs.Flows.{Fails, FlowsTo, GoesOn};
+ghost use Rattle.pb_verifier_states.specs.NamedRule.{IsNamed, named_rule};
+ghost use Rattle.pb_verifier_states.specs.Inhabited.{HasOrderedEnds};
+ghost use Rattle.pb_sorts.specs.declared.carrier.Carrier.{Carrier as carrier_type};
+ghost use Rattle.pb_errors.specs.OrMemory.{IfRefused, OnRefused};
+ghost use Rattle.pb_bytecode_program.specs.Machine.{Program};
+ghost use Rattle.pb_bytecode_program.specs.Transfer.{AbstractState as Known, abstract_push};
+ghost use Rattle.pb_bytecode_program.specs.Transfer.{to_next_place, transfer};
+ghost use Rattle.pb_bytecode_program.specs.declared.instruction.Op.TheVariants as op;
+
+use crate::edges::Edges;
+use pb_bytecode_program::AbstractValue;
+use pb_intervals::Interval;
+use pb_verifier_states::flow_error::FlowError;
+use pb_verifier_states::rule::AcceptanceRule;
+use pb_verifier_states::state::AbstractState;
+use std::alloc::Global;
+
+pub fn push(mut state: AbstractState, value: AbstractValue) -> Result<AbstractState, FlowError>
+    requires { HasOrderedEnds value }
+    ensures flows { IfOk result (λ k. (q : ℕ)
+        → abstract_push q state state.operands value ≡ to_next_place q k) }
+    ensures refused { OnRefused result ((q : ℕ)
+        → abstract_push q state state.operands value ≡ None) }
+    ensures rule { IfRefused result (λ rule. rule ≡ AcceptanceRule.TooManyOperands) }
+{
+    state.push(value)?;
+    Ok(state)
+}
+
+/// Pushes an enumerator of one of the sorts, of which `sorts` has the counts of enumerators.
+pub fn push_enum(
+    state: AbstractState,
+    sorts: &[u8],
+    sort: u8,
+    index: u8,
+) -> Result<AbstractState, FlowError>
+    ensures flows { IfOk result (λ k. (p : Program) (home : Option Known) (q : ℕ)
+        → p.sorts ≡ sorts.now → transfer p home q (op.PushEnum sort index) state
+        ≡ to_next_place q k) }
+    ensures refused { OnRefused result ((p : Program) (home : Option Known) (q : ℕ)
+        → p.sorts ≡ sorts.now → transfer p home q (op.PushEnum sort index) state ≡ None) }
+    ensures rule { IfRefused result (λ rule. (callees : List (List carrier_type))
+        → rule ≡ named_rule sorts.now callees (op.PushEnum sort index) state) }
+{
+    let Some(count) = enumerators(sorts, sort) else {
+        return Err(FlowError::Refused(AcceptanceRule::UnknownName));
+    };
+    if index >= count {
+        return Err(FlowError::Refused(AcceptanceRule::UnknownName));
+    }
+    push(state, AbstractValue::Enum { sort, count })
+}
+
+// How many enumerators a sort has; a function of its own for the prover alone.
+fn enumerators(sorts: &[u8], sort: u8) -> Option<u8>
+    ensures { result ≡ slice_get sorts.now sort }
+{
+    sorts.get(usize::from(sort)).copied()
+}
+
+/// Pushes a slot's value.
+pub fn get(state: AbstractState, slot: u8) -> Result<AbstractState, FlowError>
+    ensures flows { IfOk result (GoesOn (op.Get slot) state) }
+    ensures refused { OnRefused result (Fails (op.Get slot) state) }
+    ensures rule { IfRefused result (IsNamed (op.Get slot) state) }
+{
+    let Some(value) = state.slot(slot) else {
+        return Err(FlowError::Refused(AcceptanceRule::UnknownName));
+    };
+    push(state, value)
+}
+
+/// Jumps where a truth value is the condition.
+pub fn jump_if(
+    mut state: AbstractState,
+    alloc: Global,
+    condition: bool,
+    target: u16,
+) -> Result<Edges, FlowError>
+    ensures flows { IfOk result (λ e. FlowsTo (op.JumpIf condition target) state e.next e.jump) }
+    ensures refused { OnRefused result (Fails (op.JumpIf condition target) state) }
+    ensures rule { IfRefused result (IsNamed (op.JumpIf condition target) state) }
+{
+    state.pop_bool()?;
+    let jump = state.copy(alloc)?;
+    Ok(Edges {
+        next: Some(state),
+        jump: Some((usize::from(target), jump)),
+    })
+}
+
+/// Goes on where the number on top is one of the range, and else jumps. A way that its interval
+/// excludes is not taken.
+pub fn in_range(
+    mut state: AbstractState,
+    alloc: Global,
+    range: Interval,
+    target: u16,
+) -> Result<Edges, FlowError>
+    requires { range.low ≤ℤ range.high }
+    ensures flows { IfOk result (λ e. FlowsTo
+        (op.InRange range.low range.high target) state e.next e.jump) }
+    ensures refused { OnRefused result (Fails (op.InRange range.low range.high target) state) }
+    ensures rule { IfRefused result (IsNamed (op.InRange range.low range.high target) state) }
+{
+    let interval = state.top_int()?;
+    let Some(inside) = interval.cut(range) else {
+        return Ok(Edges::jump(target, state));
+    };
+    if interval.is_within(range) {
+        state.narrow_top(inside);
+        return Ok(Edges::next(state));
+    }
+    let jump = state.copy(alloc)?;
+    state.narrow_top(inside);
+    Ok(Edges {
+        next: Some(state),
+        jump: Some((usize::from(target), jump)),
+    })
+}
+
+/// Goes on where the number in the slot is one of the range, and else jumps. A way that its
+/// interval excludes is not taken.
+pub fn slot_in_range(
+    mut state: AbstractState,
+    alloc: Global,
+    slot: u8,
+    range: Interval,
+    target: u16,
+) -> Result<Edges, FlowError>
+    requires { range.low ≤ℤ range.high }
+    ensures flows { IfOk result (λ e. FlowsTo
+        (op.SlotInRange slot range.low range.high target) state e.next e.jump) }
+    ensures refused { OnRefused result
+        (Fails (op.SlotInRange slot range.low range.high target) state) }
+    ensures rule { IfRefused result
+        (IsNamed (op.SlotInRange slot range.low range.high target) state) }
+{
+    let interval = state.slot_int(slot)?;
+    let Some(inside) = interval.cut(range) else {
+        return Ok(Edges::jump(target, state));
+    };
+    if interval.is_within(range) {
+        state.narrow_slot(slot, inside);
+        return Ok(Edges::next(state));
+    }
+    let jump = state.copy(alloc)?;
+    state.narrow_slot(slot, inside);
+    Ok(Edges {
+        next: Some(state),
+        jump: Some((usize::from(target), jump)),
+    })
+}

@@ -1,5 +1,0 @@
-use Rattle.pb_verifier_states.proofs.Covered.{flow_covered}
-use Rattle.pb_verifier_states.proofs.laws.rules_are_monotone.Goals as goal
-
-pub returns : goal.returns
-returns c = flow_covered
