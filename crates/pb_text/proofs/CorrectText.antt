@@ -9,10 +9,10 @@ use Rattle.pb_text_lexer.specs.declared.fault.Refusal.{Refusal}
 use Rattle.pb_text_lexer.specs.declared.kind.Kind.{Kind}
 use Rattle.pb_text_lexer.specs.declared.kind.Kind.TheVariants as k
 use Rattle.pb_text_lexer.specs.Kinds.{same_kind, is_last, is_limited}
-use Rattle.pb_text_lexer.specs.Grammar.{State, WithinLimits, going_on, Reads, Is, Nothing, One, First, Series, CountedApart}
+use Rattle.pb_text_lexer.specs.Grammar.{State, WithinLimits, going_on, Is, One, First, CountedApart}
 use Rattle.pb_text_lexer.specs.Grammar as grammar
 use Rattle.pb_text_lexer.specs.LeftGrammar.{Extended}
-use Rattle.pb_text_lexer.specs.Steps.{ends, Step, Outcome, and_then, pure, take_token, expect, refuse, refusal, kind, head_kind, alone, unless_next, nothing_between}
+use Rattle.pb_text_lexer.specs.Steps.{ends, Outcome, and_then, pure, take_token, expect, refuse, refusal, kind, head_kind, unless_next}
 use Rattle.pb_text_lexer.specs.Steps as step
 use Rattle.pb_text_lexer.specs.Tokens.{Tok}
 use Rattle.pb_text_lexer.proofs.TokenLemmas.{kind-same, same-kind}

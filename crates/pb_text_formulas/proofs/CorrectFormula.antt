@@ -5,9 +5,9 @@ use Rattle.pb_text_lexer.specs.declared.fault.ReadingRule.TheVariants.{Unexpecte
 use Rattle.pb_text_lexer.specs.declared.kind.Kind.{Kind}
 use Rattle.pb_text_lexer.specs.declared.kind.Kind.TheVariants as k
 use Rattle.pb_text_lexer.specs.Kinds.{same_kind, is_last, is_limited}
-use Rattle.pb_text_lexer.specs.Grammar.{State, WithinLimits, Reads, Is, Nothing, One, First}
+use Rattle.pb_text_lexer.specs.Grammar.{State, Reads, Is, One, First}
 use Rattle.pb_text_lexer.specs.Grammar as grammar
-use Rattle.pb_text_lexer.specs.Steps.{ends, head_kind, kind, Step, and_then, pure, take_token, expect, refuse, refusal, unless_next, connected}
+use Rattle.pb_text_lexer.specs.Steps.{ends, head_kind, kind, Step, and_then, pure, take_token, expect, refuse, unless_next, connected}
 use Rattle.pb_text_lexer.specs.Steps as step
 use Rattle.pb_text_lexer.specs.Tokens.{Tok}
 use Rattle.pb_text_lexer.proofs.TokenLemmas.{kind-same, same-kind}
