@@ -1,6 +1,6 @@
 -- The values of arguments, one after the other.
 use Rattle.std.proofs.Common.{◌≡◌, ℕ, zero, suc, ◌+◌, ◌<◌, Bool, ◌&&◌, List, [], ◌∷◌, length}
-use Rattle.std.proofs.Common.{get_or, map, drop, sym, ◌∙◌, ap, subst, arith}
+use Rattle.std.proofs.Common.{get_or, map, drop, sym, ◌∙◌, ap, arith}
 use Rattle.std.specs.Cmp.Lexicographic.{pointwise}
 use Rattle.std.specs.Ordering.{int_eq}
 use Rattle.pb_carriers.specs.Carrier.{Tuple, Value}

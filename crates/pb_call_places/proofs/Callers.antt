@@ -67,7 +67,7 @@ rest-clear (v ∷ vs) m (suc s) le = rest-clear vs m s (omega (arith, le))
 
 -- ---- the first call of a text's equation
 
-proper-at : (spec : Spec) (E : List Equation) (k : ℕ) (X : Equation) → AreProper spec E
+pub proper-at : (spec : Spec) (E : List Equation) (k : ℕ) (X : Equation) → AreProper spec E
     → slice_get E k ≡ Some X → IsProper spec true (parameter_scope spec X) X.right
 proper-at spec [] k X proper at = cc
 proper-at spec (Y ∷ E) zero X proper at =

@@ -1,13 +1,11 @@
 -- Slots that hold a tuple of a quantifier's carriers.
-use Rattle.std.proofs.Common.{◌≡◌, ℕ, true, true≢false, Some, suc, ◌+◌, ◌-◌, ◌≤◌, List, [], ◌∷◌}
+use Rattle.std.proofs.Common.{◌≡◌, ℕ, Some, ◌+◌, ◌-◌, ◌≤◌, List, [], ◌∷◌}
 use Rattle.std.proofs.Common.{◌++◌, length, map, take, drop, refl, sym, ◌∙◌, ap, arith}
 use Rattle.std.proofs.lemmas.List.{length-drop, length-take-le}
 use borrow.Rule.Slice.PartMut.{put_mid}
 use Rattle.std.specs.List.{slice_get}
-use Rattle.std.proofs.lemmas.Bool.{and_parts}
-use Rattle.pb_carriers.specs.Carrier.{Tuple, contains, is_within}
+use Rattle.pb_carriers.specs.Carrier.{Tuple}
 use Rattle.pb_sorts.specs.Carrier.{values_of}
-use Rattle.pb_sorts.specs.declared.carrier.Carrier.{Carrier}
 use Rattle.pb_sorts.proofs.TuplePlaces.{is_within-slice_get}
 use Rattle.pb_evaluation.proofs.Slots.{put-put, read-put}
 use Rattle.pb_evaluation.proofs.Turns.{within-count}

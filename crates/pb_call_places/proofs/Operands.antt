@@ -1,5 +1,5 @@
 -- The calls of a chain, operand by operand.
-use Rattle.std.proofs.Common.{◌≡◌, ℕ, zero, suc, ◌+◌, ◌==◌, ◌<◌, ◌≤◌, Bool, true, false, ◌&&◌, ◌||◌}
+use Rattle.std.proofs.Common.{◌≡◌, ℕ, ◌+◌, ◌==◌, ◌<◌, ◌≤◌, Bool, ◌&&◌, ◌||◌}
 use Rattle.std.proofs.Common.{List, [], ◌∷◌, ◌++◌, length, get_or, drop, refl, sym, ◌∙◌, ap}
 use Rattle.std.proofs.Common.{append_assoc, append-nil, Vec, Global, Box, arith}
 use Rattle.std.specs.Prelude.{box_value}
@@ -11,7 +11,7 @@ use Rattle.pb_text_tree.specs.declared.operator.Connective.{Connective}
 use Rattle.pb_text_tree.specs.declared.operator.Quantifier.{Quantifier}
 use Rattle.pb_sorts.specs.declared.carrier.Carrier.{Carrier}
 use Rattle.pb_sorts.proofs.Places.{drop-at}
-use Rattle.pb_typed_tree.specs.Calls.{call_places, calls, places_of}
+use Rattle.pb_typed_tree.specs.Calls.{call_places, places_of}
 use Rattle.pb_typed_tree.specs.Tree as tree
 use Rattle.pb_typed_tree.specs.Tree.{Connected}
 use Rattle.pb_typed_tree.specs.View.{chained, formula_view, formula_views, nested}
@@ -19,6 +19,7 @@ use Rattle.pb_typed_tree.specs.declared.formula.Formula as formula
 use Rattle.pb_typed_tree.specs.declared.formula.Formula.{Formula}
 use Rattle.pb_typed_tree.proofs.Calls.{chain-places}
 use Rattle.pb_typed_tree.proofs.Views.{formula-chain}
+use Rattle.pb_call_places.specs.Made.{is_test}
 use Rattle.pb_call_places.proofs.Unmade.{any_at}
 
 -- ---- places
@@ -46,38 +47,30 @@ places-all fs k done all le h =
 
 -- ---- tests
 
--- no operand has calls
-abbrev pub are_tests : List Formula → Bool
-are_tests [] = true
-are_tests (f ∷ fs) = (calls (formula_view f) == 0) && are_tests fs
-
-both-none : (m n : ℕ) → (m + n == 0) ≡ (m == 0) && (n == 0)
-both-none zero n = ap (λ k. k == 0) (omega arith)
-both-none (suc m) n =
-    ne_eqb (suc m + n) 0 (λ e. omega (arith, e))
-    ∙ sym (ap (λ b. b && (n == 0)) (ne_eqb (suc m) 0 (λ e. omega (arith, e))))
-
-and-true : (b : Bool) → b ≡ b && true
-and-true true = refl
-and-true false = refl
-
-test-chained : (c : Connective) (first : tree.Formula) (fs : List Formula)
-    → (calls (chained (Connected c) first (formula_views fs)) == 0)
-    ≡ (calls first == 0) && are_tests fs
-test-chained c first [] = and-true (calls first == 0)
-test-chained c first (f ∷ fs) =
-    both-none (calls first) (calls (chained (Connected c) (formula_view f) (formula_views fs)))
-    ∙ ap (λ (b : Bool). (calls first == 0) && b) (test-chained c (formula_view f) fs)
-
--- a chain is a test where all its operands are
-pub test-chain : (f : Formula) (c : Connective) (first : Box Formula Global)
+-- a chain is a test where it has one operand, which is one
+pub chain-test : (f : Formula) (c : Connective) (first : Box Formula Global)
     (v : Vec Formula Global) → f ≡ formula.Chain c first v
-    → (calls (formula_view f) == 0)
-    ≡ (calls (formula_view (box_value first)) == 0) && are_tests v.items
-test-chain f c first v is =
-    ap (λ (g : Formula). calls (formula_view g) == 0) is
-    ∙ (ap (λ (t : tree.Formula). calls t == 0) (formula-chain c first v)
-    ∙ test-chained c (formula_view (box_value first)) v.items)
+    → is_test (formula_view f)
+    ≡ (length v.items == 0) && is_test (formula_view (box_value first))
+chain-test f c first v is =
+    ap (λ (g : Formula). is_test (formula_view g)) is
+    ∙ (ap is_test (formula-chain c first v) ∙ by v.items)
+  where
+    by : (fs : List Formula)
+        → is_test (chained (Connected c) (formula_view (box_value first)) (formula_views fs))
+        ≡ (length fs == 0) && is_test (formula_view (box_value first))
+    by [] = refl
+    by (g ∷ gs) =
+        sym (ap (λ (b : Bool). b && is_test (formula_view (box_value first)))
+        (ne_eqb (length (g ∷ gs)) 0 (λ e. omega (arith, e))))
+
+-- and a quantifier is none, unless it has no variables
+pub quantifier-test : (q : Quantifier) (slot : ℕ) (cs : List Carrier) (f : tree.Formula)
+    → is_test (nested q slot cs f) ≡ (length cs == 0) && is_test f
+quantifier-test q slot [] f = refl
+quantifier-test q slot (c ∷ cs) f =
+    sym (ap (λ (b : Bool). b && is_test f)
+    (ne_eqb (length (c ∷ cs)) 0 (λ e. omega (arith, e))))
 
 -- ---- calls at a place
 

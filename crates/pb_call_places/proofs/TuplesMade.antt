@@ -15,7 +15,6 @@ use Rattle.pb_sorts.specs.Carrier.{values_of}
 use Rattle.pb_sorts.specs.Instance.{Instance, instance_of, number_of}
 use Rattle.pb_sorts.specs.Layout.{carriers_of}
 use Rattle.pb_sorts.specs.declared.carrier.Carrier.{Carrier}
-use Rattle.pb_sorts.specs.declared.carrier.Carrier.TheVariants as variants
 use Rattle.pb_sorts.proofs.Numbers.{number_of-slice_get}
 use Rattle.pb_sorts.proofs.Places.{drop-slice_get, slice_get-append_left, slice_get-mapped}
 use Rattle.pb_sorts.proofs.TuplePlaces.{is_within-slice_get}

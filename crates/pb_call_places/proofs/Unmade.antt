@@ -15,6 +15,7 @@ use Rattle.pb_typed_tree.specs.Meaning.{Slots, set}
 use Rattle.pb_typed_tree.specs.Tree.{Formula, Test, Negation, Connected, Quantified, Call}
 use Rattle.pb_call_places.specs.Calls.{same_place}
 use Rattle.pb_call_places.specs.Made.{is_deciding, made, names_instance}
+use Rattle.pb_call_places.specs.declared.side.Side.TheVariants.{Left, Right}
 
 -- whether one of some places is this one
 abbrev pub any_at : Place → List Place → Bool
@@ -45,10 +46,11 @@ pub nothing_made : (spec : Spec) (i : Instance) (place : Place) (a : Slots) (f :
 nothing_made spec i place a (Test x) ps e = refl
 nothing_made spec i place a (Negation f) ps e = nothing_made spec i place a f ps e
 nothing_made spec i place a (Connected c f g) ps e =
-    or_from _ _ (nothing_made spec i place a f (take (calls f) ps) (none-taken place
-    (calls f) ps e))
-    (and_right (not (is_deciding spec a c f)) _ (nothing_made spec i place a g (drop (calls f) ps)
-    (none-left place (calls f) ps e)))
+    or_from _ _
+    (and_right (not (is_deciding spec a c Right g)) _ (nothing_made spec i place a f
+    (take (calls f) ps) (none-taken place (calls f) ps e)))
+    (and_right (not (is_deciding spec a c Left f)) _ (nothing_made spec i place a g
+    (drop (calls f) ps) (none-left place (calls f) ps e)))
 nothing_made spec i place a (Quantified q s shape f) ps e =
     for_no_value (λ v. made spec i place (set a s v) f ps) (λ v. nothing_made spec i place
     (set a s v) f ps e) (shape_carrier shape)

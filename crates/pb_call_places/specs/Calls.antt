@@ -1,6 +1,6 @@
 -- The instance that a call of a formula names, and the place of the first call by which an
 -- equation's right side names an instance.
-use Rattle.std.specs.Prelude.{◌==◌, Bool, true, false, not, ◌&&◌, ◌||◌, []}
+use Rattle.std.specs.Prelude.{◌==◌, Bool, true, false, not, ◌&&◌, ◌||◌, [], ◌∷◌}
 use Rattle.std.specs.Prelude.{Option, Some, None}
 use Rattle.std.specs.Cmp.Lexicographic.{pointwise}
 use Rattle.std.specs.List.{find, slice_get}
@@ -14,31 +14,42 @@ use Rattle.pb_text_tree.specs.declared.operator.Quantifier.TheVariants.{Exists}
 use Rattle.pb_text_tree.specs.Form.{InstanceForm, FormulaForm, EquationForm, SpecForm}
 use Rattle.pb_carriers.specs.Carrier.{Tuple}
 use Rattle.pb_sorts.specs.Instance as numbered
-use Rattle.pb_text_meaning.specs.Syntax.{Spec, same_name}
+use Rattle.pb_text_meaning.specs.Syntax.{Formula, Spec, same_name}
 use Rattle.pb_text_meaning.specs.Value.{Assignment, quantified, values}
 use Rattle.pb_text_meaning.specs.Formula.{Instance, truth}
 use Rattle.pb_text_meaning.specs.Meaning.{assigned}
 use Rattle.pb_text_meaning.specs.Erase.{erase, erased_arguments, erased_formula, erased_variables}
 use Rattle.pb_typed_tree.specs.Calls.{calls_in}
+use Rattle.pb_typed_tree.specs.Expansion.{expanded}
+use Rattle.pb_call_places.specs.declared.side.Side.{Side}
+use Rattle.pb_call_places.specs.declared.side.Side.TheVariants.{Left, Right}
 
--- a formula without calls
-abbrev pub is_test : FormulaForm → Bool
-is_test (FormulaForm.constant p b) = true
-is_test (FormulaForm.val p x) = true
-is_test (FormulaForm.instance call) = false
-is_test (FormulaForm.negation p f) = is_test f
-is_test (FormulaForm.connected c p f g) = is_test f && is_test g
-is_test (FormulaForm.quantified q p xs f) = is_test f
+-- A formula that is compiled to one test: a truth value or a data term without quantifiers, maybe
+-- negated. It is given as it is compiled, its data terms with quantifiers being formulas
+-- (`expanded`).
+abbrev pub is_test : Formula → Bool
+is_test (Formula.Truth b) = true
+is_test (Formula.Val x) = true
+is_test (Formula.Not f) = is_test f
+is_test (Formula.And f g) = false
+is_test (Formula.Or f g) = false
+is_test (Formula.Implies f g) = false
+is_test (Formula.Quantified q [] f) = is_test f
+is_test (Formula.Quantified q (x ∷ xs) f) = false
+is_test (Formula.Call X es) = false
 
--- whether a left operand of this truth decides what it is connected to
-abbrev pub decides : Connective → Bool → Bool
-decides And x = not x
-decides Or x = x
-decides Implies x = not x
+-- whether an operand of this truth decides what it is connected to, whatever the other one is
+abbrev pub decides : Connective → Side → Bool → Bool
+decides And side x = not x
+decides Or side x = x
+decides Implies Left x = not x
+decides Implies Right x = x
 
--- a test that decides what it is connected to, whatever stands behind it
-abbrev pub is_deciding_test : Spec → Assignment → Connective → FormulaForm → Bool
-is_deciding_test spec a c f = is_test f && decides c (truth spec a empty (erased_formula f))
+-- an operand is a test, and decides what it is connected to
+abbrev pub is_deciding_test : Spec → Assignment → Connective → Side → FormulaForm → Bool
+is_deciding_test spec a c side f =
+    is_test (expanded (erased_formula f))
+    && decides c side (truth spec a empty (erased_formula f))
 
 abbrev pub same_place : Place → Place → Bool
 same_place p q = (p.line == q.line) && (p.column == q.column)
@@ -49,8 +60,9 @@ names spec a call i =
     same_name call.name.text i.name
     && pointwise int_eq (values spec a (erased_arguments call.arguments)) i.values
 
--- Under an assignment a formula makes the call at a place, and the call names an instance. Behind a
--- test that decides no call is made; a quantifier's body is taken for each value of its variables.
+-- Under an assignment a formula makes the call at a place, and the call names an instance. A test
+-- is evaluated before what it is connected to, on whichever side it stands: where it decides, the
+-- other operand makes no call. A quantifier's body is taken for each value of its variables.
 abbrev pub makes_call : Spec → Instance → Place → Assignment → FormulaForm → Bool
 makes_call spec i place a (FormulaForm.constant p b) = false
 makes_call spec i place a (FormulaForm.val p x) = false
@@ -58,8 +70,8 @@ makes_call spec i place a (FormulaForm.instance call) =
     same_place call.name.place place && names spec a call i
 makes_call spec i place a (FormulaForm.negation p f) = makes_call spec i place a f
 makes_call spec i place a (FormulaForm.connected c p f g) =
-    makes_call spec i place a f
-    || (not (is_deciding_test spec a c f) && makes_call spec i place a g)
+    (not (is_deciding_test spec a c Right g) && makes_call spec i place a f)
+    || (not (is_deciding_test spec a c Left f) && makes_call spec i place a g)
 makes_call spec i place a (FormulaForm.quantified q p xs f) =
     quantified spec Exists (erased_variables xs) (λ b. makes_call spec i place b f) a
 

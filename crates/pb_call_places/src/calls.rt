@@ -1,10 +1,11 @@
 //! The calls of a typed formula, in the order of the text.
 
-ghost use Rattle.std.specs.Prelude.{◌≡◌, ◌==◌, ◌++◌, IfOk, OnOk};
+ghost use Rattle.std.specs.Prelude.{◌≡◌, ◌++◌, IfOk, OnOk};
 ghost use Rattle.std.specs.List.{list_any};
-ghost use Rattle.pb_typed_tree.specs.Calls.{call_places, calls};
+ghost use Rattle.pb_typed_tree.specs.Calls.{call_places};
 ghost use Rattle.pb_typed_tree.specs.View.{formula_view};
 ghost use Rattle.pb_call_places.specs.Calls.{same_place};
+ghost use Rattle.pb_call_places.specs.Made.{is_test};
 
 use pb_text_tree::Place;
 use pb_typed_tree::Formula;
@@ -41,25 +42,15 @@ fn push_calls(formula: &Formula, places: &mut Vec<Place>) -> Result<(), AllocErr
     }
 }
 
-/// Whether a formula has no calls.
+/// Whether a formula is a data term alone, maybe negated.
 pub(crate) fn is_test(formula: &Formula) -> bool
-    ensures { result ≡ (calls (formula_view formula.now) == 0) }
+    ensures { result ≡ is_test (formula_view formula.now) }
 {
     match formula {
         Formula::Test(_) => true,
         Formula::Negation(operand) => is_test(operand),
-        Formula::Chain { first, links, .. } => {
-            if !is_test(first) {
-                return false;
-            }
-            for link in links.iter() {
-                if !is_test(link) {
-                    return false;
-                }
-            }
-            true
-        }
-        Formula::Quantified { body, .. } => is_test(body),
+        Formula::Chain { first, links, .. } => links.is_empty() && is_test(first),
+        Formula::Quantified { carriers, body, .. } => carriers.is_empty() && is_test(body),
         Formula::Call { .. } => false,
     }
 }

@@ -7,7 +7,9 @@ mod loops;
 mod made;
 mod named;
 mod places;
+mod side;
 mod slots;
 mod sought;
 
 pub use places::CallPlaces;
+pub use side::Side;

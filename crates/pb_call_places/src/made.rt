@@ -5,47 +5,67 @@ ghost use Rattle.pb_text_meaning.specs.Syntax.{Spec};
 ghost use Rattle.pb_text_tree.specs.declared.operator.Quantifier.TheVariants.{Exists};
 ghost use Rattle.pb_sorts.specs.Instance.{instance_of};
 ghost use Rattle.pb_typed_tree.specs.Calls.{call_places};
-ghost use Rattle.pb_typed_tree.specs.View.{formula_view, nested};
+ghost use Rattle.pb_typed_tree.specs.View.{formula_view, formula_views, nested};
 ghost use Rattle.pb_evaluation.specs.Slots.{slots_of};
 ghost use Rattle.pb_call_places.specs.Calls.{decides};
-ghost use Rattle.pb_call_places.specs.Made.{is_deciding, made};
-ghost use Rattle.pb_call_places.specs.Sought.{FitsValues, IsOf, is_made};
+ghost use Rattle.pb_call_places.specs.Made.{is_deciding, made, rest_decides};
+ghost use Rattle.pb_call_places.specs.Sought.{FitsValues, FitValues, IsOf, chain_makes, is_made};
 
 use crate::calls::{has_call_at, is_test, same_place};
 use crate::loops::Loops;
 use crate::named::names_instance;
+use crate::side::Side;
 use crate::sought::Sought;
 use pb_evaluation::formula_truth;
 use pb_text_tree::Connective;
 use pb_typed_tree::Formula;
 
-/// Whether a left operand of this truth decides what it is connected to.
-fn decides(connective: Connective, left: bool) -> bool
-    ensures { result ≡ decides connective left }
+/// Whether an operand of this truth decides what it is connected to.
+fn decides(connective: Connective, side: Side, holds: bool) -> bool
+    ensures { result ≡ decides connective side holds }
 {
-    match connective {
-        Connective::And | Connective::Implies => !left,
-        Connective::Or => left,
+    match (connective, side) {
+        (Connective::And, _) | (Connective::Implies, Side::Left) => !holds,
+        (Connective::Or, _) | (Connective::Implies, Side::Right) => holds,
     }
 }
 
 /// Whether an operand is a test that decides what it is connected to.
 fn is_deciding(
     connective: Connective,
+    side: Side,
     operand: &Formula,
     slots: &mut [i64],
     sought: &Sought<'_>,
 ) -> bool
     requires { FitsValues sought.now slots.old (formula_view operand.now) }
     ensures deciding { (spec : Spec) → IsOf sought.now spec → result
-        ≡ is_deciding spec (slots_of slots.old) connective (formula_view operand.now) }
+        ≡ is_deciding spec (slots_of slots.old) connective side (formula_view operand.now) }
     ensures kept { slots.new ≡ slots.old }
 {
     if !is_test(operand) {
         return false;
     }
     let holds = formula_truth(operand, slots, &sought.environment);
-    decides(connective, holds)
+    decides(connective, side, holds)
+}
+
+/// Whether the operands behind another are one test that decides.
+fn rest_decides(
+    connective: Connective,
+    rest: &[Formula],
+    slots: &mut [i64],
+    sought: &Sought<'_>,
+) -> bool
+    requires { FitValues sought.now slots.old rest.now }
+    ensures deciding { (spec : Spec) → IsOf sought.now spec → result
+        ≡ rest_decides spec (slots_of slots.old) connective (formula_views rest.now) }
+    ensures kept { slots.new ≡ slots.old }
+{
+    if rest.len() != 1 {
+        return false;
+    }
+    is_deciding(connective, Side::Right, &rest[0], slots, sought)
 }
 
 /// Whether a formula makes the call that is looked for. The quantifiers' slots must hold 0, and do
@@ -64,22 +84,7 @@ pub(crate) fn makes_call(formula: &Formula, slots: &mut [i64], sought: &Sought<'
             connective,
             first,
             links,
-        } => {
-            if makes_call(first, slots, sought) {
-                return true;
-            }
-            let mut decided = is_deciding(*connective, first, slots, sought);
-            for link in links.iter() {
-                if decided {
-                    return false;
-                }
-                if makes_call(link, slots, sought) {
-                    return true;
-                }
-                decided = is_deciding(*connective, link, slots, sought);
-            }
-            false
-        }
+        } => chain_makes_call(*connective, first, links, slots, sought),
         Formula::Quantified {
             slot,
             carriers,
@@ -104,6 +109,37 @@ pub(crate) fn makes_call(formula: &Formula, slots: &mut [i64], sought: &Sought<'
                 && names_instance(*equation, arguments, slots, sought.called)
         }
     }
+}
+
+/// Whether a chain makes the call: its first operand, or one of those linked to it.
+#[cycle(made)]
+fn chain_makes_call(
+    connective: Connective,
+    first: &Formula,
+    links: &[Formula],
+    slots: &mut [i64],
+    sought: &Sought<'_>,
+) -> bool
+    requires first { FitsValues sought.now slots.old (formula_view first.now) }
+    requires links { FitValues sought.now slots.old links.now }
+    ensures made { (spec : Spec) → IsOf sought.now spec → result
+        ≡ chain_makes spec sought.now (slots_of slots.old) connective first.now links.now }
+    ensures kept { slots.new ≡ slots.old }
+{
+    let mut operand = first;
+    for k in 0..links.len() {
+        if rest_decides(connective, &links[k..], slots, sought) {
+            return false;
+        }
+        if makes_call(operand, slots, sought) {
+            return true;
+        }
+        if is_deciding(connective, Side::Left, operand, slots, sought) {
+            return false;
+        }
+        operand = &links[k];
+    }
+    makes_call(operand, slots, sought)
 }
 
 /// Whether a formula makes the call for some values of a quantifier's slots.

@@ -52,7 +52,7 @@ impl<'a> CallPlaces<'a> {
     /// The place of the first call by which the caller's right side names the called instance;
     /// none where there is no such call.
     ///
-    /// First is what is written first. Behind a test that decides, as behind a false one before
+    /// First is what is written first. Beside a test that decides, as a false one before or behind
     /// `&&`, no call is made; a quantifier's body is taken for each value of its variables.
     ///
     /// # Errors

@@ -12,7 +12,7 @@ use Rattle.pb_bytecode.specs.Meaning.{parameters}
 use Rattle.pb_assembler_accepted.proofs.TextEquations.{all_values}
 use Rattle.pb_assembler_modules.specs.Module.{AreEquationsOf, IsCompiledModule}
 
-equations_carriers : (spec : Spec) (m : Contents) (E : List Equation) (es : List EquationContents) → AreEquationsOf spec m E es
+pub equations_carriers : (spec : Spec) (m : Contents) (E : List Equation) (es : List EquationContents) → AreEquationsOf spec m E es
     → carriers_of (map (λ (e : EquationContents). e.parameters) es) ≡ map (λ (X : Equation). formula.carriers_of spec X.parameters) E
 equations_carriers spec m [] [] q = refl
 equations_carriers spec m [] (e ∷ es) q = absurd q

@@ -1,39 +1,40 @@
-use Rattle.std.proofs.Common.{◌≡◌, ◌∙◌, ℕ, ◌==◌, ◌&&◌, Bool, true, false, sym, ap, rules}
-use Rattle.pb_typed_tree.specs.Calls.{calls}
+use Rattle.std.proofs.Common.{◌≡◌, ◌∙◌, ◌==◌, ◌&&◌, Bool, true, false, length, sym, ap, arith, vec_len}
+use Rattle.std.proofs.lemmas.Bool.{eq-eqb, eqb-true}
 use Rattle.pb_typed_tree.specs.View.{formula_view}
 use Rattle.pb_typed_tree.specs.declared.formula.Formula.{Formula}
-use Rattle.pb_call_places.proofs.Operands.{are_tests, test-chain}
-use Rattle.pb_typed_tree.proofs.Calls.{nested-calls}
+use Rattle.pb_call_places.specs.Made.{is_test}
+use Rattle.pb_call_places.proofs.Operands.{chain-test, quantifier-test}
 use Rattle.pb_call_places.proofs.calls.+is_test.Goals as goal
 
-pub returns-then-not-is_test : goal.returns-then-not-is_test
-returns-then-not-is_test t c =
+pub returns-then-is_empty : goal.returns-then-is_empty
+returns-then-is_empty t c =
     let f = c.in-Chain.first in
-    let is_false : c.is_test-in-Chain.result ≡ false = search rules in
-    let first =
-    sym is_false ∙ (c.is_test-in-Chain.ensures
-    ∙ ap (λ (g : Formula). calls (formula_view g) == 0) c.deref-in-Chain.ensures) in
-    sym (test-chain c.args.formula.now c.in-Chain.connective f c.in-Chain.links c.in-Chain.is
-    ∙ ap (λ (b : Bool). b && are_tests c.in-Chain.links.items) (sym first))
+    let v = c.in-Chain.links in
+    let tested : Formula → Bool = λ g. is_test (formula_view g) in
+    let empty : (length v.items == 0) ≡ true =
+    eq-eqb (length v.items) 0 (omega (arith, v.ok.0, eqb-true (vec_len v) 0 (sym c.if-is_empty.ensures))) in
+    c.is_test-then-is_empty.ensures
+    ∙ (ap tested c.deref-then-is_empty.ensures
+    ∙ sym (chain-test c.args.formula.now c.in-Chain.connective f v c.in-Chain.is
+    ∙ ap (λ b. b && tested f.value) empty))
 
-pub loop-link-init : goal.loop-link-init
-loop-link-init t c =
+pub returns-else-is_empty : goal.returns-else-is_empty
+returns-else-is_empty t c =
     let f = c.in-Chain.first in
-    let yes : c.is_test-in-Chain.result ≡ true = search rules in
-    let first =
-    sym yes ∙ (c.is_test-in-Chain.ensures
-    ∙ ap (λ (g : Formula). calls (formula_view g) == 0) c.deref-in-Chain.ensures) in
-    ap are_tests c.deref-link-items.ensures.value
-    ∙ (ap (λ (b : Bool). b && are_tests c.in-Chain.links.items) first
-    ∙ sym (test-chain c.args.formula.now c.in-Chain.connective f c.in-Chain.links c.in-Chain.is))
+    let v = c.in-Chain.links in
+    let no : (vec_len v == 0) ≡ false = sym c.if-is_empty.ensures in
+    let lengths : length v.items ≡ vec_len v = omega (arith, v.ok.0) in
+    c.is_empty.ensures
+    ∙ (no ∙ sym (chain-test c.args.formula.now c.in-Chain.connective f v c.in-Chain.is
+    ∙ ap (λ b. b && is_test (formula_view f.value)) (ap (λ n. n == 0) lengths ∙ no)))
 
-pub returns-in-Quantified : goal.returns-in-Quantified
-returns-in-Quantified t c =
+pub returns-else-is_empty-2 : goal.returns-else-is_empty-2
+returns-else-is_empty-2 t c =
     let f = c.in-Quantified.body in
-    let none : Formula → Bool = λ g. calls (formula_view g) == 0 in
-    let cs = c.in-Quantified.carriers.items in
-    let count =
-    nested-calls c.in-Quantified.quantifier c.in-Quantified.slot cs (formula_view f.value) in
-    c.is_test-in-Quantified.ensures
-    ∙ (ap none c.deref-in-Quantified.ensures
-    ∙ (ap (λ (k : ℕ). k == 0) (sym count) ∙ ap none (sym c.in-Quantified.is)))
+    let v = c.in-Quantified.carriers in
+    let no : (vec_len v == 0) ≡ false = sym c.if-is_empty-2.ensures in
+    let lengths : length v.items ≡ vec_len v = omega (arith, v.ok.0) in
+    c.is_empty-in-Quantified.ensures
+    ∙ (no ∙ sym (ap (λ (g : Formula). is_test (formula_view g)) c.in-Quantified.is
+    ∙ (quantifier-test c.in-Quantified.quantifier c.in-Quantified.slot v.items (formula_view f.value)
+    ∙ ap (λ b. b && is_test (formula_view f.value)) (ap (λ n. n == 0) lengths ∙ no))))

@@ -1,4 +1,4 @@
-use Rattle.std.proofs.Common.{◌≡◌, ◌∙◌, ◌+◌, ◌≤◌, not, ◌&&◌, ◌||◌, Bool, true, false, List, length}
+use Rattle.std.proofs.Common.{◌≡◌, ◌∙◌, ◌+◌, ◌≤◌, Bool, true, false, List, drop, length}
 use Rattle.std.proofs.Common.{map, pos, sym, ap, subst, arith, rules}
 use Rattle.std.proofs.lemmas.Bool.{eqb-false}
 use Rattle.std.proofs.lemmas.List.{length-map}
@@ -8,20 +8,17 @@ use Rattle.pb_sorts.specs.declared.carrier.Carrier.{Carrier}
 use Rattle.pb_text_tree.specs.declared.operator.Quantifier.TheVariants.{Exists}
 use Rattle.pb_typed_tree.specs.Calls.{call_places}
 use Rattle.pb_typed_tree.specs.Fits.{FormulaFits}
-use Rattle.pb_typed_tree.specs.Tree as tree
-use Rattle.pb_typed_tree.specs.View.{formula_view, nested}
+use Rattle.pb_typed_tree.specs.View.{formula_view, formula_views, nested}
 use Rattle.pb_typed_tree.specs.declared.formula.Formula.{Formula}
-use Rattle.pb_typed_tree.proofs.FormulaWeight.{links_weight, operand_lighter, weight, weight-chain}
+use Rattle.pb_typed_tree.proofs.FormulaWeight.{links_weight, weight, weight-chain}
 use Rattle.pb_typed_tree.proofs.Views.{formula-chain}
 use Rattle.pb_evaluation.specs.Slots.{slots_of}
 use Rattle.pb_evaluation.proofs.Nested.{room}
 use Rattle.pb_call_places.specs.Loops.{Holds, holding}
-use Rattle.pb_call_places.specs.Made.{is_deciding, made}
-use Rattle.pb_call_places.specs.Sought.{is_made}
-use Rattle.pb_call_places.proofs.ChainMade.{LinksFit, fits-chained, link-fits, links_make}
-use Rattle.pb_call_places.proofs.ChainMade.{made-chain}
+use Rattle.pb_call_places.specs.Made.{made, rest_decides}
+use Rattle.pb_call_places.specs.Sought.{FitsValues, FitValues, chain_makes, is_made}
+use Rattle.pb_call_places.proofs.ChainMade.{fits-chained, from-place, left-decided, made-chain}
 use Rattle.pb_call_places.proofs.Holding.{tuple-length}
-use Rattle.pb_call_places.proofs.Truths.{goes_on, makes}
 use Rattle.pb_call_places.proofs.TuplesMade.{any-quantifier-fits, any-quantifier-makes, begun}
 use Rattle.pb_call_places.proofs.TuplesMade.{body-fits, cleared, fewer-left, has-room, is-made}
 use Rattle.pb_call_places.proofs.TuplesMade.{is-unmade, next-tuple}
@@ -30,134 +27,55 @@ use Rattle.pb_call_places.proofs.made.+made.Goals as goal
 
 -- ---- chains
 
-pub makes_call-makes_call-requires-in-Chain : goal.makes_call-makes_call-requires-in-Chain
-makes_call-makes_call-requires-in-Chain t c =
-    let k = length c.args.sought.now.environment.layout.now in
-    let n = length c.args.slots.now in
-    let a = slots_of c.args.slots.now in
+pub makes_call-chain_makes_call-requires : goal.makes_call-chain_makes_call-requires
+makes_call-chain_makes_call-requires t c =
+    let s = c.args.sought.now in
+    let vs = c.args.slots.now in
     let o = c.in-Chain.connective in
     let f = c.in-Chain.first in
     let v = c.in-Chain.links in
     let is = ap formula_view c.in-Chain.is ∙ formula-chain o f v in
-    let all = subst (λ (x : tree.Formula). FormulaFits k n a x) is c.requires in
-    let fits = fits-chained k n a o (formula_view f.value) v.items all in (
+    let all = subst (FitsValues s vs) is c.requires in
+    let fits = fits-chained s vs o f.value v.items all in (
       omega (
         arith,
         c.decreases,
-        ap weight c.in-Chain.is
-            ∙ weight-chain o f v,
+        ap weight c.in-Chain.is ∙ weight-chain o f v,
         ap weight c.deref-in-Chain.ensures,
+        ap links_weight c.deref-in-Chain-2.ensures.value,
       ),
-      subst (λ (g : Formula). FormulaFits k n a (formula_view g))
-          (sym c.deref-in-Chain.ensures) fits.0,
+      (
+        subst (λ (g : Formula). FitsValues s vs (formula_view g)) (sym c.deref-in-Chain.ensures) fits.0,
+        subst (FitValues s vs) (sym c.deref-in-Chain-2.ensures.value) fits.1,
+      ),
     )
 
-pub makes_call-returns-then-makes_call-clause-made : goal.makes_call-returns-then-makes_call-clause-made
-makes_call-returns-then-makes_call-clause-made t c = λ spec of.
+pub makes_call-returns-in-Chain-clause-made : goal.makes_call-returns-in-Chain-clause-made
+makes_call-returns-in-Chain-clause-made t c = λ spec of.
     let s = c.args.sought.now in
     let a = slots_of c.args.slots.now in
     let o = c.in-Chain.connective in
     let f = c.in-Chain.first in
     let v = c.in-Chain.links in
-    let here = c.makes_call-in-Chain.result in
-    let here_is = c.makes_call-in-Chain.ensures.made spec of ∙ ap
-    (is_made spec s a) c.deref-in-Chain.ensures in
-    let rest = not (is_deciding spec a o (formula_view f.value)) && links_make spec s a o v.items in
-    makes here rest (is_made spec s a c.args.formula.now)
-    (made-chain spec s a o c.args.formula.now f v c.in-Chain.is ∙ ap (λ (b : Bool). b || rest)
-    (sym here_is))
-    c.if-makes_call.true
+    c.chain_makes_call.ensures.made spec of
+    ∙ (ap (λ (g : Formula). chain_makes spec s a o g c.deref-in-Chain-2.result.now)
+    c.deref-in-Chain.ensures
+    ∙ (ap (chain_makes spec s a o f.value) c.deref-in-Chain-2.ensures.value
+    ∙ sym (made-chain spec s a o c.args.formula.now f v c.in-Chain.is)))
 
-pub makes_call-is_deciding-decided-requires : goal.makes_call-is_deciding-decided-requires
-makes_call-is_deciding-decided-requires t c =
-    let k = length c.args.sought.now.environment.layout.now in
-    let n = length c.args.slots.now in
-    let a = slots_of c.args.slots.now in
-    let o = c.in-Chain.connective in
-    let f = c.in-Chain.first in
-    let v = c.in-Chain.links in
-    let is = ap formula_view c.in-Chain.is ∙ formula-chain o f v in
-    let all = subst (λ (x : tree.Formula). FormulaFits k n a x) is c.requires in
-    let fits = fits-chained k n a o (formula_view f.value) v.items all in
-    subst (λ (vs : Tuple). FormulaFits k (length vs) (slots_of vs)
-    (formula_view c.deref-in-Chain-2.result.now))
-    (sym c.makes_call-in-Chain.ensures.kept)
-    (subst (λ (g : Formula). FormulaFits k n a (formula_view g))
-    (sym c.deref-in-Chain-2.ensures) fits.0)
-
-pub makes_call-loop-link-init : goal.makes_call-loop-link-init
-makes_call-loop-link-init t c = (
-  c.is_deciding-decided.ensures.kept ∙ c.makes_call-in-Chain.ensures.kept,
-  λ spec of.
-      let s = c.args.sought.now in
-      let a = slots_of c.args.slots.now in
-      let o = c.in-Chain.connective in
-      let f = c.in-Chain.first in
-      let v = c.in-Chain.links in
-      let here = c.makes_call-in-Chain.result in
-      let here_is = c.makes_call-in-Chain.ensures.made spec of ∙ ap
-      (is_made spec s a) c.deref-in-Chain.ensures in
-      let rest = not (is_deciding spec a o
-      (formula_view f.value)) && links_make spec s a o v.items in
-      let decided = c.is_deciding-decided.result in
-      let decided_is =
-      c.is_deciding-decided.ensures.deciding spec of
-      ∙ (ap (λ (vs : Tuple). is_deciding spec (slots_of vs) o
-      (formula_view c.deref-in-Chain-2.result.now)) c.makes_call-in-Chain.ensures.kept
-      ∙ ap (λ (g : Formula). is_deciding spec a o (formula_view g)) c.deref-in-Chain-2.ensures) in
-      ap (λ (fs : List Formula). not decided && links_make spec s a o fs) c.deref-link-items.ensures.value
-      ∙ (ap (λ (d : Bool). not d && links_make spec s a o v.items) decided_is
-      ∙ goes_on here rest (is_made spec s a c.args.formula.now)
-      (made-chain spec s a o c.args.formula.now f v c.in-Chain.is ∙ ap (λ (b : Bool). b || rest)
-      (sym here_is))
-      c.if-makes_call.false),
-)
-
-pub makes_call-makes_call-requires-in-loop-link : goal.makes_call-makes_call-requires-in-loop-link
-makes_call-makes_call-requires-in-loop-link t c =
-    let k = length c.args.sought.now.environment.layout.now in
-    let n = length c.args.slots.now in
-    let a = slots_of c.args.slots.now in
-    let o = c.in-Chain.connective in
-    let f = c.in-Chain.first in
-    let v = c.in-Chain.links in
-    let fs = c.deref-link-items.result.now in
-    let j = c.loop-link.link-index in
-    let link = c.link-item.result in
-    let is = ap formula_view c.in-Chain.is ∙ formula-chain o f v in
-    let all = subst (λ (x : tree.Formula). FormulaFits k n a x) is c.requires in
-    let fits = fits-chained k n a o (formula_view f.value) v.items all in
-    let links = subst (LinksFit k n a) (sym c.deref-link-items.ensures.value) fits.1 in (
-      omega (
-        arith,
-        c.decreases,
-        ap weight c.in-Chain.is
-            ∙ weight-chain o f v,
-        ap links_weight c.deref-link-items.ensures.value,
-        operand_lighter fs j link c.loop-link-test.true c.link-item.is,
-      ),
-      subst (λ (vs : Tuple). FormulaFits k (length vs) (slots_of vs) (formula_view link))
-          (sym c.loop-link.invariant.0)
-          (link-fits k n a fs j link links c.loop-link-test.true c.link-item.is),
-    )
-
-pub makes_call-is_deciding-decided-requires-in-loop-link : goal.makes_call-is_deciding-decided-requires-in-loop-link
-makes_call-is_deciding-decided-requires-in-loop-link t c =
-    let k = length c.args.sought.now.environment.layout.now in
-    let n = length c.args.slots.now in
-    let a = slots_of c.args.slots.now in
-    let o = c.in-Chain.connective in
-    let f = c.in-Chain.first in
-    let v = c.in-Chain.links in
-    let fs = c.deref-link-items.result.now in
-    let link = c.link-item.result in
-    let is = ap formula_view c.in-Chain.is ∙ formula-chain o f v in
-    let all = subst (λ (x : tree.Formula). FormulaFits k n a x) is c.requires in
-    let fits = fits-chained k n a o (formula_view f.value) v.items all in
-    let links = subst (LinksFit k n a) (sym c.deref-link-items.ensures.value) fits.1 in
-    subst (λ (vs : Tuple). FormulaFits k (length vs) (slots_of vs) (formula_view link))
-    (sym (c.makes_call-in-loop-link.ensures.kept ∙ c.loop-link.invariant.0))
-    (link-fits k n a fs c.loop-link.link-index link links c.loop-link-test.true c.link-item.is)
+pub chain_makes_call-returns-then-rest_decides-clause-made : goal.chain_makes_call-returns-then-rest_decides-clause-made
+chain_makes_call-returns-then-rest_decides-clause-made t c = λ spec of.
+    let o = c.args.connective in
+    let links = c.args.links.now in
+    let k = c.loop-k.k in
+    let decided : List Formula → Tuple → Bool =
+    λ fs vs. rest_decides spec (slots_of vs) o (formula_views fs) in
+    let decides =
+    ap (decided (drop k links)) (sym c.loop-k.invariant.0)
+    ∙ (ap (λ (fs : List Formula). decided fs c.loop-k.slots) (sym (from-place links k))
+    ∙ (sym (c.rest_decides.ensures.deciding spec of) ∙ c.if-rest_decides.true)) in
+    left-decided c.args.sought.now c.args.slots.now o c.args.first.now links k c.loop-k.operand.now
+    c.loop-k.invariant.1 spec of decides
 
 -- ---- quantifiers
 

@@ -1,9 +1,6 @@
-use Rattle.std.proofs.Common.{◌≡◌, ◌+◌, ◌&&◌, not, drop}
-use Rattle.pb_text_meaning.specs.Syntax.{Spec}
-use Rattle.pb_typed_tree.proofs.FormulaWeight.{weight}
-use Rattle.pb_evaluation.specs.Slots.{slots_of}
-use Rattle.pb_call_places.specs.Sought.{IsOf, is_made}
-use Rattle.pb_call_places.proofs.ChainMade.{links_make}
+use Rattle.std.proofs.Common.{◌≡◌, ◌+◌}
+use Rattle.pb_typed_tree.proofs.FormulaWeight.{links_weight, weight}
+use Rattle.pb_call_places.proofs.ChainMade.{IsLeft}
 use Rattle.pb_call_places.proofs.TuplesMade.{IsUnderWay, remaining}
 use Rattle.pb_call_places.proofs.made.+made.Given as goal
 
@@ -13,14 +10,14 @@ decreases-makes_call l = weight l.formula.now
 abbrev pub decreases-makes_call_for : goal.decreases-makes_call_for
 decreases-makes_call_for l = 1 + weight l.body.now
 
+abbrev pub decreases-chain_makes_call : goal.decreases-chain_makes_call
+decreases-chain_makes_call l = 1 + (weight l.first.now + links_weight l.links.now)
+
 -- the slots are as they were, and the operands that are left decide
-abbrev pub invariant-makes_call-loop-link : goal.invariant-makes_call-loop-link
-invariant-makes_call-loop-link l =
-    let a = slots_of l.fn.slots in
+abbrev pub invariant-chain_makes_call-loop-k : goal.invariant-chain_makes_call-loop-k
+invariant-chain_makes_call-loop-k l =
     (l.slots ≡ l.fn.slots)
-    × ((spec : Spec) → IsOf l.sought spec
-    → (not l.decided && links_make spec l.sought a l.connective (drop l.link-index l.link-items))
-    ≡ is_made spec l.sought a l.formula)
+    × IsLeft l.sought l.fn.slots l.connective l.first l.links l.k l.operand
 
 abbrev pub invariant-makes_call_for-tuples : goal.invariant-makes_call_for-tuples
 invariant-makes_call_for-tuples l = IsUnderWay l.sought l.loops l.body l.fn.slots l.slots
