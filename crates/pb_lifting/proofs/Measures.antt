@@ -15,7 +15,7 @@ use Rattle.pb_game.proofs.Laws.{is_game}
 use Rattle.pb_game.specs.Certificates.{IsProgress}
 use Rattle.pb_lifting.proofs.Lists.{element_in}
 use Rattle.pb_lifting.specs.Radix.{unit, step_up, better, best}
-use Rattle.pb_lifting.specs.Measures.{vertices_upto, base_of, top_of, counts_of, FallsTo, Falls, IsMeasure, more_of, asked, asked_by, least_rank, IsBelowAll, IsFixed, IsLeastMeasure}
+use Rattle.pb_lifting.specs.Measures.{vertices_upto, base_of, top_of, counts_of, FallsTo, Falls, IsMeasure, more_of, asked, asked_by, least_rank, IsBelowAll, IsWithinAll, IsFixed, IsLeastMeasure}
 use Rattle.pb_lifting.specs.Sweep.{AreWords}
 use Rattle.pb_lifting.proofs.Radix.{unit_pos, next_unit, multiple, mul_grows, step_grows, step_below, progress_is, is_progress}
 
@@ -244,10 +244,14 @@ module _ (g : Game) (player : Player) where
   never_above (suc n) zero = omega arith
   never_above (suc n) (suc v) = never_above n v
 
+  -- so what is within every measure is at most top
+  pub within_top : (v word : ℕ) → IsWithinAll g player v word → word ≤ top_of g player
+  within_top v word within = let b = within _ all_top in let t = never_above (vertex_count g) v in omega arith
+
   -- the word behind the vertices is 0
   pub last_is_zero : (words : List ℕ) (n : ℕ) → n ≡ vertex_count g → IsBelowAll g player words → slice_index words n ≡ 0
   last_is_zero words n at below = let b = below _ all_top n in let z = get_or_past (replicate (vertex_count g) (top_of g player)) n 0 (omega (arith, at, all_top.sized)) in omega arith
 
   -- words that no lift raises are the least measure
   pub fixed_is_least : (words : List ℕ) → AreWords g player words → IsFixed g player words → IsLeastMeasure g player words
-  fixed_is_least words a fixed = (fixed_is_measure words a.sized (λ v. let b = a.below _ all_top v in let t = never_above (vertex_count g) v in omega arith) fixed, a.below)
+  fixed_is_least words a fixed = (fixed_is_measure words a.sized (λ v. within_top v (slice_index words v) (λ m is. a.below m is v)) fixed, a.below)

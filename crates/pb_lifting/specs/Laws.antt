@@ -8,7 +8,7 @@ use Rattle.pb_lifting.specs.Measures.{top_of, counts_of, asked, least_rank, IsMe
 use Rattle.pb_lifting.specs.Measures.{IsLeastMeasure}
 use Rattle.pb_lifting.specs.declared.view.Key.{Key}
 use Rattle.pb_lifting.specs.declared.view.View.{View}
-use Rattle.pb_lifting.specs.Rule.{At, known_of, AreMeasuresKept}
+use Rattle.pb_lifting.specs.Rule.{At, fresh_view, AreMeasuresKept}
 use Rattle.pb_lifting.specs.Sweep.{AreWords}
 
 -- an edge from v makes progress exactly where v's rank is at least what the edge asks for
@@ -30,9 +30,9 @@ abbrev pub FixedWordsAreLeast : Type 0
 FixedWordsAreLeast = (g : Game) (player : Player) (words : List ℕ) → AreWords g player words →
     IsFixed g player words → IsLeastMeasure g player words
 
--- a word of which no view knows more than 0 is 0
+-- where the seat of each worker has made no step, all words are 0
 abbrev pub UnknownWordsAreZero : Type 0
 UnknownWordsAreZero =
     (key : Key) (words : List ℕ) (views : List View) → AreMeasuresKept key words views
-    → ((id : ℕ) (v : View) → At views id v → (n : ℕ) → known_of v n ≡ 0)
+    → ((k : ℕ) → k < key.workers → (id : ℕ) × At views id (fresh_view key k))
     → (n : ℕ) → slice_index words n ≡ 0

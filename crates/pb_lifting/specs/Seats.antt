@@ -10,7 +10,7 @@ use Rattle.pb_lifting.specs.declared.view.Key.{Key}
 use Rattle.pb_lifting.specs.declared.view.View.{View}
 use Rattle.pb_lifting.specs.declared.ranks.Ranks.{Ranks}
 use Rattle.pb_lifting.specs.Measures.{least_rank}
-use Rattle.pb_lifting.specs.Rule.{known_of, first_view}
+use Rattle.pb_lifting.specs.Rule.{known_of, fresh_view}
 
 -- a seat whose view has a rank for each word
 abbrev pub LiftSeat : Type 0
@@ -28,6 +28,10 @@ game_at t = (key_at t).game.value
 
 abbrev pub player_at : Ranks → Player
 player_at t = t.player
+
+-- how many seats the table was laid with
+abbrev pub workers_at : Ranks → ℕ
+workers_at t = (key_at t).workers
 
 -- the table is laid for this game and this player
 abbrev pub IsTableOf : Game → Player → Ranks → Type 0
@@ -75,10 +79,10 @@ found_by s = (view_of s).last.1
 abbrev pub AreSeatsOf : Ranks → List LiftSeat → Type 0
 AreSeatsOf t seats = (k : ℕ) (s : LiftSeat) → slice_get seats k ≡ Some s → IsSeatOf t s
 
--- each seat knows of no word more than 0
+-- the k-th seat has the k-th seat number, and knows of no word more than 0
 abbrev pub AreFresh : Ranks → List LiftSeat → Type 0
 AreFresh t seats = (k : ℕ) (s : LiftSeat) → slice_get seats k ≡ Some s →
-    view_of s ≡ first_view (key_at t)
+    view_of s ≡ fresh_view (key_at t) k
 
 -- no word is below what some seat knows
 abbrev pub AreSeatsBelow : List LiftSeat → List ℕ → Type 0

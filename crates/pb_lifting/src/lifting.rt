@@ -1,24 +1,33 @@
 //! Lifting by many workers.
+//!
+//! The tables of both players are lifted in turn, each turn with twice the passes of the one
+//! before, until no lift raises a word of one of them. Then its words are a least measure, and
+//! where they aren't top the other player's words are top at once: no vertex has ranks below top
+//! for both. So a player who loses much by ranks that rise one by one doesn't have to lift them.
 
 ghost use Rattle.std.specs.Prelude.{◌≡◌, ◌<◌, ◌↔◌, IfOk};
-ghost use Rattle.pb_lifting.specs.Scales.{IsScaleOf};
-ghost use Rattle.pb_lifting.specs.Measures.{SomeHasTooManyRanks, IsLeastMeasure};
-ghost use Rattle.pb_lifting.specs.Seats.{game_at, IsSeatOf, IsSameSeat, AreSeatsOf};
+ghost use Rattle.pb_trees.specs.Players.{opponent_of};
+ghost use Rattle.pb_lifting.specs.Scales.{AreScalesOf};
+ghost use Rattle.pb_lifting.specs.Measures.{SomeHasTooManyRanks};
 ghost use Rattle.pb_lifting.specs.Errors.{IsTooMany};
-ghost use Rattle.pb_lifting.specs.Solutions.{AreMeasured, IsLiftedSolution};
+ghost use Rattle.pb_lifting.specs.Solutions.{IsLiftedSolution};
+ghost use Rattle.pb_lifting.specs.Turns.{IsOpenFor, AreInTurn, IsOpponents};
+ghost use Rattle.pb_lifting.specs.Turns.{IsLeastMeasured, AreLeastMeasured};
 
 use crate::lift_error::{LiftError, TooManyRanks};
 use crate::measured::Measured;
-use crate::ranks::{LiftSeat, Ranks};
-use crate::scale::{Scale, Scales};
+use crate::open_table::{OpenTable, concede_together, work_together};
+use crate::scale::Scales;
 use crate::solution::solution_of;
-use crate::sweep::sweep;
-use crate::work::{Lifting, work};
+use crate::turn::Turn;
+use crate::work::Lifting;
 use pb_exploration::Gate;
 use pb_game::{Game, Player, Solution};
 use std::alloc::{AllocError, Global};
-use std::thread;
 use std::thread::Threads;
+
+/// How many passes over its vertices a worker makes in the first turn.
+const FIRST_PASSES: u64 = 2;
 
 /// The solution that the least measures of both players say: Even wins where its rank isn't
 /// top, the counts are the winner's rank, and the choice is the least successor towards which that
@@ -47,64 +56,147 @@ pub fn lift<G: Gate + Sync, R: Threads + Sync>(
         workers,
         gate,
     };
-    let even = lift_player(rt, alloc, &lifting, Player::Even, &scales.even)?;
-    let odd = lift_player(rt, alloc, &lifting, Player::Odd, &scales.odd)?;
+    let Measures { even, odd } = lift_both(rt, alloc, &lifting, &scales)?;
     Ok(solution_of(alloc, game, &even, &odd)?)
 }
 
-/// A player's least measure, lifted by all workers.
-fn lift_player<G: Gate + Sync, R: Threads + Sync>(
+/// The least measures of both players.
+#[derive(Drop)]
+pub(crate) struct Measures {
+    pub even: Measured,
+    pub odd: Measured,
+}
+
+/// The tables of both players, of which the first is the next to be lifted.
+#[derive(Drop)]
+pub(crate) struct InTurn {
+    /// Whose table the first one is.
+    pub player: Player,
+    pub first: OpenTable,
+    pub second: OpenTable,
+}
+
+/// The least measures of both players, lifted by all workers.
+fn lift_both<G: Gate + Sync, R: Threads + Sync>(
     rt: &R,
     alloc: Global,
     lifting: &Lifting<'_, G>,
-    player: Player,
-    scale: &Scale,
-) -> Result<Measured, AllocError>
-    requires scale { IsScaleOf lifting.now.game.now player scale.now }
-    ensures measured { IfOk result (AreMeasured lifting.now.game.now player) }
-    ensures least { IfOk result
-        (λ m. IsLeastMeasure lifting.now.game.now player m.words.items) }
+    scales: &Scales,
+) -> Result<Measures, AllocError>
+    requires { AreScalesOf lifting.now.game.now scales.now }
+    ensures { IfOk result (AreLeastMeasured lifting.now.game.now) }
 {
-    let game = lifting.game;
-    let (ranks, seats) = Ranks::lay(alloc, game, player, scale, lifting.workers)?;
-    let seats = work_together(rt, lifting, &ranks, seats)?;
-    let mut words = ranks.close(alloc, seats)?;
-    sweep(game, player, scale, &mut words);
-    Ok(Measured {
-        scale: *scale,
-        words,
+    let tables = InTurn {
+        player: Player::Even,
+        first: OpenTable::start(alloc, lifting, Player::Even, &scales.even)?,
+        second: OpenTable::start(alloc, lifting, Player::Odd, &scales.odd)?,
+    };
+    let InTurn {
+        player,
+        first,
+        second,
+    } = lift_one(rt, lifting, tables)?;
+    let measured = first.finish(alloc, lifting.game, player)?;
+    let other = player.opponent();
+    let second = lift_rest(rt, lifting, second, other, &measured)?;
+    let rest = second.finish(alloc, lifting.game, other)?;
+    Ok(by_player(lifting.game, player, measured, rest))
+}
+
+/// The measures of a player and of its opponent, by player.
+fn by_player(game: &Game, player: Player, own: Measured, opponents: Measured) -> Measures
+    requires own { IsLeastMeasured game.now player own }
+    requires opponents { IsLeastMeasured game.now (opponent_of player) opponents }
+    ensures { AreLeastMeasured game.now result }
+{
+    match player {
+        Player::Even => Measures {
+            even: own,
+            odd: opponents,
+        },
+        Player::Odd => Measures {
+            even: opponents,
+            odd: own,
+        },
+    }
+}
+
+/// Lifts the tables in turn, until no lift raises a word of the first.
+fn lift_one<G: Gate + Sync, R: Threads + Sync>(
+    rt: &R,
+    lifting: &Lifting<'_, G>,
+    mut tables: InTurn,
+) -> Result<InTurn, AllocError>
+    requires { AreInTurn lifting.now.game.now tables }
+    ensures { IfOk result (AreInTurn lifting.now.game.now) }
+{
+    let mut passes = FIRST_PASSES;
+    for _turn in 0..u64::MAX {
+        let turn = Turn::of(passes);
+        tables = take_turn(rt, lifting, &turn, tables)?;
+        if turn.has_settled() {
+            break;
+        }
+        tables = swapped(lifting.game, tables);
+        passes = passes.saturating_mul(2);
+    }
+    Ok(tables)
+}
+
+/// The workers lift the first table.
+fn take_turn<G: Gate + Sync, R: Threads + Sync>(
+    rt: &R,
+    lifting: &Lifting<'_, G>,
+    turn: &Turn,
+    tables: InTurn,
+) -> Result<InTurn, AllocError>
+    requires { AreInTurn lifting.now.game.now tables }
+    ensures { IfOk result (AreInTurn lifting.now.game.now) }
+{
+    let InTurn {
+        player,
+        first: OpenTable { ranks, seats },
+        second,
+    } = tables;
+    let seats = work_together(rt, lifting, turn, &ranks, seats)?;
+    Ok(InTurn {
+        player,
+        first: OpenTable { ranks, seats },
+        second,
     })
 }
 
-/// Does each worker's part, each in a thread of its own where one can be made.
-fn work_together<G: Gate + Sync, R: Threads + Sync>(
-    rt: &R,
-    lifting: &Lifting<'_, G>,
-    ranks: &Ranks,
-    seats: Vec<LiftSeat>,
-) -> Result<Vec<LiftSeat>, AllocError>
-    requires same_game { lifting.now.game.now ≡ game_at ranks.now }
-    requires seats { AreSeatsOf ranks.now seats.items }
-    ensures { IfOk result (λ v. AreSeatsOf ranks.now v.items) }
+/// The same tables, the other one first.
+fn swapped(game: &Game, tables: InTurn) -> InTurn
+    requires { AreInTurn game.now tables }
+    ensures { AreInTurn game.now result }
 {
-    let done = thread::map_vec(
-        rt,
-        seats,
-        &|seat: LiftSeat| -> LiftSeat
-            requires { IsSeatOf ranks.now seat
-                × (lifting.now.game.now ≡ game_at ranks.now) }
-            ensures { IsSameSeat seat result }
-        { work_with(lifting, ranks, seat) },
-    )?;
-    Ok(done)
+    let InTurn {
+        player,
+        first,
+        second,
+    } = tables;
+    InTurn {
+        player: player.opponent(),
+        first: second,
+        second: first,
+    }
 }
 
-/// Lifts the vertices of a seat's worker, and gives the seat back.
-fn work_with<G: Gate>(lifting: &Lifting<'_, G>, ranks: &Ranks, mut seat: LiftSeat) -> LiftSeat
-    requires same_game { lifting.now.game.now ≡ game_at ranks.now }
-    requires seat { IsSeatOf ranks.now seat }
-    ensures { IsSameSeat seat result }
+/// The workers concede what the opponent wins by its measure, and lift the rest of the table.
+fn lift_rest<G: Gate + Sync, R: Threads + Sync>(
+    rt: &R,
+    lifting: &Lifting<'_, G>,
+    table: OpenTable,
+    player: Player,
+    opponents: &Measured,
+) -> Result<OpenTable, AllocError>
+    requires table { IsOpenFor lifting.now.game.now player table }
+    requires opponents { IsOpponents lifting.now.game.now player opponents.now }
+    ensures { IfOk result (IsOpenFor lifting.now.game.now player) }
 {
-    work(lifting, ranks, &mut seat);
-    seat
+    let OpenTable { ranks, seats } = table;
+    let seats = concede_together(rt, lifting, opponents, &ranks, seats)?;
+    let seats = work_together(rt, lifting, &Turn::of(u64::MAX), &ranks, seats)?;
+    Ok(OpenTable { ranks, seats })
 }

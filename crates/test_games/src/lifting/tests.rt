@@ -2,6 +2,7 @@
 ghost use Rattle.std.specs.Prelude.{◌<◌};
 
 use crate::games::{Builder, game_of};
+use crate::lifting::attempts::Attempts;
 use crate::lifting::overlap::Overlap;
 use pb_exploration::{Gate, NoGate};
 use pb_game::Player::{Even, Odd};
@@ -18,11 +19,34 @@ fn two_equations(alloc: Global) -> Result<Game, Fail> {
     game_of(alloc, &[(Even, 1, &[3]), (Even, 0, &[2])])
 }
 
-/// A cycle of 128 vertices with as many priorities: each player has `2 ^ 64` ranks below top.
+/// The game of 64 equations over four values, `nu` and `mu` in turn, each of which is `forall m` of
+/// the next one and the last of the first. Either player has more than `2 ^ 64` ranks.
+fn round_of_64_equations(alloc: Global) -> Result<Game, Fail> {
+    let mut builder = Builder::with_sinks(alloc)?;
+    for v in 0..256u32 {
+        let next = (v / 4 + 1) % 64 * 4 + 2;
+        let priority = 64u32.saturating_sub(v / 4);
+        builder.push(Odd, priority, &[next, next + 1, next + 2, next + 3])?;
+    }
+    builder.game(alloc)
+}
+
+/// A cycle of 1,000 vertices that Even wins: Odd has 1,000 ranks below top.
 fn long_cycle(alloc: Global) -> Result<Game, Fail> {
     let mut builder = Builder::new(alloc)?;
-    for v in 0..128u32 {
-        builder.push(Even, v, &[(v + 1) % 128])?;
+    for v in 0..1000u32 {
+        builder.push(Even, 0, &[(v + 1) % 1000])?;
+    }
+    builder.game(alloc)
+}
+
+/// Ten chains of 24 vertices into the true sink, with a priority for each step: either player has
+/// more than `11 ^ 12` ranks, and each sink is lost by one of them.
+fn ten_chains(alloc: Global) -> Result<Game, Fail> {
+    let mut builder = Builder::with_sinks(alloc)?;
+    for v in 0..240u32 {
+        let next = if v < 230 { v + 12 } else { 1 };
+        builder.push(Even, 25u32.saturating_sub(v / 10), &[next])?;
     }
     builder.game(alloc)
 }
@@ -126,11 +150,11 @@ fn numbers_of_errors(rt: HostRuntime) -> Result<(), Fail> {
     Ok(())
 }
 
-// the greatest priority of the one cycle is odd
+// the greatest priority of each cycle is even
 #[test]
 fn too_many_ranks(rt: HostRuntime) -> Result<(), Fail> {
     let alloc = rt.alloc();
-    let game = long_cycle(alloc)?;
+    let game = round_of_64_equations(alloc)?;
     let refused = lift(&rt, alloc, &game, 2, &NoGate);
     assert!(rt; matches!(refused, Err(LiftError::Refused(TooManyRanks))));
     let context = Context {
@@ -140,8 +164,23 @@ fn too_many_ranks(rt: HostRuntime) -> Result<(), Fail> {
     };
     let certified = solve(&context, &game, Solver::Lift, 2)?;
     let winners = &certified.solution().winner;
-    assert!(rt; winners.len() == 128);
-    assert!(rt; winners.iter().all(|&winner| winner == Odd));
+    assert!(rt; winners.len() == 258);
+    assert!(rt; winners.iter().skip(1).all(|&winner| winner == Even));
+    Ok(())
+}
+
+// Odd's ranks on the cycle and both players' at the sinks aren't gone through one by one
+#[test]
+fn what_is_lost_is_top_at_once(rt: HostRuntime) -> Result<(), Fail> {
+    let alloc = rt.alloc();
+    for game in [long_cycle(alloc)?, ten_chains(alloc)?] {
+        let gate = Attempts::none();
+        let Ok(solution) = lift(&rt, alloc, &game, 1, &gate) else {
+            panic!(rt; "no solution");
+        };
+        assert!(rt; solution.winner.iter().skip(1).all(|&winner| winner == Even));
+        assert!(rt; gate.made() < 10_000);
+    }
     Ok(())
 }
 

@@ -1,0 +1,5 @@
+use Rattle.pb_lifting.specs.Turns.{AreInTurn}
+use Rattle.pb_lifting.proofs.lifting.lift_one.Given as goal
+
+abbrev pub invariant-loop-turn : goal.invariant-loop-turn
+invariant-loop-turn g l = AreInTurn l.lifting.game.now l.tables

@@ -1,0 +1,141 @@
+//! A player's table while its workers lift it, and what is left when they have done.
+ghost use Rattle.std.specs.Prelude.{◌≡◌, IfOk};
+ghost use Rattle.pb_lifting.specs.Scales.{IsScaleOf};
+ghost use Rattle.pb_lifting.specs.Seats.{game_at, player_at, IsSeatOf, IsSameSeat, AreSeatsOf};
+ghost use Rattle.pb_lifting.specs.Turns.{IsOpenFor, IsOpponents, IsLeastMeasured};
+
+use crate::concede::concede_part;
+use crate::measured::Measured;
+use crate::ranks::{LiftSeat, Ranks};
+use crate::scale::Scale;
+use crate::sweep::sweep;
+use crate::turn::Turn;
+use crate::work::{Lifting, work};
+use pb_exploration::Gate;
+use pb_game::{Game, Player};
+use std::alloc::{AllocError, Global};
+use std::thread;
+use std::thread::Threads;
+
+/// A player's table, with the seats of its workers.
+#[derive(Drop)]
+pub(crate) struct OpenTable {
+    pub ranks: Ranks,
+    pub seats: Vec<LiftSeat>,
+}
+
+impl OpenTable {
+    /// A player's table whose words are 0.
+    pub(crate) fn start<G: Gate>(
+        alloc: Global,
+        lifting: &Lifting<'_, G>,
+        player: Player,
+        scale: &Scale,
+    ) -> Result<OpenTable, AllocError>
+        requires { IsScaleOf lifting.now.game.now player scale.now }
+        ensures { IfOk result (IsOpenFor lifting.now.game.now player) }
+    {
+        let (ranks, seats) = Ranks::lay(alloc, lifting.game, player, scale, lifting.workers)?;
+        Ok(OpenTable { ranks, seats })
+    }
+
+    /// The least measure of the table's player: one thread lifts the closed words until no lift
+    /// raises one.
+    pub(crate) fn finish(
+        self,
+        alloc: Global,
+        game: &Game,
+        player: Player,
+    ) -> Result<Measured, AllocError>
+        requires { IsOpenFor game.now player self }
+        ensures { IfOk result (IsLeastMeasured game.now player) }
+    {
+        let OpenTable { ranks, seats } = self;
+        let scale = ranks.scale;
+        let mut words = ranks.close(alloc, seats)?;
+        sweep(game, player, &scale, &mut words);
+        Ok(Measured { scale, words })
+    }
+}
+
+/// Each worker takes its turn, in a thread of its own where one can be made.
+pub(crate) fn work_together<G: Gate + Sync, R: Threads + Sync>(
+    rt: &R,
+    lifting: &Lifting<'_, G>,
+    turn: &Turn,
+    ranks: &Ranks,
+    seats: Vec<LiftSeat>,
+) -> Result<Vec<LiftSeat>, AllocError>
+    requires same_game { lifting.now.game.now ≡ game_at ranks.now }
+    requires seats { AreSeatsOf ranks.now seats.items }
+    ensures { IfOk result (λ v. AreSeatsOf ranks.now v.items) }
+{
+    let done = thread::map_vec(
+        rt,
+        seats,
+        &|seat: LiftSeat| -> LiftSeat
+            requires { IsSeatOf ranks.now seat
+                × (lifting.now.game.now ≡ game_at ranks.now) }
+            ensures { IsSameSeat seat result }
+        { work_with(lifting, turn, ranks, seat) },
+    )?;
+    Ok(done)
+}
+
+/// A worker's turn, with its seat, which it gives back.
+fn work_with<G: Gate>(
+    lifting: &Lifting<'_, G>,
+    turn: &Turn,
+    ranks: &Ranks,
+    mut seat: LiftSeat,
+) -> LiftSeat
+    requires same_game { lifting.now.game.now ≡ game_at ranks.now }
+    requires seat { IsSeatOf ranks.now seat }
+    ensures { IsSameSeat seat result }
+{
+    work(lifting, turn, ranks, &mut seat);
+    seat
+}
+
+/// Each worker concedes the vertices that the opponent wins by a measure, in a thread of its own
+/// where one can be made.
+pub(crate) fn concede_together<G: Gate + Sync, R: Threads + Sync>(
+    rt: &R,
+    lifting: &Lifting<'_, G>,
+    opponents: &Measured,
+    ranks: &Ranks,
+    seats: Vec<LiftSeat>,
+) -> Result<Vec<LiftSeat>, AllocError>
+    requires same_game { lifting.now.game.now ≡ game_at ranks.now }
+    requires seats { AreSeatsOf ranks.now seats.items }
+    requires opponents { IsOpponents lifting.now.game.now (player_at ranks.now) opponents.now }
+    ensures { IfOk result (λ v. AreSeatsOf ranks.now v.items) }
+{
+    let done = thread::map_vec(
+        rt,
+        seats,
+        &|seat: LiftSeat| -> LiftSeat
+            requires { IsSeatOf ranks.now seat
+                × (lifting.now.game.now ≡ game_at ranks.now)
+                × IsOpponents lifting.now.game.now (player_at ranks.now) opponents.now }
+            ensures { IsSameSeat seat result }
+        { concede_with(lifting, opponents, ranks, seat) },
+    )?;
+    Ok(done)
+}
+
+/// What a worker concedes, with its seat, which it gives back.
+fn concede_with<G: Gate>(
+    lifting: &Lifting<'_, G>,
+    opponents: &Measured,
+    ranks: &Ranks,
+    mut seat: LiftSeat,
+) -> LiftSeat
+    requires same_game { lifting.now.game.now ≡ game_at ranks.now }
+    requires seat { IsSeatOf ranks.now seat }
+    requires opponents { IsOpponents lifting.now.game.now (player_at ranks.now) opponents.now }
+    ensures { IsSameSeat seat result }
+{
+    concede_part(lifting, opponents, ranks, &mut seat);
+    seat
+}
