@@ -9,32 +9,31 @@ ghost use Rattle.pb_evidence.specs.Searching.{IsOpen, IsSearched};
 
 use crate::found::Found;
 use pb_game::{Game, Solution};
-use pb_strategy::Checked;
 use std::alloc::AllocError;
 
 /// Finds to where plays from `v` lead, over vertices of brackets; the nearest first. Marks stand at
 /// the vertices of instances.
 pub(crate) fn search(
-    checked: &Checked,
+    game: &Game,
+    solution: &Solution,
     marks: &[bool],
     v: u32,
     found: &mut Found,
 ) -> Result<(), AllocError>
-    requires lengths { HasLengths checked.now.game.now checked.now.solution.now }
-    requires marks { length marks.now ≡ vertex_count checked.now.game.now }
-    requires vertex { v < vertex_count checked.now.game.now }
+    requires lengths { HasLengths game.now solution.now }
+    requires marks { length marks.now ≡ vertex_count game.now }
+    requires vertex { v < vertex_count game.now }
     requires found { IsFound found.old }
-    requires width { length found.old.marks.items ≡ vertex_count checked.now.game.now }
+    requires width { length found.old.marks.items ≡ vertex_count game.now }
     requires none { found.old.vertices.items ≡ [] }
-    ensures { OnOk result (IsSearched checked.now.game.now checked.now.solution.now
-        marks.now v found.new) }
+    ensures { OnOk result (IsSearched game.now solution.now marks.now v found.new) }
 {
-    find_next(checked, v, found)?;
+    find_next(game, solution, v, found)?;
     let mut next = 0;
     while next < found.vertices.len() {
         let u = found.vertices[next];
-        if is_open(checked.game, marks, u) {
-            find_next(checked, u, found)?;
+        if is_open(game, marks, u) {
+            find_next(game, solution, u, found)?;
         }
         next += 1;
     }
@@ -42,16 +41,15 @@ pub(crate) fn search(
 }
 
 /// Finds where the kept edges from `v` lead.
-fn find_next(checked: &Checked, v: u32, found: &mut Found) -> Result<(), AllocError>
-    requires lengths { HasLengths checked.now.game.now checked.now.solution.now }
-    requires vertex { v < vertex_count checked.now.game.now }
+fn find_next(game: &Game, solution: &Solution, v: u32, found: &mut Found) -> Result<(), AllocError>
+    requires lengths { HasLengths game.now solution.now }
+    requires vertex { v < vertex_count game.now }
     requires found { IsFound found.old }
-    requires width { length found.old.marks.items ≡ vertex_count checked.now.game.now }
-    ensures { OnOk result (Gains (λ u. IsKept checked.now.game.now checked.now.solution.now v u)
-        found.old found.new) }
+    requires width { length found.old.marks.items ≡ vertex_count game.now }
+    ensures { OnOk result (Gains (λ u. IsKept game.now solution.now v u) found.old found.new) }
 {
-    for &u in checked.game.successors(v) {
-        if is_kept(checked.game, checked.solution, v, u) {
+    for &u in game.successors(v) {
+        if is_kept(game, solution, v, u) {
             found.add(u)?;
         }
     }

@@ -4,7 +4,8 @@ ghost use Rattle.pb_game.specs.Certificates.{IsCertificate};
 use crate::TreeGame;
 use pb_strategy::{Certified, Checked};
 
-/// A game of reached instances with its winners, which the checker has certified.
+/// A game of reached instances with its winners, which the checker has certified: nothing but the
+/// checker makes what [`Solved::new`] takes.
 #[derive(Drop)]
 pub struct Solved {
     pub built: TreeGame,
@@ -32,31 +33,31 @@ impl Solved {
         Solved { built, certified }
     }
 
+    /// The winners as a certificate of the game, which the checker has passed.
+    pub fn checked(&self) -> Checked<'_>
+        ensures game { result.game.now ≡ self.entry.now.built.game }
+        ensures solution { result.solution.now ≡ self.entry.now.certified }
+    {
+        self.certified.checked(&self.built.game)
+    }
+
     /// The truth of the instance whose vertex this is.
     fn truth_at(&self, vertex: u32) -> bool
         requires { vertex < vertex_count self.now.built.game }
         ensures winner { IsTrue result ↔ (winner_of self.now.certified vertex ≡ Even) }
         ensures meaning { IsSolvedAt self.now.built.game vertex result }
     {
-        Checked {
-            game: &self.built.game,
-            solution: self.certified.solution(),
-        }
-        .truth(vertex)
+        self.checked().truth(vertex)
     }
 
     /// The truth of the initial instance: whether Even wins its vertex.
     pub fn truth(&self) -> bool
-        requires { (signatures : List Signature) × (trees : ℕ → Tree) × (reached : List Row)
-            × (initial : ℕ) × IsTreeGame signatures trees reached initial self.now.built
-            × IsReached reached initial }
         ensures winner { IsTrue result
             ↔ (winner_of self.now.certified self.now.built.start ≡ Even) }
         ensures meaning { (signatures : List Signature) (trees : ℕ → Tree) (reached : List Row)
             (initial : ℕ) → IsTreeGame signatures trees reached initial self.now.built
             → IsReached reached initial → result ≡ solved signatures trees initial }
     {
-        pb_trees::games_of_rows_are_total();
         self.truth_at(self.built.start)
     }
 

@@ -1,6 +1,7 @@
 //! The game of a system's reached instances.
-ghost use Rattle.std.specs.Prelude.{◌≡◌, ◌≤◌, vec_len};
+ghost use Rattle.std.specs.Prelude.{◌≡◌, ◌≤◌, ◌<◌, vec_len};
 ghost use Rattle.pb_limits.specs.declared.TheConstants.{MAX_VERTICES};
+ghost use Rattle.pb_game.specs.Games.{vertex_count};
 
 use crate::finished::game_of;
 use crate::levels::{count_instances, levels};
@@ -42,12 +43,12 @@ pub struct TreeGame {
     /// The vertex of the initial instance.
     pub start: u32,
     pub ghost few: { vec_len vertices ≤ MAX_VERTICES },
+    pub ghost inside: { start < vertex_count game },
 }
 
 impl TreeGame {
-    ghost use Rattle.std.specs.Prelude.{◌≤◌, ◌<◌, ◌^◌, IfOk, length, slice_index};
+    ghost use Rattle.std.specs.Prelude.{◌^◌, IfOk, length};
     ghost use Rattle.pb_trees.specs.Equations.{total};
-    ghost use Rattle.pb_game.specs.Games.{vertex_count};
     ghost use Rattle.pb_game_of_trees.specs.Equations.{equations_of};
     ghost use Rattle.pb_game_of_trees.specs.TreeGame.{RowsHaveTrees, IsGameOf, IsRefusedExactly};
     ghost use Rattle.pb_game_of_trees.specs.Places.{IsSizeOf};
@@ -113,25 +114,10 @@ impl TreeGame {
         self.game.len()
     }
 
-    /// The vertex of the initial instance.
-    pub fn start(&self) -> u32
-        ensures { result ≡ self.now.start }
-    {
-        self.start
-    }
-
     /// How many reached instances there are.
     pub fn instances(&self) -> u32
         ensures { result ≡ length self.now.vertices.items }
     {
         self.vertices.len() as u32
-    }
-
-    /// The vertex of a reached instance, by the place of its row.
-    pub fn vertex(&self, place: u32) -> u32
-        requires { place < length self.now.vertices.items }
-        ensures { result ≡ slice_index self.now.vertices.items place }
-    {
-        self.vertices[place as usize]
     }
 }

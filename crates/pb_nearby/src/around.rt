@@ -5,7 +5,7 @@ ghost use Rattle.pb_rows.specs.Entries.{IsThere, row_there};
 ghost use Rattle.pb_bytecode.specs.Contents.{Contents};
 ghost use Rattle.pb_game_of_trees.specs.Explored.{AreModuleRows};
 ghost use Rattle.pb_nearby.specs.Nearby.{IsNearby, found_in, nearby_rows};
-ghost use Rattle.pb_nearby.specs.Around.{AddsAround, AreAssumedRows};
+ghost use Rattle.pb_nearby.specs.Around.{AddsAround, AreAssumedRows, IsAround};
 
 use crate::nearby::Nearby;
 use pb_rows::{IndexedRows, Place, Rows};
@@ -39,13 +39,14 @@ fn in_order(alloc: Global, rows: Rows) -> Result<IndexedRows, AllocError>
 
 impl Nearby {
     /// The rows by rising number, from whose game this truth value may be shown of the initial
-    /// instance: in place of its tree, each instance of the frontier has the leaf with the other
-    /// value. Where there is no frontier, the rows are the module's.
+    /// instance: each explored instance has its tree, and each of the frontier, in place of its
+    /// tree, the leaf with the other value. Where there is no frontier, the rows are the module's.
     ///
     /// # Errors
     /// Memory was refused.
     pub fn around(&self, alloc: Global, truth: bool) -> Result<IndexedRows, AllocError>
         requires { (m : Contents) × IsNearby m self.now }
+        ensures each { IfOk result (All (IsAround self.now truth)) }
         ensures assumed { IfOk result (λ rows. (m : Contents) → IsNearby m self.now
             → AreAssumedRows m truth rows) }
         ensures whole { IfOk result (λ rows. (m : Contents) → IsNearby m self.now

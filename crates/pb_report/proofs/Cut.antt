@@ -7,9 +7,9 @@ use Rattle.std.proofs.lemmas.List.Folds.{list_any-append}
 use Rattle.pb_trees.specs.declared.Token.TheVariants as token
 use Rattle.pb_trees.specs.Tree.{Conjunction, Disjunction, Leaf, Yes, No, Cut, Call, Operands, End, LeafThen, BracketThen, Tree, Single, Root}
 use Rattle.pb_trees.specs.Tokens.{leaf_token, operands_tokens, tree_tokens}
-use Rattle.pb_report.specs.CutCalls.{is_cut, operands_have_cut, has_cut, is_cut_token}
+use Rattle.pb_report.specs.CutCalls.{is_cut_leaf, operands_have_cut, has_cut, is_cut_token}
 
-leaf_cut : (l : Leaf) → is_cut_token (leaf_token l) ≡ is_cut l
+leaf_cut : (l : Leaf) → is_cut_token (leaf_token l) ≡ is_cut_leaf l
 leaf_cut Yes = refl
 leaf_cut No = refl
 leaf_cut Cut = refl
@@ -18,7 +18,7 @@ leaf_cut (Call n) = refl
 operands_cut : (f : Operands) → list_any is_cut_token (operands_tokens f) ≡ operands_have_cut f
 operands_cut End = refl
 operands_cut (LeafThen l after) =
-    ap (λ (b : Bool). b || list_any is_cut_token (operands_tokens after)) (leaf_cut l) ∙ ap (λ (b : Bool). is_cut l || b) (operands_cut after)
+    ap (λ (b : Bool). b || list_any is_cut_token (operands_tokens after)) (leaf_cut l) ∙ ap (λ (b : Bool). is_cut_leaf l || b) (operands_cut after)
 operands_cut (BracketThen Conjunction inside after) =
     list_any-append is_cut_token (operands_tokens inside) (token.Close ∷ operands_tokens after)
     ∙ (ap (λ (b : Bool). b || list_any is_cut_token (operands_tokens after)) (operands_cut inside) ∙ ap (λ (b : Bool). operands_have_cut inside || b) (operands_cut after))
@@ -27,7 +27,7 @@ operands_cut (BracketThen Disjunction inside after) =
     ∙ (ap (λ (b : Bool). b || list_any is_cut_token (operands_tokens after)) (operands_cut inside) ∙ ap (λ (b : Bool). operands_have_cut inside || b) (operands_cut after))
 
 pub tree_cut : (tree : Tree) → list_any is_cut_token (tree_tokens tree) ≡ has_cut tree
-tree_cut (Single l) = ap (λ (b : Bool). b || false) (leaf_cut l) ∙ or-false (is_cut l)
+tree_cut (Single l) = ap (λ (b : Bool). b || false) (leaf_cut l) ∙ or-false (is_cut_leaf l)
 tree_cut (Root Conjunction f) =
     list_any-append is_cut_token (operands_tokens f) (token.Close ∷ []) ∙ (or-false (list_any is_cut_token (operands_tokens f)) ∙ operands_cut f)
 tree_cut (Root Disjunction f) =

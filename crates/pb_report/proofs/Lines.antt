@@ -21,7 +21,7 @@ use Rattle.pb_report.specs.Cuts.{is_cut}
 use Rattle.pb_report.specs.CallPlaces.{AreCallPlaces, placed_names}
 use Rattle.pb_report.specs.EvidenceText.{dependency_text, dependencies_text}
 use Rattle.pb_report.specs.ModuleEvidence.{IsExplanation}
-use Rattle.pb_report.specs.ModuleLines.{evidence_line_of, lines_of}
+use Rattle.pb_report.specs.ModuleLines.{evidence_line_of, evidence_lines_of}
 
 pub next_dependency : (name : ℕ → List ℕ) (ns : List ℕ) (ps : List (Option Place)) (k : ℕ) → k < length ns →
     placed_names name (drop k ns) (drop k ps) ≡ dependency_text name (get_or ns k 0) (get_or ps k None) ++ placed_names name (drop (k + 1) ns) (drop (k + 1) ps)
@@ -42,8 +42,8 @@ placed_is name place (n ∷ ns) ps are =
     ∙ ap (λ (xs : List ℕ). dependency_text name n (place n) ++ xs) (placed_is name place ns (drop 1 ps) behind)
 
 pub next_line : (m : Contents) (trees : ℕ → Tree) (place : ℕ → ℕ → Option Place) (e : Evidence) (ns : List ℕ) (k : ℕ) → k < length ns →
-    lines_of m trees place e (drop k ns) ≡ evidence_line_of m trees place e (get_or ns k 0) ++ lines_of m trees place e (drop (k + 1) ns)
-next_line m trees place e ns k l = ap (lines_of m trees place e) (drop_more ns k 0 l)
+    evidence_lines_of m trees place e (drop k ns) ≡ evidence_line_of m trees place e (get_or ns k 0) ++ evidence_lines_of m trees place e (drop (k + 1) ns)
+next_line m trees place e ns k l = ap (evidence_lines_of m trees place e) (drop_more ns k 0 l)
 
 module _ (m : Contents) (have : ModuleHasTrees m) (x : Explanation) (is : IsExplanation m x) where
   abbrev e : Evidence

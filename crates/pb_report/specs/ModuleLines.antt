@@ -10,9 +10,9 @@ use Rattle.pb_report.specs.Cuts.{is_cut}
 use Rattle.pb_report.specs.EvidenceText.{evidence_line, evidence_lines}
 
 -- those of these instances
-abbrev pub lines_of :
+abbrev pub evidence_lines_of :
     Contents → (ℕ → Tree) → (ℕ → ℕ → Option Place) → Evidence → List ℕ → List ℕ
-lines_of m trees place e instances =
+evidence_lines_of m trees place e instances =
     evidence_lines (instance_name m) place e.truth (graph_of e).dependencies (is_cut trees e)
     instances
 

@@ -1,5 +1,5 @@
 -- What is printed about a module: functions of its rows and of the trees that its instances have.
-use Rattle.std.specs.Prelude.{◌≡◌, ℕ, List, length, map}
+use Rattle.std.specs.Prelude.{ℕ, List, length, map}
 use Rattle.pb_trees.specs.Tree.{Tree}
 use Rattle.pb_trees.specs.Equations.{solved}
 use Rattle.pb_trees.specs.Game.{Vertex, game_vertices}
@@ -32,11 +32,6 @@ answer_for m trees rows = record {
   cut = cut_count (rows_of trees rows);
   vertices = length (module_vertices m trees rows);
 }
-
--- with whichever trees the module's instances have, that is the answer
-abbrev pub IsModuleAnswer : Contents → List TokenRow → Answer → Type 0
-IsModuleAnswer m rows found =
-    (trees : ℕ → Tree) → AreTrees m trees → found ≡ answer_for m trees rows
 
 -- P holds of a text that the trees say, with whichever trees the module's instances have
 abbrev pub ForTrees : Contents → ((ℕ → Tree) → List ℕ) → (List ℕ → Type 0) → Type 0

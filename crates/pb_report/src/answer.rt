@@ -4,9 +4,6 @@ ghost use Rattle.pb_report.specs.Sending.{Sends};
 ghost use Rattle.pb_report.specs.Report.{truth_line, counted_line, counts_text, report_text};
 
 use crate::buffer::{TextBuffer, TextWriter, WriteError};
-use crate::cut_calls::count_cut;
-use pb_game_of_trees::Solved;
-use pb_rows::IndexedRows;
 use pb_sorts::{E02, Sink};
 use std::alloc::Global;
 
@@ -18,27 +15,6 @@ pub struct Answer {
     pub instances: u32,
     pub cut: u32,
     pub vertices: u32,
-}
-
-impl Answer {
-    ghost use Rattle.pb_bytecode.specs.Contents.{Contents};
-    ghost use Rattle.pb_game_of_trees.specs.Explored.{ModuleHasTrees, AreModuleRows, IsModuleGame};
-    ghost use Rattle.pb_report.specs.ModuleTexts.{IsModuleAnswer};
-
-    /// What was found about a module whose game is solved and whose reached instances these are.
-    pub fn of_solved(solved: &Solved, rows: &IndexedRows) -> Answer
-        requires { (m : Contents) × ModuleHasTrees m × AreModuleRows m rows.now
-            × IsModuleGame m rows.now solved.now.built }
-        ensures { (m : Contents) → AreModuleRows m rows.now
-            → IsModuleGame m rows.now solved.now.built → IsModuleAnswer m rows.now result }
-    {
-        Answer {
-            truth: solved.truth(),
-            instances: solved.built.instances(),
-            cut: count_cut(rows),
-            vertices: solved.built.len(),
-        }
-    }
 }
 
 /// The line that says whether the initial instance is true.

@@ -10,7 +10,7 @@ ghost use Rattle.pb_report.specs.CutCalls.{is_cut_token, has_cut, one_if, cut_co
 use pb_rows::IndexedRows;
 use pb_trees::Token;
 
-fn is_cut(token: Token) -> bool
+fn is_cut_token(token: Token) -> bool
     ensures { result ≡ is_cut_token token }
 {
     match token {
@@ -22,7 +22,7 @@ fn is_cut(token: Token) -> bool
 fn any_cut(tokens: &[Token]) -> bool
     ensures { result ≡ list_any is_cut_token tokens.now }
 {
-    tokens.iter().any(|token| is_cut(*token))
+    tokens.iter().any(|token| is_cut_token(*token))
 }
 
 /// 1 where a tree has a Cut, else 0.

@@ -13,7 +13,7 @@ ghost use Rattle.pb_report.specs.Sending.{Sends};
 ghost use Rattle.pb_report.specs.EvidenceText.{truth_mark, place_mark, dependency_text};
 ghost use Rattle.pb_report.specs.EvidenceText.{cut_mark, line_tail};
 ghost use Rattle.pb_report.specs.CallPlaces.{AreCallPlaces, placed_names};
-ghost use Rattle.pb_report.specs.ModuleLines.{evidence_line_at, lines_of};
+ghost use Rattle.pb_report.specs.ModuleLines.{evidence_line_at, evidence_lines_of};
 ghost use Rattle.pb_report.specs.ModuleEvidence.{IsExplanation, module_evidence_text};
 ghost use Rattle.pb_report.specs.ModuleTexts.{ForTrees};
 
@@ -182,7 +182,7 @@ fn write_lines<S: Sink>(
         × AreCallPlaces place placed.now.explanation.now.evidence placed.now.call_places.now }
     ensures { (trees : ℕ → Tree) → AreTrees verified.now trees → (place : ℕ → ℕ → Option Place)
         → AreCallPlaces place placed.now.explanation.now.evidence placed.now.call_places.now
-        → Sends (lines_of verified.now trees place placed.now.explanation.now.evidence
+        → Sends (evidence_lines_of verified.now trees place placed.now.explanation.now.evidence
         placed.now.explanation.now.evidence.instances.items) result S.Sink writer.old writer.new }
 {
     for k in 0..placed.explanation.evidence.instances.len() {

@@ -14,7 +14,6 @@ use crate::instance_marks::InstanceMarks;
 use pb_evidence::{Evidence, explain};
 use pb_game_of_trees::Solved;
 use pb_rows::IndexedRows;
-use pb_strategy::Checked;
 use std::alloc::{AllocError, Global};
 
 /// Evidence for the truth value of an instance, and of each of its instances in turn whether its
@@ -52,10 +51,7 @@ pub fn evidence_of_rows(
         &built.vertices,
         rows,
     )?;
-    let checked = Checked {
-        game: &built.game,
-        solution: solved.certified.solution(),
-    };
+    let checked = solved.checked();
     let evidence = explain(alloc, &checked, &marks, &numbers, built.start)?;
     let cuts = cuts_of(alloc, &evidence, rows)?;
     Ok(Explanation { evidence, cuts })

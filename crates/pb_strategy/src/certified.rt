@@ -5,7 +5,7 @@ ghost use Rattle.std.specs.Prelude.{◌≡◌, ◌↔◌, IsOk, IfErr, IfOk};
 ghost use Rattle.pb_game.specs.Certificates.{IsCertificate};
 ghost use Rattle.pb_game.specs.Flaws.{IsFirstFlaw};
 
-use crate::check;
+use crate::{Checked, check};
 use pb_game::{Flaw, Game, Solution};
 use std::marker::Model;
 
@@ -30,6 +30,18 @@ impl Certified {
         ensures { result.now ≡ self.now }
     {
         &self.solution
+    }
+
+    /// The solution with a game of which it is a certificate. The checker isn't run again.
+    pub fn checked<'a>(&'a self, game: &'a Game) -> Checked<'a>
+        requires { ∥ IsCertificate game.now self.now ∥₁ }
+        ensures game { result.game.now ≡ game.entry.now }
+        ensures solution { result.solution.now ≡ self.entry.now }
+    {
+        Checked {
+            game,
+            solution: &self.solution,
+        }
     }
 }
 

@@ -20,17 +20,33 @@ pub use certified::{Certified, certify};
 use edges::flaw_at;
 use pb_game::{CertificateRule, Flaw, Game, Player, Solution};
 
-/// A solution that is a certificate of its game.
+/// A solution that is a certificate of its game, and that the checker has passed: only [`check`]
+/// makes one, and [`Certified::checked`] of what [`certify`] has passed. The fields are this
+/// crate's own, so that a proof that a solution is a certificate is not enough to write one down.
 #[derive(Drop)]
 pub struct Checked<'a> {
-    pub game: &'a Game,
-    pub solution: &'a Solution,
+    pub(crate) game: &'a Game,
+    pub(crate) solution: &'a Solution,
     pub ghost certificate: { ∥ IsCertificate game.now solution.now ∥₁ },
 }
 
 impl Checked<'_> {
     ghost use Rattle.pb_trees.specs.declared.player.Player.TheVariants.{Even};
     ghost use Rattle.pb_strategy.specs.Meaning.{IsSolvedAt};
+
+    /// The game.
+    pub fn game(&self) -> &Game
+        ensures { result.now ≡ self.now.game.now }
+    {
+        self.game
+    }
+
+    /// The solution.
+    pub fn solution(&self) -> &Solution
+        ensures { result.now ≡ self.now.solution.now }
+    {
+        self.solution
+    }
 
     /// Whether Even wins `v`. Of whatever Boolean equation system the game was built, this is
     /// the truth of the instance whose vertex `v` is (Groote and Willemse 2005).

@@ -80,7 +80,7 @@ pub(crate) fn loops(alloc: Global, priorities: u32) -> Result<Parts, Fail> {
 /// How many vertices Even wins.
 pub(crate) fn count_won(checked: &Checked) -> u32 {
     let mut won = 0u32;
-    for v in 0..checked.game.len() {
+    for v in 0..checked.game().len() {
         won = won.wrapping_add(u32::from(checked.truth(v)));
     }
     won

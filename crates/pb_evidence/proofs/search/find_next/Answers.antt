@@ -9,8 +9,8 @@ use Rattle.pb_evidence.proofs.search.find_next.Goals.{then-is_kept+in_ok-add, el
 
 pub loop-u-preserved : goal.loop-u-preserved
 loop-u-preserved c =
-    let g = c.args.checked.now.game.now in
-    let s = c.args.checked.now.solution.now in
+    let g = c.args.game.now in
+    let s = c.args.solution.now in
     let k = c.loop-u.u-index in
     let u = get_or c.successors-u-items.result.now k 0 in
     let at : get_or (successors_of g c.args.v) k 0 ≡ u = ap (λ (xs : List ℕ). get_or xs k 0) (sym c.successors-u-items.ensures.list) in
@@ -29,6 +29,6 @@ loop-u-preserved c =
 
 pub returns : goal.returns
 returns c =
-    let g = c.args.checked.now.game.now in
+    let g = c.args.game.now in
     let end : length (successors_of g c.args.v) ≤ c.loop-u.u-index = subst (λ (xs : List ℕ). length xs ≤ c.loop-u.u-index) c.successors-u-items.ensures.list c.loop-u-test.false in
-    kept_all g c.args.checked.now.solution.now c.args.v c.loop-u.u-index c.args.found.now c.loop-u.found end c.loop-u.invariant
+    kept_all g c.args.solution.now c.args.v c.loop-u.u-index c.args.found.now c.loop-u.found end c.loop-u.invariant

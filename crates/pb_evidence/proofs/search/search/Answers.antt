@@ -8,26 +8,26 @@ use Rattle.pb_evidence.proofs.search.search.Goals as goal
 use Rattle.pb_evidence.proofs.search.search.Goals.{then-is_open+in_ok-find_next-2, else-is_open}
 
 pub loop-next-init : goal.loop-next-init
-loop-next-init c = search_start c.args.checked.now.game.now c.args.checked.now.solution.now c.args.marks.now c.args.v c.args.found.now _ c.requires.none c.requires.width c.in_ok-find_next.ensures
+loop-next-init c = search_start c.args.game.now c.args.solution.now c.args.marks.now c.args.v c.args.found.now _ c.requires.none c.requires.width c.in_ok-find_next.ensures
 
 pub is_open-requires-clause-vertex : goal.is_open-requires-clause-vertex
 is_open-requires-clause-vertex c =
     let below : c.loop-next.next < length c.loop-next.found.vertices.items = search rules in
     let read : c.index-u.result.now ≡ get_or c.loop-next.found.vertices.items c.loop-next.next 0 = get_or_read c.loop-next.found.vertices.items c.loop-next.next _ below c.index-u.ensures 0 in
-    let within = looked_within c.args.checked.now.game.now c.args.checked.now.solution.now c.args.marks.now c.args.v c.loop-next.next c.loop-next.found c.loop-next.invariant below in
+    let within = looked_within c.args.game.now c.args.solution.now c.args.marks.now c.args.v c.loop-next.next c.loop-next.found c.loop-next.invariant below in
     omega arith
 
 pub find_next-requires-then-is_open-clause-vertex : goal.find_next-requires-then-is_open-clause-vertex
 find_next-requires-then-is_open-clause-vertex c =
     let below : c.loop-next.next < length c.loop-next.found.vertices.items = search rules in
     let read : c.index-u.result.now ≡ get_or c.loop-next.found.vertices.items c.loop-next.next 0 = get_or_read c.loop-next.found.vertices.items c.loop-next.next _ below c.index-u.ensures 0 in
-    let within = looked_within c.args.checked.now.game.now c.args.checked.now.solution.now c.args.marks.now c.args.v c.loop-next.next c.loop-next.found c.loop-next.invariant below in
+    let within = looked_within c.args.game.now c.args.solution.now c.args.marks.now c.args.v c.loop-next.next c.loop-next.found c.loop-next.invariant below in
     omega arith
 
 pub loop-next-preserved : goal.loop-next-preserved
 loop-next-preserved c =
-    let g = c.args.checked.now.game.now in
-    let s = c.args.checked.now.solution.now in
+    let g = c.args.game.now in
+    let s = c.args.solution.now in
     let marks = c.args.marks.now in
     let k = c.loop-next.next in
     let f = c.loop-next.found in
@@ -47,4 +47,4 @@ loop-next-preserved c =
 pub returns : goal.returns
 returns c =
     let end : length c.loop-next.found.vertices.items ≤ c.loop-next.next = search rules in
-    search_end c.args.checked.now.game.now c.args.checked.now.solution.now c.args.marks.now c.args.v c.loop-next.next c.loop-next.found c.loop-next.invariant end
+    search_end c.args.game.now c.args.solution.now c.args.marks.now c.args.v c.loop-next.next c.loop-next.found c.loop-next.invariant end

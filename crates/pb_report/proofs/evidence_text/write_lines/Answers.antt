@@ -1,7 +1,7 @@
 use Rattle.std.proofs.Common.{ap, arith}
 use Rattle.std.proofs.lemmas.List.{drop_all}
 use Rattle.pb_report.proofs.Underway.{begun, went_on, gave_up, ended}
-use Rattle.pb_report.specs.ModuleLines.{lines_of}
+use Rattle.pb_report.specs.ModuleLines.{evidence_lines_of}
 use Rattle.pb_report.proofs.Lines.{next_line}
 use Rattle.pb_report.proofs.evidence_text.write_lines.Goals as goal
 
@@ -24,5 +24,5 @@ loop-k-preserved g c = λ trees have place are.
 pub returns : goal.returns
 returns g c = λ trees have place are.
     let e = c.args.placed.now.explanation.now.evidence in
-    let none = ap (lines_of c.args.verified.now trees place e) (drop_all c.loop-k.k e.instances.items (omega arith)) in
+    let none = ap (evidence_lines_of c.args.verified.now trees place e) (drop_all c.loop-k.k e.instances.items (omega arith)) in
     ended none (c.loop-k.invariant trees have place are)

@@ -4,12 +4,12 @@ use Rattle.pb_trees.specs.Tree.{Tree}
 use Rattle.pb_bytecode.specs.Meaning.{AreTrees}
 use Rattle.pb_report.proofs.Underway.{IsUnderway}
 use Rattle.pb_report.specs.CallPlaces.{AreCallPlaces}
-use Rattle.pb_report.specs.ModuleLines.{lines_of}
+use Rattle.pb_report.specs.ModuleLines.{evidence_lines_of}
 use Rattle.pb_report.proofs.evidence_text.write_lines.Given as goal
 
 abbrev pub invariant-loop-k : goal.invariant-loop-k
 invariant-loop-k g l =
     (trees : ℕ → Tree) → AreTrees l.verified trees → (place : ℕ → ℕ → Option Place) → AreCallPlaces place l.placed.explanation.now.evidence l.placed.call_places.now →
     IsUnderway g.S.Sink l.fn.writer l.writer
-    (lines_of l.verified trees place l.placed.explanation.now.evidence l.placed.explanation.now.evidence.instances.items)
-    (lines_of l.verified trees place l.placed.explanation.now.evidence (drop l.k l.placed.explanation.now.evidence.instances.items))
+    (evidence_lines_of l.verified trees place l.placed.explanation.now.evidence l.placed.explanation.now.evidence.instances.items)
+    (evidence_lines_of l.verified trees place l.placed.explanation.now.evidence (drop l.k l.placed.explanation.now.evidence.instances.items))

@@ -9,6 +9,7 @@ use Rattle.pb_game_of_trees.specs.Equations.{equations_of, plain}
 use Rattle.pb_game_of_trees.proofs.EquationLevels.{levels_ordered}
 use Rattle.pb_game_of_trees.proofs.Reached.{found_row, reached_of}
 use Rattle.pb_game_of_trees.proofs.Vertices.{IsTable, table_at, vertices_are, fewer_rows, length-vertices_from}
+use Rattle.pb_game_of_trees.proofs.Placed.{start_below}
 use Rattle.pb_game_of_trees.proofs.Built.{count_vertices, number_below, reached_below, call_below, built, makes_game}
 use Rattle.pb_game_of_trees.proofs.tree_game.TreeGame.of_size.Goals as goal
 
@@ -115,8 +116,22 @@ invariant_of-result c =
     let trees = c.requires.reached.0 in
     let reached = rows_of trees rows in
     let are = reached_of trees sigs rows c.requires.reached.1.are in
+    let is = found_row trees rows c.args.initial c.requires.reached.1.found in
     let count : length c.in_ok-vertices.vertices.items ≡ length reached = ap length (c.in_ok-vertices.ensures reached are.held) ∙ length-vertices_from reached 2 in
-    record { few = omega (arith, count, fewer_rows reached 2, c.requires.small, c.requires.size reached are.held) }
+    let table = c.in_ok-numbering.ensures reached are.held in
+    let is_table : IsTable (table_of c.in_ok-numbering.numbering) reached = record {
+      at = λ k l. table.1 k l ∙ ap (λ (ts : List ℕ). slice_index ts k) (c.deref.ensures.value ∙ c.in_ok-vertices.ensures reached are.held);
+    } in
+    let vertices = game_vertices sigs reached in
+    let draft : IsDraft c.in_ok-draft.draft vertices = subst (IsDraft c.in_ok-draft.draft)
+    (built sigs trees rows reached are (table_of c.in_ok-numbering.numbering) c.deref-2.result.now is_table (c.deref-2.ensures.value ∙ c.in_ok-levels.ensures))
+    (c.in_ok-draft.ensures reached are.held) in
+    let has = c.in_ok-game.ensures vertices (c.into_parts.ensures vertices draft) in
+    let start = c.vertex-start.ensures ∙ table_at (table_of c.in_ok-numbering.numbering) reached is_table are.rising c.args.initial is in
+    record {
+      few = omega (arith, count, fewer_rows reached 2, c.requires.small, c.requires.size reached are.held);
+      inside = omega (arith, start, start_below c.games_of_rows_are_total.ensures.rows sigs reached c.args.initial is, has.count);
+    }
 
 pub returns : goal.returns
 returns c = λ trees from.
