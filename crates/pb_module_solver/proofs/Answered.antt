@@ -9,7 +9,7 @@ use Rattle.pb_bytecode.specs.Contents.{Contents}
 use Rattle.pb_bytecode.specs.Meaning.{AreTrees, signature_of, initial_of, answer}
 use Rattle.pb_exploration.specs.Rows.{AreExploredRows}
 use Rattle.pb_game.specs.Games.{vertex_count}
-use Rattle.pb_game_of_trees.specs.Explored.{ModuleHasTrees, IsModuleGame}
+use Rattle.pb_game_of_trees.specs.Explored.{IsModuleGame}
 use Rattle.pb_game_of_trees.specs.declared.tree_game.TreeGame.{TreeGame}
 use Rattle.pb_game_of_trees.specs.TreeGame.{IsTreeGame, AreRowsFrom}
 use Rattle.pb_game_of_trees.specs.Held.{Hold}
@@ -21,12 +21,7 @@ use Rattle.pb_module_solver.specs.Answers.{IsAnswerOf}
 use Rattle.pb_module_solver.proofs.Rows.{module_rows}
 use Rattle.pb_limits.specs.declared.TheConstants.{MAX_VERTICES}
 
--- the game is that of some reached instances, among which is the initial one
-abbrev pub IsSomeGame : TreeGame → Type 0
-IsSomeGame built = (signatures : List Signature) × (trees : ℕ → Tree) × (reached : List plain.Row) × (initial : ℕ)
-    × IsTreeGame signatures trees reached initial built × plain.IsReached reached initial
-
--- whichever they are, that is the truth of the initial one
+-- whichever reached instances' game it is, that is the truth of the initial one
 abbrev pub IsTruth : TreeGame → Bool → Type 0
 IsTruth built truth = (signatures : List Signature) (trees : ℕ → Tree) (reached : List plain.Row) (initial : ℕ)
     → IsTreeGame signatures trees reached initial built → plain.IsReached reached initial → truth ≡ solved signatures trees initial
@@ -40,10 +35,6 @@ module _ (m : Contents) (rows : List TokenRow) (built : TreeGame) (explored : Ar
 
   found : (trees : ℕ → Tree) → AreTrees m trees → plain.IsReached (rows_of trees rows) (initial_of m)
   found trees have = found_row trees rows (initial_of m) (from trees have).found
-
-  pub some_game : ModuleHasTrees m → IsSomeGame built
-  some_game some =
-      (map signature_of m.equations, some.0, rows_of some.0 rows, initial_of m, game some.0 some.1, found some.0 some.1)
 
   pub count : (trees : ℕ → Tree) → AreTrees m trees → length built.vertices.items ≡ length rows
   count trees have = same_length m rows built trees (rows_of trees rows) (initial_of m) (are trees have) (game trees have)

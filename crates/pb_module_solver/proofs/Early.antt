@@ -17,7 +17,7 @@ use Rattle.pb_report.specs.declared.module_evidence.Explanation.{Explanation}
 use Rattle.pb_report.specs.ModuleEvidence.{Explains, IsExplanation}
 use Rattle.pb_report.proofs.Assumed.{assumed_is_explained}
 use Rattle.pb_nearby.specs.Around.{AreAssumedRows}
-use Rattle.pb_module_solver.proofs.Answered.{IsSomeGame, IsTruth}
+use Rattle.pb_module_solver.proofs.Answered.{IsTruth}
 
 pub same_of : (a b : Bool) → not (beq a b) ≡ false → a ≡ b
 same_of true true h = refl
@@ -37,11 +37,6 @@ module _ (m : Contents) (rows : List TokenRow) (some : module_rows.ModuleHasTree
   some_rows = let a = assumed some.0 some.1 in (a.0, a.2)
 
   module _ (built : TreeGame) (game : IsGameOf (map signature_of m.equations) rows (initial_of m) built) where
-    pub some_game : IsSomeGame built
-    some_game =
-        let a = some_rows in
-        (map signature_of m.equations, a.0, rows_of a.0 rows, initial_of m, game a.0 a.1, found_row a.0 rows (initial_of m) a.1.found)
-
     pub shown_by_part : AssumedIsShown → (x : Explanation) → ExplainsRows rows built x → (t : Bool) → IsTruth built t → t ≡ b → IsExplanation m x
     shown_by_part law x explains t is_truth same trees have =
         let sigs = map signature_of m.equations in

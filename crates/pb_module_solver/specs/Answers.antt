@@ -1,18 +1,13 @@
 -- What the answer to a module is. The trees that its instances have are determined by the module,
 -- and there are such trees (`meaning_is_unique` and `instances_have_trees` of pb_machine); a fact
 -- about them is said of whichever trees they have.
-use Rattle.std.specs.Prelude.{◌≡◌, ℕ, ◌<◌, ◌≤◌, ◌↔◌, IsTrue, List}
+use Rattle.std.specs.Prelude.{◌≡◌, ℕ, ◌<◌, ◌≤◌, List}
 use Rattle.pb_trees.specs.Tree.{Tree}
 use Rattle.pb_rows.specs.Row.{TokenRow}
 use Rattle.pb_bytecode.specs.Contents.{Contents}
 use Rattle.pb_bytecode.specs.Meaning.{AreTrees}
 use Rattle.pb_exploration.specs.Rows.{AreReached, AreExploredRows}
-use Rattle.pb_trees.specs.declared.player.Player.TheVariants.{Even}
 use Rattle.pb_game_of_trees.specs.Explored.{IsModuleGame}
-use Rattle.pb_game.specs.declared.certificate.Solution.{Solution}
-use Rattle.pb_game.specs.Solutions.{winner_of}
-use Rattle.pb_game_of_trees.specs.declared.tree_game.TreeGame.{TreeGame}
-use Rattle.pb_module_solver.specs.Lifting.{IsLiftedOrNone}
 use Rattle.pb_report.specs.declared.answer.Answer.{Answer}
 use Rattle.pb_report.specs.ModuleTexts.{answer_for}
 use Rattle.pb_module_solver.specs.declared.built_module.BuiltModule.{BuiltModule}
@@ -30,17 +25,6 @@ pub record IsAnswerUnder (m : Contents) (trees : ℕ → Tree) (a : Answer) : Ty
 
 abbrev pub IsAnswerOf : Contents → Answer → Type 0
 IsAnswerOf m a = (trees : ℕ → Tree) → AreTrees m trees → IsAnswerUnder m trees a
-
--- The truth is what a solution of the reached instances' game says: who wins the initial instance's
--- vertex. The solution is that of lifting, unless lifting has none.
-pub record IsLiftedAnswer (m : Contents) (a : Answer) : Type 0 where
-  pub rows : List TokenRow
-  pub explored : AreExploredRows m rows
-  pub built : TreeGame
-  pub game : IsModuleGame m rows built
-  pub solution : Solution
-  pub lifted : IsLiftedOrNone built.game solution
-  pub truth : IsTrue a.truth ↔ (winner_of solution built.start ≡ Even)
 
 -- the game of the reached instances has more than 2^24 vertices
 pub record IsTooLargeUnder (m : Contents) (trees : ℕ → Tree) : Type 0 where

@@ -1,8 +1,7 @@
 //! Answers of modules, where nothing else is asked for.
-ghost use Rattle.std.specs.Prelude.{◌≡◌, IfOk};
+ghost use Rattle.std.specs.Prelude.{IfOk};
 ghost use Rattle.pb_errors.specs.OrMemory.{OnRefused};
-ghost use Rattle.pb_game.specs.declared.solver.Solver.TheVariants.{Lift};
-ghost use Rattle.pb_module_solver.specs.Answers.{IsAnswerOf, IsLiftedAnswer, IsTooLarge};
+ghost use Rattle.pb_module_solver.specs.Answers.{IsAnswerOf, IsTooLarge};
 
 use crate::built_module::{BuiltModule, build_module, solve_game};
 use crate::context::Context;
@@ -28,7 +27,6 @@ pub fn answer_module<R: Threads + Sync, G: Gate + Sync>(
     options: SolveOptions,
 ) -> Result<Answer, BuildError>
     ensures answer { IfOk result (IsAnswerOf verified.now) }
-    ensures lifted { options.solver ≡ Lift → IfOk result (IsLiftedAnswer verified.now) }
     ensures too_many { OnRefused result (IsTooLarge verified.now) }
 {
     instances_have_trees(verified);

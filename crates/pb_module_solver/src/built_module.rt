@@ -2,6 +2,7 @@
 //! what can be written of it before anybody solves it.
 ghost use Rattle.std.specs.Prelude.{◌≡◌, ◌<◌, ◌≤◌, IfOk};
 ghost use Rattle.pb_errors.specs.OrMemory.{OnRefused};
+ghost use Rattle.pb_exploration.specs.Rows.{AreExploredRows};
 ghost use Rattle.pb_game.specs.Certificates.{IsCertificate};
 ghost use Rattle.pb_module_solver.specs.Lifting.{IsLiftedOrNone};
 ghost use Rattle.pb_report.specs.Delivery.{Delivers, is_failed};
@@ -43,9 +44,26 @@ pub fn build_module<R: Threads + Sync, G: Gate + Sync>(
     ensures built { IfOk result (IsBuiltModule verified.now) }
     ensures too_many { OnRefused result (IsTooLarge verified.now) }
 {
-    instances_have_trees(verified);
     let explored = explore(context.rt, context.alloc, verified, workers, context.gate)?;
-    match build(context.alloc, verified, explored.rows()) {
+    build_explored(context.alloc, verified, explored)
+}
+
+/// Builds the game of a module's reached instances, however they were explored: by `explore`, or by
+/// a caller's own workers, whose words `Explored::gather` reads.
+///
+/// # Errors
+/// As with `build_module`.
+pub fn build_explored(
+    alloc: Global,
+    verified: &Verified,
+    explored: Explored,
+) -> Result<BuiltModule, BuildError>
+    requires { AreExploredRows verified.now explored }
+    ensures built { IfOk result (IsBuiltModule verified.now) }
+    ensures too_many { OnRefused result (IsTooLarge verified.now) }
+{
+    instances_have_trees(verified);
+    match build(alloc, verified, explored.rows()) {
         Ok(built) => Ok(BuiltModule { explored, built }),
         Err(error) => Err(error),
     }

@@ -12,7 +12,7 @@ pub mod solved_module;
 mod solver;
 
 pub use answer::answer_module;
-pub use built_module::{BuiltModule, build_module};
+pub use built_module::{BuiltModule, build_explored, build_module};
 pub use context::Context;
 pub use explanation::{explain_module, write_explanation};
 pub use options::SolveOptions;

@@ -16,6 +16,8 @@ mod lifting;
 #[cfg(test)]
 mod measures;
 #[cfg(test)]
+mod search;
+#[cfg(test)]
 mod tests;
 #[cfg(test)]
 mod winners;

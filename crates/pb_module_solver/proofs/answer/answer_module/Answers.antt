@@ -1,12 +1,8 @@
-use Rattle.std.proofs.Common.{◌≡◌, ap, ◌∙◌, sym, subst, arith, length}
-use Rattle.std.specs.Prelude.{◌↔◌, IsTrue}
-use Rattle.pb_trees.specs.declared.player.Player.TheVariants.{Even}
+use Rattle.std.proofs.Common.{ap, ◌∙◌, sym, subst, arith, length}
 use Rattle.pb_game.specs.Games.{vertex_count}
-use Rattle.pb_game.specs.Solutions.{winner_of}
 use Rattle.pb_game_of_trees.specs.Held.{Hold}
 use Rattle.pb_game_of_trees.specs.declared.tree_game.TreeGame.{TreeGame}
-use Rattle.pb_module_solver.specs.Lifting.{IsLiftedOrNone}
-use Rattle.pb_module_solver.proofs.Answered.{IsSomeGame, IsTruth, count, some_game, answer_is}
+use Rattle.pb_module_solver.proofs.Answered.{IsTruth, count, answer_is}
 use Rattle.pb_module_solver.proofs.answer.answer_module.Goals as goal
 
 pub count_cut-cut-requires : goal.count_cut-cut-requires
@@ -15,12 +11,6 @@ count_cut-cut-requires g c =
     let e = c.in-Ok.ensures.built in
     let same = count c.args.verified.now _ _ e.explored e.game some.0 some.1 in
     omega (arith, same, c.in-Ok.field-0.built.few, ap length c.rows.ensures)
-
-pub truth-requires : goal.truth-requires
-truth-requires g c =
-    let e = c.in-Ok.ensures.built in
-    subst IsSomeGame (sym c.in_ok-solved-in-Ok.ensures.built)
-    (some_game c.args.verified.now _ _ e.explored e.game c.instances_have_trees.ensures)
 
 pub returns-in_ok-solved-in-Ok-clause-answer : goal.returns-in_ok-solved-in-Ok-clause-answer
 returns-in_ok-solved-in-Ok-clause-answer g c =
@@ -32,18 +22,3 @@ returns-in_ok-solved-in-Ok-clause-answer g c =
     (λ reached hold. c.count_cut-cut.ensures reached (subst (λ rs. Hold rs reached) (sym c.rows.ensures) hold))
     (c.len.ensures.value ∙ ap (λ (x : TreeGame). vertex_count x.game) kept)
     c.len.ensures.small
-
-pub returns-in_ok-solved-in-Ok-clause-lifted : goal.returns-in_ok-solved-in-Ok-clause-lifted
-returns-in_ok-solved-in-Ok-clause-lifted g c asked =
-    let e = c.in-Ok.ensures.built in
-    let solved = c.in_ok-solved-in-Ok.solved in
-    let kept = c.in_ok-solved-in-Ok.ensures.built in
-    record {
-      rows = c.in-Ok.field-0.explored;
-      explored = e.explored;
-      built = c.in-Ok.field-0.built;
-      game = e.game;
-      solution = solved.certified;
-      lifted = subst (λ (b : TreeGame). IsLiftedOrNone b.game solved.certified) kept (c.in_ok-solved-in-Ok.ensures.lifted asked);
-      truth = subst (λ (b : TreeGame). IsTrue c.truth.result ↔ (winner_of solved.certified b.start ≡ Even)) kept c.truth.ensures.winner;
-    }

@@ -2,7 +2,7 @@ use Rattle.std.proofs.Common.{map, sym, subst}
 use Rattle.pb_bytecode.specs.Meaning.{signature_of, initial_of}
 use Rattle.pb_game_of_trees.specs.declared.tree_game.TreeGame.{TreeGame}
 use Rattle.pb_game_of_trees.specs.TreeGame.{IsGameOf}
-use Rattle.pb_module_solver.proofs.Early.{some_rows, some_game, shown_by_part, shown_by_all, same_of}
+use Rattle.pb_module_solver.proofs.Early.{some_rows, shown_by_part, shown_by_all, same_of}
 use Rattle.pb_module_solver.proofs.explanation.shown_by.Goals as goal
 use Rattle.pb_module_solver.proofs.explanation.shown_by.Goals.{else-truth-part-via-then-truth-part+else-not-part, else-truth-part-via-else-truth-part}
 
@@ -10,12 +10,6 @@ pub build_rows-requires : goal.build_rows-requires
 build_rows-requires g c =
     let m = c.args.verified.now in
     some_rows m c.args.part.now.rows c.instances_have_trees.ensures c.args.part.now.truth c.requires.assumed
-
-pub truth-requires : goal.truth-requires
-truth-requires g c =
-    let m = c.args.verified.now in
-    let game = subst (λ (b : TreeGame). IsGameOf (map signature_of m.equations) c.args.part.now.rows (initial_of m) b) (sym c.in_ok-solved.ensures.built) c.in-Ok.ensures.game in
-    some_game m c.args.part.now.rows c.instances_have_trees.ensures c.args.part.now.truth c.requires.assumed c.in_ok-solved.solved.built game
 
 pub evidence_of_rows-requires : goal.evidence_of_rows-requires
 evidence_of_rows-requires g c =

@@ -1,0 +1,197 @@
+//! What all levels of the recursion work in, and attractors within it.
+
+use crate::arena::{Draft, Numbers, owner, predecessors, successors};
+use crate::budget::{Budget, Stop};
+use crate::components::Components;
+use pb_game::{Game, Player};
+use std::alloc::{AllocError, Global};
+
+/// A region: the vertices whose label is at least `from`, except those of the label `but`. How many
+/// of a vertex's first successors are outside is kept under the stamp, as long as none of them
+/// comes back.
+#[derive(Clone, Copy)]
+pub(crate) struct Region {
+    pub stamp: u32,
+    pub from: u32,
+    pub but: u32,
+}
+
+/// An attractor: the player takes in vertices of the label `open`, and they get the label that the
+/// region leaves out. The opponent's vertices are taken in once no successor is in the region.
+#[derive(Clone, Copy)]
+pub(crate) struct Attractor {
+    pub player: Player,
+    pub open: u32,
+    pub region: Region,
+}
+
+/// The lists of a search by recursion. Labels and stamps are numbers of one clock, so that none has
+/// to be reset; a list of vertices is in use in one turn of one level at a time.
+#[derive(Drop)]
+pub(crate) struct Workspace {
+    pub budget: Budget,
+    pub clock: u32,
+    /// The part of the game that a vertex belongs to: at a level its front, its rest, what lost its
+    /// support, or 0 for what is decided. Deeper levels have greater labels.
+    pub label: Numbers,
+    /// In which order the front of a level took in the vertex, 0 at its heads.
+    pub order: Numbers,
+    /// How many of the vertex's first successors are outside of the region of its stamp.
+    pub passed: Numbers,
+    pub stamp: Numbers,
+    /// All vertices: a level has a part of this list, and what it solves again stands first there.
+    pub list: Vec<u32>,
+    pub position: Numbers,
+    pub draft: Draft,
+    /// What the attractor under way has taken in.
+    pub taken: Vec<u32>,
+    /// The player's vertices whose choice the opponent has won.
+    pub hit: Vec<u32>,
+    /// What the front has lost.
+    pub lost: Vec<u32>,
+    /// What the rest has lost, and is solved again.
+    pub part: Vec<u32>,
+    /// Whether each level solves its rest component by component.
+    pub by_components: bool,
+    pub components: Components,
+}
+
+impl Workspace {
+    pub fn new(
+        alloc: Global,
+        game: &Game,
+        budget: Budget,
+        by_components: bool,
+    ) -> Result<Workspace, AllocError> {
+        let vertices = game.len() as usize;
+        let mut list = Vec::with_capacity(alloc, vertices)?;
+        let mut position = Numbers::new(alloc, vertices)?;
+        for v in 0..game.len() {
+            list.push(v)?;
+            position.set(v, v);
+        }
+        let mut of_components = 0;
+        if by_components {
+            of_components = vertices;
+        }
+        Ok(Workspace {
+            budget,
+            clock: 0,
+            label: Numbers::new(alloc, vertices)?,
+            order: Numbers::new(alloc, vertices)?,
+            passed: Numbers::new(alloc, vertices)?,
+            stamp: Numbers::new(alloc, vertices)?,
+            list,
+            position,
+            draft: Draft::new(alloc, game)?,
+            taken: Vec::new(alloc),
+            hit: Vec::new(alloc),
+            lost: Vec::new(alloc),
+            part: Vec::new(alloc),
+            by_components,
+            components: Components::new(alloc, of_components)?,
+        })
+    }
+
+    /// The next number of the clock.
+    pub fn fresh(&mut self) -> Result<u32, Stop> {
+        if self.clock == u32::MAX {
+            return Err(Stop::GaveUp);
+        }
+        self.clock += 1;
+        Ok(self.clock)
+    }
+
+    /// Changes the places of two vertices in the list.
+    pub fn swap(&mut self, i: usize, j: usize) {
+        if i < self.list.len() && j < self.list.len() {
+            let (v, u) = (self.list[i], self.list[j]);
+            self.put(i, u);
+            self.put(j, v);
+        }
+    }
+
+    /// Puts a vertex at a place of the list.
+    pub fn put(&mut self, i: usize, v: u32) {
+        if i < self.list.len() {
+            self.list[i] = v;
+            self.position.set(v, narrow(i));
+        }
+    }
+
+    /// The first successor of `u` in the region, looked for where the last search under this stamp
+    /// stopped.
+    #[inline]
+    pub fn way_out(&mut self, game: &Game, u: u32, region: Region) -> Result<Option<u32>, Stop> {
+        let row = successors(game, u);
+        let mut from = 0;
+        if self.stamp.get(u) == region.stamp {
+            from = self.passed.get(u) as usize;
+        } else {
+            self.stamp.set(u, region.stamp);
+        }
+        for k in from..row.len() {
+            let w = row[k];
+            let label = self.label.get(w);
+            if label >= region.from && label != region.but {
+                self.passed.set(u, narrow(k));
+                self.budget.spend(k - from)?;
+                return Ok(Some(w));
+            }
+        }
+        self.passed.set(u, narrow(row.len()));
+        self.budget.spend(row.len().saturating_sub(from))?;
+        Ok(None)
+    }
+
+    /// Takes in what the player forces into the vertices that are taken already.
+    pub fn attract(&mut self, game: &Game, attractor: Attractor) -> Result<(), Stop> {
+        for k in 0..usize::MAX {
+            let Some(x) = item(&self.taken, k) else { break };
+            let row = predecessors(game, x);
+            self.budget.spend(row.len())?;
+            for &u in row {
+                if self.label.get(u) == attractor.open {
+                    self.try_to_take(game, attractor, u, x)?;
+                }
+            }
+        }
+        Ok(())
+    }
+
+    /// Takes in the open predecessor `u` of `x`, unless the opponent has a way out there.
+    #[inline]
+    fn try_to_take(
+        &mut self,
+        game: &Game,
+        attractor: Attractor,
+        u: u32,
+        x: u32,
+    ) -> Result<(), Stop> {
+        if owner(game, u) == attractor.player {
+            self.draft.set_choice(u, x);
+        } else if self.way_out(game, u, attractor.region)?.is_some() {
+            return Ok(());
+        }
+        self.label.set(u, attractor.region.but);
+        self.draft.set_winner(u, attractor.player);
+        self.taken.push(u)?;
+        Ok(())
+    }
+}
+
+/// The item at a place of a list.
+#[inline]
+pub(crate) fn item(list: &[u32], k: usize) -> Option<u32> {
+    if k < list.len() { Some(list[k]) } else { None }
+}
+
+/// A place as a number of 32 bits, which every place of a vertex or of a successor is.
+#[inline]
+pub(crate) fn narrow(k: usize) -> u32 {
+    if k < 0x1_0000_0000 {
+        k as u32
+    } else {
+        u32::MAX
+    }
+}
