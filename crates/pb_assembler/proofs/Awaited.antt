@@ -7,7 +7,10 @@ use Rattle.pb_assembler_scheme.proofs.Flat.{long}
 use Rattle.pb_bytecode_program.specs.declared.instruction.Op.{Op}
 use Rattle.pb_bytecode_program.specs.declared.instruction.Op.TheVariants as op
 use Rattle.pb_assembler_scheme.specs.Pieces.{Piece, Then, Unless, Choose, end, flat}
-use Rattle.pb_assembler_builder.specs.Draft.{Draft, Labelled, Places, open_labels, label_place, resolved, resolved_op}
+use Rattle.pb_assembler_builder.specs.Draft.{Draft, Places, open_labels, label_place, resolved, resolved_op}
+use Rattle.pb_assembler_builder.specs.declared.instruction.Instruction.{Instruction}
+use Rattle.pb_assembler_builder.specs.declared.instruction.Instruction.TheVariants as instruction
+use Rattle.pb_assembler_builder.specs.declared.instruction.Jump.TheVariants as jump
 use Rattle.pb_assembler.specs.Emitted.{Keeps, Emits, nowhere}
 use Rattle.pb_assembler.proofs.Emitting.{Adds, Makes, Sets, Follows, beyond, earlier, emits_follows, adds_follows, makes_follows, then_follows, set_follows, set_keeps, none_some, emitted_long, added_long, added_code, place_at, makes_from, adds_from, sets_from, unplaced, new_place}
 
@@ -42,7 +45,7 @@ pub ends_last : (x : Piece) (l : ℕ) (d d1 d2 : Draft) → Emits x nowhere d d1
 ends_last x l d d1 d2 h s = record {
   grown = let a = h.grown in let b = s.long in omega arith;
   kept = λ i b n. s.others i n ∙ h.kept i b;
-  placed = s.placed ∙ ap (λ (is : List Labelled). Some (length is)) (sym s.ops);
+  placed = s.placed ∙ ap (λ (is : List Instruction). Some (length is)) (sym s.ops);
   settled = omega (arith, h.settled, s.less);
   code = λ M k. ap (resolved M) s.ops ∙ h.code M (set_keeps d1 d2 l M s k);
 }
@@ -62,9 +65,9 @@ ends_then x y l d d1 d2 w hx hy =
           ∙ ap (λ n. resolved M d.ops ++ (flat (length d.ops) 0 x ++ flat n 0 y)) (emitted_long x nowhere d d1 M hx k1);
     }
 
-pub ends_unless : (on : Bool) (x : Piece) (to l : ℕ) (d d1 d2 : Draft) → IsOpen l d → Adds d d1 (op.JumpIf on to, Some l) → Ends x l d1 d2 → Ends (Unless on x) l d d2
-ends_unless on x to l d d1 d2 w a h =
-    let o : Labelled = (op.JumpIf on to, Some l) in
+pub ends_unless : (on : Bool) (x : Piece) (l : ℕ) (d d1 d2 : Draft) → IsOpen l d → Adds d d1 (instruction.Jump (jump.If on) l) → Ends x l d1 d2 → Ends (Unless on x) l d d2
+ends_unless on x l d d1 d2 w a h =
+    let o : Instruction = (instruction.Jump (jump.If on) l) in
     let f = adds_follows d d1 o a in record {
       grown = let g = f.grown in let b = h.grown in omega arith;
       kept = λ i b n. h.kept i (let g = f.grown in omega arith) n ∙ f.kept i b;
@@ -81,11 +84,11 @@ ends_unless on x to l d d1 d2 w a h =
     }
 
 -- a test's label, the test, the first part, the jump to the end, the label's place, and the second part up to the end
-pub ends_choose : (on : Bool) (x y : Piece) (t u : ℕ) (d d0 d1 d2 d3 d4 d5 : Draft) (other l : ℕ) → IsOpen l d → Makes d d0 other → Adds d0 d1 (op.JumpIf on t, Some other) → Emits x nowhere d1 d2 → Adds d2 d3 (op.Jump u, Some l) → Sets d3 d4 other → Ends y l d4 d5
+pub ends_choose : (on : Bool) (x y : Piece) (d d0 d1 d2 d3 d4 d5 : Draft) (other l : ℕ) → IsOpen l d → Makes d d0 other → Adds d0 d1 (instruction.Jump (jump.If on) other) → Emits x nowhere d1 d2 → Adds d2 d3 (instruction.Jump jump.Always l) → Sets d3 d4 other → Ends y l d4 d5
     → IsOpen l d4 → Follows d d4 → Ends (Choose on x y) l d d5
-ends_choose on x y t u d d0 d1 d2 d3 d4 d5 other l w m a1 hx a3 s4 hy w4 f4 =
-    let o1 : Labelled = (op.JumpIf on t, Some other) in
-    let o3 : Labelled = (op.Jump u, Some l) in record {
+ends_choose on x y d d0 d1 d2 d3 d4 d5 other l w m a1 hx a3 s4 hy w4 f4 =
+    let o1 : Instruction = (instruction.Jump (jump.If on) other) in
+    let o3 : Instruction = (instruction.Jump jump.Always l) in record {
       grown = let g = f4.grown in let b = hy.grown in omega arith;
       kept = λ i b n. hy.kept i (let g = f4.grown in omega arith) n ∙ f4.kept i b;
       placed = hy.placed;
@@ -95,7 +98,7 @@ ends_choose on x y t u d d0 d1 d2 d3 d4 d5 other l w m a1 hx a3 s4 hy w4 f4 =
           let k3 = set_keeps d3 d4 other M s4 k4 in
           let k2 = earlier d2 d3 M (adds_follows d2 d3 o3 a3) k3 in
           let n = length d.ops in
-          let n1 : length d1.ops ≡ n + 1 = added_long d0 d1 o1 a1 ∙ ap (λ (is : List Labelled). length is + 1) m.ops in
+          let n1 : length d1.ops ≡ n + 1 = added_long d0 d1 o1 a1 ∙ ap (λ (is : List Instruction). length is + 1) m.ops in
           let n2 : length d2.ops ≡ end (n + 1) x = emitted_long x nowhere d1 d2 M hx k2 ∙ ap (λ q. end q x) n1 in
           let n3 : length d3.ops ≡ end (n + 1) x + 1 = added_long d2 d3 o3 a3 ∙ ap (λ q. q + 1) n2 in
           let n4 : length d4.ops ≡ end (n + 1) x + 1 = ap length s4.ops ∙ n3 in
@@ -103,7 +106,7 @@ ends_choose on x y t u d d0 d1 d2 d3 d4 d5 other l w m a1 hx a3 s4 hy w4 f4 =
           let there : unwrap_or (M other) 0 ≡ end (n + 1) x + 1 = place_at M other (length d3.ops) (k4 other (length d3.ops) s4.placed) ∙ n3 in
           let finally : unwrap_or (M l) 0 ≡ end (end (n + 1) x + 1) y = place_at M l (length d5.ops) (k5 l (length d5.ops) hy.placed) ∙ n5 in
           let c1 : resolved M d1.ops ≡ resolved M d.ops ++ op.JumpIf on (end (n + 1) x + 1) ∷ [] =
-          added_code d0 d1 o1 M a1 ∙ ap (λ (is : List Labelled). resolved M is ++ op.JumpIf on (unwrap_or (M other) 0) ∷ []) m.ops ∙ ap (λ q. resolved M d.ops ++ op.JumpIf on q ∷ []) there in
+          added_code d0 d1 o1 M a1 ∙ ap (λ (is : List Instruction). resolved M is ++ op.JumpIf on (unwrap_or (M other) 0) ∷ []) m.ops ∙ ap (λ q. resolved M d.ops ++ op.JumpIf on q ∷ []) there in
           let c2 : resolved M d2.ops ≡ (resolved M d.ops ++ op.JumpIf on (end (n + 1) x + 1) ∷ []) ++ flat (n + 1) 0 x =
           hx.code M k2 ∙ ap (λ (is : List Op). is ++ flat (length d1.ops) 0 x) c1 ∙ ap (λ q. (resolved M d.ops ++ op.JumpIf on (end (n + 1) x + 1) ∷ []) ++ flat q 0 x) n1 in
           let c4 : resolved M d4.ops ≡ resolved M d2.ops ++ op.Jump (end (end (n + 1) x + 1) y) ∷ [] =
@@ -129,7 +132,7 @@ awaits_all x l d0 d n e =
         grown = let g = h.grown in omega arith;
         kept = λ i b. h.kept i (omega arith) (λ same. absurd (omega (arith, same, n, b))) ∙ m.others i b;
         settled = omega (arith, h.settled, m.more);
-        code = λ M k. h.code M k ∙ ap (λ (is : List Labelled). resolved M is ++ flat (length is) 0 x) m.ops;
+        code = λ M k. h.code M k ∙ ap (λ (is : List Instruction). resolved M is ++ flat (length is) 0 x) m.ops;
       };
     }
 
@@ -141,31 +144,31 @@ awaits_then whole x y l d0 d d1 a h =
       completed = λ d' k. a.completed d' (ends_then x y l d d1 d' a.is_open h k);
     }
 
-pub awaits_unless : (whole : Piece) (on : Bool) (x : Piece) (t l : ℕ) (d0 d d1 : Draft) → Awaits whole (Unless on x) l d0 d → d1 ≡ record d { ops = d.ops ++ (op.JumpIf on t, Some l) ∷ [] } → Awaits whole x l d0 d1
-awaits_unless whole on x t l d0 d d1 a e =
-    let s = adds_from d d1 (op.JumpIf on t, Some l) e in
-    let f = adds_follows d d1 (op.JumpIf on t, Some l) s in record {
+pub awaits_unless : (whole : Piece) (on : Bool) (x : Piece) (l : ℕ) (d0 d d1 : Draft) → Awaits whole (Unless on x) l d0 d → d1 ≡ record d { ops = d.ops ++ (instruction.Jump (jump.If on) l) ∷ [] } → Awaits whole x l d0 d1
+awaits_unless whole on x l d0 d d1 a e =
+    let s = adds_from d d1 (instruction.Jump (jump.If on) l) e in
+    let f = adds_follows d d1 (instruction.Jump (jump.If on) l) s in record {
       is_open = still_open l d d1 a.is_open f;
       follows = then_follows d0 d d1 a.follows f;
-      completed = λ d' k. a.completed d' (ends_unless on x t l d d1 d' a.is_open s k);
+      completed = λ d' k. a.completed d' (ends_unless on x l d d1 d' a.is_open s k);
     }
 
-pub awaits_choose : (whole : Piece) (on : Bool) (x y : Piece) (t u l other : ℕ) (d0 d d1 d2 d3 d4 d5 : Draft) → Awaits whole (Choose on x y) l d0 d
-    → other ≡ length d.places → d1 ≡ record d { places = d.places ++ None ∷ [] } → d2 ≡ record d1 { ops = d1.ops ++ (op.JumpIf on t, Some other) ∷ [] } → Emits x nowhere d2 d3
-    → d4 ≡ record d3 { ops = d3.ops ++ (op.Jump u, Some l) ∷ [] } → d5 ≡ record d4 { places = slice_set d4.places other (Some (length d4.ops)) } → Awaits whole y l d0 d5
-awaits_choose whole on x y t u l other d0 d d1 d2 d3 d4 d5 a n e1 e2 hx e4 e5 =
+pub awaits_choose : (whole : Piece) (on : Bool) (x y : Piece) (l other : ℕ) (d0 d d1 d2 d3 d4 d5 : Draft) → Awaits whole (Choose on x y) l d0 d
+    → other ≡ length d.places → d1 ≡ record d { places = d.places ++ None ∷ [] } → d2 ≡ record d1 { ops = d1.ops ++ (instruction.Jump (jump.If on) other) ∷ [] } → Emits x nowhere d2 d3
+    → d4 ≡ record d3 { ops = d3.ops ++ (instruction.Jump jump.Always l) ∷ [] } → d5 ≡ record d4 { places = slice_set d4.places other (Some (length d4.ops)) } → Awaits whole y l d0 d5
+awaits_choose whole on x y l other d0 d d1 d2 d3 d4 d5 a n e1 e2 hx e4 e5 =
     let m = makes_from d d1 other n e1 in
-    let a2 = adds_from d1 d2 (op.JumpIf on t, Some other) e2 in
-    let a4 = adds_from d3 d4 (op.Jump u, Some l) e4 in
+    let a2 = adds_from d1 d2 (instruction.Jump (jump.If on) other) e2 in
+    let a4 = adds_from d3 d4 (instruction.Jump jump.Always l) e4 in
     let long1 = m.long in
-    let f14 = then_follows d1 d3 d4 (then_follows d1 d2 d3 (adds_follows d1 d2 (op.JumpIf on t, Some other) a2) (emits_follows x nowhere d2 d3 hx)) (adds_follows d3 d4 (op.Jump u, Some l) a4) in
+    let f14 = then_follows d1 d3 d4 (then_follows d1 d2 d3 (adds_follows d1 d2 (instruction.Jump (jump.If on) other) a2) (emits_follows x nowhere d2 d3 hx)) (adds_follows d3 d4 (instruction.Jump jump.Always l) a4) in
     let g14 = f14.grown in
     let s5 = sets_from d4 d5 other (unplaced d4.places other (omega arith) (f14.kept other (omega arith) ∙ new_place d d1 other n e1)) e5 in
     let f5 = set_follows d d4 d5 other (omega arith) (then_follows d d1 d4 (makes_follows d d1 other m) f14) s5 in
     let w5 = still_open l d d5 a.is_open f5 in record {
       is_open = w5;
       follows = then_follows d0 d d5 a.follows f5;
-      completed = λ d' k. a.completed d' (ends_choose on x y t u d d1 d2 d3 d4 d5 d' other l a.is_open m a2 hx a4 s5 k w5 f5);
+      completed = λ d' k. a.completed d' (ends_choose on x y d d1 d2 d3 d4 d5 d' other l a.is_open m a2 hx a4 s5 k w5 f5);
     }
 
 pub awaits_no_more : (whole x : Piece) (l : ℕ) (d0 d d1 d2 : Draft) → Awaits whole x l d0 d → Emits x nowhere d d1 → d2 ≡ record d1 { places = slice_set d1.places l (Some (length d1.ops)) } → Emits whole nowhere d0 d2

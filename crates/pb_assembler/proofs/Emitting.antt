@@ -9,12 +9,15 @@ use Rattle.pb_bytecode_program.specs.declared.instruction.Op.TheVariants as op
 use Rattle.pb_assembler_scheme.specs.Pieces.{Piece, Empty, Plain, Then, Unless, Choose, Repeat, Block, Leave, Guard, end, flat}
 use Rattle.pb_assembler_scheme.proofs.Flat.{long}
 use Rattle.pb_assembler_accepted.proofs.Positions.{HasNoLeave}
-use Rattle.pb_assembler_builder.specs.Draft.{Draft, Labelled, Places, are_placed, known_place, open_labels, label_place, resolved, resolved_op}
+use Rattle.pb_assembler_builder.specs.Draft.{Draft, Places, are_placed, known_place, open_labels, label_place, resolved, resolved_op}
+use Rattle.pb_assembler_builder.specs.declared.instruction.Instruction.{Instruction}
+use Rattle.pb_assembler_builder.specs.declared.instruction.Instruction.TheVariants as instruction
+use Rattle.pb_assembler_builder.specs.declared.instruction.Jump.TheVariants as jump
 use Rattle.pb_assembler.specs.Emitted.{Keeps, Emits}
 
 -- ---- the builder's steps
 
-pub record Adds (d d' : Draft) (o : Labelled) : Type 0 where
+pub record Adds (d d' : Draft) (o : Instruction) : Type 0 where
   pub ops : d'.ops ≡ d.ops ++ o ∷ []
   pub places : d'.places ≡ d.places
 
@@ -51,7 +54,7 @@ earlier d d' M f k l q e = k l q (f.kept l (beyond d.places l q e) ∙ e)
 pub emits_follows : (x : Piece) (e : Places → ℕ) (d d' : Draft) → Emits x e d d' → Follows d d'
 emits_follows x e d d' h = record { grown = h.grown; kept = h.kept }
 
-pub adds_follows : (d d' : Draft) (o : Labelled) → Adds d d' o → Follows d d'
+pub adds_follows : (d d' : Draft) (o : Instruction) → Adds d d' o → Follows d d'
 adds_follows d d' o a = record { grown = let l = ap (λ (ps : List (Option ℕ)). length ps) a.places in omega arith; kept = λ l b. ap (λ ps. label_place ps l) a.places }
 
 pub makes_follows : (d d' : Draft) (l : ℕ) → Makes d d' l → Follows d d'
@@ -83,10 +86,10 @@ emitted_long x e d d' M h k =
     let f = flat (length d.ops) (e M) x in
     sym (length-map d'.ops (resolved_op M)) ∙ ap length (h.code M k) ∙ length-append (resolved M d.ops) f ∙ ap (λ n. n + length f) (length-map d.ops (resolved_op M)) ∙ sym (long (length d.ops) (e M) x)
 
-pub added_long : (d d' : Draft) (o : Labelled) → Adds d d' o → length d'.ops ≡ length d.ops + 1
+pub added_long : (d d' : Draft) (o : Instruction) → Adds d d' o → length d'.ops ≡ length d.ops + 1
 added_long d d' o a = ap length a.ops ∙ length-append d.ops (o ∷ [])
 
-pub added_code : (d d' : Draft) (o : Labelled) (M : Places) → Adds d d' o → resolved M d'.ops ≡ resolved M d.ops ++ resolved_op M o ∷ []
+pub added_code : (d d' : Draft) (o : Instruction) (M : Places) → Adds d d' o → resolved M d'.ops ≡ resolved M d.ops ++ resolved_op M o ∷ []
 added_code d d' o M a = ap (resolved M) a.ops ∙ map-append (resolved_op M) d.ops (o ∷ [])
 
 -- ---- pieces
@@ -109,9 +112,9 @@ pub place_at : (M : Places) (l q : ℕ) → M l ≡ Some q → unwrap_or (M l) 0
 place_at M l q e = ap (λ (o : Option ℕ). unwrap_or o 0) e
 
 -- a label, a test, the part, the label's place
-pub emits_unless : (on : Bool) (x : Piece) (e : Places → ℕ) (to : ℕ) (d d1 d2 d3 d4 : Draft) (l : ℕ) → Makes d d1 l → Adds d1 d2 (op.JumpIf on to, Some l) → Emits x e d2 d3 → Sets d3 d4 l → Emits (Unless on x) e d d4
-emits_unless on x e to d d1 d2 d3 d4 l m a h s =
-    let o : Labelled = (op.JumpIf on to, Some l) in
+pub emits_unless : (on : Bool) (x : Piece) (e : Places → ℕ) (d d1 d2 d3 d4 : Draft) (l : ℕ) → Makes d d1 l → Adds d1 d2 (instruction.Jump (jump.If on) l) → Emits x e d2 d3 → Sets d3 d4 l → Emits (Unless on x) e d d4
+emits_unless on x e d d1 d2 d3 d4 l m a h s =
+    let o : Instruction = (instruction.Jump (jump.If on) l) in
     let new = m.number in
     let f = set_follows d d3 d4 l (omega arith) (then_follows d d2 d3 (then_follows d d1 d2 (makes_follows d d1 l m) (adds_follows d1 d2 o a)) (emits_follows x e d2 d3 h)) s in record {
       grown = f.grown;
@@ -121,21 +124,21 @@ emits_unless on x e to d d1 d2 d3 d4 l m a h s =
           let k3 = set_keeps d3 d4 l M s k4 in
           let n = length d.ops in
           let r = e M in
-          let n2 : length d2.ops ≡ n + 1 = added_long d1 d2 o a ∙ ap (λ (is : List Labelled). length is + 1) m.ops in
+          let n2 : length d2.ops ≡ n + 1 = added_long d1 d2 o a ∙ ap (λ (is : List Instruction). length is + 1) m.ops in
           let n3 : length d3.ops ≡ end (n + 1) x = emitted_long x e d2 d3 M h k3 ∙ ap (λ k. end k x) n2 in
           let at : unwrap_or (M l) 0 ≡ end (n + 1) x = place_at M l (length d3.ops) (k4 l (length d3.ops) s.placed) ∙ n3 in
           let c2 : resolved M d2.ops ≡ resolved M d.ops ++ op.JumpIf on (end (n + 1) x) ∷ [] =
-          added_code d1 d2 o M a ∙ ap (λ (is : List Labelled). resolved M is ++ op.JumpIf on (unwrap_or (M l) 0) ∷ []) m.ops ∙ ap (λ k. resolved M d.ops ++ op.JumpIf on k ∷ []) at in
+          added_code d1 d2 o M a ∙ ap (λ (is : List Instruction). resolved M is ++ op.JumpIf on (unwrap_or (M l) 0) ∷ []) m.ops ∙ ap (λ k. resolved M d.ops ++ op.JumpIf on k ∷ []) at in
           ap (resolved M) s.ops ∙ h.code M k3 ∙ ap (λ (is : List Op). is ++ flat (length d2.ops) r x) c2 ∙ ap (λ k. (resolved M d.ops ++ op.JumpIf on (end (n + 1) x) ∷ []) ++ flat k r x) n2
           ∙ append_assoc (resolved M d.ops) (op.JumpIf on (end (n + 1) x) ∷ []) (flat (n + 1) r x);
     }
 
 -- two labels, a test, the first part, a jump, the first label's place, the second part, the second label's place
-pub emits_choose : (on : Bool) (x y : Piece) (e : Places → ℕ) (t u : ℕ) (d d0 d1 d2 d3 d4 d5 d6 d7 : Draft) (other last : ℕ)
-    → Makes d d0 other → Makes d0 d1 last → Adds d1 d2 (op.JumpIf on t, Some other) → Emits x e d2 d3 → Adds d3 d4 (op.Jump u, Some last) → Sets d4 d5 other → Emits y e d5 d6 → Sets d6 d7 last → Emits (Choose on x y) e d d7
-emits_choose on x y e t u d d0 d1 d2 d3 d4 d5 d6 d7 other last m0 m1 a2 hx a4 s5 hy s7 =
-    let o2 : Labelled = (op.JumpIf on t, Some other) in
-    let o4 : Labelled = (op.Jump u, Some last) in
+pub emits_choose : (on : Bool) (x y : Piece) (e : Places → ℕ) (d d0 d1 d2 d3 d4 d5 d6 d7 : Draft) (other last : ℕ)
+    → Makes d d0 other → Makes d0 d1 last → Adds d1 d2 (instruction.Jump (jump.If on) other) → Emits x e d2 d3 → Adds d3 d4 (instruction.Jump jump.Always last) → Sets d4 d5 other → Emits y e d5 d6 → Sets d6 d7 last → Emits (Choose on x y) e d d7
+emits_choose on x y e d d0 d1 d2 d3 d4 d5 d6 d7 other last m0 m1 a2 hx a4 s5 hy s7 =
+    let o2 : Instruction = (instruction.Jump (jump.If on) other) in
+    let o4 : Instruction = (instruction.Jump jump.Always last) in
     let new0 = m0.number in
     let new1 = m1.number in
     let long0 = m0.long in
@@ -153,7 +156,7 @@ emits_choose on x y e t u d d0 d1 d2 d3 d4 d5 d6 d7 other last m0 m1 a2 hx a4 s5
           let r = e M in
           let n = length d.ops in
           let same : d1.ops ≡ d.ops = m1.ops ∙ m0.ops in
-          let n2 : length d2.ops ≡ n + 1 = added_long d1 d2 o2 a2 ∙ ap (λ (is : List Labelled). length is + 1) same in
+          let n2 : length d2.ops ≡ n + 1 = added_long d1 d2 o2 a2 ∙ ap (λ (is : List Instruction). length is + 1) same in
           let n3 : length d3.ops ≡ end (n + 1) x = emitted_long x e d2 d3 M hx k3 ∙ ap (λ k. end k x) n2 in
           let n4 : length d4.ops ≡ end (n + 1) x + 1 = added_long d3 d4 o4 a4 ∙ ap (λ k. k + 1) n3 in
           let n5 : length d5.ops ≡ end (n + 1) x + 1 = ap length s5.ops ∙ n4 in
@@ -161,7 +164,7 @@ emits_choose on x y e t u d d0 d1 d2 d3 d4 d5 d6 d7 other last m0 m1 a2 hx a4 s5
           let there : unwrap_or (M other) 0 ≡ end (n + 1) x + 1 = place_at M other (length d4.ops) (k5 other (length d4.ops) s5.placed) ∙ n4 in
           let finally : unwrap_or (M last) 0 ≡ end (end (n + 1) x + 1) y = place_at M last (length d6.ops) (k7 last (length d6.ops) s7.placed) ∙ n6 in
           let c2 : resolved M d2.ops ≡ resolved M d.ops ++ op.JumpIf on (end (n + 1) x + 1) ∷ [] =
-          added_code d1 d2 o2 M a2 ∙ ap (λ (is : List Labelled). resolved M is ++ op.JumpIf on (unwrap_or (M other) 0) ∷ []) same ∙ ap (λ k. resolved M d.ops ++ op.JumpIf on k ∷ []) there in
+          added_code d1 d2 o2 M a2 ∙ ap (λ (is : List Instruction). resolved M is ++ op.JumpIf on (unwrap_or (M other) 0) ∷ []) same ∙ ap (λ k. resolved M d.ops ++ op.JumpIf on k ∷ []) there in
           let c3 : resolved M d3.ops ≡ (resolved M d.ops ++ op.JumpIf on (end (n + 1) x + 1) ∷ []) ++ flat (n + 1) r x =
           hx.code M k3 ∙ ap (λ (is : List Op). is ++ flat (length d2.ops) r x) c2 ∙ ap (λ k. (resolved M d.ops ++ op.JumpIf on (end (n + 1) x + 1) ∷ []) ++ flat k r x) n2 in
           let c5 : resolved M d5.ops ≡ resolved M d3.ops ++ op.Jump (end (end (n + 1) x + 1) y) ∷ [] =
@@ -172,17 +175,17 @@ emits_choose on x y e t u d d0 d1 d2 d3 d4 d5 d6 d7 other last m0 m1 a2 hx a4 s5
     }
 
 -- the loop, its body, and its end
-pub emits_repeat : (s : ℕ) (x : Piece) (e : Places → ℕ) (d d1 d2 d3 : Draft) → Adds d d1 (op.Loop s, None) → Emits x e d1 d2 → Adds d2 d3 (op.Next, None) → Emits (Repeat s x) e d d3
+pub emits_repeat : (s : ℕ) (x : Piece) (e : Places → ℕ) (d d1 d2 d3 : Draft) → Adds d d1 (instruction.Plain (op.Loop s)) → Emits x e d1 d2 → Adds d2 d3 (instruction.Plain op.Next) → Emits (Repeat s x) e d d3
 emits_repeat s x e d d1 d2 d3 a h b =
-    let f = then_follows d d2 d3 (then_follows d d1 d2 (adds_follows d d1 (op.Loop s, None) a) (emits_follows x e d1 d2 h)) (adds_follows d2 d3 (op.Next, None) b) in record {
+    let f = then_follows d d2 d3 (then_follows d d1 d2 (adds_follows d d1 (instruction.Plain (op.Loop s)) a) (emits_follows x e d1 d2 h)) (adds_follows d2 d3 (instruction.Plain op.Next) b) in record {
       grown = f.grown;
       kept = f.kept;
       settled = ap open_labels b.places ∙ h.settled ∙ ap open_labels a.places;
       code = λ M k3.
-          let k2 = earlier d2 d3 M (adds_follows d2 d3 (op.Next, None) b) k3 in
-          let n1 = added_long d d1 (op.Loop s, None) a in
-          added_code d2 d3 (op.Next, None) M b
-          ∙ ap (λ (is : List Op). is ++ op.Next ∷ []) (h.code M k2 ∙ ap (λ (is : List Op). is ++ flat (length d1.ops) (e M) x) (added_code d d1 (op.Loop s, None) M a) ∙ ap (λ k. (resolved M d.ops ++ op.Loop s ∷ []) ++ flat k (e M) x) n1)
+          let k2 = earlier d2 d3 M (adds_follows d2 d3 (instruction.Plain op.Next) b) k3 in
+          let n1 = added_long d d1 (instruction.Plain (op.Loop s)) a in
+          added_code d2 d3 (instruction.Plain op.Next) M b
+          ∙ ap (λ (is : List Op). is ++ op.Next ∷ []) (h.code M k2 ∙ ap (λ (is : List Op). is ++ flat (length d1.ops) (e M) x) (added_code d d1 (instruction.Plain (op.Loop s)) M a) ∙ ap (λ k. (resolved M d.ops ++ op.Loop s ∷ []) ++ flat k (e M) x) n1)
           ∙ simp append_assoc;
     }
 
@@ -200,32 +203,32 @@ emits_block x e d d1 d2 d3 l m h s =
           let n1 : length d1.ops ≡ length d.ops = ap length m.ops in
           let n2 : length d2.ops ≡ end (length d.ops) x = emitted_long x at_end d1 d2 M h k2 ∙ ap (λ k. end k x) n1 in
           let at : unwrap_or (M l) 0 ≡ end (length d.ops) x = place_at M l (length d2.ops) (k3 l (length d2.ops) s.placed) ∙ n2 in
-          ap (resolved M) s.ops ∙ h.code M k2 ∙ ap (λ (is : List Labelled). resolved M is ++ flat (length is) (unwrap_or (M l) 0) x) m.ops ∙ ap (λ k. resolved M d.ops ++ flat (length d.ops) k x) at;
+          ap (resolved M) s.ops ∙ h.code M k2 ∙ ap (λ (is : List Instruction). resolved M is ++ flat (length is) (unwrap_or (M l) 0) x) m.ops ∙ ap (λ k. resolved M d.ops ++ flat (length d.ops) k x) at;
     }
 
 -- a label, the range's test, the part, the label's place, POP
-pub emits_guard : (low high : ℤ) (x : Piece) (e : Places → ℕ) (to : ℕ) (d d1 d2 d3 d4 d5 : Draft) (l : ℕ) → Makes d d1 l → Adds d1 d2 (op.InRange low high to, Some l) → Emits x e d2 d3 → Sets d3 d4 l → Adds d4 d5 (op.Pop, None) → Emits (Guard low high x) e d d5
-emits_guard low high x e to d d1 d2 d3 d4 d5 l m a h s b =
-    let o : Labelled = (op.InRange low high to, Some l) in
+pub emits_guard : (low high : ℤ) (x : Piece) (e : Places → ℕ) (d d1 d2 d3 d4 d5 : Draft) (l : ℕ) → Makes d d1 l → Adds d1 d2 (instruction.Jump (jump.InRange low high) l) → Emits x e d2 d3 → Sets d3 d4 l → Adds d4 d5 (instruction.Plain op.Pop) → Emits (Guard low high x) e d d5
+emits_guard low high x e d d1 d2 d3 d4 d5 l m a h s b =
+    let o : Instruction = (instruction.Jump (jump.InRange low high) l) in
     let new = m.number in
     let f4 = set_follows d d3 d4 l (omega arith) (then_follows d d2 d3 (then_follows d d1 d2 (makes_follows d d1 l m) (adds_follows d1 d2 o a)) (emits_follows x e d2 d3 h)) s in
-    let f = then_follows d d4 d5 f4 (adds_follows d4 d5 (op.Pop, None) b) in record {
+    let f = then_follows d d4 d5 f4 (adds_follows d4 d5 (instruction.Plain op.Pop) b) in record {
       grown = f.grown;
       kept = f.kept;
       settled = omega (arith, m.more, ap open_labels a.places, h.settled, s.less, ap open_labels b.places);
       code = λ M k5.
-          let k4 = earlier d4 d5 M (adds_follows d4 d5 (op.Pop, None) b) k5 in
+          let k4 = earlier d4 d5 M (adds_follows d4 d5 (instruction.Plain op.Pop) b) k5 in
           let k3 = set_keeps d3 d4 l M s k4 in
           let n = length d.ops in
           let r = e M in
-          let n2 : length d2.ops ≡ n + 1 = added_long d1 d2 o a ∙ ap (λ (is : List Labelled). length is + 1) m.ops in
+          let n2 : length d2.ops ≡ n + 1 = added_long d1 d2 o a ∙ ap (λ (is : List Instruction). length is + 1) m.ops in
           let n3 : length d3.ops ≡ end (n + 1) x = emitted_long x e d2 d3 M h k3 ∙ ap (λ k. end k x) n2 in
           let at : unwrap_or (M l) 0 ≡ end (n + 1) x = place_at M l (length d3.ops) (k4 l (length d3.ops) s.placed) ∙ n3 in
           let c2 : resolved M d2.ops ≡ resolved M d.ops ++ op.InRange low high (end (n + 1) x) ∷ [] =
-          added_code d1 d2 o M a ∙ ap (λ (is : List Labelled). resolved M is ++ op.InRange low high (unwrap_or (M l) 0) ∷ []) m.ops ∙ ap (λ k. resolved M d.ops ++ op.InRange low high k ∷ []) at in
+          added_code d1 d2 o M a ∙ ap (λ (is : List Instruction). resolved M is ++ op.InRange low high (unwrap_or (M l) 0) ∷ []) m.ops ∙ ap (λ k. resolved M d.ops ++ op.InRange low high k ∷ []) at in
           let c4 : resolved M d4.ops ≡ (resolved M d.ops ++ op.InRange low high (end (n + 1) x) ∷ []) ++ flat (n + 1) r x =
           ap (resolved M) s.ops ∙ h.code M k3 ∙ ap (λ (is : List Op). is ++ flat (length d2.ops) r x) c2 ∙ ap (λ k. (resolved M d.ops ++ op.InRange low high (end (n + 1) x) ∷ []) ++ flat k r x) n2 in
-          added_code d4 d5 (op.Pop, None) M b ∙ ap (λ (is : List Op). is ++ op.Pop ∷ []) c4 ∙ simp append_assoc;
+          added_code d4 d5 (instruction.Plain op.Pop) M b ∙ ap (λ (is : List Op). is ++ op.Pop ∷ []) c4 ∙ simp append_assoc;
     }
 
 -- ---- at the end of all
@@ -245,7 +248,7 @@ all_settled x e d h = none_open d.places h.settled
 
 -- ---- the builder's calls
 
-pub adds_from : (d d' : Draft) (o : Labelled) → d' ≡ record d { ops = d.ops ++ o ∷ [] } → Adds d d' o
+pub adds_from : (d d' : Draft) (o : Instruction) → d' ≡ record d { ops = d.ops ++ o ∷ [] } → Adds d d' o
 adds_from d d' o e = record { ops = ap (λ (x : Draft). x.ops) e; places = ap (λ (x : Draft). x.places) e }
 
 more_place : (places : List (Option ℕ)) (l : ℕ) → l < length places → label_place (places ++ None ∷ []) l ≡ label_place places l
@@ -319,19 +322,19 @@ on_ok (Ok a) P Q h f = f h
 on_ok (Err e) P Q h f = tt
 
 -- a choice, as the builder's calls make it
-pub choice_emitted : (on : Bool) (x y : Piece) (e : Places → ℕ) (t u : ℕ) (d0 d1 d2 d3 d4 d5 d6 d7 d8 : Draft) (other last : ℕ)
+pub choice_emitted : (on : Bool) (x y : Piece) (e : Places → ℕ) (d0 d1 d2 d3 d4 d5 d6 d7 d8 : Draft) (other last : ℕ)
     → other ≡ length d0.places → d1 ≡ record d0 { places = d0.places ++ None ∷ [] } → last ≡ length d1.places → d2 ≡ record d1 { places = d1.places ++ None ∷ [] }
-    → d3 ≡ record d2 { ops = d2.ops ++ (op.JumpIf on t, Some other) ∷ [] } → Emits x e d3 d4 → d5 ≡ record d4 { ops = d4.ops ++ (op.Jump u, Some last) ∷ [] }
+    → d3 ≡ record d2 { ops = d2.ops ++ (instruction.Jump (jump.If on) other) ∷ [] } → Emits x e d3 d4 → d5 ≡ record d4 { ops = d4.ops ++ (instruction.Jump jump.Always last) ∷ [] }
     → d6 ≡ record d5 { places = slice_set d5.places other (Some (length d5.ops)) } → Emits y e d6 d7 → d8 ≡ record d7 { places = slice_set d7.places last (Some (length d7.ops)) }
     → Emits (Choose on x y) e d0 d8
-choice_emitted on x y e t u d0 d1 d2 d3 d4 d5 d6 d7 d8 other last n0 e1 n1 e2 e3 hx e5 e6 hy e8 =
+choice_emitted on x y e d0 d1 d2 d3 d4 d5 d6 d7 d8 other last n0 e1 n1 e2 e3 hx e5 e6 hy e8 =
     let m0 = makes_from d0 d1 other n0 e1 in
     let m1 = makes_from d1 d2 last n1 e2 in
-    let a3 = adds_from d2 d3 (op.JumpIf on t, Some other) e3 in
-    let a5 = adds_from d4 d5 (op.Jump u, Some last) e5 in
+    let a3 = adds_from d2 d3 (instruction.Jump (jump.If on) other) e3 in
+    let a5 = adds_from d4 d5 (instruction.Jump jump.Always last) e5 in
     let l0 = m0.long in
     let l1 = m1.long in
-    let f25 = then_follows d2 d4 d5 (then_follows d2 d3 d4 (adds_follows d2 d3 (op.JumpIf on t, Some other) a3) (emits_follows x e d3 d4 hx)) (adds_follows d4 d5 (op.Jump u, Some last) a5) in
+    let f25 = then_follows d2 d4 d5 (then_follows d2 d3 d4 (adds_follows d2 d3 (instruction.Jump (jump.If on) other) a3) (emits_follows x e d3 d4 hx)) (adds_follows d4 d5 (instruction.Jump jump.Always last) a5) in
     let f15 = then_follows d1 d2 d5 (makes_follows d1 d2 last m1) f25 in
     let g15 = f15.grown in
     let g25 = f25.grown in
@@ -341,20 +344,20 @@ choice_emitted on x y e t u d0 d1 d2 d3 d4 d5 d6 d7 d8 other last n0 e1 n1 e2 e3
     let g67 = hy.grown in
     let at_last = hy.kept last (omega arith) ∙ s6.others last (λ same. absurd (omega arith)) ∙ f25.kept last (omega arith) ∙ new_place d1 d2 last n1 e2 in
     let s8 = sets_from d7 d8 last (unplaced d7.places last (omega arith) at_last) e8 in
-    emits_choose on x y e t u d0 d1 d2 d3 d4 d5 d6 d7 d8 other last m0 m1 a3 hx a5 s6 hy s8
+    emits_choose on x y e d0 d1 d2 d3 d4 d5 d6 d7 d8 other last m0 m1 a3 hx a5 s6 hy s8
 
 -- a part that may be passed over, as the builder's calls make it
-pub unless_emitted : (on : Bool) (x : Piece) (e : Places → ℕ) (t : ℕ) (d0 d1 d2 d3 d4 : Draft) (l : ℕ)
-    → l ≡ length d0.places → d1 ≡ record d0 { places = d0.places ++ None ∷ [] } → d2 ≡ record d1 { ops = d1.ops ++ (op.JumpIf on t, Some l) ∷ [] } → Emits x e d2 d3
+pub unless_emitted : (on : Bool) (x : Piece) (e : Places → ℕ) (d0 d1 d2 d3 d4 : Draft) (l : ℕ)
+    → l ≡ length d0.places → d1 ≡ record d0 { places = d0.places ++ None ∷ [] } → d2 ≡ record d1 { ops = d1.ops ++ (instruction.Jump (jump.If on) l) ∷ [] } → Emits x e d2 d3
     → d4 ≡ record d3 { places = slice_set d3.places l (Some (length d3.ops)) } → Emits (Unless on x) e d0 d4
-unless_emitted on x e t d0 d1 d2 d3 d4 l n e1 e2 hx e4 =
+unless_emitted on x e d0 d1 d2 d3 d4 l n e1 e2 hx e4 =
     let m = makes_from d0 d1 l n e1 in
-    let a = adds_from d1 d2 (op.JumpIf on t, Some l) e2 in
+    let a = adds_from d1 d2 (instruction.Jump (jump.If on) l) e2 in
     let long1 = m.long in
-    let f = then_follows d1 d2 d3 (adds_follows d1 d2 (op.JumpIf on t, Some l) a) (emits_follows x e d2 d3 hx) in
+    let f = then_follows d1 d2 d3 (adds_follows d1 d2 (instruction.Jump (jump.If on) l) a) (emits_follows x e d2 d3 hx) in
     let grown = f.grown in
     let s = sets_from d3 d4 l (unplaced d3.places l (omega arith) (f.kept l (omega arith) ∙ new_place d0 d1 l n e1)) e4 in
-    emits_unless on x e t d0 d1 d2 d3 d4 l m a hx s
+    emits_unless on x e d0 d1 d2 d3 d4 l m a hx s
 
 -- a block, as the builder's calls make it
 pub block_emitted : (x : Piece) (d0 d1 d2 d3 : Draft) (l : ℕ) → l ≡ length d0.places → d1 ≡ record d0 { places = d0.places ++ None ∷ [] } → Emits x (λ M. unwrap_or (M l) 0) d1 d2
@@ -367,17 +370,17 @@ block_emitted x d0 d1 d2 d3 l n e1 hx e3 e =
     emits_block x e d0 d1 d2 d3 l m hx s
 
 -- a range's test with what is behind it, as the builder's calls make it
-pub guard_emitted : (low high : ℤ) (x : Piece) (e : Places → ℕ) (t : ℕ) (d0 d1 d2 d3 d4 d5 : Draft) (l : ℕ)
-    → l ≡ length d0.places → d1 ≡ record d0 { places = d0.places ++ None ∷ [] } → d2 ≡ record d1 { ops = d1.ops ++ (op.InRange low high t, Some l) ∷ [] } → Emits x e d2 d3
-    → d4 ≡ record d3 { places = slice_set d3.places l (Some (length d3.ops)) } → Adds d4 d5 (op.Pop, None) → Emits (Guard low high x) e d0 d5
-guard_emitted low high x e t d0 d1 d2 d3 d4 d5 l n e1 e2 hx e4 b =
+pub guard_emitted : (low high : ℤ) (x : Piece) (e : Places → ℕ) (d0 d1 d2 d3 d4 d5 : Draft) (l : ℕ)
+    → l ≡ length d0.places → d1 ≡ record d0 { places = d0.places ++ None ∷ [] } → d2 ≡ record d1 { ops = d1.ops ++ (instruction.Jump (jump.InRange low high) l) ∷ [] } → Emits x e d2 d3
+    → d4 ≡ record d3 { places = slice_set d3.places l (Some (length d3.ops)) } → Adds d4 d5 (instruction.Plain op.Pop) → Emits (Guard low high x) e d0 d5
+guard_emitted low high x e d0 d1 d2 d3 d4 d5 l n e1 e2 hx e4 b =
     let m = makes_from d0 d1 l n e1 in
-    let a = adds_from d1 d2 (op.InRange low high t, Some l) e2 in
+    let a = adds_from d1 d2 (instruction.Jump (jump.InRange low high) l) e2 in
     let long1 = m.long in
-    let f = then_follows d1 d2 d3 (adds_follows d1 d2 (op.InRange low high t, Some l) a) (emits_follows x e d2 d3 hx) in
+    let f = then_follows d1 d2 d3 (adds_follows d1 d2 (instruction.Jump (jump.InRange low high) l) a) (emits_follows x e d2 d3 hx) in
     let grown = f.grown in
     let s = sets_from d3 d4 l (unplaced d3.places l (omega arith) (f.kept l (omega arith) ∙ new_place d0 d1 l n e1)) e4 in
-    emits_guard low high x e t d0 d1 d2 d3 d4 d5 l m a hx s b
+    emits_guard low high x e d0 d1 d2 d3 d4 d5 l m a hx s b
 
 -- the code of a piece that leaves no block doesn't read where the block around ends
 pub flat_stays : (x : Piece) → HasNoLeave x → (q e f : ℕ) → flat q e x ≡ flat q f x

@@ -23,7 +23,7 @@ use Rattle.pb_typing_declarations.specs.WellDeclared.{enumerators}
 use Rattle.pb_bytecode.specs.Contents.{EquationContents}
 use Rattle.pb_bytecode.specs.Limits.{is_between, enumerator_count, fits_sort, fits_carrier, fits_equation, instance_count}
 use Rattle.pb_bytecode.specs.Names.{is_module_name}
-use Rattle.pb_bytecode.specs.declared.version.Version.TheVariants as version
+use Rattle.pb_bytecode_program.specs.declared.version.Version.TheVariants as version
 use Rattle.pb_bytecode_program.specs.Counts.{static_steps, static_tokens}
 use Rattle.pb_normal.specs.Bounds.{HasBounds, bounds_of, is_bounded_formula}
 use Rattle.pb_normal.specs.Equations.{normal_equation}

@@ -15,7 +15,7 @@ use Rattle.pb_text_meaning.specs.Syntax.{Operator}
 use Rattle.pb_typing_declarations.specs.Shapes.{Shape, Unknown, Truths, Places, Wholes}
 use Rattle.pb_typing_rules.specs.Shapes.{interval}
 use Rattle.pb_bytecode.specs.Limits.{is_byte, is_u16, enumerator_count, are_bounds, fits_op, fits_carrier}
-use Rattle.pb_bytecode.specs.declared.version.Version.TheVariants as version
+use Rattle.pb_bytecode_program.specs.declared.version.Version.TheVariants as version
 use Rattle.pb_bytecode_program.specs.declared.instruction.Leaf.TheVariants as leaf
 use Rattle.pb_bytecode_program.specs.declared.instruction.Op.{Op}
 use Rattle.pb_bytecode_program.specs.declared.instruction.Op.TheVariants as op

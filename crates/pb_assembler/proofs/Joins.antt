@@ -17,7 +17,9 @@ use Rattle.pb_normal.specs.View.{chained, nested, formula_view, formula_views}
 use Rattle.pb_bytecode_program.specs.declared.instruction.Op.TheVariants as op
 use Rattle.pb_assembler_scheme.specs.Pieces.{Piece, Plain, Then, Unless, Choose, Repeat}
 use Rattle.pb_assembler_scheme.specs.Scheme.{data_piece, neutral, junction_of, test_of, tested_piece, join_piece, under, bracketed, deciding_leaf, connective_of, formula_piece}
-use Rattle.pb_assembler_builder.specs.Draft.{Draft, Labelled}
+use Rattle.pb_assembler_builder.specs.Draft.{Draft}
+use Rattle.pb_assembler_builder.specs.declared.instruction.Instruction.{Instruction}
+use Rattle.pb_assembler_builder.specs.declared.instruction.Instruction.TheVariants as instruction
 use Rattle.pb_assembler.specs.Emitted.{Emits, nowhere}
 use Rattle.pb_assembler.specs.Operands.{Guarded, early_test, guarded_by, IsLeft, other_of}
 use Rattle.pb_normal.specs.Small.{is_small, is_small_formula}
@@ -180,26 +182,26 @@ small_slot q s (c ∷ cs) f zero l h = let a = ltb-true s 256 (and_parts (nat_lt
 small_slot q s (c ∷ cs) f (suc k) l h = let a = small_slot q (suc s) cs f k (omega arith) (and_parts (nat_lt s 256) (is_small_formula (nested q (suc s) cs f)) h).1 in omega (arith, a)
 
 -- one more instruction
-abbrev pub plus : Draft → Labelled → Draft
+abbrev pub plus : Draft → Instruction → Draft
 plus d o = record d { ops = d.ops ++ o ∷ [] }
 
 -- so many ends of loops
 abbrev pub Closes : ℕ → Draft → Draft → Type 0
 Closes zero d d' = d' ≡ d
-Closes (suc k) d d' = Closes k (plus d (op.Next, None)) d'
+Closes (suc k) d d' = Closes k (plus d (instruction.Plain op.Next)) d'
 
-pub closes_more : (k : ℕ) (d d1 d2 : Draft) → Closes k d d1 → d2 ≡ plus d1 (op.Next, None) → Closes (suc k) d d2
-closes_more zero d d1 d2 c e = e ∙ ap (λ (x : Draft). plus x (op.Next, None)) c
-closes_more (suc k) d d1 d2 c e = closes_more k (plus d (op.Next, None)) d1 d2 c e
+pub closes_more : (k : ℕ) (d d1 d2 : Draft) → Closes k d d1 → d2 ≡ plus d1 (instruction.Plain op.Next) → Closes (suc k) d d2
+closes_more zero d d1 d2 c e = e ∙ ap (λ (x : Draft). plus x (instruction.Plain op.Next)) c
+closes_more (suc k) d d1 d2 c e = closes_more k (plus d (instruction.Plain op.Next)) d1 d2 c e
 
 -- loops are begun: a body and their ends make the whole
 abbrev pub Begins : ℕ → ℕ → Draft → Draft → Type 0
 Begins s k d0 d = (y : Piece) (d1 d2 : Draft) → Emits y nowhere d d1 → Closes k d1 d2 → Emits (repeated s k y) nowhere d0 d2
 
-pub begins_more : (s k : ℕ) (d0 d d' : Draft) → Begins s k d0 d → d' ≡ plus d (op.Loop (s + k), None) → Begins s (suc k) d0 d'
+pub begins_more : (s k : ℕ) (d0 d d' : Draft) → Begins s k d0 d → d' ≡ plus d (instruction.Plain (op.Loop (s + k))) → Begins s (suc k) d0 d'
 begins_more s k d0 d d' b e = λ y d1 d2 h c.
-    b (Repeat (s + k) y) (plus d1 (op.Next, None)) d2
-    (emits_repeat (s + k) y nowhere d d' d1 (plus d1 (op.Next, None)) (adds_from d d' (op.Loop (s + k), None) e) h (adds_from d1 (plus d1 (op.Next, None)) (op.Next, None) refl)) c
+    b (Repeat (s + k) y) (plus d1 (instruction.Plain op.Next)) d2
+    (emits_repeat (s + k) y nowhere d d' d1 (plus d1 (instruction.Plain op.Next)) (adds_from d d' (instruction.Plain (op.Loop (s + k))) e) h (adds_from d1 (plus d1 (instruction.Plain op.Next)) (instruction.Plain op.Next) refl)) c
 
 -- an opened bracket, its content, and its end
 pub bracket_emitted : (m : Junction) (x : Piece) (d d1 d2 d3 : Draft) → Emits (Plain (op.Open (connective_of m))) nowhere d d1 → Emits x nowhere d1 d2 → Emits (Plain op.Close) nowhere d2 d3 → Emits (bracketed m x) nowhere d d3

@@ -19,7 +19,7 @@ use Rattle.pb_bytecode.specs.Contents.{SortContents, EquationContents, InitialCo
 use Rattle.pb_bytecode.specs.Limits.{is_byte, is_i64, fits_sort, fits_equation, instance_count, parameters_if_any, is_tuple, fits_initial, fits}
 use Rattle.pb_bytecode.specs.Meaning.{parameters}
 use Rattle.pb_bytecode.specs.Names.{is_module_name}
-use Rattle.pb_bytecode.specs.declared.version.Version.TheVariants as version
+use Rattle.pb_bytecode_program.specs.declared.version.Version.TheVariants as version
 use Rattle.pb_normal.specs.Answer.{normal_equations}
 use Rattle.pb_normal.specs.Bounds.{HasBounds, IsSmallWhereLoopsAreFew}
 use Rattle.pb_normal.specs.InitialPlace.{initial_place, initial_values, HasInitial}

@@ -1,6 +1,6 @@
 -- What it is for a builder to have emitted a piece of code: whatever places the labels still get,
 -- the instructions that were added resolve to the piece's.
-use Rattle.std.specs.Prelude.{◌≡◌, ℕ, ◌<◌, ◌≤◌, ◌++◌, length, Option, Some, None, unwrap_or}
+use Rattle.std.specs.Prelude.{◌≡◌, ℕ, ◌<◌, ◌≤◌, ◌++◌, Bool, true, nat_lt, length, Option, Some, None, unwrap_or}
 use Rattle.pb_text_tree.specs.declared.operator.Connective.{Connective}
 use Rattle.pb_text_tree.specs.declared.operator.Connective.TheVariants as connective
 use Rattle.pb_bytecode_program.specs.declared.instruction.Connective.TheVariants as connectives
@@ -32,6 +32,11 @@ connected_behind connective.And x = Then x (Plain (op.Logic connectives.And))
 connected_behind connective.Or x = Then x (Plain (op.Logic connectives.Or))
 connected_behind connective.Implies x =
     Then (Then x (Plain op.Not)) (Plain (op.Logic connectives.Or))
+
+-- a label that is there, if one is given
+abbrev pub is_label : ℕ → Option ℕ → Bool
+is_label n None = true
+is_label n (Some l) = nat_lt l n
 
 -- the end of the block around, which has this label, if there is one
 abbrev pub block_end : Option ℕ → Places → ℕ

@@ -4,13 +4,12 @@ ghost use Rattle.std.specs.Prelude.{◌≡◌, ◌<◌, true, length, map, optio
 ghost use Rattle.pb_typed_tree.specs.View.{argument_view};
 ghost use Rattle.pb_assembler_scheme.specs.Pieces.{Guard};
 ghost use Rattle.pb_assembler_scheme.specs.Scheme.{arguments_piece, call_piece};
-ghost use Rattle.pb_assembler_builder.specs.Draft.{is_label};
-ghost use Rattle.pb_assembler.specs.Emitted.{Emits, block_end, called_piece, nowhere};
+ghost use Rattle.pb_assembler.specs.Emitted.{Emits, block_end, called_piece, is_label, nowhere};
 ghost use Rattle.pb_normal.specs.Small.{are_small};
 
 use crate::emission::emit_plain;
 use crate::term::emit_term;
-use pb_assembler_builder::{Builder, Label};
+use pb_assembler_builder::{Builder, Jump, Label};
 use pb_assembler_measures::{any_tested, tested_range};
 use pb_bytecode_program::{Leaf, Op};
 use pb_sorts::{Carrier, Range};
@@ -33,9 +32,9 @@ fn emit_called(builder: &mut Builder, called: Called) -> Result<(), AllocError>
         (block_end (option_map (λ l. l.number) called.end)) builder.old builder.new) }
 {
     let equation = called.equation;
-    builder.emit(Op::Call { equation }, None)?;
+    builder.emit(Op::Call { equation })?;
     match called.end {
-        Some(end) => builder.emit(Op::Jump { target: 0 }, Some(end)),
+        Some(end) => builder.emit_jump(Jump::Always, end),
         None => Ok(()),
     }
 }
@@ -92,15 +91,14 @@ fn emit_tested(
         (block_end (option_map (λ l. l.number) called.end)) builder.old builder.new) }
 {
     let outside = builder.label()?;
-    let test = Op::InRange {
+    let test = Jump::InRange {
         low: range.low,
         high: range.high,
-        target: 0,
     };
-    builder.emit(test, Some(outside))?;
+    builder.emit_jump(test, outside)?;
     emit_arguments(builder, carriers, arguments, called)?;
     builder.place(outside);
-    builder.emit(Op::Pop, None)
+    builder.emit(Op::Pop)
 }
 
 /// The code of a call of the equation that has these parameters, or of a cut where an argument lies

@@ -53,9 +53,8 @@ fn module_of(
     })
 }
 
-/// The module that the compile scheme makes of a text's normal form (Groote and Willemse 2005: the
-/// right sides of its equations are code that writes and/or trees). It is always accepted, and has
-/// the text's meaning.
+/// The module that the compile scheme makes of a text's normal form: the right sides of its
+/// equations are code that writes and/or trees. It is always accepted, and has the text's meaning.
 ///
 /// # Errors
 /// An excess exactly where the code of an equation exceeds a limit of the machine: the first such

@@ -16,7 +16,7 @@ ghost use Rattle.pb_normal.specs.Small.{is_small, is_small_formula};
 use crate::call::emit_call;
 use crate::emission::emit_plain;
 use crate::test::emit_tested;
-use pb_assembler_builder::Builder;
+use pb_assembler_builder::{Builder, Jump};
 use pb_assembler_measures::{Test, as_test, junction_of, parameters_of};
 use pb_bytecode_program::{Connective, Leaf, Op};
 use pb_normal::{Formula, Junction};
@@ -154,11 +154,7 @@ fn emit_test(builder: &mut Builder, around: Junction, test: Test<'_>) -> Result<
 {
     emit_tested(builder, test)?;
     let passed = builder.label()?;
-    let jump = Op::JumpIf {
-        condition: neutral(around),
-        target: 0,
-    };
-    builder.emit(jump, Some(passed))?;
+    builder.emit_jump(Jump::If(neutral(around)), passed)?;
     emit_plain(builder, Op::Emit(deciding(around)))?;
     builder.place(passed);
     Ok(())
@@ -217,13 +213,13 @@ fn emit_loops(
     let mut begun = 0;
     while begun < count {
         let slot = (loops.first + begun) as u8;
-        builder.emit(Op::Loop { slot }, None)?;
+        builder.emit(Op::Loop { slot })?;
         begun += 1;
     }
     emit_formula(builder, layout, junction_of(loops.quantifier), body)?;
     let mut ended = 0;
     while ended < count {
-        builder.emit(Op::Next, None)?;
+        builder.emit(Op::Next)?;
         ended += 1;
     }
     Ok(())
@@ -251,13 +247,9 @@ fn emit_inside<'t>(
         if let Some(early) = early_test(left, behind) {
             emit_tested(builder, early.test)?;
             let passed = builder.label()?;
-            let jump = Op::JumpIf {
-                condition: neutral(kind),
-                target: 0,
-            };
-            builder.emit(jump, Some(passed))?;
+            builder.emit_jump(Jump::If(neutral(kind)), passed)?;
             emit_plain(builder, Op::Emit(deciding(kind)))?;
-            builder.emit(Op::Jump { target: 0 }, Some(last))?;
+            builder.emit_jump(Jump::Always, last)?;
             builder.place(passed);
             if early.is_first {
                 left = &behind[0];
@@ -295,11 +287,7 @@ fn emit_outside<'t>(
     let mut behind = rest;
     while let Some(early) = early_test(left, behind) {
         emit_tested(builder, early.test)?;
-        let jump = Op::JumpIf {
-            condition: neutral(around),
-            target: 0,
-        };
-        builder.emit(jump, Some(last))?;
+        builder.emit_jump(Jump::If(neutral(around)), last)?;
         if early.is_first {
             left = &behind[0];
         }

@@ -19,5 +19,6 @@ mod term;
 mod test;
 
 pub use compiler::compile;
-pub use pb_assembler_builder::{Builder, Label};
+pub use pb_assembler_builder::{Builder, Jump, Label};
 pub use pb_assembler_measures::{CompileError, Excess, compile_error};
+pub use pb_bytecode::Limit;

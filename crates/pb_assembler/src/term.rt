@@ -6,12 +6,13 @@ ghost use Rattle.pb_typed_tree.specs.Tree.{Binary};
 ghost use Rattle.pb_typed_tree.specs.View.{calculated, chained, link_views, term_view, term_views};
 ghost use Rattle.pb_assembler_scheme.specs.Pieces.{Plain, Then, Choose};
 ghost use Rattle.pb_assembler_scheme.specs.Scheme.{data_piece, in_order};
+ghost use Rattle.pb_assembler_builder.specs.Draft.{has_target};
 ghost use Rattle.pb_assembler.specs.Emitted.{Emits, connected_behind, nowhere};
 ghost use Rattle.pb_normal.specs.Small.{is_small};
 
 use crate::emission::emit_plain;
 use crate::operator::{arithmetic_op, comparison_op};
-use pb_assembler_builder::Builder;
+use pb_assembler_builder::{Builder, Jump};
 use pb_bytecode_program::{Arithmetic, Connective, Equality, Op};
 use pb_typed_tree::{Link, Term};
 use std::alloc::AllocError;
@@ -92,7 +93,8 @@ pub(crate) fn emit_term(builder: &mut Builder, term: &Term) -> Result<(), AllocE
 /// An operand, then the instruction.
 #[cycle(terms)]
 fn emit_one(builder: &mut Builder, operand: &Term, op: Op) -> Result<(), AllocError>
-    requires { is_small (term_view operand.now) ≡ true }
+    requires small { is_small (term_view operand.now) ≡ true }
+    requires plain { has_target op ≡ false }
     ensures { OnOk result (Emits (Then (data_piece (term_view operand.now))
         (Plain op)) nowhere builder.old builder.new) }
 {
@@ -103,7 +105,8 @@ fn emit_one(builder: &mut Builder, operand: &Term, op: Op) -> Result<(), AllocEr
 /// Two operands in order, then the instruction.
 #[cycle(terms)]
 fn emit_two(builder: &mut Builder, left: &Term, right: &Term, op: Op) -> Result<(), AllocError>
-    requires { is_small (term_view left.now) && is_small (term_view right.now) ≡ true }
+    requires small { is_small (term_view left.now) && is_small (term_view right.now) ≡ true }
+    requires plain { has_target op ≡ false }
     ensures { OnOk result (Emits (in_order op (data_piece (term_view left.now))
         (data_piece (term_view right.now))) nowhere builder.old builder.new) }
 {
@@ -120,7 +123,9 @@ fn emit_beside(
     constant: Op,
     op: Op,
 ) -> Result<(), AllocError>
-    requires { is_small (term_view operand.now) ≡ true }
+    requires small { is_small (term_view operand.now) ≡ true }
+    requires plain { has_target op ≡ false }
+    requires pushed { has_target constant ≡ false }
     ensures { OnOk result (Emits (in_order op (data_piece (term_view operand.now))
         (Plain constant)) nowhere builder.old builder.new) }
 {
@@ -162,13 +167,9 @@ fn emit_choice(
     emit_term(builder, condition)?;
     let other = builder.label()?;
     let last = builder.label()?;
-    let jump = Op::JumpIf {
-        condition: false,
-        target: 0,
-    };
-    builder.emit(jump, Some(other))?;
+    builder.emit_jump(Jump::If(false), other)?;
     emit_term(builder, positive)?;
-    builder.emit(Op::Jump { target: 0 }, Some(last))?;
+    builder.emit_jump(Jump::Always, last)?;
     builder.place(other);
     emit_term(builder, negative)?;
     builder.place(last);

@@ -1,31 +1,39 @@
--- Code in the making: instructions, each with the label of its target if it has one, and the places
--- of the labels so far.
-use Rattle.std.specs.Prelude.{ℕ, suc, Bool, true, false, nat_le, nat_lt, is_some, List, [], ◌∷◌, map, Option, Some, None, unwrap_or, if◌then◌else◌}
+-- Code in the making: instructions, each jump with its label, and the places of the labels so far.
+use Rattle.std.specs.Prelude.{ℕ, suc, Bool, true, false, nat_le, nat_lt, not, is_some, List, [], ◌∷◌, map, Option, Some, None, unwrap_or, if◌then◌else◌}
 use Rattle.std.specs.List.{slice_get, list_all, list_any}
 use Rattle.pb_bytecode_program.specs.declared.instruction.Op.{Op}
 use Rattle.pb_bytecode_program.specs.declared.instruction.Op.TheVariants as op
-
--- an instruction, and the label of its target
-abbrev pub Labelled : Type 0
-Labelled = Op × Option ℕ
+use Rattle.pb_bytecode_program.specs.declared.version.Version.{Version}
+use Rattle.pb_bytecode_program.specs.declared.version.Version.TheVariants as version
+use Rattle.pb_assembler_builder.specs.declared.instruction.Jump.{Jump}
+use Rattle.pb_assembler_builder.specs.declared.instruction.Jump.TheVariants as jump
+use Rattle.pb_assembler_builder.specs.declared.instruction.Instruction.{Instruction}
+use Rattle.pb_assembler_builder.specs.declared.instruction.Instruction.TheVariants as instruction
 
 pub record Draft : Type 0 where
-  pub ops : List Labelled
+  pub ops : List Instruction
   pub places : List (Option ℕ)  -- of each label
 
 -- ---- what is known of labels
 
-abbrev pub is_label : ℕ → Option ℕ → Bool
-is_label n None = true
-is_label n (Some l) = nat_lt l n
+abbrev pub has_target : Op → Bool
+has_target (op.Jump to) = true
+has_target (op.JumpIf condition to) = true
+has_target (op.InRange low high to) = true
+has_target (op.SlotInRange slot low high to) = true
+has_target o = false
+
+-- a jump's label is there, and no other instruction has a target
+abbrev pub is_labelled : ℕ → Instruction → Bool
+is_labelled n (instruction.Plain o) = not (has_target o)
+is_labelled n (instruction.Jump j l) = nat_lt l n
+
+abbrev pub are_labelled : ℕ → List Instruction → Bool
+are_labelled n ops = list_all (is_labelled n) ops
 
 abbrev pub is_at_or_behind : ℕ → Option ℕ → Bool
 is_at_or_behind n None = true
 is_at_or_behind n (Some q) = nat_le q n
-
--- each label that is named is there
-abbrev pub names_labels : ℕ → List Labelled → Bool
-names_labels n ops = list_all (λ (o : Labelled). is_label n o.1) ops
 
 -- no label is placed behind the end
 abbrev pub are_within : ℕ → List (Option ℕ) → Bool
@@ -42,12 +50,12 @@ are_placed places = list_all is_some places
 
 -- ---- what it stands for
 
-abbrev pub with_target : Op → ℕ → Op
-with_target (op.Jump to) q = op.Jump q
-with_target (op.JumpIf condition to) q = op.JumpIf condition q
-with_target (op.InRange low high to) q = op.InRange low high q
-with_target (op.SlotInRange slot low high to) q = op.SlotInRange slot low high q
-with_target o q = o
+-- the jump to a place
+abbrev pub jump_op : Jump → ℕ → Op
+jump_op jump.Always q = op.Jump q
+jump_op (jump.If condition) q = op.JumpIf condition q
+jump_op (jump.InRange low high) q = op.InRange low high q
+jump_op (jump.SlotInRange slot low high) q = op.SlotInRange slot low high q
 
 abbrev pub known_place : Option (Option ℕ) → Option ℕ
 known_place None = None
@@ -60,23 +68,21 @@ label_place places l = known_place (slice_get places l)
 abbrev pub Places : Type 0
 Places = ℕ → Option ℕ
 
-abbrev pub resolved_by : Op → Places → Option ℕ → Op
-resolved_by o place None = o
-resolved_by o place (Some l) = with_target o (unwrap_or (place l) 0)
-
-abbrev pub resolved_op : Places → Labelled → Op
-resolved_op place o = resolved_by o.0 place o.1
+abbrev pub resolved_op : Places → Instruction → Op
+resolved_op place (instruction.Plain o) = o
+resolved_op place (instruction.Jump j l) = jump_op j (unwrap_or (place l) 0)
 
 -- the instructions, each target being its label's place
-abbrev pub resolved : Places → List Labelled → List Op
+abbrev pub resolved : Places → List Instruction → List Op
 resolved place ops = map (resolved_op place) ops
 
 -- ---- versions
 
-abbrev pub is_slot_test : Op → Bool
-is_slot_test (op.SlotInRange slot low high to) = true
-is_slot_test o = false
+-- whether version 1 of the module format lacks the instruction
+abbrev pub is_slot_test : Instruction → Bool
+is_slot_test (instruction.Jump (jump.SlotInRange slot low high) l) = true
+is_slot_test i = false
 
 -- the least version that has all instructions
-abbrev pub needed_version : List Labelled → ℕ
-needed_version ops = if list_any (λ (o : Labelled). is_slot_test o.0) ops then 2 else 1
+abbrev pub needed_version : List Instruction → Version
+needed_version ops = if list_any is_slot_test ops then version.Two else version.One

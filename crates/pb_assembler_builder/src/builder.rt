@@ -1,14 +1,17 @@
 //! Code in the making, whose jumps name labels in place of places.
 
 ghost use Rattle.std.specs.Prelude.{◌≡◌, ◌≤◌, ◌<◌, ◌++◌, ◌∷◌, [], true, false, length, map, IfOk};
-ghost use Rattle.std.specs.Prelude.{IfErr, OnOk, OnErr, Some, None, option_map};
+ghost use Rattle.std.specs.Prelude.{IfErr, OnOk, OnErr, Some, None};
 ghost use Rattle.std.specs.List.{list_any, slice_set};
 ghost use Rattle.pb_limits.specs.declared.TheConstants.{MAX_INSTRUCTIONS};
-ghost use Rattle.pb_assembler_builder.specs.Draft.{are_placed, are_within, is_label};
-ghost use Rattle.pb_assembler_builder.specs.Draft.{is_slot_test, label_place, needed_version};
-ghost use Rattle.pb_assembler_builder.specs.Draft.{resolved, resolved_op, with_target};
+ghost use Rattle.pb_assembler_builder.specs.Draft.{are_placed, are_within, has_target};
+ghost use Rattle.pb_assembler_builder.specs.Draft.{is_labelled, is_slot_test, label_place};
+ghost use Rattle.pb_assembler_builder.specs.Draft.{needed_version, resolved, resolved_op};
+ghost use Rattle.pb_assembler_builder.specs.declared.instruction.Instruction.TheVariants
+    as instruction;
 
-use pb_bytecode_program::Op;
+use crate::instruction::{Instruction, Jump};
+use pb_bytecode_program::{Op, Version};
 use std::alloc::{AllocError, Global};
 use std::marker::Model;
 
@@ -19,78 +22,51 @@ pub struct Label {
 }
 
 /// Instructions in order, and labels for the targets of jumps. Contracts see the instructions, each
-/// with its target's label, and the places of the labels so far (`specs/Draft.antt`).
+/// jump with its label, and the places of the labels so far (`specs/Draft.antt`).
 #[derive(Drop)]
 pub struct Builder {
-    ops: Vec<(Op, Option<usize>)>,
+    ops: Vec<Instruction>,
     places: Vec<Option<usize>>,
 }
 
 impl Model for Builder {
     ghost use Rattle.std.specs.Prelude.{◌≡◌, true, length};
-    ghost use Rattle.pb_assembler_builder.specs.Draft.{Draft, are_within, names_labels};
+    ghost use Rattle.pb_assembler_builder.specs.Draft.{Draft, are_labelled, are_within};
 
     ghost Value = { Draft };
 
     ghost view = { λ builder. record { ops = builder.ops.items; places = builder.places.items } };
 
-    ghost invariant = { λ builder. (names_labels (length builder.places.items) builder.ops.items
+    ghost invariant = { λ builder. (are_labelled (length builder.places.items) builder.ops.items
         ≡ true) × (are_within (length builder.ops.items) builder.places.items ≡ true) };
 }
 
-/// The instruction with this target, where it has a target.
-fn with_target(op: Op, target: u16) -> Op
-    ensures { result ≡ with_target op target }
-{
-    match op {
-        Op::Jump { target: _ } => Op::Jump { target },
-        Op::JumpIf {
-            condition,
-            target: _,
-        } => Op::JumpIf { condition, target },
-        Op::InRange {
-            low,
-            high,
-            target: _,
-        } => Op::InRange { low, high, target },
-        Op::SlotInRange {
-            slot,
-            low,
-            high,
-            target: _,
-        } => Op::SlotInRange {
-            slot,
-            low,
-            high,
-            target,
-        },
-        _ => op,
-    }
-}
-
 /// Whether version 1 of the module format lacks the instruction.
-fn is_slot_test(op: Op) -> bool
-    ensures { result ≡ is_slot_test op }
+fn is_slot_test(instruction: Instruction) -> bool
+    ensures { result ≡ is_slot_test instruction }
 {
-    match op {
-        Op::SlotInRange { .. } => true,
+    match instruction {
+        Instruction::Jump {
+            jump: Jump::SlotInRange { .. },
+            label: _,
+        } => true,
         _ => false,
     }
 }
 
 /// The instruction, its target being its label's place.
-fn resolve(places: &[Option<usize>], op: Op, label: Option<usize>) -> Op
-    requires label { is_label (length places.now) label ≡ true }
+fn resolve(places: &[Option<usize>], instruction: Instruction) -> Op
+    requires label { is_labelled (length places.now) instruction ≡ true }
     requires placed { are_placed places.now ≡ true }
     requires within { are_within MAX_INSTRUCTIONS places.now ≡ true }
-    ensures { result ≡ resolved_op (label_place places.now) (op, label) }
+    ensures { result ≡ resolved_op (label_place places.now) instruction }
 {
-    let Some(label) = label else {
-        return op;
-    };
-    match places[label] {
-        Some(place) => with_target(op, place as u16),
-        None => unreachable!(),
+    match instruction {
+        Instruction::Plain(op) => op,
+        Instruction::Jump { jump, label } => match places[label] {
+            Some(place) => jump.to(place as u16),
+            None => unreachable!(),
+        },
     }
 }
 
@@ -142,22 +118,32 @@ impl Builder {
         }
     }
 
-    /// Adds an instruction, whose target is the label's place.
+    /// Adds an instruction that has no target.
     ///
     /// # Errors
     /// Memory was refused; nothing has changed.
-    pub fn emit(&mut self, op: Op, target: Option<Label>) -> Result<(), AllocError>
-        requires { is_label (length self.old.places) (option_map (λ label. label.number) target)
-            ≡ true }
+    pub fn emit(&mut self, op: Op) -> Result<(), AllocError>
+        requires { has_target op ≡ false }
         ensures ok { OnOk result (self.new ≡ record self.old
-            { ops = self.old.ops ++ (op, option_map (λ label. label.number) target) ∷ [] }) }
+            { ops = self.old.ops ++ instruction.Plain op ∷ [] }) }
         ensures err { OnErr result (self.new ≡ self.old) }
     {
-        let label = match target {
-            Some(label) => Some(label.number),
-            None => None,
-        };
-        self.ops.push((op, label))?;
+        self.ops.push(Instruction::Plain(op))?;
+        Ok(())
+    }
+
+    /// Adds a jump, whose target is the place of a label of this builder.
+    ///
+    /// # Errors
+    /// Memory was refused; nothing has changed.
+    pub fn emit_jump(&mut self, jump: Jump, label: Label) -> Result<(), AllocError>
+        requires { label.number < length self.old.places }
+        ensures ok { OnOk result (self.new ≡ record self.old
+            { ops = self.old.ops ++ instruction.Jump jump label.number ∷ [] }) }
+        ensures err { OnErr result (self.new ≡ self.old) }
+    {
+        let label = label.number;
+        self.ops.push(Instruction::Jump { jump, label })?;
         Ok(())
     }
 
@@ -170,16 +156,22 @@ impl Builder {
 
     /// The version of the module format that the instructions need: 2 exactly where a slot's range
     /// is tested.
-    pub fn version(&self) -> u8
+    pub fn version(&self) -> Version
         ensures { result ≡ needed_version self.now.ops }
     {
-        if self.has_slot_test() { 2 } else { 1 }
+        if self.has_slot_test() {
+            Version::Two
+        } else {
+            Version::One
+        }
     }
 
     fn has_slot_test(&self) -> bool
-        ensures { result ≡ list_any (λ o. is_slot_test o.0) self.now.ops }
+        ensures { result ≡ list_any is_slot_test self.now.ops }
     {
-        self.ops.iter().any(|op| is_slot_test(op.0))
+        self.ops
+            .iter()
+            .any(|instruction| is_slot_test(*instruction))
     }
 
     /// The instructions in order, each target being its label's place.
@@ -207,8 +199,8 @@ impl Builder {
             ≡ resolved (label_place self.now.places) self.now.ops) }
     {
         let mut ops = Vec::with_capacity(*self.ops.allocator(), self.ops.len())?;
-        for (op, label) in &self.ops {
-            let op = resolve(&self.places, *op, *label);
+        for instruction in &self.ops {
+            let op = resolve(&self.places, *instruction);
             ops.push(op)?;
         }
         Ok(ops)

@@ -3,5 +3,7 @@
 #![tactic(auto)]
 
 mod builder;
+mod instruction;
 
 pub use builder::{Builder, Label};
+pub use instruction::Jump;

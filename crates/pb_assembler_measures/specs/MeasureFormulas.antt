@@ -45,7 +45,7 @@ passing l x = record x {
   steps = 1 + (l.instructions + x.steps);
 }
 
--- a test that writes the deciding_tally leaf in place of what follows
+-- a test with the leaf that it writes where it decides, in place of what follows
 abbrev pub deciding_tally : Load → Tally → Tally
 deciding_tally l x = record x {
   instructions = 3 + (l.instructions + x.instructions);

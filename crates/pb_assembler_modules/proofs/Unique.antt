@@ -8,7 +8,7 @@ use Rattle.pb_bytecode_program.specs.Counts.{cost_of, one_step, tokens_of}
 use Rattle.pb_bytecode_program.specs.declared.instruction.Op.{Op}
 use Rattle.pb_bytecode.specs.Contents.{SortContents, EquationContents, Contents}
 use Rattle.pb_bytecode.specs.Meaning.{parameters, program_of}
-use Rattle.pb_bytecode.specs.declared.version.Version.{Version}
+use Rattle.pb_bytecode_program.specs.declared.version.Version.{Version}
 use Rattle.pb_normal.specs.Equations.{normal_equation}
 use Rattle.pb_assembler_scheme.specs.Scheme.{equation_code}
 use Rattle.pb_assembler_modules.specs.Module.{IsEquationOf, AreEquationsOf, IsCompiledModule}

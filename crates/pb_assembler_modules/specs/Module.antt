@@ -4,7 +4,7 @@ use Rattle.std.specs.Prelude.{◌≡◌, ⊤, List, [], ◌∷◌, map}
 use Rattle.std.specs.List.{position_or_len}
 use Rattle.pb_text_meaning.specs.Syntax.{same_name, Enumerator, Sort, Struct, Alias, SortDeclaration, Equation, Spec}
 use Rattle.pb_text_meaning.specs.Value.{values}
-use Rattle.pb_bytecode.specs.declared.version.Version.TheVariants as version
+use Rattle.pb_bytecode_program.specs.declared.version.Version.TheVariants as version
 use Rattle.pb_bytecode.specs.Contents.{SortContents, EquationContents, Contents}
 use Rattle.pb_bytecode.specs.Meaning.{program_of}
 use Rattle.pb_normal.specs.Equations.{normal_equation}

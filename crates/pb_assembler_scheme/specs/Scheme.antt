@@ -102,7 +102,7 @@ under Or And x = bracketed Or x
 
 -- ---- tests
 
--- a test alone: the deciding_leaf leaf, unless the test is what doesn't decide
+-- a test alone: where it decides what it stands in, the leaf that says so
 abbrev pub test_piece : (around : Junction) → Term → Piece
 test_piece around t =
     Then (data_piece t) (Unless (neutral around) (Plain (op.Emit (deciding_leaf around))))

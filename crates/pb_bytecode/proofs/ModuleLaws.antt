@@ -16,8 +16,8 @@ use Rattle.pb_bytecode.specs.Reading.{◌>>=◌, truncated, checked, kept, byte_
 use Rattle.pb_bytecode.proofs.Readers.{IsBytes, IsBytes-append, bind_ok, bind_err, ok_is, Took, shorter, Reads, then, last, close, same_test, reshaped, check, keep, after}
 use Rattle.pb_bytecode.proofs.FieldLaws.{byte_reads, truncated_within, number_reads, wide32, i64_reads}
 use Rattle.std.specs.Prelude.{slice_get}
-use Rattle.pb_bytecode.specs.declared.version.Version.{Version}
-use Rattle.pb_bytecode.specs.declared.version.Version.TheVariants as version
+use Rattle.pb_bytecode_program.specs.declared.version.Version.{Version}
+use Rattle.pb_bytecode_program.specs.declared.version.Version.TheVariants as version
 use Rattle.pb_bytecode.specs.Limits.{fits_op}
 use Rattle.pb_bytecode.specs.Reading.{code_at}
 use Rattle.std.specs.Prelude.{map}

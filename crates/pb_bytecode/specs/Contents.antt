@@ -4,7 +4,7 @@ use Rattle.pb_carriers.specs.Carrier.{Tuple}
 use Rattle.pb_fixpoint.specs.declared.Sign.{Sign}
 use Rattle.pb_sorts.specs.declared.carrier.Carrier.{Carrier}
 use Rattle.pb_bytecode_program.specs.declared.instruction.Op.{Op}
-use Rattle.pb_bytecode.specs.declared.version.Version.{Version}
+use Rattle.pb_bytecode_program.specs.declared.version.Version.{Version}
 
 -- the bytes of a name
 abbrev pub Text : Type 0

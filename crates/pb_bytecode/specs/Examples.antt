@@ -6,7 +6,7 @@ use Rattle.pb_trees.specs.Tree.{Single, Yes, No, Call}
 use Rattle.pb_trees.specs.Examples.{tree_at}
 use Rattle.pb_sorts.specs.declared.carrier.Carrier.{Carrier}
 use Rattle.pb_sorts.specs.declared.carrier.Carrier.TheVariants as carrier
-use Rattle.pb_bytecode.specs.declared.version.Version.TheVariants as version
+use Rattle.pb_bytecode_program.specs.declared.version.Version.TheVariants as version
 use Rattle.pb_bytecode.specs.Contents.{EquationContents, Contents}
 use Rattle.pb_bytecode.specs.Meaning.{answer}
 

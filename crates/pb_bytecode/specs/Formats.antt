@@ -6,8 +6,8 @@ use Rattle.pb_bytecode_program.specs.declared.instruction.Comparison.TheVariants
 use Rattle.pb_bytecode_program.specs.declared.instruction.Connective.TheVariants as connective
 use Rattle.pb_bytecode_program.specs.declared.instruction.Equality.TheVariants as equality
 use Rattle.pb_bytecode_program.specs.declared.instruction.Leaf.TheVariants as leaf
-use Rattle.pb_bytecode.specs.declared.version.Version.{Version}
-use Rattle.pb_bytecode.specs.declared.version.Version.TheVariants as version
+use Rattle.pb_bytecode_program.specs.declared.version.Version.{Version}
+use Rattle.pb_bytecode_program.specs.declared.version.Version.TheVariants as version
 use Rattle.pb_bytecode.specs.declared.format.Format.{Format}
 use Rattle.pb_bytecode.specs.declared.format.Format.TheVariants as format
 

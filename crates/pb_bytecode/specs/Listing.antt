@@ -34,7 +34,7 @@ line word words = word ++ line_end words
 abbrev pub count_line : Text → ℕ → List ℕ
 count_line label n = line label (decimal n ∷ [])
 
--- what is written of each item, which are numbered_lines from n on
+-- what is written of each item; the items are numbered from n on
 abbrev pub numbered_lines : {A : Type 0} → (ℕ → A → List ℕ) → ℕ → List A → List ℕ
 numbered_lines item n [] = []
 numbered_lines item n (x ∷ xs) = item n x ++ numbered_lines item (suc n) xs

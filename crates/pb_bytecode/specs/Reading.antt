@@ -16,8 +16,8 @@ use Rattle.pb_sorts.specs.declared.carrier.Carrier.TheVariants as carrier
 use Rattle.pb_bytecode_program.specs.declared.instruction.Op.{Op}
 use Rattle.pb_bytecode_program.specs.declared.instruction.Op.TheVariants as op
 use Rattle.pb_bytecode_program.proofs.Ints.{le_true}
-use Rattle.pb_bytecode.specs.declared.version.Version.{Version}
-use Rattle.pb_bytecode.specs.declared.version.Version.TheVariants as version
+use Rattle.pb_bytecode_program.specs.declared.version.Version.{Version}
+use Rattle.pb_bytecode_program.specs.declared.version.Version.TheVariants as version
 use Rattle.pb_bytecode.specs.declared.format.Format.{Format}
 use Rattle.pb_bytecode.specs.declared.format.Format.TheVariants as format
 use Rattle.pb_bytecode.specs.declared.fault.ModuleRule.{ModuleRule}

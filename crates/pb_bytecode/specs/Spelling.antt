@@ -19,8 +19,8 @@ use Rattle.pb_bytecode_program.specs.declared.instruction.Equality.{Equality}
 use Rattle.pb_bytecode_program.specs.declared.instruction.Equality.TheVariants as equality
 use Rattle.pb_bytecode_program.specs.declared.instruction.Leaf.{Leaf}
 use Rattle.pb_bytecode_program.specs.declared.instruction.Leaf.TheVariants as leaf
-use Rattle.pb_bytecode.specs.declared.version.Version.{Version}
-use Rattle.pb_bytecode.specs.declared.version.Version.TheVariants as version
+use Rattle.pb_bytecode_program.specs.declared.version.Version.{Version}
+use Rattle.pb_bytecode_program.specs.declared.version.Version.TheVariants as version
 use Rattle.pb_bytecode.specs.Contents.{Text, SortContents, EquationContents, InitialContents, Contents}
 
 -- ---- numbers and lists

@@ -1,6 +1,6 @@
 -- What the parts of a module say, without where they lie in memory.
 use Rattle.std.specs.Prelude.{List, map, string_bytes}
-use Rattle.pb_bytecode.specs.declared.version.Version.{Version}
+use Rattle.pb_bytecode_program.specs.declared.version.Version.{Version}
 use Rattle.pb_bytecode.specs.declared.name.Name.{Name}
 use Rattle.pb_bytecode.specs.declared.sort.Sort.{Sort}
 use Rattle.pb_bytecode.specs.declared.equation.Equation.{Equation}

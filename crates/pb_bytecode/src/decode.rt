@@ -14,7 +14,7 @@ use crate::initial::Initial;
 use crate::module::Module;
 use crate::reading::{equations_at, fault, initial_at, sizes_of, sorts_at, truncated, u8_at};
 use crate::sort::Sort;
-use crate::version::Version;
+use pb_bytecode_program::Version;
 use std::alloc::Global;
 
 /// The first bytes of a module.

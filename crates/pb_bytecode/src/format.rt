@@ -2,8 +2,7 @@
 ghost use Rattle.std.specs.Prelude.{◌≡◌};
 ghost use Rattle.pb_bytecode.specs.Formats.{format_of};
 
-use crate::version::Version;
-use pb_bytecode_program::{Arithmetic, Comparison, Connective, Equality, Leaf, Op};
+use pb_bytecode_program::{Arithmetic, Comparison, Connective, Equality, Leaf, Op, Version};
 
 /// What follows an instruction's code.
 #[derive(Clone, Copy, Debug)]

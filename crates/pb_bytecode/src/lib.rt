@@ -18,7 +18,6 @@ pub mod module;
 pub mod name;
 mod reading;
 pub mod sort;
-pub mod version;
 
 pub use equation::Equation;
 pub use fault::{ModuleError, ModuleFault, ModuleRule};
@@ -26,5 +25,5 @@ pub use initial::Initial;
 pub use limit::Limit;
 pub use module::Module;
 pub use name::{Name, is_name};
+pub use pb_bytecode_program::{Arithmetic, Comparison, Connective, Equality, Leaf, Op, Version};
 pub use sort::Sort;
-pub use version::Version;

@@ -6,7 +6,7 @@ ghost use Rattle.pb_bytecode.specs.Views.{contents_of};
 use crate::equation::Equation;
 use crate::initial::Initial;
 use crate::sort::Sort;
-use crate::version::Version;
+use pb_bytecode_program::Version;
 
 /// A system of parameterised Boolean equations in compiled form. Its fields are within the limits
 /// of the format, so that it has a spelling; whether its code is accepted is a verifier's matter.

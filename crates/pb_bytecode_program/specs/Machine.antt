@@ -123,7 +123,7 @@ abbrev pub fault_or : Option MachineFault → Outcome → Outcome
 fault_or None next = next
 fault_or (Some f) next = Faults f
 
--- the arguments of a call_instance, from the last one down
+-- the arguments of a call, from the last one down
 abbrev pub pop_args : List Carrier → List TaggedValue → List TaggedValue
     → (List TaggedValue → List TaggedValue → Outcome)
     → Outcome

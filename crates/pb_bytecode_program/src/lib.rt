@@ -9,7 +9,9 @@
 pub mod domain;
 pub mod instruction;
 pub mod laws;
+pub mod version;
 
 pub use domain::AbstractValue;
 pub use instruction::{Arithmetic, Comparison, Connective, Equality, Leaf, Op};
 pub use laws::{accepted_is_safe, transfer_is_monotone};
+pub use version::Version;

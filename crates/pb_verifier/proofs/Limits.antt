@@ -11,7 +11,7 @@ use Rattle.pb_bytecode_program.proofs.Ints.{le_true}
 use Rattle.pb_bytecode_program.specs.Monotone.{HasOrderedRange}
 use Rattle.pb_bytecode_program.specs.declared.instruction.Op.{Op}
 use Rattle.pb_bytecode_program.specs.declared.instruction.Op.TheVariants as op
-use Rattle.pb_bytecode.specs.declared.version.Version.{Version}
+use Rattle.pb_bytecode_program.specs.declared.version.Version.{Version}
 use Rattle.pb_bytecode.specs.Contents.{EquationContents, Contents, counts}
 use Rattle.pb_bytecode.specs.Meaning.{parameters, program_of}
 use Rattle.pb_bytecode.specs.Names.{is_module_name}

@@ -15,6 +15,7 @@ pub mod verified;
 pub mod verify_error;
 mod visit;
 
+pub use pb_verifier_states::AcceptanceRule;
 pub use verification::verify;
 pub use verified::Verified;
 pub use verify_error::{CodeFault, VerifyError};

@@ -14,7 +14,7 @@ pub struct Edges {
 
 impl Edges {
     /// To the next place alone.
-    pub fn next(state: AbstractState) -> Edges
+    pub(crate) fn next(state: AbstractState) -> Edges
         ensures { result ≡ record { next = Some state; jump = None } }
     {
         Edges {
@@ -24,7 +24,7 @@ impl Edges {
     }
 
     /// To the target alone.
-    pub fn jump(target: u16, state: AbstractState) -> Edges
+    pub(crate) fn jump(target: u16, state: AbstractState) -> Edges
         ensures { result ≡ record { next = None; jump = Some (target, state) } }
     {
         Edges {
@@ -34,7 +34,7 @@ impl Edges {
     }
 
     /// Nowhere: the end.
-    pub fn none() -> Edges
+    pub(crate) fn none() -> Edges
         ensures { result ≡ record { next = None; jump = None } }
     {
         Edges {

@@ -11,9 +11,9 @@ ghost use Rattle.pb_bytecode_program.specs.Machine.{Program};
 ghost use Rattle.pb_bytecode_program.specs.Transfer.{AbstractState as Known, to_next_place};
 ghost use Rattle.pb_bytecode_program.specs.Transfer.{transfer};
 
-pub mod control;
-pub mod data;
-pub mod tree;
+mod control;
+mod data;
+mod tree;
 
 use crate::edges::Edges;
 use pb_bytecode_program::{AbstractValue, Op};

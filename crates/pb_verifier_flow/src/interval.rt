@@ -10,7 +10,7 @@ use pb_intervals::Interval;
 
 /// The results for a first operand in `a` and a second one in `b`, or `None` where an end lies
 /// outside 64 bits. A divisor is at least 1.
-pub fn results(operator: Arithmetic, a: Interval, b: Interval) -> Option<Interval>
+pub(crate) fn results(operator: Arithmetic, a: Interval, b: Interval) -> Option<Interval>
     requires { divides operator ≡ true → pos 1 ≤ℤ b.low }
     ensures { result ≡ fitting (interval_of operator a.low a.high b.low b.high) }
 {
@@ -27,14 +27,14 @@ pub fn results(operator: Arithmetic, a: Interval, b: Interval) -> Option<Interva
 }
 
 /// The negatives of the numbers in `a`, or `None` where an end lies outside 64 bits.
-pub fn negatives(a: Interval) -> Option<Interval>
+pub(crate) fn negatives(a: Interval) -> Option<Interval>
     ensures { result ≡ fitting (neg_ℤ a.high, neg_ℤ a.low) }
 {
     a.negation(Interval::words())
 }
 
 /// The absolute values of the numbers in `a`, or `None` where an end lies outside 64 bits.
-pub fn absolute_values(a: Interval) -> Option<Interval>
+pub(crate) fn absolute_values(a: Interval) -> Option<Interval>
     ensures { result ≡ fitting (absolute_interval a.low a.high) }
 {
     a.absolute_value(Interval::words())

@@ -5,7 +5,7 @@
 
 pub mod edges;
 pub mod flow;
-pub mod interval;
+mod interval;
 pub mod laws;
 
 pub use edges::Edges;

@@ -6,8 +6,7 @@ ghost use Rattle.pb_bytecode.specs.Reading.{op_at, operands_at, slot_test_at, te
 use super::numbers::{between_at, bounds_at, fault, i64_at, u8_at, u16_at};
 use crate::fault::{FieldFault, ModuleRule, ReadError};
 use crate::format::{Format, format_of};
-use crate::version::Version;
-use pb_bytecode_program::Op;
+use pb_bytecode_program::{Op, Version};
 use std::alloc::Global;
 
 /// A sort and the place of one of its enumerators.

@@ -19,7 +19,10 @@ use pb_verifier_states::rule::AcceptanceRule;
 use pb_verifier_states::state::AbstractState;
 use std::alloc::Global;
 
-pub fn push(mut state: AbstractState, value: AbstractValue) -> Result<AbstractState, FlowError>
+pub(crate) fn push(
+    mut state: AbstractState,
+    value: AbstractValue,
+) -> Result<AbstractState, FlowError>
     requires { HasOrderedEnds value }
     ensures flows { IfOk result (λ k. (q : ℕ)
         → abstract_push q state state.operands value ≡ to_next_place q k) }
@@ -32,7 +35,7 @@ pub fn push(mut state: AbstractState, value: AbstractValue) -> Result<AbstractSt
 }
 
 /// Pushes an enumerator of one of the sorts, of which `sorts` has the counts of enumerators.
-pub fn push_enum(
+pub(crate) fn push_enum(
     state: AbstractState,
     sorts: &[u8],
     sort: u8,
@@ -63,7 +66,7 @@ fn enumerators(sorts: &[u8], sort: u8) -> Option<u8>
 }
 
 /// Pushes a slot's value.
-pub fn get(state: AbstractState, slot: u8) -> Result<AbstractState, FlowError>
+pub(crate) fn get(state: AbstractState, slot: u8) -> Result<AbstractState, FlowError>
     ensures flows { IfOk result (GoesOn (op.Get slot) state) }
     ensures refused { OnRefused result (Fails (op.Get slot) state) }
     ensures rule { IfRefused result (IsNamed (op.Get slot) state) }
@@ -75,7 +78,7 @@ pub fn get(state: AbstractState, slot: u8) -> Result<AbstractState, FlowError>
 }
 
 /// Jumps where a truth value is the condition.
-pub fn jump_if(
+pub(crate) fn jump_if(
     mut state: AbstractState,
     alloc: Global,
     condition: bool,
@@ -95,7 +98,7 @@ pub fn jump_if(
 
 /// Goes on where the number on top is one of the range, and else jumps. A way that its interval
 /// excludes is not taken.
-pub fn in_range(
+pub(crate) fn in_range(
     mut state: AbstractState,
     alloc: Global,
     range: Interval,
@@ -125,7 +128,7 @@ pub fn in_range(
 
 /// Goes on where the number in the slot is one of the range, and else jumps. A way that its
 /// interval excludes is not taken.
-pub fn slot_in_range(
+pub(crate) fn slot_in_range(
     mut state: AbstractState,
     alloc: Global,
     slot: u8,

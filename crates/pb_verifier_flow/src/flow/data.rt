@@ -15,7 +15,7 @@ use pb_verifier_states::rule::AcceptanceRule;
 use pb_verifier_states::state::AbstractState;
 use pb_verifier_states::value::{are_of_one_kind, numbers};
 
-pub fn pop(mut state: AbstractState) -> Result<AbstractState, AcceptanceRule>
+pub(crate) fn pop(mut state: AbstractState) -> Result<AbstractState, AcceptanceRule>
     ensures flows { IfOk result (GoesOn op.Pop state) }
     ensures err { OnErr result (Fails op.Pop state) }
     ensures rule { IfErr result (IsNamed op.Pop state) }
@@ -25,7 +25,7 @@ pub fn pop(mut state: AbstractState) -> Result<AbstractState, AcceptanceRule>
 }
 
 /// An operator on two numbers, whose result is within 64 bits (V04).
-pub fn arithmetic(
+pub(crate) fn arithmetic(
     mut state: AbstractState,
     operator: Arithmetic,
 ) -> Result<AbstractState, FlowError>
@@ -54,7 +54,7 @@ fn may_be_no_divisor(operator: Arithmetic, b: Interval) -> bool
 }
 
 /// The negative of a number.
-pub fn negate(mut state: AbstractState) -> Result<AbstractState, FlowError>
+pub(crate) fn negate(mut state: AbstractState) -> Result<AbstractState, FlowError>
     ensures flows { IfOk result (GoesOn op.Negate state) }
     ensures refused { OnRefused result (Fails op.Negate state) }
     ensures rule { IfRefused result (IsNamed op.Negate state) }
@@ -68,7 +68,7 @@ pub fn negate(mut state: AbstractState) -> Result<AbstractState, FlowError>
 }
 
 /// The absolute value of a number.
-pub fn absolute(mut state: AbstractState) -> Result<AbstractState, FlowError>
+pub(crate) fn absolute(mut state: AbstractState) -> Result<AbstractState, FlowError>
     ensures flows { IfOk result (GoesOn op.Absolute state) }
     ensures refused { OnRefused result (Fails op.Absolute state) }
     ensures rule { IfRefused result (IsNamed op.Absolute state) }
@@ -82,7 +82,10 @@ pub fn absolute(mut state: AbstractState) -> Result<AbstractState, FlowError>
 }
 
 /// Whether two numbers stand in an order.
-pub fn compare(mut state: AbstractState, order: Comparison) -> Result<AbstractState, FlowError>
+pub(crate) fn compare(
+    mut state: AbstractState,
+    order: Comparison,
+) -> Result<AbstractState, FlowError>
     ensures flows { IfOk result (GoesOn (op.Compare order) state) }
     ensures refused { OnRefused result (Fails (op.Compare order) state) }
     ensures rule { IfRefused result (IsNamed (op.Compare order) state) }
@@ -95,7 +98,10 @@ pub fn compare(mut state: AbstractState, order: Comparison) -> Result<AbstractSt
 }
 
 /// Whether two values of one kind are equal, or different.
-pub fn equality(mut state: AbstractState, wanted: Equality) -> Result<AbstractState, FlowError>
+pub(crate) fn equality(
+    mut state: AbstractState,
+    wanted: Equality,
+) -> Result<AbstractState, FlowError>
     ensures flows { IfOk result (GoesOn (op.Equality wanted) state) }
     ensures refused { OnRefused result (Fails (op.Equality wanted) state) }
     ensures rule { IfRefused result (IsNamed (op.Equality wanted) state) }
@@ -110,7 +116,7 @@ pub fn equality(mut state: AbstractState, wanted: Equality) -> Result<AbstractSt
 }
 
 /// The negation of a truth value.
-pub fn negation(mut state: AbstractState) -> Result<AbstractState, FlowError>
+pub(crate) fn negation(mut state: AbstractState) -> Result<AbstractState, FlowError>
     ensures flows { IfOk result (GoesOn op.Not state) }
     ensures refused { OnRefused result (Fails op.Not state) }
     ensures rule { IfRefused result (IsNamed op.Not state) }
@@ -121,7 +127,10 @@ pub fn negation(mut state: AbstractState) -> Result<AbstractState, FlowError>
 }
 
 /// A conjunction or a disjunction of two truth values.
-pub fn logic(mut state: AbstractState, connective: Connective) -> Result<AbstractState, FlowError>
+pub(crate) fn logic(
+    mut state: AbstractState,
+    connective: Connective,
+) -> Result<AbstractState, FlowError>
     ensures flows { IfOk result (GoesOn (op.Logic connective) state) }
     ensures refused { OnRefused result (Fails (op.Logic connective) state) }
     ensures rule { IfRefused result (IsNamed (op.Logic connective) state) }

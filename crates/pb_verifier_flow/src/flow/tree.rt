@@ -13,7 +13,7 @@ use pb_verifier_states::rule::AcceptanceRule;
 use pb_verifier_states::state::AbstractState;
 
 /// Opens a bracket.
-pub fn open(
+pub(crate) fn open(
     mut state: AbstractState,
     connective: Connective,
 ) -> Result<AbstractState, AcceptanceRule>
@@ -28,7 +28,7 @@ pub fn open(
 }
 
 /// Closes a bracket.
-pub fn close(mut state: AbstractState) -> Result<AbstractState, AcceptanceRule>
+pub(crate) fn close(mut state: AbstractState) -> Result<AbstractState, AcceptanceRule>
     ensures flows { IfOk result (GoesOn op.Close state) }
     ensures err { OnErr result (Fails op.Close state) }
     ensures rule { IfErr result (IsNamed op.Close state) }
@@ -38,7 +38,7 @@ pub fn close(mut state: AbstractState) -> Result<AbstractState, AcceptanceRule>
 }
 
 /// Writes a leaf.
-pub fn emit(mut state: AbstractState, leaf: Leaf) -> Result<AbstractState, AcceptanceRule>
+pub(crate) fn emit(mut state: AbstractState, leaf: Leaf) -> Result<AbstractState, AcceptanceRule>
     ensures flows { IfOk result (GoesOn (op.Emit leaf) state) }
     ensures err { OnErr result (Fails (op.Emit leaf) state) }
     ensures rule { IfErr result (IsNamed (op.Emit leaf) state) }
@@ -48,7 +48,7 @@ pub fn emit(mut state: AbstractState, leaf: Leaf) -> Result<AbstractState, Accep
 }
 
 /// Writes a call of an equation; `callees` has the carriers of each one's parameters.
-pub fn call(
+pub(crate) fn call(
     state: AbstractState,
     callees: &[Vec<Carrier>],
     equation: u8,

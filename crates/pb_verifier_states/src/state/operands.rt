@@ -67,7 +67,7 @@ impl AbstractState {
         Ok(self.operands.remove(0))
     }
 
-    /// Pushes an operand, or refuses one more than `MAX_OPERANDS` (V10).
+    /// Pops a number. After a refusal the operand may be gone: the state is of no more use.
     pub fn pop_int(&mut self) -> Result<Interval, AcceptanceRule>
         ensures ok { IfOk result (λ i. self.old
             ≡ record self.new { operands = abstract.Int i.low i.high ∷ self.new.operands }) }
@@ -82,6 +82,7 @@ impl AbstractState {
         }
     }
 
+    /// Pops a truth value. After a refusal the operand may be gone: the state is of no more use.
     pub fn pop_bool(&mut self) -> Result<(), AcceptanceRule>
         ensures ok { OnOk result
             (self.old ≡ record self.new { operands = abstract.Bool ∷ self.new.operands }) }
@@ -141,7 +142,8 @@ impl AbstractState {
         Ok(())
     }
 
-    /// Pops the arguments of a call, the last one first: each is one of its carrier (V08).
+    /// Pops the arguments of a call, the last one first: each is one of its carrier (V08). After a
+    /// refusal some may be gone: the state is of no more use.
     pub fn pop_arguments(&mut self, carriers: &[Carrier]) -> Result<(), AcceptanceRule>
         requires { length carriers.now ≤ length self.old.operands }
         ensures ok { OnOk result ((go : List domain → Flow)

@@ -1,13 +1,14 @@
 use Rattle.std.proofs.Common.{◌∙◌, refl, true, false, sym, ap, Option, Some, None, option_map, map, ◌∷◌, [], ◌++◌, SFits, w32, to_z, of_z, to_z-of_z, arith}
 use Rattle.std.specs.Prelude.{ℤ}
 use Rattle.std.proofs.lemmas.List.{nil_from_length}
-use Rattle.pb_bytecode_program.specs.declared.instruction.Op.TheVariants as op
 use Rattle.pb_assembler_builder.specs.Draft.{Draft}
 use Rattle.pb_sorts.specs.declared.carrier.Range.{Range}
 use Rattle.pb_normal.specs.View.{argument_view}
 use Rattle.pb_assembler_scheme.specs.Scheme.{arguments_piece}
 use Rattle.pb_assembler.specs.Emitted.{block_end, called_piece}
 use Rattle.pb_assembler_builder.specs.declared.builder.Label.{Label}
+use Rattle.pb_assembler_builder.specs.declared.instruction.Instruction.TheVariants as instruction
+use Rattle.pb_assembler_builder.specs.declared.instruction.Jump.TheVariants as jump
 use Rattle.pb_assembler.proofs.Calls.{argument_alone, argument_first, popped}
 use Rattle.pb_assembler.proofs.Emitting.{adds_from, guard_emitted, on_ok}
 use Rattle.pb_assembler.proofs.call.+calls.Goals as goal
@@ -54,8 +55,8 @@ emit_tested-returns t c =
     let low_fits : SFits w32 c.args.range.low = record { sfits = omega arith } in
     let high_fits : SFits w32 c.args.range.high = record { sfits = omega arith } in
     let d = c.label.new.self in
-    let made : ℤ → ℤ → Draft = λ low high. record d { ops = d.ops ++ (op.InRange low high 0, Some c.in_ok-outside.outside.number) ∷ [] } in
-    let added = c.in_ok-emit.ensures.ok ∙ ap (λ i. made i (to_z w32 (of_z w32 c.args.range.high))) (to_z-of_z low_fits) ∙ ap (λ i. made c.args.range.low i) (to_z-of_z high_fits) in
-    on_ok (c.emit-2).result _ _ (c.emit-2).ensures.ok (λ h.
-    guard_emitted c.args.range.low c.args.range.high rest (block_end l) 0 c.args.builder.now c.label.new.self c.emit.new.self c.emit_arguments.new.builder c.place.new.self (c.emit-2).new.self
-    c.in_ok-outside.outside.number c.in_ok-outside.ensures.label c.in_ok-outside.ensures.ok added c.in_ok-emit_arguments.ensures c.place.ensures (adds_from c.place.new.self (c.emit-2).new.self _ h))
+    let made : ℤ → ℤ → Draft = λ low high. record d { ops = d.ops ++ instruction.Jump (jump.InRange low high) c.in_ok-outside.outside.number ∷ [] } in
+    let added = c.in_ok-emit_jump.ensures.ok ∙ ap (λ i. made i (to_z w32 (of_z w32 c.args.range.high))) (to_z-of_z low_fits) ∙ ap (λ i. made c.args.range.low i) (to_z-of_z high_fits) in
+    on_ok c.emit.result _ _ c.emit.ensures.ok (λ h.
+    guard_emitted c.args.range.low c.args.range.high rest (block_end l) c.args.builder.now c.label.new.self c.emit_jump.new.self c.emit_arguments.new.builder c.place.new.self c.emit.new.self
+    c.in_ok-outside.outside.number c.in_ok-outside.ensures.label c.in_ok-outside.ensures.ok added c.in_ok-emit_arguments.ensures c.place.ensures (adds_from c.place.new.self c.emit.new.self _ h))

@@ -117,7 +117,7 @@ emit_inside-loop-behind-preserved-in-Some t c =
     let l = c.in_ok-last.last.number in
     let d0 = c.args.builder.now in
     let leaf = Plain (op.Emit (deciding_leaf m)) in
-    let jumps = rw c.neutral.ensures at c.in_ok-emit.ensures.ok in
+    let jumps = rw c.neutral.ensures at c.in_ok-emit_jump.ensures.ok in
     let same = test_step cs m m (formula_view left) (formula_views behind) (Some r) r refl s.ensures.views ∙ tested_own m (tested_term s.early.test) rest in
     let a1 = subst (λ (q : Piece). Awaits whole q l d0 c.loop-behind.builder) same i.awaits in
     let a2 = awaits_then whole (data_piece (tested_term s.early.test)) (Choose (neutral m) leaf rest) l d0 c.loop-behind.builder c.emit_tested.new.builder a1 c.in_ok-emit_tested.ensures in
@@ -131,10 +131,10 @@ emit_inside-loop-behind-preserved-in-Some t c =
       | emit_inside-else-early w ↦ rw w.left-is (first_left s.early.is_first left behind w.if-early.false)
     ] in
     are_left cs m m c.args.first.now c.args.rest.now l d0 c.place.new.self other c.if-early.left.now behind moved (record {
-      awaits = awaits_choose whole (neutral m) leaf rest 0 0 l c.in_ok-passed.passed.number d0 c.emit_tested.new.builder c.label-in-Some.new.self c.emit.new.self c.emit_plain.new.builder c.emit-in-Some.new.self c.place.new.self a2
+      awaits = awaits_choose whole (neutral m) leaf rest l c.in_ok-passed.passed.number d0 c.emit_tested.new.builder c.label-in-Some.new.self c.emit_jump.new.self c.emit_plain.new.builder c.emit_jump-in-Some.new.self c.place.new.self a2
           c.in_ok-passed.ensures.label c.in_ok-passed.ensures.ok jumps
-          (subst (λ (z : Leaf). Emits (Plain (op.Emit z)) nowhere c.emit.new.self c.emit_plain.new.builder) c.deciding.ensures c.in_ok-emit_plain.ensures)
-          (c.in_ok-emit-2).ensures.ok c.place.ensures;
+          (subst (λ (z : Leaf). Emits (Plain (op.Emit z)) nowhere c.emit_jump.new.self c.emit_plain.new.builder) c.deciding.ensures c.in_ok-emit_plain.ensures)
+          (c.in_ok-emit_jump-2).ensures.ok c.place.ensures;
       small = (test_small m (formula_view left) (formula_views behind) (Some r) r refl s.ensures.views i.small).1;
       lighter = omega (arith, w1, w2);
     })
@@ -241,8 +241,8 @@ emit_outside-loop-early-preserved t c =
       | emit_outside-then-early w ↦ rw w.left-is (second_left s.early.is_first left behind w.index-behind-0.result w.if-early.true some w.index-behind-0.is)
       | emit_outside-else-early w ↦ rw w.left-is (first_left s.early.is_first left behind w.if-early.false)
     ] in
-    are_left cs m a c.args.first.now c.args.rest.now l d0 c.emit.new.self other c.if-early.left.now behind moved (record {
-      awaits = awaits_unless whole (neutral a) rest 0 l d0 c.emit_tested.new.builder c.emit.new.self a2 (rw c.neutral.ensures at c.in_ok-emit.ensures.ok);
+    are_left cs m a c.args.first.now c.args.rest.now l d0 c.emit_jump.new.self other c.if-early.left.now behind moved (record {
+      awaits = awaits_unless whole (neutral a) rest l d0 c.emit_tested.new.builder c.emit_jump.new.self a2 (rw c.neutral.ensures at c.in_ok-emit_jump.ensures.ok);
       small = (test_small m (formula_view left) (formula_views behind) (Some r) r refl s.ensures.views i.small).1;
       lighter = omega (arith, w1, w2);
     })

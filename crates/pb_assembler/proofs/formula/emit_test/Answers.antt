@@ -13,7 +13,7 @@ returns c =
     let m = c.args.around in
     let leaf = Plain (op.Emit (deciding_leaf m)) in
     emits_then (data_piece (tested_term c.args.test)) (Unless (neutral m) leaf) nowhere c.args.builder.now c.emit_tested.new.builder c.place.new.self c.in_ok-emit_tested.ensures
-    (unless_emitted (neutral m) leaf nowhere 0 c.emit_tested.new.builder c.label.new.self c.emit.new.self c.emit_plain.new.builder c.place.new.self c.in_ok-passed.passed.number
-    c.in_ok-passed.ensures.label c.in_ok-passed.ensures.ok (rw c.neutral.ensures at c.in_ok-emit.ensures.ok)
-    (subst (λ (f : Leaf). Emits (Plain (op.Emit f)) nowhere c.emit.new.self c.emit_plain.new.builder) c.deciding.ensures c.in_ok-emit_plain.ensures)
+    (unless_emitted (neutral m) leaf nowhere c.emit_tested.new.builder c.label.new.self c.emit_jump.new.self c.emit_plain.new.builder c.place.new.self c.in_ok-passed.passed.number
+    c.in_ok-passed.ensures.label c.in_ok-passed.ensures.ok (rw c.neutral.ensures at c.in_ok-emit_jump.ensures.ok)
+    (subst (λ (f : Leaf). Emits (Plain (op.Emit f)) nowhere c.emit_jump.new.self c.emit_plain.new.builder) c.deciding.ensures c.in_ok-emit_plain.ensures)
     c.place.ensures)

@@ -37,17 +37,17 @@ pub emit_comparison-returns : goal.emit_comparison-returns
 emit_comparison-returns t c =
     let x = data_piece (term_view c.args.left.now) in
     let y = data_piece (term_view c.args.right.now) in
-    subst (λ (q : Piece). OnOk c.emit_two.result (Emits q nowhere c.args.builder.now c.emit_two.new.builder)) (c.comparison_op-op.ensures x y) c.emit_two.ensures
+    subst (λ (q : Piece). OnOk c.emit_two.result (Emits q nowhere c.args.builder.now c.emit_two.new.builder)) (c.comparison_op-op.ensures.order x y) c.emit_two.ensures
 
 pub emit_choice-returns : goal.emit_choice-returns
 emit_choice-returns t c =
     let x = data_piece (term_view c.args.positive.now) in
     let y = data_piece (term_view c.args.negative.now) in
     emits_then (data_piece (term_view c.args.condition.now)) (Choose false x y) nowhere c.args.builder.now c.emit_term.new.builder (c.place-2).new.self c.in_ok-emit_term.ensures
-    (choice_emitted false x y nowhere 0 0 c.emit_term.new.builder c.label.new.self (c.label-2).new.self c.emit.new.self (c.emit_term-2).new.builder (c.emit-2).new.self c.place.new.self (c.emit_term-3).new.builder (c.place-2).new.self
+    (choice_emitted false x y nowhere c.emit_term.new.builder c.label.new.self (c.label-2).new.self c.emit_jump.new.self (c.emit_term-2).new.builder (c.emit_jump-2).new.self c.place.new.self (c.emit_term-3).new.builder (c.place-2).new.self
     c.in_ok-other.other.number c.in_ok-last.last.number
     c.in_ok-other.ensures.label c.in_ok-other.ensures.ok c.in_ok-last.ensures.label c.in_ok-last.ensures.ok
-    c.in_ok-emit.ensures.ok (c.in_ok-emit_term-2).ensures (c.in_ok-emit-2).ensures.ok c.place.ensures (c.in_ok-emit_term-3).ensures (c.place-2).ensures)
+    c.in_ok-emit_jump.ensures.ok (c.in_ok-emit_term-2).ensures (c.in_ok-emit_jump-2).ensures.ok c.place.ensures (c.in_ok-emit_term-3).ensures (c.place-2).ensures)
 
 -- ---- arithmetic
 
@@ -57,7 +57,10 @@ emit_arithmetic-emit_term-requires t c = (omega (arith, c.decreases), small_head
 pub emit_arithmetic-emit_one-requires : goal.emit_arithmetic-emit_one-requires
 emit_arithmetic-emit_one-requires t c = (
   omega (arith, c.decreases, link_lighter c.args.links.now c.loop-link.link-index c.link-item.result c.loop-link-test.true c.link-item.is),
-  small_operand (term_view c.args.first.now) c.args.links.now c.loop-link.link-index c.link-item.result c.loop-link-test.true c.link-item.is c.requires,
+  (
+    small_operand (term_view c.args.first.now) c.args.links.now c.loop-link.link-index c.link-item.result c.loop-link-test.true c.link-item.is c.requires,
+    c.arithmetic_op.ensures.plain,
+  ),
 )
 
 pub emit_arithmetic-loop-link-preserved : goal.emit_arithmetic-loop-link-preserved
@@ -68,7 +71,7 @@ emit_arithmetic-loop-link-preserved t c =
     let l = c.link-item.result in
     let x = data_piece (calculated first (link_views (take k links))) in
     let y = data_piece (term_view l.operand) in
-    let same = ap (λ n. data_piece (calculated first (link_views (take n links)))) (add-one k) ∙ ap data_piece (calculated_more first links k l c.loop-link-test.true c.link-item.is) ∙ sym (c.arithmetic_op.ensures x y) in
+    let same = ap (λ n. data_piece (calculated first (link_views (take n links)))) (add-one k) ∙ ap data_piece (calculated_more first links k l c.loop-link-test.true c.link-item.is) ∙ sym (c.arithmetic_op.ensures.order x y) in
     subst (λ (q : Piece). Emits q nowhere c.args.builder.now c.emit_one.new.builder) (sym same)
     (emits_then x (Then y (Plain c.arithmetic_op.result)) nowhere c.args.builder.now c.loop-link.builder c.emit_one.new.builder c.loop-link.invariant c.in_ok-emit_one.ensures)
 

@@ -1,0 +1,16 @@
+use Rattle.std.proofs.Common.{◌≡◌, ◌<◌, length, ap, ◌∙◌, arith}
+use Rattle.std.proofs.lemmas.Bool.{lt-ltb}
+use Rattle.pb_assembler_builder.specs.Draft.{Draft, are_labelled, is_labelled}
+use Rattle.pb_assembler_builder.proofs.Drafts.{append_one, are_within_more, longer_by_one}
+use Rattle.pb_assembler_builder.proofs.builder.Builder.emit_jump.Goals as goal
+
+pub invariant_of-self-2 : goal.invariant_of-self-2
+invariant_of-self-2 c =
+    let ops = c.self.inside.ops.items in
+    let places = c.self.inside.places.items in
+    let items = c.in_ok-push.ensures.items in
+    let n : length places ≡ length c.args.self.now.places = ap (λ (d : Draft). length d.places) c.self.view_is in
+    let there : c.args.label.number < length places = let r = c.requires in omega (arith, n, r) in (
+      ap (are_labelled (length places)) items ∙ append_one (is_labelled (length places)) ops _ c.self.invariant.0 (lt-ltb c.args.label.number (length places) there),
+      are_within_more (length ops) (length c.push.new.self.items) places (longer_by_one ops c.push.new.self.items _ items) c.self.invariant.1,
+    )

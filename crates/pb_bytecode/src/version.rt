@@ -1,8 +1,0 @@
-//! Versions of the module format.
-
-/// The version of a module. Version 2 has the instruction `Op::SlotInRange`, which version 1 lacks.
-#[derive(Clone, Copy, Debug, PartialEq, Eq)]
-pub enum Version {
-    One,
-    Two,
-}
