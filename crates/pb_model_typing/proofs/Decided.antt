@@ -23,9 +23,11 @@ use Rattle.pb_model_meaning.specs.Erase.{erase, erased_property, model_of}
 use Rattle.pb_model_names.specs.View.{formula_of}
 use Rattle.pb_model_translation.proofs.Answer.{translations_have_the_answer}
 use Rattle.pb_typing_declarations.specs.declared.fault.TypingFault.{TypingFault}
-use Rattle.pb_errors.specs.OrMemory.{IfFault}
+use Rattle.pb_errors.specs.OrMemory.{IfFault, raised}
 use Rattle.pb_errors.specs.declared.or_memory.OrMemory.{OrMemory}
+use Rattle.pb_errors.specs.declared.or_memory.OrMemory.TheVariants.{Refused, Memory}
 use Rattle.pb_errors.proofs.Faults.{if_fault}
+use Rattle.pb_model_typing.specs.Data.{fault_in_model}
 use Rattle.pb_model_typing.specs.Faults.{model_faults}
 use Rattle.pb_model_typing.specs.Laws.{FormulasAreDecided}
 use Rattle.pb_model_typing.specs.Texts.{every_step, checked_formulas, HasTypedText, IsTypedModel, IsTextFault, IsFaultOfTexts, IsModelFault}
@@ -91,8 +93,19 @@ module _ (model : ModelForm) where
   rule-broken e = if_fault e (λ fault h typed. let none : Contains [] fault = subst (λ (zs : List TypingFault). Contains zs fault) typed.rules h in omega (arith, none.1))
 
   -- or of its texts
-  pub texts-fault : (e : OrMemory TypingFault) → IfFault e (IsFaultOfTexts (erase model) (checked_formulas (erase model))) → IfFault e (IsModelFault model)
-  texts-fault e = if_fault e (λ fault h. inr h)
+  pub texts-fault : (e x : OrMemory TypingFault) → raised (λ fault above. above ≡ fault_in_model model fault) e x
+      → IfFault e (IsFaultOfTexts (erase model) (checked_formulas (erase model))) → IfFault x (IsModelFault model)
+  texts-fault (Refused fault) (Refused above) made h = inr (fault, h, made)
+  texts-fault (Refused fault) Memory made h = tt
+  texts-fault Memory (Refused above) made h = absurd made
+  texts-fault Memory Memory made h = tt
+
+  pub texts-broken : (e x : OrMemory TypingFault) → raised (λ fault above. above ≡ fault_in_model model fault) e x
+      → IfFault e (λ _. ¬ All (HasTypedText (erase model)) (checked_formulas (erase model))) → IfFault x (λ _. ¬ IsTypedModel model)
+  texts-broken (Refused fault) (Refused above) made not = λ typed. not typed.texts
+  texts-broken (Refused fault) Memory made not = tt
+  texts-broken Memory (Refused above) made not = absurd made
+  texts-broken Memory Memory made not = tt
 
 -- ---- the text of a property
 

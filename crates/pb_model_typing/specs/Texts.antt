@@ -11,6 +11,7 @@ use Rattle.pb_model_translation.specs.Names.{translation}
 use Rattle.pb_typing_declarations.specs.declared.fault.TypingFault.{TypingFault}
 use Rattle.pb_typing_rules.specs.Faults.{faults}
 use Rattle.pb_typing_rules.specs.WellTyped.{IsWellTyped}
+use Rattle.pb_model_typing.specs.Data.{fault_in_model}
 use Rattle.pb_model_typing.specs.Faults.{model_faults}
 
 -- nu X . [true] X, whose text has the guard and the assignments of each step
@@ -41,8 +42,12 @@ IsTextFault m f fault =
 abbrev pub IsFaultOfTexts : Model → List Formula → TypingFault → Type 0
 IsFaultOfTexts m fs fault = (f : Formula) × (Contains fs f) × IsTextFault m f fault
 
+-- what a fault of one of the model's texts is in the model
+abbrev pub IsFaultFromTexts : ModelForm → TypingFault → Type 0
+IsFaultFromTexts model fault =
+    (f : TypingFault) × IsFaultOfTexts (erase model) (checked_formulas (erase model)) f
+    × (fault ≡ fault_in_model model f)
+
 -- of the model's own rules or of one of its texts
 abbrev pub IsModelFault : ModelForm → TypingFault → Type 0
-IsModelFault model fault =
-    Contains (model_faults model) fault
-    ⊎ IsFaultOfTexts (erase model) (checked_formulas (erase model)) fault
+IsModelFault model fault = Contains (model_faults model) fault ⊎ IsFaultFromTexts model fault

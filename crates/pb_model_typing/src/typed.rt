@@ -1,8 +1,8 @@
 //! Models that are accepted, and the texts of their properties.
 
-ghost use Rattle.std.specs.Prelude.{◌≡◌, ◌<◌, length, IfOk, OnOk, Some};
+ghost use Rattle.std.specs.Prelude.{◌≡◌, ◌<◌, length, IfErr, IfOk, MatchResult, OnOk, Some};
 ghost use Rattle.std.specs.List.{slice_get};
-ghost use Rattle.pb_errors.specs.OrMemory.{IfRefused, OnRefused};
+ghost use Rattle.pb_errors.specs.OrMemory.{IfFault, IfRefused, OnRefused};
 ghost use Rattle.pb_text_tree.specs.Form.{spec_form};
 ghost use Rattle.pb_text_meaning.specs.Erase.{erase};
 ghost use Rattle.pb_text_meaning.specs.Meaning.{answer};
@@ -13,6 +13,7 @@ ghost use Rattle.pb_model_meaning.specs.Syntax as syntax;
 ghost use Rattle.pb_model_translation.specs.Names.{translation};
 ghost use Rattle.pb_model_typing.specs.Texts.{IsModelFault, IsTypedModel};
 
+use crate::data::error_in_model;
 use crate::rules::check_rules;
 use crate::texts::check_texts;
 use pb_model_translator::translate;
@@ -35,17 +36,37 @@ pub struct TypedModel {
 /// Recursion goes as deep as formulas and terms nest.
 ///
 /// # Errors
-/// A fault of the model's own rules or of one of those texts, at its place in the model; where
-/// several rules fail, any one of them. `TypeError::Memory` comes only where memory was refused.
-pub fn check_model(alloc: Global, model: Model) -> Result<TypedModel, TypeError>
-    ensures kept { IfOk result (λ typed. typed.model ≡ model) }
+/// A refusal hands the model back with a fault of its own rules or of one of those texts; where
+/// several rules fail, any one of them. A name in data that is none there is T07 at the places of
+/// names of fixpoints around, and T01 at others. A fault of the model's own rules is told at its
+/// place; that those of texts are told at their places in the model is tested.
+/// `TypeError::Memory` comes only where memory was refused.
+pub fn check_model(alloc: Global, model: Model) -> Result<TypedModel, (Model, TypeError)>
+    ensures kept { MatchResult result (λ typed. typed.model ≡ model)
+        (λ refused. refused.0 ≡ model) }
     ensures accepted { OnOk result (IsTypedModel (model_form model)) }
-    ensures fails { IfRefused result (IsModelFault (model_form model)) }
-    ensures ill_typed { OnRefused result (¬ IsTypedModel (model_form model)) }
+    ensures fails { IfErr result (λ refused.
+        IfFault refused.1 (IsModelFault (model_form model))) }
+    ensures ill_typed { IfErr result (λ refused.
+        IfFault refused.1 (λ _. ¬ IsTypedModel (model_form model))) }
 {
-    check_rules(alloc, &model)?;
-    check_texts(alloc, &model)?;
-    Ok(TypedModel { model })
+    match check_parts(alloc, &model) {
+        Ok(()) => Ok(TypedModel { model }),
+        Err(error) => Err((model, error)),
+    }
+}
+
+/// Checks the model's own rules, and then those of its texts.
+fn check_parts(alloc: Global, model: &Model) -> Result<(), TypeError>
+    ensures accepted { OnOk result (IsTypedModel (model_form model.now)) }
+    ensures fails { IfRefused result (IsModelFault (model_form model.now)) }
+    ensures ill_typed { OnRefused result (¬ IsTypedModel (model_form model.now)) }
+{
+    check_rules(alloc, model)?;
+    match check_texts(alloc, model) {
+        Ok(()) => Ok(()),
+        Err(error) => Err(error_in_model(model, error)),
+    }
 }
 
 /// The text of the property at a place, which is well typed. Its answer is true exactly where the
