@@ -218,7 +218,8 @@ pub fn run<T: Threads + Sync, S: AsStr, G: Gate + Sync, R: Source, O: Sink, E: S
         Tells (E.taken streams.old.error) (E.taken streams.new.error)
         (E.has_failed streams.new.error) (codes "M01\n") }
 
-    // Reading failed before the limit was passed, with nothing written, or writing failed.
+    // Reading failed before the limit was passed, with nothing written, or writing failed, and no
+    // read did.
     ensures failed { result ≡ 4 →
         (AskForSomething (map S.text words.now)
         × (R.has_failed streams.new.input ≡ true) × (streams.new.output ≡ streams.old.output)
@@ -226,6 +227,7 @@ pub fn run<T: Threads + Sync, S: AsStr, G: Gate + Sync, R: Source, O: Sink, E: S
         × Tells (E.taken streams.old.error) (E.taken streams.new.error)
         (E.has_failed streams.new.error) (codes "E01\n"))
         ⊎ ((O.has_failed streams.new.output ≡ true)
+        × (R.has_failed streams.new.input ≡ R.has_failed streams.old.input)
         × Answers (map S.text words.now) (R.left streams.old.input)
         (AppendsPrefix (O.taken streams.old.output) (O.taken streams.new.output))
         × Tells (E.taken streams.old.error) (E.taken streams.new.error)
