@@ -36,7 +36,7 @@ fn work_branded<B: Limit>(
         crew: &Crew::of(1),
     };
     let rows = work(alloc, &site, &mut worker, &NoGate);
-    Ok((rows, close(alloc, verified, table)))
+    Ok((rows, close(verified, table, Vec::new(alloc))))
 }
 
 /// What one worker does alone: its rows, or that it was refused memory, and the statuses at its

@@ -1,8 +1,8 @@
 //! Tests of what no command of the program shows of modules and of their exploration: ranges, the
 //! numbers of instances in a layout, the trees of instances, and the module that comes back where it
-//! is refused; then, on one small module, steps of the reference, words that two seats step on, one
-//! worker alone with and without memory, and two workers that overlap. The expected values were
-//! worked out by hand, and the helpers keep the conditions of what they call. Bytes, codes and
+//! is refused; then, on one small module, steps of the reference, words that two seats step on, and
+//! one worker alone with and without memory. The expected values were worked out by hand, and the
+//! helpers keep the conditions of what they call. Bytes, codes and
 //! listings are tested by `rows/` (`modules.toml`, `code.toml`), and generated modules by
 //! `bench/fuzzing_modules.py`.
 #![tactic(auto)]
@@ -13,8 +13,6 @@ mod alone;
 mod modules;
 #[cfg(test)]
 mod numbers;
-#[cfg(test)]
-mod overlap;
 #[cfg(test)]
 mod steps;
 #[cfg(test)]

@@ -22,8 +22,16 @@ fn instance(alloc: Global, equation: u8, values: &[i64]) -> Result<Instance, All
 }
 
 #[test]
-fn the_last_parameter_runs_fastest(rt: HostRuntime) -> Result<(), Fail> {
+fn instances_are_numbered(rt: HostRuntime) -> Result<(), Fail> {
     let alloc = rt.alloc();
+    let equations = [
+        vec![in alloc; enumeration(2)]?,
+        vec![in alloc; enumeration(2)]?,
+    ];
+    let layout = Layout::new(alloc, &equations)?;
+    for (equation, value, number) in [(0, 0, 0), (0, 1, 1), (1, 0, 2), (1, 1, 3)] {
+        assert!(rt; layout.number(&instance(alloc, equation, &[value])?) == Some(number));
+    }
     let equations = [vec![in alloc; enumeration(3), Carrier::Bool]?];
     let layout = Layout::new(alloc, &equations)?;
     assert!(rt; layout.number(&instance(alloc, 0, &[1, 0])?) == Some(2));

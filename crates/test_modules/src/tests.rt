@@ -5,12 +5,13 @@ ghost use Rattle.pb_instances.specs.Seats.{module_of, IsSeatOf};
 
 use crate::alone::work_alone;
 use crate::modules::all_others;
-use crate::overlap::Overlap;
 use crate::steps::{close, finish, give_back, mark, status, take, three_statuses};
 use pb_exploration::{Core, Event, Explored, NoGate, NotAllowed, StepError, explore};
 use pb_instances::{Marked, Seat, Status, Step, Table};
 use pb_machine::Machine;
+use pb_module_solver::{BuiltModule, build_explored};
 use pb_rows::IndexedRows;
+use pb_strategy::check;
 use pb_trees::Token;
 use pb_verifier::Verified;
 use std::process::Abort;
@@ -184,7 +185,7 @@ fn two_seats(rt: HostRuntime) -> Result<(), Fail> {
     assert!(rt; second.tokens() == tree.as_slice());
     second_is_given_back(&rt, &module, &table, &mut a, &mut b, second.tokens());
     second_is_finished(&rt, &module, &table, &mut a, second.tokens());
-    let statuses = close(alloc, &module, table);
+    let statuses = close(&module, table, vec![in alloc; a, b]?);
     let wanted = [Status::Done, Status::Done, Status::Pending];
     assert!(rt; three_statuses(&module, &statuses) == Some(wanted));
     assert!(rt; !statuses.settled());
@@ -192,7 +193,7 @@ fn two_seats(rt: HostRuntime) -> Result<(), Fail> {
 }
 
 // One worker alone finds all three instances, from the initial one as its only hint, and words that
-// are settled give the same rows.
+// are settled give the same rows. Their game is built, solved and checked.
 #[test]
 fn one_worker(rt: HostRuntime) -> Result<(), Fail> {
     let alloc = rt.alloc();
@@ -213,12 +214,18 @@ fn one_worker(rt: HostRuntime) -> Result<(), Fail> {
     }
     let gathered = Explored::gather(alloc, &module, &statuses)?;
     assert!(rt; are_all_others(gathered.rows()));
+    let BuiltModule { built, .. } = build_explored(alloc, &module, gathered)?;
+    let solution = pb_zielonka::solve(&rt, alloc, &built.game)?;
+    match check(&built.game, &solution) {
+        Ok(checked) => assert!(rt; checked.truth(built.start)),
+        Err(flaw) => panic!(rt; "{flaw}"),
+    }
     Ok(())
 }
 
 // After refused memory nothing is taken: the seat gave back what it held and kept what it marked,
 // be it at its first, its second or its third instance. `bench/refusals.py` refuses the requests in
-// turn.
+// turn, and reads from what is printed at which instance each left the worker.
 #[test]
 fn worker_without_memory(rt: HostRuntime) -> Result<(), Fail> {
     let alloc = rt.alloc();
@@ -230,12 +237,15 @@ fn worker_without_memory(rt: HostRuntime) -> Result<(), Fail> {
         return Ok(());
     }
     let allowed = [
-        Some([Status::Pending, Status::Unseen, Status::Unseen]),
-        Some([Status::Done, Status::Pending, Status::Pending]),
-        Some([Status::Done, Status::Done, Status::Pending]),
-        Some([Status::Done, Status::Pending, Status::Done]),
+        [Status::Pending, Status::Unseen, Status::Unseen],
+        [Status::Done, Status::Pending, Status::Pending],
+        [Status::Done, Status::Done, Status::Pending],
+        [Status::Done, Status::Pending, Status::Done],
     ];
-    assert!(rt; allowed.contains(&found));
+    let Some(place) = allowed.iter().position(|it| Some(*it) == found) else {
+        panic!(rt; "the worker left something else");
+    };
+    println!(rt; "left {place}")?;
     Ok(())
 }
 
@@ -248,20 +258,5 @@ fn many_workers(rt: HostRuntime) -> Result<(), Fail> {
         let explored = explore(&rt, alloc, &module, workers, &NoGate)?;
         assert!(rt; are_all_others(explored.rows()));
     }
-    Ok(())
-}
-
-// Two workers overlap: each takes an instance that one of them discovered, and the three are taken
-// once each.
-#[test]
-fn workers_overlap(rt: HostRuntime) -> Result<(), Fail> {
-    let alloc = rt.alloc();
-    let module = all_others(alloc)?;
-    let gate = Overlap::new();
-    let explored = explore(&rt, alloc, &module, 2, &gate)?;
-    assert!(rt; are_all_others(explored.rows()));
-    assert!(rt; !gate.has_expired());
-    assert!(rt; [gate.taken(0), gate.taken(1), gate.taken(2)] == [1u32, 1, 1]);
-    assert!(rt; gate.both_took());
     Ok(())
 }

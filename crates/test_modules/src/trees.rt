@@ -55,6 +55,87 @@ const TESTS_A_SLOT: [u8; 73] = [
     0x00, 0x09, 0x00, 0x00, 0x00, 0x00, 0x00, 0x00, 0x00,
 ];
 
+/// Yes where the parameter, of the range 0 to 3, is less than 1, and No elsewhere.
+const LESS_THAN_ONE: &[u8] = b"PBES\x01\x00\x01\x00\x01X\
+\x01\x02\x00\x00\x00\x00\x03\x00\x00\x00\x00\
+\x08\x00\x00\x00\x02\x00\x00\x00\x08\x00\
+\x04\x00\x01\x01\x00\x00\x00\x00\x00\x00\x00\x0f\x1a\x06\x00\
+\x21\x18\x07\x00\x22\x00\
+\x00\x00\x00\x00\x00\x00\x00\x00\x00";
+
+/// JMP over a POP to YES and END.
+const JUMPS_OVER: &[u8] = b"PBES\x01\x00\x01\x00\x01X\x00\x00\
+\x40\x42\x0f\x00\xa0\x86\x01\x00\x04\x00\x18\x02\x00\x05\x21\x00\x00";
+
+/// OR, CLOSE and END.
+const EMPTY_BRACKET: &[u8] = b"PBES\x01\x00\x01\x00\x01X\x00\x00\
+\x40\x42\x0f\x00\xa0\x86\x01\x00\x03\x00\x1f\x20\x00\x00";
+
+/// `mu X(n) = val(n == 0) || X(n - 1)` over the range 0 to 9, whose call stands behind RNG.
+const COUNTS_DOWN: &[u8] = b"PBES\x01\x00\x01\x00\x01X\
+\x01\x02\x00\x00\x00\x00\x09\x00\x00\x00\x00\
+\x11\x00\x00\x00\x05\x00\x00\x00\x11\x00\
+\x1f\x04\x00\x01\x00\x00\x00\x00\x00\x00\x00\x00\x13\x1a\x07\x00\x21\x18\x0f\x00\
+\x04\x00\x01\x01\x00\x00\x00\x00\x00\x00\x00\x07\
+\x1b\x00\x00\x00\x00\x09\x00\x00\x00\x0d\x00\
+\x24\x00\x18\x0f\x00\x05\x23\x20\x00\
+\x00\x09\x00\x00\x00\x00\x00\x00\x00";
+
+/// `nu X(n, m) = X(n + 1, m - 1)`, both of the range 0 to 1.
+const LEAVES_THE_RANGES: &[u8] = b"PBES\x01\x00\x01\x01\x01X\
+\x02\x02\x00\x00\x00\x00\x01\x00\x00\x00\x02\x00\x00\x00\x00\x01\x00\x00\x00\x00\
+\x10\x00\x00\x00\x04\x00\x00\x00\x10\x00\
+\x1f\x04\x00\x01\x01\x00\x00\x00\x00\x00\x00\x00\x06\
+\x1b\x00\x00\x00\x00\x01\x00\x00\x00\x0c\x00\
+\x04\x01\x01\x01\x00\x00\x00\x00\x00\x00\x00\x07\
+\x1b\x00\x00\x00\x00\x01\x00\x00\x00\x0b\x00\
+\x24\x00\x18\x0e\x00\x05\x05\x23\x20\x00\
+\x00\x00\x00\x00\x00\x00\x00\x00\x00\x01\x00\x00\x00\x00\x00\x00\x00";
+
+const OUTSIDE: &[Token] = &[Token::Or, Token::Cut, Token::Close];
+
+/// Modules by name, and of one of their instances the number and the tree.
+const TREES: [(&str, &[u8], u32, &[Token]); 13] = [
+    ("less than one", LESS_THAN_ONE, 0, &[Token::Yes]),
+    ("less than one", LESS_THAN_ONE, 1, &[Token::No]),
+    ("less than one", LESS_THAN_ONE, 2, &[Token::No]),
+    ("less than one", LESS_THAN_ONE, 3, &[Token::No]),
+    ("jumps over", JUMPS_OVER, 0, &[Token::Yes]),
+    (
+        "empty bracket",
+        EMPTY_BRACKET,
+        0,
+        &[Token::Or, Token::Close],
+    ),
+    (
+        "counts down",
+        COUNTS_DOWN,
+        0,
+        &[Token::Or, Token::Yes, Token::Close],
+    ),
+    (
+        "counts down",
+        COUNTS_DOWN,
+        9,
+        &[Token::Or, Token::Call(8), Token::Close],
+    ),
+    ("leaves the ranges", LEAVES_THE_RANGES, 0, OUTSIDE),
+    (
+        "leaves the ranges",
+        LEAVES_THE_RANGES,
+        1,
+        &[Token::Or, Token::Call(2), Token::Close],
+    ),
+    ("leaves the ranges", LEAVES_THE_RANGES, 2, OUTSIDE),
+    ("leaves the ranges", LEAVES_THE_RANGES, 3, OUTSIDE),
+    (
+        "all others",
+        &ALL_OTHERS,
+        1,
+        &[Token::And, Token::Call(0), Token::Call(2), Token::Close],
+    ),
+];
+
 /// The module of these bytes, which is accepted.
 fn verified(alloc: Global, bytes: &[u8]) -> Result<Verified, Fail> {
     match verify(alloc, decode(alloc, bytes)?) {
@@ -75,13 +156,38 @@ fn tree_at(
 }
 
 #[test]
-fn a_loop_runs_once_for_each_value(rt: HostRuntime) -> Result<(), Fail> {
+fn instances_have_their_trees(rt: HostRuntime) -> Result<(), Fail> {
     let alloc = rt.alloc();
-    let module = verified(alloc, &ALL_OTHERS)?;
-    module.runs_safely();
-    instances_have_trees(&module);
-    let tokens = [Token::And, Token::Call(0), Token::Call(2), Token::Close];
-    assert!(rt; tree_at(&rt, alloc, &module, 1)?.tokens() == tokens.as_slice());
+    for (name, bytes, number, wanted) in TREES {
+        let module = verified(alloc, bytes)?;
+        module.runs_safely();
+        instances_have_trees(&module);
+        let tree = tree_at(&rt, alloc, &module, number)?;
+        assert!(rt; tree.tokens() == wanted, "{name} {number}");
+    }
+    Ok(())
+}
+
+// Each byte of a module set to each value: what is still accepted has a tree at every number.
+#[test]
+fn accepted_modules_run_at_every_number(rt: HostRuntime) -> Result<(), Fail> {
+    let alloc = rt.alloc();
+    let mut machine = Machine::new(alloc);
+    for place in 0..ALL_OTHERS.len() {
+        for byte in 0..=u8::MAX {
+            let mut bytes = ALL_OTHERS;
+            bytes[place] = byte;
+            let Ok(module) = decode(alloc, &bytes) else {
+                continue;
+            };
+            let Ok(module) = verify(alloc, module) else {
+                continue;
+            };
+            for number in 0..module.layout().count() {
+                machine.run(alloc, &module, number)?;
+            }
+        }
+    }
     Ok(())
 }
 

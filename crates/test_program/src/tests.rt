@@ -2,6 +2,7 @@
 //! tested by `rows/`; here stand readers and writers that fail, workers that are watched, and what
 //! is compared with the plain solver.
 mod faults;
+mod overlap;
 mod parts;
 mod plain;
 mod runs;
