@@ -1,15 +1,18 @@
 #!/usr/bin/env python3
 """Asks the program of known modules with each byte changed, and of generated and changed modules, each made from its seed.
 
-    bench/fuzzing_modules.py PROGRAM [FIRST [COUNT]]    the seeds from FIRST on, 4,000 from 0 on where nothing is said: the gate's part
+    bench/fuzzing_modules.py PROGRAM                  the gate's part: the known modules, and the seeds from 0 to 3,999
+    bench/fuzzing_modules.py PROGRAM FIRST [COUNT]    the seeds from FIRST on alone, 4,000 where no number is said
 
 What a module says and means is worked out by bench/modules.py and bench/module_runs.py, which were written for this from its definition.
 A module is refused by the same rule at the same place; else it is accepted or refused so, and one in four is listed so. Accepted code is run by a machine
 that tests the kinds and bounds of each step, at 256 instances of an equation at most, evenly spread: it never faults. Where at most 64
-instances are reached, the program's report is that of the nested fixpoint over their trees. Prints each module that is not as it must be,
-and how many were read, accepted, solved and true."""
+instances are reached, the program's report is that of the nested fixpoint over their trees; so it is with other initial instances in the module's
+bytes, eight at most, of which none is reached from one before: the program runs all that they lead to. Prints each module that is not as it must be,
+and how many were read and accepted, and how many reports were compared and true."""
 import collections
 import concurrent.futures
+import itertools
 import os
 import resource
 import struct
@@ -17,10 +20,12 @@ import sys
 
 sys.dont_write_bytecode = True
 import modules
-from module_runs import Fault, Machine, instances_of, report
+from module_runs import Fault, Machine, instances_of, reached_from, report
 
 # How many instances of an equation are run, and how many a module may reach whose report is compared.
 RUN, SOLVED = 256, 64
+# From how many initial instances a module is solved at most.
+STARTS = 8
 # One in so many modules is listed.
 LISTED = 4
 # No module takes the program longer.
@@ -312,29 +317,41 @@ def asked(program, command, data):
     return (*texts, status)
 
 
+def reports(data, module):
+    """The reports of an accepted module, each with the bytes: with its own initial instance, and with others that none before leads to."""
+    end, reached, starts = len(data) - 1 - 8 * len(module.initial[1]), set(), 0
+    for start in itertools.chain([module.initial], instances_of(module, RUN)):
+        if start not in reached and starts < STARTS:
+            starts += 1
+            trees = reached_from(module, start, SOLVED)
+            reached.update(trees or [start])
+            if trees:
+                number, values = start
+                yield data[:end] + struct.pack(f"<B{len(values)}q", number, *values), report(module, start, trees)
+
+
 def wanted_of(data, tally):
-    """What must come of a module: for each command that is asked standard output, standard error and status."""
+    """What must come of a module: the commands that are asked with what they read, and their standard output, standard error and status."""
     tally["modules"] += 1
     try:
         module = modules.read(data)
     except modules.Refused as refusal:
-        return {COMMANDS[sum(data) % len(COMMANDS)]: ("", f"{refusal}\n", 1)}
+        return [(COMMANDS[sum(data) % len(COMMANDS)], data, ("", f"{refusal}\n", 1))]
     tally["read"] += 1
-    listed = {} if sum(data) % LISTED else {"list": (modules.listing(module), "", 0)}
+    listed = [] if sum(data) % LISTED else [("list", data, (modules.listing(module), "", 0))]
     try:
         modules.verify(module)
     except modules.Refused as refusal:
-        return {**listed, "verify": ("", f"{refusal}\n", 1)}
+        return [*listed, ("verify", data, ("", f"{refusal}\n", 1))]
     tally["accepted"] += 1
     for instance in instances_of(module, RUN):
         tally["steps"] += Machine(module, instance).run()[1]
         tally["runs"] += 1
-    answer = report(module, SOLVED)
-    if answer is None:
-        return {**listed, "verify": ("accepted\n", "", 0)}
-    tally["solved"] += 1
-    tally["true"] += answer.startswith("answer true")
-    return {**listed, "solve-code": (answer, "", 0)}
+    solved = list(reports(data, module))
+    tally["solved"] += len(solved)
+    tally["true"] += sum(answer.startswith("answer true") for _, answer in solved)
+    verified = [] if solved else [("verify", data, ("accepted\n", "", 0))]
+    return [*listed, *verified, *(("solve-code", start, (answer, "", 0)) for start, answer in solved)]
 
 
 def tried(program, cases):
@@ -342,10 +359,10 @@ def tried(program, cases):
     tally, wrong = collections.Counter(), []
     for data in cases:
         try:
-            for command, wanted in wanted_of(data, tally).items():
-                got = asked(program, command, data)
+            for command, given, wanted in wanted_of(data, tally):
+                got = asked(program, command, given)
                 if got != wanted:
-                    wrong.append(f"{data.hex()}: {command}\n  wanted {wanted}\n  got    {got}")
+                    wrong.append(f"{given.hex()}: {command}\n  wanted {wanted}\n  got    {got}")
         except Fault as fault:
             wrong.append(f"{data.hex()}: accepted, and has {fault}")
     return tally, wrong
@@ -354,7 +371,8 @@ def tried(program, cases):
 def main():
     program = os.path.abspath(sys.argv[1])
     first, count = [int(word) for word in sys.argv[2:4] + ["0", "4000"][len(sys.argv[2:4]) :]]
-    cases = [data for known in KNOWN for data in with_each_byte(known)] + [module_of(seed) for seed in range(first, first + count)]
+    changed = KNOWN if len(sys.argv) == 2 else ()
+    cases = [data for known in changed for data in with_each_byte(known)] + [module_of(seed) for seed in range(first, first + count)]
     parts = [cases[start : start + 200] for start in range(0, len(cases), 200)]
     with concurrent.futures.ProcessPoolExecutor(min(4, os.cpu_count())) as pool:
         results = list(pool.map(tried, [program] * len(parts), parts))
@@ -363,7 +381,7 @@ def main():
     print("\n".join(wrong[:20]), end="\n" if wrong else "")
     counts = ", ".join(f"{tally[word]} {word}" for word in ("modules", "read", "accepted", "runs", "steps", "solved", "true"))
     print(f"{counts}; {len(wrong)} differences")
-    some_of_each = 0 < tally["true"] < tally["solved"] <= tally["accepted"] < tally["read"] < tally["modules"]
+    some_of_each = 0 < tally["true"] < tally["solved"] and 0 < tally["accepted"] < tally["read"] < tally["modules"]
     sys.exit(1 if wrong or not some_of_each else 0)
 
 

@@ -101,7 +101,7 @@ def main():
     for seed, status in enumerate(statuses, first):
         if status is None:
             print(f"seed {seed}: {text_of(seed)!r}")
-    print(f"{count} texts: {statuses.count(0)} answered, {statuses.count(1)} refused")
+    print(f"{count} texts: {statuses.count(0)} answered, {statuses.count(1)} refused, {statuses.count(None)} differences")
     sys.exit(0 if statuses.count(0) and statuses.count(1) and None not in statuses else 1)
 
 

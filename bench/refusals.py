@@ -3,7 +3,7 @@
 
     bench/refusals.py PROGRAM          PROGRAM is crates/pbsolve_main/out/pbsolve_main, as LLVM builds it
     bench/refusals.py PROGRAM TESTS    the gate's part: with two workers one request in seven and one calm run alone; and the test of one
-                                       worker without memory in TESTS, the built tests of pb_exploration, is refused each of its requests too
+                                       worker without memory in TESTS, the built tests of test_modules, is refused each of its requests too
 
 `refuse.c` beside this file is compiled, by the toolchain's own clang, and loaded into the program; it counts the calls of malloc, realloc
 and calloc, and those of pthread_create.
@@ -14,6 +14,7 @@ nothing on standard output. Only where the C library asked, as it does to start 
 program asked inside the call that starts the workers, may the whole answer come instead; the table counts these apart."""
 import concurrent.futures
 import os
+import re
 import subprocess
 import sys
 import tempfile
@@ -116,16 +117,20 @@ def sweep(refusals, case, workers, kind, is_part, wrong):
 
 
 def sweep_worker(tests, wrong):
-    """Refuses each request of the test of one worker alone, which looks at what the worker left: how many were refused."""
+    """Refuses each request of the test of one worker alone, which looks at what the worker left, and prints at which of three
+    instances it stopped: how many were refused. Each run of an instance has requests, so it stops at the first, then at the second."""
     listed = subprocess.run([tests.program, "--list"], capture_output=True, text=True, check=True).stdout
     (name,) = [line.partition(": ")[0] for line in listed.splitlines() if line.endswith(f"{WORKER_ALONE}: test")]
-    number, what = 0, ""
+    number, what, left = 0, "", []
     while what != "nothing":
         number += 1
         ended, what, _ = tests.run([name], b"", request=number)
+        left += [int(place) for place in re.findall(rb"left (\d)", ended[1])]
         # Before the worker begins, a refusal is the test's own error; an assertion that fails aborts.
         if ended[0] != 0 and (what == "nothing" or ended[0] != TEST_ERROR or not ended[2].startswith(b"error: ")):
             wrong.append((name, number, what, ended))
+    if left != sorted(left) or not {0, 1} <= set(left):
+        wrong.append((name, "left at instances", left))
     return number - 1
 
 
