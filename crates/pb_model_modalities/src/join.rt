@@ -1,44 +1,19 @@
 //! Formulas that are put together.
 
 ghost use Rattle.std.specs.Prelude.{◌≡◌, IfOk};
-ghost use Rattle.pb_text_tree.specs.Form.{variable_forms};
-ghost use Rattle.pb_text_meaning.specs.Erase.{joined};
-ghost use Rattle.pb_model_translation.specs.Translation.{over};
-ghost use Rattle.pb_model_modalities.specs.Modal as modal;
-ghost use Rattle.pb_model_modalities.specs.View.{all_linked, formula_of, variables_in};
+ghost use Rattle.pb_text_tree.specs.Form.{formula_form, link_forms, variable_forms};
+ghost use Rattle.pb_model_translation.specs.Placed.{joined_forms, over_form};
+ghost use Rattle.pb_model_translation.specs.Placed as placed;
+ghost use Rattle.pb_model_modalities.specs.Modal.{has_none};
 
 use pb_model_tree::Modality;
 use pb_text_copies::copy_variables;
 use pb_text_tree::{Connective, Formula, Link, Place, Quantifier, Variables};
 use std::alloc::{AllocError, Global};
 
-/// Two formulas with a connective between them.
-pub(crate) fn connected(
-    alloc: Global,
-    connective: Connective,
-    place: Place,
-    first: Formula,
-    second: Formula,
-) -> Result<Formula, AllocError>
-    ensures { IfOk result
-        (λ f. formula_of f ≡ joined connective (formula_of first) (formula_of second)) }
-{
-    let first = Box::new(alloc, first)?;
-    let mut links = Vec::new(alloc);
-    links.push(Link {
-        place,
-        operand: second,
-    })?;
-    Ok(Formula::Chain {
-        connective,
-        first,
-        links,
-    })
-}
-
 /// The connective between what a modality says of each step.
 fn joining(modality: Modality) -> Connective
-    ensures { result ≡ modal.joining modality }
+    ensures { result ≡ placed.joining modality }
 {
     match modality {
         Modality::Box => Connective::And,
@@ -54,7 +29,7 @@ pub(crate) fn join(
     mut links: Vec<Link>,
 ) -> Result<Formula, AllocError>
     ensures { IfOk result
-        (λ f. formula_of f ≡ modal.all_together modality (all_linked links.items)) }
+        (λ f. formula_form f ≡ joined_forms modality place (link_forms links.items)) }
 {
     if links.is_empty() {
         let value = modality == Modality::Box;
@@ -71,7 +46,7 @@ pub(crate) fn join(
 
 /// Whether no variable is declared.
 fn declares_none(groups: &[Variables]) -> bool
-    ensures { result ≡ modal.has_none (variables_in groups.now) }
+    ensures { result ≡ has_none (variable_forms groups.now) }
 {
     for group in groups {
         if !group.names.is_empty() {
@@ -89,8 +64,8 @@ pub(crate) fn quantified(
     variables: &[Variables],
     body: Formula,
 ) -> Result<Formula, AllocError>
-    ensures { IfOk result
-        (λ f. formula_of f ≡ over quantifier (variables_in variables.now) (formula_of body)) }
+    ensures { IfOk result (λ f. formula_form f
+        ≡ over_form quantifier place (variable_forms variables.now) (formula_form body)) }
 {
     if declares_none(variables) {
         return Ok(body);

@@ -22,13 +22,13 @@ use pb_text_printer::{print, sayable_text_is_read_back};
 use pb_typing::Typed;
 use std::alloc::{AllocError, Global};
 
-/// The text of the property at a place of a model that was read.
+/// The text of the property at a place of a model that was read, with its places in the model.
 pub fn text_at(alloc: Global, model: &TypedModel, place: usize) -> Result<Typed, AllocError>
     requires read { (bytes : List ℕ) × IsModelOf bytes (model_form model.now.model) }
     requires within { place < length model.now.model.properties.items }
     ensures text { IfOk result (λ text. (p : PropertyForm)
         → slice_get (model_form model.now.model).properties place ≡ Some p
-        → IsTextOf (model_form model.now.model) p.formula (spec_form text.spec)) }
+        → IsTextOf (model_form model.now.model) p (spec_form text.spec)) }
 {
     property_text(alloc, model, place)
 }

@@ -1,24 +1,24 @@
 -- The names of a translation are names of the grammar, where those of the formula's variables are.
-use Rattle.std.proofs.Common.{◌≡◌, ℕ, zero, suc, ◌+◌, ◌-◌, ◌<◌, Bool, true, false, not, if◌then◌else◌, List, [], ◌∷◌, ◌++◌, length, refl, ap, subst, arith, length-append}
+use Rattle.std.proofs.Common.{◌≡◌, ℕ, zero, suc, ◌+◌, ◌<◌, Bool, true, false, not, if◌then◌else◌, List, [], ◌∷◌, ◌++◌, length, refl, ap, subst, arith, length-append}
 use Rattle.std.specs.Prelude.{All, codes}
-use Rattle.std.specs.List.{list_any}
 use Rattle.std.proofs.lemmas.List.Elements.{All-append, All-cons, All-head, All-nil, All-tail}
 use Rattle.pb_text_lexer.proofs.WordLemmas.{short_name}
-use Rattle.pb_text_meaning.specs.Syntax.{Name, same_name}
+use Rattle.pb_text_meaning.specs.Syntax.{Name}
 use Rattle.pb_model_meaning.specs.Syntax.{Formula}
 use Rattle.pb_model_translation.specs.Translation.{has_equation, is_fixpoint, next_if, equation_count, total_count}
-use Rattle.pb_model_translation.specs.Names.{primes, longest, new_name, Wanted, operand_named, fixpoint_named, with_name, wanted_names, all_wanted, variables_of, given_names, name_at, names_of}
+use Rattle.pb_model_translation.specs.Names.{with_room, new_name, Wanted, operand_named, fixpoint_named, with_name, wanted_names, all_wanted, variables_of, given_names, name_at, names_of}
+use Rattle.pb_model_translation.proofs.NumberedNames.{new_name-holds, with_room-holds}
 use Rattle.pb_model_spelling.specs.Writable.{IsWord, ModalWritable}
 use Rattle.pb_model_spelling.proofs.Words.{primed_word, spelled_word}
 
--- ---- primes behind a name
+-- ---- a name that isn't taken
 
-chosen : (b : Bool) (x y : Name) → IsWord x → IsWord y → IsWord (if b then x else y)
-chosen true x y h g = h
-chosen false x y h g = g
+-- the name of an equation that no fixpoint is around
+outer_word : IsWord (codes "X")
+outer_word = spelled_word (codes "X") refl (short_name (codes "X") (omega arith))
 
 new_word : (taken : List Name) (x : Name) → IsWord x → IsWord (new_name taken x)
-new_word taken x h = chosen (list_any (same_name x) taken) (x ++ primes (suc (longest taken) - length x)) x (primed_word x (suc (longest taken) - length x) h) h
+new_word taken x h = new_name-holds IsWord x (λ bs names. primed_word (with_room x) bs (with_room-holds IsWord x h outer_word) names) h taken
 
 -- ---- the names that a formula's equations get
 
@@ -72,10 +72,6 @@ wanted around (Formula.Diamond A f) s h = one_wanted (has_equation f) _ (operand
 wanted around (Formula.Fixpoint sign X f) s h =
     let rest = wanted X f h.0 h.1 in
     record { words = All-cons WantsWord (fixpoint_named X) _ h.0 rest.words; many = ap suc rest.many }
-
--- the name of an equation that no fixpoint is around
-outer_word : IsWord (codes "X")
-outer_word = spelled_word (codes "X") refl (short_name (codes "X") (omega arith))
 
 names_given : (f : Formula) → ModalWritable f → AreGiven (total_count f) (given_names (variables_of f) [] (all_wanted f))
 names_given f h =

@@ -1,16 +1,16 @@
 -- The translation of a model and a formula has words, where the model and the formula have.
-use Rattle.std.proofs.Common.{ℕ, suc, ◌+◌, ◌<◌, ◌≤◌, Bool, true, false, if◌then◌else◌, cond, List, [], ◌∷◌, map, Some, arith}
+use Rattle.std.proofs.Common.{ℕ, suc, ◌+◌, ◌<◌, ◌≤◌, Bool, true, false, not, if◌then◌else◌, cond, List, [], ◌∷◌, map, Some, arith}
 use Rattle.std.specs.Prelude.{filter}
 use Rattle.pb_fixpoint.specs.declared.Sign.{Sign}
 use Rattle.pb_fixpoint.specs.declared.Sign.TheVariants.{Nu}
 use Rattle.pb_text_tree.specs.declared.operator.Quantifier.{Quantifier}
 use Rattle.pb_text_tree.specs.declared.operator.Quantifier.TheVariants.{Forall, Exists}
-use Rattle.pb_text_meaning.specs.Syntax.{Name, same_name, Variable, Term, Terms, Equation, Spec}
+use Rattle.pb_text_meaning.specs.Syntax.{Name, same_name, Variable, Operator, Term, Terms, Equation, Spec}
 use Rattle.pb_text_meaning.specs.Syntax as text
 use Rattle.pb_text_printer.specs.Sayable.{Each, EachOf}
 use Rattle.pb_model_meaning.specs.Syntax.{Assignment, Step, Formula, Model}
 use Rattle.pb_model_meaning.specs.Steps.{assigned_term, has_step, steps_in}
-use Rattle.pb_model_translation.specs.Translation.{has_equation, next_if, equation_count, total_count, Callee, FixpointScope, callee_of, operand_callee, term_or_name, next_terms, conjunction, disjunction, over, call, after_each, after_some, right_side, equation, with_equation, equations, all_equations, translation_by}
+use Rattle.pb_model_translation.specs.Translation.{has_equation, next_if, equation_count, total_count, Callee, FixpointScope, callee_of, operand_callee, term_or_name, next_terms, conjunction, disjunction, over, behind, call, after_each, after_some, right_side, equation, with_equation, equations, all_equations, translation_by}
 use Rattle.pb_model_spelling.specs.Writable.{IsWord, VariableWritable, TermWritable, AllWritable, FormulaWritable, EquationWritable, SpecWritable, ModalWritable, AssignmentWritable, StepWritable, ModelWritable}
 
 each_filtered : {X : Type 0} (P : X → Type 0) (test : X → Bool) (xs : List X) → Each P xs → Each P (filter test xs)
@@ -55,6 +55,18 @@ over_writable : (q : Quantifier) (vs : List Variable) (f : text.Formula) → Eac
 over_writable q [] f h g = g
 over_writable q (v ∷ vs) f h g = (h, g)
 
+behind_writable : (join : text.Formula → text.Formula → text.Formula) → ((f g : text.Formula) → FormulaWritable f → FormulaWritable g → FormulaWritable (join f g))
+    → (negated : Bool) (x : Term) (f : text.Formula) → TermWritable x → FormulaWritable f → FormulaWritable (behind join negated x f)
+behind_writable join both negated (Term.Not x) f h g = behind_writable join both (not negated) x f h g
+behind_writable join both false (Term.Binary Operator.And x y) f h g =
+    behind_writable join both false x (behind join false y f) h.0 (behind_writable join both false y f h.1 g)
+behind_writable join both true (Term.Binary Operator.Or x y) f h g =
+    behind_writable join both true x (behind join true y f) h.0 (behind_writable join both true y f h.1 g)
+behind_writable join both true (Term.Binary Operator.Implies x y) f h g =
+    behind_writable join both false x (behind join true y f) h.0 (behind_writable join both true y f h.1 g)
+behind_writable join both false x f h g = both (text.Formula.Val x) f h g
+behind_writable join both true x f h g = both (text.Formula.Val (Term.Not x)) f h g
+
 -- an equation among the first so many is called, or none
 abbrev IsWithin : ℕ → Callee → Type 0
 IsWithin N (Callee.Constant b) = Unit {0}
@@ -89,10 +101,14 @@ module _ (m : Model) (names : ℕ → Name) (N : ℕ) (words : (k : ℕ) → k <
   call_writable (Callee.Numbered n) assignments less h = (words n less, next_writable assignments m.variables h model.variables)
 
   each_writable : (c : Callee) → IsWithin N c → (a : Step) → StepWritable a → FormulaWritable (after_each m names c a)
-  each_writable c less a h = over_writable Forall a.variables _ h.0 (h.1, call_writable c a.assignments less h.2)
+  each_writable c less a h =
+      over_writable Forall a.variables _ h.0
+      (behind_writable text.Formula.Implies (λ f g k l. (k, l)) false a.guard (call m names c a.assignments) h.1 (call_writable c a.assignments less h.2))
 
   some_writable : (c : Callee) → IsWithin N c → (a : Step) → StepWritable a → FormulaWritable (after_some m names c a)
-  some_writable c less a h = over_writable Exists a.variables _ h.0 (h.1, call_writable c a.assignments less h.2)
+  some_writable c less a h =
+      over_writable Exists a.variables _ h.0
+      (behind_writable text.Formula.And (λ f g k l. (k, l)) false a.guard (call m names c a.assignments) h.1 (call_writable c a.assignments less h.2))
 
   right_writable : (scope : FixpointScope) (n : ℕ) (f : Formula) → ScopeWithin N scope → n + equation_count f ≤ N → ModalWritable f → FormulaWritable (right_side m names scope n f)
   right_writable scope n (Formula.Truth b) s fits h = tt

@@ -1,5 +1,5 @@
--- A name of the grammar is spelled as one, and stays one with primes behind it.
-use Rattle.std.proofs.Common.{◌≡◌, ◌∙◌, ℕ, zero, suc, ◌+◌, ◌==◌, ◌&&◌, Bool, true, false, cond, List, [], ◌∷◌, ◌++◌, length, refl, sym, ap, subst, arith, eq-eqb, append-nil}
+-- A name of the grammar is spelled as one, and stays one with a prime and a number behind it.
+use Rattle.std.proofs.Common.{◌≡◌, ◌∙◌, ℕ, ◌+◌, ◌==◌, ◌&&◌, Bool, true, false, cond, List, [], ◌∷◌, ◌++◌, length, refl, sym, ap, subst, arith, eq-eqb}
 use Rattle.std.specs.List.{list_all, list_any, prefix_len}
 use Rattle.std.specs.Str.{bytes_eq}
 use Rattle.std.proofs.lemmas.Bool.{and_from, and_parts, or_right}
@@ -14,8 +14,7 @@ use Rattle.pb_text_lexer.specs.Bytes.{is_letter, is_name_byte, name_bytes, kind_
 use Rattle.pb_text_lexer.proofs.PieceLemmas.{none-first, none-rest}
 use Rattle.pb_text_lexer.proofs.TokenLemmas.{same-kind}
 use Rattle.pb_text_meaning.specs.Syntax.{Name}
-use Rattle.pb_model_translation.specs.Names.{primes}
-use Rattle.pb_model_translation.proofs.Primes.{primes-spelled}
+use Rattle.pb_model_translation.proofs.NumberedNames.{primed-spelled}
 use Rattle.pb_model_spelling.specs.Writable.{IsWord}
 
 -- ---- how a name is spelled
@@ -54,7 +53,7 @@ spelled_word (b ∷ bs) h e =
     (and_from (is_letter b) (length (name_bytes bs) == length bs) both.0 (eq-eqb (length (name_bytes bs)) (length bs) whole))
     (subst (λ (kind : Kind). same_kind kind k.Name ≡ true) (sym e) (same-kind k.Name))
 
--- ---- primes behind a name
+-- ---- a prime behind a name, and any bytes of names behind it
 
 abbrev has_prime : List ℕ → Bool
 has_prime = list_any (λ b. b == 39)
@@ -77,12 +76,11 @@ primed_among (entry ∷ entries) w none some =
     let rest = none-rest (has_prime entry.0) (none_primed entries) none in
     ap (λ v. cond v entry.1 (kind_among entries w)) (other_word entry.0 w first some) ∙ primed_among entries w rest some
 
-with_prime : (x : Name) (n : ℕ) → has_prime (x ++ primes (suc n)) ≡ true
-with_prime [] n = refl
-with_prime (b ∷ bs) n = or_right (b == 39) _ (with_prime bs n)
+with_prime : (x : Name) (bs : List ℕ) → has_prime (x ++ (39 ∷ bs)) ≡ true
+with_prime [] bs = refl
+with_prime (c ∷ cs) bs = or_right (c == 39) _ (with_prime cs bs)
 
-pub primed_word : (x : Name) (n : ℕ) → IsWord x → IsWord (x ++ primes n)
+pub primed_word : (x : Name) (bs : List ℕ) → IsWord x → list_all is_name_byte bs ≡ true → IsWord (x ++ (39 ∷ bs))
 unfolding word_kind
-primed_word x zero h = subst IsWord (sym (append-nil x)) h
-primed_word x (suc n) h =
-    spelled_word (x ++ primes (suc n)) (primes-spelled x (suc n) (word_spelled x h)) (primed_among reserved (x ++ primes (suc n)) refl (with_prime x n))
+primed_word x bs h names =
+    spelled_word (x ++ (39 ∷ bs)) (primed-spelled x bs (word_spelled x h) names) (primed_among reserved (x ++ (39 ∷ bs)) refl (with_prime x bs))

@@ -1,8 +1,11 @@
 pub mod Lists
 pub mod Data
+pub mod Guards
 pub mod RightSides
 pub mod Nested
 pub mod Names
-pub mod Primes
+pub mod NumberedNames
+pub mod Short
 pub mod Answer
 pub mod Positive
+pub mod PlacedLemmas

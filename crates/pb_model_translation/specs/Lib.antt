@@ -1,7 +1,9 @@
 pub mod Translation
 pub mod Names
 pub mod Apart
+pub mod Short
 pub mod Nested
+pub mod Placed
 pub mod Positive
 pub mod Laws
 pub mod Examples

@@ -1,7 +1,7 @@
 -- Names in a model's data that stand for nothing there: of a fixpoint around (T07), or of nothing
 -- at all (T01). A text says T07 of each name that an equation has, and the translation gives some
 -- equations names that no fixpoint of the model has.
-use Rattle.std.specs.Prelude.{Bool, true, false, ◌&&◌, ◌||◌, ◌==◌, if◌then◌else◌}
+use Rattle.std.specs.Prelude.{Bool, false, ◌&&◌, ◌||◌, ◌==◌, if◌then◌else◌}
 use Rattle.std.specs.Prelude.{List, [], ◌∷◌}
 use Rattle.std.specs.List.{list_any}
 use Rattle.pb_text_tree.specs.declared.place.Place.{Place}

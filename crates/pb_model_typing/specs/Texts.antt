@@ -2,12 +2,12 @@
 -- properties, and of one text in which each step stands.
 use Rattle.std.specs.Prelude.{◌≡◌, List, [], ◌∷◌, map, codes, All, Contains, ◌⊎◌}
 use Rattle.pb_fixpoint.specs.declared.Sign.TheVariants.{Nu}
-use Rattle.pb_text_tree.specs.Form.{SpecForm}
-use Rattle.pb_text_meaning.specs.Erase as text
-use Rattle.pb_model_tree.specs.Form.{ModelForm}
+use Rattle.pb_text_tree.specs.declared.place.Place.{Place}
+use Rattle.pb_model_tree.specs.Form.{FormulaForm, PropertyForm, ModelForm}
 use Rattle.pb_model_meaning.specs.Syntax.{StepSet, Formula, Property, Model}
 use Rattle.pb_model_meaning.specs.Erase.{erase}
 use Rattle.pb_model_translation.specs.Names.{translation}
+use Rattle.pb_model_translation.specs.Placed.{placed, every_step_form}
 use Rattle.pb_typing_declarations.specs.declared.fault.TypingFault.{TypingFault}
 use Rattle.pb_typing_rules.specs.Faults.{faults}
 use Rattle.pb_typing_rules.specs.WellTyped.{IsWellTyped}
@@ -33,19 +33,28 @@ pub record IsTypedModel (model : ModelForm) : Type 0 where
 
 -- ---- refusals
 
--- a fault of a text that says the translation of a formula
-abbrev pub IsTextFault : Model → Formula → TypingFault → Type 0
-IsTextFault m f fault =
-    (t : SpecForm) × (text.erase t ≡ translation m f) × Contains (faults t) fault
+abbrev pub placed_property : PropertyForm → Place × FormulaForm
+placed_property p = (p.name.place, p.formula)
 
--- of a text of one of these
-abbrev pub IsFaultOfTexts : Model → List Formula → TypingFault → Type 0
-IsFaultOfTexts m fs fault = (f : Formula) × (Contains fs f) × IsTextFault m f fault
+-- The formulas whose texts are checked, each with the place at which the names of its equations
+-- stand: that of `init` for the one of each step, and the name of a property for the property's.
+abbrev pub placed_formulas : ModelForm → List (Place × FormulaForm)
+placed_formulas m =
+    (m.initial.place, every_step_form m.initial.place) ∷ map placed_property m.properties
 
--- what a fault of one of the model's texts is in the model
+-- a fault of the text of a formula, at its place in the model
+abbrev pub IsTextFault : ModelForm → Place × FormulaForm → TypingFault → Type 0
+IsTextFault m f fault = Contains (faults (placed m f.0 f.1)) fault
+
+-- of the text of one of these
+abbrev pub IsFaultOfTexts : ModelForm → List (Place × FormulaForm) → TypingFault → Type 0
+IsFaultOfTexts m fs fault =
+    (f : Place × FormulaForm) × (Contains fs f) × IsTextFault m f fault
+
+-- what a fault of one of the model's texts is in the model, at the same place
 abbrev pub IsFaultFromTexts : ModelForm → TypingFault → Type 0
 IsFaultFromTexts model fault =
-    (f : TypingFault) × IsFaultOfTexts (erase model) (checked_formulas (erase model)) f
+    (f : TypingFault) × IsFaultOfTexts model (placed_formulas model) f
     × (fault ≡ fault_in_model model f)
 
 -- of the model's own rules or of one of its texts

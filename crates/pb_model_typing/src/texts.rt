@@ -2,11 +2,12 @@
 
 ghost use Rattle.std.specs.Prelude.{◌≡◌, All, IfOk, OnOk};
 ghost use Rattle.pb_errors.specs.OrMemory.{IfRefused, OnRefused};
+ghost use Rattle.pb_model_tree.specs.Form.{formula_form, model_form};
 ghost use Rattle.pb_model_meaning.specs.Erase.{model_of};
 ghost use Rattle.pb_model_names.specs.View.{formula_of};
-ghost use Rattle.pb_model_typing.specs.Texts as typed;
+ghost use Rattle.pb_model_translation.specs.Placed.{every_step_form};
 ghost use Rattle.pb_model_typing.specs.Texts.{HasTypedText, IsFaultOfTexts, IsTextFault};
-ghost use Rattle.pb_model_typing.specs.Texts.{checked_formulas};
+ghost use Rattle.pb_model_typing.specs.Texts.{checked_formulas, placed_formulas};
 
 use pb_fixpoint::Sign;
 use pb_model_translator::translate_formula;
@@ -16,23 +17,29 @@ use pb_typing::check;
 use pb_typing_declarations::TypeError;
 use std::alloc::{AllocError, Global};
 
-fn check_text(alloc: Global, model: &Model, formula: &Formula) -> Result<(), TypeError>
+/// Checks the text of a formula, whose equations have their names at a place.
+fn check_text(
+    alloc: Global,
+    model: &Model,
+    formula: &Formula,
+    place: Place,
+) -> Result<(), TypeError>
     ensures accepted { OnOk result (HasTypedText (model_of model.now) (formula_of formula.now)) }
     ensures fails { IfRefused result
-        (IsTextFault (model_of model.now) (formula_of formula.now)) }
+        (IsTextFault (model_form model.now) (place, formula_form formula.now)) }
     ensures ill_typed { OnRefused result
         (¬ HasTypedText (model_of model.now) (formula_of formula.now)) }
 {
-    let text = translate_formula(alloc, model, formula)?;
+    let text = translate_formula(alloc, model, formula, place)?;
     match check(alloc, text) {
         Ok(_typed) => Ok(()),
         Err((_text, error)) => Err(error),
     }
 }
 
-/// `nu X . [true] X`.
-fn every_step(alloc: Global, place: Place) -> Result<Formula, AllocError>
-    ensures { IfOk result (λ f. formula_of f ≡ typed.every_step) }
+/// `nu X . [true] X`, at a place.
+pub(crate) fn every_step(alloc: Global, place: Place) -> Result<Formula, AllocError>
+    ensures { IfOk result (λ f. formula_form f ≡ every_step_form place) }
 {
     let text = "X".to_owned(alloc)?;
     let operand = Box::new(alloc, Formula::Variable(Name { place, text }))?;
@@ -57,14 +64,15 @@ pub(crate) fn check_texts(alloc: Global, model: &Model) -> Result<(), TypeError>
     ensures accepted { OnOk result
         (All (HasTypedText (model_of model.now)) (checked_formulas (model_of model.now))) }
     ensures fails { IfRefused result
-        (IsFaultOfTexts (model_of model.now) (checked_formulas (model_of model.now))) }
+        (IsFaultOfTexts (model_form model.now) (placed_formulas (model_form model.now))) }
     ensures ill_typed { OnRefused result
         (¬ All (HasTypedText (model_of model.now)) (checked_formulas (model_of model.now))) }
 {
-    let steps = every_step(alloc, model.initial.place)?;
-    check_text(alloc, model, &steps)?;
+    let place = model.initial.place;
+    let steps = every_step(alloc, place)?;
+    check_text(alloc, model, &steps, place)?;
     for property in &model.properties {
-        check_text(alloc, model, &property.formula)?;
+        check_text(alloc, model, &property.formula, property.name.place)?;
     }
     Ok(())
 }

@@ -1,4 +1,4 @@
-//! Models that are accepted, and the texts of their properties.
+//! Models that are accepted, the texts of their properties, and that of all their steps.
 
 ghost use Rattle.std.specs.Prelude.{◌≡◌, ◌<◌, length, IfErr, IfOk, MatchResult, OnOk, Some};
 ghost use Rattle.std.specs.List.{slice_get};
@@ -6,17 +6,16 @@ ghost use Rattle.pb_errors.specs.OrMemory.{IfFault, IfRefused, OnRefused};
 ghost use Rattle.pb_text_tree.specs.Form.{spec_form};
 ghost use Rattle.pb_text_meaning.specs.Erase.{erase};
 ghost use Rattle.pb_text_meaning.specs.Meaning.{answer};
-ghost use Rattle.pb_model_tree.specs.Form.{model_form};
-ghost use Rattle.pb_model_meaning.specs.Erase.{model_of};
+ghost use Rattle.pb_model_tree.specs.Form.{PropertyForm, model_form};
+ghost use Rattle.pb_model_meaning.specs.Erase.{erased_formula, model_of};
 ghost use Rattle.pb_model_meaning.specs.Satisfaction.{satisfies};
-ghost use Rattle.pb_model_meaning.specs.Syntax as syntax;
-ghost use Rattle.pb_model_translation.specs.Names.{translation};
+ghost use Rattle.pb_model_translation.specs.Placed.{every_step_form, placed};
 ghost use Rattle.pb_model_typing.specs.Texts.{IsModelFault, IsTypedModel};
 
 use crate::data::error_in_model;
 use crate::rules::check_rules;
-use crate::texts::check_texts;
-use pb_model_translator::translate;
+use crate::texts::{check_texts, every_step};
+use pb_model_translator::{translate, translate_formula};
 use pb_model_tree::Model;
 use pb_typing::{Typed, check};
 use pb_typing_declarations::TypeError;
@@ -37,9 +36,9 @@ pub struct TypedModel {
 ///
 /// # Errors
 /// A refusal hands the model back with a fault of its own rules or of one of those texts; where
-/// several rules fail, any one of them. A name in data that is none there is T07 at the places of
-/// names of fixpoints around, and T01 at others. A fault of the model's own rules is told at its
-/// place; that those of texts are told at their places in the model is tested.
+/// several rules fail, any one of them. Each is told at its place in the model: one of a text, at
+/// that of the part of the model of which that part of the text was made. A name in data that is
+/// none there is T07 at the places of names of fixpoints around, and T01 at others.
 /// `TypeError::Memory` comes only where memory was refused.
 pub fn check_model(alloc: Global, model: Model) -> Result<TypedModel, (Model, TypeError)>
     ensures kept { MatchResult result (λ typed. typed.model ≡ model)
@@ -69,22 +68,38 @@ fn check_parts(alloc: Global, model: &Model) -> Result<(), TypeError>
     }
 }
 
-/// The text of the property at a place, which is well typed. Its answer is true exactly where the
-/// model satisfies the property.
+/// The text of the property at a place, which is well typed, with its places in the model. Its
+/// answer is true exactly where the model satisfies the property.
 pub fn property_text(
     alloc: Global,
     typed: &TypedModel,
     property: usize,
 ) -> Result<Typed, AllocError>
     requires { property < length typed.now.model.properties.items }
-    ensures text { IfOk result (λ text. (p : syntax.Property)
-        → slice_get (model_of typed.now.model).properties property ≡ Some p
-        → erase (spec_form text.spec) ≡ translation (model_of typed.now.model) p.formula) }
-    ensures answer { IfOk result (λ text. (p : syntax.Property)
-        → slice_get (model_of typed.now.model).properties property ≡ Some p
-        → answer (erase (spec_form text.spec)) ≡ satisfies (model_of typed.now.model) p.formula) }
+    ensures text { IfOk result (λ text. (p : PropertyForm)
+        → slice_get (model_form typed.now.model).properties property ≡ Some p
+        → spec_form text.spec ≡ placed (model_form typed.now.model) p.name.place p.formula) }
+    ensures answer { IfOk result (λ text. (p : PropertyForm)
+        → slice_get (model_form typed.now.model).properties property ≡ Some p
+        → answer (erase (spec_form text.spec))
+        ≡ satisfies (model_of typed.now.model) (erased_formula p.formula)) }
 {
     let text = translate(alloc, &typed.model, property)?;
+    match check(alloc, text) {
+        Ok(text) => Ok(text),
+        Err((_text, error)) => Err(error.only_memory()),
+    }
+}
+
+/// The text in which each step stands, that of `nu X . [true] X`, which is well typed, with its
+/// places in the model. What it calls of a state are the states to which steps lead from there.
+pub fn steps_text(alloc: Global, typed: &TypedModel) -> Result<Typed, AllocError>
+    ensures { let place = typed.now.model.initial.place in IfOk result (λ text.
+        spec_form text.spec ≡ placed (model_form typed.now.model) place (every_step_form place)) }
+{
+    let place = typed.model.initial.place;
+    let formula = every_step(alloc, place)?;
+    let text = translate_formula(alloc, &typed.model, &formula, place)?;
     match check(alloc, text) {
         Ok(text) => Ok(text),
         Err((_text, error)) => Err(error.only_memory()),

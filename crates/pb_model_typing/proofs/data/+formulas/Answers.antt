@@ -1,4 +1,4 @@
-use Rattle.std.proofs.Common.{◌≡◌, ◌∙◌, sym, refl}
+use Rattle.std.proofs.Common.{◌∙◌, sym, refl}
 use Rattle.pb_model_typing.specs.View.{bound_names}
 use Rattle.pb_model_typing.proofs.DataRows.{operands-said, found, left_out}
 use Rattle.pb_model_typing.proofs.data.+formulas.Goals as goal

@@ -1,6 +1,4 @@
-use Rattle.std.proofs.Common.{◌≡◌, ◌∙◌, sym, refl, ap, arith}
-use Rattle.pb_text_tree.specs.Form.{term_form, argument_forms}
-use Rattle.pb_model_typing.specs.Data.{arguments_name_fixpoint, term_names_fixpoint}
+use Rattle.std.proofs.Common.{◌∙◌, sym, refl}
 use Rattle.pb_model_typing.specs.View.{bound_names}
 use Rattle.pb_model_typing.proofs.DataRows.{chain-said, arithmetic-said, application-said, argument-next, found, left_out}
 use Rattle.pb_model_typing.proofs.data.+terms.Goals as goal
