@@ -1,4 +1,4 @@
--- The right side of a caller: its typed tree, and the first call of its text.
+-- The right side of a caller: its typed tree, and the first call and all calls of its text.
 use Rattle.std.proofs.Common.{◌≡◌, Bool, ℕ, zero, suc, ◌<◌, ◌≤◌, true, List, [], ◌∷◌, ◌++◌, Option}
 use Rattle.std.proofs.Common.{Some, None, length, get_or, map, pos, replicate, refl, sym, ◌∙◌, ap}
 use Rattle.std.proofs.Common.{subst, arith}
@@ -44,9 +44,12 @@ use Rattle.pb_evaluation.specs.Slots.{slots_of}
 use Rattle.pb_evaluation.proofs.Called.{length-laid_out}
 use Rattle.pb_call_places.specs.Calls.{call_place, first_call, first_call_at, instance_named}
 use Rattle.pb_call_places.specs.Calls.{makes_call}
+use Rattle.pb_call_places.specs.Gathered.{gathered}
+use Rattle.pb_call_places.specs.MadeCalls.{calls_at, equation_calls, made_calls}
 use Rattle.pb_call_places.specs.Made.{first_made, made}
 use Rattle.pb_call_places.proofs.Elaborated.{AreSame, elaborated-makes}
 use Rattle.pb_call_places.proofs.EquationNames.{place-named}
+use Rattle.pb_call_places.proofs.MadeCalls.{elaborated-gathers, inside-none}
 
 -- ---- slots of which the first hold values, and the others 0
 
@@ -331,3 +334,35 @@ first-of-text t i j X Y slots of instance are at_called =
     (erased_equation of.form))) of.calls
     ∙ first-kept text (accepted-well-typed text t.faultless) i j of.form Y of.at at_called
     (slots_of slots) (values-count t i of.form of.at instance) hold)
+
+-- ---- all calls
+
+-- the calls of its typed tree are those of its text
+pub calls-of-text : (t : Typed) (i : numbered.Instance) (X : typed.Equation) (slots : Tuple)
+    → IsTreeOf (spec_form t.spec) i.equation X → is_instance (carriers_of t.layout) i ≡ true
+    → slots ≡ i.values ++ replicate (length X.loops.items) (pos 0)
+    → gathered (erase (spec_form t.spec)) [] (slots_of slots) (formula_view X.right)
+    (call_places X.right)
+    ≡ calls_at (spec_form t.spec) i
+calls-of-text t i X slots of instance are =
+    let text = spec_form t.spec in
+    let S = erase text in
+    let Y = erased_equation of.form in
+    let xs = erased_variables of.form.parameters in
+    let zeros = replicate (length X.loops.items) (pos 0) in
+    let well = accepted-well-typed text t.faultless in
+    let there = slice_get-mapped erased_equation text.equations i.equation of.form of.at in
+    let scope = parameter_scope S Y in
+    let proper = proper-at S S.equations i.equation Y well.rights there in
+    let a = assigned xs i.values [] in
+    let c = with_slots xs 0 unslotted in
+    let hold : Hold (slots_of slots) i.values =
+    subst (λ (us : Tuple). Hold (slots_of us) i.values) (sym are) (first-hold i.values zeros) in
+    ap (λ (f : tree.Formula). gathered S [] (slots_of slots) f (call_places X.right)) of.right
+    ∙ (ap (gathered S [] (slots_of slots) (elaborated_equation S Y)) of.calls
+    ∙ (elaborated-gathers S of.form.right true scope proper c (length xs) (slots_of slots) a []
+    (free-parameters xs)
+    (agree-parameters xs i.values (slots_of slots) (values-count t i of.form of.at instance) hold)
+    tt
+    ∙ (inside-none (made_calls S a of.form.right)
+    ∙ sym (ap (λ (o : Option EquationForm). equation_calls S o i.values) of.at))))

@@ -79,7 +79,7 @@ abbrev pub typed : Spec → Scope → FormulaForm → Slotting → ℕ → Formu
 typed spec scope f c n = elaborated spec c scope n (expanded (erased_formula f))
 
 -- where the slots of the second operand begin
-abbrev behind : ℕ → FormulaForm → ℕ
+abbrev pub behind : ℕ → FormulaForm → ℕ
 behind n f = n + width (expanded (erased_formula f))
 
 -- the typed formula of a well-typed one has its calls
@@ -194,6 +194,25 @@ test-kept spec (FormulaForm.quantified q p xs f) even scope h c n =
     each-test spec q (erased_variables xs) (expanded (erased_formula f)) (typed spec inner f)
     (test-kept spec f even inner h.1) c n
 
+pub argument-values : (spec : Spec) (c : Slotting) (scope : Scope) (a : Slots) (ts : Terms)
+    → map (λ (e : Argument). value a e.term) (arguments spec c scope ts)
+    ≡ map (value a) (slotted_all spec c ts)
+argument-values spec c scope a Terms.NoTerms = refl
+argument-values spec c scope a (Terms.Then x xs) =
+    ap (λ vs. value a (slotted spec c x) ∷ vs) (argument-values spec c scope a xs)
+
+-- where nothing holds, a formula keeps its truth
+pub keeps-truth : (spec : Spec) (f : FormulaForm) (even : Bool) (scope : Scope)
+    → IsProper spec even scope (erased_formula f)
+    → (c : Slotting) (n : ℕ) (a : Slots) (g : Assignment) → AreFree c n → Agree c a g
+    → truth spec a empty (typed spec scope f c n)
+    ≡ meaning.truth spec g empty (erased_formula f)
+keeps-truth spec f even scope h c n a g free agree =
+    elaborated-truth spec empty (expanded (erased_formula f)) scope
+    (λ s. sym (shape_carrier-sort_shape spec s))
+    (expanded-plain spec even scope (erased_formula f) h) c n a g free agree
+    ∙ expanded-truth spec empty (erased_formula f) g
+
 -- ---- the calls that are made
 
 -- an instance by the place of its equation, and by its name
@@ -275,25 +294,6 @@ module _ (spec : Spec) (place : Place) (i : Instance) (j : numbered.Instance)
       ∙ ap (λ ws. same_place p place && (same_name x i.name && pointwise int_eq ws j.values)) is
       ∙ ap (λ ws. same_place p place && (same_name x i.name && pointwise int_eq vs ws)) same.values
 
-  argument-values : (c : Slotting) (scope : Scope) (a : Slots) (ts : Terms)
-      → map (λ (e : Argument). value a e.term) (arguments spec c scope ts)
-      ≡ map (value a) (slotted_all spec c ts)
-  argument-values c scope a Terms.NoTerms = refl
-  argument-values c scope a (Terms.Then x xs) =
-      ap (λ vs. value a (slotted spec c x) ∷ vs) (argument-values c scope a xs)
-
-  -- a test keeps its truth
-  keeps-truth : (f : FormulaForm) (even : Bool) (scope : Scope)
-      → IsProper spec even scope (erased_formula f)
-      → (c : Slotting) (n : ℕ) (a : Slots) (g : Assignment) → AreFree c n → Agree c a g
-      → truth spec a empty (typed spec scope f c n)
-      ≡ meaning.truth spec g empty (erased_formula f)
-  keeps-truth f even scope h c n a g free agree =
-      elaborated-truth spec empty (expanded (erased_formula f)) scope
-      (λ s. sym (shape_carrier-sort_shape spec s))
-      (expanded-plain spec even scope (erased_formula f) h) c n a g free agree
-      ∙ expanded-truth spec empty (erased_formula f) g
-
   keeps : (f : FormulaForm) (even : Bool) (scope : Scope)
       → IsProper spec even scope (erased_formula f)
       → (c : Slotting) (n : ℕ) (a : Slots) (g : Assignment) → AreFree c n → Agree c a g
@@ -302,7 +302,7 @@ module _ (spec : Spec) (place : Place) (i : Instance) (j : numbered.Instance)
   keeps f even scope h c n a g free agree makes = record {
     count = calls-kept spec f even scope h c n;
     test = test-kept spec f even scope h c n;
-    holds = keeps-truth f even scope h c n a g free agree;
+    holds = keeps-truth spec f even scope h c n a g free agree;
     makes = makes;
   }
 
@@ -318,7 +318,7 @@ module _ (spec : Spec) (place : Place) (i : Instance) (j : numbered.Instance)
       let plain = expanded-plain spec even scope (syntax.Formula.Call x ts) h in
       call-makes x call.name.place (arguments spec c scope ts) a (values spec g ts)
       (place_of 0 spec.equations x) (same.equation x)
-      (argument-values c scope a ts ∙ slotted-values spec c a g agree ts plain)
+      (argument-values spec c scope a ts ∙ slotted-values spec c a g agree ts plain)
   elaborated-makes (FormulaForm.negation p f) even scope h c n a g free agree =
       elaborated-makes f (not even) scope h c n a g free agree
   elaborated-makes (FormulaForm.connected And p f k) even scope h c n a g free agree =

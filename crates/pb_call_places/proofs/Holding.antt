@@ -7,7 +7,8 @@ use Rattle.std.specs.List.{slice_get}
 use Rattle.pb_carriers.specs.Carrier.{Tuple}
 use Rattle.pb_sorts.specs.Carrier.{values_of}
 use Rattle.pb_sorts.proofs.TuplePlaces.{is_within-slice_get}
-use Rattle.pb_evaluation.proofs.Slots.{put-put, read-put}
+use Rattle.pb_evaluation.specs.Slots.{slots_of}
+use Rattle.pb_evaluation.proofs.Slots.{length-put, placed, put-put, put-slots, read-put}
 use Rattle.pb_evaluation.proofs.Turns.{within-count}
 use Rattle.pb_call_places.specs.Loops.{Holds, holding, tuples_of}
 use Rattle.pb_call_places.specs.declared.loops.Loops.{Loops}
@@ -39,6 +40,16 @@ held l outer slots k n h count =
     ∙ (ap (λ (xs : Tuple). take (length h.tuple) (drop l.slot xs)) h.is
     ∙ read-put outer l.slot h.tuple (omega (arith, h.room))) in
     h.at ∙ ap Some (sym read)
+
+-- the slots, as the values of all slots
+pub same-slots : (l : Loops) (outer slots : Tuple) (k : ℕ) (h : Holds l outer k slots)
+    → slots_of slots ≡ placed (slots_of outer) l.slot h.tuple
+same-slots l outer slots k h = ap slots_of h.is ∙ put-slots outer l.slot h.tuple h.room
+
+pub same-length : (l : Loops) (outer slots : Tuple) (k : ℕ) → Holds l outer k slots
+    → length slots ≡ length outer
+same-length l outer slots k h =
+    ap (λ (xs : Tuple). length xs) h.is ∙ length-put outer l.slot h.tuple h.room
 
 -- another tuple in its place
 pub replaced : (l : Loops) (outer slots vs : Tuple) (k : ℕ) (h : Holds l outer k slots)

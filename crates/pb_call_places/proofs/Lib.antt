@@ -8,3 +8,8 @@ pub mod Arguments
 pub mod ChainMade
 pub mod TuplesMade
 pub mod Callers
+pub mod MadeCalls
+pub mod ChainGathered
+pub mod TuplesGathered
+pub mod Nothing
+pub mod Pushed

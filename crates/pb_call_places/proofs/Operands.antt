@@ -90,3 +90,28 @@ pub any-link : (place : Place) (fs : List Formula) (k : ℕ) (f : Formula) → k
 any-link place fs k f lt at =
     ap (λ (gs : List Formula). any_at place (places_of gs)) (drop-at fs k f lt at)
     ∙ list_any-append _ (call_places f) (places_of (drop (k + 1) fs))
+
+-- ---- operands without calls
+
+pub none-append : (ps qs : List Place)
+    → (length (ps ++ qs) == 0) ≡ (length ps == 0) && (length qs == 0)
+none-append [] qs = refl
+none-append (p ∷ ps) qs =
+    let some = λ (rs : List Place). ne_eqb (length (p ∷ rs)) 0 (λ e. omega (arith, e)) in
+    some (ps ++ qs) ∙ sym (ap (λ (b : Bool). b && (length qs == 0)) (some ps))
+
+-- a chain has no call where its first operand and the others have none
+pub none-chain : (f : Formula) (c : Connective) (first : Box Formula Global)
+    (v : Vec Formula Global) → f ≡ formula.Chain c first v
+    → (length (call_places f) == 0)
+    ≡ (length (call_places (box_value first)) == 0) && (length (places_of v.items) == 0)
+none-chain f c first v is =
+    ap (λ (ps : List Place). length ps == 0) (chain-calls f c first v is)
+    ∙ none-append (call_places (box_value first)) (places_of v.items)
+
+pub none-link : (fs : List Formula) (k : ℕ) (f : Formula) → k < length fs → f ≡ get_or fs k f
+    → (length (places_of (drop k fs)) == 0)
+    ≡ (length (call_places f) == 0) && (length (places_of (drop (k + 1) fs)) == 0)
+none-link fs k f lt at =
+    ap (λ (gs : List Formula). length (places_of gs) == 0) (drop-at fs k f lt at)
+    ∙ none-append (call_places f) (places_of (drop (k + 1) fs))

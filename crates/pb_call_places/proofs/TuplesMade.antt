@@ -31,14 +31,14 @@ use Rattle.pb_typed_tree.specs.declared.formula.Formula.{Formula}
 use Rattle.pb_typed_tree.proofs.Expanded.{same-of-values}
 use Rattle.pb_evaluation.specs.Slots.{slots_of}
 use Rattle.pb_evaluation.proofs.Nested.{HasRoom, fits-placed, room}
-use Rattle.pb_evaluation.proofs.Slots.{length-put, placed, put-clear, put-slots}
+use Rattle.pb_evaluation.proofs.Slots.{placed, put-clear}
 use Rattle.pb_evaluation.proofs.Nested.{any-map, shape-values}
 use Rattle.pb_call_places.specs.Loops.{Holds, holding, tuples_of}
 use Rattle.pb_call_places.specs.Made.{made}
 use Rattle.pb_call_places.specs.Sought.{FitsValues, IsOf, is_made}
 use Rattle.pb_call_places.specs.declared.loops.Loops.{Loops}
 use Rattle.pb_call_places.specs.declared.sought.Sought.{Sought}
-use Rattle.pb_call_places.proofs.Holding.{held, replaced, tuple-length}
+use Rattle.pb_call_places.proofs.Holding.{held, replaced, same-length, same-slots, tuple-length}
 
 -- ---- which quantifier it is makes no difference
 
@@ -117,18 +117,10 @@ module _ (s : Sought) (l : Loops) (body : Formula) (outer : Tuple) where
         l.carriers.now l.slot (slots_of outer);
   }
 
-  same-slots : (slots : Tuple) (k : ℕ) (h : Holds l outer k slots)
-      → slots_of slots ≡ placed (slots_of outer) l.slot h.tuple
-  same-slots slots k h = ap slots_of h.is ∙ put-slots outer l.slot h.tuple h.room
-
-  same-length : (slots : Tuple) (k : ℕ) → Holds l outer k slots → length slots ≡ length outer
-  same-length slots k h =
-      ap (λ (xs : Tuple). length xs) h.is ∙ length-put outer l.slot h.tuple h.room
-
   pub has-room : (slots : Tuple) → IsUnderWay slots
       → l.slot + length l.carriers.now ≤ length slots
   has-room slots w =
-      let long = same-length slots w.place w.holds in
+      let long = same-length l outer slots w.place w.holds in
       let count = tuple-length l w.place w.holds.tuple w.holds.at in
       omega (arith, long, count, w.holds.room)
 
@@ -143,9 +135,9 @@ module _ (s : Sought) (l : Loops) (body : Formula) (outer : Tuple) where
       fits-placed k (length outer) Exists (formula_view body) l.carriers.now l.slot
       (slots_of outer) h.tuple fits within in
       subst (λ (a : Slots). FormulaFits k (length slots) a (formula_view body))
-      (sym (same-slots slots w.place h))
+      (sym (same-slots l outer slots w.place h))
       (subst (λ (n : ℕ). FormulaFits k n at (formula_view body))
-      (sym (same-length slots w.place h)) here)
+      (sym (same-length l outer slots w.place h)) here)
 
   -- what the body does at the tuple that the slots hold
   now : (slots : Tuple) (w : IsUnderWay slots) (spec : Spec) → IsOf s spec → (here : Bool)
@@ -157,7 +149,7 @@ module _ (s : Sought) (l : Loops) (body : Formula) (outer : Tuple) where
       sym (w.left spec of)
       ∙ (ap (list_any (body_makes spec)) (drop-slice_get (tuples_of l) w.place h.tuple h.at)
       ∙ ap (λ (b : Bool). b || rest)
-      (sym (is ∙ ap (λ (a : Slots). is_made spec s a body) (same-slots slots w.place h))))
+      (sym (is ∙ ap (λ (a : Slots). is_made spec s a body) (same-slots l outer slots w.place h))))
 
   pub is-made : (slots : Tuple) → IsUnderWay slots → (spec : Spec) → IsOf s spec → (here : Bool)
       → here ≡ is_made spec s (slots_of slots) body → here ≡ true → true ≡ all_make spec

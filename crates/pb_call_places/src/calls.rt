@@ -1,6 +1,6 @@
 //! The calls of a typed formula, in the order of the text.
 
-ghost use Rattle.std.specs.Prelude.{◌≡◌, ◌++◌, IfOk, OnOk};
+ghost use Rattle.std.specs.Prelude.{◌≡◌, ◌++◌, ◌==◌, IfOk, OnOk, length};
 ghost use Rattle.std.specs.List.{list_any};
 ghost use Rattle.pb_typed_tree.specs.Calls.{call_places};
 ghost use Rattle.pb_typed_tree.specs.View.{formula_view};
@@ -81,5 +81,28 @@ pub(crate) fn has_call_at(formula: &Formula, place: Place) -> bool
         }
         Formula::Quantified { body, .. } => has_call_at(body, place),
         Formula::Call { place: own, .. } => same_place(*own, place),
+    }
+}
+
+/// Whether a formula calls nothing.
+pub(crate) fn has_no_call(formula: &Formula) -> bool
+    ensures { result ≡ (length (call_places formula.now) == 0) }
+{
+    match formula {
+        Formula::Test(_) => true,
+        Formula::Negation(operand) => has_no_call(operand),
+        Formula::Chain { first, links, .. } => {
+            if !has_no_call(first) {
+                return false;
+            }
+            for link in links.iter() {
+                if !has_no_call(link) {
+                    return false;
+                }
+            }
+            true
+        }
+        Formula::Quantified { body, .. } => has_no_call(body),
+        Formula::Call { .. } => false,
     }
 }

@@ -21,7 +21,7 @@ use pb_text_tree::Connective;
 use pb_typed_tree::Formula;
 
 /// Whether an operand of this truth decides what it is connected to.
-fn decides(connective: Connective, side: Side, holds: bool) -> bool
+pub(crate) fn decides(connective: Connective, side: Side, holds: bool) -> bool
     ensures { result ≡ decides connective side holds }
 {
     match (connective, side) {

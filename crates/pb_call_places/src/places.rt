@@ -4,7 +4,10 @@ ghost use Rattle.std.specs.Prelude.{◌≡◌, false, replicate};
 ghost use Rattle.pb_sorts.specs.Layout.{carriers_of, count_of};
 
 use crate::calls::places_of_calls;
+use crate::gather::push_calls;
 use crate::made::makes_call;
+use crate::made_call::MadeCall;
+use crate::scope::Scope;
 use crate::slots::slots_at;
 use crate::sought::Sought;
 use pb_evaluation::Environment;
@@ -35,6 +38,8 @@ impl<'a> CallPlaces<'a> {
     ghost use Rattle.pb_evaluation.specs.Slots.{slots_of};
     ghost use Rattle.pb_call_places.specs.Calls.{call_place};
     ghost use Rattle.pb_call_places.specs.Made.{first_made};
+    ghost use Rattle.pb_call_places.specs.MadeCalls.{calls_at};
+    ghost use Rattle.pb_call_places.specs.MadeCallView.{call_views};
     ghost use Rattle.pb_call_places.specs.View.{layout_of, said_by};
 
     /// Makes ready what the places of all calls need.
@@ -100,6 +105,35 @@ impl<'a> CallPlaces<'a> {
             }
         }
         Ok(None)
+    }
+
+    /// The calls that the caller's right side makes, in the order in which they are written.
+    ///
+    /// Behind a first operand that has no call and decides, as a false one before `&&`, no call is
+    /// made; a quantifier's body is taken for each value of its variables, the last one fastest.
+    ///
+    /// # Errors
+    /// Memory was refused.
+    pub fn calls(&self, alloc: Global, caller: &Instance) -> Result<Vec<MadeCall>, AllocError>
+        requires { is_instance (carriers_of (layout_of self.now)) (instance_of caller.now) ≡ true }
+        ensures { IfOk result (λ calls. call_views calls.items
+            ≡ calls_at (said_by self.now) (instance_of caller.now)) }
+    {
+        let mut calls = Vec::new(alloc);
+        let Some(equation) = self.typed.equations.get(usize::from(caller.equation)) else {
+            return Ok(calls);
+        };
+        let mut slots = slots_at(alloc, caller.values.as_slice(), &equation.loops)?;
+        let scope = Scope {
+            alloc,
+            own: &[],
+            environment: Environment {
+                layout: &self.typed.layout,
+                truths: &self.truths,
+            },
+        };
+        push_calls(&equation.right, &mut slots, &scope, &mut calls)?;
+        Ok(calls)
     }
 
     /// The call at a place by which an instance is named.

@@ -1,4 +1,4 @@
-mod Carriers
+pub mod Carriers
 mod Placing
 mod OnlyCalls
 mod CallCode
