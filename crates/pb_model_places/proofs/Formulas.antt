@@ -1,0 +1,130 @@
+-- Where formulas go on in the same state: those are places of tokens.
+use Rattle.std.proofs.Common.{ℕ, zero, suc, Bool, true, false, if◌then◌else◌, List, [], ◌∷◌, ◌++◌, subst, inl, inr}
+use Rattle.std.specs.Prelude.{Contains}
+use Rattle.pb_text_tree.specs.declared.place.Place.{Place}
+use Rattle.pb_text_tree.specs.Form.{TermForm}
+use Rattle.pb_text_lexer.specs.declared.kind.Kind.{Kind}
+use Rattle.pb_text_lexer.specs.declared.kind.Kind.TheVariants as k
+use Rattle.pb_text_lexer.specs.Grammar.{Reads, Is, Nothing, One, First}
+use Rattle.pb_text_lexer.specs.Tokens.{Tok}
+use Rattle.pb_text_terms.specs.Operators.{connected_by}
+use Rattle.pb_text_terms.specs.Grammar.{Placed, Equated, IsUnary}
+use Rattle.pb_fixpoint.specs.declared.Sign.{Sign}
+use Rattle.pb_fixpoint.specs.declared.Sign.TheVariants as sign
+use Rattle.pb_model_tree.specs.declared.formula.Modality.{Modality}
+use Rattle.pb_model_tree.specs.declared.formula.Modality.TheVariants as modality
+use Rattle.pb_model_tree.specs.Form.{StepSetForm, FormulaForm}
+use Rattle.pb_model_text.specs.Grammar.{SetBegun, united_by, Union, IsSet, IsStepSet, FixpointNames, is_bound, atom_of, Beginning, Atom, Modal, Begun, Binding, FixpointBy, Fixpoint, Connections, within, IsNode, IsFormula}
+use Rattle.pb_model_runs.specs.Exact.{formula_places}
+use Rattle.pb_model_runs.proofs.Elements.{either_of, first_of, in-left, in-right}
+use Rattle.pb_model_places.proofs.Keeping.{Keeps, Skips, no-place, keeps-nothing, keeps-is, skips-is, keeps-one, keeps-bind, skips-of, skip, skips-one, keeps-first, keeps-chained, keeps-placed, keeps-connected}
+use Rattle.pb_model_places.proofs.Terms.{name_places, skips-name, keeps-unary, keeps-equated}
+
+-- ---- sets of steps
+
+abbrev pub no_places : {X : Type 0} → X → List Place
+no_places x = []
+
+skips-set-begun : (Set Sets : Reads StepSetForm) → Skips Set → Skips Sets → (kind : Kind) → Skips (SetBegun Set Sets kind)
+skips-set-begun Set Sets set sets k.True = skip _ _ [] no_places (skips-one k.True) (λ word. skips-is _)
+skips-set-begun Set Sets set sets k.Name = skip _ _ [] no_places skips-name (λ name. skips-is _)
+skips-set-begun Set Sets set sets k.Not = skip _ _ [] no_places (skips-one k.Not) (λ sign. skip _ _ [] no_places set (λ operand. skips-is _))
+skips-set-begun Set Sets set sets k.Open =
+    skip _ _ [] no_places (skips-one k.Open) (λ open_bracket. skip _ _ [] no_places sets (λ inner. skip _ _ [] no_places (skips-one k.Close) (λ close_bracket. skips-is inner)))
+skips-set-begun Set Sets set sets _ = keeps-nothing [] no_places
+
+skips-union : (Set : Reads StepSetForm) → Skips Set → Skips (Union Set)
+skips-union Set set = keeps-chained k.Or united_by Set Set no_places (λ x t y p e. e) set set
+
+mutual
+  skips-set : (depth : ℕ) → Skips (IsSet depth)
+  skips-set zero = keeps-first [] no_places (SetBegun Nothing Nothing) (skips-set-begun Nothing Nothing (keeps-nothing [] no_places) (keeps-nothing [] no_places))
+  skips-set (suc depth) = keeps-first [] no_places (SetBegun (IsSet depth) (IsStepSet depth)) (skips-set-begun (IsSet depth) (IsStepSet depth) (skips-set depth) (skips-step-set depth))
+
+  skips-step-set : (depth : ℕ) → Skips (IsStepSet depth)
+  skips-step-set zero =
+      skips-union (First (SetBegun Nothing Nothing)) (keeps-first [] no_places (SetBegun Nothing Nothing) (skips-set-begun Nothing Nothing (keeps-nothing [] no_places) (keeps-nothing [] no_places)))
+  skips-step-set (suc depth) =
+      skips-union (First (SetBegun (IsSet depth) (IsStepSet depth)))
+      (keeps-first [] no_places (SetBegun (IsSet depth) (IsStepSet depth)) (skips-set-begun (IsSet depth) (IsStepSet depth) (skips-set depth) (skips-step-set depth)))
+
+-- ---- formulas
+
+atom-places : (scope : FixpointNames) (q : Place) (x : TermForm) (p : Place) → Contains (formula_places (atom_of scope q x)) p → Contains (name_places x ++ []) p
+atom-places scope q (TermForm.name x) p e = by (is_bound scope x.text) e
+  where
+    by : (b : Bool) → Contains (formula_places (if b then FormulaForm.variable x else FormulaForm.«data» q (TermForm.name x))) p → Contains (x.place ∷ []) p
+    by true e = e
+    by false e = no-place p e
+atom-places scope q x p e = no-place p e
+
+keeps-beginning : (kind : Kind) (R : Reads FormulaForm) → Keeps [] formula_places R → Keeps [] formula_places (Beginning kind R)
+keeps-beginning kind R r s y z h = r s y z h.1
+
+module _ (scope : FixpointNames) (Node Formula : Reads FormulaForm) (Unary : Reads TermForm) (Sets : Reads StepSetForm)
+    (node : Keeps [] formula_places Node) (formula : Keeps [] formula_places Formula) (unary : Keeps [] name_places Unary) (sets : Skips Sets) where
+  keeps-modal : (modality : Modality) (close : Kind) (t : Tok) → Keeps [] formula_places (Modal modality close Node Sets t)
+  keeps-modal modality close t =
+      skip _ _ [] formula_places sets (λ steps. skip _ _ [] formula_places (skips-one close) (λ close_bracket.
+      keeps-bind Node _ [] formula_places formula_places node (λ f. keeps-is _ formula_places _ (λ p e. in-left (formula_places f) [] p e))))
+
+  keeps-data : Keeps [] formula_places (Atom FormulaForm.«data» Unary)
+  keeps-data = skip _ _ [] formula_places (keeps-placed no_places (Equated Unary) (skips-of (Equated Unary) name_places (keeps-equated Unary unary))) (λ found. keeps-is [] formula_places _ (λ p e. e))
+
+  keeps-begun : (kind : Kind) → Keeps [] formula_places (Begun scope Node Formula Unary Sets kind)
+  keeps-begun k.Not =
+      skip _ _ [] formula_places (skips-one k.Not) (λ sign. keeps-bind Node _ [] formula_places formula_places node (λ f. keeps-is _ formula_places _ (λ p e. in-left (formula_places f) [] p e)))
+  keeps-begun k.Open =
+      skip _ _ [] formula_places (skips-one k.Open) (λ open_bracket. keeps-bind Formula _ [] formula_places formula_places formula (λ f.
+      skip _ _ (formula_places f ++ []) formula_places (skips-one k.Close) (λ close_bracket. keeps-is _ formula_places f (λ p e. in-left (formula_places f) [] p e))))
+  keeps-begun k.OpenSquare = skip _ _ [] formula_places (skips-one k.OpenSquare) (λ t. keeps-modal modality.Box k.CloseSquare t)
+  keeps-begun k.Less = skip _ _ [] formula_places (skips-one k.Less) (λ t. keeps-modal modality.Diamond k.Greater t)
+  keeps-begun k.True = skip _ _ [] formula_places (skips-one k.True) (λ word. keeps-is [] formula_places _ (λ p e. e))
+  keeps-begun k.False = skip _ _ [] formula_places (skips-one k.False) (λ word. keeps-is [] formula_places _ (λ p e. e))
+  keeps-begun k.Val =
+      skip _ _ [] formula_places (skips-one k.Val) (λ word. skip _ _ [] formula_places (skips-of Unary name_places unary) (λ x. keeps-is [] formula_places _ (λ p e. e)))
+  keeps-begun k.Name =
+      keeps-beginning k.Name (Atom (atom_of scope) Unary)
+      (keeps-bind (Placed (Equated Unary)) (λ found. Is (atom_of scope found.0 found.1)) [] (λ (found : Place × TermForm). name_places found.1) formula_places
+      (keeps-placed name_places (Equated Unary) (keeps-equated Unary unary)) (λ found. keeps-is _ formula_places _ (λ p e. atom-places scope found.0 found.1 p e)))
+  keeps-begun k.Number = keeps-beginning k.Number (Atom FormulaForm.«data» Unary) keeps-data
+  keeps-begun k.Minus = keeps-beginning k.Minus (Atom FormulaForm.«data» Unary) keeps-data
+  keeps-begun _ = keeps-nothing [] formula_places
+
+module _ (Body : List ℕ → Reads FormulaForm) (body : (x : List ℕ) → Keeps [] formula_places (Body x)) where
+  keeps-binding : (sign : Sign) (q : Place) → Keeps (q ∷ []) formula_places (Binding sign q Body)
+  keeps-binding sign q =
+      skip _ _ (q ∷ []) formula_places skips-name (λ name. skip _ _ (q ∷ []) formula_places (skips-one k.Period) (λ period.
+      keeps-bind (Body name.text) _ (q ∷ []) formula_places formula_places (body name.text) (λ f. keeps-is _ formula_places _ (λ p e. elim (either_of q (formula_places f) p e) [
+        | inl same ↦ in-right (formula_places f) (q ∷ []) p (subst (λ r. Contains (q ∷ []) r) same (first_of q []))
+        | inr later ↦ in-left (formula_places f) (q ∷ []) p later
+      ]))))
+
+  keeps-fixpoint-by : (kind : Kind) → Keeps [] formula_places (FixpointBy Body kind)
+  keeps-fixpoint-by k.Mu = keeps-bind (One k.Mu) _ [] (λ (t : Tok). t.place ∷ []) formula_places (keeps-one k.Mu) (λ word. keeps-binding sign.Mu word.place)
+  keeps-fixpoint-by k.Nu = keeps-bind (One k.Nu) _ [] (λ (t : Tok). t.place ∷ []) formula_places (keeps-one k.Nu) (λ word. keeps-binding sign.Nu word.place)
+  keeps-fixpoint-by _ = keeps-nothing [] formula_places
+
+  keeps-connections : (Node : Reads FormulaForm) → Keeps [] formula_places Node → Keeps [] formula_places (Connections Node Body)
+  keeps-connections Node node =
+      keeps-connected (connected_by FormulaForm.connected) Node (Fixpoint Body) formula_places (λ kind x t y p e. e) node
+      (keeps-first [] formula_places (FixpointBy Body) keeps-fixpoint-by)
+
+mutual
+  keeps-node : (scope : FixpointNames) (depth : ℕ) → Keeps [] formula_places (IsNode scope depth)
+  keeps-node scope zero =
+      keeps-first [] formula_places _
+      (keeps-begun scope Nothing Nothing (IsUnary zero) Nothing (keeps-nothing [] formula_places) (keeps-nothing [] formula_places) (keeps-unary zero) (keeps-nothing [] no_places))
+  keeps-node scope (suc depth) =
+      keeps-first [] formula_places _
+      (keeps-begun scope (IsNode scope depth) (IsFormula scope depth) (IsUnary (suc depth)) (IsStepSet depth) (keeps-node scope depth) (keeps-formula scope depth) (keeps-unary (suc depth)) (skips-step-set depth))
+
+  pub keeps-formula : (scope : FixpointNames) (depth : ℕ) → Keeps [] formula_places (IsFormula scope depth)
+  keeps-formula scope zero =
+      keeps-connections (λ name. Nothing) (λ name. keeps-nothing [] formula_places) _
+      (keeps-first [] formula_places _
+      (keeps-begun scope Nothing Nothing (IsUnary zero) Nothing (keeps-nothing [] formula_places) (keeps-nothing [] formula_places) (keeps-unary zero) (keeps-nothing [] no_places)))
+  keeps-formula scope (suc depth) =
+      keeps-connections (λ name. IsFormula (within scope name) depth) (λ name. keeps-formula (within scope name) depth) _
+      (keeps-first [] formula_places _
+      (keeps-begun scope (IsNode scope depth) (IsFormula scope depth) (IsUnary (suc depth)) (IsStepSet depth) (keeps-node scope depth) (keeps-formula scope depth) (keeps-unary (suc depth)) (skips-step-set depth)))

@@ -1,0 +1,6 @@
+mod Keeping
+mod Terms
+mod Formulas
+mod Tokens
+mod Steps
+mod Models

@@ -1,0 +1,133 @@
+-- What stands before, at and behind the steps of a model: their names and where properties go on are
+-- places of tokens.
+use Rattle.std.proofs.Common.{◌≡◌, ◌⊎◌, ℕ, zero, suc, Bool, true, false, true≢false, not, ◌&&◌, List, [], ◌∷◌, ◌++◌, flat_map, append_assoc, refl, sym, ap, ◌∙◌, subst, inl, inr, arith}
+use Rattle.std.specs.Prelude.{Contains}
+use Rattle.std.proofs.lemmas.List.{map-append}
+use Rattle.pb_text_tree.specs.declared.place.Place.{Place}
+use Rattle.pb_text_lexer.specs.declared.kind.Kind.{Kind}
+use Rattle.pb_text_lexer.specs.declared.kind.Kind.TheVariants as k
+use Rattle.pb_text_lexer.specs.Grammar.{State, Is, One, last, more, CountedApart}
+use Rattle.pb_text_lexer.specs.Tokens.{Tok}
+use Rattle.pb_text_terms.specs.Grammar.{Name, Placed, IsTerm}
+use Rattle.pb_text_formulas.specs.Grammar.{Plain, Enumerator, SortBy, SortDecl, SortPart, SortParts}
+use Rattle.pb_text.specs.Grammar.{Declared}
+use Rattle.pb_model_tree.specs.Form.{StepForm, PropertyForm}
+use Rattle.pb_model_text.specs.Grammar.{IsAssignment, IsStep, Steps, IsInitialState, IsFormula, IsProperty, Properties}
+use Rattle.pb_call_places.specs.Calls.{same_place}
+use Rattle.pb_model_runs.proofs.Elements.{both-true, either_of, some_of, in-left, in-right, in-either}
+use Rattle.pb_model_runs.specs.Exact.{formula_places, step_places, is_among, are_apart}
+use Rattle.pb_model_places.proofs.Tokens.{false-of, parts-apart, second-apart}
+use Rattle.pb_model_places.proofs.Keeping.{Keeps, Skips, places_of, no-place, keeps-nothing, keeps-is, skips-is, keeps-bind, skip, skips-one, keeps-first, keeps-extended, keeps-placed, keeps-counted, keeps-series, skips-series}
+use Rattle.pb_model_places.proofs.Terms.{skips-name, named_at, keeps-name, skips-variables, skips-term}
+use Rattle.pb_model_places.proofs.Formulas.{no_places, keeps-formula}
+
+-- ---- what stands before the steps
+
+skips-enumerator : Skips Enumerator
+skips-enumerator =
+    let plain : Skips Plain = skip _ _ [] no_places skips-name (λ name. skips-is _) in
+    keeps-extended [] no_places _ _ plain (skip _ _ [] no_places plain (λ x.
+    skip _ _ [] no_places (skips-one k.Question) (λ question. skip _ _ [] no_places skips-name (λ name. skips-is _))))
+
+skips-sort-by : (kind : Kind) → Skips (SortBy kind)
+skips-sort-by k.Struct =
+    skip _ _ [] no_places (skips-one k.Struct) (λ word. skip _ _ [] no_places (skips-series Enumerator (One k.Bar) _ _ skips-enumerator (skips-one k.Bar)) (λ enumerators.
+    skip _ _ [] no_places (skips-one k.Semicolon) (λ semicolon. skips-is _)))
+skips-sort-by k.Name = skip _ _ [] no_places skips-name (λ target. skip _ _ [] no_places (skips-one k.Semicolon) (λ semicolon. skips-is _))
+skips-sort-by _ = keeps-nothing [] no_places
+
+skips-sort : Skips SortDecl
+skips-sort =
+    skip _ _ [] no_places skips-name (λ name. skip _ _ [] no_places (skips-one k.Is) (λ is. skip _ _ [] no_places (keeps-first [] no_places SortBy skips-sort-by) (λ sort. skips-is _)))
+
+skips-sort-part : Skips SortPart
+skips-sort-part =
+    skip _ _ [] no_places (skips-one k.Sort) (λ word. skip _ _ [] no_places (skips-series SortDecl (Is {X = Unit {0}} tt) _ _ skips-sort (skips-is tt)) (λ declarations. skips-is _))
+
+pub skips-sorts : Skips SortParts
+skips-sorts =
+    keeps-extended [] no_places _ _ (skips-is []) (skip _ _ [] no_places (skips-is []) (λ none. skips-series SortPart (Is {X = Unit {0}} tt) _ _ skips-sort-part (skips-is tt)))
+
+-- ---- steps
+
+skips-declared : (depth : ℕ) → Skips (Declared depth)
+skips-declared zero = keeps-nothing [] no_places
+skips-declared (suc depth) =
+    skip _ _ [] no_places (skips-one k.Open) (λ open_bracket. skip _ _ [] no_places skips-variables (λ parameters. skip _ _ [] no_places (skips-one k.Close) (λ close_bracket. skips-is parameters)))
+
+skips-assignment : (depth : ℕ) → Skips (IsAssignment depth)
+skips-assignment depth =
+    skip _ _ [] no_places skips-name (λ variable. skip _ _ [] no_places (skips-one k.Assign) (λ assign.
+    skip _ _ [] no_places (keeps-placed no_places (IsTerm depth) (skips-term depth)) (λ value. skips-is _)))
+
+abbrev step_place : StepForm → List Place
+step_place a = a.name.place ∷ []
+
+keeps-step : (depth : ℕ) → Keeps [] step_place (IsStep depth)
+keeps-step depth =
+    keeps-bind Name _ [] named_at step_place keeps-name (λ name.
+    skip _ _ (named_at name) step_place (keeps-extended [] no_places _ _ (skips-is []) (skip _ _ [] no_places (skips-is []) (λ none. skips-declared depth))) (λ variables.
+    skip _ _ (named_at name) step_place (skips-one k.Colon) (λ colon.
+    skip _ _ (named_at name) step_place (skips-term depth) (λ guard.
+    skip _ _ (named_at name) step_place (skips-one k.Arrow) (λ arrow.
+    skip _ _ (named_at name) step_place (skips-series (IsAssignment depth) (One k.Comma) _ _ (skips-assignment depth) (skips-one k.Comma)) (λ assignments.
+    skip _ _ (named_at name) step_place (skips-one k.Semicolon) (λ semicolon. keeps-is (named_at name) step_place _ (λ p e. e))))))))
+
+-- what was read, and so many tokens, of places that are apart
+pub record TookSteps (s z : State) (steps : List StepForm) : Type 0 where
+  pub front : List Tok
+  pub tokens : s.tokens ≡ front ++ z.tokens
+  pub among : (p : Place) → Contains (step_places steps) p → Contains (places_of front) p
+  pub apart : are_apart (places_of front) ≡ true → are_apart (step_places steps) ≡ true
+
+pub known : (p : Place) (ps : List Place) → Contains (places_of []) p ⊎ Contains ps p → Contains ps p
+known p ps (inl none) = no-place p none
+known p ps (inr token) = token
+
+pub keeps-steps : (depth : ℕ) (s : State) (steps : List StepForm) (z : State) → Steps depth s steps z → TookSteps s z steps
+keeps-steps depth s steps z (last {x = a} h) =
+    let one = keeps-counted step_place (IsStep depth) (keeps-step depth) s a z h in
+    record { front = one.front; tokens = one.tokens; among = λ p e. known p (places_of one.front) (one.among p e); apart = λ e. refl }
+keeps-steps depth s steps z (more {m = m} {o = o} {x = a} {y = rest} h k l) =
+    let one = keeps-counted step_place (IsStep depth) (keeps-step depth) s a m h in
+    let others = keeps-steps depth o rest z l in
+    let split = map-append (λ (t : Tok). t.place) one.front others.front in
+    record {
+      front = one.front ++ others.front;
+      tokens = one.tokens ∙ ap (λ v. one.front ++ v) (ap (λ (v : State). v.tokens) (sym k.1) ∙ others.tokens) ∙ sym (append_assoc one.front others.front z.tokens);
+      among = λ p e. subst (λ ps. Contains ps p) (sym split) (elim (either_of a.name.place (step_places rest) p e) [
+        | inl same ↦ in-left (places_of one.front) (places_of others.front) p (known p (places_of one.front) (one.among p (subst (λ r. Contains (a.name.place ∷ []) r) same (0, omega arith, refl))))
+        | inr later ↦ in-right (places_of one.front) (places_of others.front) p (others.among p later)
+      ]);
+      apart = λ e.
+          let whole : are_apart (places_of one.front ++ places_of others.front) ≡ true = ap are_apart (sym split) ∙ e in
+          both-true (not (is_among (step_places rest) a.name.place)) (are_apart (step_places rest))
+          (false-of (is_among (step_places rest) a.name.place) (λ found.
+          let q = some_of (λ q. same_place q a.name.place) (step_places rest) found in
+          parts-apart (places_of one.front) (places_of others.front) a.name.place q.0 whole
+          (known a.name.place (places_of one.front) (one.among a.name.place (0, omega arith, refl))) (others.among q.0 q.1) q.2))
+          (others.apart (second-apart (places_of one.front) (places_of others.front) whole));
+    }
+
+-- ---- what stands behind them
+
+pub skips-initial : (depth : ℕ) → Skips (IsInitialState depth)
+skips-initial depth =
+    skip _ _ [] no_places (skips-one k.Init) (λ word.
+    skip _ _ [] no_places (skips-series (Placed (IsTerm depth)) (One k.Comma) _ _ (keeps-placed no_places (IsTerm depth) (skips-term depth)) (skips-one k.Comma)) (λ values.
+    skip _ _ [] no_places (skips-one k.Semicolon) (λ semicolon. skips-is _)))
+
+abbrev pub property_places : PropertyForm → List Place
+property_places p = formula_places p.formula
+
+keeps-property : (depth : ℕ) → Keeps [] property_places (IsProperty depth)
+keeps-property depth =
+    skip _ _ [] property_places (skips-one k.Property) (λ word. skip _ _ [] property_places skips-name (λ name. skip _ _ [] property_places (skips-one k.Is) (λ is.
+    keeps-bind (IsFormula [] depth) _ [] formula_places property_places (keeps-formula [] depth) (λ f.
+    skip _ _ (formula_places f ++ []) property_places (skips-one k.Semicolon) (λ semicolon. keeps-is _ property_places _ (λ p e. in-left (formula_places f) [] p e))))))
+
+pub keeps-properties : (depth : ℕ) → Keeps [] (flat_map property_places) (Properties depth)
+keeps-properties depth =
+    keeps-series (CountedApart (IsProperty depth)) (Is {X = Unit {0}} tt) (λ x. x ∷ []) (λ x t xs. x ∷ xs) property_places (flat_map property_places)
+    (λ x p e. elim (in-either (property_places x) [] p e) [ inl here ↦ here | inr none ↦ no-place p none ])
+    (λ x t xs p e. e) (keeps-counted property_places (IsProperty depth) (keeps-property depth)) (skips-is tt)

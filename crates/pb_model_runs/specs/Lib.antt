@@ -1,0 +1,9 @@
+pub mod Runs
+pub mod Exact
+pub mod Shown
+pub mod Laws
+pub mod Always
+pub mod Possibly
+pub mod Inevitably
+pub mod Safety
+pub mod Examples
