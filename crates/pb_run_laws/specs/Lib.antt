@@ -1,0 +1,17 @@
+pub mod Free
+pub mod Waiting
+pub mod Until
+pub mod WeakUntil
+pub mod Precedence
+pub mod Never
+pub mod Deadlock
+pub mod Everywhere
+pub mod Response
+pub mod AtLast
+pub mod StepResponse
+pub mod InfiniteRuns
+pub mod InfinitelyOften
+pub mod Persistence
+pub mod Reactivity
+pub mod EndlessLassos
+pub mod WeakFairness

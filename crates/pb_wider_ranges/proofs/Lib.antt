@@ -1,0 +1,5 @@
+mod Choices
+mod StaysTrue
+mod WithoutCuts
+mod Values
+mod Ranges
