@@ -18,13 +18,13 @@ use Rattle.clap.specs.declared.parser.matches.ArgMatches.TheViews.{out-ArgMatche
 use Rattle.clap.proofs.OnLiterals.{clap_on_literals}
 use Rattle.pb_game.specs.declared.solver.Solver.TheVariants.{Zielonka}
 use Rattle.pb_command_line.specs.declared.command.Command.{Command}
-use Rattle.pb_command_line.specs.declared.command.Command.TheVariants.{Solve, Game, Solution, Certificate, Explain, Compile, Verify, List as ListModule, SolveCode, Translate, Check}
+use Rattle.pb_command_line.specs.declared.command.Command.TheVariants.{Solve, Game, Solution, Certificate, Explain, Compile, Verify, List as ListModule, SolveCode, Translate, Check, Why}
 use Rattle.pb_command_line.specs.declared.request.Request.{Request}
 use Rattle.pb_command_line.specs.declared.words.Usage.{Usage}
 use Rattle.pb_errors.specs.OrMemory.{IfFault, OnRefused}
 use Rattle.pb_errors.specs.declared.or_memory.OrMemory.{OrMemory}
 use Rattle.pb_errors.specs.declared.or_memory.OrMemory.TheVariants.{Refused, Memory}
-use Rattle.pb_command_line.specs.Words.{command_line, command_name, words_error_of, ArePlacesToldBy, AskFor, AskForSomething, AskPlainly, HaveFault, IsRequestOf, option_word}
+use Rattle.pb_command_line.specs.Words.{command_line, command_name, words_error_of, AskFor, AskForSomething, AskPlainly, HaveFault, IsRequestOf, IsSetBy, option_word}
 
 line_is_simple : is_simple command_line ≡ true
 unfolding clap_on_literals
@@ -50,15 +50,21 @@ no_fault name ListModule = refl
 no_fault name SolveCode = refl
 no_fault name Translate = refl
 no_fault name Check = refl
+no_fault name Why = refl
 
--- what it reads of a command's options where none stands: that of `--places` it takes for `false`
+-- what it reads of an option without a word that isn't given
+unset : List ℕ → Row
+unset name = record { id = name; values = codes "false" ∷ []; count = None; source = Some DefaultValue; reading = AsWritten }
+
+-- what it reads of a command's options where none stands
 no_option : Command → List Row
-no_option Explain = record { id = codes "places"; values = codes "false" ∷ []; count = None; source = Some DefaultValue; reading = AsWritten } ∷ []
+no_option Explain = unset (codes "places") ∷ []
+no_option Why = unset (codes "lines") ∷ []
 no_option _ = []
 
 -- and reads that command in it, with no option
 command_alone : (name : List ℕ) (command : Command) → subcommand_of command_line (name ∷ command_name command ∷ []) ≡ Some (command_name command, no_option command)
-unfolding clap_on_literals no_option
+unfolding clap_on_literals no_option unset
 command_alone name Solve = refl
 command_alone name Game = refl
 command_alone name Solution = refl
@@ -70,26 +76,28 @@ command_alone name ListModule = refl
 command_alone name SolveCode = refl
 command_alone name Translate = refl
 command_alone name Check = refl
+command_alone name Why = refl
 
 plain_request : Command → Request
-plain_request command = record { command = command; workers = 1; solver = Zielonka; places = false; property = None; some = omega arith; few = omega arith }
+plain_request command = record { command = command; workers = 1; solver = Zielonka; places = false; lines = false; property = None; some = omega arith; few = omega arith }
 
-no_places : (word : Option (List ℕ)) → (word ≡ Some (codes "true") → ⊥) → ArePlacesToldBy word false
-no_places word untold = (λ told. absurd (cc told), λ told. absurd (untold told))
+not_set : (word : Option (List ℕ)) → (word ≡ Some (codes "true") → ⊥) → IsSetBy word false
+not_set word untold = (λ told. absurd (cc told), λ told. absurd (untold told))
 
 plain_read : (command : Command) → IsRequestOf (Some (command_name command, no_option command)) (plain_request command)
-unfolding plain_request no_option
-plain_read Solve = record { command = refl; workers = refl; solver = refl; places = no_places None (λ told. cc told); property = refl }
-plain_read Game = record { command = refl; workers = refl; solver = refl; places = no_places None (λ told. cc told); property = refl }
-plain_read Solution = record { command = refl; workers = refl; solver = refl; places = no_places None (λ told. cc told); property = refl }
-plain_read Certificate = record { command = refl; workers = refl; solver = refl; places = no_places None (λ told. cc told); property = refl }
-plain_read Explain = record { command = refl; workers = refl; solver = refl; places = no_places (Some (codes "false")) (λ told. cc told); property = refl }
-plain_read Compile = record { command = refl; workers = refl; solver = refl; places = no_places None (λ told. cc told); property = refl }
-plain_read Verify = record { command = refl; workers = refl; solver = refl; places = no_places None (λ told. cc told); property = refl }
-plain_read ListModule = record { command = refl; workers = refl; solver = refl; places = no_places None (λ told. cc told); property = refl }
-plain_read SolveCode = record { command = refl; workers = refl; solver = refl; places = no_places None (λ told. cc told); property = refl }
-plain_read Translate = record { command = refl; workers = refl; solver = refl; places = no_places None (λ told. cc told); property = refl }
-plain_read Check = record { command = refl; workers = refl; solver = refl; places = no_places None (λ told. cc told); property = refl }
+unfolding plain_request no_option unset
+plain_read Solve = record { command = refl; workers = refl; solver = refl; places = not_set None (λ told. cc told); lines = not_set None (λ told. cc told); property = refl }
+plain_read Game = record { command = refl; workers = refl; solver = refl; places = not_set None (λ told. cc told); lines = not_set None (λ told. cc told); property = refl }
+plain_read Solution = record { command = refl; workers = refl; solver = refl; places = not_set None (λ told. cc told); lines = not_set None (λ told. cc told); property = refl }
+plain_read Certificate = record { command = refl; workers = refl; solver = refl; places = not_set None (λ told. cc told); lines = not_set None (λ told. cc told); property = refl }
+plain_read Explain = record { command = refl; workers = refl; solver = refl; places = not_set (Some (codes "false")) (λ told. cc told); lines = not_set None (λ told. cc told); property = refl }
+plain_read Compile = record { command = refl; workers = refl; solver = refl; places = not_set None (λ told. cc told); lines = not_set None (λ told. cc told); property = refl }
+plain_read Verify = record { command = refl; workers = refl; solver = refl; places = not_set None (λ told. cc told); lines = not_set None (λ told. cc told); property = refl }
+plain_read ListModule = record { command = refl; workers = refl; solver = refl; places = not_set None (λ told. cc told); lines = not_set None (λ told. cc told); property = refl }
+plain_read SolveCode = record { command = refl; workers = refl; solver = refl; places = not_set None (λ told. cc told); lines = not_set None (λ told. cc told); property = refl }
+plain_read Translate = record { command = refl; workers = refl; solver = refl; places = not_set None (λ told. cc told); lines = not_set None (λ told. cc told); property = refl }
+plain_read Check = record { command = refl; workers = refl; solver = refl; places = not_set None (λ told. cc told); lines = not_set None (λ told. cc told); property = refl }
+plain_read Why = record { command = refl; workers = refl; solver = refl; places = not_set None (λ told. cc told); lines = not_set (Some (codes "false")) (λ told. cc told); property = refl }
 
 -- so it asks for that command by one worker
 pub plain_words_ask : (words : List (List ℕ)) → AskPlainly words → AskForSomething words
@@ -102,7 +110,7 @@ plain_words_ask words plain =
 
 -- the word of a command alone names no property
 no_property_word : (command : Command) → option_word (codes "property") (Some (command_name command, no_option command)) ≡ None
-unfolding no_option
+unfolding no_option unset
 no_property_word Solve = refl
 no_property_word Game = refl
 no_property_word Solution = refl
@@ -114,6 +122,7 @@ no_property_word ListModule = refl
 no_property_word SolveCode = refl
 no_property_word Translate = refl
 no_property_word Check = refl
+no_property_word Why = refl
 
 mapped_none : {A B : Type 0} (f : A → B) (x : Option A) → option_map f x ≡ None → x ≡ None
 mapped_none f None e = refl

@@ -7,7 +7,7 @@ use Rattle.clap.specs.declared.parser.matches.Found.{Found}
 use Rattle.clap.proofs.WalkLemmas.{first_value-rows}
 use Rattle.pb_game.specs.declared.solver.Solver.{Solver}
 use Rattle.pb_command_line.specs.declared.request.Request.{Request}
-use Rattle.pb_command_line.specs.Words.{command_name, ArePlacesToldBy, IsChosenBy, IsRequestOf, IsWorkersOf}
+use Rattle.pb_command_line.specs.Words.{command_name, IsChosenBy, IsRequestOf, IsSetBy, IsWorkersOf}
 
 pub none_of : {T P : Type 0} (r : Option T) → P → IfNone r P
 none_of None p = p
@@ -15,13 +15,14 @@ none_of (Some x) p = tt
 
 module _ (name : List ℕ) (f : Found) where
   pub request_read : (request : Request) → name ≡ command_name request.command → IsWorkersOf (first_value f (codes "workers")) request.workers
-      → IsChosenBy (first_value f (codes "solver")) request.solver → ArePlacesToldBy (first_value f (codes "places")) request.places
+      → IsChosenBy (first_value f (codes "solver")) request.solver → IsSetBy (first_value f (codes "places")) request.places → IsSetBy (first_value f (codes "lines")) request.lines
       → option_map string_bytes request.property ≡ first_value f (codes "property") → IsRequestOf (Some (name, rows_of f)) request
-  request_read request command workers solver places property = record {
+  request_read request command workers solver places lines property = record {
     command = ap (λ (n : List ℕ). Some n) command;
     workers = subst (λ w. IsWorkersOf w request.workers) (first_value-rows f (codes "workers")) workers;
     solver = subst (λ w. IsChosenBy w request.solver) (first_value-rows f (codes "solver")) solver;
-    places = subst (λ w. ArePlacesToldBy w request.places) (first_value-rows f (codes "places")) places;
+    places = subst (λ w. IsSetBy w request.places) (first_value-rows f (codes "places")) places;
+    lines = subst (λ w. IsSetBy w request.lines) (first_value-rows f (codes "lines")) lines;
     property = sym (first_value-rows f (codes "property")) ∙ sym property;
   }
 

@@ -11,7 +11,7 @@ use Rattle.pb_game.specs.declared.solver.Solver.{Solver}
 use Rattle.pb_game.specs.declared.solver.Solver.TheVariants.{Zielonka}
 use Rattle.pb_game.specs.SolverNames.{solver_name}
 use Rattle.pb_command_line.specs.declared.command.Command.{Command}
-use Rattle.pb_command_line.specs.declared.command.Command.TheVariants.{Solve, Game, Solution, Certificate, Explain, Compile, Verify, List as ListModule, SolveCode, Translate, Check}
+use Rattle.pb_command_line.specs.declared.command.Command.TheVariants.{Solve, Game, Solution, Certificate, Explain, Compile, Verify, List as ListModule, SolveCode, Translate, Check, Why}
 use Rattle.pb_command_line.specs.declared.request.Request.{Request}
 use Rattle.pb_command_line.specs.declared.words.Usage.{Usage}
 use Rattle.pb_errors.specs.declared.or_memory.OrMemory.{OrMemory}
@@ -35,6 +35,7 @@ command_name ListModule = codes "list"
 command_name SolveCode = codes "solve-code"
 command_name Translate = codes "translate"
 command_name Check = codes "check"
+command_name Why = codes "why"
 
 -- `--workers` with any word
 abbrev pub workers_rule : Rule
@@ -48,6 +49,11 @@ solver_rule = record (new_rule (codes "solver")) { long = Some (codes "solver") 
 abbrev pub places_rule : Rule
 places_rule =
     record (new_rule (codes "places")) { long = Some (codes "places"); action = Some SetTrue }
+
+-- `--lines`, with no word behind it
+abbrev pub lines_rule : Rule
+lines_rule =
+    record (new_rule (codes "lines")) { long = Some (codes "lines"); action = Some SetTrue }
 
 -- `--property` with any word
 abbrev pub property_rule : Rule
@@ -69,6 +75,12 @@ solving_shape name = record (new_shape name) { rules = workers_rule ∷ solver_r
 abbrev pub translating_shape : List ℕ → Shape
 translating_shape name = record (new_shape name) { rules = property_rule ∷ [] }
 
+-- a command that takes the number of workers and the name of a property, and can be told to write
+-- lines of instances
+abbrev pub showing_shape : List ℕ → Shape
+showing_shape name =
+    record (new_shape name) { rules = workers_rule ∷ property_rule ∷ lines_rule ∷ [] }
+
 -- the program, which needs a command, and the commands of texts
 abbrev pub text_commands : App
 text_commands =
@@ -87,7 +99,8 @@ command_line =
     let listing = with_subcommand verify (new_shape (codes "list")) in
     let solve_code = with_subcommand listing (solving_shape (codes "solve-code")) in
     let translate = with_subcommand solve_code (translating_shape (codes "translate")) in
-    with_subcommand translate (solving_shape (codes "check"))
+    let check = with_subcommand translate (solving_shape (codes "check")) in
+    with_subcommand check (showing_shape (codes "why"))
 
 -- the word that stands behind this option of a command, where clap read one
 abbrev pub option_word : List ℕ → Option (List ℕ × List Row) → Option (List ℕ)
@@ -106,16 +119,17 @@ abbrev pub IsChosenBy : Option (List ℕ) → Solver → Type 0
 IsChosenBy None solver = solver ≡ Zielonka
 IsChosenBy (Some word) solver = word ≡ solver_name solver
 
--- places are told where clap reads `true`
-abbrev pub ArePlacesToldBy : Option (List ℕ) → Bool → Type 0
-ArePlacesToldBy word places = IsTrue places ↔ (word ≡ Some (codes "true"))
+-- an option without a word is set where clap reads `true`
+abbrev pub IsSetBy : Option (List ℕ) → Bool → Type 0
+IsSetBy word flag = IsTrue flag ↔ (word ≡ Some (codes "true"))
 
 -- a command and its options, as clap read them, make this request
 pub record IsRequestOf (read : Option (List ℕ × List Row)) (request : Request) : Type 0 where
   pub command : option_map (λ p. p.0) read ≡ Some (command_name request.command)
   pub workers : IsWorkersOf (option_word (codes "workers") read) request.workers
   pub solver : IsChosenBy (option_word (codes "solver") read) request.solver
-  pub places : ArePlacesToldBy (option_word (codes "places") read) request.places
+  pub places : IsSetBy (option_word (codes "places") read) request.places
+  pub lines : IsSetBy (option_word (codes "lines") read) request.lines
   pub property : option_word (codes "property") read ≡ option_map string_bytes request.property
 
 -- the words, the first of which is the program's name, ask for this: clap finds no fault in them,

@@ -27,6 +27,8 @@ pub enum Command {
     Translate,
     /// Which properties of a model hold.
     Check,
+    /// Why a property of a model holds or doesn't.
+    Why,
 }
 
 impl Command {
@@ -48,6 +50,7 @@ impl Command {
             Command::SolveCode => "solve-code",
             Command::Translate => "translate",
             Command::Check => "check",
+            Command::Why => "why",
         }
     }
 
@@ -69,6 +72,7 @@ impl Command {
             "solve-code" => Some(Command::SolveCode),
             "translate" => Some(Command::Translate),
             "check" => Some(Command::Check),
+            "why" => Some(Command::Why),
             _ => None,
         }
     }

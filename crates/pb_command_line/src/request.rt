@@ -5,14 +5,16 @@ use crate::command::Command;
 use pb_game::Solver;
 
 /// What the program is asked: a command, by how many workers it explores, if it does, which solver
-/// it calls, if it calls one, whether it tells the places of calls, if it names calls, and which
-/// property it takes, if it takes one and the words name it.
+/// it calls, if it calls one, whether it tells the places of calls, if it names calls, whether it
+/// writes lines of instances, if it shows steps, and which property it takes, if it takes one and
+/// the words name it.
 #[derive(Debug, Drop)]
 pub struct Request {
     pub command: Command,
     pub workers: u32,
     pub solver: Solver,
     pub places: bool,
+    pub lines: bool,
     pub property: Option<String>,
     pub ghost some: { 0 < workers },
     pub ghost few: { workers ≤ 16 },

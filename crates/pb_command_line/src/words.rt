@@ -8,9 +8,10 @@ ghost use Rattle.clap.specs.Walk.{rule_of, rows_of};
 ghost use Rattle.pb_command_line.specs.declared.request.Request.{Request};
 ghost use Rattle.pb_game.specs.declared.solver.Solver.{Solver};
 ghost use Rattle.pb_command_line.specs.Words.{command_line, exploring_shape, explaining_shape};
-ghost use Rattle.pb_command_line.specs.Words.{solving_shape, translating_shape, workers_rule};
-ghost use Rattle.pb_command_line.specs.Words.{places_rule, property_rule, solver_rule};
-ghost use Rattle.pb_command_line.specs.Words.{ArePlacesToldBy, IsChosenBy, IsWorkersOf};
+ghost use Rattle.pb_command_line.specs.Words.{solving_shape, translating_shape, showing_shape};
+ghost use Rattle.pb_command_line.specs.Words.{lines_rule, places_rule, property_rule};
+ghost use Rattle.pb_command_line.specs.Words.{solver_rule, workers_rule};
+ghost use Rattle.pb_command_line.specs.Words.{IsChosenBy, IsSetBy, IsWorkersOf};
 ghost use Rattle.pb_command_line.specs.Words.{IsRequestOf, AskFor, HaveFault, AskNothing};
 ghost use Rattle.pb_command_line.specs.Words.{AskPlainly, words_error_of};
 ghost use Rattle.clap.specs.Words.{kind_of};
@@ -71,6 +72,16 @@ fn places_option<'a>(alloc: Global) -> Arg<'a>
         .action(ArgAction::SetTrue)
 }
 
+// The option `--lines`, with no word behind it.
+fn lines_option<'a>(alloc: Global) -> Arg<'a>
+    ensures rule { rule_of result ≡ lines_rule }
+    ensures local { result.global ≡ false }
+{
+    Arg::new(alloc, "lines")
+        .long("lines")
+        .action(ArgAction::SetTrue)
+}
+
 // The option `--property`, with any word.
 fn property_option<'a>(alloc: Global) -> Arg<'a>
     ensures rule { rule_of result ≡ property_rule }
@@ -119,6 +130,17 @@ fn translating<'a>(alloc: Global, name: &'a str) -> Result<clap::Command<'a>, Al
     plain(alloc, name).arg(property_option(alloc))
 }
 
+// A command that takes the number of workers and the name of a property, and writes lines of
+// instances.
+fn showing<'a>(alloc: Global, name: &'a str) -> Result<clap::Command<'a>, AllocError>
+    ensures { IfOk result (λ c. (shape_of c ≡ showing_shape name.now)
+        × ((out-Command c).has_globals ≡ false)) }
+{
+    exploring(alloc, name)?
+        .arg(property_option(alloc))?
+        .arg(lines_option(alloc))
+}
+
 // A command line with one more command, where memory was refused for neither: so a line of many
 // commands has one way out, here.
 fn with<'a>(
@@ -147,7 +169,8 @@ fn command_line<'a>(alloc: Global) -> Result<clap::Command<'a>, AllocError>
     let line = with(line, Ok(plain(alloc, "list")));
     let line = with(line, solving(alloc, "solve-code"));
     let line = with(line, translating(alloc, "translate"));
-    with(line, solving(alloc, "check"))
+    let line = with(line, solving(alloc, "check"));
+    with(line, showing(alloc, "why"))
 }
 
 // How many workers a command is given, 1 where the words don't say.
@@ -183,11 +206,11 @@ fn solver_of(options: &ArgMatches) -> Option<Solver>
     }
 }
 
-// Whether a command is told to name places.
-fn places_of(options: &ArgMatches) -> bool
-    ensures { ArePlacesToldBy (first_value (found_of options.now) (codes "places")) result }
+// Whether an option without a word is given to a command.
+fn is_set(options: &ArgMatches, name: &str) -> bool
+    ensures { IsSetBy (first_value (found_of options.now) name.now) result }
 {
-    options.get_str("places") == Some("true")
+    options.get_str(name) == Some("true")
 }
 
 // The property that a command is told of.
@@ -217,7 +240,8 @@ fn request_with(name: &str, options: &ArgMatches, property: Option<String>) -> O
         command,
         workers,
         solver,
-        places: places_of(options),
+        places: is_set(options, "places"),
+        lines: is_set(options, "lines"),
         property,
     })
 }
@@ -242,7 +266,8 @@ fn request_in<S: AsStr>(alloc: Global, words: &[S]) -> Result<Request, WordsErro
 }
 
 /// What the words ask, the first of them being the program's name: a command, the number of
-/// workers, the solver and the property that its options name, and whether places are asked for.
+/// workers, the solver and the property that its options name, and whether places are asked for,
+/// and lines of instances.
 ///
 /// # Errors
 /// `Usage` exactly where the words have a fault, unless memory is refused first: where `clap`

@@ -45,4 +45,5 @@ fault_line (solve_fault.Limit excess) = lines.limit_line excess
 fault_line (solve_fault.Module fault) = lines.module_line fault
 fault_line (solve_fault.Acceptance fault) = lines.code_line fault
 fault_line solve_fault.TooManyVertices = codes "G01\n"
+fault_line (solve_fault.Property fault) = lines.property_line fault
 fault_line solve_fault.NoProperty = lines.line_of U01

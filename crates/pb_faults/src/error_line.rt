@@ -22,7 +22,7 @@ pub trait ErrorLine {
 }
 
 // The number of a rule and a place.
-fn placed_line(number: &str, place: Place) -> Line
+pub(crate) fn placed_line(number: &str, place: Place) -> Line
     requires { length number.now ≤ 3 }
     ensures { result ≡ line_at number.now place }
 {

@@ -4,7 +4,7 @@ ghost use Rattle.pb_faults.specs.declared.solve_fault.SolveFault.TheVariants.{Ac
 ghost use Rattle.pb_faults.specs.declared.solve_fault.SolveFault.TheVariants.{Module, Text, Typing};
 ghost use Rattle.pb_faults.specs.declared.solve_fault.SolveFault.TheVariants as solve_fault;
 
-use crate::{ErrorLine, Line, ProgramFault};
+use crate::{ErrorLine, Line, ProgramFault, PropertyFault};
 use pb_assembler_measures::Excess;
 use pb_bytecode::ModuleFault;
 use pb_errors::Fault;
@@ -36,6 +36,9 @@ pub enum SolveFault {
     /// `G01`: the game has more than 2^24 vertices.
     #[error("too many vertices")]
     TooManyVertices,
+    /// `C01` to `C06`, `G01`: a property of the model is too large.
+    #[error("a property is too large")]
+    Property(PropertyFault),
     /// `U01`: the model has no property of the name.
     #[error("no such property")]
     NoProperty,
@@ -105,6 +108,14 @@ impl From<TooManyVertices> for SolveFault {
     }
 }
 
+impl From<PropertyFault> for SolveFault {
+    ghost from_gives = { λ fault made. made ≡ solve_fault.Property fault };
+
+    fn from(fault: PropertyFault) -> SolveFault {
+        SolveFault::Property(fault)
+    }
+}
+
 impl ErrorLine for SolveFault {
     ghost use Rattle.pb_faults.specs.Errors.{fault_line};
 
@@ -118,6 +129,7 @@ impl ErrorLine for SolveFault {
             SolveFault::Module(fault) => fault.error_line(),
             SolveFault::Acceptance(fault) => fault.error_line(),
             SolveFault::TooManyVertices => Line::of("G01\n"),
+            SolveFault::Property(fault) => fault.error_line(),
             SolveFault::NoProperty => Line::of(ProgramFault::U01.line()),
         }
     }

@@ -21,6 +21,7 @@ pub unlisted : (bytes : List ℕ) (f : SolveFault) → IsUnlisted bytes f → Is
 unlisted bytes (solve_fault.Acceptance fault) h = absurd h
 unlisted bytes solve_fault.TooManyVertices h = h
 unlisted bytes solve_fault.NoProperty h = h
+unlisted bytes (solve_fault.Property fault) h = h
 unlisted bytes (solve_fault.Text fault) h = h
 unlisted bytes (solve_fault.Typing fault) h = h
 unlisted bytes (solve_fault.Limit excess) h = h
@@ -29,6 +30,7 @@ unlisted bytes (solve_fault.Module fault) h = h
 pub unverified : (bytes : List ℕ) (f : SolveFault) → IsUnverified bytes f → IsRefusedBytes bytes f
 unverified bytes solve_fault.TooManyVertices h = absurd h
 unverified bytes solve_fault.NoProperty h = h
+unverified bytes (solve_fault.Property fault) h = h
 unverified bytes (solve_fault.Text fault) h = h
 unverified bytes (solve_fault.Typing fault) h = h
 unverified bytes (solve_fault.Limit excess) h = h
@@ -40,6 +42,7 @@ unverified bytes (solve_fault.Acceptance fault) h = h
 pub module_of_code_refused : (bytes : List ℕ) (m : Contents) → IsModuleOfCode bytes m → (f : SolveFault) → IsRefusedModule m f → IsRefusedBytes bytes f
 module_of_code_refused bytes m of_code solve_fault.TooManyVertices h = (m, of_code, h)
 module_of_code_refused bytes m of_code solve_fault.NoProperty h = absurd h
+module_of_code_refused bytes m of_code (solve_fault.Property fault) h = absurd h
 module_of_code_refused bytes m of_code (solve_fault.Text fault) h = absurd h
 module_of_code_refused bytes m of_code (solve_fault.Typing fault) h = absurd h
 module_of_code_refused bytes m of_code (solve_fault.Limit excess) h = absurd h

@@ -7,22 +7,22 @@ ghost use Rattle.pb_faults.specs.declared.fault.ProgramFault.TheVariants as faul
 ghost use Rattle.pb_faults.specs.declared.solve_fault.SolveFault.TheVariants.{NoProperty};
 ghost use Rattle.pb_faults.specs.Errors.{IfInputRefused};
 ghost use Rattle.pb_faults.specs.Lines.{line_of};
-ghost use Rattle.pb_command_line.specs.declared.command.Command.TheVariants.{Translate};
 ghost use Rattle.pb_command_line.specs.Words.{AskForSomething, HaveFault, AskNothing, AskPlainly};
 ghost use Rattle.pb_module_commands.specs.Delivery.{Delivers};
 ghost use Rattle.pbsolve.specs.Outputs.{OutputsFor, IsRefusedFor};
 ghost use Rattle.pbsolve.specs.Program.{fault_status, status_of, error_line_of, Answers};
 ghost use Rattle.pb_input.specs.Reading.{ReadsAtMost};
 ghost use Rattle.pbsolve.specs.Program.{IsRefusedBy, LackProperty, Tells};
-ghost use Rattle.pbsolve.specs.Program.{TellsRefusal};
+ghost use Rattle.pbsolve.specs.Program.{TakesProperty, TellsRefusal};
 
 use crate::compile::compile_text;
 use crate::models::{check_text, translate_text};
-use crate::options::ExplainOptions;
+use crate::options::{ExplainOptions, WhyOptions};
 use crate::run_error::RunError;
 use crate::solve::{certificate_of, explain_text, game_of, solution_of, solve_text};
 use crate::status::Status;
 use crate::streams::Streams;
+use crate::why::why_text;
 use pb_command_line::{Command, Request, request_of};
 use pb_exploration::Gate;
 use pb_faults::{ErrorLine, ProgramFault, SolveError};
@@ -47,7 +47,7 @@ fn answer<R: Threads + Sync, G: Gate + Sync, O: Sink>(
         O.taken O.has_failed out.old out.new }
     ensures refused { IfInputRefused result (IsRefusedFor request bytes.now) }
     ensures named { result ≡ Err (SolveError.Refused NoProperty) → IsSome request.property }
-    ensures asked { result ≡ Err (SolveError.Refused NoProperty) → request.command ≡ Translate }
+    ensures asked { result ≡ Err (SolveError.Refused NoProperty) → TakesProperty request.command }
 {
     let options = SolveOptions {
         workers: request.workers,
@@ -77,6 +77,13 @@ fn answer<R: Threads + Sync, G: Gate + Sync, O: Sink>(
         }
         Command::Translate => translate_text(context.alloc, bytes, request.property_name(), out),
         Command::Check => check_text(context, bytes, options, out),
+        Command::Why => {
+            let options = WhyOptions {
+                workers: request.workers,
+                lines: request.lines,
+            };
+            why_text(context, bytes, request.property_name(), options, out)
+        }
     }
 }
 

@@ -38,6 +38,7 @@ fn refuses_words(rt: HostRuntime) -> Result<(), Fail> {
 #[test]
 fn fails_at_each_byte_written(rt: HostRuntime) -> Result<(), Fail> {
     for run in RUNS {
+        assert!(rt; run.output.len() < ROOM);
         for budget in 0..=run.output.len() {
             let whole = budget == run.output.len();
             let status = if whole { 0 } else { 4 };
@@ -63,6 +64,7 @@ fn fails_at_each_byte_written(rt: HostRuntime) -> Result<(), Fail> {
 #[test]
 fn fails_at_each_byte_read(rt: HostRuntime) -> Result<(), Fail> {
     for run in RUNS {
+        assert!(rt; run.input.len() < ROOM);
         for left in 0..=run.input.len() {
             let bytes = run.input;
             let reader = In::new(Failing { bytes, left });

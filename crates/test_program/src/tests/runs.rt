@@ -42,8 +42,28 @@ mu X(n: Nat) = val(n == 3) || val(true) && X(n + 1);
 init X(0);
 ";
 
+// A process that tries, while the other one goes round.
+const LASSO: &[u8] = b"safe true
+alive true
+enters false
+1 Z: p = idle, q = idle
+2 Z try1: p := trying
+3 Y stays
+4 Y try2: q := trying
+5 Y enter2: q := critical
+  leave2: q := idle, back to line 3, for ever
+";
+
+const COUNTED: &[u8] = b"top true
+1 X: n = 0
+2 X up: n := 1
+3 X up: n := 2
+4 X up: n := 3
+  here the test holds: n = 3
+";
+
 /// Runs of each command that reads a text or a model.
-pub const RUNS: [Run; 10] = [
+pub const RUNS: [Run; 12] = [
     Run {
         name: "solve",
         words: &["pbsolve", "solve"],
@@ -103,5 +123,17 @@ pub const RUNS: [Run; 10] = [
         words: &["pbsolve", "translate", "--property", "top"],
         input: CUT,
         output: TRANSLATED,
+    },
+    Run {
+        name: "why",
+        words: &["pbsolve", "why"],
+        input: LOCK,
+        output: LASSO,
+    },
+    Run {
+        name: "why of a property by two workers",
+        words: &["pbsolve", "why", "--property", "top", "--workers", "2"],
+        input: CUT,
+        output: COUNTED,
     },
 ];

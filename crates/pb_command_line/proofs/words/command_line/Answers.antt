@@ -1,7 +1,7 @@
 -- A line with one command more after another is the command line, where memory was refused for none.
 use Rattle.std.proofs.Common.{codes, true, rules}
 use Rattle.clap.specs.Simple.{new_app, new_shape, on_top, with_subcommand, App}
-use Rattle.pb_command_line.specs.Words.{text_commands, solving_shape, exploring_shape, explaining_shape, translating_shape}
+use Rattle.pb_command_line.specs.Words.{text_commands, solving_shape, exploring_shape, explaining_shape, translating_shape, showing_shape}
 use Rattle.pb_command_line.proofs.words.command_line.Goals as goal
 
 pub returns : goal.returns
@@ -16,6 +16,7 @@ returns c =
     let listing : App = with_subcommand verify (new_shape (codes "list")) in
     let solve_code : App = with_subcommand listing (solving_shape (codes "solve-code")) in
     let translate : App = with_subcommand solve_code (translating_shape (codes "translate")) in
+    let check : App = with_subcommand translate (solving_shape (codes "check")) in
     let line = c.with-line.ensures bare (solving_shape (codes "solve")) (search rules) c.solving.ensures in
     let line = c.with-line-2.ensures solve (exploring_shape (codes "game")) line c.exploring.ensures in
     let line = c.with-line-3.ensures game (solving_shape (codes "solution")) line c.solving-2.ensures in
@@ -26,4 +27,5 @@ returns c =
     let line = c.with-line-8.ensures verify (new_shape (codes "list")) line (c.plain-3.ensures.shape, c.plain-3.ensures.local) in
     let line = c.with-line-9.ensures listing (solving_shape (codes "solve-code")) line c.solving-4.ensures in
     let line = c.with-line-10.ensures solve_code (translating_shape (codes "translate")) line c.translating.ensures in
-    c.with.ensures translate (solving_shape (codes "check")) line c.solving-5.ensures
+    let line = c.with-line-11.ensures translate (solving_shape (codes "check")) line c.solving-5.ensures in
+    c.with.ensures check (showing_shape (codes "why")) line c.showing.ensures

@@ -12,4 +12,4 @@ returns-in_err-solver-clause-none c =
 
 pub returns-clause-read : goal.returns-clause-read
 returns-clause-read c =
-    request_read c.args.name.now (found_of c.args.options.now) _ c.in_ok-command.ensures.named c.in_ok-workers.ensures.workers c.in_ok-solver.ensures.chosen c.places_of.ensures c.requires
+    request_read c.args.name.now (found_of c.args.options.now) _ c.in_ok-command.ensures.named c.in_ok-workers.ensures.workers c.in_ok-solver.ensures.chosen c.is_set.ensures c.is_set-2.ensures c.requires

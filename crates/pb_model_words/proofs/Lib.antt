@@ -1,0 +1,2 @@
+pub mod Enumerators
+pub mod Listed

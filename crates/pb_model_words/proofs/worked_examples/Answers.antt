@@ -1,0 +1,16 @@
+use Rattle.std.proofs.Common.{refl}
+use Rattle.std.specs.Fmt.{digits}
+use Rattle.pb_model_words.proofs.worked_examples.Goals as goal
+
+pub returns : goal.returns
+unfolding digits
+returns c = record {
+  state = refl;
+  values = refl;
+  step = refl;
+  own_values = refl;
+  stays = refl;
+  changes = refl;
+  mark = refl;
+  no_mark = refl;
+}

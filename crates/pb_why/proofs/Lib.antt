@@ -1,0 +1,7 @@
+pub mod Children
+pub mod Parents
+pub mod Pushed
+pub mod Reached
+pub mod Runs
+pub mod States
+pub mod Told

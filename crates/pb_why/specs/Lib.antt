@@ -1,0 +1,5 @@
+pub mod Order
+pub mod Lines
+pub mod WhyText
+pub mod InstanceLines
+pub mod Ready

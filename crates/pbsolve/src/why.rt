@@ -1,0 +1,227 @@
+//! Why the properties of a model hold or don't: the verdicts, with the steps that show them.
+ghost use Rattle.std.specs.Prelude.{◌≡◌, ◌≤◌, ◌<◌, ℕ, Contains, List, Err, IfOk, IsSome, Some};
+ghost use Rattle.std.specs.Prelude.{length};
+ghost use Rattle.std.specs.Prelude.{option_copied, string_bytes};
+ghost use Rattle.std.specs.List.{slice_get};
+ghost use Rattle.pb_errors.specs.OrMemory.{IfRefused};
+ghost use Rattle.pb_errors.specs.declared.or_memory.OrMemory.TheVariants.{Refused};
+ghost use Rattle.pb_faults.specs.Errors.{IfInputRefused};
+ghost use Rattle.pb_faults.specs.declared.solve_fault.SolveFault.TheVariants.{NoProperty};
+ghost use Rattle.pb_text_tree.specs.Form.{spec_form};
+ghost use Rattle.pb_text_tree.specs.declared.place.Place.{Place};
+ghost use Rattle.pb_text_meaning.specs.Erase.{erase};
+ghost use Rattle.pb_trees.specs.Tree.{Tree};
+ghost use Rattle.pb_bytecode.specs.Meaning.{AreTrees};
+ghost use Rattle.pb_assembler_modules.specs.Module.{IsCompiledModule};
+ghost use Rattle.pb_report.specs.ModuleEvidence.{IsExplanation};
+ghost use Rattle.pb_model_tree.specs.Form.{FormulaForm, ModelForm, PropertyForm, model_form};
+ghost use Rattle.pb_model_translation.specs.Placed.{placed};
+ghost use Rattle.pb_model_properties.specs.Said.{IsModelOf};
+ghost use Rattle.pb_module_commands.specs.Delivery.{Delivers};
+ghost use Rattle.pbsolve.specs.Models.{IsUnchecked};
+ghost use Rattle.pbsolve.specs.Why.{CallsAreSteps};
+ghost use Rattle.pbsolve.specs.Why.{AreTold, IsTold, IsUnshown, OutputsWhy, TellAsked};
+ghost use Rattle.pbsolve.specs.Why.{lines_of, shown_by, told_text};
+
+use crate::compile::verified;
+use crate::laws::told_calls_are_steps;
+use crate::options::WhyOptions;
+use crate::property_faults::{error_of_property, name_place};
+use pb_errors::OrMemory;
+use pb_exploration::Gate;
+use pb_faults::{SolveError, SolveFault};
+use pb_limits::MAX_INPUT_BYTES;
+use pb_machine::instances_have_trees;
+use pb_model_properties::{place_of, push_verdict, read_model, text_at};
+use pb_model_typing::{TypedModel, steps_text};
+use pb_module_commands::{deliver, explained};
+use pb_module_solver::Context;
+use pb_sorts::Sink;
+use pb_why::{Shown, push_instance_lines, push_why};
+use std::alloc::{AllocError, Global};
+use std::thread::Threads;
+
+// The property at a place is told with these options; it is shown always, or where it doesn't hold.
+#[derive(Clone, Copy, Debug, PartialEq, Eq)]
+struct Asked {
+    place: usize,
+    always: bool,
+    options: WhyOptions,
+}
+
+// The verdict on a property, and behind it what shows it.
+fn told(alloc: Global, asked: Asked, name: &str, shown: &Shown<'_>) -> Result<String, AllocError>
+    requires compiled { IsCompiledModule (erase (spec_form shown.now.typed.now.spec))
+        shown.now.verified.now }
+    requires trees { (trees : ℕ → Tree) × AreTrees shown.now.verified.now trees }
+    requires explanation { IsExplanation shown.now.verified.now shown.now.explanation.now }
+    requires property { (here : Place) × (f : FormulaForm)
+        × (spec_form shown.now.typed.now.spec ≡ placed (model_form shown.now.model.now) here f) }
+    requires steps { (here : Place) × (f : FormulaForm)
+        × (spec_form shown.now.steps.now.spec ≡ placed (model_form shown.now.model.now) here f) }
+    ensures { IfOk result (λ told. (trees : ℕ → Tree) → AreTrees shown.now.verified.now trees
+        → string_bytes told ≡ told_text asked.always name.now
+        shown.now.explanation.now.evidence.truth (lines_of asked.options.lines
+        (shown_by (model_form shown.now.model.now) (spec_form shown.now.typed.now.spec)
+        (spec_form shown.now.steps.now.spec) shown.now.verified.now trees
+        shown.now.explanation.now.evidence))) }
+{
+    let mut told = String::new(alloc);
+    let truth = shown.explanation.evidence.truth;
+    push_verdict(alloc, &mut told, name, truth, 0)?;
+    if asked.always || !truth {
+        if asked.options.lines {
+            push_instance_lines(alloc, shown, &mut told)?;
+        } else {
+            push_why(alloc, shown, &mut told)?;
+        }
+    }
+    Ok(told)
+}
+
+// What is told of the property at a place.
+fn told_at<R: Threads + Sync, G: Gate + Sync>(
+    context: &Context<'_, R, G>,
+    model: &TypedModel,
+    asked: Asked,
+) -> Result<String, OrMemory<SolveFault>>
+    requires read { (bytes : List ℕ) × IsModelOf bytes (model_form model.now.model) }
+    requires within { asked.place < length model.now.model.properties.items }
+    ensures told { IfOk result (λ told. (p : PropertyForm)
+        → slice_get (model_form model.now.model).properties asked.place ≡ Some p
+        → IsTold asked.options.lines asked.always (model_form model.now.model) p
+        (string_bytes told)) }
+    ensures refused { IfRefused result (λ fault. (bytes : List ℕ)
+        → IsModelOf bytes (model_form model.now.model) → IsUnchecked bytes fault) }
+{
+    let text = text_at(context.alloc, model, asked.place)?;
+    let here = name_place(model, asked.place);
+    let verified = match verified(context.alloc, &text) {
+        Ok(verified) => verified,
+        Err(error) => return Err(error_of_property(error, here)),
+    };
+    instances_have_trees(&verified);
+    let explanation = match explained(context, &verified, asked.options.workers) {
+        Ok(explanation) => explanation,
+        Err(error) => return Err(error_of_property(error, here)),
+    };
+    let steps = steps_text(context.alloc, model)?;
+    let shown = Shown {
+        model: &model.model,
+        typed: &text,
+        steps: &steps,
+        verified: &verified,
+        explanation: &explanation,
+    };
+    let name = &model.model.properties[asked.place].name.text;
+    Ok(told(context.alloc, asked, name, &shown)?)
+}
+
+// What is told of all properties.
+fn all_told<R: Threads + Sync, G: Gate + Sync>(
+    context: &Context<'_, R, G>,
+    model: &TypedModel,
+    options: WhyOptions,
+) -> Result<String, OrMemory<SolveFault>>
+    requires read { (bytes : List ℕ) × IsModelOf bytes (model_form model.now.model) }
+    ensures told { IfOk result (λ lines. AreTold options.lines (model_form model.now.model)
+        (model_form model.now.model).properties (string_bytes lines)) }
+    ensures refused { IfRefused result (λ fault. (bytes : List ℕ)
+        → IsModelOf bytes (model_form model.now.model) → IsUnchecked bytes fault) }
+{
+    let mut lines = String::new(context.alloc);
+    for place in 0..model.model.properties.len() {
+        let asked = Asked {
+            place,
+            always: false,
+            options,
+        };
+        let told = told_at(context, model, asked)?;
+        lines.push_str(told.as_str())?;
+    }
+    Ok(lines)
+}
+
+// What is told of the property of a name.
+fn named_told<R: Threads + Sync, G: Gate + Sync>(
+    context: &Context<'_, R, G>,
+    model: &TypedModel,
+    name: &str,
+    options: WhyOptions,
+) -> Result<String, OrMemory<SolveFault>>
+    requires read { (bytes : List ℕ) × IsModelOf bytes (model_form model.now.model) }
+    ensures told { IfOk result (λ lines. TellAsked options.lines (Some name.now)
+        (model_form model.now.model) (string_bytes lines)) }
+    ensures refused { IfRefused result (λ fault. (bytes : List ℕ)
+        → IsModelOf bytes (model_form model.now.model)
+        → IsUnshown (Some name.now) bytes fault) }
+{
+    let Some(place) = place_of(&model.model.properties, Some(name)) else {
+        return Err(SolveFault::NoProperty.into());
+    };
+    let asked = Asked {
+        place,
+        always: true,
+        options,
+    };
+    told_at(context, model, asked)
+}
+
+// What is told of the property of a name, or of all where none is named.
+fn asked_told<R: Threads + Sync, G: Gate + Sync>(
+    context: &Context<'_, R, G>,
+    model: &TypedModel,
+    property: Option<&str>,
+    options: WhyOptions,
+) -> Result<String, OrMemory<SolveFault>>
+    requires read { (bytes : List ℕ) × IsModelOf bytes (model_form model.now.model) }
+    ensures told { IfOk result (λ lines. TellAsked options.lines (option_copied property.entry)
+        (model_form model.now.model) (string_bytes lines)) }
+    ensures refused { IfRefused result (λ fault. (bytes : List ℕ)
+        → IsModelOf bytes (model_form model.now.model)
+        → IsUnshown (option_copied property.entry) bytes fault) }
+    ensures named { result ≡ Err (Refused NoProperty) → IsSome property.entry }
+{
+    match property {
+        Some(name) => named_told(context, model, name, options),
+        None => all_told(context, model, options),
+    }
+}
+
+/// Tells why the properties of a model hold or don't, in the model's own words. Without a name it
+/// writes for each property, in order, the line of the verdict on it, and behind that of each that
+/// doesn't hold what shows it: lines of evidence, with the steps that lead from one to another.
+/// With a name it does so for that property alone, whatever the verdict is.
+///
+/// Where lines of instances are asked for, these show the verdict in place of words: each names an
+/// instance and those that it rests on, as with `explain_text`, and the steps that lead to them.
+///
+/// Each property's text is explored and solved once, as `explain_text` does with a text. A call of
+/// that text, which leads from one line to another, is a move of the model: `calls_are_moves` of
+/// `pb_model_runs` says so. By its `every_step_is_called` no step can be taken where the text of
+/// every step makes no call.
+///
+/// # Errors
+/// `NoProperty` comes exactly where the model has no property of the name. Others are as with
+/// `check_text`.
+pub fn why_text<R: Threads + Sync, G: Gate + Sync, S: Sink>(
+    context: &Context<'_, R, G>,
+    bytes: &[u8],
+    property: Option<&str>,
+    options: WhyOptions,
+    writer: &mut S,
+) -> Result<(), SolveError>
+    requires input { length bytes.now ≤ MAX_INPUT_BYTES }
+    ensures told { Delivers (OutputsWhy options.lines (option_copied property.entry) bytes.now)
+        result S.taken S.has_failed writer.old writer.new }
+    // The calls that the lines tell are steps of the model.
+    ensures steps { (model : ModelForm) (p : PropertyForm) → IsModelOf bytes.now model
+        → Contains model.properties p → CallsAreSteps model p }
+    ensures refused { IfInputRefused result (IsUnshown (option_copied property.entry) bytes.now) }
+    ensures named { result ≡ Err (SolveError.Refused NoProperty) → IsSome property.entry }
+{
+    told_calls_are_steps();
+    let model = read_model(context.alloc, bytes)?;
+    let lines = asked_told(context, &model, property, options)?;
+    deliver(lines.as_bytes(), writer)
+}
