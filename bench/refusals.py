@@ -35,6 +35,14 @@ COUNTS_DOWN = bytes.fromhex(
     "504245530200010001580102000000000900000000" "0a000000040000000a001f2500010000000900000007000400"
     "0101000000000000000724001808002120000009" "00000000000000"
 )
+MODEL = (
+    b"sort D = struct a | b; model state p: D, q: Bool; step s(d: D): d != p -> p := d; t: p == b -> q := !q; init a, false; "
+    b"property r = nu Z . [s] Z && (p == b => mu Y . [t] Y);"
+)
+LASSO = (
+    b"r false\n1 Z: p = a, q = false\n2 Z s(b): p := b\n3 Y stays\n4 Y t: q := true\n"
+    b"  t: q := false, back to line 3, for ever\n"
+)
 SINKS = b'0 1 0 0 "false";\n1 0 0 1 "true";\n'
 CASES = [
     ("solve", "cycle", CYCLE, b"answer false\ninstances 2\ncut 0\nvertices 4\n"),
@@ -49,6 +57,7 @@ CASES = [
     ("solve", "data", DATA, b"answer true\ninstances 3\ncut 0\nvertices 5\n"),
     ("game", "data", DATA, b"parity 4;\n" + SINKS + b'2 1 0 1 "Y(1)";\n3 1 0 2 "Y(2)";\n4 1 0 3 "Y(3)";\n'),
     ("solution", "data", DATA, b"Y(1) true\nY(2) true\nY(3) true\n"),
+    ("why", "model", MODEL, LASSO),
     ("solve-code", "others", MODULE, b"answer true\ninstances 3\ncut 0\nvertices 5\n"),
     ("solve-code", "counts down", COUNTS_DOWN, b"answer true\ninstances 10\ncut 0\nvertices 12\n"),
 ]

@@ -1,0 +1,197 @@
+#!/usr/bin/env python3
+"""check_run.py MODEL < TEXT: checks what `pbsolve why < MODEL` wrote. It prints `N lines checked`, or what is wrong where.
+
+It reads the model by itself. The first state is the initial one; each move is a step with a true guard, its own values and all
+its changes; each line has the verdict's value by its formula where exactly the lines and cuts that it rests on have it; the
+outermost fixpoint on each cycle of lines is a mu for false, a nu for true; what is cut leaves the ranges; the words of `here`
+and `back` are right. A verdict without lines, as that of a true property, isn't checked."""
+import itertools
+import re
+import sys
+
+from check_certificate import components
+from models import Model, holds
+
+VERDICT = re.compile(r"([A-Za-z_][\w']*) (true|false)$")
+LINE = re.compile(r"(\d+) ([A-Za-z_][\w']*)(?:: (.*)| (?:from (\d+) )?(.*))$")
+MOVE = re.compile(r"(by no step|[A-Za-z_][\w']*)(?:\(([^()]*)\))?(?:: (.*))?$")
+EDGE = re.compile(r"  (.*), (?:(back to line (\d+), for ever)|to line (\d+)|outside the ranges)$")
+HERE = re.compile(r"  here( no step can be taken| the test fails| the test holds|): (.*)$")
+
+
+class Equations:
+    """The equations of a formula, by their names and in their order: each with its sign and its right side."""
+
+    def __init__(self, whole):
+        self.found, self.variables = {}, []
+        self.list_variables(whole)
+        if whole.kind not in ("mu", "nu"):
+            self.add("nu", "X", whole, whole, {})
+        self.walk(whole, "nu", "X", {})
+
+    def list_variables(self, f):
+        self.variables += f.parts[:1] if f.kind in ("mu", "nu") else []
+        for g in f.operands: self.list_variables(g)
+
+    def add(self, sign, wanted, f, right, scope):
+        taken = [*self.found, *(self.variables if f is right else [])]
+        short = wanted if len(wanted) <= 60 else "X"
+        f.equation = wanted if wanted not in taken else next(n for k in itertools.count(1) if (n := f"{short}'{k}") not in taken)
+        f.scope, self.found[f.equation] = scope, (sign, right)
+
+    def walk(self, f, sign, around, scope):
+        """Numbers what is below a formula, where the variables of fixpoints stand for these equations."""
+        f.scope = scope
+        if f.kind in ("mu", "nu"):
+            self.add(f.kind, f.parts[0], f, f.parts[1], scope)
+            self.walk(f.parts[1], f.kind, f.parts[0], {**scope, f.parts[0]: f.equation})
+        elif f.kind in ("[", "<"):
+            if f.parts[1].kind not in ("constant", "variable", "mu", "nu"):
+                self.add(sign, around, f.parts[1], f.parts[1], scope)
+            self.walk(f.parts[1], sign, around, scope)
+        else:
+            for g in f.operands: self.walk(g, sign, around, scope)
+
+
+class Line:
+    """A formula at a state, the line that it comes from, what it rests on, and what is told of it."""
+
+    def __init__(self, formula, state, parent):
+        self.formula, self.state, self.parent = formula, state, parent
+        self.rests, self.edges, self.cuts, self.here = [], [], [], None
+
+
+class Run:
+    """The lines that show one verdict."""
+
+    def __init__(self, model, name, truth):
+        if name not in model.properties:
+            sys.exit(f"the model has no property {name}")
+        self.model, self.name, self.truth, self.lines = model, name, truth, []
+        self.equations = Equations(model.properties[name])
+
+    def require(self, fact, words, number=None):
+        if not fact:
+            sys.exit(f"{self.name}, line {number or len(self.lines)}: {words}")
+
+    def value(self, word, sort):
+        found = self.model.value(word, sort)
+        self.require(found is not None, f"{word!r} is no value of {sort}")
+        return found
+
+    def state(self, text):
+        """The state that `p = idle, n = 3` tells."""
+        parts = [part.partition(" = ")[::2] for part in text.split(", ")]
+        self.require([x for x, _ in parts] == [x for x, _ in self.model.state], "it tells other variables")
+        return tuple(self.value(v, sort) for (_, v), (_, sort) in zip(parts, self.model.state))
+
+    def moved(self, text, state):
+        """Where a move leads, which is told by a step with its own values and by what changes."""
+        found = MOVE.match(text)
+        self.require(found, f"{text!r} is no move")
+        step, own, changes = found.groups()
+        told = dict(change.partition(" := ")[::2] for change in changes.split(", ")) if changes else {}
+        in_order = ", ".join(f"{x} := {told[x]}" for x, _ in self.model.state if x in told)
+        self.require(in_order == (changes or ""), f"{text!r} tells no changes in order")
+        after = tuple(self.value(told[x], sort) if x in told else v for v, (x, sort) in zip(state, self.model.state))
+        self.require(sum(v != w for v, w in zip(state, after)) == len(told), f"{text!r} tells what is no change")
+        if step in self.model.steps:
+            words, variables = own.split(",") if own else [], self.model.steps[step][0]
+            values = tuple(self.value(v, sort) for v, (_, sort) in zip(words, variables))
+            self.require(len(words) == len(variables) and values in self.model.owned(step), f"{text!r} has other own values")
+            self.require(self.model.after(state, step, values) == after, f"{text!r} isn't what the step does")
+        else:
+            self.require(step == "by no step" or step == "stays" and after == state and not own, f"{text!r} is no step")
+        return after
+
+    def read_line(self, text):
+        found = LINE.match(text)
+        self.require(found, f"{text!r} is no line")
+        number, formula, first, parent, move = found.groups()
+        self.require(int(number) == len(self.lines) + 1 and (first is None) == bool(self.lines), f"it is followed by {text!r}")
+        parent = int(parent) - 1 if parent else len(self.lines) - 1
+        self.require(-1 <= parent < len(self.lines), f"{text!r} comes from no line")
+        state = self.state(first) if first else self.moved(move, self.lines[parent].state)
+        self.require(state == self.model.initial or not first, "it isn't the initial state")
+        self.require(self.model.is_within(state), f"{text!r} leaves the ranges")
+        self.lines.append(Line(formula, state, parent))
+        if not first:
+            self.lines[parent].rests.append(len(self.lines) - 1)
+
+    def read_below(self, text):
+        """What is told below a line."""
+        self.require(self.lines and self.lines[-1].here is None, f"{text!r} stands below no line")
+        line, edge, here = self.lines[-1], EDGE.match(text), HERE.match(text)
+        self.require(edge or here, f"{text!r} is no line")
+        if here:
+            line.here = here[1]
+            self.require(self.state(here[2]) == line.state, "`here` tells another state")
+        elif edge[2] or edge[4]:
+            line.rests.append(int(edge[3] or edge[4]) - 1)
+            line.edges.append((edge[1], line.rests[-1], bool(edge[2])))
+        else:
+            line.cuts.append(self.moved(edge[1], line.state))
+            self.require(not self.model.is_within(line.cuts[-1]), f"{text!r} is within the ranges")
+
+    def check_edges(self):
+        """Each leads to the line that it names, which comes from no later one, and tells a cycle where one is."""
+        first = 0
+        for k, line in enumerate(self.lines):
+            first = first if line.parent == k - 1 else k
+            for move, j, is_back in line.edges:
+                self.require(0 <= j < len(self.lines) and line.rests.count(j) == 1, f"it doesn't lead to line {j + 1} once", k + 1)
+                self.require(self.moved(move, line.state) == self.lines[j].state, f"it doesn't lead to line {j + 1}", k + 1)
+                self.require(j == 0 or self.lines[j].parent < k, f"line {j + 1} comes from here", k + 1)
+                self.require(is_back == (first <= j <= k), f"it goes back to line {j + 1}, or doesn't", k + 1)
+
+    def check_line(self, k, line):
+        self.require(line.formula in self.equations.found, f"there is no formula {line.formula}", k + 1)
+        rests_on = {(self.lines[j].formula, self.lines[j].state) for j in line.rests}
+
+        def truth(formula, reached):
+            if not self.model.is_within(reached):
+                return not self.truth and reached not in line.cuts
+            return ((formula, reached) in rests_on) == self.truth
+        value = holds(self.model, self.equations.found[line.formula][1], line.state, truth)
+        self.require(value == self.truth, "it doesn't follow from the lines that it rests on", k + 1)
+        stuck = not self.model.successors(line.state, lambda step: True)
+        why = "" if line.cuts else " no step can be taken" if stuck else f" the test {'holds' if self.truth else 'fails'}"
+        self.require(line.here == (None if line.rests else why), "it ends in other words", k + 1)
+
+    def check_cycles(self):
+        order = {name: n for n, name in enumerate(self.equations.found)}
+        for name, (sign, _) in self.equations.found.items():
+            inner = {k for k, line in enumerate(self.lines) if order[line.formula] >= order[name]}
+            for component in components(inner, lambda k: [j for j in self.lines[k].rests if j in inner]):
+                for k in component if sign == ("mu" if self.truth else "nu") else ():
+                    cycle = len(component) > 1 or k in self.lines[k].rests
+                    self.require(self.lines[k].formula != name or not cycle, "it rests on itself", k + 1)
+
+    def check(self):
+        self.require(self.lines[0].formula == next(iter(self.equations.found)), "it has another formula", 1)
+        self.check_edges()
+        for k, line in enumerate(self.lines): self.check_line(k, line)
+        self.check_cycles()
+        return len(self.lines)
+
+
+def lines_checked(text, shown):
+    """How many lines what is shown of a model has, where nothing is wrong with them."""
+    model, runs = Model(text), []
+    for line in shown.splitlines():
+        if verdict := VERDICT.match(line):
+            runs.append(Run(model, verdict[1], verdict[2] == "true"))
+        elif not runs:
+            sys.exit(f"{line!r} stands below no verdict")
+        else:
+            (runs[-1].read_below if line.startswith(" ") else runs[-1].read_line)(line)
+    if [run.name for run in runs] != list(model.properties) and len(runs) != 1:
+        sys.exit("the verdicts are those of other properties")
+    for run in runs:
+        run.require(run.lines or run.truth, "no lines show the verdict")
+    return sum(run.check() for run in runs if run.lines)
+
+
+if __name__ == "__main__":
+    with open(sys.argv[1], encoding="utf-8") as model_file:
+        print(f"{lines_checked(model_file.read(), sys.stdin.read())} lines checked")
