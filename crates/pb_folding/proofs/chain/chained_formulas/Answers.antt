@@ -1,0 +1,5 @@
+use Rattle.pb_folding.proofs.Chains.{chained-formula}
+use Rattle.pb_folding.proofs.chain.chained_formulas.Goals as goal
+
+pub returns : goal.returns
+returns c = chained-formula c.args.connective c.args.place c.in_ok-first.first c.in_ok-links.links c.args.left c.args.right c.in_ok-first.ensures.ok c.in_ok-links.ensures

@@ -1,0 +1,19 @@
+//! The syntax tree of a protocol: a model as it is written, with arrays of state variables,
+//! definitions, steps by their values and quantified formulas, each part with the place of its
+//! token. It stands below the reader and below whatever reads the tree, so that these need not know
+//! each other.
+//!
+//! Names, variables, sorts, ranges and data terms are those of texts: `x(t)` is an application,
+//! whether x is an array, a definition or a function. What a model without these forms shares with
+//! a protocol is that of `pb_model_tree`.
+#![tactic(auto)]
+
+pub mod formula;
+pub mod protocol;
+pub mod step;
+pub mod step_set;
+
+pub use formula::{Formula, Link};
+pub use protocol::{Definition, Property, Protocol, StateVariable, StateVariables};
+pub use step::{Assignment, Step};
+pub use step_set::{StepSet, StepSetLink, StepValue};

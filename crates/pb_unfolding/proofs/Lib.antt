@@ -1,0 +1,12 @@
+pub mod PutIn
+pub mod WrittenLaws
+pub mod Reading
+pub mod Assigned
+pub mod States
+pub mod NextStates
+pub mod Successors
+pub mod Formulas
+pub mod Models
+pub mod PositiveCalls
+pub mod PlainModels
+pub mod FlatModels

@@ -1,0 +1,9 @@
+pub mod Written
+pub mod PutIn
+pub mod Unfolding
+pub mod Hygiene
+pub mod TermLaws
+pub mod ModelLaws
+pub mod Positive
+pub mod Plain
+pub mod Examples
