@@ -8,45 +8,54 @@ use Rattle.pb_text_lexer.specs.declared.kind.Kind.TheVariants as k
 use Rattle.pb_text_lexer.specs.Grammar.{Reads, Is, Nothing, One, First}
 use Rattle.pb_text_lexer.specs.Tokens.{Tok}
 use Rattle.pb_text_terms.specs.Operators.{connected_by}
-use Rattle.pb_text_terms.specs.Grammar.{Placed, Equated, IsUnary}
+use Rattle.pb_text_terms.specs.Grammar.{Placed, Instance, QuantifiedBy, Quantified, Equated, IsUnary, IsTerm}
+use Rattle.pb_text_terms.specs.Grammar as terms
 use Rattle.pb_fixpoint.specs.declared.Sign.{Sign}
 use Rattle.pb_fixpoint.specs.declared.Sign.TheVariants as sign
 use Rattle.pb_model_tree.specs.declared.formula.Modality.{Modality}
 use Rattle.pb_model_tree.specs.declared.formula.Modality.TheVariants as modality
-use Rattle.pb_model_tree.specs.Form.{StepSetForm, FormulaForm}
-use Rattle.pb_model_text.specs.Grammar.{SetBegun, united_by, Union, IsSet, IsStepSet, FixpointNames, is_bound, atom_of, Beginning, Atom, Modal, Begun, Binding, FixpointBy, Fixpoint, Connections, within, IsNode, IsFormula}
-use Rattle.pb_model_runs.specs.Exact.{formula_places}
+use Rattle.pb_text_tree.specs.declared.operator.Quantifier.{Quantifier}
+use Rattle.pb_text_tree.specs.declared.operator.Quantifier.TheVariants.{Forall, Exists}
+use Rattle.pb_protocol_tree.specs.Form.{StepSetForm, FormulaForm}
+use Rattle.pb_model_text.specs.Grammar.{IsInstance, SetBegun, united_by, Union, IsSet, IsStepSet, FixpointNames, is_bound, atom_of, Beginning, Atom, Modal, Begun, Binding, FixpointBy, Fixpoint, Binder, Connections, within, IsNode, IsFormula}
+use Rattle.pb_model_places.specs.Apart.{formula_places}
 use Rattle.pb_model_runs.proofs.Elements.{either_of, first_of, in-left, in-right}
-use Rattle.pb_model_places.proofs.Keeping.{Keeps, Skips, no-place, keeps-nothing, keeps-is, skips-is, keeps-one, keeps-bind, skips-of, skip, skips-one, keeps-first, keeps-chained, keeps-placed, keeps-connected}
-use Rattle.pb_model_places.proofs.Terms.{name_places, skips-name, keeps-unary, keeps-equated}
+use Rattle.pb_model_places.proofs.Keeping.{Keeps, Skips, no-place, keeps-nothing, keeps-is, skips-is, keeps-one, keeps-bind, skips-of, skip, skips-one, keeps-first, keeps-either, keeps-chained, keeps-placed, keeps-connected}
+use Rattle.pb_model_places.proofs.Terms.{name_places, instance_at, skips-name, skips-variables, skips-term, keeps-instance, keeps-unary, keeps-equated}
 
 -- ---- sets of steps
 
 abbrev pub no_places : {X : Type 0} → X → List Place
 no_places x = []
 
-skips-set-begun : (Set Sets : Reads StepSetForm) → Skips Set → Skips Sets → (kind : Kind) → Skips (SetBegun Set Sets kind)
-skips-set-begun Set Sets set sets k.True = skip _ _ [] no_places (skips-one k.True) (λ word. skips-is _)
-skips-set-begun Set Sets set sets k.Name = skip _ _ [] no_places skips-name (λ name. skips-is _)
-skips-set-begun Set Sets set sets k.Not = skip _ _ [] no_places (skips-one k.Not) (λ sign. skip _ _ [] no_places set (λ operand. skips-is _))
-skips-set-begun Set Sets set sets k.Open =
+pub skips-instance : (depth : ℕ) → Skips (IsInstance depth)
+skips-instance zero = skips-of (Instance Nothing) instance_at (keeps-instance Nothing (keeps-nothing [] no_places))
+skips-instance (suc depth) = skips-of (Instance (IsTerm depth)) instance_at (keeps-instance (IsTerm depth) (skips-term depth))
+
+skips-set-begun : (Set Sets : Reads StepSetForm) (depth : ℕ) → Skips Set → Skips Sets → (kind : Kind) → Skips (SetBegun Set Sets (IsInstance depth) kind)
+skips-set-begun Set Sets depth set sets k.True = skip _ _ [] no_places (skips-one k.True) (λ word. skips-is _)
+skips-set-begun Set Sets depth set sets k.Name = skip _ _ [] no_places (skips-instance depth) (λ name. skips-is _)
+skips-set-begun Set Sets depth set sets k.Not = skip _ _ [] no_places (skips-one k.Not) (λ sign. skip _ _ [] no_places set (λ operand. skips-is _))
+skips-set-begun Set Sets depth set sets k.Open =
     skip _ _ [] no_places (skips-one k.Open) (λ open_bracket. skip _ _ [] no_places sets (λ inner. skip _ _ [] no_places (skips-one k.Close) (λ close_bracket. skips-is inner)))
-skips-set-begun Set Sets set sets _ = keeps-nothing [] no_places
+skips-set-begun Set Sets depth set sets _ = keeps-nothing [] no_places
 
 skips-union : (Set : Reads StepSetForm) → Skips Set → Skips (Union Set)
 skips-union Set set = keeps-chained k.Or united_by Set Set no_places (λ x t y p e. e) set set
 
 mutual
   skips-set : (depth : ℕ) → Skips (IsSet depth)
-  skips-set zero = keeps-first [] no_places (SetBegun Nothing Nothing) (skips-set-begun Nothing Nothing (keeps-nothing [] no_places) (keeps-nothing [] no_places))
-  skips-set (suc depth) = keeps-first [] no_places (SetBegun (IsSet depth) (IsStepSet depth)) (skips-set-begun (IsSet depth) (IsStepSet depth) (skips-set depth) (skips-step-set depth))
+  skips-set zero = keeps-first [] no_places (SetBegun Nothing Nothing (IsInstance zero)) (skips-set-begun Nothing Nothing zero (keeps-nothing [] no_places) (keeps-nothing [] no_places))
+  skips-set (suc depth) =
+      keeps-first [] no_places (SetBegun (IsSet depth) (IsStepSet depth) (IsInstance (suc depth))) (skips-set-begun (IsSet depth) (IsStepSet depth) (suc depth) (skips-set depth) (skips-step-set depth))
 
   skips-step-set : (depth : ℕ) → Skips (IsStepSet depth)
   skips-step-set zero =
-      skips-union (First (SetBegun Nothing Nothing)) (keeps-first [] no_places (SetBegun Nothing Nothing) (skips-set-begun Nothing Nothing (keeps-nothing [] no_places) (keeps-nothing [] no_places)))
+      skips-union (First (SetBegun Nothing Nothing (IsInstance zero)))
+      (keeps-first [] no_places (SetBegun Nothing Nothing (IsInstance zero)) (skips-set-begun Nothing Nothing zero (keeps-nothing [] no_places) (keeps-nothing [] no_places)))
   skips-step-set (suc depth) =
-      skips-union (First (SetBegun (IsSet depth) (IsStepSet depth)))
-      (keeps-first [] no_places (SetBegun (IsSet depth) (IsStepSet depth)) (skips-set-begun (IsSet depth) (IsStepSet depth) (skips-set depth) (skips-step-set depth)))
+      skips-union (First (SetBegun (IsSet depth) (IsStepSet depth) (IsInstance (suc depth))))
+      (keeps-first [] no_places (SetBegun (IsSet depth) (IsStepSet depth) (IsInstance (suc depth))) (skips-set-begun (IsSet depth) (IsStepSet depth) (suc depth) (skips-set depth) (skips-step-set depth)))
 
 -- ---- formulas
 
@@ -105,10 +114,24 @@ module _ (Body : List ℕ → Reads FormulaForm) (body : (x : List ℕ) → Keep
   keeps-fixpoint-by k.Nu = keeps-bind (One k.Nu) _ [] (λ (t : Tok). t.place ∷ []) formula_places (keeps-one k.Nu) (λ word. keeps-binding sign.Nu word.place)
   keeps-fixpoint-by _ = keeps-nothing [] formula_places
 
-  keeps-connections : (Node : Reads FormulaForm) → Keeps [] formula_places Node → Keeps [] formula_places (Connections Node Body)
-  keeps-connections Node node =
-      keeps-connected (connected_by FormulaForm.connected) Node (Fixpoint Body) formula_places (λ kind x t y p e. e) node
-      (keeps-first [] formula_places (FixpointBy Body) keeps-fixpoint-by)
+module _ (Formula : Reads FormulaForm) (formula : Keeps [] formula_places Formula) where
+  keeps-quantifier : (q : Quantifier) (at : Place) → Keeps [] formula_places (terms.Binding (FormulaForm.quantified q at) Formula)
+  keeps-quantifier q at =
+      skip _ _ [] formula_places skips-variables (λ variables. skip _ _ [] formula_places (skips-one k.Period) (λ period.
+      keeps-bind Formula _ [] formula_places formula_places formula (λ f. keeps-is _ formula_places _ (λ p e. in-left (formula_places f) [] p e))))
+
+  keeps-quantified-by : (kind : Kind) → Keeps [] formula_places (QuantifiedBy FormulaForm.quantified Formula kind)
+  keeps-quantified-by k.Forall = skip _ _ [] formula_places (skips-one k.Forall) (λ word. keeps-quantifier Forall word.place)
+  keeps-quantified-by k.Exists = skip _ _ [] formula_places (skips-one k.Exists) (λ word. keeps-quantifier Exists word.place)
+  keeps-quantified-by _ = keeps-nothing [] formula_places
+
+keeps-binder : (Body : List ℕ → Reads FormulaForm) (Formula : Reads FormulaForm) → ((x : List ℕ) → Keeps [] formula_places (Body x)) → Keeps [] formula_places Formula → Keeps [] formula_places (Binder Body Formula)
+keeps-binder Body Formula body formula =
+    keeps-either [] formula_places (Fixpoint Body) (Quantified FormulaForm.quantified Formula)
+    (keeps-first [] formula_places (FixpointBy Body) (keeps-fixpoint-by Body body)) (keeps-first [] formula_places (QuantifiedBy FormulaForm.quantified Formula) (keeps-quantified-by Formula formula))
+
+keeps-connections : (Node Bound : Reads FormulaForm) → Keeps [] formula_places Node → Keeps [] formula_places Bound → Keeps [] formula_places (Connections Node Bound)
+keeps-connections Node Bound node bound = keeps-connected (connected_by FormulaForm.connected) Node Bound formula_places (λ kind x t y p e. e) node bound
 
 mutual
   keeps-node : (scope : FixpointNames) (depth : ℕ) → Keeps [] formula_places (IsNode scope depth)
@@ -121,10 +144,12 @@ mutual
 
   pub keeps-formula : (scope : FixpointNames) (depth : ℕ) → Keeps [] formula_places (IsFormula scope depth)
   keeps-formula scope zero =
-      keeps-connections (λ name. Nothing) (λ name. keeps-nothing [] formula_places) _
+      keeps-connections _ _
       (keeps-first [] formula_places _
       (keeps-begun scope Nothing Nothing (IsUnary zero) Nothing (keeps-nothing [] formula_places) (keeps-nothing [] formula_places) (keeps-unary zero) (keeps-nothing [] no_places)))
+      (keeps-binder (λ name. Nothing) Nothing (λ name. keeps-nothing [] formula_places) (keeps-nothing [] formula_places))
   keeps-formula scope (suc depth) =
-      keeps-connections (λ name. IsFormula (within scope name) depth) (λ name. keeps-formula (within scope name) depth) _
+      keeps-connections _ _
       (keeps-first [] formula_places _
       (keeps-begun scope (IsNode scope depth) (IsFormula scope depth) (IsUnary (suc depth)) (IsStepSet depth) (keeps-node scope depth) (keeps-formula scope depth) (keeps-unary (suc depth)) (skips-step-set depth)))
+      (keeps-binder (λ name. IsFormula (within scope name) depth) (IsFormula scope depth) (λ name. keeps-formula (within scope name) depth) (keeps-formula scope depth))

@@ -4,3 +4,4 @@ mod Formulas
 mod Tokens
 mod Steps
 mod Models
+mod Kept

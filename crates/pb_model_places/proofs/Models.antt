@@ -1,6 +1,6 @@
--- The names of steps, and where properties go on, stand at places of their own in a model that was
--- read.
-use Rattle.std.proofs.Common.{◌≡◌, ℕ, suc, Bool, true, not, List, [], ◌∷◌, ◌++◌, flat_map, append_assoc, refl, sym, ap, ◌∙◌, subst, arith}
+-- The names of steps, and where properties go on, stand at places of their own in a protocol that was
+-- read, at columns from 1 on.
+use Rattle.std.proofs.Common.{◌≡◌, ◌⊎◌, inl, inr, ℕ, suc, Bool, true, not, List, [], ◌∷◌, ◌++◌, flat_map, append_assoc, refl, sym, ap, ◌∙◌, subst, arith}
 use Rattle.std.specs.Prelude.{Contains}
 use Rattle.std.specs.List.{list_all}
 use Rattle.std.proofs.lemmas.List.{map-append, same_from_push}
@@ -10,27 +10,24 @@ use Rattle.pb_text_lexer.specs.declared.kind.Kind.TheVariants as k
 use Rattle.pb_text_lexer.specs.declared.language.Language.TheVariants.{Model}
 use Rattle.pb_text_lexer.specs.Grammar.{State}
 use Rattle.pb_text_lexer.specs.Tokens.{Tok}
-use Rattle.pb_model_tree.specs.Form.{StepForm, PropertyForm, ModelForm}
+use Rattle.pb_protocol_tree.specs.Form.{StepForm, PropertyForm, ProtocolForm}
 use Rattle.pb_model_text.specs.Grammar.{IsInitialState, IsModel}
 use Rattle.pb_call_places.specs.Calls.{same_place}
 use Rattle.pb_text.specs.Parsing.{depth_limit, operator_limit}
-use Rattle.pb_model_runs.proofs.Elements.{both-true, some_of, of-some}
-use Rattle.pb_model_runs.specs.Exact.{formula_places, step_places, is_among, are_apart, stand_apart}
-use Rattle.pb_model_places.proofs.Tokens.{false-of, parts-apart, first-apart, second-apart, same-turned, tokens-apart}
-use Rattle.pb_model_places.specs.Apart.{ReadModelsStandApart}
+use Rattle.pb_model_runs.proofs.Elements.{both-true, some_of, of-some, in-left, in-right}
+use Rattle.pb_model_runs.specs.Exact.{is_among, are_apart}
+use Rattle.pb_model_places.proofs.Tokens.{false-of, parts-apart, first-apart, second-apart, same-turned, tokens-apart, token-columns}
+use Rattle.pb_model_places.specs.Apart.{formula_places, step_places, property_places, stand_apart, ReadProtocolsStandApart, ReadPlacesHaveColumns}
 use Rattle.pb_model_places.proofs.Keeping.{joined-took, Took, places_of, skips-one, keeps-counted}
-use Rattle.pb_model_places.proofs.Terms.{skips-variables}
 use Rattle.pb_model_places.proofs.Formulas.{no_places}
-use Rattle.pb_model_places.specs.Apart.{PlacesTellSteps}
-use Rattle.pb_model_places.proofs.Steps.{skips-sorts, keeps-steps, skips-initial, keeps-properties, known, property_places}
-use Rattle.pb_model_runs.proofs.ExactLemmas.{tells-just-the-step}
+use Rattle.pb_model_places.proofs.Steps.{skips-sorts, skips-state, skips-definitions, keeps-steps, skips-initial, keeps-properties, known}
 
-all-of : {A : Type 0} (t : A → Bool) (xs : List A) → ((x : A) → Contains xs x → t x ≡ true) → list_all t xs ≡ true
+pub all-of : {A : Type 0} (t : A → Bool) (xs : List A) → ((x : A) → Contains xs x → t x ≡ true) → list_all t xs ≡ true
 all-of t [] h = refl
 all-of t (x ∷ xs) h = both-true (t x) (list_all t xs) (h x (0, omega arith, refl)) (all-of t xs (λ y e. h y (suc e.0, omega (arith, e.1), e.2)))
 
 -- the tokens before the steps, those of the steps, and those behind
-record TookModel (tokens : List Tok) (m : ModelForm) : Type 0 where
+record TookModel (tokens : List Tok) (m : ProtocolForm) : Type 0 where
   before : List Tok
   steps : List Tok
   behind : List Tok
@@ -43,17 +40,17 @@ record TookModel (tokens : List Tok) (m : ModelForm) : Type 0 where
 then : (s m z : State) → Took s m [] [] → Took m z [] [] → Took s z [] []
 then s m z a b = joined-took s m z [] [] [] a b (λ p e. e)
 
-took-model : (ranges : List RangeForm) (depth : ℕ) (s : State) (m : ModelForm) (z : State) (end : Tok) → z.tokens ≡ end ∷ [] → IsModel ranges depth s m z → TookModel s.tokens m
+took-model : (ranges : List RangeForm) (depth : ℕ) (s : State) (m : ProtocolForm) (z : State) (end : Tok) → z.tokens ≡ end ∷ [] → IsModel ranges depth s m z → TookModel s.tokens m
 took-model ranges depth s m z end ends h =
     let b = h.3 in let c = b.3 in let d = c.3 in let e = d.3 in let f = e.3 in let g = f.3 in let i = g.3 in let j = i.3 in
     let before = then s e.1 f.1 (then s d.1 e.1 (then s c.1 d.1 (then s b.1 c.1 (then s h.1 b.1 (skips-sorts s h.0 h.1 h.2) (skips-one k.Model h.1 b.0 b.1 b.2))
-    (skips-one k.State b.1 c.0 c.1 c.2)) (skips-variables c.1 d.0 d.1 d.2)) (skips-one k.Semicolon d.1 e.0 e.1 e.2)) (skips-one k.Step e.1 f.0 f.1 f.2) in
+    (skips-one k.State b.1 c.0 c.1 c.2)) (skips-state depth c.1 d.0 d.1 d.2)) (skips-one k.Semicolon d.1 e.0 e.1 e.2)) (skips-definitions depth e.1 f.0 f.1 f.2) in
     let steps = keeps-steps depth f.1 g.0 g.1 g.2 in
     let initial = keeps-counted no_places (IsInitialState depth) (skips-initial depth) g.1 i.0 i.1 i.2 in
     let behind = joined-took g.1 i.1 j.1 [] (flat_map property_places j.0) (flat_map property_places j.0) initial (keeps-properties depth i.1 j.0 j.1 j.2) (λ p q. q) in
     let last_tokens : j.1.tokens ≡ end ∷ [] = ap (λ (v : State). v.tokens) (sym j.3.1) ∙ ends in
-    let same_steps : m.steps ≡ g.0 = ap (λ (v : ModelForm). v.steps) j.3.0 in
-    let same_properties : m.properties ≡ j.0 = ap (λ (v : ModelForm). v.properties) j.3.0 in
+    let same_steps : m.steps ≡ g.0 = ap (λ (v : ProtocolForm). v.steps) j.3.0 in
+    let same_properties : m.properties ≡ j.0 = ap (λ (v : ProtocolForm). v.properties) j.3.0 in
     record {
       before = before.front;
       steps = steps.front;
@@ -66,7 +63,7 @@ took-model ranges depth s m z end ends h =
       among_behind = λ p q. known p (places_of behind.front) (behind.among p (subst (λ (v : List PropertyForm). Contains (flat_map property_places v) p) same_properties q));
     }
 
-stand-apart : (m : ModelForm) (p : PropertyForm) (tokens ts : List Tok) (end : Tok) → tokens ≡ ts ++ end ∷ [] → are_apart (places_of ts) ≡ true
+stand-apart : (m : ProtocolForm) (p : PropertyForm) (tokens ts : List Tok) (end : Tok) → tokens ≡ ts ++ end ∷ [] → are_apart (places_of ts) ≡ true
     → TookModel tokens m → Contains m.properties p → stand_apart m p.formula ≡ true
 stand-apart m p tokens ts end are apart took among =
     let same : ts ≡ took.before ++ (took.steps ++ took.behind) = (same_from_push ts (took.before ++ (took.steps ++ took.behind)) end took.end (sym are ∙ took.are)).0 in
@@ -82,13 +79,29 @@ stand-apart m p tokens ts end are apart took among =
     parts-apart (places_of took.steps) (places_of took.behind) r.0 q all (took.among_steps r.0 r.1)
     (took.among_behind q (of-some property_places m.properties p q among here)) (same-turned r.0 q r.2))))
 
-pub read-models-stand-apart : ReadModelsStandApart
-read-models-stand-apart bytes m p reading among =
+pub read-protocols-stand-apart : ReadProtocolsStandApart
+read-protocols-stand-apart bytes m p reading among =
     let says = reading.says in
     let apart = tokens-apart Model bytes reading.tokens reading.ranges reading.cut in
     stand-apart m p reading.tokens apart.0 apart.1 apart.2 apart.3
     (took-model reading.ranges depth_limit (record { tokens = reading.tokens; operators = operator_limit }) m (record { tokens = says.1 ∷ []; operators = says.0 }) says.1 refl says.2) among
 
-pub places-tell-steps : PlacesTellSteps
-places-tell-steps bytes m p i c reading among names within made =
-    tells-just-the-step m p.name.place p.formula i c names (read-models-stand-apart bytes m p reading among) within made
+-- a place of the steps' names, or where properties go on, is a token's
+of-tokens : (m : ProtocolForm) (tokens ts : List Tok) (end : Tok) (p : Place) → tokens ≡ ts ++ end ∷ [] → TookModel tokens m
+    → Contains (step_places m.steps) p ⊎ Contains (flat_map property_places m.properties) p → Contains (places_of ts) p
+of-tokens m tokens ts end p are took e =
+    let same : ts ≡ took.before ++ (took.steps ++ took.behind) = (same_from_push ts (took.before ++ (took.steps ++ took.behind)) end took.end (sym are ∙ took.are)).0 in
+    let place_of : Tok → Place = λ t. t.place in
+    let split : places_of ts ≡ places_of took.before ++ (places_of took.steps ++ places_of took.behind) =
+    ap places_of same ∙ map-append place_of took.before (took.steps ++ took.behind) ∙ ap (λ v. places_of took.before ++ v) (map-append place_of took.steps took.behind) in
+    subst (λ (v : List Place). Contains v p) (sym split) (in-right (places_of took.before) (places_of took.steps ++ places_of took.behind) p (elim e [
+      | inl step ↦ in-left (places_of took.steps) (places_of took.behind) p (took.among_steps p step)
+      | inr goes ↦ in-right (places_of took.steps) (places_of took.behind) p (took.among_behind p goes)
+    ]))
+
+pub read-places-have-columns : ReadPlacesHaveColumns
+read-places-have-columns bytes m p reading e =
+    let says = reading.says in
+    let columns = token-columns Model bytes reading.tokens reading.ranges reading.cut in
+    columns.3 p (of-tokens m reading.tokens columns.0 columns.1 p columns.2
+    (took-model reading.ranges depth_limit (record { tokens = reading.tokens; operators = operator_limit }) m (record { tokens = says.1 ∷ []; operators = says.0 }) says.1 refl says.2) e)

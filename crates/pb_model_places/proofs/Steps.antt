@@ -1,25 +1,27 @@
 -- What stands before, at and behind the steps of a model: their names and where properties go on are
 -- places of tokens.
-use Rattle.std.proofs.Common.{◌≡◌, ◌⊎◌, ℕ, zero, suc, Bool, true, false, true≢false, not, ◌&&◌, List, [], ◌∷◌, ◌++◌, flat_map, append_assoc, refl, sym, ap, ◌∙◌, subst, inl, inr, arith}
+use Rattle.std.proofs.Common.{◌≡◌, ◌⊎◌, ℕ, zero, suc, true, not, List, [], ◌∷◌, ◌++◌, flat_map, append_assoc, refl, sym, ap, ◌∙◌, subst, inl, inr, arith}
 use Rattle.std.specs.Prelude.{Contains}
 use Rattle.std.proofs.lemmas.List.{map-append}
 use Rattle.pb_text_tree.specs.declared.place.Place.{Place}
 use Rattle.pb_text_lexer.specs.declared.kind.Kind.{Kind}
 use Rattle.pb_text_lexer.specs.declared.kind.Kind.TheVariants as k
 use Rattle.pb_text_lexer.specs.Grammar.{State, Is, One, last, more, CountedApart}
+use Rattle.pb_text_lexer.specs.LeftGrammar.{Extended}
 use Rattle.pb_text_lexer.specs.Tokens.{Tok}
 use Rattle.pb_text_terms.specs.Grammar.{Name, Placed, IsTerm}
 use Rattle.pb_text_formulas.specs.Grammar.{Plain, Enumerator, SortBy, SortDecl, SortPart, SortParts}
 use Rattle.pb_text.specs.Grammar.{Declared}
-use Rattle.pb_model_tree.specs.Form.{StepForm, PropertyForm}
-use Rattle.pb_model_text.specs.Grammar.{IsAssignment, IsStep, Steps, IsInitialState, IsFormula, IsProperty, Properties}
+use Rattle.pb_protocol_tree.specs.Form.{StepForm}
+use Rattle.pb_model_text.specs.Grammar.{Indexed, StateGroup, StateVariables, IsDefinition, DefinedBy, Definitions, IsAssignment, AssignedBy, Assigned, IsStep, Steps, IsInitialState, IsFormula, IsProperty, Properties}
 use Rattle.pb_call_places.specs.Calls.{same_place}
 use Rattle.pb_model_runs.proofs.Elements.{both-true, either_of, some_of, in-left, in-right, in-either}
-use Rattle.pb_model_runs.specs.Exact.{formula_places, step_places, is_among, are_apart}
+use Rattle.pb_model_runs.specs.Exact.{is_among, are_apart}
+use Rattle.pb_model_places.specs.Apart.{formula_places, step_places, property_places}
 use Rattle.pb_model_places.proofs.Tokens.{false-of, parts-apart, second-apart}
 use Rattle.pb_model_places.proofs.Keeping.{Keeps, Skips, places_of, no-place, keeps-nothing, keeps-is, skips-is, keeps-bind, skip, skips-one, keeps-first, keeps-extended, keeps-placed, keeps-counted, keeps-series, skips-series}
 use Rattle.pb_model_places.proofs.Terms.{skips-name, named_at, keeps-name, skips-variables, skips-term}
-use Rattle.pb_model_places.proofs.Formulas.{no_places, keeps-formula}
+use Rattle.pb_model_places.proofs.Formulas.{no_places, skips-instance, keeps-formula}
 
 -- ---- what stands before the steps
 
@@ -55,10 +57,50 @@ skips-declared zero = keeps-nothing [] no_places
 skips-declared (suc depth) =
     skip _ _ [] no_places (skips-one k.Open) (λ open_bracket. skip _ _ [] no_places skips-variables (λ parameters. skip _ _ [] no_places (skips-one k.Close) (λ close_bracket. skips-is parameters)))
 
+skips-parameters : (depth : ℕ) → Skips (Extended (Is []) (λ none. Declared depth))
+skips-parameters depth = keeps-extended [] no_places _ _ (skips-is []) (skip _ _ [] no_places (skips-is []) (λ none. skips-declared depth))
+
+skips-indexed : (depth : ℕ) → Skips (Indexed depth)
+skips-indexed depth = skip _ _ [] no_places skips-name (λ name. skip _ _ [] no_places (skips-parameters depth) (λ indices. skips-is _))
+
+skips-state-group : (depth : ℕ) → Skips (StateGroup depth)
+skips-state-group depth =
+    skip _ _ [] no_places (skips-series (Indexed depth) (One k.Comma) _ _ (skips-indexed depth) (skips-one k.Comma)) (λ variables.
+    skip _ _ [] no_places (skips-one k.Colon) (λ colon. skip _ _ [] no_places skips-name (λ sort. skips-is _)))
+
+pub skips-state : (depth : ℕ) → Skips (StateVariables depth)
+skips-state depth = skip _ _ [] no_places (skips-series (StateGroup depth) (One k.Comma) _ _ (skips-state-group depth) (skips-one k.Comma)) (λ groups. skips-is _)
+
+skips-definition : (depth : ℕ) → Skips (IsDefinition depth)
+skips-definition depth =
+    skip _ _ [] no_places skips-name (λ name. skip _ _ [] no_places (skips-parameters depth) (λ parameters. skip _ _ [] no_places (skips-one k.Is) (λ is.
+    skip _ _ [] no_places (skips-term depth) (λ term. skip _ _ [] no_places (skips-one k.Semicolon) (λ semicolon. skips-is _)))))
+
+skips-defined-by : (depth : ℕ) (kind : Kind) → Skips (DefinedBy depth kind)
+skips-defined-by depth k.Step = skip _ _ [] no_places (skips-one k.Step) (λ step. skips-is _)
+skips-defined-by depth k.Define =
+    skip _ _ [] no_places (skips-one k.Define) (λ define.
+    skip _ _ [] no_places (skips-series (CountedApart (IsDefinition depth)) (Is {X = Unit {0}} tt) _ _ (keeps-counted no_places (IsDefinition depth) (skips-definition depth)) (skips-is tt)) (λ definitions.
+    skip _ _ [] no_places (skips-one k.Step) (λ step. skips-is _)))
+skips-defined-by depth _ = keeps-nothing [] no_places
+
+pub skips-definitions : (depth : ℕ) → Skips (Definitions depth)
+skips-definitions depth = keeps-first [] no_places (DefinedBy depth) (skips-defined-by depth)
+
 skips-assignment : (depth : ℕ) → Skips (IsAssignment depth)
 skips-assignment depth =
-    skip _ _ [] no_places skips-name (λ variable. skip _ _ [] no_places (skips-one k.Assign) (λ assign.
+    skip _ _ [] no_places (skips-instance depth) (λ assigned. skip _ _ [] no_places (skips-one k.Assign) (λ assign.
     skip _ _ [] no_places (keeps-placed no_places (IsTerm depth) (skips-term depth)) (λ value. skips-is _)))
+
+skips-assigned-by : (depth : ℕ) (kind : Kind) → Skips (AssignedBy depth kind)
+skips-assigned-by depth k.Skip = skip _ _ [] no_places (skips-one k.Skip) (λ word. skip _ _ [] no_places (skips-one k.Semicolon) (λ semicolon. skips-is _))
+skips-assigned-by depth k.Name =
+    skip _ _ [] no_places (skips-series (IsAssignment depth) (One k.Comma) _ _ (skips-assignment depth) (skips-one k.Comma)) (λ assignments.
+    skip _ _ [] no_places (skips-one k.Semicolon) (λ semicolon. skips-is _))
+skips-assigned-by depth _ = keeps-nothing [] no_places
+
+skips-assigned : (depth : ℕ) → Skips (Assigned depth)
+skips-assigned depth = keeps-first [] no_places (AssignedBy depth) (skips-assigned-by depth)
 
 abbrev step_place : StepForm → List Place
 step_place a = a.name.place ∷ []
@@ -66,12 +108,11 @@ step_place a = a.name.place ∷ []
 keeps-step : (depth : ℕ) → Keeps [] step_place (IsStep depth)
 keeps-step depth =
     keeps-bind Name _ [] named_at step_place keeps-name (λ name.
-    skip _ _ (named_at name) step_place (keeps-extended [] no_places _ _ (skips-is []) (skip _ _ [] no_places (skips-is []) (λ none. skips-declared depth))) (λ variables.
+    skip _ _ (named_at name) step_place (skips-parameters depth) (λ variables.
     skip _ _ (named_at name) step_place (skips-one k.Colon) (λ colon.
     skip _ _ (named_at name) step_place (skips-term depth) (λ guard.
     skip _ _ (named_at name) step_place (skips-one k.Arrow) (λ arrow.
-    skip _ _ (named_at name) step_place (skips-series (IsAssignment depth) (One k.Comma) _ _ (skips-assignment depth) (skips-one k.Comma)) (λ assignments.
-    skip _ _ (named_at name) step_place (skips-one k.Semicolon) (λ semicolon. keeps-is (named_at name) step_place _ (λ p e. e))))))))
+    skip _ _ (named_at name) step_place (skips-assigned depth) (λ assignments. keeps-is (named_at name) step_place _ (λ p e. e)))))))
 
 -- what was read, and so many tokens, of places that are apart
 pub record TookSteps (s z : State) (steps : List StepForm) : Type 0 where
@@ -116,9 +157,6 @@ skips-initial depth =
     skip _ _ [] no_places (skips-one k.Init) (λ word.
     skip _ _ [] no_places (skips-series (Placed (IsTerm depth)) (One k.Comma) _ _ (keeps-placed no_places (IsTerm depth) (skips-term depth)) (skips-one k.Comma)) (λ values.
     skip _ _ [] no_places (skips-one k.Semicolon) (λ semicolon. skips-is _)))
-
-abbrev pub property_places : PropertyForm → List Place
-property_places p = formula_places p.formula
 
 keeps-property : (depth : ℕ) → Keeps [] property_places (IsProperty depth)
 keeps-property depth =

@@ -45,7 +45,7 @@ skips-arguments Term term =
     skip _ _ [] _ (skips-series (Placed Term) (One k.Comma) _ _ (keeps-placed (λ x. []) Term term) (skips-one k.Comma)) (λ arguments.
     skip _ _ [] _ (skips-one k.Close) (λ close_bracket. skips-is _)))
 
-keeps-instance : (Term : Reads TermForm) → Skips Term → Keeps [] instance_at (Instance Term)
+pub keeps-instance : (Term : Reads TermForm) → Skips Term → Keeps [] instance_at (Instance Term)
 keeps-instance Term term =
     let alone : Keeps [] instance_at (Name >>= (λ name. Is (record { name = name; arguments = no_arguments }))) =
     keeps-bind _ _ [] named_at instance_at keeps-name (λ name. keeps-is (named_at name) instance_at _ (λ p e. e)) in

@@ -1,5 +1,5 @@
 -- Each token of a text stands at a place of its own.
-use Rattle.std.proofs.Common.{◌≡◌, ◌⊎◌, ℕ, ◌+◌, ◌≤◌, ◌<◌, Bool, true, false, true≢false, not, ◌&&◌, ◌==◌, if◌then◌else◌, List, [], ◌∷◌, ◌++◌, take, drop, refl, sym, ◌∙◌, subst, inl, inr, arith}
+use Rattle.std.proofs.Common.{◌≡◌, ◌⊎◌, ℕ, ◌+◌, ◌≤◌, ◌<◌, Bool, true, false, true≢false, not, ◌==◌, if◌then◌else◌, List, [], ◌∷◌, ◌++◌, take, drop, refl, sym, ◌∙◌, subst, inl, inr, arith}
 use Rattle.std.specs.Prelude.{Contains}
 use Rattle.std.proofs.lemmas.Bool.{and_parts}
 use Rattle.std.proofs.lemmas.Bool.Decides.{Decides-eqb}
@@ -138,3 +138,30 @@ pub tokens-apart : (l : Language) (bytes : List ℕ) (tokens : List Tok) (ranges
     → (ts : List Tok) × (end : Tok) × (tokens ≡ ts ++ end ∷ []) × (are_apart (places_of ts) ≡ true)
 tokens-apart l bytes tokens ranges c =
     (c.0, token_at c.1 k.End [], c.3, (cut-apart l start c.1 bytes [] c.0 ranges c.2).apart)
+
+-- ---- columns count from 1
+
+next-column : (p : Place) (b : ℕ) → 0 < p.column → 0 < (next_place p b).column
+next-column p b some = by (b == 10)
+  where
+    by : (t : Bool) → 0 < (if t then record { line = p.line + 1; column = 1 } else record p { column = p.column + 1 }).column
+    by true = omega arith
+    by false = omega arith
+
+past-column : (p : Place) (bs : List ℕ) → 0 < p.column → 0 < (past p bs).column
+past-column p [] some = some
+past-column p (b ∷ bs) some = past-column (next_place p b) bs (next-column p b some)
+
+cut-columns : (l : Language) (p q : Place) (bs rest : List ℕ) (ts : List Tok) (rs : List RangeForm) → CutsIn l p bs ts rs q rest → 0 < p.column → (r : Place) → Contains (places_of ts) r → 0 < r.column
+cut-columns l p q bs rest ts rs none some r h = absurd (omega (arith, h.1))
+cut-columns l p q bs rest ts rs (blank {n = n} f c) some r h = cut-columns l (past p (take n bs)) q (drop n bs) rest ts _ c (past-column p (take n bs) some) r h
+cut-columns l p q bs rest ts rs (token {ts = us} {kind = kind} {n = n} f c) some r h = elim (either_of p (places_of us) r h) [
+  | inl same ↦ subst (λ (v : Place). 0 < v.column) same some
+  | inr later ↦ cut-columns l (past p (take n bs)) q (drop n bs) rest us _ c (past-column p (take n bs) some) r later
+]
+
+-- all tokens of a text but its end
+pub token-columns : (l : Language) (bytes : List ℕ) (tokens : List Tok) (ranges : List RangeForm) → IsCutIn l bytes tokens ranges
+    → (ts : List Tok) × (end : Tok) × (tokens ≡ ts ++ end ∷ []) × ((r : Place) → Contains (places_of ts) r → 0 < r.column)
+token-columns l bytes tokens ranges c =
+    (c.0, token_at c.1 k.End [], c.3, cut-columns l start c.1 bytes [] c.0 ranges c.2 (omega arith))

@@ -21,7 +21,7 @@ enumerators_kept : (es : List EnumeratorForm) → EachOf (λ e. EnumeratorWritab
 enumerators_kept [] h = absurd h
 enumerators_kept (e ∷ es) h = (h.0, each_kept erased_enumerator EnumeratorWritable es h.1)
 
-each_kept-append : {X Y : Type 0} (f : X → Y) (P : Y → Type 0) (xs ys : List X) → Each P (map f xs) → Each P (map f ys) → Each P (map f (xs ++ ys))
+pub each_kept-append : {X Y : Type 0} (f : X → Y) (P : Y → Type 0) (xs ys : List X) → Each P (map f xs) → Each P (map f ys) → Each P (map f (xs ++ ys))
 each_kept-append f P [] ys h g = g
 each_kept-append f P (x ∷ xs) ys h g = (h.0, each_kept-append f P xs ys h.1 g)
 

@@ -1,9 +1,11 @@
--- A model that was read has words: what of it is written in the texts of its properties.
-use Rattle.std.proofs.Common.{◌≡◌, ℕ, zero, suc, Bool, true, false, List, [], ◌∷◌, Some, refl, sym, subst, inl}
+-- A protocol that was read has words.
+use Rattle.std.proofs.Common.{◌≡◌, ℕ, zero, suc, Bool, true, false, List, [], ◌∷◌, map, flat_map, Some, refl, sym, subst, inl}
 use Rattle.std.specs.Prelude.{if◌then◌else◌}
 use Rattle.std.specs.List.{slice_get}
 use Rattle.pb_text_tree.specs.declared.place.Place.{Place}
-use Rattle.pb_text_tree.specs.Form.{RangeForm, TermForm, VariableForm}
+use Rattle.pb_text_tree.specs.declared.operator.Quantifier.{Quantifier}
+use Rattle.pb_text_tree.specs.declared.operator.Quantifier.TheVariants.{Forall, Exists}
+use Rattle.pb_text_tree.specs.Form.{Named, RangeForm, TermForm, ArgumentForms, InstanceForm, VariableForm}
 use Rattle.pb_fixpoint.specs.declared.Sign.{Sign}
 use Rattle.pb_fixpoint.specs.declared.Sign.TheVariants as sign
 use Rattle.pb_text_lexer.specs.declared.kind.Kind.{Kind}
@@ -13,7 +15,8 @@ use Rattle.pb_text_lexer.specs.LeftGrammar.{Extended, Listed}
 use Rattle.pb_text_lexer.specs.OpenGrammar.{Chained, last as last_operand, Either, Conjunction, Disjunction}
 use Rattle.pb_text_lexer.specs.Tokens.{Tok}
 use Rattle.pb_text_terms.specs.Operators.{connected_by}
-use Rattle.pb_text_terms.specs.Grammar.{Placed, arguments_of, Variables, IsUnary, IsTerm, Equated}
+use Rattle.pb_text_terms.specs.Grammar.{Placed, arguments_of, Arguments, Instance, Variables, QuantifiedBy, Quantified, IsUnary, IsTerm, Equated}
+use Rattle.pb_text_terms.specs.Grammar as terms
 use Rattle.pb_text.specs.Grammar.{Declared}
 use Rattle.pb_text.specs.Parsing.{depth_limit}
 use Rattle.pb_text_meaning.specs.Erase.{erased_term, erased_arguments, erased_variables}
@@ -22,47 +25,24 @@ use Rattle.pb_text_printer.proofs.SaidLemmas.{AreLexical, variables-said, each-o
 use Rattle.pb_text_printer.proofs.SaidTerm.{term-said}
 use Rattle.pb_model_tree.specs.declared.formula.Modality.{Modality}
 use Rattle.pb_model_tree.specs.declared.formula.Modality.TheVariants as modality
-use Rattle.pb_model_tree.specs.Form.{StepSetForm, FormulaForm, AssignmentForm, StepForm, InitialForm, PropertyForm, ModelForm}
-use Rattle.pb_model_meaning.specs.Erase.{erased_formula, erased_assignment, erased_step, erase}
-use Rattle.pb_model_text.specs.Grammar.{SetBegun, united_by, IsSet, IsStepSet, atom_of, FixpointNames, is_bound, Beginning, Atom, Modal, Begun, Binding, FixpointBy, Fixpoint, Connections, within, IsNode, IsFormula, IsAssignment, IsStep, Steps, IsInitialState, IsProperty, Properties, IsModel}
-use Rattle.pb_model_text.specs.Parsing.{IsModelReading}
-use Rattle.pb_model_spelling.specs.Writable.{VariableWritable, TermWritable, AllWritable, ModalWritable, AssignmentWritable, StepWritable, ModelWritable}
+use Rattle.pb_model_tree.specs.Form.{InitialForm}
+use Rattle.pb_protocol_tree.specs.Form.{StepSetForm, FormulaForm, StateVariableForm, DefinitionForm, AssignmentForm, StepForm, PropertyForm, ProtocolForm}
+use Rattle.pb_protocol_meaning.specs.Erase.{erased_formula, erased_state_variable, erased_definition, erased_assignment, erased_step, erased_property, erase}
+use Rattle.pb_model_text.specs.Grammar.{IsInstance, SetBegun, united_by, IsSet, IsStepSet, atom_of, FixpointNames, is_bound, Beginning, Atom, Modal, Begun, Binding, FixpointBy, Fixpoint, Binder, Connections, within, IsNode, IsFormula, Indexed, of_sort, StateGroup, StateVariables, IsDefinition, DefinedBy, Definitions, IsAssignment, AssignedBy, Assigned, IsStep, Steps, IsInitialState, IsProperty, Properties, IsModel}
+use Rattle.pb_model_spelling.specs.Writable.{IsWord, VariableWritable, TermWritable, AllWritable}
+use Rattle.pb_model_spelling.specs.Protocols.{FormulaWritable, PropertyWritable, StateVariableWritable, DefinitionWritable, AssignmentWritable, StepWritable, ProtocolWritable}
+use Rattle.pb_model_spelling.specs.Laws.{ReadProtocolsAreWritable, ReadProtocolsHaveProperties}
 use Rattle.pb_model_spelling.proofs.Gives.{Gives, Any, gives_said, gives_as, gives_is, gives_nothing, gives_then, gives_one, gives_behind, gives_name, gives_first, gives_listed, gives_own, gives_either, gives_extended, gives_placed, gives_chained}
 use Rattle.pb_model_spelling.proofs.OfSayable.{term_writable, variables_writable, ranges_writable}
 use Rattle.pb_model_spelling.proofs.Ranges.{ranges_of_models_are_said}
-use Rattle.pb_model_spelling.proofs.SortWords.{each_kept, sorts_given}
+use Rattle.pb_model_spelling.proofs.SortWords.{each_kept, each_kept-append, sorts_given}
 use Rattle.pb_model_spelling.proofs.Tokens.{tokens_of_models_are_lexical}
 
 abbrev HasData : TermForm → Type 0
 HasData x = TermWritable (erased_term x)
 
 abbrev HasWords : FormulaForm → Type 0
-HasWords f = ModalWritable (erased_formula f)
-
--- ---- sets of steps
-
-set_begun : (Set Sets : Reads StepSetForm) → Gives Any Set → Gives Any Sets → (kind : Kind) → Gives Any (SetBegun Set Sets kind)
-set_begun Set Sets set sets k.True = gives_behind k.True Any _ (λ w. gives_is Any _ tt)
-set_begun Set Sets set sets k.Name = gives_then _ Any _ _ gives_name (λ n u. gives_is Any _ tt)
-set_begun Set Sets set sets k.Not = gives_behind k.Not Any _ (λ s. gives_then Any Any _ _ set (λ x u. gives_is Any _ tt))
-set_begun Set Sets set sets k.Open = gives_behind k.Open Any _ (λ o. gives_then Any Any _ _ sets (λ x u. gives_behind k.Close Any _ (λ c. gives_is Any _ tt)))
-set_begun Set Sets set sets _ = gives_nothing Any
-
-first_set : (Set Sets : Reads StepSetForm) → Gives Any Set → Gives Any Sets → Gives Any (First (SetBegun Set Sets))
-first_set Set Sets set sets = gives_first Any (SetBegun Set Sets) (set_begun Set Sets set sets)
-
-union_given : (Set : Reads StepSetForm) → Gives Any Set → Gives Any (Chained k.Or united_by Set Set)
-union_given Set set = gives_chained Any k.Or united_by Set Set (λ x t y u v. tt) set set
-
-mutual
-  set_given : (depth : ℕ) → Gives Any (IsSet depth)
-  set_given zero = first_set Nothing Nothing (gives_nothing Any) (gives_nothing Any)
-  set_given (suc depth) = first_set (IsSet depth) (IsStepSet depth) (set_given depth) (steps_given depth)
-
-  steps_given : (depth : ℕ) → Gives Any (IsStepSet depth)
-  steps_given zero = union_given (First (SetBegun Nothing Nothing)) (first_set Nothing Nothing (gives_nothing Any) (gives_nothing Any))
-  steps_given (suc depth) =
-      union_given (First (SetBegun (IsSet depth) (IsStepSet depth))) (first_set (IsSet depth) (IsStepSet depth) (set_given depth) (steps_given depth))
+HasWords f = FormulaWritable (erased_formula f)
 
 -- ---- data
 
@@ -82,6 +62,59 @@ unary_given depth s x z r h = equated_given depth s x z (inl (inl (inl (inl r)))
 
 variables_given : Gives (λ vs. EachOf VariableWritable (erased_variables vs)) Variables
 variables_given = gives_as AreVariables _ Variables variables_writable (gives_said AreVariables _ Variables variables-said)
+
+arguments_writable : (values : List (Place × TermForm)) → Each (λ (a : Place × TermForm). HasData a.1) values → AllWritable (erased_arguments (arguments_of values))
+arguments_writable [] h = tt
+arguments_writable (a ∷ values) h = (h.0, arguments_writable values h.1)
+
+abbrev ArgumentsHaveWords : ArgumentForms → Type 0
+ArgumentsHaveWords xs = AllWritable (erased_arguments xs)
+
+arguments_given : (Term : Reads TermForm) → Gives HasData Term → Gives ArgumentsHaveWords (Arguments Term)
+arguments_given Term term =
+    gives_behind k.Open ArgumentsHaveWords _ (λ o.
+    gives_then _ ArgumentsHaveWords _ _ (gives_listed (λ (a : Place × TermForm). HasData a.1) (Placed Term) (One k.Comma) (gives_placed HasData Term term) (gives_one k.Comma)) (λ xs h.
+    gives_behind k.Close ArgumentsHaveWords _ (λ c. gives_is ArgumentsHaveWords _ (arguments_writable xs (each-of (λ (a : Place × TermForm). HasData a.1) xs h)))))
+
+abbrev InstanceHasWords : InstanceForm → Type 0
+InstanceHasWords i = IsWord i.name.text × AllWritable (erased_arguments i.arguments)
+
+instance_over : (Term : Reads TermForm) → Gives HasData Term → Gives InstanceHasWords (Instance Term)
+instance_over Term term =
+    gives_extended InstanceHasWords _ _ (gives_then _ InstanceHasWords _ _ gives_name (λ n h. gives_is InstanceHasWords _ (h, tt)))
+    (λ i h. gives_then ArgumentsHaveWords InstanceHasWords _ _ (arguments_given Term term) (λ xs g. gives_is InstanceHasWords _ (h.0, g)))
+
+instance_given : (depth : ℕ) → Gives InstanceHasWords (IsInstance depth)
+instance_given zero = instance_over Nothing (gives_nothing HasData)
+instance_given (suc depth) = instance_over (IsTerm depth) (term_given depth)
+
+-- ---- sets of steps
+
+instance_skipped : (depth : ℕ) → Gives Any (IsInstance depth)
+instance_skipped depth = gives_as InstanceHasWords Any (IsInstance depth) (λ i h. tt) (instance_given depth)
+
+set_begun : (Set Sets : Reads StepSetForm) (depth : ℕ) → Gives Any Set → Gives Any Sets → (kind : Kind) → Gives Any (SetBegun Set Sets (IsInstance depth) kind)
+set_begun Set Sets depth set sets k.True = gives_behind k.True Any _ (λ w. gives_is Any _ tt)
+set_begun Set Sets depth set sets k.Name = gives_then Any Any _ _ (instance_skipped depth) (λ n u. gives_is Any _ tt)
+set_begun Set Sets depth set sets k.Not = gives_behind k.Not Any _ (λ s. gives_then Any Any _ _ set (λ x u. gives_is Any _ tt))
+set_begun Set Sets depth set sets k.Open = gives_behind k.Open Any _ (λ o. gives_then Any Any _ _ sets (λ x u. gives_behind k.Close Any _ (λ c. gives_is Any _ tt)))
+set_begun Set Sets depth set sets _ = gives_nothing Any
+
+first_set : (Set Sets : Reads StepSetForm) (depth : ℕ) → Gives Any Set → Gives Any Sets → Gives Any (First (SetBegun Set Sets (IsInstance depth)))
+first_set Set Sets depth set sets = gives_first Any (SetBegun Set Sets (IsInstance depth)) (set_begun Set Sets depth set sets)
+
+union_given : (Set : Reads StepSetForm) → Gives Any Set → Gives Any (Chained k.Or united_by Set Set)
+union_given Set set = gives_chained Any k.Or united_by Set Set (λ x t y u v. tt) set set
+
+mutual
+  set_given : (depth : ℕ) → Gives Any (IsSet depth)
+  set_given zero = first_set Nothing Nothing zero (gives_nothing Any) (gives_nothing Any)
+  set_given (suc depth) = first_set (IsSet depth) (IsStepSet depth) (suc depth) (set_given depth) (steps_given depth)
+
+  steps_given : (depth : ℕ) → Gives Any (IsStepSet depth)
+  steps_given zero = union_given (First (SetBegun Nothing Nothing (IsInstance zero))) (first_set Nothing Nothing zero (gives_nothing Any) (gives_nothing Any))
+  steps_given (suc depth) =
+      union_given (First (SetBegun (IsSet depth) (IsStepSet depth) (IsInstance (suc depth)))) (first_set (IsSet depth) (IsStepSet depth) (suc depth) (set_given depth) (steps_given depth))
 
 beginning_given : {X : Type 0} (P : X → Type 0) (kind : Kind) (R : Reads X) → Gives P R → Gives P (Beginning kind R)
 beginning_given P kind R gives s x z r h = gives s x z r.1 h
@@ -143,11 +176,28 @@ fixpoint_by Body body k.Mu = gives_behind k.Mu HasWords _ (λ w. binding_given s
 fixpoint_by Body body k.Nu = gives_behind k.Nu HasWords _ (λ w. binding_given sign.Nu w.place Body body)
 fixpoint_by Body body _ = gives_nothing HasWords
 
-connections_given : (Node : Reads FormulaForm) (Body : List ℕ → Reads FormulaForm) → Gives HasWords Node → ((name : List ℕ) → Gives HasWords (Body name)) → Gives HasWords (Connections Node Body)
-connections_given Node Body node body =
+abbrev QuantifierHasWords : List VariableForm → Type 0
+QuantifierHasWords vs = EachOf VariableWritable (erased_variables vs)
+
+quantifier_given : (q : Quantifier) (p : Place) (Formula : Reads FormulaForm) → Gives HasWords Formula → Gives HasWords (terms.Binding (FormulaForm.quantified q p) Formula)
+quantifier_given q p Formula formula =
+    gives_then QuantifierHasWords HasWords _ _ variables_given (λ vs h. gives_behind k.Period HasWords _ (λ d. gives_then HasWords HasWords _ _ formula (λ f g. gives_is HasWords _ (h, g))))
+
+quantified_by : (Formula : Reads FormulaForm) → Gives HasWords Formula → (kind : Kind) → Gives HasWords (QuantifiedBy FormulaForm.quantified Formula kind)
+quantified_by Formula formula k.Forall = gives_behind k.Forall HasWords _ (λ w. quantifier_given Forall w.place Formula formula)
+quantified_by Formula formula k.Exists = gives_behind k.Exists HasWords _ (λ w. quantifier_given Exists w.place Formula formula)
+quantified_by Formula formula _ = gives_nothing HasWords
+
+binder_given : (Body : List ℕ → Reads FormulaForm) (Formula : Reads FormulaForm) → ((name : List ℕ) → Gives HasWords (Body name)) → Gives HasWords Formula → Gives HasWords (Binder Body Formula)
+binder_given Body Formula body formula =
+    gives_either HasWords (Fixpoint Body) (Quantified FormulaForm.quantified Formula) (gives_first HasWords (FixpointBy Body) (fixpoint_by Body body))
+    (gives_first HasWords (QuantifiedBy FormulaForm.quantified Formula) (quantified_by Formula formula))
+
+connections_given : (Node Bound : Reads FormulaForm) → Gives HasWords Node → Gives HasWords Bound → Gives HasWords (Connections Node Bound)
+connections_given Node Bound node bound =
     let join = connected_by FormulaForm.connected in
-    let Open = Either Node (Fixpoint Body) in
-    let open_end = gives_either HasWords Node (Fixpoint Body) node (gives_first HasWords (FixpointBy Body) (fixpoint_by Body body)) in
+    let Open = Either Node Bound in
+    let open_end = gives_either HasWords Node Bound node bound in
     let conjunction = gives_chained HasWords k.And (join k.And) Node Node (λ x t y h i. (h, i)) node node in
     let conjunction_end = gives_chained HasWords k.And (join k.And) Node Open (λ x t y h i. (h, i)) node open_end in
     let disjunction = gives_chained HasWords k.Or (join k.Or) (Conjunction join Node Node) (Conjunction join Node Node) (λ x t y h i. (h, i)) conjunction conjunction in
@@ -163,13 +213,13 @@ mutual
 
   formula_given : (scope : FixpointNames) (depth : ℕ) → Gives HasWords (IsFormula scope depth)
   formula_given scope zero =
-      connections_given (First (Begun scope Nothing Nothing (IsUnary zero) Nothing)) (λ name. Nothing)
-      (first_formula scope Nothing Nothing (IsUnary zero) Nothing (gives_nothing HasWords) (gives_nothing HasWords) (unary_given zero) (equated_given zero) (gives_nothing Any)) (λ name. gives_nothing HasWords)
+      connections_given (First (Begun scope Nothing Nothing (IsUnary zero) Nothing)) (Binder (λ name. Nothing) Nothing)
+      (first_formula scope Nothing Nothing (IsUnary zero) Nothing (gives_nothing HasWords) (gives_nothing HasWords) (unary_given zero) (equated_given zero) (gives_nothing Any)) (binder_given (λ name. Nothing) Nothing (λ name. gives_nothing HasWords) (gives_nothing HasWords))
   formula_given scope (suc depth) =
-      connections_given (First (Begun scope (IsNode scope depth) (IsFormula scope depth) (IsUnary (suc depth)) (IsStepSet depth))) (λ name. IsFormula (within scope name) depth)
+      connections_given (First (Begun scope (IsNode scope depth) (IsFormula scope depth) (IsUnary (suc depth)) (IsStepSet depth))) (Binder (λ name. IsFormula (within scope name) depth) (IsFormula scope depth))
       (first_formula scope (IsNode scope depth) (IsFormula scope depth) (IsUnary (suc depth)) (IsStepSet depth)
       (node_given scope depth) (formula_given scope depth) (unary_given (suc depth)) (equated_given (suc depth)) (steps_given depth))
-      (λ name. formula_given (within scope name) depth)
+      (binder_given (λ name. IsFormula (within scope name) depth) (IsFormula scope depth) (λ name. formula_given (within scope name) depth) (formula_given scope depth))
 
 -- ---- steps, the initial state, properties
 
@@ -185,31 +235,96 @@ own_given depth =
     gives_extended OwnVariables (Is []) (λ none. Declared depth) (gives_is OwnVariables [] tt)
     (λ none u. gives_as _ OwnVariables (Declared depth) (λ vs. each-of VariableWritable (erased_variables vs)) (declared_given depth))
 
+-- the state
+
+abbrev IndexedHasWords : Named × List VariableForm → Type 0
+IndexedHasWords x = IsWord x.0.text × OwnVariables x.1
+
+indexed_given : (depth : ℕ) → Gives IndexedHasWords (Indexed depth)
+indexed_given depth =
+    gives_then _ IndexedHasWords _ _ gives_name (λ n h. gives_then OwnVariables IndexedHasWords _ _ (own_given depth) (λ vs own. gives_is IndexedHasWords _ (h, own)))
+
+abbrev StateHasWords : List StateVariableForm → Type 0
+StateHasWords xs = Each StateVariableWritable (map erased_state_variable xs)
+
+of_sort_words : (sort : Named) → IsWord sort.text → (xs : List (Named × List VariableForm)) → Each IndexedHasWords xs → StateHasWords (map (of_sort sort) xs)
+of_sort_words sort w [] h = tt
+of_sort_words sort w (x ∷ xs) h = ((h.0.0, h.0.1, w), of_sort_words sort w xs h.1)
+
+group_given : (depth : ℕ) → Gives StateHasWords (StateGroup depth)
+group_given depth =
+    gives_then _ StateHasWords _ _ (gives_listed IndexedHasWords (Indexed depth) (One k.Comma) (indexed_given depth) (gives_one k.Comma)) (λ xs h.
+    gives_behind k.Colon StateHasWords _ (λ c. gives_then _ StateHasWords _ _ gives_name (λ sort w.
+    gives_is StateHasWords _ (of_sort_words sort w xs (each-of IndexedHasWords xs h)))))
+
+groups_words : (gs : List (List StateVariableForm)) → Each StateHasWords gs → StateHasWords (flat_map (λ g. g) gs)
+groups_words [] h = tt
+groups_words (g ∷ gs) h = each_kept-append erased_state_variable StateVariableWritable g (flat_map (λ v. v) gs) h.0 (groups_words gs h.1)
+
+state_given : (depth : ℕ) → Gives StateHasWords (StateVariables depth)
+state_given depth =
+    gives_then _ StateHasWords _ _ (gives_listed StateHasWords (StateGroup depth) (One k.Comma) (group_given depth) (gives_one k.Comma)) (λ gs h.
+    gives_is StateHasWords _ (groups_words gs (each-of StateHasWords gs h)))
+
+-- definitions
+
+abbrev DefinitionHasWords : DefinitionForm → Type 0
+DefinitionHasWords d = DefinitionWritable (erased_definition d)
+
+definition_given : (depth : ℕ) → Gives DefinitionHasWords (IsDefinition depth)
+definition_given depth =
+    gives_then _ DefinitionHasWords _ _ gives_name (λ n w. gives_then OwnVariables DefinitionHasWords _ _ (own_given depth) (λ vs own.
+    gives_behind k.Is DefinitionHasWords _ (λ i. gives_then HasData DefinitionHasWords _ _ (term_given depth) (λ x h.
+    gives_behind k.Semicolon DefinitionHasWords _ (λ s. gives_is DefinitionHasWords _ (w, own, h))))))
+
+abbrev DefinitionsHaveWords : List DefinitionForm → Type 0
+DefinitionsHaveWords ds = Each DefinitionWritable (map erased_definition ds)
+
+defined_by : (depth : ℕ) (kind : Kind) → Gives DefinitionsHaveWords (DefinedBy depth kind)
+defined_by depth k.Step = gives_behind k.Step DefinitionsHaveWords _ (λ s. gives_is DefinitionsHaveWords [] tt)
+defined_by depth k.Define =
+    gives_behind k.Define DefinitionsHaveWords _ (λ d.
+    gives_then (EachOf DefinitionHasWords) DefinitionsHaveWords _ _ (gives_listed DefinitionHasWords _ (Is {X = Unit {0}} tt) (gives_own DefinitionHasWords (IsDefinition depth) (definition_given depth)) (gives_is Any tt tt)) (λ ds h.
+    gives_behind k.Step DefinitionsHaveWords _ (λ s. gives_is DefinitionsHaveWords ds (each_kept erased_definition DefinitionWritable ds (each-of DefinitionHasWords ds h)))))
+defined_by depth _ = gives_nothing DefinitionsHaveWords
+
+definitions_given : (depth : ℕ) → Gives DefinitionsHaveWords (Definitions depth)
+definitions_given depth = gives_first DefinitionsHaveWords (DefinedBy depth) (defined_by depth)
+
+-- steps
+
 abbrev AssignmentHasWords : AssignmentForm → Type 0
-AssignmentHasWords a = HasData a.value
+AssignmentHasWords a = AssignmentWritable (erased_assignment a)
 
 assignment_given : (depth : ℕ) → Gives AssignmentHasWords (IsAssignment depth)
 assignment_given depth =
-    gives_then _ AssignmentHasWords _ _ gives_name (λ n u. gives_behind k.Assign AssignmentHasWords _ (λ t.
-    gives_then _ AssignmentHasWords _ _ (gives_placed HasData (IsTerm depth) (term_given depth)) (λ x h. gives_is AssignmentHasWords _ h)))
+    gives_then InstanceHasWords AssignmentHasWords _ _ (instance_given depth) (λ i g. gives_behind k.Assign AssignmentHasWords _ (λ t.
+    gives_then _ AssignmentHasWords _ _ (gives_placed HasData (IsTerm depth) (term_given depth)) (λ x h. gives_is AssignmentHasWords _ (g.0, g.1, h))))
+
+abbrev AssignmentsHaveWords : List AssignmentForm → Type 0
+AssignmentsHaveWords bs = Each AssignmentWritable (map erased_assignment bs)
+
+assigned_by : (depth : ℕ) (kind : Kind) → Gives AssignmentsHaveWords (AssignedBy depth kind)
+assigned_by depth k.Skip = gives_behind k.Skip AssignmentsHaveWords _ (λ w. gives_behind k.Semicolon AssignmentsHaveWords _ (λ s. gives_is AssignmentsHaveWords [] tt))
+assigned_by depth k.Name =
+    gives_then (EachOf AssignmentHasWords) AssignmentsHaveWords _ _ (gives_listed AssignmentHasWords (IsAssignment depth) (One k.Comma) (assignment_given depth) (gives_one k.Comma)) (λ bs h.
+    gives_behind k.Semicolon AssignmentsHaveWords _ (λ s. gives_is AssignmentsHaveWords bs (each_kept erased_assignment AssignmentWritable bs (each-of AssignmentHasWords bs h))))
+assigned_by depth _ = gives_nothing AssignmentsHaveWords
+
+assigned_given : (depth : ℕ) → Gives AssignmentsHaveWords (Assigned depth)
+assigned_given depth = gives_first AssignmentsHaveWords (AssignedBy depth) (assigned_by depth)
 
 abbrev StepHasWords : StepForm → Type 0
 StepHasWords a = StepWritable (erased_step a)
 
 step_given : (depth : ℕ) → Gives StepHasWords (IsStep depth)
 step_given depth =
-    gives_then _ StepHasWords _ _ gives_name (λ n u. gives_then OwnVariables StepHasWords _ _ (own_given depth) (λ vs own.
+    gives_then _ StepHasWords _ _ gives_name (λ n w. gives_then OwnVariables StepHasWords _ _ (own_given depth) (λ vs own.
     gives_behind k.Colon StepHasWords _ (λ c. gives_then HasData StepHasWords _ _ (term_given depth) (λ guard g. gives_behind k.Arrow StepHasWords _ (λ t.
-    gives_then _ StepHasWords _ _ (gives_listed AssignmentHasWords (IsAssignment depth) (One k.Comma) (assignment_given depth) (gives_one k.Comma)) (λ bs h.
-    gives_behind k.Semicolon StepHasWords _ (λ s.
-    gives_is StepHasWords _ (own, g, each_kept erased_assignment AssignmentWritable bs (each-of AssignmentHasWords bs h)))))))))
+    gives_then AssignmentsHaveWords StepHasWords _ _ (assigned_given depth) (λ bs h. gives_is StepHasWords _ (w, own, g, h)))))))
 
 steps_of_model : (depth : ℕ) → Gives (EachOf StepHasWords) (Steps depth)
 steps_of_model depth = gives_listed StepHasWords _ (Is {X = Unit {0}} tt) (gives_own StepHasWords (IsStep depth) (step_given depth)) (gives_is Any tt tt)
-
-arguments_writable : (values : List (Place × TermForm)) → Each (λ (a : Place × TermForm). HasData a.1) values → AllWritable (erased_arguments (arguments_of values))
-arguments_writable [] h = tt
-arguments_writable (a ∷ values) h = (h.0, arguments_writable values h.1)
 
 abbrev InitialHasWords : InitialForm → Type 0
 InitialHasWords i = AllWritable (erased_arguments i.values)
@@ -221,46 +336,40 @@ initial_given depth =
     gives_behind k.Semicolon InitialHasWords _ (λ s. gives_is InitialHasWords _ (arguments_writable vs (each-of (λ (a : Place × TermForm). HasData a.1) vs h)))))
 
 abbrev PropertyHasWords : PropertyForm → Type 0
-PropertyHasWords p = HasWords p.formula
+PropertyHasWords p = PropertyWritable (erased_property p)
 
 property_given : (depth : ℕ) → Gives PropertyHasWords (IsProperty depth)
 property_given depth =
-    gives_behind k.Property PropertyHasWords _ (λ w. gives_then _ PropertyHasWords _ _ gives_name (λ n v. gives_behind k.Is PropertyHasWords _ (λ i.
-    gives_then HasWords PropertyHasWords _ _ (formula_given [] depth) (λ f h. gives_behind k.Semicolon PropertyHasWords _ (λ s. gives_is PropertyHasWords _ h)))))
+    gives_behind k.Property PropertyHasWords _ (λ w. gives_then _ PropertyHasWords _ _ gives_name (λ n w. gives_behind k.Is PropertyHasWords _ (λ i.
+    gives_then HasWords PropertyHasWords _ _ (formula_given [] depth) (λ f h. gives_behind k.Semicolon PropertyHasWords _ (λ s. gives_is PropertyHasWords _ (w, h))))))
 
 properties_given : (depth : ℕ) → Gives (EachOf PropertyHasWords) (Properties depth)
 properties_given depth = gives_listed PropertyHasWords _ (Is {X = Unit {0}} tt) (gives_own PropertyHasWords (IsProperty depth) (property_given depth)) (gives_is Any tt tt)
 
--- ---- whole models
+-- ---- whole protocols
 
--- a model that was read has words, and so has each of its formulas
-pub record HasAllWords (model : ModelForm) : Type 0 where
-  pub writable : ModelWritable (erase model)
-  pub formulas : Each PropertyHasWords model.properties
-
-model_words : (ranges : List RangeForm) (depth : ℕ) (s z : State) (model : ModelForm) → Each RangeSayable ranges → IsModel ranges depth s model z → AreLexical s.tokens → HasAllWords model
-model_words ranges depth s z model bounds (sorts, a, r, (w, b, q, (state, c, t, (vs, d, v, (semicolon, e, p, (step, f, o, (steps, g, n, (initial, i, m, (properties, j, l, is))))))))) h =
+model_words : (ranges : List RangeForm) (depth : ℕ) (s z : State) (model : ProtocolForm) → Each RangeSayable ranges → IsModel ranges depth s model z → AreLexical s.tokens → ProtocolWritable (erase model)
+model_words ranges depth s z model bounds (sorts, a, r, (w, b, q, (state, c, t, (vs, d, v, (semicolon, e, p, (defined, f, o, (steps, g, n, (initial, i, m, (properties, j, l, is))))))))) h =
     let one = sorts_given s sorts a r h in
     let two = gives_one k.Model a w b q one.1 in
     let three = gives_one k.State b state c t two.1 in
-    let four = variables_given c vs d v three.1 in
+    let four = state_given depth c vs d v three.1 in
     let five = gives_one k.Semicolon d semicolon e p four.1 in
-    let six = gives_one k.Step e step f o five.1 in
+    let six = definitions_given depth e defined f o five.1 in
     let seven = steps_of_model depth f steps g n six.1 in
     let eight = gives_own InitialHasWords (IsInitialState depth) (initial_given depth) g initial i m seven.1 in
     let nine = properties_given depth i properties j l eight.1 in
-    subst HasAllWords (sym is.0) (record {
-      writable = record {
-        sorts = one.0;
-        ranges = ranges_writable ranges bounds;
-        variables = each-of VariableWritable (erased_variables vs) four.0;
-        steps = each_kept erased_step StepWritable steps (each-of StepHasWords steps seven.0);
-        initial = eight.0;
-      };
-      formulas = each-of PropertyHasWords properties nine.0;
+    subst (λ (v : ProtocolForm). ProtocolWritable (erase v)) (sym is.0) (record {
+      sorts = one.0;
+      ranges = ranges_writable ranges bounds;
+      variables = four.0;
+      definitions = six.0;
+      steps = each_kept erased_step StepWritable steps (each-of StepHasWords steps seven.0);
+      initial = eight.0;
+      properties = each_kept erased_property PropertyWritable properties (each-of PropertyHasWords properties nine.0);
     })
 
-pub reading_words : (bytes : List ℕ) (model : ModelForm) → IsModelReading bytes model → HasAllWords model
+pub reading_words : ReadProtocolsAreWritable
 reading_words bytes model is =
     model_words is.ranges depth_limit _ _ model (ranges_of_models_are_said bytes is.tokens is.ranges is.cut) is.says.2 (tokens_of_models_are_lexical bytes is.tokens is.ranges is.cut)
 
@@ -270,12 +379,12 @@ first_of_series : {X T : Type 0} (Item : Reads X) (Between : Reads T) (s z : Sta
 first_of_series Item Between s z xs (last {x = x} r) = (x, refl)
 first_of_series Item Between s z xs (more {x = x} r b rest) = (x, refl)
 
-abbrev HasProperty : ModelForm → Type 0
+abbrev HasProperty : ProtocolForm → Type 0
 HasProperty model = (p : PropertyForm) × (slice_get model.properties 0 ≡ Some p)
 
-model_has_property : (ranges : List RangeForm) (depth : ℕ) (s z : State) (model : ModelForm) → IsModel ranges depth s model z → HasProperty model
-model_has_property ranges depth s z model (sorts, a, r, (w, b, q, (state, c, t, (vs, d, v, (semicolon, e, p, (step, f, o, (steps, g, n, (initial, i, m, (properties, j, l, is))))))))) =
+model_has_property : (ranges : List RangeForm) (depth : ℕ) (s z : State) (model : ProtocolForm) → IsModel ranges depth s model z → HasProperty model
+model_has_property ranges depth s z model (sorts, a, r, (w, b, q, (state, c, t, (vs, d, v, (semicolon, e, p, (defined, f, o, (steps, g, n, (initial, i, m, (properties, j, l, is))))))))) =
     subst HasProperty (sym is.0) (first_of_series _ _ i j properties l)
 
-pub has_property : (bytes : List ℕ) (model : ModelForm) → IsModelReading bytes model → HasProperty model
+pub has_property : ReadProtocolsHaveProperties
 has_property bytes model is = model_has_property is.ranges depth_limit _ _ model is.says.2

@@ -1,1 +1,3 @@
 pub mod Writable
+pub mod Protocols
+pub mod Laws

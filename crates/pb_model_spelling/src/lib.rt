@@ -1,27 +1,31 @@
-//! The text to which a property of a model is translated can be said: laws about all readings.
+//! The text to which a property of a model is translated can be said, where the model has words,
+//! and a protocol that was read has words: laws, for crates above to call where they need them.
 //! Definitions and laws alone.
 #![tactic(auto)]
 
-ghost use Rattle.std.specs.Prelude.{◌≡◌, ℕ, List, Contains, Some};
-ghost use Rattle.std.specs.List.{slice_get};
-ghost use Rattle.pb_text_meaning.specs.Erase as text;
-ghost use Rattle.pb_text_tree.specs.Form.{SpecForm};
-ghost use Rattle.pb_model_meaning.specs.Erase.{erase, erased_formula};
-ghost use Rattle.pb_model_text.specs.Parsing.{IsModelReading};
-ghost use Rattle.pb_model_translation.specs.Names.{translation};
-ghost use Rattle.pb_model_tree.specs.Form.{ModelForm, PropertyForm};
-ghost use Rattle.pb_model_spelling.specs.Writable.{CanBeSaid};
+ghost use Rattle.pb_model_spelling.specs.Laws.{TranslationsCanBeSaid, ReadProtocolsAreWritable};
+ghost use Rattle.pb_model_spelling.specs.Laws.{ReadProtocolsHaveProperties, PrimedNamesAreWords};
 
-/// A tree that says what a property is translated to can be said within some levels and operators:
-/// so its printed words are read back, but for the limits.
+/// A tree that says what a formula of a model is translated to can be said within some levels and
+/// operators, where model and formula have words: so its printed words are read back, but for the
+/// limits.
 pub fn translations_can_be_said()
-    ensures { (bytes : List ℕ) (model : ModelForm) (p : PropertyForm) (x : SpecForm)
-        → IsModelReading bytes model → Contains model.properties p
-        → text.erase x ≡ translation (erase model) (erased_formula p.formula) → CanBeSaid x }
+    ensures { TranslationsCanBeSaid }
 {}
 
-/// A model that was read has a property.
-pub fn models_have_properties()
-    ensures { (bytes : List ℕ) (model : ModelForm) → IsModelReading bytes model
-        → (p : PropertyForm) × (slice_get model.properties 0 ≡ Some p) }
+/// A protocol that was read has words: each name is one of the grammar, each number within its
+/// limit, and no list of variables is empty that can't be.
+pub fn read_protocols_are_writable()
+    ensures { ReadProtocolsAreWritable }
+{}
+
+/// A protocol that was read has a property.
+pub fn read_protocols_have_properties()
+    ensures { ReadProtocolsHaveProperties }
+{}
+
+/// A name with a prime and any bytes of names behind it is a name of the grammar, as those of
+/// elements and of written-out steps are.
+pub fn primed_names_are_words()
+    ensures { PrimedNamesAreWords }
 {}

@@ -3,7 +3,7 @@ use Rattle.std.proofs.Common.{◌≡◌, ◌≢◌, ℕ, true, false, List, [], 
 use Rattle.pb_text_tree.specs.declared.place.Place.{Place}
 use Rattle.pb_text_tree.specs.declared.term.Argument.{Argument}
 use Rattle.pb_text_tree.specs.Form.{Named, TermForm, ArgumentForms, no_arguments, argument, InstanceForm, argument_forms}
-use Rattle.pb_model_tree.specs.Form.{FormulaForm}
+use Rattle.pb_protocol_tree.specs.Form.{FormulaForm}
 use Rattle.pb_text_lexer.specs.declared.fault.Refusal.{Refusal}
 use Rattle.pb_text_lexer.specs.declared.kind.Kind.TheVariants as k
 use Rattle.pb_text_lexer.specs.Grammar.{State}

@@ -4,7 +4,7 @@ use Rattle.pb_fixpoint.specs.declared.Sign.{Sign}
 use Rattle.pb_fixpoint.specs.declared.Sign.TheVariants as sign
 use Rattle.pb_text_tree.specs.declared.place.Place.{Place}
 use Rattle.pb_text_tree.specs.Form.{Named}
-use Rattle.pb_model_tree.specs.Form.{FormulaForm}
+use Rattle.pb_protocol_tree.specs.Form.{FormulaForm}
 use Rattle.pb_text_lexer.specs.declared.fault.ReadingRule.TheVariants.{Limit}
 use Rattle.pb_text_lexer.specs.declared.kind.Kind.{Kind}
 use Rattle.pb_text_lexer.specs.declared.kind.Kind.TheVariants as k

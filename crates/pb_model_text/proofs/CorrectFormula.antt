@@ -5,7 +5,7 @@ use Rattle.pb_text_tree.specs.declared.place.Place.{Place}
 use Rattle.pb_text_tree.specs.Form.{TermForm, no_arguments}
 use Rattle.pb_model_tree.specs.declared.formula.Modality.{Modality}
 use Rattle.pb_model_tree.specs.declared.formula.Modality.TheVariants as modality
-use Rattle.pb_model_tree.specs.Form.{FormulaForm}
+use Rattle.pb_protocol_tree.specs.Form.{FormulaForm}
 use Rattle.pb_text_lexer.specs.declared.fault.ReadingRule.TheVariants.{Limit}
 use Rattle.pb_text_lexer.specs.declared.kind.Kind.{Kind}
 use Rattle.pb_text_lexer.specs.declared.kind.Kind.TheVariants as k
@@ -30,11 +30,11 @@ use Rattle.pb_text_terms.proofs.CorrectOperators.{below-connectives, equated_goe
 use Rattle.pb_text_terms.proofs.CorrectInstance.{placed-correct}
 use Rattle.pb_text_terms.proofs.CorrectTerm.{unary-correct}
 use Rattle.pb_text_terms.proofs.TermStarts as terms
-use Rattle.pb_model_text.specs.Grammar.{FixpointNames, atom_of, Beginning, Atom, Modal, Begun, FixpointBy, Fixpoint, within, IsStepSet, IsNode, IsFormula}
-use Rattle.pb_model_text.specs.Reading.{is_fixpoint, goes_on, atom, modal, begun, data_operand, step_set, fixpoint_over, node, formula}
+use Rattle.pb_model_text.specs.Grammar.{FixpointNames, atom_of, Beginning, Atom, Modal, Begun, within, IsStepSet, IsNode, IsFormula}
+use Rattle.pb_model_text.specs.Reading.{is_binder, goes_on, atom, modal, begun, data_operand, step_set, binder_over, node, formula}
 use Rattle.pb_model_text.proofs.CorrectStepSets.{sets_go, readable-sets, step_set-correct}
 use Rattle.pb_model_text.proofs.CorrectBeginning.{beginning-answers}
-use Rattle.pb_model_text.proofs.CorrectFixpoint.{fixpoint-correct, fixpoint-last}
+use Rattle.pb_model_text.proofs.CorrectBinder.{binders, binder-starts, binder-correct, binder-last}
 
 -- what goes on with a node: what goes on with data
 abbrev pub node_goes : Kind → Bool
@@ -157,11 +157,11 @@ module _ (scope : FixpointNames) where
   from-node zero s y z r = r
   from-node (suc d) s y z r = r
 
-  abbrev fixpoints : Family FormulaForm
-  fixpoints d = Fixpoint (λ name. deeper (IsFormula (within scope name)) d)
+  abbrev bound : Family FormulaForm
+  bound = binders (λ name. IsFormula (within scope name)) (IsFormula scope) formula_goes
 
   abbrev connecteds : Family FormulaForm
-  connecteds d = Connected (connected_by FormulaForm.connected) (IsNode scope d) (fixpoints d)
+  connecteds d = Connected (connected_by FormulaForm.connected) (IsNode scope d) (bound d)
 
   to-formula : (d : ℕ) (s : State) (y : FormulaForm) (z : State) → connecteds d s y z → IsFormula scope d s y z
   to-formula zero s y z r = r
@@ -333,11 +333,11 @@ module _ (scope : FixpointNames) where
 
   -- ---- the connectives
 
-  -- a node begins with no fixpoint's word, and a fixpoint with one
-  node-starts : (d : ℕ) (s : State) (y : FormulaForm) (z : State) → IsNode scope d s y z → Passes (Not is_fixpoint) s.tokens
+  -- a node begins with no binder's word
+  node-starts : (d : ℕ) (s : State) (y : FormulaForm) (z : State) → IsNode scope d s y z → Passes (Not is_binder) s.tokens
   node-starts d s y z r = at s.tokens s.operators (from-node d s y z r)
     where
-      plain : (kind : Kind) (s : State) → kinds d kind s y z → Not is_fixpoint kind ≡ true
+      plain : (kind : Kind) (s : State) → kinds d kind s y z → Not is_binder kind ≡ true
       plain k.Not s r = refl
       plain k.Open s r = refl
       plain k.OpenSquare s r = refl
@@ -350,41 +350,30 @@ module _ (scope : FixpointNames) where
       plain k.Minus s r = refl
       plain _ s r = absurd r
 
-      at : (ts : List Tok) (n : ℕ) → First (kinds d) (st ts n) y z → Passes (Not is_fixpoint) ts
+      at : (ts : List Tok) (n : ℕ) → First (kinds d) (st ts n) y z → Passes (Not is_binder) ts
       at [] n r = r
       at (t ∷ ts) n r = plain t.kind (st (t ∷ ts) n) r
 
-  fixpoint-starts : (d : ℕ) (s : State) (y : FormulaForm) (z : State) → fixpoints d s y z → Passes is_fixpoint s.tokens
-  fixpoint-starts d s y z r = at s.tokens s.operators r
-    where
-      plain : (kind : Kind) (s : State) → FixpointBy (λ name. deeper (IsFormula (within scope name)) d) kind s y z → is_fixpoint kind ≡ true
-      plain k.Mu s r = refl
-      plain k.Nu s r = refl
-      plain _ s r = absurd r
-
-      at : (ts : List Tok) (n : ℕ) → fixpoints d (st ts n) y z → Passes is_fixpoint ts
-      at [] n r = r
-      at (t ∷ ts) n r = plain t.kind (st (t ∷ ts) n) r
-
-  connections-correct : (depth : ℕ) (n q : Step FormulaForm) → Correct Always n (IsNode scope) node_goes depth → Answering (Passes is_fixpoint) q fixpoints formula_goes depth
-      → Correct Always (connected (connected_by FormulaForm.connected) is_fixpoint n q) (IsFormula scope) formula_goes depth
+  connections-correct : (depth : ℕ) (n q : Step FormulaForm) → Correct Always n (IsNode scope) node_goes depth → Answering (Passes is_binder) q bound formula_goes depth
+      → Correct Always (connected (connected_by FormulaForm.connected) is_binder n q) (IsFormula scope) formula_goes depth
   connections-correct depth n q right-n right-q =
-      alike-correct Always (connected (connected_by FormulaForm.connected) is_fixpoint n q) connecteds (IsFormula scope) formula_goes depth to-formula from-formula
-      (connected-correct (connected_by FormulaForm.connected) (IsNode scope) fixpoints node_goes is_fixpoint depth below-connectives node-starts fixpoint-starts n q right-n right-q)
+      alike-correct Always (connected (connected_by FormulaForm.connected) is_binder n q) connecteds (IsFormula scope) formula_goes depth to-formula from-formula
+      (connected-correct (connected_by FormulaForm.connected) (IsNode scope) bound node_goes is_binder depth below-connectives node-starts (binder-starts (λ name. IsFormula (within scope name)) (IsFormula scope) formula_goes) n q right-n right-q)
 
 formulas-last : (scope : FixpointNames) → Correct Always (formula scope 0) (IsFormula scope) formula_goes 0
 unfolding node formula
 formulas-last scope =
-    connections-correct scope 0 (node scope 0) (fixpoint_over (refuse Limit) (λ name. refuse Limit)) (node-last scope)
-    (fixpoint-last (λ name. IsFormula (within scope name)) formula_goes (λ name. readable-formula (within scope name) 0) (λ name. refuse Limit))
+    connections-correct scope 0 (node scope 0) (binder_over (refuse Limit) (λ name. refuse Limit) (refuse Limit)) (node-last scope)
+    (binder-last (λ name. IsFormula (within scope name)) (IsFormula scope) formula_goes (λ name. readable-formula (within scope name) 0) (readable-formula scope 0) (λ name. refuse Limit) (refuse Limit))
 
 formulas-over : (scope : FixpointNames) (depth : ℕ) → Correct Always (node scope (suc depth)) (IsNode scope) node_goes (suc depth)
+    → Correct Always (formula scope depth) (IsFormula scope) formula_goes depth
     → ((name : List ℕ) → Correct Always (formula (within scope name) depth) (IsFormula (within scope name)) formula_goes depth)
     → Correct Always (formula scope (suc depth)) (IsFormula scope) formula_goes (suc depth)
 unfolding node formula
-formulas-over scope depth n f =
-    connections-correct scope (suc depth) (node scope (suc depth)) (fixpoint_over take_token (λ name. formula (within scope name) depth)) n
-    (fixpoint-correct (λ name. IsFormula (within scope name)) formula_goes depth (λ name. formula (within scope name) depth) f).answers
+formulas-over scope depth n inner f =
+    connections-correct scope (suc depth) (node scope (suc depth)) (binder_over take_token (λ name. formula (within scope name) depth) (formula scope depth)) n
+    (binder-correct (λ name. IsFormula (within scope name)) (IsFormula scope) formula_goes depth (λ name. formula (within scope name) depth) (formula scope depth) f inner)
 
 -- both, so many levels being open to them, in any scope
 pub record AreCorrect (depth : ℕ) : Type 0 where
@@ -396,5 +385,5 @@ formulas-correct zero = record { nodes = node-last; formulas = formulas-last }
 formulas-correct (suc depth) =
     let less = formulas-correct depth in record {
       nodes = λ scope. node-over scope depth (less.nodes scope) (less.formulas scope);
-      formulas = λ scope. formulas-over scope depth (node-over scope depth (less.nodes scope) (less.formulas scope)) (λ name. less.formulas (within scope name));
+      formulas = λ scope. formulas-over scope depth (node-over scope depth (less.nodes scope) (less.formulas scope)) (less.formulas scope) (λ name. less.formulas (within scope name));
     }

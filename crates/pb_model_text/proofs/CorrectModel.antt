@@ -1,26 +1,27 @@
 -- Steps, properties and whole models are read rightly.
-use Rattle.std.proofs.Common.{◌≡◌, ℕ, suc, Bool, true, false, cond, List, [], ◌∷◌, ◌++◌, refl, sym, ◌∙◌, ap, subst, append_assoc, Ok, Err}
+use Rattle.std.proofs.Common.{◌≡◌, ℕ, suc, Bool, true, false, cond, List, [], ◌∷◌, ◌++◌, refl, sym, ◌∙◌, ap, subst, append_assoc, Ok, Err, ◌⊎◌, inl, inr}
 use Rattle.pb_text_tree.specs.Form.{RangeForm}
-use Rattle.pb_model_tree.specs.Form.{StepForm, PropertyForm, ModelForm}
+use Rattle.pb_protocol_tree.specs.Form.{AssignmentForm, StepForm, PropertyForm, ProtocolForm}
 use Rattle.pb_text_lexer.specs.declared.fault.ReadingRule.TheVariants.{Unexpected, Limit}
 use Rattle.pb_text_lexer.specs.declared.fault.Refusal.{Refusal}
 use Rattle.pb_text_lexer.specs.declared.kind.Kind.{Kind}
 use Rattle.pb_text_lexer.specs.declared.kind.Kind.TheVariants as k
 use Rattle.pb_text_lexer.specs.Kinds.{same_kind, is_last, is_limited}
-use Rattle.pb_text_lexer.specs.Grammar.{State, WithinLimits, going_on, One, CountedApart}
+use Rattle.pb_text_lexer.specs.Grammar.{State, WithinLimits, going_on, Reads, Is, One, CountedApart}
+use Rattle.pb_text_lexer.specs.Grammar as grammar
 use Rattle.pb_text_lexer.specs.LeftGrammar.{Listed}
-use Rattle.pb_text_lexer.specs.Steps.{ends, Step, Outcome, and_then, pure, expect, refuse, refusal, kind, head_kind, nothing_between}
+use Rattle.pb_text_lexer.specs.Steps.{ends, Step, Outcome, and_then, pure, take_token, expect, refuse, refusal, kind, head_kind, nothing_between}
 use Rattle.pb_text_lexer.specs.Steps as step
 use Rattle.pb_text_lexer.specs.Tokens.{Tok}
 use Rattle.pb_text_lexer.proofs.TokenLemmas.{kind-same, same-kind}
-use Rattle.pb_text_lexer.proofs.Correct.{st, Stops, never, GoesOn, goes-ended, reaches-read, some-token, Took, Answers, Correct, move, then-correct, expect-correct, unlike}
-use Rattle.pb_text_lexer.proofs.CorrectFamilies.{own-correct}
-use Rattle.pb_text_lexer.proofs.CorrectSeries.{going, Passes}
-use Rattle.pb_text_lexer.proofs.CorrectPlain.{Always, anywhere, then-plain}
-use Rattle.pb_text_terms.specs.Grammar.{Name, Variables, Placed, arguments_of, IsTerm}
-use Rattle.pb_text_terms.specs.Reading.{name, variables, is_open, placed, argument_list, term}
-use Rattle.pb_text_terms.proofs.CorrectVariable.{name-correct, variables-correct, commas, listed-correct, stops-at-kind, said-correct}
-use Rattle.pb_text_terms.proofs.CorrectOperators.{term_goes, comma-apart, list_goes}
+use Rattle.pb_text_lexer.proofs.Correct.{st, Stops, never, GoesOn, goes-ended, reaches-read, some-token, Took, Answers, Answering, Correct, HeadIs, move, then-correct, take-correct, expect-correct, unlike}
+use Rattle.pb_text_lexer.proofs.CorrectFamilies.{Nowhere, first-correct, own-correct}
+use Rattle.pb_text_lexer.proofs.CorrectSeries.{going, Passes, head-at}
+use Rattle.pb_text_lexer.proofs.CorrectPlain.{Always, anywhere, then-plain, nothing-correct}
+use Rattle.pb_text_terms.specs.Grammar.{Name, Placed, arguments_of, IsTerm}
+use Rattle.pb_text_terms.specs.Reading.{name, instance, is_open, placed, argument_list, term}
+use Rattle.pb_text_terms.proofs.CorrectVariable.{name-correct, commas, listed-correct, stops-at-kind, said-correct}
+use Rattle.pb_text_terms.proofs.CorrectOperators.{unary_goes, term_goes, comma-apart, list_goes}
 use Rattle.pb_text_terms.proofs.CorrectInstance.{placed-correct}
 use Rattle.pb_text_terms.proofs.CorrectTerm.{term-correct}
 use Rattle.pb_text_terms.proofs.TermStarts.{deeper-some}
@@ -29,10 +30,12 @@ use Rattle.pb_text_formulas.specs.Reading.{is_name_kind, sort_parts}
 use Rattle.pb_text.specs.Reading.{parameters}
 use Rattle.pb_text_formulas.proofs.CorrectSorts.{passes-kind, token-correct, many-correct, parts_go, sort_parts-correct}
 use Rattle.pb_text.proofs.CorrectText.{parameters_of, parameters-correct}
-use Rattle.pb_model_text.specs.Grammar.{IsFormula, IsAssignment, IsStep, Steps, IsInitialState, IsProperty, Properties, IsModel, IsModelText}
+use Rattle.pb_model_text.specs.Grammar.{IsFormula, IsInstance, StateVariables, Definitions, IsAssignment, AssignedBy, Assigned, IsStep, Steps, IsInitialState, IsProperty, Properties, IsModel, IsModelText}
 use Rattle.pb_model_text.specs.Parsing.{BeginsModel, ModelStaysWithin}
-use Rattle.pb_model_text.specs.Reading.{is_property, formula, assignment, assignments, step_parts, steps, initial_parts, initial, property_parts, property, properties, model, whole_model}
+use Rattle.pb_model_text.specs.Reading.{is_property, formula, state_variables, definitions, assignment, assignments, assigned_by, assigned, step_parts, steps, initial_parts, initial, property_parts, property, properties, model, whole_model}
 use Rattle.pb_model_text.specs.Reading as reading
+use Rattle.pb_model_text.proofs.CorrectInstances.{instance-correct, instance-starts}
+use Rattle.pb_model_text.proofs.CorrectState.{state_variables-correct, definitions-correct}
 use Rattle.pb_model_text.proofs.CorrectFormula.{formula_goes, formulas-correct}
 
 -- Before one of the tokens a fault stands: no list that begins with those up to it, and it, is a model within the limits.
@@ -44,35 +47,81 @@ pub record IsFault (depth operators : ℕ) (tokens : List Tok) (bad : Refusal) :
   pub kind : bad.kind ≡ next.kind
   pub place : bad.place ≡ next.place
   pub limited : bad.rule ≡ Limit → is_limited next.kind ≡ true
-  pub none : (d n : ℕ) (tail : List Tok) (ranges : List RangeForm) (y : ModelForm) → WithinLimits bad.rule depth operators d n → IsModelText d n (front ++ next ∷ tail) ranges y → ⊥
+  pub none : (d n : ℕ) (tail : List Tok) (ranges : List RangeForm) (y : ProtocolForm) → WithinLimits bad.rule depth operators d n → IsModelText d n (front ++ next ∷ tail) ranges y → ⊥
   pub goes_on : BeginsModel (suc depth) (suc operators) (front ++ going_on bad.rule next)
   pub first : ModelStaysWithin depth operators front
 
 -- the tokens are this model, within the limits, and no other, within any
-pub record IsRead (depth operators : ℕ) (tokens : List Tok) (ranges : List RangeForm) (x : ModelForm) : Type 0 where
+pub record IsRead (depth operators : ℕ) (tokens : List Tok) (ranges : List RangeForm) (x : ProtocolForm) : Type 0 where
   pub front : List Tok
   pub end : Tok
   pub cut : tokens ≡ front ++ end ∷ []
   pub end_is : end.kind ≡ k.End
   pub reads : IsModelText depth operators tokens ranges x
-  pub only : (d n : ℕ) (y : ModelForm) → IsModelText d n tokens ranges y → y ≡ x
+  pub only : (d n : ℕ) (y : ProtocolForm) → IsModelText d n tokens ranges y → y ≡ x
 
 -- ---- steps
 
 placed_term-correct : (depth : ℕ) → Correct Always (placed (term depth)) (λ d. Placed (IsTerm d)) term_goes depth
 placed_term-correct depth = placed-correct IsTerm term_goes depth (λ d s y z r. deeper-some (suc d) s y z r) (term depth) (term-correct depth)
 
+assign-stops : unary_goes k.Assign ≡ false
+unfolding same_kind
+assign-stops = refl
+
 assignment-correct : (depth : ℕ) → Correct Always (assignment depth) IsAssignment term_goes depth
 unfolding assignment
 assignment-correct depth =
-    then-plain (λ d. Name) _ term_goes depth
-    Always name _ (name-correct depth) (λ variable.
+    then-correct IsInstance _ unary_goes term_goes depth
+    (λ d x m y z r over. stops-at-kind unary_goes k.Assign assign-stops m.tokens r.1.tokens r.0 r.2.0 r.2.1) Always (instance depth) _ (instance-correct depth) (λ target. anywhere (Stops unary_goes) _ _ term_goes depth (
     then-plain (λ d. One k.Assign) _ term_goes depth
     Always (expect k.Assign) _ (expect-correct k.Assign depth refl) (λ assign.
-    said-correct (λ d. Placed (IsTerm d)) (λ value. record { variable = variable; place = value.0; value = value.1 }) term_goes depth Always (placed (term depth)) (placed_term-correct depth)))
+    said-correct (λ d. Placed (IsTerm d)) (λ value. record { variable = target.name; index = target.arguments; place = value.0; value = value.1 }) term_goes depth Always (placed (term depth)) (placed_term-correct depth))))
 
 assignments-correct : (depth : ℕ) → Correct Always (assignments depth) (λ d. Listed (IsAssignment d) (One k.Comma)) list_goes depth
 assignments-correct depth = listed-correct IsAssignment term_goes depth comma-apart (assignment depth) (assignment-correct depth)
+
+semicolon-stops : list_goes k.Semicolon ≡ false
+unfolding same_kind
+semicolon-stops = refl
+
+-- what is assigned, by the first token
+abbrev assigned-kinds : ℕ → Kind → Reads (List AssignmentForm)
+assigned-kinds d = AssignedBy d
+
+assigned-starts : (d : ℕ) (kind : Kind) (s : State) (y : List AssignmentForm) (z : State) → assigned-kinds d kind s y z → HeadIs kind s.tokens
+assigned-starts d k.Skip s y z r = head-at k.Skip s.tokens r.1.tokens r.0 r.2.0 r.2.1
+assigned-starts d k.Name s y z r = at r.0 s r.1 r.2
+  where
+    at : (xs : List AssignmentForm) (s z : State) → Listed (IsAssignment d) (One k.Comma) s xs z → HeadIs k.Name s.tokens
+    at xs s z (grammar.last q) = instance-starts d s q.0 q.1 q.2
+    at xs s z (grammar.more q b rest) = instance-starts d s q.0 q.1 q.2
+assigned-starts d _ s y z r = absurd r
+
+module _ (depth : ℕ) where
+  none-assigned : Correct (HeadIs k.Skip) (assigned_by depth k.Skip) (λ d. assigned-kinds d k.Skip) never depth
+  unfolding assigned_by
+  none-assigned =
+      then-plain (λ d. One k.Skip) (λ skip d. grammar.◌>>=◌ (One k.Semicolon) (λ semicolon. Is [])) never depth (HeadIs k.Skip) take_token _ (take-correct k.Skip depth refl)
+      (λ skip. token-correct k.Semicolon depth [] refl)
+
+  some-assigned : Correct (HeadIs k.Name) (assigned_by depth k.Name) (λ d. assigned-kinds d k.Name) never depth
+  unfolding assigned_by
+  some-assigned =
+      anywhere (HeadIs k.Name) _ (λ d. assigned-kinds d k.Name) never depth (
+      then-correct (λ d. Listed (IsAssignment d) (One k.Comma)) _ list_goes never depth
+      (λ d x m y z r over. stops-at-kind list_goes k.Semicolon semicolon-stops m.tokens r.1.tokens r.0 r.2.0 r.2.1) Always (assignments depth) _ (assignments-correct depth)
+      (λ found. anywhere (Stops list_goes) _ _ never depth (token-correct k.Semicolon depth found refl)))
+
+  assigned-each : (kind : Kind) → Answering (HeadIs kind) (assigned_by depth kind) (λ d. assigned-kinds d kind) never depth ⊎ Nowhere (assigned_by depth kind) (λ d. assigned-kinds d kind)
+  unfolding assigned_by
+  assigned-each k.Skip = inl none-assigned.answers
+  assigned-each k.Name = inl some-assigned.answers
+  assigned-each kind = inr nothing-correct
+
+  assigned-correct : Correct Always (assigned depth) Assigned never depth
+  unfolding assigned
+  assigned-correct = first-correct assigned-kinds never depth assigned-starts (assigned_by depth) assigned-each k.Skip none-assigned.here none-assigned.some
 
 colon-stops : going never is_open k.Colon ≡ false
 unfolding same_kind
@@ -81,10 +130,6 @@ colon-stops = refl
 arrow-stops : term_goes k.Arrow ≡ false
 unfolding same_kind
 arrow-stops = refl
-
-semicolon-stops : list_goes k.Semicolon ≡ false
-unfolding same_kind
-semicolon-stops = refl
 
 step_parts-correct : (depth : ℕ) → Correct Always (step_parts depth) IsStep never depth
 unfolding step_parts
@@ -99,9 +144,7 @@ step_parts-correct depth =
     (λ d x m y z r over. stops-at-kind term_goes k.Arrow arrow-stops m.tokens r.1.tokens r.0 r.2.0 r.2.1) Always (term depth) _ (term-correct depth) (λ guard. anywhere (Stops term_goes) _ _ never depth (
     then-plain (λ d. One k.Arrow) _ never depth
     Always (expect k.Arrow) _ (expect-correct k.Arrow depth refl) (λ arrow.
-    then-correct (λ d. Listed (IsAssignment d) (One k.Comma)) _ list_goes never depth
-    (λ d x m y z r over. stops-at-kind list_goes k.Semicolon semicolon-stops m.tokens r.1.tokens r.0 r.2.0 r.2.1) Always (assignments depth) _ (assignments-correct depth)
-    (λ assigned. anywhere (Stops list_goes) _ _ never depth (token-correct k.Semicolon depth (record { name = found; variables = own; guard = guard; assignments = assigned }) refl)))))))))
+    said-correct Assigned (λ assigned. record { name = found; variables = own; guard = guard; assignments = assigned }) never depth Always (assigned depth) (assigned-correct depth))))))))
 
 step-correct : (depth : ℕ) → Correct Always (reading.step depth) (λ d. CountedApart (IsStep d)) never depth
 unfolding reading.step
@@ -198,25 +241,25 @@ module _ (ranges : List RangeForm) (depth : ℕ) where
       Always (expect k.Model) _ (expect-correct k.Model depth refl) (λ word.
       then-plain (λ d. One k.State) _ properties_go depth
       Always (expect k.State) _ (expect-correct k.State depth refl) (λ state.
-      then-correct (λ d. Variables) _ commas properties_go depth
-      (λ d x m y z r over. stops-at-kind commas k.Semicolon state-stops m.tokens r.1.tokens r.0 r.2.0 r.2.1) Always variables _ (variables-correct depth) (λ own. anywhere (Stops commas) _ _ properties_go depth (
+      then-correct StateVariables _ commas properties_go depth
+      (λ d x m y z r over. stops-at-kind commas k.Semicolon state-stops m.tokens r.1.tokens r.0 r.2.0 r.2.1) Always (state_variables depth) _ (state_variables-correct depth) (λ own. anywhere (Stops commas) _ _ properties_go depth (
       then-plain (λ d. One k.Semicolon) _ properties_go depth
       Always (expect k.Semicolon) _ (expect-correct k.Semicolon depth refl) (λ semicolon.
-      then-plain (λ d. One k.Step) _ properties_go depth
-      Always (expect k.Step) _ (expect-correct k.Step depth refl) (λ step.
+      then-plain Definitions _ properties_go depth
+      Always (definitions depth) _ (definitions-correct depth) (λ defined.
       then-correct Steps _ steps_go properties_go depth
       (λ d x m y z r over. let q = r.2.1 in stops-at-kind steps_go k.Init init-stops m.tokens q.1.tokens q.0 q.2.0 q.2.1) Always (steps depth) _ (steps-correct depth) (λ found. anywhere (Stops steps_go) _ _ properties_go depth (
       then-plain (λ d. CountedApart (IsInitialState d)) _ properties_go depth
       Always (initial depth) _ (initial-correct depth) (λ start.
-      said-correct Properties (λ asked. record { sorts = sorts; ranges = ranges; variables = own; steps = found; initial = start; properties = asked }) properties_go depth Always (properties depth) (properties-correct depth))))))))))))
+      said-correct Properties (λ asked. record { sorts = sorts; ranges = ranges; variables = own; definitions = defined; steps = found; initial = start; properties = asked }) properties_go depth Always (properties depth) (properties-correct depth))))))))))))
 
 -- A refusal is the same whatever the range lines are.
-abbrev pub Reading : List RangeForm → ℕ → State → Outcome ModelForm → Type 0
+abbrev pub Reading : List RangeForm → ℕ → State → Outcome ProtocolForm → Type 0
 Reading ranges depth s (Ok r) = IsRead depth s.operators s.tokens ranges r.0
 Reading ranges depth s (Err bad) = IsFault depth s.operators s.tokens bad
 
 -- the same with other range lines
-other-ranges : (rs us : List RangeForm) (d : ℕ) (s : State) (y : ModelForm) (z : State) → IsModel us d s y z → IsModel rs d s (record y { ranges = rs }) z
+other-ranges : (rs us : List RangeForm) (d : ℕ) (s : State) (y : ProtocolForm) (z : State) → IsModel us d s y z → IsModel rs d s (record y { ranges = rs }) z
 other-ranges rs us d s y z r =
     let p = r.3 in
     let e = p.3 in
@@ -226,15 +269,15 @@ other-ranges rs us d s y z r =
     let b = c.3 in
     let a = b.3 in
     let v = a.3 in
-    (r.0, r.1, r.2, (p.0, p.1, p.2, (e.0, e.1, e.2, (i.0, i.1, i.2, (n.0, n.1, n.2, (c.0, c.1, c.2, (b.0, b.1, b.2, (a.0, a.1, a.2, (v.0, v.1, v.2, (ap (λ (w : ModelForm). record w { ranges = rs }) v.3.0, v.3.1))))))))))
+    (r.0, r.1, r.2, (p.0, p.1, p.2, (e.0, e.1, e.2, (i.0, i.1, i.2, (n.0, n.1, n.2, (c.0, c.1, c.2, (b.0, b.1, b.2, (a.0, a.1, a.2, (v.0, v.1, v.2, (ap (λ (w : ProtocolForm). record w { ranges = rs }) v.3.0, v.3.1))))))))))
 
 -- its ranges are those
-ranges-are : (rs : List RangeForm) (d : ℕ) (s : State) (y : ModelForm) (z : State) → IsModel rs d s y z → y ≡ record y { ranges = rs }
+ranges-are : (rs : List RangeForm) (d : ℕ) (s : State) (y : ProtocolForm) (z : State) → IsModel rs d s y z → y ≡ record y { ranges = rs }
 ranges-are rs d s y z r =
-    let e : y.ranges ≡ rs = ap (λ (v : ModelForm). v.ranges) r.3.3.3.3.3.3.3.3.3.0 in
+    let e : y.ranges ≡ rs = ap (λ (v : ProtocolForm). v.ranges) r.3.3.3.3.3.3.3.3.3.0 in
     ap (λ (v : List RangeForm). record y { ranges = v }) e
 
-pub with-ranges : (rs : List RangeForm) (depth operators : ℕ) (tokens : List Tok) (x : ModelForm) → IsRead depth operators tokens [] x → IsRead depth operators tokens rs (record x { ranges = rs })
+pub with-ranges : (rs : List RangeForm) (depth operators : ℕ) (tokens : List Tok) (x : ProtocolForm) → IsRead depth operators tokens [] x → IsRead depth operators tokens rs (record x { ranges = rs })
 with-ranges rs depth operators tokens x a = record {
   front = a.front;
   end = a.end;
@@ -242,7 +285,7 @@ with-ranges rs depth operators tokens x a = record {
   end_is = a.end_is;
   reads = (a.reads.0, a.reads.1, other-ranges rs [] depth _ x _ a.reads.2, a.reads.3);
   only = λ d n y r.
-      ranges-are rs d _ y _ r.2 ∙ ap (λ (v : ModelForm). record v { ranges = rs }) (a.only d n (record y { ranges = [] }) (r.0, r.1, other-ranges [] rs d _ y _ r.2, r.3));
+      ranges-are rs d _ y _ r.2 ∙ ap (λ (v : ProtocolForm). record v { ranges = rs }) (a.only d n (record y { ranges = [] }) (r.0, r.1, other-ranges [] rs d _ y _ r.2, r.3));
 }
 
 pub whole-reads : (ranges : List RangeForm) (depth : ℕ) (s : State) → ends s.tokens ≡ true → Reading ranges depth s (whole_model ranges depth s)
@@ -263,7 +306,7 @@ whole-reads ranges depth s ended = at-model (model ranges depth s) ((model-corre
         let p : u ≡ t = cc in let q : t.kind ≡ k.End = sym (ap (λ v. v.kind) p) ∙ end in
         let r : same_kind t.kind k.End ≡ true = subst (λ (v : Kind). same_kind t.kind v ≡ true) q (same-kind t.kind) in cc
 
-    found : (x : ModelForm) (z : State) → Took (IsModel ranges) properties_go depth s x z → (t : Tok) → z.tokens ≡ t ∷ [] → t.kind ≡ k.End → IsRead depth s.operators s.tokens ranges x
+    found : (x : ProtocolForm) (z : State) → Took (IsModel ranges) properties_go depth s x z → (t : Tok) → z.tokens ≡ t ∷ [] → t.kind ≡ k.End → IsRead depth s.operators s.tokens ranges x
     found x z a t is end = record {
       front = a.front;
       end = t;
@@ -289,7 +332,7 @@ whole-reads ranges depth s ended = at-model (model ranges depth s) ((model-corre
       );
     }
 
-    not-end : (x : ModelForm) (z : State) → Took (IsModel ranges) properties_go depth s x z → (ts : List Tok) → z.tokens ≡ ts → ends ts ≡ true → same_kind (step.head_kind ts) k.End ≡ false
+    not-end : (x : ProtocolForm) (z : State) → Took (IsModel ranges) properties_go depth s x z → (ts : List Tok) → z.tokens ≡ ts → ends ts ≡ true → same_kind (step.head_kind ts) k.End ≡ false
         → IsFault depth s.operators s.tokens (refusal Unexpected ts)
     not-end x z a [] is e other = cc
     not-end x z a (t ∷ ts) is e other = record {
@@ -309,12 +352,12 @@ whole-reads ranges depth s ended = at-model (model ranges depth s) ((model-corre
           is-end t r.1 tail [] (a.only d n (t ∷ tail) (record y { ranges = ranges }) (st (r.1 ∷ []) r.0) stops same (end-stops r.1 r.3)).1 r.3 other;
     }
 
-    at-kind : (x : ModelForm) (z : State) → Took (IsModel ranges) properties_go depth s x z → (b : Bool) → same_kind (kind z) k.End ≡ b
+    at-kind : (x : ProtocolForm) (z : State) → Took (IsModel ranges) properties_go depth s x z → (b : Bool) → same_kind (kind z) k.End ≡ b
         → Reading ranges depth s (cond b (pure x) (refuse Unexpected) z)
     at-kind x z a true same = let e = end-only z.tokens a.ended same in found x z a e.0 e.1 e.2
     at-kind x z a false other = not-end x z a z.tokens refl a.ended other
 
-    at-model : (o : Outcome ModelForm) → Answers (IsModel ranges) properties_go depth s o
+    at-model : (o : Outcome ProtocolForm) → Answers (IsModel ranges) properties_go depth s o
         → Reading ranges depth s (and_then o (λ x. step.◌>>=◌ step.peek (λ last. cond (same_kind last k.End) (pure x) (refuse Unexpected))))
     at-model (Ok r) a = at-kind r.0 r.1 a (same_kind (kind r.1) k.End) refl
     at-model (Err bad) a = record {

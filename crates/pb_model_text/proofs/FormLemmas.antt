@@ -3,13 +3,13 @@ use Rattle.std.proofs.Common.{◌≡◌, refl, ◌∙◌, ap, ◌∷◌, Vec, Gl
 use Rattle.std.specs.Prelude.{box_value}
 use Rattle.pb_text_tree.specs.declared.operator.Connective.{Connective}
 use Rattle.pb_text_tree.specs.Form.{chained}
-use Rattle.pb_model_tree.specs.declared.formula.Formula as formula
-use Rattle.pb_model_tree.specs.declared.formula.Formula.{Formula, Row_of-Link, end_of-Link, more_of-Link, items-the_row-Link, items_hidden-the_row-Link-0}
-use Rattle.pb_model_tree.specs.declared.formula.Link.{Link}
-use Rattle.pb_model_tree.specs.declared.step_set.StepSet as step_set
-use Rattle.pb_model_tree.specs.declared.step_set.StepSet.{StepSet, Row_of-StepSetLink, end_of-StepSetLink, more_of-StepSetLink, items-the_row-StepSetLink, items_hidden-the_row-StepSetLink-0}
-use Rattle.pb_model_tree.specs.declared.step_set.StepSetLink.{StepSetLink}
-use Rattle.pb_model_tree.specs.Form.{StepSetForm, step_set_form, step_set_links_in, FormulaForm, formula_form, links_in}
+use Rattle.pb_protocol_tree.specs.declared.formula.Formula as formula
+use Rattle.pb_protocol_tree.specs.declared.formula.Formula.{Formula, Row_of-Link, end_of-Link, more_of-Link, items-the_row-Link, items_hidden-the_row-Link-0}
+use Rattle.pb_protocol_tree.specs.declared.formula.Link.{Link}
+use Rattle.pb_protocol_tree.specs.declared.step_set.StepSet as step_set
+use Rattle.pb_protocol_tree.specs.declared.step_set.StepSet.{StepSet, Row_of-StepSetLink, end_of-StepSetLink, more_of-StepSetLink, items-the_row-StepSetLink, items_hidden-the_row-StepSetLink-0}
+use Rattle.pb_protocol_tree.specs.declared.step_set.StepSetLink.{StepSetLink}
+use Rattle.pb_protocol_tree.specs.Form.{StepSetForm, step_set_form, step_set_links_in, FormulaForm, formula_form, links_in}
 use Rattle.pb_model_text.specs.Links.{step_set_links, link_forms}
 use mathlib.Core.Former.{Count}
 

@@ -5,13 +5,14 @@ use Rattle.std.specs.Result.{result_and}
 use Rattle.pb_fixpoint.specs.declared.Sign.{Sign}
 use Rattle.pb_text_tree.specs.declared.operator.Connective.{Connective}
 use Rattle.pb_text_tree.specs.declared.operator.Connective.TheVariants.{And, Or, Implies}
-use Rattle.pb_model_tree.specs.declared.formula.Link.{Link}
-use Rattle.pb_model_tree.specs.declared.formula.Formula.{Formula}
+use Rattle.pb_text_tree.specs.declared.operator.Quantifier.{Quantifier}
+use Rattle.pb_protocol_tree.specs.declared.formula.Link.{Link}
+use Rattle.pb_protocol_tree.specs.declared.formula.Formula.{Formula}
 use Rattle.pb_model_tree.specs.declared.formula.Modality.{Modality}
 use Rattle.pb_model_tree.specs.declared.formula.Modality.TheVariants as modality
 use Rattle.pb_text_tree.specs.declared.place.Place.{Place}
-use Rattle.pb_text_tree.specs.Form.{TermForm}
-use Rattle.pb_model_tree.specs.Form.{StepSetForm, FormulaForm, formula_form}
+use Rattle.pb_text_tree.specs.Form.{VariableForm, TermForm}
+use Rattle.pb_protocol_tree.specs.Form.{StepSetForm, FormulaForm, formula_form}
 use Rattle.pb_text_lexer.specs.declared.fault.Refusal.{Refusal}
 use Rattle.pb_errors.specs.declared.or_memory.OrMemory.{OrMemory}
 use Rattle.pb_errors.proofs.Faults.{if_fault}
@@ -23,17 +24,18 @@ use Rattle.pb_text_lexer.specs.Kinds.{same_kind, is_last}
 use Rattle.pb_text_lexer.specs.Steps.{Step, Outcome, Gives, and_then, ◌>>=◌, pure, peek, refuse, refusal, kind, take_token, expect, unless_next, enter, chain}
 use Rattle.pb_text_lexer.specs.Tokens.{Tok, token_at}
 use Rattle.pb_text_lexer.proofs.LoopLemmas.{placed, resumed-first-fails}
-use Rattle.pb_text_terms.specs.Operators.{symbol, is_connective}
-use Rattle.pb_text_terms.specs.Reading.{name, below}
+use Rattle.pb_text_terms.specs.Operators.{symbol, is_connective, is_quantifier}
+use Rattle.pb_text_terms.specs.Reading.{name, variables, quantifier_of, below}
+use Rattle.pb_text_terms.specs.Reading as terms
 use Rattle.pb_text_terms.proofs.ReadLemmas.{below-is, resumed-alone-or-fails, no-connective}
 use Rattle.pb_model_text.specs.Grammar.{FixpointNames, within}
 use Rattle.pb_model_text.specs.Links.{link_form, link_forms}
-use Rattle.pb_model_text.specs.Reading.{begun, modal, opening_kind, closing, modal_steps, data_operand, goes_on, binding, step_set, sign_of, is_fixpoint, node, formula, fixpoint, primary, operand, level}
+use Rattle.pb_model_text.specs.Reading.{begun, modal, opening_kind, closing, modal_steps, data_operand, goes_on, binding, step_set, sign_of, is_fixpoint, is_binder, node, formula, fixpoint, quantification, primary, operand, level}
 
 -- a level is a chain of its operands
 pub level-chain : (c : Connective) (scope : FixpointNames) (depth : ℕ) (s : State)
     → level c scope depth s ≡ chain (symbol c) (placed (symbol c) (FormulaForm.connected c) (operand c scope depth)) (operand c scope depth) (suc (length s.tokens)) s
-unfolding node formula fixpoint
+unfolding node formula fixpoint quantification
 level-chain And scope depth s = refl
 level-chain Or scope depth s = refl
 level-chain Implies scope zero s = refl
@@ -65,14 +67,16 @@ node-other scope zero s a b c d e f g h i j =
 node-other scope (suc depth) s a b c d e f g h i j =
     ap (λ p. p s) (begun-other scope take_token (node scope depth) (formula scope depth) (data_operand (suc depth)) (step_set depth) (kind s) a b c d e f g h i j)
 
--- without a sign, no fixpoint
-no-sign : (kind : Kind) → sign_of kind ≡ None → is_fixpoint kind ≡ false
-no-sign k.Mu e = cc
-no-sign k.Nu e = cc
-no-sign _ e = refl
+-- without a sign and a quantifier, no binder
+no-binder : (kind : Kind) → sign_of kind ≡ None → quantifier_of kind ≡ None → is_binder kind ≡ false
+no-binder k.Mu e f = cc
+no-binder k.Nu e f = cc
+no-binder k.Forall e f = cc
+no-binder k.Exists e f = cc
+no-binder _ e f = refl
 
-pub primary-node : (scope : FixpointNames) (depth : ℕ) (s : State) → sign_of (kind s) ≡ None → primary scope depth s ≡ node scope depth s
-primary-node scope depth s other = rw (no-sign (kind s) other) refl
+pub primary-node : (scope : FixpointNames) (depth : ℕ) (s : State) → sign_of (kind s) ≡ None → quantifier_of (kind s) ≡ None → primary scope depth s ≡ node scope depth s
+primary-node scope depth s other another = rw (no-binder (kind s) other another) refl
 
 some-sign : (kind : Kind) (sign : Sign) → sign_of kind ≡ Some sign → is_fixpoint kind ≡ true
 some-sign k.Mu sign e = refl
@@ -81,6 +85,19 @@ some-sign _ sign e = cc
 
 pub primary-fixpoint : (scope : FixpointNames) (depth : ℕ) (s : State) (sign : Sign) → sign_of (kind s) ≡ Some sign → primary scope depth s ≡ fixpoint scope depth s
 primary-fixpoint scope depth s sign is = rw (some-sign (kind s) sign is) refl
+
+no-sign : (kind : Kind) (q : Quantifier) → quantifier_of kind ≡ Some q → is_fixpoint kind ≡ false
+no-sign k.Forall q e = refl
+no-sign k.Exists q e = refl
+no-sign _ q e = cc
+
+some-quantifier : (kind : Kind) (q : Quantifier) → quantifier_of kind ≡ Some q → is_quantifier kind ≡ true
+some-quantifier k.Forall q e = refl
+some-quantifier k.Exists q e = refl
+some-quantifier _ q e = cc
+
+pub primary-quantified : (scope : FixpointNames) (depth : ℕ) (s : State) (q : Quantifier) → quantifier_of (kind s) ≡ Some q → primary scope depth s ≡ quantification scope depth s
+primary-quantified scope depth s q is = rw (no-sign (kind s) q is, some-quantifier (kind s) q is) refl
 
 -- ---- what a token begins, where a level may open and where none may
 
@@ -226,6 +243,34 @@ module _ (scope : FixpointNames) (depth : ℕ) (s s1 : State) (sign : Sign) (wor
           → fixpoint scope depth s ≡ Ok (FormulaForm.fixpoint sign word.place (record { place = place; text = text }) x, z)
       unfolding name
       fixpoint-read x z reads = fixpoint-is scope depth s sign is ∙ rw entered (rw named (rw stands (rw (body-is, reads) refl)))
+
+quantification-is : (scope : FixpointNames) (depth : ℕ) (s : State) (q : Quantifier) → quantifier_of (kind s) ≡ Some q
+    → quantification scope depth s ≡ (enter depth >>= (λ word. terms.binding (FormulaForm.quantified q word.place) (below (formula scope) depth))) s
+unfolding quantification
+quantification-is scope zero s q is = rw is refl
+quantification-is scope (suc depth) s q is = rw is refl
+
+module _ (scope : FixpointNames) (depth : ℕ) (s : State) (q : Quantifier) (is : quantifier_of (kind s) ≡ Some q) where
+  pub quantified-enter-fails : (bad : Refusal) → enter depth s ≡ Err bad → quantification scope depth s ≡ Err bad
+  quantified-enter-fails bad fails = quantification-is scope depth s q is ∙ rw fails refl
+
+  module _ (s1 : State) (word : Tok) (entered : enter depth s ≡ Ok (word, s1)) where
+    pub quantified-variables-fail : (bad : Refusal) → variables s1 ≡ Err bad → quantification scope depth s ≡ Err bad
+    quantified-variables-fail bad fails = quantification-is scope depth s q is ∙ rw entered (rw fails refl)
+
+    module _ (s2 : State) (found : List VariableForm) (bound : variables s1 ≡ Ok (found, s2)) where
+      pub quantified-period-fails : (bad : Refusal) → expect k.Period s2 ≡ Err bad → quantification scope depth s ≡ Err bad
+      quantified-period-fails bad fails = quantification-is scope depth s q is ∙ rw entered (rw bound (rw fails refl))
+
+      module _ (s3 : State) (period : Tok) (stands : expect k.Period s2 ≡ Ok (period, s3)) (some : 0 < depth) where
+        inner-is : below (formula scope) depth s3 ≡ formula scope (depth - 1) s3
+        inner-is = ap (λ p. p s3) (below-is (formula scope) depth some)
+
+        pub quantified-body-fails : (bad : Refusal) → formula scope (depth - 1) s3 ≡ Err bad → quantification scope depth s ≡ Err bad
+        quantified-body-fails bad fails = quantification-is scope depth s q is ∙ rw entered (rw bound (rw stands (rw (inner-is, fails) refl)))
+
+        pub quantified-read : (x : FormulaForm) (z : State) → formula scope (depth - 1) s3 ≡ Ok (x, z) → quantification scope depth s ≡ Ok (FormulaForm.quantified q word.place found x, z)
+        quantified-read x z reads = quantification-is scope depth s q is ∙ rw entered (rw bound (rw stands (rw (inner-is, reads) refl)))
 
 -- ---- chains over chains
 

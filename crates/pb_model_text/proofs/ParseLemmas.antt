@@ -2,9 +2,9 @@
 use Rattle.std.proofs.Common.{◌≡◌, ℕ, true, false, List, [], ◌++◌, map, refl, sym, ◌∙◌, ap, subst, arith, Result, Ok, Err}
 use Rattle.std.proofs.lemmas.List.{append-nil}
 use Rattle.pb_text_tree.specs.declared.place.Place.{Place}
-use Rattle.pb_model_tree.specs.declared.model.Model.{Model}
+use Rattle.pb_protocol_tree.specs.declared.protocol.Protocol.{Protocol}
 use Rattle.pb_text_tree.specs.Form.{RangeForm, range_form}
-use Rattle.pb_model_tree.specs.Form.{ModelForm, model_form}
+use Rattle.pb_protocol_tree.specs.Form.{ProtocolForm, protocol_form}
 use Rattle.pb_text_lexer.specs.declared.fault.ReadingRule.{ReadingRule}
 use Rattle.pb_text_lexer.specs.declared.fault.ReadingRule.TheVariants.{Unexpected, Limit}
 use Rattle.pb_text_lexer.specs.declared.fault.Refusal.{Refusal}
@@ -37,16 +37,16 @@ all_tokens bytes = tokens_from language.Model bytes 0 start
 abbrev pub all_ranges : List ℕ → List RangeForm
 all_ranges bytes = ranges_from language.Model bytes 0 start
 
-pub is-reading : (bytes : List ℕ) (x : ModelForm) → IsRead depth_limit operator_limit (all_tokens bytes) (all_ranges bytes) x → IsModelReading bytes x
+pub is-reading : (bytes : List ℕ) (x : ProtocolForm) → IsRead depth_limit operator_limit (all_tokens bytes) (all_ranges bytes) x → IsModelReading bytes x
 is-reading bytes x r = record { tokens = all_tokens bytes; ranges = all_ranges bytes; cut = whole-cut language.Model bytes r.front r.end r.cut r.end_is; says = r.reads }
 
 -- what the tokens and range lines of a cut say, those that the lexer gives say
-of-cut : (bytes : List ℕ) (d n : ℕ) (y : ModelForm) → IsModelReadingWithin d n bytes y → IsModelText d n (all_tokens bytes) (all_ranges bytes) y
+of-cut : (bytes : List ℕ) (d n : ℕ) (y : ProtocolForm) → IsModelReadingWithin d n bytes y → IsModelText d n (all_tokens bytes) (all_ranges bytes) y
 of-cut bytes d n y h =
     let same = same-cut language.Model bytes h.tokens h.ranges h.cut in
     subst (λ (v : List Tok). IsModelText d n v (all_ranges bytes) y) same.tokens (subst (λ (v : List RangeForm). IsModelText d n h.tokens v y) same.ranges_too h.says)
 
-pub only-reading : (bytes : List ℕ) (x : ModelForm) → IsRead depth_limit operator_limit (all_tokens bytes) (all_ranges bytes) x → (d n : ℕ) (y : ModelForm) → IsModelReadingWithin d n bytes y → y ≡ x
+pub only-reading : (bytes : List ℕ) (x : ProtocolForm) → IsRead depth_limit operator_limit (all_tokens bytes) (all_ranges bytes) x → (d n : ℕ) (y : ProtocolForm) → IsModelReadingWithin d n bytes y → y ≡ x
 only-reading bytes x r d n y h = r.only d n y (of-cut bytes d n y h)
 
 -- where some reading is within the limits, reading the tokens gives it, and there is no other
@@ -57,13 +57,13 @@ at_most_one bytes d n e m x y hx hy = by (whole_model (all_ranges bytes) d (st (
     within-these Unexpected d n = tt
     within-these Limit d n = (omega arith, omega arith)
 
-    by : (o : Outcome ModelForm) → Reading (all_ranges bytes) d (st (all_tokens bytes) n) o → x ≡ y
+    by : (o : Outcome ProtocolForm) → Reading (all_ranges bytes) d (st (all_tokens bytes) n) o → x ≡ y
     by (Ok r) a = a.only d n x (of-cut bytes d n x hx) ∙ sym (a.only e m y (of-cut bytes e m y hy))
     by (Err bad) f =
         absurd (f.none d n f.more (all_ranges bytes) x (within-these bad.rule d n)
         (subst (λ (v : List Tok). IsModelText d n v (all_ranges bytes) x) f.cut (of-cut bytes d n x hx)))
 
-pub no-reading : (bytes : List ℕ) (bad : Refusal) → IsFault depth_limit operator_limit (all_tokens bytes) bad → (y : ModelForm) → IsModelReading bytes y → ⊥
+pub no-reading : (bytes : List ℕ) (bad : Refusal) → IsFault depth_limit operator_limit (all_tokens bytes) bad → (y : ProtocolForm) → IsModelReading bytes y → ⊥
 no-reading bytes bad f y h =
     f.none depth_limit operator_limit f.more (all_ranges bytes) y (within-self bad.rule) (subst (λ (v : List Tok). IsModelText depth_limit operator_limit v (all_ranges bytes) y) f.cut (of-cut bytes depth_limit operator_limit y h))
   where
@@ -119,35 +119,35 @@ stands-by bytes bad f =
 abbrev GivesFault : Refusal → TextFault → Type 0
 GivesFault bad fault = fault ≡ fault_of bad
 
-abbrev IsSaid : List ℕ → Model → Type 0
-IsSaid bytes s = IsRead depth_limit operator_limit (all_tokens bytes) [] (model_form s)
+abbrev IsSaid : List ℕ → Protocol → Type 0
+IsSaid bytes s = IsRead depth_limit operator_limit (all_tokens bytes) [] (protocol_form s)
 
 abbrev IsFaultOf : List ℕ → Refusal → Type 0
 IsFaultOf bytes bad = IsFault depth_limit operator_limit (all_tokens bytes) bad
 
-abbrev pub Answered : List ℕ → Result Model (OrMemory Refusal) → Type 0
+abbrev pub Answered : List ℕ → Result Protocol (OrMemory Refusal) → Type 0
 Answered bytes result = Answers (IsSaid bytes) (IsFaultOf bytes) result
 
-answered-by : (bytes : List ℕ) (o : Outcome ModelForm) (result : Result Model (OrMemory Refusal)) (z : State) → Gives model_form o result z → Reading [] depth_limit (st (all_tokens bytes) operator_limit) o → Answered bytes result
-answered-by bytes o (Ok s) z is h = subst (λ (v : Outcome ModelForm). Reading [] depth_limit (st (all_tokens bytes) operator_limit) v) is h
-answered-by bytes o (Err error) z is h = if_fault error (λ bad is. subst (λ (v : Outcome ModelForm). Reading [] depth_limit (st (all_tokens bytes) operator_limit) v) is h) is
+answered-by : (bytes : List ℕ) (o : Outcome ProtocolForm) (result : Result Protocol (OrMemory Refusal)) (z : State) → Gives protocol_form o result z → Reading [] depth_limit (st (all_tokens bytes) operator_limit) o → Answered bytes result
+answered-by bytes o (Ok s) z is h = subst (λ (v : Outcome ProtocolForm). Reading [] depth_limit (st (all_tokens bytes) operator_limit) v) is h
+answered-by bytes o (Err error) z is h = if_fault error (λ bad is. subst (λ (v : Outcome ProtocolForm). Reading [] depth_limit (st (all_tokens bytes) operator_limit) v) is h) is
 
-pub answered : (bytes : List ℕ) (s : State) (result : Result Model (OrMemory Refusal)) (z : State) → s ≡ st (all_tokens bytes) operator_limit → Gives model_form (whole_model [] depth_limit s) result z → Answered bytes result
+pub answered : (bytes : List ℕ) (s : State) (result : Result Protocol (OrMemory Refusal)) (z : State) → s ≡ st (all_tokens bytes) operator_limit → Gives protocol_form (whole_model [] depth_limit s) result z → Answered bytes result
 answered bytes s result z is h =
     answered-by bytes (whole_model [] depth_limit (st (all_tokens bytes) operator_limit)) result z
-    (subst (λ (v : State). Gives model_form (whole_model [] depth_limit v) result z) is h)
+    (subst (λ (v : State). Gives protocol_form (whole_model [] depth_limit v) result z) is h)
     (whole-reads [] depth_limit (st (all_tokens bytes) operator_limit) (tokens-end language.Model start bytes))
 
 -- what a tree says whose ranges are put in is what the bytes say
-pub ranged : (bytes : List ℕ) (s t : Model) → IsSaid bytes s → model_form t ≡ record (model_form s) { ranges = map range_form t.ranges.items }
-    → map range_form t.ranges.items ≡ all_ranges bytes → IsRead depth_limit operator_limit (all_tokens bytes) (all_ranges bytes) (model_form t)
+pub ranged : (bytes : List ℕ) (s t : Protocol) → IsSaid bytes s → protocol_form t ≡ record (protocol_form s) { ranges = map range_form t.ranges.items }
+    → map range_form t.ranges.items ≡ all_ranges bytes → IsRead depth_limit operator_limit (all_tokens bytes) (all_ranges bytes) (protocol_form t)
 ranged bytes s t a is same =
-    let e : record (model_form s) { ranges = all_ranges bytes } ≡ model_form t = ap (λ (v : List RangeForm). record (model_form s) { ranges = v }) (sym same) ∙ sym is in
-    subst (λ (v : ModelForm). IsRead depth_limit operator_limit (all_tokens bytes) (all_ranges bytes) v) e (with-ranges (all_ranges bytes) depth_limit operator_limit (all_tokens bytes) (model_form s) a)
+    let e : record (protocol_form s) { ranges = all_ranges bytes } ≡ protocol_form t = ap (λ (v : List RangeForm). record (protocol_form s) { ranges = v }) (sym same) ∙ sym is in
+    subst (λ (v : ProtocolForm). IsRead depth_limit operator_limit (all_tokens bytes) (all_ranges bytes) v) e (with-ranges (all_ranges bytes) depth_limit operator_limit (all_tokens bytes) (protocol_form s) a)
 
 -- of a tree that is read, and of a fault, where the error is that of the layer above
-module _ (bytes : List ℕ) (below : Result Model (OrMemory Refusal)) (h : Answered bytes below) where
-  pub said : (s : Model) → Raised GivesFault below (Ok s) → IsSaid bytes s
+module _ (bytes : List ℕ) (below : Result Protocol (OrMemory Refusal)) (h : Answered bytes below) where
+  pub said : (s : Protocol) → Raised GivesFault below (Ok s) → IsSaid bytes s
   said s is = ok-raised GivesFault (IsSaid bytes) (IsFaultOf bytes) below s is h
 
   module _ (error : OrMemory TextFault) (is : Raised GivesFault below (Err error)) where

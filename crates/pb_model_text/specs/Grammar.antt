@@ -1,49 +1,84 @@
 -- The grammar of models, one production for each row (this project's own; the modal mu-calculus
 -- with data as in Groote and Mousavi 2014). Sorts, variables and data terms are those of texts.
+-- What a model says is a protocol: arrays and definitions stand in it as they are written.
 use Rattle.std.specs.Prelude.{◌≡◌, ℕ, zero, suc, Bool, true, false, if◌then◌else◌, List, [], ◌∷◌}
-use Rattle.std.specs.Prelude.{◌++◌}
+use Rattle.std.specs.Prelude.{◌++◌, map, flat_map, codes}
 use Rattle.std.specs.Str.{bytes_eq}
 use Rattle.pb_fixpoint.specs.declared.Sign.{Sign}
 use Rattle.pb_fixpoint.specs.declared.Sign.TheVariants as sign
 use Rattle.pb_text_tree.specs.declared.place.Place.{Place}
-use Rattle.pb_text_tree.specs.Form.{TermForm, RangeForm}
+use Rattle.pb_text_tree.specs.Form.{Named, VariableForm, TermForm, InstanceForm, RangeForm}
+use Rattle.pb_text_tree.specs.Form.{ArgumentForms, no_arguments, argument}
 use Rattle.pb_text_lexer.specs.declared.kind.Kind.{Kind}
 use Rattle.pb_text_lexer.specs.declared.kind.Kind.TheVariants as k
 use Rattle.pb_text_lexer.specs.Grammar.{Reads, ◌>>=◌, Is, Nothing, One, First, CountedApart}
-use Rattle.pb_text_lexer.specs.OpenGrammar.{Chained, Connected}
+use Rattle.pb_text_lexer.specs.OpenGrammar.{Chained, Connected, Either}
 use Rattle.pb_text_lexer.specs.LeftGrammar.{Extended, Listed}
 use Rattle.pb_text_lexer.specs.Steps.{head_kind}
 use Rattle.pb_text_lexer.specs.Tokens.{Tok}
 use Rattle.pb_text_terms.specs.Operators.{connected_by}
-use Rattle.pb_text_terms.specs.Grammar.{Name, Variables, Placed, arguments_of, Equated, IsUnary}
-use Rattle.pb_text_terms.specs.Grammar.{IsTerm}
+use Rattle.pb_text_terms.specs.Grammar.{Name, Quantified, Instance, Placed, arguments_of}
+use Rattle.pb_text_terms.specs.Grammar.{Equated, IsUnary, IsTerm}
 use Rattle.pb_text_formulas.specs.Grammar.{SortParts}
 use Rattle.pb_text.specs.Grammar.{Declared}
 use Rattle.pb_model_tree.specs.declared.formula.Modality.{Modality}
 use Rattle.pb_model_tree.specs.declared.formula.Modality.TheVariants as modality
-use Rattle.pb_model_tree.specs.Form.{StepSetForm, FormulaForm, AssignmentForm, StepForm}
-use Rattle.pb_model_tree.specs.Form.{InitialForm, PropertyForm, ModelForm}
+use Rattle.pb_model_tree.specs.Form.{InitialForm}
+use Rattle.pb_protocol_tree.specs.Form.{StepValueForm, StepSetForm, FormulaForm, StateVariableForm}
+use Rattle.pb_protocol_tree.specs.Form.{DefinitionForm, AssignmentForm, StepForm, PropertyForm}
+use Rattle.pb_protocol_tree.specs.Form.{ProtocolForm}
+
+-- ---- names with arguments
+
+-- a name, alone or with terms in brackets, which open a level
+abbrev pub IsInstance : ℕ → Reads InstanceForm
+IsInstance zero = Instance Nothing
+IsInstance (suc depth) = Instance (IsTerm depth)
 
 -- ---- sets of steps
 
--- What a token of a kind begins: behind `!` Set may stand, and in brackets Sets.
-abbrev pub SetBegun : Reads StepSetForm → Reads StepSetForm → Kind → Reads StepSetForm
-SetBegun Set Sets k.True = do
+-- the name `_`
+abbrev pub is_any : TermForm → Bool
+is_any (TermForm.name name) = bytes_eq name.text (codes "_")
+is_any term = false
+
+-- `_` stands for any value of a step's own variable, another term for its own value
+abbrev pub value_of : Place → TermForm → StepValueForm
+value_of place term =
+    if is_any term then StepValueForm.any_value place else StepValueForm.given place term
+
+abbrev pub values_of : ArgumentForms → List StepValueForm
+values_of no_arguments = []
+values_of (argument place term arguments) = value_of place term ∷ values_of arguments
+
+-- a name alone is its step for all values
+abbrev pub named_set : Named → ArgumentForms → StepSetForm
+named_set name no_arguments = StepSetForm.step name
+named_set name arguments = StepSetForm.instances name (values_of arguments)
+
+abbrev pub set_of : InstanceForm → StepSetForm
+set_of instance = named_set instance.name instance.arguments
+
+-- What a token of a kind begins: a name with Instance, behind `!` Set may stand, and in brackets
+-- Sets.
+abbrev pub SetBegun :
+    Reads StepSetForm → Reads StepSetForm → Reads InstanceForm → Kind → Reads StepSetForm
+SetBegun Set Sets Instance k.True = do
   word ← One k.True
   Is (StepSetForm.all word.place)
-SetBegun Set Sets k.Name = do
-  name ← Name
-  Is (StepSetForm.step name)
-SetBegun Set Sets k.Not = do
+SetBegun Set Sets Instance k.Name = do
+  instance ← Instance
+  Is (set_of instance)
+SetBegun Set Sets Instance k.Not = do
   sign ← One k.Not
   operand ← Set
   Is (StepSetForm.complement sign.place operand)
-SetBegun Set Sets k.Open = do
+SetBegun Set Sets Instance k.Open = do
   open_bracket ← One k.Open
   inner ← Sets
   close_bracket ← One k.Close
   Is inner
-SetBegun Set Sets _ = Nothing
+SetBegun Set Sets Instance _ = Nothing
 
 abbrev pub united_by : StepSetForm → Tok → StepSetForm → StepSetForm
 united_by x t y = StepSetForm.union t.place x y
@@ -55,12 +90,14 @@ Union Set = Chained k.Or united_by Set Set
 -- So many levels may open: each `!` and each bracket opens one.
 abbrev mutual
   pub IsSet : ℕ → Reads StepSetForm
-  IsSet zero = First (SetBegun Nothing Nothing)
-  IsSet (suc depth) = First (SetBegun (IsSet depth) (IsStepSet depth))
+  IsSet zero = First (SetBegun Nothing Nothing (IsInstance zero))
+  IsSet (suc depth) =
+      First (SetBegun (IsSet depth) (IsStepSet depth) (IsInstance (suc depth)))
 
   pub IsStepSet : ℕ → Reads StepSetForm
-  IsStepSet zero = Union (First (SetBegun Nothing Nothing))
-  IsStepSet (suc depth) = Union (First (SetBegun (IsSet depth) (IsStepSet depth)))
+  IsStepSet zero = Union (First (SetBegun Nothing Nothing (IsInstance zero)))
+  IsStepSet (suc depth) =
+      Union (First (SetBegun (IsSet depth) (IsStepSet depth) (IsInstance (suc depth))))
 
 -- ---- formulas
 
@@ -97,9 +134,9 @@ Modal modality close Node Sets open_bracket = do
   operand ← Node
   Is (FormulaForm.modal modality open_bracket.place steps operand)
 
--- What a token of a kind begins that is no fixpoint: below `!` and modalities Node may stand, in
+-- What a token of a kind begins that binds nothing: below `!` and modalities Node may stand, in
 -- brackets Formula, in data without connectives Unary, and between the brackets of modalities Sets.
--- Data that begins otherwise, or has a connective or a quantifier, stands behind `val`.
+-- Data that begins otherwise, or has a connective or a quantifier of its own, stands behind `val`.
 abbrev pub Begun :
     FixpointNames → Reads FormulaForm → Reads FormulaForm → Reads TermForm → Reads StepSetForm →
     Kind → Reads FormulaForm
@@ -154,16 +191,20 @@ FixpointBy Body _ = Nothing
 abbrev pub Fixpoint : (List ℕ → Reads FormulaForm) → Reads FormulaForm
 Fixpoint Body = First (FixpointBy Body)
 
--- `&&` binds tightest, then `||`, then `=>`; at their right end a fixpoint over Body may stand.
-abbrev pub Connections : Reads FormulaForm → (List ℕ → Reads FormulaForm) → Reads FormulaForm
-Connections Node Body = Connected (connected_by FormulaForm.connected) Node (Fixpoint Body)
+-- a fixpoint over Body, or a quantifier over Formula
+abbrev pub Binder : (List ℕ → Reads FormulaForm) → Reads FormulaForm → Reads FormulaForm
+Binder Body Formula = Either (Fixpoint Body) (Quantified FormulaForm.quantified Formula)
+
+-- `&&` binds tightest, then `||`, then `=>`; at their right end Binder may stand.
+abbrev pub Connections : Reads FormulaForm → Reads FormulaForm → Reads FormulaForm
+Connections = Connected (connected_by FormulaForm.connected)
 
 -- the scope inside a fixpoint
 abbrev pub within : FixpointNames → List ℕ → FixpointNames
 within scope name = scope ++ name ∷ []
 
--- So many levels may open: each `!`, each bracket but that which closes, and each fixpoint opens
--- one.
+-- So many levels may open: each `!`, each bracket but that which closes, each fixpoint and each
+-- quantifier opens one. What a quantifier binds is data: fixpoints around keep their names.
 abbrev mutual
   pub IsNode : FixpointNames → ℕ → Reads FormulaForm
   IsNode scope zero = First (Begun scope Nothing Nothing (IsUnary zero) Nothing)
@@ -173,24 +214,98 @@ abbrev mutual
 
   pub IsFormula : FixpointNames → ℕ → Reads FormulaForm
   IsFormula scope zero =
-      Connections (First (Begun scope Nothing Nothing (IsUnary zero) Nothing)) (λ name. Nothing)
+      Connections (First (Begun scope Nothing Nothing (IsUnary zero) Nothing))
+      (Binder (λ name. Nothing) Nothing)
   IsFormula scope (suc depth) =
       Connections
       (First (Begun scope (IsNode scope depth) (IsFormula scope depth) (IsUnary (suc depth))
       (IsStepSet depth)))
-      (λ name. IsFormula (within scope name) depth)
+      (Binder (λ name. IsFormula (within scope name) depth) (IsFormula scope depth))
+
+-- ---- the state and definitions
+
+-- a state variable's name with its indices
+abbrev pub Indexed : ℕ → Reads (Named × List VariableForm)
+Indexed depth = do
+  name ← Name
+  indices ← Extended (Is []) (λ none. Declared depth)
+  Is (name, indices)
+
+-- state variables whose values are of one sort
+abbrev pub of_sort : Named → Named × List VariableForm → StateVariableForm
+of_sort sort x = record { name = x.0; indices = x.1; sort = sort }
+
+abbrev pub StateGroup : ℕ → Reads (List StateVariableForm)
+StateGroup depth = do
+  variables ← Listed (Indexed depth) (One k.Comma)
+  colon ← One k.Colon
+  sort ← Name
+  Is (map (of_sort sort) variables)
+
+-- state variables, each with its indices and its sort
+abbrev pub StateVariables : ℕ → Reads (List StateVariableForm)
+StateVariables depth = do
+  groups ← Listed (StateGroup depth) (One k.Comma)
+  Is (flat_map (λ group. group) groups)
+
+-- a name with parameters, and the term that it stands for
+abbrev pub IsDefinition : ℕ → Reads DefinitionForm
+IsDefinition depth = do
+  name ← Name
+  parameters ← Extended (Is []) (λ none. Declared depth)
+  is ← One k.Is
+  term ← IsTerm depth
+  semicolon ← One k.Semicolon
+  Is (record { name = name; parameters = parameters; term = term })
+
+-- What stands behind the state, up to `step`: definitions, one or more, each with all the operators
+-- that are allowed, or none.
+abbrev pub DefinedBy : ℕ → Kind → Reads (List DefinitionForm)
+DefinedBy depth k.Step = do
+  step ← One k.Step
+  Is []
+DefinedBy depth k.Define = do
+  define ← One k.Define
+  definitions ← Listed (CountedApart (IsDefinition depth)) (Is {X = Unit {0}} tt)
+  step ← One k.Step
+  Is definitions
+DefinedBy depth _ = Nothing
+
+abbrev pub Definitions : ℕ → Reads (List DefinitionForm)
+Definitions depth = First (DefinedBy depth)
 
 -- ---- steps, the initial state, properties
 
--- a state variable and the term whose value it gets, with the place of its first token
+-- a state variable, with its index, and the term whose value it gets, with the place of its first
+-- token
 abbrev pub IsAssignment : ℕ → Reads AssignmentForm
 IsAssignment depth = do
-  variable ← Name
+  assigned ← IsInstance depth
   assign ← One k.Assign
   value ← Placed (IsTerm depth)
-  Is (record { variable = variable; place = value.0; value = value.1 })
+  Is (record {
+    variable = assigned.name;
+    index = assigned.arguments;
+    place = value.0;
+    value = value.1;
+  })
 
--- a name with variables of its own, a guard and assignments
+-- what is assigned, up to `;`: nothing, or one assignment or more
+abbrev pub AssignedBy : ℕ → Kind → Reads (List AssignmentForm)
+AssignedBy depth k.Skip = do
+  skip ← One k.Skip
+  semicolon ← One k.Semicolon
+  Is []
+AssignedBy depth k.Name = do
+  assignments ← Listed (IsAssignment depth) (One k.Comma)
+  semicolon ← One k.Semicolon
+  Is assignments
+AssignedBy depth _ = Nothing
+
+abbrev pub Assigned : ℕ → Reads (List AssignmentForm)
+Assigned depth = First (AssignedBy depth)
+
+-- a name with variables of its own, a guard and what is assigned
 abbrev pub IsStep : ℕ → Reads StepForm
 IsStep depth = do
   name ← Name
@@ -198,8 +313,7 @@ IsStep depth = do
   colon ← One k.Colon
   guard ← IsTerm depth
   arrow ← One k.Arrow
-  assignments ← Listed (IsAssignment depth) (One k.Comma)
-  semicolon ← One k.Semicolon
+  assignments ← Assigned depth
   Is (record { name = name; variables = variables; guard = guard; assignments = assignments })
 
 -- one step or more, each with all the operators that are allowed
@@ -230,14 +344,14 @@ Properties depth = Listed (CountedApart (IsProperty depth)) (Is {X = Unit {0}} t
 -- ---- models
 
 -- The ranges are those of the range lines, which stand among the tokens as white space.
-abbrev pub IsModel : List RangeForm → ℕ → Reads ModelForm
+abbrev pub IsModel : List RangeForm → ℕ → Reads ProtocolForm
 IsModel ranges depth = do
   sorts ← SortParts
   model ← One k.Model
   state ← One k.State
-  variables ← Variables
+  variables ← StateVariables depth
   semicolon ← One k.Semicolon
-  step ← One k.Step
+  definitions ← Definitions depth
   steps ← Steps depth
   initial ← CountedApart (IsInitialState depth)
   properties ← Properties depth
@@ -245,14 +359,15 @@ IsModel ranges depth = do
     sorts = sorts;
     ranges = ranges;
     variables = variables;
+    definitions = definitions;
     steps = steps;
     initial = initial;
     properties = properties;
   })
 
--- The tokens are this model, and then the end. So many levels may open; each step, the initial
--- state and each property may have so many operators.
-abbrev pub IsModelText : ℕ → ℕ → List Tok → List RangeForm → ModelForm → Type 0
+-- The tokens are this model, and then the end. So many levels may open; each definition, each step,
+-- the initial state and each property may have so many operators.
+abbrev pub IsModelText : ℕ → ℕ → List Tok → List RangeForm → ProtocolForm → Type 0
 IsModelText depth operators tokens ranges model =
     (m : ℕ) × (end : Tok)
     × IsModel ranges depth (record { tokens = tokens; operators = operators }) model

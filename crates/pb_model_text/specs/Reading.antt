@@ -1,13 +1,13 @@
 -- Reading a model, as a function.
 use Rattle.std.specs.Prelude.{ℕ, zero, suc, Bool, true, false, if◌then◌else◌, ◌||◌, List, []}
-use Rattle.std.specs.Prelude.{length, map, Option, Some, None}
+use Rattle.std.specs.Prelude.{length, map, flat_map, Option, Some, None}
 use Rattle.std.specs.Borrow.{Bor}
 use Rattle.pb_fixpoint.specs.declared.Sign.{Sign}
 use Rattle.pb_fixpoint.specs.declared.Sign.TheVariants as sign
 use Rattle.pb_text_tree.specs.declared.operator.Connective.{Connective}
 use Rattle.pb_text_tree.specs.declared.operator.Connective.TheVariants as connective
 use Rattle.pb_text_tree.specs.declared.place.Place.{Place}
-use Rattle.pb_text_tree.specs.Form.{TermForm, RangeForm}
+use Rattle.pb_text_tree.specs.Form.{Named, VariableForm, TermForm, InstanceForm, RangeForm}
 use Rattle.pb_text_lexer.specs.declared.fault.ReadingRule.TheVariants.{Unexpected, Limit}
 use Rattle.pb_text_lexer.specs.declared.kind.Kind.{Kind}
 use Rattle.pb_text_lexer.specs.declared.kind.Kind.TheVariants as k
@@ -17,17 +17,18 @@ use Rattle.pb_text_lexer.specs.Steps.{connected, chain, conjunction, disjunction
 use Rattle.pb_text_lexer.specs.Steps.{unless_next, listed, nothing_between}
 use Rattle.pb_text_lexer.specs.Tokens.{Tok}
 use Rattle.pb_text_terms.specs.Operators.{connected_by, is_equality, is_order, is_additive}
-use Rattle.pb_text_terms.specs.Operators.{is_times, is_division}
+use Rattle.pb_text_terms.specs.Operators.{is_times, is_division, is_quantifier}
 use Rattle.pb_text_terms.specs.Grammar.{arguments_of}
 use Rattle.pb_text_terms.specs.Reading.{name, is_comma, is_open, placed, argument_list, equated}
-use Rattle.pb_text_terms.specs.Reading.{unary, term, variables}
+use Rattle.pb_text_terms.specs.Reading.{unary, term, instance, quantified}
 use Rattle.pb_text_formulas.specs.Reading.{is_name_kind, sort_parts}
 use Rattle.pb_text.specs.Reading.{parameters}
 use Rattle.pb_model_tree.specs.declared.formula.Modality.{Modality}
 use Rattle.pb_model_tree.specs.declared.formula.Modality.TheVariants as modality
-use Rattle.pb_model_tree.specs.Form.{StepSetForm, FormulaForm, AssignmentForm, StepForm}
-use Rattle.pb_model_tree.specs.Form.{InitialForm, PropertyForm, ModelForm}
-use Rattle.pb_model_text.specs.Grammar.{united_by, FixpointNames, atom_of, within}
+use Rattle.pb_model_tree.specs.Form.{InitialForm}
+use Rattle.pb_protocol_tree.specs.Form.{StepSetForm, FormulaForm, StateVariableForm, DefinitionForm}
+use Rattle.pb_protocol_tree.specs.Form.{AssignmentForm, StepForm, PropertyForm, ProtocolForm}
+use Rattle.pb_model_text.specs.Grammar.{set_of, united_by, FixpointNames, atom_of, within, of_sort}
 
 abbrev pub is_or : Kind → Bool
 is_or kind = same_kind kind k.Or
@@ -40,6 +41,10 @@ is_fixpoint k.Mu = true
 is_fixpoint k.Nu = true
 is_fixpoint _ = false
 
+-- a fixpoint or a quantifier
+abbrev pub is_binder : Kind → Bool
+is_binder kind = is_fixpoint kind || is_quantifier kind
+
 -- whether a token would go on with data: a bracket, or an operator of arithmetic or a comparison
 abbrev pub goes_on : Kind → Bool
 goes_on kind =
@@ -49,39 +54,48 @@ goes_on kind =
 -- ---- sets of steps
 
 -- The first step takes a token that opens a level.
-abbrev pub set_begun : Step Tok → Step StepSetForm → Step StepSetForm → Kind → Step StepSetForm
-set_begun enter set sets k.True = do
+abbrev pub set_begun :
+    Step Tok → Step StepSetForm → Step StepSetForm → Step InstanceForm → Kind → Step StepSetForm
+set_begun enter set sets named k.True = unless_next is_open (do
   word ← take_token
-  pure (StepSetForm.all word.place)
-set_begun enter set sets k.Name = do
-  found ← name
-  pure (StepSetForm.step found)
-set_begun enter set sets k.Not = do
+  pure (StepSetForm.all word.place))
+set_begun enter set sets named k.Name = do
+  found ← named
+  pure (set_of found)
+set_begun enter set sets named k.Not = do
   sign ← enter
   operand ← set
   pure (StepSetForm.complement sign.place operand)
-set_begun enter set sets k.Open = do
+set_begun enter set sets named k.Open = unless_next is_open (do
   open_bracket ← enter
   inner ← sets
   close_bracket ← expect k.Close
-  pure inner
-set_begun enter set sets _ = refuse Unexpected
+  pure inner)
+set_begun enter set sets named _ = refuse Unexpected
+
+-- the step of a name, where so many levels may open
+unfoldable pub instances : ℕ → Step StepSetForm
+instances depth = do
+  found ← instance depth
+  pure (set_of found)
 
 abbrev pub union : Step StepSetForm → Step StepSetForm
 union set = λ s. chain k.Or united_by set (suc (length s.tokens)) s
 
-abbrev pub set_over : Step Tok → Step StepSetForm → Step StepSetForm → Step StepSetForm
-set_over enter set sets = peek >>= set_begun enter set sets
+abbrev pub set_over :
+    Step Tok → Step StepSetForm → Step StepSetForm → Step InstanceForm → Step StepSetForm
+set_over enter set sets named = peek >>= set_begun enter set sets named
 
 -- The number is how many levels may still open.
 unfoldable mutual
   pub set : ℕ → Step StepSetForm
-  set zero = set_over (refuse Limit) (refuse Limit) (refuse Limit)
-  set (suc depth) = set_over take_token (set depth) (step_set depth)
+  set zero = set_over (refuse Limit) (refuse Limit) (refuse Limit) (instance zero)
+  set (suc depth) = set_over take_token (set depth) (step_set depth) (instance (suc depth))
 
   pub step_set : ℕ → Step StepSetForm
-  step_set zero = union (set_over (refuse Limit) (refuse Limit) (refuse Limit))
-  step_set (suc depth) = union (set_over take_token (set depth) (step_set depth))
+  step_set zero = union (set_over (refuse Limit) (refuse Limit) (refuse Limit) (instance zero))
+  step_set (suc depth) =
+      union (set_over take_token (set depth) (step_set depth) (instance (suc depth)))
 
 -- ---- formulas
 
@@ -119,7 +133,7 @@ modal_steps modality sets = do
   close_bracket ← expect (closing modality)
   pure steps
 
--- What a token begins that is no fixpoint. The first step takes a token that opens a level.
+-- What a token begins that binds nothing. The first step takes a token that opens a level.
 abbrev pub begun :
     FixpointNames → Step Tok → Step FormulaForm → Step FormulaForm → Step TermForm
     → Step StepSetForm →
@@ -168,10 +182,16 @@ fixpoint_by enter body (Some sign) = enter >>= (λ word. binding sign word.place
 abbrev pub fixpoint_over : Step Tok → (List ℕ → Step FormulaForm) → Step FormulaForm
 fixpoint_over enter body = peek >>= (λ kind. fixpoint_by enter body (sign_of kind))
 
-abbrev pub connections :
-    Step Tok → Step FormulaForm → (List ℕ → Step FormulaForm) → Step FormulaForm
-connections enter node body =
-    connected (connected_by FormulaForm.connected) is_fixpoint node (fixpoint_over enter body)
+abbrev pub quantified_over : Step Tok → Step FormulaForm → Step FormulaForm
+quantified_over = quantified FormulaForm.quantified
+
+abbrev pub binder_over :
+    Step Tok → (List ℕ → Step FormulaForm) → Step FormulaForm → Step FormulaForm
+binder_over enter body inner =
+    either is_fixpoint (quantified_over enter inner) (fixpoint_over enter body)
+
+abbrev pub connections : Step FormulaForm → Step FormulaForm → Step FormulaForm
+connections = connected (connected_by FormulaForm.connected) is_binder
 
 -- data terms, and the operands that they are made of
 unfoldable pub data_operand : ℕ → Step TermForm
@@ -194,19 +214,29 @@ unfoldable mutual
   node scope (suc depth) = node_over scope (node scope depth) (formula scope depth) depth
 
   pub formula : FixpointNames → ℕ → Step FormulaForm
-  formula scope zero = connections (refuse Limit) (last_node scope) (λ name. refuse Limit)
+  formula scope zero =
+      connections (last_node scope)
+      (binder_over (refuse Limit) (λ name. refuse Limit) (refuse Limit))
   formula scope (suc depth) =
-      connections take_token (node_over scope (node scope depth) (formula scope depth) depth)
-      (λ name. formula (within scope name) depth)
+      connections (node_over scope (node scope depth) (formula scope depth) depth)
+      (binder_over take_token (λ name. formula (within scope name) depth) (formula scope depth))
 
 -- a fixpoint with its body
 unfoldable pub fixpoint : FixpointNames → ℕ → Step FormulaForm
 fixpoint scope zero = fixpoint_over (refuse Limit) (λ name. refuse Limit)
 fixpoint scope (suc depth) = fixpoint_over take_token (λ name. formula (within scope name) depth)
 
+-- a quantifier with its variables and its body
+unfoldable pub quantification : FixpointNames → ℕ → Step FormulaForm
+quantification scope zero = quantified_over (refuse Limit) (refuse Limit)
+quantification scope (suc depth) = quantified_over take_token (formula scope depth)
+
+abbrev pub binder : FixpointNames → ℕ → Step FormulaForm
+binder scope depth = either is_fixpoint (quantification scope depth) (fixpoint scope depth)
+
 -- an operand of `&&`
 abbrev pub primary : FixpointNames → ℕ → Step FormulaForm
-primary scope depth = either is_fixpoint (node scope depth) (fixpoint scope depth)
+primary scope depth = either is_binder (node scope depth) (binder scope depth)
 
 -- a chain of the connective, and an operand of one
 abbrev pub level : Connective → FixpointNames → ℕ → Step FormulaForm
@@ -225,17 +255,95 @@ operand connective.Implies scope depth = level connective.Or scope depth
 abbrev pub names_of : List (Bor (List ℕ)) → FixpointNames
 names_of = map (λ name. name.now)
 
+-- ---- the state and definitions
+
+unfoldable pub indexed_name : ℕ → Step (Named × List VariableForm)
+indexed_name depth = do
+  found ← name
+  indices ← parameters depth
+  pure (found, indices)
+
+abbrev pub indexed_names : ℕ → Step (List (Named × List VariableForm))
+indexed_names depth =
+    λ s. listed (indexed_name depth) is_comma take_token (suc (length s.tokens)) s
+
+unfoldable pub state_group : ℕ → Step (List StateVariableForm)
+state_group depth = do
+  found ← indexed_names depth
+  colon ← expect k.Colon
+  sort ← name
+  pure (map (of_sort sort) found)
+
+abbrev pub state_groups : ℕ → Step (List (List StateVariableForm))
+state_groups depth =
+    λ s. listed (state_group depth) is_comma take_token (suc (length s.tokens)) s
+
+unfoldable pub state_variables : ℕ → Step (List StateVariableForm)
+state_variables depth = do
+  found ← state_groups depth
+  pure (flat_map (λ group. group) found)
+
+unfoldable pub definition_parts : ℕ → Step DefinitionForm
+definition_parts depth = do
+  found ← name
+  its_parameters ← parameters depth
+  is ← expect k.Is
+  body ← term depth
+  semicolon ← expect k.Semicolon
+  pure (record { name = found; parameters = its_parameters; term = body })
+
+-- a definition with all the operators that are allowed
+unfoldable pub definition : ℕ → Step DefinitionForm
+definition depth = alone (definition_parts depth)
+
+abbrev pub definition_list : ℕ → Step (List DefinitionForm)
+definition_list depth =
+    λ s. listed (definition depth) is_name_kind nothing_between (suc (length s.tokens)) s
+
+unfoldable pub defined_by : ℕ → Kind → Step (List DefinitionForm)
+defined_by depth k.Step = do
+  step ← take_token
+  pure []
+defined_by depth k.Define = do
+  define ← take_token
+  found ← definition_list depth
+  step ← expect k.Step
+  pure found
+defined_by depth _ = refuse Unexpected
+
+unfoldable pub definitions : ℕ → Step (List DefinitionForm)
+definitions depth = peek >>= defined_by depth
+
 -- ---- steps, the initial state, properties
 
 unfoldable pub assignment : ℕ → Step AssignmentForm
 assignment depth = do
-  variable ← name
+  target ← instance depth
   assign ← expect k.Assign
   value ← placed (term depth)
-  pure (record { variable = variable; place = value.0; value = value.1 })
+  pure (record {
+    variable = target.name;
+    index = target.arguments;
+    place = value.0;
+    value = value.1;
+  })
 
 abbrev pub assignments : ℕ → Step (List AssignmentForm)
 assignments depth = λ s. listed (assignment depth) is_comma take_token (suc (length s.tokens)) s
+
+unfoldable pub assigned_by : ℕ → Kind → Step (List AssignmentForm)
+assigned_by depth k.Skip = do
+  skip ← take_token
+  semicolon ← expect k.Semicolon
+  pure []
+assigned_by depth k.Name = do
+  found ← assignments depth
+  semicolon ← expect k.Semicolon
+  pure found
+assigned_by depth _ = refuse Unexpected
+
+unfoldable pub assigned : ℕ → Step (List AssignmentForm)
+assigned depth = peek >>= assigned_by depth
 
 unfoldable pub step_parts : ℕ → Step StepForm
 step_parts depth = do
@@ -244,9 +352,8 @@ step_parts depth = do
   colon ← expect k.Colon
   guard ← term depth
   arrow ← expect k.Arrow
-  assigned ← assignments depth
-  semicolon ← expect k.Semicolon
-  pure (record { name = found; variables = own; guard = guard; assignments = assigned })
+  its_assignments ← assigned depth
+  pure (record { name = found; variables = own; guard = guard; assignments = its_assignments })
 
 -- a step with all the operators that are allowed
 unfoldable pub step : ℕ → Step StepForm
@@ -283,28 +390,29 @@ properties depth =
 
 -- ---- models
 
-unfoldable pub model : List RangeForm → ℕ → Step ModelForm
+unfoldable pub model : List RangeForm → ℕ → Step ProtocolForm
 model ranges depth = do
   sorts ← sort_parts
   model ← expect k.Model
   state ← expect k.State
-  state_variables ← variables
+  its_variables ← state_variables depth
   semicolon ← expect k.Semicolon
-  word ← expect k.Step
+  its_definitions ← definitions depth
   found ← steps depth
   start ← initial depth
   asked ← properties depth
   pure (record {
     sorts = sorts;
     ranges = ranges;
-    variables = state_variables;
+    variables = its_variables;
+    definitions = its_definitions;
     steps = found;
     initial = start;
     properties = asked;
   })
 
 -- and nothing behind it
-unfoldable pub whole_model : List RangeForm → ℕ → Step ModelForm
+unfoldable pub whole_model : List RangeForm → ℕ → Step ProtocolForm
 whole_model ranges depth = do
   found ← model ranges depth
   last ← peek

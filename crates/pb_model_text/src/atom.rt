@@ -5,13 +5,13 @@ ghost use Rattle.pb_text_tree.specs.Form.{term_form, argument_forms, named};
 ghost use Rattle.pb_text_lexer.specs.Steps as spec;
 ghost use Rattle.pb_text_lexer.specs.Steps.{Gives};
 ghost use Rattle.pb_text_terms.specs.Grammar as terms;
-ghost use Rattle.pb_model_tree.specs.Form.{FormulaForm, formula_form};
+ghost use Rattle.pb_protocol_tree.specs.Form.{FormulaForm, formula_form};
 ghost use Rattle.pb_model_text.specs.Grammar as grammar;
 ghost use Rattle.pb_model_text.specs.Reading as reading;
 ghost use Rattle.pb_model_text.specs.Reading.{names_of};
 
 use crate::scope::{Scope, is_bound};
-use pb_model_tree::Formula;
+use pb_protocol_tree::Formula;
 use pb_text_lexer::fault::ReadingError;
 use pb_text_lexer::input::Input;
 use pb_text_lexer::kind::{Kind, same_kind};

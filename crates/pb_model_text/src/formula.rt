@@ -1,5 +1,5 @@
 //! Reads formulas, by recursive descent. A chain of one connective is read by a loop, so that the
-//! recursion is as deep as brackets, negations, modalities and fixpoints nest.
+//! recursion is as deep as brackets, negations, modalities, fixpoints and quantifiers nest.
 
 ghost use Rattle.std.specs.Prelude.{◌≡◌, ◌<◌, ◌≤◌, true, false, length, Some, Ok, OnOk, IfOk};
 ghost use Rattle.std.specs.Prelude.{MatchResult};
@@ -9,7 +9,8 @@ ghost use Rattle.pb_text_lexer.specs.Grammar.{State};
 ghost use Rattle.pb_text_lexer.specs.Steps as spec;
 ghost use Rattle.pb_text_lexer.specs.Steps.{Gives};
 ghost use Rattle.pb_text_lexer.specs.Tokens.{tok};
-ghost use Rattle.pb_model_tree.specs.Form.{FormulaForm, formula_form};
+ghost use Rattle.pb_text_terms.specs.Reading as terms;
+ghost use Rattle.pb_protocol_tree.specs.Form.{FormulaForm, formula_form};
 ghost use Rattle.pb_model_text.specs.Links.{link_forms};
 ghost use Rattle.pb_model_text.specs.Grammar as grammar;
 ghost use Rattle.pb_model_text.specs.Reading as reading;
@@ -21,13 +22,15 @@ use crate::modality::{modal_node, modal_steps};
 use crate::pair::both;
 use crate::scope::Scope;
 use pb_fixpoint::Sign;
-use pb_model_tree::{Formula, Link, Modality};
+use pb_model_tree::Modality;
+use pb_protocol_tree::{Formula, Link};
 use pb_text_lexer::fault::{ReadingError, ReadingRule, Refusal};
 use pb_text_lexer::input::Input;
 use pb_text_lexer::kind::{Kind, same_kind};
 use pb_text_lexer::token::Token;
-use pb_text_terms::operator::{is_connective, symbol};
-use pb_text_tree::{Connective, Name};
+use pb_text_terms::operator::{is_connective, quantifier, symbol};
+use pb_text_terms::variable::variables;
+use pb_text_tree::{Connective, Name, Quantifier};
 use std::alloc::{AllocError, Global};
 
 /// The node of a chain, or its first operand where there is no other.
@@ -253,6 +256,36 @@ fn fixpoint<'a>(
     })
 }
 
+/// A quantifier, its variables, a period and a body.
+#[cycle(formulas)]
+#[inline(never)]
+#[tactic(auto, unfolding(crate::specs::Reading::quantification))]
+fn quantified<'a>(
+    input: &mut Input<'a>,
+    alloc: Global,
+    scope: Scope<'_, 'a>,
+    quantifier: Quantifier,
+) -> Result<Formula, ReadingError>
+    requires { terms.quantifier_of (spec.kind input.old) ≡ Some quantifier }
+    ensures reads { Gives formula_form (reading.quantification (names_of scope.entry.names.now)
+        scope.entry.depth input.old) result input.new }
+    ensures fewer { OnOk result (length input.new.tokens < length input.old.tokens) }
+{
+    let Scope { names, depth } = scope;
+    let place = input.enter(depth)?.place;
+    let variables = variables(input, alloc)?;
+    input.expect(Kind::Period)?;
+    let depth = depth - 1;
+    let body = formula(input, alloc, Scope { names, depth })?;
+    let body = Box::new(alloc, body)?;
+    Ok(Formula::Quantified {
+        place,
+        quantifier,
+        variables,
+        body,
+    })
+}
+
 /// An operand of a chain of the connective.
 #[cycle(formulas)]
 fn operand<'a>(
@@ -268,7 +301,10 @@ fn operand<'a>(
     match connective {
         Connective::And => match sign(input.kind()) {
             Some(sign) => fixpoint(input, alloc, scope, sign),
-            None => node(input, alloc, scope),
+            None => match quantifier(input.kind()) {
+                Some(quantifier) => quantified(input, alloc, scope, quantifier),
+                None => node(input, alloc, scope),
+            },
         },
         Connective::Or => level(input, alloc, Connective::And, scope),
         Connective::Implies => level(input, alloc, Connective::Or, scope),

@@ -7,13 +7,16 @@
 #![tactic(auto)]
 
 mod atom;
+mod definition;
 mod fixpoint;
 mod formula;
+mod instances;
 pub mod laws;
 mod modality;
 mod model;
 mod pair;
 mod scope;
+mod state;
 mod step;
 mod step_set;
 pub mod text;

@@ -1,12 +1,13 @@
 //! What stands in the brackets of a modality, and its node.
 
 ghost use Rattle.std.specs.Prelude.{◌≡◌, ◌<◌, length, IfOk, OnOk};
-ghost use Rattle.pb_model_tree.specs.Form.{FormulaForm, formula_form, step_set_form};
+ghost use Rattle.pb_protocol_tree.specs.Form.{FormulaForm, formula_form, step_set_form};
 ghost use Rattle.pb_text_lexer.specs.Steps.{Gives};
 ghost use Rattle.pb_model_text.specs.Reading as reading;
 
 use crate::step_set::step_set;
-use pb_model_tree::{Formula, Modality, StepSet};
+use pb_model_tree::Modality;
+use pb_protocol_tree::{Formula, StepSet};
 use pb_text_lexer::fault::ReadingError;
 use pb_text_lexer::input::Input;
 use pb_text_lexer::kind::Kind;

@@ -3,20 +3,24 @@
 ghost use Rattle.std.specs.Prelude.{◌≡◌, ◌<◌, length, OnOk, map, []};
 ghost use Rattle.pb_text_lexer.specs.Steps.{Gives};
 ghost use Rattle.pb_text.specs.Parsing.{depth_limit};
-ghost use Rattle.pb_model_tree.specs.Form.{initial_form, property_form, model_form};
+ghost use Rattle.pb_model_tree.specs.Form.{initial_form};
+ghost use Rattle.pb_protocol_tree.specs.Form.{property_form, protocol_form};
 ghost use Rattle.pb_model_text.specs.Reading as reading;
 
+use crate::definition::definitions;
 use crate::formula::formula;
 use crate::scope::Scope;
+use crate::state::state_variables;
 use crate::step::steps;
 use pb_limits::MAX_DEPTH;
-use pb_model_tree::{InitialState, Model, Property};
+use pb_model_tree::InitialState;
+use pb_protocol_tree::{Property, Protocol};
 use pb_text_formulas::sort::sort_parts;
 use pb_text_lexer::fault::{ReadingError, ReadingRule};
 use pb_text_lexer::input::Input;
 use pb_text_lexer::kind::{Kind, same_kind};
 use pb_text_terms::term::argument_list;
-use pb_text_terms::variable::{name, variables};
+use pb_text_terms::variable::name;
 use std::alloc::Global;
 
 /// `init`, the values of the state variables and `;`.
@@ -87,24 +91,25 @@ fn properties(input: &mut Input<'_>, alloc: Global) -> Result<Vec<Property>, Rea
     }
 }
 
-/// Sorts, `model`, the state, steps, the initial state and properties, without ranges.
+/// Sorts, `model`, the state, definitions, steps, the initial state and properties, without ranges.
 #[tactic(auto, unfolding(crate::specs::Reading::model))]
-fn model(input: &mut Input<'_>, alloc: Global) -> Result<Model, ReadingError>
-    ensures { Gives model_form (reading.model [] depth_limit input.old) result input.new }
+fn model(input: &mut Input<'_>, alloc: Global) -> Result<Protocol, ReadingError>
+    ensures { Gives protocol_form (reading.model [] depth_limit input.old) result input.new }
 {
     let sorts = sort_parts(input, alloc)?;
     input.expect(Kind::Model)?;
     input.expect(Kind::State)?;
-    let state = variables(input, alloc)?;
+    let state = state_variables(input, alloc)?;
     input.expect(Kind::Semicolon)?;
-    input.expect(Kind::Step)?;
+    let definitions = definitions(input, alloc)?;
     let steps = steps(input, alloc)?;
     let initial = initial(input, alloc)?;
     let properties = properties(input, alloc)?;
-    Ok(Model {
+    Ok(Protocol {
         sorts,
         ranges: Vec::new(alloc),
         state,
+        definitions,
         steps,
         initial,
         properties,
@@ -113,8 +118,8 @@ fn model(input: &mut Input<'_>, alloc: Global) -> Result<Model, ReadingError>
 
 /// The model that all tokens are, without ranges.
 #[tactic(auto, unfolding(crate::specs::Reading::whole_model))]
-pub fn whole(input: &mut Input<'_>, alloc: Global) -> Result<Model, ReadingError>
-    ensures { Gives model_form (reading.whole_model [] depth_limit input.old) result input.new }
+pub fn whole(input: &mut Input<'_>, alloc: Global) -> Result<Protocol, ReadingError>
+    ensures { Gives protocol_form (reading.whole_model [] depth_limit input.old) result input.new }
 {
     let model = model(input, alloc)?;
     if same_kind(input.kind(), Kind::End) {

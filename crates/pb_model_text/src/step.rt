@@ -1,35 +1,39 @@
 //! Reads steps: their names, variables, guards and assignments.
 
 ghost use Rattle.std.specs.Prelude.{◌≡◌, ◌<◌, length, OnOk, map};
+ghost use Rattle.pb_text_lexer.specs.Steps as spec;
 ghost use Rattle.pb_text_lexer.specs.Steps.{Gives};
 ghost use Rattle.pb_text.specs.Parsing.{depth_limit};
-ghost use Rattle.pb_model_tree.specs.Form.{assignment_form, step_form};
+ghost use Rattle.pb_protocol_tree.specs.Form.{assignment_form, step_form};
 ghost use Rattle.pb_model_text.specs.Reading as reading;
 
 use pb_limits::MAX_DEPTH;
-use pb_model_tree::{Assignment, Step};
+use pb_protocol_tree::{Assignment, Step};
 use pb_text::system::parameters;
-use pb_text_lexer::fault::ReadingError;
+use pb_text_lexer::fault::{ReadingError, ReadingRule};
 use pb_text_lexer::input::Input;
 use pb_text_lexer::kind::{Kind, same_kind};
-use pb_text_terms::term::term;
+use pb_text_terms::term::{instance, term};
 use pb_text_terms::variable::name;
 use pb_text_tree::Argument;
 use std::alloc::Global;
 
-/// A state variable, `:=` and the term whose value it gets.
+/// A state variable, with its index where it is an array, `:=` and the term whose value it gets.
 #[tactic(auto, unfolding(crate::specs::Reading::assignment))]
 fn assignment(input: &mut Input<'_>, alloc: Global) -> Result<Assignment, ReadingError>
     ensures reads { Gives assignment_form
         (reading.assignment depth_limit input.old) result input.new }
     ensures fewer { OnOk result (length input.new.tokens < length input.old.tokens) }
 {
-    let variable = name(input, alloc)?;
+    let assigned = instance(input, alloc, MAX_DEPTH as u32)?;
     input.expect(Kind::Assign)?;
     let place = input.place();
     let term = term(input, alloc, MAX_DEPTH as u32)?;
-    let value = Argument { place, term };
-    Ok(Assignment { variable, value })
+    Ok(Assignment {
+        variable: assigned.name,
+        index: assigned.arguments,
+        value: Argument { place, term },
+    })
 }
 
 /// Assignments with commas between them.
@@ -49,7 +53,48 @@ fn assignments(input: &mut Input<'_>, alloc: Global) -> Result<Vec<Assignment>, 
     }
 }
 
-/// A name with its variables, `:`, a guard, `->`, assignments and `;`.
+/// Assignments and `;`.
+#[inline(never)]
+#[tactic(auto, unfolding(crate::specs::Reading::assigned_by))]
+fn some_assigned(input: &mut Input<'_>, alloc: Global) -> Result<Vec<Assignment>, ReadingError>
+    ensures reads { Gives (λ v. map assignment_form v.items)
+        (reading.assigned_by depth_limit Kind.Name input.old) result input.new }
+    ensures fewer { OnOk result (length input.new.tokens < length input.old.tokens) }
+{
+    let assignments = assignments(input, alloc)?;
+    input.expect(Kind::Semicolon)?;
+    Ok(assignments)
+}
+
+/// `skip` and `;`: no assignments.
+#[inline(never)]
+#[tactic(auto, unfolding(crate::specs::Reading::assigned_by))]
+fn none_assigned(input: &mut Input<'_>, alloc: Global) -> Result<Vec<Assignment>, ReadingError>
+    requires { spec.kind input.old ≡ Kind.Skip }
+    ensures reads { Gives (λ v. map assignment_form v.items)
+        (reading.assigned_by depth_limit Kind.Skip input.old) result input.new }
+    ensures fewer { OnOk result (length input.new.tokens < length input.old.tokens) }
+{
+    input.take();
+    input.expect(Kind::Semicolon)?;
+    Ok(Vec::new(alloc))
+}
+
+/// `skip`, or assignments, and `;`.
+#[tactic(auto, unfolding(crate::specs::Reading::assigned, crate::specs::Reading::assigned_by))]
+fn assigned(input: &mut Input<'_>, alloc: Global) -> Result<Vec<Assignment>, ReadingError>
+    ensures reads { Gives (λ v. map assignment_form v.items)
+        (reading.assigned depth_limit input.old) result input.new }
+    ensures fewer { OnOk result (length input.new.tokens < length input.old.tokens) }
+{
+    match input.kind() {
+        Kind::Skip => none_assigned(input, alloc),
+        Kind::Name => some_assigned(input, alloc),
+        _ => Err(ReadingError::Refused(input.refuse(ReadingRule::Unexpected))),
+    }
+}
+
+/// A name with its variables, `:`, a guard, `->`, what is assigned and `;`.
 #[tactic(auto, unfolding(crate::specs::Reading::step_parts))]
 fn step_parts(input: &mut Input<'_>, alloc: Global) -> Result<Step, ReadingError>
     ensures reads { Gives step_form (reading.step_parts depth_limit input.old) result input.new }
@@ -60,8 +105,7 @@ fn step_parts(input: &mut Input<'_>, alloc: Global) -> Result<Step, ReadingError
     input.expect(Kind::Colon)?;
     let guard = term(input, alloc, MAX_DEPTH as u32)?;
     input.expect(Kind::Arrow)?;
-    let assignments = assignments(input, alloc)?;
-    input.expect(Kind::Semicolon)?;
+    let assignments = assigned(input, alloc)?;
     Ok(Step {
         name,
         variables,

@@ -3,17 +3,19 @@
 
 ghost use Rattle.std.specs.Prelude.{◌≡◌, ◌<◌, length, OnOk, IfOk};
 ghost use Rattle.pb_text_tree.specs.Form.{chained};
-ghost use Rattle.pb_model_tree.specs.Form.{StepSetForm, step_set_form};
+ghost use Rattle.pb_protocol_tree.specs.Form.{StepSetForm, step_set_form};
 ghost use Rattle.pb_text_lexer.specs.Steps as spec;
 ghost use Rattle.pb_text_lexer.specs.Steps.{Gives};
 ghost use Rattle.pb_model_text.specs.Links.{step_set_links};
 ghost use Rattle.pb_model_text.specs.Reading as reading;
 
-use pb_model_tree::{StepSet, StepSetLink};
+use crate::instances::step_instances;
+use pb_protocol_tree::{StepSet, StepSetLink};
+use pb_text_formulas::next::unless;
 use pb_text_lexer::fault::{ReadingError, ReadingRule};
 use pb_text_lexer::input::Input;
 use pb_text_lexer::kind::{Kind, same_kind};
-use pb_text_terms::variable::name;
+use pb_text_terms::term::instance;
 use std::alloc::{AllocError, Global};
 
 /// The node of sets with `||` between them, or the first where there is no other.
@@ -55,11 +57,12 @@ fn bracketed(input: &mut Input<'_>, alloc: Global, depth: u32) -> Result<StepSet
     input.enter(depth)?;
     let inner = step_set(input, alloc, depth - 1)?;
     input.expect(Kind::Close)?;
+    unless(input, Kind::Open)?;
     Ok(inner)
 }
 
-/// All steps, the step of a name, a complement, or sets in brackets, in which so many levels may
-/// open.
+/// All steps, the step of a name for all values or for some, a complement, or sets in brackets, in
+/// which so many levels may open.
 #[cycle(step_sets)]
 #[tactic(auto, unfolding(crate::specs::Reading::set))]
 fn set(input: &mut Input<'_>, alloc: Global, depth: u32) -> Result<StepSet, ReadingError>
@@ -69,9 +72,10 @@ fn set(input: &mut Input<'_>, alloc: Global, depth: u32) -> Result<StepSet, Read
     match input.kind() {
         Kind::True => {
             let place = input.take().place;
+            unless(input, Kind::Open)?;
             Ok(StepSet::All { place })
         }
-        Kind::Name => Ok(StepSet::Step(name(input, alloc)?)),
+        Kind::Name => step_instances(input, alloc, depth),
         Kind::Not => complement(input, alloc, depth),
         Kind::Open => bracketed(input, alloc, depth),
         _ => Err(ReadingError::Refused(input.refuse(ReadingRule::Unexpected))),

@@ -10,7 +10,7 @@ use Rattle.pb_text_lexer.specs.Bytes.{first_byte, is_letter, name_bytes, kind_am
 abbrev pub model_words : List (List ℕ × Kind)
 model_words =
     (codes "model", k.Model) ∷ (codes "state", k.State) ∷ (codes "step", k.Step)
-    ∷ (codes "property", k.Property) ∷ []
+    ∷ (codes "property", k.Property) ∷ (codes "define", k.Define) ∷ (codes "skip", k.Skip) ∷ []
 
 -- a word of so many bytes, where it is no name
 abbrev pub reserved_word : ℕ → Kind → Option Piece

@@ -45,6 +45,10 @@ pub enum Kind {
     Step,
     /// `property`
     Property,
+    /// `define`
+    Define,
+    /// `skip`
+    Skip,
     /// A word that is reserved and used nowhere.
     Reserved,
     /// `==`

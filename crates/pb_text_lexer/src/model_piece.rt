@@ -1,4 +1,4 @@
-//! Symbols and words of models that texts don't have: `[`, `]`, `->`, `:=`, and four reserved
+//! Symbols and words of models that texts don't have: `[`, `]`, `->`, `:=`, and six reserved
 //! words.
 
 ghost use Rattle.std.specs.Prelude.{◌≡◌};
@@ -14,11 +14,13 @@ use pb_names::is_letter;
 use pb_text_tree::Place;
 
 /// The reserved words of models alone.
-const MODEL_WORDS: [(&str, Kind); 4] = [
+const MODEL_WORDS: [(&str, Kind); 6] = [
     ("model", Kind::Model),
     ("state", Kind::State),
     ("step", Kind::Step),
     ("property", Kind::Property),
+    ("define", Kind::Define),
+    ("skip", Kind::Skip),
 ];
 
 /// A word that is reserved in models alone.

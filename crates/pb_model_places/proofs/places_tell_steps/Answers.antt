@@ -1,5 +1,5 @@
-use Rattle.pb_model_places.proofs.Models.{read-models-stand-apart, places-tell-steps}
+use Rattle.pb_model_places.proofs.Kept.{places-tell-steps}
 use Rattle.pb_model_places.proofs.places_tell_steps.Goals as goal
 
 pub returns : goal.returns
-returns c = record { apart = read-models-stand-apart; steps = places-tell-steps }
+returns c = places-tell-steps

@@ -1,7 +1,7 @@
 use Rattle.std.proofs.Common.{ℕ, ◌≡◌, ◌+◌, ◌*◌, ◌-◌, ◌≤◌, ◌<◌, length, vec_len, Ok}
 use Rattle.pb_text_tree.specs.declared.operator.Connective.{Connective}
 use Rattle.pb_text_tree.specs.declared.operator.Connective.TheVariants.{And, Or, Implies}
-use Rattle.pb_model_tree.specs.Form.{FormulaForm}
+use Rattle.pb_protocol_tree.specs.Form.{FormulaForm}
 use Rattle.pb_model_text.specs.Links.{link_forms}
 use Rattle.pb_text_lexer.specs.Grammar.{State}
 use Rattle.pb_text_lexer.proofs.LoopLemmas.{resumed}
@@ -31,6 +31,9 @@ decreases-body l = l.scope.depth * 17 + 16
 
 abbrev pub decreases-fixpoint : goal.decreases-fixpoint
 decreases-fixpoint l = l.scope.depth * 17
+
+abbrev pub decreases-quantified : goal.decreases-quantified
+decreases-quantified l = l.scope.depth * 17
 
 abbrev pub decreases-operand : goal.decreases-operand
 decreases-operand l = l.scope.depth * 17 + rank l.connective

@@ -1,6 +1,6 @@
 use Rattle.std.proofs.Common.{ap, ◌∙◌}
 use Rattle.pb_text_tree.specs.Form.{chained}
-use Rattle.pb_model_tree.specs.Form.{FormulaForm, formula_form}
+use Rattle.pb_protocol_tree.specs.Form.{FormulaForm, formula_form}
 use Rattle.pb_model_text.specs.Links.{link_forms}
 use Rattle.pb_model_text.proofs.FormLemmas.{formula-chain}
 use Rattle.pb_model_text.proofs.formula.joined.Goals as goal

@@ -1,5 +1,5 @@
 use Rattle.std.proofs.Common.{ap}
-use Rattle.pb_model_tree.specs.Form.{FormulaForm, formula_form, step_set_form}
+use Rattle.pb_protocol_tree.specs.Form.{FormulaForm, formula_form, step_set_form}
 use Rattle.pb_model_text.proofs.modality.modal_node.Goals as goal
 
 pub returns : goal.returns

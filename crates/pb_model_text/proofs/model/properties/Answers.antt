@@ -2,7 +2,7 @@ use Rattle.std.proofs.Common.{rules, arith, ◌≡◌, ◌∙◌, ◌-◌, ◌�
 use Rattle.std.proofs.lemmas.Result.{err_from_is_err_and}
 use Rattle.std.proofs.lemmas.List.{map-append}
 use Rattle.pb_errors.proofs.Faults.{if_fault}
-use Rattle.pb_model_tree.specs.Form.{property_form}
+use Rattle.pb_protocol_tree.specs.Form.{property_form}
 use Rattle.pb_text_lexer.specs.Steps.{kind, nothing_between}
 use Rattle.pb_text_lexer.proofs.LoopLemmas.{gathered-none, gathered-more, gathered-end, gathered-item-fails}
 use Rattle.pb_model_text.specs.Reading.{is_property, property}

@@ -1,5 +1,5 @@
 use Rattle.std.proofs.Common.{◌≡◌, ◌+◌, ◌-◌, ◌≤◌, suc, length, map, vec_len}
-use Rattle.pb_model_tree.specs.Form.{property_form}
+use Rattle.pb_protocol_tree.specs.Form.{property_form}
 use Rattle.pb_text_lexer.specs.Steps.{nothing_between}
 use Rattle.pb_text_lexer.proofs.LoopLemmas.{gathered}
 use Rattle.pb_model_text.specs.Reading.{is_property, properties, property}

@@ -2,7 +2,7 @@ use Rattle.std.proofs.Common.{rules, arith, ◌≡◌, ◌∙◌, ◌-◌, suc, 
 use Rattle.std.proofs.lemmas.Result.{err_from_is_err_and}
 use Rattle.std.proofs.lemmas.List.{map_push}
 use Rattle.pb_errors.proofs.Faults.{if_fault}
-use Rattle.pb_model_tree.specs.Form.{assignment_form}
+use Rattle.pb_protocol_tree.specs.Form.{assignment_form}
 use Rattle.pb_text_lexer.specs.Steps.{kind, take_token}
 use Rattle.pb_text_lexer.specs.Tokens.{tok}
 use Rattle.pb_text_lexer.proofs.LoopLemmas.{gathered-more, gathered-end, gathered-item-fails}

@@ -1,5 +1,5 @@
 use Rattle.std.proofs.Common.{◌≡◌, ◌+◌, ◌-◌, ◌≤◌, suc, length, map, vec_len}
-use Rattle.pb_model_tree.specs.Form.{assignment_form}
+use Rattle.pb_protocol_tree.specs.Form.{assignment_form}
 use Rattle.pb_text_lexer.specs.Steps.{take_token}
 use Rattle.pb_text_lexer.proofs.LoopLemmas.{gathered}
 use Rattle.pb_text_terms.specs.Reading.{is_comma}

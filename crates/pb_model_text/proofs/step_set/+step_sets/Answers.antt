@@ -1,15 +1,15 @@
 use Rattle.std.proofs.Common.{rules, arith, ◌≡◌, ◌<◌, ◌-◌, length, true, false, vec_len, ◌∙◌}
 use Rattle.std.proofs.lemmas.Result.{err_from_is_err_and}
 use Rattle.pb_errors.proofs.Faults.{if_fault}
-use Rattle.pb_model_tree.specs.Form.{StepSetForm, step_set_form}
-use Rattle.pb_text_lexer.specs.declared.kind.Kind.TheVariants.{Or}
+use Rattle.pb_protocol_tree.specs.Form.{StepSetForm, step_set_form}
+use Rattle.pb_text_lexer.specs.declared.kind.Kind.TheVariants.{Name, Or}
 use Rattle.pb_text_lexer.specs.Kinds.{same_kind}
 use Rattle.pb_text_lexer.specs.Steps.{kind}
 use Rattle.pb_text_lexer.specs.Tokens.{tok}
 use Rattle.pb_text_lexer.proofs.LoopLemmas.{resumed-first, resumed-first-fails, resumed-end, resumed-more, resumed-operator-fails, resumed-operand-fails}
 use Rattle.pb_model_text.specs.Links.{step_set_links}
 use Rattle.pb_model_text.specs.Reading.{set}
-use Rattle.pb_model_text.proofs.StepSetLemmas.{sets-chain, set-links-last, set-other}
+use Rattle.pb_model_text.proofs.StepSetLemmas.{sets-chain, set-links-last, set-other, set-named}
 use Rattle.pb_model_text.proofs.step_set.+step_sets.Goals as goal
 
 pub set-returns-in_default : goal.set-returns-in_default
@@ -64,3 +64,8 @@ step_set-returns-clause-reads t c =
     let other : same_kind (kind c.links.input) Or ≡ false = search rules in
     let end = resumed-end Or StepSetForm.union (set c.args.depth) (length c.args.input.now.tokens - vec_len c.links.links) _ (step_set_links c.links.links.items) c.links.input other in
     rw c.in_ok-joined.ensures (c.links.invariant.reads ∙ end)
+
+pub set-returns-in-Name-clause-reads : goal.set-returns-in-Name-clause-reads
+set-returns-in-Name-clause-reads t c =
+    let is : kind c.args.input.now ≡ Name = search rules in
+    rw (set-named c.args.depth c.args.input.now is) c.step_instances.ensures.reads

@@ -1,5 +1,5 @@
 use Rattle.std.proofs.Common.{◌≡◌, ◌+◌, ◌*◌, ◌-◌, ◌<◌, length, vec_len}
-use Rattle.pb_model_tree.specs.Form.{StepSetForm, step_set_form}
+use Rattle.pb_protocol_tree.specs.Form.{StepSetForm, step_set_form}
 use Rattle.pb_text_lexer.specs.declared.kind.Kind.TheVariants.{Or}
 use Rattle.pb_text_lexer.proofs.LoopLemmas.{resumed}
 use Rattle.pb_model_text.specs.Links.{step_set_links}

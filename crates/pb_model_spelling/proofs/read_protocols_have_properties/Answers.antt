@@ -1,5 +1,5 @@
 use Rattle.pb_model_spelling.proofs.Walk.{has_property}
-use Rattle.pb_model_spelling.proofs.models_have_properties.Goals as goal
+use Rattle.pb_model_spelling.proofs.read_protocols_have_properties.Goals as goal
 
 pub returns : goal.returns
 returns c = has_property
