@@ -1,0 +1,5 @@
+mod Kept
+mod Distinct
+mod EnumeratorNames
+mod Positive
+mod PlainModels

@@ -1,0 +1,28 @@
+//! What holds of a protocol that keeps the rules, as the laws of unfolding want it. The functions
+//! do nothing: each law stands on its function's contract.
+#![tactic(auto)]
+
+ghost use Rattle.pb_protocol_laws.specs.Laws.{CallsArePositive, EnumeratorsAreApart};
+ghost use Rattle.pb_protocol_laws.specs.Laws.{PlainProtocolsArePlain, StateVariablesAreApart};
+
+/// No two enumerators have one name.
+pub fn enumerators_are_apart()
+    ensures { EnumeratorsAreApart }
+{}
+
+/// No two state variables have one name.
+pub fn state_variables_are_apart()
+    ensures { StateVariablesAreApart }
+{}
+
+/// What is called in its properties stands under an even number of negations, and so it does where
+/// they are unfolded.
+pub fn calls_are_positive()
+    ensures { CallsArePositive }
+{}
+
+/// The model that a plain protocol is means what the protocol means: what that law wants of the
+/// model.
+pub fn plain_protocols_are_plain()
+    ensures { PlainProtocolsArePlain }
+{}

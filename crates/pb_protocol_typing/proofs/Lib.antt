@@ -1,0 +1,10 @@
+mod Rows
+mod Groups
+mod Seen
+mod Tables
+mod FormulaRows
+mod ListRows
+mod WrittenRows
+mod IndexRows
+mod Whole
+mod Steps

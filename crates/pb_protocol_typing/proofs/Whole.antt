@@ -1,0 +1,80 @@
+-- The parts of a protocol's faults and the whole.
+use Rattle.std.proofs.Common.{◌≡◌, List, [], ◌∷◌, ◌++◌, sym, ◌∙◌, ap, subst, rules, Option, Some, None, Result, Ok, Err, MatchResult, OnOk}
+use Rattle.std.specs.Prelude.{Contains}
+use Rattle.pb_typing_declarations.specs.declared.fault.TypingFault.{TypingFault}
+use Rattle.pb_errors.specs.declared.or_memory.OrMemory.{OrMemory}
+use Rattle.pb_errors.specs.declared.or_memory.OrMemory.TheVariants.{Refused, Memory}
+use Rattle.pb_errors.specs.OrMemory.{IfFault, IfRefused, OnRefused}
+use Rattle.pb_text_tree.specs.Form.{SpecForm}
+use Rattle.pb_text_meaning.specs.Erase as texts
+use Rattle.pb_typing_declarations.specs.Declarations.{declaration_faults}
+use Rattle.pb_protocol_tree.specs.Form.{ProtocolForm}
+use Rattle.pb_protocol_typing.specs.Faults.{data_form, own_faults, protocol_faults}
+use Rattle.pb_typing_declarations.specs.Faults.{IsAmong}
+use Rattle.pb_typing_declarations.proofs.Parts.{among_left, among_right}
+use Rattle.pb_protocol_typing.specs.Fault.{listed}
+
+alone : (fault : TypingFault) → Contains (fault ∷ []) fault
+alone fault = search rules
+
+contains_listed : (o : Option TypingFault) (fault : TypingFault) → o ≡ Some fault → Contains (listed o) fault
+contains_listed o fault is = subst (λ (p : Option TypingFault). Contains (listed p) fault) (sym is) (alone fault)
+
+pub listed_among : (o : Option TypingFault) (e : OrMemory TypingFault) → IfFault e (λ fault. o ≡ Some fault) → IsAmong (listed o) e
+listed_among o Memory h = h
+listed_among o (Refused fault) h = contains_listed o fault h
+
+pub second_among : (all names ds rest : List TypingFault) (e : OrMemory TypingFault) → all ≡ names ++ (ds ++ rest) → IsAmong ds e → IsAmong all e
+second_among all names ds rest e is h = subst (λ (zs : List TypingFault). IsAmong zs e) (sym is) (among_right names (ds ++ rest) e (among_left ds rest e h))
+
+pub third_among : (all names ds lists rest : List TypingFault) (e : OrMemory TypingFault) → all ≡ names ++ (ds ++ (lists ++ rest)) → IsAmong lists e → IsAmong all e
+third_among all names ds lists rest e is h =
+    subst (λ (zs : List TypingFault). IsAmong zs e) (sym is) (among_right names (ds ++ (lists ++ rest)) e (among_right ds (lists ++ rest) e (among_left lists rest e h)))
+
+listed_checks : (o : Option TypingFault) (r : Result (Unit {0}) (OrMemory TypingFault)) → MatchResult r (λ _. o ≡ None) (λ e. IfFault e (λ fault. o ≡ Some fault))
+    → MatchResult r (λ _. listed o ≡ []) (IsAmong (listed o))
+listed_checks o (Ok u) h = ap listed h
+listed_checks o (Err e) h = listed_among o e h
+
+pub last_checks : (all names ds lists : List TypingFault) (o : Option TypingFault) (r : Result (Unit {0}) (OrMemory TypingFault)) → all ≡ names ++ (ds ++ (lists ++ listed o))
+    → names ≡ [] → ds ≡ [] → lists ≡ [] → MatchResult r (λ _. o ≡ None) (λ e. IfFault e (λ fault. o ≡ Some fault))
+    → MatchResult r (λ _. all ≡ []) (IsAmong all)
+last_checks all names ds lists o r is a b c h =
+    let same : all ≡ listed o = is ∙ (ap (λ (zs : List TypingFault). zs ++ (ds ++ (lists ++ listed o))) a ∙ (ap (λ (zs : List TypingFault). zs ++ (lists ++ listed o)) b ∙ ap (λ (zs : List TypingFault). zs ++ listed o) c)) in
+    subst (λ (us : List TypingFault). MatchResult r (λ _. us ≡ []) (IsAmong us)) (sym same) (listed_checks o r h)
+
+-- ---- sorts and ranges, and the rest
+
+pub declared_among : (t : SpecForm) (text : ProtocolForm) (e : OrMemory TypingFault) → t ≡ data_form text → IsAmong (declaration_faults t) e → IsAmong (protocol_faults text) e
+declared_among t text e is h =
+    among_left (declaration_faults (data_form text)) (own_faults (texts.erase (data_form text)) text) e (subst (λ (u : SpecForm). IsAmong (declaration_faults u) e) is h)
+
+pub all_checks : (t d : SpecForm) (text : ProtocolForm) (r : Result (Unit {0}) (OrMemory TypingFault)) → t ≡ data_form text → d ≡ t → declaration_faults t ≡ []
+    → MatchResult r (λ _. own_faults (texts.erase d) text ≡ []) (IsAmong (own_faults (texts.erase d) text)) → MatchResult r (λ _. protocol_faults text ≡ []) (IsAmong (protocol_faults text))
+all_checks t d text r is same clear h =
+    let clear_data : declaration_faults (data_form text) ≡ [] = subst (λ (u : SpecForm). declaration_faults u ≡ []) is clear in
+    let whole : protocol_faults text ≡ own_faults (texts.erase (data_form text)) text = ap (λ (zs : List TypingFault). zs ++ own_faults (texts.erase (data_form text)) text) clear_data in
+    let own = subst (λ (u : SpecForm). MatchResult r (λ _. own_faults (texts.erase u) text ≡ []) (IsAmong (own_faults (texts.erase u) text))) (same ∙ is) h in
+    subst (λ (us : List TypingFault). MatchResult r (λ _. us ≡ []) (IsAmong us)) (sym whole) own
+
+-- ---- what the answer says
+
+none_contained : (fault : TypingFault) → Contains [] fault → ⊥
+none_contained fault h = absurd (search rules)
+
+module _ (all : List TypingFault) where
+  pub on_accepted : (r : Result (Unit {0}) (OrMemory TypingFault)) → MatchResult r (λ _. all ≡ []) (IsAmong all) → OnOk r (all ≡ [])
+  on_accepted (Ok u) h = h
+  on_accepted (Err e) h = tt
+
+  pub on_refused : (r : Result (Unit {0}) (OrMemory TypingFault)) → MatchResult r (λ _. all ≡ []) (IsAmong all) → IfRefused r (Contains all)
+  on_refused (Ok u) h = tt
+  on_refused (Err e) h = h
+
+  broken : (e : OrMemory TypingFault) → IsAmong all e → IfFault e (λ _. ¬ (all ≡ []))
+  broken Memory h = tt
+  broken (Refused fault) h = λ (is : all ≡ []). none_contained fault (subst (λ (zs : List TypingFault). Contains zs fault) is h)
+
+  pub on_broken : (r : Result (Unit {0}) (OrMemory TypingFault)) → MatchResult r (λ _. all ≡ []) (IsAmong all) → OnRefused r (¬ (all ≡ []))
+  on_broken (Ok u) h = tt
+  on_broken (Err e) h = broken e h

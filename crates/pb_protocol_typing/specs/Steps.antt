@@ -1,0 +1,101 @@
+-- The first fault of definitions, steps and initial values.
+use Rattle.std.specs.Prelude.{ℕ, ◌+◌, ◌==◌, ◌&&◌, not, nat_le, List, [], ◌∷◌, length, Option, Some}
+use Rattle.std.specs.Prelude.{None}
+use Rattle.std.specs.List.{slice_get}
+use Rattle.pb_text_tree.specs.declared.place.Place.{Place}
+use Rattle.pb_text_tree.specs.Form.{TermForm, ArgumentForms, no_arguments, argument}
+use Rattle.pb_text_meaning.specs.Syntax.{same_name, Spec}
+use Rattle.pb_typing_declarations.specs.declared.fault.TypingFault.{TypingFault}
+use Rattle.pb_typing_declarations.specs.declared.fault.TypingRule.TheVariants as rule
+use Rattle.pb_model_tree.specs.Form.{InitialForm}
+use Rattle.pb_protocol_tree.specs.Form.{StateVariableForm, DefinitionForm, AssignmentForm, StepForm}
+use Rattle.pb_protocol_typing.specs.declared.step.TheConstants.{MAX_ASSIGNMENTS}
+use Rattle.pb_protocol_typing.specs.Fault.{fault_at, fault_unless, or_else, first_fault}
+use Rattle.pb_protocol_typing.specs.Kinds.{sort_kind}
+use Rattle.pb_protocol_typing.specs.Scopes.{variables, Signature, Signatures, Scope, inside}
+use Rattle.pb_protocol_typing.specs.Terms.{kinds, term_fault, arguments_fault, condition_fault}
+use Rattle.pb_protocol_typing.specs.Terms.{value_fault}
+use Rattle.pb_protocol_typing.specs.Signatures.{no_signatures, definition_scope, with_definition}
+use Rattle.pb_protocol_typing.specs.Indices.{are_same}
+
+-- ---- definitions
+
+abbrev pub definitions_fault :
+    Spec → Signatures → List DefinitionForm → Option TypingFault
+definitions_fault spec known [] = None
+definitions_fault spec known (d ∷ ds) =
+    or_else (term_fault (definition_scope spec known d) d.term)
+    (definitions_fault spec (with_definition spec known d) ds)
+
+-- ---- assignments
+
+-- T08: a state variable with all its indices, which are of its indices' kinds, gets a value of its
+-- kind (T04)
+abbrev pub element_fault : Scope → Signature → AssignmentForm → Option TypingFault
+element_fault s f b =
+    or_else
+    (fault_unless (length (kinds s b.index) == length f.parameters) rule.WrongCount
+    b.variable.place)
+    (or_else (arguments_fault s 0 f.parameters b.index) (value_fault s f.kind b.place b.value))
+
+-- T01: what is assigned is a state variable
+abbrev pub assigned_fault : Scope → Option Signature → AssignmentForm → Option TypingFault
+assigned_fault s None b = fault_at rule.UnknownName b.variable.place
+assigned_fault s (Some f) b =
+    or_else (fault_unless f.is_state rule.UnknownName b.variable.place) (element_fault s f b)
+
+abbrev pub assignment_fault : Scope → AssignmentForm → Option TypingFault
+assignment_fault s b = assigned_fault s (s.signatures b.variable.text) b
+
+-- T02: one of these assigns what b assigns, with an index that is plainly the same
+abbrev pub again_fault : AssignmentForm → AssignmentForm → Option TypingFault
+again_fault b d =
+    fault_unless (not (same_name b.variable.text d.variable.text && are_same b.index d.index))
+    rule.NameTwice d.variable.place
+
+abbrev pub twice_fault : List AssignmentForm → Option TypingFault
+twice_fault [] = None
+twice_fault (b ∷ bs) = or_else (first_fault (again_fault b) bs) (twice_fault bs)
+
+-- ---- steps
+
+-- T12: at most MAX_ASSIGNMENTS assignments; the guard is a Boolean (T04 at the step's name)
+abbrev pub own_fault : Scope → StepForm → Option TypingFault
+own_fault s a =
+    or_else
+    (fault_unless (nat_le (length a.assignments) MAX_ASSIGNMENTS) rule.Limit a.name.place)
+    (or_else (condition_fault s a.name.place a.guard)
+    (or_else (first_fault (assignment_fault s) a.assignments) (twice_fault a.assignments)))
+
+abbrev pub step_fault : Scope → StepForm → Option TypingFault
+step_fault s a = own_fault (inside (variables a.variables) s) a
+
+-- ---- initial values
+
+-- a term of `init` names its variable's indices and enumerators alone
+abbrev pub initial_scope : Spec → StateVariableForm → Scope
+initial_scope spec y =
+    record { spec = spec; signatures = no_signatures; around = variables y.indices ∷ [] }
+
+abbrev pub element_value_fault :
+    Spec → Option StateVariableForm → Place → TermForm → Option TypingFault
+element_value_fault spec None p x = None
+element_value_fault spec (Some y) p x =
+    value_fault (initial_scope spec y) (sort_kind spec y.sort.text) p x
+
+-- the terms from the one at n on
+abbrev pub elements_fault :
+    Spec → ℕ → List StateVariableForm → ArgumentForms → Option TypingFault
+elements_fault spec n ys no_arguments = None
+elements_fault spec n ys (argument p x xs) =
+    or_else (element_value_fault spec (slice_get ys n) p x) (elements_fault spec (n + 1) ys xs)
+
+abbrev pub count : ArgumentForms → ℕ
+count no_arguments = 0
+count (argument p x xs) = 1 + count xs
+
+-- T08: a term for each state variable
+abbrev pub initial_fault : Spec → List StateVariableForm → InitialForm → Option TypingFault
+initial_fault spec ys init =
+    or_else (fault_unless (count init.values == length ys) rule.WrongCount init.place)
+    (elements_fault spec 0 ys init.values)

@@ -1,0 +1,90 @@
+-- The kind of a data term of a protocol, and its first fault: a name that stands for nothing there
+-- (T01, T07), a wrong number of indices or arguments (T08), an operand or argument of another kind
+-- (T04).
+use Rattle.std.specs.Prelude.{ℕ, ◌+◌, List, [], ◌∷◌, length, Option, Some, None}
+use Rattle.std.specs.List.{slice_get}
+use Rattle.pb_text_tree.specs.declared.place.Place.{Place}
+use Rattle.pb_text_tree.specs.Form.{TermForm, ArgumentForms, no_arguments, argument}
+use Rattle.pb_typing_declarations.specs.Shapes as shapes
+use Rattle.pb_typing_declarations.specs.Shapes.{Shape}
+use Rattle.pb_typing_declarations.specs.declared.fault.TypingFault.{TypingFault}
+use Rattle.pb_typing_declarations.specs.declared.fault.TypingRule.TheVariants.{WrongKind}
+use Rattle.pb_protocol_typing.specs.declared.kind.Kind.{Kind}
+use Rattle.pb_protocol_typing.specs.declared.kind.Kind.TheVariants.{Truth, Whole}
+use Rattle.pb_protocol_typing.specs.Fault.{fault_unless, or_else}
+use Rattle.pb_protocol_typing.specs.Kinds.{shape_kind, agree, are_whole, are_compared}
+use Rattle.pb_protocol_typing.specs.Kinds.{truth_fault, whole_fault}
+use Rattle.pb_protocol_typing.specs.Scopes.{Scope, variables, inside, name_meaning, meaning_kind}
+use Rattle.pb_protocol_typing.specs.Scopes.{meaning_fault}
+use Rattle.pb_protocol_typing.specs.Functions.{called, called_kind, called_parameters}
+use Rattle.pb_protocol_typing.specs.Functions.{naming_fault, taking_fault}
+
+-- the kind of a term's values, for any term
+abbrev mutual
+  pub kind : Scope → TermForm → Kind
+  kind s (TermForm.constant p b) = Truth
+  kind s (TermForm.number p n) = Whole
+  kind s (TermForm.name x) = meaning_kind (name_meaning s x.text)
+  kind s (TermForm.not p x) = Truth
+  kind s (TermForm.negative p x) = Whole
+  kind s (TermForm.connected c p x y) = Truth
+  kind s (TermForm.compared c p x y) = Truth
+  kind s (TermForm.computed o p x y) = Whole
+  kind s (TermForm.application f xs) = called_kind (called s f.text) (kinds s xs)
+  kind s (TermForm.quantified q p xs x) = Truth
+
+  pub kinds : Scope → ArgumentForms → List Kind
+  kinds s no_arguments = []
+  kinds s (argument p x xs) = kind s x ∷ kinds s xs
+
+-- what may stand at a place among these, and nothing that is known behind them
+abbrev pub known_shape : Option Shape → Shape
+known_shape None = shapes.Unknown
+known_shape (Some h) = h
+
+abbrev pub shape_at : List Shape → ℕ → Shape
+shape_at hs n = known_shape (slice_get hs n)
+
+abbrev pub kind_at : List Shape → ℕ → Kind
+kind_at hs n = shape_kind (shape_at hs n)
+
+abbrev mutual
+  pub term_fault : Scope → TermForm → Option TypingFault
+  term_fault s (TermForm.constant p b) = None
+  term_fault s (TermForm.number p n) = None
+  term_fault s (TermForm.name x) = meaning_fault s.around (name_meaning s x.text) x
+  term_fault s (TermForm.not p x) = or_else (term_fault s x) (truth_fault (kind s x) p)
+  term_fault s (TermForm.negative p x) = or_else (term_fault s x) (whole_fault (kind s x) p)
+  term_fault s (TermForm.connected c p x y) =
+      or_else (term_fault s x)
+      (or_else (truth_fault (kind s x) p)
+      (or_else (term_fault s y) (truth_fault (kind s y) p)))
+  term_fault s (TermForm.compared c p x y) =
+      or_else (term_fault s x)
+      (or_else (term_fault s y) (fault_unless (are_compared c (kind s x) (kind s y)) WrongKind p))
+  term_fault s (TermForm.computed o p x y) =
+      or_else (term_fault s x)
+      (or_else (term_fault s y) (fault_unless (are_whole (kind s x) (kind s y)) WrongKind p))
+  term_fault s (TermForm.application f xs) =
+      or_else (naming_fault (called s f.text) s.around f (length (kinds s xs)))
+      (or_else (arguments_fault s 0 (called_parameters (called s f.text)) xs)
+      (taking_fault (called s f.text) f (kinds s xs)))
+  term_fault s (TermForm.quantified q p xs x) =
+      or_else (term_fault (inside (variables xs) s) x)
+      (truth_fault (kind (inside (variables xs) s) x) p)
+
+  -- arguments from the one at n on, each of the kind of the parameter at its place
+  pub arguments_fault : Scope → ℕ → List Shape → ArgumentForms → Option TypingFault
+  arguments_fault s n parameters no_arguments = None
+  arguments_fault s n parameters (argument p x xs) =
+      or_else (term_fault s x)
+      (or_else (fault_unless (agree (kind s x) (kind_at parameters n)) WrongKind p)
+      (arguments_fault s (n + 1) parameters xs))
+
+-- a condition: a term that is a Boolean (T04 at the place)
+abbrev pub condition_fault : Scope → Place → TermForm → Option TypingFault
+condition_fault s p x = or_else (term_fault s x) (truth_fault (kind s x) p)
+
+-- a term of a kind (T04 at the place)
+abbrev pub value_fault : Scope → Kind → Place → TermForm → Option TypingFault
+value_fault s k p x = or_else (term_fault s x) (fault_unless (agree (kind s x) k) WrongKind p)
