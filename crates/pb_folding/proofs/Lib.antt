@@ -6,3 +6,4 @@ pub mod Arguments
 pub mod FoldingLaws
 pub mod FoldedModels
 pub mod PositiveCalls
+pub mod Places

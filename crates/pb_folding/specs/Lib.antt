@@ -6,3 +6,4 @@ pub mod View
 pub mod Kept
 pub mod Applied
 pub mod Enumerators
+pub mod Places

@@ -1,13 +1,14 @@
 //! Two operands with a connective between them: a chain on the right takes one more operand in
 //! front, so that no chain stands within a chain.
 
-ghost use Rattle.std.specs.Prelude.{◌≡◌, IfOk, [], ◌∷◌};
+ghost use Rattle.std.specs.Prelude.{◌≡◌, IfOk, [], ◌∷◌, ◌++◌};
 ghost use Rattle.pb_text_tree.specs.Form.{TermForm, chained, term_form};
 ghost use Rattle.pb_text_tree.specs.Form as form;
 ghost use Rattle.pb_text_meaning.specs.Syntax as syntax;
 ghost use Rattle.pb_text_meaning.specs.Erase.{of_connective};
 ghost use Rattle.pb_model_tree.specs.Form.{FormulaForm, formula_form};
 ghost use Rattle.pb_model_meaning.specs.Erase.{joined};
+ghost use Rattle.pb_folding.specs.Places.{places_of};
 ghost use Rattle.pb_folding.specs.View.{formula_of, link_forms, term_of};
 
 use pb_model_tree::{Formula, Link};
@@ -128,8 +129,9 @@ pub(crate) fn chained_formulas(
     left: Formula,
     right: Formula,
 ) -> Result<Formula, AllocError>
-    ensures { IfOk result (λ f. formula_of f
+    ensures formula { IfOk result (λ f. formula_of f
         ≡ joined connective (formula_of left) (formula_of right)) }
+    ensures places { IfOk result (λ f. places_of f ≡ places_of left ++ places_of right) }
 {
     let links = formula_links(alloc, connective, place, right)?;
     let first = Box::new(alloc, left)?;

@@ -1,6 +1,6 @@
 //! Connectives of folded formulas.
 
-ghost use Rattle.std.specs.Prelude.{◌≡◌, IfOk, if◌then◌else◌, map};
+ghost use Rattle.std.specs.Prelude.{◌≡◌, IfOk, if◌then◌else◌, [], ◌++◌, map, flat_map};
 ghost use Rattle.pb_text_meaning.specs.Syntax as data_syntax;
 ghost use Rattle.pb_model_meaning.specs.Syntax as syntax;
 ghost use Rattle.pb_model_translation.specs.Positive as positive;
@@ -10,6 +10,7 @@ ghost use Rattle.pb_folding.specs.FoldedModels.{folded_or_formula};
 ghost use Rattle.pb_folding.specs.FoldedModels as models;
 ghost use Rattle.pb_folding.specs.Kept.{folded_connective_formula, kept_formula};
 ghost use Rattle.pb_folding.specs.declared.kept.Kept.TheVariants as kinds;
+ghost use Rattle.pb_folding.specs.Places.{AreAmong, places_of};
 ghost use Rattle.pb_folding.specs.View.{formula_of};
 
 use crate::chain::chained_formulas;
@@ -104,7 +105,8 @@ fn choice(connective: Connective, left: &Formula, right: &Formula) -> Kept
 
 /// A truth value as data.
 fn data_truth(place: Place, value: bool) -> Formula
-    ensures { formula_of result ≡ syntax.Formula.Data (data_syntax.Term.Truth value) }
+    ensures formula { formula_of result ≡ syntax.Formula.Data (data_syntax.Term.Truth value) }
+    ensures places { places_of result ≡ [] }
 {
     let term = Term::Constant { place, value };
     Formula::Data { place, term }
@@ -118,8 +120,9 @@ fn connected_formula(
     left: Formula,
     right: Formula,
 ) -> Result<Formula, AllocError>
-    ensures { IfOk result (λ f. formula_of f
+    ensures formula { IfOk result (λ f. formula_of f
         ≡ folded_connective_formula connective (formula_of left) (formula_of right)) }
+    ensures places { IfOk result (λ f. AreAmong (places_of f) (places_of left ++ places_of right)) }
 {
     match choice(connective, &left, &right) {
         Kept::Both => chained_formulas(alloc, connective, place, left, right),
@@ -143,8 +146,9 @@ pub fn and_formula(
     left: Formula,
     right: Formula,
 ) -> Result<Formula, AllocError>
-    ensures { IfOk result
+    ensures formula { IfOk result
         (λ f. formula_of f ≡ folded_and_formula (formula_of left) (formula_of right)) }
+    ensures places { IfOk result (λ f. AreAmong (places_of f) (places_of left ++ places_of right)) }
 {
     connected_formula(alloc, Connective::And, place, left, right)
 }
@@ -159,8 +163,9 @@ pub fn or_formula(
     left: Formula,
     right: Formula,
 ) -> Result<Formula, AllocError>
-    ensures { IfOk result
+    ensures formula { IfOk result
         (λ f. formula_of f ≡ folded_or_formula (formula_of left) (formula_of right)) }
+    ensures places { IfOk result (λ f. AreAmong (places_of f) (places_of left ++ places_of right)) }
 {
     connected_formula(alloc, Connective::Or, place, left, right)
 }
@@ -175,8 +180,9 @@ pub fn implies_formula(
     left: Formula,
     right: Formula,
 ) -> Result<Formula, AllocError>
-    ensures { IfOk result
+    ensures formula { IfOk result
         (λ f. formula_of f ≡ folded_implies_formula (formula_of left) (formula_of right)) }
+    ensures places { IfOk result (λ f. AreAmong (places_of f) (places_of left ++ places_of right)) }
 {
     connected_formula(alloc, Connective::Implies, place, left, right)
 }
@@ -186,7 +192,9 @@ pub fn implies_formula(
 /// # Errors
 /// Memory was refused.
 pub fn not_formula(alloc: Global, place: Place, operand: Formula) -> Result<Formula, AllocError>
-    ensures { IfOk result (λ f. formula_of f ≡ folded_not_formula (formula_of operand)) }
+    ensures formula { IfOk result
+        (λ f. formula_of f ≡ folded_not_formula (formula_of operand)) }
+    ensures places { IfOk result (λ f. AreAmong (places_of f) (places_of operand)) }
 {
     match decided(&operand) {
         Some(value) => Ok(data_truth(place, !value)),
@@ -208,8 +216,10 @@ pub fn joined_formula(
     place: Place,
     mut operands: Vec<Formula>,
 ) -> Result<Formula, AllocError>
-    ensures { IfOk result (λ f. formula_of f
+    ensures formula { IfOk result (λ f. formula_of f
         ≡ folded_joined_formula quantifier (map formula_of operands.items)) }
+    ensures places { IfOk result
+        (λ f. AreAmong (places_of f) (flat_map places_of operands.items)) }
 {
     let connective = joining(quantifier);
     let mut joined = data_truth(place, neutral(quantifier));

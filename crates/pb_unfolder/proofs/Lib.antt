@@ -1,0 +1,15 @@
+mod ApartLemmas
+mod Chains
+mod FormulaLemmas
+mod Groups
+mod PlainChains
+mod PlainLaws
+mod PlainMeaning
+mod PlainState
+mod SetLemmas
+mod MemberLemmas
+mod ValueLemmas
+mod ChainFormulas
+mod LeftLemmas
+mod UnfoldedLemmas
+mod PlaceLemmas

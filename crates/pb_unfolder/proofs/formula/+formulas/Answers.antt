@@ -1,0 +1,124 @@
+use Rattle.std.proofs.Common.{◌≡◌, ◌∙◌, ◌∷◌, sym, ap, refl, subst, take_all, rules, arith, List, map, flat_map, Vec, Global}
+use Rattle.std.proofs.lemmas.Grind.{common_steps}
+use Rattle.pb_text_meaning.specs.Syntax as syntax
+use Rattle.pb_text_meaning.specs.Erase.{erased_variables}
+use Rattle.pb_text_tree.specs.declared.variable.Variables.{Variables}
+use Rattle.pb_text_tree.specs.Form.{variable_forms}
+use Rattle.pb_model_meaning.specs.Syntax.{Formula}
+use Rattle.pb_protocol_tree.specs.declared.formula.Formula as tree
+use Rattle.pb_protocol_tree.specs.declared.formula.Link.{Link}
+use Rattle.pb_protocol_tree.specs.Form.{formula_form}
+use Rattle.pb_folding.specs.FoldedModels.{folded_joined_formula}
+use Rattle.pb_folding.specs.Places.{AreAmong, places_of}
+use Rattle.pb_folding.specs.View.{formula_of}
+use Rattle.pb_unfolder_terms.specs.declared.sorts.Variable.{Variable}
+use Rattle.pb_unfolder_terms.specs.declared.written.Written.{Written}
+use Rattle.pb_unfolder_terms.specs.View.{variable_of}
+use Rattle.pb_unfolder_terms.specs.Values.{tuple_of}
+use Rattle.std.specs.Prelude.{box_value}
+use Rattle.pb_unfolder.specs.declared.formula.Copies.{Copies}
+use Rattle.pb_unfolder.specs.Copies.{copy_of, left_operand, tuples_in}
+use Rattle.pb_unfolder.specs.Left.{left_formula}
+use Rattle.pb_unfolder.specs.Links.{folded_chain, linked_formula}
+use Rattle.pb_unfolder.specs.Places.{flat_link_places, link_places, places_in}
+use Rattle.pb_unfolder.proofs.ChainFormulas.{copies-made, left-chain, left-quantified}
+use Rattle.pb_folding.proofs.Places.{same-among}
+use Rattle.pb_unfolder.proofs.PlaceLemmas.{behind-among, chain-among, part-among, pushed-among, taken-among, through-among}
+use Rattle.pb_unfolder.proofs.formula.+formulas.Goals as goal
+
+pub unfold_formula-returns-in_ok-joined-in-Chain-clause-formula : goal.unfold_formula-returns-in_ok-joined-in-Chain-clause-formula
+unfold_formula-returns-in_ok-joined-in-Chain-clause-formula t c =
+    let u = c.args.formulas.now.unfolder.now in
+    let s = c.args.scope.now in
+    let k = c.in-Chain.connective in
+    let x = c.deref-in-Chain.result.now in
+    let ls = c.deref-in-Chain-2.result.now in
+    c.in_ok-joined-in-Chain.ensures.formula
+    ∙ ap (λ (f : Formula). folded_chain k f (map linked_formula c.in_ok-links-in-Chain.links.items)) c.in_ok-first-in-Chain.ensures.formula
+    ∙ ap (folded_chain k (left_formula u s (formula_form x))) c.in_ok-links-in-Chain.ensures.formulas
+    ∙ left-chain u s k x c.in-Chain.first c.in-Chain.links ls c.args.formula.now c.in-Chain.is c.deref-in-Chain.ensures c.deref-in-Chain-2.ensures.value
+
+pub unfold_formula-returns-in_ok-joined_formula-in-Quantified-clause-formula : goal.unfold_formula-returns-in_ok-joined_formula-in-Quantified-clause-formula
+unfold_formula-returns-in_ok-joined_formula-in-Quantified-clause-formula t c =
+    let u = c.args.formulas.now.unfolder.now in
+    let s = c.args.scope.now in
+    let q = c.in-Quantified.quantifier in
+    let f = box_value c.in-Quantified.body in
+    let groups = c.in-Quantified.variables.items in
+    let xs = erased_variables (variable_forms groups) in
+    let ts = c.deref-in-Quantified-4.result.now in
+    let made : Copies = record { place = c.in-Quantified.place; variables = c.deref-in-Quantified-3.result; tuples = c.deref-in-Quantified-4.result; outer = c.args.scope } in
+    let named : map variable_of c.in_ok-variables-in-Quantified.variables.items ≡ xs =
+    c.in_ok-variables-in-Quantified.ensures ∙ ap (λ (gs : List Variables). erased_variables (variable_forms gs)) c.deref-in-Quantified.ensures.value in
+    let variables : map variable_of made.variables.now ≡ xs = ap (map variable_of) c.deref-in-Quantified-3.ensures.value ∙ named in
+    let are : map tuple_of ts ≡ tuples_in u xs =
+    ap (map tuple_of) c.deref-in-Quantified-4.ensures.value ∙ c.in_ok-tuples-in-Quantified.ensures
+    ∙ ap (λ (vs : List Variable). tuples_in u (map variable_of vs)) c.deref-in-Quantified-2.ensures.value ∙ ap (tuples_in u) named in
+    c.in_ok-joined_formula-in-Quantified.ensures.formula
+    ∙ ap (folded_joined_formula q) (c.in_ok-operands-in-Quantified.ensures.formulas ∙ copies-made u s made f ts xs (tuples_in u xs) variables refl are)
+    ∙ left-quantified u s q c.in-Quantified.place (variable_forms groups) (formula_form f)
+    ∙ sym (ap (λ (g : tree.Formula). left_formula u s (formula_form g)) c.in-Quantified.is)
+
+pub unfold_formula-returns-in_ok-joined-in-Chain-clause-places : goal.unfold_formula-returns-in_ok-joined-in-Chain-clause-places
+unfold_formula-returns-in_ok-joined-in-Chain-clause-places t c =
+    let x = c.deref-in-Chain.result.now in
+    let ls = c.deref-in-Chain-2.result.now in
+    chain-among c.in-Chain.connective x c.in-Chain.first c.in-Chain.links ls c.args.formula.now
+    (places_of c.in_ok-joined-in-Chain.field-0) (places_of c.in_ok-first-in-Chain.first) (flat_map flat_link_places c.in_ok-links-in-Chain.links.items)
+    c.in-Chain.is c.deref-in-Chain.ensures c.deref-in-Chain-2.ensures.value
+    c.in_ok-joined-in-Chain.ensures.places c.in_ok-first-in-Chain.ensures.places c.in_ok-links-in-Chain.ensures.places
+
+pub unfold_formula-returns-in_ok-not_formula-in-Negation-clause-places : goal.unfold_formula-returns-in_ok-not_formula-in-Negation-clause-places
+unfold_formula-returns-in_ok-not_formula-in-Negation-clause-places t c =
+    let inner = c.deref.result.now in
+    let operand = c.in_ok-operand-in-Negation.operand in
+    through-among (places_of c.in_ok-not_formula-in-Negation.field-0) (places_of operand) (places_in c.args.formula.now) c.in_ok-not_formula-in-Negation.ensures.places
+    (part-among (places_of operand) c.args.formula.now inner (ap places_in c.in-Negation.is ∙ sym (ap places_in c.deref.ensures)) c.in_ok-operand-in-Negation.ensures.places)
+
+pub unfold_formula-returns-in_ok-new-in-Modal-clause-places : goal.unfold_formula-returns-in_ok-new-in-Modal-clause-places
+unfold_formula-returns-in_ok-new-in-Modal-clause-places t c =
+    let inner = c.deref-in-Modal.result.now in
+    let operand = c.in_ok-operand-in-Modal.operand in
+    let boxed = box_value c.in_ok-new-in-Modal.field-0 in
+    through-among (places_of boxed) (places_of operand) (places_in c.args.formula.now) (same-among (places_of boxed) (places_of operand) (ap places_of c.in_ok-new-in-Modal.ensures.ok))
+    (part-among (places_of operand) c.args.formula.now inner (ap places_in c.in-Modal.is ∙ sym (ap places_in c.deref-in-Modal.ensures)) c.in_ok-operand-in-Modal.ensures.places)
+
+pub unfold_formula-returns-in_ok-new-in-Fixpoint-clause-places : goal.unfold_formula-returns-in_ok-new-in-Fixpoint-clause-places
+unfold_formula-returns-in_ok-new-in-Fixpoint-clause-places t c =
+    let p = c.in-Fixpoint.place in
+    let inner = c.deref-in-Fixpoint.result.now in
+    let body = c.in_ok-body-in-Fixpoint.body in
+    let boxed = box_value c.in_ok-new-in-Fixpoint.field-0 in
+    through-among (p ∷ places_of boxed) (p ∷ places_in inner) (places_in c.args.formula.now)
+    (behind-among p (places_of boxed) (places_in inner)
+    (through-among (places_of boxed) (places_of body) (places_in inner) (same-among (places_of boxed) (places_of body) (ap places_of c.in_ok-new-in-Fixpoint.ensures.ok)) c.in_ok-body-in-Fixpoint.ensures.places))
+    (same-among (p ∷ places_in inner) (places_in c.args.formula.now)
+    (sym (ap places_in c.in-Fixpoint.is ∙ ap (λ (g : tree.Formula). p ∷ places_in g) (sym c.deref-in-Fixpoint.ensures))))
+
+pub unfold_formula-returns-in_ok-joined_formula-in-Quantified-clause-places : goal.unfold_formula-returns-in_ok-joined_formula-in-Quantified-clause-places
+unfold_formula-returns-in_ok-joined_formula-in-Quantified-clause-places t c =
+    let all = flat_map places_of c.in_ok-operands-in-Quantified.operands.items in
+    through-among (places_of c.in_ok-joined_formula-in-Quantified.field-0) all (places_in c.args.formula.now) c.in_ok-joined_formula-in-Quantified.ensures.places
+    (part-among all c.args.formula.now (box_value c.in-Quantified.body) (ap places_in c.in-Quantified.is) c.in_ok-operands-in-Quantified.ensures.places)
+
+pub unfold_copies-loop-values-preserved : goal.unfold_copies-loop-values-preserved
+unfold_copies-loop-values-preserved t c =
+    let f = c.in_ok-unfold_formula.field-0 in
+    let body = box_value c.args.body.now in
+    record {
+      formulas = first_of (search rules, grind (arith, common_steps));
+      places = pushed-among places_of c.push.new.self.items c.loop-values.unfolded.items f (places_in body) c.in_ok-push.ensures.items c.loop-values.invariant.places
+          (part-among (places_of f) body c.deref-in-loop-values.result.now (sym (ap places_in c.deref-in-loop-values.ensures)) c.in_ok-unfold_formula.ensures.places);
+    }
+
+pub unfold_links-loop-link-preserved : goal.unfold_links-loop-link-preserved
+unfold_links-loop-link-preserved t c = record {
+  formulas = first_of (search rules, grind (arith, common_steps));
+  places = taken-among flat_link_places link_places c.push.new.self.items c.loop-link.flat_links.items (record { place = c.link-item.result.place; operand = c.in_ok-operand.operand })
+      c.args.links.now c.loop-link.link-index c.link-item.result c.in_ok-push.ensures.items c.loop-link-test.true c.link-item.is c.loop-link.invariant.places c.in_ok-operand.ensures.places;
+}
+
+pub unfold_links-returns-clause-places : goal.unfold_links-returns-clause-places
+unfold_links-returns-clause-places t c =
+    subst (λ (ls : List Link). AreAmong (flat_map flat_link_places c.loop-link.flat_links.items) (flat_map link_places ls))
+    (take_all c.loop-link.link-index c.args.links.now c.loop-link-test.false) c.loop-link.invariant.places

@@ -1,0 +1,12 @@
+pub mod Apart
+pub mod Copies
+pub mod Left
+pub mod Links
+pub mod Origins
+pub mod Places
+pub mod Plain
+pub mod Sets
+pub mod Told
+pub mod Unfolded
+pub mod Values
+pub mod View

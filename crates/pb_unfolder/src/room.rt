@@ -1,0 +1,97 @@
+//! How many operators an unfolded formula may have.
+
+use crate::fault::{UnfoldingError, UnfoldingRule, refused};
+use pb_limits::MAX_OPERATORS;
+use pb_text_tree::{Argument, ArithmeticLink, Place, Term, TermLink};
+
+/// How many more operators a formula may have.
+#[derive(Drop)]
+pub(crate) struct Room {
+    operators: usize,
+}
+
+impl Room {
+    /// The room of a whole formula.
+    pub(crate) fn whole() -> Room {
+        Room {
+            operators: MAX_OPERATORS,
+        }
+    }
+
+    /// Takes so many operators; where there are fewer, the token at the place passes the limit.
+    pub(crate) fn take(&mut self, operators: usize, place: Place) -> Result<(), UnfoldingError> {
+        if operators > self.operators {
+            return Err(refused(UnfoldingRule::Operators, place));
+        }
+        self.operators -= operators;
+        Ok(())
+    }
+
+    #[cycle(operators)]
+    fn take_links(&mut self, links: &[TermLink], place: Place) -> Result<(), UnfoldingError> {
+        for link in links {
+            self.take(1, place)?;
+            self.take_term(&link.operand, place)?;
+        }
+        Ok(())
+    }
+
+    #[cycle(operators)]
+    fn take_operations(
+        &mut self,
+        links: &[ArithmeticLink],
+        place: Place,
+    ) -> Result<(), UnfoldingError> {
+        for link in links {
+            self.take(1, place)?;
+            self.take_term(&link.operand, place)?;
+        }
+        Ok(())
+    }
+
+    #[cycle(operators)]
+    fn take_arguments(
+        &mut self,
+        arguments: &[Argument],
+        place: Place,
+    ) -> Result<(), UnfoldingError> {
+        for argument in arguments {
+            self.take_term(&argument.term, place)?;
+        }
+        Ok(())
+    }
+
+    /// Takes the operators of a term; where there are more than are left, the token at the place
+    /// passes the limit.
+    #[cycle(operators)]
+    pub(crate) fn take_term(&mut self, term: &Term, place: Place) -> Result<(), UnfoldingError> {
+        match term {
+            Term::Constant { .. } | Term::Number { .. } | Term::Name(_) => Ok(()),
+            Term::Not { operand, .. } | Term::Negative { operand, .. } => {
+                self.take(1, place)?;
+                self.take_term(operand, place)
+            }
+            Term::Chain { first, links, .. } => {
+                self.take_term(first, place)?;
+                self.take_links(links, place)
+            }
+            Term::Comparison { left, right, .. } => {
+                self.take(1, place)?;
+                self.take_term(left, place)?;
+                self.take_term(right, place)
+            }
+            Term::Arithmetic { first, links } => {
+                self.take_term(first, place)?;
+                self.take_operations(links, place)
+            }
+            Term::Application { arguments, .. } => {
+                self.take(1, place)?;
+                self.take_arguments(arguments, place)
+            }
+            Term::Quantified { body, .. } => {
+                self.take(1, place)?;
+                self.take_term(body, place)
+            }
+        }
+    }
+}

@@ -1,0 +1,91 @@
+//! Sets of steps by the names of the steps in them that are left.
+
+ghost use Rattle.std.specs.Prelude.{◌≡◌, ◌++◌, map, IfOk, OnOk, is_some};
+ghost use Rattle.pb_folding.specs.View.{set_of};
+ghost use Rattle.pb_protocol_tree.specs.Form.{step_set_form};
+ghost use Rattle.pb_unfolder_steps.specs.Elements.{instance_said};
+ghost use Rattle.pb_unfolder.specs.Apart.{name_bytes};
+ghost use Rattle.pb_unfolder.specs.Left.{AreFormulas, left_set, member_name, member_names};
+ghost use Rattle.pb_unfolder.specs.Sets.{is_each};
+
+use crate::fault::UnfoldingError;
+use crate::formula::Formulas;
+use crate::named_steps::named_steps;
+use crate::room::Room;
+use crate::set::is_in_set;
+use pb_model_tree as flat;
+use pb_protocol_tree::StepSet;
+use pb_text_tree::{Name, Place};
+use pb_unfolder_steps::{Instance, instance_name};
+use pb_unfolder_terms::TermScope;
+
+/// Where a set of all steps stands, if it is one.
+fn place_of_all(set: &StepSet) -> Option<Place>
+    ensures { is_some result ≡ is_each (step_set_form set.now) }
+{
+    match set {
+        StepSet::All { place } => Some(*place),
+        StepSet::Union { first, links } => {
+            if links.is_empty() {
+                return place_of_all(first);
+            }
+            None
+        }
+        StepSet::Step(_) | StepSet::Instances { .. } | StepSet::Complement { .. } => None,
+    }
+}
+
+/// Adds the name of a step with its values, if it is in a set.
+fn push_member(
+    names: &mut Vec<Name>,
+    formulas: &Formulas<'_>,
+    scope: &TermScope<'_>,
+    set: &StepSet,
+    instance: &Instance<'_>,
+) -> Result<(), UnfoldingError>
+    ensures { OnOk result (map name_bytes names.new.items ≡ map name_bytes names.old.items
+        ++ member_name formulas.now.unfolder.now scope.now (step_set_form set.now)
+        (instance_said instance.now)) }
+{
+    if is_in_set(formulas.unfolder, scope, set, instance)? {
+        names.push(instance_name(formulas.unfolder.alloc, instance)?)?;
+    }
+    Ok(())
+}
+
+/// The names of the steps in a set that are left.
+fn members(
+    formulas: &Formulas<'_>,
+    scope: &TermScope<'_>,
+    set: &StepSet,
+) -> Result<Vec<Name>, UnfoldingError>
+    ensures { IfOk result (λ v. map name_bytes v.items ≡ member_names formulas.now.unfolder.now
+        scope.now (step_set_form set.now) (map instance_said formulas.now.left.now)) }
+{
+    let mut names = Vec::new(formulas.unfolder.alloc);
+    let left = formulas.left;
+    for instance in left {
+        push_member(&mut names, formulas, scope, set, instance)?;
+    }
+    Ok(names)
+}
+
+/// A set of steps as that of the steps in it that are left; it stands at the place.
+pub(crate) fn unfold_set(
+    formulas: &Formulas<'_>,
+    scope: &TermScope<'_>,
+    room: &mut Room,
+    place: Place,
+    set: &StepSet,
+) -> Result<flat::StepSet, UnfoldingError>
+    requires { AreFormulas formulas.now }
+    ensures { IfOk result (λ A. set_of A
+        ≡ left_set formulas.now.unfolder.now scope.now (step_set_form set.now)) }
+{
+    if let Some(place) = place_of_all(set) {
+        return Ok(flat::StepSet::All { place });
+    }
+    let names = members(formulas, scope, set)?;
+    room.take(names.len(), place)?;
+    Ok(named_steps(formulas.unfolder.alloc, place, names)?)
+}

@@ -1,0 +1,6 @@
+mod GroupLemmas
+mod InitialLemmas
+mod OkLemmas
+mod RefusalLemmas
+mod StateLemmas
+mod StepLemmas

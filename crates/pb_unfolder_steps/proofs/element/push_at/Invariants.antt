@@ -1,0 +1,7 @@
+use Rattle.std.proofs.Common.{◌≡◌, ◌++◌, map}
+use Rattle.pb_unfolder_terms.specs.Values.{tuple_of}
+use Rattle.pb_unfolder_steps.specs.Elements.{element_at, element_said}
+use Rattle.pb_unfolder_steps.proofs.element.push_at.Given as goal
+
+abbrev pub invariant-loop-index : goal.invariant-loop-index
+invariant-loop-index l = map element_said l.elements.items ≡ map element_said l.initial.elements.items ++ map (element_at l.name l.sort) (map tuple_of l.yielded)

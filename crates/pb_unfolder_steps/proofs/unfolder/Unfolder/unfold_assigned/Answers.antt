@@ -1,0 +1,16 @@
+use Rattle.std.proofs.Common.{◌∙◌, ap, List, map, string_bytes}
+use Rattle.pb_unfolder_terms.specs.declared.written.Written.{Written}
+use Rattle.pb_unfolder_terms.specs.Values.{written_term}
+use Rattle.pb_unfolder_steps.specs.Elements.{element_at}
+use Rattle.pb_unfolder_steps.specs.Steps.{assigned, assignments_said}
+use Rattle.pb_unfolder_steps.specs.Unfolder.{protocol_in, scope_in}
+use Rattle.pb_unfolder_steps.proofs.unfolder.Unfolder.unfold_assigned.Goals as goal
+
+pub returns-in-Ok-clause-term : goal.returns-in-Ok-clause-term
+returns-in-Ok-clause-term c =
+    let u = c.args.self.now in
+    let e = c.args.element.now in
+    let ρ = scope_in u c.args.scope.now in
+    let bs = assignments_said c.args.assignments.now in
+    (c.in-Ok.ensures (protocol_in u) (string_bytes e.sort.now.text) c.requires.unfolder).term
+    ∙ ap (λ (ks : List Written). assigned (protocol_in u) ρ bs (element_at e.name.now e.sort.now (map written_term ks))) c.deref.ensures.value

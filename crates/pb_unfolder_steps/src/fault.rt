@@ -1,0 +1,34 @@
+//! Why the state or the steps of a protocol aren't unfolded.
+
+ghost use Rattle.std.specs.Prelude.{[]};
+ghost use Rattle.pb_errors.specs.OrMemory.{IfFault};
+ghost use Rattle.pb_unfolder_steps.specs.Refusals.{IsLimitAmong};
+
+use pb_errors::{Fault, OrMemory};
+use pb_text_tree::Place;
+use pb_unfolder_terms::{UnfoldError, UnfoldFault};
+
+/// A rule that fails where a protocol's state or steps are unfolded.
+#[derive(Clone, Copy, Debug, PartialEq, Eq)]
+pub enum StepsFault {
+    /// T12: more than 64 elements or 1,024 steps. The place is that of the name of the state
+    /// variable or step that passes the limit.
+    Limit(Place),
+    /// A term isn't unfolded.
+    Term(UnfoldFault),
+}
+
+impl Fault for StepsFault {}
+
+/// Why state or steps aren't unfolded: a rule fails at a place, or memory ran out.
+pub type StepsError = OrMemory<StepsFault>;
+
+/// The fault of a term.
+pub(crate) fn of_term(error: UnfoldError) -> StepsError
+    ensures { IfFault result (IsLimitAmong []) }
+{
+    match error {
+        OrMemory::Refused(fault) => OrMemory::Refused(StepsFault::Term(fault)),
+        OrMemory::Memory => OrMemory::Memory,
+    }
+}

@@ -1,0 +1,25 @@
+//! Unfolds the state and the steps of protocols: a state variable for each element of an array, and
+//! a step for each tuple of values of a step's own variables, folded, without those that no state
+//! can take.
+#![tactic(auto)]
+
+mod assignment;
+mod element;
+mod fault;
+mod initial;
+mod instance;
+mod limits;
+mod sorts;
+mod state;
+mod step;
+mod tuples;
+mod unfolder;
+
+pub use element::{Element, elements};
+pub use fault::{StepsError, StepsFault};
+pub use initial::initial_terms;
+pub use instance::{Instance, instance_name, instances};
+pub use limits::{MAX_ELEMENTS, MAX_WRITTEN_STEPS};
+pub use state::flat_state;
+pub use step::{UnfoldedSteps, unfold_steps};
+pub use unfolder::Unfolder;

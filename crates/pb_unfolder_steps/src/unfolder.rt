@@ -1,0 +1,93 @@
+//! Unfolds the terms of a protocol.
+
+ghost use Rattle.std.specs.Prelude.{◌≡◌, [], IfOk};
+ghost use Rattle.pb_errors.specs.OrMemory.{IfRefused};
+ghost use Rattle.pb_folding.specs.Folding.{folded};
+ghost use Rattle.pb_folding.specs.View.{term_of};
+ghost use Rattle.pb_protocol_meaning.specs.Erase.{protocol_of};
+ghost use Rattle.pb_protocol_meaning.specs.Steps.{data_of};
+ghost use Rattle.pb_unfolding.specs.Unfolding as definitions;
+ghost use Rattle.pb_unfolder_steps.specs.Elements.{element_said};
+ghost use Rattle.pb_unfolder_steps.specs.Refusals.{IsLimitAmong};
+ghost use Rattle.pb_unfolder_steps.specs.Steps.{assigned, assignments_said};
+ghost use Rattle.pb_unfolder_steps.specs.Unfolder.{IsUnfolder, protocol_in, scope_in};
+
+use crate::element::Element;
+use crate::fault::{StepsError, of_term};
+use pb_protocol_tree::{Assignment, Protocol};
+use pb_text_tree::Term;
+use pb_unfolder_terms as terms;
+use pb_unfolder_terms::{Context, TermScope, unfold_assigned, unfold_term};
+use std::alloc::{AllocError, Global};
+
+/// A protocol, and what its terms are unfolded by.
+#[derive(Drop)]
+pub struct Unfolder<'a> {
+    pub alloc: Global,
+    pub protocol: &'a Protocol,
+    context: Context<'a>,
+}
+
+impl<'a> Unfolder<'a> {
+    /// What unfolds the terms of a protocol's steps and formulas.
+    ///
+    /// # Errors
+    /// Memory was refused.
+    pub fn new(alloc: Global, protocol: &'a Protocol) -> Result<Unfolder<'a>, AllocError>
+        ensures unfolder { IfOk result IsUnfolder }
+        ensures protocol { IfOk result (λ u. protocol_in u ≡ protocol_of protocol.now) }
+    {
+        let context = Context::new(alloc, protocol)?;
+        Ok(Unfolder {
+            alloc,
+            protocol,
+            context,
+        })
+    }
+
+    /// A term, with what names stand for put in, folded: where its truth alone counts, or its
+    /// value.
+    ///
+    /// # Errors
+    /// The term isn't unfolded (`StepsFault::Term`), or memory was refused.
+    pub fn unfold(
+        &self,
+        scope: &TermScope<'_>,
+        truth: bool,
+        term: &Term,
+    ) -> Result<Term, StepsError>
+        requires unfolder { IsUnfolder self.now }
+        ensures term { IfOk result (λ t. term_of t ≡ folded (data_of (protocol_in self.now)) truth
+            (definitions.unfolded_term (protocol_in self.now) (scope_in self.now scope.now)
+            (term_of term.now))) }
+        ensures refused { IfRefused result (IsLimitAmong []) }
+    {
+        match unfold_term(&self.context, scope, truth, term) {
+            Ok(unfolded) => Ok(unfolded.term),
+            Err(error) => Err(of_term(error)),
+        }
+    }
+
+    /// What an element gets by assignments, folded.
+    pub(crate) fn unfold_assigned(
+        &self,
+        scope: &TermScope<'_>,
+        assignments: &[Assignment],
+        element: &Element<'_>,
+    ) -> Result<Term, StepsError>
+        requires unfolder { IsUnfolder self.now }
+        ensures term { IfOk result (λ t. term_of t ≡ assigned (protocol_in self.now)
+            (scope_in self.now scope.now) (assignments_said assignments.now)
+            (element_said element.now)) }
+        ensures refused { IfRefused result (IsLimitAmong []) }
+    {
+        let element = terms::Element {
+            array: element.name,
+            index: &element.index,
+        };
+        match unfold_assigned(&self.context, scope, assignments, &element) {
+            Ok(unfolded) => Ok(unfolded.term),
+            Err(error) => Err(of_term(error)),
+        }
+    }
+}

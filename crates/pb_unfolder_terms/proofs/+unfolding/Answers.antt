@@ -1,0 +1,1140 @@
+use Rattle.std.proofs.Common.{◌≡◌, ◌∙◌, suc, true, false, List, [], Option, Some, None, map, sym, ap, subst, refl, drop, string_bytes, length, arith, ◌<◌}
+use Rattle.std.proofs.lemmas.Bool.Decides.{nat_tests}
+use Rattle.pb_unfolder_terms.specs.declared.sorts.Variable as declared_variable
+use Rattle.pb_unfolder_terms.proofs.ContextLemmas.{arguments-counted, given-there}
+use Rattle.pb_text_tree.specs.declared.sort.SortDeclaration.{SortDeclaration}
+use Rattle.pb_text_tree.specs.declared.term.Term as declared_term
+use Rattle.std.specs.Prelude.{box_value}
+use Rattle.pb_text_meaning.specs.Syntax.{Name, Term, Terms}
+use Rattle.pb_text_meaning.specs.Erase.{of_comparison, of_connective}
+use Rattle.pb_unfolder_terms.specs.Chains.{chain_term, deciding, operand_of, operands_of, outcome}
+use Rattle.pb_unfolder_terms.proofs.ChainLemmas.{application-said, chain-said, err-kept, refusal-behind}
+use Rattle.pb_folding.specs.View as tree
+use Rattle.pb_unfolding.specs.PutIn.{TermScope, term_of, named_term, put_in, standing, all_put_in, applied_term, given_arguments}
+use Rattle.pb_unfolder_terms.specs.View.{variable_of}
+use Rattle.pb_unfolder_terms.specs.Scopes.{scope_of}
+use Rattle.pb_unfolder_terms.specs.Contexts.{forms_in, folding_in, spec_in}
+use Rattle.pb_unfolder_terms.specs.Unfolding.{IsRefusal, IsUnfolded, Unfolds}
+use Rattle.pb_unfolder_terms.specs.Values.{written_term}
+use Rattle.pb_unfolder_terms.proofs.UnfoldLemmas.{carried, standing-none}
+use Rattle.std.proofs.Common.{ℕ, Bool, ◌+◌, ◌-◌, ◌≤◌, ◌++◌, take, zero, vec_len, get_or}
+use Rattle.pb_text_tree.specs.declared.term.Argument.{Argument}
+use Rattle.pb_text_tree.specs.Form.{Named}
+use Rattle.pb_unfolder_terms.specs.declared.written.Written.{Written}
+use Rattle.std.specs.Prelude.{if◌then◌else◌, codes}
+use Rattle.pb_errors.specs.declared.or_memory.OrMemory.{OrMemory}
+use Rattle.pb_text_tree.specs.Form.{variable_forms}
+use Rattle.pb_text_meaning.specs.Syntax.{Operator, Variable, Spec}
+use Rattle.pb_text_meaning.specs.Erase.{erased_variables, of_arithmetic}
+use Rattle.pb_text_meaning.specs.Functions.{named_function}
+use Rattle.pb_folding.specs.Folding.{folded, is_if}
+use Rattle.pb_folding.specs.Kept.{joining, neutral, truth_counts}
+use Rattle.pb_unfolding.specs.Written.{element, written_tuples, written_values}
+use Rattle.pb_unfolding.specs.PutIn.{Forms, choices, copies, joined, read}
+use Rattle.pb_unfolding.specs.Unfolding.{terms_of}
+use Rattle.pb_text_tree.specs.declared.operator.Connective.{Connective}
+use Rattle.pb_unfolder_terms.specs.Operands.{AreOperands}
+use Rattle.pb_unfolder_terms.specs.Copies.{copied_term, copies_by}
+use Rattle.pb_unfolder_terms.specs.Puts.{AreArguments, IsRefusalOfAll, IsWrittenAs, calculated_term, choice_of, element_by, put, puts, read_by}
+use Rattle.pb_unfolder_terms.specs.Unfolding.{operator_count}
+use Rattle.pb_unfolder_terms.specs.Values.{tuple_of}
+use Rattle.pb_unfolder_terms.proofs.ArgumentLemmas.{arguments-first, arguments-none, arguments-three, behind-first, first-and-second, first-and-third, first-refused, none-of, others-refused, some-of, without-last}
+use Rattle.pb_unfolder_terms.proofs.ChainLemmas.{no-room, refusal-weaker}
+use Rattle.pb_unfolder_terms.proofs.ChoiceLemmas.{chosen-refused, if-named, right-refused, truth-said}
+use Rattle.pb_unfolder_terms.proofs.OperandLemmas.{chain-end, chain-form, chain-next, joined-end, joined-form, joined-next, joined-none, last-refused, left-decided, left-further, left-last, left-refused, left-without-room, operands-more}
+use Rattle.pb_unfolder_terms.proofs.ReadLemmas.{choices-more, choices-same, choices-none, choices-one, chosen-otherwise, chosen-written, read-first, read-itself, read-nothing, same-parts}
+use Rattle.pb_unfolder_terms.proofs.TermLemmas.{arithmetic-said, calculated-last, copies-of-tuples, quantified-said}
+use Rattle.pb_unfolder_terms.proofs.+unfolding.Goals as goal
+
+pub unfold::unfold-returns-in_ok-negation-in-Not : goal.unfold::unfold-returns-in_ok-negation-in-Not
+unfold::unfold-returns-in_ok-negation-in-Not t c =
+    let k = c.args.context.now in
+    let put : declared_term.Term → Term = λ x. put_in (spec_in k) (forms_in k c.args.level.definitions) (scope_of (spec_in k) (forms_in k) c.args.scope.now) (tree.term_of x) in
+    let u = c.in_ok-operand-in-Not.operand in
+    let n = c.in_ok-room-in-Not.room in
+    let x = put c.deref.result.now in
+    carried c.args.level.truth c.in_ok-negation-in-Not.field-0 c.folding.result.sorts.now k.declarations.now (suc n) c.args.level.room (Term.Not x) (put c.args.term.now)
+    c.folding.ensures (sym c.in_ok-room-in-Not.ensures) (ap (λ y. Term.Not (put y)) c.deref.ensures ∙ ap put (sym c.in-Not.is))
+    (c.in_ok-negation-in-Not.ensures x n c.args.level.truth (subst (λ (ds : List SortDeclaration). IsUnfolded (tree.spec_of ds) true n x u) (sym c.folding.ensures) c.in_ok-operand-in-Not.ensures))
+
+pub unfold::unfold-returns-in_ok-negative-in-Negative : goal.unfold::unfold-returns-in_ok-negative-in-Negative
+unfold::unfold-returns-in_ok-negative-in-Negative t c =
+    let k = c.args.context.now in
+    let put : declared_term.Term → Term = λ x. put_in (spec_in k) (forms_in k c.args.level.definitions) (scope_of (spec_in k) (forms_in k) c.args.scope.now) (tree.term_of x) in
+    let u = c.in_ok-operand-in-Negative.operand in
+    let n = c.in_ok-room-in-Negative.room in
+    let x = put c.deref-in-Negative.result.now in
+    carried c.args.level.truth c.in_ok-negative-in-Negative.field-0 c.folding-in-Negative.result.sorts.now k.declarations.now (suc n) c.args.level.room (Term.Negative x) (put c.args.term.now)
+    c.folding-in-Negative.ensures (sym c.in_ok-room-in-Negative.ensures) (ap (λ y. Term.Negative (put y)) c.deref-in-Negative.ensures ∙ ap put (sym c.in-Negative.is))
+    (c.in_ok-negative-in-Negative.ensures x n c.args.level.truth (subst (λ (ds : List SortDeclaration). IsUnfolded (tree.spec_of ds) false n x u) (sym c.folding-in-Negative.ensures) c.in_ok-operand-in-Negative.ensures))
+
+pub unfold::unfold_free-returns-in-Definition : goal.unfold::unfold_free-returns-in-Definition
+unfold::unfold_free-returns-in-Definition t c =
+    let k = c.args.context.now in
+    let x : Name = string_bytes c.args.name.now.text in
+    let d = c.in-Definition.definition.now in
+    let f = forms_in k c.in-Definition.before in
+    let e : forms_in k c.args.level.definitions x Terms.NoTerms ≡ Some (put_in (spec_in k) f [] (tree.term_of d.term.now)) =
+    ap (λ (y : Name). forms_in k c.args.level.definitions y Terms.NoTerms) (sym c.as_str.ensures.value) ∙ c.in-Definition.ensures Terms.NoTerms refl
+    ∙ ap (λ (ρ : TermScope). Some (put_in (spec_in k) f ρ (tree.term_of d.term.now))) (standing-none (map variable_of d.parameters.items) []) in
+    subst (λ (o : Option Term). Unfolds (folding_in k) c.args.level.truth c.args.level.room (named_term (spec_in k) None o x) c.unfold.result) (sym e) c.unfold.ensures
+
+pub unfold::unfold_free-returns-in_ok-bare_variable-in-Variable : goal.unfold::unfold_free-returns-in_ok-bare_variable-in-Variable
+unfold::unfold_free-returns-in_ok-bare_variable-in-Variable t c =
+    let k = c.args.context.now in
+    let x : Name = string_bytes c.args.name.now.text in
+    let e = ap (λ (y : Name). forms_in k c.args.level.definitions y Terms.NoTerms) (sym c.as_str.ensures.value) ∙ c.in-Variable.ensures Terms.NoTerms refl in
+    subst (λ (o : Option Term). IsUnfolded (folding_in k) c.args.level.truth c.args.level.room (named_term (spec_in k) None o x) c.in_ok-bare_variable-in-Variable.field-0) (sym e)
+    (c.in_ok-bare_variable-in-Variable.ensures (folding_in k) (spec_in k) c.args.level.truth)
+
+pub unfold::unfold_free-returns-in_ok-own_name-in-Neither : goal.unfold::unfold_free-returns-in_ok-own_name-in-Neither
+unfold::unfold_free-returns-in_ok-own_name-in-Neither t c =
+    let k = c.args.context.now in
+    let x : Name = string_bytes c.args.name.now.text in
+    let e = ap (λ (y : Name). forms_in k c.args.level.definitions y Terms.NoTerms) (sym c.as_str.ensures.value) ∙ c.in-Neither.ensures Terms.NoTerms refl in
+    subst (λ (o : Option Term). IsUnfolded (folding_in k) c.args.level.truth c.args.level.room (named_term (spec_in k) None o x) c.in_ok-own_name-in-Neither.field-0) (sym e)
+    (c.in_ok-own_name-in-Neither.ensures c.args.level.truth)
+
+pub unfold::unfold_name-returns-in_ok-value_term-in-Value : goal.unfold::unfold_name-returns-in_ok-value_term-in-Value
+unfold::unfold_name-returns-in_ok-value_term-in-Value t c =
+    let k = c.args.context.now in
+    let x : Name = string_bytes c.args.name.now.text in
+    let ρ = scope_of (spec_in k) (forms_in k) c.args.scope.now in
+    let e = c.in-Value.ensures (spec_in k) (forms_in k) ∙ ap (λ (y : Name). term_of ρ y) c.as_str.ensures.value in
+    subst (λ (o : Option Term). IsUnfolded (folding_in k) c.args.level.truth c.args.level.room (named_term (spec_in k) o (forms_in k c.args.level.definitions x Terms.NoTerms) x) c.in_ok-value_term-in-Value.field-0) e
+    (subst (λ (ds : List SortDeclaration). IsUnfolded (tree.spec_of ds) c.args.level.truth c.args.level.room (written_term c.in-Value.value) c.in_ok-value_term-in-Value.field-0) c.folding.ensures (c.in_ok-value_term-in-Value.ensures c.args.level.truth))
+
+pub unfold::unfold-returns-in_ok-comparison-in-Comparison : goal.unfold::unfold-returns-in_ok-comparison-in-Comparison
+unfold::unfold-returns-in_ok-comparison-in-Comparison t c =
+    let k = c.args.context.now in
+    let put : declared_term.Term → Term = λ x. put_in (spec_in k) (forms_in k c.args.level.definitions) (scope_of (spec_in k) (forms_in k) c.args.scope.now) (tree.term_of x) in
+    let o = of_comparison c.in-Comparison.sign in
+    let u = c.in_ok-left-in-Comparison.left in
+    let v = c.in_ok-right-in-Comparison.right in
+    let n = c.in_ok-room-in-Comparison.room in
+    let x = put c.deref-in-Comparison.result.now in
+    let y = put c.deref-in-Comparison-2.result.now in
+    let back = sym c.folding-in-Comparison.ensures in
+    carried c.args.level.truth c.in_ok-comparison-in-Comparison.field-0 c.folding-in-Comparison.result.sorts.now k.declarations.now (suc n) c.args.level.room (Term.Binary o x y) (put c.args.term.now)
+    c.folding-in-Comparison.ensures (sym c.in_ok-room-in-Comparison.ensures)
+    (ap (λ z. Term.Binary o (put z) y) c.deref-in-Comparison.ensures ∙ ap (λ z. Term.Binary o (put (box_value c.in-Comparison.left)) (put z)) c.deref-in-Comparison-2.ensures ∙ ap put (sym c.in-Comparison.is))
+    (c.in_ok-comparison-in-Comparison.ensures x y n c.args.level.truth
+    (subst (λ (ds : List SortDeclaration). IsUnfolded (tree.spec_of ds) false n x u) back c.in_ok-left-in-Comparison.ensures)
+    (subst (λ (ds : List SortDeclaration). IsUnfolded (tree.spec_of ds) false u.room y v) back c.in_ok-right-in-Comparison.ensures))
+
+pub unfold::unfold-returns-in_err-right-in-Comparison : goal.unfold::unfold-returns-in_err-right-in-Comparison
+unfold::unfold-returns-in_err-right-in-Comparison t c =
+    let k = c.args.context.now in
+    let put : declared_term.Term → Term = λ x. put_in (spec_in k) (forms_in k c.args.level.definitions) (scope_of (spec_in k) (forms_in k) c.args.scope.now) (tree.term_of x) in
+    let o = of_comparison c.in-Comparison.sign in
+    let x = put c.deref-in-Comparison.result.now in
+    let y = put c.deref-in-Comparison-2.result.now in
+    let same : Term.Binary o x y ≡ put c.args.term.now =
+    ap (λ z. Term.Binary o (put z) y) c.deref-in-Comparison.ensures ∙ ap (λ z. Term.Binary o (put (box_value c.in-Comparison.left)) (put z)) c.deref-in-Comparison-2.ensures ∙ ap put (sym c.in-Comparison.is) in
+    let more = refusal-behind c.args.level.room c.in_ok-room-in-Comparison.room c.in_ok-left-in-Comparison.left.room o x y (put c.args.term.now) c.in_err-right-in-Comparison.field-0.0 c.in_ok-room-in-Comparison.ensures c.in_ok-left-in-Comparison.ensures.room same in
+    err-kept c.from_residual-in_err-right-in-Comparison.result c.in_err-right-in-Comparison.field-0.0 (IsUnfolded (folding_in k) c.args.level.truth c.args.level.room (put c.args.term.now)) (IsRefusal c.args.level.room (put c.args.term.now))
+    c.from_residual-in_err-right-in-Comparison.ensures.1 (more c.in_err-right-in-Comparison.ensures)
+
+pub applications::unfold_application-returns-in-Definition : goal.applications::unfold_application-returns-in-Definition
+applications::unfold_application-returns-in-Definition t c =
+    let k = c.args.context.now in
+    let f : Name = string_bytes c.args.function.now.text in
+    let n = c.args.level.definitions in
+    let ρ = scope_of (spec_in k) (forms_in k) c.args.scope.now in
+    let given = c.args.arguments.now in
+    let ts : Terms = all_put_in (spec_in k) (forms_in k n) ρ (tree.terms_of given) in
+    let d = c.in-Definition.definition.now in
+    let before = forms_in k c.in-Definition.before in
+    let body : List declared_variable.Variable → Term = λ vs. put_in (spec_in k) before (standing (map variable_of vs) ts []) (tree.term_of d.term.now) in
+    let some : 0 < length given = grind (arith, nat_tests) in
+    let e : Some (body c.deref.result.now) ≡ given_arguments (forms_in k n) f ts =
+    ap (λ vs. Some (body vs)) c.deref.ensures.value
+    ∙ sym (c.in-Definition.ensures ts (arguments-counted (spec_in k) (forms_in k n) ρ given))
+    ∙ ap (λ (y : Name). forms_in k n y ts) c.as_str.ensures.value
+    ∙ given-there (spec_in k) (forms_in k n) ρ f given some in
+    subst (λ (o : Option Term). Unfolds (folding_in k) c.args.level.truth c.args.level.room (applied_term o f ts) c.unfold.result) e c.unfold.ensures
+
+pub unfold::unfold-returns-in-Application : goal.unfold::unfold-returns-in-Application
+unfold::unfold-returns-in-Application t c =
+    let k = c.args.context.now in
+    let put : Term → Term = λ x. put_in (spec_in k) (forms_in k c.args.level.definitions) (scope_of (spec_in k) (forms_in k) c.args.scope.now) x in
+    let f = c.in-Application.function in
+    let said : Term.Apply (string_bytes f.text) (tree.terms_of c.deref-in-Application.result.now) ≡ tree.term_of c.args.term.now =
+    ap (λ ls. Term.Apply (string_bytes f.text) (tree.terms_of ls)) c.deref-in-Application.ensures.value
+    ∙ sym (application-said f c.in-Application.arguments) ∙ ap tree.term_of (sym c.in-Application.is) in
+    subst (λ (x : Term). Unfolds (folding_in k) c.args.level.truth c.args.level.room (put x) c.unfold_application.result) said c.unfold_application.ensures
+
+pub connectives::unfold_operands-loop-link-preserved : goal.connectives::unfold_operands-loop-link-preserved
+connectives::unfold_operands-loop-link-preserved t c =
+    let k = c.args.context.now in
+    let n = c.args.level.definitions in
+    let b = c.args.level.truth in
+    let room = c.args.level.room in
+    let p : Term → Term = λ x. put k n c.args.scope.now x in
+    let o = c.args.chain.connective in
+    let ls = c.args.chain.links.now in
+    let whole = p (chain_term o (tree.term_of c.args.chain.first.now) (operands_of ls)) in
+    let i = c.loop-link.link-index in
+    let x = tree.term_of c.loop-link.term.now in
+    let rest = p (chain_term o x (operands_of (drop i ls))) in
+    let l = c.link-item.result in
+    let rest' = p (chain_term o (operand_of l) (operands_of (drop (i + 1) ls))) in
+    let split : rest ≡ Term.Binary (of_connective o) (p x) rest' = ap p (chain-next o x ls i l c.loop-link-test.true c.link-item.is) in
+    let u = c.in_ok-unfolded.unfolded in
+    left-further (folding_in k) o b room whole rest (p x) rest' (operands_of c.loop-link.before.items) (operands_of c.push.new.self.items) c.loop-link.room c.in_ok-behind_one.field-0 u.room (tree.term_of u.term)
+    c.in_ok-behind_one.ensures split c.in_ok-unfolded.ensures.term c.in_ok-unfolded.ensures.room
+    (ap operands_of c.in_ok-push.ensures.items ∙ operands-more c.loop-link.before.items (record { place = l.place; operand = u.term })) c.loop-link.invariant
+
+pub connectives::unfold_operands-returns-then-decides : goal.connectives::unfold_operands-returns-then-decides
+connectives::unfold_operands-returns-then-decides t c =
+    let k = c.args.context.now in
+    let n = c.args.level.definitions in
+    let b = c.args.level.truth in
+    let room = c.args.level.room in
+    let p : Term → Term = λ x. put k n c.args.scope.now x in
+    let o = c.args.chain.connective in
+    let ls = c.args.chain.links.now in
+    let whole = p (chain_term o (tree.term_of c.args.chain.first.now) (operands_of ls)) in
+    let i = c.loop-link.link-index in
+    let x = tree.term_of c.loop-link.term.now in
+    let rest = p (chain_term o x (operands_of (drop i ls))) in
+    let l = c.link-item.result in
+    let rest' = p (chain_term o (operand_of l) (operands_of (drop (i + 1) ls))) in
+    let split : rest ≡ Term.Binary (of_connective o) (p x) rest' = ap p (chain-next o x ls i l c.loop-link-test.true c.link-item.is) in
+    let u = c.in_ok-unfolded.unfolded in
+    left-decided (folding_in k) o b room whole rest (p x) rest' (record { before = c.loop-link.before; last = c.decided-last.result; room = u.room }) c.loop-link.room c.in_ok-behind_one.field-0
+    c.in_ok-behind_one.ensures split (sym (c.decides.ensures c.if-decides.true) ∙ c.in_ok-unfolded.ensures.term) c.in_ok-unfolded.ensures.room c.decided-last.ensures
+    (chain-form o (tree.term_of c.args.chain.first.now) ls p (λ o y z. refl) c.requires) c.loop-link.invariant
+
+pub connectives::unfold_operands-returns : goal.connectives::unfold_operands-returns
+connectives::unfold_operands-returns t c =
+    let k = c.args.context.now in
+    let n = c.args.level.definitions in
+    let b = c.args.level.truth in
+    let room = c.args.level.room in
+    let p : Term → Term = λ x. put k n c.args.scope.now x in
+    let o = c.args.chain.connective in
+    let ls = c.args.chain.links.now in
+    let whole = p (chain_term o (tree.term_of c.args.chain.first.now) (operands_of ls)) in
+    let i = c.loop-link.link-index in
+    let x = tree.term_of c.loop-link.term.now in
+    let rest = p (chain_term o x (operands_of (drop i ls))) in
+    let u = c.in_ok-unfolded-2.unfolded in
+    left-last (folding_in k) o b c.truth_counts-truth.result room whole rest (p x) (record { before = c.loop-link.before; last = u.term; room = u.room }) c.loop-link.room
+    (ap p (chain-end o x ls i (λ h. omega (arith, h, c.loop-link-test.false)))) (c.truth_counts-truth.ensures ∙ ap (λ xs. truth_counts b (operands_of xs)) c.deref.ensures.value) c.in_ok-unfolded-2.ensures.term c.in_ok-unfolded-2.ensures.room
+    (chain-form o (tree.term_of c.args.chain.first.now) ls p (λ o y z. refl) c.requires) c.loop-link.invariant
+
+pub connectives::unfold_operands-returns-in_err-unfolded-2 : goal.connectives::unfold_operands-returns-in_err-unfolded-2
+connectives::unfold_operands-returns-in_err-unfolded-2 t c =
+    let k = c.args.context.now in
+    let n = c.args.level.definitions in
+    let b = c.args.level.truth in
+    let room = c.args.level.room in
+    let p : Term → Term = λ x. put k n c.args.scope.now x in
+    let o = c.args.chain.connective in
+    let ls = c.args.chain.links.now in
+    let whole = p (chain_term o (tree.term_of c.args.chain.first.now) (operands_of ls)) in
+    let i = c.loop-link.link-index in
+    let x = tree.term_of c.loop-link.term.now in
+    let rest = p (chain_term o x (operands_of (drop i ls))) in
+    let e = c.in_err-unfolded-2.field-0.0 in
+    err-kept c.from_residual-in_err-unfolded-2.result e _ (IsRefusal room whole) c.from_residual-in_err-unfolded-2.ensures.1
+    (last-refused (folding_in k) o b room whole rest (p x) (operands_of c.loop-link.before.items) c.loop-link.room e (ap p (chain-end o x ls i (λ h. omega (arith, h, c.loop-link-test.false)))) c.loop-link.invariant c.in_err-unfolded-2.ensures)
+
+pub connectives::unfold_copies-loop-values-preserved : goal.connectives::unfold_copies-loop-values-preserved
+connectives::unfold_copies-loop-values-preserved t c =
+    let k = c.args.context.now in
+    let n = c.args.level.definitions in
+    let b = c.args.level.truth in
+    let room = c.args.level.room in
+    let p : Term → Term = λ x. put k n c.args.scope.now x in
+    let q = c.args.quantified.quantifier in
+    let o = joining q in
+    let body = tree.term_of c.args.quantified.body.now in
+    let xs = c.args.copies.tuples.now in
+    let f : List Term → Term = λ ks. put_in (spec_in k) (forms_in k n) (standing (map variable_of c.args.copies.variables.now) (terms_of ks) (scope_of (spec_in k) (forms_in k) c.args.scope.now)) body in
+    let whole = copied_term k n c.args.scope.now q c.args.copies body in
+    let i = c.loop-values.values-index in
+    let v = c.values-item.result in
+    let x = f (tuple_of v) in
+    let rest = joined q (drop i (map f (map tuple_of xs))) in
+    let rest' = joined q (drop (i + 1) (map f (map tuple_of xs))) in
+    let split : rest ≡ Term.Binary (of_connective o) x rest' = joined-next q tuple_of f xs i v c.loop-values-test.true c.values-item.is in
+    let u = c.in_ok-unfolded.unfolded in
+    let inner = c.in_ok-behind_one.field-0 in
+    let h : IsUnfolded (folding_in k) true inner x u = subst (λ (z : Term). IsUnfolded (folding_in k) true inner z u) (ap (λ ws. f (map written_term ws)) c.deref.ensures.value) c.in_ok-unfolded.ensures in
+    left-further (folding_in k) o b room whole rest x rest' (operands_of c.loop-values.before.items) (operands_of c.push.new.self.items) c.loop-values.room inner u.room (tree.term_of u.term)
+    c.in_ok-behind_one.ensures split h.term h.room
+    (ap operands_of c.in_ok-push.ensures.items ∙ operands-more c.loop-values.before.items (record { place = c.args.quantified.place; operand = u.term })) c.loop-values.invariant
+
+pub connectives::unfold_copies-returns-then-decides : goal.connectives::unfold_copies-returns-then-decides
+connectives::unfold_copies-returns-then-decides t c =
+    let k = c.args.context.now in
+    let n = c.args.level.definitions in
+    let b = c.args.level.truth in
+    let room = c.args.level.room in
+    let p : Term → Term = λ x. put k n c.args.scope.now x in
+    let q = c.args.quantified.quantifier in
+    let o = joining q in
+    let body = tree.term_of c.args.quantified.body.now in
+    let xs = c.args.copies.tuples.now in
+    let f : List Term → Term = λ ks. put_in (spec_in k) (forms_in k n) (standing (map variable_of c.args.copies.variables.now) (terms_of ks) (scope_of (spec_in k) (forms_in k) c.args.scope.now)) body in
+    let whole = copied_term k n c.args.scope.now q c.args.copies body in
+    let i = c.loop-values.values-index in
+    let v = c.values-item.result in
+    let x = f (tuple_of v) in
+    let rest = joined q (drop i (map f (map tuple_of xs))) in
+    let rest' = joined q (drop (i + 1) (map f (map tuple_of xs))) in
+    let split : rest ≡ Term.Binary (of_connective o) x rest' = joined-next q tuple_of f xs i v c.loop-values-test.true c.values-item.is in
+    let u = c.in_ok-unfolded.unfolded in
+    let inner = c.in_ok-behind_one.field-0 in
+    let h : IsUnfolded (folding_in k) true inner x u = subst (λ (z : Term). IsUnfolded (folding_in k) true inner z u) (ap (λ ws. f (map written_term ws)) c.deref.ensures.value) c.in_ok-unfolded.ensures in
+    let decides : Term.Truth (deciding o) ≡ folded (folding_in k) true x = ap (λ d. Term.Truth (deciding d)) (sym c.joining-connective.ensures) ∙ sym (c.decides.ensures c.if-decides.true) ∙ h.term in
+    left-decided (folding_in k) o b room whole rest x rest' (record { before = c.loop-values.before; last = c.decided-last.result; room = u.room }) c.loop-values.room inner
+    c.in_ok-behind_one.ensures split decides h.room (c.decided-last.ensures ∙ ap (λ d. Term.Truth (outcome d)) c.joining-connective.ensures)
+    (joined-form q tuple_of f xs c.requires) c.loop-values.invariant
+
+pub connectives::unfold_copies-returns-in_err-behind_one : goal.connectives::unfold_copies-returns-in_err-behind_one
+connectives::unfold_copies-returns-in_err-behind_one t c =
+    let k = c.args.context.now in
+    let n = c.args.level.definitions in
+    let b = c.args.level.truth in
+    let room = c.args.level.room in
+    let p : Term → Term = λ x. put k n c.args.scope.now x in
+    let q = c.args.quantified.quantifier in
+    let o = joining q in
+    let body = tree.term_of c.args.quantified.body.now in
+    let xs = c.args.copies.tuples.now in
+    let f : List Term → Term = λ ks. put_in (spec_in k) (forms_in k n) (standing (map variable_of c.args.copies.variables.now) (terms_of ks) (scope_of (spec_in k) (forms_in k) c.args.scope.now)) body in
+    let whole = copied_term k n c.args.scope.now q c.args.copies body in
+    let i = c.loop-values.values-index in
+    let v = c.values-item.result in
+    let x = f (tuple_of v) in
+    let rest = joined q (drop i (map f (map tuple_of xs))) in
+    let rest' = joined q (drop (i + 1) (map f (map tuple_of xs))) in
+    let split : rest ≡ Term.Binary (of_connective o) x rest' = joined-next q tuple_of f xs i v c.loop-values-test.true c.values-item.is in
+    let e = c.in_err-behind_one.field-0.0 in
+    err-kept c.from_residual.result e _ (IsRefusal room whole) c.from_residual.ensures.1
+    (no-room room whole e c.args.quantified.place c.in_err-behind_one.ensures.0 (left-without-room (folding_in k) o b room whole rest x rest' (operands_of c.loop-values.before.items) c.loop-values.room c.in_err-behind_one.ensures.1 split c.loop-values.invariant))
+
+pub connectives::unfold_copies-returns-in_err-unfolded : goal.connectives::unfold_copies-returns-in_err-unfolded
+connectives::unfold_copies-returns-in_err-unfolded t c =
+    let k = c.args.context.now in
+    let n = c.args.level.definitions in
+    let b = c.args.level.truth in
+    let room = c.args.level.room in
+    let p : Term → Term = λ x. put k n c.args.scope.now x in
+    let q = c.args.quantified.quantifier in
+    let o = joining q in
+    let body = tree.term_of c.args.quantified.body.now in
+    let xs = c.args.copies.tuples.now in
+    let f : List Term → Term = λ ks. put_in (spec_in k) (forms_in k n) (standing (map variable_of c.args.copies.variables.now) (terms_of ks) (scope_of (spec_in k) (forms_in k) c.args.scope.now)) body in
+    let whole = copied_term k n c.args.scope.now q c.args.copies body in
+    let i = c.loop-values.values-index in
+    let v = c.values-item.result in
+    let x = f (tuple_of v) in
+    let rest = joined q (drop i (map f (map tuple_of xs))) in
+    let rest' = joined q (drop (i + 1) (map f (map tuple_of xs))) in
+    let split : rest ≡ Term.Binary (of_connective o) x rest' = joined-next q tuple_of f xs i v c.loop-values-test.true c.values-item.is in
+    let e = c.in_err-unfolded.field-0.0 in
+    let inner = c.in_ok-behind_one.field-0 in
+    err-kept c.from_residual-in_err-unfolded.result e _ (IsRefusal room whole) c.from_residual-in_err-unfolded.ensures.1
+    (left-refused (folding_in k) o b room whole rest x rest' (operands_of c.loop-values.before.items) c.loop-values.room inner e c.in_ok-behind_one.ensures split c.loop-values.invariant
+    (subst (λ (z : Term). IsRefusal inner z e) (ap (λ ws. f (map written_term ws)) c.deref.ensures.value) c.in_err-unfolded.ensures))
+
+pub connectives::unfold_quantified-returns-then-is_empty : goal.connectives::unfold_quantified-returns-then-is_empty
+connectives::unfold_quantified-returns-then-is_empty t c =
+    let k = c.args.context.now in
+    let n = c.args.level.definitions in
+    let b = c.args.level.truth in
+    let room = c.args.level.room in
+    let p : Term → Term = λ x. put k n c.args.scope.now x in
+    let q = c.args.quantified.quantifier in
+    let body = tree.term_of c.args.quantified.body.now in
+    let ρ = scope_of (spec_in k) (forms_in k) c.args.scope.now in
+    let f : List Variable → List Term → Term = λ vs ks. put_in (spec_in k) (forms_in k n) (standing vs (terms_of ks) ρ) body in
+    let vs = erased_variables (variable_forms c.args.quantified.variables.now) in
+    let tuples : map tuple_of c.in_ok-tuples.tuples.items ≡ written_tuples (spec_in k) vs =
+    c.in_ok-tuples.ensures ∙ ap (λ S. written_tuples S (map variable_of c.deref.result.now)) c.sorts.ensures
+    ∙ ap (λ ws. written_tuples (spec_in k) (map variable_of ws)) c.deref.ensures.value ∙ ap (written_tuples (spec_in k)) c.in_ok-variables.ensures in
+    let said : joined q (map (f vs) (map tuple_of c.in_ok-tuples.tuples.items)) ≡ p (Term.Quantified q vs body) =
+    ap (λ ts. joined q (map (f vs) ts)) tuples ∙ ap (joined q) (sym (copies-of-tuples (spec_in k) vs (λ σ. put_in (spec_in k) (forms_in k n) σ body) ρ)) in
+    let v = c.in_ok-tuples.tuples in
+    let counted : vec_len v ≡ length v.items = omega (arith, v.ok.0) in
+    let none : v.items ≡ [] = none-of v.items (vec_len v) counted (sym c.is_empty.ensures ∙ c.if-is_empty.true) in
+    subst (λ (z : Term). IsUnfolded (folding_in k) b room z c.said_of_none.result)
+    (sym (joined-none q) ∙ ap (λ ts. joined q (map (f vs) (map tuple_of ts))) (sym none) ∙ said) (c.said_of_none.ensures (folding_in k) b)
+
+pub connectives::unfold_quantified-returns : goal.connectives::unfold_quantified-returns
+connectives::unfold_quantified-returns t c =
+    let k = c.args.context.now in
+    let n = c.args.level.definitions in
+    let b = c.args.level.truth in
+    let room = c.args.level.room in
+    let p : Term → Term = λ x. put k n c.args.scope.now x in
+    let q = c.args.quantified.quantifier in
+    let body = tree.term_of c.args.quantified.body.now in
+    let ρ = scope_of (spec_in k) (forms_in k) c.args.scope.now in
+    let f : List Variable → List Term → Term = λ vs ks. put_in (spec_in k) (forms_in k n) (standing vs (terms_of ks) ρ) body in
+    let vs = erased_variables (variable_forms c.args.quantified.variables.now) in
+    let tuples : map tuple_of c.in_ok-tuples.tuples.items ≡ written_tuples (spec_in k) vs =
+    c.in_ok-tuples.ensures ∙ ap (λ S. written_tuples S (map variable_of c.deref.result.now)) c.sorts.ensures
+    ∙ ap (λ ws. written_tuples (spec_in k) (map variable_of ws)) c.deref.ensures.value ∙ ap (written_tuples (spec_in k)) c.in_ok-variables.ensures in
+    let said : joined q (map (f vs) (map tuple_of c.in_ok-tuples.tuples.items)) ≡ p (Term.Quantified q vs body) =
+    ap (λ ts. joined q (map (f vs) ts)) tuples ∙ ap (joined q) (sym (copies-of-tuples (spec_in k) vs (λ σ. put_in (spec_in k) (forms_in k n) σ body) ρ)) in
+    let copied : copied_term k n c.args.scope.now q (record { variables = c.deref-2.result; tuples = c.deref-3.result }) body ≡ p (Term.Quantified q vs body) =
+    ap (λ ws. joined q (map (f (map variable_of ws)) (map tuple_of c.deref-3.result.now))) c.deref-2.ensures.value
+    ∙ ap (λ zs. joined q (map (f zs) (map tuple_of c.deref-3.result.now))) c.in_ok-variables.ensures
+    ∙ ap (λ ts. joined q (map (f vs) (map tuple_of ts))) c.deref-3.ensures.value ∙ said in
+    subst (λ (z : Term). IsUnfolded (folding_in k) b room z c.in_ok-joined_operands.field-0) copied
+    (c.in_ok-joined_operands.ensures (folding_in k) room (copied_term k n c.args.scope.now q (record { variables = c.deref-2.result; tuples = c.deref-3.result }) body)
+    (subst (λ (d : Connective). AreOperands (folding_in k) d b room (copied_term k n c.args.scope.now q (record { variables = c.deref-2.result; tuples = c.deref-3.result }) body) c.in_ok-operands.operands) (sym c.joining.ensures) c.in_ok-operands.ensures))
+
+pub connectives::unfold_quantified-returns-in_err-operands : goal.connectives::unfold_quantified-returns-in_err-operands
+connectives::unfold_quantified-returns-in_err-operands t c =
+    let k = c.args.context.now in
+    let n = c.args.level.definitions in
+    let b = c.args.level.truth in
+    let room = c.args.level.room in
+    let p : Term → Term = λ x. put k n c.args.scope.now x in
+    let q = c.args.quantified.quantifier in
+    let body = tree.term_of c.args.quantified.body.now in
+    let ρ = scope_of (spec_in k) (forms_in k) c.args.scope.now in
+    let f : List Variable → List Term → Term = λ vs ks. put_in (spec_in k) (forms_in k n) (standing vs (terms_of ks) ρ) body in
+    let vs = erased_variables (variable_forms c.args.quantified.variables.now) in
+    let tuples : map tuple_of c.in_ok-tuples.tuples.items ≡ written_tuples (spec_in k) vs =
+    c.in_ok-tuples.ensures ∙ ap (λ S. written_tuples S (map variable_of c.deref.result.now)) c.sorts.ensures
+    ∙ ap (λ ws. written_tuples (spec_in k) (map variable_of ws)) c.deref.ensures.value ∙ ap (written_tuples (spec_in k)) c.in_ok-variables.ensures in
+    let said : joined q (map (f vs) (map tuple_of c.in_ok-tuples.tuples.items)) ≡ p (Term.Quantified q vs body) =
+    ap (λ ts. joined q (map (f vs) ts)) tuples ∙ ap (joined q) (sym (copies-of-tuples (spec_in k) vs (λ σ. put_in (spec_in k) (forms_in k n) σ body) ρ)) in
+    let copied : copied_term k n c.args.scope.now q (record { variables = c.deref-2.result; tuples = c.deref-3.result }) body ≡ p (Term.Quantified q vs body) =
+    ap (λ ws. joined q (map (f (map variable_of ws)) (map tuple_of c.deref-3.result.now))) c.deref-2.ensures.value
+    ∙ ap (λ zs. joined q (map (f zs) (map tuple_of c.deref-3.result.now))) c.in_ok-variables.ensures
+    ∙ ap (λ ts. joined q (map (f vs) (map tuple_of ts))) c.deref-3.ensures.value ∙ said in
+    let e = c.in_err-operands.field-0.0 in
+    err-kept c.from_residual-in_err-operands.result e _ (IsRefusal room (p (Term.Quantified q vs body))) c.from_residual-in_err-operands.ensures.1
+    (subst (λ (z : Term). IsRefusal room z e) copied c.in_err-operands.ensures)
+
+pub applications::unfold_application-returns-in_ok-name-in-Variable : goal.applications::unfold_application-returns-in_ok-name-in-Variable
+applications::unfold_application-returns-in_ok-name-in-Variable t c =
+    let k = c.args.context.now in
+    let n = c.args.level.definitions in
+    let f : Name = string_bytes c.args.function.now.text in
+    let given = c.args.arguments.now in
+    let ts : Terms = puts k n c.args.scope.now (tree.terms_of given) in
+    let y = c.in-Variable.variable.now in
+    let some : 0 < length given = grind (arith, nat_tests) in
+    let e : Some (read (spec_in k) (string_bytes c.in_ok-name-in-Variable.name.text) (map variable_of c.deref-in-Variable.result.now) ts) ≡ given_arguments (forms_in k n) f ts =
+    ap (λ x. Some (read (spec_in k) x (map variable_of c.deref-in-Variable.result.now) ts)) c.in_ok-name-in-Variable.ensures
+    ∙ ap (λ vs. Some (read (spec_in k) (string_bytes y.name.now.text) (map variable_of vs) ts)) c.deref-in-Variable.ensures.value
+    ∙ sym (c.in-Variable.ensures ts (arguments-counted (spec_in k) (forms_in k n) (scope_of (spec_in k) (forms_in k) c.args.scope.now) given))
+    ∙ ap (λ (x : Name). forms_in k n x ts) c.as_str.ensures.value
+    ∙ given-there (spec_in k) (forms_in k n) (scope_of (spec_in k) (forms_in k) c.args.scope.now) f given some in
+    subst (λ (o : Option Term). Unfolds (folding_in k) c.args.level.truth c.args.level.room (applied_term o f ts) c.unfold_read.result) e (c.unfold_read.ensures c.args.level.truth)
+
+pub applications::unfold_application-returns-in-Neither : goal.applications::unfold_application-returns-in-Neither
+applications::unfold_application-returns-in-Neither t c =
+    let k = c.args.context.now in
+    let n = c.args.level.definitions in
+    let f : Name = string_bytes c.args.function.now.text in
+    let given = c.args.arguments.now in
+    let ts : Terms = puts k n c.args.scope.now (tree.terms_of given) in
+    let some : 0 < length given = grind (arith, nat_tests) in
+    let e : None ≡ given_arguments (forms_in k n) f ts =
+    sym (c.in-Neither.ensures ts (arguments-counted (spec_in k) (forms_in k n) (scope_of (spec_in k) (forms_in k) c.args.scope.now) given))
+    ∙ ap (λ (x : Name). forms_in k n x ts) c.as_str.ensures.value
+    ∙ given-there (spec_in k) (forms_in k n) (scope_of (spec_in k) (forms_in k) c.args.scope.now) f given some in
+    subst (λ (o : Option Term). Unfolds (folding_in k) c.args.level.truth c.args.level.room (applied_term o f ts) c.unfold_function-in-Neither.result) e c.unfold_function-in-Neither.ensures
+
+pub applications::unfold_arguments-returns-in_default : goal.applications::unfold_arguments-returns-in_default
+applications::unfold_arguments-returns-in_default t c =
+    let k = c.args.context.now in
+    let n = c.args.level.definitions in
+    let room = c.args.level.room in
+    let ρ = scope_of (spec_in k) (forms_in k) c.args.scope.now in
+    let given = c.args.arguments.now in
+    let whole : Terms = puts k n c.args.scope.now (tree.terms_of given) in
+    subst (λ (ts : Terms). AreArguments (folding_in k) c.args.level.truth room ts c.no_arguments.result)
+    (arguments-none (spec_in k) (forms_in k n) ρ given c.in_default.ensures.value) (c.no_arguments.ensures (folding_in k) c.args.level.truth)
+
+pub applications::unfold_arguments-returns-in_err-first : goal.applications::unfold_arguments-returns-in_err-first
+applications::unfold_arguments-returns-in_err-first t c =
+    let k = c.args.context.now in
+    let n = c.args.level.definitions in
+    let room = c.args.level.room in
+    let ρ = scope_of (spec_in k) (forms_in k) c.args.scope.now in
+    let given = c.args.arguments.now in
+    let whole : Terms = puts k n c.args.scope.now (tree.terms_of given) in
+    let a = c.in-Some.argument.now in
+    let x = put k n c.args.scope.now (tree.term_of a.term) in
+    let xs : Terms = puts k n c.args.scope.now (tree.terms_of (drop 1 given)) in
+    let same : Terms.Then x xs ≡ whole = arguments-first (spec_in k) (forms_in k n) ρ given a c.in-Some.ensures.value in
+    let e = c.in_err-first.field-0.0 in
+    err-kept c.from_residual.result e _ (IsRefusalOfAll room whole) c.from_residual.ensures.1 (first-refused room x xs whole e same c.in_err-first.ensures)
+
+pub applications::unfold_arguments-returns-in_err-others : goal.applications::unfold_arguments-returns-in_err-others
+applications::unfold_arguments-returns-in_err-others t c =
+    let k = c.args.context.now in
+    let n = c.args.level.definitions in
+    let room = c.args.level.room in
+    let ρ = scope_of (spec_in k) (forms_in k) c.args.scope.now in
+    let given = c.args.arguments.now in
+    let whole : Terms = puts k n c.args.scope.now (tree.terms_of given) in
+    let a = c.in-Some.argument.now in
+    let x = put k n c.args.scope.now (tree.term_of a.term) in
+    let xs : Terms = puts k n c.args.scope.now (tree.terms_of (drop 1 given)) in
+    let same : Terms.Then x xs ≡ whole = arguments-first (spec_in k) (forms_in k n) ρ given a c.in-Some.ensures.value in
+    let e = c.in_err-others.field-0.0 in
+    err-kept c.from_residual-in_err-others.result e _ (IsRefusalOfAll room whole) c.from_residual-in_err-others.ensures.1
+    (others-refused room c.in_ok-first.first.room x xs whole e same c.in_ok-first.ensures.room
+    (subst (λ (rest-args : List Argument). IsRefusalOfAll c.in_ok-first.first.room (puts k n c.args.scope.now (tree.terms_of rest-args)) e) (behind-first given) c.in_err-others.ensures))
+
+pub applications::unfold_arguments-returns : goal.applications::unfold_arguments-returns
+applications::unfold_arguments-returns t c =
+    let k = c.args.context.now in
+    let n = c.args.level.definitions in
+    let room = c.args.level.room in
+    let ρ = scope_of (spec_in k) (forms_in k) c.args.scope.now in
+    let given = c.args.arguments.now in
+    let whole : Terms = puts k n c.args.scope.now (tree.terms_of given) in
+    let a = c.in-Some.argument.now in
+    let x = put k n c.args.scope.now (tree.term_of a.term) in
+    let xs : Terms = puts k n c.args.scope.now (tree.terms_of (drop 1 given)) in
+    let same : Terms.Then x xs ≡ whole = arguments-first (spec_in k) (forms_in k n) ρ given a c.in-Some.ensures.value in
+    let back = sym c.folding.ensures in
+    let b = c.args.level.truth in
+    let u = c.in_ok-first.first in
+    subst (λ (ts : Terms). AreArguments (folding_in k) b room ts c.in_ok-with_argument.field-0) same
+    (subst (λ (ds : List SortDeclaration). AreArguments (tree.spec_of ds) b room (Terms.Then x xs) c.in_ok-with_argument.field-0) c.folding.ensures
+    (c.in_ok-with_argument.ensures x xs room b
+    (subst (λ (ds : List SortDeclaration). IsUnfolded (tree.spec_of ds) b room x u) back c.in_ok-first.ensures)
+    (subst (λ (ds : List SortDeclaration). AreArguments (tree.spec_of ds) false u.room xs c.in_ok-others.others) back
+    (subst (λ (rest-args : List Argument). AreArguments (folding_in k) false u.room (puts k n c.args.scope.now (tree.terms_of rest-args)) c.in_ok-others.others) (behind-first given) c.in_ok-others.ensures))))
+
+pub applications::unfold_arithmetic-returns-in_err-behind_one : goal.applications::unfold_arithmetic-returns-in_err-behind_one
+applications::unfold_arithmetic-returns-in_err-behind_one t c =
+    let k = c.args.context.now in
+    let n = c.args.level.definitions in
+    let b = c.args.level.truth in
+    let room = c.args.level.room in
+    let p : Term → Term = λ x. put k n c.args.scope.now x in
+    let ls = c.args.links.now in
+    let l = c.in-Some.link.now in
+    let o = of_arithmetic l.operator in
+    let before = take (length ls - 1) ls in
+    let x0 = tree.term_of c.args.first.now in
+    let x = p (calculated_term x0 before) in
+    let y = p (tree.term_of l.operand) in
+    let whole = p (calculated_term x0 ls) in
+    let same : Term.Binary o x y ≡ whole = ap p (sym (calculated-last x0 before l) ∙ ap (calculated_term x0) (without-last ls l c.in-Some.ensures.value)) in
+    let e = c.in_err-behind_one.field-0.0 in
+    err-kept c.from_residual.result e _ (IsRefusal room whole) c.from_residual.ensures.1
+    (subst (λ (z : Term). IsRefusal room z e) same (no-room room (Term.Binary o x y) e l.place c.in_err-behind_one.ensures.0 (omega (arith, c.in_err-behind_one.ensures.1))))
+
+pub applications::unfold_arithmetic-returns-in_err-left : goal.applications::unfold_arithmetic-returns-in_err-left
+applications::unfold_arithmetic-returns-in_err-left t c =
+    let k = c.args.context.now in
+    let n = c.args.level.definitions in
+    let b = c.args.level.truth in
+    let room = c.args.level.room in
+    let p : Term → Term = λ x. put k n c.args.scope.now x in
+    let ls = c.args.links.now in
+    let l = c.in-Some.link.now in
+    let o = of_arithmetic l.operator in
+    let before = take (length ls - 1) ls in
+    let x0 = tree.term_of c.args.first.now in
+    let x = p (calculated_term x0 before) in
+    let y = p (tree.term_of l.operand) in
+    let whole = p (calculated_term x0 ls) in
+    let same : Term.Binary o x y ≡ whole = ap p (sym (calculated-last x0 before l) ∙ ap (calculated_term x0) (without-last ls l c.in-Some.ensures.value)) in
+    let e = c.in_err-left.field-0.0 in
+    err-kept c.from_residual-in_err-left.result e _ (IsRefusal room whole) c.from_residual-in_err-left.ensures.1
+    (subst (λ (z : Term). IsRefusal room z e) same (refusal-weaker room c.in_ok-behind_one.field-0 x (Term.Binary o x y) e (λ h. omega (arith, c.in_ok-behind_one.ensures, h)) c.in_err-left.ensures))
+
+pub applications::unfold_arithmetic-returns-in_err-right : goal.applications::unfold_arithmetic-returns-in_err-right
+applications::unfold_arithmetic-returns-in_err-right t c =
+    let k = c.args.context.now in
+    let n = c.args.level.definitions in
+    let b = c.args.level.truth in
+    let room = c.args.level.room in
+    let p : Term → Term = λ x. put k n c.args.scope.now x in
+    let ls = c.args.links.now in
+    let l = c.in-Some.link.now in
+    let o = of_arithmetic l.operator in
+    let before = take (length ls - 1) ls in
+    let x0 = tree.term_of c.args.first.now in
+    let x = p (calculated_term x0 before) in
+    let y = p (tree.term_of l.operand) in
+    let whole = p (calculated_term x0 ls) in
+    let same : Term.Binary o x y ≡ whole = ap p (sym (calculated-last x0 before l) ∙ ap (calculated_term x0) (without-last ls l c.in-Some.ensures.value)) in
+    let e = c.in_err-right.field-0.0 in
+    err-kept c.from_residual-in_err-right.result e _ (IsRefusal room whole) c.from_residual-in_err-right.ensures.1
+    (refusal-behind room c.in_ok-behind_one.field-0 c.in_ok-left.left.room o x y whole e c.in_ok-behind_one.ensures c.in_ok-left.ensures.room same c.in_err-right.ensures)
+
+pub applications::unfold_arithmetic-returns : goal.applications::unfold_arithmetic-returns
+applications::unfold_arithmetic-returns t c =
+    let k = c.args.context.now in
+    let n = c.args.level.definitions in
+    let b = c.args.level.truth in
+    let room = c.args.level.room in
+    let p : Term → Term = λ x. put k n c.args.scope.now x in
+    let ls = c.args.links.now in
+    let l = c.in-Some.link.now in
+    let o = of_arithmetic l.operator in
+    let before = take (length ls - 1) ls in
+    let x0 = tree.term_of c.args.first.now in
+    let x = p (calculated_term x0 before) in
+    let y = p (tree.term_of l.operand) in
+    let whole = p (calculated_term x0 ls) in
+    let same : Term.Binary o x y ≡ whole = ap p (sym (calculated-last x0 before l) ∙ ap (calculated_term x0) (without-last ls l c.in-Some.ensures.value)) in
+    let back = sym c.folding.ensures in
+    let inner = c.in_ok-behind_one.field-0 in
+    let u = c.in_ok-left.left in
+    carried b c.in_ok-calculation.field-0 c.folding.result.sorts.now k.declarations.now (suc inner) room (Term.Binary o x y) whole c.folding.ensures (sym c.in_ok-behind_one.ensures) same
+    (c.in_ok-calculation.ensures x y inner b
+    (subst (λ (ds : List SortDeclaration). IsUnfolded (tree.spec_of ds) false inner x u) back c.in_ok-left.ensures)
+    (subst (λ (ds : List SortDeclaration). IsUnfolded (tree.spec_of ds) false u.room y c.in_ok-right.right) back c.in_ok-right.ensures))
+
+pub applications::unfold_function-returns : goal.applications::unfold_function-returns
+applications::unfold_function-returns t c =
+    let k = c.args.context.now in
+    let n = c.args.level.definitions in
+    let b = c.args.level.truth in
+    let room = c.args.level.room in
+    let p : Term → Term = λ x. put k n c.args.scope.now x in
+    let f : Name = string_bytes c.args.function.now.text in
+    let xs : Terms = puts k n c.args.scope.now (tree.terms_of c.args.arguments.now) in
+    let inner = c.in_ok-room.room in
+    let back = sym c.folding.ensures in
+    let truth : c.is_choice-truth.result ≡ is_if (named_function f) = c.is_choice-truth.ensures ∙ ap (λ (g : Name). is_if (named_function g)) c.as_str.ensures.value in
+    carried b c.in_ok-function_term.field-0 c.folding.result.sorts.now k.declarations.now (suc inner) room (Term.Apply f xs) (Term.Apply f xs) c.folding.ensures (sym c.in_ok-room.ensures) refl
+    (c.in_ok-function_term.ensures xs inner b
+    (subst (λ (ds : List SortDeclaration). AreArguments (tree.spec_of ds) (is_if (named_function f)) inner xs c.in_ok-unfolded.unfolded) back
+    (subst (λ (t : Bool). AreArguments (folding_in k) t inner xs c.in_ok-unfolded.unfolded) truth c.in_ok-unfolded.ensures)))
+
+pub applications::unfold_choice-returns-in-Some-true : goal.applications::unfold_choice-returns-in-Some-true
+applications::unfold_choice-returns-in-Some-true t c =
+    let k = c.args.context.now in
+    let n = c.args.level.definitions in
+    let b = c.args.level.truth in
+    let room = c.args.level.room in
+    let p : Term → Term = λ x. put k n c.args.scope.now x in
+    let f : Name = string_bytes c.args.function.now.text in
+    let given = c.args.arguments.now in
+    let ρ = scope_of (spec_in k) (forms_in k) c.args.scope.now in
+    let a0 = get_or given 0 c.index-arguments-0.result in
+    let is0 : a0 ≡ get_or given 0 a0 = ap (λ (r : Argument). get_or given 0 r) c.index-arguments-0.is in
+    let x0 = p (tree.term_of a0.term) in
+    let whole = Term.Apply f (puts k n c.args.scope.now (tree.terms_of given)) in
+    let inner = c.in_ok-room.room in
+    let m = c.in_ok-condition.condition.room in
+    let within : room ≤ m + suc (operator_count x0) = omega (arith, c.in_ok-room.ensures, c.in_ok-condition.ensures.room) in
+    let a1 = get_or given 1 c.index-arguments-1.result in
+    let is1 : a1 ≡ get_or given 1 a1 = ap (λ (r : Argument). get_or given 1 r) c.index-arguments-1.is in
+    let x1 = p (tree.term_of a1.term) in
+    let x2 = p (tree.term_of (get_or given 2 a0).term) in
+    let same : choice_of f x0 x1 x2 ≡ whole = first-and-second (spec_in k) (forms_in k n) ρ f given a0 a1 c.requires.arguments is0 is1 in
+    subst (λ (z : Term). IsUnfolded (folding_in k) b room z c.chosen.result) same
+    (c.chosen.ensures (folding_in k) f x0 x1 x2 m room true b c.requires.choice (sym c.in_ok-condition.ensures.term ∙ truth-said c.in_ok-condition.condition.term true (ap Some (sym c.in-Some-true.field-0-test) ∙ c.in-Some-true.ensures))
+    c.in_ok-unfold-in-Some-true.ensures within)
+
+pub applications::unfold_choice-returns-in_err-unfold-in-Some-true : goal.applications::unfold_choice-returns-in_err-unfold-in-Some-true
+applications::unfold_choice-returns-in_err-unfold-in-Some-true t c =
+    let k = c.args.context.now in
+    let n = c.args.level.definitions in
+    let b = c.args.level.truth in
+    let room = c.args.level.room in
+    let p : Term → Term = λ x. put k n c.args.scope.now x in
+    let f : Name = string_bytes c.args.function.now.text in
+    let given = c.args.arguments.now in
+    let ρ = scope_of (spec_in k) (forms_in k) c.args.scope.now in
+    let a0 = get_or given 0 c.index-arguments-0.result in
+    let is0 : a0 ≡ get_or given 0 a0 = ap (λ (r : Argument). get_or given 0 r) c.index-arguments-0.is in
+    let x0 = p (tree.term_of a0.term) in
+    let whole = Term.Apply f (puts k n c.args.scope.now (tree.terms_of given)) in
+    let inner = c.in_ok-room.room in
+    let m = c.in_ok-condition.condition.room in
+    let within : room ≤ m + suc (operator_count x0) = omega (arith, c.in_ok-room.ensures, c.in_ok-condition.ensures.room) in
+    let a1 = get_or given 1 c.index-arguments-1.result in
+    let is1 : a1 ≡ get_or given 1 a1 = ap (λ (r : Argument). get_or given 1 r) c.index-arguments-1.is in
+    let x1 = p (tree.term_of a1.term) in
+    let x2 = p (tree.term_of (get_or given 2 a0).term) in
+    let same : choice_of f x0 x1 x2 ≡ whole = first-and-second (spec_in k) (forms_in k n) ρ f given a0 a1 c.requires.arguments is0 is1 in
+    let e = c.in_err-unfold-in-Some-true.field-0.0 in
+    err-kept c.from_residual-in_err-unfold-in-Some-true.result e _ (IsRefusal room whole) c.from_residual-in_err-unfold-in-Some-true.ensures.1
+    (subst (λ (z : Term). IsRefusal room z e) same (chosen-refused room m f x0 x1 x2 true e within c.in_err-unfold-in-Some-true.ensures))
+
+pub applications::unfold_choice-returns-in-Some-false : goal.applications::unfold_choice-returns-in-Some-false
+applications::unfold_choice-returns-in-Some-false t c =
+    let k = c.args.context.now in
+    let n = c.args.level.definitions in
+    let b = c.args.level.truth in
+    let room = c.args.level.room in
+    let p : Term → Term = λ x. put k n c.args.scope.now x in
+    let f : Name = string_bytes c.args.function.now.text in
+    let given = c.args.arguments.now in
+    let ρ = scope_of (spec_in k) (forms_in k) c.args.scope.now in
+    let a0 = get_or given 0 c.index-arguments-0.result in
+    let is0 : a0 ≡ get_or given 0 a0 = ap (λ (r : Argument). get_or given 0 r) c.index-arguments-0.is in
+    let x0 = p (tree.term_of a0.term) in
+    let whole = Term.Apply f (puts k n c.args.scope.now (tree.terms_of given)) in
+    let inner = c.in_ok-room.room in
+    let m = c.in_ok-condition.condition.room in
+    let within : room ≤ m + suc (operator_count x0) = omega (arith, c.in_ok-room.ensures, c.in_ok-condition.ensures.room) in
+    let a2 = get_or given 2 c.index-arguments-2.result in
+    let is2 : a2 ≡ get_or given 2 a2 = ap (λ (r : Argument). get_or given 2 r) c.index-arguments-2.is in
+    let x1 = p (tree.term_of (get_or given 1 a0).term) in
+    let x2 = p (tree.term_of a2.term) in
+    let same : choice_of f x0 x1 x2 ≡ whole = first-and-third (spec_in k) (forms_in k n) ρ f given a0 a2 c.requires.arguments is0 is2 in
+    subst (λ (z : Term). IsUnfolded (folding_in k) b room z c.chosen-in-Some-false.result) same
+    (c.chosen-in-Some-false.ensures (folding_in k) f x0 x1 x2 m room false b c.requires.choice (sym c.in_ok-condition.ensures.term ∙ truth-said c.in_ok-condition.condition.term false (ap Some (sym c.in-Some-false.field-0-test) ∙ c.in-Some-false.ensures))
+    c.in_ok-unfold-in-Some-false.ensures within)
+
+pub applications::unfold_choice-returns-in_err-unfold-in-Some-false : goal.applications::unfold_choice-returns-in_err-unfold-in-Some-false
+applications::unfold_choice-returns-in_err-unfold-in-Some-false t c =
+    let k = c.args.context.now in
+    let n = c.args.level.definitions in
+    let b = c.args.level.truth in
+    let room = c.args.level.room in
+    let p : Term → Term = λ x. put k n c.args.scope.now x in
+    let f : Name = string_bytes c.args.function.now.text in
+    let given = c.args.arguments.now in
+    let ρ = scope_of (spec_in k) (forms_in k) c.args.scope.now in
+    let a0 = get_or given 0 c.index-arguments-0.result in
+    let is0 : a0 ≡ get_or given 0 a0 = ap (λ (r : Argument). get_or given 0 r) c.index-arguments-0.is in
+    let x0 = p (tree.term_of a0.term) in
+    let whole = Term.Apply f (puts k n c.args.scope.now (tree.terms_of given)) in
+    let inner = c.in_ok-room.room in
+    let m = c.in_ok-condition.condition.room in
+    let within : room ≤ m + suc (operator_count x0) = omega (arith, c.in_ok-room.ensures, c.in_ok-condition.ensures.room) in
+    let a2 = get_or given 2 c.index-arguments-2.result in
+    let is2 : a2 ≡ get_or given 2 a2 = ap (λ (r : Argument). get_or given 2 r) c.index-arguments-2.is in
+    let x1 = p (tree.term_of (get_or given 1 a0).term) in
+    let x2 = p (tree.term_of a2.term) in
+    let same : choice_of f x0 x1 x2 ≡ whole = first-and-third (spec_in k) (forms_in k n) ρ f given a0 a2 c.requires.arguments is0 is2 in
+    let e = c.in_err-unfold-in-Some-false.field-0.0 in
+    err-kept c.from_residual-in_err-unfold-in-Some-false.result e _ (IsRefusal room whole) c.from_residual-in_err-unfold-in-Some-false.ensures.1
+    (subst (λ (z : Term). IsRefusal room z e) same (chosen-refused room m f x0 x1 x2 false e within c.in_err-unfold-in-Some-false.ensures))
+
+pub applications::unfold_choice-returns-in_err-left-in-None : goal.applications::unfold_choice-returns-in_err-left-in-None
+applications::unfold_choice-returns-in_err-left-in-None t c =
+    let k = c.args.context.now in
+    let n = c.args.level.definitions in
+    let b = c.args.level.truth in
+    let room = c.args.level.room in
+    let p : Term → Term = λ x. put k n c.args.scope.now x in
+    let f : Name = string_bytes c.args.function.now.text in
+    let given = c.args.arguments.now in
+    let ρ = scope_of (spec_in k) (forms_in k) c.args.scope.now in
+    let a0 = get_or given 0 c.index-arguments-0.result in
+    let is0 : a0 ≡ get_or given 0 a0 = ap (λ (r : Argument). get_or given 0 r) c.index-arguments-0.is in
+    let x0 = p (tree.term_of a0.term) in
+    let whole = Term.Apply f (puts k n c.args.scope.now (tree.terms_of given)) in
+    let inner = c.in_ok-room.room in
+    let m = c.in_ok-condition.condition.room in
+    let within : room ≤ m + suc (operator_count x0) = omega (arith, c.in_ok-room.ensures, c.in_ok-condition.ensures.room) in
+    let a1 = get_or given 1 c.index-arguments-1-in-None.result in
+    let is1 : a1 ≡ get_or given 1 a1 = ap (λ (r : Argument). get_or given 1 r) c.index-arguments-1-in-None.is in
+    let x1 = p (tree.term_of a1.term) in
+    let x2 = p (tree.term_of (get_or given 2 a0).term) in
+    let same : choice_of f x0 x1 x2 ≡ whole = first-and-second (spec_in k) (forms_in k n) ρ f given a0 a1 c.requires.arguments is0 is1 in
+    let e = c.in_err-left-in-None.field-0.0 in
+    err-kept c.from_residual-in_err-left-in-None.result e _ (IsRefusal room whole) c.from_residual-in_err-left-in-None.ensures.1
+    (subst (λ (z : Term). IsRefusal room z e) same (chosen-refused room m f x0 x1 x2 true e within c.in_err-left-in-None.ensures))
+
+pub applications::unfold_choice-returns-in_err-right-in-None : goal.applications::unfold_choice-returns-in_err-right-in-None
+applications::unfold_choice-returns-in_err-right-in-None t c =
+    let k = c.args.context.now in
+    let n = c.args.level.definitions in
+    let b = c.args.level.truth in
+    let room = c.args.level.room in
+    let p : Term → Term = λ x. put k n c.args.scope.now x in
+    let f : Name = string_bytes c.args.function.now.text in
+    let given = c.args.arguments.now in
+    let ρ = scope_of (spec_in k) (forms_in k) c.args.scope.now in
+    let a0 = get_or given 0 c.index-arguments-0.result in
+    let is0 : a0 ≡ get_or given 0 a0 = ap (λ (r : Argument). get_or given 0 r) c.index-arguments-0.is in
+    let x0 = p (tree.term_of a0.term) in
+    let whole = Term.Apply f (puts k n c.args.scope.now (tree.terms_of given)) in
+    let inner = c.in_ok-room.room in
+    let m = c.in_ok-condition.condition.room in
+    let within : room ≤ m + suc (operator_count x0) = omega (arith, c.in_ok-room.ensures, c.in_ok-condition.ensures.room) in
+    let a1 = get_or given 1 c.index-arguments-1-in-None.result in
+    let a2 = get_or given 2 c.index-arguments-2-in-None.result in
+    let is1 : a1 ≡ get_or given 1 a1 = ap (λ (r : Argument). get_or given 1 r) c.index-arguments-1-in-None.is in
+    let is2 : a2 ≡ get_or given 2 a2 = ap (λ (r : Argument). get_or given 2 r) c.index-arguments-2-in-None.is in
+    let x1 = p (tree.term_of a1.term) in
+    let x2 = p (tree.term_of a2.term) in
+    let same : choice_of f x0 x1 x2 ≡ whole = arguments-three (spec_in k) (forms_in k n) ρ f given a0 a1 a2 c.requires.arguments is0 is1 is2 in
+    let e = c.in_err-right-in-None.field-0.0 in
+    err-kept c.from_residual-in_err-right-in-None.result e _ (IsRefusal room whole) c.from_residual-in_err-right-in-None.ensures.1
+    (subst (λ (z : Term). IsRefusal room z e) same (right-refused room m c.in_ok-left-in-None.left.room f x0 x1 x2 e within c.in_ok-left-in-None.ensures.room c.in_err-right-in-None.ensures))
+
+pub applications::unfold_choice-returns : goal.applications::unfold_choice-returns
+applications::unfold_choice-returns t c =
+    let k = c.args.context.now in
+    let n = c.args.level.definitions in
+    let b = c.args.level.truth in
+    let room = c.args.level.room in
+    let p : Term → Term = λ x. put k n c.args.scope.now x in
+    let f : Name = string_bytes c.args.function.now.text in
+    let given = c.args.arguments.now in
+    let ρ = scope_of (spec_in k) (forms_in k) c.args.scope.now in
+    let a0 = get_or given 0 c.index-arguments-0.result in
+    let is0 : a0 ≡ get_or given 0 a0 = ap (λ (r : Argument). get_or given 0 r) c.index-arguments-0.is in
+    let x0 = p (tree.term_of a0.term) in
+    let whole = Term.Apply f (puts k n c.args.scope.now (tree.terms_of given)) in
+    let inner = c.in_ok-room.room in
+    let m = c.in_ok-condition.condition.room in
+    let within : room ≤ m + suc (operator_count x0) = omega (arith, c.in_ok-room.ensures, c.in_ok-condition.ensures.room) in
+    let a1 = get_or given 1 c.index-arguments-1-in-None.result in
+    let a2 = get_or given 2 c.index-arguments-2-in-None.result in
+    let is1 : a1 ≡ get_or given 1 a1 = ap (λ (r : Argument). get_or given 1 r) c.index-arguments-1-in-None.is in
+    let is2 : a2 ≡ get_or given 2 a2 = ap (λ (r : Argument). get_or given 2 r) c.index-arguments-2-in-None.is in
+    let x1 = p (tree.term_of a1.term) in
+    let x2 = p (tree.term_of a2.term) in
+    let same : choice_of f x0 x1 x2 ≡ whole = arguments-three (spec_in k) (forms_in k n) ρ f given a0 a1 a2 c.requires.arguments is0 is1 is2 in
+    let back = sym c.folding.ensures in
+    let u = c.in_ok-left-in-None.left in
+    carried b c.in_ok-choice-in-None.field-0 c.folding.result.sorts.now k.declarations.now room room (choice_of (string_bytes c.in_ok-name-in-None.name.text) x0 x1 x2) whole c.folding.ensures refl
+    (ap (λ (r : Named). choice_of r.text x0 x1 x2) c.in_ok-name-in-None.ensures ∙ same)
+    (c.in_ok-choice-in-None.ensures m room x0 x1 x2 b
+    (c.in_ok-condition.ensures.term ∙ ap (λ ds. folded (tree.spec_of ds) true x0) back)
+    (subst (λ (ds : List SortDeclaration). IsUnfolded (tree.spec_of ds) false m x1 u) back c.in_ok-left-in-None.ensures)
+    (subst (λ (ds : List SortDeclaration). IsUnfolded (tree.spec_of ds) false u.room x2 c.in_ok-right-in-None.right) back c.in_ok-right-in-None.ensures)
+    within)
+
+pub reads::unfold_element-returns : goal.reads::unfold_element-returns
+reads::unfold_element-returns t c =
+    let k = c.args.context.now in
+    let n = c.args.level.definitions in
+    λ truth. subst (λ (x : Name). Unfolds (folding_in k) truth c.args.level.room
+    (read (spec_in k) x (map variable_of c.args.others.indices.now) (puts k n c.args.scope.now (tree.terms_of c.args.others.arguments.now))) c.unfold_read.result)
+    c.in_ok-name.ensures (c.unfold_read.ensures truth)
+
+pub reads::unfold_read-returns-in_default-first : goal.reads::unfold_read-returns-in_default-first
+reads::unfold_read-returns-in_default-first t c =
+    let k = c.args.context.now in
+    let n = c.args.level.definitions in
+    let room = c.args.level.room in
+    let forms = forms_in k n in
+    let ρ = scope_of (spec_in k) (forms_in k) c.args.scope.now in
+    let x : Name = string_bytes c.args.array.name.now.text in
+    let is = c.args.array.indices.now in
+    let given = c.args.array.arguments.now in
+    λ truth. subst (λ (z : Term). IsUnfolded (folding_in k) truth room z c.in_ok-element_term.field-0)
+    (sym (read-itself (spec_in k) forms ρ x is (all_put_in (spec_in k) forms ρ (tree.terms_of given)) c.in_default-first.ensures.value)) (c.in_ok-element_term.ensures (folding_in k) truth)
+
+pub reads::unfold_read-returns-in_default-first-2 : goal.reads::unfold_read-returns-in_default-first-2
+reads::unfold_read-returns-in_default-first-2 t c =
+    let k = c.args.context.now in
+    let n = c.args.level.definitions in
+    let room = c.args.level.room in
+    let forms = forms_in k n in
+    let ρ = scope_of (spec_in k) (forms_in k) c.args.scope.now in
+    let x : Name = string_bytes c.args.array.name.now.text in
+    let is = c.args.array.indices.now in
+    let given = c.args.array.arguments.now in
+    λ truth. subst (λ (z : Term). IsUnfolded (folding_in k) truth room z c.nothing.result)
+    (sym (read-nothing (spec_in k) forms ρ x is given c.in-Some-first.index.now c.in-Some-first.ensures.value c.in_default-first-2.ensures.value)) (c.nothing.ensures (folding_in k) truth)
+
+pub reads::unfold_read-returns-in-Some-written_as : goal.reads::unfold_read-returns-in-Some-written_as
+reads::unfold_read-returns-in-Some-written_as t c =
+    let k = c.args.context.now in
+    let n = c.args.level.definitions in
+    let room = c.args.level.room in
+    let forms = forms_in k n in
+    let ρ = scope_of (spec_in k) (forms_in k) c.args.scope.now in
+    let x : Name = string_bytes c.args.array.name.now.text in
+    let is = c.args.array.indices.now in
+    let given = c.args.array.arguments.now in
+    let i = c.in-Some-first.index.now in
+    let a = c.in-Some-first-2.argument.now in
+    let t = put_in (spec_in k) forms ρ (tree.term_of a.term) in
+    let f : Term → Term = λ z. read (spec_in k) (element x z) (map variable_of (drop 1 is)) (all_put_in (spec_in k) forms ρ (tree.terms_of (drop 1 given))) in
+    let ks = written_values (spec_in k) i.sort.now in
+    let first = read-first (spec_in k) forms ρ x is given i a c.in-Some-first.ensures.value c.in-Some-first-2.ensures.value in
+    let values : map written_term c.deref-2.result.now ≡ ks = ap (map written_term) c.deref-2.ensures.value ∙ c.in_ok-values.ensures ∙ ap (λ S. written_values S i.sort.now) c.sorts.ensures in
+    let v = c.in-Some-written_as.value in
+    let w : IsWrittenAs (Some v) t ks = subst (λ (zs : List Term). IsWrittenAs (Some v) t zs) values (c.in-Some-written_as.ensures t c.in-Ok.ensures.form) in
+    let h = c.others.result in
+    let same : element_by k n c.args.scope.now h (written_term v) ≡ read_by k n c.args.scope.now c.args.array =
+    same-parts (spec_in k) forms ρ (string_bytes h.name.now.text) x h.indices.now (drop 1 is) h.arguments.now (drop 1 given) (written_term v)
+    (ap (λ y. string_bytes y.text) c.others.ensures.name) c.others.ensures.indices c.others.ensures.arguments
+    ∙ chosen-written f t ks v w ∙ sym first in
+    λ truth. subst (λ (z : Term). Unfolds (folding_in k) truth room z c.unfold_element.result) same (c.unfold_element.ensures truth)
+
+pub reads::unfold_read-returns : goal.reads::unfold_read-returns
+reads::unfold_read-returns t c =
+    let k = c.args.context.now in
+    let n = c.args.level.definitions in
+    let room = c.args.level.room in
+    let forms = forms_in k n in
+    let ρ = scope_of (spec_in k) (forms_in k) c.args.scope.now in
+    let x : Name = string_bytes c.args.array.name.now.text in
+    let is = c.args.array.indices.now in
+    let given = c.args.array.arguments.now in
+    let i = c.in-Some-first.index.now in
+    let a = c.in-Some-first-2.argument.now in
+    let t = put_in (spec_in k) forms ρ (tree.term_of a.term) in
+    let f : Term → Term = λ z. read (spec_in k) (element x z) (map variable_of (drop 1 is)) (all_put_in (spec_in k) forms ρ (tree.terms_of (drop 1 given))) in
+    let ks = written_values (spec_in k) i.sort.now in
+    let first = read-first (spec_in k) forms ρ x is given i a c.in-Some-first.ensures.value c.in-Some-first-2.ensures.value in
+    let values : map written_term c.deref-2.result.now ≡ ks = ap (map written_term) c.deref-2.ensures.value ∙ c.in_ok-values.ensures ∙ ap (λ S. written_values S i.sort.now) c.sorts.ensures in
+    let u = c.in-Ok.unfolded in
+    let w : IsWrittenAs None t ks = subst (λ (zs : List Term). IsWrittenAs None t zs) values (c.in_default-written_as.ensures t c.in-Ok.ensures.form) in
+    let h = c.others-2.result in
+    let g : Term → Term = element_by k n c.args.scope.now h in
+    let by-parts : (z : Term) → g z ≡ f z = λ z. same-parts (spec_in k) forms ρ (string_bytes h.name.now.text) x h.indices.now (drop 1 is) h.arguments.now (drop 1 given) z
+    (ap (λ y. string_bytes y.text) c.others-2.ensures.name) c.others-2.ensures.indices c.others-2.ensures.arguments in
+    let same : choices g t (map written_term c.deref-3.result.now) ≡ read_by k n c.args.scope.now c.args.array =
+    ap (λ zs. choices g t (map written_term zs)) (c.deref-3.ensures.value ∙ sym c.deref-2.ensures.value) ∙ ap (choices g t) values ∙ choices-same g f by-parts t ks ∙ chosen-otherwise f t ks w ∙ sym first in
+    λ truth. subst (λ (z : Term). Unfolds (folding_in k) truth room z c.unfold_choices.result) same
+    (c.unfold_choices.ensures t truth c.in-Ok.ensures.term (omega (arith, c.in-Ok.ensures.room, c.saturating_sub.ensures)))
+
+pub reads::unfold_choices-returns-in_default-first : goal.reads::unfold_choices-returns-in_default-first
+reads::unfold_choices-returns-in_default-first t c =
+    let k = c.args.context.now in
+    let n = c.args.level.definitions in
+    let room = c.args.level.room in
+    let g : Term → Term = element_by k n c.args.scope.now c.args.choices.others in
+    let vs = c.args.choices.values.now in
+    λ t truth said within. subst (λ (z : Term). IsUnfolded (folding_in k) truth room z c.nothing.result)
+    (choices-none g t vs c.in_default-first.ensures.value) (c.nothing.ensures (folding_in k) truth)
+
+pub reads::unfold_choices-returns-then-is_empty : goal.reads::unfold_choices-returns-then-is_empty
+reads::unfold_choices-returns-then-is_empty t c =
+    let k = c.args.context.now in
+    let n = c.args.level.definitions in
+    let room = c.args.level.room in
+    let g : Term → Term = element_by k n c.args.scope.now c.args.choices.others in
+    let vs = c.args.choices.values.now in
+    let v = c.in-Some-first.value.now in
+    let end : length (drop 1 vs) ≡ 0 = grind (arith, nat_tests) in
+    λ t truth said within. subst (λ (z : Term). Unfolds (folding_in k) truth room z c.unfold_element.result)
+    (choices-one g t vs v c.in-Some-first.ensures.value end) (c.unfold_element.ensures truth)
+
+pub reads::unfold_choices-returns-in-Some-true : goal.reads::unfold_choices-returns-in-Some-true
+reads::unfold_choices-returns-in-Some-true t c =
+    let k = c.args.context.now in
+    let n = c.args.level.definitions in
+    let room = c.args.level.room in
+    let g : Term → Term = element_by k n c.args.scope.now c.args.choices.others in
+    let vs = c.args.choices.values.now in
+    let v = c.in-Some-first.value.now in
+    let more : length (drop 1 vs) ≡ 0 → ⊥ = λ end. some-of (take (length vs - 1) (drop 1 vs)) (sym c.is_empty.ensures ∙ c.if-is_empty.false) (ap length (behind-first vs) ∙ end) in
+    let eq : Term → Term = λ t. Term.Binary Operator.Equal t (written_term v) in
+    let y = g (written_term v) in
+    let rest : Term → Term = λ t. choices g t (map written_term (drop 1 vs)) in
+    let same : (t : Term) → choice_of (codes "if") (eq t) y (rest t) ≡ choices g t (map written_term vs) = λ t. choices-more g t vs v c.in-Some-first.ensures.value more in
+    let condition : (t : Term) → tree.term_of c.args.choices.index.now ≡ folded (folding_in k) false t → tree.term_of c.in_ok-condition.condition ≡ folded (folding_in k) true (eq t) =
+    λ t said. c.in_ok-condition.ensures t true (said ∙ ap (λ ds. folded (tree.spec_of ds) false t) (sym c.folding.ensures)) ∙ ap (λ ds. folded (tree.spec_of ds) true (eq t)) c.folding.ensures in
+    λ t truth said within. subst (λ (z : Term). IsUnfolded (folding_in k) truth room z c.chosen.result) (same t)
+    (c.chosen.ensures (folding_in k) (codes "if") (eq t) y (rest t) room room true truth if-named (sym (condition t said) ∙ truth-said c.in_ok-condition.condition true (ap Some (sym c.in-Some-true.field-0-test) ∙ c.in-Some-true.ensures))
+    (c.in_ok-unfold_element-in-Some-true.ensures false) (omega arith))
+
+pub reads::unfold_choices-returns-in-Some-false : goal.reads::unfold_choices-returns-in-Some-false
+reads::unfold_choices-returns-in-Some-false t c =
+    let k = c.args.context.now in
+    let n = c.args.level.definitions in
+    let room = c.args.level.room in
+    let g : Term → Term = element_by k n c.args.scope.now c.args.choices.others in
+    let vs = c.args.choices.values.now in
+    let v = c.in-Some-first.value.now in
+    let more : length (drop 1 vs) ≡ 0 → ⊥ = λ end. some-of (take (length vs - 1) (drop 1 vs)) (sym c.is_empty.ensures ∙ c.if-is_empty.false) (ap length (behind-first vs) ∙ end) in
+    let eq : Term → Term = λ t. Term.Binary Operator.Equal t (written_term v) in
+    let y = g (written_term v) in
+    let rest : Term → Term = λ t. choices g t (map written_term (drop 1 vs)) in
+    let same : (t : Term) → choice_of (codes "if") (eq t) y (rest t) ≡ choices g t (map written_term vs) = λ t. choices-more g t vs v c.in-Some-first.ensures.value more in
+    let condition : (t : Term) → tree.term_of c.args.choices.index.now ≡ folded (folding_in k) false t → tree.term_of c.in_ok-condition.condition ≡ folded (folding_in k) true (eq t) =
+    λ t said. c.in_ok-condition.ensures t true (said ∙ ap (λ ds. folded (tree.spec_of ds) false t) (sym c.folding.ensures)) ∙ ap (λ ds. folded (tree.spec_of ds) true (eq t)) c.folding.ensures in
+    λ t truth said within. subst (λ (z : Term). IsUnfolded (folding_in k) truth room z c.chosen-in-Some-false.result) (same t)
+    (c.chosen-in-Some-false.ensures (folding_in k) (codes "if") (eq t) y (rest t) room room false truth if-named (sym (condition t said) ∙ truth-said c.in_ok-condition.condition false (ap Some (sym c.in-Some-false.field-0-test) ∙ c.in-Some-false.ensures))
+    (subst (λ (ws : List Written). IsUnfolded (folding_in k) false room (choices g t (map written_term ws)) c.in_ok-unfold_choices-in-Some-false.field-0) (behind-first vs) (c.in_ok-unfold_choices-in-Some-false.ensures t false said within)) (omega arith))
+
+pub reads::unfold_choices-returns-in_err-unfold_element-in-Some-true : goal.reads::unfold_choices-returns-in_err-unfold_element-in-Some-true
+reads::unfold_choices-returns-in_err-unfold_element-in-Some-true t c =
+    let k = c.args.context.now in
+    let n = c.args.level.definitions in
+    let room = c.args.level.room in
+    let g : Term → Term = element_by k n c.args.scope.now c.args.choices.others in
+    let vs = c.args.choices.values.now in
+    let v = c.in-Some-first.value.now in
+    let more : length (drop 1 vs) ≡ 0 → ⊥ = λ end. some-of (take (length vs - 1) (drop 1 vs)) (sym c.is_empty.ensures ∙ c.if-is_empty.false) (ap length (behind-first vs) ∙ end) in
+    let eq : Term → Term = λ t. Term.Binary Operator.Equal t (written_term v) in
+    let y = g (written_term v) in
+    let rest : Term → Term = λ t. choices g t (map written_term (drop 1 vs)) in
+    let same : (t : Term) → choice_of (codes "if") (eq t) y (rest t) ≡ choices g t (map written_term vs) = λ t. choices-more g t vs v c.in-Some-first.ensures.value more in
+    let condition : (t : Term) → tree.term_of c.args.choices.index.now ≡ folded (folding_in k) false t → tree.term_of c.in_ok-condition.condition ≡ folded (folding_in k) true (eq t) =
+    λ t said. c.in_ok-condition.ensures t true (said ∙ ap (λ ds. folded (tree.spec_of ds) false t) (sym c.folding.ensures)) ∙ ap (λ ds. folded (tree.spec_of ds) true (eq t)) c.folding.ensures in
+    let e = c.in_err-unfold_element-in-Some-true.field-0.0 in
+    λ t truth said within. err-kept c.from_residual-in_err-unfold_element-in-Some-true.result e _ (IsRefusal room (choices g t (map written_term vs))) c.from_residual-in_err-unfold_element-in-Some-true.ensures.1
+    (subst (λ (z : Term). IsRefusal room z e) (same t) (chosen-refused room room (codes "if") (eq t) y (rest t) true e (omega arith) (c.in_err-unfold_element-in-Some-true.ensures truth)))
+
+pub reads::unfold_choices-returns-in_err-unfold_choices-in-Some-false : goal.reads::unfold_choices-returns-in_err-unfold_choices-in-Some-false
+reads::unfold_choices-returns-in_err-unfold_choices-in-Some-false t c =
+    let k = c.args.context.now in
+    let n = c.args.level.definitions in
+    let room = c.args.level.room in
+    let g : Term → Term = element_by k n c.args.scope.now c.args.choices.others in
+    let vs = c.args.choices.values.now in
+    let v = c.in-Some-first.value.now in
+    let more : length (drop 1 vs) ≡ 0 → ⊥ = λ end. some-of (take (length vs - 1) (drop 1 vs)) (sym c.is_empty.ensures ∙ c.if-is_empty.false) (ap length (behind-first vs) ∙ end) in
+    let eq : Term → Term = λ t. Term.Binary Operator.Equal t (written_term v) in
+    let y = g (written_term v) in
+    let rest : Term → Term = λ t. choices g t (map written_term (drop 1 vs)) in
+    let same : (t : Term) → choice_of (codes "if") (eq t) y (rest t) ≡ choices g t (map written_term vs) = λ t. choices-more g t vs v c.in-Some-first.ensures.value more in
+    let condition : (t : Term) → tree.term_of c.args.choices.index.now ≡ folded (folding_in k) false t → tree.term_of c.in_ok-condition.condition ≡ folded (folding_in k) true (eq t) =
+    λ t said. c.in_ok-condition.ensures t true (said ∙ ap (λ ds. folded (tree.spec_of ds) false t) (sym c.folding.ensures)) ∙ ap (λ ds. folded (tree.spec_of ds) true (eq t)) c.folding.ensures in
+    let e = c.in_err-unfold_choices-in-Some-false.field-0.0 in
+    λ t truth said within. err-kept c.from_residual-in_err-unfold_choices-in-Some-false.result e _ (IsRefusal room (choices g t (map written_term vs))) c.from_residual-in_err-unfold_choices-in-Some-false.ensures.1
+    (subst (λ (z : Term). IsRefusal room z e) (same t) (chosen-refused room room (codes "if") (eq t) y (rest t) false e (omega arith) (subst (λ (ws : List Written). IsRefusal room (choices g t (map written_term ws)) e) (behind-first vs) (c.in_err-unfold_choices-in-Some-false.ensures t truth said within))))
+
+pub reads::unfold_choices-returns-in_err-left-in-None : goal.reads::unfold_choices-returns-in_err-left-in-None
+reads::unfold_choices-returns-in_err-left-in-None t c =
+    let k = c.args.context.now in
+    let n = c.args.level.definitions in
+    let room = c.args.level.room in
+    let g : Term → Term = element_by k n c.args.scope.now c.args.choices.others in
+    let vs = c.args.choices.values.now in
+    let v = c.in-Some-first.value.now in
+    let more : length (drop 1 vs) ≡ 0 → ⊥ = λ end. some-of (take (length vs - 1) (drop 1 vs)) (sym c.is_empty.ensures ∙ c.if-is_empty.false) (ap length (behind-first vs) ∙ end) in
+    let eq : Term → Term = λ t. Term.Binary Operator.Equal t (written_term v) in
+    let y = g (written_term v) in
+    let rest : Term → Term = λ t. choices g t (map written_term (drop 1 vs)) in
+    let same : (t : Term) → choice_of (codes "if") (eq t) y (rest t) ≡ choices g t (map written_term vs) = λ t. choices-more g t vs v c.in-Some-first.ensures.value more in
+    let condition : (t : Term) → tree.term_of c.args.choices.index.now ≡ folded (folding_in k) false t → tree.term_of c.in_ok-condition.condition ≡ folded (folding_in k) true (eq t) =
+    λ t said. c.in_ok-condition.ensures t true (said ∙ ap (λ ds. folded (tree.spec_of ds) false t) (sym c.folding.ensures)) ∙ ap (λ ds. folded (tree.spec_of ds) true (eq t)) c.folding.ensures in
+    let m = c.in_ok-room-in-None-2.room in
+    let spent : (t : Term) → c.args.choices.operators ≤ operator_count t → room ≤ m + suc (operator_count (eq t)) = λ t within. omega (arith, within, c.in_ok-room-in-None.ensures, c.in_ok-room-in-None-2.ensures) in
+    let e = c.in_err-left-in-None.field-0.0 in
+    λ t truth said within. err-kept c.from_residual-in_err-left-in-None.result e _ (IsRefusal room (choices g t (map written_term vs))) c.from_residual-in_err-left-in-None.ensures.1
+    (subst (λ (z : Term). IsRefusal room z e) (same t) (chosen-refused room m (codes "if") (eq t) y (rest t) true e (spent t within) (c.in_err-left-in-None.ensures truth)))
+
+pub reads::unfold_choices-returns-in_err-right-in-None : goal.reads::unfold_choices-returns-in_err-right-in-None
+reads::unfold_choices-returns-in_err-right-in-None t c =
+    let k = c.args.context.now in
+    let n = c.args.level.definitions in
+    let room = c.args.level.room in
+    let g : Term → Term = element_by k n c.args.scope.now c.args.choices.others in
+    let vs = c.args.choices.values.now in
+    let v = c.in-Some-first.value.now in
+    let more : length (drop 1 vs) ≡ 0 → ⊥ = λ end. some-of (take (length vs - 1) (drop 1 vs)) (sym c.is_empty.ensures ∙ c.if-is_empty.false) (ap length (behind-first vs) ∙ end) in
+    let eq : Term → Term = λ t. Term.Binary Operator.Equal t (written_term v) in
+    let y = g (written_term v) in
+    let rest : Term → Term = λ t. choices g t (map written_term (drop 1 vs)) in
+    let same : (t : Term) → choice_of (codes "if") (eq t) y (rest t) ≡ choices g t (map written_term vs) = λ t. choices-more g t vs v c.in-Some-first.ensures.value more in
+    let condition : (t : Term) → tree.term_of c.args.choices.index.now ≡ folded (folding_in k) false t → tree.term_of c.in_ok-condition.condition ≡ folded (folding_in k) true (eq t) =
+    λ t said. c.in_ok-condition.ensures t true (said ∙ ap (λ ds. folded (tree.spec_of ds) false t) (sym c.folding.ensures)) ∙ ap (λ ds. folded (tree.spec_of ds) true (eq t)) c.folding.ensures in
+    let m = c.in_ok-room-in-None-2.room in
+    let spent : (t : Term) → c.args.choices.operators ≤ operator_count t → room ≤ m + suc (operator_count (eq t)) = λ t within. omega (arith, within, c.in_ok-room-in-None.ensures, c.in_ok-room-in-None-2.ensures) in
+    let e = c.in_err-right-in-None.field-0.0 in
+    λ t truth said within. err-kept c.from_residual-in_err-right-in-None.result e _ (IsRefusal room (choices g t (map written_term vs))) c.from_residual-in_err-right-in-None.ensures.1
+    (subst (λ (z : Term). IsRefusal room z e) (same t) (right-refused room m c.in_ok-left-in-None.left.room (codes "if") (eq t) y (rest t) e (spent t within) ((c.in_ok-left-in-None.ensures truth).room) (subst (λ (ws : List Written). IsRefusal c.in_ok-left-in-None.left.room (choices g t (map written_term ws)) e) (behind-first vs) (c.in_err-right-in-None.ensures t truth said within))))
+
+pub reads::unfold_choices-choice-requires : goal.reads::unfold_choices-choice-requires
+reads::unfold_choices-choice-requires t c =
+    ap (λ (f : Name). is_if (named_function f)) c.in_ok-name-in-None.ensures ∙ if-named
+
+pub reads::unfold_choices-returns : goal.reads::unfold_choices-returns
+reads::unfold_choices-returns t c =
+    let k = c.args.context.now in
+    let n = c.args.level.definitions in
+    let room = c.args.level.room in
+    let g : Term → Term = element_by k n c.args.scope.now c.args.choices.others in
+    let vs = c.args.choices.values.now in
+    let v = c.in-Some-first.value.now in
+    let more : length (drop 1 vs) ≡ 0 → ⊥ = λ end. some-of (take (length vs - 1) (drop 1 vs)) (sym c.is_empty.ensures ∙ c.if-is_empty.false) (ap length (behind-first vs) ∙ end) in
+    let eq : Term → Term = λ t. Term.Binary Operator.Equal t (written_term v) in
+    let y = g (written_term v) in
+    let rest : Term → Term = λ t. choices g t (map written_term (drop 1 vs)) in
+    let same : (t : Term) → choice_of (codes "if") (eq t) y (rest t) ≡ choices g t (map written_term vs) = λ t. choices-more g t vs v c.in-Some-first.ensures.value more in
+    let condition : (t : Term) → tree.term_of c.args.choices.index.now ≡ folded (folding_in k) false t → tree.term_of c.in_ok-condition.condition ≡ folded (folding_in k) true (eq t) =
+    λ t said. c.in_ok-condition.ensures t true (said ∙ ap (λ ds. folded (tree.spec_of ds) false t) (sym c.folding.ensures)) ∙ ap (λ ds. folded (tree.spec_of ds) true (eq t)) c.folding.ensures in
+    let m = c.in_ok-room-in-None-2.room in
+    let spent : (t : Term) → c.args.choices.operators ≤ operator_count t → room ≤ m + suc (operator_count (eq t)) = λ t within. omega (arith, within, c.in_ok-room-in-None.ensures, c.in_ok-room-in-None-2.ensures) in
+    let back = sym c.folding-in-None.ensures in
+    let u = c.in_ok-left-in-None.left in
+    λ t truth said within. carried truth c.in_ok-choice-in-None.field-0 c.folding-in-None.result.sorts.now k.declarations.now room room (choice_of (string_bytes c.in_ok-name-in-None.name.text) (eq t) y (rest t)) (choices g t (map written_term vs)) c.folding-in-None.ensures refl
+    (ap (λ (f : Name). choice_of f (eq t) y (rest t)) c.in_ok-name-in-None.ensures ∙ same t)
+    (c.in_ok-choice-in-None.ensures m room (eq t) y (rest t) truth
+    (condition t said ∙ ap (λ ds. folded (tree.spec_of ds) true (eq t)) back)
+    (subst (λ (ds : List SortDeclaration). IsUnfolded (tree.spec_of ds) false m y u) back (c.in_ok-left-in-None.ensures false))
+    (subst (λ (ds : List SortDeclaration). IsUnfolded (tree.spec_of ds) false u.room (rest t) c.in_ok-right-in-None.right) back
+    (subst (λ (ws : List Written). IsUnfolded (folding_in k) false u.room (choices g t (map written_term ws)) c.in_ok-right-in-None.right) (behind-first vs) (c.in_ok-right-in-None.ensures t false said within)))
+    (spent t within))
+
+pub unfold::unfold-returns-in-Arithmetic : goal.unfold::unfold-returns-in-Arithmetic
+unfold::unfold-returns-in-Arithmetic t c =
+    let k = c.args.context.now in
+    let n = c.args.level.definitions in
+    let b = c.args.level.truth in
+    let room = c.args.level.room in
+    let p : Term → Term = λ x. put k n c.args.scope.now x in
+    let said : calculated_term (tree.term_of c.deref-in-Arithmetic.result.now) c.deref-in-Arithmetic-2.result.now ≡ tree.term_of c.args.term.now =
+    ap (λ y. calculated_term (tree.term_of y) c.deref-in-Arithmetic-2.result.now) c.deref-in-Arithmetic.ensures
+    ∙ ap (calculated_term (tree.term_of (box_value c.in-Arithmetic.first))) c.deref-in-Arithmetic-2.ensures.value
+    ∙ sym (arithmetic-said c.in-Arithmetic.first c.in-Arithmetic.links) ∙ ap tree.term_of (sym c.in-Arithmetic.is) in
+    subst (λ (x : Term). Unfolds (folding_in k) b room (p x) c.unfold_arithmetic.result) said c.unfold_arithmetic.ensures
+
+pub unfold::unfold-returns-in-Quantified : goal.unfold::unfold-returns-in-Quantified
+unfold::unfold-returns-in-Quantified t c =
+    let k = c.args.context.now in
+    let n = c.args.level.definitions in
+    let b = c.args.level.truth in
+    let room = c.args.level.room in
+    let p : Term → Term = λ x. put k n c.args.scope.now x in
+    let q = c.in-Quantified.quantifier in
+    let said : Term.Quantified q (erased_variables (variable_forms c.deref-in-Quantified.result.now)) (tree.term_of c.deref-in-Quantified-2.result.now) ≡ tree.term_of c.args.term.now =
+    ap (λ vs. Term.Quantified q (erased_variables (variable_forms vs)) (tree.term_of c.deref-in-Quantified-2.result.now)) c.deref-in-Quantified.ensures.value
+    ∙ ap (λ y. Term.Quantified q (erased_variables (variable_forms c.in-Quantified.variables.items)) (tree.term_of y)) c.deref-in-Quantified-2.ensures
+    ∙ sym (quantified-said c.in-Quantified.place q c.in-Quantified.variables c.in-Quantified.body) ∙ ap tree.term_of (sym c.in-Quantified.is) in
+    subst (λ (x : Term). Unfolds (folding_in k) b room (p x) c.unfold_quantified.result) said c.unfold_quantified.ensures
+
+pub unfold::unfold-returns-in_err-operands-in-Chain : goal.unfold::unfold-returns-in_err-operands-in-Chain
+unfold::unfold-returns-in_err-operands-in-Chain t c =
+    let k = c.args.context.now in
+    let n = c.args.level.definitions in
+    let b = c.args.level.truth in
+    let room = c.args.level.room in
+    let p : Term → Term = λ x. put k n c.args.scope.now x in
+    let o = c.in-Chain.connective in
+    let said : chain_term o (tree.term_of c.deref-in-Chain.result.now) (operands_of c.deref-in-Chain-2.result.now) ≡ tree.term_of c.args.term.now =
+    ap (λ y. chain_term o (tree.term_of y) (operands_of c.deref-in-Chain-2.result.now)) c.deref-in-Chain.ensures
+    ∙ ap (λ ls. chain_term o (tree.term_of (box_value c.in-Chain.first)) (operands_of ls)) c.deref-in-Chain-2.ensures.value
+    ∙ sym (chain-said o c.in-Chain.first c.in-Chain.links) ∙ ap tree.term_of (sym c.in-Chain.is) in
+    let e = c.in_err-operands-in-Chain.field-0.0 in
+    err-kept c.from_residual-in_err-operands-in-Chain.result e _ (IsRefusal room (p (tree.term_of c.args.term.now))) c.from_residual-in_err-operands-in-Chain.ensures.1
+    (subst (λ (x : Term). IsRefusal room (p x) e) said c.in_err-operands-in-Chain.ensures)
+
+pub unfold::unfold-returns-in_ok-joined_operands-in-Chain : goal.unfold::unfold-returns-in_ok-joined_operands-in-Chain
+unfold::unfold-returns-in_ok-joined_operands-in-Chain t c =
+    let k = c.args.context.now in
+    let n = c.args.level.definitions in
+    let b = c.args.level.truth in
+    let room = c.args.level.room in
+    let p : Term → Term = λ x. put k n c.args.scope.now x in
+    let o = c.in-Chain.connective in
+    let said : chain_term o (tree.term_of c.deref-in-Chain.result.now) (operands_of c.deref-in-Chain-2.result.now) ≡ tree.term_of c.args.term.now =
+    ap (λ y. chain_term o (tree.term_of y) (operands_of c.deref-in-Chain-2.result.now)) c.deref-in-Chain.ensures
+    ∙ ap (λ ls. chain_term o (tree.term_of (box_value c.in-Chain.first)) (operands_of ls)) c.deref-in-Chain-2.ensures.value
+    ∙ sym (chain-said o c.in-Chain.first c.in-Chain.links) ∙ ap tree.term_of (sym c.in-Chain.is) in
+    subst (λ (x : Term). IsUnfolded (folding_in k) b room (p x) c.in_ok-joined_operands-in-Chain.field-0) said
+    (c.in_ok-joined_operands-in-Chain.ensures (folding_in k) room _ c.in_ok-operands-in-Chain.ensures)
+
+pub unfold::unfold-returns-then-is_empty : goal.unfold::unfold-returns-then-is_empty
+unfold::unfold-returns-then-is_empty t c =
+    let k = c.args.context.now in
+    let n = c.args.level.definitions in
+    let b = c.args.level.truth in
+    let room = c.args.level.room in
+    let p : Term → Term = λ x. put k n c.args.scope.now x in
+    let v = c.in-Chain.links in
+    let counted : vec_len v ≡ length v.items = omega (arith, v.ok.0) in
+    let none : v.items ≡ [] = none-of v.items (vec_len v) counted (sym c.is_empty.ensures ∙ c.if-is_empty.true) in
+    let o = c.in-Chain.connective in
+    let said : tree.term_of c.deref-then-is_empty.result.now ≡ tree.term_of c.args.term.now =
+    ap tree.term_of c.deref-then-is_empty.ensures
+    ∙ ap (λ ls. chain_term o (tree.term_of (box_value c.in-Chain.first)) (operands_of ls)) (sym none)
+    ∙ sym (chain-said o c.in-Chain.first c.in-Chain.links) ∙ ap tree.term_of (sym c.in-Chain.is) in
+    subst (λ (x : Term). Unfolds (folding_in k) b room (p x) c.unfold-then-is_empty.result) said c.unfold-then-is_empty.ensures

@@ -1,0 +1,15 @@
+pub mod ValueLemmas
+pub mod ScopeLemmas
+pub mod Spelled
+pub mod ContextLemmas
+pub mod UnfoldLemmas
+pub mod ChainLemmas
+pub mod OperandLemmas
+pub mod ChoiceLemmas
+pub mod ReadLemmas
+pub mod TermLemmas
+pub mod TupleLemmas
+pub mod ArgumentLemmas
+pub mod SortsLemmas
+pub mod ProtocolLemmas
+pub mod AssignedLemmas

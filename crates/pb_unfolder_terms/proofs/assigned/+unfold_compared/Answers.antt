@@ -1,0 +1,183 @@
+use Rattle.std.proofs.Common.{◌≡◌, ◌∙◌, ◌+◌, ◌-◌, ◌≤◌, suc, true, false, List, [], Some, None, map, sym, ap, subst, drop, take, length, arith}
+use Rattle.pb_text_tree.specs.declared.term.Argument.{Argument}
+use Rattle.pb_text_meaning.specs.Syntax.{Operator, Term}
+use Rattle.pb_folding.specs.Folding.{folded}
+use Rattle.pb_folding.specs.View as tree
+use Rattle.pb_unfolding.specs.PutIn.{put_in}
+use Rattle.pb_unfolder_terms.specs.declared.written.Written.{Written}
+use Rattle.pb_unfolder_terms.specs.Contexts.{folding_in, forms_in, spec_in}
+use Rattle.pb_unfolder_terms.specs.Scopes.{scope_of}
+use Rattle.pb_unfolder_terms.specs.Unfolding.{IsRefusal, IsUnfolded, operator_count}
+use Rattle.pb_unfolder_terms.specs.Values.{written_term}
+use Rattle.pb_unfolder_terms.proofs.ArgumentLemmas.{behind-first}
+use Rattle.pb_unfolder_terms.proofs.AssignedLemmas.{compared-first, compared-none, compared-unequal, comparing}
+use Rattle.pb_unfolder_terms.proofs.ChainLemmas.{err-kept, no-room, refusal-weaker}
+use Rattle.pb_unfolder_terms.proofs.assigned.+unfold_compared.Goals as goal
+
+pub returns-in_default : goal.returns-in_default
+returns-in_default t c =
+    let k = c.args.context.now in
+    let n = c.args.level.definitions in
+    let room = c.args.level.room in
+    let F = folding_in k in
+    let forms = forms_in k n in
+    let ρ = scope_of (spec_in k) (forms_in k) c.args.scope.now in
+    let given = c.args.compared.arguments.now in
+    let vs = c.args.compared.index.now in
+    let whole = comparing (spec_in k) forms ρ given vs in
+    subst (λ (z : Term). IsUnfolded F true room z c.truth.result)
+    (compared-none (spec_in k) forms ρ given vs c.is_empty.result c.in_default.ensures.value c.is_empty.ensures)
+    (c.truth.ensures F true)
+
+pub returns-in_default-first : goal.returns-in_default-first
+returns-in_default-first t c =
+    let k = c.args.context.now in
+    let n = c.args.level.definitions in
+    let room = c.args.level.room in
+    let F = folding_in k in
+    let forms = forms_in k n in
+    let ρ = scope_of (spec_in k) (forms_in k) c.args.scope.now in
+    let given = c.args.compared.arguments.now in
+    let vs = c.args.compared.index.now in
+    let whole = comparing (spec_in k) forms ρ given vs in
+    subst (λ (z : Term). IsUnfolded F true room z c.truth-in_default-first.result)
+    (compared-unequal (spec_in k) forms ρ given vs c.in-Some.argument.now c.in-Some.ensures.value c.in_default-first.ensures.value)
+    (c.truth-in_default-first.ensures F true)
+
+pub returns-in_err-behind_all : goal.returns-in_err-behind_all
+returns-in_err-behind_all t c =
+    let k = c.args.context.now in
+    let n = c.args.level.definitions in
+    let room = c.args.level.room in
+    let F = folding_in k in
+    let forms = forms_in k n in
+    let ρ = scope_of (spec_in k) (forms_in k) c.args.scope.now in
+    let given = c.args.compared.arguments.now in
+    let vs = c.args.compared.index.now in
+    let whole = comparing (spec_in k) forms ρ given vs in
+    let a = c.in-Some.argument.now in
+    let v = c.in-Some-first.value.now in
+    let x = put_in (spec_in k) forms ρ (tree.term_of a.term) in
+    let eq = Term.Binary Operator.Equal x (written_term v) in
+    let rest = comparing (spec_in k) forms ρ (drop 1 given) (drop 1 vs) in
+    let same : Term.Binary Operator.And eq rest ≡ whole = compared-first (spec_in k) forms ρ given vs a v c.in-Some.ensures.value c.in-Some-first.ensures.value in
+    let e = c.in_err-behind_all.field-0.0 in
+    err-kept c.from_residual.result e _ (IsRefusal room whole) c.from_residual.ensures.1
+    (subst (λ (z : Term). IsRefusal room z e) same (no-room room (Term.Binary Operator.And eq rest) e c.args.compared.place c.in_err-behind_all.ensures.0 (omega (arith, c.in_err-behind_all.ensures.1))))
+
+pub returns-in_err-index : goal.returns-in_err-index
+returns-in_err-index t c =
+    let k = c.args.context.now in
+    let n = c.args.level.definitions in
+    let room = c.args.level.room in
+    let F = folding_in k in
+    let forms = forms_in k n in
+    let ρ = scope_of (spec_in k) (forms_in k) c.args.scope.now in
+    let given = c.args.compared.arguments.now in
+    let vs = c.args.compared.index.now in
+    let whole = comparing (spec_in k) forms ρ given vs in
+    let a = c.in-Some.argument.now in
+    let v = c.in-Some-first.value.now in
+    let x = put_in (spec_in k) forms ρ (tree.term_of a.term) in
+    let eq = Term.Binary Operator.Equal x (written_term v) in
+    let rest = comparing (spec_in k) forms ρ (drop 1 given) (drop 1 vs) in
+    let same : Term.Binary Operator.And eq rest ≡ whole = compared-first (spec_in k) forms ρ given vs a v c.in-Some.ensures.value c.in-Some-first.ensures.value in
+    let inner = c.in_ok-behind_all.field-0 in
+    let e = c.in_err-index.field-0.0 in
+    err-kept c.from_residual-in_err-index.result e _ (IsRefusal room whole) c.from_residual-in_err-index.ensures.1
+    (subst (λ (z : Term). IsRefusal room z e) same (refusal-weaker room inner x (Term.Binary Operator.And eq rest) e (λ h. omega (arith, c.in_ok-behind_all.ensures, h)) c.in_err-index.ensures))
+
+pub returns-in_err-stays_inside : goal.returns-in_err-stays_inside
+returns-in_err-stays_inside t c =
+    let k = c.args.context.now in
+    let n = c.args.level.definitions in
+    let room = c.args.level.room in
+    let F = folding_in k in
+    let forms = forms_in k n in
+    let ρ = scope_of (spec_in k) (forms_in k) c.args.scope.now in
+    let given = c.args.compared.arguments.now in
+    let vs = c.args.compared.index.now in
+    let whole = comparing (spec_in k) forms ρ given vs in
+    let e = c.in_err-stays_inside.field-0.0 in
+    err-kept c.from_residual-in_err-stays_inside.result e _ (IsRefusal room whole) c.from_residual-in_err-stays_inside.ensures.1
+    (c.in_err-stays_inside.ensures room whole)
+
+pub returns-then-decides : goal.returns-then-decides
+returns-then-decides t c =
+    let k = c.args.context.now in
+    let n = c.args.level.definitions in
+    let room = c.args.level.room in
+    let F = folding_in k in
+    let forms = forms_in k n in
+    let ρ = scope_of (spec_in k) (forms_in k) c.args.scope.now in
+    let given = c.args.compared.arguments.now in
+    let vs = c.args.compared.index.now in
+    let whole = comparing (spec_in k) forms ρ given vs in
+    let a = c.in-Some.argument.now in
+    let v = c.in-Some-first.value.now in
+    let x = put_in (spec_in k) forms ρ (tree.term_of a.term) in
+    let eq = Term.Binary Operator.Equal x (written_term v) in
+    let rest = comparing (spec_in k) forms ρ (drop 1 given) (drop 1 vs) in
+    let same : Term.Binary Operator.And eq rest ≡ whole = compared-first (spec_in k) forms ρ given vs a v c.in-Some.ensures.value c.in-Some-first.ensures.value in
+    let u = c.in_ok-index.index in
+    let within : room ≤ u.room + suc (operator_count eq) = omega (arith, c.in_ok-behind_all.ensures, c.in_ok-index.ensures.room) in
+    let equal : tree.term_of c.in_ok-equal.equal ≡ folded F true eq =
+    c.in_ok-equal.ensures x true (c.in_ok-index.ensures.term ∙ ap (λ ds. folded (tree.spec_of ds) false x) (sym c.folding.ensures)) ∙ ap (λ ds. folded (tree.spec_of ds) true eq) c.folding.ensures in
+    subst (λ (z : Term). IsUnfolded F true room z c.none_equal.result) same
+    (c.none_equal.ensures F room eq rest (sym equal ∙ c.decides.ensures c.if-decides.true) within)
+
+pub returns-in_err-others : goal.returns-in_err-others
+returns-in_err-others t c =
+    let k = c.args.context.now in
+    let n = c.args.level.definitions in
+    let room = c.args.level.room in
+    let F = folding_in k in
+    let forms = forms_in k n in
+    let ρ = scope_of (spec_in k) (forms_in k) c.args.scope.now in
+    let given = c.args.compared.arguments.now in
+    let vs = c.args.compared.index.now in
+    let whole = comparing (spec_in k) forms ρ given vs in
+    let a = c.in-Some.argument.now in
+    let v = c.in-Some-first.value.now in
+    let x = put_in (spec_in k) forms ρ (tree.term_of a.term) in
+    let eq = Term.Binary Operator.Equal x (written_term v) in
+    let rest = comparing (spec_in k) forms ρ (drop 1 given) (drop 1 vs) in
+    let same : Term.Binary Operator.And eq rest ≡ whole = compared-first (spec_in k) forms ρ given vs a v c.in-Some.ensures.value c.in-Some-first.ensures.value in
+    let u = c.in_ok-index.index in
+    let within : room ≤ u.room + suc (operator_count eq) = omega (arith, c.in_ok-behind_all.ensures, c.in_ok-index.ensures.room) in
+    let equal : tree.term_of c.in_ok-equal.equal ≡ folded F true eq =
+    c.in_ok-equal.ensures x true (c.in_ok-index.ensures.term ∙ ap (λ ds. folded (tree.spec_of ds) false x) (sym c.folding.ensures)) ∙ ap (λ ds. folded (tree.spec_of ds) true eq) c.folding.ensures in
+    let e = c.in_err-others.field-0.0 in
+    let others : IsRefusal u.room rest e =
+    subst (λ (bs : List Argument). IsRefusal u.room (comparing (spec_in k) forms ρ bs (drop 1 vs)) e) (behind-first given)
+    (subst (λ (ws : List Written). IsRefusal u.room (comparing (spec_in k) forms ρ (take (length given - 1) (drop 1 given)) ws) e) (behind-first vs) c.in_err-others.ensures) in
+    err-kept c.from_residual-in_err-others.result e _ (IsRefusal room whole) c.from_residual-in_err-others.ensures.1
+    (subst (λ (z : Term). IsRefusal room z e) same (refusal-weaker room u.room rest (Term.Binary Operator.And eq rest) e (λ h. omega (arith, within, h)) others))
+
+pub returns : goal.returns
+returns t c =
+    let k = c.args.context.now in
+    let n = c.args.level.definitions in
+    let room = c.args.level.room in
+    let F = folding_in k in
+    let forms = forms_in k n in
+    let ρ = scope_of (spec_in k) (forms_in k) c.args.scope.now in
+    let given = c.args.compared.arguments.now in
+    let vs = c.args.compared.index.now in
+    let whole = comparing (spec_in k) forms ρ given vs in
+    let a = c.in-Some.argument.now in
+    let v = c.in-Some-first.value.now in
+    let x = put_in (spec_in k) forms ρ (tree.term_of a.term) in
+    let eq = Term.Binary Operator.Equal x (written_term v) in
+    let rest = comparing (spec_in k) forms ρ (drop 1 given) (drop 1 vs) in
+    let same : Term.Binary Operator.And eq rest ≡ whole = compared-first (spec_in k) forms ρ given vs a v c.in-Some.ensures.value c.in-Some-first.ensures.value in
+    let u = c.in_ok-index.index in
+    let within : room ≤ u.room + suc (operator_count eq) = omega (arith, c.in_ok-behind_all.ensures, c.in_ok-index.ensures.room) in
+    let equal : tree.term_of c.in_ok-equal.equal ≡ folded F true eq =
+    c.in_ok-equal.ensures x true (c.in_ok-index.ensures.term ∙ ap (λ ds. folded (tree.spec_of ds) false x) (sym c.folding.ensures)) ∙ ap (λ ds. folded (tree.spec_of ds) true eq) c.folding.ensures in
+    let w = c.in_ok-others.others in
+    let others : IsUnfolded F true u.room rest w =
+    subst (λ (bs : List Argument). IsUnfolded F true u.room (comparing (spec_in k) forms ρ bs (drop 1 vs)) w) (behind-first given)
+    (subst (λ (ws : List Written). IsUnfolded F true u.room (comparing (spec_in k) forms ρ (take (length given - 1) (drop 1 given)) ws) w) (behind-first vs) c.in_ok-others.ensures) in
+    subst (λ (z : Term). IsUnfolded F true room z c.in_ok-both.field-0) same
+    (c.in_ok-both.ensures F u.room room eq rest equal others within)

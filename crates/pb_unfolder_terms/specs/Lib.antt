@@ -1,0 +1,11 @@
+pub mod View
+pub mod Values
+pub mod Forms
+pub mod Scopes
+pub mod Unfolding
+pub mod Contexts
+pub mod Chains
+pub mod Operands
+pub mod Puts
+pub mod Copies
+pub mod Assigned

@@ -1,0 +1,107 @@
+//! Arguments that are unfolded, and functions of data of them.
+
+ghost use Rattle.std.specs.Prelude.{◌≡◌, ℕ, suc, false, IfOk, string_bytes};
+ghost use Rattle.pb_text_meaning.specs.Functions.{named_function};
+ghost use Rattle.pb_text_meaning.specs.Syntax as syntax;
+ghost use Rattle.pb_folding.specs.Folding.{is_if};
+ghost use Rattle.pb_folding.specs.View.{spec_of};
+ghost use Rattle.pb_unfolder_terms.specs.Puts.{AreArguments};
+ghost use Rattle.pb_unfolder_terms.specs.Unfolding.{IsUnfolded};
+
+use crate::bounds::{bounds_of, of_function};
+use crate::form::Form;
+use crate::unfolded::Unfolded;
+use pb_folding::{Folding, application_term};
+use pb_intervals::Interval;
+use pb_text_copies::copy_name;
+use pb_text_meaning::NamedFunction;
+use pb_text_tree::{Argument, Name, Place};
+use std::alloc::{AllocError, Global};
+
+/// Arguments of a function of data, unfolded and folded.
+#[derive(Drop)]
+pub(crate) struct UnfoldedArguments {
+    pub arguments: Vec<Argument>,
+    /// How many more operators there may be behind them.
+    pub room: u32,
+    /// Between which numbers the first one stays, and the second one.
+    pub first: Option<Interval>,
+    pub second: Option<Interval>,
+}
+
+/// No arguments.
+pub(crate) fn no_arguments(alloc: Global, room: u32) -> UnfoldedArguments
+    ensures { (spec : syntax.Spec) (truth : _) →
+        AreArguments spec truth room syntax.NoTerms result }
+{
+    UnfoldedArguments {
+        arguments: Vec::new(alloc),
+        room,
+        first: None,
+        second: None,
+    }
+}
+
+/// Arguments with one more in front of them, the place being that of its first token.
+pub(crate) fn with_argument(
+    folding: &Folding<'_>,
+    place: Place,
+    first: Unfolded,
+    others: UnfoldedArguments,
+) -> Result<UnfoldedArguments, AllocError>
+    ensures { (x : syntax.Term) (xs : syntax.Terms) (n : ℕ) (truth : _) →
+        IsUnfolded (spec_of folding.now.sorts.now) truth n x first
+        → AreArguments (spec_of folding.now.sorts.now) false first.room xs others
+        → IfOk result (AreArguments (spec_of folding.now.sorts.now) truth n
+        (syntax.Then x xs)) }
+{
+    let bounds = bounds_of(folding.sorts, &first);
+    let UnfoldedArguments {
+        mut arguments,
+        room,
+        first: second,
+        ..
+    } = others;
+    let term = first.term;
+    arguments.insert(0, Argument { place, term })?;
+    Ok(UnfoldedArguments {
+        arguments,
+        room,
+        first: bounds,
+        second,
+    })
+}
+
+/// Whether a function chooses one of its arguments.
+pub(crate) fn is_choice(function: &str) -> bool
+    ensures { result ≡ is_if (named_function function.now) }
+{
+    match NamedFunction::named(function) {
+        Some(NamedFunction::If) => true,
+        _ => false,
+    }
+}
+
+/// A function of data of unfolded arguments.
+pub(crate) fn function_term(
+    folding: &Folding<'_>,
+    function: &Name,
+    arguments: UnfoldedArguments,
+) -> Result<Unfolded, AllocError>
+    ensures { (xs : syntax.Terms) (n : ℕ) (truth : _) →
+        AreArguments (spec_of folding.now.sorts.now)
+        (is_if (named_function (string_bytes function.now.text))) n xs arguments
+        → IfOk result (IsUnfolded (spec_of folding.now.sorts.now) truth (suc n)
+        (syntax.Term.Apply (string_bytes function.now.text) xs)) }
+{
+    let bounds = of_function(function.text.as_str(), arguments.first, arguments.second);
+    let room = arguments.room;
+    let function = copy_name(folding.alloc, function)?;
+    let term = application_term(folding, function, arguments.arguments)?;
+    Ok(Unfolded {
+        term,
+        form: Form::Other,
+        room,
+        bounds,
+    })
+}

@@ -1,0 +1,302 @@
+//! Unfolds what an element of an array gets by assignments.
+
+ghost use Rattle.std.specs.Prelude.{◌≡◌, ◌≤◌, ◌+◌, suc, false, true, length, IfErr, IfOk};
+ghost use Rattle.pb_folding.specs.Folding.{folded};
+ghost use Rattle.pb_folding.specs.View.{term_of};
+ghost use Rattle.pb_text_meaning.specs.Syntax as syntax;
+ghost use Rattle.pb_protocol_meaning.specs.Syntax as protocol;
+ghost use Rattle.pb_protocol_meaning.specs.Steps.{data_of};
+ghost use Rattle.pb_unfolding.specs.Unfolding as spec;
+ghost use Rattle.pb_unfolder_terms.specs.Assigned.{after_by, assignments_said, compared_by};
+ghost use Rattle.pb_unfolder_terms.specs.Assigned.{element_said};
+ghost use Rattle.pb_unfolder_terms.specs.Contexts.{IsContext, folding_in, scope_in};
+ghost use Rattle.pb_unfolder_terms.specs.Unfolding.{IsRefusal, IsUnfolded, Unfolds};
+ghost use Rattle.pb_unfolder_terms.specs.Unfolding.{operator_count};
+
+use crate::array::{choice, choosing, chosen, equality};
+use crate::bounds::is_within;
+use crate::context::{Context, variable_at};
+use crate::element::element_name;
+use crate::fault::{UnfoldError, UnfoldRule};
+use crate::form::Form;
+use crate::level::{Level, behind_all, behind_one, refused};
+use crate::operands::{Connected, connected_term, decides};
+use crate::scope::TermScope;
+use crate::sorts::Variable;
+use crate::term::MAX_LEVELS;
+use crate::unfold::unfold;
+use crate::unfolded::Unfolded;
+use crate::written::{Written, written_values};
+use pb_folding::truth_value;
+use pb_limits::MAX_OPERATORS;
+use pb_protocol_tree::Assignment;
+use pb_text_tree::{Argument, Connective, Name, Place, Term};
+use std::alloc::{AllocError, Global};
+
+/// An element of an array, or a plain state variable: its name, and a written value for each index.
+#[derive(Clone, Copy)]
+pub struct Element<'a> {
+    pub array: &'a Name,
+    pub index: &'a [Written<'a>],
+}
+
+/// Arguments of an array, which are compared with written values, and the array's indices as far as
+/// they are known. The place is that of the array.
+#[derive(Clone, Copy)]
+pub(crate) struct Compared<'a> {
+    pub place: Place,
+    pub arguments: &'a [Argument],
+    pub index: &'a [Written<'a>],
+    pub indices: &'a [Variable<'a>],
+}
+
+/// A truth value.
+fn truth(place: Place, value: bool, room: u32) -> Unfolded
+    ensures { (folding : syntax.Spec) (truth : _) →
+        IsUnfolded folding truth room (syntax.Term.Truth value) result }
+{
+    Unfolded {
+        term: Term::Constant { place, value },
+        form: Form::Truth(value),
+        room,
+        bounds: None,
+    }
+}
+
+/// Whether an unfolded index is seen to stay inside the sort of an array's first index.
+fn stays_inside(
+    context: &Context<'_>,
+    indices: &[Variable<'_>],
+    index: &Unfolded,
+    place: Place,
+) -> Result<bool, UnfoldError>
+    ensures { IfErr result (λ error. (n : _) (whole : syntax.Term) → IsRefusal n whole error) }
+{
+    let Some(variable) = indices.first() else {
+        return Ok(true);
+    };
+    let values = written_values(context.alloc, context.sorts(), variable.sort, place)?;
+    Ok(is_within(context.declarations, index, &values))
+}
+
+/// A comparison and what is compared behind it, both true.
+fn both(alloc: Global, place: Place, equal: Term, others: Unfolded) -> Result<Unfolded, AllocError>
+    ensures { (folding : syntax.Spec) (n m : _) (x y : syntax.Term) →
+        term_of equal ≡ folded folding true x
+        → IsUnfolded folding true n y others
+        → m ≤ n + suc (operator_count x)
+        → IfOk result (IsUnfolded folding true m (syntax.Term.Binary syntax.Operator.And x y)) }
+{
+    let connected = Connected {
+        connective: Connective::And,
+        truth: true,
+    };
+    let term = connected_term(alloc, connected, place, equal, others.term)?;
+    Ok(Unfolded {
+        term,
+        form: Form::Other,
+        room: others.room,
+        bounds: None,
+    })
+}
+
+/// What a comparison that is `false` gives with what is compared behind it.
+fn none_equal(place: Place, room: u32) -> Unfolded
+    ensures { (folding : syntax.Spec) (n : _) (x y : syntax.Term) →
+        folded folding true x ≡ syntax.Term.Truth false
+        → n ≤ room + suc (operator_count x)
+        → IsUnfolded folding true n (syntax.Term.Binary syntax.Operator.And x y) result }
+{
+    Unfolded {
+        term: Term::Constant {
+            place,
+            value: false,
+        },
+        form: Form::Other,
+        room,
+        bounds: None,
+    }
+}
+
+/// An element that is not assigned.
+fn itself(alloc: Global, element: Element<'_>, room: u32) -> Result<Unfolded, AllocError>
+    ensures { (folding : syntax.Spec) (sort : syntax.Name) (truth : _) → IfOk result
+        (IsUnfolded folding truth room
+        (syntax.Term.Named (spec.name_of (element_said element.entry sort)))) }
+{
+    let name = element_name(alloc, element.array, element.index)?;
+    Ok(Unfolded {
+        term: Term::Name(name),
+        form: Form::Name,
+        room,
+        bounds: None,
+    })
+}
+
+/// The arguments of an assignment to an element's array, with the element's values.
+fn compared_with<'a>(
+    context: &'a Context<'a>,
+    assignment: &'a Assignment,
+    element: Element<'a>,
+) -> Compared<'a>
+    ensures arguments { result.arguments.now ≡ assignment.now.index.items }
+    ensures index { result.index.now ≡ element.entry.index.now }
+{
+    let array = element.array.text.as_str();
+    let indices = match variable_at(&context.variables, array, element.index.len()) {
+        Some(variable) => variable.indices.as_slice(),
+        None => &[],
+    };
+    Compared {
+        place: assignment.variable.place,
+        arguments: &assignment.index,
+        index: element.index,
+        indices,
+    }
+}
+
+/// The array's indices behind the first.
+fn behind_first<'a>(indices: &'a [Variable<'a>]) -> &'a [Variable<'a>] {
+    if indices.is_empty() {
+        return indices;
+    }
+    &indices[1..]
+}
+
+/// Whether the arguments are the written values, where its truth alone counts.
+fn unfold_compared<'a>(
+    context: &'a Context<'a>,
+    scope: &'a TermScope<'a>,
+    level: Level,
+    compared: Compared<'a>,
+) -> Result<Unfolded, UnfoldError>
+    ensures { Unfolds (folding_in context.now) true level.room
+        (compared_by context.now level.definitions scope.now compared.entry) result }
+{
+    let place = compared.place;
+    let Some(argument) = compared.arguments.first() else {
+        return Ok(truth(place, compared.index.is_empty(), level.room));
+    };
+    let Some(value) = compared.index.first() else {
+        return Ok(truth(place, false, level.room));
+    };
+    let Some(depth) = level.depth.checked_sub(1) else {
+        return Err(refused(UnfoldRule::Depth, argument.place));
+    };
+    let inner = Level {
+        truth: false,
+        room: behind_all(level.room, 2, place)?,
+        depth,
+        ..level
+    };
+    let index = unfold(context, scope, inner, &argument.term)?;
+    if !stays_inside(context, compared.indices, &index, place)? {
+        return Err(refused(UnfoldRule::Index, argument.place));
+    }
+    let equal = equality(&context.folding(), &index.term, *value, place)?;
+    if decides(Connective::And, &equal) {
+        return Ok(none_equal(place, index.room));
+    }
+    let others = Compared {
+        place,
+        arguments: &compared.arguments[1..],
+        index: &compared.index[1..],
+        indices: behind_first(compared.indices),
+    };
+    let inner = Level {
+        room: index.room,
+        ..inner
+    };
+    let others = unfold_compared(context, scope, inner, others)?;
+    Ok(both(context.alloc, place, equal, others)?)
+}
+
+/// What an element is after assignments, of which the last to it counts.
+fn unfold_after<'a>(
+    context: &'a Context<'a>,
+    scope: &'a TermScope<'a>,
+    level: Level,
+    assignments: &'a [Assignment],
+    element: Element<'a>,
+) -> Result<Unfolded, UnfoldError>
+    ensures { (sort : syntax.Name) → Unfolds (folding_in context.now) false level.room
+        (after_by context.now level.definitions scope.now assignments.now
+        (element_said element.entry sort)) result }
+{
+    let Some(assignment) = assignments.last() else {
+        return Ok(itself(context.alloc, element, level.room)?);
+    };
+    let place = assignment.variable.place;
+    let Some(depth) = level.depth.checked_sub(1) else {
+        return Err(refused(UnfoldRule::Depth, place));
+    };
+    let level = Level { depth, ..level };
+    let before = &assignments[..assignments.len() - 1];
+    if assignment.variable.text.as_str() != element.array.text.as_str() {
+        return unfold_after(context, scope, level, before, element);
+    }
+    let inner = Level {
+        room: behind_one(level.room, place)?,
+        ..level
+    };
+    let compared = compared_with(context, assignment, element);
+    let condition = unfold_compared(context, scope, inner, compared)?;
+    let inner = Level {
+        truth: false,
+        room: condition.room,
+        ..level
+    };
+    match truth_value(&condition.term) {
+        Some(true) => Ok(chosen(unfold(context, scope, inner, &assignment.value.term)?)),
+        Some(false) => Ok(chosen(unfold_after(context, scope, inner, before, element)?)),
+        None => {
+            let left = unfold(context, scope, inner, &assignment.value.term)?;
+            let inner = Level {
+                room: left.room,
+                ..inner
+            };
+            let right = unfold_after(context, scope, inner, before, element)?;
+            let name = choosing(context.alloc, place)?;
+            Ok(choice(&context.folding(), name, condition.term, left, right)?)
+        }
+    }
+}
+
+/// What an element gets, by what the code has of a protocol.
+fn unfold_assigned_by<'a>(
+    context: &'a Context<'a>,
+    scope: &'a TermScope<'a>,
+    assignments: &'a [Assignment],
+    element: Element<'a>,
+) -> Result<Unfolded, UnfoldError>
+    ensures { (sort : syntax.Name) → Unfolds (folding_in context.now) false MAX_OPERATORS
+        (after_by context.now (length context.now.definitions.items) scope.now assignments.now
+        (element_said element.entry sort)) result }
+{
+    let level = Level {
+        truth: false,
+        definitions: context.definitions.len(),
+        room: MAX_OPERATORS as u32,
+        depth: MAX_LEVELS,
+    };
+    unfold_after(context, scope, level, assignments, element)
+}
+
+/// What an element of an array gets by assignments, folded. Of several to it the last counts, and
+/// without one it stays what it is.
+///
+/// # Errors
+/// There would be more than 8,192 operators, terms nest too deep, more than 8,192 values are
+/// written out, an index isn't seen to stay inside its sort, or memory was refused.
+pub fn unfold_assigned<'a>(
+    context: &'a Context<'a>,
+    scope: &'a TermScope<'a>,
+    assignments: &'a [Assignment],
+    element: &'a Element<'a>,
+) -> Result<Unfolded, UnfoldError>
+    ensures { (m : protocol.Protocol) (sort : syntax.Name) → IsContext m context.now
+        → Unfolds (data_of m) false MAX_OPERATORS (spec.unfolded_assignment m (scope_in m scope.now)
+        (assignments_said assignments.now) (element_said element.now sort)).term result }
+{
+    unfold_assigned_by(context, scope, assignments, *element)
+}

@@ -1,0 +1,38 @@
+//! Unfolds data terms of protocols: values are put in for variables, definitions are written out,
+//! and what written values decide is folded on the way.
+#![tactic(auto)]
+
+mod applications;
+mod arguments;
+mod array;
+mod assigned;
+mod bounds;
+mod connectives;
+mod context;
+mod element;
+mod enumerator;
+mod fault;
+mod form;
+mod level;
+mod names;
+mod operands;
+mod protocol;
+mod reads;
+mod scope;
+mod sorts;
+mod term;
+mod unfold;
+mod unfolded;
+mod variables;
+mod written;
+
+pub use assigned::{Element, unfold_assigned};
+pub use context::Context;
+pub use element::element_name;
+pub use fault::{UnfoldError, UnfoldFault, UnfoldRule};
+pub use scope::{Found, TermScope, looked_up};
+pub use sorts::{Sorts, Variable};
+pub use term::unfold_term;
+pub use unfolded::Unfolded;
+pub use variables::variables_of;
+pub use written::{Written, written_tuples, written_values};

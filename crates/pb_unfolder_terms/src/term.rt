@@ -1,0 +1,59 @@
+//! Unfolds a term of a protocol.
+
+ghost use Rattle.std.specs.Prelude.{length};
+ghost use Rattle.pb_folding.specs.View as tree;
+ghost use Rattle.pb_protocol_meaning.specs.Syntax.{Protocol};
+ghost use Rattle.pb_protocol_meaning.specs.Steps.{data_of};
+ghost use Rattle.pb_unfolding.specs.Unfolding.{unfolded_term};
+ghost use Rattle.pb_unfolder_terms.specs.Contexts.{IsContext, folding_in, scope_in};
+ghost use Rattle.pb_unfolder_terms.specs.Puts.{put};
+ghost use Rattle.pb_unfolder_terms.specs.Unfolding.{Unfolds};
+
+use crate::context::Context;
+use crate::fault::UnfoldError;
+use crate::level::Level;
+use crate::scope::TermScope;
+use crate::unfold::unfold;
+use crate::unfolded::Unfolded;
+use pb_limits::MAX_OPERATORS;
+use pb_text_tree::Term;
+
+/// How many terms may be open, each within the one before or what a name in it stands for.
+pub(crate) const MAX_LEVELS: u32 = 200;
+
+/// A term by what the code has of a protocol.
+fn unfold_by<'a>(
+    context: &'a Context<'a>,
+    scope: &'a TermScope<'a>,
+    truth: bool,
+    term: &'a Term,
+) -> Result<Unfolded, UnfoldError>
+    ensures { Unfolds (folding_in context.now) truth MAX_OPERATORS
+        (put context.now (length context.now.definitions.items) scope.now
+        (tree.term_of term.now)) result }
+{
+    let level = Level {
+        truth,
+        definitions: context.definitions.len(),
+        room: MAX_OPERATORS as u32,
+        depth: MAX_LEVELS,
+    };
+    unfold(context, scope, level, term)
+}
+
+/// A term with what its names stand for put in, folded: where its truth alone counts, or its value.
+///
+/// # Errors
+/// There would be more than 8,192 operators, terms nest too deep, more than 8,192 values are
+/// written out, an index isn't seen to stay inside its sort, or memory was refused.
+pub fn unfold_term<'a>(
+    context: &'a Context<'a>,
+    scope: &'a TermScope<'a>,
+    truth: bool,
+    term: &'a Term,
+) -> Result<Unfolded, UnfoldError>
+    ensures { (m : Protocol) → IsContext m context.now → Unfolds (data_of m) truth MAX_OPERATORS
+        (unfolded_term m (scope_in m scope.now) (tree.term_of term.now)) result }
+{
+    unfold_by(context, scope, truth, term)
+}
