@@ -1,2 +1,6 @@
 pub mod Enumerators
 pub mod Listed
+pub mod Called
+pub mod GroupValues
+pub mod SaidStates
+pub mod Summands

@@ -1,3 +1,7 @@
 pub mod Examples
+pub mod GroupLines
+pub mod Laws
+pub mod States
+pub mod Vocabulary
 pub mod View
 pub mod Words

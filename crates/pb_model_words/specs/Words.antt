@@ -1,4 +1,4 @@
--- How values, states and moves of a model are written.
+-- How values, states and moves of a model are written, in a vocabulary.
 use Rattle.std.specs.Prelude.{ℕ, zero, suc, ◌==◌, pos, negsuc, Bool, true, false, ◌&&◌}
 use Rattle.std.specs.Prelude.{if◌then◌else◌, List, [], ◌∷◌, ◌++◌, map, length, Option, Some, None}
 use Rattle.std.specs.Prelude.{codes}
@@ -12,7 +12,8 @@ use Rattle.pb_text_meaning.specs.Syntax.{Name, same_name, Enumerator, Sort, Stru
 use Rattle.pb_text_meaning.specs.Syntax.{SortDeclaration}
 use Rattle.pb_text_meaning.specs.Sorts.{declared}
 use Rattle.pb_text_meaning.specs.Erase.{erased_declaration}
-use Rattle.pb_model_tree.specs.Form.{StepForm, ModelForm}
+use Rattle.pb_model_words.specs.Vocabulary.{ToldStep, Vocabulary}
+use Rattle.pb_model_words.specs.States.{says, says_after}
 
 -- ---- values
 
@@ -65,8 +66,8 @@ in_brackets (w ∷ ws) = marked (codes "(") (codes ",") (w ∷ ws) ++ codes ")"
 
 -- ---- states
 
--- the sorts that a model declares
-abbrev pub sorts_of : ModelForm → List SortDeclaration
+-- the sorts of a vocabulary
+abbrev pub sorts_of : Vocabulary → List SortDeclaration
 sorts_of m = map erased_declaration m.sorts
 
 -- `p = idle` for each variable
@@ -76,8 +77,8 @@ equations sorts (x ∷ xs) (v ∷ vs) =
 equations sorts xs vs = []
 
 -- `p = idle, n = 3`
-abbrev pub state_text : ModelForm → Tuple → List ℕ
-state_text m s = marked [] (codes ", ") (equations (sorts_of m) m.variables s)
+abbrev pub state_text : Vocabulary → Tuple → List ℕ
+state_text m s = marked [] (codes ", ") (equations (sorts_of m) m.variables (says m s))
 
 -- values of variables
 abbrev pub value_texts : List SortDeclaration → List VariableForm → Tuple → List (List ℕ)
@@ -86,8 +87,8 @@ value_texts sorts (x ∷ xs) (v ∷ vs) =
 value_texts sorts xs vs = []
 
 -- a state by its values alone: `(idle,3)`
-abbrev pub values_text : ModelForm → Tuple → List ℕ
-values_text m s = in_brackets (value_texts (sorts_of m) m.variables s)
+abbrev pub values_text : Vocabulary → Tuple → List ℕ
+values_text m s = in_brackets (value_texts (sorts_of m) m.variables (says m s))
 
 -- ---- moves
 
@@ -99,40 +100,41 @@ changes sorts (x ∷ xs) (v ∷ vs) (w ∷ ws) =
 changes sorts xs vs ws = []
 
 -- `: p := trying, n := 4`, and nothing where no value is another one
-abbrev pub changes_text : ModelForm → Tuple → Tuple → List ℕ
+abbrev pub changes_text : Vocabulary → Tuple → Tuple → List ℕ
 changes_text m before after =
-    marked (codes ": ") (codes ", ") (changes (sorts_of m) m.variables before after)
+    marked (codes ": ") (codes ", ")
+    (changes (sorts_of m) m.variables (says m before) (says_after m before after))
 
 -- a step's name stands at the place
-abbrev pub stands_at : Place → StepForm → Bool
+abbrev pub stands_at : Place → ToldStep → Bool
 stands_at p a = (a.name.place.line == p.line) && (a.name.place.column == p.column)
 
 -- the first step whose name stands at the place
-abbrev pub step_at : ModelForm → Place → Option StepForm
+abbrev pub step_at : Vocabulary → Place → Option ToldStep
 step_at m p = find (stands_at p) m.steps
 
 -- a step's name with values of its own variables in brackets: `put(1,green)`
-abbrev pub named_step : List SortDeclaration → StepForm → Tuple → List ℕ
+abbrev pub named_step : List SortDeclaration → ToldStep → Tuple → List ℕ
 named_step sorts a own = a.name.text ++ in_brackets (value_texts sorts a.variables own)
 
 -- a step with its own values; with no step the state stays
-abbrev pub step_text : List SortDeclaration → Option StepForm → Tuple → List ℕ
+abbrev pub step_text : List SortDeclaration → Option ToldStep → Tuple → List ℕ
 step_text sorts None own = codes "stays"
 step_text sorts (Some a) own = named_step sorts a own
 
 -- the step at a place with its own values, and the values that are others after it:
 -- `put(1,green): x := 1`
-abbrev pub move_text : ModelForm → Place → Tuple → Tuple → Tuple → List ℕ
+abbrev pub move_text : Vocabulary → Place → Tuple → Tuple → Tuple → List ℕ
 move_text m place own before after =
     step_text (sorts_of m) (step_at m place) own ++ changes_text m before after
 
 -- ---- marks
 
 -- a step with its own values behind a sign; nothing where there is no step
-abbrev pub step_mark : List SortDeclaration → Option StepForm → Tuple → List ℕ
+abbrev pub step_mark : List SortDeclaration → Option ToldStep → Tuple → List ℕ
 step_mark sorts None own = []
 step_mark sorts (Some a) own = codes "@" ++ named_step sorts a own
 
 -- the step at a place with its own values: `@put(1,green)`
-abbrev pub mark_text : ModelForm → Place → Tuple → List ℕ
+abbrev pub mark_text : Vocabulary → Place → Tuple → List ℕ
 mark_text m place own = step_mark (sorts_of m) (step_at m place) own

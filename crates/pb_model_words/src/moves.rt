@@ -2,16 +2,16 @@
 //! known, the step's mark.
 
 ghost use Rattle.std.specs.Prelude.{◌≡◌, ◌++◌, OnOk, string_bytes, map};
-ghost use Rattle.pb_model_tree.specs.Form.{model_form, step_form};
 ghost use Rattle.pb_model_words.specs.Words.{in_brackets, mark_text, move_text, named_step};
 ghost use Rattle.pb_model_words.specs.Words.{stands_at, step_mark, step_text, value_texts};
-ghost use Rattle.pb_model_words.specs.View.{declarations, step_said, variable_said};
+ghost use Rattle.pb_model_words.specs.View.{declarations, step_said, told_step_said, variable_said};
+ghost use Rattle.pb_model_words.specs.View.{vocabulary_of};
 ghost use Rattle.std.specs.List.{find};
 
 use crate::states::push_changes;
 use crate::values::{Values, push_mark};
 use crate::variables::{Variable, variables_of};
-use pb_model_tree::{Model, Step};
+use crate::vocabulary::{ToldStep, Vocabulary};
 use pb_text_tree::Place;
 use std::alloc::{AllocError, Global};
 
@@ -25,16 +25,16 @@ pub struct Move<'a> {
     pub after: &'a [i64],
 }
 
-fn stands_at(place: Place, step: &Step) -> bool
-    ensures { result ≡ stands_at place (step_form step.now) }
+fn stands_at(place: Place, step: &ToldStep<'_>) -> bool
+    ensures { result ≡ stands_at place (told_step_said step.now) }
 {
-    let own = step.name.place;
+    let own = step.place;
     own.line == place.line && own.column == place.column
 }
 
 /// The first step whose name stands at the place.
-fn step_at(steps: &[Step], place: Place) -> Option<&Step>
-    ensures { step_said result ≡ find (stands_at place) (map step_form steps.now) }
+fn step_at<'a>(steps: &'a [ToldStep<'a>], place: Place) -> Option<&'a ToldStep<'a>>
+    ensures { step_said result ≡ find (stands_at place) (map told_step_said steps.now) }
 {
     for step in steps {
         if stands_at(place, step) {
@@ -75,14 +75,14 @@ impl Values<'_> {
         &self,
         alloc: Global,
         text: &mut String,
-        step: &Step,
+        step: &ToldStep<'_>,
         own: &[i64],
     ) -> Result<(), AllocError>
         ensures { OnOk result (string_bytes text.new ≡ string_bytes text.old
-            ++ named_step (declarations self.now.sorts.now) (step_form step.now) own.now) }
+            ++ named_step (declarations self.now.sorts.now) (told_step_said step.now) own.now) }
     {
-        text.push_str(step.name.text.as_str())?;
-        let variables = variables_of(alloc, &step.variables)?;
+        text.push_str(step.name)?;
+        let variables = variables_of(alloc, step.variables)?;
         self.push_in_brackets(text, &variables, own)
     }
 
@@ -91,7 +91,7 @@ impl Values<'_> {
         &self,
         alloc: Global,
         text: &mut String,
-        step: Option<&Step>,
+        step: Option<&ToldStep<'_>>,
         own: &[i64],
     ) -> Result<(), AllocError>
         ensures { OnOk result (string_bytes text.new ≡ string_bytes text.old
@@ -108,7 +108,7 @@ impl Values<'_> {
         &self,
         alloc: Global,
         text: &mut String,
-        step: Option<&Step>,
+        step: Option<&ToldStep<'_>>,
         own: &[i64],
     ) -> Result<(), AllocError>
         ensures { OnOk result (string_bytes text.new ≡ string_bytes text.old
@@ -132,17 +132,17 @@ impl Values<'_> {
 pub fn push_move(
     alloc: Global,
     text: &mut String,
-    model: &Model,
+    vocabulary: &Vocabulary<'_>,
     made: &Move<'_>,
 ) -> Result<(), AllocError>
     ensures { OnOk result (string_bytes text.new ≡ string_bytes text.old
-        ++ move_text (model_form model.now) made.now.place made.now.own.now
+        ++ move_text (vocabulary_of vocabulary.now) made.now.place made.now.own.now
         made.now.before.now made.now.after.now) }
 {
-    let sorts = &model.sorts;
-    let step = step_at(&model.steps, made.place);
+    let sorts = vocabulary.sorts;
+    let step = step_at(&vocabulary.steps, made.place);
     Values { sorts }.push_step(alloc, text, step, made.own)?;
-    push_changes(alloc, text, model, made.before, made.after)
+    push_changes(alloc, text, vocabulary, made.before, made.after)
 }
 
 /// Puts the step behind a text whose name stands at a place, with values of its own variables:
@@ -153,14 +153,14 @@ pub fn push_move(
 pub fn push_step_mark(
     alloc: Global,
     text: &mut String,
-    model: &Model,
+    vocabulary: &Vocabulary<'_>,
     place: Place,
     own: &[i64],
 ) -> Result<(), AllocError>
     ensures { OnOk result (string_bytes text.new ≡ string_bytes text.old
-        ++ mark_text (model_form model.now) place own.now) }
+        ++ mark_text (vocabulary_of vocabulary.now) place own.now) }
 {
-    let sorts = &model.sorts;
-    let step = step_at(&model.steps, place);
+    let sorts = vocabulary.sorts;
+    let step = step_at(&vocabulary.steps, place);
     Values { sorts }.push_step_mark(alloc, text, step, own)
 }

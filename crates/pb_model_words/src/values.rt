@@ -93,7 +93,7 @@ impl Values<'_> {
             ++ binding_text (declarations self.now.sorts.now) (variable_said variable.now)
             sign.now value) }
     {
-        text.push_str(variable.name.text.as_str())?;
+        text.push_str(variable.name)?;
         text.push_str(sign)?;
         self.push(text, variable.sort.text.as_str(), value)
     }

@@ -4,13 +4,14 @@ ghost use Rattle.std.specs.Prelude.{◌≡◌, ◌++◌, map, IfOk, OnOk};
 ghost use Rattle.pb_text_tree.specs.Form.{variable_forms, variables_form};
 ghost use Rattle.pb_model_words.specs.View.{variable_said};
 
-use pb_text_tree::{Name, Variables};
+use pb_text_tree::{Name, Place, Variables};
 use std::alloc::{AllocError, Global};
 
-/// A variable with its sort.
+/// A variable by what it is called, with the place of its name and its sort.
 #[derive(Clone, Copy)]
 pub(crate) struct Variable<'a> {
-    pub name: &'a Name,
+    pub name: &'a str,
+    pub place: Place,
     pub sort: &'a Name,
 }
 
@@ -38,7 +39,9 @@ fn push_group<'a>(variables: &mut Vec<Variable<'a>>, group: &'a Variables) -> Re
 {
     let sort = &group.sort;
     for name in &group.names {
-        variables.push(Variable { name, sort })?;
+        let place = name.place;
+        let name = name.text.as_str();
+        variables.push(Variable { name, place, sort })?;
     }
     Ok(())
 }

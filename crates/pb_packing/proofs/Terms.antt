@@ -9,7 +9,6 @@ use Rattle.pb_carriers.specs.Carrier.{Value, of_bool}
 use Rattle.pb_carriers.specs.Division.{quotient, remainder}
 use Rattle.pb_text_meaning.specs.Syntax.{Name, same_name, Operator, Term, Terms, Spec}
 use Rattle.pb_text_meaning.specs.Functions.{named_function}
-use Rattle.pb_text_meaning.proofs.Truths.{is_true-of_bool}
 use Rattle.pb_text_meaning.specs.Value.{Assignment, is_true, binary, value}
 use Rattle.pb_packing.specs.Numbers.{Kind, Boolean, Enumeration, Whole, number, times, divided, rest, raised, lowered, either, enumerator_at, place_of, from_number, computed_number, place_among, place_or, place_number, constant_number, number_or, to_number, gives_truth, is_truth, is_enumerator, is_surely_within, is_one_of, test_of}
 use Rattle.pb_packing.specs.Said.{Digit, compared_place, by_place, compared}
@@ -18,6 +17,10 @@ use Rattle.std.proofs.lemmas.Bool.{and_parts}
 use Rattle.pb_carriers.specs.Carrier.{numbers_from, contains}
 use Rattle.pb_packing.proofs.Digits.{same-bool, contains-at, contains-bounds}
 use Rattle.pb_packing.proofs.Lists.{some-is, none-is}
+
+pub truth : (b : Bool) → is_true (of_bool b) ≡ b
+truth true = refl
+truth false = refl
 
 module _ (N : Spec) (c : Assignment) where
   -- these names have the values n, n + 1 ..
@@ -40,7 +43,7 @@ module _ (N : Spec) (c : Assignment) where
   value-either x y z = refl
 
   value-if : (b : Bool) (x y z : Term) → value N c x ≡ of_bool b → value N c (either x y z) ≡ (if b then value N c y else value N c z)
-  value-if b x y z e = value-either x y z ∙ ap (λ b. if b then value N c y else value N c z) (ap is_true e ∙ is_true-of_bool b)
+  value-if b x y z e = value-either x y z ∙ ap (λ b. if b then value N c y else value N c z) (ap is_true e ∙ truth b)
 
   equal : (v w : Value) → v ≡ w → int_eq v w ≡ true
   equal v w e = (Decides-int_eq v w).1 e
@@ -307,11 +310,11 @@ module _ (N : Spec) (c : Assignment) where
   value-one_of : (n : ℕ) (es : List Name) (x : Term) → Placed n es → is_true (value N c (is_one_of es x)) ≡ contains (numbers_from (pos n) (length es)) (value N c x)
   value-one_of n [] x placed = refl
   value-one_of n (e ∷ []) x placed =
-      let v = value N c x in is_true-of_bool _ ∙ (ap (λ u. int_eq v u) placed.0 ∙ (turned v (pos n) ∙ sym (or-false (int_eq (pos n) v))))
+      let v = value N c x in truth _ ∙ (ap (λ u. int_eq v u) placed.0 ∙ (turned v (pos n) ∙ sym (or-false (int_eq (pos n) v))))
   value-one_of n (e ∷ f ∷ es) x placed =
       let v = value N c x in
-      is_true-of_bool _
-      ∙ (ap (λ b. b || is_true (value N c (is_one_of (f ∷ es) x))) (is_true-of_bool _ ∙ (ap (λ u. int_eq v u) placed.0 ∙ turned v (pos n)))
+      truth _
+      ∙ (ap (λ b. b || is_true (value N c (is_one_of (f ∷ es) x))) (truth _ ∙ (ap (λ u. int_eq v u) placed.0 ∙ turned v (pos n)))
       ∙ ap (λ b. int_eq (pos n) v || b) (value-one_of (suc n) (f ∷ es) x placed.1 ∙ ap (λ (z : ℤ). contains (numbers_from z (length (f ∷ es))) v) (next n)))
     where
       next : (n : ℕ) → pos (suc n) ≡ pos n +ℤ pos 1
@@ -320,14 +323,14 @@ module _ (N : Spec) (c : Assignment) where
   pub value-test : (k : Kind) (low : ℤ) (size : ℕ) (x : Term) → KindAt k low size → is_true (value N c (test_of k low size x)) ≡ contains (numbers_from low size) (value N c x)
   value-test Boolean low size x kind =
       let v = value N c x in
-      is_true-of_bool _
-      ∙ (ap (λ b. b || is_true (of_bool (int_eq v (pos 1)))) (is_true-of_bool _ ∙ turned v (pos 0))
-      ∙ (ap (λ b. int_eq (pos 0) v || b) (is_true-of_bool _ ∙ (turned v (pos 1) ∙ sym (or-false (int_eq (pos 1) v))))
+      truth _
+      ∙ (ap (λ b. b || is_true (of_bool (int_eq v (pos 1)))) (truth _ ∙ turned v (pos 0))
+      ∙ (ap (λ b. int_eq (pos 0) v || b) (truth _ ∙ (turned v (pos 1) ∙ sym (or-false (int_eq (pos 1) v))))
       ∙ sym (carrier-is low size 2 v kind.0 kind.1)))
   value-test (Enumeration es) low size x kind = value-one_of 0 es x kind.2 ∙ sym (carrier-is low size (length es) (value N c x) kind.0 kind.1)
   value-test Whole low size x kind =
       let v = value N c x in
-      is_true-of_bool _
-      ∙ (ap (λ b. b && is_true (of_bool (int_lt v (value N c (number (low +ℤ pos size)))))) (is_true-of_bool _ ∙ ap (λ z. int_le z v) (value-number low))
-      ∙ (ap (λ b. int_le low v && b) (is_true-of_bool _ ∙ ap (λ z. int_lt v z) (value-number (low +ℤ pos size)))
+      truth _
+      ∙ (ap (λ b. b && is_true (of_bool (int_lt v (value N c (number (low +ℤ pos size)))))) (truth _ ∙ ap (λ z. int_le z v) (value-number low))
+      ∙ (ap (λ b. int_le low v && b) (truth _ ∙ ap (λ z. int_lt v z) (value-number (low +ℤ pos size)))
       ∙ sym (contains-bounds low size v)))

@@ -26,4 +26,5 @@ mod WellTerm
 mod WellText
 mod RangeWords
 mod RangeCut
+mod CommentCut
 pub mod SaidRanges

@@ -1,10 +1,12 @@
 -- What is printed of a text that was read is read back as that text.
-use Rattle.std.proofs.Common.{ℕ, false, List, [], ◌∷◌, ◌++◌, refl, sym, subst}
+use Rattle.std.proofs.Common.{◌≡◌, ℕ, false, List, [], ◌∷◌, ◌++◌, refl, sym, subst}
+use Rattle.pb_text_tree.specs.declared.place.Place.{Place}
 use Rattle.pb_text_tree.specs.Form.{RangeForm, SpecForm}
 use Rattle.pb_text_lexer.specs.declared.kind.Kind.TheVariants.{End}
 use Rattle.pb_text_lexer.specs.Lexing.{start}
 use Rattle.pb_text_lexer.specs.Tokens.{token_at}
 use Rattle.pb_text.specs.Parsing.{IsReading, depth_limit, operator_limit}
+use Rattle.pb_text_printer.specs.Comments.{comment_bytes}
 use Rattle.pb_text_printer.specs.Words.{written, text_words, text_bytes}
 use Rattle.pb_text_printer.specs.Sayable.{Each, RangeSayable, TextSayable}
 use Rattle.pb_text_printer.specs.Printing.{ReadsAs, ReadsWithin, IsPrinted, IsSayable}
@@ -14,7 +16,8 @@ use Rattle.pb_text_printer.proofs.BackText.{text-back}
 use Rattle.pb_text_printer.proofs.WellText.{text-well}
 use Rattle.pb_text_printer.proofs.WrittenLemmas.{written-cut}
 use Rattle.pb_text_printer.proofs.SaidRanges.{ranges-said}
-use Rattle.pb_text_printer.proofs.RangeCut.{ranges-cut}
+use Rattle.pb_text_printer.proofs.RangeCut.{RangesCut, ranges-cut}
+use Rattle.pb_text_printer.proofs.CommentCut.{comment-cut}
 
 sayable : (bytes : List ℕ) (x : SpecForm) → IsReading bytes x → TextSayable depth_limit operator_limit x
 sayable bytes x r = text-said depth_limit operator_limit r.tokens r.ranges x (cut-lexical bytes r.tokens r.ranges r.cut) r.says
@@ -25,12 +28,10 @@ said-reads depth limit printed x h p =
     let back = text-back depth limit x p.ranges h p.lines p.tokens p.end p.ends p.words in
     record { says = back.says; reading = record { tokens = p.tokens; ranges = p.ranges; cut = p.cut; says = back.reads }; same = sym back.same }
 
--- the bytes of a text that can be said
-pub sayable-reads : (depth limit : ℕ) (x : SpecForm) → IsSayable depth limit x → ReadsWithin depth limit (text_bytes x) x
-sayable-reads depth limit x h =
-    let well = text-well depth limit x h.text in
-    let c = ranges-cut x.ranges (written false (text_words x)) (text_words x) h.ranges (λ q. written-cut false (text_words x) q well) start refl in
-    said-reads depth limit (text_bytes x) x h.text (record {
+-- so are bytes that are cut into its range lines and words
+cut-reads : (depth limit : ℕ) (printed : List ℕ) (x : SpecForm) → TextSayable depth limit x → RangesCut start printed (text_words x) x.ranges → ReadsWithin depth limit printed x
+cut-reads depth limit printed x h c =
+    said-reads depth limit printed x h (record {
       tokens = c.tokens ++ token_at c.place End [] ∷ [];
       ranges = c.ranges;
       end = token_at c.place End [];
@@ -39,6 +40,22 @@ sayable-reads depth limit x h =
       ends = refl;
       lines = c.same;
     })
+
+-- where a line begins
+text-cut : (depth limit : ℕ) (x : SpecForm) → IsSayable depth limit x → (p : Place) → p.column ≡ 1 → RangesCut p (text_bytes x) (text_words x) x.ranges
+text-cut depth limit x h p first =
+    let well = text-well depth limit x h.text in
+    ranges-cut x.ranges (written false (text_words x)) (text_words x) h.ranges (λ q. written-cut false (text_words x) q well) p first
+
+-- the bytes of a text that can be said
+pub sayable-reads : (depth limit : ℕ) (x : SpecForm) → IsSayable depth limit x → ReadsWithin depth limit (text_bytes x) x
+sayable-reads depth limit x h = cut-reads depth limit (text_bytes x) x h.text (text-cut depth limit x h start refl)
+
+-- and below a comment
+pub commented-reads : (depth limit : ℕ) (comment : List ℕ) (x : SpecForm) → IsSayable depth limit x → ReadsWithin depth limit (comment_bytes comment ++ text_bytes x) x
+commented-reads depth limit comment x h =
+    cut-reads depth limit (comment_bytes comment ++ text_bytes x) x h.text
+    (comment-cut comment (text_bytes x) (text_words x) x.ranges (text-cut depth limit x h) start refl)
 
 -- ---- the same of a text that was read
 

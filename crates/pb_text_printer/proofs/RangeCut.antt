@@ -105,7 +105,7 @@ pub record RangesCut (p : Place) (bs : List ℕ) (ws : List Word) (rs : List Ran
   pub spells : (us : List Tok) → Spells ws (tokens ++ us) us
   pub same : map unplaced_range ranges ≡ map unplaced_range rs
 
-newline-before : (p : Place) (bs : List ℕ) (ws : List Word) (rs : List RangeForm) → ((q : Place) → q.column ≡ 1 → RangesCut q bs ws rs) → RangesCut p (10 ∷ bs) ws rs
+pub newline-before : (p : Place) (bs : List ℕ) (ws : List Word) (rs : List RangeForm) → ((q : Place) → q.column ≡ 1 → RangesCut q bs ws rs) → RangesCut p (10 ∷ bs) ws rs
 unfolding piece ranges_at
 newline-before p bs ws rs behind =
     let c = behind (past p (10 ∷ [])) refl in

@@ -4,3 +4,4 @@ pub mod Words
 pub mod Page
 pub mod Parts
 pub mod Sayable
+pub mod Comments

@@ -1,8 +1,9 @@
 //! What is known of printed texts.
 
-ghost use Rattle.std.specs.Prelude.{ℕ, List};
+ghost use Rattle.std.specs.Prelude.{◌≡◌, ℕ, List, [], ◌∷◌, ◌++◌, codes};
 ghost use Rattle.pb_text_tree.specs.Form.{SpecForm};
 ghost use Rattle.pb_text.specs.Parsing.{IsReading};
+ghost use Rattle.pb_text_printer.specs.Comments.{comment_bytes};
 ghost use Rattle.pb_text_printer.specs.Printing.{IsPrinted, IsSayable, ReadsAs, ReadsWithin};
 ghost use Rattle.pb_text_printer.specs.Words.{text_bytes};
 
@@ -25,4 +26,16 @@ pub fn printed_text_is_read_back()
 pub fn sayable_text_is_read_back()
     ensures { (depth operators : ℕ) (x : SpecForm) → IsSayable depth operators x
         → ReadsWithin depth operators (text_bytes x) x }
+{}
+
+/// So is it from what is printed of it below any comment.
+pub fn commented_text_is_read_back()
+    ensures { (depth operators : ℕ) (comment : List ℕ) (x : SpecForm) → IsSayable depth operators x
+        → ReadsWithin depth operators (comment_bytes comment ++ text_bytes x) x }
+{}
+
+/// A comment of two lines, as the definition computes it; what ends the second one isn't in it.
+pub fn worked_comment()
+    ensures { comment_bytes (codes "p = 1" ++ (10 ∷ codes "q = 2"))
+        ≡ codes "% p = 1" ++ (10 ∷ codes "% q = 2" ++ 10 ∷ []) }
 {}

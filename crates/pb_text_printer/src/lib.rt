@@ -5,6 +5,7 @@
 //! that text but for places, and `specs/Unplaced.antt` says what that is.
 #![tactic(auto)]
 
+mod comment;
 mod formula;
 mod laws;
 mod level;
@@ -14,6 +15,10 @@ mod text;
 mod variables;
 mod writer;
 
-pub use laws::{printed_text_is_read_back, printed_words_are_read_back, sayable_text_is_read_back};
+pub use comment::print_with_comment;
+pub use laws::{
+    commented_text_is_read_back, printed_text_is_read_back, printed_words_are_read_back,
+    sayable_text_is_read_back, worked_comment,
+};
 pub use pb_text_copies::copy_term as copy;
 pub use printing::print;

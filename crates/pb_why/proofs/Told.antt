@@ -6,7 +6,7 @@ use Rattle.pb_text_tree.specs.Form.{spec_form}
 use Rattle.pb_trees.specs.Tree.{Tree}
 use Rattle.pb_bytecode.specs.Contents.{Contents}
 use Rattle.pb_bytecode.specs.Meaning.{AreTrees}
-use Rattle.pb_model_tree.specs.Form.{model_form}
+use Rattle.pb_model_words.specs.View.{vocabulary_of}
 use Rattle.pb_model_words.specs.Words.{state_text}
 use Rattle.pb_sorts.specs.Instance.{Instance, instance_of}
 use Rattle.pb_call_places.specs.MadeCalls.{calls_at}
@@ -39,7 +39,7 @@ from-some t k p is other =
     (ne_eqb (suc (parent_at t.graph k)) k (λ e. other (ap suc is ∙ e))))
 
 abbrev first-arrival : Told → List ℕ
-first-arrival t = codes ": " ++ state_text t.model (line_instance t 0).values
+first-arrival t = codes ": " ++ state_text t.vocabulary (line_instance t 0).values
 
 abbrev later-arrival : Told → ℕ → List ℕ
 later-arrival t k =
@@ -51,11 +51,11 @@ arrival-later t k other = sym (ap (λ b. if b then first-arrival t else later-ar
 
 -- the move from a line whose calls are known
 pub move-said : (s : Shown) (p q : ℕ) (x : Caller) → IsCaller s p x → p ≡ q → (i j : Instance) → i ≡ j
-    → move_among (model_form s.model.now) (call_views x.calls.items) (instance_of x.instance) i
+    → move_among (vocabulary_of s.vocabulary.now) (call_views x.calls.items) (instance_of x.instance) i
     ≡ move_between (told_of s) (line_instance (told_of s) q) j
 move-said s p q x is same i j to =
-    ap (λ calls. move_among (model_form s.model.now) calls (instance_of x.instance) i) is.calls
-    ∙ (ap (λ from. move_among (model_form s.model.now) (calls_at (spec_form s.typed.now.spec) (line_instance (told_of s) p)) from i) is.caller
+    ap (λ calls. move_among (vocabulary_of s.vocabulary.now) calls (instance_of x.instance) i) is.calls
+    ∙ (ap (λ from. move_among (vocabulary_of s.vocabulary.now) (calls_at (spec_form s.typed.now.spec) (line_instance (told_of s) p)) from i) is.caller
     ∙ (ap (λ n. move_between (told_of s) (line_instance (told_of s) n) i) same
     ∙ ap (λ n. move_between (told_of s) (line_instance (told_of s) q) n) to))
 

@@ -7,7 +7,7 @@
 use Rattle.std.specs.Prelude.{ℕ, List, [], ◌++◌, codes, flat_map, length, Option, Some, None}
 use Rattle.std.specs.List.{find, range_with_len}
 use Rattle.pb_sorts.specs.Instance.{Instance}
-use Rattle.pb_model_tree.specs.Form.{ModelForm}
+use Rattle.pb_model_words.specs.Vocabulary.{Vocabulary}
 use Rattle.pb_model_words.specs.Words.{values_text, mark_text}
 use Rattle.pb_call_places.specs.MadeCalls.{MadeCall, calls_at}
 use Rattle.pb_report.specs.EvidenceText.{line_tail}
@@ -16,22 +16,22 @@ use Rattle.pb_why.specs.WhyText.{is_cut_at, line_instance}
 
 -- an equation's name with the values of a state
 abbrev pub instance_text : Told → Instance → List ℕ
-instance_text t i = formula_text t i ++ values_text t.model i.values
+instance_text t i = formula_text t i ++ values_text t.vocabulary i.values
 
 -- the step of a call, where one is made and it stands at a step's name
-abbrev pub call_mark : ModelForm → Option MadeCall → List ℕ
+abbrev pub call_mark : Vocabulary → Option MadeCall → List ℕ
 call_mark m None = []
 call_mark m (Some c) = mark_text m c.place c.own
 
 -- that of the first of these calls that names an instance
-abbrev pub mark_among : ModelForm → List MadeCall → Instance → List ℕ
+abbrev pub mark_among : Vocabulary → List MadeCall → Instance → List ℕ
 mark_among m calls j = call_mark m (find (is_call_of j) calls)
 
 -- the instance n, come to from another one
 abbrev pub dependency_text : Told → Instance → ℕ → List ℕ
 dependency_text t i n =
     codes " " ++ (instance_text t (instance_at t n)
-    ++ mark_among t.model (calls_at t.text i) (instance_at t n))
+    ++ mark_among t.vocabulary (calls_at t.text i) (instance_at t n))
 
 -- what the line at k rests on
 abbrev pub dependencies_text : Told → ℕ → List ℕ

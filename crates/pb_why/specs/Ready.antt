@@ -2,7 +2,7 @@
 use Rattle.std.specs.Prelude.{◌≡◌, ℕ, ◌<◌, true, List, length, slice_index, Option, Some, None}
 use Rattle.std.specs.Borrow.{Bor}
 use Rattle.pb_text_tree.specs.Form.{spec_form}
-use Rattle.pb_model_tree.specs.Form.{model_form}
+use Rattle.pb_model_words.specs.View.{vocabulary_of}
 use Rattle.pb_sorts.specs.Instance.{Instance, instance_of, is_instance}
 use Rattle.pb_sorts.specs.Layout.{carriers_of, count_of}
 use Rattle.pb_bytecode.specs.Meaning.{parameters}
@@ -21,7 +21,7 @@ use Rattle.pb_why.specs.WhyText.{Told, line_instance}
 
 abbrev pub told_of : Shown → Told
 told_of s = record {
-  model = model_form s.model.now;
+  vocabulary = vocabulary_of s.vocabulary.now;
   text = spec_form s.typed.now.spec;
   steps = spec_form s.steps.now.spec;
   layout = parameters s.verified.now;

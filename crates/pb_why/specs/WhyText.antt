@@ -17,18 +17,18 @@ use Rattle.pb_text_tree.specs.Form.{EquationForm, SpecForm}
 use Rattle.pb_sorts.specs.declared.carrier.Carrier.{Carrier}
 use Rattle.pb_sorts.specs.Instance.{Instance, is_instance}
 use Rattle.pb_sorts.specs.Layout.{carriers_of}
-use Rattle.pb_model_tree.specs.Form.{ModelForm}
+use Rattle.pb_model_words.specs.Vocabulary.{Vocabulary}
 use Rattle.pb_model_words.specs.Words.{state_text, move_text, changes_text}
 use Rattle.pb_call_places.specs.MadeCalls.{MadeCall, calls_at}
 use Rattle.pb_evidence.specs.ProofGraphs.{Graph}
 use Rattle.pb_evidence_places.specs.CallPlaces.{instance_numbered}
 use Rattle.pb_why.specs.Order.{place_of, parent_at, leads_back, has_edge}
 
--- What is told: the model, the text of its property and the one of its every step, the layout of
--- the property's instances, and evidence for a truth value, with which of its lines rest on a cut
--- call.
+-- What is told: the words of the model, the text of its property and the one of its every step, the
+-- layout of the property's instances, and evidence for a truth value, with which of its lines rest
+-- on a cut call.
 pub record Told : Type 0 where
-  pub model : ModelForm
+  pub vocabulary : Vocabulary
   pub text : SpecForm
   pub steps : SpecForm
   pub layout : List (List Carrier)
@@ -69,17 +69,17 @@ abbrev pub is_call_of : Instance → MadeCall → Bool
 is_call_of j c = is_same c.instance j
 
 -- by a call; where none is made, which is so where data is tested behind it, by no step
-abbrev pub move_by : ModelForm → Instance → Instance → Option MadeCall → List ℕ
+abbrev pub move_by : Vocabulary → Instance → Instance → Option MadeCall → List ℕ
 move_by m i j None = codes "by no step" ++ changes_text m i.values j.values
 move_by m i j (Some c) = move_text m c.place c.own i.values c.instance.values
 
 -- the move of the first of these calls that names an instance
-abbrev pub move_among : ModelForm → List MadeCall → Instance → Instance → List ℕ
+abbrev pub move_among : Vocabulary → List MadeCall → Instance → Instance → List ℕ
 move_among m calls i j = move_by m i j (find (is_call_of j) calls)
 
 -- the move by which an instance goes over to another
 abbrev pub move_between : Told → Instance → Instance → List ℕ
-move_between t i j = move_among t.model (calls_at t.text i) i j
+move_between t i j = move_among t.vocabulary (calls_at t.text i) i j
 
 -- ---- lines
 
@@ -92,7 +92,7 @@ from_text t k =
 -- how the line at k is come to
 abbrev pub arrival_text : Told → ℕ → List ℕ
 arrival_text t k =
-    if k == 0 then codes ": " ++ state_text t.model (line_instance t 0).values
+    if k == 0 then codes ": " ++ state_text t.vocabulary (line_instance t 0).values
     else codes " " ++ (from_text t k
     ++ move_between t (line_instance t (parent_at t.graph k)) (line_instance t k))
 
@@ -124,7 +124,7 @@ edge_text t k n = if has_edge t.graph k n then to_text t k n else []
 abbrev pub cut_text : Told → Instance → MadeCall → List ℕ
 cut_text t i c =
     if is_instance (carriers_of t.layout) c.instance then []
-    else codes "  " ++ (move_text t.model c.place c.own i.values c.instance.values
+    else codes "  " ++ (move_text t.vocabulary c.place c.own i.values c.instance.values
     ++ codes ", outside the ranges\n")
 
 abbrev pub is_cut_at : Told → ℕ → Bool
@@ -149,7 +149,7 @@ reason_text t k =
 abbrev pub here_text : Told → ℕ → List ℕ
 here_text t k =
     codes "  here" ++ (reason_text t k ++ (codes ": "
-    ++ (state_text t.model (line_instance t k).values ++ codes "\n")))
+    ++ (state_text t.vocabulary (line_instance t k).values ++ codes "\n")))
 
 abbrev pub dependencies_at : Told → ℕ → List ℕ
 dependencies_at t k = t.graph.dependencies (slice_index t.graph.instances k)

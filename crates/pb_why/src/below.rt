@@ -268,12 +268,8 @@ impl Telling<'_> {
         text.push_str("  here")?;
         self.push_reason(text, line)?;
         text.push_str(": ")?;
-        push_state(
-            self.alloc,
-            text,
-            self.shown.model,
-            instance.values.as_slice(),
-        )?;
+        let state = instance.values.as_slice();
+        push_state(self.alloc, text, self.shown.vocabulary, state)?;
         text.push_str("\n")
     }
 

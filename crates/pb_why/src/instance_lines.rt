@@ -3,9 +3,9 @@
 
 ghost use Rattle.std.specs.Prelude.{◌≡◌, ◌<◌, ◌++◌, Contains, OnOk, length, string_bytes};
 ghost use Rattle.pb_call_places.specs.MadeCallView.{call_views};
-ghost use Rattle.pb_model_tree.specs.Form.{model_form};
 ghost use Rattle.pb_report.specs.EvidenceText.{cut_mark, truth_mark};
 ghost use Rattle.pb_sorts.specs.Instance.{instance_of};
+ghost use Rattle.pb_model_words.specs.View.{vocabulary_of};
 ghost use Rattle.pb_why.specs.InstanceLines.{call_mark, dependencies_text, dependency_text};
 ghost use Rattle.pb_why.specs.InstanceLines.{instance_line, instance_lines, instance_text};
 ghost use Rattle.pb_why.specs.InstanceLines.{mark_among};
@@ -46,19 +46,19 @@ impl Telling<'_> {
     {
         self.push_formula(text, instance)?;
         let values = instance.values.as_slice();
-        push_values(self.alloc, text, self.shown.model, values)
+        push_values(self.alloc, text, self.shown.vocabulary, values)
     }
 
     /// The step of a call, where one is made and it stands at a step's name.
     fn push_call_mark(&self, text: &mut String, call: Option<&MadeCall>) -> Result<(), AllocError>
         ensures { OnOk result (string_bytes text.new ≡ string_bytes text.old
-            ++ call_mark (model_form self.now.shown.now.model.now) (call_said call.entry)) }
+            ++ call_mark (vocabulary_of self.now.shown.now.vocabulary.now) (call_said call.entry)) }
     {
         match call {
             None => Ok(()),
             Some(call) => {
                 let own = &call.own;
-                push_step_mark(self.alloc, text, self.shown.model, call.place, own)
+                push_step_mark(self.alloc, text, self.shown.vocabulary, call.place, own)
             }
         }
     }
@@ -71,7 +71,7 @@ impl Telling<'_> {
         called: &Instance,
     ) -> Result<(), AllocError>
         ensures { OnOk result (string_bytes text.new ≡ string_bytes text.old
-            ++ mark_among (model_form self.now.shown.now.model.now)
+            ++ mark_among (vocabulary_of self.now.shown.now.vocabulary.now)
             (call_views caller.now.calls.items) (instance_of called.now)) }
     {
         self.push_call_mark(text, first_call(&caller.calls, called))

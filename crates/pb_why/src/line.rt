@@ -66,7 +66,7 @@ impl Telling<'_> {
         if line == 0 {
             text.push_str(": ")?;
             let state = instance.values.as_slice();
-            return push_state(self.alloc, text, self.shown.model, state);
+            return push_state(self.alloc, text, self.shown.vocabulary, state);
         }
         text.push_str(" ")?;
         self.push_from(text, line)?;

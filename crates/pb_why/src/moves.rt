@@ -3,7 +3,7 @@
 ghost use Rattle.std.specs.Prelude.{◌≡◌, ◌++◌, OnOk, string_bytes};
 ghost use Rattle.std.specs.List.{find};
 ghost use Rattle.pb_call_places.specs.MadeCallView.{call_view, call_views};
-ghost use Rattle.pb_model_tree.specs.Form.{model_form};
+ghost use Rattle.pb_model_words.specs.View.{vocabulary_of};
 ghost use Rattle.pb_model_words.specs.Words.{move_text};
 ghost use Rattle.pb_sorts.specs.Instance.{instance_of};
 ghost use Rattle.pb_why.specs.Ready.{call_said};
@@ -46,7 +46,7 @@ impl Telling<'_> {
         call: &MadeCall,
     ) -> Result<(), AllocError>
         ensures { OnOk result (string_bytes text.new ≡ string_bytes text.old
-            ++ move_text (model_form self.now.shown.now.model.now) call.now.place
+            ++ move_text (vocabulary_of self.now.shown.now.vocabulary.now) call.now.place
             call.now.own.items before.now.values.items call.now.values.items) }
     {
         let made = Move {
@@ -55,7 +55,7 @@ impl Telling<'_> {
             before: before.values.as_slice(),
             after: &call.values,
         };
-        push_move(self.alloc, text, self.shown.model, &made)
+        push_move(self.alloc, text, self.shown.vocabulary, &made)
     }
 
     /// Puts the move to an instance behind a text.
@@ -66,7 +66,7 @@ impl Telling<'_> {
         called: &Instance,
     ) -> Result<(), AllocError>
         ensures { OnOk result (string_bytes text.new ≡ string_bytes text.old
-            ++ move_among (model_form self.now.shown.now.model.now)
+            ++ move_among (vocabulary_of self.now.shown.now.vocabulary.now)
             (call_views caller.now.calls.items) (instance_of caller.now.instance)
             (instance_of called.now)) }
     {
@@ -76,7 +76,7 @@ impl Telling<'_> {
                 text.push_str("by no step")?;
                 let before = caller.instance.values.as_slice();
                 let after = called.values.as_slice();
-                push_changes(self.alloc, text, self.shown.model, before, after)
+                push_changes(self.alloc, text, self.shown.vocabulary, before, after)
             }
         }
     }

@@ -12,5 +12,6 @@ returns c = record {
   stays = refl;
   changes = refl;
   mark = refl;
+  called = refl;
   no_mark = refl;
 }

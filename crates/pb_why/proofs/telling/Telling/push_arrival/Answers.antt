@@ -1,5 +1,5 @@
 use Rattle.std.proofs.Common.{◌++◌, codes, string_bytes, arith, refl}
-use Rattle.pb_model_tree.specs.Form.{model_form}
+use Rattle.pb_model_words.specs.View.{vocabulary_of}
 use Rattle.pb_sorts.specs.Instance.{instance_of}
 use Rattle.pb_call_places.specs.MadeCallView.{call_views}
 use Rattle.pb_why.specs.Order.{parent_at}
@@ -23,7 +23,7 @@ returns c =
     let from = from_text t k in
     let move = move_between t (line_instance t (parent_at t.graph k)) (line_instance t k) in
     let is = c.requires.parent (omega (arith, c.if-line-eq0.false)) in
-    let moved = said_as r s2 s3 (move_among (model_form s.model.now) (call_views parent.calls.items)
+    let moved = said_as r s2 s3 (move_among (vocabulary_of s.vocabulary.now) (call_views parent.calls.items)
     (instance_of parent.instance) (instance_of c.line_instance-instance.result)) move
     (move-said s (parent_at t.graph k) (parent_at t.graph k) parent is refl
     (instance_of c.line_instance-instance.result) (line_instance t k) c.line_instance-instance.ensures.value) c.push_move_to.ensures in

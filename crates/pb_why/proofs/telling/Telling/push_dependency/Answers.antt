@@ -1,5 +1,5 @@
 use Rattle.std.proofs.Common.{◌≡◌, ◌++◌, List, codes, string_bytes, ap, ◌∙◌}
-use Rattle.pb_model_tree.specs.Form.{model_form}
+use Rattle.pb_model_words.specs.View.{vocabulary_of}
 use Rattle.pb_sorts.specs.Instance.{Instance, instance_of}
 use Rattle.pb_call_places.specs.MadeCalls.{MadeCall, calls_at}
 use Rattle.pb_call_places.specs.MadeCallView.{call_views}
@@ -13,7 +13,7 @@ pub returns : goal.returns
 returns c =
     let s = c.args.self.now.shown.now in
     let t = told_of s in
-    let m = model_form s.model.now in
+    let m = vocabulary_of s.vocabulary.now in
     let i = line_instance t c.args.line in
     let j = instance_at t c.args.number in
     let found = instance_of c.instance-called.result in

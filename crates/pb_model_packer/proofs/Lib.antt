@@ -1,0 +1,9 @@
+pub mod Rows
+pub mod Primes
+pub mod Values
+pub mod Links
+pub mod Sizes
+pub mod Cuts
+pub mod Places
+pub mod Bound
+pub mod Packable

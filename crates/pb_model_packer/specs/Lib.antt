@@ -1,0 +1,9 @@
+pub mod Names
+pub mod Ends
+pub mod Taken
+pub mod Variables
+pub mod Groups
+pub mod Sizes
+pub mod Places
+pub mod Bound
+pub mod Checks

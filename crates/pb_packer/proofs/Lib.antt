@@ -1,0 +1,15 @@
+pub mod Nodes
+pub mod SaidNodes
+pub mod HiddenNames
+pub mod EnumeratorRows
+pub mod Tokens
+pub mod Weights
+pub mod GroupNumbers
+pub mod SmallNumbers
+pub mod AssignmentRows
+pub mod FormulaRows
+pub mod UnpackedRows
+pub mod StepSetRows
+pub mod DeclarationRows
+pub mod InitialRows
+pub mod ModelRows

@@ -1,0 +1,17 @@
+use Rattle.std.proofs.Common.{◌≡◌, ◌∙◌, ap, sym}
+use Rattle.std.specs.Prelude.{box_value}
+use Rattle.pb_text_tree.specs.Form.{chained}
+use Rattle.pb_model_tree.specs.Form.{StepSetForm, step_set_form}
+use Rattle.pb_packer.specs.Formulas.{set_links}
+use Rattle.pb_packer.proofs.StepSetRows.{set-union}
+use Rattle.pb_packer.proofs.step_sets.+step_sets.Goals as goal
+
+pub copy_step_set-returns-in_ok-copy_set_links-in-Union : goal.copy_step_set-returns-in_ok-copy_set_links-in-Union
+copy_step_set-returns-in_ok-copy_set_links-in-Union t c =
+    let q = c.in_ok-copy_boxed_set-in-Union.field-0 in
+    let w = c.in_ok-copy_set_links-in-Union.field-0 in
+    let p = c.in-Union.first in
+    set-union q w
+    ∙ ap (λ (x : StepSetForm). chained StepSetForm.union x (set_links w.items)) c.in_ok-copy_boxed_set-in-Union.ensures
+    ∙ ap (chained StepSetForm.union (step_set_form (box_value p))) (c.in_ok-copy_set_links-in-Union.ensures ∙ ap set_links c.deref.ensures.value)
+    ∙ sym (ap step_set_form c.in-Union.is ∙ set-union p c.in-Union.links)

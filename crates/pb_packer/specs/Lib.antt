@@ -1,0 +1,11 @@
+pub mod View
+pub mod Members
+pub mod Groups
+pub mod Scopes
+pub mod Written
+pub mod Given
+pub mod Formulas
+pub mod Steps
+pub mod Declarations
+pub mod Properties
+pub mod Initial

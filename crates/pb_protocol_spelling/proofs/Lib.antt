@@ -1,0 +1,9 @@
+mod Words
+mod PlainWords
+mod Spelled
+mod Folded
+mod Unfolded
+mod FlatModels
+mod Digits
+mod Packed
+mod FewValues
