@@ -1,24 +1,29 @@
 //! The texts of a model's properties.
 
 ghost use Rattle.pb_limits.specs.declared.TheConstants.{MAX_INPUT_BYTES};
-ghost use Rattle.std.specs.Prelude.{◌≡◌, ◌<◌, ◌≤◌, ℕ, List, length, IfOk, IsSome};
+ghost use Rattle.std.specs.Prelude.{◌≡◌, ◌<◌, ◌≤◌, ◌++◌, ℕ, List, length, IfOk, IsSome};
 ghost use Rattle.std.specs.Prelude.{Err, Some, option_copied};
 ghost use Rattle.std.specs.List.{slice_get};
 ghost use Rattle.pb_errors.specs.declared.or_memory.OrMemory.TheVariants.{Refused};
 ghost use Rattle.pb_model_properties.specs.declared.error.ModelFault.TheVariants.{NoProperty};
 ghost use Rattle.pb_errors.specs.OrMemory.{IfRefused};
 ghost use Rattle.pb_text_tree.specs.Form.{spec_form};
+ghost use Rattle.pb_text_printer.specs.Comments.{comment_bytes};
+ghost use Rattle.pb_text_printer.specs.Words.{text_bytes};
+ghost use Rattle.pb_model_words.specs.GroupLines.{group_lines};
 ghost use Rattle.pb_model_tree.specs.Form.{PropertyForm, model_form};
 ghost use Rattle.pb_model_properties.specs.Printed.{IsTranslation};
 ghost use Rattle.pb_model_properties.specs.Refusals.{LacksTranslation};
 ghost use Rattle.pb_model_properties.specs.Said.{IsModelOf, IsTextOf};
+ghost use Rattle.pb_model_properties.specs.Words.{words_in};
 
 use crate::asked::place_of;
 use crate::error::{ModelError, ModelFault};
-use crate::read::read_model;
-use pb_model_spelling::{models_have_properties, translations_can_be_said};
+use crate::read::read_protocol;
+use crate::solved::{SolvedModel, words_of};
 use pb_model_typing::{TypedModel, property_text};
-use pb_text_printer::{print, sayable_text_is_read_back};
+use pb_model_words::push_group_lines;
+use pb_text_printer::{commented_text_is_read_back, print_with_comment};
 use pb_typing::Typed;
 use std::alloc::{AllocError, Global};
 
@@ -33,8 +38,23 @@ pub fn text_at(alloc: Global, model: &TypedModel, place: usize) -> Result<Typed,
     property_text(alloc, model, place)
 }
 
+/// The text of a property, below lines that say how the numbers of packed variables are made.
+fn printed(alloc: Global, solved: &SolvedModel, text: &Typed) -> Result<Vec<u8>, AllocError>
+    ensures { IfOk result (λ written. written.items
+        ≡ comment_bytes (group_lines (words_in solved.now))
+        ++ text_bytes (spec_form text.now.spec)) }
+{
+    let words = words_of(alloc, solved)?;
+    let mut lines = String::new(alloc);
+    push_group_lines(&mut lines, &words)?;
+    print_with_comment(alloc, lines.as_str(), &text.spec)
+}
+
 /// The text of a property of the model that bytes say, as it is printed: of the first property
 /// where none is named. Its answer is true exactly where the model satisfies the property.
+///
+/// Where the text's parameters hold several of the model's variables, comment lines above it say
+/// how: `% line' = line(c1) * 5 + line(c2)`.
 ///
 /// # Errors
 /// `Text` and `Typing` say which rule the model breaks and where. `NoProperty` comes exactly where
@@ -51,13 +71,12 @@ pub fn translation_of(
     // There is a first one.
     ensures named { result ≡ Err (Refused NoProperty) → IsSome name.entry }
 {
-    models_have_properties();
-    translations_can_be_said();
-    sayable_text_is_read_back();
-    let model = read_model(alloc, bytes)?;
+    commented_text_is_read_back();
+    let solved = read_protocol(alloc, bytes)?;
+    let model = &solved.typed;
     let Some(place) = place_of(&model.model.properties, name) else {
         return Err(ModelFault::NoProperty.into());
     };
-    let text = text_at(alloc, &model, place)?;
-    Ok(print(alloc, &text.spec)?)
+    let text = text_at(alloc, model, place)?;
+    Ok(printed(alloc, &solved, &text)?)
 }

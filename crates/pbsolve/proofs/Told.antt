@@ -28,19 +28,20 @@ use Rattle.pb_faults.specs.declared.solve_fault.SolveFault.{SolveFault}
 use Rattle.pb_faults.specs.declared.solve_fault.SolveFault.TheVariants as solve_fault
 use Rattle.pbsolve.specs.Answers.{IsModuleOfForm}
 use Rattle.pbsolve.specs.Models.{IsUnchecked}
+use Rattle.pb_model_words.specs.Vocabulary.{Vocabulary}
 use Rattle.pbsolve.specs.Why.{AreTold, IsTold, IsUnshown, lines_of, shown_by, steps_of, TellAsked, told_text}
 use Rattle.pbsolve.proofs.PropertyVerdicts.{WhereUnchecked}
 use Rattle.pbsolve.proofs.Texts.{HasTrees}
 
 -- the lines of an explanation of the module of a property's text tell the property
-abbrev ArePrinted : Bool → Bool → ModelForm → PropertyForm → SpecForm → Contents → Explanation → List ℕ → Type 0
-ArePrinted instances always model p x m explanation told =
+abbrev ArePrinted : Bool → Bool → Vocabulary → ModelForm → PropertyForm → SpecForm → Contents → Explanation → List ℕ → Type 0
+ArePrinted instances always words model p x m explanation told =
     (trees : ℕ → Tree) → AreTrees m trees
-    → told ≡ told_text always p.name.text explanation.evidence.truth (lines_of instances (shown_by model x (steps_of model) m trees explanation.evidence))
+    → told ≡ told_text always p.name.text explanation.evidence.truth (lines_of instances (shown_by words x (steps_of model) m trees explanation.evidence))
 
-pub property_told : (instances always : Bool) (model : ModelForm) (p : PropertyForm) (x : SpecForm) → IsTextOf model p x → (m : Contents) → HasTrees m → IsModuleOfForm x m
-    → (explanation : Explanation) → IsExplanation m explanation → (told : List ℕ) → ArePrinted instances always model p x m explanation told → IsTold instances always model p told
-property_told instances always model p x text m some of_text explanation explains told printed = record {
+pub property_told : (instances always : Bool) (words : Vocabulary) (model : ModelForm) (p : PropertyForm) (x : SpecForm) → IsTextOf model p x → (m : Contents) → HasTrees m → IsModuleOfForm x m
+    → (explanation : Explanation) → IsExplanation m explanation → (told : List ℕ) → ArePrinted instances always words model p x m explanation told → IsTold instances always words model p told
+property_told instances always words model p x text m some of_text explanation explains told printed = record {
   text = x;
   of_property = text;
   contents = m;
@@ -51,22 +52,22 @@ property_told instances always model p x text m some of_text explanation explain
   printed = printed;
 }
 
-told_push : (instances : Bool) (model : ModelForm) (ps : List PropertyForm) (p : PropertyForm) (told lines : List ℕ) → AreTold instances model ps lines → IsTold instances false model p told
-    → AreTold instances model (ps ++ p ∷ []) (lines ++ told)
-told_push instances model [] p told lines none is = (told, [], is, ap (λ (xs : List ℕ). xs ++ told) none ∙ sym (append-nil told), refl)
-told_push instances model (q ∷ ps) p told lines (here, rest, of_q, same, more) is =
-    (here, rest ++ told, of_q, ap (λ (xs : List ℕ). xs ++ told) same ∙ append_assoc here rest told, told_push instances model ps p told rest more is)
+told_push : (instances : Bool) (words : Vocabulary) (model : ModelForm) (ps : List PropertyForm) (p : PropertyForm) (told lines : List ℕ) → AreTold instances words model ps lines → IsTold instances false words model p told
+    → AreTold instances words model (ps ++ p ∷ []) (lines ++ told)
+told_push instances words model [] p told lines none is = (told, [], is, ap (λ (xs : List ℕ). xs ++ told) none ∙ sym (append-nil told), refl)
+told_push instances words model (q ∷ ps) p told lines (here, rest, of_q, same, more) is =
+    (here, rest ++ told, of_q, ap (λ (xs : List ℕ). xs ++ told) same ∙ append_assoc here rest told, told_push instances words model ps p told rest more is)
 
 -- what is told of the property at the next place
-pub next_told : (instances : Bool) (model : ModelForm) (place : ℕ) (p : PropertyForm) (told old new : List ℕ) → slice_get model.properties place ≡ Some p → IsTold instances false model p told
-    → AreTold instances model (take place model.properties) old → new ≡ old ++ told → AreTold instances model (take (place + 1) model.properties) new
-next_told instances model place p told old new at is are same =
+pub next_told : (instances : Bool) (words : Vocabulary) (model : ModelForm) (place : ℕ) (p : PropertyForm) (told old new : List ℕ) → slice_get model.properties place ≡ Some p → IsTold instances false words model p told
+    → AreTold instances words model (take place model.properties) old → new ≡ old ++ told → AreTold instances words model (take (place + 1) model.properties) new
+next_told instances words model place p told old new at is are same =
     let within = slice_get_within model.properties place p at in
     let one_more : take (place + 1) model.properties ≡ take place model.properties ++ p ∷ [] =
     take_more model.properties place p within ∙ ap (λ (q : PropertyForm). take place model.properties ++ q ∷ []) (get_or_from_slice_get model.properties place p p at) in
-    let pushed = told_push instances model (take place model.properties) p told old are is in
-    subst (λ (ps : List PropertyForm). AreTold instances model ps new) (sym one_more)
-    (subst (λ (xs : List ℕ). AreTold instances model (take place model.properties ++ p ∷ []) xs) (sym same) pushed)
+    let pushed = told_push instances words model (take place model.properties) p told old are is in
+    subst (λ (ps : List PropertyForm). AreTold instances words model ps new) (sym one_more)
+    (subst (λ (xs : List ℕ). AreTold instances words model (take place model.properties ++ p ∷ []) xs) (sym same) pushed)
 
 -- what is refused by `check` is by `why`, whatever is asked
 pub unshown : (name : Option (List ℕ)) (bytes : List ℕ) (f : SolveFault) → IsUnchecked bytes f → IsUnshown name bytes f
@@ -94,11 +95,11 @@ within_mapped f xs ys k y same at =
     let as_long : length xs ≡ length ys = ap (λ (zs : List _). length zs) same in
     omega (arith, within, long, as_long)
 
-pub named_is_told : {S E : Type 0} (bytes_of : S → List ℕ) (instances : Bool) (name : List ℕ) (model : ModelForm) (place : ℕ) → IsAskedAt (Some name) model.properties place → (r : Result S E)
-    → IfOk r (λ told. (p : PropertyForm) → slice_get model.properties place ≡ Some p → IsTold instances true model p (bytes_of told))
-    → IfOk r (λ lines. TellAsked instances (Some name) model (bytes_of lines))
-named_is_told bytes_of instances name model place at (Ok lines) h = (at.property, at.asked, h at.property at.stands)
-named_is_told bytes_of instances name model place at (Err e) h = tt
+pub named_is_told : {S E : Type 0} (bytes_of : S → List ℕ) (instances : Bool) (name : List ℕ) (words : Vocabulary) (model : ModelForm) (place : ℕ) → IsAskedAt (Some name) model.properties place → (r : Result S E)
+    → IfOk r (λ told. (p : PropertyForm) → slice_get model.properties place ≡ Some p → IsTold instances true words model p (bytes_of told))
+    → IfOk r (λ lines. TellAsked instances (Some name) words model (bytes_of lines))
+named_is_told bytes_of instances name words model place at (Ok lines) h = (at.property, at.asked, h at.property at.stands)
+named_is_told bytes_of instances name words model place at (Err e) h = tt
 
 -- ---- where a property isn't there
 

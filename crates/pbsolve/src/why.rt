@@ -17,9 +17,11 @@ ghost use Rattle.pb_report.specs.ModuleEvidence.{IsExplanation};
 ghost use Rattle.pb_model_tree.specs.Form.{FormulaForm, ModelForm, PropertyForm, model_form};
 ghost use Rattle.pb_model_translation.specs.Placed.{placed};
 ghost use Rattle.pb_model_properties.specs.Said.{IsModelOf};
+ghost use Rattle.pb_model_properties.specs.Words.{words_in};
+ghost use Rattle.pb_model_words.specs.View.{vocabulary_of};
 ghost use Rattle.pb_module_commands.specs.Delivery.{Delivers};
 ghost use Rattle.pbsolve.specs.Models.{IsUnchecked};
-ghost use Rattle.pbsolve.specs.Why.{CallsAreSteps};
+ghost use Rattle.pbsolve.specs.Why.{CallsAreMoves, CallsAreSteps, StatesAreTold};
 ghost use Rattle.pbsolve.specs.Why.{AreTold, IsTold, IsUnshown, OutputsWhy, TellAsked};
 ghost use Rattle.pbsolve.specs.Why.{lines_of, shown_by, told_text};
 
@@ -32,11 +34,16 @@ use pb_exploration::Gate;
 use pb_faults::{SolveError, SolveFault};
 use pb_limits::MAX_INPUT_BYTES;
 use pb_machine::instances_have_trees;
-use pb_model_properties::{place_of, push_verdict, read_model, text_at};
+use pb_model_properties::{SolvedModel, place_of, push_verdict, read_protocol, text_at, words_of};
+use pb_model_tree::Model;
 use pb_model_typing::{TypedModel, steps_text};
+use pb_model_words::Vocabulary;
 use pb_module_commands::{deliver, explained};
 use pb_module_solver::Context;
+use pb_report::Explanation;
 use pb_sorts::Sink;
+use pb_typing::Typed;
+use pb_verifier::Verified;
 use pb_why::{Shown, push_instance_lines, push_why};
 use std::alloc::{AllocError, Global};
 use std::thread::Threads;
@@ -62,7 +69,7 @@ fn told(alloc: Global, asked: Asked, name: &str, shown: &Shown<'_>) -> Result<St
     ensures { IfOk result (λ told. (trees : ℕ → Tree) → AreTrees shown.now.verified.now trees
         → string_bytes told ≡ told_text asked.always name.now
         shown.now.explanation.now.evidence.truth (lines_of asked.options.lines
-        (shown_by (model_form shown.now.model.now) (spec_form shown.now.typed.now.spec)
+        (shown_by (vocabulary_of shown.now.vocabulary.now) (spec_form shown.now.typed.now.spec)
         (spec_form shown.now.steps.now.spec) shown.now.verified.now trees
         shown.now.explanation.now.evidence))) }
 {
@@ -79,18 +86,65 @@ fn told(alloc: Global, asked: Asked, name: &str, shown: &Shown<'_>) -> Result<St
     Ok(told)
 }
 
+// What is shown, but for the words in which it is told.
+#[derive(Clone, Copy)]
+struct ShownParts<'a> {
+    model: &'a Model,
+    typed: &'a Typed,
+    steps: &'a Typed,
+    verified: &'a Verified,
+    explanation: &'a Explanation,
+}
+
+// The same, in these words. A vocabulary can't be lent beside what is lent already, so that what is
+// shown is put together here.
+fn told_in(
+    alloc: Global,
+    asked: Asked,
+    name: &str,
+    vocabulary: &Vocabulary<'_>,
+    parts: &ShownParts<'_>,
+) -> Result<String, AllocError>
+    requires compiled { IsCompiledModule (erase (spec_form parts.now.typed.now.spec))
+        parts.now.verified.now }
+    requires trees { (trees : ℕ → Tree) × AreTrees parts.now.verified.now trees }
+    requires explanation { IsExplanation parts.now.verified.now
+        parts.now.explanation.now }
+    requires property { (here : Place) × (f : FormulaForm) × (spec_form
+        parts.now.typed.now.spec ≡ placed (model_form parts.now.model.now) here f) }
+    requires steps { (here : Place) × (f : FormulaForm) × (spec_form
+        parts.now.steps.now.spec ≡ placed (model_form parts.now.model.now) here f) }
+    ensures { IfOk result (λ told. (trees : ℕ → Tree) → AreTrees parts.now.verified.now trees
+        → string_bytes told ≡ told_text asked.always name.now
+        parts.now.explanation.now.evidence.truth (lines_of asked.options.lines
+        (shown_by (vocabulary_of vocabulary.now) (spec_form parts.now.typed.now.spec)
+        (spec_form parts.now.steps.now.spec) parts.now.verified.now trees
+        parts.now.explanation.now.evidence))) }
+{
+    let shown = Shown {
+        model: parts.model,
+        vocabulary,
+        typed: parts.typed,
+        steps: parts.steps,
+        verified: parts.verified,
+        explanation: parts.explanation,
+    };
+    told(alloc, asked, name, &shown)
+}
+
 // What is told of the property at a place.
 fn told_at<R: Threads + Sync, G: Gate + Sync>(
     context: &Context<'_, R, G>,
     model: &TypedModel,
+    vocabulary: &Vocabulary<'_>,
     asked: Asked,
 ) -> Result<String, OrMemory<SolveFault>>
     requires read { (bytes : List ℕ) × IsModelOf bytes (model_form model.now.model) }
     requires within { asked.place < length model.now.model.properties.items }
     ensures told { IfOk result (λ told. (p : PropertyForm)
         → slice_get (model_form model.now.model).properties asked.place ≡ Some p
-        → IsTold asked.options.lines asked.always (model_form model.now.model) p
-        (string_bytes told)) }
+        → IsTold asked.options.lines asked.always (vocabulary_of vocabulary.now)
+        (model_form model.now.model) p (string_bytes told)) }
     ensures refused { IfRefused result (λ fault. (bytes : List ℕ)
         → IsModelOf bytes (model_form model.now.model) → IsUnchecked bytes fault) }
 {
@@ -106,7 +160,7 @@ fn told_at<R: Threads + Sync, G: Gate + Sync>(
         Err(error) => return Err(error_of_property(error, here)),
     };
     let steps = steps_text(context.alloc, model)?;
-    let shown = Shown {
+    let parts = ShownParts {
         model: &model.model,
         typed: &text,
         steps: &steps,
@@ -114,18 +168,20 @@ fn told_at<R: Threads + Sync, G: Gate + Sync>(
         explanation: &explanation,
     };
     let name = &model.model.properties[asked.place].name.text;
-    Ok(told(context.alloc, asked, name, &shown)?)
+    Ok(told_in(context.alloc, asked, name, vocabulary, &parts)?)
 }
 
 // What is told of all properties.
 fn all_told<R: Threads + Sync, G: Gate + Sync>(
     context: &Context<'_, R, G>,
     model: &TypedModel,
+    vocabulary: &Vocabulary<'_>,
     options: WhyOptions,
 ) -> Result<String, OrMemory<SolveFault>>
     requires read { (bytes : List ℕ) × IsModelOf bytes (model_form model.now.model) }
-    ensures told { IfOk result (λ lines. AreTold options.lines (model_form model.now.model)
-        (model_form model.now.model).properties (string_bytes lines)) }
+    ensures told { IfOk result (λ lines. AreTold options.lines (vocabulary_of vocabulary.now)
+        (model_form model.now.model) (model_form model.now.model).properties
+        (string_bytes lines)) }
     ensures refused { IfRefused result (λ fault. (bytes : List ℕ)
         → IsModelOf bytes (model_form model.now.model) → IsUnchecked bytes fault) }
 {
@@ -136,7 +192,7 @@ fn all_told<R: Threads + Sync, G: Gate + Sync>(
             always: false,
             options,
         };
-        let told = told_at(context, model, asked)?;
+        let told = told_at(context, model, vocabulary, asked)?;
         lines.push_str(told.as_str())?;
     }
     Ok(lines)
@@ -146,12 +202,13 @@ fn all_told<R: Threads + Sync, G: Gate + Sync>(
 fn named_told<R: Threads + Sync, G: Gate + Sync>(
     context: &Context<'_, R, G>,
     model: &TypedModel,
+    vocabulary: &Vocabulary<'_>,
     name: &str,
     options: WhyOptions,
 ) -> Result<String, OrMemory<SolveFault>>
     requires read { (bytes : List ℕ) × IsModelOf bytes (model_form model.now.model) }
     ensures told { IfOk result (λ lines. TellAsked options.lines (Some name.now)
-        (model_form model.now.model) (string_bytes lines)) }
+        (vocabulary_of vocabulary.now) (model_form model.now.model) (string_bytes lines)) }
     ensures refused { IfRefused result (λ fault. (bytes : List ℕ)
         → IsModelOf bytes (model_form model.now.model)
         → IsUnshown (Some name.now) bytes fault) }
@@ -164,28 +221,48 @@ fn named_told<R: Threads + Sync, G: Gate + Sync>(
         always: true,
         options,
     };
-    told_at(context, model, asked)
+    told_at(context, model, vocabulary, asked)
 }
 
 // What is told of the property of a name, or of all where none is named.
 fn asked_told<R: Threads + Sync, G: Gate + Sync>(
     context: &Context<'_, R, G>,
     model: &TypedModel,
+    vocabulary: &Vocabulary<'_>,
     property: Option<&str>,
     options: WhyOptions,
 ) -> Result<String, OrMemory<SolveFault>>
     requires read { (bytes : List ℕ) × IsModelOf bytes (model_form model.now.model) }
     ensures told { IfOk result (λ lines. TellAsked options.lines (option_copied property.entry)
-        (model_form model.now.model) (string_bytes lines)) }
+        (vocabulary_of vocabulary.now) (model_form model.now.model) (string_bytes lines)) }
     ensures refused { IfRefused result (λ fault. (bytes : List ℕ)
         → IsModelOf bytes (model_form model.now.model)
         → IsUnshown (option_copied property.entry) bytes fault) }
     ensures named { result ≡ Err (Refused NoProperty) → IsSome property.entry }
 {
     match property {
-        Some(name) => named_told(context, model, name, options),
-        None => all_told(context, model, options),
+        Some(name) => named_told(context, model, vocabulary, name, options),
+        None => all_told(context, model, vocabulary, options),
     }
+}
+
+// The same, in the words of the protocol.
+fn solved_told<R: Threads + Sync, G: Gate + Sync>(
+    context: &Context<'_, R, G>,
+    solved: &SolvedModel,
+    property: Option<&str>,
+    options: WhyOptions,
+) -> Result<String, OrMemory<SolveFault>>
+    requires read { (bytes : List ℕ) × IsModelOf bytes (model_form solved.now.typed.model) }
+    ensures told { IfOk result (λ lines. TellAsked options.lines (option_copied property.entry)
+        (words_in solved.now) (model_form solved.now.typed.model) (string_bytes lines)) }
+    ensures refused { IfRefused result (λ fault. (bytes : List ℕ)
+        → IsModelOf bytes (model_form solved.now.typed.model)
+        → IsUnshown (option_copied property.entry) bytes fault) }
+    ensures named { result ≡ Err (Refused NoProperty) → IsSome property.entry }
+{
+    let vocabulary = words_of(context.alloc, solved)?;
+    asked_told(context, &solved.typed, &vocabulary, property, options)
 }
 
 /// Tells why the properties of a model hold or don't, in the model's own words. Without a name it
@@ -217,11 +294,17 @@ pub fn why_text<R: Threads + Sync, G: Gate + Sync, S: Sink>(
     // The calls that the lines tell are steps of the model.
     ensures steps { (model : ModelForm) (p : PropertyForm) → IsModelOf bytes.now model
         → Contains model.properties p → CallsAreSteps model p }
+    // And moves of the protocol.
+    ensures moves { (model : ModelForm) (p : PropertyForm) → (said : IsModelOf bytes.now model)
+        → Contains model.properties p → CallsAreMoves bytes.now model said p }
+    // Of states of the protocol: that is what a state is told as.
+    ensures states { (model : ModelForm) → (said : IsModelOf bytes.now model)
+        → StatesAreTold bytes.now model said }
     ensures refused { IfInputRefused result (IsUnshown (option_copied property.entry) bytes.now) }
     ensures named { result ≡ Err (SolveError.Refused NoProperty) → IsSome property.entry }
 {
     told_calls_are_steps();
-    let model = read_model(context.alloc, bytes)?;
-    let lines = asked_told(context, &model, property, options)?;
+    let solved = read_protocol(context.alloc, bytes)?;
+    let lines = solved_told(context, &solved, property, options)?;
     deliver(lines.as_bytes(), writer)
 }

@@ -7,6 +7,7 @@ use Rattle.pb_faults.specs.declared.solve_fault.SolveFault.{SolveFault}
 use Rattle.pb_errors.proofs.Faults.{if_refused}
 use Rattle.pb_model_tree.specs.Form.{model_form, property_form}
 use Rattle.pb_model_properties.specs.Asked.{IsAskedAt, NoneIsAskedFor}
+use Rattle.pb_model_words.specs.View.{vocabulary_of}
 use Rattle.pbsolve.proofs.Told.{named_is_told, where_unshown, within_mapped, WhereUnshown}
 use Rattle.pbsolve.proofs.why.named_told.Goals as goal
 
@@ -19,7 +20,7 @@ pub returns-clause-told : goal.returns-clause-told
 returns-clause-told g c =
     let model = model_form c.args.model.now.model in
     let found = subst (λ (ps : List _). IsAskedAt (Some c.args.name.now) (map property_form ps) c.in-Some.place) c.deref.ensures.value c.in-Some.ensures.found in
-    named_is_told string_bytes c.args.options.lines c.args.name.now model c.in-Some.place found c.told_at.result c.told_at.ensures.told
+    named_is_told string_bytes c.args.options.lines c.args.name.now (vocabulary_of c.args.vocabulary.now) model c.in-Some.place found c.told_at.result c.told_at.ensures.told
 
 pub returns-clause-refused : goal.returns-clause-refused
 returns-clause-refused g c =

@@ -5,6 +5,7 @@ use Rattle.pb_errors.proofs.Faults.{if_raised}
 use Rattle.pb_text_tree.specs.Form.{SpecForm, spec_form}
 use Rattle.pb_model_tree.specs.Form.{PropertyForm, model_form, property_form}
 use Rattle.pb_model_translation.specs.Placed.{every_step_form}
+use Rattle.pb_model_words.specs.View.{vocabulary_of}
 use Rattle.pbsolve.specs.Why.{lines_of, shown_by, told_text}
 use Rattle.pbsolve.proofs.Verdicts.{at_mapped}
 use Rattle.pbsolve.proofs.PropertyVerdicts.{some_property, text_at_place, WhereUnchecked, refused_property, uncompiled_property}
@@ -39,13 +40,13 @@ returns-in-Err-explained-clause-refused g c =
     c.in-Ok.verified c.in-Ok.ensures.«module» fault h))
     c.in-Err-explained.ensures.refused
 
-pub told-requires-clause-property : goal.told-requires-clause-property
-told-requires-clause-property g c =
+pub told_in-requires-clause-property : goal.told_in-requires-clause-property
+told_in-requires-clause-property g c =
     let some = some_property property_form c.args.model.now.model.properties.items c.args.asked.place c.requires.within in
     (some.0.name.place, some.0.formula, (c.in_ok-text.ensures.text some.0 some.1).placed)
 
-pub told-requires-clause-steps : goal.told-requires-clause-steps
-told-requires-clause-steps g c =
+pub told_in-requires-clause-steps : goal.told_in-requires-clause-steps
+told_in-requires-clause-steps g c =
     let place = c.args.model.now.model.initial.place in
     (place, every_step_form place, c.in_ok-steps.ensures)
 
@@ -58,12 +59,13 @@ returns-clause-told g c p stands =
     let text = spec_form c.in_ok-text.text.spec in
     let m = c.in-Ok.verified in
     let explanation = c.in-Ok-explained.explanation in
+    let words = vocabulary_of c.args.vocabulary.now in
     let at = at_mapped property_form items place property c.requires.within (get_or_read items place property c.requires.within c.index.ensures property) in
     let both : Some (property_form property) ≡ Some p = sym at ∙ stands in
     let same : property_form property ≡ p = cc both in
     let name : c.deref.result.now ≡ p.name.text = c.deref.ensures ∙ ap (λ (q : PropertyForm). q.name.text) same in
-    property_told c.args.asked.options.lines c.args.asked.always (model_form model) p text (c.in_ok-text.ensures.text p stands) m c.instances_have_trees.ensures c.in-Ok.ensures.«module»
+    property_told c.args.asked.options.lines c.args.asked.always words (model_form model) p text (c.in_ok-text.ensures.text p stands) m c.instances_have_trees.ensures c.in-Ok.ensures.«module»
     explanation c.in-Ok-explained.ensures.explanation _
-    (λ trees are. c.in_ok-told.ensures trees are ∙ ap₂ (λ (n : List ℕ) (s : SpecForm).
-    told_text c.args.asked.always n explanation.evidence.truth (lines_of c.args.asked.options.lines (shown_by (model_form model) text s m trees explanation.evidence)))
+    (λ trees are. c.in_ok-told_in.ensures trees are ∙ ap₂ (λ (n : List ℕ) (s : SpecForm).
+    told_text c.args.asked.always n explanation.evidence.truth (lines_of c.args.asked.options.lines (shown_by words text s m trees explanation.evidence)))
     name c.in_ok-steps.ensures)

@@ -2,7 +2,8 @@
 use Rattle.std.proofs.Common.{◌≡◌, ℕ, List, Err, string_bytes, ap, sym, subst}
 use Rattle.std.specs.Prelude.{option_copied}
 use Rattle.pb_model_tree.specs.Form.{model_form}
-use Rattle.pbsolve.specs.Why.{IsUnshown, OutputsWhy}
+use Rattle.pb_model_words.specs.Vocabulary.{Vocabulary}
+use Rattle.pbsolve.specs.Why.{IsUnshown, OutputsWhy, TellAsked}
 use Rattle.pb_module_commands.proofs.Deliveries.{less_delivered, nothing_written, only_write}
 use Rattle.pbsolve.proofs.PropertyVerdicts.{model_unchecked}
 use Rattle.pbsolve.proofs.Told.{missed, no_name, never_missed_model, unshown, WhereUnshown}
@@ -14,14 +15,14 @@ use Rattle.pbsolve.proofs.why.why_text.Goals as goal
 pub returns-in_err-lines-clause-refused : goal.returns-in_err-lines-clause-refused
 returns-in_err-lines-clause-refused g c =
     let name = option_copied c.args.property in
-    handed_up (WhereUnshown name (model_form c.in_ok-model.model.model)) (IsUnshown name c.args.bytes.now)
-    (λ f h. h c.args.bytes.now c.in_ok-model.ensures.model)
+    handed_up (WhereUnshown name (model_form c.in_ok-solved.solved.typed.model)) (IsUnshown name c.args.bytes.now)
+    (λ f h. h c.args.bytes.now c.in_ok-solved.ensures.model.said)
     c.in_err-lines.field-0.0 c.from_residual-in_err-lines.result c.in_err-lines.ensures.refused c.from_residual-in_err-lines.ensures.1
 
-pub returns-in_err-model-clause-told : goal.returns-in_err-model-clause-told
-returns-in_err-model-clause-told g c =
+pub returns-in_err-solved-clause-told : goal.returns-in_err-solved-clause-told
+returns-in_err-solved-clause-told g c =
     nothing_written g.S.Sink.taken g.S.Sink.has_failed _ (OutputsWhy c.args.options.lines (option_copied c.args.property) c.args.bytes.now) c.args.writer.now
-    c.in_err-model.field-0.0 c.from_residual.result c.from_residual.ensures.1
+    c.in_err-solved.field-0.0 c.from_residual.result c.from_residual.ensures.1
 
 pub returns-in_err-lines-clause-told : goal.returns-in_err-lines-clause-told
 returns-in_err-lines-clause-told g c =
@@ -30,44 +31,64 @@ returns-in_err-lines-clause-told g c =
 
 pub returns-clause-told : goal.returns-clause-told
 returns-clause-told g c =
-    let model = c.in_ok-model.model in
+    let model = model_form c.in_ok-solved.solved.typed.model in
+    let told = subst (λ (v : Vocabulary). TellAsked c.args.options.lines (option_copied c.args.property) v model (string_bytes c.in_ok-lines.lines))
+    c.in_ok-solved.ensures.model.words c.in_ok-lines.ensures.told in
     less_delivered g.S.Sink.taken g.S.Sink.has_failed (λ (P : List ℕ → Type 0). P c.as_bytes.result.now) (OutputsWhy c.args.options.lines (option_copied c.args.property) c.args.bytes.now)
     (λ (P : List ℕ → Type 0) h. (
-      model_form model.model,
+      model,
       string_bytes c.in_ok-lines.lines,
-      c.in_ok-model.ensures.model,
-      c.in_ok-lines.ensures.told,
+      c.in_ok-solved.ensures.model.said,
+      told,
       subst P c.as_bytes.ensures.value h,
     )) c.args.writer.now c.deliver.new.writer c.deliver.result c.deliver.ensures.text
 
 pub returns-clause-refused : goal.returns-clause-refused
 returns-clause-refused g c = only_write (IsUnshown (option_copied c.args.property) c.args.bytes.now) c.deliver.result c.deliver.ensures.failed
 
-pub returns-in_err-model-clause-refused : goal.returns-in_err-model-clause-refused
-returns-in_err-model-clause-refused g c =
+pub returns-in_err-solved-clause-refused : goal.returns-in_err-solved-clause-refused
+returns-in_err-solved-clause-refused g c =
     let name = option_copied c.args.property in
     let bytes = c.args.bytes.now in
     refused_up (λ f above. above ≡ fault_of_model f) (IsRefusedModel bytes) (IsUnshown name bytes)
     (λ f above same h. subst (IsUnshown name bytes) (sym same) (unshown name bytes (fault_of_model f) (model_unchecked bytes f h)))
-    c.in_err-model.field-0.0 c.from_residual.result c.in_err-model.ensures.refused c.from_residual.ensures.1
+    c.in_err-solved.field-0.0 c.from_residual.result c.in_err-solved.ensures.refused c.from_residual.ensures.1
 
 pub returns-clause-named : goal.returns-clause-named
 returns-clause-named g c is = no_name _ c.deliver.result c.deliver.ensures.failed is
 
-pub returns-in_err-model-clause-named : goal.returns-in_err-model-clause-named
-returns-in_err-model-clause-named g c is =
-    never_missed_model _ c.args.bytes.now c.in_err-model.field-0.0 c.from_residual.result c.from_residual.ensures.1 c.in_err-model.ensures.refused is
+pub returns-in_err-solved-clause-named : goal.returns-in_err-solved-clause-named
+returns-in_err-solved-clause-named g c is =
+    never_missed_model _ c.args.bytes.now c.in_err-solved.field-0.0 c.from_residual.result c.from_residual.ensures.1 c.in_err-solved.ensures.refused is
 
 pub returns-in_err-lines-clause-named : goal.returns-in_err-lines-clause-named
 returns-in_err-lines-clause-named g c is =
     missed _ c.in_err-lines.field-0.0 c.from_residual-in_err-lines.result c.from_residual-in_err-lines.ensures.1
     (λ same. c.in_err-lines.ensures.named (ap Err same)) is
 
-pub returns-in_err-model-clause-steps : goal.returns-in_err-model-clause-steps
-returns-in_err-model-clause-steps g c = c.told_calls_are_steps.ensures c.args.bytes.now
+pub returns-in_err-solved-clause-steps : goal.returns-in_err-solved-clause-steps
+returns-in_err-solved-clause-steps g c = c.told_calls_are_steps.ensures.steps c.args.bytes.now
 
 pub returns-in_err-lines-clause-steps : goal.returns-in_err-lines-clause-steps
-returns-in_err-lines-clause-steps g c = c.told_calls_are_steps.ensures c.args.bytes.now
+returns-in_err-lines-clause-steps g c = c.told_calls_are_steps.ensures.steps c.args.bytes.now
 
 pub returns-clause-steps : goal.returns-clause-steps
-returns-clause-steps g c = c.told_calls_are_steps.ensures c.args.bytes.now
+returns-clause-steps g c = c.told_calls_are_steps.ensures.steps c.args.bytes.now
+
+pub returns-in_err-solved-clause-moves : goal.returns-in_err-solved-clause-moves
+returns-in_err-solved-clause-moves g c = c.told_calls_are_steps.ensures.moves c.args.bytes.now
+
+pub returns-in_err-lines-clause-moves : goal.returns-in_err-lines-clause-moves
+returns-in_err-lines-clause-moves g c = c.told_calls_are_steps.ensures.moves c.args.bytes.now
+
+pub returns-clause-moves : goal.returns-clause-moves
+returns-clause-moves g c = c.told_calls_are_steps.ensures.moves c.args.bytes.now
+
+pub returns-in_err-solved-clause-states : goal.returns-in_err-solved-clause-states
+returns-in_err-solved-clause-states g c = c.told_calls_are_steps.ensures.states c.args.bytes.now
+
+pub returns-in_err-lines-clause-states : goal.returns-in_err-lines-clause-states
+returns-in_err-lines-clause-states g c = c.told_calls_are_steps.ensures.states c.args.bytes.now
+
+pub returns-clause-states : goal.returns-clause-states
+returns-clause-states g c = c.told_calls_are_steps.ensures.states c.args.bytes.now

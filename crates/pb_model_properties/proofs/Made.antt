@@ -1,0 +1,126 @@
+-- What was made of a protocol that was read.
+use Rattle.std.proofs.Common.{◌≡◌, ◌∙◌, Bool, true, ℕ, zero, suc, List, [], ◌∷◌, Some, None, map, refl, sym, ap, subst, inl, inr}
+use Rattle.std.specs.Prelude.{Contains, Result, Ok, Err, IfOk}
+use Rattle.std.specs.List.{slice_get}
+use Rattle.pb_errors.specs.OrMemory.{IfFault, IfRefused, raised}
+use Rattle.pb_errors.specs.declared.or_memory.OrMemory.{OrMemory}
+use Rattle.pb_errors.specs.declared.or_memory.OrMemory.TheVariants.{Refused, Memory}
+use Rattle.pb_text_tree.specs.declared.place.Place.{Place}
+use Rattle.pb_text.specs.declared.error.TextFault.{TextFault}
+use Rattle.pb_typing_declarations.specs.declared.fault.TypingFault.{TypingFault}
+use Rattle.pb_model_tree.specs.declared.model.Model.{Model}
+use Rattle.pb_model_tree.specs.Form as flat
+use Rattle.pb_model_tree.specs.Form.{ModelForm, model_form}
+use Rattle.pb_model_meaning.specs.Erase as model_text
+use Rattle.pb_model_typing.specs.Texts.{IsModelFault, IsTypedModel}
+use Rattle.pb_protocol_tree.specs.Form as protocol_form
+use Rattle.pb_protocol_tree.specs.Form.{ProtocolForm}
+use Rattle.pb_protocol_meaning.specs.Erase.{erase}
+use Rattle.pb_unfolding.specs.Plain.{plain, IsPlain}
+use Rattle.pb_unfolder.specs.Plain.{is_plain, plain_form, plain_formula, plain_property}
+use Rattle.pb_model_spelling.specs.Protocols.{ProtocolWritable}
+use Rattle.pb_model_places.specs.Apart.{KeptPlacesStandApart}
+use Rattle.pb_model_places.specs.Apart as places
+use Rattle.pb_model_text.specs.Parsing.{IsFirstModelFault, NoModelReading}
+use Rattle.pb_solved_model.specs.Laws.{PlainModelsAreSolved, model_property_names, property_names}
+use Rattle.pb_model_properties.specs.declared.error.ModelFault.{ModelFault}
+use Rattle.pb_model_properties.specs.declared.error.ModelFault.TheVariants as model_fault
+use Rattle.pb_model_properties.specs.Refusals.{IsRefusedModel, IsRefusedProtocol, told_at, told_fault, told_place}
+use Rattle.pb_model_properties.specs.Said.{IsModelOf, IsTheReading}
+use Rattle.pb_model_properties.specs.Flat.{IsFlatModelFor}
+use Rattle.pb_model_properties.specs.declared.solved.SolvedModel.{SolvedModel}
+use Rattle.pb_model_properties.specs.Words.{AreNamesOf, IsToldModel, IsToldModelOf, words_where}
+use Rattle.pb_model_properties.proofs.PlainWords.{model_has, plain_places, plain_steps, property_among, property_has}
+use Rattle.pb_model_properties.proofs.SolvedModels.{as_it_is}
+
+-- ---- models of plain protocols
+
+plain_names : (ps : List flat.PropertyForm) → map (λ (p : flat.PropertyForm). p.name) ps ≡ map (λ (p : protocol_form.PropertyForm). p.name) (map plain_property ps)
+plain_names [] = refl
+plain_names (p ∷ ps) = ap (λ xs. p.name ∷ xs) (plain_names ps)
+
+first_plain : (ps : List flat.PropertyForm) → (p : protocol_form.PropertyForm) × (slice_get (map plain_property ps) 0 ≡ Some p) → (p : flat.PropertyForm) × (slice_get ps 0 ≡ Some p)
+first_plain [] (p, at) = absurd (cc at)
+first_plain (p ∷ ps) first = (p, refl)
+
+names_kept : (protocol : ProtocolForm) (m : ModelForm) → protocol ≡ plain_form m → model_property_names m.properties ≡ property_names protocol.properties
+names_kept protocol m words = plain_names m.properties ∙ ap (λ (x : ProtocolForm). property_names x.properties) (sym words)
+
+-- what a protocol that was read says of its model, where it is plain
+pub record IsPlainReading (protocol : ProtocolForm) (m : ModelForm) : Type 0 where
+  pub words : protocol ≡ plain_form m
+  pub meaning : erase protocol ≡ plain (model_text.erase m)
+  pub first : (p : protocol_form.PropertyForm) × (slice_get protocol.properties 0 ≡ Some p)
+  pub apart : (q : protocol_form.PropertyForm) → Contains protocol.properties q → places.stand_apart protocol q.formula ≡ true
+  pub kept : KeptPlacesStandApart
+  pub writable : ProtocolWritable (erase protocol)
+
+pub plain_is_flat : PlainModelsAreSolved → (protocol : ProtocolForm) (m : ModelForm) → IsPlainReading protocol m → IsPlain (model_text.erase m) → IsFlatModelFor protocol m
+plain_is_flat law protocol m is plainly =
+    let has : ProtocolWritable (plain (model_text.erase m)) = subst ProtocolWritable is.meaning is.writable in
+    let apart : (q : protocol_form.PropertyForm) → Contains (plain_form m).properties q → places.stand_apart (plain_form m) q.formula ≡ true =
+    subst (λ (x : ProtocolForm). (q : protocol_form.PropertyForm) → Contains x.properties q → places.stand_apart x q.formula ≡ true) is.words is.apart in
+    record {
+      from = inl is.words;
+      solved = law protocol m plainly is.meaning (names_kept protocol m is.words);
+      first = first_plain m.properties (subst (λ (x : ProtocolForm). (p : protocol_form.PropertyForm) × (slice_get x.properties 0 ≡ Some p)) is.words is.first);
+      apart = λ p among. is.kept (plain_form m) (plain_formula p.formula) m p.formula (apart (plain_property p) (property_among m p among)) (plain_steps m.steps)
+          (plain_places p.formula);
+      writable = model_has (model_text.erase m) has;
+      formulas = λ p among. property_has m has p among;
+    }
+
+-- and its words are its own
+pub plain_names_of : (protocol : ProtocolForm) (m : ModelForm) → is_plain protocol ≡ true → AreNamesOf protocol m None
+plain_names_of protocol m plainly = ap (λ (b : Bool). words_where b (erase protocol) m) (sym plainly)
+
+-- ---- refusals
+
+-- where no steps are told, a place stays
+place_stays : (p : Place) (column : ℕ) → p.column ≡ column → told_place [] p ≡ p
+place_stays p zero e = ap (λ (k : ℕ). told_at k [] p) e ∙ refl
+place_stays p (suc k) e = ap (λ (k : ℕ). told_at k [] p) e ∙ refl
+
+untold : (f : TypingFault) → f ≡ told_fault [] f
+untold f = ap (λ (p : Place). let x : TypingFault = record { rule = f.rule; place = p } in x) (sym (place_stays f.place f.place.column refl))
+
+-- a plain protocol's model that is not well typed
+pub plain_refused : (protocol : ProtocolForm) (m : ModelForm) → protocol ≡ plain_form m → (e : OrMemory TypingFault) (x : OrMemory ModelFault)
+    → raised (λ f above. above ≡ model_fault.Typing f) e x → IfFault e (IsModelFault m) → IfFault e (λ _. ¬ IsTypedModel m) → IfFault x (IsRefusedProtocol protocol)
+plain_refused protocol m words (Refused f) (Refused above) made fault ill = subst (IsRefusedProtocol protocol) (sym made) (inl (record {
+  model = m;
+  made = as_it_is m protocol (inl words);
+  ill_typed = ill;
+  broken = f;
+  fails = fault;
+  steps = [];
+  told = untold f;
+}))
+plain_refused protocol m words (Refused f) Memory made fault ill = tt
+plain_refused protocol m words Memory (Refused above) made fault ill = absurd made
+plain_refused protocol m words Memory Memory made fault ill = tt
+
+-- bytes that say no protocol are refused by the fault that stands first in them
+pub unread : (bytes : List ℕ) (e : OrMemory TextFault) (x : OrMemory ModelFault) → raised (λ f above. above ≡ model_fault.Text f) e x
+    → IfFault e (λ _. NoModelReading bytes) → IfFault e (IsFirstModelFault bytes) → IfFault x (IsRefusedModel bytes)
+unread bytes (Refused f) (Refused above) made none first = subst (IsRefusedModel bytes) (sym made) (inl (none, first))
+unread bytes (Refused f) Memory made none first = tt
+unread bytes Memory (Refused above) made none first = absurd made
+unread bytes Memory Memory made none first = tt
+
+-- a protocol that is refused
+refused_by : (bytes : List ℕ) (protocol : ProtocolForm) → IsTheReading bytes protocol → (f : ModelFault) → IsRefusedProtocol protocol f → IsRefusedModel bytes f
+refused_by bytes protocol read (model_fault.Text f) h = inr (protocol, read, h)
+refused_by bytes protocol read (model_fault.Typing f) h = (protocol, read, h)
+refused_by bytes protocol read model_fault.NoProperty h = h
+
+pub refused_of : {T : Type 0} (bytes : List ℕ) (protocol : ProtocolForm) → IsTheReading bytes protocol → (r : Result T (OrMemory ModelFault)) → IfRefused r (IsRefusedProtocol protocol)
+    → IfRefused r (IsRefusedModel bytes)
+refused_of bytes protocol read (Ok x) h = tt
+refused_of bytes protocol read (Err (Refused f)) h = refused_by bytes protocol read f h
+refused_of bytes protocol read (Err Memory) h = tt
+
+pub model_of_bytes : (bytes : List ℕ) (protocol : ProtocolForm) → IsTheReading bytes protocol → (r : Result SolvedModel (OrMemory ModelFault))
+    → IfOk r (IsToldModel protocol) → IfOk r (IsToldModelOf bytes)
+model_of_bytes bytes protocol read (Ok x) h = record { said = record { protocol = protocol; read = read; is_for = h.is_for }; words = h.words }
+model_of_bytes bytes protocol read (Err e) h = tt

@@ -1,0 +1,24 @@
+-- A protocol that keeps the rules is unfolded.
+use Rattle.std.proofs.Common.{◌≡◌, ◌∙◌, []}
+use Rattle.pb_protocol_tree.specs.Form.{protocol_form}
+use Rattle.pb_protocol_typing.specs.Faults.{protocol_faults}
+use Rattle.pb_model_properties.proofs.FlatModels.{names_read, rules_broken}
+use Rattle.pb_model_properties.proofs.unfolded.flat.Goals as goal
+
+pub returns-in-Err-clause-refused : goal.returns-in-Err-clause-refused
+returns-in-Err-clause-refused c =
+    rules_broken (protocol_form c.args.protocol.now) c.in-Err.error c.raise.result c.raise.ensures c.in-Err.ensures.fails
+
+pub returns-in-Ok-unfold-clause-flat : goal.returns-in-Ok-unfold-clause-flat
+returns-in-Ok-unfold-clause-flat c =
+    let protocol = protocol_form c.args.protocol.now in
+    let keeps : protocol_faults protocol ≡ [] = c.in-Ok.ensures.accepted in
+    record {
+      meaning = c.in-Ok-unfold.ensures.model;
+      hides_nothing = c.in-Ok-unfold.ensures.hides_nothing (c.enumerators_are_apart.ensures protocol keeps);
+      names = c.in-Ok-unfold.ensures.names ∙ names_read c.args.protocol.now.properties.items;
+      steps = c.in-Ok-unfold.ensures.places;
+      places = c.in-Ok-unfold.ensures.formulas;
+      told_variables = c.in-Ok-unfold.ensures.told_variables;
+      told_steps = c.in-Ok-unfold.ensures.told_steps;
+    }

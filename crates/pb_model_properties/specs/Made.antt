@@ -1,0 +1,37 @@
+-- Which model is solved in a protocol's place.
+use Rattle.std.specs.Prelude.{◌≡◌, ◌⊎◌, Bool, true, false}
+use Rattle.pb_model_tree.specs.Form.{ModelForm}
+use Rattle.pb_model_meaning.specs.Erase as model_text
+use Rattle.pb_model_meaning.specs.Steps.{State}
+use Rattle.pb_protocol_tree.specs.Form.{ProtocolForm}
+use Rattle.pb_protocol_meaning.specs.Erase.{erase}
+use Rattle.pb_unfolding.specs.ModelLaws.{flat_model}
+use Rattle.pb_packing.specs.Groups.{groups_of, packed}
+use Rattle.pb_packing.specs.Packable.{IsPackable}
+use Rattle.pb_packing.specs.Unpacked.{unpacked}
+use Rattle.pb_unfolder.specs.Plain.{plain_form}
+use Rattle.pb_solved_model.specs.Solved.{itself}
+
+-- the protocol's own model, where it is plain, with all places; or the unfolded one
+abbrev pub IsFlatOf : ProtocolForm → ModelForm → Type 0
+IsFlatOf protocol model =
+    (protocol ≡ plain_form model) ⊎ (model_text.erase model ≡ flat_model (erase protocol))
+
+-- the flat model as it is, or with its variables packed
+abbrev pub IsPackedWhere : Bool → ModelForm → ModelForm → Type 0
+IsPackedWhere false flat model = model ≡ flat
+IsPackedWhere true flat model =
+    IsPackable (model_text.erase flat)
+    × (model_text.erase model ≡ packed (model_text.erase flat))
+
+-- a flat model of the protocol, packed or as it is
+pub record IsMadeOf (protocol : ProtocolForm) (model : ModelForm) : Type 0 where
+  pub flat : ModelForm
+  pub from : IsFlatOf protocol flat
+  pub is_packed : Bool
+  pub made : IsPackedWhere is_packed flat model
+
+-- the values of a flat model's variables that a state of the model says, packed or as it is
+abbrev pub said_where : Bool → ModelForm → State → State
+said_where false flat = itself
+said_where true flat = unpacked (groups_of (model_text.erase flat))

@@ -1,0 +1,5 @@
+mod Properties
+mod States
+mod Models
+mod Packed
+mod Moves
