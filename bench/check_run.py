@@ -53,6 +53,13 @@ class Equations:
             for g in f.operands: self.walk(g, sign, around, scope)
 
 
+def groups(variables):
+    """The variables in at most eight groups of one after another, as even as can be, the larger ones first."""
+    least, more = divmod(len(variables), 8)
+    ends = [0, *itertools.accumulate(least + (k < more) for k in range(8))]
+    return [variables[first:last] for first, last in itertools.pairwise(ends)]
+
+
 class Line:
     """A formula at a state, the line that it comes from, what it rests on, and what is told of it."""
 
@@ -87,21 +94,42 @@ class Run:
 
     def moved(self, text, state):
         """Where a move leads, which is told by a step with its own values and by what changes."""
+        step, own, told = self.read_move(text)
+        after = tuple(self.value(told[x], sort) if x in told else v for v, (x, sort) in zip(state, self.model.state))
+        self.require(sum(v != w for v, w in zip(state, after)) == len(told), f"{text!r} tells what is no change")
+        if step in self.model.steps:
+            self.require(self.model.after(state, step, own) == after, f"{text!r} isn't what the step does")
+        else:
+            self.require(step == "by no step" or step == "stays" and after == state and not own, f"{text!r} is no step")
+        return after
+
+    def read_move(self, text):
+        """The step of a move, its own values, and what is told of changes."""
         found = MOVE.match(text)
         self.require(found, f"{text!r} is no move")
         step, own, changes = found.groups()
         told = dict(change.partition(" := ")[::2] for change in changes.split(", ")) if changes else {}
         in_order = ", ".join(f"{x} := {told[x]}" for x, _ in self.model.state if x in told)
         self.require(in_order == (changes or ""), f"{text!r} tells no changes in order")
-        after = tuple(self.value(told[x], sort) if x in told else v for v, (x, sort) in zip(state, self.model.state))
-        self.require(sum(v != w for v, w in zip(state, after)) == len(told), f"{text!r} tells what is no change")
-        if step in self.model.steps:
-            words, variables = own.split(",") if own else [], self.model.steps[step][0]
-            values = tuple(self.value(v, sort) for v, (_, sort) in zip(words, variables))
-            self.require(len(words) == len(variables) and values in self.model.owned(step), f"{text!r} has other own values")
-            self.require(self.model.after(state, step, values) == after, f"{text!r} isn't what the step does")
-        else:
-            self.require(step == "by no step" or step == "stays" and after == state and not own, f"{text!r} is no step")
+        words = own.split(",") if own else []
+        if step not in self.model.steps:
+            return step, words, told
+        variables = self.model.steps[step][0]
+        values = tuple(self.value(v, sort) for v, (_, sort) in zip(words, variables))
+        self.require(len(words) == len(variables) and values in self.model.owned(step), f"{text!r} has other own values")
+        return step, values, told
+
+    def left(self, text, state):
+        """Where a move outside the ranges leads. Of more than eight variables several have one number, of which nothing is told there."""
+        step, own, told = self.read_move(text)
+        self.require(step in self.model.steps, f"{text!r} is no step")
+        after = self.model.after(state, step, own)
+        self.require(after and not self.model.is_within(after), f"{text!r} is within the ranges")
+        changed = {}
+        for group in groups(list(zip(self.model.state, state, after))):
+            if len(group) == 1 or all(w in self.model.carrier(sort) for (_, sort), _, w in group):
+                changed.update({x: self.model.word(w) for (x, _), v, w in group if v != w})
+        self.require(changed == told, f"{text!r} isn't what the step does")
         return after
 
     def read_line(self, text):
@@ -130,8 +158,7 @@ class Run:
             line.rests.append(int(edge[3] or edge[4]) - 1)
             line.edges.append((edge[1], line.rests[-1], bool(edge[2])))
         else:
-            line.cuts.append(self.moved(edge[1], line.state))
-            self.require(not self.model.is_within(line.cuts[-1]), f"{text!r} is within the ranges")
+            line.cuts.append(self.left(edge[1], line.state))
 
     def check_edges(self):
         """Each leads to the line that it names, which comes from no later one, and tells a cycle where one is."""
@@ -154,7 +181,7 @@ class Run:
             return ((formula, reached) in rests_on) == self.truth
         value = holds(self.model, self.equations.found[line.formula][1], line.state, truth)
         self.require(value == self.truth, "it doesn't follow from the lines that it rests on", k + 1)
-        stuck = not self.model.successors(line.state, lambda step: True)
+        stuck = not self.model.successors(line.state, lambda step, own: True)
         why = "" if line.cuts else " no step can be taken" if stuck else f" the test {'holds' if self.truth else 'fails'}"
         self.require(line.here == (None if line.rests else why), "it ends in other words", k + 1)
 

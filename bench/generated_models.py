@@ -25,7 +25,6 @@ class Model:
         self.inside = set(self.states)
         steps = [self.step(f"s{number}") for number in range(1 + self.generator.below(4))]
         self.next = {name: leads for name, _, leads in steps}
-        self.guards_quantify = self.terms.has_quantifier
         self.initial = self.generator.one_of(self.states)
         self.properties = [self.fixpoint((), 3 + self.generator.below(3)) if self.generator.below(4) else self.formula((), 1, 4) for _ in range(3)]
         variables = ", ".join(f"{name}: {sort}" for name, sort in self.sorts.items())
@@ -98,8 +97,7 @@ class Model:
                 return "name", self.generator.one_of(around)
             if self.generator.below(4) == 0:
                 return self.generator.one_of((TRUE, ("false",)))
-            text, value = self.terms.term(self.sorts, "bool", self.generator.below(3), True)
-            return "test", text, frozenset(state for state in self.states if value(dict(zip(self.sorts, state))))
+            return self.test()
         if choose <= 2 and sign == 1 and len(around) < 3:
             return self.fixpoint(around, depth)
         if choose <= 5:
@@ -109,6 +107,10 @@ class Model:
             return "not", self.formula(around, -sign, depth - 1)
         kind = self.generator.one_of(("and", "or", "implies"))
         return kind, self.formula(around, -sign if kind == "implies" else sign, depth - 1), self.formula(around, sign, depth - 1)
+
+    def test(self):
+        text, value = self.terms.term(self.sorts, "bool", self.generator.below(3), True)
+        return "test", text, frozenset(state for state in self.states if value(dict(zip(self.sorts, state))))
 
     def printed(self, formula, is_operand=False):
         """The text of a formula, of an operand in brackets where it reaches further than it should."""

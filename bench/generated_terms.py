@@ -2,10 +2,10 @@
 
 Of bench/fuzzing_models.py. What a term means was written anew from docs/MANUAL.md, "The text language"."""
 
-# The sorts with their values. Of an enumeration and an alias with a range of its own there is one each.
-VALUES = {"Bool": (False, True), "Nat": (0, 1, 2), "Small": (-1, 0, 1), "D": ("a", "c")}
-KIND = {"Bool": "bool", "Nat": "int", "Small": "int", "D": "letter"}
-DECLARATIONS = "%range Nat 0 2\nsort D = struct a?is_a | c; Small = Int;\n%range Small -1 1\n"
+# The sorts with their values: an enumeration, aliases with ranges of their own, one of them of a single number.
+VALUES = {"Bool": (False, True), "Nat": (0, 1, 2), "Small": (-1, 0, 1), "One": (1,), "D": ("a", "c")}
+KIND = {"Bool": "bool", "Nat": "int", "Small": "int", "One": "int", "D": "letter"}
+DECLARATIONS = "%range Nat 0 2\nsort D = struct a?is_a | c; Small = Int; One = Int;\n%range Small -1 1\n%range One 1 1\n"
 BINARY = (
     ("{} + {}", lambda x, y: x + y),
     ("{} - {}", lambda x, y: x - y),
@@ -29,7 +29,7 @@ class Terms:
     """Makes data terms: a text, and a function from the values of its variables. Below another operator a term stands in brackets."""
 
     def __init__(self, generator, quantifiers):
-        self.generator, self.quantifiers, self.has_quantifier = generator, quantifiers, False
+        self.generator, self.quantifiers = generator, quantifiers
 
     def variables(self, scope, kind):
         """The variables of a kind, and of letters the enumerators that no variable hides."""
@@ -76,7 +76,6 @@ class Terms:
 
     def quantified(self, scope, depth):
         """A quantifier, whose variable may hide another, or an enumerator."""
-        self.has_quantifier = True
         word, value = self.generator.one_of((("forall", all), ("exists", any)))
         name, sort = self.generator.one_of(("k", "n", "d", "a")), self.generator.one_of(tuple(VALUES))
         text, part = self.term({**scope, name: sort}, "bool", depth - 1, True)

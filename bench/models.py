@@ -1,4 +1,8 @@
-"""Models and their properties, read and evaluated by Python alone, as `docs/MANUAL.md` says what they mean."""
+"""Models and their properties, read and evaluated by Python alone, as `docs/MANUAL.md` says what they mean.
+
+Arrays, definitions and steps by their values are evaluated as they are written; nothing is put in. A quantified formula stands for its
+copies, and tests that written values decide are left out of formulas, since that is how the lines of `why` are named."""
+import functools
 import itertools
 import operator
 import re
@@ -22,6 +26,48 @@ class Node:
         self.equation, self.scope = None, None
 
 
+class Unknown(Exception):
+    """The value isn't known without the state."""
+
+
+class Defined:
+    """What a definition or an array gives of values, where names stand for these."""
+
+    def __init__(self, parameters, value, names):
+        self.parameters, self.value, self.names = parameters, value, names
+
+    def __call__(self, *values):
+        return self.value({**self.names, **dict(zip(self.parameters, values))})
+
+
+def named(word):
+    def value(names):
+        if word not in names:
+            raise Unknown
+        return names[word]() if isinstance(names[word], Defined) else names[word]
+    return value
+
+
+def decided_by(mark, x, y):
+    """A connective, of which one operand may decide."""
+    def value(names):
+        found = []
+        for part in (x, y):
+            try:
+                found.append(part(names))
+            except Unknown:
+                found.append(None)
+        if mark == "=>":
+            found[0] = None if found[0] is None else not found[0]
+        decisive = mark != "&&"
+        if decisive in found:
+            return decisive
+        if None in found:
+            raise Unknown
+        return not decisive
+    return value
+
+
 class Model:
     """A model; data are functions from what names stand for to values, steps (variables, guard, assignments) by name."""
 
@@ -34,22 +80,38 @@ class Model:
             while self.tokens[1] == "=":
                 self.read_sort()
         self.take("model", "state")
-        self.state = self.variables()
-        self.take(";", "step")
+        self.is_plain, self.definitions, self.known = True, {}, {}
+        self.declared = self.state_variables()
+        self.places = self.element_places()
+        self.state = [(self.told(name, index), sort) for name, indices, sort in self.declared for index in self.tuples(indices)]
+        self.take(";")
+        if self.taken("define"):
+            self.is_plain = False
+            while self.tokens[0] != "step":
+                name = self.take()
+                parameters = self.variables(")") if self.taken("(") else []
+                self.take("=")
+                self.definitions[name] = [x for x, _ in parameters], self.data()
+                self.take(";")
+        self.take("step")
         while self.tokens[0] != "init":
             name = self.take()
             own = self.variables(")") if self.taken("(") else []
             self.take(":")
             guard = self.data()
             self.take("->")
-            self.steps[name] = own, guard, dict(self.separated(",", lambda: (self.take(), self.take(":=") and self.data())))
+            self.steps[name] = own, guard, [] if self.taken("skip") else self.separated(",", self.assignment)
             self.take(";")
         self.take("init")
-        self.initial = tuple(term(self.values) for term in self.separated(",", self.data))
+        terms = self.separated(",", self.data)
+        self.initial = tuple(term({**self.values, **dict(zip([i for i, _ in indices], index))})
+                             for (_, indices, _), term in zip(self.declared, terms) for index in self.tuples(indices))
         while self.taken(";") and self.taken("property"):
             name = self.take()
             self.take("=")
             self.properties[name] = self.formula(())
+        if not self.is_plain:
+            self.properties = {name: self.written_out(f, {}) for name, f in self.properties.items()}
 
     def take(self, *words):
         for word in words or self.tokens[:1]:
@@ -78,6 +140,59 @@ class Model:
         else:
             self.sorts[name] = self.take()
         self.take(";")
+
+    def state_variables(self):
+        """The state variables, each with its indices and its sort."""
+        def variable():
+            name = self.take()
+            if not self.taken("("):
+                return name, []
+            self.is_plain = False
+            return name, self.variables(")")
+        def group():
+            found = self.separated(",", variable)
+            self.take(":")
+            sort = self.take()
+            return [(name, indices, sort) for name, indices in found]
+        return sum(self.separated(",", group), [])
+
+    def tuples(self, variables):
+        return itertools.product(*[self.carrier(sort) for _, sort in variables])
+
+    def word(self, value):
+        return str(value).lower() if isinstance(value, bool) else str(value)
+
+    def told(self, name, values):
+        return f"{name}({','.join(map(self.word, values))})" if values else name
+
+    def element_places(self):
+        """For each state variable the places of its elements in a state, by their indices."""
+        count = itertools.count()
+        return {name: {index: next(count) for index in self.tuples(indices)} for name, indices, _ in self.declared}
+
+    def names(self, state):
+        """What names stand for at a state."""
+        if state not in self.known:
+            self.known = {state: self.names_at(state)}
+        return self.known[state]
+
+    def names_at(self, state):
+        found = dict(self.values)
+        for name, places in self.places.items():
+            last = max(places.values())
+            found[name] = state[last] if () in places else lambda *index, at=places, last=last: state[at.get(index, last)]
+        base = dict(found)
+        for name, (parameters, value) in self.definitions.items():
+            found[name] = Defined(parameters, value, base)
+            base = dict(found)
+        return found
+
+    def assignment(self):
+        """What is assigned: a state variable, the terms of its index, and the term whose value it gets."""
+        name = self.take()
+        index = self.separated(",", self.data) if self.taken("(") else []
+        self.take(*[")"] * bool(index), ":=")
+        return name, index, self.data()
 
     def carrier(self, sort):
         found = self.ranges.get(sort) or self.sorts[sort]
@@ -108,7 +223,8 @@ class Model:
         return found
 
     def data(self, level=0):
-        return self.chain(level, 6, self.unary, lambda mark, x, y: lambda names: BINARY[mark](x(names), y(names)))
+        return self.chain(level, 6, self.unary, lambda mark, x, y: decided_by(mark, x, y) if mark in ("&&", "||", "=>")
+                          else lambda names: BINARY[mark](x(names), y(names)))
 
     def unary(self):
         word = self.take()
@@ -119,14 +235,26 @@ class Model:
             x = self.data()
             return self.take(")") and x
         if word in ("forall", "exists"):
+            self.is_plain = False
             bound = self.variables(".")
-            x, ranges = self.data(), [self.carrier(sort) for _, sort in bound]
-            each = all if word == "forall" else any
-            return lambda names: each(x({**names, **dict(zip([y for y, _ in bound], own))}) for own in itertools.product(*ranges))
+            copies = functools.reduce(lambda after, own: decided_by("&&" if word == "forall" else "||", lambda names: x({**names, **own}), after),
+                                      [dict(zip([y for y, _ in bound], own)) for own in self.tuples(bound)][::-1], lambda names: word == "forall")
+            x = self.data()
+            return copies
         if self.taken("("):
             arguments = self.separated(",", self.data)
-            return self.take(")") and (lambda names: self.functions[word](*[x(names) for x in arguments]))
-        return (lambda names: int(word)) if word.isdigit() else (lambda names: names[word])
+            return self.take(")") and self.called(word, arguments)
+        return (lambda names: int(word)) if word.isdigit() else named(word)
+
+    def called(self, word, arguments):
+        def value(names):
+            if word == "if":
+                return arguments[1 if arguments[0](names) else 2](names)
+            values = [x(names) for x in arguments]
+            if word not in names and word not in self.functions:
+                raise Unknown
+            return names.get(word, self.functions.get(word))(*values)
+        return value
 
     def formula(self, bound):
         return self.chain(0, 2, lambda: self.node(bound), Node)
@@ -137,6 +265,10 @@ class Model:
             name = self.take() and self.take()
             self.take(".")
             return Node(word, name, self.formula(bound + (name,)))
+        if word in ("forall", "exists"):
+            self.is_plain = False
+            variables = self.take() and self.variables(".")
+            return Node(word, variables, self.formula(bound))
         if word in ("[", "<"):
             self.take()
             steps = self.steps_named()
@@ -154,29 +286,94 @@ class Model:
         return Node("data", self.unary() if self.taken("val") else self.data(3))
 
     def steps_named(self):
-        """Whether a step's name is in the set."""
+        """Whether a step with its own values is in the set, where names stand for these."""
         sets = self.separated("||", self.set_of_steps)
-        return lambda name: any(chosen(name) for chosen in sets)
+        return lambda name, own, names=None: any(chosen(name, own, names) for chosen in sets)
 
     def set_of_steps(self):
         word = self.take()
         if word in ("!", "("):
             chosen = self.set_of_steps() if word == "!" else self.steps_named()
-            return (lambda name: not chosen(name)) if word == "!" else self.take(")") and chosen
-        return lambda name: word in ("true", name)
+            return (lambda name, own, names=None: not chosen(name, own, names)) if word == "!" else self.take(")") and chosen
+        if not self.taken("("):
+            return lambda name, own, names=None: word in ("true", name)
+        self.is_plain = False
+        values = self.separated(",", lambda: None if self.taken("_") else self.data())
+        self.take(")")
+        return lambda name, own, names=None: name == word and all(x is None or x(names) == v for x, v in zip(values, own))
+
+    # ---- quantified formulas
+
+    def decided(self, f):
+        """The truth of data that the written values around it decide."""
+        return f.parts[1] if f.kind == "data" and len(f.parts) > 1 else None
+
+    def written_out(self, f, around):
+        """A formula without quantifiers, where the variables of those around have these values."""
+        if f.kind == "data":
+            return self.written_data(f.parts[0], around)
+        if f.kind in ("mu", "nu"):
+            return Node(f.kind, f.parts[0], self.written_out(f.parts[1], around))
+        if f.kind in ("[", "<"):
+            chosen, names = f.parts[0], {**self.values, **around}
+            return Node(f.kind, lambda name, own: chosen(name, own, names), self.written_out(f.parts[1], around))
+        if f.kind in ("forall", "exists"):
+            found = Node("data", lambda names: f.kind == "forall", f.kind == "forall")
+            for own in list(self.tuples(f.parts[0]))[::-1]:
+                copy = self.written_out(f.parts[1], {**around, **dict(zip([x for x, _ in f.parts[0]], own))})
+                found = self.joined("&&" if f.kind == "forall" else "||", copy, found)
+            return found
+        parts = [self.written_out(g, around) for g in f.operands]
+        return Node(f.kind, *f.parts) if not parts else self.negated(parts[0]) if f.kind == "!" else self.joined(f.kind, *parts)
+
+    def written_data(self, x, around):
+        test = lambda names: x({**names, **around})
+        constants = {name: Defined(parameters, value, {}) for name, (parameters, value) in self.definitions.items()}
+        for defined in constants.values():
+            defined.names = {**self.values, **constants}
+        try:
+            return Node("data", test, test({**self.values, **constants}))
+        except Unknown:
+            return Node("data", test)
+
+    def negated(self, f):
+        truth = self.decided(f)
+        return Node("!", f) if truth is None else Node("data", lambda names: not truth, not truth)
+
+    def joined(self, mark, f, g):
+        """A connective of two formulas, of which one may be decided; `true` and `false` as formulas stay beside it."""
+        first, second = self.decided(f), self.decided(g)
+        unless_constant = lambda kept: Node(mark, f, g) if kept.kind == "constant" else kept
+        if mark == "=>":
+            if first is False:
+                return Node("data", lambda names: True, True)
+            if first is None and second is not None:
+                return g if second else Node("!", f)
+            return Node(mark, f, g) if first is None else unless_constant(g)
+        unit = mark == "&&"
+        if first is not None:
+            return unless_constant(g) if first == unit else f
+        if second is not None:
+            return unless_constant(f) if second == unit else g
+        return Node(mark, f, g)
+
+    # ---- steps
 
     def after(self, state, step, own):
         """The state after a step, and none where the guard is false."""
         variables, guard, assignments = self.steps[step]
-        names = {**self.values, **dict(zip([x for x, _ in self.state + variables], state + own))}
+        names = {**self.names(state), **dict(zip([x for x, _ in variables], own))}
         if guard(names):
-            return tuple(assignments[x](names) if x in assignments else v for (x, _), v in zip(self.state, state))
+            then = list(state)
+            for x, index, term in assignments:
+                then[self.places[x][tuple(i(names) for i in index)]] = term(names)
+            return tuple(then)
 
     def owned(self, step):
-        return itertools.product(*[self.carrier(sort) for _, sort in self.steps[step][0]])
+        return self.tuples(self.steps[step][0])
 
     def successors(self, state, chosen):
-        reached = [self.after(state, step, own) for step in self.steps if chosen(step) for own in self.owned(step)]
+        reached = [self.after(state, step, own) for step in self.steps for own in self.owned(step) if chosen(step, own)]
         return [t for t in reached if t is not None]
 
     def is_within(self, state):
@@ -188,7 +385,7 @@ def holds(model, f, state, truth):
     if f.kind == "constant":
         return f.parts[0]
     if f.kind == "data":
-        return f.parts[0]({**model.values, **dict(zip([x for x, _ in model.state], state))})
+        return f.parts[0](model.names(state))
     if f.kind in ("variable", "mu", "nu"):
         return truth(f.scope[f.parts[0]] if f.kind == "variable" else f.equation, state)
     if f.kind in ("[", "<"):

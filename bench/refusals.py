@@ -43,6 +43,17 @@ LASSO = (
     b"r false\n1 Z: p = a, q = false\n2 Z s(b): p := b\n3 Y stays\n4 Y t: q := true\n"
     b"  t: q := false, back to line 3, for ever\n"
 )
+# Ten variables, so that it is packed, with a definition, a quantifier and steps for values that a guard forbids.
+PROTOCOL = (
+    b"%range Nat 0 8\nmodel state on(i: Nat): Bool, at: Nat; define is_next(i: Nat) = exists j: Nat . j == i && at == j; "
+    b"step go(i: Nat): is_next(i) && i < 4 -> on(i) := true, at := i + 1; rest: on(3) -> skip; init false, 0; "
+    b"property off = nu X . [!go(3)] X && forall i: Nat . !(i == 1 && on(i));"
+)
+OTHERS_OFF = b"".join(b"on(%d) = false, " % place for place in range(2, 9))
+TURNED_ON = (
+    b"off false\n1 X: on(0) = false, on(1) = false, " + OTHERS_OFF + b"at = 0\n2 X go(0): on(0) := true, at := 1\n"
+    b"3 X go(1): on(1) := true, at := 2\n  here the test fails: on(0) = true, on(1) = true, " + OTHERS_OFF + b"at = 2\n"
+)
 SINKS = b'0 1 0 0 "false";\n1 0 0 1 "true";\n'
 CASES = [
     ("solve", "cycle", CYCLE, b"answer false\ninstances 2\ncut 0\nvertices 4\n"),
@@ -58,6 +69,7 @@ CASES = [
     ("game", "data", DATA, b"parity 4;\n" + SINKS + b'2 1 0 1 "Y(1)";\n3 1 0 2 "Y(2)";\n4 1 0 3 "Y(3)";\n'),
     ("solution", "data", DATA, b"Y(1) true\nY(2) true\nY(3) true\n"),
     ("why", "model", MODEL, LASSO),
+    ("why", "protocol", PROTOCOL, TURNED_ON),
     ("solve-code", "others", MODULE, b"answer true\ninstances 3\ncut 0\nvertices 5\n"),
     ("solve-code", "counts down", COUNTS_DOWN, b"answer true\ninstances 10\ncut 0\nvertices 12\n"),
 ]
