@@ -93,25 +93,26 @@ first-and-third S forms ρ f (x ∷ y ∷ z ∷ []) a d three ea ed =
     ∙ ap (λ (u : Argument). choice_of f (put_in S forms ρ (tree.term_of x.term)) (put_in S forms ρ (tree.term_of y.term)) (put_in S forms ρ (tree.term_of u.term))) ed
 first-and-third S forms ρ f (x ∷ y ∷ z ∷ w ∷ given) a d three ea ed = absurd (omega (arith, three))
 
--- the last of several
-last-one : {A : Type 0} (xs : List A) (x : A) (n : ℕ) → length xs ≡ suc n → Some x ≡ slice_get xs n → take n xs ++ (x ∷ []) ≡ xs
-last-one [] x n e there = absurd (omega (arith, e))
-last-one (y ∷ []) x zero e there = ap (λ z. z ∷ []) (same there)
-  where
-    same : Some x ≡ Some y → x ≡ y
-    same h = cc
-last-one (y ∷ []) x (suc n) e there = absurd (omega (arith, e))
-last-one (y ∷ z ∷ xs) x zero e there = absurd (omega (arith, e))
-last-one (y ∷ z ∷ xs) x (suc n) e there = ap (λ zs. y ∷ zs) (last-one (z ∷ xs) x n (omega (arith, e)) there)
+-- up to the element at a place, and all
+pub taken-more : {A : Type 0} (xs : List A) (k : ℕ) (x : A) → k < length xs → x ≡ get_or xs k x → take (suc k) xs ≡ take k xs ++ (x ∷ [])
+taken-more [] k x within is = absurd (omega (arith, within))
+taken-more (y ∷ xs) zero x within is = ap (λ z. z ∷ []) (sym is)
+taken-more (y ∷ xs) (suc k) x within is = ap (λ zs. y ∷ zs) (taken-more xs k x (omega (arith, within)) is)
 
-pub without-last : {A : Type 0} (xs : List A) (x : A) → Some x ≡ slice_get xs (length xs - 1) → take (length xs - 1) xs ++ (x ∷ []) ≡ xs
-without-last [] x there = absurd (no there)
-  where
-    no : Some x ≡ None → ⊥
-    no h = cc
-without-last (y ∷ xs) x there =
-    let e : suc (length xs) - 1 ≡ length xs = omega arith in
-    ap (λ (m : ℕ). take m (y ∷ xs) ++ (x ∷ [])) e ∙ last-one (y ∷ xs) x (length xs) refl (there ∙ ap (slice_get (y ∷ xs)) e)
+pub taken-all : {A : Type 0} (xs : List A) (k : ℕ) → (k < length xs → ⊥) → take k xs ≡ xs
+taken-all [] zero end = refl
+taken-all [] (suc k) end = refl
+taken-all (x ∷ xs) zero end = absurd (end (omega arith))
+taken-all (x ∷ xs) (suc k) end = ap (λ ys. x ∷ ys) (taken-all xs k (λ h. end (omega (arith, h))))
+
+pub taken-none : {A : Type 0} (xs : List A) → take 0 xs ≡ []
+taken-none [] = refl
+taken-none (x ∷ xs) = refl
+
+pub taken-there : {A : Type 0} (xs : List A) (k : ℕ) (x : A) → k < length xs → x ≡ get_or xs k x → slice_get xs k ≡ Some x
+taken-there [] k x within is = absurd (omega (arith, within))
+taken-there (y ∷ xs) zero x within is = ap Some (sym is)
+taken-there (y ∷ xs) (suc k) x within is = taken-there xs k x (omega (arith, within)) is
 
 -- all but the first
 taken : {A : Type 0} (xs : List A) → take (length xs) xs ≡ xs

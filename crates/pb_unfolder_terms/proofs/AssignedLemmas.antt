@@ -1,19 +1,18 @@
 -- Arguments that are compared with written values, and assignments by the last of them.
-use Rattle.std.proofs.Common.{◌≡◌, ℕ, zero, suc, ◌+◌, ◌-◌, ◌<◌, ◌≤◌, ◌++◌, ◌==◌, Bool, true, false, if◌then◌else◌, List, [], ◌∷◌, map, drop, take, length, Some, None, refl, sym, ◌∙◌, ap, subst, arith, string_bytes, true≢false, not}
+use Rattle.std.proofs.Common.{◌≡◌, ℕ, suc, ◌<◌, ◌++◌, ◌==◌, Bool, true, false, if◌then◌else◌, List, [], ◌∷◌, map, drop, take, length, get_or, Some, None, refl, sym, ◌∙◌, ap, string_bytes, true≢false, not}
 use Rattle.std.proofs.Math.Dec.{eqb-suc-zero}
 use Rattle.std.specs.List.{slice_get}
 use Rattle.pb_text_tree.specs.declared.term.Argument.{Argument}
 use Rattle.pb_protocol_tree.specs.declared.step.Assignment as declared_assignment
-use Rattle.pb_text_meaning.specs.Syntax.{Name, same_name, Operator, Term, Terms, Spec}
+use Rattle.pb_text_meaning.specs.Syntax.{same_name, Operator, Term, Spec}
 use Rattle.pb_protocol_meaning.specs.Syntax.{Assignment}
-use Rattle.pb_folding.specs.Folding.{folded}
 use Rattle.pb_folding.specs.View as tree
 use Rattle.pb_unfolding.specs.PutIn.{Forms, TermScope, all_put_in, choice, put_in}
 use Rattle.pb_unfolding.specs.Unfolding.{Element, is_index, name_of, term_after}
 use Rattle.pb_unfolder_terms.specs.declared.written.Written.{Written}
 use Rattle.pb_unfolder_terms.specs.Assigned.{assignment_said, assignments_said}
 use Rattle.pb_unfolder_terms.specs.Values.{written_term}
-use Rattle.pb_unfolder_terms.proofs.ArgumentLemmas.{without-last}
+use Rattle.pb_unfolder_terms.proofs.ArgumentLemmas.{taken-more}
 use Rattle.pb_unfolder_terms.proofs.ReadLemmas.{none-not, not-none, some-is}
 
 -- ---- arguments and written values
@@ -61,11 +60,6 @@ said-more : (bs : List declared_assignment.Assignment) (a : declared_assignment.
 said-more [] a = refl
 said-more (b ∷ bs) a = ap (λ xs. assignment_said b ∷ xs) (said-more bs a)
 
--- there is a last one
-last-there : {A : Type 0} (x : A) (xs : List A) → None ≡ slice_get (x ∷ xs) (length xs) → ⊥
-last-there x [] none = none-not x none
-last-there x (y ∷ xs) none = last-there y xs none
-
 module _ (S : Spec) (forms : Forms) (ρ : TermScope) where
   after-more : (xs : List Assignment) (a : Assignment) (e : Element) (x : Term)
       → term_after S forms ρ (xs ++ (a ∷ [])) e x
@@ -78,30 +72,23 @@ module _ (S : Spec) (forms : Forms) (ρ : TermScope) where
   abbrev pub after : List declared_assignment.Assignment → Element → Term
   after bs e = term_after S forms ρ (assignments_said bs) e (Term.Named (name_of e))
 
-  after-last : (bs : List declared_assignment.Assignment) (a : declared_assignment.Assignment) (e : Element) → Some a ≡ slice_get bs (length bs - 1)
-      → (if same_name (string_bytes a.variable.text) e.array then choice (is_index (all_put_in S forms ρ (tree.terms_of a.index.items)) e.index) (put_in S forms ρ (tree.term_of a.value.term)) (after (take (length bs - 1) bs) e) else after (take (length bs - 1) bs) e)
-      ≡ after bs e
-  after-last bs a e there =
-      sym (after-more (assignments_said (take (length bs - 1) bs)) (assignment_said a) e (Term.Named (name_of e)))
-      ∙ ap (λ xs. term_after S forms ρ xs e (Term.Named (name_of e))) (sym (said-more (take (length bs - 1) bs) a) ∙ ap assignments_said (without-last bs a there))
+  after-further : (bs : List declared_assignment.Assignment) (k : ℕ) (a : declared_assignment.Assignment) (e : Element) → k < length bs → a ≡ get_or bs k a
+      → (if same_name (string_bytes a.variable.text) e.array then choice (is_index (all_put_in S forms ρ (tree.terms_of a.index.items)) e.index) (put_in S forms ρ (tree.term_of a.value.term)) (after (take k bs) e) else after (take k bs) e)
+      ≡ after (take (suc k) bs) e
+  after-further bs k a e within is =
+      sym (after-more (assignments_said (take k bs)) (assignment_said a) e (Term.Named (name_of e)))
+      ∙ ap (λ xs. term_after S forms ρ xs e (Term.Named (name_of e))) (sym (said-more (take k bs) a) ∙ ap assignments_said (sym (taken-more bs k a within is)))
 
-  -- without assignments
-  pub after-none : (bs : List declared_assignment.Assignment) (e : Element) → None ≡ slice_get bs (length bs - 1) → Term.Named (name_of e) ≡ after bs e
-  after-none [] e none = refl
-  after-none (b ∷ bs) e none =
-      let one : suc (length bs) - 1 ≡ length bs = omega arith in
-      absurd (last-there b bs (none ∙ ap (slice_get (b ∷ bs)) one))
-
-  -- the last one is to the element's array
-  pub after-same : (bs : List declared_assignment.Assignment) (a : declared_assignment.Assignment) (e : Element) → Some a ≡ slice_get bs (length bs - 1) → same_name (string_bytes a.variable.text) e.array ≡ true
-      → choice (is_index (all_put_in S forms ρ (tree.terms_of a.index.items)) e.index) (put_in S forms ρ (tree.term_of a.value.term)) (after (take (length bs - 1) bs) e) ≡ after bs e
-  after-same bs a e there same =
-      sym (ap (λ (b : Bool). if b then choice (is_index (all_put_in S forms ρ (tree.terms_of a.index.items)) e.index) (put_in S forms ρ (tree.term_of a.value.term)) (after (take (length bs - 1) bs) e) else after (take (length bs - 1) bs) e) same)
-      ∙ after-last bs a e there
+  -- the assignment at a place is to the element's array
+  pub after-same : (bs : List declared_assignment.Assignment) (k : ℕ) (a : declared_assignment.Assignment) (e : Element) → k < length bs → a ≡ get_or bs k a → same_name (string_bytes a.variable.text) e.array ≡ true
+      → after (take (suc k) bs) e ≡ choice (is_index (all_put_in S forms ρ (tree.terms_of a.index.items)) e.index) (put_in S forms ρ (tree.term_of a.value.term)) (after (take k bs) e)
+  after-same bs k a e within is same =
+      sym (after-further bs k a e within is)
+      ∙ ap (λ (b : Bool). if b then choice (is_index (all_put_in S forms ρ (tree.terms_of a.index.items)) e.index) (put_in S forms ρ (tree.term_of a.value.term)) (after (take k bs) e) else after (take k bs) e) same
 
   -- to another one
-  pub after-other : (bs : List declared_assignment.Assignment) (a : declared_assignment.Assignment) (e : Element) → Some a ≡ slice_get bs (length bs - 1) → same_name (string_bytes a.variable.text) e.array ≡ false
-      → after (take (length bs - 1) bs) e ≡ after bs e
-  after-other bs a e there other =
-      sym (ap (λ (b : Bool). if b then choice (is_index (all_put_in S forms ρ (tree.terms_of a.index.items)) e.index) (put_in S forms ρ (tree.term_of a.value.term)) (after (take (length bs - 1) bs) e) else after (take (length bs - 1) bs) e) other)
-      ∙ after-last bs a e there
+  pub after-other : (bs : List declared_assignment.Assignment) (k : ℕ) (a : declared_assignment.Assignment) (e : Element) → k < length bs → a ≡ get_or bs k a → same_name (string_bytes a.variable.text) e.array ≡ false
+      → after (take (suc k) bs) e ≡ after (take k bs) e
+  after-other bs k a e within is other =
+      sym (after-further bs k a e within is)
+      ∙ ap (λ (b : Bool). if b then choice (is_index (all_put_in S forms ρ (tree.terms_of a.index.items)) e.index) (put_in S forms ρ (tree.term_of a.value.term)) (after (take k bs) e) else after (take k bs) e) other

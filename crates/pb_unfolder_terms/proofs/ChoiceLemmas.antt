@@ -75,7 +75,7 @@ chosen-room n m left c x y false within size = omega (arith, within, size)
 
 -- ---- what is refused
 
-sum-of : (f : Name) (c x y : Term) → operator_count (choice_of f c x y) ≡ suc (operator_count c + (operator_count x + operator_count y))
+pub sum-of : (f : Name) (c x y : Term) → operator_count (choice_of f c x y) ≡ suc (operator_count c + (operator_count x + operator_count y))
 sum-of f c x y = omega arith
 
 -- the condition

@@ -13,3 +13,4 @@ pub mod ArgumentLemmas
 pub mod SortsLemmas
 pub mod ProtocolLemmas
 pub mod AssignedLemmas
+pub mod BehindLemmas

@@ -1,12 +1,11 @@
 -- What terms of a protocol are unfolded to, by the protocol in place of the code's context.
-use Rattle.std.proofs.Common.{◌≡◌, ℕ, suc, Bool, List, [], ◌∷◌, map, take, length, refl, sym, ◌∙◌, ap, subst}
+use Rattle.std.proofs.Common.{◌≡◌, ℕ, suc, Bool, List, [], ◌∷◌, map, take, length, refl, ◌∙◌, ap, subst}
 use Rattle.std.specs.Prelude.{Result, Ok, Err}
 use Rattle.pb_text_meaning.specs.Syntax.{Term, NoTerms, SortDeclaration, Range, Spec}
-use Rattle.pb_protocol_meaning.specs.Syntax.{StateVariable, Definition, Protocol, Assignment}
+use Rattle.pb_protocol_meaning.specs.Syntax.{StateVariable, Definition, Protocol}
 use Rattle.pb_protocol_meaning.specs.Steps.{data_of}
 use Rattle.pb_errors.specs.declared.or_memory.OrMemory.{OrMemory}
-use Rattle.pb_unfolding.specs.PutIn.{Forms, TermScope, put_in, reads, with_definitions}
-use Rattle.pb_unfolding.specs.Unfolding.{Element, name_of, term_after, unfolded_term}
+use Rattle.pb_unfolding.specs.PutIn.{Forms, TermScope, reads, with_definitions}
 use Rattle.pb_unfolder_terms.specs.declared.context.Context.{Context}
 use Rattle.pb_unfolder_terms.specs.declared.fault.UnfoldFault.{UnfoldFault}
 use Rattle.pb_unfolder_terms.specs.declared.scope.TermScope as declared_scope

@@ -1,11 +1,10 @@
 -- Reads of arrays by their first index, and choices by their first value.
-use Rattle.std.proofs.Common.{◌≡◌, ℕ, ◌<◌, Bool, true, false, if◌then◌else◌, List, [], ◌∷◌, map, drop, length, Option, Some, None, refl, sym, ◌∙◌, ap, subst, arith}
+use Rattle.std.proofs.Common.{◌≡◌, Bool, if◌then◌else◌, List, [], ◌∷◌, map, drop, length, Some, None, refl, sym, ◌∙◌, ap, arith}
 use Rattle.std.specs.List.{slice_get}
 use Rattle.pb_text_tree.specs.declared.term.Argument.{Argument}
 use Rattle.pb_text_meaning.specs.Syntax.{Name, Operator, Term, Terms, Spec}
-use Rattle.pb_folding.specs.Folding.{folded}
 use Rattle.pb_folding.specs.View as tree
-use Rattle.pb_unfolding.specs.Written.{element, is_written, written_values}
+use Rattle.pb_unfolding.specs.Written.{element, written_values}
 use Rattle.pb_unfolding.specs.PutIn.{Forms, TermScope, all_put_in, choice, choices, chosen, put_in, read}
 use Rattle.pb_unfolder_terms.specs.declared.sorts.Variable.{Variable}
 use Rattle.pb_unfolder_terms.specs.declared.written.Written.{Written}

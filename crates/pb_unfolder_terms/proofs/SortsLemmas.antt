@@ -1,11 +1,11 @@
 -- Folding sees the sorts alone.
-use Rattle.std.proofs.Common.{◌≡◌, Bool, true, false, Option, Some, None, refl, sym, ◌∙◌, ap}
+use Rattle.std.proofs.Common.{◌≡◌, Bool, true, false, Option, Some, None, refl, ◌∙◌, ap}
 use Rattle.pb_carriers.specs.Carrier.{Value}
-use Rattle.pb_text_meaning.specs.Syntax.{Name, same_name, Operator, SortDeclaration, Term, Terms, Spec}
+use Rattle.pb_text_meaning.specs.Syntax.{Name, same_name, Operator, Term, Terms, Spec}
 use Rattle.pb_text_meaning.specs.Functions.{named_function}
 use Rattle.pb_text_meaning.specs.Sorts.{is_recogniser, place_in}
 use Rattle.pb_text_meaning.specs.declared.function.NamedFunction.{NamedFunction}
-use Rattle.pb_folding.specs.Folding.{folded, folded_and, folded_application, folded_arguments, folded_implies, folded_negative, folded_not, folded_operation, folded_or, function_of_one, function_of_two, function_of_three, is_if, negative_of, operation_of, place_value, recogniser_of, truth_value, written_value}
+use Rattle.pb_folding.specs.Folding.{folded, folded_and, folded_application, folded_arguments, folded_implies, folded_negative, folded_not, folded_operation, folded_or, function_of_one, function_of_two, is_if, negative_of, operation_of, place_value, recogniser_of, written_value}
 
 module _ (S T : Spec) (same : S.sorts ≡ T.sorts) where
   same-value : (x : Term) → written_value S x ≡ written_value T x

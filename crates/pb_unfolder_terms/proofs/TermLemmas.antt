@@ -1,5 +1,5 @@
 -- What arithmetic and quantifiers say, and quantifiers by the tuples of values.
-use Rattle.std.proofs.Common.{◌≡◌, ◌++◌, List, [], ◌∷◌, map, flat_map, Vec, Global, Box, refl, sym, ◌∙◌, ap}
+use Rattle.std.proofs.Common.{◌≡◌, ℕ, zero, suc, ◌+◌, ◌<◌, ◌≤◌, ◌++◌, List, [], ◌∷◌, map, flat_map, Vec, Global, Box, refl, sym, ◌∙◌, ap, take, length, get_or, arith, add-one}
 use Rattle.std.specs.Prelude.{box_value}
 use Rattle.pb_text_tree.specs.declared.operator.Quantifier.{Quantifier}
 use Rattle.pb_text_tree.specs.declared.place.Place.{Place}
@@ -8,13 +8,16 @@ use Rattle.pb_text_tree.specs.declared.term.ArithmeticLink.{ArithmeticLink}
 use Rattle.pb_text_tree.specs.declared.variable.Variables.{Variables}
 use Rattle.pb_text_tree.specs.Form.{TermForm, calculated, arithmetic_links, term_form, variable_forms}
 use Rattle.pb_text_tree.proofs.FormLemmas.{term-arithmetic}
-use Rattle.pb_text_meaning.specs.Syntax.{Name, Term, Variable, Spec}
+use Rattle.pb_text_meaning.specs.Syntax.{Operator, Term, Variable, Spec}
 use Rattle.pb_text_meaning.specs.Erase.{erased_term, erased_variables, of_arithmetic}
 use Rattle.pb_folding.specs.View as tree
 use Rattle.pb_unfolding.specs.Written.{written_tuples, written_values}
-use Rattle.pb_unfolding.specs.PutIn.{TermScope, standing, copies}
+use Rattle.pb_folding.specs.Folding.{folded_operation}
+use Rattle.pb_unfolding.specs.PutIn.{Forms, TermScope, standing, copies, put_in}
 use Rattle.pb_unfolding.specs.Unfolding.{terms_of}
 use Rattle.pb_unfolder_terms.specs.Puts.{calculated_term}
+use Rattle.pb_unfolder_terms.specs.Unfolding.{operator_count}
+use Rattle.pb_unfolder_terms.proofs.ArgumentLemmas.{taken-all, taken-more}
 
 erased-calculated : (x : TermForm) (ls : List ArithmeticLink) → erased_term (calculated x (arithmetic_links ls)) ≡ calculated_term (erased_term x) ls
 erased-calculated x [] = refl
@@ -28,6 +31,46 @@ arithmetic-said first v = ap erased_term (term-arithmetic first v) ∙ erased-ca
 pub calculated-last : (x : Term) (ls : List ArithmeticLink) (l : ArithmeticLink) → calculated_term x (ls ++ (l ∷ [])) ≡ Term.Binary (of_arithmetic l.operator) (calculated_term x ls) (tree.term_of l.operand)
 calculated-last x [] l = refl
 calculated-last x (k ∷ ls) l = calculated-last (Term.Binary (of_arithmetic k.operator) x (tree.term_of k.operand)) ls l
+
+-- the next operand, and the end
+pub calculated-next : (x : Term) (ls : List ArithmeticLink) (k : ℕ) (l : ArithmeticLink) → k < length ls → l ≡ get_or ls k l
+    → Term.Binary (of_arithmetic l.operator) (calculated_term x (take k ls)) (tree.term_of l.operand) ≡ calculated_term x (take (k + 1) ls)
+calculated-next x ls k l within is =
+    sym (calculated-last x (take k ls) l) ∙ ap (calculated_term x) (sym (taken-more ls k l within is)) ∙ ap (λ (m : ℕ). calculated_term x (take m ls)) (sym (add-one k))
+
+pub calculated-end : (x : Term) (ls : List ArithmeticLink) (k : ℕ) → (k < length ls → ⊥) → calculated_term x (take k ls) ≡ calculated_term x ls
+calculated-end x ls k end = ap (calculated_term x) (taken-all ls k end)
+
+-- of a chain each part has fewer operators
+module _ (S : Spec) (forms : Forms) (ρ : TermScope) where
+  pub calculated-within : (x : Term) (ls : List ArithmeticLink) → operator_count (put_in S forms ρ x) ≤ operator_count (put_in S forms ρ (calculated_term x ls))
+  calculated-within x [] = omega arith
+  calculated-within x (l ∷ ls) =
+      let rest = calculated-within (Term.Binary (of_arithmetic l.operator) x (tree.term_of l.operand)) ls in omega (arith, rest)
+
+  pub taken-within : (x : Term) (ls : List ArithmeticLink) (k : ℕ) → operator_count (put_in S forms ρ (calculated_term x (take k ls))) ≤ operator_count (put_in S forms ρ (calculated_term x ls))
+  taken-within x [] zero = omega arith
+  taken-within x [] (suc k) = omega arith
+  taken-within x (l ∷ ls) zero = calculated-within x (l ∷ ls)
+  taken-within x (l ∷ ls) (suc k) = taken-within (Term.Binary (of_arithmetic l.operator) x (tree.term_of l.operand)) ls k
+
+  -- with the next operand
+  pub next-within : (x : Term) (ls : List ArithmeticLink) (k : ℕ) (l : ArithmeticLink) → k < length ls → l ≡ get_or ls k l
+      → suc (operator_count (put_in S forms ρ (calculated_term x (take k ls))) + operator_count (put_in S forms ρ (tree.term_of l.operand))) ≤ operator_count (put_in S forms ρ (calculated_term x ls))
+  next-within x ls k l within is =
+      let next = ap (λ y. operator_count (put_in S forms ρ y)) (calculated-next x ls k l within is) in
+      omega (arith, next, taken-within x ls (k + 1))
+
+-- a chain isn't written as a value
+chain-operated : (S : Spec) (o q : Operator) (a b : Term) (ls : List ArithmeticLink) (y : Term)
+    → folded_operation S o (calculated_term (Term.Binary q a b) ls) y ≡ Term.Binary o (calculated_term (Term.Binary q a b) ls) y
+chain-operated S o q a b [] y = refl
+chain-operated S o q a b (l ∷ ls) y = chain-operated S o (of_arithmetic l.operator) (Term.Binary q a b) (tree.term_of l.operand) ls y
+
+pub operated-chain : (S : Spec) (o : Operator) (x : Term) (ls : List ArithmeticLink) (y : Term) → (length ls ≡ 0 → ⊥)
+    → folded_operation S o (calculated_term x ls) y ≡ Term.Binary o (calculated_term x ls) y
+operated-chain S o x [] y some = absurd (some refl)
+operated-chain S o x (l ∷ ls) y some = chain-operated S o (of_arithmetic l.operator) x (tree.term_of l.operand) ls y
 
 -- what a quantifier says
 pub quantified-said : (place : Place) (q : Quantifier) (v : Vec Variables Global) (body : Box declared_term.Term Global) → tree.term_of (declared_term.Quantified place q v body) ≡ Term.Quantified q (erased_variables (variable_forms v.items)) (tree.term_of (box_value body))

@@ -9,3 +9,4 @@ pub mod Operands
 pub mod Puts
 pub mod Copies
 pub mod Assigned
+pub mod Behind

@@ -1,8 +1,7 @@
 -- Operands of one connective that are unfolded, up to the first that decides what it gives.
-use Rattle.std.specs.Prelude.{◌≡◌, ◌+◌, ◌≤◌, ℕ, Bool, true, false, List, [], ◌∷◌, map}
+use Rattle.std.specs.Prelude.{◌≡◌, ◌+◌, ◌≤◌, ℕ, Bool, true, false, List, [], ◌∷◌}
 use Rattle.pb_text_tree.specs.declared.operator.Connective.{Connective}
 use Rattle.pb_text_meaning.specs.Syntax.{Term, Spec}
-use Rattle.pb_text_meaning.specs.Erase.{of_connective}
 use Rattle.pb_folding.specs.Folding.{folded}
 use Rattle.pb_folding.specs.Kept.{folded_connective, truth_counts}
 use Rattle.pb_folding.specs.View.{term_of}

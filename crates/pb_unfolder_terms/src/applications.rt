@@ -10,6 +10,7 @@ ghost use Rattle.pb_unfolder_terms.specs.Puts.{UnfoldsAll, calculated_term, put,
 ghost use Rattle.pb_unfolder_terms.specs.Unfolding.{Unfolds};
 
 use crate::arguments::{UnfoldedArguments, function_term, is_choice, no_arguments, with_argument};
+use crate::arithmetic::calculation;
 use crate::array::{Array, choice, chosen};
 use crate::context::{Context, Meant};
 use crate::fault::{UnfoldError, UnfoldRule};
@@ -18,7 +19,7 @@ use crate::names::placed_name;
 use crate::reads::unfold_read;
 use crate::scope::TermScope;
 use crate::unfold::unfold;
-use crate::unfolded::{Unfolded, calculation};
+use crate::unfolded::Unfolded;
 use pb_folding::truth_value;
 use pb_text_copies::copy_name;
 use pb_text_tree::{Argument, ArithmeticLink, Name, Term};
@@ -165,7 +166,7 @@ pub(crate) fn unfold_application<'a>(
     }
 }
 
-/// Arithmetic of operands, from the last on.
+/// Arithmetic of operands, from the first on.
 #[cycle(unfolding)]
 pub(crate) fn unfold_arithmetic<'a>(
     context: &'a Context<'a>,
@@ -178,24 +179,19 @@ pub(crate) fn unfold_arithmetic<'a>(
         (put context.now level.definitions scope.now
         (calculated_term (tree.term_of first.now) links.now)) result }
 {
-    let Some(link) = links.last() else {
+    if links.is_empty() {
         return unfold(context, scope, level, first);
-    };
-    let Some(depth) = level.depth.checked_sub(1) else {
-        return Err(refused(UnfoldRule::Depth, link.place));
-    };
+    }
     let inner = Level {
         truth: false,
-        room: behind_one(level.room, link.place)?,
-        depth,
         ..level
     };
-    let before = &links[..links.len() - 1];
-    let left = unfold_arithmetic(context, scope, inner, first, before)?;
-    let inner = Level {
-        room: left.room,
-        ..inner
-    };
-    let right = unfold(context, scope, inner, &link.operand)?;
-    Ok(calculation(&context.folding(), link.place, link.operator, left, right)?)
+    let mut left = unfold(context, scope, inner, first)?;
+    for link in links {
+        let room = behind_one(left.room, link.place)?;
+        let right = unfold(context, scope, Level { room, ..inner }, &link.operand)?;
+        let place = link.place;
+        left = calculation(&context.folding(), place, link.operator, left, right)?;
+    }
+    Ok(left)
 }

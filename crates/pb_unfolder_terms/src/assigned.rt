@@ -1,6 +1,7 @@
 //! Unfolds what an element of an array gets by assignments.
 
 ghost use Rattle.std.specs.Prelude.{◌≡◌, ◌≤◌, ◌+◌, suc, false, true, length, IfErr, IfOk};
+ghost use Rattle.std.specs.Prelude.{MatchResult};
 ghost use Rattle.pb_folding.specs.Folding.{folded};
 ghost use Rattle.pb_folding.specs.View.{term_of};
 ghost use Rattle.pb_text_meaning.specs.Syntax as syntax;
@@ -8,7 +9,8 @@ ghost use Rattle.pb_protocol_meaning.specs.Syntax as protocol;
 ghost use Rattle.pb_protocol_meaning.specs.Steps.{data_of};
 ghost use Rattle.pb_unfolding.specs.Unfolding as spec;
 ghost use Rattle.pb_unfolder_terms.specs.Assigned.{after_by, assignments_said, compared_by};
-ghost use Rattle.pb_unfolder_terms.specs.Assigned.{element_said};
+ghost use Rattle.pb_unfolder_terms.specs.Assigned.{IsLatest, element_said};
+ghost use Rattle.pb_unfolder_terms.specs.Behind.{IsBehind};
 ghost use Rattle.pb_unfolder_terms.specs.Contexts.{IsContext, folding_in, scope_in};
 ghost use Rattle.pb_unfolder_terms.specs.Unfolding.{IsRefusal, IsUnfolded, Unfolds};
 ghost use Rattle.pb_unfolder_terms.specs.Unfolding.{operator_count};
@@ -48,6 +50,19 @@ pub(crate) struct Compared<'a> {
     pub arguments: &'a [Argument],
     pub index: &'a [Written<'a>],
     pub indices: &'a [Variable<'a>],
+}
+
+/// What an element gets by the last of the assignments that isn't seen to be to another one.
+#[derive(Drop)]
+pub(crate) enum Latest {
+    /// There is none, and this is what the element is.
+    Unassigned(Unfolded),
+    /// The one at this place, where its index is the element's, and else what those before it give.
+    Assigned {
+        place: usize,
+        /// Whether its index is the element's.
+        condition: Unfolded,
+    },
 }
 
 /// A truth value.
@@ -211,6 +226,66 @@ fn unfold_compared<'a>(
     Ok(both(context.alloc, place, equal, others)?)
 }
 
+/// What an element is behind assignments that are seen to be to another one, if there are any.
+fn passed_over(passed: bool, unfolded: Unfolded) -> Unfolded
+    ensures { (folding : syntax.Spec) (n left : _) (whole rest : syntax.Term) →
+        IsBehind folding n whole rest passed left
+        → IsUnfolded folding false left rest unfolded
+        → IsUnfolded folding false n whole result }
+{
+    if passed {
+        return Unfolded {
+            form: Form::Other,
+            ..unfolded
+        };
+    }
+    unfolded
+}
+
+/// How many more operators there may be behind a term that is done with.
+fn room_behind(unfolded: Unfolded) -> u32
+    ensures { result ≡ unfolded.room }
+{
+    unfolded.room
+}
+
+/// The last of the assignments that isn't seen to be to another element.
+fn last_assignment<'a>(
+    context: &'a Context<'a>,
+    scope: &'a TermScope<'a>,
+    level: Level,
+    assignments: &'a [Assignment],
+    element: Element<'a>,
+) -> Result<Latest, UnfoldError>
+    ensures { (sort : syntax.Name) → MatchResult result
+        (IsLatest context.now level.definitions level.room scope.now assignments.now
+        (element_said element.entry sort))
+        (IsRefusal level.room (after_by context.now level.definitions scope.now assignments.now
+        (element_said element.entry sort))) }
+{
+    let mut room = level.room;
+    let mut passed = false;
+    for place in (0..assignments.len()).rev() {
+        let assignment = &assignments[place];
+        if assignment.variable.text.as_str() != element.array.text.as_str() {
+            continue;
+        }
+        let inner = Level {
+            room: behind_one(room, assignment.variable.place)?,
+            ..level
+        };
+        let compared = compared_with(context, assignment, element);
+        let condition = unfold_compared(context, scope, inner, compared)?;
+        if !decides(Connective::And, &condition.term) {
+            return Ok(Latest::Assigned { place, condition });
+        }
+        room = room_behind(condition);
+        passed = true;
+    }
+    let unfolded = itself(context.alloc, element, room)?;
+    Ok(Latest::Unassigned(passed_over(passed, unfolded)))
+}
+
 /// What an element is after assignments, of which the last to it counts.
 fn unfold_after<'a>(
     context: &'a Context<'a>,
@@ -223,40 +298,30 @@ fn unfold_after<'a>(
         (after_by context.now level.definitions scope.now assignments.now
         (element_said element.entry sort)) result }
 {
-    let Some(assignment) = assignments.last() else {
-        return Ok(itself(context.alloc, element, level.room)?);
-    };
-    let place = assignment.variable.place;
-    let Some(depth) = level.depth.checked_sub(1) else {
-        return Err(refused(UnfoldRule::Depth, place));
-    };
-    let level = Level { depth, ..level };
-    let before = &assignments[..assignments.len() - 1];
-    if assignment.variable.text.as_str() != element.array.text.as_str() {
-        return unfold_after(context, scope, level, before, element);
-    }
-    let inner = Level {
-        room: behind_one(level.room, place)?,
-        ..level
-    };
-    let compared = compared_with(context, assignment, element);
-    let condition = unfold_compared(context, scope, inner, compared)?;
-    let inner = Level {
-        truth: false,
-        room: condition.room,
-        ..level
-    };
-    match truth_value(&condition.term) {
-        Some(true) => Ok(chosen(unfold(context, scope, inner, &assignment.value.term)?)),
-        Some(false) => Ok(chosen(unfold_after(context, scope, inner, before, element)?)),
-        None => {
+    let latest = last_assignment(context, scope, level, assignments, element)?;
+    match latest {
+        Latest::Unassigned(unfolded) => Ok(unfolded),
+        Latest::Assigned { place, condition } => {
+            let assignment = &assignments[place];
+            let inner = Level {
+                truth: false,
+                room: condition.room,
+                ..level
+            };
+            if let Some(true) = truth_value(&condition.term) {
+                return Ok(chosen(unfold(context, scope, inner, &assignment.value.term)?));
+            }
+            let name = choosing(context.alloc, assignment.variable.place)?;
+            let Some(depth) = level.depth.checked_sub(1) else {
+                return Err(refused(UnfoldRule::Depth, name.place));
+            };
+            let inner = Level { depth, ..inner };
             let left = unfold(context, scope, inner, &assignment.value.term)?;
             let inner = Level {
                 room: left.room,
                 ..inner
             };
-            let right = unfold_after(context, scope, inner, before, element)?;
-            let name = choosing(context.alloc, place)?;
+            let right = unfold_after(context, scope, inner, &assignments[..place], element)?;
             Ok(choice(&context.folding(), name, condition.term, left, right)?)
         }
     }

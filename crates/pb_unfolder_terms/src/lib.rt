@@ -4,6 +4,7 @@
 
 mod applications;
 mod arguments;
+mod arithmetic;
 mod array;
 mod assigned;
 mod bounds;

@@ -1,17 +1,17 @@
 //! Unfolded terms, and what is put together of them.
 
 ghost use Rattle.std.specs.Prelude.{◌≡◌, suc, true, false, IfOk};
-ghost use Rattle.pb_text_meaning.specs.Erase.{of_arithmetic, of_comparison};
+ghost use Rattle.pb_text_meaning.specs.Erase.{of_comparison};
 ghost use Rattle.pb_text_meaning.specs.Syntax as syntax;
 ghost use Rattle.pb_folding.specs.View.{spec_of};
 ghost use Rattle.pb_unfolder_terms.specs.Unfolding.{IsUnfolded, name_in};
 ghost use Rattle.pb_unfolder_terms.specs.Unfolding as spec;
 
-use crate::bounds::{bounds_of, of_arithmetic, of_negative, of_truth};
+use crate::bounds::{bounds_of, of_negative, of_truth};
 use crate::form::Form;
-use pb_folding::{Folding, arithmetic_term, compared_term, negative_term, not_term};
+use pb_folding::{Folding, compared_term, negative_term, not_term};
 use pb_intervals::Interval;
-use pb_text_tree::{Arithmetic, Comparison, Place, Term};
+use pb_text_tree::{Comparison, Place, Term};
 use std::alloc::AllocError;
 
 /// An unfolded term, folded.
@@ -109,34 +109,5 @@ pub(crate) fn comparison(
         form: Form::Other,
         room: right.room,
         bounds: of_truth(),
-    })
-}
-
-/// An operator of two unfolded terms, the right one behind the left one.
-pub(crate) fn calculation(
-    folding: &Folding<'_>,
-    place: Place,
-    operator: Arithmetic,
-    left: Unfolded,
-    right: Unfolded,
-) -> Result<Unfolded, AllocError>
-    ensures { (x y : _) (n : _) (truth : _) →
-        IsUnfolded (spec_of folding.now.sorts.now) false n x left
-        → IsUnfolded (spec_of folding.now.sorts.now) false left.room y right
-        → IfOk result (IsUnfolded (spec_of folding.now.sorts.now) truth (suc n)
-        (syntax.Term.Binary (of_arithmetic operator) x y)) }
-{
-    let bounds = of_arithmetic(
-        operator,
-        bounds_of(folding.sorts, &left),
-        bounds_of(folding.sorts, &right),
-    );
-    let room = right.room;
-    let term = arithmetic_term(folding, place, operator, left.term, right.term)?;
-    Ok(Unfolded {
-        term,
-        form: Form::Other,
-        room,
-        bounds,
     })
 }

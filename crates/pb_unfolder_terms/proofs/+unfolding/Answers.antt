@@ -17,33 +17,33 @@ use Rattle.pb_unfolder_terms.specs.Contexts.{forms_in, folding_in, spec_in}
 use Rattle.pb_unfolder_terms.specs.Unfolding.{IsRefusal, IsUnfolded, Unfolds}
 use Rattle.pb_unfolder_terms.specs.Values.{written_term}
 use Rattle.pb_unfolder_terms.proofs.UnfoldLemmas.{carried, standing-none}
-use Rattle.std.proofs.Common.{ℕ, Bool, ◌+◌, ◌-◌, ◌≤◌, ◌++◌, take, zero, vec_len, get_or}
+use Rattle.std.proofs.Common.{Bool, ◌+◌, ◌-◌, ◌≤◌, take, vec_len, get_or}
 use Rattle.pb_text_tree.specs.declared.term.Argument.{Argument}
 use Rattle.pb_text_tree.specs.Form.{Named}
 use Rattle.pb_unfolder_terms.specs.declared.written.Written.{Written}
-use Rattle.std.specs.Prelude.{if◌then◌else◌, codes}
-use Rattle.pb_errors.specs.declared.or_memory.OrMemory.{OrMemory}
+use Rattle.std.specs.Prelude.{codes}
 use Rattle.pb_text_tree.specs.Form.{variable_forms}
-use Rattle.pb_text_meaning.specs.Syntax.{Operator, Variable, Spec}
+use Rattle.pb_text_meaning.specs.Syntax.{Operator, Variable}
 use Rattle.pb_text_meaning.specs.Erase.{erased_variables, of_arithmetic}
 use Rattle.pb_text_meaning.specs.Functions.{named_function}
 use Rattle.pb_folding.specs.Folding.{folded, is_if}
-use Rattle.pb_folding.specs.Kept.{joining, neutral, truth_counts}
+use Rattle.pb_folding.specs.Kept.{joining, truth_counts}
 use Rattle.pb_unfolding.specs.Written.{element, written_tuples, written_values}
-use Rattle.pb_unfolding.specs.PutIn.{Forms, choices, copies, joined, read}
+use Rattle.pb_unfolding.specs.PutIn.{choices, joined, read}
 use Rattle.pb_unfolding.specs.Unfolding.{terms_of}
 use Rattle.pb_text_tree.specs.declared.operator.Connective.{Connective}
 use Rattle.pb_unfolder_terms.specs.Operands.{AreOperands}
-use Rattle.pb_unfolder_terms.specs.Copies.{copied_term, copies_by}
+use Rattle.pb_unfolder_terms.specs.Copies.{copied_term}
 use Rattle.pb_unfolder_terms.specs.Puts.{AreArguments, IsRefusalOfAll, IsWrittenAs, calculated_term, choice_of, element_by, put, puts, read_by}
 use Rattle.pb_unfolder_terms.specs.Unfolding.{operator_count}
 use Rattle.pb_unfolder_terms.specs.Values.{tuple_of}
-use Rattle.pb_unfolder_terms.proofs.ArgumentLemmas.{arguments-first, arguments-none, arguments-three, behind-first, first-and-second, first-and-third, first-refused, none-of, others-refused, some-of, without-last}
+use Rattle.pb_unfolder_terms.proofs.ArgumentLemmas.{arguments-first, arguments-none, arguments-three, behind-first, first-and-second, first-and-third, first-refused, none-of, others-refused, some-of, taken-none}
 use Rattle.pb_unfolder_terms.proofs.ChainLemmas.{no-room, refusal-weaker}
 use Rattle.pb_unfolder_terms.proofs.ChoiceLemmas.{chosen-refused, if-named, right-refused, truth-said}
-use Rattle.pb_unfolder_terms.proofs.OperandLemmas.{chain-end, chain-form, chain-next, joined-end, joined-form, joined-next, joined-none, last-refused, left-decided, left-further, left-last, left-refused, left-without-room, operands-more}
+use Rattle.pb_unfolder_terms.proofs.OperandLemmas.{chain-end, chain-form, chain-next, joined-form, joined-next, joined-none, last-refused, left-decided, left-further, left-last, left-refused, left-without-room, operands-more}
 use Rattle.pb_unfolder_terms.proofs.ReadLemmas.{choices-more, choices-same, choices-none, choices-one, chosen-otherwise, chosen-written, read-first, read-itself, read-nothing, same-parts}
-use Rattle.pb_unfolder_terms.proofs.TermLemmas.{arithmetic-said, calculated-last, copies-of-tuples, quantified-said}
+use Rattle.pb_unfolder_terms.proofs.TermLemmas.{arithmetic-said, calculated-end, calculated-next, calculated-within, copies-of-tuples, next-within, quantified-said}
+use Rattle.pb_text_tree.specs.declared.term.ArithmeticLink.{ArithmeticLink}
 use Rattle.pb_unfolder_terms.proofs.+unfolding.Goals as goal
 
 pub unfold::unfold-returns-in_ok-negation-in-Not : goal.unfold::unfold-returns-in_ok-negation-in-Not
@@ -511,25 +511,20 @@ applications::unfold_arguments-returns t c =
     (subst (λ (ds : List SortDeclaration). AreArguments (tree.spec_of ds) false u.room xs c.in_ok-others.others) back
     (subst (λ (rest-args : List Argument). AreArguments (folding_in k) false u.room (puts k n c.args.scope.now (tree.terms_of rest-args)) c.in_ok-others.others) (behind-first given) c.in_ok-others.ensures))))
 
-pub applications::unfold_arithmetic-returns-in_err-behind_one : goal.applications::unfold_arithmetic-returns-in_err-behind_one
-applications::unfold_arithmetic-returns-in_err-behind_one t c =
+pub applications::unfold_arithmetic-returns-then-is_empty : goal.applications::unfold_arithmetic-returns-then-is_empty
+applications::unfold_arithmetic-returns-then-is_empty t c =
     let k = c.args.context.now in
     let n = c.args.level.definitions in
     let b = c.args.level.truth in
     let room = c.args.level.room in
+    let forms = forms_in k n in
+    let ρ = scope_of (spec_in k) (forms_in k) c.args.scope.now in
     let p : Term → Term = λ x. put k n c.args.scope.now x in
     let ls = c.args.links.now in
-    let l = c.in-Some.link.now in
-    let o = of_arithmetic l.operator in
-    let before = take (length ls - 1) ls in
     let x0 = tree.term_of c.args.first.now in
-    let x = p (calculated_term x0 before) in
-    let y = p (tree.term_of l.operand) in
     let whole = p (calculated_term x0 ls) in
-    let same : Term.Binary o x y ≡ whole = ap p (sym (calculated-last x0 before l) ∙ ap (calculated_term x0) (without-last ls l c.in-Some.ensures.value)) in
-    let e = c.in_err-behind_one.field-0.0 in
-    err-kept c.from_residual.result e _ (IsRefusal room whole) c.from_residual.ensures.1
-    (subst (λ (z : Term). IsRefusal room z e) same (no-room room (Term.Binary o x y) e l.place c.in_err-behind_one.ensures.0 (omega (arith, c.in_err-behind_one.ensures.1))))
+    let none : ls ≡ [] = none-of ls (length ls) refl (sym c.is_empty.ensures ∙ c.if-is_empty.true) in
+    subst (λ (ms : List ArithmeticLink). Unfolds (folding_in k) b room (p (calculated_term x0 ms)) c.unfold.result) (sym none) c.unfold.ensures
 
 pub applications::unfold_arithmetic-returns-in_err-left : goal.applications::unfold_arithmetic-returns-in_err-left
 applications::unfold_arithmetic-returns-in_err-left t c =
@@ -537,19 +532,53 @@ applications::unfold_arithmetic-returns-in_err-left t c =
     let n = c.args.level.definitions in
     let b = c.args.level.truth in
     let room = c.args.level.room in
+    let forms = forms_in k n in
+    let ρ = scope_of (spec_in k) (forms_in k) c.args.scope.now in
     let p : Term → Term = λ x. put k n c.args.scope.now x in
     let ls = c.args.links.now in
-    let l = c.in-Some.link.now in
-    let o = of_arithmetic l.operator in
-    let before = take (length ls - 1) ls in
     let x0 = tree.term_of c.args.first.now in
-    let x = p (calculated_term x0 before) in
-    let y = p (tree.term_of l.operand) in
     let whole = p (calculated_term x0 ls) in
-    let same : Term.Binary o x y ≡ whole = ap p (sym (calculated-last x0 before l) ∙ ap (calculated_term x0) (without-last ls l c.in-Some.ensures.value)) in
     let e = c.in_err-left.field-0.0 in
-    err-kept c.from_residual-in_err-left.result e _ (IsRefusal room whole) c.from_residual-in_err-left.ensures.1
-    (subst (λ (z : Term). IsRefusal room z e) same (refusal-weaker room c.in_ok-behind_one.field-0 x (Term.Binary o x y) e (λ h. omega (arith, c.in_ok-behind_one.ensures, h)) c.in_err-left.ensures))
+    err-kept c.from_residual.result e _ (IsRefusal room whole) c.from_residual.ensures.1
+    (refusal-weaker room room (p x0) whole e (λ h. omega (arith, h, calculated-within (spec_in k) forms ρ x0 ls)) c.in_err-left.ensures)
+
+pub applications::unfold_arithmetic-loop-link-init : goal.applications::unfold_arithmetic-loop-link-init
+applications::unfold_arithmetic-loop-link-init t c =
+    let k = c.args.context.now in
+    let n = c.args.level.definitions in
+    let b = c.args.level.truth in
+    let room = c.args.level.room in
+    let forms = forms_in k n in
+    let ρ = scope_of (spec_in k) (forms_in k) c.args.scope.now in
+    let p : Term → Term = λ x. put k n c.args.scope.now x in
+    let ls = c.args.links.now in
+    let x0 = tree.term_of c.args.first.now in
+    let whole = p (calculated_term x0 ls) in
+    λ truth e. subst (λ (ms : List ArithmeticLink). IsUnfolded (folding_in k) truth room (p (calculated_term x0 ms)) c.in_ok-left.left) (sym (taken-none ls))
+    (subst (λ (z : Bool). IsUnfolded (folding_in k) z room (p x0) c.in_ok-left.left) (sym (e refl)) c.in_ok-left.ensures)
+
+pub applications::unfold_arithmetic-returns-in_err-room : goal.applications::unfold_arithmetic-returns-in_err-room
+applications::unfold_arithmetic-returns-in_err-room t c =
+    let k = c.args.context.now in
+    let n = c.args.level.definitions in
+    let b = c.args.level.truth in
+    let room = c.args.level.room in
+    let forms = forms_in k n in
+    let ρ = scope_of (spec_in k) (forms_in k) c.args.scope.now in
+    let p : Term → Term = λ x. put k n c.args.scope.now x in
+    let ls = c.args.links.now in
+    let x0 = tree.term_of c.args.first.now in
+    let whole = p (calculated_term x0 ls) in
+    let i = c.loop-link.link-index in
+    let l = c.link-item.result in
+    let u = c.loop-link.left in
+    let x = p (calculated_term x0 (take i ls)) in
+    let y = p (tree.term_of l.operand) in
+    let left = c.loop-link.invariant false (λ _. refl) in
+    let size = next-within (spec_in k) forms ρ x0 ls i l c.loop-link-test.true c.link-item.is in
+    let e = c.in_err-room.field-0.0 in
+    err-kept c.from_residual-in_err-room.result e _ (IsRefusal room whole) c.from_residual-in_err-room.ensures.1
+    (no-room room whole e l.place c.in_err-room.ensures.0 (omega (arith, c.in_err-room.ensures.1, left.room, size)))
 
 pub applications::unfold_arithmetic-returns-in_err-right : goal.applications::unfold_arithmetic-returns-in_err-right
 applications::unfold_arithmetic-returns-in_err-right t c =
@@ -557,19 +586,52 @@ applications::unfold_arithmetic-returns-in_err-right t c =
     let n = c.args.level.definitions in
     let b = c.args.level.truth in
     let room = c.args.level.room in
+    let forms = forms_in k n in
+    let ρ = scope_of (spec_in k) (forms_in k) c.args.scope.now in
     let p : Term → Term = λ x. put k n c.args.scope.now x in
     let ls = c.args.links.now in
-    let l = c.in-Some.link.now in
-    let o = of_arithmetic l.operator in
-    let before = take (length ls - 1) ls in
     let x0 = tree.term_of c.args.first.now in
-    let x = p (calculated_term x0 before) in
-    let y = p (tree.term_of l.operand) in
     let whole = p (calculated_term x0 ls) in
-    let same : Term.Binary o x y ≡ whole = ap p (sym (calculated-last x0 before l) ∙ ap (calculated_term x0) (without-last ls l c.in-Some.ensures.value)) in
+    let i = c.loop-link.link-index in
+    let l = c.link-item.result in
+    let u = c.loop-link.left in
+    let x = p (calculated_term x0 (take i ls)) in
+    let y = p (tree.term_of l.operand) in
+    let left = c.loop-link.invariant false (λ _. refl) in
+    let size = next-within (spec_in k) forms ρ x0 ls i l c.loop-link-test.true c.link-item.is in
     let e = c.in_err-right.field-0.0 in
+    let inner = c.in_ok-room.room in
     err-kept c.from_residual-in_err-right.result e _ (IsRefusal room whole) c.from_residual-in_err-right.ensures.1
-    (refusal-behind room c.in_ok-behind_one.field-0 c.in_ok-left.left.room o x y whole e c.in_ok-behind_one.ensures c.in_ok-left.ensures.room same c.in_err-right.ensures)
+    (refusal-weaker room inner y whole e (λ h. omega (arith, h, c.in_ok-room.ensures, left.room, size)) c.in_err-right.ensures)
+
+pub applications::unfold_arithmetic-loop-link-preserved : goal.applications::unfold_arithmetic-loop-link-preserved
+applications::unfold_arithmetic-loop-link-preserved t c =
+    let k = c.args.context.now in
+    let n = c.args.level.definitions in
+    let b = c.args.level.truth in
+    let room = c.args.level.room in
+    let forms = forms_in k n in
+    let ρ = scope_of (spec_in k) (forms_in k) c.args.scope.now in
+    let p : Term → Term = λ x. put k n c.args.scope.now x in
+    let ls = c.args.links.now in
+    let x0 = tree.term_of c.args.first.now in
+    let whole = p (calculated_term x0 ls) in
+    let i = c.loop-link.link-index in
+    let l = c.link-item.result in
+    let u = c.loop-link.left in
+    let x = p (calculated_term x0 (take i ls)) in
+    let y = p (tree.term_of l.operand) in
+    let left = c.loop-link.invariant false (λ _. refl) in
+    let size = next-within (spec_in k) forms ρ x0 ls i l c.loop-link-test.true c.link-item.is in
+    let D = c.folding.result.sorts.now in
+    let back = sym c.folding.ensures in
+    let inner = c.in_ok-room.room in
+    let v = c.in_ok-right.right in
+    λ truth e. carried truth c.in_ok-left-2.left D k.declarations.now room room (Term.Binary (of_arithmetic l.operator) x y) (p (calculated_term x0 (take (i + 1) ls))) c.folding.ensures refl
+    (ap p (calculated-next x0 ls i l c.loop-link-test.true c.link-item.is))
+    (c.in_ok-left-2.ensures x y room inner truth c.in_ok-room.ensures
+    (subst (λ (ds : List SortDeclaration). IsUnfolded (tree.spec_of ds) false room x u) back left)
+    (subst (λ (ds : List SortDeclaration). IsUnfolded (tree.spec_of ds) false inner y v) back c.in_ok-right.ensures))
 
 pub applications::unfold_arithmetic-returns : goal.applications::unfold_arithmetic-returns
 applications::unfold_arithmetic-returns t c =
@@ -577,23 +639,16 @@ applications::unfold_arithmetic-returns t c =
     let n = c.args.level.definitions in
     let b = c.args.level.truth in
     let room = c.args.level.room in
+    let forms = forms_in k n in
+    let ρ = scope_of (spec_in k) (forms_in k) c.args.scope.now in
     let p : Term → Term = λ x. put k n c.args.scope.now x in
     let ls = c.args.links.now in
-    let l = c.in-Some.link.now in
-    let o = of_arithmetic l.operator in
-    let before = take (length ls - 1) ls in
     let x0 = tree.term_of c.args.first.now in
-    let x = p (calculated_term x0 before) in
-    let y = p (tree.term_of l.operand) in
     let whole = p (calculated_term x0 ls) in
-    let same : Term.Binary o x y ≡ whole = ap p (sym (calculated-last x0 before l) ∙ ap (calculated_term x0) (without-last ls l c.in-Some.ensures.value)) in
-    let back = sym c.folding.ensures in
-    let inner = c.in_ok-behind_one.field-0 in
-    let u = c.in_ok-left.left in
-    carried b c.in_ok-calculation.field-0 c.folding.result.sorts.now k.declarations.now (suc inner) room (Term.Binary o x y) whole c.folding.ensures (sym c.in_ok-behind_one.ensures) same
-    (c.in_ok-calculation.ensures x y inner b
-    (subst (λ (ds : List SortDeclaration). IsUnfolded (tree.spec_of ds) false inner x u) back c.in_ok-left.ensures)
-    (subst (λ (ds : List SortDeclaration). IsUnfolded (tree.spec_of ds) false u.room y c.in_ok-right.right) back c.in_ok-right.ensures))
+    let i = c.loop-link.link-index in
+    let end : i < length ls → ⊥ = λ h. omega (arith, h, c.loop-link-test.false) in
+    let some : i ≡ 0 → ⊥ = λ e. some-of ls (sym c.is_empty.ensures ∙ c.if-is_empty.false) (omega (arith, e, c.loop-link-test.false)) in
+    subst (λ (z : Term). IsUnfolded (folding_in k) b room (p z) c.loop-link.left) (calculated-end x0 ls i end) (c.loop-link.invariant b (λ e. absurd (some e)))
 
 pub applications::unfold_function-returns : goal.applications::unfold_function-returns
 applications::unfold_function-returns t c =

@@ -1,4 +1,4 @@
-use Rattle.std.proofs.Common.{◌≡◌, ◌+◌, ◌*◌, drop}
+use Rattle.std.proofs.Common.{◌≡◌, ◌+◌, ◌*◌, Bool, false, drop, take}
 use Rattle.pb_folding.specs.View as tree
 use Rattle.pb_folding.specs.Kept.{joining}
 use Rattle.pb_unfolding.specs.PutIn.{joined}
@@ -6,7 +6,8 @@ use Rattle.pb_unfolder_terms.specs.Chains.{chain_term, operands_of}
 use Rattle.pb_unfolder_terms.specs.Contexts.{folding_in}
 use Rattle.pb_unfolder_terms.specs.Copies.{copies_by, copied_term}
 use Rattle.pb_unfolder_terms.specs.Operands.{IsLeft}
-use Rattle.pb_unfolder_terms.specs.Puts.{put}
+use Rattle.pb_unfolder_terms.specs.Puts.{calculated_term, put}
+use Rattle.pb_unfolder_terms.specs.Unfolding.{IsUnfolded}
 use Rattle.pb_unfolder_terms.proofs.+unfolding.Given as goal
 
 abbrev pub decreases-unfold::unfold_free : goal.decreases-unfold::unfold_free
@@ -72,3 +73,10 @@ invariant-connectives::unfold_copies-loop-values l =
     (copied_term l.context n l.scope q l.copies body)
     (joined q (drop l.values-index (copies_by l.context n l.scope l.copies body)))
     (operands_of l.before.items) l.room
+
+-- the operands before the next one are unfolded; of more than one the truth may count
+abbrev pub invariant-applications::unfold_arithmetic-loop-link : goal.invariant-applications::unfold_arithmetic-loop-link
+invariant-applications::unfold_arithmetic-loop-link l =
+    (truth : Bool) → (l.link-index ≡ 0 → truth ≡ false)
+    → IsUnfolded (folding_in l.context) truth l.fn.level.room
+    (put l.context l.fn.level.definitions l.scope (calculated_term (tree.term_of l.first) (take l.link-index l.links))) l.left

@@ -1,6 +1,5 @@
 use Rattle.std.proofs.Common.{◌≡◌, ◌∙◌, ◌<◌, ◌+◌, ◌-◌, ◌*◌, ℕ, List, [], map, drop, get_or, length, refl, sym, ap, arith, rules}
 use Rattle.std.proofs.lemmas.List.{length-map}
-use Rattle.std.specs.Prelude.{Vec}
 use Rattle.pb_text_meaning.specs.Syntax.{Term}
 use Rattle.pb_unfolding.specs.Written.{written_tuples, written_values}
 use Rattle.pb_unfolder_terms.specs.declared.sorts.Variable as declared_variable
