@@ -34,6 +34,7 @@ use Rattle.pb_unfolder.specs.declared.fault.UnfoldingFault.{UnfoldingFault}
 use Rattle.pb_unfolder.specs.declared.fault.UnfoldingRule.{UnfoldingRule}
 use Rattle.pb_unfolder.specs.declared.fault.UnfoldingRule.TheVariants as unfolding_rule
 use Rattle.pb_unfolder.specs.declared.protocol.Unfolded.{Unfolded}
+use Rattle.pb_unfolder.specs.Faults.{IsUnfoldingFault}
 use Rattle.pb_unfolder.specs.Origins.{origin_name}
 use Rattle.pb_unfolder.specs.Plain.{is_plain}
 use Rattle.pb_unfolder.specs.Places as unfolded_places
@@ -167,20 +168,20 @@ unfolded_names protocol u names unfolds is variables steps =
 
 -- ---- refusals
 
-not_unfolded_by : (protocol : ProtocolForm) → is_plain protocol ≡ false → (r : UnfoldingRule) (p : Place)
+not_unfolded_by : (protocol : ProtocolForm) → is_plain protocol ≡ false → (r : UnfoldingRule) (p : Place) → IsUnfoldingFault protocol (record { rule = r; place = p })
     → IsRefusedProtocol protocol (as_model_fault (record { rule = r; place = p }))
-not_unfolded_by protocol unfolds unfolding_rule.Names p = inr (inr (inl (unfolds, (record { rule = unfolding_rule.Names; place = p }, refl))))
-not_unfolded_by protocol unfolds unfolding_rule.Value p = inr (inr (inl (unfolds, (record { rule = unfolding_rule.Value; place = p }, refl))))
-not_unfolded_by protocol unfolds unfolding_rule.Index p = inr (inr (inl (unfolds, (record { rule = unfolding_rule.Index; place = p }, refl))))
-not_unfolded_by protocol unfolds unfolding_rule.Count p = inr (inr (inl (unfolds, (record { rule = unfolding_rule.Count; place = p }, refl))))
-not_unfolded_by protocol unfolds unfolding_rule.Operators p = (unfolds, (record { rule = unfolding_rule.Operators; place = p }, refl))
+not_unfolded_by protocol unfolds unfolding_rule.Names p is = inr (inr (inl (unfolds, (record { rule = unfolding_rule.Names; place = p }, is, refl))))
+not_unfolded_by protocol unfolds unfolding_rule.Value p is = inr (inr (inl (unfolds, (record { rule = unfolding_rule.Value; place = p }, is, refl))))
+not_unfolded_by protocol unfolds unfolding_rule.Index p is = inr (inr (inl (unfolds, (record { rule = unfolding_rule.Index; place = p }, is, refl))))
+not_unfolded_by protocol unfolds unfolding_rule.Count p is = inr (inr (inl (unfolds, (record { rule = unfolding_rule.Count; place = p }, is, refl))))
+not_unfolded_by protocol unfolds unfolding_rule.Operators p is = (unfolds, (record { rule = unfolding_rule.Operators; place = p }, is, refl))
 
 pub not_unfolded : (protocol : ProtocolForm) → is_plain protocol ≡ false → (e : OrMemory UnfoldingFault) (x : OrMemory ModelFault)
-    → raised (λ f above. above ≡ as_model_fault f) e x → IfFault x (IsRefusedProtocol protocol)
-not_unfolded protocol unfolds (Refused f) (Refused above) made = subst (IsRefusedProtocol protocol) (sym made) (not_unfolded_by protocol unfolds f.rule f.place)
-not_unfolded protocol unfolds (Refused f) Memory made = tt
-not_unfolded protocol unfolds Memory (Refused above) made = absurd made
-not_unfolded protocol unfolds Memory Memory made = tt
+    → raised (λ f above. above ≡ as_model_fault f) e x → IfFault e (IsUnfoldingFault protocol) → IfFault x (IsRefusedProtocol protocol)
+not_unfolded protocol unfolds (Refused f) (Refused above) made is = subst (IsRefusedProtocol protocol) (sym made) (not_unfolded_by protocol unfolds f.rule f.place is)
+not_unfolded protocol unfolds (Refused f) Memory made is = tt
+not_unfolded protocol unfolds Memory (Refused above) made is = absurd made
+not_unfolded protocol unfolds Memory Memory made is = tt
 
 pub rules_broken : (protocol : ProtocolForm) (e : OrMemory TypingFault) (x : OrMemory ModelFault)
     → raised (λ f above. above ≡ model_fault.Typing f) e x → IfFault e (Contains (protocol_faults protocol)) → IfFault x (IsRefusedProtocol protocol)

@@ -1,6 +1,6 @@
 -- Chains, modalities and quantifiers of formulas that are unfolded and folded.
-use Rattle.std.proofs.Common.{◌≡◌, ◌∙◌, refl, sym, ap, List, [], ◌∷◌, ◌++◌, map, length, Vec, Global, Box, Option, Some, None}
-use Rattle.std.specs.Prelude.{box_value, option_to_list}
+use Rattle.std.proofs.Common.{◌≡◌, ◌∙◌, refl, sym, ap, List, [], ◌∷◌, ◌++◌, map, length, Vec, Global, Box}
+use Rattle.std.specs.Prelude.{box_value}
 use Rattle.std.proofs.lemmas.List.{append_assoc}
 use Rattle.pb_text_tree.specs.declared.place.Place.{Place}
 use Rattle.pb_text_tree.specs.declared.operator.Connective.{Connective}
@@ -8,14 +8,14 @@ use Rattle.pb_text_tree.specs.declared.operator.Connective.TheVariants as connec
 use Rattle.pb_text_tree.specs.declared.operator.Quantifier.{Quantifier}
 use Rattle.pb_text_tree.specs.declared.sort.Range.{Range}
 use Rattle.pb_text_tree.specs.declared.sort.SortDeclaration.{SortDeclaration}
-use Rattle.pb_text_tree.specs.Form.{VariableForm, chained, sort_declaration_form, range_form}
+use Rattle.pb_text_tree.specs.Form.{VariableForm, chained, sort_declaration_form}
 use Rattle.pb_text_meaning.specs.Syntax as syntax
 use Rattle.pb_text_meaning.specs.Syntax.{Spec, NoTerms, Term}
-use Rattle.pb_text_meaning.specs.Erase.{erased_declaration, erased_range, erased_variables}
+use Rattle.pb_text_meaning.specs.Erase.{erased_declaration, erased_variables}
 use Rattle.pb_model_tree.specs.declared.formula.Link as flat_link
 use Rattle.pb_model_tree.specs.declared.formula.Modality.{Modality}
 use Rattle.pb_model_tree.specs.declared.formula.Modality.TheVariants as modality
-use Rattle.pb_model_meaning.specs.Syntax.{Formula, StepSet}
+use Rattle.pb_model_meaning.specs.Syntax.{Formula}
 use Rattle.pb_model_meaning.specs.Erase as flat_erase
 use Rattle.pb_protocol_tree.specs.declared.formula.Formula as formula
 use Rattle.pb_protocol_tree.specs.declared.formula.Link.{Link}
@@ -35,7 +35,7 @@ use Rattle.pb_unfolder_terms.specs.View.{declarations, ranges_said, variable_of}
 use Rattle.pb_unfolder_steps.specs.declared.unfolder.Unfolder.{Unfolder}
 use Rattle.pb_unfolder_steps.specs.Unfolder.{protocol_in, scope_in}
 use Rattle.pb_unfolder.specs.declared.formula.Copies.{Copies}
-use Rattle.pb_unfolder.specs.Copies.{copy_at, copy_of, left_operand, tuples_in}
+use Rattle.pb_unfolder.specs.Copies.{copy_of, left_operand}
 use Rattle.pb_unfolder.specs.Left.{left_formula, left_set}
 use Rattle.pb_unfolder.specs.Links.{folded_chain, folded_connected, linked_formula}
 use Rattle.pb_unfolder.specs.View.{link_form}

@@ -1,5 +1,5 @@
 -- Sets of steps by the names of the steps that are left.
-use Rattle.std.proofs.Common.{◌≡◌, ◌∙◌, refl, sym, ap, Bool, true, false, ◌&&◌, ◌||◌, if◌then◌else◌, List, [], ◌∷◌, ◌++◌, map, filter, flat_map, length, Vec, Global, Box}
+use Rattle.std.proofs.Common.{◌≡◌, ◌∙◌, refl, sym, ap, Bool, true, false, ◌&&◌, ◌||◌, if◌then◌else◌, List, [], ◌∷◌, ◌++◌, map, filter, length, Vec, Global, Box}
 use Rattle.std.specs.Prelude.{box_value}
 use Rattle.std.specs.List.{list_any}
 use Rattle.std.proofs.lemmas.Slice.Eq.{bytes_eq-Decides}
@@ -25,7 +25,7 @@ use Rattle.pb_unfolder_steps.specs.Unfolder.{protocol_in, scope_in}
 use Rattle.pb_unfolder.specs.Sets.{is_each}
 use Rattle.pb_unfolder.specs.Values.{is_member}
 use Rattle.pb_unfolder.specs.View.{set_link_form}
-use Rattle.pb_unfolder.specs.Left.{AreLeft, left_set, member_name, member_names}
+use Rattle.pb_unfolder.specs.Left.{AreLeft, left_set, member_names}
 use Rattle.pb_unfolder.proofs.Chains.{union-form}
 use Rattle.pb_unfolder.proofs.SetLemmas.{names-left}
 

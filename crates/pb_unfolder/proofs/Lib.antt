@@ -13,3 +13,6 @@ mod ChainFormulas
 mod LeftLemmas
 mod UnfoldedLemmas
 mod PlaceLemmas
+mod FaultLemmas
+mod ValueFaults
+mod NameFaults

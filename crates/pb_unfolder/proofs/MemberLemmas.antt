@@ -1,5 +1,5 @@
 -- What is in a union, and when own values are those that are named.
-use Rattle.std.proofs.Common.{◌≡◌, ◌∙◌, ◌+◌, ◌<◌, ◌≤◌, ℕ, zero, suc, refl, sym, ap, Bool, true, false, ◌&&◌, ◌||◌, List, [], ◌∷◌, map, length, drop, get_or, nat_eq, arith, add-one, Option, Some, None, Vec, Global, Box}
+use Rattle.std.proofs.Common.{◌≡◌, ◌∙◌, ◌<◌, ◌≤◌, ℕ, zero, suc, refl, sym, ap, Bool, true, false, ◌||◌, List, [], ◌∷◌, map, length, drop, nat_eq, arith, Option, Some, None, Vec, Global, Box}
 use Rattle.std.specs.Prelude.{box_value}
 use Rattle.std.specs.List.{list_any}
 use Rattle.std.proofs.lemmas.Bool.Decides.{nat_tests}
@@ -16,7 +16,7 @@ use Rattle.pb_unfolder_terms.specs.declared.scope.TermScope.{TermScope}
 use Rattle.pb_unfolder_terms.specs.declared.written.Written.{Written}
 use Rattle.pb_unfolder_terms.specs.Values.{written_term}
 use Rattle.pb_unfolder_steps.specs.declared.unfolder.Unfolder.{Unfolder}
-use Rattle.pb_unfolder.specs.Values.{are_values, is_member, is_value}
+use Rattle.pb_unfolder.specs.Values.{are_values, is_member}
 use Rattle.pb_unfolder.specs.View.{set_operand, set_link_form}
 use Rattle.pb_unfolder.proofs.Chains.{union-form}
 

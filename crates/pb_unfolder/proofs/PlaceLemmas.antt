@@ -1,8 +1,8 @@
 -- Where chains, copies and properties go on.
-use Rattle.std.proofs.Common.{◌≡◌, ◌++◌, ◌+◌, ◌<◌, ℕ, suc, inl, inr, List, [], ◌∷◌, length, map, take, get_or, refl, sym, ap, ◌∙◌, subst, arith, Vec, Global, Box, flat_map}
+use Rattle.std.proofs.Common.{◌≡◌, ◌++◌, ◌+◌, ◌<◌, ℕ, inl, inr, List, [], ◌∷◌, length, map, take, get_or, refl, sym, ap, ◌∙◌, subst, arith, Vec, Global, Box, flat_map}
 use Rattle.std.specs.Prelude.{box_value, Contains}
-use Rattle.std.proofs.lemmas.List.{append-nil, get_or-map, map_push, take_more}
-use Rattle.std.proofs.lemmas.List.Elements.{Contains-append_left, Contains-append_right, Contains-get_or, Contains-push_cases}
+use Rattle.std.proofs.lemmas.List.{append-nil, map_push, take_more}
+use Rattle.std.proofs.lemmas.List.Elements.{Contains-append_left, Contains-append_right, Contains-push_cases}
 use Rattle.std.proofs.lemmas.Grind.{flat_map-append}
 use Rattle.pb_text_tree.specs.declared.place.Place.{Place}
 use Rattle.pb_text_tree.specs.declared.operator.Connective.{Connective}
@@ -19,6 +19,7 @@ use Rattle.pb_folding.proofs.Places.{both-among, same-among}
 use Rattle.pb_unfolder.specs.View.{link_form}
 use Rattle.pb_unfolder.specs.Places.{HavePlaces, flat_places, formula_places, link_places, places_in}
 use Rattle.pb_unfolder.proofs.Chains.{chain-form}
+use Rattle.pb_unfolder.proofs.FaultLemmas.{at-item}
 
 pub paired-among : (ps qs xs ys : List Place) → AreAmong ps xs → AreAmong qs ys → AreAmong (ps ++ qs) (xs ++ ys)
 paired-among ps qs xs ys left right =
@@ -83,15 +84,6 @@ chain-among k x p v ls f whole first links is at same are of-first of-links =
     (paired-among first links (places_in x) (flat_map link_places ls) of-first of-links))
 
 -- ---- properties
-
-at-item : {X Y : Type 0} (g : X → Y) (xs : List X) (k : ℕ) (x : X) → k < length xs → x ≡ get_or xs k x → Contains (map g xs) (g x)
-at-item {X = X} g xs k x within is =
-    let there : k < length (map g xs) = subst (λ (n : ℕ). k < n) (sym (mapped xs)) within in
-    subst (Contains (map g xs)) (get_or-map g xs k x (g x) within ∙ sym (ap g is)) (Contains-get_or (map g xs) k (g x) there)
-  where
-    mapped : (ys : List X) → length (map g ys) ≡ length ys
-    mapped [] = refl
-    mapped (y ∷ ys) = ap suc (mapped ys)
 
 pub property-added : (ps : List Property) (k : ℕ) (p : Property) (qs rs : List declared_flat.Property) (r : declared_flat.Property) → k < length ps → p ≡ get_or ps k p → rs ≡ qs ++ r ∷ []
     → AreAmong (places_of r.formula) (places_in p.formula) → HavePlaces (map property_form ps) (map flat.property_form qs) → HavePlaces (map property_form ps) (map flat.property_form rs)

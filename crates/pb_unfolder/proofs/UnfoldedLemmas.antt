@@ -1,5 +1,5 @@
 -- The parts of an unfolded and folded model.
-use Rattle.std.proofs.Common.{◌≡◌, ◌∙◌, refl, sym, ap, subst, Bool, true, false, if◌then◌else◌, List, [], ◌∷◌, ◌++◌, map, filter, Vec, Global}
+use Rattle.std.proofs.Common.{◌≡◌, ◌∙◌, refl, sym, ap, subst, Bool, true, false, if◌then◌else◌, List, [], ◌∷◌, ◌++◌, map, filter}
 use Rattle.pb_text_meaning.specs.Syntax as syntax
 use Rattle.pb_text_meaning.specs.Erase.{erased_arguments, erased_declaration, erased_range, erased_variables}
 use Rattle.pb_model_tree.specs.declared.model.Property as declared_flat
@@ -8,7 +8,7 @@ use Rattle.pb_model_tree.specs.Form as flat_form
 use Rattle.pb_model_meaning.specs.Syntax as flat
 use Rattle.pb_model_meaning.specs.Erase as flat_erase
 use Rattle.pb_folding.specs.FoldedModels.{folded_model, folded_property, folded_steps}
-use Rattle.pb_folding.specs.Names.{AreDistinct, AreNot, enumerators_in}
+use Rattle.pb_folding.specs.Names.{AreDistinct}
 use Rattle.pb_protocol_tree.specs.declared.protocol.Property as declared_property
 use Rattle.pb_protocol_tree.specs.declared.protocol.Protocol as declared_protocol
 use Rattle.pb_protocol_tree.specs.Form.{property_form}

@@ -1,16 +1,15 @@
 -- The values of terms that are written as one.
-use Rattle.std.proofs.Common.{◌≡◌, ◌∙◌, ◌+◌, ◌<◌, ℕ, zero, suc, pos, neg_ℤ, refl, sym, ap, Bool, true, false, ◌&&◌, if◌then◌else◌, List, [], ◌∷◌, map, length, drop, get_or, Option, Some, None, arith}
+use Rattle.std.proofs.Common.{◌≡◌, ◌∙◌, ℕ, pos, neg_ℤ, refl, sym, ap, Bool, true, false, if◌then◌else◌, List, [], ◌∷◌, map, Option, Some, None}
 use Rattle.std.specs.Prelude.{unwrap_or, Result, Ok, Err, IfOk}
 use Rattle.std.specs.Result.{result_ok}
-use Rattle.std.specs.Ordering.{int_eq}
-use Rattle.pb_carriers.specs.Carrier.{Value, Tuple, of_bool}
+use Rattle.pb_carriers.specs.Carrier.{Value, of_bool}
 use Rattle.pb_text_tree.specs.declared.sort.SortDeclaration.{SortDeclaration}
 use Rattle.pb_text_tree.specs.Form.{sort_declaration_form}
 use Rattle.pb_text_meaning.specs.Syntax.{Name, same_name, Term, Spec}
 use Rattle.pb_text_meaning.specs.Syntax as syntax
 use Rattle.pb_text_meaning.specs.Erase.{erased_declaration}
 use Rattle.pb_text_meaning.specs.Sorts.{place_in}
-use Rattle.pb_text_meaning.specs.Value.{Assignment, looked_up, value, named_value}
+use Rattle.pb_text_meaning.specs.Value.{Assignment, looked_up, value}
 use Rattle.pb_folding.specs.Folding.{is_small, small_value, place_value, written_value}
 use Rattle.pb_folding.specs.View.{spec_of, declaration_of}
 use Rattle.pb_protocol_meaning.specs.Meaning.{meaning, named_meaning, no_functions}
@@ -46,6 +45,11 @@ small-is v w e = by (is_small v) e
     by true h = some-is v w h
     by false h = absurd (cc)
 
+-- whether no name is looked for
+abbrev pub is_nameless : Term → Bool
+is_nameless (Term.Named x) = false
+is_nameless t = true
+
 module _ (spec : Spec) where
   place-is : (o : Option ℕ) (v : Value) → place_value o ≡ Some v → pos (unwrap_or o 0) ≡ v
   place-is (Some n) v e = small-is (pos n) v e
@@ -58,11 +62,6 @@ module _ (spec : Spec) where
   written-value (Term.Negative (Term.Number n)) v e = sym (small-is (neg_ℤ (pos n)) v e)
   written-value (Term.Named x) v e = sym (place-is (place_in (λ e. same_name e.name x) spec.sorts) v e)
   written-value t v e = absurd (cc e)
-
-  -- whether no name is looked for
-  abbrev pub is_nameless : Term → Bool
-  is_nameless (Term.Named x) = false
-  is_nameless t = true
 
   pub nameless-value : (c : Assignment) (t : Term) (v : Value) → is_nameless t ≡ true → written_value spec t ≡ Some v → v ≡ meaning spec no_functions c t
   nameless-value c (Term.Truth b) v n e = sym (some-is (of_bool b) v e)

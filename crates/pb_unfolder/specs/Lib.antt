@@ -1,8 +1,10 @@
 pub mod Apart
 pub mod Copies
+pub mod Faults
 pub mod Left
 pub mod Links
 pub mod Origins
+pub mod Parts
 pub mod Places
 pub mod Plain
 pub mod Sets

@@ -1,5 +1,5 @@
 -- What becomes of properties, and which steps with their values are left.
-use Rattle.std.specs.Prelude.{Bool, true, false, List, [], ◌∷◌, ◌++◌, map}
+use Rattle.std.specs.Prelude.{Bool, true, false, List, [], ◌∷◌, ◌++◌}
 use Rattle.pb_text_tree.specs.Form.{Named, named}
 use Rattle.pb_model_tree.specs.declared.model.Property as declared_flat
 use Rattle.pb_model_tree.specs.Form as flat_form

@@ -1,5 +1,5 @@
 -- Values in sets of steps, and what is in a set, where names stand for values.
-use Rattle.std.specs.Prelude.{Bool, true, List, [], map, Option, Some, None}
+use Rattle.std.specs.Prelude.{Bool, true, List, [], Option, Some, None}
 use Rattle.std.specs.Ordering.{int_eq}
 use Rattle.pb_carriers.specs.Carrier.{Value}
 use Rattle.pb_text_meaning.specs.Syntax.{Term}

@@ -1,5 +1,11 @@
 //! Why a protocol isn't unfolded.
 
+ghost use Rattle.std.specs.Prelude.{◌≡◌};
+ghost use Rattle.pb_errors.specs.OrMemory.{IfFault, raised};
+ghost use Rattle.pb_errors.specs.declared.or_memory.OrMemory.TheVariants.{Refused};
+ghost use Rattle.pb_text_tree.specs.declared.place.Place as declared_place;
+ghost use Rattle.pb_unfolder.specs.Parts.{AtNone, InPart, IsFaultOfTerm, IsOfSteps};
+
 use pb_errors::{Fault, OrMemory};
 use pb_text_tree::Place;
 use pb_unfolder_steps::{StepsError, StepsFault};
@@ -38,12 +44,16 @@ impl Fault for UnfoldingFault {}
 pub type UnfoldingError = OrMemory<UnfoldingFault>;
 
 /// The refusal by a rule at a place.
-pub(crate) fn refused(rule: UnfoldingRule, place: Place) -> UnfoldingError {
+pub(crate) fn refused(rule: UnfoldingRule, place: Place) -> UnfoldingError
+    ensures { result ≡ Refused record { rule = rule; place = place } }
+{
     OrMemory::Refused(UnfoldingFault { rule, place })
 }
 
 /// The rule that a term breaks.
-fn rule_of_term(rule: UnfoldRule) -> UnfoldingRule {
+fn rule_of_term(rule: UnfoldRule) -> UnfoldingRule
+    ensures { (p : declared_place.Place) → InPart AtNone result p }
+{
     match rule {
         UnfoldRule::Operators | UnfoldRule::Depth | UnfoldRule::Values => UnfoldingRule::Operators,
         UnfoldRule::Index => UnfoldingRule::Index,
@@ -51,7 +61,9 @@ fn rule_of_term(rule: UnfoldRule) -> UnfoldingRule {
 }
 
 /// The fault of a term.
-fn fault_of_term(fault: UnfoldFault) -> UnfoldingFault {
+fn fault_of_term(fault: UnfoldFault) -> UnfoldingFault
+    ensures { IsFaultOfTerm result }
+{
     UnfoldingFault {
         rule: rule_of_term(fault.rule),
         place: fault.place,
@@ -59,7 +71,9 @@ fn fault_of_term(fault: UnfoldFault) -> UnfoldingFault {
 }
 
 /// The error of a term.
-pub(crate) fn of_term(error: UnfoldError) -> UnfoldingError {
+pub(crate) fn of_term(error: UnfoldError) -> UnfoldingError
+    ensures { IfFault result IsFaultOfTerm }
+{
     match error {
         OrMemory::Refused(fault) => OrMemory::Refused(fault_of_term(fault)),
         OrMemory::Memory => OrMemory::Memory,
@@ -67,7 +81,9 @@ pub(crate) fn of_term(error: UnfoldError) -> UnfoldingError {
 }
 
 /// The error of the state, of steps or of a term of theirs.
-pub(crate) fn of_steps(error: StepsError) -> UnfoldingError {
+pub(crate) fn of_steps(error: StepsError) -> UnfoldingError
+    ensures { raised IsOfSteps error result }
+{
     match error {
         OrMemory::Refused(StepsFault::Limit(place)) => refused(UnfoldingRule::Count, place),
         OrMemory::Refused(StepsFault::Term(fault)) => OrMemory::Refused(fault_of_term(fault)),

@@ -1,6 +1,7 @@
 //! Formulas without quantifiers: each quantifier is the chain of its copies.
 
 ghost use Rattle.std.specs.Prelude.{◌≡◌, [], map, flat_map, IfOk, box_value};
+ghost use Rattle.pb_errors.specs.OrMemory.{IfRefused};
 ghost use Rattle.pb_protocol_tree.specs.Form.{formula_form};
 ghost use Rattle.pb_protocol_meaning.specs.Erase.{protocol_of};
 ghost use Rattle.pb_protocol_meaning.specs.Steps.{data_of};
@@ -8,10 +9,14 @@ ghost use Rattle.pb_folding.specs.Places.{AreAmong, places_of};
 ghost use Rattle.pb_folding.specs.View.{formula_of};
 ghost use Rattle.pb_unfolder_terms.specs.View.{spec_of, variable_of};
 ghost use Rattle.pb_unfolder_terms.specs.Values.{tuple_of};
+ghost use Rattle.pb_unfolder_steps.specs.Unfolder.{protocol_in, scope_in};
 ghost use Rattle.pb_unfolder.specs.Copies.{copy_of, data_formula, left_operand};
 ghost use Rattle.pb_unfolder.specs.Copies.{tuples_in};
+ghost use Rattle.pb_unfolder.specs.Faults.{IsFaultOfFormula};
 ghost use Rattle.pb_unfolder.specs.Left.{AreFormulas, left_formula};
 ghost use Rattle.pb_unfolder.specs.Links.{linked_formula};
+ghost use Rattle.pb_unfolder.specs.Parts.{HasValues, IsFaultIn, IsFaultOfCopies, IsFaultOfLinks};
+ghost use Rattle.pb_unfolder.specs.Parts.{IsFaultOfTerm};
 ghost use Rattle.pb_unfolder.specs.Places.{flat_link_places, link_places, places_in};
 
 use crate::chain::joined;
@@ -64,6 +69,7 @@ fn unfold_data(
     ensures formula { IfOk result (λ f. formula_of f
         ≡ data_formula formulas.now.unfolder.now scope.now term.now) }
     ensures places { IfOk result (λ f. places_of f ≡ []) }
+    ensures refused { IfRefused result IsFaultOfTerm }
 {
     match formulas.unfolder.unfold(scope, true, term) {
         Ok(term) => {
@@ -80,8 +86,9 @@ fn tuples_of<'a>(
     variables: &[Variable<'a>],
     place: Place,
 ) -> Result<Vec<Vec<Written<'a>>>, UnfoldingError>
-    ensures { IfOk result (λ v. map tuple_of v.items
+    ensures tuples { IfOk result (λ v. map tuple_of v.items
         ≡ tuples_in unfolder.now (map variable_of variables.now)) }
+    ensures refused { IfRefused result IsFaultOfTerm }
 {
     match written_tuples(
         unfolder.alloc,
@@ -101,12 +108,18 @@ fn unfold_copies<'a>(
     copies: &'a Copies<'a>,
     body: &'a Box<Formula>,
 ) -> Result<Vec<flat::Formula>, UnfoldingError>
-    requires { AreFormulas formulas.now }
+    requires formulas { AreFormulas formulas.now }
+    requires scope { HasValues copies.now.outer.now }
     ensures formulas { IfOk result (λ v. map formula_of v.items
         ≡ map (copy_of formulas.now.unfolder.now copies.now (box_value body.now))
         copies.now.tuples.now) }
     ensures places { IfOk result
         (λ v. AreAmong (flat_map places_of v.items) (places_in (box_value body.now))) }
+    ensures refused { IfRefused result
+        (IsFaultIn (IsFaultOfCopies (protocol_in formulas.now.unfolder.now)
+        (scope_in formulas.now.unfolder.now copies.now.outer.now)
+        (map variable_of copies.now.variables.now) (map tuple_of copies.now.tuples.now)
+        (formula_form (box_value body.now)))) }
 {
     let tuples = copies.tuples;
     let mut unfolded = Vec::new(formulas.unfolder.alloc);
@@ -129,11 +142,15 @@ fn unfold_links<'a>(
     room: &mut Room,
     links: &'a [Link],
 ) -> Result<Vec<flat::Link>, UnfoldingError>
-    requires { AreFormulas formulas.now }
+    requires formulas { AreFormulas formulas.now }
+    requires scope { HasValues scope.now }
     ensures formulas { IfOk result (λ v. map linked_formula v.items
         ≡ map (left_operand formulas.now.unfolder.now scope.now) links.now) }
     ensures places { IfOk result (λ v. AreAmong (flat_map flat_link_places v.items)
         (flat_map link_places links.now)) }
+    ensures refused { IfRefused result
+        (IsFaultIn (IsFaultOfLinks (protocol_in formulas.now.unfolder.now)
+        (scope_in formulas.now.unfolder.now scope.now) links.now)) }
 {
     let mut flat_links = Vec::new(formulas.unfolder.alloc);
     for link in links {
@@ -153,10 +170,14 @@ pub(crate) fn unfold_formula<'a>(
     room: &mut Room,
     formula: &'a Formula,
 ) -> Result<flat::Formula, UnfoldingError>
-    requires { AreFormulas formulas.now }
+    requires formulas { AreFormulas formulas.now }
+    requires scope { HasValues scope.now }
     ensures formula { IfOk result (λ f. formula_of f
         ≡ left_formula formulas.now.unfolder.now scope.now (formula_form formula.now)) }
     ensures places { IfOk result (λ f. AreAmong (places_of f) (places_in formula.now)) }
+    ensures refused { IfRefused result
+        (IsFaultIn (IsFaultOfFormula (protocol_in formulas.now.unfolder.now)
+        (scope_in formulas.now.unfolder.now scope.now) (formula_form formula.now))) }
 {
     let alloc = formulas.unfolder.alloc;
     match formula {

@@ -4,6 +4,7 @@
 #![tactic(auto)]
 
 mod apart;
+mod bound;
 mod chain;
 mod fault;
 mod formula;

@@ -1,13 +1,16 @@
 //! The names of elements and of steps with their values, which are apart.
 
 ghost use Rattle.std.specs.Prelude.{◌≡◌, map, IfOk, OnOk};
+ghost use Rattle.pb_errors.specs.OrMemory.{IfRefused};
 ghost use Rattle.pb_folding.specs.Names.{AreDistinct, AreNot, enumerators_in};
 ghost use Rattle.pb_unfolding.specs.Unfolding as definitions;
 ghost use Rattle.pb_unfolder_steps.specs.Elements.{element_said, instance_said};
+ghost use Rattle.pb_unfolder_steps.specs.Refusals.{element_place, instance_place};
 ghost use Rattle.pb_unfolder.specs.Apart.{declarations_said, name_bytes};
+ghost use Rattle.pb_unfolder.specs.Parts.{IsFaultOfElements, IsFaultOfInstances};
 
 use crate::apart::{first_repeated, first_taken};
-use crate::fault::{UnfoldingError, UnfoldingFault, UnfoldingRule};
+use crate::fault::{UnfoldingError, UnfoldingRule, refused};
 use pb_text_tree::{Name, SortDeclaration};
 use pb_unfolder_steps::{Element, Instance, instance_name};
 use pb_unfolder_terms::element_name;
@@ -37,34 +40,8 @@ fn instance_names(alloc: Global, instances: &[Instance<'_>]) -> Result<Vec<Name>
     Ok(names)
 }
 
-/// Checks that no two names are one; else the later one is refused.
-fn check_distinct(names: &[Name]) -> Result<(), UnfoldingFault>
-    ensures { OnOk result (AreDistinct (map name_bytes names.now)) }
-{
-    match first_repeated(names) {
-        None => Ok(()),
-        Some(index) => Err(UnfoldingFault {
-            rule: UnfoldingRule::Names,
-            place: names[index].place,
-        }),
-    }
-}
-
-/// Checks that no name is an enumerator's; else it is refused.
-fn check_untaken(declarations: &[SortDeclaration], names: &[Name]) -> Result<(), UnfoldingFault>
-    ensures { OnOk result (AreNot (enumerators_in (declarations_said declarations.now))
-        (map name_bytes names.now)) }
-{
-    match first_taken(declarations, names) {
-        None => Ok(()),
-        Some(index) => Err(UnfoldingFault {
-            rule: UnfoldingRule::Names,
-            place: names[index].place,
-        }),
-    }
-}
-
-/// Checks that the names of elements are apart, and that none is an enumerator's.
+/// Checks that the names of elements are apart, and that none is an enumerator's; else the first
+/// that is one in front of it, or an enumerator's, is refused.
 pub(crate) fn check_elements(
     alloc: Global,
     declarations: &[SortDeclaration],
@@ -74,22 +51,36 @@ pub(crate) fn check_elements(
         (AreDistinct (map definitions.name_of (map element_said elements.now))) }
     ensures untaken { OnOk result (AreNot (enumerators_in (declarations_said declarations.now))
         (map definitions.name_of (map element_said elements.now))) }
+    ensures refused { IfRefused result
+        (IsFaultOfElements (enumerators_in (declarations_said declarations.now))
+        (map definitions.name_of (map element_said elements.now))
+        (map element_place elements.now)) }
 {
     let names = element_names(alloc, elements)?;
-    check_distinct(&names)?;
-    check_untaken(declarations, &names)?;
+    if let Some(index) = first_repeated(&names) {
+        return Err(refused(UnfoldingRule::Names, elements[index].name.place));
+    }
+    if let Some(index) = first_taken(declarations, &names) {
+        return Err(refused(UnfoldingRule::Names, elements[index].name.place));
+    }
     Ok(())
 }
 
-/// Checks that the names of steps with their values are apart.
+/// Checks that the names of steps with their values are apart; else the first that is one in front
+/// of it is refused.
 pub(crate) fn check_instances(
     alloc: Global,
     instances: &[Instance<'_>],
 ) -> Result<(), UnfoldingError>
-    ensures { OnOk result
+    ensures distinct { OnOk result
         (AreDistinct (map definitions.instance_name (map instance_said instances.now))) }
+    ensures refused { IfRefused result
+        (IsFaultOfInstances (map definitions.instance_name (map instance_said instances.now))
+        (map instance_place instances.now)) }
 {
     let names = instance_names(alloc, instances)?;
-    check_distinct(&names)?;
+    if let Some(index) = first_repeated(&names) {
+        return Err(refused(UnfoldingRule::Names, instances[index].step.name.place));
+    }
     Ok(())
 }

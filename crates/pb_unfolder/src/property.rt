@@ -1,12 +1,17 @@
 //! Properties without quantifiers over formulas.
 
-ghost use Rattle.std.specs.Prelude.{◌≡◌, map, IfOk};
+ghost use Rattle.std.specs.Prelude.{◌≡◌, [], map, IfOk};
+ghost use Rattle.pb_errors.specs.OrMemory.{IfRefused};
 ghost use Rattle.pb_model_tree.specs.Form as flat_form;
-ghost use Rattle.pb_protocol_tree.specs.Form.{property_form};
+ghost use Rattle.pb_protocol_tree.specs.Form.{formula_form, property_form};
 ghost use Rattle.pb_folding.specs.Places.{AreAmong, places_of};
+ghost use Rattle.pb_unfolder_steps.specs.Unfolder.{protocol_in};
+ghost use Rattle.pb_unfolder.specs.Faults.{IsFaultOfFormula, IsFaultOfProperties};
 ghost use Rattle.pb_unfolder.specs.Left.{AreFormulas};
+ghost use Rattle.pb_unfolder.specs.Parts.{IsFaultIn};
 ghost use Rattle.pb_unfolder.specs.Places.{HavePlaces, places_in};
-ghost use Rattle.pb_unfolder.specs.Unfolded.{flat_name, left_property, property_name, property_said};
+ghost use Rattle.pb_unfolder.specs.Unfolded.{flat_name, left_property, property_name};
+ghost use Rattle.pb_unfolder.specs.Unfolded.{property_said};
 
 use crate::fault::UnfoldingError;
 use crate::formula::{Formulas, unfold_formula};
@@ -27,6 +32,9 @@ fn unfold_property(
     ensures name { IfOk result (λ p. flat_name p ≡ property_name property.now) }
     ensures places { IfOk result
         (λ p. AreAmong (places_of p.formula) (places_in property.now.formula)) }
+    ensures refused { IfRefused result
+        (IsFaultIn (IsFaultOfFormula (protocol_in formulas.now.unfolder.now) []
+        (formula_form property.now.formula))) }
 {
     let name = copy_name(formulas.unfolder.alloc, &property.name)?;
     let mut room = Room::whole();
@@ -46,6 +54,9 @@ pub(crate) fn unfold_properties(
         (λ v. map flat_name v.items ≡ map property_name properties.now) }
     ensures places { IfOk result (λ v. HavePlaces (map property_form properties.now)
         (map flat_form.property_form v.items)) }
+    ensures refused { IfRefused result
+        (IsFaultIn (IsFaultOfProperties (protocol_in formulas.now.unfolder.now)
+        (map property_form properties.now))) }
 {
     let mut unfolded = Vec::new(formulas.unfolder.alloc);
     for property in properties {

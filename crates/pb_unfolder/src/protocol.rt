@@ -1,13 +1,14 @@
 //! A whole protocol as a flat model.
 
 ghost use Rattle.std.specs.Prelude.{◌≡◌, ◌≤◌, map, length, IfOk, OnOk, string_bytes};
+ghost use Rattle.pb_errors.specs.OrMemory.{IfRefused};
 ghost use Rattle.pb_text_tree.specs.Form.{argument_forms};
 ghost use Rattle.pb_text_meaning.specs.Erase.{erased_arguments};
 ghost use Rattle.pb_model_tree.specs.Form as flat_form;
 ghost use Rattle.pb_model_meaning.specs.Erase.{model_of};
 ghost use Rattle.pb_folding.specs.FoldedModels.{folded_model, folded_steps};
 ghost use Rattle.pb_folding.specs.Names.{AreDistinct, enumerators_in};
-ghost use Rattle.pb_protocol_tree.specs.Form.{protocol_form};
+ghost use Rattle.pb_protocol_tree.specs.Form.{property_form, protocol_form};
 ghost use Rattle.pb_protocol_meaning.specs.Erase.{protocol_of};
 ghost use Rattle.pb_protocol_meaning.specs.Steps.{data_of};
 ghost use Rattle.pb_unfolding.specs.Hygiene.{HidesNothing};
@@ -15,8 +16,12 @@ ghost use Rattle.pb_unfolding.specs.Unfolding as definitions;
 ghost use Rattle.pb_unfolder_steps.specs.Elements.{element_said, instance_said};
 ghost use Rattle.pb_unfolder_steps.specs.Steps.{is_kept, places_from, step_place, step_said};
 ghost use Rattle.pb_unfolder_steps.specs.Unfolder.{IsUnfolder, protocol_in};
+ghost use Rattle.pb_unfolder_steps.specs.Refusals.{element_place, element_places};
+ghost use Rattle.pb_unfolder_steps.specs.Refusals.{instance_place, instance_places};
+ghost use Rattle.pb_unfolder.specs.Faults.{IsFaultOfProperties, IsUnfoldingFault};
 ghost use Rattle.pb_unfolder.specs.Left.{AreLeft};
 ghost use Rattle.pb_unfolder.specs.Origins.{origin_name};
+ghost use Rattle.pb_unfolder.specs.Parts.{IsFaultIn, IsFaultOfTerm};
 ghost use Rattle.pb_unfolder.specs.Places.{HavePlacesOf};
 ghost use Rattle.pb_unfolder.specs.Told.{told_steps, told_variables};
 ghost use Rattle.pb_unfolder.specs.Unfolded.{flat_name, property_name};
@@ -33,14 +38,18 @@ use pb_protocol_tree::Protocol;
 use pb_text_copies::{copy_declarations, copy_ranges};
 use pb_text_tree::Argument;
 use pb_unfolder_steps::{
-    Element, Instance, MAX_WRITTEN_STEPS, UnfoldedSteps, Unfolder, elements, flat_state,
-    initial_terms, instances, unfold_steps,
+    Element, Instance, MAX_ELEMENTS, MAX_WRITTEN_STEPS, UnfoldedSteps, Unfolder, elements,
+    flat_state, initial_terms, instances, unfold_steps,
 };
 use std::alloc::Global;
 
 fn elements_of(alloc: Global, protocol: &Protocol) -> Result<Vec<Element<'_>>, UnfoldingError>
-    ensures { IfOk result (λ v. map element_said v.items
+    ensures elements { IfOk result (λ v. map element_said v.items
         ≡ definitions.all_elements (protocol_of protocol.now)) }
+    ensures places { IfOk result
+        (λ v. map element_place v.items ≡ element_places (protocol_form protocol.now)) }
+    ensures few { IfOk result (λ v. length v.items ≤ MAX_ELEMENTS) }
+    ensures refused { IfRefused result (IsUnfoldingFault (protocol_form protocol.now)) }
 {
     match elements(alloc, protocol) {
         Ok(elements) => Ok(elements),
@@ -51,7 +60,10 @@ fn elements_of(alloc: Global, protocol: &Protocol) -> Result<Vec<Element<'_>>, U
 fn instances_of(alloc: Global, protocol: &Protocol) -> Result<Vec<Instance<'_>>, UnfoldingError>
     ensures instances { IfOk result (λ v. map instance_said v.items
         ≡ definitions.instances (protocol_of protocol.now)) }
+    ensures places { IfOk result
+        (λ v. map instance_place v.items ≡ instance_places (protocol_form protocol.now)) }
     ensures few { IfOk result (λ v. length v.items ≤ MAX_WRITTEN_STEPS) }
+    ensures refused { IfRefused result (IsUnfoldingFault (protocol_form protocol.now)) }
 {
     match instances(alloc, protocol) {
         Ok(instances) => Ok(instances),
@@ -60,8 +72,10 @@ fn instances_of(alloc: Global, protocol: &Protocol) -> Result<Vec<Instance<'_>>,
 }
 
 fn initial_of(alloc: Global, protocol: &Protocol) -> Result<Vec<Argument>, UnfoldingError>
-    ensures { IfOk result (λ v. erased_arguments (argument_forms v.items)
+    requires few { length (definitions.all_elements (protocol_of protocol.now)) ≤ MAX_ELEMENTS }
+    ensures initial { IfOk result (λ v. erased_arguments (argument_forms v.items)
         ≡ (folded_model (definitions.unfolded (protocol_of protocol.now))).initial) }
+    ensures refused { IfRefused result IsFaultOfTerm }
 {
     match initial_terms(alloc, protocol) {
         Ok(terms) => Ok(terms),
@@ -86,6 +100,7 @@ fn steps_of(
         ≡ map (is_kept (protocol_in unfolder.now)) (map instance_said instances.now)) }
     ensures places { IfOk result (λ u. map step_place u.steps.items
         ≡ places_from 0 (length u.steps.items)) }
+    ensures refused { IfRefused result IsFaultOfTerm }
 {
     match unfold_steps(unfolder, elements, instances) {
         Ok(steps) => Ok(steps),
@@ -115,6 +130,7 @@ fn flat_model(
     requires left { AreLeft unfolder.now left.now }
     requires elements { map element_said elements.now
         ≡ definitions.all_elements (protocol_in unfolder.now) }
+    requires few { length elements.now ≤ MAX_ELEMENTS }
     requires steps { map step_said steps.items
         ≡ folded_steps (data_of (protocol_in unfolder.now))
         (map (definitions.unfolded_step (protocol_in unfolder.now))
@@ -126,6 +142,9 @@ fn flat_model(
     ensures formulas { IfOk result
         (λ m. HavePlacesOf (protocol_form protocol.now) (flat_form.model_form m)) }
     ensures kept { IfOk result (λ m. m.steps ≡ steps) }
+    ensures refused { IfRefused result
+        (IsFaultIn (IsFaultOfProperties (protocol_in unfolder.now)
+        (map property_form protocol.now.properties.items))) }
 {
     let alloc = unfolder.alloc;
     let formulas = Formulas { unfolder, left };
@@ -168,6 +187,7 @@ pub fn unfold(alloc: Global, protocol: &Protocol) -> Result<Unfolded, UnfoldingE
     ensures hides_nothing { OnOk result
         (AreDistinct (enumerators_in (protocol_of protocol.now).sorts)
         → HidesNothing (protocol_of protocol.now)) }
+    ensures refused { IfRefused result (IsUnfoldingFault (protocol_form protocol.now)) }
 {
     let elements = elements_of(alloc, protocol)?;
     let instances = instances_of(alloc, protocol)?;

@@ -1,5 +1,8 @@
 //! How many operators an unfolded formula may have.
 
+ghost use Rattle.pb_errors.specs.OrMemory.{IfRefused};
+ghost use Rattle.pb_unfolder.specs.Parts.{IsFaultOfTerm};
+
 use crate::fault::{UnfoldingError, UnfoldingRule, refused};
 use pb_limits::MAX_OPERATORS;
 use pb_text_tree::{Argument, ArithmeticLink, Place, Term, TermLink};
@@ -19,7 +22,9 @@ impl Room {
     }
 
     /// Takes so many operators; where there are fewer, the token at the place passes the limit.
-    pub(crate) fn take(&mut self, operators: usize, place: Place) -> Result<(), UnfoldingError> {
+    pub(crate) fn take(&mut self, operators: usize, place: Place) -> Result<(), UnfoldingError>
+        ensures { IfRefused result IsFaultOfTerm }
+    {
         if operators > self.operators {
             return Err(refused(UnfoldingRule::Operators, place));
         }
@@ -28,7 +33,9 @@ impl Room {
     }
 
     #[cycle(operators)]
-    fn take_links(&mut self, links: &[TermLink], place: Place) -> Result<(), UnfoldingError> {
+    fn take_links(&mut self, links: &[TermLink], place: Place) -> Result<(), UnfoldingError>
+        ensures { IfRefused result IsFaultOfTerm }
+    {
         for link in links {
             self.take(1, place)?;
             self.take_term(&link.operand, place)?;
@@ -41,7 +48,9 @@ impl Room {
         &mut self,
         links: &[ArithmeticLink],
         place: Place,
-    ) -> Result<(), UnfoldingError> {
+    ) -> Result<(), UnfoldingError>
+        ensures { IfRefused result IsFaultOfTerm }
+    {
         for link in links {
             self.take(1, place)?;
             self.take_term(&link.operand, place)?;
@@ -50,11 +59,9 @@ impl Room {
     }
 
     #[cycle(operators)]
-    fn take_arguments(
-        &mut self,
-        arguments: &[Argument],
-        place: Place,
-    ) -> Result<(), UnfoldingError> {
+    fn take_arguments(&mut self, arguments: &[Argument], place: Place) -> Result<(), UnfoldingError>
+        ensures { IfRefused result IsFaultOfTerm }
+    {
         for argument in arguments {
             self.take_term(&argument.term, place)?;
         }
@@ -64,7 +71,9 @@ impl Room {
     /// Takes the operators of a term; where there are more than are left, the token at the place
     /// passes the limit.
     #[cycle(operators)]
-    pub(crate) fn take_term(&mut self, term: &Term, place: Place) -> Result<(), UnfoldingError> {
+    pub(crate) fn take_term(&mut self, term: &Term, place: Place) -> Result<(), UnfoldingError>
+        ensures { IfRefused result IsFaultOfTerm }
+    {
         match term {
             Term::Constant { .. } | Term::Number { .. } | Term::Name(_) => Ok(()),
             Term::Not { operand, .. } | Term::Negative { operand, .. } => {

@@ -1,11 +1,16 @@
 //! Sets of steps by the names of the steps in them that are left.
 
 ghost use Rattle.std.specs.Prelude.{◌≡◌, ◌++◌, map, IfOk, OnOk, is_some};
+ghost use Rattle.pb_errors.specs.OrMemory.{IfRefused};
 ghost use Rattle.pb_folding.specs.View.{set_of};
 ghost use Rattle.pb_protocol_tree.specs.Form.{step_set_form};
+ghost use Rattle.pb_unfolding.specs.Unfolding as definitions;
 ghost use Rattle.pb_unfolder_steps.specs.Elements.{instance_said};
+ghost use Rattle.pb_unfolder_steps.specs.Unfolder.{protocol_in, scope_in};
 ghost use Rattle.pb_unfolder.specs.Apart.{name_bytes};
+ghost use Rattle.pb_unfolder.specs.Faults.{IsFaultOfSet, IsFaultOfSteps};
 ghost use Rattle.pb_unfolder.specs.Left.{AreFormulas, left_set, member_name, member_names};
+ghost use Rattle.pb_unfolder.specs.Parts.{HasValues, IsFaultIn};
 ghost use Rattle.pb_unfolder.specs.Sets.{is_each};
 
 use crate::fault::UnfoldingError;
@@ -43,9 +48,14 @@ fn push_member(
     set: &StepSet,
     instance: &Instance<'_>,
 ) -> Result<(), UnfoldingError>
-    ensures { OnOk result (map name_bytes names.new.items ≡ map name_bytes names.old.items
+    requires { HasValues scope.now }
+    ensures names { OnOk result (map name_bytes names.new.items ≡ map name_bytes names.old.items
         ++ member_name formulas.now.unfolder.now scope.now (step_set_form set.now)
         (instance_said instance.now)) }
+    ensures refused { IfRefused result
+        (IsFaultIn (IsFaultOfSet (protocol_in formulas.now.unfolder.now)
+        (scope_in formulas.now.unfolder.now scope.now) (instance_said instance.now).own
+        (step_set_form set.now))) }
 {
     if is_in_set(formulas.unfolder, scope, set, instance)? {
         names.push(instance_name(formulas.unfolder.alloc, instance)?)?;
@@ -59,8 +69,14 @@ fn members(
     scope: &TermScope<'_>,
     set: &StepSet,
 ) -> Result<Vec<Name>, UnfoldingError>
-    ensures { IfOk result (λ v. map name_bytes v.items ≡ member_names formulas.now.unfolder.now
+    requires { HasValues scope.now }
+    ensures names { IfOk result
+        (λ v. map name_bytes v.items ≡ member_names formulas.now.unfolder.now
         scope.now (step_set_form set.now) (map instance_said formulas.now.left.now)) }
+    ensures refused { IfRefused result
+        (IsFaultIn (IsFaultOfSteps (protocol_in formulas.now.unfolder.now)
+        (scope_in formulas.now.unfolder.now scope.now) (map instance_said formulas.now.left.now)
+        (step_set_form set.now))) }
 {
     let mut names = Vec::new(formulas.unfolder.alloc);
     let left = formulas.left;
@@ -78,9 +94,15 @@ pub(crate) fn unfold_set(
     place: Place,
     set: &StepSet,
 ) -> Result<flat::StepSet, UnfoldingError>
-    requires { AreFormulas formulas.now }
-    ensures { IfOk result (λ A. set_of A
+    requires formulas { AreFormulas formulas.now }
+    requires scope { HasValues scope.now }
+    ensures set { IfOk result (λ A. set_of A
         ≡ left_set formulas.now.unfolder.now scope.now (step_set_form set.now)) }
+    ensures refused { IfRefused result
+        (IsFaultIn (IsFaultOfSteps (protocol_in formulas.now.unfolder.now)
+        (scope_in formulas.now.unfolder.now scope.now)
+        (definitions.instances (protocol_in formulas.now.unfolder.now))
+        (step_set_form set.now))) }
 {
     if let Some(place) = place_of_all(set) {
         return Ok(flat::StepSet::All { place });

@@ -1,7 +1,7 @@
 -- The terms of the initial state, as the definitions have them.
-use Rattle.std.proofs.Common.{◌≡◌, ◌≤◌, ◌<◌, ◌∙◌, ℕ, suc, refl, sym, ap, arith, false, List, [], ◌∷◌, ◌++◌, map, flat_map, drop, get_or, length, min, drop-cons}
+use Rattle.std.proofs.Common.{◌≡◌, ◌≤◌, ◌<◌, ◌∙◌, ◌+◌, ℕ, suc, refl, sym, ap, arith, false, List, [], ◌∷◌, ◌++◌, map, flat_map, drop, get_or, length, min, drop-cons}
 use Rattle.std.specs.Borrow.{Bor}
-use Rattle.std.proofs.lemmas.List.{map-append, drop_all}
+use Rattle.std.proofs.lemmas.List.{map-append, drop_all, length-append, length-map}
 use Rattle.pb_text_tree.specs.declared.name.Name.{Name}
 use Rattle.pb_text_tree.specs.declared.term.Argument.{Argument}
 use Rattle.pb_text_tree.specs.Form.{argument_forms}
@@ -17,7 +17,7 @@ use Rattle.pb_protocol_meaning.specs.Erase.{protocol_of, erased_state_variable}
 use Rattle.pb_protocol_meaning.specs.Steps.{data_of}
 use Rattle.pb_unfolding.specs.Written.{written_tuples}
 use Rattle.pb_unfolding.specs.PutIn.{no_forms, put_in}
-use Rattle.pb_unfolding.specs.Unfolding.{terms_of, unfolded_initial, written}
+use Rattle.pb_unfolding.specs.Unfolding.{Element, all_elements, elements_of, terms_of, unfolded_initial, written}
 use Rattle.pb_unfolder_steps.specs.Initial.{argument_term, indices_behind, indices_said, indices_of_state, term_at, terms_at, initial_values}
 
 -- ---- terms
@@ -50,6 +50,23 @@ of-state (g ∷ gs) =
     ap (λ v. v ++ indices_of_state gs) (of-group g.sort g.variables.items)
     ∙ ap (λ v. map indices_in (map erased_state_variable (state_variables_form g)) ++ v) (of-state gs)
     ∙ sym (indices-appended (state_variables_form g) (flat_map state_variables_form gs))
+
+abbrev element_at : StateVariable → List Term → Element
+element_at y ks = record { array = y.name; index = ks; sort = y.sort }
+
+-- there are as many tuples of indices as elements
+as-many : (spec : Spec) (ys : List StateVariable) → length (flat_map (written_tuples spec) (map indices_in ys)) ≡ length (flat_map (elements_of spec) ys)
+as-many spec [] = refl
+as-many spec (y ∷ ys) =
+    length-append (written_tuples spec y.indices) (flat_map (written_tuples spec) (map indices_in ys))
+    ∙ ap (λ (n : ℕ). length (written_tuples spec y.indices) + n) (as-many spec ys)
+    ∙ ap (λ (n : ℕ). n + length (flat_map (elements_of spec) ys)) (sym (length-map (written_tuples spec y.indices) (element_at y)))
+    ∙ sym (length-append (elements_of spec y) (flat_map (elements_of spec) ys))
+
+pub elements-counted : (p : declared_protocol.Protocol) → length (flat_map (written_tuples (data_of (protocol_of p))) (indices_of_state p.state.items)) ≡ length (all_elements (protocol_of p))
+elements-counted p =
+    let m = protocol_of p in
+    ap (λ (v : List (List Variable)). length (flat_map (written_tuples (data_of m)) v)) (of-state p.state.items) ∙ as-many (data_of m) m.variables
 
 -- ---- values
 

@@ -1,6 +1,7 @@
 -- Sorts, elements and steps of a tree, as those of its protocol.
 use Rattle.std.proofs.Common.{◌≡◌, ◌∙◌, refl, sym, ap, List, [], ◌∷◌, ◌++◌, map, flat_map}
 use Rattle.std.proofs.lemmas.List.{append_assoc}
+use Rattle.std.proofs.lemmas.Grind.{flat_map-append}
 use Rattle.pb_text_tree.specs.declared.name.Name.{Name}
 use Rattle.pb_text_tree.specs.declared.sort.Range.{Range}
 use Rattle.pb_text_tree.specs.declared.sort.SortDeclaration.{SortDeclaration}
@@ -13,12 +14,13 @@ use Rattle.pb_protocol_tree.specs.declared.protocol.Protocol as declared_protoco
 use Rattle.pb_protocol_tree.specs.declared.protocol.StateVariable as declared_variable
 use Rattle.pb_protocol_tree.specs.declared.protocol.StateVariables as declared_state
 use Rattle.pb_protocol_tree.specs.declared.step.Step as declared_step
-use Rattle.pb_protocol_tree.specs.Form.{StateVariableForm, state_variable_form, state_variables_form, step_form}
+use Rattle.pb_protocol_tree.specs.Form.{StateVariableForm, protocol_form, state_variable_form, state_variables_form, step_form}
 use Rattle.pb_protocol_meaning.specs.Erase.{protocol_of, erased_state_variable, erased_step}
 use Rattle.pb_protocol_meaning.specs.Steps.{data_of}
 use Rattle.pb_unfolding.specs.Unfolding.{elements_of, instances_of, all_elements, instances}
 use Rattle.pb_unfolder_terms.specs.View.{declarations, ranges_said}
 use Rattle.pb_unfolder_steps.specs.Elements.{elements_of_variable, elements_of_state, instances_of_step, instances_of_steps}
+use Rattle.pb_unfolder_steps.specs.Refusals.{element_places, instance_places, places_of_elements, places_of_instances, places_of_state, places_of_step, places_of_steps, places_of_variable}
 
 sorts-said : (ds : List SortDeclaration) → declarations ds ≡ map erased_declaration (map sort_declaration_form ds)
 sorts-said [] = refl
@@ -63,6 +65,21 @@ of-state spec (g ∷ gs) =
 pub elements-said : (spec : Spec) (p : declared_protocol.Protocol) → spec ≡ data_of (protocol_of p) → elements_of_state spec p.state.items ≡ all_elements (protocol_of p)
 elements-said spec p same = ap (λ (s : Spec). elements_of_state s p.state.items) same ∙ of-state (data_of (protocol_of p)) p.state.items
 
+places-of-group : (spec : Spec) (sort : Name) (ys : List declared_variable.StateVariable) → flat_map (places_of_variable spec sort) ys ≡ flat_map (places_of_elements spec) (map (state_variable_form sort) ys)
+places-of-group spec sort [] = refl
+places-of-group spec sort (y ∷ ys) = ap (λ v. places_of_variable spec sort y ++ v) (places-of-group spec sort ys)
+
+places-of-state : (spec : Spec) (gs : List declared_state.StateVariables) → places_of_state spec gs ≡ flat_map (places_of_elements spec) (flat_map state_variables_form gs)
+places-of-state spec [] = refl
+places-of-state spec (g ∷ gs) =
+    ap (λ v. v ++ places_of_state spec gs) (places-of-group spec g.sort g.variables.items)
+    ∙ ap (λ v. flat_map (places_of_elements spec) (state_variables_form g) ++ v) (places-of-state spec gs)
+    ∙ sym (flat_map-append (places_of_elements spec) (state_variables_form g) (flat_map state_variables_form gs))
+
+-- and where they stand
+pub element-places-said : (spec : Spec) (p : declared_protocol.Protocol) → spec ≡ data_of (protocol_of p) → places_of_state spec p.state.items ≡ element_places (protocol_form p)
+element-places-said spec p same = ap (λ (s : Spec). places_of_state s p.state.items) same ∙ places-of-state (data_of (protocol_of p)) p.state.items
+
 -- ---- steps with their values
 
 of-steps : (spec : Spec) (steps : List declared_step.Step) → instances_of_steps spec steps ≡ flat_map (instances_of spec) (map erased_step (map step_form steps))
@@ -71,3 +88,10 @@ of-steps spec (a ∷ steps) = ap (λ v. instances_of_step spec a ++ v) (of-steps
 
 pub instances-said : (spec : Spec) (p : declared_protocol.Protocol) → spec ≡ data_of (protocol_of p) → instances_of_steps spec p.steps.items ≡ instances (protocol_of p)
 instances-said spec p same = ap (λ (s : Spec). instances_of_steps s p.steps.items) same ∙ of-steps (data_of (protocol_of p)) p.steps.items
+
+places-of-all : (spec : Spec) (steps : List declared_step.Step) → places_of_steps spec steps ≡ flat_map (places_of_instances spec) (map step_form steps)
+places-of-all spec [] = refl
+places-of-all spec (a ∷ steps) = ap (λ v. places_of_step spec a ++ v) (places-of-all spec steps)
+
+pub instance-places-said : (spec : Spec) (p : declared_protocol.Protocol) → spec ≡ data_of (protocol_of p) → places_of_steps spec p.steps.items ≡ instance_places (protocol_form p)
+instance-places-said spec p same = ap (λ (s : Spec). places_of_steps s p.steps.items) same ∙ places-of-all (data_of (protocol_of p)) p.steps.items

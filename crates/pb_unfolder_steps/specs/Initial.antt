@@ -4,7 +4,6 @@ use Rattle.std.specs.Borrow.{Bor}
 use Rattle.pb_text_meaning.specs.Syntax.{Variable, Term}
 use Rattle.pb_text_meaning.specs.Erase.{erased_variables}
 use Rattle.pb_text_tree.specs.Form.{variable_forms}
-use Rattle.pb_text_tree.specs.declared.place.Place.{Place}
 use Rattle.pb_text_tree.specs.declared.term.Argument as declared_argument
 use Rattle.pb_folding.specs.Folding.{folded}
 use Rattle.pb_folding.specs.View.{term_of}
@@ -15,7 +14,6 @@ use Rattle.pb_protocol_meaning.specs.Steps.{data_of}
 use Rattle.pb_unfolding.specs.Written.{written_tuples}
 use Rattle.pb_unfolding.specs.PutIn.{no_forms, put_in}
 use Rattle.pb_unfolding.specs.Unfolding.{written}
-use Rattle.pb_unfolder_steps.specs.Refusals.{variable_place}
 
 abbrev pub argument_term : declared_argument.Argument → Term
 argument_term a = term_of a.term
@@ -25,9 +23,6 @@ indices_said y = erased_variables (variable_forms y.indices.items)
 
 abbrev pub indices_behind : Bor declared_variable.StateVariable → List Variable
 indices_behind y = indices_said y.now
-
-abbrev pub place_behind : Bor declared_variable.StateVariable → Place
-place_behind y = variable_place y.now
 
 abbrev pub indices_of_group : declared_state.StateVariables → List (List Variable)
 indices_of_group group = map indices_said group.variables.items

@@ -1,10 +1,10 @@
 //! What elements get in a step with its values: those that keep their value are left out.
 
-ghost use Rattle.std.specs.Prelude.{◌≡◌, ◌++◌, [], map, IfOk, OnOk, string_bytes};
+ghost use Rattle.std.specs.Prelude.{◌≡◌, ◌++◌, map, IfOk, OnOk, string_bytes};
 ghost use Rattle.pb_errors.specs.OrMemory.{IfRefused};
 ghost use Rattle.pb_folding.specs.View.{term_of};
 ghost use Rattle.pb_unfolder_steps.specs.Elements.{element_said};
-ghost use Rattle.pb_unfolder_steps.specs.Refusals.{IsLimitAmong};
+ghost use Rattle.pb_unfolder_steps.specs.Refusals.{IsTermOr};
 ghost use Rattle.pb_unfolder_steps.specs.Steps.{assignment_said, assignments_said, change_of};
 ghost use Rattle.pb_unfolder_steps.specs.Steps.{changed, changes};
 ghost use Rattle.pb_unfolder_steps.specs.Unfolder.{IsUnfolder, protocol_in, scope_in};
@@ -59,7 +59,7 @@ fn push_assignment(
         ++ changed (protocol_in unfolder.now)
         (scope_in unfolder.now assigning.now.scope.now)
         (assignments_said assigning.now.assignments.now) (element_said element.now)) }
-    ensures refused { IfRefused result (IsLimitAmong []) }
+    ensures refused { IfRefused result (IsTermOr ⊥) }
 {
     let variable = element_name(unfolder.alloc, element.name, &element.index)?;
     let term = unfolder.unfold_assigned(assigning.scope, assigning.assignments, element)?;
@@ -78,7 +78,7 @@ pub(crate) fn unfold_assignments(
         ≡ changes (protocol_in unfolder.now)
         (scope_in unfolder.now assigning.now.scope.now)
         (assignments_said assigning.now.assignments.now) (map element_said elements.now)) }
-    ensures refused { IfRefused result (IsLimitAmong []) }
+    ensures refused { IfRefused result (IsTermOr ⊥) }
 {
     let mut assignments = Vec::new(unfolder.alloc);
     for element in elements {

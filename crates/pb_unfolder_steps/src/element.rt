@@ -1,15 +1,17 @@
 //! The elements of a protocol's state variables, with their indices as they are written.
 
-ghost use Rattle.std.specs.Prelude.{◌≡◌, ◌≤◌, ◌<◌, ◌+◌, ◌++◌, length, map, IfOk, OnOk};
-ghost use Rattle.pb_errors.specs.OrMemory.{IfRefused, OnRefused};
+ghost use Rattle.std.specs.Prelude.{◌≡◌, ◌≤◌, ◌+◌, ◌++◌, length, map, IfOk, OnOk};
+ghost use Rattle.pb_errors.specs.OrMemory.{IfRefused};
+ghost use Rattle.pb_protocol_tree.specs.Form.{protocol_form};
 ghost use Rattle.pb_protocol_meaning.specs.Erase.{protocol_of};
 ghost use Rattle.pb_unfolding.specs.Unfolding as definitions;
 ghost use Rattle.pb_unfolder_terms.specs.View.{spec_of};
 ghost use Rattle.pb_unfolder_terms.specs.Values.{tuple_of};
 ghost use Rattle.pb_unfolder_steps.specs.Elements.{element_at, element_said, elements_of_group};
 ghost use Rattle.pb_unfolder_steps.specs.Elements.{elements_of_state, elements_of_variable};
-ghost use Rattle.pb_unfolder_steps.specs.Refusals.{IsLimitAt, IsPassed, group_places};
-ghost use Rattle.pb_unfolder_steps.specs.Refusals.{state_places};
+ghost use Rattle.pb_unfolder_steps.specs.Refusals.{IsPassed, IsPassedIn, element_place};
+ghost use Rattle.pb_unfolder_steps.specs.Refusals.{element_places, placed, places_of_group};
+ghost use Rattle.pb_unfolder_steps.specs.Refusals.{places_of_state, places_of_variable};
 
 use crate::fault::StepsError;
 use crate::limits::{MAX_ELEMENTS, check_limit};
@@ -36,8 +38,11 @@ fn push_at<'a>(
     sort: &'a Name,
     indices: Vec<Vec<Written<'a>>>,
 ) -> Result<(), AllocError>
-    ensures { OnOk result (map element_said elements.new.items ≡ map element_said elements.old.items
+    ensures elements { OnOk result (map element_said elements.new.items
+        ≡ map element_said elements.old.items
         ++ map (element_at name.now sort.now) (map tuple_of indices.entry.items)) }
+    ensures places { OnOk result (map element_place elements.new.items
+        ≡ map element_place elements.old.items ++ placed name.now.place indices.entry.items) }
 {
     for index in indices {
         elements.push(Element { name, index, sort })?;
@@ -56,6 +61,9 @@ fn push_elements<'a>(
     ensures elements { OnOk result (map element_said elements.new.items
         ≡ map element_said elements.old.items
         ++ elements_of_variable (spec_of sorts.entry) sort.now variable.now) }
+    ensures places { OnOk result (map element_place elements.new.items
+        ≡ map element_place elements.old.items
+        ++ places_of_variable (spec_of sorts.entry) sort.now variable.now) }
     ensures few { OnOk result (length elements.new.items ≤ MAX_ELEMENTS) }
     ensures refused { IfRefused result (IsPassed MAX_ELEMENTS (length elements.old.items
         + length (elements_of_variable (spec_of sorts.entry) sort.now variable.now))
@@ -78,10 +86,13 @@ fn push_group<'a>(
     ensures elements { OnOk result (map element_said elements.new.items
         ≡ map element_said elements.old.items
         ++ elements_of_group (spec_of sorts.entry) group.now) }
+    ensures places { OnOk result (map element_place elements.new.items
+        ≡ map element_place elements.old.items
+        ++ places_of_group (spec_of sorts.entry) group.now) }
     ensures few { OnOk result (length elements.new.items ≤ MAX_ELEMENTS) }
-    ensures refused { IfRefused result (IsLimitAt (group_places group.now)) }
-    ensures too_many { OnRefused result (MAX_ELEMENTS
-        < length elements.old.items + length (elements_of_group (spec_of sorts.entry) group.now)) }
+    ensures refused { IfRefused result (IsPassedIn MAX_ELEMENTS
+        (map element_place elements.old.items
+        ++ places_of_group (spec_of sorts.entry) group.now)) }
 {
     for variable in &group.variables {
         push_elements(alloc, elements, sorts, variable, &group.sort)?;
@@ -97,10 +108,11 @@ fn elements_of<'a>(
 ) -> Result<Vec<Element<'a>>, StepsError>
     ensures elements { IfOk result
         (λ v. map element_said v.items ≡ elements_of_state (spec_of sorts.entry) state.now) }
+    ensures places { IfOk result
+        (λ v. map element_place v.items ≡ places_of_state (spec_of sorts.entry) state.now) }
     ensures few { IfOk result (λ v. length v.items ≤ MAX_ELEMENTS) }
-    ensures refused { IfRefused result (IsLimitAt (state_places state.now)) }
-    ensures too_many { OnRefused result
-        (MAX_ELEMENTS < length (elements_of_state (spec_of sorts.entry) state.now)) }
+    ensures refused { IfRefused result
+        (IsPassedIn MAX_ELEMENTS (places_of_state (spec_of sorts.entry) state.now)) }
 {
     let mut elements = Vec::new(alloc);
     for group in state {
@@ -117,10 +129,11 @@ fn elements_of<'a>(
 pub fn elements<'a>(alloc: Global, protocol: &'a Protocol) -> Result<Vec<Element<'a>>, StepsError>
     ensures elements { IfOk result (λ v. map element_said v.items
         ≡ definitions.all_elements (protocol_of protocol.now)) }
+    ensures places { IfOk result
+        (λ v. map element_place v.items ≡ element_places (protocol_form protocol.now)) }
     ensures few { IfOk result (λ v. length v.items ≤ MAX_ELEMENTS) }
-    ensures refused { IfRefused result (IsLimitAt (state_places protocol.now.state.items)) }
-    ensures too_many { OnRefused result
-        (MAX_ELEMENTS < length (definitions.all_elements (protocol_of protocol.now))) }
+    ensures refused { IfRefused result
+        (IsPassedIn MAX_ELEMENTS (element_places (protocol_form protocol.now))) }
 {
     elements_of(alloc, sorts_of(protocol), &protocol.state)
 }

@@ -1,8 +1,7 @@
 //! Why the state or the steps of a protocol aren't unfolded.
 
-ghost use Rattle.std.specs.Prelude.{[]};
 ghost use Rattle.pb_errors.specs.OrMemory.{IfFault};
-ghost use Rattle.pb_unfolder_steps.specs.Refusals.{IsLimitAmong};
+ghost use Rattle.pb_unfolder_steps.specs.Refusals.{IsTermOr};
 
 use pb_errors::{Fault, OrMemory};
 use pb_text_tree::Place;
@@ -25,7 +24,7 @@ pub type StepsError = OrMemory<StepsFault>;
 
 /// The fault of a term.
 pub(crate) fn of_term(error: UnfoldError) -> StepsError
-    ensures { IfFault result (IsLimitAmong []) }
+    ensures { IfFault result (IsTermOr ⊥) }
 {
     match error {
         OrMemory::Refused(fault) => OrMemory::Refused(StepsFault::Term(fault)),

@@ -1,6 +1,6 @@
 //! The values of the elements at the start.
 
-ghost use Rattle.std.specs.Prelude.{◌≡◌, ◌++◌, [], ◌∷◌, false, map, IfOk, OnOk};
+ghost use Rattle.std.specs.Prelude.{◌≡◌, ◌<◌, ◌++◌, false, length, map, flat_map, IfOk, OnOk};
 ghost use Rattle.pb_text_tree.specs.Form.{argument_forms};
 ghost use Rattle.pb_text_meaning.specs.Erase.{erased_arguments};
 ghost use Rattle.pb_errors.specs.OrMemory.{IfRefused};
@@ -9,14 +9,15 @@ ghost use Rattle.pb_folding.specs.View.{term_of};
 ghost use Rattle.pb_protocol_meaning.specs.Erase.{protocol_of};
 ghost use Rattle.pb_protocol_meaning.specs.Steps.{data_of};
 ghost use Rattle.pb_unfolding.specs.Unfolding as definitions;
+ghost use Rattle.pb_unfolding.specs.Written.{written_tuples};
+ghost use Rattle.pb_limits.specs.declared.TheConstants.{MAX_OPERATORS};
 ghost use Rattle.pb_unfolder_terms.specs.Values.{tuple_of, written_term};
 ghost use Rattle.pb_unfolder_terms.specs.View.{variable_of};
 ghost use Rattle.pb_unfolder_steps.specs.Unfolder.{IsInitial};
 ghost use Rattle.pb_unfolder_steps.specs.Initial.{argument_term, indices_behind, indices_of_group};
 ghost use Rattle.pb_unfolder_steps.specs.Initial.{indices_of_state, indices_said};
-ghost use Rattle.pb_unfolder_steps.specs.Initial.{initial_values, place_behind, term_at};
-ghost use Rattle.pb_unfolder_steps.specs.Initial.{terms_at};
-ghost use Rattle.pb_unfolder_steps.specs.Refusals.{IsLimitAmong, group_places, state_places};
+ghost use Rattle.pb_unfolder_steps.specs.Initial.{initial_values, term_at, terms_at};
+ghost use Rattle.pb_unfolder_steps.specs.Refusals.{IsTermOr};
 
 use crate::fault::{StepsError, of_term};
 use crate::sorts::sorts_of;
@@ -31,10 +32,8 @@ fn push_variables<'a>(
     variables: &mut Vec<&'a StateVariable>,
     group: &'a StateVariables,
 ) -> Result<(), AllocError>
-    ensures indices { OnOk result (map indices_behind variables.new.items
+    ensures { OnOk result (map indices_behind variables.new.items
         ≡ map indices_behind variables.old.items ++ indices_of_group group.now) }
-    ensures places { OnOk result (map place_behind variables.new.items
-        ≡ map place_behind variables.old.items ++ group_places group.now) }
 {
     for variable in &group.variables {
         variables.push(variable)?;
@@ -47,9 +46,7 @@ fn state_variables<'a>(
     alloc: Global,
     state: &'a [StateVariables],
 ) -> Result<Vec<&'a StateVariable>, AllocError>
-    ensures indices { IfOk result
-        (λ v. map indices_behind v.items ≡ indices_of_state state.now) }
-    ensures places { IfOk result (λ v. map place_behind v.items ≡ state_places state.now) }
+    ensures { IfOk result (λ v. map indices_behind v.items ≡ indices_of_state state.now) }
 {
     let mut variables = Vec::new(alloc);
     for group in state {
@@ -77,7 +74,7 @@ impl Initial<'_> {
         requires initial { IsInitial self.now }
         ensures term { IfOk result (λ t. term_of t ≡ term_at (protocol_of self.now.protocol.now)
             (map variable_of indices.now) (term_of term.now) (map written_term values.now)) }
-        ensures refused { IfRefused result (IsLimitAmong []) }
+        ensures refused { IfRefused result (IsTermOr ⊥) }
     {
         let scope = TermScope::Values {
             variables: indices,
@@ -103,7 +100,7 @@ impl Initial<'_> {
             ≡ map argument_term terms.old.items
             ++ map (term_at (protocol_of self.now.protocol.now) (map variable_of indices.now)
             (argument_term value.now)) (map tuple_of tuples.now)) }
-        ensures refused { IfRefused result (IsLimitAmong []) }
+        ensures refused { IfRefused result (IsTermOr ⊥) }
     {
         let place = value.place;
         for values in tuples {
@@ -125,7 +122,9 @@ impl Initial<'_> {
             ≡ map argument_term terms.old.items
             ++ terms_at (protocol_of self.now.protocol.now) (indices_said variable.now)
             (argument_term value.now)) }
-        ensures refused { IfRefused result (IsLimitAmong (variable.now.name.place ∷ [])) }
+        ensures refused { IfRefused result (IsTermOr (MAX_OPERATORS
+            < length (written_tuples (data_of (protocol_of self.now.protocol.now))
+            (indices_said variable.now)))) }
     {
         let indices = variables_of(self.alloc, &variable.indices)?;
         let sorts = sorts_of(self.protocol);
@@ -143,7 +142,9 @@ impl Initial<'_> {
         ensures terms { IfOk result (λ v. map argument_term v.items
             ≡ initial_values (protocol_of self.now.protocol.now)
             (map indices_behind variables.now) (map argument_term values.now)) }
-        ensures refused { IfRefused result (IsLimitAmong (map place_behind variables.now)) }
+        ensures refused { IfRefused result (IsTermOr (MAX_OPERATORS
+            < length (flat_map (written_tuples (data_of (protocol_of self.now.protocol.now)))
+            (map indices_behind variables.now)))) }
     {
         let mut terms = Vec::new(self.alloc);
         for at in 0..variables.len().min(values.len()) {
@@ -157,14 +158,15 @@ impl Initial<'_> {
 /// the index put in. Each stands where that term does.
 ///
 /// # Errors
-/// There are too many elements (T12, at the name of a state variable), a term isn't unfolded
-/// (`StepsFault::Term`), or memory was refused.
+/// A term isn't unfolded (`StepsFault::Term`), memory was refused, or there are more than 8,192
+/// elements (T12, at the name of a state variable), which `elements` refuses before.
 pub fn initial_terms(alloc: Global, protocol: &Protocol) -> Result<Vec<Argument>, StepsError>
     ensures terms { IfOk result (λ v. erased_arguments (argument_forms v.items)
         ≡ folded_arguments (data_of (protocol_of protocol.now)) false
         (definitions.terms_of (definitions.unfolded_initial (data_of (protocol_of protocol.now))
         (protocol_of protocol.now).variables (protocol_of protocol.now).initial))) }
-    ensures refused { IfRefused result (IsLimitAmong (state_places protocol.now.state.items)) }
+    ensures refused { IfRefused result (IsTermOr
+        (MAX_OPERATORS < length (definitions.all_elements (protocol_of protocol.now)))) }
 {
     let variables = state_variables(alloc, &protocol.state)?;
     let initial = Initial {

@@ -1,15 +1,18 @@
 //! The steps of a protocol with written values for their own variables.
 
-ghost use Rattle.std.specs.Prelude.{◌≡◌, ◌≤◌, ◌<◌, ◌+◌, ◌++◌, length, map, IfOk, OnOk};
+ghost use Rattle.std.specs.Prelude.{◌≡◌, ◌≤◌, ◌+◌, ◌++◌, length, map, IfOk, OnOk};
 ghost use Rattle.std.specs.Prelude.{string_bytes};
-ghost use Rattle.pb_errors.specs.OrMemory.{IfRefused, OnRefused};
+ghost use Rattle.pb_errors.specs.OrMemory.{IfRefused};
+ghost use Rattle.pb_protocol_tree.specs.Form.{protocol_form};
 ghost use Rattle.pb_protocol_meaning.specs.Erase.{protocol_of};
 ghost use Rattle.pb_unfolding.specs.Unfolding as definitions;
 ghost use Rattle.pb_unfolder_terms.specs.View.{spec_of};
 ghost use Rattle.pb_unfolder_terms.specs.Values.{tuple_of};
 ghost use Rattle.pb_unfolder_steps.specs.Elements.{instance_at, instance_said};
 ghost use Rattle.pb_unfolder_steps.specs.Elements.{instances_of_step, instances_of_steps};
-ghost use Rattle.pb_unfolder_steps.specs.Refusals.{IsLimitAt, IsPassed, step_name_place};
+ghost use Rattle.pb_unfolder_steps.specs.Refusals.{IsPassed, IsPassedIn, instance_place};
+ghost use Rattle.pb_unfolder_steps.specs.Refusals.{instance_places, placed, places_of_step};
+ghost use Rattle.pb_unfolder_steps.specs.Refusals.{places_of_steps};
 
 use crate::fault::StepsError;
 use crate::limits::{MAX_WRITTEN_STEPS, check_limit};
@@ -33,9 +36,12 @@ fn push_with<'a>(
     step: &'a Step,
     tuples: Vec<Vec<Written<'a>>>,
 ) -> Result<(), AllocError>
-    ensures { OnOk result (map instance_said instances.new.items
+    ensures instances { OnOk result (map instance_said instances.new.items
         ≡ map instance_said instances.old.items
         ++ map (instance_at step.now) (map tuple_of tuples.entry.items)) }
+    ensures places { OnOk result (map instance_place instances.new.items
+        ≡ map instance_place instances.old.items
+        ++ placed step.now.name.place tuples.entry.items) }
 {
     for own in tuples {
         instances.push(Instance { step, own })?;
@@ -53,6 +59,9 @@ fn push_instances<'a>(
     ensures instances { OnOk result (map instance_said instances.new.items
         ≡ map instance_said instances.old.items
         ++ instances_of_step (spec_of sorts.entry) step.now) }
+    ensures places { OnOk result (map instance_place instances.new.items
+        ≡ map instance_place instances.old.items
+        ++ places_of_step (spec_of sorts.entry) step.now) }
     ensures few { OnOk result (length instances.new.items ≤ MAX_WRITTEN_STEPS) }
     ensures refused { IfRefused result (IsPassed MAX_WRITTEN_STEPS (length instances.old.items
         + length (instances_of_step (spec_of sorts.entry) step.now)) step.now.name.place) }
@@ -71,10 +80,11 @@ fn instances_of<'a>(
 ) -> Result<Vec<Instance<'a>>, StepsError>
     ensures instances { IfOk result
         (λ v. map instance_said v.items ≡ instances_of_steps (spec_of sorts.entry) steps.now) }
+    ensures places { IfOk result
+        (λ v. map instance_place v.items ≡ places_of_steps (spec_of sorts.entry) steps.now) }
     ensures few { IfOk result (λ v. length v.items ≤ MAX_WRITTEN_STEPS) }
-    ensures refused { IfRefused result (IsLimitAt (map step_name_place steps.now)) }
-    ensures too_many { OnRefused result
-        (MAX_WRITTEN_STEPS < length (instances_of_steps (spec_of sorts.entry) steps.now)) }
+    ensures refused { IfRefused result
+        (IsPassedIn MAX_WRITTEN_STEPS (places_of_steps (spec_of sorts.entry) steps.now)) }
 {
     let mut instances = Vec::new(alloc);
     for step in steps {
@@ -91,11 +101,11 @@ fn instances_of<'a>(
 pub fn instances<'a>(alloc: Global, protocol: &'a Protocol) -> Result<Vec<Instance<'a>>, StepsError>
     ensures instances { IfOk result (λ v. map instance_said v.items
         ≡ definitions.instances (protocol_of protocol.now)) }
+    ensures places { IfOk result
+        (λ v. map instance_place v.items ≡ instance_places (protocol_form protocol.now)) }
     ensures few { IfOk result (λ v. length v.items ≤ MAX_WRITTEN_STEPS) }
     ensures refused { IfRefused result
-        (IsLimitAt (map step_name_place protocol.now.steps.items)) }
-    ensures too_many { OnRefused result
-        (MAX_WRITTEN_STEPS < length (definitions.instances (protocol_of protocol.now))) }
+        (IsPassedIn MAX_WRITTEN_STEPS (instance_places (protocol_form protocol.now))) }
 {
     instances_of(alloc, sorts_of(protocol), &protocol.steps)
 }

@@ -8,7 +8,7 @@ ghost use Rattle.pb_folding.specs.FoldedModels.{folded_steps};
 ghost use Rattle.pb_protocol_meaning.specs.Steps.{data_of};
 ghost use Rattle.pb_unfolding.specs.Unfolding as definitions;
 ghost use Rattle.pb_unfolder_steps.specs.Elements.{element_said, instance_said};
-ghost use Rattle.pb_unfolder_steps.specs.Refusals.{IsLimitAmong};
+ghost use Rattle.pb_unfolder_steps.specs.Refusals.{IsTermOr};
 ghost use Rattle.pb_unfolder_steps.specs.Steps.{is_kept, kept_step, own_scope, place_of_step};
 ghost use Rattle.pb_unfolder_steps.specs.Steps.{places_from};
 ghost use Rattle.pb_unfolder_steps.specs.Steps.{step_found, step_place, step_said};
@@ -63,7 +63,7 @@ fn unfold_in_scope(
     ensures step { IfOk result (λ found. step_found found
         ≡ kept_step (protocol_in unfolder.now) (instance_said instance.now)) }
     ensures place { IfOk result (λ found. IfSome found (λ a. step_place a ≡ place)) }
-    ensures refused { IfRefused result (IsLimitAmong []) }
+    ensures refused { IfRefused result (IsTermOr ⊥) }
 {
     let step = instance.step;
     let guard = unfolder.unfold(scope, true, &step.guard)?;
@@ -98,7 +98,7 @@ fn unfold_step(
     ensures step { IfOk result (λ found. step_found found
         ≡ kept_step (protocol_in unfolder.now) (instance_said instance.now)) }
     ensures place { IfOk result (λ found. IfSome found (λ a. step_place a ≡ place)) }
-    ensures refused { IfRefused result (IsLimitAmong []) }
+    ensures refused { IfRefused result (IsTermOr ⊥) }
 {
     let variables = variables_of(unfolder.alloc, &instance.step.variables)?;
     let scope = TermScope::Values {
@@ -153,7 +153,7 @@ pub fn unfold_steps(
         ≡ map (is_kept (protocol_in unfolder.now)) (map instance_said instances.now)) }
     ensures places { IfOk result (λ u. map step_place u.steps.items
         ≡ places_from 0 (length u.steps.items)) }
-    ensures refused { IfRefused result (IsLimitAmong []) }
+    ensures refused { IfRefused result (IsTermOr ⊥) }
 {
     let mut unfolded = UnfoldedSteps {
         steps: Vec::new(unfolder.alloc),

@@ -1,6 +1,6 @@
 //! Unfolds the terms of a protocol.
 
-ghost use Rattle.std.specs.Prelude.{◌≡◌, [], IfOk};
+ghost use Rattle.std.specs.Prelude.{◌≡◌, IfOk};
 ghost use Rattle.pb_errors.specs.OrMemory.{IfRefused};
 ghost use Rattle.pb_folding.specs.Folding.{folded};
 ghost use Rattle.pb_folding.specs.View.{term_of};
@@ -8,7 +8,7 @@ ghost use Rattle.pb_protocol_meaning.specs.Erase.{protocol_of};
 ghost use Rattle.pb_protocol_meaning.specs.Steps.{data_of};
 ghost use Rattle.pb_unfolding.specs.Unfolding as definitions;
 ghost use Rattle.pb_unfolder_steps.specs.Elements.{element_said};
-ghost use Rattle.pb_unfolder_steps.specs.Refusals.{IsLimitAmong};
+ghost use Rattle.pb_unfolder_steps.specs.Refusals.{IsTermOr};
 ghost use Rattle.pb_unfolder_steps.specs.Steps.{assigned, assignments_said};
 ghost use Rattle.pb_unfolder_steps.specs.Unfolder.{IsUnfolder, protocol_in, scope_in};
 
@@ -60,7 +60,7 @@ impl<'a> Unfolder<'a> {
         ensures term { IfOk result (λ t. term_of t ≡ folded (data_of (protocol_in self.now)) truth
             (definitions.unfolded_term (protocol_in self.now) (scope_in self.now scope.now)
             (term_of term.now))) }
-        ensures refused { IfRefused result (IsLimitAmong []) }
+        ensures refused { IfRefused result (IsTermOr ⊥) }
     {
         match unfold_term(&self.context, scope, truth, term) {
             Ok(unfolded) => Ok(unfolded.term),
@@ -79,7 +79,7 @@ impl<'a> Unfolder<'a> {
         ensures term { IfOk result (λ t. term_of t ≡ assigned (protocol_in self.now)
             (scope_in self.now scope.now) (assignments_said assignments.now)
             (element_said element.now)) }
-        ensures refused { IfRefused result (IsLimitAmong []) }
+        ensures refused { IfRefused result (IsTermOr ⊥) }
     {
         let element = terms::Element {
             array: element.name,

@@ -2,7 +2,7 @@
 use Rattle.std.proofs.Common.{◌≡◌, ◌∙◌, []}
 use Rattle.pb_protocol_tree.specs.Form.{protocol_form}
 use Rattle.pb_protocol_typing.specs.Faults.{protocol_faults}
-use Rattle.pb_model_properties.proofs.FlatModels.{names_read, rules_broken}
+use Rattle.pb_model_properties.proofs.FlatModels.{names_read, not_unfolded, rules_broken}
 use Rattle.pb_model_properties.proofs.unfolded.flat.Goals as goal
 
 pub returns-in-Err-clause-refused : goal.returns-in-Err-clause-refused
@@ -22,3 +22,7 @@ returns-in-Ok-unfold-clause-flat c =
       told_variables = c.in-Ok-unfold.ensures.told_variables;
       told_steps = c.in-Ok-unfold.ensures.told_steps;
     }
+
+pub returns-in-Err-unfold-clause-refused : goal.returns-in-Err-unfold-clause-refused
+returns-in-Err-unfold-clause-refused c =
+    not_unfolded (protocol_form c.args.protocol.now) c.requires.unfolds c.in-Err-unfold.error c.raise-in-Err-unfold.result c.raise-in-Err-unfold.ensures c.in-Err-unfold.ensures.refused

@@ -1,10 +1,10 @@
-use Rattle.std.proofs.Common.{◌≡◌, ◌∙◌, sym, length, vec_len, map, flat_map, ◌++◌, arith}
+use Rattle.std.proofs.Common.{◌≡◌, ◌∙◌, sym, map, flat_map, ◌++◌}
 use Rattle.std.proofs.lemmas.Result.{IfOk-weaker}
 use Rattle.pb_model_tree.specs.declared.formula.Formula.{Formula}
 use Rattle.pb_folding.specs.Places.{AreAmong, places_of}
 use Rattle.pb_folding.specs.View.{formula_of}
 use Rattle.pb_unfolder.specs.Links.{folded_chain, folded_connected, linked_formula}
-use Rattle.pb_unfolder.proofs.ChainFormulas.{chain-alone, chain-begun}
+use Rattle.pb_unfolder.proofs.ChainFormulas.{chain-begun}
 use Rattle.pb_unfolder.specs.Places.{flat_link_places}
 use Rattle.pb_unfolder.proofs.PlaceLemmas.{joined-last}
 use Rattle.pb_unfolder.proofs.chain.joined.Goals as goal

@@ -1,4 +1,4 @@
-use Rattle.std.proofs.Common.{◌≡◌, ◌∙◌, ◌++◌, refl, sym, length, vec_len, flat_map, arith}
+use Rattle.std.proofs.Common.{◌∙◌, ◌++◌, refl, sym, flat_map, arith}
 use Rattle.std.proofs.lemmas.List.Elements.{Contains-append_right}
 use Rattle.pb_folding.specs.Places.{places_of}
 use Rattle.pb_folding.specs.View.{formula_of}

@@ -1,4 +1,4 @@
-use Rattle.std.proofs.Common.{◌≡◌, ◌∙◌, ◌++◌, ◌+◌, ◌<◌, ◌≤◌, ℕ, zero, suc, List, [], ◌∷◌, map, drop, length, refl, sym, ap, Bool, arith}
+use Rattle.std.proofs.Common.{◌≡◌, ◌∙◌, ◌++◌, ◌<◌, ℕ, zero, suc, List, [], ◌∷◌, map, drop, length, refl, sym, ap, Bool, arith}
 use Rattle.pb_unfolding.specs.Unfolding.{Instance}
 use Rattle.pb_unfolder_steps.specs.declared.instance.Instance as declared_instance
 use Rattle.pb_unfolder_steps.specs.Elements.{instance_said}

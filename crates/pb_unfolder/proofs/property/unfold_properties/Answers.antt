@@ -1,5 +1,9 @@
-use Rattle.std.proofs.Common.{rules, arith}
+use Rattle.std.proofs.Common.{rules, arith, [], map}
 use Rattle.std.proofs.lemmas.Grind.{common_steps}
+use Rattle.pb_protocol_tree.specs.Form.{formula_form, property_form}
+use Rattle.pb_unfolder_steps.specs.Unfolder.{protocol_in}
+use Rattle.pb_unfolder.specs.Faults.{IsFaultOfFormula, IsFaultOfProperties}
+use Rattle.pb_unfolder.proofs.FaultLemmas.{at-item, part}
 use Rattle.pb_unfolder.proofs.PlaceLemmas.{property-added}
 use Rattle.pb_unfolder.proofs.property.unfold_properties.Goals as goal
 
@@ -10,3 +14,11 @@ loop-property-preserved c = record {
   places = property-added c.args.properties.now c.loop-property.property-index c.property-item.result c.loop-property.unfolded.items c.push.new.self.items c.in_ok-unfold_property.field-0
       c.loop-property-test.true c.property-item.is c.in_ok-push.ensures.items c.in_ok-unfold_property.ensures.places c.loop-property.invariant.places;
 }
+
+pub returns-in_err-unfold_property-clause-refused : goal.returns-in_err-unfold_property-clause-refused
+returns-in_err-unfold_property-clause-refused c =
+    let m = protocol_in c.args.formulas.now.unfolder.now in
+    let ps = c.args.properties.now in
+    let q = c.property-item.result in
+    part c.from_residual.result c.in_err-unfold_property.field-0.0 (IsFaultOfFormula m [] (formula_form q.formula)) (IsFaultOfProperties m (map property_form ps)) c.from_residual.ensures.1
+    (λ p is. (property_form q, at-item property_form ps c.loop-property.property-index q c.loop-property-test.true c.property-item.is, is)) c.in_err-unfold_property.ensures.refused

@@ -1,4 +1,4 @@
-use Rattle.std.proofs.Common.{◌≡◌, ◌∙◌, refl, sym, ap, subst, List, map}
+use Rattle.std.proofs.Common.{◌∙◌, refl, ap, subst, List, map}
 use Rattle.pb_text_tree.specs.declared.sort.SortDeclaration.{SortDeclaration}
 use Rattle.pb_text_tree.specs.declared.sort.Range.{Range}
 use Rattle.pb_text_tree.specs.Form.{sort_declaration_form, range_form}
@@ -9,8 +9,11 @@ use Rattle.pb_model_tree.specs.Form as flat_form
 use Rattle.pb_protocol_tree.specs.declared.protocol.Property.{Property}
 use Rattle.pb_protocol_tree.specs.Form.{property_form}
 use Rattle.pb_unfolding.specs.Unfolding.{Element, variable_of}
+use Rattle.pb_unfolder_steps.specs.Unfolder.{protocol_in}
+use Rattle.pb_unfolder.specs.Faults.{IsFaultOfProperties}
 use Rattle.pb_unfolder.specs.Places.{HavePlaces}
 use Rattle.pb_unfolder.specs.Unfolded.{left_property}
+use Rattle.pb_unfolder.proofs.FaultLemmas.{of-term, part}
 use Rattle.pb_unfolder.proofs.UnfoldedLemmas.{model-said}
 use Rattle.pb_unfolder.proofs.protocol.flat_model.Goals as goal
 
@@ -29,10 +32,21 @@ returns-clause-model c =
     (ap (map erased_declaration) (c.in_ok-sorts.ensures ∙ ap (λ (ds : List SortDeclaration). map sort_declaration_form ds) c.deref.ensures.value))
     (ap (map erased_range) (c.in_ok-ranges.ensures ∙ ap (λ (rs : List Range). map range_form rs) c.deref-2.ensures.value))
     (c.in_ok-state.ensures ∙ ap (λ (es : List Element). map variable_of es) c.requires.elements)
-    c.requires.steps c.in_ok-values.ensures
+    c.requires.steps c.in_ok-values.ensures.initial
     (c.in_ok-properties.ensures.properties ∙ ap (λ (ps : List Property). map (left_property u) ps) c.deref-3.ensures.value)
 
 pub returns-clause-formulas : goal.returns-clause-formulas
 returns-clause-formulas c =
     subst (λ (ps : List Property). HavePlaces (map property_form ps) (map flat_form.property_form c.in_ok-properties.properties.items))
     c.deref-3.ensures.value c.in_ok-properties.ensures.places
+
+pub returns-in_err-values-clause-refused : goal.returns-in_err-values-clause-refused
+returns-in_err-values-clause-refused c =
+    let m = protocol_in c.args.unfolder.now in
+    of-term c.from_residual-in_err-values.result c.in_err-values.field-0.0 (IsFaultOfProperties m (map property_form c.args.protocol.now.properties.items)) c.from_residual-in_err-values.ensures.1 c.in_err-values.ensures.refused
+
+pub returns-in_err-properties-clause-refused : goal.returns-in_err-properties-clause-refused
+returns-in_err-properties-clause-refused c =
+    let m = protocol_in c.args.unfolder.now in
+    part c.from_residual-in_err-properties.result c.in_err-properties.field-0.0 (IsFaultOfProperties m (map property_form c.deref-3.result.now)) (IsFaultOfProperties m (map property_form c.args.protocol.now.properties.items)) c.from_residual-in_err-properties.ensures.1
+    (λ p is. subst (λ (ps : List Property). IsFaultOfProperties m (map property_form ps) p) c.deref-3.ensures.value is) c.in_err-properties.ensures.refused

@@ -1,13 +1,21 @@
-use Rattle.std.proofs.Common.{◌≡◌, ◌∙◌, sym, ap, Bool, List, map, filter}
+use Rattle.std.proofs.Common.{◌∙◌, ap, subst, List, map}
+use Rattle.pb_text_tree.specs.declared.sort.SortDeclaration.{SortDeclaration}
 use Rattle.pb_protocol_meaning.specs.Syntax.{Protocol}
-use Rattle.pb_folding.specs.Names.{AreDistinct}
+use Rattle.pb_protocol_tree.specs.Form.{property_form, protocol_form}
+use Rattle.pb_folding.specs.Names.{enumerators_in}
 use Rattle.pb_unfolding.specs.Unfolding as definitions
+use Rattle.pb_unfolding.specs.Unfolding.{name_of}
 use Rattle.pb_unfolder_steps.specs.declared.instance.Instance as declared
-use Rattle.pb_unfolder_steps.specs.Elements.{instance_said}
-use Rattle.pb_unfolder_steps.specs.Steps.{is_kept}
+use Rattle.pb_unfolder_steps.specs.declared.element.Element as declared_element
+use Rattle.pb_unfolder_steps.specs.Elements.{element_said, instance_said}
+use Rattle.pb_unfolder_steps.specs.Refusals.{element_place, instance_place}
 use Rattle.pb_unfolder_steps.specs.Unfolder.{protocol_in}
+use Rattle.pb_unfolder.specs.Apart.{declarations_said}
+use Rattle.pb_unfolder.specs.Faults.{IsFaultOfProperties, IsUnfoldingFault}
+use Rattle.pb_unfolder.specs.Parts.{IsFaultIn, IsFaultOfElements, IsFaultOfInstances, IsFaultOfTerm}
 use Rattle.pb_unfolder.specs.Told.{told_instance, told_steps}
-use Rattle.pb_unfolder.specs.Unfolded.{chosen}
+use Rattle.pb_unfolder.proofs.FaultLemmas.{part-breaks, refused, term-breaks}
+use Rattle.pb_unfolder.proofs.NameFaults.{elements-clash, instances-clash}
 use Rattle.pb_unfolder.proofs.UnfoldedLemmas.{kept-instances, apart-instances}
 use Rattle.pb_unfolder.proofs.protocol.unfold.Goals as goal
 
@@ -22,7 +30,7 @@ flat_model-requires-clause-left c =
           ap (λ (xs : List declared.Instance). map instance_said xs) c.deref-11.ensures.value
           ∙ kept-instances u c.args.protocol.now is c.in_ok-left.left.items c.in_ok-steps.field-0.kept.items c.deref-6.result.now c.deref-7.result.now c.deref-5.result.now same c.deref-6.ensures.value c.deref-7.ensures.value c.deref-5.ensures.value
           c.in_ok-instances.ensures.instances c.in_ok-steps.ensures.kept c.in_ok-left.ensures;
-      apart = apart-instances u c.args.protocol.now is c.deref-3.result.now same c.deref-3.ensures.value c.in_ok-instances.ensures.instances c.in_ok-check_instances.ensures;
+      apart = apart-instances u c.args.protocol.now is c.deref-3.result.now same c.deref-3.ensures.value c.in_ok-instances.ensures.instances c.in_ok-check_instances.ensures.distinct;
     }
 
 pub returns-clause-told_steps : goal.returns-clause-told_steps
@@ -36,3 +44,42 @@ returns-clause-told_steps c =
     ∙ kept-instances u c.args.protocol.now is c.in_ok-left.left.items c.in_ok-steps.field-0.kept.items c.deref-6.result.now c.deref-7.result.now c.deref-5.result.now same c.deref-6.ensures.value c.deref-7.ensures.value c.deref-5.ensures.value
     c.in_ok-instances.ensures.instances c.in_ok-steps.ensures.kept c.in_ok-left.ensures)
     ∙ ap told_steps same
+
+pub returns-in_err-check_elements-clause-refused : goal.returns-in_err-check_elements-clause-refused
+returns-in_err-check_elements-clause-refused c =
+    let m = protocol_form c.args.protocol.now in
+    let others = enumerators_in (declarations_said c.deref.result.now) in
+    let names = map name_of (map element_said c.deref-2.result.now) in
+    let places = map element_place c.deref-2.result.now in
+    refused c.from_residual-in_err-check_elements.result c.in_err-check_elements.field-0.0 (IsFaultOfElements others names places) (IsUnfoldingFault m) c.from_residual-in_err-check_elements.ensures.1
+    (elements-clash m others names places
+    (ap (λ (ds : List SortDeclaration). enumerators_in (declarations_said ds)) c.deref.ensures.value)
+    (ap (map name_of) (ap (λ (es : List declared_element.Element). map element_said es) c.deref-2.ensures.value ∙ c.in_ok-elements.ensures.elements))
+    (ap (λ (es : List declared_element.Element). map element_place es) c.deref-2.ensures.value ∙ c.in_ok-elements.ensures.places))
+    c.in_err-check_elements.ensures.refused
+
+pub returns-in_err-check_instances-clause-refused : goal.returns-in_err-check_instances-clause-refused
+returns-in_err-check_instances-clause-refused c =
+    let m = protocol_form c.args.protocol.now in
+    let names = map definitions.instance_name (map instance_said c.deref-3.result.now) in
+    let places = map instance_place c.deref-3.result.now in
+    refused c.from_residual-in_err-check_instances.result c.in_err-check_instances.field-0.0 (IsFaultOfInstances names places) (IsUnfoldingFault m) c.from_residual-in_err-check_instances.ensures.1
+    (instances-clash m names places
+    (ap (map definitions.instance_name) (ap (λ (is : List declared.Instance). map instance_said is) c.deref-3.ensures.value ∙ c.in_ok-instances.ensures.instances))
+    (ap (λ (is : List declared.Instance). map instance_place is) c.deref-3.ensures.value ∙ c.in_ok-instances.ensures.places))
+    c.in_err-check_instances.ensures.refused
+
+pub returns-in_err-steps-clause-refused : goal.returns-in_err-steps-clause-refused
+returns-in_err-steps-clause-refused c =
+    let m = protocol_form c.args.protocol.now in
+    refused c.from_residual-in_err-steps.result c.in_err-steps.field-0.0 IsFaultOfTerm (IsUnfoldingFault m) c.from_residual-in_err-steps.ensures.1 (term-breaks m) c.in_err-steps.ensures.refused
+
+pub returns-in_err-model-clause-refused : goal.returns-in_err-model-clause-refused
+returns-in_err-model-clause-refused c =
+    let m = protocol_form c.args.protocol.now in
+    let u = c.in_ok-unfolder.unfolder in
+    let properties = map property_form c.args.protocol.now.properties.items in
+    let fault = IsFaultOfProperties (protocol_in u) properties in
+    refused c.from_residual-in_err-model.result c.in_err-model.field-0.0 (IsFaultIn fault) (IsUnfoldingFault m) c.from_residual-in_err-model.ensures.1
+    (part-breaks m fault (λ p is. subst (λ (v : Protocol). IsFaultOfProperties v properties p) c.in_ok-unfolder.ensures.protocol is))
+    c.in_err-model.ensures.refused

@@ -1,9 +1,13 @@
-use Rattle.std.proofs.Common.{◌≡◌, ◌≤◌, ◌<◌, ◌∙◌, ◌++◌, ◌+◌, suc, ap, sym, arith, [], ◌∷◌, map, drop, length, min}
+use Rattle.std.proofs.Common.{◌≡◌, ◌≤◌, ◌<◌, ◌∙◌, ◌++◌, ◌+◌, suc, ap, sym, arith, List, map, flat_map, drop, length, min}
 use Rattle.std.proofs.lemmas.List.{append-nil, append_assoc}
+use Rattle.std.proofs.lemmas.List.Folds.{flat_map-map}
+use Rattle.pb_text_meaning.specs.Syntax.{Term, Variable}
 use Rattle.pb_protocol_meaning.specs.Erase.{protocol_of}
-use Rattle.pb_unfolder_steps.specs.Initial.{argument_term, indices_behind, indices_said, initial_values, place_behind, terms_at}
-use Rattle.pb_unfolder_steps.specs.Refusals.{IsLimitAmong}
-use Rattle.pb_unfolder_steps.proofs.RefusalLemmas.{among-all, place-of, refused}
+use Rattle.pb_protocol_meaning.specs.Steps.{data_of}
+use Rattle.pb_unfolding.specs.Written.{written_tuples}
+use Rattle.pb_unfolder_steps.specs.Initial.{argument_term, indices_behind, indices_said, initial_values, terms_at}
+use Rattle.pb_unfolder_steps.specs.Refusals.{IsTermOr}
+use Rattle.pb_unfolder_steps.proofs.RefusalLemmas.{part-of-all, refused, term-or}
 use Rattle.pb_unfolder_steps.proofs.InitialLemmas.{one-more, nothing-left}
 use Rattle.pb_unfolder_steps.proofs.initial.Initial.values_of.Goals as goal
 
@@ -40,6 +44,10 @@ returns-in_err-push_values-clause-refused c =
     let ys = c.args.variables.now in
     let k = c.loop-at.at in
     let y = c.index-variables-at.result in
+    let f : List Variable → List (List Term) = written_tuples (data_of (protocol_of c.args.self.now.protocol.now)) in
     let in-ys : k < length ys = omega (arith, c.loop-at-test.true, c.min-at-end.ensures) in
-    refused c.from_residual.result c.in_err-push_values.field-0.0 (IsLimitAmong (place_behind y ∷ [])) (IsLimitAmong (map place_behind ys)) c.from_residual.ensures.1
-    (among-all (map place_behind ys) (place_behind y) (place-of place_behind ys k y in-ys c.index-variables-at.is)) c.in_err-push_values.ensures.refused
+    let one = 8192 < length (f (indices_said y.now)) in
+    let all = 8192 < length (flat_map f (map indices_behind ys)) in
+    refused c.from_residual.result c.in_err-push_values.field-0.0 (IsTermOr one) (IsTermOr all) c.from_residual.ensures.1
+    (term-or one all (λ more. omega (arith, more, part-of-all (λ z. f (indices_behind z)) ys k y in-ys c.index-variables-at.is, ap (λ (v : List (List Term)). length v) (flat_map-map f indices_behind ys))))
+    c.in_err-push_values.ensures.refused

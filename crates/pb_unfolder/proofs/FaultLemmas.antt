@@ -1,0 +1,119 @@
+-- Faults of parts are faults of what they are parts of.
+use Rattle.std.proofs.Common.{◌≡◌, ◌<◌, ◌∙◌, ◌⊎◌, ℕ, zero, suc, Bool, true, false, if◌then◌else◌, inl, inr, refl, sym, ap, subst, arith, List, [], ◌∷◌, map, length, get_or, Result, Ok, Err}
+use Rattle.std.specs.Prelude.{Contains, IsErrAnd, filter}
+use Rattle.std.proofs.lemmas.List.{get_or-map}
+use Rattle.std.proofs.lemmas.List.Elements.{Contains-get_or}
+use Rattle.pb_errors.specs.OrMemory.{IfFault, IfRefused, raised}
+use Rattle.pb_errors.specs.declared.or_memory.OrMemory.{OrMemory}
+use Rattle.pb_errors.specs.declared.or_memory.OrMemory.TheVariants.{Refused, Memory}
+use Rattle.pb_text_tree.specs.declared.place.Place.{Place}
+use Rattle.pb_protocol_tree.specs.Form.{ProtocolForm}
+use Rattle.pb_unfolder_steps.specs.declared.fault.StepsFault.{StepsFault}
+use Rattle.pb_unfolder.specs.declared.fault.UnfoldingFault.{UnfoldingFault}
+use Rattle.pb_unfolder.specs.declared.fault.UnfoldingRule.{UnfoldingRule}
+use Rattle.pb_unfolder.specs.declared.fault.UnfoldingRule.TheVariants as rule
+use Rattle.pb_unfolder.specs.Faults.{Breaks, IsNameFault, IsUnfoldingFault, IsValueFault}
+use Rattle.pb_unfolder.specs.Parts.{AtNone, InPart, IsFaultIn, IsFaultOfTerm, IsOfNames, IsOfSteps}
+
+-- ---- members of lists
+
+pub first-in : {X : Type 0} (x : X) (xs : List X) → Contains (x ∷ xs) x
+first-in x xs = (0, omega arith, refl)
+
+pub behind-in : {X : Type 0} (y : X) (xs : List X) (x : X) → Contains xs x → Contains (y ∷ xs) x
+behind-in y xs x h = (suc h.0, omega (arith, h.1), h.2)
+
+pub first-or-behind : {X : Type 0} (y : X) (xs : List X) (x : X) → Contains (y ∷ xs) x → (y ≡ x) ⊎ Contains xs x
+first-or-behind y xs x (zero, low, e) = inl e
+first-or-behind y xs x (suc k, low, e) = inr (k, omega (arith, low), e)
+
+pub none-in : {X : Type 0} (x : X) → Contains [] x → ⊥
+none-in x h = omega (arith, h.1)
+
+pub kept-in : {X : Type 0} (p : X → Bool) (xs : List X) (x : X) → Contains (filter p xs) x → Contains xs x
+kept-in p [] x h = h
+kept-in {X = X} p (y ∷ xs) x h = by (p y) h (kept-in p xs x)
+  where
+    by : (b : Bool) → Contains (if b then y ∷ filter p xs else filter p xs) x → (Contains (filter p xs) x → Contains xs x) → Contains (y ∷ xs) x
+    by true h rest = elim (first-or-behind y (filter p xs) x h) [
+      | inl is ↦ subst (Contains (y ∷ xs)) is (first-in y xs)
+      | inr at ↦ behind-in y xs x (rest at)
+    ]
+    by false h rest = behind-in y xs x (rest h)
+
+pub at-item : {X Y : Type 0} (g : X → Y) (xs : List X) (k : ℕ) (x : X) → k < length xs → x ≡ get_or xs k x → Contains (map g xs) (g x)
+at-item {X = X} g xs k x within is =
+    let there : k < length (map g xs) = subst (λ (n : ℕ). k < n) (sym (mapped xs)) within in
+    subst (Contains (map g xs)) (get_or-map g xs k x (g x) within ∙ sym (ap g is)) (Contains-get_or (map g xs) k (g x) there)
+  where
+    mapped : (ys : List X) → length (map g ys) ≡ length ys
+    mapped [] = refl
+    mapped (y ∷ ys) = ap suc (mapped ys)
+
+pub item-in : {X : Type 0} (xs : List X) (k : ℕ) (x : X) → k < length xs → x ≡ get_or xs k x → Contains xs x
+item-in xs k x within is = (k, within, sym is)
+
+-- ---- by the rule
+
+in-rule : (P Q : Place → Type 0) → ((p : Place) → P p → Q p) → (r : UnfoldingRule) (p : Place) → InPart P r p → InPart Q r p
+in-rule P Q to rule.Names p is = is
+in-rule P Q to rule.Value p is = to p is
+in-rule P Q to rule.Index p is = is
+in-rule P Q to rule.Count p is = is
+in-rule P Q to rule.Operators p is = is
+
+pub fault-in : (P Q : Place → Type 0) → ((p : Place) → P p → Q p) → (f : UnfoldingFault) → IsFaultIn P f → IsFaultIn Q f
+fault-in P Q to f is = in-rule P Q to f.rule f.place is
+
+-- ---- errors
+
+-- what follows of the fault of a call
+pub refused-so : {A : Type 0} (P Q : UnfoldingFault → Type 0) (r : Result A (OrMemory UnfoldingFault)) → ((f : UnfoldingFault) → P f → Q f) → IfRefused r P → IfRefused r Q
+refused-so P Q (Ok a) to p = tt
+refused-so P Q (Err (Refused f)) to p = to f p
+refused-so P Q (Err Memory) to p = tt
+
+-- the fault of a call is that of its caller
+pub refused : {A : Type 0} (r : Result A (OrMemory UnfoldingFault)) (e : OrMemory UnfoldingFault) (P Q : UnfoldingFault → Type 0) → IsErrAnd r (λ d. d ≡ e) → ((f : UnfoldingFault) → P f → Q f) → IfFault e P → IfRefused r Q
+refused (Ok a) e P Q h to p = tt
+refused (Err d) e P Q h to p = subst (λ (x : OrMemory UnfoldingFault). IfFault x Q) (sym h) (both e p)
+  where
+    both : (x : OrMemory UnfoldingFault) → IfFault x P → IfFault x Q
+    both (Refused f) p = to f p
+    both Memory p = tt
+
+pub part : {A : Type 0} (r : Result A (OrMemory UnfoldingFault)) (e : OrMemory UnfoldingFault) (P Q : Place → Type 0) → IsErrAnd r (λ d. d ≡ e) → ((p : Place) → P p → Q p) → IfFault e (IsFaultIn P) → IfRefused r (IsFaultIn Q)
+part r e P Q h to is = refused r e (IsFaultIn P) (IsFaultIn Q) h (fault-in P Q to) is
+
+pub part-so : {A : Type 0} (P Q : Place → Type 0) (r : Result A (OrMemory UnfoldingFault)) → ((p : Place) → P p → Q p) → IfRefused r (IsFaultIn P) → IfRefused r (IsFaultIn Q)
+part-so P Q r to is = refused-so (IsFaultIn P) (IsFaultIn Q) r (fault-in P Q to) is
+
+-- the fault of a term is one of anything
+pub of-term : {A : Type 0} (r : Result A (OrMemory UnfoldingFault)) (e : OrMemory UnfoldingFault) (Q : Place → Type 0) → IsErrAnd r (λ d. d ≡ e) → IfFault e IsFaultOfTerm → IfRefused r (IsFaultIn Q)
+of-term r e Q h is = part r e AtNone Q h (λ p none. absurd none) is
+
+-- ---- what it says of the protocol
+
+pub names-break : (m : ProtocolForm) (P : Place → Type 0) → ((p : Place) → P p → IsNameFault m p) → (f : UnfoldingFault) → IsOfNames P f → IsUnfoldingFault m f
+names-break m P to f is = subst (λ (r : UnfoldingRule). Breaks m r f.place) (sym is.0) (to f.place is.1)
+
+part-rule : (m : ProtocolForm) (P : Place → Type 0) → ((p : Place) → P p → IsValueFault m p) → (r : UnfoldingRule) (p : Place) → InPart P r p → Breaks m r p
+part-rule m P to rule.Names p is = absurd is
+part-rule m P to rule.Value p is = to p is
+part-rule m P to rule.Index p is = is
+part-rule m P to rule.Count p is = absurd is
+part-rule m P to rule.Operators p is = is
+
+pub part-breaks : (m : ProtocolForm) (P : Place → Type 0) → ((p : Place) → P p → IsValueFault m p) → (f : UnfoldingFault) → IsFaultIn P f → IsUnfoldingFault m f
+part-breaks m P to f is = part-rule m P to f.rule f.place is
+
+pub term-breaks : (m : ProtocolForm) (f : UnfoldingFault) → IsFaultOfTerm f → IsUnfoldingFault m f
+term-breaks m f is = part-breaks m AtNone (λ p none. absurd none) f is
+
+-- what a fault of the state or of steps becomes
+pub raised-so : (P : StepsFault → Type 0) (Q : UnfoldingFault → Type 0) (e : OrMemory StepsFault) (above : OrMemory UnfoldingFault)
+    → ((s : StepsFault) (f : UnfoldingFault) → IsOfSteps s f → P s → Q f) → raised IsOfSteps e above → IfFault e P → IfFault above Q
+raised-so P Q (Refused s) (Refused f) to gives is = to s f gives is
+raised-so P Q (Refused s) Memory to gives is = tt
+raised-so P Q Memory (Refused f) to gives is = absurd gives
+raised-so P Q Memory Memory to gives is = tt

@@ -1,0 +1,107 @@
+-- Values in sets of steps that are no values.
+use Rattle.std.proofs.Common.{◌≡◌, ◌∙◌, ◌⊎◌, inl, inr, refl, sym, ap, subst, true, List, [], ◌∷◌, map, Option, Some, None, Vec, Global, Box, Result}
+use Rattle.std.specs.Prelude.{Contains, box_value, unwrap_or}
+use Rattle.std.specs.Option.{ok_or}
+use Rattle.pb_errors.specs.OrMemory.{IfFault, IfRefused}
+use Rattle.pb_errors.specs.declared.or_memory.OrMemory.{OrMemory}
+use Rattle.pb_text_tree.specs.declared.place.Place.{Place}
+use Rattle.pb_text_tree.specs.declared.operator.Connective.{Connective}
+use Rattle.pb_text_tree.specs.Form.{chained}
+use Rattle.pb_text_meaning.specs.Syntax.{Name, Term}
+use Rattle.pb_protocol_tree.specs.declared.step_set.StepSet as set
+use Rattle.pb_protocol_tree.specs.declared.step_set.StepSet.{StepSet}
+use Rattle.pb_protocol_tree.specs.declared.step_set.StepSetLink.{StepSetLink}
+use Rattle.pb_protocol_tree.specs.declared.formula.Formula as formula
+use Rattle.pb_protocol_tree.specs.declared.formula.Formula.{Formula}
+use Rattle.pb_protocol_tree.specs.declared.formula.Link.{Link}
+use Rattle.pb_protocol_tree.specs.Form.{FormulaForm, StepSetForm, StepValueForm, formula_form, step_set_form}
+use Rattle.pb_protocol_meaning.specs.Syntax.{Protocol}
+use Rattle.pb_unfolding.specs.PutIn.{TermScope, term_of}
+use Rattle.pb_unfolder.specs.declared.fault.UnfoldingFault.{UnfoldingFault}
+use Rattle.pb_unfolder.specs.Faults.{HasNoValue, IsFaultOfFormula, IsFaultOfSet, IsFaultOfValue, meant}
+use Rattle.pb_unfolder.specs.Parts.{IsAt, IsFaultIn, IsFaultOfLinks, IsFaultOfSets}
+use Rattle.pb_unfolder.specs.View.{link_form, set_link_form, set_operand}
+use Rattle.pb_unfolder.proofs.Chains.{chain-form, union-form}
+use Rattle.pb_unfolder.proofs.FaultLemmas.{first-or-behind, none-in}
+use Rattle.pb_unfolder.proofs.ValueLemmas.{is_nameless}
+
+-- ---- what a term in a set of steps says
+
+pub meant-bound : (ρ : TermScope) (x : Name) (k : Term) → Some k ≡ term_of ρ x → k ≡ meant ρ (Term.Named x)
+meant-bound ρ x k found = ap (λ (o : Option Term). unwrap_or o (Term.Named x)) found
+
+pub meant-free : (ρ : TermScope) (x : Name) → None ≡ term_of ρ x → Term.Named x ≡ meant ρ (Term.Named x)
+meant-free ρ x none = ap (λ (o : Option Term). unwrap_or o (Term.Named x)) none
+
+pub meant-nameless : (ρ : TermScope) (t : Term) → is_nameless t ≡ true → t ≡ meant ρ t
+meant-nameless ρ (Term.Named x) e = absurd (cc e)
+meant-nameless ρ (Term.Truth b) e = refl
+meant-nameless ρ (Term.Number n) e = refl
+meant-nameless ρ (Term.Not x) e = refl
+meant-nameless ρ (Term.Negative x) e = refl
+meant-nameless ρ (Term.Binary o x y) e = refl
+meant-nameless ρ (Term.Apply f xs) e = refl
+meant-nameless ρ (Term.Quantified q xs x) e = refl
+
+pub said-so : {A : Type 0} (m : Protocol) (place : Place) (s t : Term) (r : Result A (OrMemory UnfoldingFault)) → s ≡ t → IfRefused r (IsFaultIn (IsAt place (HasNoValue m s))) → IfRefused r (IsFaultIn (IsAt place (HasNoValue m t)))
+said-so m place s t r same is = subst (λ (x : Term). IfRefused r (IsFaultIn (IsAt place (HasNoValue m x)))) same is
+
+-- a value, or the error
+pub refused-or : {A : Type 0} (o : Option A) (e : OrMemory UnfoldingFault) (r : Result A (OrMemory UnfoldingFault)) (P : UnfoldingFault → Type 0) → r ≡ ok_or o e → (o ≡ None → IfFault e P) → IfRefused r P
+refused-or {A = A} (Some v) e r P is to = subst (λ (x : Result A (OrMemory UnfoldingFault)). IfRefused x P) (sym is) tt
+refused-or {A = A} None e r P is to = subst (λ (x : Result A (OrMemory UnfoldingFault)). IfRefused x P) (sym is) (to refl)
+
+-- ---- own values
+
+-- a step's own values are compared one by one
+pub own-value : (m : Protocol) (ρ : TermScope) (k : Term) (own : List Term) → Contains own k → (v : StepValueForm) (p : Place) → IsFaultOfValue m ρ (k ∷ []) v p → IsFaultOfValue m ρ own v p
+own-value m ρ k own at (StepValueForm.any_value q) p is = is
+own-value m ρ k own at (StepValueForm.given q x) p (same, inl none) = (same, inl none)
+own-value m ρ k own at (StepValueForm.given q x) p (same, inr (l, among, none)) =
+    elim (first-or-behind k [] l among) [
+      | inl is ↦ (same, inr (l, subst (Contains own) is at, none))
+      | inr none ↦ absurd (none-in l none)
+    ]
+
+-- ---- unions and chains
+
+module _ (m : Protocol) (ρ : TermScope) (p : Place) where
+  united : (own : List Term) (A : StepSetForm) (ls : List StepSetLink) → IsFaultOfSet m ρ own A p ⊎ IsFaultOfSets m ρ own (map set_operand ls) p
+      → IsFaultOfSet m ρ own (chained StepSetForm.union A (map set_link_form ls)) p
+  united own A [] (inl is) = is
+  united own A [] (inr (B, at, is)) = absurd (none-in B at)
+  united own A (l ∷ ls) (inl is) = inl is
+  united own A (l ∷ ls) (inr (B, at, is)) =
+      elim (first-or-behind (set_operand l) (map set_operand ls) B at) [
+        | inl same ↦ inr (united own (set_operand l) ls (inl (subst (λ (C : StepSetForm). IsFaultOfSet m ρ own C p) (sym same) is)))
+        | inr behind ↦ inr (united own (set_operand l) ls (inr (B, behind, is)))
+      ]
+
+  pub fault-of-union : (own : List Term) (x : StepSet) (b : Box StepSet Global) (v : Vec StepSetLink Global) (ls : List StepSetLink) (A : StepSet) → A ≡ set.Union b v → x ≡ box_value b → ls ≡ v.items
+      → IsFaultOfSet m ρ own (step_set_form x) p ⊎ IsFaultOfSets m ρ own (map set_operand ls) p → IsFaultOfSet m ρ own (step_set_form A) p
+  fault-of-union own x b v ls A is at same fault =
+      subst (λ (B : StepSetForm). IsFaultOfSet m ρ own B p)
+      (ap (λ (y : StepSet). chained StepSetForm.union (step_set_form y) (map set_link_form ls)) at
+      ∙ ap (λ (ks : List StepSetLink). chained StepSetForm.union (step_set_form (box_value b)) (map set_link_form ks)) same
+      ∙ sym (ap step_set_form is ∙ union-form b v))
+      (united own (step_set_form x) ls fault)
+
+  linked-fault : (c : Connective) (f : FormulaForm) (ls : List Link) → IsFaultOfFormula m ρ f p ⊎ IsFaultOfLinks m ρ ls p
+      → IsFaultOfFormula m ρ (chained (FormulaForm.connected c) f (map link_form ls)) p
+  linked-fault c f [] (inl is) = is
+  linked-fault c f [] (inr (l, at, is)) = absurd (none-in l at)
+  linked-fault c f (l ∷ ls) (inl is) = inl is
+  linked-fault c f (l ∷ ls) (inr (k, at, is)) =
+      elim (first-or-behind l ls k at) [
+        | inl same ↦ inr (linked-fault c (formula_form l.operand) ls (inl (subst (λ (j : Link). IsFaultOfFormula m ρ (formula_form j.operand) p) (sym same) is)))
+        | inr behind ↦ inr (linked-fault c (formula_form l.operand) ls (inr (k, behind, is)))
+      ]
+
+  pub fault-of-chain : (c : Connective) (x : Formula) (b : Box Formula Global) (v : Vec Link Global) (ls : List Link) (f : Formula) → f ≡ formula.Chain c b v → x ≡ box_value b → ls ≡ v.items
+      → IsFaultOfFormula m ρ (formula_form x) p ⊎ IsFaultOfLinks m ρ ls p → IsFaultOfFormula m ρ (formula_form f) p
+  fault-of-chain c x b v ls f is at same fault =
+      subst (λ (g : FormulaForm). IsFaultOfFormula m ρ g p)
+      (ap (λ (y : Formula). chained (FormulaForm.connected c) (formula_form y) (map link_form ls)) at
+      ∙ ap (λ (ks : List Link). chained (FormulaForm.connected c) (formula_form (box_value b)) (map link_form ks)) same
+      ∙ sym (ap formula_form is ∙ chain-form c b v))
+      (linked-fault c (formula_form x) ls fault)

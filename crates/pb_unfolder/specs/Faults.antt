@@ -1,0 +1,129 @@
+-- What it says of a protocol that it isn't unfolded, by each rule.
+use Rattle.std.specs.Prelude.{◌≡◌, ◌⊎◌, ℕ, List, [], map, Contains, Some, None, unwrap_or}
+use Rattle.std.specs.List.{slice_get}
+use Rattle.pb_text_tree.specs.declared.place.Place.{Place}
+use Rattle.pb_text_meaning.specs.Syntax.{Name, Term}
+use Rattle.pb_text_meaning.specs.Erase.{erased_term, erased_variables}
+use Rattle.pb_folding.specs.Folding.{written_value}
+use Rattle.pb_folding.specs.Names.{enumerators_in}
+use Rattle.pb_protocol_tree.specs.Form.{StepValueForm, StepSetForm, FormulaForm, PropertyForm}
+use Rattle.pb_protocol_tree.specs.Form.{ProtocolForm}
+use Rattle.pb_protocol_meaning.specs.Syntax.{Protocol}
+use Rattle.pb_protocol_meaning.specs.Erase.{erase}
+use Rattle.pb_protocol_meaning.specs.Steps.{data_of}
+use Rattle.pb_unfolding.specs.PutIn.{TermScope, standing, term_of}
+use Rattle.pb_unfolding.specs.Unfolding.{Instance, all_elements, instance_name, instances, name_of}
+use Rattle.pb_unfolding.specs.Unfolding.{terms_of}
+use Rattle.pb_unfolding.specs.Written.{written_tuples}
+use Rattle.pb_unfolder_steps.specs.declared.limits.TheConstants.{MAX_ELEMENTS, MAX_WRITTEN_STEPS}
+use Rattle.pb_unfolder_steps.specs.Refusals.{element_places, instance_places}
+use Rattle.pb_unfolder.specs.declared.fault.UnfoldingFault.{UnfoldingFault}
+use Rattle.pb_unfolder.specs.declared.fault.UnfoldingRule.{UnfoldingRule}
+use Rattle.pb_unfolder.specs.declared.fault.UnfoldingRule.TheVariants as rule
+use Rattle.pb_unfolder.specs.Apart.{IsTakenAt, RepeatsAt}
+
+-- ---- names
+
+-- of these names, which stand at these places, the one at p is one of those in front of it
+abbrev pub IsRepeated : List Name → List Place → Place → Type 0
+IsRepeated names places p = (i : ℕ) × RepeatsAt names i × (slice_get places i ≡ Some p)
+
+-- or it is one of others
+abbrev pub IsTaken : List Name → List Name → List Place → Place → Type 0
+IsTaken others names places p = (i : ℕ) × IsTakenAt others names i × (slice_get places i ≡ Some p)
+
+-- two elements have one name, or an element has an enumerator's
+abbrev pub IsElementClash : List Name → List Name → List Place → Place → Type 0
+IsElementClash enumerators names places p =
+    IsRepeated names places p ⊎ IsTaken enumerators names places p
+
+-- two elements or two steps with their values have one name, or an element has an enumerator's
+abbrev pub IsNameFault : ProtocolForm → Place → Type 0
+IsNameFault m p =
+    IsElementClash (enumerators_in (erase m).sorts) (map name_of (all_elements (erase m)))
+    (element_places m) p
+    ⊎ IsRepeated (map instance_name (instances (erase m))) (instance_places m) p
+
+-- ---- limits
+
+-- the first element, or the first step with its values, past the limit stands at p
+abbrev pub IsCountFault : ProtocolForm → Place → Type 0
+IsCountFault m p =
+    (slice_get (element_places m) MAX_ELEMENTS ≡ Some p)
+    ⊎ (slice_get (instance_places m) MAX_WRITTEN_STEPS ≡ Some p)
+
+-- ---- values in sets of steps
+
+-- what a term in a set of steps says: what a quantifier's variable stands for, else itself
+abbrev pub meant : TermScope → Term → Term
+meant ρ (Term.Named x) = unwrap_or (term_of ρ x) (Term.Named x)
+meant ρ t = t
+
+-- it isn't written as a truth value, a number of 32 bits or an enumerator
+abbrev pub HasNoValue : Protocol → Term → Type 0
+HasNoValue m t = written_value (data_of m) t ≡ None
+
+abbrev pub HaveOneWithoutValue : Protocol → List Term → Type 0
+HaveOneWithoutValue m ks = (k : Term) × Contains ks k × HasNoValue m k
+
+-- the value that stands at p, or an own value of the step that it is compared with, has no value
+abbrev pub IsFaultOfValue : Protocol → TermScope → List Term → StepValueForm → Place → Type 0
+IsFaultOfValue m ρ own (StepValueForm.any_value q) p = ⊥
+IsFaultOfValue m ρ own (StepValueForm.given q x) p =
+    (p ≡ q) × (HasNoValue m (meant ρ (erased_term x)) ⊎ HaveOneWithoutValue m own)
+
+abbrev pub IsFaultOfValues :
+    Protocol → TermScope → List Term → List StepValueForm → Place → Type 0
+IsFaultOfValues m ρ own values p =
+    (v : StepValueForm) × Contains values v × IsFaultOfValue m ρ own v p
+
+abbrev pub IsFaultOfSet : Protocol → TermScope → List Term → StepSetForm → Place → Type 0
+IsFaultOfSet m ρ own (StepSetForm.all q) p = ⊥
+IsFaultOfSet m ρ own (StepSetForm.step x) p = ⊥
+IsFaultOfSet m ρ own (StepSetForm.instances x values) p = IsFaultOfValues m ρ own values p
+IsFaultOfSet m ρ own (StepSetForm.complement q A) p = IsFaultOfSet m ρ own A p
+IsFaultOfSet m ρ own (StepSetForm.union q A B) p =
+    IsFaultOfSet m ρ own A p ⊎ IsFaultOfSet m ρ own B p
+
+-- where it is asked which of these steps are in the set
+abbrev pub IsFaultOfSteps :
+    Protocol → TermScope → List Instance → StepSetForm → Place → Type 0
+IsFaultOfSteps m ρ steps A p =
+    (i : Instance) × Contains steps i × IsFaultOfSet m ρ i.own A p
+
+-- in a formula, or in a copy of it
+abbrev pub IsFaultOfFormula : Protocol → TermScope → FormulaForm → Place → Type 0
+IsFaultOfFormula m ρ (FormulaForm.constant q b) p = ⊥
+IsFaultOfFormula m ρ (FormulaForm.«data» q x) p = ⊥
+IsFaultOfFormula m ρ (FormulaForm.variable x) p = ⊥
+IsFaultOfFormula m ρ (FormulaForm.negation q f) p = IsFaultOfFormula m ρ f p
+IsFaultOfFormula m ρ (FormulaForm.connected c q f g) p =
+    IsFaultOfFormula m ρ f p ⊎ IsFaultOfFormula m ρ g p
+IsFaultOfFormula m ρ (FormulaForm.modal k q A f) p =
+    IsFaultOfSteps m ρ (instances m) A p ⊎ IsFaultOfFormula m ρ f p
+IsFaultOfFormula m ρ (FormulaForm.fixpoint sign q x f) p = IsFaultOfFormula m ρ f p
+IsFaultOfFormula m ρ (FormulaForm.quantified quantifier q xs f) p =
+    (ks : List Term) × Contains (written_tuples (data_of m) (erased_variables xs)) ks
+    × IsFaultOfFormula m (standing (erased_variables xs) (terms_of ks) ρ) f p
+
+abbrev pub IsFaultOfProperties : Protocol → List PropertyForm → Place → Type 0
+IsFaultOfProperties m properties p =
+    (q : PropertyForm) × Contains properties q × IsFaultOfFormula m [] q.formula p
+
+abbrev pub IsValueFault : ProtocolForm → Place → Type 0
+IsValueFault m p = IsFaultOfProperties (erase m) m.properties p
+
+-- ---- faults
+
+-- By the rules of indices and of operators nothing is said: where a term isn't unfolded it isn't
+-- known at which of its places.
+abbrev pub Breaks : ProtocolForm → UnfoldingRule → Place → Type 0
+Breaks m rule.Names p = IsNameFault m p
+Breaks m rule.Value p = IsValueFault m p
+Breaks m rule.Index p = Unit {0}
+Breaks m rule.Count p = IsCountFault m p
+Breaks m rule.Operators p = Unit {0}
+
+-- what the fault says of the protocol
+abbrev pub IsUnfoldingFault : ProtocolForm → UnfoldingFault → Type 0
+IsUnfoldingFault m fault = Breaks m fault.rule fault.place

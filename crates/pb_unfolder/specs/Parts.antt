@@ -1,0 +1,85 @@
+-- What a fault says where one part of a protocol is unfolded.
+use Rattle.std.specs.Prelude.{◌≡◌, List, Contains, Option, Some, None}
+use Rattle.pb_text_tree.specs.declared.place.Place.{Place}
+use Rattle.pb_text_meaning.specs.Syntax.{Name, Term, Variable}
+use Rattle.pb_protocol_tree.specs.declared.formula.Link.{Link}
+use Rattle.pb_protocol_tree.specs.Form.{FormulaForm, StepSetForm, formula_form}
+use Rattle.pb_protocol_meaning.specs.Syntax.{Protocol}
+use Rattle.pb_unfolding.specs.PutIn.{TermScope, standing}
+use Rattle.pb_unfolding.specs.Unfolding.{terms_of}
+use Rattle.pb_unfolder_terms.specs.declared.scope.TermScope as declared_scope
+use Rattle.pb_unfolder_terms.specs.declared.scope.TermScope.TheVariants.{Empty, Values', Arguments'}
+use Rattle.pb_unfolder_terms.specs.declared.written.Written.{Written}
+use Rattle.pb_unfolder_terms.specs.Values.{written_term}
+use Rattle.pb_unfolder_steps.specs.declared.fault.StepsFault.{StepsFault}
+use Rattle.pb_unfolder_steps.specs.declared.fault.StepsFault.TheVariants as steps_fault
+use Rattle.pb_unfolder.specs.declared.fault.UnfoldingFault.{UnfoldingFault}
+use Rattle.pb_unfolder.specs.declared.fault.UnfoldingRule.{UnfoldingRule}
+use Rattle.pb_unfolder.specs.declared.fault.UnfoldingRule.TheVariants as rule
+use Rattle.pb_unfolder.specs.Faults.{IsElementClash, IsFaultOfFormula, IsFaultOfSet, IsRepeated}
+
+-- it isn't the fault of a name or of a limit; where it is that of a value, P of its place
+abbrev pub InPart : (Place → Type 0) → UnfoldingRule → Place → Type 0
+InPart P rule.Names p = ⊥
+InPart P rule.Value p = P p
+InPart P rule.Index p = Unit {0}
+InPart P rule.Count p = ⊥
+InPart P rule.Operators p = Unit {0}
+
+abbrev pub IsFaultIn : (Place → Type 0) → UnfoldingFault → Type 0
+IsFaultIn P fault = InPart P fault.rule fault.place
+
+-- nor that of a value: a term isn't unfolded, or something has too many operators
+abbrev pub AtNone : Place → Type 0
+AtNone p = ⊥
+
+abbrev pub IsFaultOfTerm : UnfoldingFault → Type 0
+IsFaultOfTerm fault = IsFaultIn AtNone fault
+
+-- at this place, and P
+abbrev pub IsAt : Place → Type 0 → Place → Type 0
+IsAt place P p = (p ≡ place) × P
+
+-- a limit that is passed is told as such, and the fault of a term as one of a term
+abbrev pub IsOfSteps : StepsFault → UnfoldingFault → Type 0
+IsOfSteps (steps_fault.Limit place) above = above ≡ record { rule = rule.Count; place = place }
+IsOfSteps (steps_fault.Term f) above = IsFaultOfTerm above
+
+-- by the rule of names, and P of the place
+abbrev pub IsOfNames : (Place → Type 0) → UnfoldingFault → Type 0
+IsOfNames P fault = (fault.rule ≡ rule.Names) × P fault.place
+
+abbrev pub IsFaultOfElements : List Name → List Name → List Place → UnfoldingFault → Type 0
+IsFaultOfElements enumerators names places fault =
+    IsOfNames (IsElementClash enumerators names places) fault
+
+abbrev pub IsFaultOfInstances : List Name → List Place → UnfoldingFault → Type 0
+IsFaultOfInstances names places fault = IsOfNames (IsRepeated names places) fault
+
+-- names stand for values alone, and not for the arguments of a definition
+abbrev pub HasValues : declared_scope.TermScope → Type 0
+HasValues Empty = Unit {0}
+HasValues (Values' variables values p outer) = HasValues outer
+HasValues (Arguments' parameters arguments definitions p user) = ⊥
+
+abbrev pub bound_term : Option Written → Option Term
+bound_term None = None
+bound_term (Some k) = Some (written_term k)
+
+-- ---- several parts
+
+-- in one of several sets
+abbrev pub IsFaultOfSets : Protocol → TermScope → List Term → List StepSetForm → Place → Type 0
+IsFaultOfSets m ρ own sets p =
+    (A : StepSetForm) × Contains sets A × IsFaultOfSet m ρ own A p
+
+-- in the operand of a link
+abbrev pub IsFaultOfLinks : Protocol → TermScope → List Link → Place → Type 0
+IsFaultOfLinks m ρ links p =
+    (link : Link) × Contains links link × IsFaultOfFormula m ρ (formula_form link.operand) p
+
+-- in a copy, where the variables stand for one of these tuples
+abbrev pub IsFaultOfCopies :
+    Protocol → TermScope → List Variable → List (List Term) → FormulaForm → Place → Type 0
+IsFaultOfCopies m ρ xs tuples f p =
+    (ks : List Term) × Contains tuples ks × IsFaultOfFormula m (standing xs (terms_of ks) ρ) f p
