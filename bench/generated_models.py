@@ -103,10 +103,36 @@ class Model:
         if choose <= 5:
             operand = self.formula(around, sign, depth - 1) if sign == 1 else self.generator.one_of((TRUE, ("false",)))
             return (self.generator.one_of(("box", "diamond")), *self.steps(2), operand)
+        if choose == 9 and sign == 1:
+            return self.word(around, depth)
         if choose == 6:
             return "not", self.formula(around, -sign, depth - 1)
         kind = self.generator.one_of(("and", "or", "implies"))
         return kind, self.formula(around, -sign if kind == "implies" else sign, depth - 1), self.formula(around, sign, depth - 1)
+
+    def word(self, around, depth):
+        """A word over operands: its name, they, and the formula that it stands for."""
+        name = self.generator.one_of(("always", "possibly", "inevitably", "no_deadlock", "until", "leads_to"))
+        signs = {"no_deadlock": (), "until": (1, 1), "leads_to": (-1, 1)}.get(name, (1,))
+        operands = [self.formula(around, sign, depth - 1) for sign in signs]
+
+        def behind(kind, operand):
+            return kind, "true", frozenset(self.next), operand
+
+        def inevitably(name, goal, waiting=TRUE):
+            goes_on = "and", behind("diamond", TRUE), behind("box", ("name", name))
+            return "mu", name, ("or", goal, ("and", waiting, goes_on))
+
+        again = behind("box", ("name", name))
+        meaning = {
+            "always": lambda p: ("nu", name, ("and", p, again)),
+            "possibly": lambda p: ("mu", name, ("or", p, behind("diamond", ("name", name)))),
+            "inevitably": lambda p: inevitably(name, p),
+            "no_deadlock": lambda: ("nu", name, ("and", behind("diamond", TRUE), again)),
+            "until": lambda p, q: inevitably(name, q, p),
+            "leads_to": lambda p, q: ("nu", name, ("and", again, ("implies", p, inevitably("inevitably", q)))),
+        }
+        return "word", name, operands, meaning[name](*operands)
 
     def test(self):
         text, value = self.terms.term(self.sorts, "bool", self.generator.below(3), True)
@@ -126,7 +152,10 @@ class Model:
             return f"{begin}{parts[0]}{end} {self.printed(parts[2], True)}"
         if kind == "not":
             return f"!{self.printed(parts[0], True)}"
-        if kind in ("mu", "nu"):
+        if kind == "word":
+            name, operands = parts[0], [self.printed(operand, True) for operand in parts[1]]
+            text = f" {name} ".join(operands) if len(operands) == 2 else " ".join((name, *operands))
+        elif kind in ("mu", "nu"):
             text = f"{kind} {parts[0]} . {self.printed(parts[1])}"
         else:
             text = f" {dict(zip(('and', 'or', 'implies'), ('&&', '||', '=>')))[kind]} ".join(self.printed(part, True) for part in parts)

@@ -257,10 +257,40 @@ class Model:
         return value
 
     def formula(self, bound):
-        return self.chain(0, 2, lambda: self.node(bound), Node)
+        return self.chain(0, 2, lambda: self.operand(bound), Node)
+
+    def operand(self, bound):
+        x = self.node(bound)
+        if self.tokens[0] not in ("until", "leads_to"):
+            return x
+        word, y = self.take(), self.node(bound)
+        if word == "until":
+            return Node("mu", word, Node("||", y, Node("&&", x, self.goes_on(word))))
+        return Node("nu", word, Node("&&", self.behind("[", word), Node("=>", x, self.inevitably(y))))
+
+    def behind(self, modality, word):
+        return Node(modality, lambda name, own, names=None: True, Node("variable", word))
+
+    def goes_on(self, word):
+        return Node("&&", Node("<", lambda name, own, names=None: True, Node("constant", True)), self.behind("[", word))
+
+    def inevitably(self, x):
+        return Node("mu", "inevitably", Node("||", x, self.goes_on("inevitably")))
+
+    def worded(self, bound):
+        """What a word stands for that stands before an operand, or alone."""
+        word = self.take()
+        if word == "no_deadlock":
+            return Node("nu", word, self.goes_on(word))
+        x = self.node(bound)
+        if word == "always":
+            return Node("nu", word, Node("&&", x, self.behind("[", word)))
+        return Node("mu", word, Node("||", x, self.behind("<", word))) if word == "possibly" else self.inevitably(x)
 
     def node(self, bound):
         word = self.tokens[0]
+        if word in ("always", "possibly", "inevitably", "no_deadlock"):
+            return self.worded(bound)
         if word in ("mu", "nu"):
             name = self.take() and self.take()
             self.take(".")

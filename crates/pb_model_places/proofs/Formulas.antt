@@ -1,5 +1,5 @@
 -- Where formulas go on in the same state: those are places of tokens.
-use Rattle.std.proofs.Common.{ℕ, zero, suc, Bool, true, false, if◌then◌else◌, List, [], ◌∷◌, ◌++◌, subst, inl, inr}
+use Rattle.std.proofs.Common.{◌≡◌, ◌⊎◌, ℕ, zero, suc, Bool, true, false, if◌then◌else◌, List, [], ◌∷◌, ◌++◌, subst, inl, inr, Option}
 use Rattle.std.specs.Prelude.{Contains}
 use Rattle.pb_text_tree.specs.declared.place.Place.{Place}
 use Rattle.pb_text_tree.specs.Form.{TermForm}
@@ -17,10 +17,17 @@ use Rattle.pb_model_tree.specs.declared.formula.Modality.TheVariants as modality
 use Rattle.pb_text_tree.specs.declared.operator.Quantifier.{Quantifier}
 use Rattle.pb_text_tree.specs.declared.operator.Quantifier.TheVariants.{Forall, Exists}
 use Rattle.pb_protocol_tree.specs.Form.{StepSetForm, FormulaForm}
-use Rattle.pb_model_text.specs.Grammar.{IsInstance, SetBegun, united_by, Union, IsSet, IsStepSet, FixpointNames, is_bound, atom_of, Beginning, Atom, Modal, Begun, Binding, FixpointBy, Fixpoint, Binder, Connections, within, IsNode, IsFormula}
+use Rattle.pb_model_text.specs.declared.word.Prefix.{Prefix}
+use Rattle.pb_model_text.specs.declared.word.Prefix.TheVariants as prefix
+use Rattle.pb_model_text.specs.declared.word.Leading.{Leading}
+use Rattle.pb_model_text.specs.declared.word.Leading.TheVariants as leading
+use Rattle.pb_model_text.specs.declared.word.Infix.{Infix}
+use Rattle.pb_model_text.specs.declared.word.Infix.TheVariants as between
+use Rattle.pb_model_text.specs.Words.{leading_of, infix_of, no_deadlock, prefixed, infixed}
+use Rattle.pb_model_text.specs.Grammar.{IsInstance, SetBegun, united_by, Union, IsSet, IsStepSet, FixpointNames, is_bound, atom_of, Beginning, Atom, Modal, Begun, Binding, FixpointBy, Fixpoint, Binder, Connections, Word, Wordless, LedBy, Led, Worded, Joined, within, IsPlain, IsFormula}
 use Rattle.pb_model_places.specs.Apart.{formula_places}
-use Rattle.pb_model_runs.proofs.Elements.{either_of, first_of, in-left, in-right}
-use Rattle.pb_model_places.proofs.Keeping.{Keeps, Skips, no-place, keeps-nothing, keeps-is, skips-is, keeps-one, keeps-bind, skips-of, skip, skips-one, keeps-first, keeps-either, keeps-chained, keeps-placed, keeps-connected}
+use Rattle.pb_model_runs.proofs.Elements.{either_of, first_of, in-left, in-right, in-either}
+use Rattle.pb_model_places.proofs.Keeping.{Keeps, Skips, no-place, keeps-nothing, keeps-is, skips-is, keeps-one, keeps-bind, skips-of, skip, skips-one, keeps-first, keeps-either, keeps-chained, keeps-placed, keeps-connected, keeps-extended}
 use Rattle.pb_model_places.proofs.Terms.{name_places, instance_at, skips-name, skips-variables, skips-term, keeps-instance, keeps-unary, keeps-equated}
 
 -- ---- sets of steps
@@ -133,23 +140,122 @@ keeps-binder Body Formula body formula =
 keeps-connections : (Node Bound : Reads FormulaForm) → Keeps [] formula_places Node → Keeps [] formula_places Bound → Keeps [] formula_places (Connections Node Bound)
 keeps-connections Node Bound node bound = keeps-connected (connected_by FormulaForm.connected) Node Bound formula_places (λ kind x t y p e. e) node bound
 
+-- ---- words
+
+keeps-word : {W : Type 0} (of : List ℕ → Option W) → Keeps [] (λ (word : W × Place). word.1 ∷ []) (Word of)
+keeps-word of s word z h =
+    let a = keeps-one k.Name s h.0 z h.1 in
+    record { front = a.front; tokens = a.tokens; among = λ p e. a.among p (subst (λ q. Contains (q ∷ []) p) h.3 e) }
+
+-- places that are a word's, again and again, or an operand's
+within-word : (q : Place) (f : FormulaForm) (p : Place) → Contains (q ∷ formula_places f ++ q ∷ []) p → Contains (formula_places f ++ q ∷ []) p
+within-word q f p e = elim (either_of q (formula_places f ++ q ∷ []) p e) [
+  | inl same ↦ in-right (formula_places f) (q ∷ []) p (subst (λ r. Contains (q ∷ []) r) same (first_of q []))
+  | inr later ↦ later
+]
+
+prefixed-places : (word : Prefix) (q : Place) (f : FormulaForm) (p : Place) → Contains (formula_places (prefixed word q f)) p → Contains (formula_places f ++ q ∷ []) p
+prefixed-places prefix.Always q f p e = within-word q f p e
+prefixed-places prefix.Possibly q f p e = within-word q f p e
+prefixed-places prefix.Inevitably q f p e = within-word q f p e
+
+no-deadlock-places : (q p : Place) → Contains (formula_places (no_deadlock q)) p → Contains (q ∷ []) p
+no-deadlock-places q p e = elim (either_of q (q ∷ []) p e) [
+  | inl same ↦ subst (λ r. Contains (q ∷ []) r) same (first_of q [])
+  | inr later ↦ later
+]
+
+-- among the places of two operands and that of the word
+among-three : (q : Place) (f g : FormulaForm) (p : Place) → ((q ≡ p) ⊎ Contains (formula_places f) p ⊎ Contains (formula_places g) p) → Contains (formula_places g ++ (formula_places f ++ (q ∷ []))) p
+among-three q f g p (inl same) = in-right (formula_places g) (formula_places f ++ q ∷ []) p (in-right (formula_places f) (q ∷ []) p (subst (λ r. Contains (q ∷ []) r) same (first_of q [])))
+among-three q f g p (inr (inl e)) = in-right (formula_places g) (formula_places f ++ q ∷ []) p (in-left (formula_places f) (q ∷ []) p e)
+among-three q f g p (inr (inr e)) = in-left (formula_places g) (formula_places f ++ q ∷ []) p e
+
+abbrev OneOf : Place → FormulaForm → FormulaForm → Place → Type 0
+OneOf q f g p = (q ≡ p) ⊎ Contains (formula_places f) p ⊎ Contains (formula_places g) p
+
+alone : (q : Place) (f g : FormulaForm) (p : Place) → Contains (q ∷ []) p → OneOf q f g p
+alone q f g p e = elim (either_of q [] p e) [ inl same ↦ inl same | inr none ↦ no-place p none ]
+
+infixed-places : (word : Infix) (q : Place) (f g : FormulaForm) (p : Place) → Contains (formula_places (infixed word q f g)) p → Contains (formula_places g ++ (formula_places f ++ (q ∷ []))) p
+infixed-places between.Until q f g p e = among-three q f g p (elim (either_of q (formula_places g ++ (formula_places f ++ (q ∷ []))) p e) [
+  | inl same ↦ inl same
+  | inr later ↦ elim (in-either (formula_places g) (formula_places f ++ q ∷ []) p later) [
+    | inl second ↦ inr (inr second)
+    | inr rest ↦ elim (in-either (formula_places f) (q ∷ []) p rest) [
+      | inl first ↦ inr (inl first)
+      | inr word ↦ alone q f g p word
+    ]
+  ]
+])
+infixed-places between.LeadsTo q f g p e = among-three q f g p (elim (either_of q (q ∷ (formula_places f ++ (q ∷ (formula_places g ++ (q ∷ []))))) p e) [
+  | inl same ↦ inl same
+  | inr later ↦ elim (either_of q (formula_places f ++ (q ∷ (formula_places g ++ (q ∷ [])))) p later) [
+    | inl same ↦ inl same
+    | inr rest ↦ elim (in-either (formula_places f) (q ∷ (formula_places g ++ (q ∷ []))) p rest) [
+      | inl first ↦ inr (inl first)
+      | inr answer ↦ elim (either_of q (formula_places g ++ q ∷ []) p answer) [
+        | inl same ↦ inl same
+        | inr last ↦ elim (in-either (formula_places g) (q ∷ []) p last) [
+          | inl second ↦ inr (inr second)
+          | inr word ↦ alone q f g p word
+        ]
+      ]
+    ]
+  ]
+])
+
+keeps-wordless : (R : Reads FormulaForm) → Keeps [] formula_places R → Keeps [] formula_places (Wordless R)
+keeps-wordless R r s y z h = r s y z h.1
+
+keeps-led-by : (Operand : Reads FormulaForm) → Keeps [] formula_places Operand → (word : Leading) (q : Place) → Keeps (q ∷ []) formula_places (LedBy Operand word q)
+keeps-led-by Operand operand leading.NoDeadlock q = keeps-is (q ∷ []) formula_places (no_deadlock q) (no-deadlock-places q)
+keeps-led-by Operand operand (leading.Before word) q =
+    keeps-bind Operand _ (q ∷ []) formula_places formula_places operand (λ f. keeps-is (formula_places f ++ q ∷ []) formula_places (prefixed word q f) (prefixed-places word q f))
+
+keeps-worded : (Plain : Reads FormulaForm) → Keeps [] formula_places Plain → Keeps [] formula_places (Worded Plain)
+keeps-worded Plain plain =
+    keeps-either [] formula_places (Wordless Plain) (Led (Wordless Plain)) (keeps-wordless Plain plain)
+    (keeps-bind (Word leading_of) _ [] (λ (word : Leading × Place). word.1 ∷ []) formula_places (keeps-word leading_of)
+    (λ word. keeps-led-by (Wordless Plain) (keeps-wordless Plain plain) word.0 word.1))
+
+keeps-joined : (Node : Reads FormulaForm) → Keeps [] formula_places Node → Keeps [] formula_places (Joined Node)
+keeps-joined Node node =
+    keeps-extended [] formula_places Node _ node
+    (keeps-bind Node _ [] formula_places formula_places node (λ f.
+    keeps-bind (Word infix_of) _ (formula_places f ++ []) (λ (word : Infix × Place). word.1 ∷ []) formula_places (keeps-word infix_of) (λ word.
+    keeps-bind Node _ (word.1 ∷ (formula_places f ++ [])) formula_places formula_places node (λ g.
+    keeps-is (formula_places g ++ (word.1 ∷ (formula_places f ++ []))) formula_places (infixed word.0 word.1 f g) (λ p e.
+    reordered word.1 f g p (infixed-places word.0 word.1 f g p e))))))
+  where
+    reordered : (q : Place) (f g : FormulaForm) (p : Place) → Contains (formula_places g ++ (formula_places f ++ (q ∷ []))) p → Contains (formula_places g ++ (q ∷ (formula_places f ++ []))) p
+    reordered q f g p e = elim (in-either (formula_places g) (formula_places f ++ q ∷ []) p e) [
+      | inl second ↦ in-left (formula_places g) (q ∷ (formula_places f ++ [])) p second
+      | inr rest ↦ in-right (formula_places g) (q ∷ (formula_places f ++ [])) p (elim (in-either (formula_places f) (q ∷ []) p rest) [
+        | inl first ↦ in-right (q ∷ []) (formula_places f ++ []) p (in-left (formula_places f) [] p first)
+        | inr word ↦ in-left (q ∷ []) (formula_places f ++ []) p word
+      ])
+    ]
+
 mutual
-  keeps-node : (scope : FixpointNames) (depth : ℕ) → Keeps [] formula_places (IsNode scope depth)
-  keeps-node scope zero =
+  keeps-plain : (scope : FixpointNames) (depth : ℕ) → Keeps [] formula_places (IsPlain scope depth)
+  keeps-plain scope zero =
       keeps-first [] formula_places _
       (keeps-begun scope Nothing Nothing (IsUnary zero) Nothing (keeps-nothing [] formula_places) (keeps-nothing [] formula_places) (keeps-unary zero) (keeps-nothing [] no_places))
-  keeps-node scope (suc depth) =
+  keeps-plain scope (suc depth) =
       keeps-first [] formula_places _
-      (keeps-begun scope (IsNode scope depth) (IsFormula scope depth) (IsUnary (suc depth)) (IsStepSet depth) (keeps-node scope depth) (keeps-formula scope depth) (keeps-unary (suc depth)) (skips-step-set depth))
+      (keeps-begun scope (Worded (IsPlain scope depth)) (IsFormula scope depth) (IsUnary (suc depth)) (IsStepSet depth)
+      (keeps-worded (IsPlain scope depth) (keeps-plain scope depth)) (keeps-formula scope depth) (keeps-unary (suc depth)) (skips-step-set depth))
 
   pub keeps-formula : (scope : FixpointNames) (depth : ℕ) → Keeps [] formula_places (IsFormula scope depth)
   keeps-formula scope zero =
       keeps-connections _ _
-      (keeps-first [] formula_places _
-      (keeps-begun scope Nothing Nothing (IsUnary zero) Nothing (keeps-nothing [] formula_places) (keeps-nothing [] formula_places) (keeps-unary zero) (keeps-nothing [] no_places)))
+      (keeps-joined _ (keeps-worded _ (keeps-first [] formula_places _
+      (keeps-begun scope Nothing Nothing (IsUnary zero) Nothing (keeps-nothing [] formula_places) (keeps-nothing [] formula_places) (keeps-unary zero) (keeps-nothing [] no_places)))))
       (keeps-binder (λ name. Nothing) Nothing (λ name. keeps-nothing [] formula_places) (keeps-nothing [] formula_places))
   keeps-formula scope (suc depth) =
       keeps-connections _ _
-      (keeps-first [] formula_places _
-      (keeps-begun scope (IsNode scope depth) (IsFormula scope depth) (IsUnary (suc depth)) (IsStepSet depth) (keeps-node scope depth) (keeps-formula scope depth) (keeps-unary (suc depth)) (skips-step-set depth)))
+      (keeps-joined _ (keeps-worded _ (keeps-first [] formula_places _
+      (keeps-begun scope (Worded (IsPlain scope depth)) (IsFormula scope depth) (IsUnary (suc depth)) (IsStepSet depth)
+      (keeps-worded (IsPlain scope depth) (keeps-plain scope depth)) (keeps-formula scope depth) (keeps-unary (suc depth)) (skips-step-set depth)))))
       (keeps-binder (λ name. IsFormula (within scope name) depth) (IsFormula scope depth) (λ name. keeps-formula (within scope name) depth) (keeps-formula scope depth))

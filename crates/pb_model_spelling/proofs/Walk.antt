@@ -1,6 +1,8 @@
 -- A protocol that was read has words.
-use Rattle.std.proofs.Common.{◌≡◌, ℕ, zero, suc, Bool, true, false, List, [], ◌∷◌, map, flat_map, Some, refl, sym, subst, inl}
-use Rattle.std.specs.Prelude.{if◌then◌else◌}
+use Rattle.std.proofs.Common.{◌≡◌, ℕ, zero, suc, Bool, true, false, List, [], ◌∷◌, map, flat_map, Option, Some, refl, sym, subst, inl}
+use Rattle.std.specs.Prelude.{codes, if◌then◌else◌}
+use Rattle.pb_text_lexer.specs.Bytes.{word_kind}
+use Rattle.pb_text_lexer.specs.Kinds.{same_kind}
 use Rattle.std.specs.List.{slice_get}
 use Rattle.pb_text_tree.specs.declared.place.Place.{Place}
 use Rattle.pb_text_tree.specs.declared.operator.Quantifier.{Quantifier}
@@ -28,7 +30,14 @@ use Rattle.pb_model_tree.specs.declared.formula.Modality.TheVariants as modality
 use Rattle.pb_model_tree.specs.Form.{InitialForm}
 use Rattle.pb_protocol_tree.specs.Form.{StepSetForm, FormulaForm, StateVariableForm, DefinitionForm, AssignmentForm, StepForm, PropertyForm, ProtocolForm}
 use Rattle.pb_protocol_meaning.specs.Erase.{erased_formula, erased_state_variable, erased_definition, erased_assignment, erased_step, erased_property, erase}
-use Rattle.pb_model_text.specs.Grammar.{IsInstance, SetBegun, united_by, IsSet, IsStepSet, atom_of, FixpointNames, is_bound, Beginning, Atom, Modal, Begun, Binding, FixpointBy, Fixpoint, Binder, Connections, within, IsNode, IsFormula, Indexed, of_sort, StateGroup, StateVariables, IsDefinition, DefinedBy, Definitions, IsAssignment, AssignedBy, Assigned, IsStep, Steps, IsInitialState, IsProperty, Properties, IsModel}
+use Rattle.pb_model_text.specs.declared.word.Prefix.{Prefix}
+use Rattle.pb_model_text.specs.declared.word.Prefix.TheVariants as prefix
+use Rattle.pb_model_text.specs.declared.word.Leading.{Leading}
+use Rattle.pb_model_text.specs.declared.word.Leading.TheVariants as leading
+use Rattle.pb_model_text.specs.declared.word.Infix.{Infix}
+use Rattle.pb_model_text.specs.declared.word.Infix.TheVariants as between
+use Rattle.pb_model_text.specs.Words.{leading_of, infix_of, prefixed, infixed}
+use Rattle.pb_model_text.specs.Grammar.{IsInstance, SetBegun, united_by, IsSet, IsStepSet, atom_of, FixpointNames, is_bound, Beginning, Atom, Modal, Begun, Binding, FixpointBy, Fixpoint, Binder, Connections, Word, Wordless, LedBy, Led, Worded, Joined, within, IsPlain, IsFormula, Indexed, of_sort, StateGroup, StateVariables, IsDefinition, DefinedBy, Definitions, IsAssignment, AssignedBy, Assigned, IsStep, Steps, IsInitialState, IsProperty, Properties, IsModel}
 use Rattle.pb_model_spelling.specs.Writable.{IsWord, VariableWritable, TermWritable, AllWritable}
 use Rattle.pb_model_spelling.specs.Protocols.{FormulaWritable, PropertyWritable, StateVariableWritable, DefinitionWritable, AssignmentWritable, StepWritable, ProtocolWritable}
 use Rattle.pb_model_spelling.specs.Laws.{ReadProtocolsAreWritable, ReadProtocolsHaveProperties}
@@ -204,21 +213,80 @@ connections_given Node Bound node bound =
     let disjunction_end = gives_chained HasWords k.Or (join k.Or) (Conjunction join Node Node) (Conjunction join Node Open) (λ x t y h i. (h, i)) conjunction conjunction_end in
     gives_chained HasWords k.Implies (join k.Implies) (Disjunction join Node Node) (Disjunction join Node Open) (λ x t y h i. (h, i)) disjunction disjunction_end
 
+-- ---- words
+
+word_given : {W : Type 0} (of : List ℕ → Option W) → Gives Any (Word of)
+word_given of s x z r h = gives_one k.Name s r.0 z r.1 h
+
+always_word : IsWord (codes "always")
+unfolding word_kind same_kind
+always_word = refl
+
+possibly_word : IsWord (codes "possibly")
+unfolding word_kind same_kind
+possibly_word = refl
+
+inevitably_word : IsWord (codes "inevitably")
+unfolding word_kind same_kind
+inevitably_word = refl
+
+no_deadlock_word : IsWord (codes "no_deadlock")
+unfolding word_kind same_kind
+no_deadlock_word = refl
+
+until_word : IsWord (codes "until")
+unfolding word_kind same_kind
+until_word = refl
+
+leads_to_word : IsWord (codes "leads_to")
+unfolding word_kind same_kind
+leads_to_word = refl
+
+prefixed_words : (word : Prefix) (p : Place) (f : FormulaForm) → HasWords f → HasWords (prefixed word p f)
+prefixed_words prefix.Always p f h = (always_word, (h, tt))
+prefixed_words prefix.Possibly p f h = (possibly_word, (h, tt))
+prefixed_words prefix.Inevitably p f h = (inevitably_word, (h, (tt, tt)))
+
+infixed_words : (word : Infix) (p : Place) (f g : FormulaForm) → HasWords f → HasWords g → HasWords (infixed word p f g)
+infixed_words between.Until p f g h i = (until_word, (i, (h, (tt, tt))))
+infixed_words between.LeadsTo p f g h i = (leads_to_word, (tt, (h, (inevitably_word, (i, (tt, tt))))))
+
+wordless_given : (R : Reads FormulaForm) → Gives HasWords R → Gives HasWords (Wordless R)
+wordless_given R gives s x z r h = gives s x z r.1 h
+
+led_by_given : (Operand : Reads FormulaForm) → Gives HasWords Operand → (word : Leading) (p : Place) → Gives HasWords (LedBy Operand word p)
+led_by_given Operand operand leading.NoDeadlock p = gives_is HasWords _ (no_deadlock_word, (tt, tt))
+led_by_given Operand operand (leading.Before word) p = gives_then HasWords HasWords _ _ operand (λ f h. gives_is HasWords _ (prefixed_words word p f h))
+
+worded_given : (Plain : Reads FormulaForm) → Gives HasWords Plain → Gives HasWords (Worded Plain)
+worded_given Plain plain =
+    gives_either HasWords (Wordless Plain) (Led (Wordless Plain)) (wordless_given Plain plain)
+    (gives_then Any HasWords _ _ (word_given leading_of) (λ word u. led_by_given (Wordless Plain) (wordless_given Plain plain) word.0 word.1))
+
+joined_given : (Node : Reads FormulaForm) → Gives HasWords Node → Gives HasWords (Joined Node)
+joined_given Node node =
+    gives_extended HasWords Node _ node (λ f h. gives_then Any HasWords _ _ (word_given infix_of) (λ word u.
+    gives_then HasWords HasWords _ _ node (λ g i. gives_is HasWords _ (infixed_words word.0 word.1 f g h i))))
+
 mutual
-  node_given : (scope : FixpointNames) (depth : ℕ) → Gives HasWords (IsNode scope depth)
-  node_given scope zero = first_formula scope Nothing Nothing (IsUnary zero) Nothing (gives_nothing HasWords) (gives_nothing HasWords) (unary_given zero) (equated_given zero) (gives_nothing Any)
-  node_given scope (suc depth) =
-      first_formula scope (IsNode scope depth) (IsFormula scope depth) (IsUnary (suc depth)) (IsStepSet depth)
-      (node_given scope depth) (formula_given scope depth) (unary_given (suc depth)) (equated_given (suc depth)) (steps_given depth)
+  plain_given : (scope : FixpointNames) (depth : ℕ) → Gives HasWords (IsPlain scope depth)
+  plain_given scope zero = first_formula scope Nothing Nothing (IsUnary zero) Nothing (gives_nothing HasWords) (gives_nothing HasWords) (unary_given zero) (equated_given zero) (gives_nothing Any)
+  plain_given scope (suc depth) =
+      first_formula scope (Worded (IsPlain scope depth)) (IsFormula scope depth) (IsUnary (suc depth)) (IsStepSet depth)
+      (worded_given (IsPlain scope depth) (plain_given scope depth)) (formula_given scope depth) (unary_given (suc depth)) (equated_given (suc depth)) (steps_given depth)
 
   formula_given : (scope : FixpointNames) (depth : ℕ) → Gives HasWords (IsFormula scope depth)
   formula_given scope zero =
-      connections_given (First (Begun scope Nothing Nothing (IsUnary zero) Nothing)) (Binder (λ name. Nothing) Nothing)
-      (first_formula scope Nothing Nothing (IsUnary zero) Nothing (gives_nothing HasWords) (gives_nothing HasWords) (unary_given zero) (equated_given zero) (gives_nothing Any)) (binder_given (λ name. Nothing) Nothing (λ name. gives_nothing HasWords) (gives_nothing HasWords))
+      connections_given (Joined (Worded (First (Begun scope Nothing Nothing (IsUnary zero) Nothing)))) (Binder (λ name. Nothing) Nothing)
+      (joined_given _ (worded_given _
+      (first_formula scope Nothing Nothing (IsUnary zero) Nothing (gives_nothing HasWords) (gives_nothing HasWords) (unary_given zero) (equated_given zero) (gives_nothing Any))))
+      (binder_given (λ name. Nothing) Nothing (λ name. gives_nothing HasWords) (gives_nothing HasWords))
   formula_given scope (suc depth) =
-      connections_given (First (Begun scope (IsNode scope depth) (IsFormula scope depth) (IsUnary (suc depth)) (IsStepSet depth))) (Binder (λ name. IsFormula (within scope name) depth) (IsFormula scope depth))
-      (first_formula scope (IsNode scope depth) (IsFormula scope depth) (IsUnary (suc depth)) (IsStepSet depth)
-      (node_given scope depth) (formula_given scope depth) (unary_given (suc depth)) (equated_given (suc depth)) (steps_given depth))
+      connections_given (Joined (Worded (First (Begun scope (Worded (IsPlain scope depth)) (IsFormula scope depth) (IsUnary (suc depth)) (IsStepSet depth)))))
+      (Binder (λ name. IsFormula (within scope name) depth) (IsFormula scope depth))
+      (joined_given _ (worded_given _
+      (first_formula scope (Worded (IsPlain scope depth)) (IsFormula scope depth) (IsUnary (suc depth)) (IsStepSet depth)
+      (worded_given (IsPlain scope depth) (plain_given scope depth)) (formula_given scope depth) (unary_given (suc depth)) (equated_given (suc depth)) (steps_given depth))))
       (binder_given (λ name. IsFormula (within scope name) depth) (IsFormula scope depth) (λ name. formula_given (within scope name) depth) (formula_given scope depth))
 
 -- ---- steps, the initial state, properties

@@ -1,5 +1,6 @@
 -- Formulas are read rightly.
-use Rattle.std.proofs.Common.{◌≡◌, ℕ, zero, suc, ◌≤◌, Bool, true, false, ◌||◌, List, [], ◌∷◌, refl, sym, ◌∙◌, subst, arith, ◌⊎◌, inl, inr}
+use Rattle.std.specs.Prelude.{codes, is_some}
+use Rattle.std.proofs.Common.{◌≡◌, ℕ, zero, suc, ◌≤◌, Bool, true, false, ◌&&◌, ◌||◌, Some, List, [], ◌∷◌, refl, sym, ap, ◌∙◌, subst, arith, ◌⊎◌, inl, inr}
 use Rattle.std.specs.Str.Parse.{digits_value}
 use Rattle.pb_text_tree.specs.declared.place.Place.{Place}
 use Rattle.pb_text_tree.specs.Form.{TermForm, no_arguments}
@@ -10,6 +11,9 @@ use Rattle.pb_text_lexer.specs.declared.fault.ReadingRule.TheVariants.{Limit}
 use Rattle.pb_text_lexer.specs.declared.kind.Kind.{Kind}
 use Rattle.pb_text_lexer.specs.declared.kind.Kind.TheVariants as k
 use Rattle.pb_text_lexer.specs.Kinds.{same_kind, is_last}
+use Rattle.pb_text_lexer.specs.Lexing.{start}
+use Rattle.pb_text_lexer.specs.Steps.{extended}
+use Rattle.pb_text_lexer.proofs.TokenLemmas.{kind-same, same-kind}
 use Rattle.pb_text_lexer.specs.Grammar.{State, Reads, Is, One, First}
 use Rattle.pb_text_lexer.specs.Grammar as grammar
 use Rattle.pb_text_lexer.specs.OpenGrammar.{last, Connected}
@@ -17,21 +21,28 @@ use Rattle.pb_text_lexer.specs.Steps.{Step, pure, take_token, expect, refuse, un
 use Rattle.pb_text_lexer.specs.Steps as step
 use Rattle.pb_text_lexer.specs.Tokens.{Tok}
 use Rattle.pb_text_lexer.proofs.Correct.{st, Family, Stops, never, readable-is, readable-one, some-token, Answering, Correct, then-correct, HeadIs, take-correct, expect-correct, refused-here, Free, Readable, goes-free, free-to, free-then, free-one}
-use Rattle.pb_text_lexer.proofs.CorrectFamilies.{readable-first, readable-deeper, Nowhere, first-correct, deeper, deeper-correct, alike-correct, to-first}
-use Rattle.pb_text_lexer.proofs.CorrectSeries.{going, Passes, head-at}
+use Rattle.pb_text_lexer.proofs.CorrectFamilies.{readable-deeper, Nowhere, first-correct, deeper, deeper-correct, alike-correct, to-first}
+use Rattle.pb_text_lexer.proofs.CorrectSeries.{going, Passes, head-at, passes-at}
 use Rattle.pb_text_lexer.proofs.CorrectPlain.{Always, anywhere, then-plain, leaf-correct, is-correct, nothing-correct}
-use Rattle.pb_text_lexer.proofs.CorrectLeft.{unless_next-answers, unless_next-correct, going-alike-answers}
-use Rattle.pb_text_lexer.proofs.CorrectEither.{Not, connects, connected-correct}
+use Rattle.pb_text_lexer.proofs.CorrectLeft.{unless_next-answers, unless_next-correct, going-alike-answers, extended-correct}
+use Rattle.pb_text_lexer.proofs.CorrectEither.{Not, IsBelow, connects, connected-correct}
 use Rattle.pb_text_terms.specs.Grammar.{Name, Instance, applied, Placed, Equated, IsUnary, IsTerm}
 use Rattle.pb_text_terms.specs.Operators.{connected_by, is_quantifier, is_equality, is_order, is_additive, is_times, is_division}
 use Rattle.pb_text_terms.specs.Reading.{is_open, placed, equated, unary}
 use Rattle.pb_text_terms.proofs.CorrectVariable.{head-kind-is, head-limited, said-correct, stops-at-kind}
-use Rattle.pb_text_terms.proofs.CorrectOperators.{below-connectives, equated_goes, equateds, unary_goes}
+use Rattle.pb_text_terms.proofs.CorrectOperators.{equated_goes, equateds, unary_goes}
 use Rattle.pb_text_terms.proofs.CorrectInstance.{placed-correct}
 use Rattle.pb_text_terms.proofs.CorrectTerm.{unary-correct}
 use Rattle.pb_text_terms.proofs.TermStarts as terms
-use Rattle.pb_model_text.specs.Grammar.{FixpointNames, atom_of, Beginning, Atom, Modal, Begun, within, IsStepSet, IsNode, IsFormula}
-use Rattle.pb_model_text.specs.Reading.{is_binder, goes_on, atom, modal, begun, data_operand, step_set, binder_over, node, formula}
+use Rattle.pb_text_formulas.specs.Reading.{is_name_kind}
+use Rattle.pb_model_text.specs.declared.word.Leading.{Leading}
+use Rattle.pb_model_text.specs.declared.word.Leading.TheVariants as leading
+use Rattle.pb_model_text.specs.declared.word.Prefix.TheVariants as prefix
+use Rattle.pb_model_text.specs.declared.word.Infix.TheVariants as between
+use Rattle.pb_model_text.specs.Words.{leading_of, infix_of, is_word, no_deadlock, prefixed, infixed}
+use Rattle.pb_model_text.specs.Grammar.{FixpointNames, atom_of, Beginning, Atom, Modal, Begun, Word, begins_word, Wordless, LedBy, Led, Joined, within, IsStepSet, IsPlain, IsNode, IsFormula}
+use Rattle.pb_model_text.specs.Reading.{is_binder, goes_on, atom, modal, begun, data_operand, step_set, binder_over, take_word, wordless, led_by, led, joined_by, plain, node, item, formula}
+use Rattle.pb_model_text.proofs.CorrectWords.{HasWord, word-correct, wordless-answers, wordless-correct, by-word-correct}
 use Rattle.pb_model_text.proofs.CorrectStepSets.{sets_go, readable-sets, step_set-correct}
 use Rattle.pb_model_text.proofs.CorrectBeginning.{beginning-answers}
 use Rattle.pb_model_text.proofs.CorrectBinder.{binders, binder-starts, binder-correct, binder-last}
@@ -40,8 +51,20 @@ use Rattle.pb_model_text.proofs.CorrectBinder.{binders, binder-starts, binder-co
 abbrev pub node_goes : Kind → Bool
 node_goes = equated_goes
 
+-- and with nodes with words between them: another word too
+abbrev pub item_goes : Kind → Bool
+item_goes = going node_goes is_name_kind
+
 abbrev pub formula_goes : Kind → Bool
-formula_goes = connects node_goes
+formula_goes = connects item_goes
+
+below-item : IsBelow item_goes
+unfolding same_kind
+below-item = record { conjunction = refl; disjunction = refl; implication = refl }
+
+no-name : node_goes k.Name ≡ false
+unfolding same_kind
+no-name = refl
 
 -- ---- data
 
@@ -149,19 +172,22 @@ module _ (scope : FixpointNames) where
   abbrev kinds : ℕ → Kind → Reads FormulaForm
   kinds d = Begun scope (deeper (IsNode scope) d) (deeper (IsFormula scope) d) (IsUnary d) (deeper IsStepSet d)
 
-  to-node : (d : ℕ) (s : State) (y : FormulaForm) (z : State) → First (kinds d) s y z → IsNode scope d s y z
-  to-node zero s y z r = r
-  to-node (suc d) s y z r = r
+  to-plain : (d : ℕ) (s : State) (y : FormulaForm) (z : State) → First (kinds d) s y z → IsPlain scope d s y z
+  to-plain zero s y z r = r
+  to-plain (suc d) s y z r = r
 
-  from-node : (d : ℕ) (s : State) (y : FormulaForm) (z : State) → IsNode scope d s y z → First (kinds d) s y z
-  from-node zero s y z r = r
-  from-node (suc d) s y z r = r
+  from-plain : (d : ℕ) (s : State) (y : FormulaForm) (z : State) → IsPlain scope d s y z → First (kinds d) s y z
+  from-plain zero s y z r = r
+  from-plain (suc d) s y z r = r
+
+  abbrev items : Family FormulaForm
+  items d = Joined (IsNode scope d)
 
   abbrev bound : Family FormulaForm
   bound = binders (λ name. IsFormula (within scope name)) (IsFormula scope) formula_goes
 
   abbrev connecteds : Family FormulaForm
-  connecteds d = Connected (connected_by FormulaForm.connected) (IsNode scope d) (bound d)
+  connecteds d = Connected (connected_by FormulaForm.connected) (items d) (bound d)
 
   to-formula : (d : ℕ) (s : State) (y : FormulaForm) (z : State) → connecteds d s y z → IsFormula scope d s y z
   to-formula zero s y z r = r
@@ -194,16 +220,28 @@ module _ (scope : FixpointNames) where
   readable-true level =
       free-then (λ d. One k.True) (λ word d. Is (FormulaForm.constant word.place true)) level [] (readable-one k.True level) (λ word. readable-is (FormulaForm.constant word.place true) level)
 
+  abbrev withouts : Family FormulaForm
+  withouts d = Wordless (IsPlain scope d)
+
+  no-word-first : (after : List Tok) → begins_word (some-token k.True ∷ after) ≡ false
+  unfolding same_kind
+  no-word-first after = refl
+
+  readable-without : (level : ℕ) → Readable withouts level
+  readable-without level = record {
+    tail = some-token k.True ∷ [];
+    value = FormulaForm.constant start true;
+    reads = λ n after. (no-word-first after, to-plain level (st (some-token k.True ∷ after) n) (FormulaForm.constant start true) (st after n) (some-token k.True, st after n, (refl, refl, refl), (refl, refl)));
+  }
+
   readable-node : (level : ℕ) → Readable (IsNode scope) level
-  readable-node level =
-      free-to (λ d. First (kinds d)) (IsNode scope) (λ x. x) level level (to-node level) []
-      (readable-first kinds never 0 starts k.True level (readable-true level))
+  readable-node level = free-to withouts (IsNode scope) (λ x. x) level level (λ s y z r. inl r) [] (readable-without level)
 
   pub readable-formula : (level : ℕ) → Readable (IsFormula scope) level
   readable-formula level = free-to (IsNode scope) (IsFormula scope) (λ x. x) level level single [] (readable-node level)
     where
       single : (s : State) (y : FormulaForm) (z : State) → IsNode scope level s y z → IsFormula scope level s y z
-      single s y z r = to-formula level s y z (last (last (last (inl r))))
+      single s y z r = to-formula level s y z (last (last (last (inl (inl r)))))
 
   -- ---- where no level may open
 
@@ -319,71 +357,147 @@ module _ (scope : FixpointNames) where
     at-each k.Minus = inl (atom-answers FormulaForm.«data» k.Minus (suc depth) (free-minus (suc depth) (some-token k.Minus) refl))
     at-each kind = inr nothing-correct
 
-    node-over : Correct Always (node scope (suc depth)) (IsNode scope) node_goes (suc depth)
-    unfolding node
-    node-over =
-        alike-correct Always (node scope (suc depth)) (λ d. First (kinds d)) (IsNode scope) node_goes (suc depth) to-node from-node
+    plain-over : Correct Always (plain scope (suc depth)) (IsPlain scope) node_goes (suc depth)
+    unfolding plain
+    plain-over =
+        alike-correct Always (plain scope (suc depth)) (λ d. First (kinds d)) (IsPlain scope) node_goes (suc depth) to-plain from-plain
         (first-correct kinds node_goes (suc depth) starts begun-over at-each k.True (readable-true (suc depth)) (readable-true (suc (suc depth))))
 
-  node-last : Correct Always (node scope 0) (IsNode scope) node_goes 0
-  unfolding node
-  node-last =
-      alike-correct Always (node scope 0) (λ d. First (kinds d)) (IsNode scope) node_goes 0 to-node from-node
+  plain-last : Correct Always (plain scope 0) (IsPlain scope) node_goes 0
+  unfolding plain
+  plain-last =
+      alike-correct Always (plain scope 0) (λ d. First (kinds d)) (IsPlain scope) node_goes 0 to-plain from-plain
       (first-correct kinds node_goes 0 starts begun-last at-last k.True (readable-true 0) (readable-true 1))
+
+  -- ---- words
+
+  -- a plain one begins with no binder's word
+  plain-starts : (d : ℕ) (s : State) (y : FormulaForm) (z : State) → IsPlain scope d s y z → Passes (Not is_binder) s.tokens
+  plain-starts d s y z r = at s.tokens s.operators (from-plain d s y z r)
+    where
+      begun-plain : (kind : Kind) (s : State) → kinds d kind s y z → Not is_binder kind ≡ true
+      begun-plain k.Not s r = refl
+      begun-plain k.Open s r = refl
+      begun-plain k.OpenSquare s r = refl
+      begun-plain k.Less s r = refl
+      begun-plain k.True s r = refl
+      begun-plain k.False s r = refl
+      begun-plain k.Val s r = refl
+      begun-plain k.Name s r = refl
+      begun-plain k.Number s r = refl
+      begun-plain k.Minus s r = refl
+      begun-plain _ s r = absurd r
+
+      at : (ts : List Tok) (n : ℕ) → First (kinds d) (st ts n) y z → Passes (Not is_binder) ts
+      at [] n r = r
+      at (t ∷ ts) n r = begun-plain t.kind (st (t ∷ ts) n) r
+
+  plain-some : (d : ℕ) (s : State) (y : FormulaForm) (z : State) → IsPlain scope d s y z → Passes (λ kind. true) s.tokens
+  plain-some d s y z r = some-token-of s.tokens (plain-starts d s y z r)
+    where
+      some-token-of : (ts : List Tok) → Passes (Not is_binder) ts → Passes (λ kind. true) ts
+      some-token-of [] h = h
+      some-token-of (t ∷ ts) h = refl
+
+  always-word : HasWord leading_of
+  always-word = record { text = codes "always"; word = leading.Before prefix.Always; tells = refl }
+
+  until-word : HasWord infix_of
+  until-word = record { text = codes "until"; word = between.Until; tells = refl }
+
+  led-starts : (d : ℕ) (s : State) (y : FormulaForm) (z : State) → Led (withouts d) s y z → begins_word s.tokens ≡ true
+  led-starts d s y z r = at r.2.0 s.tokens r.1.tokens r.0.0 r.2.1.0 r.2.1.1 r.2.2
+    where
+      at : (t : Tok) (ts us : List Tok) (w : Leading) → ts ≡ t ∷ us → t.kind ≡ k.Name → leading_of t.text ≡ Some w → begins_word ts ≡ true
+      at t ts us w e is tells =
+          let name : same_kind t.kind k.Name ≡ true = ap (λ v. same_kind v k.Name) is ∙ same-kind k.Name in
+          ap begins_word e ∙ ap (λ b. b && is_word t.text) name ∙ ap (λ v. is_some v || is_some (infix_of t.text)) tells
+
+  module _ (depth : ℕ) (right : Correct Always (plain scope depth) (IsPlain scope) node_goes depth) where
+    without-correct : Correct Always (wordless (plain scope depth)) withouts node_goes depth
+    without-correct = wordless-correct (IsPlain scope) node_goes depth plain-some (readable-without depth) (readable-without (suc depth)) (plain scope depth) right.answers
+
+    led-by-correct : (word : Leading) (place : Place) → Correct Always (led_by (wordless (plain scope depth)) word place) (λ d. LedBy (withouts d) word place) node_goes depth
+    led-by-correct leading.NoDeadlock place =
+        closed-correct Always (pure (no_deadlock place)) (λ d. Is (no_deadlock place)) depth (is-correct (no_deadlock place) depth)
+    led-by-correct (leading.Before which) place =
+        said-correct withouts (λ x. prefixed which place x) node_goes depth Always (wordless (plain scope depth)) without-correct
+
+    led-correct : Correct Always (led (wordless (plain scope depth))) (λ d. Led (withouts d)) node_goes depth
+    led-correct =
+        then-plain (λ d. Word leading_of) (λ word d. LedBy (withouts d) word.0 word.1) node_goes depth Always (take_word leading_of) (λ word. led_by (wordless (plain scope depth)) word.0 word.1)
+        (word-correct leading_of always-word depth) (λ word. led-by-correct word.0 word.1)
+
+    node-correct : Correct Always (node scope depth) (IsNode scope) node_goes depth
+    node-correct =
+        by-word-correct withouts (λ d. Led (withouts d)) node_goes depth (λ d s y z r. r.0) led-starts (plain scope depth) (led (wordless (plain scope depth)))
+        (wordless-answers (IsPlain scope) node_goes depth plain-some (readable-without depth) (readable-without (suc depth)) (plain scope depth) right.answers)
+        led-correct.answers (readable-without depth) (readable-without (suc depth))
+
+    -- a word between two nodes
+    abbrev beyond : FormulaForm → Family FormulaForm
+    beyond x d = grammar.◌>>=◌ (Word infix_of) (λ word. grammar.◌>>=◌ (IsNode scope d) (λ y. Is (infixed word.0 word.1 x y)))
+
+    beyond-starts : (d : ℕ) (x : FormulaForm) (m : State) (y : FormulaForm) (z : State) → beyond x d m y z → Passes is_name_kind m.tokens
+    beyond-starts d x m y z r = passes-at is_name_kind m.tokens r.1.tokens r.2.0 r.2.1.0 (ap is_name_kind r.2.1.1 ∙ same-kind k.Name)
+
+    joined-by-correct : (x : FormulaForm) → Correct Always (joined_by (node scope depth) x) (beyond x) node_goes depth
+    joined-by-correct x =
+        then-plain (λ d. Word infix_of) (λ word d. grammar.◌>>=◌ (IsNode scope d) (λ y. Is (infixed word.0 word.1 x y))) node_goes depth Always (take_word infix_of)
+        (λ word. step.◌>>=◌ (node scope depth) (λ y. pure (infixed word.0 word.1 x y))) (word-correct infix_of until-word depth)
+        (λ word. said-correct (IsNode scope) (λ y. infixed word.0 word.1 x y) node_goes depth Always (node scope depth) node-correct)
+
+    item-correct : Correct Always (item scope depth) items item_goes depth
+    item-correct =
+        extended-correct (IsNode scope) beyond node_goes is_name_kind depth (λ kind h. ap node_goes (kind-same kind k.Name h) ∙ no-name) beyond-starts Always (node scope depth) node-correct
+        (λ x. unless_next is_name_kind (joined_by (node scope depth) x))
+        (λ x. unless_next-answers (beyond x) node_goes is_name_kind depth (Passes is_name_kind) (joined_by (node scope depth) x)
+        (anywhere (Passes is_name_kind) (joined_by (node scope depth) x) (beyond x) node_goes depth (joined-by-correct x)).answers)
 
   -- ---- the connectives
 
   -- a node begins with no binder's word
   node-starts : (d : ℕ) (s : State) (y : FormulaForm) (z : State) → IsNode scope d s y z → Passes (Not is_binder) s.tokens
-  node-starts d s y z r = at s.tokens s.operators (from-node d s y z r)
-    where
-      plain : (kind : Kind) (s : State) → kinds d kind s y z → Not is_binder kind ≡ true
-      plain k.Not s r = refl
-      plain k.Open s r = refl
-      plain k.OpenSquare s r = refl
-      plain k.Less s r = refl
-      plain k.True s r = refl
-      plain k.False s r = refl
-      plain k.Val s r = refl
-      plain k.Name s r = refl
-      plain k.Number s r = refl
-      plain k.Minus s r = refl
-      plain _ s r = absurd r
+  node-starts d s y z (inl r) = plain-starts d s y z r.1
+  node-starts d s y z (inr r) = passes-at (Not is_binder) s.tokens r.1.tokens r.2.0 r.2.1.0 (ap (Not is_binder) r.2.1.1)
 
-      at : (ts : List Tok) (n : ℕ) → First (kinds d) (st ts n) y z → Passes (Not is_binder) ts
-      at [] n r = r
-      at (t ∷ ts) n r = plain t.kind (st (t ∷ ts) n) r
+  item-starts : (d : ℕ) (s : State) (y : FormulaForm) (z : State) → items d s y z → Passes (Not is_binder) s.tokens
+  item-starts d s y z (inl r) = node-starts d s y z r
+  item-starts d s y z (inr r) = node-starts d s r.0 r.1 r.2
 
-  connections-correct : (depth : ℕ) (n q : Step FormulaForm) → Correct Always n (IsNode scope) node_goes depth → Answering (Passes is_binder) q bound formula_goes depth
+  connections-correct : (depth : ℕ) (n q : Step FormulaForm) → Correct Always n items item_goes depth → Answering (Passes is_binder) q bound formula_goes depth
       → Correct Always (connected (connected_by FormulaForm.connected) is_binder n q) (IsFormula scope) formula_goes depth
   connections-correct depth n q right-n right-q =
       alike-correct Always (connected (connected_by FormulaForm.connected) is_binder n q) connecteds (IsFormula scope) formula_goes depth to-formula from-formula
-      (connected-correct (connected_by FormulaForm.connected) (IsNode scope) bound node_goes is_binder depth below-connectives node-starts (binder-starts (λ name. IsFormula (within scope name)) (IsFormula scope) formula_goes) n q right-n right-q)
+      (connected-correct (connected_by FormulaForm.connected) items bound item_goes is_binder depth below-item item-starts (binder-starts (λ name. IsFormula (within scope name)) (IsFormula scope) formula_goes) n q right-n right-q)
 
 formulas-last : (scope : FixpointNames) → Correct Always (formula scope 0) (IsFormula scope) formula_goes 0
-unfolding node formula
+unfolding plain formula
 formulas-last scope =
-    connections-correct scope 0 (node scope 0) (binder_over (refuse Limit) (λ name. refuse Limit) (refuse Limit)) (node-last scope)
+    connections-correct scope 0 (item scope 0) (binder_over (refuse Limit) (λ name. refuse Limit) (refuse Limit)) (item-correct scope 0 (plain-last scope))
     (binder-last (λ name. IsFormula (within scope name)) (IsFormula scope) formula_goes (λ name. readable-formula (within scope name) 0) (readable-formula scope 0) (λ name. refuse Limit) (refuse Limit))
 
-formulas-over : (scope : FixpointNames) (depth : ℕ) → Correct Always (node scope (suc depth)) (IsNode scope) node_goes (suc depth)
+formulas-over : (scope : FixpointNames) (depth : ℕ) → Correct Always (plain scope (suc depth)) (IsPlain scope) node_goes (suc depth)
     → Correct Always (formula scope depth) (IsFormula scope) formula_goes depth
     → ((name : List ℕ) → Correct Always (formula (within scope name) depth) (IsFormula (within scope name)) formula_goes depth)
     → Correct Always (formula scope (suc depth)) (IsFormula scope) formula_goes (suc depth)
-unfolding node formula
+unfolding plain formula
 formulas-over scope depth n inner f =
-    connections-correct scope (suc depth) (node scope (suc depth)) (binder_over take_token (λ name. formula (within scope name) depth) (formula scope depth)) n
+    connections-correct scope (suc depth) (item scope (suc depth)) (binder_over take_token (λ name. formula (within scope name) depth) (formula scope depth)) (item-correct scope (suc depth) n)
     (binder-correct (λ name. IsFormula (within scope name)) (IsFormula scope) formula_goes depth (λ name. formula (within scope name) depth) (formula scope depth) f inner)
 
 -- both, so many levels being open to them, in any scope
 pub record AreCorrect (depth : ℕ) : Type 0 where
-  pub nodes : (scope : FixpointNames) → Correct Always (node scope depth) (IsNode scope) node_goes depth
+  pub plains : (scope : FixpointNames) → Correct Always (plain scope depth) (IsPlain scope) node_goes depth
   pub formulas : (scope : FixpointNames) → Correct Always (formula scope depth) (IsFormula scope) formula_goes depth
 
+abbrev plain-more : (depth : ℕ) → AreCorrect depth → (scope : FixpointNames) → Correct Always (plain scope (suc depth)) (IsPlain scope) node_goes (suc depth)
+plain-more depth less scope = plain-over scope depth (node-correct scope depth (less.plains scope)) (less.formulas scope)
+
 pub formulas-correct : (depth : ℕ) → AreCorrect depth
-formulas-correct zero = record { nodes = node-last; formulas = formulas-last }
+formulas-correct zero = record { plains = plain-last; formulas = formulas-last }
 formulas-correct (suc depth) =
     let less = formulas-correct depth in record {
-      nodes = λ scope. node-over scope depth (less.nodes scope) (less.formulas scope);
-      formulas = λ scope. formulas-over scope depth (node-over scope depth (less.nodes scope) (less.formulas scope)) (less.formulas scope) (λ name. less.formulas (within scope name));
+      plains = plain-more depth less;
+      formulas = λ scope. formulas-over scope depth (plain-more depth less scope) (less.formulas scope) (λ name. less.formulas (within scope name));
     }

@@ -30,12 +30,12 @@ use Rattle.pb_text_terms.specs.Reading as terms
 use Rattle.pb_text_terms.proofs.ReadLemmas.{below-is, resumed-alone-or-fails, no-connective}
 use Rattle.pb_model_text.specs.Grammar.{FixpointNames, within}
 use Rattle.pb_model_text.specs.Links.{link_form, link_forms}
-use Rattle.pb_model_text.specs.Reading.{begun, modal, opening_kind, closing, modal_steps, data_operand, goes_on, binding, step_set, sign_of, is_fixpoint, is_binder, node, formula, fixpoint, quantification, primary, operand, level}
+use Rattle.pb_model_text.specs.Reading.{begun, modal, opening_kind, closing, modal_steps, data_operand, goes_on, binding, step_set, sign_of, is_fixpoint, is_binder, plain, node, item, formula, fixpoint, quantification, primary, operand, level}
 
 -- a level is a chain of its operands
 pub level-chain : (c : Connective) (scope : FixpointNames) (depth : ℕ) (s : State)
     → level c scope depth s ≡ chain (symbol c) (placed (symbol c) (FormulaForm.connected c) (operand c scope depth)) (operand c scope depth) (suc (length s.tokens)) s
-unfolding node formula fixpoint quantification
+unfolding plain formula fixpoint quantification
 level-chain And scope depth s = refl
 level-chain Or scope depth s = refl
 level-chain Implies scope zero s = refl
@@ -59,12 +59,12 @@ begun-other scope enter below inner term sets k.Number a b c d e f g h i j = abs
 begun-other scope enter below inner term sets k.Minus a b c d e f g h i j = absurd (j refl)
 begun-other scope enter below inner term sets _ a b c d e f g h i j = refl
 
-pub node-other : (scope : FixpointNames) (depth : ℕ) (s : State) → kind s ≢ k.Not → kind s ≢ k.Open → kind s ≢ k.OpenSquare → kind s ≢ k.Less → kind s ≢ k.True → kind s ≢ k.False → kind s ≢ k.Val → kind s ≢ k.Name
-    → kind s ≢ k.Number → kind s ≢ k.Minus → node scope depth s ≡ Err (refusal Unexpected s.tokens)
-unfolding node
-node-other scope zero s a b c d e f g h i j =
+pub plain-other : (scope : FixpointNames) (depth : ℕ) (s : State) → kind s ≢ k.Not → kind s ≢ k.Open → kind s ≢ k.OpenSquare → kind s ≢ k.Less → kind s ≢ k.True → kind s ≢ k.False → kind s ≢ k.Val → kind s ≢ k.Name
+    → kind s ≢ k.Number → kind s ≢ k.Minus → plain scope depth s ≡ Err (refusal Unexpected s.tokens)
+unfolding plain
+plain-other scope zero s a b c d e f g h i j =
     ap (λ p. p s) (begun-other scope (refuse Limit) (refuse Limit) (refuse Limit) (data_operand 0) (refuse Limit) (kind s) a b c d e f g h i j)
-node-other scope (suc depth) s a b c d e f g h i j =
+plain-other scope (suc depth) s a b c d e f g h i j =
     ap (λ p. p s) (begun-other scope take_token (node scope depth) (formula scope depth) (data_operand (suc depth)) (step_set depth) (kind s) a b c d e f g h i j)
 
 -- without a sign and a quantifier, no binder
@@ -75,8 +75,8 @@ no-binder k.Forall e f = cc
 no-binder k.Exists e f = cc
 no-binder _ e f = refl
 
-pub primary-node : (scope : FixpointNames) (depth : ℕ) (s : State) → sign_of (kind s) ≡ None → quantifier_of (kind s) ≡ None → primary scope depth s ≡ node scope depth s
-primary-node scope depth s other another = rw (no-binder (kind s) other another) refl
+pub primary-item : (scope : FixpointNames) (depth : ℕ) (s : State) → sign_of (kind s) ≡ None → quantifier_of (kind s) ≡ None → primary scope depth s ≡ item scope depth s
+primary-item scope depth s other another = rw (no-binder (kind s) other another) refl
 
 some-sign : (kind : Kind) (sign : Sign) → sign_of kind ≡ Some sign → is_fixpoint kind ≡ true
 some-sign k.Mu sign e = refl
@@ -108,27 +108,27 @@ opens_level k.OpenSquare = true
 opens_level k.Less = true
 opens_level _ = false
 
-pub node-at : (scope : FixpointNames) (depth : ℕ) (s : State) (k' : Kind) → kind s ≡ k'
-    → node scope depth s ≡ begun scope (enter depth) (below (node scope) depth) (below (formula scope) depth) (data_operand depth) (below step_set depth) k' s
-unfolding node
-node-at scope zero s k' is = ap (λ v. begun scope (refuse Limit) (refuse Limit) (refuse Limit) (data_operand 0) (refuse Limit) v s) is
-node-at scope (suc depth) s k' is = ap (λ v. begun scope take_token (node scope depth) (formula scope depth) (data_operand (suc depth)) (step_set depth) v s) is
+pub plain-at : (scope : FixpointNames) (depth : ℕ) (s : State) (k' : Kind) → kind s ≡ k'
+    → plain scope depth s ≡ begun scope (enter depth) (below (node scope) depth) (below (formula scope) depth) (data_operand depth) (below step_set depth) k' s
+unfolding plain
+plain-at scope zero s k' is = ap (λ v. begun scope (refuse Limit) (refuse Limit) (refuse Limit) (data_operand 0) (refuse Limit) v s) is
+plain-at scope (suc depth) s k' is = ap (λ v. begun scope take_token (node scope depth) (formula scope depth) (data_operand (suc depth)) (step_set depth) v s) is
 
 -- where no level may open that a token would open
-pub node-enter-fails : (scope : FixpointNames) (depth : ℕ) (s : State) (k' : Kind) → opens_level k' ≡ true → kind s ≡ k' → (bad : Refusal) → enter depth s ≡ Err bad → node scope depth s ≡ Err bad
-node-enter-fails scope depth s k.Not e is bad fails = node-at scope depth s k.Not is ∙ rw fails refl
-node-enter-fails scope depth s k.Open e is bad fails = node-at scope depth s k.Open is ∙ rw fails refl
-node-enter-fails scope depth s k.OpenSquare e is bad fails = node-at scope depth s k.OpenSquare is ∙ rw fails refl
-node-enter-fails scope depth s k.Less e is bad fails = node-at scope depth s k.Less is ∙ rw fails refl
-node-enter-fails scope depth s _ e is bad fails = cc
+pub plain-enter-fails : (scope : FixpointNames) (depth : ℕ) (s : State) (k' : Kind) → opens_level k' ≡ true → kind s ≡ k' → (bad : Refusal) → enter depth s ≡ Err bad → plain scope depth s ≡ Err bad
+plain-enter-fails scope depth s k.Not e is bad fails = plain-at scope depth s k.Not is ∙ rw fails refl
+plain-enter-fails scope depth s k.Open e is bad fails = plain-at scope depth s k.Open is ∙ rw fails refl
+plain-enter-fails scope depth s k.OpenSquare e is bad fails = plain-at scope depth s k.OpenSquare is ∙ rw fails refl
+plain-enter-fails scope depth s k.Less e is bad fails = plain-at scope depth s k.Less is ∙ rw fails refl
+plain-enter-fails scope depth s _ e is bad fails = cc
 
-node-modal : (scope : FixpointNames) (depth : ℕ) (s : State) (m : Modality) → kind s ≡ opening_kind m → node scope depth s ≡ modal m (closing m) (enter depth) (below (node scope) depth) (below step_set depth) s
-node-modal scope depth s modality.Box is = node-at scope depth s k.OpenSquare is
-node-modal scope depth s modality.Diamond is = node-at scope depth s k.Less is
+plain-modal : (scope : FixpointNames) (depth : ℕ) (s : State) (m : Modality) → kind s ≡ opening_kind m → plain scope depth s ≡ modal m (closing m) (enter depth) (below (node scope) depth) (below step_set depth) s
+plain-modal scope depth s modality.Box is = plain-at scope depth s k.OpenSquare is
+plain-modal scope depth s modality.Diamond is = plain-at scope depth s k.Less is
 
-pub modal-enter-fails : (scope : FixpointNames) (depth : ℕ) (s : State) (m : Modality) → kind s ≡ opening_kind m → (bad : Refusal) → enter depth s ≡ Err bad → node scope depth s ≡ Err bad
-modal-enter-fails scope depth s modality.Box is bad fails = node-enter-fails scope depth s k.OpenSquare refl is bad fails
-modal-enter-fails scope depth s modality.Diamond is bad fails = node-enter-fails scope depth s k.Less refl is bad fails
+pub modal-enter-fails : (scope : FixpointNames) (depth : ℕ) (s : State) (m : Modality) → kind s ≡ opening_kind m → (bad : Refusal) → enter depth s ≡ Err bad → plain scope depth s ≡ Err bad
+modal-enter-fails scope depth s modality.Box is bad fails = plain-enter-fails scope depth s k.OpenSquare refl is bad fails
+modal-enter-fails scope depth s modality.Diamond is bad fails = plain-enter-fails scope depth s k.Less refl is bad fails
 
 pub closing-goes-on : (m : Modality) → is_last (closing m) ≡ false
 closing-goes-on modality.Box = refl
@@ -162,18 +162,18 @@ module _ (scope : FixpointNames) (depth : ℕ) (s s1 : State) (word : Tok) (ente
   sets-below : (u : State) → below step_set depth u ≡ step_set (depth - 1) u
   sets-below u = ap (λ p. p u) (below-is step_set depth some)
 
-  pub negation-fails : kind s ≡ k.Not → (bad : Refusal) → node scope (depth - 1) s1 ≡ Err bad → node scope depth s ≡ Err bad
-  negation-fails is bad fails = node-at scope depth s k.Not is ∙ rw entered (rw (node-below s1, fails) refl)
+  pub negation-fails : kind s ≡ k.Not → (bad : Refusal) → node scope (depth - 1) s1 ≡ Err bad → plain scope depth s ≡ Err bad
+  negation-fails is bad fails = plain-at scope depth s k.Not is ∙ rw entered (rw (node-below s1, fails) refl)
 
-  pub negation-read : kind s ≡ k.Not → (x : FormulaForm) (z : State) → node scope (depth - 1) s1 ≡ Ok (x, z) → node scope depth s ≡ Ok (FormulaForm.negation word.place x, z)
-  negation-read is x z reads = node-at scope depth s k.Not is ∙ rw entered (rw (node-below s1, reads) refl)
+  pub negation-read : kind s ≡ k.Not → (x : FormulaForm) (z : State) → node scope (depth - 1) s1 ≡ Ok (x, z) → plain scope depth s ≡ Ok (FormulaForm.negation word.place x, z)
+  negation-read is x z reads = plain-at scope depth s k.Not is ∙ rw entered (rw (node-below s1, reads) refl)
 
-  pub bracketed-fails : kind s ≡ k.Open → (bad : Refusal) → formula scope (depth - 1) s1 ≡ Err bad → node scope depth s ≡ Err bad
-  bracketed-fails is bad fails = node-at scope depth s k.Open is ∙ rw entered (rw (formula-below s1, fails) refl)
+  pub bracketed-fails : kind s ≡ k.Open → (bad : Refusal) → formula scope (depth - 1) s1 ≡ Err bad → plain scope depth s ≡ Err bad
+  bracketed-fails is bad fails = plain-at scope depth s k.Open is ∙ rw entered (rw (formula-below s1, fails) refl)
 
   module _ (is : kind s ≡ k.Open) (x : FormulaForm) (s2 : State) (reads : formula scope (depth - 1) s1 ≡ Ok (x, s2)) where
-    bracketed-closed : node scope depth s ≡ and_then (unless_next goes_on (expect k.Close) s2) (λ t. pure x)
-    bracketed-closed = node-at scope depth s k.Open is ∙ rw entered (rw (formula-below s1, reads) (by (expect k.Close s2)))
+    bracketed-closed : plain scope depth s ≡ and_then (unless_next goes_on (expect k.Close) s2) (λ t. pure x)
+    bracketed-closed = plain-at scope depth s k.Open is ∙ rw entered (rw (formula-below s1, reads) (by (expect k.Close s2)))
       where
         by-kind : (b : Bool) (t : Tok) (z : State) → cond b (refuse Unexpected) (pure x) z ≡ and_then (cond b (refuse Unexpected) (pure t) z) (λ u. pure x)
         by-kind true t z = refl
@@ -184,36 +184,36 @@ module _ (scope : FixpointNames) (depth : ℕ) (s s1 : State) (word : Tok) (ente
         by (Ok r) = by-kind (goes_on (kind r.1)) r.0 r.1
         by (Err bad) = refl
 
-    pub bracketed-close-fails : (bad : Refusal) → unless_next goes_on (expect k.Close) s2 ≡ Err bad → node scope depth s ≡ Err bad
+    pub bracketed-close-fails : (bad : Refusal) → unless_next goes_on (expect k.Close) s2 ≡ Err bad → plain scope depth s ≡ Err bad
     bracketed-close-fails bad fails = bracketed-closed ∙ rw fails refl
 
-    pub bracketed-read : (t : Tok) (z : State) → unless_next goes_on (expect k.Close) s2 ≡ Ok (t, z) → node scope depth s ≡ Ok (x, z)
+    pub bracketed-read : (t : Tok) (z : State) → unless_next goes_on (expect k.Close) s2 ≡ Ok (t, z) → plain scope depth s ≡ Ok (x, z)
     bracketed-read t z closes = bracketed-closed ∙ rw closes refl
 
   pub bracketed-closes : {T : Type 0} (view : T → Tok) (r : Result T (OrMemory Refusal)) (f : Formula) (s2 z : State) → kind s ≡ k.Open → formula scope (depth - 1) s1 ≡ Ok (formula_form f, s2)
-      → Gives view (unless_next goes_on (expect k.Close) s2) r z → Gives formula_form (node scope depth s) (result_and r (Ok f)) z
+      → Gives view (unless_next goes_on (expect k.Close) s2) r z → Gives formula_form (plain scope depth s) (result_and r (Ok f)) z
   bracketed-closes view (Ok t) f s2 z is reads closes = bracketed-read is (formula_form f) s2 reads (view t) z closes
   bracketed-closes view (Err fault) f s2 z is reads closes = if_fault fault (λ bad e. bracketed-close-fails is (formula_form f) s2 reads bad e) closes
 
   -- a modality
   module _ (m : Modality) (is : kind s ≡ opening_kind m) where
-    modal-at : node scope depth s ≡ and_then (modal_steps m (step_set (depth - 1)) s1) (λ steps. below (node scope) depth >>= (λ x. pure (FormulaForm.modal m word.place steps x)))
-    modal-at = node-modal scope depth s m is ∙ rw entered (rw (sets-below s1) (steps-closed m word (below (node scope) depth) (step_set (depth - 1) s1)))
+    modal-at : plain scope depth s ≡ and_then (modal_steps m (step_set (depth - 1)) s1) (λ steps. below (node scope) depth >>= (λ x. pure (FormulaForm.modal m word.place steps x)))
+    modal-at = plain-modal scope depth s m is ∙ rw entered (rw (sets-below s1) (steps-closed m word (below (node scope) depth) (step_set (depth - 1) s1)))
 
-    pub modal-steps-fail : (bad : Refusal) → modal_steps m (step_set (depth - 1)) s1 ≡ Err bad → node scope depth s ≡ Err bad
+    pub modal-steps-fail : (bad : Refusal) → modal_steps m (step_set (depth - 1)) s1 ≡ Err bad → plain scope depth s ≡ Err bad
     modal-steps-fail bad fails = modal-at ∙ rw fails refl
 
     module _ (A : StepSetForm) (s2 : State) (steps : modal_steps m (step_set (depth - 1)) s1 ≡ Ok (A, s2)) where
-      pub modal-operand-fails : (bad : Refusal) → node scope (depth - 1) s2 ≡ Err bad → node scope depth s ≡ Err bad
+      pub modal-operand-fails : (bad : Refusal) → node scope (depth - 1) s2 ≡ Err bad → plain scope depth s ≡ Err bad
       modal-operand-fails bad fails = modal-at ∙ rw steps (rw (node-below s2, fails) refl)
 
-      pub modal-read : (x : FormulaForm) (z : State) → node scope (depth - 1) s2 ≡ Ok (x, z) → node scope depth s ≡ Ok (FormulaForm.modal m word.place A x, z)
+      pub modal-read : (x : FormulaForm) (z : State) → node scope (depth - 1) s2 ≡ Ok (x, z) → plain scope depth s ≡ Ok (FormulaForm.modal m word.place A x, z)
       modal-read x z reads = modal-at ∙ rw steps (rw (node-below s2, reads) refl)
 
 -- data behind `val` with which more would go on
 pub value-again : (scope : FixpointNames) (depth : ℕ) (s s1 s2 : State) (t : Tok) (x : TermForm) → kind s ≡ k.Val → take_token s ≡ Ok (t, s1) → data_operand depth s1 ≡ Ok (x, s2) → goes_on (kind s2) ≡ true
-    → node scope depth s ≡ Err (refusal Unexpected s2.tokens)
-value-again scope depth s s1 s2 t x is taken reads again = node-at scope depth s k.Val is ∙ rw taken (rw reads (rw again refl))
+    → plain scope depth s ≡ Err (refusal Unexpected s2.tokens)
+value-again scope depth s s1 s2 t x is taken reads again = plain-at scope depth s k.Val is ∙ rw taken (rw reads (rw again refl))
 
 fixpoint-is : (scope : FixpointNames) (depth : ℕ) (s : State) (sign : Sign) → sign_of (kind s) ≡ Some sign
     → fixpoint scope depth s ≡ (enter depth >>= (λ word. binding sign word.place (λ name. below (formula (within scope name)) depth))) s

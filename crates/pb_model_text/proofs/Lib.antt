@@ -7,12 +7,14 @@ pub mod PlainLemmas
 pub mod AtomLemmas
 pub mod CorrectFixpoint
 pub mod CorrectBinder
+pub mod CorrectWords
 pub mod CorrectFormula
 pub mod CorrectModel
 pub mod StateLemmas
 pub mod InstanceLemmas
 pub mod StepSetLemmas
 pub mod FormulaLemmas
+pub mod WordLemmas
 pub mod ModelLemmas
 pub mod CorrectState
 pub mod ParseLemmas

@@ -2,7 +2,7 @@
 -- with data as in Groote and Mousavi 2014). Sorts, variables and data terms are those of texts.
 -- What a model says is a protocol: arrays and definitions stand in it as they are written.
 use Rattle.std.specs.Prelude.{◌≡◌, ℕ, zero, suc, Bool, true, false, if◌then◌else◌, List, [], ◌∷◌}
-use Rattle.std.specs.Prelude.{◌++◌, map, flat_map, codes}
+use Rattle.std.specs.Prelude.{◌++◌, map, flat_map, codes, ◌&&◌, Option, Some}
 use Rattle.std.specs.Str.{bytes_eq}
 use Rattle.pb_fixpoint.specs.declared.Sign.{Sign}
 use Rattle.pb_fixpoint.specs.declared.Sign.TheVariants as sign
@@ -12,6 +12,7 @@ use Rattle.pb_text_tree.specs.Form.{ArgumentForms, no_arguments, argument}
 use Rattle.pb_text_lexer.specs.declared.kind.Kind.{Kind}
 use Rattle.pb_text_lexer.specs.declared.kind.Kind.TheVariants as k
 use Rattle.pb_text_lexer.specs.Grammar.{Reads, ◌>>=◌, Is, Nothing, One, First, CountedApart}
+use Rattle.pb_text_lexer.specs.Kinds.{same_kind}
 use Rattle.pb_text_lexer.specs.OpenGrammar.{Chained, Connected, Either}
 use Rattle.pb_text_lexer.specs.LeftGrammar.{Extended, Listed}
 use Rattle.pb_text_lexer.specs.Steps.{head_kind}
@@ -27,6 +28,10 @@ use Rattle.pb_model_tree.specs.Form.{InitialForm}
 use Rattle.pb_protocol_tree.specs.Form.{StepValueForm, StepSetForm, FormulaForm, StateVariableForm}
 use Rattle.pb_protocol_tree.specs.Form.{DefinitionForm, AssignmentForm, StepForm, PropertyForm}
 use Rattle.pb_protocol_tree.specs.Form.{ProtocolForm}
+use Rattle.pb_model_text.specs.declared.word.Leading.{Leading}
+use Rattle.pb_model_text.specs.declared.word.Leading.TheVariants as leading
+use Rattle.pb_model_text.specs.Words.{leading_of, infix_of, is_word}
+use Rattle.pb_model_text.specs.Words.{no_deadlock, prefixed, infixed}
 
 -- ---- names with arguments
 
@@ -99,6 +104,44 @@ abbrev mutual
   IsStepSet (suc depth) =
       Union (First (SetBegun (IsSet depth) (IsStepSet depth) (IsInstance (suc depth))))
 
+-- ---- words
+
+-- a word of a kind that `of` tells, with its place
+abbrev pub Word : {W : Type 0} → (List ℕ → Option W) → Reads (W × Place)
+Word of s word z = (t : Tok) × One k.Name s t z × (of t.text ≡ Some word.0) × (word.1 ≡ t.place)
+
+-- the first token is a name that is a word
+abbrev pub begins_word : List Tok → Bool
+begins_word [] = false
+begins_word (t ∷ ts) = same_kind t.kind k.Name && is_word t.text
+
+abbrev pub Wordless : {X : Type 0} → Reads X → Reads X
+Wordless R s y z = (begins_word s.tokens ≡ false) × R s y z
+
+-- a word that is an operand, or one before Operand
+abbrev pub LedBy : Reads FormulaForm → Leading → Place → Reads FormulaForm
+LedBy Operand leading.NoDeadlock place = Is (no_deadlock place)
+LedBy Operand (leading.Before prefix) place = do
+  operand ← Operand
+  Is (prefixed prefix place operand)
+
+abbrev pub Led : Reads FormulaForm → Reads FormulaForm
+Led Operand = do
+  word ← Word leading_of
+  LedBy Operand word.0 word.1
+
+-- Plain, or a word with Plain behind it: each begins with a word just where it should, so that a
+-- word before another wants brackets.
+abbrev pub Worded : Reads FormulaForm → Reads FormulaForm
+Worded Plain = Either (Wordless Plain) (Led (Wordless Plain))
+
+-- Node, or two with a word between them, which binds tighter than connectives
+abbrev pub Joined : Reads FormulaForm → Reads FormulaForm
+Joined Node = Extended Node (λ x. do
+  word ← Word infix_of
+  y ← Node
+  Is (infixed word.0 word.1 x y))
+
 -- ---- formulas
 
 -- the names of the fixpoints around a formula
@@ -134,9 +177,10 @@ Modal modality close Node Sets open_bracket = do
   operand ← Node
   Is (FormulaForm.modal modality open_bracket.place steps operand)
 
--- What a token of a kind begins that binds nothing: below `!` and modalities Node may stand, in
--- brackets Formula, in data without connectives Unary, and between the brackets of modalities Sets.
--- Data that begins otherwise, or has a connective or a quantifier of its own, stands behind `val`.
+-- What a token of a kind begins that binds nothing, but for words: below `!` and modalities Node
+-- may stand, in brackets Formula, in data without connectives Unary, and between the brackets of
+-- modalities Sets. Data that begins otherwise, or has a connective or a quantifier of its own,
+-- stands behind `val`.
 abbrev pub Begun :
     FixpointNames → Reads FormulaForm → Reads FormulaForm → Reads TermForm → Reads StepSetForm →
     Kind → Reads FormulaForm
@@ -206,21 +250,26 @@ within scope name = scope ++ name ∷ []
 -- So many levels may open: each `!`, each bracket but that which closes, each fixpoint and each
 -- quantifier opens one. What a quantifier binds is data: fixpoints around keep their names.
 abbrev mutual
-  pub IsNode : FixpointNames → ℕ → Reads FormulaForm
-  IsNode scope zero = First (Begun scope Nothing Nothing (IsUnary zero) Nothing)
-  IsNode scope (suc depth) =
-      First (Begun scope (IsNode scope depth) (IsFormula scope depth) (IsUnary (suc depth))
-      (IsStepSet depth))
+  pub IsPlain : FixpointNames → ℕ → Reads FormulaForm
+  IsPlain scope zero = First (Begun scope Nothing Nothing (IsUnary zero) Nothing)
+  IsPlain scope (suc depth) =
+      First (Begun scope (Worded (IsPlain scope depth)) (IsFormula scope depth)
+      (IsUnary (suc depth)) (IsStepSet depth))
 
   pub IsFormula : FixpointNames → ℕ → Reads FormulaForm
   IsFormula scope zero =
-      Connections (First (Begun scope Nothing Nothing (IsUnary zero) Nothing))
+      Connections (Joined (Worded (First (Begun scope Nothing Nothing (IsUnary zero) Nothing))))
       (Binder (λ name. Nothing) Nothing)
   IsFormula scope (suc depth) =
       Connections
-      (First (Begun scope (IsNode scope depth) (IsFormula scope depth) (IsUnary (suc depth))
-      (IsStepSet depth)))
+      (Joined (Worded
+      (First (Begun scope (Worded (IsPlain scope depth)) (IsFormula scope depth)
+      (IsUnary (suc depth)) (IsStepSet depth)))))
       (Binder (λ name. IsFormula (within scope name) depth) (IsFormula scope depth))
+
+-- what may stand behind `!`, a modality's brackets, and a word between two operands
+abbrev pub IsNode : FixpointNames → ℕ → Reads FormulaForm
+IsNode scope depth = Worded (IsPlain scope depth)
 
 -- ---- the state and definitions
 

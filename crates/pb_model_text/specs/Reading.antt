@@ -1,5 +1,6 @@
 -- Reading a model, as a function.
-use Rattle.std.specs.Prelude.{ℕ, zero, suc, Bool, true, false, if◌then◌else◌, ◌||◌, List, []}
+use Rattle.std.specs.Prelude.{ℕ, zero, suc, Bool, true, false, if◌then◌else◌, ◌||◌}
+use Rattle.std.specs.Prelude.{List, [], ◌∷◌}
 use Rattle.std.specs.Prelude.{length, map, flat_map, Option, Some, None}
 use Rattle.std.specs.Borrow.{Bor}
 use Rattle.pb_fixpoint.specs.declared.Sign.{Sign}
@@ -14,7 +15,7 @@ use Rattle.pb_text_lexer.specs.declared.kind.Kind.TheVariants as k
 use Rattle.pb_text_lexer.specs.Kinds.{same_kind}
 use Rattle.pb_text_lexer.specs.Steps.{Step, alone, ◌>>=◌, pure, peek, refuse, take_token, expect}
 use Rattle.pb_text_lexer.specs.Steps.{connected, chain, conjunction, disjunction, either}
-use Rattle.pb_text_lexer.specs.Steps.{unless_next, listed, nothing_between}
+use Rattle.pb_text_lexer.specs.Steps.{extended, unless_next, listed, nothing_between}
 use Rattle.pb_text_lexer.specs.Tokens.{Tok}
 use Rattle.pb_text_terms.specs.Operators.{connected_by, is_equality, is_order, is_additive}
 use Rattle.pb_text_terms.specs.Operators.{is_times, is_division, is_quantifier}
@@ -28,7 +29,11 @@ use Rattle.pb_model_tree.specs.declared.formula.Modality.TheVariants as modality
 use Rattle.pb_model_tree.specs.Form.{InitialForm}
 use Rattle.pb_protocol_tree.specs.Form.{StepSetForm, FormulaForm, StateVariableForm, DefinitionForm}
 use Rattle.pb_protocol_tree.specs.Form.{AssignmentForm, StepForm, PropertyForm, ProtocolForm}
-use Rattle.pb_model_text.specs.Grammar.{set_of, united_by, FixpointNames, atom_of, within, of_sort}
+use Rattle.pb_model_text.specs.Grammar.{set_of, united_by, begins_word, FixpointNames, atom_of}
+use Rattle.pb_model_text.specs.Grammar.{within, of_sort}
+use Rattle.pb_model_text.specs.declared.word.Leading.{Leading}
+use Rattle.pb_model_text.specs.declared.word.Leading.TheVariants as leading
+use Rattle.pb_model_text.specs.Words.{leading_of, infix_of, no_deadlock, prefixed, infixed}
 
 abbrev pub is_or : Kind → Bool
 is_or kind = same_kind kind k.Or
@@ -96,6 +101,50 @@ unfoldable mutual
   step_set zero = union (set_over (refuse Limit) (refuse Limit) (refuse Limit) (instance zero))
   step_set (suc depth) =
       union (set_over take_token (set depth) (step_set depth) (instance (suc depth)))
+
+-- ---- words
+
+-- the word that the first token is, if it is one that `of` tells
+abbrev pub word_at : {W : Type 0} → (List ℕ → Option W) → List Tok → Option W
+word_at of [] = None
+word_at of (t ∷ ts) = if same_kind t.kind k.Name then of t.text else None
+
+abbrev pub word_taken : {W : Type 0} → Option W → Step (W × Place)
+word_taken None = refuse Unexpected
+word_taken (Some word) = do
+  token ← take_token
+  pure (word, token.place)
+
+abbrev pub take_word : {W : Type 0} → (List ℕ → Option W) → Step (W × Place)
+take_word of = λ s. word_taken (word_at of s.tokens) s
+
+-- what begins with no word
+abbrev pub wordless : Step FormulaForm → Step FormulaForm
+wordless plain = λ s. if begins_word s.tokens then refuse Unexpected s else plain s
+
+abbrev pub led_by : Step FormulaForm → Leading → Place → Step FormulaForm
+led_by operand leading.NoDeadlock place = unless_next goes_on (pure (no_deadlock place))
+led_by operand (leading.Before prefix) place = do
+  x ← operand
+  pure (prefixed prefix place x)
+
+abbrev pub led : Step FormulaForm → Step FormulaForm
+led operand = do
+  word ← take_word leading_of
+  led_by operand word.0 word.1
+
+abbrev pub worded : Step FormulaForm → Step FormulaForm
+worded plain = λ s. if begins_word s.tokens then led (wordless plain) s else plain s
+
+-- what stands behind a node, from a word on
+abbrev pub joined_by : Step FormulaForm → FormulaForm → Step FormulaForm
+joined_by node x = do
+  word ← take_word infix_of
+  y ← node
+  pure (infixed word.0 word.1 x y)
+
+abbrev pub joined : Step FormulaForm → Step FormulaForm
+joined node = extended is_name_kind node (λ x. unless_next is_name_kind (joined_by node x))
 
 -- ---- formulas
 
@@ -198,28 +247,39 @@ unfoldable pub data_operand : ℕ → Step TermForm
 data_operand depth = unary depth
 
 -- where no level may open, and where one may
-abbrev pub last_node : FixpointNames → Step FormulaForm
-last_node scope =
+abbrev pub last_plain : FixpointNames → Step FormulaForm
+last_plain scope =
     peek
     >>= begun scope (refuse Limit) (refuse Limit) (refuse Limit) (data_operand 0) (refuse Limit)
 
-abbrev pub node_over : FixpointNames → Step FormulaForm → Step FormulaForm → ℕ → Step FormulaForm
-node_over scope below inner depth =
+abbrev pub plain_over : FixpointNames → Step FormulaForm → Step FormulaForm → ℕ → Step FormulaForm
+plain_over scope below inner depth =
     peek >>= begun scope take_token below inner (data_operand (suc depth)) (step_set depth)
 
 -- The number is how many levels may still open.
 unfoldable mutual
-  pub node : FixpointNames → ℕ → Step FormulaForm
-  node scope zero = last_node scope
-  node scope (suc depth) = node_over scope (node scope depth) (formula scope depth) depth
+  pub plain : FixpointNames → ℕ → Step FormulaForm
+  plain scope zero = last_plain scope
+  plain scope (suc depth) =
+      plain_over scope (worded (plain scope depth)) (formula scope depth) depth
 
   pub formula : FixpointNames → ℕ → Step FormulaForm
   formula scope zero =
-      connections (last_node scope)
+      connections (joined (worded (last_plain scope)))
       (binder_over (refuse Limit) (λ name. refuse Limit) (refuse Limit))
   formula scope (suc depth) =
-      connections (node_over scope (node scope depth) (formula scope depth) depth)
+      connections
+      (joined
+      (worded (plain_over scope (worded (plain scope depth)) (formula scope depth) depth)))
       (binder_over take_token (λ name. formula (within scope name) depth) (formula scope depth))
+
+-- a node, with a word before it or without
+abbrev pub node : FixpointNames → ℕ → Step FormulaForm
+node scope depth = worded (plain scope depth)
+
+-- a node, or two with a word between them
+abbrev pub item : FixpointNames → ℕ → Step FormulaForm
+item scope depth = joined (node scope depth)
 
 -- a fixpoint with its body
 unfoldable pub fixpoint : FixpointNames → ℕ → Step FormulaForm
@@ -236,7 +296,7 @@ binder scope depth = either is_fixpoint (quantification scope depth) (fixpoint s
 
 -- an operand of `&&`
 abbrev pub primary : FixpointNames → ℕ → Step FormulaForm
-primary scope depth = either is_binder (node scope depth) (binder scope depth)
+primary scope depth = either is_binder (item scope depth) (binder scope depth)
 
 -- a chain of the connective, and an operand of one
 abbrev pub level : Connective → FixpointNames → ℕ → Step FormulaForm

@@ -1,84 +1,37 @@
 //! Reads formulas, by recursive descent. A chain of one connective is read by a loop, so that the
 //! recursion is as deep as brackets, negations, modalities, fixpoints and quantifiers nest.
 
-ghost use Rattle.std.specs.Prelude.{◌≡◌, ◌<◌, ◌≤◌, true, false, length, Some, Ok, OnOk, IfOk};
-ghost use Rattle.std.specs.Prelude.{MatchResult};
-ghost use Rattle.pb_text_lexer.specs.Kinds.{is_last};
+ghost use Rattle.std.specs.Prelude.{◌≡◌, ◌<◌, ◌≤◌, true, false, length, Some, Ok, OnOk};
 ghost use Rattle.pb_text_tree.specs.Form.{chained};
 ghost use Rattle.pb_text_lexer.specs.Grammar.{State};
 ghost use Rattle.pb_text_lexer.specs.Steps as spec;
 ghost use Rattle.pb_text_lexer.specs.Steps.{Gives};
-ghost use Rattle.pb_text_lexer.specs.Tokens.{tok};
 ghost use Rattle.pb_text_terms.specs.Reading as terms;
+ghost use Rattle.pb_text_formulas.specs.Reading.{is_name_kind};
 ghost use Rattle.pb_protocol_tree.specs.Form.{FormulaForm, formula_form};
 ghost use Rattle.pb_model_text.specs.Links.{link_forms};
 ghost use Rattle.pb_model_text.specs.Grammar as grammar;
 ghost use Rattle.pb_model_text.specs.Reading as reading;
 ghost use Rattle.pb_model_text.specs.Reading.{names_of};
 
-use crate::atom::{data_atom, data_operand, goes_on, name_atom};
+use crate::atom::{close, constant, data_atom, name_atom, unexpected_name, value};
 use crate::fixpoint::{extended, sign};
 use crate::modality::{modal_node, modal_steps};
+use crate::node::joined;
 use crate::pair::both;
+use crate::pattern::{constant_word, infixed, prefixed};
 use crate::scope::Scope;
+use crate::word::{Leading, infix_word, is_word, leading_word};
 use pb_fixpoint::Sign;
 use pb_model_tree::Modality;
 use pb_protocol_tree::{Formula, Link};
-use pb_text_lexer::fault::{ReadingError, ReadingRule, Refusal};
+use pb_text_lexer::fault::{ReadingError, ReadingRule};
 use pb_text_lexer::input::Input;
 use pb_text_lexer::kind::{Kind, same_kind};
-use pb_text_lexer::token::Token;
 use pb_text_terms::operator::{is_connective, quantifier, symbol};
 use pb_text_terms::variable::variables;
-use pb_text_tree::{Connective, Name, Quantifier};
-use std::alloc::{AllocError, Global};
-
-/// The node of a chain, or its first operand where there is no other.
-fn joined(
-    alloc: Global,
-    connective: Connective,
-    first: Formula,
-    links: Vec<Link>,
-) -> Result<Formula, AllocError>
-    ensures { IfOk result (λ f. formula_form f
-        ≡ chained (FormulaForm.connected connective) (formula_form first)
-        (link_forms links.items)) }
-{
-    if links.is_empty() {
-        return Ok(first);
-    }
-    let first = Box::new(alloc, first)?;
-    Ok(Formula::Chain {
-        connective,
-        first,
-        links,
-    })
-}
-
-/// Refuses the next token as `ReadingRule::Unexpected` if it would go on with data.
-fn unless_going_on(input: &Input<'_>) -> Result<(), Refusal>
-    ensures { MatchResult result (λ u. reading.goes_on (spec.kind input.now) ≡ false)
-        (λ e. (reading.goes_on (spec.kind input.now) ≡ true)
-        × (e ≡ spec.refusal ReadingRule.Unexpected input.now.tokens)) }
-{
-    if goes_on(input.kind()) {
-        Err(input.refuse(ReadingRule::Unexpected))
-    } else {
-        Ok(())
-    }
-}
-
-/// `)`, behind which data doesn't go on.
-#[inline(never)]
-fn close<'a>(input: &mut Input<'a>) -> Result<Token<'a>, ReadingError>
-    ensures reads { Gives tok (spec.unless_next reading.goes_on (spec.expect Kind.Close) input.old)
-        result input.new }
-    ensures fewer { OnOk result (length input.new.tokens < length input.old.tokens) }
-{
-    let bracket = input.expect(Kind::Close)?;
-    unless_going_on(input)?;
-    Ok(bracket)
-}
+use pb_text_tree::{Connective, Name, Place, Quantifier};
+use std::alloc::Global;
 
 /// `!` and its operand.
 #[cycle(formulas)]
@@ -89,7 +42,7 @@ fn negation<'a>(
     scope: Scope<'_, 'a>,
 ) -> Result<Formula, ReadingError>
     requires { spec.kind input.old ≡ Kind.Not }
-    ensures reads { Gives formula_form (reading.node (names_of scope.entry.names.now)
+    ensures reads { Gives formula_form (reading.plain (names_of scope.entry.names.now)
         scope.entry.depth input.old) result input.new }
     ensures fewer { OnOk result (length input.new.tokens < length input.old.tokens) }
 {
@@ -110,7 +63,7 @@ fn bracketed<'a>(
     scope: Scope<'_, 'a>,
 ) -> Result<Formula, ReadingError>
     requires { spec.kind input.old ≡ Kind.Open }
-    ensures reads { Gives formula_form (reading.node (names_of scope.entry.names.now)
+    ensures reads { Gives formula_form (reading.plain (names_of scope.entry.names.now)
         scope.entry.depth input.old) result input.new }
     ensures fewer { OnOk result (length input.new.tokens < length input.old.tokens) }
 {
@@ -131,7 +84,7 @@ fn modal<'a>(
     modality: Modality,
 ) -> Result<Formula, ReadingError>
     requires { spec.kind input.old ≡ reading.opening_kind modality }
-    ensures reads { Gives formula_form (reading.node (names_of scope.entry.names.now)
+    ensures reads { Gives formula_form (reading.plain (names_of scope.entry.names.now)
         scope.entry.depth input.old) result input.new }
     ensures fewer { OnOk result (length input.new.tokens < length input.old.tokens) }
 {
@@ -144,46 +97,16 @@ fn modal<'a>(
     Ok(modal_node(alloc, place, modality, within, operand)?)
 }
 
-/// `val` and its operand.
-#[inline(never)]
-#[tactic(auto, unfolding(crate::specs::Reading::node))]
-fn value<'a>(
-    input: &mut Input<'a>,
-    alloc: Global,
-    scope: Scope<'_, 'a>,
-) -> Result<Formula, ReadingError>
-    requires { spec.kind input.old ≡ Kind.Val }
-    ensures reads { Gives formula_form (reading.node (names_of scope.entry.names.now)
-        scope.entry.depth input.old) result input.new }
-    ensures fewer { OnOk result (length input.new.tokens < length input.old.tokens) }
-{
-    let place = input.take().place;
-    let term = data_operand(input, alloc, scope.depth)?;
-    unless_going_on(input)?;
-    Ok(Formula::Data { place, term })
-}
-
-/// `true` or `false`.
-#[inline(never)]
-fn constant(input: &mut Input<'_>, value: bool) -> Result<Formula, ReadingError>
-    requires { is_last (spec.kind input.old) ≡ false }
-    ensures reads { Gives formula_form (reading.truth value input.old) result input.new }
-    ensures fewer { OnOk result (length input.new.tokens < length input.old.tokens) }
-{
-    let place = input.take().place;
-    unless_going_on(input)?;
-    Ok(Formula::Constant { place, value })
-}
-
-/// A negation, a formula in brackets, a modality, a constant, data or a fixpoint's variable.
+/// What begins with no name: a negation, a formula in brackets, a modality, a constant or data.
 #[cycle(formulas)]
-#[tactic(auto, unfolding(crate::specs::Reading::node))]
-fn node<'a>(
+#[tactic(auto, unfolding(crate::specs::Reading::plain))]
+fn nameless<'a>(
     input: &mut Input<'a>,
     alloc: Global,
     scope: Scope<'_, 'a>,
 ) -> Result<Formula, ReadingError>
-    ensures reads { Gives formula_form (reading.node (names_of scope.entry.names.now)
+    requires { is_name_kind (spec.kind input.old) ≡ false }
+    ensures reads { Gives formula_form (reading.plain (names_of scope.entry.names.now)
         scope.entry.depth input.old) result input.new }
     ensures fewer { OnOk result (length input.new.tokens < length input.old.tokens) }
 {
@@ -195,11 +118,142 @@ fn node<'a>(
         Kind::True => constant(input, true),
         Kind::False => constant(input, false),
         Kind::Val => value(input, alloc, scope),
-        Kind::Name => name_atom(input, alloc, scope),
         Kind::Number => data_atom(input, alloc, scope.depth),
         Kind::Minus => data_atom(input, alloc, scope.depth),
         _ => Err(ReadingError::Refused(input.refuse(ReadingRule::Unexpected))),
     }
+}
+
+/// What begins with a name that is no word.
+#[cycle(formulas)]
+#[inline(never)]
+fn wordless<'a>(
+    input: &mut Input<'a>,
+    alloc: Global,
+    scope: Scope<'_, 'a>,
+) -> Result<Formula, ReadingError>
+    ensures reads { Gives formula_form (reading.wordless (reading.plain
+        (names_of scope.entry.names.now) scope.entry.depth) input.old) result input.new }
+    ensures fewer { OnOk result (length input.new.tokens < length input.old.tokens) }
+{
+    if !same_kind(input.kind(), Kind::Name) {
+        return nameless(input, alloc, scope);
+    }
+    let (place, text) = input.expect_name()?;
+    if is_word(text.as_bytes()) {
+        return Err(ReadingError::Refused(unexpected_name(place)));
+    }
+    name_atom(input, alloc, scope, place, text)
+}
+
+/// What a word stands for with which an operand begins, and which is read.
+#[cycle(formulas)]
+#[inline(never)]
+fn led<'a>(
+    input: &mut Input<'a>,
+    alloc: Global,
+    scope: Scope<'_, 'a>,
+    word: Leading,
+    place: Place,
+) -> Result<Formula, ReadingError>
+    ensures reads { Gives formula_form (reading.led_by (reading.wordless (reading.plain
+        (names_of scope.entry.names.now) scope.entry.depth)) word place input.old)
+        result input.new }
+    ensures fewer { OnOk result (length input.new.tokens ≤ length input.old.tokens) }
+{
+    match word {
+        Leading::NoDeadlock => constant_word(input, alloc, place),
+        Leading::Before(prefix) => {
+            let operand = wordless(input, alloc, scope)?;
+            Ok(prefixed(alloc, prefix, place, operand)?)
+        }
+    }
+}
+
+/// What begins with a name: a word, data or a fixpoint's variable.
+#[cycle(formulas)]
+#[inline(never)]
+fn named<'a>(
+    input: &mut Input<'a>,
+    alloc: Global,
+    scope: Scope<'_, 'a>,
+) -> Result<Formula, ReadingError>
+    requires { spec.kind input.old ≡ Kind.Name }
+    ensures reads { Gives formula_form (reading.node (names_of scope.entry.names.now)
+        scope.entry.depth input.old) result input.new }
+    ensures fewer { OnOk result (length input.new.tokens < length input.old.tokens) }
+{
+    let (place, text) = input.expect_name()?;
+    if !is_word(text.as_bytes()) {
+        return name_atom(input, alloc, scope, place, text);
+    }
+    match leading_word(text.as_bytes()) {
+        Some(word) => led(input, alloc, scope, word, place),
+        None => Err(ReadingError::Refused(unexpected_name(place))),
+    }
+}
+
+/// An operand of a negation or a modality.
+#[cycle(formulas)]
+fn node<'a>(
+    input: &mut Input<'a>,
+    alloc: Global,
+    scope: Scope<'_, 'a>,
+) -> Result<Formula, ReadingError>
+    ensures reads { Gives formula_form (reading.node (names_of scope.entry.names.now)
+        scope.entry.depth input.old) result input.new }
+    ensures fewer { OnOk result (length input.new.tokens < length input.old.tokens) }
+{
+    if same_kind(input.kind(), Kind::Name) {
+        named(input, alloc, scope)
+    } else {
+        nameless(input, alloc, scope)
+    }
+}
+
+/// What a word makes of an operand before it and of the one behind it, behind which no other word
+/// stands.
+#[cycle(formulas)]
+#[inline(never)]
+fn joined_behind<'a>(
+    input: &mut Input<'a>,
+    alloc: Global,
+    scope: Scope<'_, 'a>,
+    first: Formula,
+) -> Result<Formula, ReadingError>
+    requires { spec.kind input.old ≡ Kind.Name }
+    ensures reads { Gives formula_form (spec.unless_next is_name_kind (reading.joined_by
+        (reading.node (names_of scope.entry.names.now) scope.entry.depth) (formula_form first))
+        input.old) result input.new }
+    ensures fewer { OnOk result (length input.new.tokens < length input.old.tokens) }
+{
+    let (place, text) = input.expect_name()?;
+    let Some(word) = infix_word(text.as_bytes()) else {
+        return Err(ReadingError::Refused(unexpected_name(place)));
+    };
+    let second = node(input, alloc, scope)?;
+    if same_kind(input.kind(), Kind::Name) {
+        return Err(ReadingError::Refused(input.refuse(ReadingRule::Unexpected)));
+    }
+    Ok(infixed(alloc, word, place, first, second)?)
+}
+
+/// An operand of a connective that is no binder: a node, or two with a word between them.
+#[cycle(formulas)]
+fn item<'a>(
+    input: &mut Input<'a>,
+    alloc: Global,
+    scope: Scope<'_, 'a>,
+) -> Result<Formula, ReadingError>
+    ensures reads { Gives formula_form (reading.item (names_of scope.entry.names.now)
+        scope.entry.depth input.old) result input.new }
+    ensures fewer { OnOk result (length input.new.tokens < length input.old.tokens) }
+{
+    let first = node(input, alloc, scope)?;
+    if !same_kind(input.kind(), Kind::Name) {
+        return Ok(first);
+    }
+    joined_behind(input, alloc, scope, first)
 }
 
 /// The body of a fixpoint, in which its name is bound.
@@ -303,7 +357,7 @@ fn operand<'a>(
             Some(sign) => fixpoint(input, alloc, scope, sign),
             None => match quantifier(input.kind()) {
                 Some(quantifier) => quantified(input, alloc, scope, quantifier),
-                None => node(input, alloc, scope),
+                None => item(input, alloc, scope),
             },
         },
         Connective::Or => level(input, alloc, Connective::And, scope),

@@ -14,11 +14,14 @@ mod instances;
 pub mod laws;
 mod modality;
 mod model;
+mod node;
 mod pair;
+mod pattern;
 mod scope;
 mod state;
 mod step;
 mod step_set;
 pub mod text;
+mod word;
 
 pub use text::parse_model;

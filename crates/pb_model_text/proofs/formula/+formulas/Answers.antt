@@ -1,5 +1,5 @@
 use Rattle.std.specs.Prelude.{string_bytes}
-use Rattle.std.proofs.Common.{rules, arith, ℕ, List, refl, sym, ap, subst, ◌≡◌, ◌<◌, ◌-◌, length, true, false, vec_len, ◌∙◌, Ok, Vec, Global}
+use Rattle.std.proofs.Common.{rules, arith, ℕ, List, refl, sym, ap, subst, ◌≡◌, ◌<◌, ◌-◌, length, true, false, vec_len, ◌∙◌, Ok, Some, None, Vec, Global}
 use Rattle.std.proofs.lemmas.Result.{err_from_is_err_and}
 use Rattle.pb_errors.proofs.Faults.{if_fault}
 use Rattle.pb_protocol_tree.specs.Form.{FormulaForm, formula_form, step_set_form}
@@ -16,14 +16,18 @@ use Rattle.pb_text_terms.proofs.ReadLemmas.{on-fewer}
 use Rattle.pb_model_text.specs.Grammar.{within}
 use Rattle.pb_model_text.specs.Reading.{node, names_of, formula, operand, level}
 use Rattle.pb_model_text.proofs.PairLemmas.{fails-where, reads-where, on-ok-where}
-use Rattle.pb_model_text.proofs.FormulaLemmas.{node-at, node-enter-fails, negation-fails, negation-read, bracketed-fails, bracketed-closes, and-fewer, modal-enter-fails, modal-steps-fail, modal-operand-fails, modal-read, fixpoint-name-fails, fixpoint-period-fails, fixpoint-body-fails, fixpoint-read, level-chain, links-last, node-other, level-alone-or-fails, conjunction-fails, disjunction-fails, primary-fails, primary-alone-or-fails}
+use Rattle.pb_model_text.proofs.FormulaLemmas.{plain-at, plain-enter-fails, negation-fails, negation-read, bracketed-fails, bracketed-closes, and-fewer, modal-enter-fails, modal-steps-fail, modal-operand-fails, modal-read, fixpoint-name-fails, fixpoint-period-fails, fixpoint-body-fails, fixpoint-read, level-chain, links-last, plain-other, level-alone-or-fails, conjunction-fails, disjunction-fails, primary-fails, primary-alone-or-fails}
+use Rattle.pb_text_formulas.specs.Reading.{is_name_kind}
+use Rattle.pb_text_lexer.proofs.TokenLemmas.{same-kind}
+use Rattle.pb_model_text.specs.Words.{leading_of, infix_of, is_word}
+use Rattle.pb_model_text.proofs.WordLemmas.{not-name, named-state, named-kind, node-atom-at, wordless-atom-at, wordless-fails-at, node-led-at, node-fails-at, joined-word-fails-at, joined-operand-fails-at, joined-again-at, joined-read-at}
 use Rattle.pb_model_text.proofs.formula.+formulas.Goals as goal
 
-pub node-returns-in_default : goal.node-returns-in_default
-node-returns-in_default t c = rw c.refuse.ensures (record {
-  reads = node-other (names_of c.args.scope.names.now) c.args.scope.depth c.args.input.now (λ q. c.in_default.not-Not (c.kind.ensures ∙ q)) (λ q. c.in_default.not-Open (c.kind.ensures ∙ q))
+pub nameless-returns-in_default : goal.nameless-returns-in_default
+nameless-returns-in_default t c = rw c.refuse.ensures (record {
+  reads = plain-other (names_of c.args.scope.names.now) c.args.scope.depth c.args.input.now (λ q. c.in_default.not-Not (c.kind.ensures ∙ q)) (λ q. c.in_default.not-Open (c.kind.ensures ∙ q))
       (λ q. c.in_default.not-OpenSquare (c.kind.ensures ∙ q)) (λ q. c.in_default.not-Less (c.kind.ensures ∙ q))
-      (λ q. c.in_default.not-True (c.kind.ensures ∙ q)) (λ q. c.in_default.not-False (c.kind.ensures ∙ q)) (λ q. c.in_default.not-Val (c.kind.ensures ∙ q)) (λ q. c.in_default.not-Name (c.kind.ensures ∙ q))
+      (λ q. c.in_default.not-True (c.kind.ensures ∙ q)) (λ q. c.in_default.not-False (c.kind.ensures ∙ q)) (λ q. c.in_default.not-Val (c.kind.ensures ∙ q)) (λ q. not-name (kind c.args.input.now) c.requires q)
       (λ q. c.in_default.not-Number (c.kind.ensures ∙ q)) (λ q. c.in_default.not-Minus (c.kind.ensures ∙ q));
   fewer = tt;
 })
@@ -146,7 +150,7 @@ formula-returns-clause-fewer t c = on-fewer c.connectives_behind.result _ _ _ c.
 pub negation-returns-in_err-place-clause-reads : goal.negation-returns-in_err-place-clause-reads
 negation-returns-in_err-place-clause-reads t c =
     let p = err_from_is_err_and c.from_residual.result c.from_residual.ensures.1 in
-    rw (p.1, p.2) (node-enter-fails (names_of c.args.scope.names.now) c.args.scope.depth c.args.input.now k.Not refl c.requires c.in_err-place.field-0.0 c.in_err-place.ensures.reads)
+    rw (p.1, p.2) (plain-enter-fails (names_of c.args.scope.names.now) c.args.scope.depth c.args.input.now k.Not refl c.requires c.in_err-place.field-0.0 c.in_err-place.ensures.reads)
 
 pub negation-returns-in_err-operand-clause-reads : goal.negation-returns-in_err-operand-clause-reads
 negation-returns-in_err-operand-clause-reads t c =
@@ -192,7 +196,7 @@ modal-returns-clause-fewer t c =
 pub bracketed-returns-in_err-enter-clause-reads : goal.bracketed-returns-in_err-enter-clause-reads
 bracketed-returns-in_err-enter-clause-reads t c =
     let p = err_from_is_err_and c.from_residual.result c.from_residual.ensures.1 in
-    rw (p.1, p.2) (node-enter-fails (names_of c.args.scope.names.now) c.args.scope.depth c.args.input.now k.Open refl c.requires c.in_err-enter.field-0.0 c.in_err-enter.ensures.reads)
+    rw (p.1, p.2) (plain-enter-fails (names_of c.args.scope.names.now) c.args.scope.depth c.args.input.now k.Open refl c.requires c.in_err-enter.field-0.0 c.in_err-enter.ensures.reads)
 
 pub bracketed-returns-in_err-inner-clause-reads : goal.bracketed-returns-in_err-inner-clause-reads
 bracketed-returns-in_err-inner-clause-reads t c =
@@ -245,22 +249,86 @@ body-returns-clause-reads t c =
     let inside : names_of c.deref.result.now ≡ within (names_of c.args.scope.names.now) c.args.name.now = search rules in
     subst (λ v. Gives formula_form (formula v c.args.scope.depth c.args.input.now) c.formula.result c.formula.new.input) inside c.formula.ensures.reads
 
-pub node-returns-in-True-clause-reads : goal.node-returns-in-True-clause-reads
-node-returns-in-True-clause-reads t c =
-    subst (λ (o : Outcome FormulaForm). Gives formula_form o c.constant.result c.constant.new.input) (sym (node-at (names_of c.args.scope.names.now) c.args.scope.depth c.args.input.now k.True (sym c.kind.ensures ∙ c.in-True.is))) c.constant.ensures.reads
+pub nameless-returns-in-True-clause-reads : goal.nameless-returns-in-True-clause-reads
+nameless-returns-in-True-clause-reads t c =
+    subst (λ (o : Outcome FormulaForm). Gives formula_form o c.constant.result c.constant.new.input) (sym (plain-at (names_of c.args.scope.names.now) c.args.scope.depth c.args.input.now k.True (sym c.kind.ensures ∙ c.in-True.is))) c.constant.ensures.reads
 
-pub node-returns-in-False-clause-reads : goal.node-returns-in-False-clause-reads
-node-returns-in-False-clause-reads t c =
-    subst (λ (o : Outcome FormulaForm). Gives formula_form o c.constant-in-False.result c.constant-in-False.new.input) (sym (node-at (names_of c.args.scope.names.now) c.args.scope.depth c.args.input.now k.False (sym c.kind.ensures ∙ c.in-False.is))) c.constant-in-False.ensures.reads
+pub nameless-returns-in-False-clause-reads : goal.nameless-returns-in-False-clause-reads
+nameless-returns-in-False-clause-reads t c =
+    subst (λ (o : Outcome FormulaForm). Gives formula_form o c.constant-in-False.result c.constant-in-False.new.input) (sym (plain-at (names_of c.args.scope.names.now) c.args.scope.depth c.args.input.now k.False (sym c.kind.ensures ∙ c.in-False.is))) c.constant-in-False.ensures.reads
 
-pub node-returns-in-Name-clause-reads : goal.node-returns-in-Name-clause-reads
-node-returns-in-Name-clause-reads t c =
-    subst (λ (o : Outcome FormulaForm). Gives formula_form o c.name_atom.result c.name_atom.new.input) (sym (node-at (names_of c.args.scope.names.now) c.args.scope.depth c.args.input.now k.Name (sym c.kind.ensures ∙ c.in-Name.is))) c.name_atom.ensures.reads
+pub nameless-returns-in-Number-clause-reads : goal.nameless-returns-in-Number-clause-reads
+nameless-returns-in-Number-clause-reads t c =
+    subst (λ (o : Outcome FormulaForm). Gives formula_form o c.data_atom.result c.data_atom.new.input) (sym (plain-at (names_of c.args.scope.names.now) c.args.scope.depth c.args.input.now k.Number (sym c.kind.ensures ∙ c.in-Number.is))) c.data_atom.ensures.reads
 
-pub node-returns-in-Number-clause-reads : goal.node-returns-in-Number-clause-reads
-node-returns-in-Number-clause-reads t c =
-    subst (λ (o : Outcome FormulaForm). Gives formula_form o c.data_atom.result c.data_atom.new.input) (sym (node-at (names_of c.args.scope.names.now) c.args.scope.depth c.args.input.now k.Number (sym c.kind.ensures ∙ c.in-Number.is))) c.data_atom.ensures.reads
+pub nameless-returns-in-Minus-clause-reads : goal.nameless-returns-in-Minus-clause-reads
+nameless-returns-in-Minus-clause-reads t c =
+    subst (λ (o : Outcome FormulaForm). Gives formula_form o c.data_atom-in-Minus.result c.data_atom-in-Minus.new.input) (sym (plain-at (names_of c.args.scope.names.now) c.args.scope.depth c.args.input.now k.Minus (sym c.kind.ensures ∙ c.in-Minus.is))) c.data_atom-in-Minus.ensures.reads
 
-pub node-returns-in-Minus-clause-reads : goal.node-returns-in-Minus-clause-reads
-node-returns-in-Minus-clause-reads t c =
-    subst (λ (o : Outcome FormulaForm). Gives formula_form o c.data_atom-in-Minus.result c.data_atom-in-Minus.new.input) (sym (node-at (names_of c.args.scope.names.now) c.args.scope.depth c.args.input.now k.Minus (sym c.kind.ensures ∙ c.in-Minus.is))) c.data_atom-in-Minus.ensures.reads
+pub wordless-returns-in_err-place-clause-reads : goal.wordless-returns-in_err-place-clause-reads
+wordless-returns-in_err-place-clause-reads t c =
+    let is : is_name_kind (kind c.args.input.now) ≡ true = search rules in
+    absurd (named-state c.args.input.now is c.in_err-place.field-0.0 c.in_err-place.ensures.reads)
+
+pub wordless-returns-then-is_word-clause-reads : goal.wordless-returns-then-is_word-clause-reads
+wordless-returns-then-is_word-clause-reads t c =
+    let on : is_word c.in_ok-place.text.now ≡ true = search rules in
+    rw c.unexpected_name.ensures (wordless-fails-at c.args.input.now c.expect_name.new.self c.in_ok-place.place c.in_ok-place.text.now c.in_ok-place.ensures.reads (names_of c.args.scope.names.now) c.args.scope.depth on)
+
+pub wordless-returns-clause-reads : goal.wordless-returns-clause-reads
+wordless-returns-clause-reads t c =
+    let other : is_word c.in_ok-place.text.now ≡ false = search rules in
+    subst (λ (o : Outcome FormulaForm). Gives formula_form o c.name_atom.result c.name_atom.new.input) (sym (wordless-atom-at c.args.input.now c.expect_name.new.self c.in_ok-place.place c.in_ok-place.text.now c.in_ok-place.ensures.reads (names_of c.args.scope.names.now) c.args.scope.depth other))
+    (c.name_atom.ensures.reads c.args.input.now (named-kind c.args.input.now c.expect_name.new.self c.in_ok-place.place c.in_ok-place.text.now c.in_ok-place.ensures.reads) c.in_ok-place.ensures.reads)
+
+pub named-returns-in_err-place-clause-reads : goal.named-returns-in_err-place-clause-reads
+named-returns-in_err-place-clause-reads t c =
+    absurd (named-state c.args.input.now (ap is_name_kind c.requires ∙ same-kind k.Name) c.in_err-place.field-0.0 c.in_err-place.ensures.reads)
+
+pub named-returns-then-not-is_word-clause-reads : goal.named-returns-then-not-is_word-clause-reads
+named-returns-then-not-is_word-clause-reads t c =
+    let other : is_word c.in_ok-place.text.now ≡ false = search rules in
+    subst (λ (o : Outcome FormulaForm). Gives formula_form o c.name_atom.result c.name_atom.new.input) (sym (node-atom-at c.args.input.now c.expect_name.new.self c.in_ok-place.place c.in_ok-place.text.now c.in_ok-place.ensures.reads (names_of c.args.scope.names.now) c.args.scope.depth other))
+    (c.name_atom.ensures.reads c.args.input.now (named-kind c.args.input.now c.expect_name.new.self c.in_ok-place.place c.in_ok-place.text.now c.in_ok-place.ensures.reads) c.in_ok-place.ensures.reads)
+
+pub named-returns-in-Some-clause-reads : goal.named-returns-in-Some-clause-reads
+named-returns-in-Some-clause-reads t c =
+    let on : is_word c.in_ok-place.text.now ≡ true = search rules in
+    let tells : leading_of c.in_ok-place.text.now ≡ Some c.in-Some.word = search rules in
+    subst (λ (o : Outcome FormulaForm). Gives formula_form o c.led.result c.led.new.input) (sym (node-led-at c.args.input.now c.expect_name.new.self c.in_ok-place.place c.in_ok-place.text.now c.in_ok-place.ensures.reads (names_of c.args.scope.names.now) c.args.scope.depth c.in-Some.word on tells)) c.led.ensures.reads
+
+pub named-returns-in-None-clause-reads : goal.named-returns-in-None-clause-reads
+named-returns-in-None-clause-reads t c =
+    let on : is_word c.in_ok-place.text.now ≡ true = search rules in
+    let tells : leading_of c.in_ok-place.text.now ≡ None = search rules in
+    rw c.unexpected_name.ensures (node-fails-at c.args.input.now c.expect_name.new.self c.in_ok-place.place c.in_ok-place.text.now c.in_ok-place.ensures.reads (names_of c.args.scope.names.now) c.args.scope.depth on tells)
+
+pub joined_behind-returns-in_err-place-clause-reads : goal.joined_behind-returns-in_err-place-clause-reads
+joined_behind-returns-in_err-place-clause-reads t c =
+    absurd (named-state c.args.input.now (ap is_name_kind c.requires ∙ same-kind k.Name) c.in_err-place.field-0.0 c.in_err-place.ensures.reads)
+
+pub joined_behind-returns-in_default-clause-reads : goal.joined_behind-returns-in_default-clause-reads
+joined_behind-returns-in_default-clause-reads t c =
+    let tells : infix_of c.in_ok-place.text.now ≡ None = search rules in
+    rw c.unexpected_name.ensures (joined-word-fails-at c.args.input.now c.expect_name.new.self c.in_ok-place.place c.in_ok-place.text.now c.in_ok-place.ensures.reads (node (names_of c.args.scope.names.now) c.args.scope.depth) (formula_form c.args.first) tells)
+
+pub joined_behind-returns-in_err-second-clause-reads : goal.joined_behind-returns-in_err-second-clause-reads
+joined_behind-returns-in_err-second-clause-reads t c =
+    let p = err_from_is_err_and c.from_residual-in_err-second.result c.from_residual-in_err-second.ensures.1 in
+    let tells : infix_of c.in_ok-place.text.now ≡ Some c.in-Some.word = search rules in
+    rw (p.1, p.2) (if_fault c.in_err-second.field-0.0
+    (λ bad e. joined-operand-fails-at c.args.input.now c.expect_name.new.self c.in_ok-place.place c.in_ok-place.text.now c.in_ok-place.ensures.reads (node (names_of c.args.scope.names.now) c.args.scope.depth) (formula_form c.args.first) c.in-Some.word tells bad e) c.in_err-second.ensures.reads)
+
+pub joined_behind-returns-then-same_kind-clause-reads : goal.joined_behind-returns-then-same_kind-clause-reads
+joined_behind-returns-then-same_kind-clause-reads t c =
+    let tells : infix_of c.in_ok-place.text.now ≡ Some c.in-Some.word = search rules in
+    let again : is_name_kind (kind c.node.new.input) ≡ true = search rules in
+    rw c.refuse.ensures (joined-again-at c.args.input.now c.expect_name.new.self c.in_ok-place.place c.in_ok-place.text.now c.in_ok-place.ensures.reads (node (names_of c.args.scope.names.now) c.args.scope.depth) (formula_form c.args.first) c.in-Some.word tells
+    (formula_form c.in_ok-second.second) c.node.new.input c.in_ok-second.ensures.reads again)
+
+pub joined_behind-returns-clause-reads : goal.joined_behind-returns-clause-reads
+joined_behind-returns-clause-reads t c =
+    let tells : infix_of c.in_ok-place.text.now ≡ Some c.in-Some.word = search rules in
+    let other : is_name_kind (kind c.node.new.input) ≡ false = search rules in
+    rw c.in_ok-infixed.ensures (joined-read-at c.args.input.now c.expect_name.new.self c.in_ok-place.place c.in_ok-place.text.now c.in_ok-place.ensures.reads (node (names_of c.args.scope.names.now) c.args.scope.depth) (formula_form c.args.first) c.in-Some.word tells
+    (formula_form c.in_ok-second.second) c.node.new.input c.in_ok-second.ensures.reads other)

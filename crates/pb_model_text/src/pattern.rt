@@ -1,0 +1,209 @@
+//! Makes the formulas that words stand for. What a word inserts stands at its place.
+
+ghost use Rattle.std.specs.Prelude.{◌≡◌, ◌≤◌, true, length, IfOk, OnOk};
+ghost use Rattle.pb_names.specs.Names.{is_spelled};
+ghost use Rattle.pb_text_tree.specs.Form.{named};
+ghost use Rattle.pb_text_lexer.specs.Steps as spec;
+ghost use Rattle.pb_text_lexer.specs.Steps.{Gives};
+ghost use Rattle.pb_protocol_tree.specs.Form.{formula_form};
+ghost use Rattle.pb_model_text.specs.Reading as reading;
+ghost use Rattle.pb_model_text.specs.Words as words;
+
+use crate::atom::unless_going_on;
+use crate::modality::modal_node;
+use crate::node::connected;
+use crate::word::{Infix, Prefix};
+use pb_fixpoint::Sign;
+use pb_model_tree::Modality;
+use pb_protocol_tree::{Formula, StepSet};
+use pb_text_lexer::fault::ReadingError;
+use pb_text_lexer::input::Input;
+use pb_text_tree::{Connective, Name, Place};
+use std::alloc::{AllocError, Global};
+
+/// The variable of a word's fixpoint.
+fn variable_at(alloc: Global, place: Place, text: &str) -> Result<Name, AllocError>
+    requires { is_spelled text.now ≡ true }
+    ensures { IfOk result (λ n. named n ≡ words.variable_at place text.now) }
+{
+    let text = text.to_owned(alloc)?;
+    Ok(Name { place, text })
+}
+
+/// `<true> true`
+fn some_step(alloc: Global, place: Place) -> Result<Formula, AllocError>
+    ensures { IfOk result (λ f. formula_form f ≡ words.some_step place) }
+{
+    let operand = Formula::Constant { place, value: true };
+    modal_node(
+        alloc,
+        place,
+        Modality::Diamond,
+        StepSet::All { place },
+        operand,
+    )
+}
+
+/// `[true] X` or `<true> X`
+fn behind_steps(
+    alloc: Global,
+    modality: Modality,
+    place: Place,
+    text: &str,
+) -> Result<Formula, AllocError>
+    requires { is_spelled text.now ≡ true }
+    ensures { IfOk result (λ f. formula_form f ≡ words.behind_steps modality place text.now) }
+{
+    let variable = variable_at(alloc, place, text)?;
+    let operand = Formula::Variable(variable);
+    modal_node(alloc, place, modality, StepSet::All { place }, operand)
+}
+
+/// A word's fixpoint.
+fn fixpoint_of(
+    alloc: Global,
+    sign: Sign,
+    place: Place,
+    text: &str,
+    body: Formula,
+) -> Result<Formula, AllocError>
+    requires { is_spelled text.now ≡ true }
+    ensures { IfOk result (λ f. formula_form f
+        ≡ words.fixpoint_of sign place text.now (formula_form body)) }
+{
+    let variable = variable_at(alloc, place, text)?;
+    let body = Box::new(alloc, body)?;
+    Ok(Formula::Fixpoint {
+        place,
+        sign,
+        variable,
+        body,
+    })
+}
+
+/// `<true> true && [true] X`
+fn goes_on(alloc: Global, place: Place, text: &str) -> Result<Formula, AllocError>
+    requires { is_spelled text.now ≡ true }
+    ensures { IfOk result (λ f. formula_form f ≡ words.goes_on place text.now) }
+{
+    let some_step = some_step(alloc, place)?;
+    let behind = behind_steps(alloc, Modality::Box, place, text)?;
+    connected(alloc, Connective::And, place, some_step, behind)
+}
+
+/// `always p`
+fn always(alloc: Global, place: Place, operand: Formula) -> Result<Formula, AllocError>
+    ensures { IfOk result (λ f. formula_form f ≡ words.always place (formula_form operand)) }
+{
+    let behind = behind_steps(alloc, Modality::Box, place, "always")?;
+    let body = connected(alloc, Connective::And, place, operand, behind)?;
+    fixpoint_of(alloc, Sign::Nu, place, "always", body)
+}
+
+/// `possibly p`
+fn possibly(alloc: Global, place: Place, operand: Formula) -> Result<Formula, AllocError>
+    ensures { IfOk result (λ f. formula_form f ≡ words.possibly place (formula_form operand)) }
+{
+    let behind = behind_steps(alloc, Modality::Diamond, place, "possibly")?;
+    let body = connected(alloc, Connective::Or, place, operand, behind)?;
+    fixpoint_of(alloc, Sign::Mu, place, "possibly", body)
+}
+
+/// `inevitably p`
+fn inevitably(alloc: Global, place: Place, operand: Formula) -> Result<Formula, AllocError>
+    ensures { IfOk result (λ f. formula_form f ≡ words.inevitably place (formula_form operand)) }
+{
+    let later = goes_on(alloc, place, "inevitably")?;
+    let body = connected(alloc, Connective::Or, place, operand, later)?;
+    fixpoint_of(alloc, Sign::Mu, place, "inevitably", body)
+}
+
+/// `no_deadlock`
+fn no_deadlock(alloc: Global, place: Place) -> Result<Formula, AllocError>
+    ensures { IfOk result (λ f. formula_form f ≡ words.no_deadlock place) }
+{
+    let body = goes_on(alloc, place, "no_deadlock")?;
+    fixpoint_of(alloc, Sign::Nu, place, "no_deadlock", body)
+}
+
+/// `p until q`
+fn until(
+    alloc: Global,
+    place: Place,
+    first: Formula,
+    second: Formula,
+) -> Result<Formula, AllocError>
+    ensures { IfOk result (λ f. formula_form f
+        ≡ words.until place (formula_form first) (formula_form second)) }
+{
+    let later = goes_on(alloc, place, "until")?;
+    let waiting = connected(alloc, Connective::And, place, first, later)?;
+    let body = connected(alloc, Connective::Or, place, second, waiting)?;
+    fixpoint_of(alloc, Sign::Mu, place, "until", body)
+}
+
+/// `p leads_to q`
+fn leads_to(
+    alloc: Global,
+    place: Place,
+    first: Formula,
+    second: Formula,
+) -> Result<Formula, AllocError>
+    ensures { IfOk result (λ f. formula_form f
+        ≡ words.leads_to place (formula_form first) (formula_form second)) }
+{
+    let answer = inevitably(alloc, place, second)?;
+    let response = connected(alloc, Connective::Implies, place, first, answer)?;
+    let behind = behind_steps(alloc, Modality::Box, place, "leads_to")?;
+    let body = connected(alloc, Connective::And, place, behind, response)?;
+    fixpoint_of(alloc, Sign::Nu, place, "leads_to", body)
+}
+
+/// What a word before an operand stands for.
+pub fn prefixed(
+    alloc: Global,
+    word: Prefix,
+    place: Place,
+    operand: Formula,
+) -> Result<Formula, AllocError>
+    ensures { IfOk result (λ f. formula_form f
+        ≡ words.prefixed word place (formula_form operand)) }
+{
+    match word {
+        Prefix::Always => always(alloc, place, operand),
+        Prefix::Possibly => possibly(alloc, place, operand),
+        Prefix::Inevitably => inevitably(alloc, place, operand),
+    }
+}
+
+/// What a word between two operands stands for.
+pub fn infixed(
+    alloc: Global,
+    word: Infix,
+    place: Place,
+    first: Formula,
+    second: Formula,
+) -> Result<Formula, AllocError>
+    ensures { IfOk result (λ f. formula_form f
+        ≡ words.infixed word place (formula_form first) (formula_form second)) }
+{
+    match word {
+        Infix::Until => until(alloc, place, first, second),
+        Infix::LeadsTo => leads_to(alloc, place, first, second),
+    }
+}
+
+/// `no_deadlock`, which is read, and behind which data doesn't go on.
+#[inline(never)]
+pub fn constant_word(
+    input: &mut Input<'_>,
+    alloc: Global,
+    place: Place,
+) -> Result<Formula, ReadingError>
+    ensures reads { Gives formula_form (spec.unless_next reading.goes_on
+        (spec.pure (words.no_deadlock place)) input.old) result input.new }
+    ensures fewer { OnOk result (length input.new.tokens ≤ length input.old.tokens) }
+{
+    unless_going_on(input)?;
+    Ok(no_deadlock(alloc, place)?)
+}
