@@ -9,8 +9,8 @@ from generated_terms import DECLARATIONS, KIND, VALUES, Terms
 
 # What stands in `val(..)` as a test: it begins as a formula might, or has a connective or a quantifier.
 IN_VAL = re.compile(r"^[(!-]|^(true|false)|&&|\|\||=>|forall|exists")
-# A state that a step led to outside the ranges, and the formula that holds there: no other does.
-OUTSIDE, TRUE = None, ("true",)
+# A state that a step led to outside the ranges, the formula that holds there whatever the ranges are, and the one that doesn't.
+OUTSIDE, TRUE, FALSE = None, ("true",), ("false",)
 
 
 class Model:
@@ -96,12 +96,12 @@ class Model:
             if around and sign == 1 and self.generator.below(4):
                 return "name", self.generator.one_of(around)
             if self.generator.below(4) == 0:
-                return self.generator.one_of((TRUE, ("false",)))
+                return self.generator.one_of((TRUE, FALSE))
             return self.test()
         if choose <= 2 and sign == 1 and len(around) < 3:
             return self.fixpoint(around, depth)
         if choose <= 5:
-            operand = self.formula(around, sign, depth - 1) if sign == 1 else self.generator.one_of((TRUE, ("false",)))
+            operand = self.formula(around, sign, depth - 1) if sign == 1 else self.generator.one_of((TRUE, FALSE))
             return (self.generator.one_of(("box", "diamond")), *self.steps(2), operand)
         if choose == 9 and sign == 1:
             return self.word(around, depth)

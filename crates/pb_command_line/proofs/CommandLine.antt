@@ -1,13 +1,15 @@
 -- What clap makes of words: the request that it reads, or the fault that it finds.
-use Rattle.std.proofs.Common.{◌≡◌, ◌∙◌, ℕ, true, false, List, [], ◌∷◌, Option, Some, None, option_map, codes, refl, sym, ap, ap₂, subst, inl, inr, arith}
-use Rattle.std.specs.Prelude.{Result, Ok, Err, IfOk, string_bytes}
-use Rattle.std.specs.Global.{Box}
+use Rattle.std.proofs.Common.{◌≡◌, ◌∙◌, ℕ, true, false, List, [], ◌∷◌, Option, Some, None, option_map, codes, unwrap_or, refl, sym, ap, ap₂, subst, inl, inr, arith}
+use Rattle.std.specs.Prelude.{Result, Ok, Err, IfOk, option_to_list}
+use denote.RawPtr.{null_ptr}
+use Rattle.std.specs.Global.{Box, Global, Vec}
+use Rattle.std.specs.declared.string.String.{String}
 use Rattle.std.specs.Box.{box_value}
 use Rattle.clap.specs.Faults.{fault_of, is_simple_and_free}
 use Rattle.clap.specs.Kinds.{HasKind, IsAmong}
 use Rattle.clap.specs.Simple.{App, HasMatchesOf, is_simple, subcommand_of, subcommand_rows}
 use Rattle.clap.specs.Matches.{found_of, subcommand_name_of}
-use Rattle.clap.specs.Walk.{Row, rows_of}
+use Rattle.clap.specs.Walk.{Row, all_of, first_of, rows_of}
 use Rattle.clap.specs.Words.{kind_of}
 use Rattle.clap.specs.declared.builder.value_parser.Reading.TheVariants.{AsWritten}
 use Rattle.clap.specs.declared.parser.matches.ValueSource.TheVariants.{DefaultValue}
@@ -18,13 +20,18 @@ use Rattle.clap.specs.declared.parser.matches.ArgMatches.TheViews.{out-ArgMatche
 use Rattle.clap.proofs.OnLiterals.{clap_on_literals}
 use Rattle.pb_game.specs.declared.solver.Solver.TheVariants.{Zielonka}
 use Rattle.pb_command_line.specs.declared.command.Command.{Command}
-use Rattle.pb_command_line.specs.declared.command.Command.TheVariants.{Solve, Game, Solution, Certificate, Explain, Compile, Verify, List as ListModule, SolveCode, Translate, Check, Why}
+use Rattle.pb_command_line.specs.declared.command.Command.TheVariants as command
 use Rattle.pb_command_line.specs.declared.request.Request.{Request}
+use Rattle.pb_command_line.specs.declared.request.Request.TheVariants.{Rule, Check, Input}
+use Rattle.pb_command_line.specs.declared.request.Task.TheVariants as task
+use Rattle.pb_command_line.specs.Line.{command_line}
+use Rattle.pb_command_line.specs.Options.{HasOptions, IsChosenBy, IsSetBy, IsSolvingOf, IsWorkersOf}
+use Rattle.pb_command_line.specs.declared.options.Solving.{Solving}
 use Rattle.pb_command_line.specs.declared.words.Usage.{Usage}
 use Rattle.pb_errors.specs.OrMemory.{IfFault, OnRefused}
 use Rattle.pb_errors.specs.declared.or_memory.OrMemory.{OrMemory}
 use Rattle.pb_errors.specs.declared.or_memory.OrMemory.TheVariants.{Refused, Memory}
-use Rattle.pb_command_line.specs.Words.{command_line, command_name, words_error_of, AskFor, AskForSomething, AskPlainly, HaveFault, IsRequestOf, IsSetBy, option_word}
+use Rattle.pb_command_line.specs.Words.{command_name, command_of, property_names, words_error_of, AskFor, AskForSomething, AskPlainly, HaveFault, NeedsNoWord}
 
 line_is_simple : is_simple command_line ≡ true
 unfolding clap_on_literals
@@ -37,20 +44,21 @@ line_is_free = refl
 -- ---- the word of a command alone
 
 -- clap finds no fault in the word of a command behind any name
-no_fault : (name : List ℕ) (command : Command) → fault_of command_line (name ∷ command_name command ∷ []) ≡ []
+no_fault : (name : List ℕ) (command : Command) → NeedsNoWord command → fault_of command_line (name ∷ command_name command ∷ []) ≡ []
 unfolding clap_on_literals
-no_fault name Solve = refl
-no_fault name Game = refl
-no_fault name Solution = refl
-no_fault name Certificate = refl
-no_fault name Explain = refl
-no_fault name Compile = refl
-no_fault name Verify = refl
-no_fault name ListModule = refl
-no_fault name SolveCode = refl
-no_fault name Translate = refl
-no_fault name Check = refl
-no_fault name Why = refl
+no_fault name command.Solve alone = refl
+no_fault name command.Game alone = refl
+no_fault name command.Solution alone = refl
+no_fault name command.Certificate alone = refl
+no_fault name command.Explain alone = refl
+no_fault name command.Compile alone = refl
+no_fault name command.Verify alone = refl
+no_fault name command.List alone = refl
+no_fault name command.SolveCode alone = refl
+no_fault name command.Translate alone = refl
+no_fault name command.Check alone = refl
+no_fault name command.Why alone = refl
+no_fault name command.Rule alone = absurd alone
 
 -- what it reads of an option without a word that isn't given
 unset : List ℕ → Row
@@ -58,84 +66,155 @@ unset name = record { id = name; values = codes "false" ∷ []; count = None; so
 
 -- what it reads of a command's options where none stands
 no_option : Command → List Row
-no_option Explain = unset (codes "places") ∷ []
-no_option Why = unset (codes "lines") ∷ []
+no_option command.Explain = unset (codes "places") ∷ []
+no_option command.Check = unset (codes "status") ∷ unset (codes "counts") ∷ []
+no_option command.Why = unset (codes "lines") ∷ []
 no_option _ = []
 
 -- and reads that command in it, with no option
-command_alone : (name : List ℕ) (command : Command) → subcommand_of command_line (name ∷ command_name command ∷ []) ≡ Some (command_name command, no_option command)
+command_alone : (name : List ℕ) (command : Command) → NeedsNoWord command
+    → subcommand_of command_line (name ∷ command_name command ∷ []) ≡ Some (command_name command, no_option command)
 unfolding clap_on_literals no_option unset
-command_alone name Solve = refl
-command_alone name Game = refl
-command_alone name Solution = refl
-command_alone name Certificate = refl
-command_alone name Explain = refl
-command_alone name Compile = refl
-command_alone name Verify = refl
-command_alone name ListModule = refl
-command_alone name SolveCode = refl
-command_alone name Translate = refl
-command_alone name Check = refl
-command_alone name Why = refl
+command_alone name command.Solve alone = refl
+command_alone name command.Game alone = refl
+command_alone name command.Solution alone = refl
+command_alone name command.Certificate alone = refl
+command_alone name command.Explain alone = refl
+command_alone name command.Compile alone = refl
+command_alone name command.Verify alone = refl
+command_alone name command.List alone = refl
+command_alone name command.SolveCode alone = refl
+command_alone name command.Translate alone = refl
+command_alone name command.Check alone = refl
+command_alone name command.Why alone = refl
+command_alone name command.Rule alone = absurd alone
 
-plain_request : Command → Request
-plain_request command = record { command = command; workers = 1; solver = Zielonka; places = false; lines = false; property = None; some = omega arith; few = omega arith }
+-- the request of a command alone: one worker, Zielonka's algorithm, no property and nothing more
+plain_solving : Solving
+plain_solving = record { workers = 1; solver = Zielonka; some = omega arith; few = omega arith }
+
+-- no words
+no_properties : Vec (String Global)
+no_properties = record { ptr = null_ptr; len = 0; cap = 0; alloc = record { memory = record { seal = tt } }; items = []; ok = (refl, omega arith); small = omega arith }
+
+plain_request : (command : Command) → NeedsNoWord command → Request
+plain_request command.Solve alone = Input (task.Solve plain_solving)
+plain_request command.Game alone = Input (task.Game (record { workers = 1; some = omega arith; few = omega arith }))
+plain_request command.Solution alone = Input (task.Solution plain_solving)
+plain_request command.Certificate alone = Input (task.Certificate plain_solving)
+plain_request command.Explain alone = Input (task.Explain (record { workers = 1; places = false; some = omega arith; few = omega arith }))
+plain_request command.Compile alone = Input task.Compile
+plain_request command.Verify alone = Input task.Verify
+plain_request command.List alone = Input task.List
+plain_request command.SolveCode alone = Input (task.SolveCode plain_solving)
+plain_request command.Translate alone = Input (task.Translate (record { property = None }))
+plain_request command.Check alone = Check (record { solving = plain_solving; properties = no_properties; status = false; counts = false })
+plain_request command.Why alone = Input (task.Why (record { workers = 1; property = None; lines = false; some = omega arith; few = omega arith }))
+plain_request command.Rule alone = absurd alone
 
 not_set : (word : Option (List ℕ)) → (word ≡ Some (codes "true") → ⊥) → IsSetBy word false
 not_set word untold = (λ told. absurd (cc told), λ told. absurd (untold told))
 
-plain_read : (command : Command) → IsRequestOf (Some (command_name command, no_option command)) (plain_request command)
-unfolding plain_request no_option unset
-plain_read Solve = record { command = refl; workers = refl; solver = refl; places = not_set None (λ told. cc told); lines = not_set None (λ told. cc told); property = refl }
-plain_read Game = record { command = refl; workers = refl; solver = refl; places = not_set None (λ told. cc told); lines = not_set None (λ told. cc told); property = refl }
-plain_read Solution = record { command = refl; workers = refl; solver = refl; places = not_set None (λ told. cc told); lines = not_set None (λ told. cc told); property = refl }
-plain_read Certificate = record { command = refl; workers = refl; solver = refl; places = not_set None (λ told. cc told); lines = not_set None (λ told. cc told); property = refl }
-plain_read Explain = record { command = refl; workers = refl; solver = refl; places = not_set (Some (codes "false")) (λ told. cc told); lines = not_set None (λ told. cc told); property = refl }
-plain_read Compile = record { command = refl; workers = refl; solver = refl; places = not_set None (λ told. cc told); lines = not_set None (λ told. cc told); property = refl }
-plain_read Verify = record { command = refl; workers = refl; solver = refl; places = not_set None (λ told. cc told); lines = not_set None (λ told. cc told); property = refl }
-plain_read ListModule = record { command = refl; workers = refl; solver = refl; places = not_set None (λ told. cc told); lines = not_set None (λ told. cc told); property = refl }
-plain_read SolveCode = record { command = refl; workers = refl; solver = refl; places = not_set None (λ told. cc told); lines = not_set None (λ told. cc told); property = refl }
-plain_read Translate = record { command = refl; workers = refl; solver = refl; places = not_set None (λ told. cc told); lines = not_set None (λ told. cc told); property = refl }
-plain_read Check = record { command = refl; workers = refl; solver = refl; places = not_set None (λ told. cc told); lines = not_set None (λ told. cc told); property = refl }
-plain_read Why = record { command = refl; workers = refl; solver = refl; places = not_set None (λ told. cc told); lines = not_set (Some (codes "false")) (λ told. cc told); property = refl }
+not_told : {P : Type 0} → Some (codes "false") ≡ Some (codes "true") → P
+not_told told = absurd (cc told)
+
+plain_solved : (rows : List Row) → first_of (codes "workers") rows ≡ None → first_of (codes "solver") rows ≡ None → IsSolvingOf rows plain_solving
+unfolding plain_solving
+plain_solved rows no_workers no_solver = record {
+  workers = subst (λ w. IsWorkersOf w 1) (sym no_workers) refl;
+  solver = subst (λ w. IsChosenBy w Zielonka) (sym no_solver) refl;
+}
+
+plain_read : (command : Command) (alone : NeedsNoWord command) → HasOptions (no_option command) (plain_request command alone)
+unfolding plain_request no_option unset no_properties
+plain_read command.Solve alone = plain_solved [] refl refl
+plain_read command.Game alone = refl
+plain_read command.Solution alone = plain_solved [] refl refl
+plain_read command.Certificate alone = plain_solved [] refl refl
+plain_read command.Explain alone = record { workers = refl; places = not_set _ not_told }
+plain_read command.Compile alone = tt
+plain_read command.Verify alone = tt
+plain_read command.List alone = tt
+plain_read command.SolveCode alone = plain_solved [] refl refl
+plain_read command.Translate alone = refl
+plain_read command.Check alone = record { solving = plain_solved (unset (codes "status") ∷ unset (codes "counts") ∷ []) refl refl; properties = refl; status = not_set _ not_told; counts = not_set _ not_told }
+plain_read command.Why alone = record { workers = refl; property = refl; lines = not_set _ not_told }
+plain_read command.Rule alone = absurd alone
+
+plain_command : (command : Command) (alone : NeedsNoWord command) → command_of (plain_request command alone) ≡ command
+unfolding plain_request
+plain_command command.Solve alone = refl
+plain_command command.Game alone = refl
+plain_command command.Solution alone = refl
+plain_command command.Certificate alone = refl
+plain_command command.Explain alone = refl
+plain_command command.Compile alone = refl
+plain_command command.Verify alone = refl
+plain_command command.List alone = refl
+plain_command command.SolveCode alone = refl
+plain_command command.Translate alone = refl
+plain_command command.Check alone = refl
+plain_command command.Why alone = refl
+plain_command command.Rule alone = absurd alone
 
 -- so it asks for that command by one worker
 pub plain_words_ask : (words : List (List ℕ)) → AskPlainly words → AskForSomething words
-plain_words_ask words plain =
-    let asked : AskFor (plain.0 ∷ command_name plain.1 ∷ []) (plain_request plain.1) = record {
-      faultless = no_fault plain.0 plain.1;
-      read = subst (λ found. IsRequestOf found (plain_request plain.1)) (sym (command_alone plain.0 plain.1)) (plain_read plain.1);
+plain_words_ask words (name, command, alone, is) =
+    let request = plain_request command alone in
+    let asked : AskFor (name ∷ command_name command ∷ []) request = record {
+      faultless = no_fault name command alone;
+      rows = no_option command;
+      read = command_alone name command alone
+          ∙ ap (λ c. Some (command_name c, no_option command)) (sym (plain_command command alone));
+      options = plain_read command alone;
     } in
-    (plain_request plain.1, subst (λ ws. AskFor ws (plain_request plain.1)) (sym plain.2) asked)
+    (request, subst (λ ws. AskFor ws request) (sym is) asked)
 
--- the word of a command alone names no property
-no_property_word : (command : Command) → option_word (codes "property") (Some (command_name command, no_option command)) ≡ None
+-- ---- the word of a command alone names no property
+
+-- no words stand behind `--property`
+abbrev NamesNone : List Row → Type 0
+NamesNone rows = (first_of (codes "property") rows ≡ None) × (unwrap_or (all_of (codes "property") rows) [] ≡ [])
+
+none_named : (rows : List Row) (request : Request) → NamesNone rows → HasOptions rows request → property_names request ≡ []
+none_named rows (Rule rule) none has = refl
+none_named rows (Input (task.Translate o)) none has = ap option_to_list (has ∙ none.0)
+none_named rows (Check o) none has = has.properties ∙ none.1
+none_named rows (Input (task.Why o)) none has = ap option_to_list (has.property ∙ none.0)
+none_named rows (Input (task.Solve o)) none has = refl
+none_named rows (Input (task.Game o)) none has = refl
+none_named rows (Input (task.Solution o)) none has = refl
+none_named rows (Input (task.Certificate o)) none has = refl
+none_named rows (Input (task.Explain o)) none has = refl
+none_named rows (Input (task.SolveCode o)) none has = refl
+none_named rows (Input task.Compile) none has = refl
+none_named rows (Input task.Verify) none has = refl
+none_named rows (Input task.List) none has = refl
+
+no_names : (command : Command) → NeedsNoWord command → NamesNone (no_option command)
 unfolding no_option unset
-no_property_word Solve = refl
-no_property_word Game = refl
-no_property_word Solution = refl
-no_property_word Certificate = refl
-no_property_word Explain = refl
-no_property_word Compile = refl
-no_property_word Verify = refl
-no_property_word ListModule = refl
-no_property_word SolveCode = refl
-no_property_word Translate = refl
-no_property_word Check = refl
-no_property_word Why = refl
+no_names command.Solve alone = (refl, refl)
+no_names command.Game alone = (refl, refl)
+no_names command.Solution alone = (refl, refl)
+no_names command.Certificate alone = (refl, refl)
+no_names command.Explain alone = (refl, refl)
+no_names command.Compile alone = (refl, refl)
+no_names command.Verify alone = (refl, refl)
+no_names command.List alone = (refl, refl)
+no_names command.SolveCode alone = (refl, refl)
+no_names command.Translate alone = (refl, refl)
+no_names command.Check alone = (refl, refl)
+no_names command.Why alone = (refl, refl)
+no_names command.Rule alone = absurd alone
 
-mapped_none : {A B : Type 0} (f : A → B) (x : Option A) → option_map f x ≡ None → x ≡ None
-mapped_none f None e = refl
-mapped_none f (Some x) e = absurd (cc e)
-
-plain_names_none : (words : List (List ℕ)) → AskPlainly words → (request : Request) → AskFor words request → request.property ≡ None
-plain_names_none words plain request asked =
-    let read = subst (λ (ws : List (List ℕ)). IsRequestOf (subcommand_of command_line ws) request) plain.2 asked.read in
-    let alone = subst (λ (found : Option (List ℕ × List Row)). IsRequestOf found request) (command_alone plain.0 plain.1) read in
-    mapped_none string_bytes request.property (sym alone.property ∙ no_property_word plain.1)
+plain_names_none : (words : List (List ℕ)) → AskPlainly words → (request : Request) → AskFor words request → property_names request ≡ []
+plain_names_none words (name, command, alone, is) request asked =
+    let read = sym asked.read ∙ ap (subcommand_of command_line) is ∙ command_alone name command alone in
+    let rows_are : asked.rows ≡ no_option command = ap (λ o. unwrap_or (option_map (λ p. p.1) o) []) read in
+    none_named asked.rows request (subst NamesNone (sym rows_are) (no_names command alone)) asked.options
 
 pub plain_results_name_none : {E : Type 0} (words : List (List ℕ)) → AskPlainly words → (r : Result Request E) → IfOk r (AskFor words)
-    → IfOk r (λ request. request.property ≡ None)
+    → IfOk r (λ request. property_names request ≡ [])
 plain_results_name_none words plain (Ok request) asked = plain_names_none words plain request asked
 plain_results_name_none words plain (Err e) asked = tt
 
@@ -186,3 +265,40 @@ clap_refuses a words error app_is fails = elim (fails (ap is_simple_and_free app
   | inr among ↦ on_fault (words_error_of (kind_of error)) (λ asked.
       subst (IsAmong (kind_of error)) (ap (λ b. fault_of b words) app_is ∙ asked.1.faultless) among)
 ]
+
+-- ---- from what clap reads to what is asked
+
+module _ (words : List (List ℕ)) (name : List ℕ) (rows : List Row) (read : Some (name, rows) ≡ subcommand_of command_line words) where
+  pub asks : {E : Type 0} (command : Command) → fault_of command_line words ≡ [] → name ≡ command_name command → (r : Result Request E)
+      → IfOk r (λ request. command_of request ≡ command) → IfOk r (HasOptions rows) → IfOk r (AskFor words)
+  asks command faultless named (Ok request) same has = record {
+    faultless = faultless;
+    rows = rows;
+    read = sym read ∙ ap (λ (n : List ℕ). Some (n, rows)) (named ∙ ap command_name (sym same));
+    options = has;
+  }
+  asks command faultless named (Err e) same has = tt
+
+  name_of : (o : Option (List ℕ × List Row)) → List ℕ
+  name_of o = unwrap_or (option_map (λ p. p.0) o) []
+
+  -- what is asked for has that name, and those rows
+  asked_name : (request : Request) → AskFor words request → name ≡ command_name (command_of request)
+  unfolding name_of
+  asked_name request asked = ap name_of (read ∙ asked.read)
+
+  asked_rows : (request : Request) (asked : AskFor words request) → asked.rows ≡ rows
+  asked_rows request asked = sym (ap (λ (o : Option (List ℕ × List Row)). unwrap_or (option_map (λ p. p.1) o) []) (read ∙ asked.read))
+
+  -- where no options can be read, nothing is asked for
+  pub unread : {T : Type 0} (command : Command) → ((other : Command) → name ≡ command_name other → Some command ≡ Some other) → (r : Result T (OrMemory Usage))
+      → OnRefused r ((request : Request) → command_of request ≡ command → HasOptions rows request → ⊥) → OnRefused r (HaveFault words)
+  unread command every (Ok x) none = tt
+  unread command every (Err Memory) none = tt
+  unread command every (Err (Refused usage)) none = λ (request, asked).
+      let same : command_of request ≡ command = cc (every (command_of request) (asked_name request asked)) in
+      none request same (subst (λ rs. HasOptions rs request) (asked_rows request asked) asked.options)
+
+  -- nor where the name is no command's
+  pub unnamed : ((other : Command) → name ≡ command_name other → None ≡ Some other) → (e : OrMemory Usage) → IfFault e (λ _. HaveFault words)
+  unnamed none e = on_fault e (λ (request, asked). absurd (cc (none (command_of request) (asked_name request asked))))

@@ -1,3 +1,2 @@
 mod CommandLine
 mod OneWord
-mod Options

@@ -12,7 +12,8 @@ use Rattle.clap.proofs.SimpleLemmas.{label_first}
 use Rattle.clap.proofs.OnLiterals.{clap_on_literals}
 use Rattle.pb_command_line.specs.declared.command.Command.{Command}
 use Rattle.pb_command_line.specs.declared.request.Request.{Request}
-use Rattle.pb_command_line.specs.Words.{command_line, command_name, AskFor, AskNothing}
+use Rattle.pb_command_line.specs.Line.{command_line}
+use Rattle.pb_command_line.specs.Words.{command_name, command_of, AskFor, AskNothing}
 
 -- clap reads this command in the words, the first of which is the program's name
 abbrev Asks : List Text → Command → Type 0
@@ -127,5 +128,5 @@ nothing_is_asked (name ∷ word ∷ other ∷ more) command nothing asks = nothi
 
 -- and are no request
 pub no_request : {E : Type 0} (words : List Text) → AskNothing words → (r : Result Request E) → IfOk r (AskFor words) → IfOk r (λ request. ⊥)
-no_request words nothing (Ok request) asked = nothing_is_asked words request.command nothing asked.read.command
+no_request words nothing (Ok request) asked = nothing_is_asked words (command_of request) nothing (ap (option_map (λ p. p.0)) asked.read)
 no_request words nothing (Err e) asked = tt

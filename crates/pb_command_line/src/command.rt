@@ -29,6 +29,8 @@ pub enum Command {
     Check,
     /// Why a property of a model holds or doesn't.
     Why,
+    /// What a rule says.
+    Rule,
 }
 
 impl Command {
@@ -51,6 +53,7 @@ impl Command {
             Command::Translate => "translate",
             Command::Check => "check",
             Command::Why => "why",
+            Command::Rule => "rule",
         }
     }
 
@@ -73,6 +76,7 @@ impl Command {
             "translate" => Some(Command::Translate),
             "check" => Some(Command::Check),
             "why" => Some(Command::Why),
+            "rule" => Some(Command::Rule),
             _ => None,
         }
     }

@@ -2,9 +2,13 @@
 #![tactic(auto)]
 
 pub mod command;
+mod line;
+pub mod options;
+mod read;
 pub mod request;
 mod words;
 
 pub use command::Command;
-pub use request::Request;
+pub use options::{Checking, Explaining, Exploring, Showing, Solving, Translating};
+pub use request::{Request, Task};
 pub use words::{Usage, WordsError, request_of};

@@ -13,7 +13,7 @@ use Rattle.pb_bytecode.specs.declared.fault.ModuleFault.{ModuleFault}
 use Rattle.pb_verifier.specs.FaultText as code_fault
 use Rattle.pb_verifier.specs.declared.verify_error.CodeFault.{CodeFault}
 use Rattle.pb_faults.specs.declared.property_fault.PropertyExcess.{PropertyExcess}
-use Rattle.pb_faults.specs.declared.property_fault.PropertyExcess.TheVariants.{Code, Game}
+use Rattle.pb_faults.specs.declared.property_fault.PropertyExcess.TheVariants.{Text, Code, Game}
 use Rattle.pb_faults.specs.declared.property_fault.PropertyFault.{PropertyFault}
 use Rattle.pb_faults.specs.declared.fault.ProgramFault.{ProgramFault}
 use Rattle.pb_faults.specs.declared.fault.ProgramFault.TheVariants.{U01, U02, E01, E02, M01}
@@ -49,6 +49,7 @@ typing_line fault = line_at (rule_number fault.rule) fault.place
 
 -- what of a property of a model is too large, and where its name stands
 abbrev pub property_rule : PropertyExcess → List ℕ
+property_rule Text = codes "T12"
 property_rule (Code limit) = limit_number limit
 property_rule Game = codes "G01"
 

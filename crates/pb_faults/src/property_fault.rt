@@ -1,15 +1,17 @@
 //! A property of a model that is too large to be answered.
 ghost use Rattle.std.specs.Prelude.{◌≡◌, ◌≤◌, length};
-ghost use Rattle.pb_faults.specs.Lines.{property_rule};
 
 use crate::error_line::placed_line;
 use crate::{ErrorLine, Line};
 use pb_bytecode::Limit;
 use pb_text_tree::Place;
+use pb_typing_declarations::TypingRule;
 
 /// What of a property is too large.
 #[derive(Clone, Copy, Debug, PartialEq, Eq)]
 pub enum PropertyExcess {
+    /// `T12`: its text passes a limit of texts.
+    Text,
     /// `C01` to `C06`: the code of an equation of its text exceeds this limit.
     Code(Limit),
     /// `G01`: its game has more than 2^24 vertices.
@@ -23,13 +25,19 @@ pub struct PropertyFault {
     pub place: Place,
 }
 
-fn property_rule(excess: PropertyExcess) -> &'static str
-    ensures number { result.now ≡ property_rule excess }
-    ensures short { length result.now ≤ 3 }
-{
-    match excess {
-        PropertyExcess::Code(limit) => limit.number(),
-        PropertyExcess::Game => "G01",
+impl PropertyExcess {
+    ghost use Rattle.pb_faults.specs.Lines.{property_rule};
+
+    /// The number of the rule by which the property is refused.
+    pub fn number(self) -> &'static str
+        ensures number { result.now ≡ property_rule self }
+        ensures short { length result.now ≤ 3 }
+    {
+        match self {
+            PropertyExcess::Text => TypingRule::Limit.number(),
+            PropertyExcess::Code(limit) => limit.number(),
+            PropertyExcess::Game => "G01",
+        }
     }
 }
 
@@ -39,6 +47,6 @@ impl ErrorLine for PropertyFault {
     ghost line = { property_line };
 
     fn error_line(&self) -> Line {
-        placed_line(property_rule(self.excess), self.place)
+        placed_line(self.excess.number(), self.place)
     }
 }

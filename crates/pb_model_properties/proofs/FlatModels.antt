@@ -1,5 +1,5 @@
 -- The model to which a protocol is unfolded, and what keeps it from being that.
-use Rattle.std.proofs.Common.{◌≡◌, ◌∙◌, Bool, true, false, ℕ, List, [], ◌∷◌, ◌++◌, zero, suc, Option, Some, None, map, refl, sym, ap, ap₂, subst, inl, inr}
+use Rattle.std.proofs.Common.{◌≡◌, ◌∙◌, Bool, false, ℕ, List, [], ◌∷◌, ◌++◌, zero, suc, Option, Some, None, map, refl, sym, ap, ap₂, subst, inl, inr}
 use Rattle.std.specs.Prelude.{All, Contains, length, string_bytes}
 use Rattle.std.specs.List.{slice_get}
 use Rattle.std.proofs.lemmas.List.Elements.{All-cons, All-contains, All-nil}
@@ -17,7 +17,7 @@ use Rattle.pb_model_meaning.specs.Erase as model_text
 use Rattle.pb_model_spelling.specs.Protocols.{FormulaWritable, PropertyWritable, ProtocolWritable}
 use Rattle.pb_model_spelling.specs.Writable.{ModalWritable, ModelWritable}
 use Rattle.pb_protocol_spelling.specs.Laws.{FlatFormulasAreWritable, FlatModelsAreWritable}
-use Rattle.pb_model_places.specs.Apart.{NumberedStepsStandApart, lines_from}
+use Rattle.pb_model_places.specs.Apart.{lines_from}
 use Rattle.pb_model_places.specs.Apart.{formula_places}
 use Rattle.pb_model_runs.specs.Exact as model_places
 use Rattle.pb_model_words.specs.Vocabulary.{told_vocabulary}
@@ -48,7 +48,7 @@ use Rattle.pb_model_properties.specs.Faults.{as_model_fault}
 use Rattle.pb_model_properties.specs.Flat.{IsFlatModelFor, IsUnfoldedTo}
 use Rattle.pb_model_properties.specs.Refusals.{BreaksRules, IsRefusedProtocol, told_at, told_place}
 use Rattle.pb_model_properties.specs.Refusals.{step_place as step_place_of}
-use Rattle.pb_model_properties.specs.Said.{IsTheReading}
+use Rattle.pb_model_properties.specs.Solvable.{CanBeSolved}
 use Rattle.pb_model_properties.specs.Words.{AreNamesOf, words_where}
 
 -- ---- words
@@ -124,39 +124,27 @@ first_named [] qs e (p, at) = absurd (cc at)
 first_named (p ∷ ps) [] e first = absurd (cc e)
 first_named (p ∷ ps) (q ∷ qs) e first = (q, refl)
 
--- steps on lines of their own, and places of one of its properties
-abbrev pub NumberedStandsApart : ProtocolForm → Type 0
-NumberedStandsApart m =
-    (p : protocol_form.PropertyForm) (n : flat.ModelForm) (g : flat.FormulaForm) (line count : ℕ) → Contains m.properties p
-    → model_places.step_places n.steps ≡ lines_from line count
-    → ((q : Place) → Contains (model_places.formula_places g) q → Contains (formula_places p.formula) q) → model_places.stand_apart n g ≡ true
-
-pub stands_apart : NumberedStepsStandApart → (bytes : List ℕ) (m : ProtocolForm) → IsTheReading bytes m → NumberedStandsApart m
-stands_apart law bytes m read p n g line count among steps places = law bytes m p n g line count read.reading among steps places
-
 -- the laws that say that a flat model may be solved and told
 pub record Laws : Type 0 where
   pub solved : UnfoldedModelsAreSolved
-  pub apart : NumberedStepsStandApart
   pub models : FlatModelsAreWritable
   pub formulas : FlatFormulasAreWritable
 
-pub unfolded_is_flat : Laws → (bytes : List ℕ) (protocol : ProtocolForm) (u : Unfolded) → IsTheReading bytes protocol → ProtocolWritable (erase protocol)
-    → IsUnfoldedTo protocol u → ((p : protocol_form.PropertyForm) × (slice_get protocol.properties 0 ≡ Some p)) → IsFlatModelFor protocol (model_form u.model)
-unfolded_is_flat laws bytes protocol u read has is first =
+pub unfolded_is_flat : Laws → (protocol : ProtocolForm) (u : Unfolded) → CanBeSolved protocol → IsUnfoldedTo protocol u → IsFlatModelFor protocol (model_form u.model)
+unfolded_is_flat laws protocol u solvable is =
     let names = names_said u.model.properties.items ∙ is.names in
     let steps = places_said u.model.steps.items ∙ (is.steps ∙ numbered 0 (length u.model.steps.items)) in
     record {
       from = inr is.meaning;
       solved = laws.solved protocol (model_form u.model) is.hides_nothing is.meaning names;
-      first = first_named protocol.properties (model_form u.model).properties names first;
+      first = first_named protocol.properties (model_form u.model).properties names solvable.first;
       apart = λ q among.
           let from = is.places q among in
-          stands_apart laws.apart bytes protocol read from.0 (model_form u.model) q.formula 0 (length u.model.steps.items) from.1 steps
+          solvable.numbered from.0 (model_form u.model) q.formula 0 (length u.model.steps.items) from.1 steps
           (λ x inside. subst (λ (ps : List Place). Contains ps x) (same_places from.0.formula)
           (from.2 x (subst (λ (ps : List Place). Contains ps x) (flat_same q.formula) inside)));
-      writable = subst ModelWritable (sym is.meaning) (laws.models (erase protocol) has);
-      formulas = have_words laws.formulas protocol (model_form u.model) is.meaning has;
+      writable = subst ModelWritable (sym is.meaning) (laws.models (erase protocol) solvable.writable);
+      formulas = have_words laws.formulas protocol (model_form u.model) is.meaning solvable.writable;
     }
 
 -- told by the protocol's names

@@ -1,7 +1,9 @@
 -- What was made of a protocol that was read.
-use Rattle.std.proofs.Common.{◌≡◌, ◌∙◌, Bool, true, ℕ, zero, suc, List, [], ◌∷◌, Some, None, map, refl, sym, ap, subst, inl, inr}
-use Rattle.std.specs.Prelude.{Contains, Result, Ok, Err, IfOk}
+use Rattle.std.proofs.Common.{◌≡◌, ◌∙◌, Bool, true, false, ℕ, zero, suc, List, [], ◌∷◌, Some, None, length, map, refl, sym, ap, subst, inl, inr}
+use Rattle.std.specs.Prelude.{nat_lt, Contains, Result, Ok, Err, IfOk}
 use Rattle.std.specs.List.{slice_get}
+use Rattle.std.proofs.lemmas.List.{length-map}
+use Rattle.pb_limits.specs.declared.TheConstants.{MAX_PARAMETERS}
 use Rattle.pb_errors.specs.OrMemory.{IfFault, IfRefused, raised}
 use Rattle.pb_errors.specs.declared.or_memory.OrMemory.{OrMemory}
 use Rattle.pb_errors.specs.declared.or_memory.OrMemory.TheVariants.{Refused, Memory}
@@ -17,7 +19,7 @@ use Rattle.pb_protocol_tree.specs.Form as protocol_form
 use Rattle.pb_protocol_tree.specs.Form.{ProtocolForm}
 use Rattle.pb_protocol_meaning.specs.Erase.{erase}
 use Rattle.pb_unfolding.specs.Plain.{plain, IsPlain}
-use Rattle.pb_unfolder.specs.Plain.{is_plain, plain_form, plain_formula, plain_property}
+use Rattle.pb_unfolder.specs.Plain.{is_plain, plain_form, plain_formula, plain_property, plain_variable}
 use Rattle.pb_model_spelling.specs.Protocols.{ProtocolWritable}
 use Rattle.pb_model_places.specs.Apart.{KeptPlacesStandApart}
 use Rattle.pb_model_places.specs.Apart as places
@@ -25,8 +27,10 @@ use Rattle.pb_model_text.specs.Parsing.{IsFirstModelFault, NoModelReading}
 use Rattle.pb_solved_model.specs.Laws.{PlainModelsAreSolved, model_property_names, property_names}
 use Rattle.pb_model_properties.specs.declared.error.ModelFault.{ModelFault}
 use Rattle.pb_model_properties.specs.declared.error.ModelFault.TheVariants as model_fault
-use Rattle.pb_model_properties.specs.Refusals.{IsRefusedModel, IsRefusedProtocol, told_at, told_fault, told_place}
+use Rattle.pb_model_properties.specs.Made.{has_many_variables}
+use Rattle.pb_model_properties.specs.Refusals.{IsRefusedModel, IsRefusedProtocol, IsUnread, told_at, told_fault, told_place}
 use Rattle.pb_model_properties.specs.Said.{IsModelOf, IsTheReading}
+use Rattle.pb_model_properties.specs.Solvable.{CanBeSolved}
 use Rattle.pb_model_properties.specs.Flat.{IsFlatModelFor}
 use Rattle.pb_model_properties.specs.declared.solved.SolvedModel.{SolvedModel}
 use Rattle.pb_model_properties.specs.Words.{AreNamesOf, IsToldModel, IsToldModelOf, words_where}
@@ -46,24 +50,22 @@ first_plain (p ∷ ps) first = (p, refl)
 names_kept : (protocol : ProtocolForm) (m : ModelForm) → protocol ≡ plain_form m → model_property_names m.properties ≡ property_names protocol.properties
 names_kept protocol m words = plain_names m.properties ∙ ap (λ (x : ProtocolForm). property_names x.properties) (sym words)
 
--- what a protocol that was read says of its model, where it is plain
-pub record IsPlainReading (protocol : ProtocolForm) (m : ModelForm) : Type 0 where
+-- what a plain protocol says of its model
+pub record IsPlainFor (protocol : ProtocolForm) (m : ModelForm) : Type 0 where
   pub words : protocol ≡ plain_form m
   pub meaning : erase protocol ≡ plain (model_text.erase m)
-  pub first : (p : protocol_form.PropertyForm) × (slice_get protocol.properties 0 ≡ Some p)
-  pub apart : (q : protocol_form.PropertyForm) → Contains protocol.properties q → places.stand_apart protocol q.formula ≡ true
+  pub solvable : CanBeSolved protocol
   pub kept : KeptPlacesStandApart
-  pub writable : ProtocolWritable (erase protocol)
 
-pub plain_is_flat : PlainModelsAreSolved → (protocol : ProtocolForm) (m : ModelForm) → IsPlainReading protocol m → IsPlain (model_text.erase m) → IsFlatModelFor protocol m
+pub plain_is_flat : PlainModelsAreSolved → (protocol : ProtocolForm) (m : ModelForm) → IsPlainFor protocol m → IsPlain (model_text.erase m) → IsFlatModelFor protocol m
 plain_is_flat law protocol m is plainly =
-    let has : ProtocolWritable (plain (model_text.erase m)) = subst ProtocolWritable is.meaning is.writable in
+    let has : ProtocolWritable (plain (model_text.erase m)) = subst ProtocolWritable is.meaning is.solvable.writable in
     let apart : (q : protocol_form.PropertyForm) → Contains (plain_form m).properties q → places.stand_apart (plain_form m) q.formula ≡ true =
-    subst (λ (x : ProtocolForm). (q : protocol_form.PropertyForm) → Contains x.properties q → places.stand_apart x q.formula ≡ true) is.words is.apart in
+    subst (λ (x : ProtocolForm). (q : protocol_form.PropertyForm) → Contains x.properties q → places.stand_apart x q.formula ≡ true) is.words is.solvable.apart in
     record {
       from = inl is.words;
       solved = law protocol m plainly is.meaning (names_kept protocol m is.words);
-      first = first_plain m.properties (subst (λ (x : ProtocolForm). (p : protocol_form.PropertyForm) × (slice_get x.properties 0 ≡ Some p)) is.words is.first);
+      first = first_plain m.properties (subst (λ (x : ProtocolForm). (p : protocol_form.PropertyForm) × (slice_get x.properties 0 ≡ Some p)) is.words is.solvable.first);
       apart = λ p among. is.kept (plain_form m) (plain_formula p.formula) m p.formula (apart (plain_property p) (property_among m p among)) (plain_steps m.steps)
           (plain_places p.formula);
       writable = model_has (model_text.erase m) has;
@@ -74,6 +76,11 @@ plain_is_flat law protocol m is plainly =
 pub plain_names_of : (protocol : ProtocolForm) (m : ModelForm) → is_plain protocol ≡ true → AreNamesOf protocol m None
 plain_names_of protocol m plainly = ap (λ (b : Bool). words_where b (erase protocol) m) (sym plainly)
 
+-- it has as many variables as the protocol
+pub plain_few : (protocol : ProtocolForm) (m : ModelForm) → protocol ≡ plain_form m → nat_lt MAX_PARAMETERS (length protocol.variables) ≡ false → has_many_variables m ≡ false
+plain_few protocol m words few =
+    sym (ap (λ (x : ProtocolForm). nat_lt MAX_PARAMETERS (length x.variables)) words ∙ ap (nat_lt MAX_PARAMETERS) (length-map m.variables plain_variable)) ∙ few
+
 -- ---- refusals
 
 -- where no steps are told, a place stays
@@ -81,32 +88,38 @@ place_stays : (p : Place) (column : ℕ) → p.column ≡ column → told_place 
 place_stays p zero e = ap (λ (k : ℕ). told_at k [] p) e ∙ refl
 place_stays p (suc k) e = ap (λ (k : ℕ). told_at k [] p) e ∙ refl
 
-untold : (f : TypingFault) → f ≡ told_fault [] f
+pub untold : (f : TypingFault) → f ≡ told_fault [] f
 untold f = ap (λ (p : Place). let x : TypingFault = record { rule = f.rule; place = p } in x) (sym (place_stays f.place f.place.column refl))
 
 -- a plain protocol's model that is not well typed
-pub plain_refused : (protocol : ProtocolForm) (m : ModelForm) → protocol ≡ plain_form m → (e : OrMemory TypingFault) (x : OrMemory ModelFault)
+pub plain_refused : (protocol : ProtocolForm) (m : ModelForm) → protocol ≡ plain_form m → has_many_variables m ≡ false → (e : OrMemory TypingFault) (x : OrMemory ModelFault)
     → raised (λ f above. above ≡ model_fault.Typing f) e x → IfFault e (IsModelFault m) → IfFault e (λ _. ¬ IsTypedModel m) → IfFault x (IsRefusedProtocol protocol)
-plain_refused protocol m words (Refused f) (Refused above) made fault ill = subst (IsRefusedProtocol protocol) (sym made) (inl (record {
+plain_refused protocol m words few (Refused f) (Refused above) made fault ill = subst (IsRefusedProtocol protocol) (sym made) (inl (record {
   model = m;
-  made = as_it_is m protocol (inl words);
+  made = as_it_is m few protocol (inl words);
   ill_typed = ill;
   broken = f;
   fails = fault;
   steps = [];
   told = untold f;
 }))
-plain_refused protocol m words (Refused f) Memory made fault ill = tt
-plain_refused protocol m words Memory (Refused above) made fault ill = absurd made
-plain_refused protocol m words Memory Memory made fault ill = tt
+plain_refused protocol m words few (Refused f) Memory made fault ill = tt
+plain_refused protocol m words few Memory (Refused above) made fault ill = absurd made
+plain_refused protocol m words few Memory Memory made fault ill = tt
 
 -- bytes that say no protocol are refused by the fault that stands first in them
 pub unread : (bytes : List ℕ) (e : OrMemory TextFault) (x : OrMemory ModelFault) → raised (λ f above. above ≡ model_fault.Text f) e x
-    → IfFault e (λ _. NoModelReading bytes) → IfFault e (IsFirstModelFault bytes) → IfFault x (IsRefusedModel bytes)
-unread bytes (Refused f) (Refused above) made none first = subst (IsRefusedModel bytes) (sym made) (inl (none, first))
+    → IfFault e (λ _. NoModelReading bytes) → IfFault e (IsFirstModelFault bytes) → IfFault x (IsUnread bytes)
+unread bytes (Refused f) (Refused above) made none first = subst (IsUnread bytes) (sym made) (none, first)
 unread bytes (Refused f) Memory made none first = tt
 unread bytes Memory (Refused above) made none first = absurd made
 unread bytes Memory Memory made none first = tt
+
+-- so they say no model
+pub unread_refused : (bytes : List ℕ) (f : ModelFault) → IsUnread bytes f → IsRefusedModel bytes f
+unread_refused bytes (model_fault.Text f) h = inl h
+unread_refused bytes (model_fault.Typing f) h = absurd h
+unread_refused bytes model_fault.NoProperty h = h
 
 -- a protocol that is refused
 refused_by : (bytes : List ℕ) (protocol : ProtocolForm) → IsTheReading bytes protocol → (f : ModelFault) → IsRefusedProtocol protocol f → IsRefusedModel bytes f

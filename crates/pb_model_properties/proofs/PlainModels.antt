@@ -3,7 +3,6 @@ use Rattle.std.proofs.Common.{◌≡◌, ◌∙◌, ℕ, Bool, true, false, true
 use Rattle.std.specs.Prelude.{codes, if◌then◌else◌}
 use Rattle.pb_fixpoint.specs.declared.Sign.TheVariants.{Nu}
 use Rattle.std.specs.List.{find}
-use Rattle.std.proofs.lemmas.List.Elements.{All-head}
 use Rattle.std.proofs.lemmas.Slice.Eq.{bytes_eq-Decides}
 use Rattle.pb_carriers.specs.Carrier.{Tuple, contains, is_within}
 use Rattle.pb_text_tree.specs.Form.{Named}
@@ -25,7 +24,7 @@ use Rattle.pb_model_translation.specs.Names as equation_names
 use Rattle.pb_model_translation.specs.Names.{translation}
 use Rattle.pb_model_translation.specs.Translation.{equation, right_side, translation_by}
 use Rattle.pb_model_typing.specs.Faults.{texts, new_faults, known_faults, assigned_names, step_faults, step_names, property_names, property_faults, names_faults, model_faults}
-use Rattle.pb_model_typing.specs.Texts.{every_step, HasTypedText, IsTypedModel}
+use Rattle.pb_model_typing.specs.Texts.{every_step, IsTypedModel}
 use Rattle.pb_model_typing.specs.Laws.{NamesAreApart}
 use Rattle.pb_folding.specs.Names.{IsNot, AreDistinct, AssignOnce, names_of}
 use Rattle.pb_unfolding.specs.Plain.{AreAsMany, IsPlain}
@@ -151,5 +150,5 @@ pub typed_is_plain : NamesAreApart → (m : ModelForm) → IsTypedModel m → Is
 typed_is_plain apart m typed = record {
   variables = distinct (erase m).variables (apart m typed.rules).variables;
   assignments = assign_once (texts (variable_names m.variables)) m.steps (steps_keep m typed.rules);
-  initial = initial_terms (erase m) (All-head (HasTypedText (erase m)) every_step _ typed.texts);
+  initial = initial_terms (erase m) (typed.steps);
 }

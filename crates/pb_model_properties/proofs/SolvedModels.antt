@@ -35,20 +35,26 @@ use Rattle.pb_model_properties.specs.declared.solved.SolvedModel.{SolvedModel}
 use Rattle.pb_model_properties.specs.declared.solved.ToldNames.{ToldNames}
 use Rattle.pb_model_properties.specs.declared.solved.UnpackedModel.{UnpackedModel}
 use Rattle.pb_model_properties.specs.Flat.{IsFlatModelFor}
-use Rattle.pb_model_properties.specs.Made.{IsFlatOf, IsMadeOf}
+use Rattle.pb_model_properties.specs.Made.{IsFlatOf, IsMadeOf, has_many_variables}
 use Rattle.pb_model_properties.specs.Refusals.{IsRefusedFlat, IsRefusedProtocol, told_fault}
 use Rattle.pb_model_properties.specs.Words.{AreNamesOf, IsSolvedFlat, IsToldModel}
 use Rattle.pb_model_properties.proofs.FlatProperties.{HasWords, StandsApart, all_apart, all_of, all_packed, can_be_said, first_kept}
 
 -- ---- the flat model as it is
 
-pub flat_told : TranslationsCanBeSaid → (m : Model) (t : TypedModel) (names : Option ToldNames) → t.model ≡ m → IsTypedModel (model_form m)
+pub flat_told : TranslationsCanBeSaid → (m : Model) (t : TypedModel) (names : Option ToldNames) → has_many_variables (model_form m) ≡ false → t.model ≡ m → IsTypedModel (model_form m)
     → IsSolvedFlat (model_form m) names (record { typed = t; names = names; unpacked = None })
-flat_told said m t names kept typed protocol is called =
+flat_told said m t names few kept typed protocol is called =
     let flat : IsFlatModelFor protocol (model_form t.model) = subst (λ (x : Model). IsFlatModelFor protocol (model_form x)) (sym kept) is in
     record {
       is_for = record {
-        made = record { flat = model_form t.model; from = flat.from; is_packed = false; made = refl };
+        made = record {
+          flat = model_form t.model;
+          from = flat.from;
+          is_packed = false;
+          where_many = sym (ap (λ (x : Model). has_many_variables (model_form x)) kept ∙ few);
+          made = refl;
+        };
         solved = flat.solved;
         typed = subst (λ (x : Model). IsTypedModel (model_form x)) (sym kept) typed;
         first = flat.first;
@@ -77,10 +83,11 @@ pub record IsPackedTo (m n : ModelForm) : Type 0 where
   pub places : property_places n ≡ property_places m
   pub few : size_faults m ≡ []
 
-pub packed_told : Laws → (u : UnpackedModel) (n : Model) (t : TypedModel) (names : Option ToldNames) → t.model ≡ n → IsTypedModel (model_form n)
+pub packed_told : Laws → (u : UnpackedModel) (n : Model) (t : TypedModel) (names : Option ToldNames) → has_many_variables (model_form u.model) ≡ true → t.model ≡ n
+    → IsTypedModel (model_form n)
     → IsPackedTo (model_form u.model) (model_form n) → groups_in u.groups.items ≡ groups_of (model_text.erase (model_form u.model))
     → IsSolvedFlat (model_form u.model) names (record { typed = t; names = names; unpacked = Some u })
-packed_told laws u n t names kept typed is_packed groups protocol is called =
+packed_told laws u n t names many kept typed is_packed groups protocol is called =
     let m = model_form u.model in
     let M = model_text.erase m in
     let to : IsPackedTo m (model_form t.model) = subst (λ (x : Model). IsPackedTo m (model_form x)) (sym kept) is_packed in
@@ -93,7 +100,7 @@ packed_told laws u n t names kept typed is_packed groups protocol is called =
     all_apart m (model_form t.model) to.steps m.properties (model_form t.model).properties to.places (all_of (StandsApart m) m.properties is.apart) in
     record {
       is_for = record {
-        made = record { flat = m; from = is.from; is_packed = true; made = (to.packable, to.meaning) };
+        made = record { flat = m; from = is.from; is_packed = true; where_many = sym many; made = (to.packable, to.meaning) };
         solved = laws.solved protocol m (model_form t.model) is.solved to.packable to.meaning to.names;
         typed = subst (λ (x : Model). IsTypedModel (model_form x)) (sym kept) typed;
         first = first_kept m.properties (model_form t.model).properties to.names is.first;
@@ -122,11 +129,11 @@ ill_typed_told m n of_flat steps (Refused f) Memory made fault ill = tt
 ill_typed_told m n of_flat steps Memory (Refused above) made fault ill = absurd made
 ill_typed_told m n of_flat steps Memory Memory made fault ill = tt
 
-pub as_it_is : (m : ModelForm) (protocol : ProtocolForm) → IsFlatOf protocol m → IsMadeOf protocol m
-as_it_is m protocol from = record { flat = m; from = from; is_packed = false; made = refl }
+pub as_it_is : (m : ModelForm) → has_many_variables m ≡ false → (protocol : ProtocolForm) → IsFlatOf protocol m → IsMadeOf protocol m
+as_it_is m few protocol from = record { flat = m; from = from; is_packed = false; where_many = sym few; made = refl }
 
-pub as_packed : (m n : ModelForm) → IsPackedTo m n → (protocol : ProtocolForm) → IsFlatOf protocol m → IsMadeOf protocol n
-as_packed m n to protocol from = record { flat = m; from = from; is_packed = true; made = (to.packable, to.meaning) }
+pub as_packed : (m n : ModelForm) → has_many_variables m ≡ true → IsPackedTo m n → (protocol : ProtocolForm) → IsFlatOf protocol m → IsMadeOf protocol n
+as_packed m n many to protocol from = record { flat = m; from = from; is_packed = true; where_many = sym many; made = (to.packable, to.meaning) }
 
 -- the flat model isn't packed
 pub not_packed_told : (m : ModelForm) (steps : List Place) (e : OrMemory TypingFault) (x : OrMemory ModelFault)

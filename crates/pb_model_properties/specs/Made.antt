@@ -1,5 +1,6 @@
 -- Which model is solved in a protocol's place.
-use Rattle.std.specs.Prelude.{◌≡◌, ◌⊎◌, Bool, true, false}
+use Rattle.std.specs.Prelude.{◌≡◌, ◌⊎◌, nat_lt, Bool, true, false, length}
+use Rattle.pb_limits.specs.declared.TheConstants.{MAX_PARAMETERS}
 use Rattle.pb_model_tree.specs.Form.{ModelForm}
 use Rattle.pb_model_meaning.specs.Erase as model_text
 use Rattle.pb_model_meaning.specs.Steps.{State}
@@ -24,11 +25,16 @@ IsPackedWhere true flat model =
     IsPackable (model_text.erase flat)
     × (model_text.erase model ≡ packed (model_text.erase flat))
 
--- a flat model of the protocol, packed or as it is
+-- it has more variables than a text has parameters
+abbrev pub has_many_variables : ModelForm → Bool
+has_many_variables model = nat_lt MAX_PARAMETERS (length model.variables)
+
+-- a flat model of the protocol, packed where it has many variables, else as it is
 pub record IsMadeOf (protocol : ProtocolForm) (model : ModelForm) : Type 0 where
   pub flat : ModelForm
   pub from : IsFlatOf protocol flat
   pub is_packed : Bool
+  pub where_many : is_packed ≡ has_many_variables flat
   pub made : IsPackedWhere is_packed flat model
 
 -- the values of a flat model's variables that a state of the model says, packed or as it is

@@ -1,16 +1,17 @@
 //! From a flat model to the one that is solved: itself, or packed where it has more variables than
 //! a text has parameters.
 
-ghost use Rattle.std.specs.Prelude.{IfOk};
+ghost use Rattle.std.specs.Prelude.{◌≡◌, true, false, IfOk};
 ghost use Rattle.pb_errors.specs.OrMemory.{IfRefused};
 ghost use Rattle.pb_model_tree.specs.Form.{model_form};
+ghost use Rattle.pb_model_properties.specs.Made.{has_many_variables};
 ghost use Rattle.pb_model_properties.specs.Refusals.{IsRefusedFlat};
 ghost use Rattle.pb_model_properties.specs.Words.{IsSolvedFlat};
 
+use crate::count::is_flat_state_large;
 use crate::error::ModelError;
 use crate::solved::{SolvedModel, ToldNames, UnpackedModel};
 use crate::told::told_error;
-use pb_limits::MAX_PARAMETERS;
 use pb_model_packer::pack_checked;
 use pb_model_spelling::translations_can_be_said;
 use pb_model_tree::Model;
@@ -19,26 +20,15 @@ use pb_protocol_spelling::{
     packed_formulas_are_writable, packed_groups_have_few_values, packed_models_are_writable,
 };
 use pb_solved_model::packed_models_are_solved;
-use pb_text_tree::Variables;
-use pb_unfolder::StepOrigin;
 use std::alloc::Global;
-
-/// Whether there are more state variables than a text has parameters.
-fn has_many_variables(state: &[Variables]) -> bool {
-    let mut count: usize = 0;
-    for group in state {
-        count = count.saturating_add(group.names.len());
-    }
-    count > MAX_PARAMETERS
-}
 
 /// A flat model as it is, checked.
 fn as_it_is(
     alloc: Global,
     model: Model,
     names: Option<ToldNames>,
-    origins: &[StepOrigin],
 ) -> Result<SolvedModel, ModelError>
+    requires { has_many_variables (model_form model) ≡ false }
     ensures model { IfOk result (IsSolvedFlat (model_form model) names) }
     ensures refused { IfRefused result (IsRefusedFlat (model_form model)) }
 {
@@ -49,17 +39,13 @@ fn as_it_is(
             names,
             unpacked: None,
         }),
-        Err((_model, error)) => Err(told_error(origins, error)),
+        Err((_model, error)) => Err(told_error(&names, error)),
     }
 }
 
 /// A flat model with its variables packed, checked.
-fn packed(
-    alloc: Global,
-    model: Model,
-    names: Option<ToldNames>,
-    origins: &[StepOrigin],
-) -> Result<SolvedModel, ModelError>
+fn packed(alloc: Global, model: Model, names: Option<ToldNames>) -> Result<SolvedModel, ModelError>
+    requires { has_many_variables (model_form model) ≡ true }
     ensures model { IfOk result (IsSolvedFlat (model_form model) names) }
     ensures refused { IfRefused result (IsRefusedFlat (model_form model)) }
 {
@@ -70,7 +56,7 @@ fn packed(
     packed_groups_have_few_values();
     let packed = match pack_checked(alloc, &model) {
         Ok(packed) => packed,
-        Err(error) => return Err(told_error(origins, error)),
+        Err(error) => return Err(told_error(&names, error)),
     };
     let groups = packed.groups;
     match check_model(alloc, packed.model) {
@@ -79,24 +65,23 @@ fn packed(
             names,
             unpacked: Some(UnpackedModel { model, groups }),
         }),
-        Err((_model, error)) => Err(told_error(origins, error)),
+        Err((_model, error)) => Err(told_error(&names, error)),
     }
 }
 
 /// The model that is solved in the place of a protocol that this flat one is for, told by these
-/// names: the flat one, packed where it has too many variables. Its steps come from those.
+/// names: the flat one, packed where it has too many variables.
 pub(crate) fn flat_solved(
     alloc: Global,
     model: Model,
     names: Option<ToldNames>,
-    origins: &[StepOrigin],
 ) -> Result<SolvedModel, ModelError>
     ensures model { IfOk result (IsSolvedFlat (model_form model) names) }
     ensures refused { IfRefused result (IsRefusedFlat (model_form model)) }
 {
-    if has_many_variables(&model.state) {
-        packed(alloc, model, names, origins)
+    if is_flat_state_large(alloc, &model.state)? {
+        packed(alloc, model, names)
     } else {
-        as_it_is(alloc, model, names, origins)
+        as_it_is(alloc, model, names)
     }
 }

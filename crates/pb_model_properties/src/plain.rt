@@ -1,48 +1,37 @@
 //! The model of a plain protocol.
 
-ghost use Rattle.std.specs.Prelude.{◌≡◌, ℕ, List, true, IfOk};
+ghost use Rattle.std.specs.Prelude.{◌≡◌, nat_lt, true, false, length, IfOk};
+ghost use Rattle.pb_limits.specs.declared.TheConstants.{MAX_PARAMETERS};
 ghost use Rattle.pb_errors.specs.OrMemory.{IfRefused};
 ghost use Rattle.pb_model_tree.specs.Form.{model_form};
 ghost use Rattle.pb_protocol_tree.specs.Form.{protocol_form};
 ghost use Rattle.pb_unfolder.specs.Plain.{is_plain};
 ghost use Rattle.pb_model_properties.specs.Refusals.{IsRefusedProtocol};
-ghost use Rattle.pb_model_properties.specs.Said.{IsTheReading};
+ghost use Rattle.pb_model_properties.specs.Solvable.{CanBeSolved};
 ghost use Rattle.pb_model_properties.specs.Words.{IsToldModel};
 
+use crate::count::is_state_large;
 use crate::error::ModelError;
 use crate::flat::flat_solved;
 use crate::solved::SolvedModel;
-use pb_limits::MAX_PARAMETERS;
 use pb_model_places::read_protocols_stand_apart;
-use pb_model_spelling::{
-    read_protocols_are_writable, read_protocols_have_properties, translations_can_be_said,
-};
+use pb_model_spelling::translations_can_be_said;
 use pb_model_typing::{check_model, names_are_apart};
 use pb_protocol_laws::plain_protocols_are_plain;
-use pb_protocol_tree::{Protocol, StateVariables};
+use pb_protocol_tree::Protocol;
 use pb_protocol_typing::check_protocol;
 use pb_solved_model::flat_models_are_solved;
 use pb_unfolder::plain_model;
 use std::alloc::Global;
 
-/// Whether there are more state variables than a text has parameters.
-fn has_many_variables(state: &[StateVariables]) -> bool {
-    let mut count: usize = 0;
-    for group in state {
-        count = count.saturating_add(group.variables.len());
-    }
-    count > MAX_PARAMETERS
-}
-
 /// A plain protocol's own model. What its check accepts keeps the rules of plain models.
 fn as_it_is(alloc: Global, protocol: Protocol) -> Result<SolvedModel, ModelError>
     requires plain { is_plain (protocol_form protocol) ≡ true }
-    requires read { (bytes : List ℕ) × IsTheReading bytes (protocol_form protocol) }
+    requires solvable { CanBeSolved (protocol_form protocol) }
+    requires few { nat_lt MAX_PARAMETERS (length (protocol_form protocol).variables) ≡ false }
     ensures model { IfOk result (IsToldModel (protocol_form protocol)) }
     ensures refused { IfRefused result (IsRefusedProtocol (protocol_form protocol)) }
 {
-    read_protocols_are_writable();
-    read_protocols_have_properties();
     read_protocols_stand_apart();
     translations_can_be_said();
     flat_models_are_solved();
@@ -62,12 +51,10 @@ fn as_it_is(alloc: Global, protocol: Protocol) -> Result<SolvedModel, ModelError
 /// it is.
 fn packed(alloc: Global, protocol: Protocol) -> Result<SolvedModel, ModelError>
     requires plain { is_plain (protocol_form protocol) ≡ true }
-    requires read { (bytes : List ℕ) × IsTheReading bytes (protocol_form protocol) }
+    requires solvable { CanBeSolved (protocol_form protocol) }
     ensures model { IfOk result (IsToldModel (protocol_form protocol)) }
     ensures refused { IfRefused result (IsRefusedProtocol (protocol_form protocol)) }
 {
-    read_protocols_are_writable();
-    read_protocols_have_properties();
     read_protocols_stand_apart();
     flat_models_are_solved();
     plain_protocols_are_plain();
@@ -76,17 +63,17 @@ fn packed(alloc: Global, protocol: Protocol) -> Result<SolvedModel, ModelError>
         Err(error) => return Err(error.raise()),
     }
     let model = plain_model(alloc, protocol)?;
-    flat_solved(alloc, model, None, &[])
+    flat_solved(alloc, model, None)
 }
 
 /// The model that is solved in a plain protocol's place: its own, or that one packed.
 pub(crate) fn plain_solved(alloc: Global, protocol: Protocol) -> Result<SolvedModel, ModelError>
     requires plain { is_plain (protocol_form protocol) ≡ true }
-    requires read { (bytes : List ℕ) × IsTheReading bytes (protocol_form protocol) }
+    requires solvable { CanBeSolved (protocol_form protocol) }
     ensures model { IfOk result (IsToldModel (protocol_form protocol)) }
     ensures refused { IfRefused result (IsRefusedProtocol (protocol_form protocol)) }
 {
-    if has_many_variables(&protocol.state) {
+    if is_state_large(alloc, &protocol.state)? {
         packed(alloc, protocol)
     } else {
         as_it_is(alloc, protocol)

@@ -9,13 +9,16 @@ use pb_model_tree::Model;
 use pb_model_typing::TypedModel;
 use pb_model_words::{Vocabulary, plain_vocabulary, told_vocabulary};
 use pb_packer::Group;
+use pb_text_tree::Place;
 use std::alloc::{AllocError, Global};
 
-/// What an unfolded model's variables and steps are called, in order.
+/// What an unfolded model's variables and steps are called, in order, and where the names of the
+/// steps stand in the protocol.
 #[derive(Debug, Drop)]
 pub struct ToldNames {
     pub variables: Vec<String>,
     pub steps: Vec<String>,
+    pub places: Vec<Place>,
 }
 
 /// A flat model whose variables are packed, and the groups that they are packed in.

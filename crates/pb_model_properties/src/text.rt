@@ -1,7 +1,7 @@
 //! The texts of a model's properties.
 
 ghost use Rattle.pb_limits.specs.declared.TheConstants.{MAX_INPUT_BYTES};
-ghost use Rattle.std.specs.Prelude.{◌≡◌, ◌<◌, ◌≤◌, ◌++◌, ℕ, List, length, IfOk, IsSome};
+ghost use Rattle.std.specs.Prelude.{◌≡◌, ◌<◌, ◌≤◌, ◌++◌, length, IfOk, IsSome};
 ghost use Rattle.std.specs.Prelude.{Err, Some, option_copied};
 ghost use Rattle.std.specs.List.{slice_get};
 ghost use Rattle.pb_errors.specs.declared.or_memory.OrMemory.TheVariants.{Refused};
@@ -13,29 +13,39 @@ ghost use Rattle.pb_text_printer.specs.Words.{text_bytes};
 ghost use Rattle.pb_model_words.specs.GroupLines.{group_lines};
 ghost use Rattle.pb_model_tree.specs.Form.{PropertyForm, model_form};
 ghost use Rattle.pb_model_properties.specs.Printed.{IsTranslation};
-ghost use Rattle.pb_model_properties.specs.Refusals.{LacksTranslation};
-ghost use Rattle.pb_model_properties.specs.Said.{IsModelOf, IsTextOf};
+ghost use Rattle.pb_model_properties.specs.Refusals.{IsRefusedText, LacksTranslation};
+ghost use Rattle.pb_model_properties.specs.Said.{IsTextOf};
 ghost use Rattle.pb_model_properties.specs.Words.{words_in};
 
 use crate::asked::place_of;
 use crate::error::{ModelError, ModelFault};
 use crate::read::read_protocol;
 use crate::solved::{SolvedModel, words_of};
-use pb_model_typing::{TypedModel, property_text};
+use crate::told::told_error;
+use pb_model_typing::property_text;
 use pb_model_words::push_group_lines;
 use pb_text_printer::{commented_text_is_read_back, print_with_comment};
 use pb_typing::Typed;
 use std::alloc::{AllocError, Global};
 
-/// The text of the property at a place of a model that was read, with its places in the model.
-pub fn text_at(alloc: Global, model: &TypedModel, place: usize) -> Result<Typed, AllocError>
-    requires read { (bytes : List ℕ) × IsModelOf bytes (model_form model.now.model) }
-    requires within { place < length model.now.model.properties.items }
+/// The text of the property at a place of a model, with its places in the model.
+///
+/// # Errors
+/// `Typing` comes exactly where the text isn't well typed, as where it is too large, and says which
+/// rule it breaks and where, in the protocol; `Memory` only where memory was refused.
+pub fn text_at(alloc: Global, solved: &SolvedModel, place: usize) -> Result<Typed, ModelError>
+    requires { place < length solved.now.typed.model.properties.items }
     ensures text { IfOk result (λ text. (p : PropertyForm)
-        → slice_get (model_form model.now.model).properties place ≡ Some p
-        → IsTextOf (model_form model.now.model) p (spec_form text.spec)) }
+        → slice_get (model_form solved.now.typed.model).properties place ≡ Some p
+        → IsTextOf (model_form solved.now.typed.model) p (spec_form text.spec)) }
+    ensures refused { IfRefused result (λ fault. (p : PropertyForm)
+        → slice_get (model_form solved.now.typed.model).properties place ≡ Some p
+        → IsRefusedText solved.now p fault) }
 {
-    property_text(alloc, model, place)
+    match property_text(alloc, &solved.typed, place) {
+        Ok(text) => Ok(text),
+        Err(error) => Err(told_error(&solved.names, error)),
+    }
 }
 
 /// The text of a property, below lines that say how the numbers of packed variables are made.
@@ -57,8 +67,9 @@ fn printed(alloc: Global, solved: &SolvedModel, text: &Typed) -> Result<Vec<u8>,
 /// how: `% line' = line(c1) * 5 + line(c2)`.
 ///
 /// # Errors
-/// `Text` and `Typing` say which rule the model breaks and where. `NoProperty` comes exactly where
-/// the model has no property of the name, and `Memory` only where memory was refused.
+/// `Text` and `Typing` say which rule the model breaks, or the text of that property, and where.
+/// `NoProperty` comes exactly where the model has no property of the name, and `Memory` only where
+/// memory was refused.
 pub fn translation_of(
     alloc: Global,
     bytes: &[u8],
@@ -73,10 +84,9 @@ pub fn translation_of(
 {
     commented_text_is_read_back();
     let solved = read_protocol(alloc, bytes)?;
-    let model = &solved.typed;
-    let Some(place) = place_of(&model.model.properties, name) else {
+    let Some(place) = place_of(&solved.typed.model.properties, name) else {
         return Err(ModelFault::NoProperty.into());
     };
-    let text = text_at(alloc, model, place)?;
+    let text = text_at(alloc, &solved, place)?;
     Ok(printed(alloc, &solved, &text)?)
 }

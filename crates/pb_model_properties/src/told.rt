@@ -5,10 +5,11 @@ ghost use Rattle.std.specs.Prelude.{◌≡◌, map, string_bytes, IfOk};
 ghost use Rattle.pb_errors.specs.OrMemory.{raised};
 ghost use Rattle.pb_unfolder.specs.Origins.{origin_name};
 ghost use Rattle.pb_model_properties.specs.declared.error.ModelFault.TheVariants.{Typing};
-ghost use Rattle.pb_model_properties.specs.Refusals.{told_fault, told_place};
+ghost use Rattle.pb_model_properties.specs.Refusals.{told_fault, told_place, told_places};
 ghost use Rattle.pb_model_properties.specs.Flat.{origin_place};
 
 use crate::error::{ModelError, ModelFault};
+use crate::solved::ToldNames;
 use pb_errors::OrMemory;
 use pb_text_tree::Place;
 use pb_typing_declarations::{TypeError, TypingFault};
@@ -26,37 +27,47 @@ pub(crate) fn names_of(alloc: Global, steps: &[StepOrigin]) -> Result<Vec<String
     Ok(names)
 }
 
-/// Where a place of the model stands in the protocol: one at column 0 is that of the step of the
-/// line's number.
-fn told_place(steps: &[StepOrigin], place: Place) -> Place
-    ensures { result ≡ told_place (map origin_place steps.now) place }
+/// Where the names of steps stand in the protocol.
+pub(crate) fn places_of(alloc: Global, steps: &[StepOrigin]) -> Result<Vec<Place>, AllocError>
+    ensures { IfOk result (λ v. v.items ≡ map origin_place steps.now) }
+{
+    steps.iter().map(|step| step.place).collect(alloc)
+}
+
+/// Where a place of an unfolded model stands in the protocol: one at column 0 is that of the step
+/// of the line's number.
+fn told_place(steps: &[Place], place: Place) -> Place
+    ensures { result ≡ told_place steps.now place }
 {
     if place.column != 0 {
         return place;
     }
     match steps.get(place.line as usize) {
-        Some(step) => step.place,
+        Some(step) => *step,
         None => place,
     }
 }
 
-/// A fault of the model, told of the protocol.
-fn told_fault(steps: &[StepOrigin], fault: TypingFault) -> TypingFault
-    ensures { result ≡ told_fault (map origin_place steps.now) fault }
+/// A fault of the model, told of the protocol. One of a model that wasn't unfolded stands there.
+fn told_fault(names: &Option<ToldNames>, fault: TypingFault) -> TypingFault
+    ensures { result ≡ told_fault (told_places names.now) fault }
 {
-    TypingFault {
-        rule: fault.rule,
-        place: told_place(steps, fault.place),
+    match names {
+        None => fault,
+        Some(names) => TypingFault {
+            rule: fault.rule,
+            place: told_place(&names.places, fault.place),
+        },
     }
 }
 
-/// Why the model is refused, told of the protocol.
-pub(crate) fn told_error(steps: &[StepOrigin], error: TypeError) -> ModelError
+/// Why the model or the text of a property is refused, told of the protocol.
+pub(crate) fn told_error(names: &Option<ToldNames>, error: TypeError) -> ModelError
     ensures { raised (λ fault above. above
-        ≡ Typing (told_fault (map origin_place steps.now) fault)) error result }
+        ≡ Typing (told_fault (told_places names.now) fault)) error result }
 {
     match error {
-        OrMemory::Refused(fault) => OrMemory::Refused(ModelFault::Typing(told_fault(steps, fault))),
+        OrMemory::Refused(fault) => OrMemory::Refused(ModelFault::Typing(told_fault(names, fault))),
         OrMemory::Memory => OrMemory::Memory,
     }
 }

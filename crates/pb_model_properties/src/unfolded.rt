@@ -1,20 +1,18 @@
 //! The model to which a protocol is unfolded.
 
-ghost use Rattle.std.specs.Prelude.{◌≡◌, ℕ, List, false, IfOk};
+ghost use Rattle.std.specs.Prelude.{◌≡◌, false, IfOk};
 ghost use Rattle.pb_errors.specs.OrMemory.{IfRefused};
 ghost use Rattle.pb_protocol_tree.specs.Form.{protocol_form};
 ghost use Rattle.pb_unfolder.specs.Plain.{is_plain};
 ghost use Rattle.pb_model_properties.specs.Flat.{IsUnfoldedTo};
 ghost use Rattle.pb_model_properties.specs.Refusals.{IsRefusedProtocol};
-ghost use Rattle.pb_model_properties.specs.Said.{IsTheReading};
+ghost use Rattle.pb_model_properties.specs.Solvable.{CanBeSolved};
 ghost use Rattle.pb_model_properties.specs.Words.{IsToldModel};
 
 use crate::error::ModelError;
 use crate::flat::flat_solved;
 use crate::solved::{SolvedModel, ToldNames};
-use crate::told::names_of;
-use pb_model_places::numbered_steps_stand_apart;
-use pb_model_spelling::{read_protocols_are_writable, read_protocols_have_properties};
+use crate::told::{names_of, places_of};
 use pb_protocol_laws::enumerators_are_apart;
 use pb_protocol_spelling::{flat_formulas_are_writable, flat_models_are_writable};
 use pb_protocol_tree::Protocol;
@@ -26,7 +24,6 @@ use std::alloc::Global;
 /// The flat model of a protocol that keeps the rules.
 fn flat(alloc: Global, protocol: &Protocol) -> Result<Unfolded, ModelError>
     requires unfolds { is_plain (protocol_form protocol.now) ≡ false }
-    requires read { (bytes : List ℕ) × IsTheReading bytes (protocol_form protocol.now) }
     ensures flat { IfOk result (IsUnfoldedTo (protocol_form protocol.now)) }
     ensures refused { IfRefused result (IsRefusedProtocol (protocol_form protocol.now)) }
 {
@@ -44,22 +41,21 @@ fn flat(alloc: Global, protocol: &Protocol) -> Result<Unfolded, ModelError>
 /// The same, checked.
 pub(crate) fn unfolded_solved(alloc: Global, protocol: &Protocol) -> Result<SolvedModel, ModelError>
     requires unfolds { is_plain (protocol_form protocol.now) ≡ false }
-    requires read { (bytes : List ℕ) × IsTheReading bytes (protocol_form protocol.now) }
+    requires solvable { CanBeSolved (protocol_form protocol.now) }
     ensures model { IfOk result (IsToldModel (protocol_form protocol.now)) }
     ensures refused { IfRefused result (IsRefusedProtocol (protocol_form protocol.now)) }
 {
-    read_protocols_are_writable();
-    read_protocols_have_properties();
-    numbered_steps_stand_apart();
     flat_models_are_writable();
     flat_formulas_are_writable();
     flat_models_are_solved();
     let unfolded = flat(alloc, protocol)?;
     let origins = unfolded.steps;
     let steps = names_of(alloc, &origins)?;
+    let places = places_of(alloc, &origins)?;
     let names = ToldNames {
         variables: unfolded.variables,
         steps,
+        places,
     };
-    flat_solved(alloc, unfolded.model, Some(names), &origins)
+    flat_solved(alloc, unfolded.model, Some(names))
 }

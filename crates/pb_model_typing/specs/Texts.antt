@@ -1,10 +1,10 @@
--- Which models are well typed: their own rules hold, and so do those of the texts of their
--- properties, and of one text in which each step stands.
-use Rattle.std.specs.Prelude.{◌≡◌, List, [], ◌∷◌, map, codes, All, Contains, ◌⊎◌}
+-- Which models are well typed: their own rules hold, and so do those of the text in which each step
+-- stands. The text of a property is checked where it is asked for.
+use Rattle.std.specs.Prelude.{◌≡◌, [], codes, Contains, ◌⊎◌}
 use Rattle.pb_fixpoint.specs.declared.Sign.TheVariants.{Nu}
 use Rattle.pb_text_tree.specs.declared.place.Place.{Place}
 use Rattle.pb_model_tree.specs.Form.{FormulaForm, PropertyForm, ModelForm}
-use Rattle.pb_model_meaning.specs.Syntax.{StepSet, Formula, Property, Model}
+use Rattle.pb_model_meaning.specs.Syntax.{StepSet, Formula, Model}
 use Rattle.pb_model_meaning.specs.Erase.{erase}
 use Rattle.pb_model_translation.specs.Names.{translation}
 use Rattle.pb_model_translation.specs.Placed.{placed, every_step_form}
@@ -19,44 +19,34 @@ abbrev pub every_step : Formula
 every_step =
     Formula.Fixpoint Nu (codes "X") (Formula.Box StepSet.All (Formula.Named (codes "X")))
 
--- the formulas whose texts are checked: that one, and each property's
-abbrev pub checked_formulas : Model → List Formula
-checked_formulas m = every_step ∷ map (λ (p : Property). p.formula) m.properties
-
 -- the text of a formula is well typed
 abbrev pub HasTypedText : Model → Formula → Type 0
 HasTypedText m f = IsWellTyped (translation m f)
 
 pub record IsTypedModel (model : ModelForm) : Type 0 where
   pub rules : model_faults model ≡ []
-  pub texts : All (HasTypedText (erase model)) (checked_formulas (erase model))
+  pub steps : HasTypedText (erase model) every_step
 
 -- ---- refusals
 
+-- A formula whose text is checked, with the place at which the names of its equations stand: that
+-- of `init` for the one of each step, and the name of a property for the property's.
+abbrev pub placed_steps : ModelForm → Place × FormulaForm
+placed_steps m = (m.initial.place, every_step_form m.initial.place)
+
 abbrev pub placed_property : PropertyForm → Place × FormulaForm
 placed_property p = (p.name.place, p.formula)
-
--- The formulas whose texts are checked, each with the place at which the names of its equations
--- stand: that of `init` for the one of each step, and the name of a property for the property's.
-abbrev pub placed_formulas : ModelForm → List (Place × FormulaForm)
-placed_formulas m =
-    (m.initial.place, every_step_form m.initial.place) ∷ map placed_property m.properties
 
 -- a fault of the text of a formula, at its place in the model
 abbrev pub IsTextFault : ModelForm → Place × FormulaForm → TypingFault → Type 0
 IsTextFault m f fault = Contains (faults (placed m f.0 f.1)) fault
 
--- of the text of one of these
-abbrev pub IsFaultOfTexts : ModelForm → List (Place × FormulaForm) → TypingFault → Type 0
-IsFaultOfTexts m fs fault =
-    (f : Place × FormulaForm) × (Contains fs f) × IsTextFault m f fault
+-- what such a fault is in the model, at the same place
+abbrev pub IsFaultFromText : ModelForm → Place × FormulaForm → TypingFault → Type 0
+IsFaultFromText model f fault =
+    (found : TypingFault) × IsTextFault model f found × (fault ≡ fault_in_model model found)
 
--- what a fault of one of the model's texts is in the model, at the same place
-abbrev pub IsFaultFromTexts : ModelForm → TypingFault → Type 0
-IsFaultFromTexts model fault =
-    (f : TypingFault) × IsFaultOfTexts model (placed_formulas model) f
-    × (fault ≡ fault_in_model model f)
-
--- of the model's own rules or of one of its texts
+-- of the model's own rules or of the text in which each step stands
 abbrev pub IsModelFault : ModelForm → TypingFault → Type 0
-IsModelFault model fault = Contains (model_faults model) fault ⊎ IsFaultFromTexts model fault
+IsModelFault model fault =
+    Contains (model_faults model) fault ⊎ IsFaultFromText model (placed_steps model) fault

@@ -161,7 +161,7 @@ fn model_names_fixpoint(place: Place, model: &Model) -> bool
     false
 }
 
-/// What a fault of a model's text is in the model.
+/// What a fault of a text of the model is in the model.
 fn fault_in_model(model: &Model, fault: TypingFault) -> TypingFault
     ensures { result ≡ fault_in_model (model_form model.now) fault }
 {
@@ -179,7 +179,7 @@ fn fault_in_model(model: &Model, fault: TypingFault) -> TypingFault
     }
 }
 
-/// What an error of the check of a model's text is for the model.
+/// What an error of the check of a text of the model is for the model.
 pub(crate) fn error_in_model(model: &Model, error: TypeError) -> TypeError
     ensures { raised (λ fault above. above ≡ fault_in_model (model_form model.now) fault)
         error result }

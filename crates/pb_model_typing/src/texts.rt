@@ -1,39 +1,43 @@
-//! The rules of the texts to which properties are translated.
+//! The rules of the texts to which formulas of a model are translated.
 
-ghost use Rattle.std.specs.Prelude.{◌≡◌, All, IfOk, OnOk};
+ghost use Rattle.std.specs.Prelude.{◌≡◌, IfOk, OnOk};
 ghost use Rattle.pb_errors.specs.OrMemory.{IfRefused, OnRefused};
+ghost use Rattle.pb_text_tree.specs.Form.{spec_form};
 ghost use Rattle.pb_model_tree.specs.Form.{formula_form, model_form};
 ghost use Rattle.pb_model_meaning.specs.Erase.{model_of};
 ghost use Rattle.pb_model_names.specs.View.{formula_of};
-ghost use Rattle.pb_model_translation.specs.Placed.{every_step_form};
-ghost use Rattle.pb_model_typing.specs.Texts.{HasTypedText, IsFaultOfTexts, IsTextFault};
-ghost use Rattle.pb_model_typing.specs.Texts.{checked_formulas, placed_formulas};
+ghost use Rattle.pb_model_translation.specs.Placed.{every_step_form, placed};
+ghost use Rattle.pb_model_typing.specs.Texts.{HasTypedText, IsFaultFromText};
+ghost use Rattle.pb_model_typing.specs.Texts.{every_step, placed_steps};
 
+use crate::data::error_in_model;
 use pb_fixpoint::Sign;
 use pb_model_translator::translate_formula;
 use pb_model_tree::{Formula, Modality, Model, StepSet};
 use pb_text_tree::{Name, Place};
-use pb_typing::check;
+use pb_typing::{Typed, check};
 use pb_typing_declarations::TypeError;
 use std::alloc::{AllocError, Global};
 
-/// Checks the text of a formula, whose equations have their names at a place.
-fn check_text(
+/// The text of a formula, whose equations have their names at a place, where it is well typed.
+pub(crate) fn typed_text(
     alloc: Global,
     model: &Model,
     formula: &Formula,
     place: Place,
-) -> Result<(), TypeError>
-    ensures accepted { OnOk result (HasTypedText (model_of model.now) (formula_of formula.now)) }
+) -> Result<Typed, TypeError>
+    ensures text { IfOk result (λ text. spec_form text.spec
+        ≡ placed (model_form model.now) place (formula_form formula.now)) }
+    ensures typed { OnOk result (HasTypedText (model_of model.now) (formula_of formula.now)) }
     ensures fails { IfRefused result
-        (IsTextFault (model_form model.now) (place, formula_form formula.now)) }
+        (IsFaultFromText (model_form model.now) (place, formula_form formula.now)) }
     ensures ill_typed { OnRefused result
         (¬ HasTypedText (model_of model.now) (formula_of formula.now)) }
 {
     let text = translate_formula(alloc, model, formula, place)?;
     match check(alloc, text) {
-        Ok(_typed) => Ok(()),
-        Err((_text, error)) => Err(error),
+        Ok(text) => Ok(text),
+        Err((_text, error)) => Err(error_in_model(model, error)),
     }
 }
 
@@ -59,20 +63,15 @@ pub(crate) fn every_step(alloc: Global, place: Place) -> Result<Formula, AllocEr
     })
 }
 
-/// Checks the text in which each step stands, and each property's.
-pub(crate) fn check_texts(alloc: Global, model: &Model) -> Result<(), TypeError>
-    ensures accepted { OnOk result
-        (All (HasTypedText (model_of model.now)) (checked_formulas (model_of model.now))) }
+/// Checks the text in which each step stands.
+pub(crate) fn check_steps_text(alloc: Global, model: &Model) -> Result<(), TypeError>
+    ensures accepted { OnOk result (HasTypedText (model_of model.now) every_step) }
     ensures fails { IfRefused result
-        (IsFaultOfTexts (model_form model.now) (placed_formulas (model_form model.now))) }
-    ensures ill_typed { OnRefused result
-        (¬ All (HasTypedText (model_of model.now)) (checked_formulas (model_of model.now))) }
+        (IsFaultFromText (model_form model.now) (placed_steps (model_form model.now))) }
+    ensures ill_typed { OnRefused result (¬ HasTypedText (model_of model.now) every_step) }
 {
     let place = model.initial.place;
     let steps = every_step(alloc, place)?;
-    check_text(alloc, model, &steps, place)?;
-    for property in &model.properties {
-        check_text(alloc, model, &property.formula, property.name.place)?;
-    }
+    typed_text(alloc, model, &steps, place)?;
     Ok(())
 }

@@ -10,18 +10,19 @@ ghost use Rattle.pb_model_tree.specs.Form.{PropertyForm, model_form};
 ghost use Rattle.pb_model_meaning.specs.Erase.{erased_formula, model_of};
 ghost use Rattle.pb_model_meaning.specs.Satisfaction.{satisfies};
 ghost use Rattle.pb_model_translation.specs.Placed.{every_step_form, placed};
-ghost use Rattle.pb_model_typing.specs.Texts.{IsModelFault, IsTypedModel};
+ghost use Rattle.pb_model_typing.specs.Texts.{HasTypedText, IsFaultFromText, IsModelFault};
+ghost use Rattle.pb_model_typing.specs.Texts.{IsTypedModel, placed_property};
 
-use crate::data::error_in_model;
 use crate::rules::check_rules;
-use crate::texts::{check_texts, every_step};
-use pb_model_translator::{translate, translate_formula};
+use crate::texts::{check_steps_text, every_step, typed_text};
+use pb_model_translator::translate_formula;
 use pb_model_tree::Model;
 use pb_typing::{Typed, check};
 use pb_typing_declarations::TypeError;
 use std::alloc::{AllocError, Global};
 
-/// A model that is well typed, and so are the texts of its properties.
+/// A model that is well typed. Whether the texts of its properties are, is told of each where it is
+/// asked for.
 #[derive(Drop)]
 pub struct TypedModel {
     pub model: Model,
@@ -29,17 +30,17 @@ pub struct TypedModel {
 }
 
 /// Accepts a model exactly where it is well typed: names are declared once and are there, what
-/// equations call stands under an even number of negations, and the texts of its properties are
-/// well typed, as is that of `nu X . [true] X`, in which each step stands.
+/// equations call stands under an even number of negations, and the text of `nu X . [true] X`, in
+/// which each step stands, is well typed.
 ///
 /// Recursion goes as deep as formulas and terms nest.
 ///
 /// # Errors
-/// A refusal hands the model back with a fault of its own rules or of one of those texts; where
-/// several rules fail, any one of them. Each is told at its place in the model: one of a text, at
-/// that of the part of the model of which that part of the text was made. A name in data that is
-/// none there is T07 at the places of names of fixpoints around, and T01 at others.
-/// `TypeError::Memory` comes only where memory was refused.
+/// A refusal hands the model back with a fault of its own rules or of that text; where several
+/// rules fail, any one of them. Each is told at its place in the model: one of the text, at that of
+/// the part of the model of which that part of the text was made. A name in data that is none there
+/// is T07 at the places of names of fixpoints around, and T01 at others. `TypeError::Memory` comes
+/// only where memory was refused.
 pub fn check_model(alloc: Global, model: Model) -> Result<TypedModel, (Model, TypeError)>
     ensures kept { MatchResult result (λ typed. typed.model ≡ model)
         (λ refused. refused.0 ≡ model) }
@@ -55,40 +56,44 @@ pub fn check_model(alloc: Global, model: Model) -> Result<TypedModel, (Model, Ty
     }
 }
 
-/// Checks the model's own rules, and then those of its texts.
+/// Checks the model's own rules, and then those of its steps' text.
 fn check_parts(alloc: Global, model: &Model) -> Result<(), TypeError>
     ensures accepted { OnOk result (IsTypedModel (model_form model.now)) }
     ensures fails { IfRefused result (IsModelFault (model_form model.now)) }
     ensures ill_typed { OnRefused result (¬ IsTypedModel (model_form model.now)) }
 {
     check_rules(alloc, model)?;
-    match check_texts(alloc, model) {
-        Ok(()) => Ok(()),
-        Err(error) => Err(error_in_model(model, error)),
-    }
+    check_steps_text(alloc, model)
 }
 
-/// The text of the property at a place, which is well typed, with its places in the model. Its
+/// The text of the property at a place, with its places in the model, where it is well typed. Its
 /// answer is true exactly where the model satisfies the property.
-pub fn property_text(
-    alloc: Global,
-    typed: &TypedModel,
-    property: usize,
-) -> Result<Typed, AllocError>
+///
+/// # Errors
+/// A text that isn't well typed, as one that is too large, is refused with a fault of it, at its
+/// place in the model; where several rules fail, with any one of them. `TypeError::Memory` comes
+/// only where memory was refused.
+pub fn property_text(alloc: Global, typed: &TypedModel, property: usize) -> Result<Typed, TypeError>
     requires { property < length typed.now.model.properties.items }
     ensures text { IfOk result (λ text. (p : PropertyForm)
         → slice_get (model_form typed.now.model).properties property ≡ Some p
         → spec_form text.spec ≡ placed (model_form typed.now.model) p.name.place p.formula) }
+    ensures typed { OnOk result ((p : PropertyForm)
+        → slice_get (model_form typed.now.model).properties property ≡ Some p
+        → HasTypedText (model_of typed.now.model) (erased_formula p.formula)) }
     ensures answer { IfOk result (λ text. (p : PropertyForm)
         → slice_get (model_form typed.now.model).properties property ≡ Some p
         → answer (erase (spec_form text.spec))
         ≡ satisfies (model_of typed.now.model) (erased_formula p.formula)) }
+    ensures fails { IfRefused result (λ fault. (p : PropertyForm)
+        → slice_get (model_form typed.now.model).properties property ≡ Some p
+        → IsFaultFromText (model_form typed.now.model) (placed_property p) fault) }
+    ensures ill_typed { OnRefused result ((p : PropertyForm)
+        → slice_get (model_form typed.now.model).properties property ≡ Some p
+        → ¬ HasTypedText (model_of typed.now.model) (erased_formula p.formula)) }
 {
-    let text = translate(alloc, &typed.model, property)?;
-    match check(alloc, text) {
-        Ok(text) => Ok(text),
-        Err((_text, error)) => Err(error.only_memory()),
-    }
+    let property = &typed.model.properties[property];
+    typed_text(alloc, &typed.model, &property.formula, property.name.place)
 }
 
 /// The text in which each step stands, that of `nu X . [true] X`, which is well typed, with its

@@ -27,10 +27,10 @@ use Rattle.pb_faults.specs.declared.solve_error.SolveError.TheVariants as solve_
 use Rattle.pb_faults.specs.declared.solve_fault.SolveFault.{SolveFault}
 use Rattle.pb_faults.specs.declared.solve_fault.SolveFault.TheVariants as solve_fault
 use Rattle.pbsolve.specs.Answers.{IsModuleOfForm}
-use Rattle.pbsolve.specs.Models.{IsUnchecked}
+use Rattle.pbsolve.specs.Models.{IsUnexplained}
 use Rattle.pb_model_words.specs.Vocabulary.{Vocabulary}
 use Rattle.pbsolve.specs.Why.{AreTold, IsTold, IsUnshown, lines_of, shown_by, steps_of, TellAsked, told_text}
-use Rattle.pbsolve.proofs.PropertyVerdicts.{WhereUnchecked}
+use Rattle.pbsolve.proofs.PropertyVerdicts.{WhereUnexplained}
 use Rattle.pbsolve.proofs.Texts.{HasTrees}
 
 -- the lines of an explanation of the module of a property's text tell the property
@@ -69,8 +69,8 @@ next_told instances words model place p told old new at is are same =
     subst (λ (ps : List PropertyForm). AreTold instances words model ps new) (sym one_more)
     (subst (λ (xs : List ℕ). AreTold instances words model (take place model.properties ++ p ∷ []) xs) (sym same) pushed)
 
--- what is refused by `check` is by `why`, whatever is asked
-pub unshown : (name : Option (List ℕ)) (bytes : List ℕ) (f : SolveFault) → IsUnchecked bytes f → IsUnshown name bytes f
+-- what isn't explained isn't, whatever is asked
+pub unshown : (name : Option (List ℕ)) (bytes : List ℕ) (f : SolveFault) → IsUnexplained bytes f → IsUnshown name bytes f
 unshown name bytes solve_fault.TooManyVertices h = h
 unshown name bytes solve_fault.NoProperty h = absurd h
 unshown name bytes (solve_fault.Property fault) h = h
@@ -83,7 +83,7 @@ unshown name bytes (solve_fault.Acceptance fault) h = h
 abbrev pub WhereUnshown : Option (List ℕ) → ModelForm → SolveFault → Type 0
 WhereUnshown name model fault = (bytes : List ℕ) → IsModelOf bytes model → IsUnshown name bytes fault
 
-pub where_unshown : (name : Option (List ℕ)) (model : ModelForm) (f : SolveFault) → WhereUnchecked model f → WhereUnshown name model f
+pub where_unshown : (name : Option (List ℕ)) (model : ModelForm) (f : SolveFault) → WhereUnexplained model f → WhereUnshown name model f
 where_unshown name model f h = λ bytes said. unshown name bytes f (h bytes said)
 
 -- ---- the property of a name
@@ -105,12 +105,12 @@ named_is_told bytes_of instances name words model place at (Err e) h = tt
 
 -- what is told of all properties needs none of a name
 pub never_missed : {T : Type 0} (P : Type 0) (model : ModelForm) (bytes : List ℕ) → IsModelOf bytes model → (r : Result T (OrMemory SolveFault))
-    → IfRefused r (WhereUnchecked model) → r ≡ Err (or_memory.Refused solve_fault.NoProperty) → P
+    → IfRefused r (WhereUnexplained model) → r ≡ Err (or_memory.Refused solve_fault.NoProperty) → P
 never_missed P model bytes said (Ok x) h is = absurd (cc is)
 never_missed P model bytes said (Err or_memory.Memory) h is = absurd (cc is)
 never_missed P model bytes said (Err (or_memory.Refused f)) h is =
     let same : f ≡ solve_fault.NoProperty = cc is in
-    absurd (subst (λ (g : SolveFault). WhereUnchecked model g) same h bytes said)
+    absurd (subst (λ (g : SolveFault). WhereUnexplained model g) same h bytes said)
 
 -- an error that is handed up as that was that
 pub missed : {T : Type 0} (P : Type 0) (e : OrMemory SolveFault) (r : Result T SolveError) → IsErrAnd r (joins_into (λ f above. above ≡ f) e)

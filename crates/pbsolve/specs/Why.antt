@@ -23,7 +23,9 @@ use Rattle.pb_model_properties.specs.Asked.{IsAskedFor}
 use Rattle.pb_model_properties.specs.Made.{said_where}
 use Rattle.pb_model_properties.specs.Refusals.{LacksProperty}
 use Rattle.pb_model_properties.specs.Said.{satisfies, IsModelOf, IsTextOf}
-use Rattle.pb_model_properties.specs.Verdicts.{verdict_text}
+use Rattle.pb_model_properties.specs.declared.verdicts.Verdict.{Verdict}
+use Rattle.pb_model_properties.specs.declared.verdicts.Verdict.TheVariants as verdict
+use Rattle.pb_model_properties.specs.Verdicts.{verdict_line}
 use Rattle.pb_model_properties.specs.Words.{words_of}
 use Rattle.pb_evidence.specs.declared.Evidence.{Evidence}
 use Rattle.pb_evidence.specs.Evidence.{graph_of}
@@ -34,7 +36,7 @@ use Rattle.pb_why.specs.WhyText.{Told, why_lines}
 use Rattle.pb_faults.specs.declared.solve_fault.SolveFault.{SolveFault}
 use Rattle.pb_faults.specs.declared.solve_fault.SolveFault.TheVariants as solve_fault
 use Rattle.pbsolve.specs.Answers.{IsModuleOfForm}
-use Rattle.pbsolve.specs.Models.{IsUnchecked}
+use Rattle.pbsolve.specs.Models.{IsUnexplained}
 
 -- Each call of a property's text at a state is a step of the model: that at whose name it stands,
 -- with the call's own values, at which its guard is true, to the state that the call names. Where
@@ -90,10 +92,15 @@ shown_by vocabulary text steps m trees e = record {
 abbrev pub lines_of : Bool → Told → List ℕ
 lines_of instances shown = if instances then instance_lines shown else why_lines shown
 
+-- the verdict that is shown
+abbrev pub verdict_of : Bool → Verdict
+verdict_of true = verdict.True
+verdict_of false = verdict.False
+
 -- the line of a verdict, and behind it the lines that show it: always, or where it is false
 abbrev pub told_text : Bool → List ℕ → Bool → List ℕ → List ℕ
 told_text always name truth lines =
-    verdict_text name truth 0 ++ (if always || not truth then lines else [])
+    verdict_line name (verdict_of truth) ++ (if always || not truth then lines else [])
 
 -- The verdict on a property is told, which is true exactly where the model satisfies it. What shows
 -- it, by lines of instances or in these words, is evidence of the module of the property's text.
@@ -135,7 +142,7 @@ OutputsWhy instances name bytes P =
     × TellAsked instances name (words_of said.protocol model said.is_for.made) model
     lines × P lines
 
--- `why`: as with `check`, or the model has no property of the name
+-- the model isn't explained, or it has no property of the name
 abbrev pub IsUnshown : Option (List ℕ) → List ℕ → SolveFault → Type 0
 IsUnshown name bytes solve_fault.NoProperty = LacksProperty name bytes
-IsUnshown name bytes fault = IsUnchecked bytes fault
+IsUnshown name bytes fault = IsUnexplained bytes fault

@@ -1,22 +1,31 @@
 //! The solver's calls, and the whole program over readers and writers.
 #![tactic(auto)]
 
+mod check;
 mod compile;
+mod decision;
+mod finding;
+mod finding_lines;
 mod laws;
 mod models;
 mod options;
+mod outcome;
 mod program;
 mod property_faults;
+mod property_text;
 mod run_error;
 mod solve;
 mod status;
 mod streams;
 mod why;
 
+pub use check::check_text;
 pub use compile::compile_text;
+pub use finding::{Finding, Found};
 pub use laws::{bytes_spell_one_module, told_calls_are_steps};
-pub use models::{check_text, translate_text};
+pub use models::translate_text;
 pub use options::{ExplainOptions, WhyOptions};
+pub use pb_command_line::Checking;
 pub use pb_faults::{ErrorLine, Line, ProgramFault, SolveError, SolveFault};
 pub use pb_limits::MAX_INPUT_BYTES;
 pub use pb_module_commands::{list_code, solve_code, verify_code};

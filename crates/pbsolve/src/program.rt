@@ -1,6 +1,6 @@
 //! The whole program: words, input, answer, exit status.
-ghost use Rattle.std.specs.Prelude.{◌≡◌, ◌≢◌, ◌≤◌, ◌⊎◌, true, codes, length, map, OnOk, IfErr, Err};
-ghost use Rattle.std.specs.Prelude.{IsSome};
+ghost use Rattle.std.specs.Prelude.{◌≡◌, ◌≢◌, ◌≤◌, ◌⊎◌, true, [], codes, length, map, OnOk, IfErr};
+ghost use Rattle.std.specs.Prelude.{Err, IfOk, option_copied, option_map, string_bytes, vec_len};
 ghost use Rattle.std.specs.Io.KnownBytes.{Appends};
 ghost use Rattle.pb_sorts.specs.Sink.{AppendsPrefix};
 ghost use Rattle.pb_faults.specs.declared.fault.ProgramFault.TheVariants as fault;
@@ -8,82 +8,151 @@ ghost use Rattle.pb_faults.specs.declared.solve_fault.SolveFault.TheVariants.{No
 ghost use Rattle.pb_faults.specs.Errors.{IfInputRefused};
 ghost use Rattle.pb_faults.specs.Lines.{line_of};
 ghost use Rattle.pb_command_line.specs.Words.{AskForSomething, HaveFault, AskNothing, AskPlainly};
+ghost use Rattle.pb_command_line.specs.Words.{property_names, task_names};
+ghost use Rattle.pb_command_line.specs.declared.request.Request.{Request};
+ghost use Rattle.pb_rules.specs.declared.rule.Rule.{Rule};
 ghost use Rattle.pb_module_commands.specs.Delivery.{Delivers};
 ghost use Rattle.pbsolve.specs.Outputs.{OutputsFor, IsRefusedFor};
-ghost use Rattle.pbsolve.specs.Program.{fault_status, status_of, error_line_of, Answers};
+ghost use Rattle.pbsolve.specs.Program.{fault_status, status_of, error_line_of, AnyStatus};
+ghost use Rattle.pbsolve.specs.Program.{Answers};
+ghost use Rattle.pbsolve.specs.declared.status.Status.TheVariants as status;
+ghost use Rattle.pb_sorts.specs.Source.{IsLongerThan};
+ghost use Rattle.pb_errors.specs.declared.or_memory.OrMemory.TheVariants.{Refused};
+ghost use Rattle.pb_input.specs.declared.input.InputFault.TheVariants.{Failed, TooLong};
 ghost use Rattle.pb_input.specs.Reading.{ReadsAtMost};
-ghost use Rattle.pbsolve.specs.Program.{IsRefusedBy, LackProperty, Tells};
-ghost use Rattle.pbsolve.specs.Program.{TakesProperty, TellsRefusal};
+ghost use Rattle.pbsolve.specs.Program.{IsInputOf, IsRefusedBy, LackProperty, Outputs, Refuses, Tells};
+ghost use Rattle.pbsolve.specs.Program.{TellsRefusal};
 
+use crate::check::check_text;
 use crate::compile::compile_text;
-use crate::models::{check_text, translate_text};
+use crate::models::translate_text;
 use crate::options::{ExplainOptions, WhyOptions};
 use crate::run_error::RunError;
 use crate::solve::{certificate_of, explain_text, game_of, solution_of, solve_text};
 use crate::status::Status;
 use crate::streams::Streams;
 use crate::why::why_text;
-use pb_command_line::{Command, Request, request_of};
+use pb_command_line::{Request, Solving, Task, request_of};
 use pb_exploration::Gate;
 use pb_faults::{ErrorLine, ProgramFault, SolveError};
-use pb_input::read_input;
+use pb_input::{InputError, read_input};
 use pb_limits::MAX_INPUT_BYTES;
-use pb_module_commands::{list_code, solve_code, verify_code};
+use pb_module_commands::{deliver, list_code, solve_code, verify_code};
 use pb_module_solver::{Context, SolveOptions};
 use pb_sorts::{Sink, Source, put};
 use std::alloc::Global;
 use std::convert::AsStr;
 use std::thread::Threads;
 
-// What a request asks for, of these bytes.
+// What is asked of an input but for verdicts, of these bytes.
+fn task_answer<R: Threads + Sync, G: Gate + Sync, O: Sink>(
+    context: &Context<'_, R, G>,
+    task: Task,
+    bytes: &[u8],
+    out: &mut O,
+) -> Result<(), SolveError>
+    requires { length bytes.now ≤ MAX_INPUT_BYTES }
+    ensures written { Delivers (OutputsFor task bytes.now) result
+        O.taken O.has_failed out.old out.new }
+    ensures refused { IfInputRefused result (IsRefusedFor task bytes.now) }
+    ensures named { result ≡ Err (SolveError.Refused NoProperty) → task_names task ≢ [] }
+{
+    match task {
+        Task::Solve(options) => {
+            solve_text(context, bytes, solve_options(options), out)?;
+            Ok(())
+        }
+        Task::Game(options) => game_of(context, bytes, options.workers, out),
+        Task::Solution(options) => solution_of(context, bytes, solve_options(options), out),
+        Task::Certificate(options) => certificate_of(context, bytes, solve_options(options), out),
+        Task::Explain(options) => {
+            let options = ExplainOptions {
+                workers: options.workers,
+                places: options.places,
+            };
+            explain_text(context, bytes, options, out)
+        }
+        Task::Compile => compile_text(context.alloc, bytes, out),
+        Task::Verify => verify_code(context.alloc, bytes, out),
+        Task::List => list_code(context.alloc, bytes, out),
+        Task::SolveCode(options) => {
+            solve_code(context, bytes, solve_options(options), out)?;
+            Ok(())
+        }
+        Task::Translate(options) => {
+            translate_text(context.alloc, bytes, name_of(&options.property), out)
+        }
+        Task::Why(options) => {
+            let shown = WhyOptions {
+                workers: options.workers,
+                lines: options.lines,
+            };
+            why_text(context, bytes, name_of(&options.property), shown, out)
+        }
+    }
+}
+
+// How is solved.
+fn solve_options(options: Solving) -> SolveOptions {
+    SolveOptions {
+        workers: options.workers,
+        solver: options.solver,
+    }
+}
+
+// The name of the property that is asked for, where one is named.
+fn name_of(property: &Option<String>) -> Option<&str>
+    ensures { option_copied result ≡ option_map string_bytes property.now }
+{
+    match property {
+        Some(name) => Some(name.as_str()),
+        None => None,
+    }
+}
+
+// What is asked, of these bytes, and how the run ends then.
 fn answer<R: Threads + Sync, G: Gate + Sync, O: Sink>(
     context: &Context<'_, R, G>,
     request: Request,
     bytes: &[u8],
     out: &mut O,
-) -> Result<(), SolveError>
+) -> Result<Status, SolveError>
     requires { length bytes.now ≤ MAX_INPUT_BYTES }
-    ensures written { Delivers (OutputsFor request bytes.now) result
-        O.taken O.has_failed out.old out.new }
-    ensures refused { IfInputRefused result (IsRefusedFor request bytes.now) }
-    ensures named { result ≡ Err (SolveError.Refused NoProperty) → IsSome request.property }
-    ensures asked { result ≡ Err (SolveError.Refused NoProperty) → TakesProperty request.command }
+    ensures written { Delivers (Outputs request bytes.now (λ status. IfOk result (λ s. s ≡ status)))
+        result O.taken O.has_failed out.old out.new }
+    ensures refused { IfInputRefused result (Refuses request bytes.now) }
+    ensures named { result ≡ Err (SolveError.Refused NoProperty) → property_names request ≢ [] }
 {
-    let options = SolveOptions {
-        workers: request.workers,
-        solver: request.solver,
-    };
-    match request.command {
-        Command::Solve => {
-            solve_text(context, bytes, options, out)?;
-            Ok(())
-        }
-        Command::Game => game_of(context, bytes, request.workers, out),
-        Command::Solution => solution_of(context, bytes, options, out),
-        Command::Certificate => certificate_of(context, bytes, options, out),
-        Command::Explain => {
-            let options = ExplainOptions {
-                workers: request.workers,
-                places: request.places,
-            };
-            explain_text(context, bytes, options, out)
-        }
-        Command::Compile => compile_text(context.alloc, bytes, out),
-        Command::Verify => verify_code(context.alloc, bytes, out),
-        Command::List => list_code(context.alloc, bytes, out),
-        Command::SolveCode => {
-            solve_code(context, bytes, options, out)?;
-            Ok(())
-        }
-        Command::Translate => translate_text(context.alloc, bytes, request.property_name(), out),
-        Command::Check => check_text(context, bytes, options, out),
-        Command::Why => {
-            let options = WhyOptions {
-                workers: request.workers,
-                lines: request.lines,
-            };
-            why_text(context, bytes, request.property_name(), options, out)
-        }
+    match request {
+        Request::Rule(rule) => deliver(rule.words().as_bytes(), out)?,
+        Request::Check(options) => return check_text(context, bytes, &options, out),
+        Request::Input(task) => task_answer(context, task, bytes, out)?,
+    }
+    Ok(Status::Answered)
+}
+
+// The bytes that are read for a request. No input is read for what a rule says.
+fn input_for<R: Source>(
+    alloc: Global,
+    request: &Request,
+    reader: &mut R,
+) -> Result<Vec<u8>, InputError>
+    ensures input { IfOk result (λ input. IsInputOf request.now (R.left reader.old) input.items) }
+    ensures short { IfOk result (λ input. vec_len input ≤ MAX_INPUT_BYTES) }
+    ensures read { OnOk result (R.has_failed reader.new ≡ R.has_failed reader.old) }
+    ensures failed { result ≡ Err (Refused Failed) → R.has_failed reader.new ≡ true }
+    ensures failed_within { result ≡ Err (Refused Failed) →
+        ReadsAtMost MAX_INPUT_BYTES (R.left reader.old) (R.left reader.new) }
+    ensures err_failed { IfErr result (λ e. e ≢ Refused Failed →
+        R.has_failed reader.new ≡ R.has_failed reader.old) }
+    ensures too_long { result ≡ Err (Refused TooLong) →
+        IsLongerThan MAX_INPUT_BYTES (R.left reader.old) }
+    ensures unread { (rule : Rule) → request.now ≡ Request.Rule rule → reader.new ≡ reader.old }
+{
+    match request {
+        Request::Rule(_) => Ok(Vec::new(alloc)),
+        Request::Check(_) => read_input(alloc, reader),
+        Request::Input(_) => read_input(alloc, reader),
     }
 }
 
@@ -93,9 +162,9 @@ fn attempt<T: Threads + Sync, S: AsStr, R: Source, G: Gate + Sync, O: Sink>(
     words: &[S],
     reader: &mut R,
     out: &mut O,
-) -> Result<(), RunError>
-    ensures answered { OnOk result
-        (Answers (map S.text words.now) (R.left reader.old)
+) -> Result<Status, RunError>
+    ensures answered { IfOk result (λ status.
+        Answers (map S.text words.now) (R.left reader.old) (λ s. s ≡ status)
         (Appends (O.taken out.old) (O.taken out.new))) }
     ensures kept { OnOk result (O.has_failed out.new ≡ O.has_failed out.old) }
     ensures read { OnOk result (R.has_failed reader.new ≡ R.has_failed reader.old) }
@@ -120,16 +189,16 @@ fn attempt<T: Threads + Sync, S: AsStr, R: Source, G: Gate + Sync, O: Sink>(
     ensures read_refused { IfErr result (λ e. e ≢ RunError.ProgramFault fault.E01 →
         R.has_failed reader.new ≡ R.has_failed reader.old) }
     ensures write { result ≡ Err (RunError.ProgramFault fault.E02) →
-        Answers (map S.text words.now) (R.left reader.old)
+        Answers (map S.text words.now) (R.left reader.old) AnyStatus
         (AppendsPrefix (O.taken out.old) (O.taken out.new)) }
     ensures write_failed { result ≡ Err (RunError.ProgramFault fault.E02) →
         O.has_failed out.new ≡ true }
     ensures silent { IfErr result (λ e. e ≢ RunError.ProgramFault fault.E02 → out.new ≡ out.old) }
 {
     let request = request_of(context.alloc, words)?;
-    let input = read_input(context.alloc, reader)?;
-    answer(context, request, input.as_slice(), out)?;
-    Ok(())
+    let input = input_for(context.alloc, &request, reader)?;
+    let status = answer(context, request, input.as_slice(), out)?;
+    Ok(status)
 }
 
 // What becomes of a line on standard error changes nothing.
@@ -178,10 +247,12 @@ fn tell<E: Sink>(error: &RunError, err: &mut E) -> Status
 ///
 /// `words` are those of the command line, the program's name first; `gate` sees each attempt of a
 /// worker to take an instance, and to lift a vertex; `streams` are what it reads and writes.
-/// Statuses: 0 answered; 1 the input is refused; 2 the words ask for nothing that the program does,
-/// or for a property that the model doesn't have; 3 a request for memory was refused; 4 reading or
-/// writing failed. With a status that isn't 0 one line on the error stream says why, by the number
-/// of the fault or the rule and, where there is one, the place.
+/// Statuses: 0 answered; 1 the input is refused, or a property that was checked; 2 the words ask
+/// for nothing that the program does, or for a property that the model doesn't have; 3 a request
+/// for memory was refused; 4 reading or writing failed; where the status is to tell the verdicts, 5
+/// a property is false, 6 none is, and of one the ranges decide. With a status from 1 to 4, but
+/// where the verdicts were written, one line on the error stream says why, by the number of the
+/// fault or the rule and, where there is one, the place.
 pub fn run<T: Threads + Sync, S: AsStr, G: Gate + Sync, R: Source, O: Sink, E: Sink>(
     rt: &T,
     alloc: Global,
@@ -189,7 +260,7 @@ pub fn run<T: Threads + Sync, S: AsStr, G: Gate + Sync, R: Source, O: Sink, E: S
     gate: &G,
     streams: &mut Streams<R, O, E>,
 ) -> u8
-    ensures statuses { result ≤ 4 }
+    ensures statuses { result ≤ 6 }
 
     // The words have a fault exactly where they ask for nothing, which is seen before any byte is
     // read; memory may be refused first. The word of each command asks for it. Without a fault
@@ -202,22 +273,42 @@ pub fn run<T: Threads + Sync, S: AsStr, G: Gate + Sync, R: Source, O: Sink, E: S
     ensures asked { AskPlainly (map S.text words.now) → result ≢ 2 }
     ensures unasked { AskNothing (map S.text words.now) → (result ≡ 2) ⊎ (result ≡ 3) }
 
-    // Answered: what the command writes for the input went out, and nothing on standard error.
+    // Answered: what is asked for went out, with the status that belongs to it, and nothing on
+    // standard error.
     ensures answered { result ≡ 0 →
         Answers (map S.text words.now) (R.left streams.old.input)
+        (λ s. s ≡ status.Answered)
         (Appends (O.taken streams.old.output) (O.taken streams.new.output)) }
-    ensures quiet { result ≡ 0 → streams.new.error ≡ streams.old.error }
-    ensures written { result ≡ 0 →
+    ensures denied { result ≡ 5 →
+        Answers (map S.text words.now) (R.left streams.old.input)
+        (λ s. s ≡ status.False)
+        (Appends (O.taken streams.old.output) (O.taken streams.new.output)) }
+    ensures undecided { result ≡ 6 →
+        Answers (map S.text words.now) (R.left streams.old.input)
+        (λ s. s ≡ status.Unknown)
+        (Appends (O.taken streams.old.output) (O.taken streams.new.output)) }
+    ensures quiet { (result ≡ 0) ⊎ (result ≡ 5) ⊎ (result ≡ 6)
+        → streams.new.error ≡ streams.old.error }
+    ensures written { (result ≡ 0) ⊎ (result ≡ 5) ⊎ (result ≡ 6) →
         O.has_failed streams.new.output ≡ O.has_failed streams.old.output }
 
     // But for status 4 no read failed.
-    ensures read { result ≤ 3 → R.has_failed streams.new.input ≡ R.has_failed streams.old.input }
+    ensures read { result ≢ 4 → R.has_failed streams.new.input ≡ R.has_failed streams.old.input }
 
-    // Refused, or not understood, or no memory: nothing went out, and a line tells which.
-    ensures silent { 1 ≤ result → result ≤ 3 → streams.new.output ≡ streams.old.output }
+    // Refused: nothing went out, and a line tells why; or a property that was checked is, and the
+    // verdicts went out.
     ensures refused { result ≡ 1 →
-        TellsRefusal (map S.text words.now) (R.left streams.old.input)
-        (E.taken streams.old.error) (E.taken streams.new.error) (E.has_failed streams.new.error) }
+        ((streams.new.output ≡ streams.old.output)
+        × TellsRefusal (map S.text words.now) (R.left streams.old.input)
+        (E.taken streams.old.error) (E.taken streams.new.error) (E.has_failed streams.new.error))
+        ⊎ ((streams.new.error ≡ streams.old.error)
+        × (O.has_failed streams.new.output ≡ O.has_failed streams.old.output)
+        × Answers (map S.text words.now) (R.left streams.old.input)
+        (λ s. s ≡ status.Refused)
+        (Appends (O.taken streams.old.output) (O.taken streams.new.output))) }
+
+    // Not understood, or no memory: nothing went out, and a line tells which.
+    ensures silent { (result ≡ 2) ⊎ (result ≡ 3) → streams.new.output ≡ streams.old.output }
     ensures usage { result ≡ 2 →
         Tells (E.taken streams.old.error) (E.taken streams.new.error)
         (E.has_failed streams.new.error) (codes "U01\n") }
@@ -235,14 +326,14 @@ pub fn run<T: Threads + Sync, S: AsStr, G: Gate + Sync, R: Source, O: Sink, E: S
         (E.has_failed streams.new.error) (codes "E01\n"))
         ⊎ ((O.has_failed streams.new.output ≡ true)
         × (R.has_failed streams.new.input ≡ R.has_failed streams.old.input)
-        × Answers (map S.text words.now) (R.left streams.old.input)
+        × Answers (map S.text words.now) (R.left streams.old.input) AnyStatus
         (AppendsPrefix (O.taken streams.old.output) (O.taken streams.new.output))
         × Tells (E.taken streams.old.error) (E.taken streams.new.error)
         (E.has_failed streams.new.error) (codes "E02\n")) }
 {
     let context = Context { rt, alloc, gate };
     match attempt(&context, words, &mut streams.input, &mut streams.output) {
-        Ok(()) => u8::from(Status::Answered),
+        Ok(status) => u8::from(status),
         Err(error) => u8::from(tell(&error, &mut streams.error)),
     }
 }

@@ -20,10 +20,10 @@ ghost use Rattle.pb_model_properties.specs.Said.{IsModelOf};
 ghost use Rattle.pb_model_properties.specs.Words.{words_in};
 ghost use Rattle.pb_model_words.specs.View.{vocabulary_of};
 ghost use Rattle.pb_module_commands.specs.Delivery.{Delivers};
-ghost use Rattle.pbsolve.specs.Models.{IsUnchecked};
+ghost use Rattle.pbsolve.specs.Models.{IsUnexplained};
 ghost use Rattle.pbsolve.specs.Why.{CallsAreMoves, CallsAreSteps, StatesAreTold};
 ghost use Rattle.pbsolve.specs.Why.{AreTold, IsTold, IsUnshown, OutputsWhy, TellAsked};
-ghost use Rattle.pbsolve.specs.Why.{lines_of, shown_by, told_text};
+ghost use Rattle.pbsolve.specs.Why.{lines_of, shown_by, told_text, verdict_of};
 
 use crate::compile::verified;
 use crate::laws::told_calls_are_steps;
@@ -34,9 +34,11 @@ use pb_exploration::Gate;
 use pb_faults::{SolveError, SolveFault};
 use pb_limits::MAX_INPUT_BYTES;
 use pb_machine::instances_have_trees;
-use pb_model_properties::{SolvedModel, place_of, push_verdict, read_protocol, text_at, words_of};
+use pb_model_properties::{
+    SolvedModel, Verdict, place_of, push_verdict, read_protocol, text_at, words_of,
+};
 use pb_model_tree::Model;
-use pb_model_typing::{TypedModel, steps_text};
+use pb_model_typing::steps_text;
 use pb_model_words::Vocabulary;
 use pb_module_commands::{deliver, explained};
 use pb_module_solver::Context;
@@ -54,6 +56,13 @@ struct Asked {
     place: usize,
     always: bool,
     options: WhyOptions,
+}
+
+// The verdict that is shown.
+fn verdict_of(truth: bool) -> Verdict
+    ensures { result ≡ verdict_of truth }
+{
+    if truth { Verdict::True } else { Verdict::False }
 }
 
 // The verdict on a property, and behind it what shows it.
@@ -75,7 +84,7 @@ fn told(alloc: Global, asked: Asked, name: &str, shown: &Shown<'_>) -> Result<St
 {
     let mut told = String::new(alloc);
     let truth = shown.explanation.evidence.truth;
-    push_verdict(alloc, &mut told, name, truth, 0)?;
+    push_verdict(&mut told, name, verdict_of(truth))?;
     if asked.always || !truth {
         if asked.options.lines {
             push_instance_lines(alloc, shown, &mut told)?;
@@ -135,20 +144,24 @@ fn told_in(
 // What is told of the property at a place.
 fn told_at<R: Threads + Sync, G: Gate + Sync>(
     context: &Context<'_, R, G>,
-    model: &TypedModel,
+    solved: &SolvedModel,
     vocabulary: &Vocabulary<'_>,
     asked: Asked,
 ) -> Result<String, OrMemory<SolveFault>>
-    requires read { (bytes : List ℕ) × IsModelOf bytes (model_form model.now.model) }
-    requires within { asked.place < length model.now.model.properties.items }
+    requires read { (bytes : List ℕ) × IsModelOf bytes (model_form solved.now.typed.model) }
+    requires within { asked.place < length solved.now.typed.model.properties.items }
     ensures told { IfOk result (λ told. (p : PropertyForm)
-        → slice_get (model_form model.now.model).properties asked.place ≡ Some p
+        → slice_get (model_form solved.now.typed.model).properties asked.place ≡ Some p
         → IsTold asked.options.lines asked.always (vocabulary_of vocabulary.now)
-        (model_form model.now.model) p (string_bytes told)) }
+        (model_form solved.now.typed.model) p (string_bytes told)) }
     ensures refused { IfRefused result (λ fault. (bytes : List ℕ)
-        → IsModelOf bytes (model_form model.now.model) → IsUnchecked bytes fault) }
+        → IsModelOf bytes (model_form solved.now.typed.model) → IsUnexplained bytes fault) }
 {
-    let text = text_at(context.alloc, model, asked.place)?;
+    let model = &solved.typed;
+    let text = match text_at(context.alloc, solved, asked.place) {
+        Ok(text) => text,
+        Err(error) => return Err(error.raise()),
+    };
     let here = name_place(model, asked.place);
     let verified = match verified(context.alloc, &text) {
         Ok(verified) => verified,
@@ -174,25 +187,25 @@ fn told_at<R: Threads + Sync, G: Gate + Sync>(
 // What is told of all properties.
 fn all_told<R: Threads + Sync, G: Gate + Sync>(
     context: &Context<'_, R, G>,
-    model: &TypedModel,
+    solved: &SolvedModel,
     vocabulary: &Vocabulary<'_>,
     options: WhyOptions,
 ) -> Result<String, OrMemory<SolveFault>>
-    requires read { (bytes : List ℕ) × IsModelOf bytes (model_form model.now.model) }
+    requires read { (bytes : List ℕ) × IsModelOf bytes (model_form solved.now.typed.model) }
     ensures told { IfOk result (λ lines. AreTold options.lines (vocabulary_of vocabulary.now)
-        (model_form model.now.model) (model_form model.now.model).properties
+        (model_form solved.now.typed.model) (model_form solved.now.typed.model).properties
         (string_bytes lines)) }
     ensures refused { IfRefused result (λ fault. (bytes : List ℕ)
-        → IsModelOf bytes (model_form model.now.model) → IsUnchecked bytes fault) }
+        → IsModelOf bytes (model_form solved.now.typed.model) → IsUnexplained bytes fault) }
 {
     let mut lines = String::new(context.alloc);
-    for place in 0..model.model.properties.len() {
+    for place in 0..solved.typed.model.properties.len() {
         let asked = Asked {
             place,
             always: false,
             options,
         };
-        let told = told_at(context, model, vocabulary, asked)?;
+        let told = told_at(context, solved, vocabulary, asked)?;
         lines.push_str(told.as_str())?;
     }
     Ok(lines)
@@ -201,19 +214,19 @@ fn all_told<R: Threads + Sync, G: Gate + Sync>(
 // What is told of the property of a name.
 fn named_told<R: Threads + Sync, G: Gate + Sync>(
     context: &Context<'_, R, G>,
-    model: &TypedModel,
+    solved: &SolvedModel,
     vocabulary: &Vocabulary<'_>,
     name: &str,
     options: WhyOptions,
 ) -> Result<String, OrMemory<SolveFault>>
-    requires read { (bytes : List ℕ) × IsModelOf bytes (model_form model.now.model) }
+    requires read { (bytes : List ℕ) × IsModelOf bytes (model_form solved.now.typed.model) }
     ensures told { IfOk result (λ lines. TellAsked options.lines (Some name.now)
-        (vocabulary_of vocabulary.now) (model_form model.now.model) (string_bytes lines)) }
+        (vocabulary_of vocabulary.now) (model_form solved.now.typed.model) (string_bytes lines)) }
     ensures refused { IfRefused result (λ fault. (bytes : List ℕ)
-        → IsModelOf bytes (model_form model.now.model)
+        → IsModelOf bytes (model_form solved.now.typed.model)
         → IsUnshown (Some name.now) bytes fault) }
 {
-    let Some(place) = place_of(&model.model.properties, Some(name)) else {
+    let Some(place) = place_of(&solved.typed.model.properties, Some(name)) else {
         return Err(SolveFault::NoProperty.into());
     };
     let asked = Asked {
@@ -221,28 +234,28 @@ fn named_told<R: Threads + Sync, G: Gate + Sync>(
         always: true,
         options,
     };
-    told_at(context, model, vocabulary, asked)
+    told_at(context, solved, vocabulary, asked)
 }
 
 // What is told of the property of a name, or of all where none is named.
 fn asked_told<R: Threads + Sync, G: Gate + Sync>(
     context: &Context<'_, R, G>,
-    model: &TypedModel,
+    solved: &SolvedModel,
     vocabulary: &Vocabulary<'_>,
     property: Option<&str>,
     options: WhyOptions,
 ) -> Result<String, OrMemory<SolveFault>>
-    requires read { (bytes : List ℕ) × IsModelOf bytes (model_form model.now.model) }
+    requires read { (bytes : List ℕ) × IsModelOf bytes (model_form solved.now.typed.model) }
     ensures told { IfOk result (λ lines. TellAsked options.lines (option_copied property.entry)
-        (vocabulary_of vocabulary.now) (model_form model.now.model) (string_bytes lines)) }
+        (vocabulary_of vocabulary.now) (model_form solved.now.typed.model) (string_bytes lines)) }
     ensures refused { IfRefused result (λ fault. (bytes : List ℕ)
-        → IsModelOf bytes (model_form model.now.model)
+        → IsModelOf bytes (model_form solved.now.typed.model)
         → IsUnshown (option_copied property.entry) bytes fault) }
     ensures named { result ≡ Err (Refused NoProperty) → IsSome property.entry }
 {
     match property {
-        Some(name) => named_told(context, model, vocabulary, name, options),
-        None => all_told(context, model, vocabulary, options),
+        Some(name) => named_told(context, solved, vocabulary, name, options),
+        None => all_told(context, solved, vocabulary, options),
     }
 }
 
@@ -262,7 +275,7 @@ fn solved_told<R: Threads + Sync, G: Gate + Sync>(
     ensures named { result ≡ Err (Refused NoProperty) → IsSome property.entry }
 {
     let vocabulary = words_of(context.alloc, solved)?;
-    asked_told(context, &solved.typed, &vocabulary, property, options)
+    asked_told(context, solved, &vocabulary, property, options)
 }
 
 /// Tells why the properties of a model hold or don't, in the model's own words. Without a name it

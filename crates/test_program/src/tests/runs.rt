@@ -116,7 +116,7 @@ pub const RUNS: [Run; 12] = [
         name: "check of a cut model",
         words: &["pbsolve", "check"],
         input: CUT,
-        output: b"alive false\ncut 1\ntop true\n",
+        output: b"alive unknown\ncut 1\ntop true\n",
     },
     Run {
         name: "translate",

@@ -1,13 +1,12 @@
 -- The flat model packed, accepted or not; or not packed.
-use Rattle.std.proofs.Common.{map}
 use Rattle.pb_model_tree.specs.Form.{model_form}
-use Rattle.pb_model_properties.specs.Flat.{origin_place}
+use Rattle.pb_model_properties.specs.Refusals.{told_places}
 use Rattle.pb_model_properties.proofs.SolvedModels.{IsPackedTo, as_packed, ill_typed_told, not_packed_told, packed_told}
 use Rattle.pb_model_properties.proofs.flat.packed.Goals as goal
 
 pub returns-in-Err-clause-refused : goal.returns-in-Err-clause-refused
 returns-in-Err-clause-refused c =
-    not_packed_told (model_form c.args.model) (map origin_place c.args.origins.now) c.in-Err.error c.told_error.result c.told_error.ensures c.in-Err.ensures.refused
+    not_packed_told (model_form c.args.model) (told_places c.args.names) c.in-Err.error c.told_error.result c.told_error.ensures c.in-Err.ensures.refused
 
 pub returns-in-Ok-check_model-clause-model : goal.returns-in-Ok-check_model-clause-model
 returns-in-Ok-check_model-clause-model c =
@@ -25,7 +24,7 @@ returns-in-Ok-check_model-clause-model c =
       formulas = c.packed_formulas_are_writable.ensures;
       few = c.packed_groups_have_few_values.ensures;
       said = c.translations_can_be_said.ensures;
-    }) (record { model = c.args.model; groups = c.in-Ok.packed.groups }) c.in-Ok.packed.model c.in-Ok-check_model.typed c.args.names c.in-Ok-check_model.ensures.kept
+    }) (record { model = c.args.model; groups = c.in-Ok.packed.groups }) c.in-Ok.packed.model c.in-Ok-check_model.typed c.args.names c.requires c.in-Ok-check_model.ensures.kept
     c.in-Ok-check_model.ensures.accepted to c.in-Ok.ensures.groups
 
 pub returns-in-Err-check_model-clause-refused : goal.returns-in-Err-check_model-clause-refused
@@ -38,6 +37,6 @@ returns-in-Err-check_model-clause-refused c =
       places = c.in-Ok.ensures.places;
       few = c.in-Ok.ensures.few;
     } in
-    ill_typed_told (model_form c.args.model) (model_form c.in-Ok.packed.model) (as_packed (model_form c.args.model) (model_form c.in-Ok.packed.model) to)
-    (map origin_place c.args.origins.now) c.in-Err-check_model.error c.told_error-in-Err-check_model.result c.told_error-in-Err-check_model.ensures
+    ill_typed_told (model_form c.args.model) (model_form c.in-Ok.packed.model) (as_packed (model_form c.args.model) (model_form c.in-Ok.packed.model) c.requires to)
+    (told_places c.args.names) c.in-Err-check_model.error c.told_error-in-Err-check_model.result c.told_error-in-Err-check_model.ensures
     c.in-Err-check_model.ensures.fails c.in-Err-check_model.ensures.ill_typed

@@ -1,8 +1,9 @@
 -- The model of a plain protocol, which was accepted.
-use Rattle.std.proofs.Common.{◌≡◌, None}
+use Rattle.std.proofs.Common.{◌≡◌, false, None}
 use Rattle.pb_model_tree.specs.Form.{model_form}
 use Rattle.pb_protocol_tree.specs.Form.{protocol_form}
-use Rattle.pb_model_properties.proofs.Made.{IsPlainReading, plain_is_flat, plain_names_of, plain_refused}
+use Rattle.pb_model_properties.specs.Made.{has_many_variables}
+use Rattle.pb_model_properties.proofs.Made.{IsPlainFor, plain_few, plain_is_flat, plain_names_of, plain_refused}
 use Rattle.pb_model_properties.proofs.PlainModels.{typed_is_plain}
 use Rattle.pb_model_properties.proofs.SolvedModels.{flat_told}
 use Rattle.pb_model_properties.proofs.plain.as_it_is.Goals as goal
@@ -11,21 +12,20 @@ pub returns-in-Ok-clause-model : goal.returns-in-Ok-clause-model
 returns-in-Ok-clause-model c =
     let protocol = protocol_form c.args.protocol in
     let m = model_form c.in_ok-model.model in
-    let bytes = c.requires.read.0 in
-    let reading = c.requires.read.1.reading in
-    let is : IsPlainReading protocol m = record {
+    let is : IsPlainFor protocol m = record {
       words = c.in_ok-model.ensures.words;
       meaning = c.in_ok-model.ensures.meaning;
-      first = c.read_protocols_have_properties.ensures bytes protocol reading;
-      apart = λ q. c.read_protocols_stand_apart.ensures.read bytes protocol q reading;
+      solvable = c.requires.solvable;
       kept = c.read_protocols_stand_apart.ensures.kept;
-      writable = c.read_protocols_are_writable.ensures bytes protocol reading;
     } in
+    let few : has_many_variables m ≡ false = plain_few protocol m c.in_ok-model.ensures.words c.requires.few in
     let flat = plain_is_flat c.flat_models_are_solved.ensures.plain protocol m is (typed_is_plain c.names_are_apart.ensures m c.in-Ok.ensures.accepted) in
-    flat_told c.translations_can_be_said.ensures c.in_ok-model.model c.in-Ok.typed None c.in-Ok.ensures.kept c.in-Ok.ensures.accepted protocol flat
+    flat_told c.translations_can_be_said.ensures c.in_ok-model.model c.in-Ok.typed None few c.in-Ok.ensures.kept c.in-Ok.ensures.accepted protocol flat
     (plain_names_of protocol m c.requires.plain)
 
 pub returns-in-Err-clause-refused : goal.returns-in-Err-clause-refused
 returns-in-Err-clause-refused c =
-    plain_refused (protocol_form c.args.protocol) (model_form c.in_ok-model.model) c.in_ok-model.ensures.words c.in-Err.error c.raise.result c.raise.ensures
+    let protocol = protocol_form c.args.protocol in
+    let m = model_form c.in_ok-model.model in
+    plain_refused protocol m c.in_ok-model.ensures.words (plain_few protocol m c.in_ok-model.ensures.words c.requires.few) c.in-Err.error c.raise.result c.raise.ensures
     c.in-Err.ensures.fails c.in-Err.ensures.ill_typed

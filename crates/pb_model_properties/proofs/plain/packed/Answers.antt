@@ -9,7 +9,7 @@ use Rattle.pb_protocol_typing.specs.Faults.{protocol_faults}
 use Rattle.pb_solved_model.specs.Laws.{PlainModelsAreSolved}
 use Rattle.pb_model_properties.specs.Flat.{IsFlatModelFor}
 use Rattle.pb_model_properties.proofs.FlatModels.{rules_broken}
-use Rattle.pb_model_properties.proofs.Made.{IsPlainReading, plain_is_flat, plain_names_of}
+use Rattle.pb_model_properties.proofs.Made.{IsPlainFor, plain_is_flat, plain_names_of}
 use Rattle.pb_model_properties.proofs.SolvedModels.{refused_for, solved_for}
 use Rattle.pb_model_properties.proofs.plain.packed.Goals as goal
 
@@ -17,22 +17,18 @@ pub returns-in-Err-clause-refused : goal.returns-in-Err-clause-refused
 returns-in-Err-clause-refused c =
     rules_broken (protocol_form c.args.protocol) c.in-Err.error c.raise.result c.raise.ensures c.in-Err.ensures.fails
 
-is_flat : PlainModelsAreSolved → PlainProtocolsArePlain → (protocol : ProtocolForm) (m : Model) → protocol_faults protocol ≡ [] → IsPlainReading protocol (model_form m)
+is_flat : PlainModelsAreSolved → PlainProtocolsArePlain → (protocol : ProtocolForm) (m : Model) → protocol_faults protocol ≡ [] → IsPlainFor protocol (model_form m)
     → IsFlatModelFor protocol (model_form m)
 is_flat solved plainly protocol m keeps is = plain_is_flat solved protocol (model_form m) is (plainly protocol (model_text.erase (model_form m)) keeps is.meaning)
 
 pub returns-clause-model : goal.returns-clause-model
 returns-clause-model c =
     let protocol = protocol_form c.args.protocol in
-    let bytes = c.requires.read.0 in
-    let reading = c.requires.read.1.reading in
     let flat = is_flat c.flat_models_are_solved.ensures.plain c.plain_protocols_are_plain.ensures protocol c.in_ok-model.model c.in-Ok.ensures.accepted (record {
       words = c.in_ok-model.ensures.words;
       meaning = c.in_ok-model.ensures.meaning;
-      first = c.read_protocols_have_properties.ensures bytes protocol reading;
-      apart = λ q. c.read_protocols_stand_apart.ensures.read bytes protocol q reading;
+      solvable = c.requires.solvable;
       kept = c.read_protocols_stand_apart.ensures.kept;
-      writable = c.read_protocols_are_writable.ensures bytes protocol reading;
     }) in
     solved_for protocol (model_form c.in_ok-model.model) None flat (plain_names_of protocol (model_form c.in_ok-model.model) c.requires.plain) c.flat_solved.result
     c.flat_solved.ensures.model
@@ -40,14 +36,10 @@ returns-clause-model c =
 pub returns-clause-refused : goal.returns-clause-refused
 returns-clause-refused c =
     let protocol = protocol_form c.args.protocol in
-    let bytes = c.requires.read.0 in
-    let reading = c.requires.read.1.reading in
     let flat = is_flat c.flat_models_are_solved.ensures.plain c.plain_protocols_are_plain.ensures protocol c.in_ok-model.model c.in-Ok.ensures.accepted (record {
       words = c.in_ok-model.ensures.words;
       meaning = c.in_ok-model.ensures.meaning;
-      first = c.read_protocols_have_properties.ensures bytes protocol reading;
-      apart = λ q. c.read_protocols_stand_apart.ensures.read bytes protocol q reading;
+      solvable = c.requires.solvable;
       kept = c.read_protocols_stand_apart.ensures.kept;
-      writable = c.read_protocols_are_writable.ensures bytes protocol reading;
     }) in
     refused_for protocol (model_form c.in_ok-model.model) flat c.flat_solved.result c.flat_solved.ensures.refused

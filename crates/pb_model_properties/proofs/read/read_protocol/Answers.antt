@@ -2,10 +2,11 @@
 use Rattle.std.proofs.Common.{◌≡◌, ℕ, List, sym, subst, Result, Ok, Err, IsErrAnd}
 use Rattle.pb_errors.specs.OrMemory.{IfFault, IfRefused}
 use Rattle.pb_errors.specs.declared.or_memory.OrMemory.{OrMemory}
+use Rattle.pb_errors.proofs.Faults.{if_fault}
 use Rattle.pb_protocol_tree.specs.Form.{protocol_form}
 use Rattle.pb_model_properties.specs.declared.error.ModelFault.{ModelFault}
-use Rattle.pb_model_properties.specs.Refusals.{IsRefusedModel}
-use Rattle.pb_model_properties.proofs.Made.{model_of_bytes, refused_of}
+use Rattle.pb_model_properties.specs.Refusals.{IsRefusedModel, IsUnread}
+use Rattle.pb_model_properties.proofs.Made.{model_of_bytes, refused_of, unread_refused}
 use Rattle.pb_model_properties.proofs.read.read_protocol.Goals as goal
 
 pub returns-clause-model : goal.returns-clause-model
@@ -17,11 +18,11 @@ returns-clause-refused c =
     refused_of c.args.bytes.now (protocol_form c.in_ok-protocol.protocol) c.in_ok-protocol.ensures.said c.solved.result c.solved.ensures.refused
 
 -- what was not read is refused as it was
-handed_on : {T : Type 0} (bytes : List ℕ) (e : OrMemory ModelFault) (r : Result T (OrMemory ModelFault)) → IfFault e (IsRefusedModel bytes) → IsErrAnd r (λ x. x ≡ e)
+handed_on : {T : Type 0} (bytes : List ℕ) (e : OrMemory ModelFault) (r : Result T (OrMemory ModelFault)) → IfFault e (IsUnread bytes) → IsErrAnd r (λ x. x ≡ e)
     → IfRefused r (IsRefusedModel bytes)
 handed_on bytes e (Ok x) h made = tt
-handed_on bytes e (Err x) h made = subst (λ y. IfFault y (IsRefusedModel bytes)) (sym made) h
+handed_on bytes e (Err x) h made = subst (λ y. IfFault y (IsRefusedModel bytes)) (sym made) (if_fault e (unread_refused bytes) h)
 
 pub returns-in_err-protocol-clause-refused : goal.returns-in_err-protocol-clause-refused
 returns-in_err-protocol-clause-refused c =
-    handed_on c.args.bytes.now c.in_err-protocol.field-0.0 c.from_residual.result c.in_err-protocol.ensures.refused c.from_residual.ensures.1
+    handed_on c.args.bytes.now c.in_err-protocol.field-0.0 c.from_residual.result c.in_err-protocol.ensures.unread c.from_residual.ensures.1

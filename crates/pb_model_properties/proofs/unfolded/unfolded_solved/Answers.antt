@@ -4,6 +4,7 @@ use Rattle.pb_model_tree.specs.Form.{model_form}
 use Rattle.pb_protocol_tree.specs.Form.{protocol_form}
 use Rattle.pb_unfolder.specs.declared.origin.StepOrigin.{StepOrigin}
 use Rattle.pb_unfolder.specs.Origins.{origin_name}
+use Rattle.pb_model_properties.specs.declared.solved.ToldNames.{ToldNames}
 use Rattle.pb_model_properties.proofs.FlatModels.{unfolded_is_flat, unfolded_names}
 use Rattle.pb_model_properties.proofs.SolvedModels.{refused_for, solved_for}
 use Rattle.pb_model_properties.proofs.unfolded.unfolded_solved.Goals as goal
@@ -12,30 +13,24 @@ pub returns-clause-model : goal.returns-clause-model
 returns-clause-model c =
     let protocol = protocol_form c.args.protocol.now in
     let u = c.in_ok-unfolded.unfolded in
-    let bytes = c.requires.read.0 in
-    let reading = c.requires.read.1.reading in
     let is = c.in_ok-unfolded.ensures.flat in
     let flat = unfolded_is_flat (record {
       solved = c.flat_models_are_solved.ensures.unfolded;
-      apart = c.numbered_steps_stand_apart.ensures;
       models = c.flat_models_are_writable.ensures;
       formulas = c.flat_formulas_are_writable.ensures;
-    }) bytes protocol u c.requires.read.1 (c.read_protocols_are_writable.ensures bytes protocol reading) is (c.read_protocols_have_properties.ensures bytes protocol reading) in
+    }) protocol u c.requires.solvable is in
     let steps = c.in_ok-steps.ensures ∙ ap (λ (xs : List StepOrigin). map origin_name xs) c.deref.ensures.value in
-    let called = unfolded_names protocol u (record { variables = u.variables; steps = c.in_ok-steps.steps }) c.requires.unfolds is refl steps in
-    solved_for protocol (model_form u.model) (Some (record { variables = u.variables; steps = c.in_ok-steps.steps })) flat called c.flat_solved.result c.flat_solved.ensures.model
+    let names : ToldNames = record { variables = u.variables; steps = c.in_ok-steps.steps; places = c.in_ok-places.places } in
+    let called = unfolded_names protocol u names c.requires.unfolds is refl steps in
+    solved_for protocol (model_form u.model) (Some names) flat called c.flat_solved.result c.flat_solved.ensures.model
 
 pub returns-clause-refused : goal.returns-clause-refused
 returns-clause-refused c =
     let protocol = protocol_form c.args.protocol.now in
     let u = c.in_ok-unfolded.unfolded in
-    let bytes = c.requires.read.0 in
-    let reading = c.requires.read.1.reading in
     let flat = unfolded_is_flat (record {
       solved = c.flat_models_are_solved.ensures.unfolded;
-      apart = c.numbered_steps_stand_apart.ensures;
       models = c.flat_models_are_writable.ensures;
       formulas = c.flat_formulas_are_writable.ensures;
-    }) bytes protocol u c.requires.read.1 (c.read_protocols_are_writable.ensures bytes protocol reading) c.in_ok-unfolded.ensures.flat
-    (c.read_protocols_have_properties.ensures bytes protocol reading) in
+    }) protocol u c.requires.solvable c.in_ok-unfolded.ensures.flat in
     refused_for protocol (model_form u.model) flat c.flat_solved.result c.flat_solved.ensures.refused

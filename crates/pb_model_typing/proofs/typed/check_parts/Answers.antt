@@ -1,8 +1,10 @@
-use Rattle.std.proofs.Common.{rules}
+use Rattle.std.proofs.Common.{inr, rules}
+use Rattle.std.proofs.lemmas.Result.{on_ok_weaker}
 use Rattle.pb_errors.specs.OrMemory.{IfFault}
+use Rattle.pb_errors.proofs.Faults.{if_refused}
 use Rattle.pb_model_tree.specs.Form.{model_form}
 use Rattle.pb_model_typing.specs.Texts.{IsTypedModel, IsModelFault}
-use Rattle.pb_model_typing.proofs.Decided.{rule-broken, rule-fault, texts-broken, texts-fault}
+use Rattle.pb_model_typing.proofs.Decided.{rule-broken, rule-fault}
 use Rattle.pb_model_typing.proofs.typed.check_parts.Goals as goal
 
 pub returns-in_err-check_rules-clause-fails : goal.returns-in_err-check_rules-clause-fails
@@ -17,13 +19,11 @@ returns-in_err-check_rules-clause-ill_typed c =
     let h : IfFault e (λ _. ¬ IsTypedModel (model_form c.args.model.now)) = rule-broken (model_form c.args.model.now) e c.in_err-check_rules.ensures in
     search rules
 
-pub returns-in-Err-clause-fails : goal.returns-in-Err-clause-fails
-returns-in-Err-clause-fails c =
-    texts-fault (model_form c.args.model.now) c.in-Err.error c.error_in_model.result c.error_in_model.ensures c.in-Err.ensures.fails
+pub returns-clause-accepted : goal.returns-clause-accepted
+returns-clause-accepted c = on_ok_weaker c.check_steps_text.result (λ typed. record { rules = c.in_ok-check_rules.ensures; steps = typed }) c.check_steps_text.ensures.accepted
 
-pub returns-in-Err-clause-ill_typed : goal.returns-in-Err-clause-ill_typed
-returns-in-Err-clause-ill_typed c =
-    texts-broken (model_form c.args.model.now) c.in-Err.error c.error_in_model.result c.error_in_model.ensures c.in-Err.ensures.ill_typed
+pub returns-clause-fails : goal.returns-clause-fails
+returns-clause-fails c = if_refused c.check_steps_text.result (λ fault h. inr h) c.check_steps_text.ensures.fails
 
-pub returns-in-Ok-clause-accepted : goal.returns-in-Ok-clause-accepted
-returns-in-Ok-clause-accepted c = record { rules = c.in_ok-check_rules.ensures; texts = c.in-Ok.ensures.accepted }
+pub returns-clause-ill_typed : goal.returns-clause-ill_typed
+returns-clause-ill_typed c = if_refused c.check_steps_text.result (λ fault ill typed. ill typed.steps) c.check_steps_text.ensures.ill_typed

@@ -5,7 +5,7 @@ use Rattle.pb_model_tree.specs.Form.{PropertyForm, model_form, property_form}
 use Rattle.pb_model_words.specs.View.{vocabulary_of}
 use Rattle.pbsolve.specs.Why.{AreTold}
 use Rattle.pbsolve.proofs.Told.{next_told}
-use Rattle.pbsolve.proofs.PropertyVerdicts.{some_property, WhereUnchecked}
+use Rattle.pbsolve.proofs.PropertyVerdicts.{some_property, WhereUnexplained}
 use Rattle.pb_faults.proofs.HandedUp.{handed_on}
 use Rattle.pbsolve.proofs.why.all_told.Goals as goal
 
@@ -14,7 +14,7 @@ loop-place-init g c = c.new-lines.ensures.bytes
 
 pub loop-place-preserved : goal.loop-place-preserved
 loop-place-preserved g c =
-    let model = c.args.model.now.model in
+    let model = c.args.solved.now.typed.model in
     let items = model.properties.items in
     let place = c.loop-place.place in
     let told = c.in_ok-told.told in
@@ -27,7 +27,7 @@ loop-place-preserved g c =
 
 pub returns-clause-told : goal.returns-clause-told
 returns-clause-told g c =
-    let model = c.args.model.now.model in
+    let model = c.args.solved.now.typed.model in
     let properties = (model_form model).properties in
     let long : length properties ≤ c.loop-place.place =
     omega (arith, length-map model.properties.items property_form, c.len-place-end.ensures, c.loop-place-test.false, model.properties.ok.0) in
@@ -35,5 +35,5 @@ returns-clause-told g c =
 
 pub returns-in_err-told-clause-refused : goal.returns-in_err-told-clause-refused
 returns-in_err-told-clause-refused g c =
-    let P = WhereUnchecked (model_form c.args.model.now.model) in
+    let P = WhereUnexplained (model_form c.args.solved.now.typed.model) in
     handed_on P P (λ f h. h) c.in_err-told.field-0.0 c.from_residual.result c.in_err-told.ensures.refused c.from_residual.ensures.1

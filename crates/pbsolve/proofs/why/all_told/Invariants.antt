@@ -6,4 +6,4 @@ use Rattle.pbsolve.proofs.why.all_told.Given as goal
 
 abbrev pub invariant-loop-place : goal.invariant-loop-place
 invariant-loop-place g l =
-    AreTold l.options.lines (vocabulary_of l.vocabulary) (model_form l.model.model) (take l.place (model_form l.model.model).properties) (string_bytes l.lines)
+    AreTold l.options.lines (vocabulary_of l.vocabulary) (model_form l.solved.typed.model) (take l.place (model_form l.solved.typed.model).properties) (string_bytes l.lines)

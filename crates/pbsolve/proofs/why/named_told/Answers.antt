@@ -13,18 +13,18 @@ use Rattle.pbsolve.proofs.why.named_told.Goals as goal
 
 pub told_at-requires-clause-within : goal.told_at-requires-clause-within
 told_at-requires-clause-within g c κs outlive =
-    within_mapped property_form c.deref.result.now c.args.model.now.model.properties.items c.in-Some.place c.in-Some.ensures.found.property
+    within_mapped property_form c.deref.result.now c.args.solved.now.typed.model.properties.items c.in-Some.place c.in-Some.ensures.found.property
     c.deref.ensures.value c.in-Some.ensures.found.stands
 
 pub returns-clause-told : goal.returns-clause-told
 returns-clause-told g c =
-    let model = model_form c.args.model.now.model in
+    let model = model_form c.args.solved.now.typed.model in
     let found = subst (λ (ps : List _). IsAskedAt (Some c.args.name.now) (map property_form ps) c.in-Some.place) c.deref.ensures.value c.in-Some.ensures.found in
     named_is_told string_bytes c.args.options.lines c.args.name.now (vocabulary_of c.args.vocabulary.now) model c.in-Some.place found c.told_at.result c.told_at.ensures.told
 
 pub returns-clause-refused : goal.returns-clause-refused
 returns-clause-refused g c =
-    if_refused c.told_at.result (where_unshown (Some c.args.name.now) (model_form c.args.model.now.model)) c.told_at.ensures.refused
+    if_refused c.told_at.result (where_unshown (Some c.args.name.now) (model_form c.args.solved.now.typed.model)) c.told_at.ensures.refused
 
 -- what holds where nothing is found
 where_none : {T : Type 0} (Q : Type 0) (r : Option T) → ((x : T) → r ≡ Some x → ⊥) → IfNone r Q → Q
@@ -33,7 +33,7 @@ where_none Q (Some x) other h = absurd (other x refl)
 
 pub returns-in_default-clause-refused : goal.returns-in_default-clause-refused
 returns-in_default-clause-refused g c =
-    let model = model_form c.args.model.now.model in
+    let model = model_form c.args.solved.now.typed.model in
     let name = Some c.args.name.now in
     let none = subst (λ (ps : List _). IfNone c.place_of.result (NoneIsAskedFor name (map property_form ps))) c.deref.ensures.value c.place_of.ensures.none in
     subst (λ (e : OrMemory SolveFault). IfFault e (WhereUnshown name model)) (sym c.into.ensures)

@@ -5,7 +5,7 @@ use Rattle.pb_model_tree.specs.Form.{model_form}
 use Rattle.pb_model_words.specs.Vocabulary.{Vocabulary}
 use Rattle.pbsolve.specs.Why.{IsUnshown, OutputsWhy, TellAsked}
 use Rattle.pb_module_commands.proofs.Deliveries.{less_delivered, nothing_written, only_write}
-use Rattle.pbsolve.proofs.PropertyVerdicts.{model_unchecked}
+use Rattle.pbsolve.proofs.PropertyVerdicts.{model_unexplained}
 use Rattle.pbsolve.proofs.Told.{missed, no_name, never_missed_model, unshown, WhereUnshown}
 use Rattle.pb_faults.proofs.HandedUp.{handed_up, refused_up}
 use Rattle.pb_model_properties.specs.Refusals.{IsRefusedModel}
@@ -51,7 +51,7 @@ returns-in_err-solved-clause-refused g c =
     let name = option_copied c.args.property in
     let bytes = c.args.bytes.now in
     refused_up (λ f above. above ≡ fault_of_model f) (IsRefusedModel bytes) (IsUnshown name bytes)
-    (λ f above same h. subst (IsUnshown name bytes) (sym same) (unshown name bytes (fault_of_model f) (model_unchecked bytes f h)))
+    (λ f above same h. subst (IsUnshown name bytes) (sym same) (unshown name bytes (fault_of_model f) (model_unexplained bytes f h)))
     c.in_err-solved.field-0.0 c.from_residual.result c.in_err-solved.ensures.refused c.from_residual.ensures.1
 
 pub returns-clause-named : goal.returns-clause-named

@@ -1,0 +1,100 @@
+-- The command line as clap reads it.
+use Rattle.std.specs.Prelude.{ℕ, true, List, [], ◌∷◌, Some, codes}
+use Rattle.clap.specs.declared.builder.action.ArgAction.TheVariants.{Append, SetTrue}
+use Rattle.clap.specs.Walk.{Rule}
+use Rattle.clap.specs.Simple.{App, Shape, new_app, new_shape, new_rule, on_top, with_subcommand}
+
+-- `--workers` with any word
+abbrev pub workers_rule : Rule
+workers_rule = record (new_rule (codes "workers")) { long = Some (codes "workers") }
+
+-- `--solver` with any word
+abbrev pub solver_rule : Rule
+solver_rule = record (new_rule (codes "solver")) { long = Some (codes "solver") }
+
+-- `--places`, with no word behind it: clap reads `true` where it stands, and else `false`
+abbrev pub places_rule : Rule
+places_rule =
+    record (new_rule (codes "places")) { long = Some (codes "places"); action = Some SetTrue }
+
+-- `--lines`, with no word behind it
+abbrev pub lines_rule : Rule
+lines_rule =
+    record (new_rule (codes "lines")) { long = Some (codes "lines"); action = Some SetTrue }
+
+-- `--property` with any word
+abbrev pub property_rule : Rule
+property_rule = record (new_rule (codes "property")) { long = Some (codes "property") }
+
+-- `--property` with any word, once or more often
+abbrev pub properties_rule : Rule
+properties_rule = record property_rule { action = Some Append }
+
+-- `--status`, with no word behind it
+abbrev pub status_rule : Rule
+status_rule =
+    record (new_rule (codes "status")) { long = Some (codes "status"); action = Some SetTrue }
+
+-- `--counts`, with no word behind it
+abbrev pub counts_rule : Rule
+counts_rule =
+    record (new_rule (codes "counts")) { long = Some (codes "counts"); action = Some SetTrue }
+
+-- a word that has to stand behind the command
+abbrev pub number_rule : Rule
+number_rule = record (new_rule (codes "number")) { required = true }
+
+-- a command that takes the number of workers
+abbrev pub exploring_shape : List ℕ → Shape
+exploring_shape name = record (new_shape name) { rules = workers_rule ∷ [] }
+
+-- a command that can be told to name places too
+abbrev pub explaining_shape : List ℕ → Shape
+explaining_shape name = record (new_shape name) { rules = workers_rule ∷ places_rule ∷ [] }
+
+-- a command that takes the number of workers and the solver
+abbrev pub solving_shape : List ℕ → Shape
+solving_shape name = record (new_shape name) { rules = workers_rule ∷ solver_rule ∷ [] }
+
+-- a command that takes the name of a property
+abbrev pub translating_shape : List ℕ → Shape
+translating_shape name = record (new_shape name) { rules = property_rule ∷ [] }
+
+-- a command that takes the number of workers and the name of a property, and can be told to write
+-- lines of instances
+abbrev pub showing_shape : List ℕ → Shape
+showing_shape name =
+    record (new_shape name) { rules = workers_rule ∷ property_rule ∷ lines_rule ∷ [] }
+
+-- a command that takes the number of workers, the solver and the names of properties, and can be
+-- told to tell the verdicts by the exit status, and to count
+abbrev pub checking_shape : List ℕ → Shape
+checking_shape name = record (new_shape name) {
+  rules = workers_rule ∷ solver_rule ∷ properties_rule ∷ status_rule ∷ counts_rule ∷ [];
+}
+
+-- a command that takes the number of a rule
+abbrev pub rule_shape : List ℕ → Shape
+rule_shape name = record (new_shape name) { rules = number_rule ∷ [] }
+
+-- the program, which needs a command, and the commands of texts
+abbrev pub text_commands : App
+text_commands =
+    let bare = on_top (λ s. record s { subcommand_required = true }) (new_app (codes "pbsolve")) in
+    let solve = with_subcommand bare (solving_shape (codes "solve")) in
+    let game = with_subcommand solve (exploring_shape (codes "game")) in
+    let solution = with_subcommand game (solving_shape (codes "solution")) in
+    let certificate = with_subcommand solution (solving_shape (codes "certificate")) in
+    let explain = with_subcommand certificate (explaining_shape (codes "explain")) in
+    with_subcommand explain (new_shape (codes "compile"))
+
+-- the command line, as clap reads it
+abbrev pub command_line : App
+command_line =
+    let verify = with_subcommand text_commands (new_shape (codes "verify")) in
+    let listing = with_subcommand verify (new_shape (codes "list")) in
+    let solve_code = with_subcommand listing (solving_shape (codes "solve-code")) in
+    let translate = with_subcommand solve_code (translating_shape (codes "translate")) in
+    let check = with_subcommand translate (checking_shape (codes "check")) in
+    let why = with_subcommand check (showing_shape (codes "why")) in
+    with_subcommand why (rule_shape (codes "rule"))

@@ -1,0 +1,198 @@
+//! The command line as clap reads it: which words each command takes.
+ghost use Rattle.std.specs.Prelude.{◌≡◌, false, IfOk};
+ghost use Rattle.clap.specs.Simple.{App, Shape, app_of, shape_of, new_shape, with_subcommand};
+ghost use Rattle.clap.specs.declared.builder.command.Command.TheViews.{out-Command};
+ghost use Rattle.clap.specs.Walk.{rule_of};
+ghost use Rattle.pb_command_line.specs.Line.{checking_shape, command_line, exploring_shape};
+ghost use Rattle.pb_command_line.specs.Line.{explaining_shape, rule_shape, showing_shape};
+ghost use Rattle.pb_command_line.specs.Line.{solving_shape, translating_shape};
+ghost use Rattle.pb_command_line.specs.Line.{counts_rule, lines_rule, number_rule, places_rule};
+ghost use Rattle.pb_command_line.specs.Line.{properties_rule, property_rule, solver_rule};
+ghost use Rattle.pb_command_line.specs.Line.{status_rule, workers_rule};
+
+use clap::{Arg, ArgAction};
+use std::alloc::{AllocError, Global};
+
+// The option `--workers`, with any word: which words are numbers of workers is seen below.
+fn workers_option<'a>(alloc: Global) -> Arg<'a>
+    ensures rule { rule_of result ≡ workers_rule }
+    ensures local { result.global ≡ false }
+{
+    Arg::new(alloc, "workers").long("workers")
+}
+
+// The option `--solver`, with any word.
+fn solver_option<'a>(alloc: Global) -> Arg<'a>
+    ensures rule { rule_of result ≡ solver_rule }
+    ensures local { result.global ≡ false }
+{
+    Arg::new(alloc, "solver").long("solver")
+}
+
+// The option `--places`, with no word behind it.
+fn places_option<'a>(alloc: Global) -> Arg<'a>
+    ensures rule { rule_of result ≡ places_rule }
+    ensures local { result.global ≡ false }
+{
+    Arg::new(alloc, "places")
+        .long("places")
+        .action(ArgAction::SetTrue)
+}
+
+// The option `--lines`, with no word behind it.
+fn lines_option<'a>(alloc: Global) -> Arg<'a>
+    ensures rule { rule_of result ≡ lines_rule }
+    ensures local { result.global ≡ false }
+{
+    Arg::new(alloc, "lines")
+        .long("lines")
+        .action(ArgAction::SetTrue)
+}
+
+// The option `--property`, with any word.
+fn property_option<'a>(alloc: Global) -> Arg<'a>
+    ensures rule { rule_of result ≡ property_rule }
+    ensures local { result.global ≡ false }
+{
+    Arg::new(alloc, "property").long("property")
+}
+
+// The option `--property`, which may stand several times.
+fn properties_option<'a>(alloc: Global) -> Arg<'a>
+    ensures rule { rule_of result ≡ properties_rule }
+    ensures local { result.global ≡ false }
+{
+    property_option(alloc).action(ArgAction::Append)
+}
+
+// The option `--status`, with no word behind it.
+fn status_option<'a>(alloc: Global) -> Arg<'a>
+    ensures rule { rule_of result ≡ status_rule }
+    ensures local { result.global ≡ false }
+{
+    Arg::new(alloc, "status")
+        .long("status")
+        .action(ArgAction::SetTrue)
+}
+
+// The option `--counts`, with no word behind it.
+fn counts_option<'a>(alloc: Global) -> Arg<'a>
+    ensures rule { rule_of result ≡ counts_rule }
+    ensures local { result.global ≡ false }
+{
+    Arg::new(alloc, "counts")
+        .long("counts")
+        .action(ArgAction::SetTrue)
+}
+
+// The number of a rule, which has to stand there.
+fn number_word<'a>(alloc: Global) -> Arg<'a>
+    ensures rule { rule_of result ≡ number_rule }
+    ensures local { result.global ≡ false }
+{
+    Arg::new(alloc, "number").required(true)
+}
+
+// A command that has no words of its own.
+fn plain<'a>(alloc: Global, name: &'a str) -> clap::Command<'a>
+    ensures shape { shape_of result ≡ new_shape name.now }
+    ensures local { (out-Command result).has_globals ≡ false }
+{
+    clap::Command::new(alloc, name)
+}
+
+// A command that takes the number of workers.
+fn exploring<'a>(alloc: Global, name: &'a str) -> Result<clap::Command<'a>, AllocError>
+    ensures { IfOk result (λ c. (shape_of c ≡ exploring_shape name.now)
+        × ((out-Command c).has_globals ≡ false)) }
+{
+    plain(alloc, name).arg(workers_option(alloc))
+}
+
+// A command that takes the number of workers, and tells places.
+fn explaining<'a>(alloc: Global, name: &'a str) -> Result<clap::Command<'a>, AllocError>
+    ensures { IfOk result (λ c. (shape_of c ≡ explaining_shape name.now)
+        × ((out-Command c).has_globals ≡ false)) }
+{
+    exploring(alloc, name)?.arg(places_option(alloc))
+}
+
+// A command that takes the number of workers and the solver.
+fn solving<'a>(alloc: Global, name: &'a str) -> Result<clap::Command<'a>, AllocError>
+    ensures { IfOk result (λ c. (shape_of c ≡ solving_shape name.now)
+        × ((out-Command c).has_globals ≡ false)) }
+{
+    exploring(alloc, name)?.arg(solver_option(alloc))
+}
+
+// A command that takes the name of a property.
+fn translating<'a>(alloc: Global, name: &'a str) -> Result<clap::Command<'a>, AllocError>
+    ensures { IfOk result (λ c. (shape_of c ≡ translating_shape name.now)
+        × ((out-Command c).has_globals ≡ false)) }
+{
+    plain(alloc, name).arg(property_option(alloc))
+}
+
+// A command that takes the number of workers and the name of a property, and writes lines of
+// instances.
+fn showing<'a>(alloc: Global, name: &'a str) -> Result<clap::Command<'a>, AllocError>
+    ensures { IfOk result (λ c. (shape_of c ≡ showing_shape name.now)
+        × ((out-Command c).has_globals ≡ false)) }
+{
+    exploring(alloc, name)?
+        .arg(property_option(alloc))?
+        .arg(lines_option(alloc))
+}
+
+// A command that takes the number of workers, the solver and the names of properties, and tells the
+// verdicts by the exit status, and counts.
+fn checking<'a>(alloc: Global, name: &'a str) -> Result<clap::Command<'a>, AllocError>
+    ensures { IfOk result (λ c. (shape_of c ≡ checking_shape name.now)
+        × ((out-Command c).has_globals ≡ false)) }
+{
+    solving(alloc, name)?
+        .arg(properties_option(alloc))?
+        .arg(status_option(alloc))?
+        .arg(counts_option(alloc))
+}
+
+// A command that takes the number of a rule.
+fn rule<'a>(alloc: Global, name: &'a str) -> Result<clap::Command<'a>, AllocError>
+    ensures { IfOk result (λ c. (shape_of c ≡ rule_shape name.now)
+        × ((out-Command c).has_globals ≡ false)) }
+{
+    plain(alloc, name).arg(number_word(alloc))
+}
+
+// A command line with one more command, where memory was refused for neither: so a line of many
+// commands has one way out, here.
+fn with<'a>(
+    line: Result<clap::Command<'a>, AllocError>,
+    command: Result<clap::Command<'a>, AllocError>,
+) -> Result<clap::Command<'a>, AllocError>
+    ensures { (app : App) (shape : Shape) → IfOk line.entry (λ c. app_of c ≡ app)
+        → IfOk command.entry (λ c. (shape_of c ≡ shape) × ((out-Command c).has_globals ≡ false))
+        → IfOk result (λ c. app_of c ≡ with_subcommand app shape) }
+{
+    line?.subcommand(command?)
+}
+
+// The command line as clap reads it.
+pub(crate) fn command_line<'a>(alloc: Global) -> Result<clap::Command<'a>, AllocError>
+    ensures { IfOk result (λ c. app_of c ≡ command_line) }
+{
+    let line = Ok(clap::Command::new(alloc, "pbsolve").subcommand_required(true));
+    let line = with(line, solving(alloc, "solve"));
+    let line = with(line, exploring(alloc, "game"));
+    let line = with(line, solving(alloc, "solution"));
+    let line = with(line, solving(alloc, "certificate"));
+    let line = with(line, explaining(alloc, "explain"));
+    let line = with(line, Ok(plain(alloc, "compile")));
+    let line = with(line, Ok(plain(alloc, "verify")));
+    let line = with(line, Ok(plain(alloc, "list")));
+    let line = with(line, solving(alloc, "solve-code"));
+    let line = with(line, translating(alloc, "translate"));
+    let line = with(line, checking(alloc, "check"));
+    let line = with(line, showing(alloc, "why"));
+    with(line, rule(alloc, "rule"))
+}

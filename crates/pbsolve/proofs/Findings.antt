@@ -1,0 +1,107 @@
+-- The steps of loops over what is found of properties.
+use Rattle.std.proofs.Common.{◌≡◌, ◌∙◌, ◌++◌, ◌+◌, ◌<◌, ◌||◌, ℕ, Bool, true, false, List, [], ◌∷◌, Option, Some, None, length, map, drop, get_or, sym, ap, subst, string_bytes}
+use Rattle.std.specs.Prelude.{IfNone, IfOk, Result, Ok, Err, option_map}
+use Rattle.std.specs.Result.{IsErrAnd}
+use Rattle.std.specs.Io.KnownBytes.{Appends}
+use Rattle.std.specs.Option.{option_map_or}
+use Rattle.std.specs.List.{All, list_any, slice_get}
+use Rattle.std.proofs.lemmas.List.{append_assoc, drop_more, map-append}
+use Rattle.std.proofs.lemmas.List.Elements.{All-get_or}
+use Rattle.std.proofs.lemmas.Option.{slice_get-map, slice_get-get_or}
+use Rattle.pb_model_tree.specs.declared.model.Property.{Property}
+use Rattle.pb_model_tree.specs.Form.{ModelForm, PropertyForm, property_form}
+use Rattle.pb_protocol_tree.specs.Form.{ProtocolForm}
+use Rattle.pb_errors.specs.OrMemory.{IfRefused}
+use Rattle.pb_errors.specs.declared.or_memory.OrMemory.{OrMemory}
+use Rattle.pb_errors.specs.declared.or_memory.OrMemory.TheVariants as or_memory
+use Rattle.pb_faults.specs.declared.solve_fault.SolveFault.{SolveFault}
+use Rattle.pb_faults.specs.declared.solve_fault.SolveFault.TheVariants as solve_fault
+use Rattle.pb_faults.specs.declared.solve_error.SolveError.{SolveError}
+use Rattle.pb_report.proofs.Delivery.{less_delivered}
+use Rattle.pb_report.specs.Delivery.{Leaves}
+use Rattle.pb_module_commands.specs.Delivery.{Delivers, is_failed_write}
+use Rattle.pb_command_line.specs.declared.options.Checking.{Checking}
+use Rattle.pb_model_properties.specs.Said.{IsModelOf}
+use Rattle.pbsolve.specs.declared.status.Status.{Status}
+use Rattle.pbsolve.specs.Outputs.{OutputsVerdicts}
+use Rattle.pbsolve.specs.declared.finding.Found.{Found}
+use Rattle.pbsolve.specs.Outcomes.{IsUntypedNegation}
+use Rattle.pbsolve.specs.Models.{AreFound, finding_lines, found_lines, name_at, status_of_findings}
+
+-- what holds of all holds of the one at a place
+pub at_place : {X : Type 0} (P : X → Type 0) (xs : List X) (k : ℕ) (x d : X) → k < length xs → x ≡ get_or xs k d → All P xs → P x
+at_place P xs k x d below is all = subst P (sym is) (All-get_or P xs k d below all)
+
+next_first : {X : Type 0} (xs : List X) (k : ℕ) (x d : X) → k < length xs → x ≡ get_or xs k d → x ∷ drop (k + 1) xs ≡ drop k xs
+next_first xs k x d below is = ap (λ y. y ∷ drop (k + 1) xs) is ∙ sym (drop_more xs k d below)
+
+-- one more is pushed, at the place of the next
+pub places_step : {X Y : Type 0} (f : X → ℕ) (g : Y → ℕ) (ys : List Y) (k : ℕ) (y d : Y) (xs new : List X) (x : X) → k < length ys → y ≡ get_or ys k d
+    → map f xs ++ map g (drop k ys) ≡ map g ys → new ≡ xs ++ x ∷ [] → f x ≡ g y → map f new ++ map g (drop (k + 1) ys) ≡ map g ys
+places_step f g ys k y d xs new x below is before pushed same =
+    let rest = map g (drop (k + 1) ys) in
+    ap (λ zs. map f zs ++ rest) pushed ∙ ap (λ l. l ++ rest) (map-append f xs (x ∷ [])) ∙ append_assoc (map f xs) (f x ∷ []) rest
+    ∙ ap (λ z. map f xs ++ z ∷ rest) same ∙ ap (λ zs. map f xs ++ map g zs) (next_first ys k y d below is) ∙ before
+
+none_behind : (a b : Bool) → (a || b) ≡ false → b ≡ false
+none_behind false b h = h
+none_behind true b h = absurd (cc h)
+
+-- where none of those left needs a thing, none of those behind the next does
+pub needed_step : {S Y : Type 0} (p : Y → Bool) (o : Option S) (ys : List Y) (k : ℕ) (y d : Y) → k < length ys → y ≡ get_or ys k d
+    → IfNone o (list_any p (drop k ys) ≡ false) → IfNone o (list_any p (drop (k + 1) ys) ≡ false)
+needed_step p (Some s) ys k y d below is h = h
+needed_step p None ys k y d below is h =
+    none_behind (p y) (list_any p (drop (k + 1) ys)) (ap (list_any p) (next_first ys k y d below is) ∙ h)
+
+-- the lines of one more finding
+pub lines_step : (counts : Bool) (model : ModelForm) (fs : List Found) (k : ℕ) (f d : Found) (old new : List ℕ) → k < length fs → f ≡ get_or fs k d
+    → new ≡ old ++ finding_lines counts (name_at model f.place) f.finding → old ++ found_lines counts model (drop k fs) ≡ found_lines counts model fs
+    → new ++ found_lines counts model (drop (k + 1) fs) ≡ found_lines counts model fs
+lines_step counts model fs k f d old new below is pushed before =
+    let rest = found_lines counts model (drop (k + 1) fs) in
+    ap (λ l. l ++ rest) pushed ∙ append_assoc old (finding_lines counts (name_at model f.place) f.finding) rest
+    ∙ ap (λ gs. old ++ found_lines counts model gs) (next_first fs k f d below is) ∙ before
+
+-- the name at a place is that of the property there
+pub name_there : (model : ModelForm) (ps : List Property) (k : ℕ) (p d : Property) → model.properties ≡ map property_form ps → k < length ps → p ≡ get_or ps k d
+    → name_at model k ≡ string_bytes p.name.text
+name_there model ps k p d same below is =
+    let name = λ (o : Option PropertyForm). option_map_or (λ (q : PropertyForm). q.name.text) o [] in
+    ap (λ (qs : List PropertyForm). name (slice_get qs k)) same
+    ∙ ap name (slice_get-map property_form ps k ∙ ap (option_map property_form) (slice_get-get_or ps k d below ∙ ap Some (sym is)))
+
+-- two things hold of an answer, so a third does
+pub all_found : {T E : Type 0} (A B C : T → Type 0) → ((v : T) → A v → B v → C v) → (r : Result T E) → IfOk r A → IfOk r B → IfOk r C
+all_found A B C both (Ok v) a b = both v a b
+all_found A B C both (Err e) a b = tt
+
+-- what is refused of a negation's text isn't want of a property
+pub names_no_property : {T : Type 0} (protocol : ProtocolForm) (r : Result T (OrMemory SolveFault)) → r ≡ Err (or_memory.Refused solve_fault.NoProperty)
+    → IfRefused r (IsUntypedNegation protocol) → ⊥
+names_no_property protocol r is h = let refused = subst (λ x. IfRefused x (IsUntypedNegation protocol)) is h in refused.2
+
+-- ---- what is written
+
+-- the lines of what is found
+pub verdicts_told : (options : Checking) (bytes : List ℕ) (S : Status → Type 0) (text : List ℕ) (model : ModelForm) (findings : List Found) (said : IsModelOf bytes model)
+    → AreFound said.protocol model (map string_bytes options.properties.items) findings → S (status_of_findings options.status findings)
+    → text ≡ found_lines options.counts model findings → (P : List ℕ → Type 0) → P text → OutputsVerdicts options bytes S P
+verdicts_told options bytes S text model findings said found status same P h = (model, findings, said, found, status, subst P same h)
+
+-- there is no status where there is an error
+pub no_status : {T E : Type 0} (P : T → Type 0) (Q : E → Type 0) (r : Result T E) → IsErrAnd r Q → IfOk r P
+no_status P Q (Ok v) made = absurd made
+no_status P Q (Err e) made = tt
+
+module _ {S : Type 0} (taken : S → Option (List ℕ)) (has_failed : S → Bool) (For Less : (List ℕ → Type 0) → Type 0) (less : (P : List ℕ → Type 0) → For P → Less P) (old new : S) where
+  -- an error that is handed on left as much of a text of which less is known
+  pub less_left_on : {T : Type 0} (r : Result T SolveError) (e : SolveError) → IsErrAnd r (λ x. x ≡ e) → Leaves (is_failed_write e) For taken has_failed old new
+      → Delivers Less r taken has_failed old new
+  less_left_on (Ok v) e made h = absurd made
+  less_left_on {T = T} (Err x) e made h = less_delivered {T = T} is_failed_write taken has_failed For Less less old new (Err x)
+      (subst (λ (y : SolveError). Leaves (is_failed_write y) For taken has_failed old new) (sym made) h)
+
+  -- what is written whole
+  pub less_sent : For (Appends (taken old) (taken new)) × (has_failed new ≡ has_failed old) → Less (Appends (taken old) (taken new)) × (has_failed new ≡ has_failed old)
+  less_sent h = (less _ h.0, h.1)

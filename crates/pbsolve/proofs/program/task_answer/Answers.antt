@@ -1,0 +1,31 @@
+-- What `why` tells is what is asked for.
+use Rattle.std.proofs.Common.{List, ℕ, Option, sym, subst}
+use Rattle.pb_command_line.specs.declared.request.Task.{Task}
+use Rattle.pb_faults.specs.Errors.{IfInputRefused}
+use Rattle.pb_module_commands.specs.Delivery.{Delivers}
+use Rattle.pbsolve.specs.Models.{IsUntranslated}
+use Rattle.pbsolve.specs.Outputs.{IsRefusedFor, OutputsFor}
+use Rattle.pbsolve.specs.Why.{IsUnshown, OutputsWhy}
+use Rattle.pbsolve.proofs.program.task_answer.Goals as goal
+
+pub returns-in-Why-clause-written : goal.returns-in-Why-clause-written
+returns-in-Why-clause-written g c =
+    subst (λ (t : Task). Delivers (OutputsFor t c.args.bytes.now) c.why_text.result g.O.Sink.taken g.O.Sink.has_failed c.args.out.now c.why_text.new.writer)
+    (sym c.in-Why.is)
+    (subst (λ (n : Option (List ℕ)). Delivers (OutputsWhy c.in-Why.options.lines n c.args.bytes.now) c.why_text.result g.O.Sink.taken g.O.Sink.has_failed c.args.out.now c.why_text.new.writer)
+    c.name_of-in-Why.ensures c.why_text.ensures.told)
+
+-- and what it is refused by, as what is refused of a translation
+pub returns-in-Why-clause-refused : goal.returns-in-Why-clause-refused
+returns-in-Why-clause-refused g c =
+    subst (λ (t : Task). IfInputRefused c.why_text.result (IsRefusedFor t c.args.bytes.now))
+    (sym c.in-Why.is)
+    (subst (λ (n : Option (List ℕ)). IfInputRefused c.why_text.result (IsUnshown n c.args.bytes.now))
+    c.name_of-in-Why.ensures c.why_text.ensures.refused)
+
+pub returns-in-Translate-clause-refused : goal.returns-in-Translate-clause-refused
+returns-in-Translate-clause-refused g c =
+    subst (λ (t : Task). IfInputRefused c.translate_text.result (IsRefusedFor t c.args.bytes.now))
+    (sym c.in-Translate.is)
+    (subst (λ (n : Option (List ℕ)). IfInputRefused c.translate_text.result (IsUntranslated n c.args.bytes.now))
+    c.name_of.ensures c.translate_text.ensures.refused)

@@ -1,0 +1,106 @@
+//! The verdicts on the properties of a model.
+ghost use Rattle.std.specs.Prelude.{◌≡◌, ◌≤◌, ◌≢◌, [], length, map, Err, IfOk, string_bytes};
+ghost use Rattle.pb_errors.specs.OrMemory.{IfRefused};
+ghost use Rattle.pb_errors.specs.declared.or_memory.OrMemory.TheVariants.{Refused};
+ghost use Rattle.pb_faults.specs.Errors.{IfInputRefused};
+ghost use Rattle.pb_faults.specs.declared.solve_fault.SolveFault.TheVariants.{NoProperty};
+ghost use Rattle.pb_model_tree.specs.Form.{model_form};
+ghost use Rattle.pb_model_properties.specs.Said.{IsModelOf};
+ghost use Rattle.pb_module_commands.specs.Delivery.{Delivers};
+ghost use Rattle.pbsolve.specs.Models.{AreFound, IsUnchecked};
+ghost use Rattle.pbsolve.specs.Outputs.{OutputsVerdicts};
+
+use crate::decision::{findings_of, negations_for};
+use crate::finding::Found;
+use crate::finding_lines::{lines_of, status_of};
+use crate::outcome::asked_outcomes;
+use crate::property_text::asked_texts;
+use crate::status::Status;
+use pb_command_line::Checking;
+use pb_errors::OrMemory;
+use pb_exploration::Gate;
+use pb_faults::{SolveError, SolveFault};
+use pb_limits::MAX_INPUT_BYTES;
+use pb_model_properties::{SolvedModel, asked_of, read_protocol};
+use pb_module_commands::deliver;
+use pb_module_solver::{Context, SolveOptions};
+use pb_sorts::Sink;
+use std::thread::Threads;
+
+// What is found of the properties that are asked for, of a model that was read. The texts of all
+// are made before the first is solved; those of negations only where they are needed.
+fn findings_on<R: Threads + Sync, G: Gate + Sync>(
+    context: &Context<'_, R, G>,
+    bytes: &[u8],
+    solved: &SolvedModel,
+    options: &Checking,
+) -> Result<Vec<Found>, OrMemory<SolveFault>>
+    requires input { length bytes.now ≤ MAX_INPUT_BYTES }
+    requires read { IsModelOf bytes.now (model_form solved.now.typed.model) }
+    ensures found { IfOk result (λ findings.
+        (said : IsModelOf bytes.now (model_form solved.now.typed.model))
+        → AreFound said.protocol (model_form solved.now.typed.model)
+        (map string_bytes options.now.properties.items) findings.items) }
+    ensures refused { IfRefused result
+        (IsUnchecked (map string_bytes options.now.properties.items) bytes.now) }
+    ensures named { result ≡ Err (Refused NoProperty)
+        → map string_bytes options.now.properties.items ≢ [] }
+{
+    let alloc = context.alloc;
+    let places = match asked_of(alloc, &solved.typed.model.properties, &options.properties) {
+        Ok(places) => places,
+        Err(error) => return Err(error.raise()),
+    };
+    let texts = asked_texts(alloc, solved, &places)?;
+    let solving = SolveOptions {
+        workers: options.solving.workers,
+        solver: options.solving.solver,
+    };
+    let outcomes = asked_outcomes(context, &texts, solving)?;
+    let negations = match negations_for(alloc, bytes, &outcomes) {
+        Ok(negations) => negations,
+        Err(error) => return Err(error.raise()),
+    };
+    findings_of(context, &negations, &outcomes, solving)
+}
+
+/// Checks a model: writes for each property that is asked for, in the model's order, a line with
+/// the verdict on it.
+///
+/// It is `true` where the protocol satisfies the property, and `false` where it doesn't, whatever
+/// lies outside the ranges: because no reached instance of its text calls one outside, or because
+/// the protocol satisfies the negation. Else it is `unknown`, and a line behind it says how many
+/// instances call one outside. It is `refused`, by the number of a rule, where a text is too large.
+/// Where counts are asked for, three lines behind each verdict tell them.
+///
+/// Each text is explored and solved once, as `solve_text` solves a text; those of negations only
+/// where a property isn't satisfied and instances outside were called.
+///
+/// # Errors
+/// `Text` and `Typing` say which rule the model breaks, or the text of a property that is asked for
+/// or of its negation, but for that of limits, and where. `NoProperty` comes exactly where the
+/// model has no property of a name. Others are as with `solve_text`, but for `Limit` and
+/// `TooManyVertices`.
+pub fn check_text<R: Threads + Sync, G: Gate + Sync, S: Sink>(
+    context: &Context<'_, R, G>,
+    bytes: &[u8],
+    options: &Checking,
+    writer: &mut S,
+) -> Result<Status, SolveError>
+    requires input { length bytes.now ≤ MAX_INPUT_BYTES }
+    // The status is that of what was found.
+    ensures verdicts { Delivers
+        (OutputsVerdicts options.now bytes.now (λ status. IfOk result (λ s. s ≡ status)))
+        result S.taken S.has_failed writer.old writer.new }
+    ensures refused { IfInputRefused result
+        (IsUnchecked (map string_bytes options.now.properties.items) bytes.now) }
+    ensures named { result ≡ Err (SolveError.Refused NoProperty)
+        → map string_bytes options.now.properties.items ≢ [] }
+{
+    let solved = read_protocol(context.alloc, bytes)?;
+    let findings = findings_on(context, bytes, &solved, options)?;
+    let properties = &solved.typed.model.properties;
+    let lines = lines_of(context.alloc, properties, &findings, options.counts)?;
+    deliver(lines.as_bytes(), writer)?;
+    Ok(status_of(&findings, options.status))
+}

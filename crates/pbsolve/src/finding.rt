@@ -1,0 +1,22 @@
+//! What is found of properties.
+ghost use Rattle.std.specs.Prelude.{◌≡◌, true};
+
+use pb_faults::PropertyExcess;
+use pb_model_properties::Verdict;
+use pb_report::Answer;
+
+/// What is found of a property.
+#[derive(Clone, Copy, Debug)]
+pub enum Finding {
+    /// The verdict on it, and what was counted of its text.
+    Decided(Verdict, Answer),
+    /// It is refused: its text is too large, or that of its negation, where the verdict needs it.
+    Refused(PropertyExcess),
+}
+
+/// What is found of the property at a place.
+#[derive(Clone, Copy, Debug)]
+pub struct Found {
+    pub place: usize,
+    pub finding: Finding,
+}

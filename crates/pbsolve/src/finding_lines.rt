@@ -1,0 +1,158 @@
+//! The lines that tell what is found of properties, and the exit status.
+ghost use Rattle.std.specs.Prelude.{◌≡◌, ◌<◌, ◌++◌, length, map, IfOk, OnOk, string_bytes};
+ghost use Rattle.std.specs.List.{All, list_any};
+ghost use Rattle.pb_model_tree.specs.Form.{ModelForm, property_form};
+ghost use Rattle.pbsolve.specs.Models.{finding_lines, found_lines, lines_behind, says_false};
+ghost use Rattle.pbsolve.specs.Models.{refuses, says_unknown, status_of_findings};
+
+use crate::finding::{Finding, Found};
+use crate::status::Status;
+use pb_model_properties::{Verdict, push_counts, push_cut, push_refused, push_verdict};
+use pb_model_tree::Property;
+use pb_report::Answer;
+use std::alloc::{AllocError, Global};
+
+impl Finding {
+    /// Whether the property is refused.
+    fn refuses(self) -> bool
+        ensures { result ≡ refuses self }
+    {
+        match self {
+            Finding::Refused(_) => true,
+            Finding::Decided(_, _) => false,
+        }
+    }
+
+    /// Whether the verdict is false.
+    fn says_false(self) -> bool
+        ensures { result ≡ says_false self }
+    {
+        match self {
+            Finding::Refused(_) => false,
+            Finding::Decided(verdict, _) => match verdict {
+                Verdict::True => false,
+                Verdict::False => true,
+                Verdict::Unknown => false,
+            },
+        }
+    }
+
+    /// Whether it is unknown.
+    fn says_unknown(self) -> bool
+        ensures { result ≡ says_unknown self }
+    {
+        match self {
+            Finding::Refused(_) => false,
+            Finding::Decided(verdict, _) => match verdict {
+                Verdict::True => false,
+                Verdict::False => false,
+                Verdict::Unknown => true,
+            },
+        }
+    }
+}
+
+// Puts behind the line of a verdict those of counts; without them the number of cut instances,
+// where the ranges decide.
+fn push_behind(
+    lines: &mut String,
+    verdict: Verdict,
+    answer: Answer,
+    counts: bool,
+) -> Result<(), AllocError>
+    ensures { OnOk result (string_bytes lines.new ≡ string_bytes lines.old
+        ++ lines_behind counts verdict answer) }
+{
+    if counts {
+        return push_counts(lines, answer.instances, answer.cut, answer.vertices);
+    }
+    match verdict {
+        Verdict::Unknown => push_cut(lines, answer.cut),
+        _ => Ok(()),
+    }
+}
+
+// Puts the lines of a finding behind others.
+fn push_finding(
+    lines: &mut String,
+    name: &str,
+    finding: Finding,
+    counts: bool,
+) -> Result<(), AllocError>
+    ensures { OnOk result (string_bytes lines.new ≡ string_bytes lines.old
+        ++ finding_lines counts name.now finding) }
+{
+    match finding {
+        Finding::Decided(verdict, answer) => {
+            push_verdict(lines, name, verdict)?;
+            push_behind(lines, verdict, answer, counts)
+        }
+        Finding::Refused(excess) => push_refused(lines, name, excess.number()),
+    }
+}
+
+/// The lines of what is found of these properties.
+///
+/// # Errors
+/// Memory was refused.
+pub(crate) fn lines_of(
+    alloc: Global,
+    properties: &[Property],
+    findings: &[Found],
+    counts: bool,
+) -> Result<String, AllocError>
+    requires { All (λ found. found.place < length properties.now) findings.now }
+    ensures { IfOk result (λ lines. (model : ModelForm)
+        → model.properties ≡ map property_form properties.now
+        → string_bytes lines ≡ found_lines counts model findings.now) }
+{
+    let mut lines = String::new(alloc);
+    for found in findings {
+        let name = &properties[found.place].name.text;
+        push_finding(&mut lines, name, found.finding, counts)?;
+    }
+    Ok(lines)
+}
+
+// Whether a property is refused.
+fn has_refused(findings: &[Found]) -> bool
+    ensures { result ≡ list_any (λ f. refuses f.finding) findings.now }
+{
+    findings.iter().any(|found| found.finding.refuses())
+}
+
+// Whether a verdict is false.
+fn has_false(findings: &[Found]) -> bool
+    ensures { result ≡ list_any (λ f. says_false f.finding) findings.now }
+{
+    findings.iter().any(|found| found.finding.says_false())
+}
+
+// Whether one is unknown.
+fn has_unknown(findings: &[Found]) -> bool
+    ensures { result ≡ list_any (λ f. says_unknown f.finding) findings.now }
+{
+    findings.iter().any(|found| found.finding.says_unknown())
+}
+
+/// How the run ends, where the exit status tells the verdicts or doesn't.
+pub(crate) fn status_of(findings: &[Found], tells: bool) -> Status
+    ensures { result ≡ status_of_findings tells findings.now }
+{
+    let refused = has_refused(findings);
+    let denied = has_false(findings);
+    let undecided = has_unknown(findings);
+    if refused {
+        return Status::Refused;
+    }
+    if !tells {
+        return Status::Answered;
+    }
+    if denied {
+        return Status::False;
+    }
+    if undecided {
+        return Status::Unknown;
+    }
+    Status::Answered
+}

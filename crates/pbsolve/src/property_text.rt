@@ -1,0 +1,109 @@
+//! The texts of the properties that are asked for.
+ghost use Rattle.std.specs.Prelude.{◌≡◌, ◌<◌, true, length, map, IfOk};
+ghost use Rattle.std.specs.List.{All};
+ghost use Rattle.pb_errors.specs.OrMemory.{IfFault, IfRefused};
+ghost use Rattle.pb_model_tree.specs.Form.{model_form};
+ghost use Rattle.pbsolve.specs.Outcomes.{IsFault, IsTextAt, IsUntyped, is_limit};
+ghost use Rattle.pb_faults.specs.Errors.{fault_of_model};
+
+use pb_errors::OrMemory;
+use pb_faults::SolveFault;
+use pb_model_properties::{ModelError, ModelFault, SolvedModel, text_at};
+use pb_typing::Typed;
+use pb_typing_declarations::TypingRule;
+use std::alloc::Global;
+
+/// The text of a property, unless it passes a limit of texts.
+#[derive(Drop)]
+pub(crate) enum PropertyText {
+    Typed(Typed),
+    TooLarge,
+}
+
+/// The text of the property at a place.
+#[derive(Drop)]
+pub(crate) struct AskedText {
+    pub place: usize,
+    pub text: PropertyText,
+}
+
+// Whether a fault is that of a limit of texts.
+fn is_limit(fault: ModelFault) -> bool
+    ensures { result ≡ is_limit fault }
+{
+    match fault {
+        ModelFault::Typing(broken) => match broken.rule {
+            TypingRule::Limit => true,
+            _ => false,
+        },
+        _ => false,
+    }
+}
+
+// The text of a property that isn't well typed by this error.
+fn untyped(error: ModelError, place: usize) -> Result<AskedText, OrMemory<SolveFault>>
+    ensures large { IfOk result (λ asked. (asked.place ≡ place)
+        × (asked.text ≡ PropertyText.TooLarge) × IfFault error (λ fault. is_limit fault ≡ true)
+        × IsFault error) }
+    ensures refused { IfRefused result (λ made.
+        IfFault error (λ fault. made ≡ fault_of_model fault) × IsFault error) }
+{
+    match error {
+        OrMemory::Memory => Err(OrMemory::Memory),
+        OrMemory::Refused(fault) => {
+            if is_limit(fault) {
+                return Ok(AskedText {
+                    place,
+                    text: PropertyText::TooLarge,
+                });
+            }
+            Err(OrMemory::Refused(SolveFault::from(fault)))
+        }
+    }
+}
+
+/// The text of the property at a place.
+///
+/// # Errors
+/// `Typing` where it isn't well typed by another rule than that of limits.
+pub(crate) fn asked_text(
+    alloc: Global,
+    solved: &SolvedModel,
+    place: usize,
+) -> Result<AskedText, OrMemory<SolveFault>>
+    requires { place < length solved.now.typed.model.properties.items }
+    ensures place { IfOk result (λ asked. asked.place ≡ place) }
+    ensures text { IfOk result (IsTextAt (model_form solved.now.typed.model)) }
+    ensures refused { IfRefused result (IsUntyped (model_form solved.now.typed.model)) }
+{
+    match text_at(alloc, solved, place) {
+        Ok(typed) => Ok(AskedText {
+            place,
+            text: PropertyText::Typed(typed),
+        }),
+        Err(error) => untyped(error, place),
+    }
+}
+
+/// The texts of the properties at these places.
+///
+/// # Errors
+/// As with `asked_text`.
+pub(crate) fn asked_texts(
+    alloc: Global,
+    solved: &SolvedModel,
+    places: &[usize],
+) -> Result<Vec<AskedText>, OrMemory<SolveFault>>
+    requires { All (λ place. place < length solved.now.typed.model.properties.items) places.now }
+    ensures places { IfOk result (λ texts. map (λ asked. asked.place) texts.items ≡ places.now) }
+    ensures texts { IfOk result
+        (λ texts. All (IsTextAt (model_form solved.now.typed.model)) texts.items) }
+    ensures refused { IfRefused result (IsUntyped (model_form solved.now.typed.model)) }
+{
+    let mut texts = Vec::new(alloc);
+    for place in places {
+        let asked = asked_text(alloc, solved, *place)?;
+        texts.push(asked)?;
+    }
+    Ok(texts)
+}
