@@ -112,7 +112,9 @@ class Model:
 
     def word(self, around, depth):
         """A word over operands: its name, they, and the formula that it stands for."""
-        name = self.generator.one_of(("always", "possibly", "inevitably", "no_deadlock", "until", "leads_to"))
+        name = self.generator.one_of(("always", "possibly", "inevitably", "no_deadlock", "until", "leads_to", *(() if self.is_fair else ("fair",))))
+        if name == "fair":
+            return self.fair(around, depth)
         signs = {"no_deadlock": (), "until": (1, 1), "leads_to": (-1, 1)}.get(name, (1,))
         operands = [self.formula(around, sign, depth - 1) for sign in signs]
 
@@ -133,6 +135,28 @@ class Model:
             "leads_to": lambda p, q: ("nu", name, ("and", again, ("implies", p, inevitably("inevitably", q)))),
         }
         return "word", name, operands, meaning[name](*operands)
+
+    is_fair = False
+
+    def fair(self, around, depth):
+        """`fair` over sets of steps and an operand, in which it doesn't stand again: its text is that of the word `inevitably` behind the sets."""
+        sets = [self.steps(2) for _ in range(1 + self.generator.below(3))]
+        self.is_fair = True
+        operand = self.formula(around, 1, depth - 1)
+        self.is_fair = False
+
+        def everywhere(name):
+            return "box", "true", frozenset(self.next), ("name", name)
+
+        def unfair(steps):
+            tries = "or", ("diamond", *steps, TRUE), everywhere("fair")
+            waits = "and", ("box", *steps, ("name", "fair")), ("and", tries, everywhere("inevitably"))
+            return "nu", "inevitably", ("or", operand, ("and", ("diamond", "true", frozenset(self.next), TRUE), waits))
+
+        *others, last = [unfair(steps) for steps in sets]
+        for part in others[::-1]:
+            last = "or", part, last
+        return "word", f"fair ({', '.join(text for text, _ in sets)}) inevitably", [operand], ("mu", "fair", last)
 
     def test(self):
         text, value = self.terms.term(self.sorts, "bool", self.generator.below(3), True)

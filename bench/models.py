@@ -2,6 +2,7 @@
 
 Arrays, definitions and steps by their values are evaluated as they are written; nothing is put in. A quantified formula stands for its
 copies, and tests that written values decide are left out of formulas, since that is how the lines of `why` are named."""
+import copy
 import functools
 import itertools
 import operator
@@ -282,14 +283,29 @@ class Model:
         word = self.take()
         if word == "no_deadlock":
             return Node("nu", word, self.goes_on(word))
+        if word == "fair":
+            return self.fair(bound)
         x = self.node(bound)
         if word == "always":
             return Node("nu", word, Node("&&", x, self.behind("[", word)))
         return Node("mu", word, Node("||", x, self.behind("<", word))) if word == "possibly" else self.inevitably(x)
 
+    def fair(self, bound):
+        """What `fair` stands for: its operand once for each set of steps."""
+        sets = self.take("(") and self.separated(",", self.steps_named)
+        x = self.take(")") and self.take("inevitably") and self.node(bound)
+        parts = [Node("nu", "inevitably", Node("||", copy.deepcopy(x), self.waits(chosen))) for chosen in sets]
+        return Node("mu", "fair", functools.reduce(lambda rest, part: Node("||", part, rest), parts[-2::-1], parts[-1]))
+
+    def waits(self, chosen):
+        """Some step can be taken, and none of this set is, though one can be."""
+        tries = Node("||", Node("<", chosen, Node("constant", True)), self.behind("[", "fair"))
+        fewer = Node("&&", Node("[", chosen, Node("variable", "fair")), Node("&&", tries, self.behind("[", "inevitably")))
+        return Node("&&", Node("<", lambda name, own, names=None: True, Node("constant", True)), fewer)
+
     def node(self, bound):
         word = self.tokens[0]
-        if word in ("always", "possibly", "inevitably", "no_deadlock"):
+        if word in ("always", "possibly", "inevitably", "no_deadlock", "fair"):
             return self.worded(bound)
         if word in ("mu", "nu"):
             name = self.take() and self.take()

@@ -1,26 +1,26 @@
 -- Formulas are read rightly.
 use Rattle.std.specs.Prelude.{codes, is_some}
-use Rattle.std.proofs.Common.{◌≡◌, ℕ, zero, suc, ◌≤◌, Bool, true, false, ◌&&◌, ◌||◌, Some, List, [], ◌∷◌, refl, sym, ap, ◌∙◌, subst, arith, ◌⊎◌, inl, inr}
+use Rattle.std.proofs.Common.{◌≡◌, ℕ, zero, suc, ◌≤◌, Bool, true, false, cond, ◌&&◌, ◌||◌, Option, Some, None, List, [], ◌∷◌, refl, sym, ap, ◌∙◌, subst, arith, ◌⊎◌, inl, inr}
 use Rattle.std.specs.Str.Parse.{digits_value}
 use Rattle.pb_text_tree.specs.declared.place.Place.{Place}
 use Rattle.pb_text_tree.specs.Form.{TermForm, no_arguments}
 use Rattle.pb_model_tree.specs.declared.formula.Modality.{Modality}
 use Rattle.pb_model_tree.specs.declared.formula.Modality.TheVariants as modality
 use Rattle.pb_protocol_tree.specs.Form.{FormulaForm}
-use Rattle.pb_text_lexer.specs.declared.fault.ReadingRule.TheVariants.{Limit}
+use Rattle.pb_text_lexer.specs.declared.fault.ReadingRule.TheVariants.{Unexpected, Limit}
 use Rattle.pb_text_lexer.specs.declared.kind.Kind.{Kind}
 use Rattle.pb_text_lexer.specs.declared.kind.Kind.TheVariants as k
-use Rattle.pb_text_lexer.specs.Kinds.{same_kind, is_last}
+use Rattle.pb_text_lexer.specs.Kinds.{same_kind, is_last, is_limited}
 use Rattle.pb_text_lexer.specs.Lexing.{start}
 use Rattle.pb_text_lexer.specs.Steps.{extended}
 use Rattle.pb_text_lexer.proofs.TokenLemmas.{kind-same, same-kind}
 use Rattle.pb_text_lexer.specs.Grammar.{State, Reads, Is, One, First}
 use Rattle.pb_text_lexer.specs.Grammar as grammar
 use Rattle.pb_text_lexer.specs.OpenGrammar.{last, Connected}
-use Rattle.pb_text_lexer.specs.Steps.{Step, pure, take_token, expect, refuse, unless_next, connected, head_kind}
+use Rattle.pb_text_lexer.specs.Steps.{Step, and_then, pure, take_token, expect, refuse, unless_next, connected, kind, head_kind}
 use Rattle.pb_text_lexer.specs.Steps as step
 use Rattle.pb_text_lexer.specs.Tokens.{Tok}
-use Rattle.pb_text_lexer.proofs.Correct.{st, Family, Stops, never, readable-is, readable-one, some-token, Answering, Correct, then-correct, HeadIs, take-correct, expect-correct, refused-here, Free, Readable, goes-free, free-to, free-then, free-one}
+use Rattle.pb_text_lexer.proofs.Correct.{st, Family, Stops, never, readable-is, readable-one, readable-free, some-token, unlike, Answers, Answering, Correct, then-correct, HeadIs, take-correct, expect-correct, refused-here, Free, Readable, goes-free, free-to, free-then, free-one}
 use Rattle.pb_text_lexer.proofs.CorrectFamilies.{readable-deeper, Nowhere, first-correct, deeper, deeper-correct, alike-correct, to-first}
 use Rattle.pb_text_lexer.proofs.CorrectSeries.{going, Passes, head-at, passes-at}
 use Rattle.pb_text_lexer.proofs.CorrectPlain.{Always, anywhere, then-plain, leaf-correct, is-correct, nothing-correct}
@@ -37,12 +37,13 @@ use Rattle.pb_text_terms.proofs.TermStarts as terms
 use Rattle.pb_text_formulas.specs.Reading.{is_name_kind}
 use Rattle.pb_model_text.specs.declared.word.Leading.{Leading}
 use Rattle.pb_model_text.specs.declared.word.Leading.TheVariants as leading
-use Rattle.pb_model_text.specs.declared.word.Prefix.TheVariants as prefix
 use Rattle.pb_model_text.specs.declared.word.Infix.TheVariants as between
-use Rattle.pb_model_text.specs.Words.{leading_of, infix_of, is_word, no_deadlock, prefixed, infixed}
-use Rattle.pb_model_text.specs.Grammar.{FixpointNames, atom_of, Beginning, Atom, Modal, Begun, Word, begins_word, Wordless, LedBy, Led, Joined, within, IsStepSet, IsPlain, IsNode, IsFormula}
-use Rattle.pb_model_text.specs.Reading.{is_binder, goes_on, atom, modal, begun, data_operand, step_set, binder_over, take_word, wordless, led_by, led, joined_by, plain, node, item, formula}
-use Rattle.pb_model_text.proofs.CorrectWords.{HasWord, word-correct, wordless-answers, wordless-correct, by-word-correct}
+use Rattle.pb_model_text.specs.Words.{leading_of, infix_of, is_word, no_deadlock, fair, prefixed, infixed}
+use Rattle.pb_model_text.specs.Grammar.{FixpointNames, atom_of, Beginning, Atom, Modal, Begun, Word, allowed, leading_within, begins_word, Wordless, LedBy, Led, Joined, within, within_fair, IsStepSet, IsProcesses, IsPlain, IsFair, IsNode, IsFormula}
+use Rattle.pb_model_text.specs.Reading.{is_binder, goes_on, atom, modal, begun, data_operand, step_set, binder_over, take_word, wordless, led_by, led, joined_by, processes_behind, processes, plain, behind_fair, node, item, formula}
+use Rattle.pb_model_text.proofs.CorrectWords.{HasWord, word-correct, word-then-answers, wordless-answers, wordless-correct, by-word-correct}
+use Rattle.pb_model_text.proofs.CorrectFair.{no-bracket, processes-correct}
+use Rattle.pb_model_text.proofs.CorrectFair as fair_sets
 use Rattle.pb_model_text.proofs.CorrectStepSets.{sets_go, readable-sets, step_set-correct}
 use Rattle.pb_model_text.proofs.CorrectBeginning.{beginning-answers}
 use Rattle.pb_model_text.proofs.CorrectBinder.{binders, binder-starts, binder-correct, binder-last}
@@ -234,6 +235,17 @@ module _ (scope : FixpointNames) where
     reads = λ n after. (no-word-first after, to-plain level (st (some-token k.True ∷ after) n) (FormulaForm.constant start true) (st after n) (some-token k.True, st after n, (refl, refl, refl), (refl, refl)));
   }
 
+  readable-operand : (level : ℕ) → Readable (λ d. Wordless (IsPlain (within_fair scope) d)) level
+  readable-operand level = record {
+    tail = some-token k.True ∷ [];
+    value = FormulaForm.constant start true;
+    reads = λ n after. (no-word-first after, at level n after);
+  }
+    where
+      at : (level n : ℕ) (after : List Tok) → IsPlain (within_fair scope) level (st (some-token k.True ∷ after) n) (FormulaForm.constant start true) (st after n)
+      at zero n after = (some-token k.True, st after n, (refl, refl, refl), (refl, refl))
+      at (suc level) n after = (some-token k.True, st after n, (refl, refl, refl), (refl, refl))
+
   readable-node : (level : ℕ) → Readable (IsNode scope) level
   readable-node level = free-to withouts (IsNode scope) (λ x. x) level level (λ s y z r. inl r) [] (readable-without level)
 
@@ -242,6 +254,68 @@ module _ (scope : FixpointNames) where
     where
       single : (s : State) (y : FormulaForm) (z : State) → IsNode scope level s y z → IsFormula scope level s y z
       single s y z r = to-formula level s y z (last (last (last (inl (inl r)))))
+
+  -- ---- `fair`
+
+  abbrev operands : Family FormulaForm
+  operands d = Wordless (IsPlain (within_fair scope) d)
+
+  abbrev fairs : Place → Family FormulaForm
+  fairs place d = grammar.◌>>=◌ (IsProcesses d) (λ sets. grammar.◌>>=◌ (deeper operands d) (λ x. Is (fair place sets.0 sets.1 x)))
+
+  to-fair : (place : Place) (d : ℕ) (s : State) (y : FormulaForm) (z : State) → fairs place d s y z → IsFair scope d place s y z
+  to-fair place zero s y z r = r.2
+  to-fair place (suc d) s y z r = r
+
+  from-fair : (place : Place) (d : ℕ) (s : State) (y : FormulaForm) (z : State) → IsFair scope d place s y z → fairs place d s y z
+  from-fair place zero s y z r = absurd r
+  from-fair place (suc d) s y z r = r
+
+  -- behind a bracket, where a level may open
+  free-fair : (level : ℕ) (place : Place) (t : Tok) → t.kind ≡ k.Open → Free (λ d. IsFair scope d place) (suc level) (t ∷ [])
+  free-fair level place t is =
+      free-to (fairs place) (λ d. IsFair scope d place) (λ x. x) (suc level) (suc level) (to-fair place (suc level)) (t ∷ [])
+      (free-then IsProcesses (λ sets d. grammar.◌>>=◌ (deeper operands d) (λ x. Is (fair place sets.0 sets.1 x))) (suc level) (t ∷ []) (fair_sets.free-bracket level t is) (λ sets.
+      free-then (deeper operands) (λ x d. Is (fair place sets.0 sets.1 x)) (suc level) [] (readable-deeper operands level (readable-operand level))
+      (λ x. readable-is (fair place sets.0 sets.1 x) (suc level))))
+
+  readable-fair : (level : ℕ) (place : Place) → Readable (λ d. IsFair scope d place) (suc level)
+  readable-fair level place = readable-free (λ d. IsFair scope d place) (suc level) (some-token k.Open ∷ []) (free-fair level place (some-token k.Open) refl)
+
+  -- where no level may open, the bracket is refused
+  fair-last : (place : Place) → Answering Always (behind_fair scope 0 place) (λ d. IsFair scope d place) node_goes 0
+  unfolding plain behind_fair processes
+  fair-last place s end u = tested (is_open (kind s)) refl
+    where
+      none-below : (d : ℕ) (s : State) (y : FormulaForm) (w : State) → d ≤ 0 → IsFair scope d place s y w → ⊥
+      none-below zero s y w le r = r
+      none-below (suc d) s y w le r = omega arith
+
+      not-open : (d n : ℕ) (t : Tok) (tail : List Tok) (y : FormulaForm) (w : State) → t.kind ≡ kind s → is_open (kind s) ≡ false → IsFair scope d place (st (t ∷ tail) n) y w → ⊥
+      not-open d n t tail y w head other r = let q = from-fair place d (st (t ∷ tail) n) y w r in no-bracket d t tail n (kind s) q.0 q.1 head other q.2
+
+      opens : is_open (kind s) ≡ true → kind s ≡ k.Open
+      opens on = kind-same (kind s) k.Open on
+
+      tested : (b : Bool) → is_open (kind s) ≡ b
+          → Answers (λ d. IsFair scope d place) node_goes 0 s
+          (and_then (cond b (step.◌>>=◌ (refuse {A = Tok} Limit) (λ open_bracket. processes_behind (refuse Limit))) (refuse Unexpected) s) (λ found. step.◌>>=◌ (refuse {A = FormulaForm} Limit) (λ x. pure (fair place found.0 found.1 x))))
+      tested true on =
+          refused-here (λ d. IsFair scope d place) node_goes 0 s Limit end (λ q. ap is_limited (opens on)) (λ d n t tail y w head within r over. none-below d (st (t ∷ tail) n) y w within.0 r)
+          (λ t is. goes-free (λ d. IsFair scope d place) 1 (suc s.operators) (t ∷ []) (free-fair 0 place t (is ∙ opens on)))
+      tested false other =
+          refused-here (λ d. IsFair scope d place) node_goes 0 s Unexpected end (λ q. absurd (unlike q)) (λ d n t tail y w head within r over. not-open d n t tail y w head other r)
+          (λ t is. goes-free (λ d. IsFair scope d place) 1 (suc s.operators) [] (readable-fair 0 place))
+
+  fair-over : (depth : ℕ) → Correct Always (wordless (plain (within_fair scope) depth)) operands node_goes depth → (place : Place)
+      → Answering Always (behind_fair scope (suc depth) place) (λ d. IsFair scope d place) node_goes (suc depth)
+  unfolding plain behind_fair
+  fair-over depth right place =
+      (alike-correct Always (behind_fair scope (suc depth) place) (fairs place) (λ d. IsFair scope d place) node_goes (suc depth) (to-fair place) (from-fair place)
+      (then-plain IsProcesses (λ sets d. grammar.◌>>=◌ (deeper operands d) (λ x. Is (fair place sets.0 sets.1 x))) node_goes (suc depth) Always (processes (suc depth))
+      (λ found. step.◌>>=◌ (wordless (plain (within_fair scope) depth)) (λ x. pure (fair place found.0 found.1 x))) (processes-correct depth)
+      (λ sets. said-correct (deeper operands) (λ x. fair place sets.0 sets.1 x) node_goes (suc depth) Always (wordless (plain (within_fair scope) depth))
+      (deeper-correct Always (wordless (plain (within_fair scope) depth)) operands node_goes depth right)))).answers
 
   -- ---- where no level may open
 
@@ -399,60 +473,82 @@ module _ (scope : FixpointNames) where
       some-token-of [] h = h
       some-token-of (t ∷ ts) h = refl
 
-  always-word : HasWord leading_of
-  always-word = record { text = codes "always"; word = leading.Before prefix.Always; tells = refl }
+  deadlock-word : HasWord (leading_within scope)
+  deadlock-word = record { text = codes "no_deadlock"; word = leading.NoDeadlock; tells = refl }
 
   until-word : HasWord infix_of
   until-word = record { text = codes "until"; word = between.Until; tells = refl }
 
-  led-starts : (d : ℕ) (s : State) (y : FormulaForm) (z : State) → Led (withouts d) s y z → begins_word s.tokens ≡ true
+  -- what is allowed here is a word
+  is-allowed : (o : Option Leading) (w : Leading) → allowed scope o ≡ Some w → is_some o ≡ true
+  is-allowed None w tells = cc
+  is-allowed (Some v) w tells = refl
+
+  abbrev leds : Family FormulaForm
+  leds d = Led scope (IsFair scope d) (withouts d)
+
+  led-starts : (d : ℕ) (s : State) (y : FormulaForm) (z : State) → leds d s y z → begins_word s.tokens ≡ true
   led-starts d s y z r = at r.2.0 s.tokens r.1.tokens r.0.0 r.2.1.0 r.2.1.1 r.2.2
     where
-      at : (t : Tok) (ts us : List Tok) (w : Leading) → ts ≡ t ∷ us → t.kind ≡ k.Name → leading_of t.text ≡ Some w → begins_word ts ≡ true
+      at : (t : Tok) (ts us : List Tok) (w : Leading) → ts ≡ t ∷ us → t.kind ≡ k.Name → leading_within scope t.text ≡ Some w → begins_word ts ≡ true
       at t ts us w e is tells =
           let name : same_kind t.kind k.Name ≡ true = ap (λ v. same_kind v k.Name) is ∙ same-kind k.Name in
-          ap begins_word e ∙ ap (λ b. b && is_word t.text) name ∙ ap (λ v. is_some v || is_some (infix_of t.text)) tells
+          ap begins_word e ∙ ap (λ b. b && is_word t.text) name ∙ ap (λ v. v || is_some (infix_of t.text)) (is-allowed (leading_of t.text) w tells)
+
+  -- behind `fair`, so many levels being open to it
+  abbrev AnswersFair : ℕ → Type 0
+  AnswersFair depth = (place : Place) → Answering Always (behind_fair scope depth place) (λ d. IsFair scope d place) node_goes depth
+
+  readable-led : (level : ℕ) (word : Leading × Place) → Readable (λ d. LedBy (IsFair scope d) (withouts d) word.0 word.1) (suc level)
+  readable-led level word = by word.0
+    where
+      by : (w : Leading) → Readable (λ d. LedBy (IsFair scope d) (withouts d) w word.1) (suc level)
+      by leading.NoDeadlock = readable-is (no_deadlock word.1) (suc level)
+      by leading.Fair = readable-fair level word.1
+      by (leading.Before which) = free-then withouts (λ x d. Is (prefixed which word.1 x)) (suc level) [] (readable-without (suc level)) (λ x. readable-is (prefixed which word.1 x) (suc level))
 
   module _ (depth : ℕ) (right : Correct Always (plain scope depth) (IsPlain scope) node_goes depth) where
-    without-correct : Correct Always (wordless (plain scope depth)) withouts node_goes depth
+    pub without-correct : Correct Always (wordless (plain scope depth)) withouts node_goes depth
     without-correct = wordless-correct (IsPlain scope) node_goes depth plain-some (readable-without depth) (readable-without (suc depth)) (plain scope depth) right.answers
 
-    led-by-correct : (word : Leading) (place : Place) → Correct Always (led_by (wordless (plain scope depth)) word place) (λ d. LedBy (withouts d) word place) node_goes depth
-    led-by-correct leading.NoDeadlock place =
-        closed-correct Always (pure (no_deadlock place)) (λ d. Is (no_deadlock place)) depth (is-correct (no_deadlock place) depth)
-    led-by-correct (leading.Before which) place =
-        said-correct withouts (λ x. prefixed which place x) node_goes depth Always (wordless (plain scope depth)) without-correct
+    module _ (right-fair : AnswersFair depth) where
+      led-by-answers : (word : Leading) (place : Place) → Answering Always (led_by (behind_fair scope depth) (wordless (plain scope depth)) word place) (λ d. LedBy (IsFair scope d) (withouts d) word place) node_goes depth
+      led-by-answers leading.NoDeadlock place =
+          (closed-correct Always (pure (no_deadlock place)) (λ d. Is (no_deadlock place)) depth (is-correct (no_deadlock place) depth)).answers
+      led-by-answers leading.Fair place = right-fair place
+      led-by-answers (leading.Before which) place =
+          (said-correct withouts (λ x. prefixed which place x) node_goes depth Always (wordless (plain scope depth)) without-correct).answers
 
-    led-correct : Correct Always (led (wordless (plain scope depth))) (λ d. Led (withouts d)) node_goes depth
-    led-correct =
-        then-plain (λ d. Word leading_of) (λ word d. LedBy (withouts d) word.0 word.1) node_goes depth Always (take_word leading_of) (λ word. led_by (wordless (plain scope depth)) word.0 word.1)
-        (word-correct leading_of always-word depth) (λ word. led-by-correct word.0 word.1)
+      led-answers : Answering Always (led scope (behind_fair scope depth) (wordless (plain scope depth))) leds node_goes depth
+      led-answers =
+          word-then-answers (leading_within scope) deadlock-word (λ word d. LedBy (IsFair scope d) (withouts d) word.0 word.1) node_goes depth
+          (λ word. led_by (behind_fair scope depth) (wordless (plain scope depth)) word.0 word.1) (λ word. led-by-answers word.0 word.1) (readable-led depth)
 
-    node-correct : Correct Always (node scope depth) (IsNode scope) node_goes depth
-    node-correct =
-        by-word-correct withouts (λ d. Led (withouts d)) node_goes depth (λ d s y z r. r.0) led-starts (plain scope depth) (led (wordless (plain scope depth)))
-        (wordless-answers (IsPlain scope) node_goes depth plain-some (readable-without depth) (readable-without (suc depth)) (plain scope depth) right.answers)
-        led-correct.answers (readable-without depth) (readable-without (suc depth))
+      node-correct : Correct Always (node scope depth) (IsNode scope) node_goes depth
+      node-correct =
+          by-word-correct withouts leds node_goes depth (λ d s y z r. r.0) led-starts (plain scope depth) (led scope (behind_fair scope depth) (wordless (plain scope depth)))
+          (wordless-answers (IsPlain scope) node_goes depth plain-some (readable-without depth) (readable-without (suc depth)) (plain scope depth) right.answers)
+          led-answers (readable-without depth) (readable-without (suc depth))
 
-    -- a word between two nodes
-    abbrev beyond : FormulaForm → Family FormulaForm
-    beyond x d = grammar.◌>>=◌ (Word infix_of) (λ word. grammar.◌>>=◌ (IsNode scope d) (λ y. Is (infixed word.0 word.1 x y)))
+      -- a word between two nodes
+      abbrev beyond : FormulaForm → Family FormulaForm
+      beyond x d = grammar.◌>>=◌ (Word infix_of) (λ word. grammar.◌>>=◌ (IsNode scope d) (λ y. Is (infixed word.0 word.1 x y)))
 
-    beyond-starts : (d : ℕ) (x : FormulaForm) (m : State) (y : FormulaForm) (z : State) → beyond x d m y z → Passes is_name_kind m.tokens
-    beyond-starts d x m y z r = passes-at is_name_kind m.tokens r.1.tokens r.2.0 r.2.1.0 (ap is_name_kind r.2.1.1 ∙ same-kind k.Name)
+      beyond-starts : (d : ℕ) (x : FormulaForm) (m : State) (y : FormulaForm) (z : State) → beyond x d m y z → Passes is_name_kind m.tokens
+      beyond-starts d x m y z r = passes-at is_name_kind m.tokens r.1.tokens r.2.0 r.2.1.0 (ap is_name_kind r.2.1.1 ∙ same-kind k.Name)
 
-    joined-by-correct : (x : FormulaForm) → Correct Always (joined_by (node scope depth) x) (beyond x) node_goes depth
-    joined-by-correct x =
-        then-plain (λ d. Word infix_of) (λ word d. grammar.◌>>=◌ (IsNode scope d) (λ y. Is (infixed word.0 word.1 x y))) node_goes depth Always (take_word infix_of)
-        (λ word. step.◌>>=◌ (node scope depth) (λ y. pure (infixed word.0 word.1 x y))) (word-correct infix_of until-word depth)
-        (λ word. said-correct (IsNode scope) (λ y. infixed word.0 word.1 x y) node_goes depth Always (node scope depth) node-correct)
+      joined-by-correct : (x : FormulaForm) → Correct Always (joined_by (node scope depth) x) (beyond x) node_goes depth
+      joined-by-correct x =
+          then-plain (λ d. Word infix_of) (λ word d. grammar.◌>>=◌ (IsNode scope d) (λ y. Is (infixed word.0 word.1 x y))) node_goes depth Always (take_word infix_of)
+          (λ word. step.◌>>=◌ (node scope depth) (λ y. pure (infixed word.0 word.1 x y))) (word-correct infix_of until-word depth)
+          (λ word. said-correct (IsNode scope) (λ y. infixed word.0 word.1 x y) node_goes depth Always (node scope depth) node-correct)
 
-    item-correct : Correct Always (item scope depth) items item_goes depth
-    item-correct =
-        extended-correct (IsNode scope) beyond node_goes is_name_kind depth (λ kind h. ap node_goes (kind-same kind k.Name h) ∙ no-name) beyond-starts Always (node scope depth) node-correct
-        (λ x. unless_next is_name_kind (joined_by (node scope depth) x))
-        (λ x. unless_next-answers (beyond x) node_goes is_name_kind depth (Passes is_name_kind) (joined_by (node scope depth) x)
-        (anywhere (Passes is_name_kind) (joined_by (node scope depth) x) (beyond x) node_goes depth (joined-by-correct x)).answers)
+      item-correct : Correct Always (item scope depth) items item_goes depth
+      item-correct =
+          extended-correct (IsNode scope) beyond node_goes is_name_kind depth (λ kind h. ap node_goes (kind-same kind k.Name h) ∙ no-name) beyond-starts Always (node scope depth) node-correct
+          (λ x. unless_next is_name_kind (joined_by (node scope depth) x))
+          (λ x. unless_next-answers (beyond x) node_goes is_name_kind depth (Passes is_name_kind) (joined_by (node scope depth) x)
+          (anywhere (Passes is_name_kind) (joined_by (node scope depth) x) (beyond x) node_goes depth (joined-by-correct x)).answers)
 
   -- ---- the connectives
 
@@ -472,32 +568,37 @@ module _ (scope : FixpointNames) where
       (connected-correct (connected_by FormulaForm.connected) items bound item_goes is_binder depth below-item item-starts (binder-starts (λ name. IsFormula (within scope name)) (IsFormula scope) formula_goes) n q right-n right-q)
 
 formulas-last : (scope : FixpointNames) → Correct Always (formula scope 0) (IsFormula scope) formula_goes 0
-unfolding plain formula
+unfolding plain behind_fair formula
 formulas-last scope =
-    connections-correct scope 0 (item scope 0) (binder_over (refuse Limit) (λ name. refuse Limit) (refuse Limit)) (item-correct scope 0 (plain-last scope))
+    connections-correct scope 0 (item scope 0) (binder_over (refuse Limit) (λ name. refuse Limit) (refuse Limit)) (item-correct scope 0 (plain-last scope) (fair-last scope))
     (binder-last (λ name. IsFormula (within scope name)) (IsFormula scope) formula_goes (λ name. readable-formula (within scope name) 0) (readable-formula scope 0) (λ name. refuse Limit) (refuse Limit))
 
-formulas-over : (scope : FixpointNames) (depth : ℕ) → Correct Always (plain scope (suc depth)) (IsPlain scope) node_goes (suc depth)
+formulas-over : (scope : FixpointNames) (depth : ℕ) → Correct Always (plain scope (suc depth)) (IsPlain scope) node_goes (suc depth) → AnswersFair scope (suc depth)
     → Correct Always (formula scope depth) (IsFormula scope) formula_goes depth
     → ((name : List ℕ) → Correct Always (formula (within scope name) depth) (IsFormula (within scope name)) formula_goes depth)
     → Correct Always (formula scope (suc depth)) (IsFormula scope) formula_goes (suc depth)
-unfolding plain formula
-formulas-over scope depth n inner f =
-    connections-correct scope (suc depth) (item scope (suc depth)) (binder_over take_token (λ name. formula (within scope name) depth) (formula scope depth)) (item-correct scope (suc depth) n)
+unfolding plain behind_fair formula
+formulas-over scope depth n fairs inner f =
+    connections-correct scope (suc depth) (item scope (suc depth)) (binder_over take_token (λ name. formula (within scope name) depth) (formula scope depth)) (item-correct scope (suc depth) n fairs)
     (binder-correct (λ name. IsFormula (within scope name)) (IsFormula scope) formula_goes depth (λ name. formula (within scope name) depth) (formula scope depth) f inner)
 
--- both, so many levels being open to them, in any scope
+-- all, so many levels being open to them, in any scope
 pub record AreCorrect (depth : ℕ) : Type 0 where
   pub plains : (scope : FixpointNames) → Correct Always (plain scope depth) (IsPlain scope) node_goes depth
+  pub fairs : (scope : FixpointNames) → AnswersFair scope depth
   pub formulas : (scope : FixpointNames) → Correct Always (formula scope depth) (IsFormula scope) formula_goes depth
 
 abbrev plain-more : (depth : ℕ) → AreCorrect depth → (scope : FixpointNames) → Correct Always (plain scope (suc depth)) (IsPlain scope) node_goes (suc depth)
-plain-more depth less scope = plain-over scope depth (node-correct scope depth (less.plains scope)) (less.formulas scope)
+plain-more depth less scope = plain-over scope depth (node-correct scope depth (less.plains scope) (less.fairs scope)) (less.formulas scope)
+
+abbrev fair-more : (depth : ℕ) → AreCorrect depth → (scope : FixpointNames) → AnswersFair scope (suc depth)
+fair-more depth less scope = fair-over scope depth (without-correct (within_fair scope) depth (less.plains (within_fair scope)))
 
 pub formulas-correct : (depth : ℕ) → AreCorrect depth
-formulas-correct zero = record { plains = plain-last; formulas = formulas-last }
+formulas-correct zero = record { plains = plain-last; fairs = fair-last; formulas = formulas-last }
 formulas-correct (suc depth) =
     let less = formulas-correct depth in record {
       plains = plain-more depth less;
-      formulas = λ scope. formulas-over scope depth (plain-more depth less scope) (less.formulas scope) (λ name. less.formulas (within scope name));
+      fairs = fair-more depth less;
+      formulas = λ scope. formulas-over scope depth (plain-more depth less scope) (fair-more depth less scope) (less.formulas scope) (λ name. less.formulas (within scope name));
     }

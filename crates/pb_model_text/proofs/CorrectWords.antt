@@ -6,14 +6,17 @@ use Rattle.pb_text_lexer.specs.declared.fault.ReadingRule.TheVariants.{Unexpecte
 use Rattle.pb_text_lexer.specs.declared.fault.Refusal.{Refusal}
 use Rattle.pb_text_lexer.specs.declared.kind.Kind.{Kind}
 use Rattle.pb_text_lexer.specs.declared.kind.Kind.TheVariants as k
-use Rattle.pb_text_lexer.specs.Kinds.{same_kind, is_last}
+use Rattle.pb_text_lexer.specs.Kinds.{same_kind, is_last, is_limited}
 use Rattle.pb_text_lexer.specs.Grammar.{State, WithinLimits, going_on}
 use Rattle.pb_text_lexer.specs.OpenGrammar.{Either}
-use Rattle.pb_text_lexer.specs.Steps.{ends, Step, Outcome, take_token, refuse}
+use Rattle.pb_text_lexer.specs.Grammar as grammar
+use Rattle.pb_text_lexer.specs.Steps.{ends, Step, Outcome, and_then, take_token, refuse}
+use Rattle.pb_text_lexer.specs.Steps as step
+use Rattle.std.proofs.lemmas.List.{append-nil}
 use Rattle.pb_text_lexer.specs.Lexing.{start}
 use Rattle.pb_text_lexer.specs.Tokens.{Tok, token_at}
 use Rattle.pb_text_lexer.proofs.TokenLemmas.{ends-behind, kind-same, same-kind}
-use Rattle.pb_text_lexer.proofs.Correct.{st, Family, Stops, never, Readable, GoesOn, goes-free, goes-to, free-to, reaches-none, reaches-to, one-took, unlike, Took, Refused, Answers, Answering, Correct}
+use Rattle.pb_text_lexer.proofs.Correct.{st, Family, Stops, never, stops-never, Readable, GoesOn, goes-free, goes-to, free-to, free-then, reaches-none, reaches-to, reaches-unlimited, Unlimited, unlimited-one, then-took, then-refused, one-took, unlike, Took, Refused, Answers, Answering, Correct}
 use Rattle.pb_text_lexer.proofs.CorrectSeries.{Passes}
 use Rattle.pb_text_lexer.proofs.CorrectPlain.{Always}
 use Rattle.pb_model_text.specs.Grammar.{Word, begins_word, Wordless}
@@ -83,6 +86,56 @@ module _ {W : Type 0} (of : List ℕ → Option W) (one : HasWord of) where
       go : (ts : List Tok) (n : ℕ) → ends ts ≡ true → Answers words never depth (st ts n) (word_taken (word_at of ts) (st ts n))
       go [] n e = cc
       go (t ∷ ts) n e = at t ts n (same_kind t.kind k.Name) (word_at of (t ∷ ts)) e refl refl refl
+
+  -- ---- a word, and what need not be there where no level may open
+
+  unlimited-word : (depth : ℕ) (s : State) (w : W × Place) (z : State) (a : Took words never depth s w z) → Unlimited a.front
+  unlimited-word depth s w z a =
+      let r = a.reads [] in
+      subst (λ (v : List Tok). Unlimited v) (sym (sym (append-nil a.front) ∙ r.1.0)) (unlimited-one r.0 (ap is_limited r.1.1))
+
+  module _ {Y : Type 0} (famS : W × Place → Family Y) (g : Kind → Bool) (depth : ℕ) (q : W × Place → Step Y)
+      (right-q : (w : W × Place) → Answering Always (q w) (famS w) g depth) (some : (w : W × Place) → Readable (famS w) (suc depth)) where
+    abbrev behind-word : Family Y
+    behind-word d = grammar.◌>>=◌ (Word of) (λ w. famS w d)
+
+    follow : (d : ℕ) (w : W × Place) (m : State) (y : Y) (z : State) → famS w d m y z → Stops g z.tokens → Stops never m.tokens
+    follow d w m y z r over = stops-never m.tokens
+
+    second : (s m : State) (w : W × Place) → Took words never depth s w m → (o : Outcome Y) → Answers (famS w) g depth m o → Answers behind-word g depth s o
+    second s m w a (Ok r) b = then-took words famS never g depth follow s m w r.0 r.1 a b
+    second s m w a (Err bad) b =
+        then-refused words famS never g depth follow s m w bad a (reaches-unlimited behind-word depth s.operators a.front (unlimited-word depth s w m a)) b
+
+    pub word-then-answers : Answering Always (step.◌>>=◌ (take_word of) q) behind-word g depth
+    unfolding take_token
+    word-then-answers s end u = go s.tokens s.operators end
+      where
+        took : (t : Tok) (ts : List Tok) (n : ℕ) (w : W) → ends (t ∷ ts) ≡ true → word_at of (t ∷ ts) ≡ Some w → Took words never depth (st (t ∷ ts) n) (w, t.place) (st ts n)
+        took t ts n w e tells =
+            subst (λ (o : Outcome (W × Place)). Answers words never depth (st (t ∷ ts) n) o) (ap (λ v. word_taken v (st (t ∷ ts) n)) tells) ((word-correct depth).answers (st (t ∷ ts) n) e tt)
+
+        at : (t : Tok) (ts : List Tok) (n : ℕ) (o : Option W) → ends (t ∷ ts) ≡ true → word_at of (t ∷ ts) ≡ o
+            → Answers behind-word g depth (st (t ∷ ts) n) (and_then (word_taken o (st (t ∷ ts) n)) q)
+        at t ts n (Some w) e tells =
+            let a = took t ts n w e tells in
+            second (st (t ∷ ts) n) (st ts n) (w, t.place) a (q (w, t.place) (st ts n)) (right-q (w, t.place) (st ts n) a.ended tt)
+        at t ts n None e tells = record {
+          front = [];
+          next = t;
+          more = ts;
+          tokens = refl;
+          kind = refl;
+          place = refl;
+          limited = λ q. absurd (unlike q);
+          none = λ d m tail y z within r over. no-word t m tail r.0 r.1 tells r.2;
+          goes_on = goes-free behind-word (suc depth) (suc n) [] (free-then words famS (suc depth) [] (readable-word (suc depth)) some);
+          first = reaches-none behind-word depth n;
+        }
+
+        go : (ts : List Tok) (n : ℕ) → ends ts ≡ true → Answers behind-word g depth (st ts n) (and_then (word_taken (word_at of ts) (st ts n)) q)
+        go [] n e = cc
+        go (t ∷ ts) n e = at t ts n (word_at of (t ∷ ts)) e refl
 
 -- ---- what begins with a word, and what doesn't
 

@@ -1,5 +1,5 @@
 -- The step of a name in a set of steps, as it is read.
-use Rattle.std.proofs.Common.{◌≡◌, ◌≢◌, false, List, [], ◌∷◌, length, refl, sym, ap, ◌∙◌, map, Vec, Global, Box}
+use Rattle.std.proofs.Common.{◌≡◌, ◌≢◌, false, List, [], ◌∷◌, length, arith, refl, sym, ap, ◌∙◌, map, Vec, Global, Box}
 use Rattle.std.specs.Prelude.{box_value}
 use Rattle.pb_text_tree.specs.declared.place.Place.{Place}
 use Rattle.pb_text_tree.specs.declared.operator.Arithmetic.{Arithmetic}
@@ -65,3 +65,7 @@ module _ (t : Term) (x : Box Term Global) (v : Vec ArithmeticLink Global) (is : 
 
   pub arithmetic-more : length v.items ≢ 0 → false ≡ is_any (term_form t)
   arithmetic-more some = sym (arithmetic-is ∙ some-operations (term_form (box_value x)) v.items some)
+
+pub nothing-left : {X : Type 0} (xs : List X) → length xs ≡ 0 → xs ≡ []
+nothing-left [] h = refl
+nothing-left (x ∷ xs) h = absurd (omega arith)

@@ -1,4 +1,3 @@
-pub mod FormLemmas
 pub mod PairLemmas
 pub mod CorrectInstances
 pub mod CorrectStepSets
@@ -8,6 +7,7 @@ pub mod AtomLemmas
 pub mod CorrectFixpoint
 pub mod CorrectBinder
 pub mod CorrectWords
+pub mod CorrectFair
 pub mod CorrectFormula
 pub mod CorrectModel
 pub mod StateLemmas
@@ -15,6 +15,7 @@ pub mod InstanceLemmas
 pub mod StepSetLemmas
 pub mod FormulaLemmas
 pub mod WordLemmas
+pub mod FairLemmas
 pub mod ModelLemmas
 pub mod CorrectState
 pub mod ParseLemmas

@@ -16,9 +16,9 @@ use Rattle.pb_text_terms.specs.Reading.{name}
 use Rattle.pb_text_formulas.specs.Reading.{is_name_kind}
 use Rattle.pb_model_text.specs.declared.word.Leading.{Leading}
 use Rattle.pb_model_text.specs.declared.word.Infix.{Infix}
-use Rattle.pb_model_text.specs.Words.{leading_of, infix_of, is_word, infixed}
-use Rattle.pb_model_text.specs.Grammar.{FixpointNames, atom_of, begins_word}
-use Rattle.pb_model_text.specs.Reading.{atom, data_operand, word_taken, take_word, wordless, led_by, joined_by, plain, node, item}
+use Rattle.pb_model_text.specs.Words.{infix_of, is_word, infixed}
+use Rattle.pb_model_text.specs.Grammar.{FixpointNames, atom_of, leading_within, begins_word}
+use Rattle.pb_model_text.specs.Reading.{atom, data_operand, word_taken, take_word, wordless, led_by, joined_by, plain, behind_fair, node, item}
 use Rattle.pb_model_text.proofs.FormulaLemmas.{plain-at}
 
 pub not-name : (kind : Kind) → is_name_kind kind ≡ false → kind ≢ k.Name
@@ -41,6 +41,24 @@ taken-first s s1 t taken = at s.tokens s.operators (same_kind (kind s) k.Name) t
     at ts n false e = cc
     at [] n true e = cc
     at (u ∷ ts) n true e = ap before_taken e
+
+-- what is no name is no word
+pub word-refused : {W : Type 0} (of : List ℕ → Option W) (s : State) (bad : Refusal) → expect k.Name s ≡ Err bad → take_word of s ≡ Err bad
+unfolding expect take_token
+word-refused of s bad fails = at s.tokens s.operators fails
+  where
+    by : (t : Tok) (ts : List Tok) (n : ℕ) (b : Bool) → cond b (take_from (t ∷ ts) n) (refuse Unexpected (record { tokens = t ∷ ts; operators = n })) ≡ Err bad
+        → word_taken (cond b (of t.text) None) (record { tokens = t ∷ ts; operators = n }) ≡ Err bad
+    by t ts n true e = cc
+    by t ts n false e = let same : refusal Unexpected (t ∷ ts) ≡ bad = cc in ap Err same
+
+    none : (n : ℕ) (b : Bool) → cond b (take_from [] n) (refuse Unexpected (record { tokens = []; operators = n })) ≡ Err bad → refusal Unexpected [] ≡ bad
+    none n true e = cc
+    none n false e = cc
+
+    at : (ts : List Tok) (n : ℕ) → expect k.Name (record { tokens = ts; operators = n }) ≡ Err bad → take_word of (record { tokens = ts; operators = n }) ≡ Err bad
+    at [] n e = ap Err (none n (same_kind k.End k.Name) e)
+    at (t ∷ ts) n e = by t ts n (same_kind t.kind k.Name) e
 
 -- a name is read, at a place
 module _ (place : Place) (text : List ℕ) (s1 : State) where
@@ -69,12 +87,12 @@ module _ (place : Place) (text : List ℕ) (s1 : State) where
     pub wordless-fails : is_word text ≡ true → wordless (plain scope depth) first ≡ Err unexpected
     wordless-fails on = rw (word-first, on) refl
 
-    pub node-led : (word : Leading) → is_word text ≡ true → leading_of text ≡ Some word → node scope depth first ≡ led_by (wordless (plain scope depth)) word place s1
+    pub node-led : (word : Leading) → is_word text ≡ true → leading_within scope text ≡ Some word → node scope depth first ≡ led_by (behind_fair scope depth) (wordless (plain scope depth)) word place s1
     unfolding take_token
-    node-led word on tells = rw (word-first, on) (rw (taking leading_of, tells) refl)
+    node-led word on tells = rw (word-first, on) (rw (taking (leading_within scope), tells) refl)
 
-    pub node-fails : is_word text ≡ true → leading_of text ≡ None → node scope depth first ≡ Err unexpected
-    node-fails on tells = rw (word-first, on) (rw (taking leading_of, tells) refl)
+    pub node-fails : is_word text ≡ true → leading_within scope text ≡ None → node scope depth first ≡ Err unexpected
+    node-fails on tells = rw (word-first, on) (rw (taking (leading_within scope), tells) refl)
 
   module _ (operand : Step FormulaForm) (x : FormulaForm) where
     abbrev behind : Step FormulaForm
@@ -162,11 +180,19 @@ module _ (s s1 : State) (place : Place) (text : List ℕ) (taken : expect k.Name
     pub wordless-fails-at : is_word text ≡ true → wordless (plain scope depth) s ≡ Err (unexpected place text s1)
     wordless-fails-at on = subst (λ (v : State). wordless (plain scope depth) v ≡ Err (unexpected place text s1)) (sym stands) (wordless-fails place text s1 scope depth on)
 
-    pub node-led-at : (word : Leading) → is_word text ≡ true → leading_of text ≡ Some word → node scope depth s ≡ led_by (wordless (plain scope depth)) word place s1
-    node-led-at word on tells = subst (λ (v : State). node scope depth v ≡ led_by (wordless (plain scope depth)) word place s1) (sym stands) (node-led place text s1 scope depth word on tells)
+    pub node-led-at : (word : Leading) → is_word text ≡ true → leading_within scope text ≡ Some word → node scope depth s ≡ led_by (behind_fair scope depth) (wordless (plain scope depth)) word place s1
+    node-led-at word on tells = subst (λ (v : State). node scope depth v ≡ led_by (behind_fair scope depth) (wordless (plain scope depth)) word place s1) (sym stands) (node-led place text s1 scope depth word on tells)
 
-    pub node-fails-at : is_word text ≡ true → leading_of text ≡ None → node scope depth s ≡ Err (unexpected place text s1)
+    pub node-fails-at : is_word text ≡ true → leading_within scope text ≡ None → node scope depth s ≡ Err (unexpected place text s1)
     node-fails-at on tells = subst (λ (v : State). node scope depth v ≡ Err (unexpected place text s1)) (sym stands) (node-fails place text s1 scope depth on tells)
+
+  module _ {W : Type 0} (of : List ℕ → Option W) where
+    pub word-fails-at : of text ≡ None → take_word of s ≡ Err (unexpected place text s1)
+    word-fails-at tells = subst (λ (v : State). take_word of v ≡ Err (unexpected place text s1)) (sym stands) (rw (taking place text s1 of, tells) refl)
+
+    pub word-taken-at : (word : W) → of text ≡ Some word → take_word of s ≡ Ok ((word, place), s1)
+    unfolding take_token
+    word-taken-at word tells = subst (λ (v : State). take_word of v ≡ Ok ((word, place), s1)) (sym stands) (rw (taking place text s1 of, tells) refl)
 
   module _ (operand : Step FormulaForm) (x : FormulaForm) where
     pub joined-word-fails-at : infix_of text ≡ None → unless_next is_name_kind (joined_by operand x) s ≡ Err (unexpected place text s1)

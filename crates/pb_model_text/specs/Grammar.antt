@@ -2,7 +2,7 @@
 -- with data as in Groote and Mousavi 2014). Sorts, variables and data terms are those of texts.
 -- What a model says is a protocol: arrays and definitions stand in it as they are written.
 use Rattle.std.specs.Prelude.{◌≡◌, ℕ, zero, suc, Bool, true, false, if◌then◌else◌, List, [], ◌∷◌}
-use Rattle.std.specs.Prelude.{◌++◌, map, flat_map, codes, ◌&&◌, Option, Some}
+use Rattle.std.specs.Prelude.{◌++◌, map, flat_map, codes, ◌&&◌, not, Option, Some, None}
 use Rattle.std.specs.Str.{bytes_eq}
 use Rattle.pb_fixpoint.specs.declared.Sign.{Sign}
 use Rattle.pb_fixpoint.specs.declared.Sign.TheVariants as sign
@@ -30,8 +30,8 @@ use Rattle.pb_protocol_tree.specs.Form.{DefinitionForm, AssignmentForm, StepForm
 use Rattle.pb_protocol_tree.specs.Form.{ProtocolForm}
 use Rattle.pb_model_text.specs.declared.word.Leading.{Leading}
 use Rattle.pb_model_text.specs.declared.word.Leading.TheVariants as leading
-use Rattle.pb_model_text.specs.Words.{leading_of, infix_of, is_word}
-use Rattle.pb_model_text.specs.Words.{no_deadlock, prefixed, infixed}
+use Rattle.pb_model_text.specs.Words.{leading_of, infix_of, fairly_of, is_word}
+use Rattle.pb_model_text.specs.Words.{no_deadlock, fair, prefixed, infixed}
 
 -- ---- names with arguments
 
@@ -106,9 +106,34 @@ abbrev mutual
 
 -- ---- words
 
+-- the names of the fixpoints around a formula
+abbrev pub FixpointNames : Type 0
+FixpointNames = List (List ℕ)
+
+abbrev pub is_bound : FixpointNames → List ℕ → Bool
+is_bound [] text = false
+is_bound (name ∷ names) text = if bytes_eq name text then true else is_bound names text
+
+-- the scope inside a fixpoint
+abbrev pub within : FixpointNames → List ℕ → FixpointNames
+within scope name = scope ++ name ∷ []
+
 -- a word of a kind that `of` tells, with its place
 abbrev pub Word : {W : Type 0} → (List ℕ → Option W) → Reads (W × Place)
 Word of s word z = (t : Tok) × One k.Name s t z × (of t.text ≡ Some word.0) × (word.1 ≡ t.place)
+
+-- a word for an operand: `fair` isn't one within a fixpoint that is called so, as the operand of
+-- `fair` is, since that operand is said once for each set
+abbrev pub is_allowed : FixpointNames → Leading → Bool
+is_allowed scope leading.Fair = not (is_bound scope (codes "fair"))
+is_allowed scope _ = true
+
+abbrev pub allowed : FixpointNames → Option Leading → Option Leading
+allowed scope None = None
+allowed scope (Some word) = if is_allowed scope word then Some word else None
+
+abbrev pub leading_within : FixpointNames → List ℕ → Option Leading
+leading_within scope text = allowed scope (leading_of text)
 
 -- the first token is a name that is a word
 abbrev pub begins_word : List Tok → Bool
@@ -118,22 +143,26 @@ begins_word (t ∷ ts) = same_kind t.kind k.Name && is_word t.text
 abbrev pub Wordless : {X : Type 0} → Reads X → Reads X
 Wordless R s y z = (begins_word s.tokens ≡ false) × R s y z
 
--- a word that is an operand, or one before Operand
-abbrev pub LedBy : Reads FormulaForm → Leading → Place → Reads FormulaForm
-LedBy Operand leading.NoDeadlock place = Is (no_deadlock place)
-LedBy Operand (leading.Before prefix) place = do
+-- a word that is an operand, `fair` with Fair behind it, or a word before Operand
+abbrev pub LedBy :
+    (Place → Reads FormulaForm) → Reads FormulaForm → Leading → Place → Reads FormulaForm
+LedBy Fair Operand leading.NoDeadlock place = Is (no_deadlock place)
+LedBy Fair Operand leading.Fair place = Fair place
+LedBy Fair Operand (leading.Before prefix) place = do
   operand ← Operand
   Is (prefixed prefix place operand)
 
-abbrev pub Led : Reads FormulaForm → Reads FormulaForm
-Led Operand = do
-  word ← Word leading_of
-  LedBy Operand word.0 word.1
+abbrev pub Led :
+    FixpointNames → (Place → Reads FormulaForm) → Reads FormulaForm → Reads FormulaForm
+Led scope Fair Operand = do
+  word ← Word (leading_within scope)
+  LedBy Fair Operand word.0 word.1
 
 -- Plain, or a word with Plain behind it: each begins with a word just where it should, so that a
 -- word before another wants brackets.
-abbrev pub Worded : Reads FormulaForm → Reads FormulaForm
-Worded Plain = Either (Wordless Plain) (Led (Wordless Plain))
+abbrev pub Worded :
+    FixpointNames → (Place → Reads FormulaForm) → Reads FormulaForm → Reads FormulaForm
+Worded scope Fair Plain = Either (Wordless Plain) (Led scope Fair (Wordless Plain))
 
 -- Node, or two with a word between them, which binds tighter than connectives
 abbrev pub Joined : Reads FormulaForm → Reads FormulaForm
@@ -142,15 +171,49 @@ Joined Node = Extended Node (λ x. do
   y ← Node
   Is (infixed word.0 word.1 x y))
 
+-- ---- the processes of `fair`
+
+-- so many sets may follow the first, since the operand is said once for each
+abbrev pub most_others : ℕ
+most_others = 7
+
+-- at most so many sets, each behind a comma
+abbrev pub Others : ℕ → Reads StepSetForm → Reads (List StepSetForm)
+Others zero Set = Is []
+Others (suc more) Set = Extended (Is []) (λ none. do
+  comma ← One k.Comma
+  first ← Set
+  others ← Others more Set
+  Is (first ∷ others))
+
+-- sets in brackets, the first apart, and the word `inevitably` behind them
+abbrev pub Processes : Reads StepSetForm → Reads (StepSetForm × List StepSetForm)
+Processes Set = do
+  open_bracket ← One k.Open
+  first ← Set
+  others ← Others most_others Set
+  close_bracket ← One k.Close
+  word ← Word fairly_of
+  Is (first, others)
+
+-- the bracket opens a level, for the sets and for the operand behind
+abbrev pub IsProcesses : ℕ → Reads (StepSetForm × List StepSetForm)
+IsProcesses zero = Nothing
+IsProcesses (suc depth) = Processes (IsStepSet depth)
+
+-- what stands behind `fair`
+abbrev pub Fair :
+    Reads (StepSetForm × List StepSetForm) → Reads FormulaForm → Place → Reads FormulaForm
+Fair Sets Operand place = do
+  sets ← Sets
+  operand ← Operand
+  Is (fair place sets.0 sets.1 operand)
+
+-- the names of the fixpoints around the operand of `fair`
+abbrev pub within_fair : FixpointNames → FixpointNames
+within_fair scope = within scope (codes "fair")
+
 -- ---- formulas
-
--- the names of the fixpoints around a formula
-abbrev pub FixpointNames : Type 0
-FixpointNames = List (List ℕ)
-
-abbrev pub is_bound : FixpointNames → List ℕ → Bool
-is_bound [] text = false
-is_bound (name ∷ names) text = if bytes_eq name text then true else is_bound names text
 
 -- A name alone that is a fixpoint's around it is its variable; any other term is data.
 abbrev pub atom_of : FixpointNames → Place → TermForm → FormulaForm
@@ -243,33 +306,39 @@ Binder Body Formula = Either (Fixpoint Body) (Quantified FormulaForm.quantified 
 abbrev pub Connections : Reads FormulaForm → Reads FormulaForm → Reads FormulaForm
 Connections = Connected (connected_by FormulaForm.connected)
 
--- the scope inside a fixpoint
-abbrev pub within : FixpointNames → List ℕ → FixpointNames
-within scope name = scope ++ name ∷ []
-
 -- So many levels may open: each `!`, each bracket but that which closes, each fixpoint and each
--- quantifier opens one. What a quantifier binds is data: fixpoints around keep their names.
+-- quantifier opens one; a modality's bracket and that of `fair` also for the operand behind it.
+-- What a quantifier binds is data: fixpoints around keep their names.
 abbrev mutual
   pub IsPlain : FixpointNames → ℕ → Reads FormulaForm
   IsPlain scope zero = First (Begun scope Nothing Nothing (IsUnary zero) Nothing)
   IsPlain scope (suc depth) =
-      First (Begun scope (Worded (IsPlain scope depth)) (IsFormula scope depth)
-      (IsUnary (suc depth)) (IsStepSet depth))
+      First (Begun scope (Worded scope (IsFair scope depth) (IsPlain scope depth))
+      (IsFormula scope depth) (IsUnary (suc depth)) (IsStepSet depth))
+
+  -- behind `fair`, whose operand is within it
+  pub IsFair : FixpointNames → ℕ → Place → Reads FormulaForm
+  IsFair scope zero = λ place. Nothing
+  IsFair scope (suc depth) =
+      Fair (IsProcesses (suc depth)) (Wordless (IsPlain (within_fair scope) depth))
 
   pub IsFormula : FixpointNames → ℕ → Reads FormulaForm
   IsFormula scope zero =
-      Connections (Joined (Worded (First (Begun scope Nothing Nothing (IsUnary zero) Nothing))))
+      Connections
+      (Joined (Worded scope (λ place. Nothing)
+      (First (Begun scope Nothing Nothing (IsUnary zero) Nothing))))
       (Binder (λ name. Nothing) Nothing)
   IsFormula scope (suc depth) =
       Connections
-      (Joined (Worded
-      (First (Begun scope (Worded (IsPlain scope depth)) (IsFormula scope depth)
-      (IsUnary (suc depth)) (IsStepSet depth)))))
+      (Joined (Worded scope
+      (Fair (IsProcesses (suc depth)) (Wordless (IsPlain (within_fair scope) depth)))
+      (First (Begun scope (Worded scope (IsFair scope depth) (IsPlain scope depth))
+      (IsFormula scope depth) (IsUnary (suc depth)) (IsStepSet depth)))))
       (Binder (λ name. IsFormula (within scope name) depth) (IsFormula scope depth))
 
 -- what may stand behind `!`, a modality's brackets, and a word between two operands
 abbrev pub IsNode : FixpointNames → ℕ → Reads FormulaForm
-IsNode scope depth = Worded (IsPlain scope depth)
+IsNode scope depth = Worded scope (IsFair scope depth) (IsPlain scope depth)
 
 -- ---- the state and definitions
 

@@ -30,10 +30,10 @@ use Rattle.pb_model_tree.specs.Form.{InitialForm}
 use Rattle.pb_protocol_tree.specs.Form.{StepSetForm, FormulaForm, StateVariableForm, DefinitionForm}
 use Rattle.pb_protocol_tree.specs.Form.{AssignmentForm, StepForm, PropertyForm, ProtocolForm}
 use Rattle.pb_model_text.specs.Grammar.{set_of, united_by, begins_word, FixpointNames, atom_of}
-use Rattle.pb_model_text.specs.Grammar.{within, of_sort}
+use Rattle.pb_model_text.specs.Grammar.{within, within_fair, leading_within, most_others, of_sort}
 use Rattle.pb_model_text.specs.declared.word.Leading.{Leading}
 use Rattle.pb_model_text.specs.declared.word.Leading.TheVariants as leading
-use Rattle.pb_model_text.specs.Words.{leading_of, infix_of, no_deadlock, prefixed, infixed}
+use Rattle.pb_model_text.specs.Words.{fairly_of, infix_of, no_deadlock, fair, prefixed, infixed}
 
 abbrev pub is_or : Kind → Bool
 is_or kind = same_kind kind k.Or
@@ -122,19 +122,25 @@ take_word of = λ s. word_taken (word_at of s.tokens) s
 abbrev pub wordless : Step FormulaForm → Step FormulaForm
 wordless plain = λ s. if begins_word s.tokens then refuse Unexpected s else plain s
 
-abbrev pub led_by : Step FormulaForm → Leading → Place → Step FormulaForm
-led_by operand leading.NoDeadlock place = unless_next goes_on (pure (no_deadlock place))
-led_by operand (leading.Before prefix) place = do
+abbrev pub led_by :
+    (Place → Step FormulaForm) → Step FormulaForm → Leading → Place → Step FormulaForm
+led_by behind_fair operand leading.NoDeadlock place =
+    unless_next goes_on (pure (no_deadlock place))
+led_by behind_fair operand leading.Fair place = behind_fair place
+led_by behind_fair operand (leading.Before prefix) place = do
   x ← operand
   pure (prefixed prefix place x)
 
-abbrev pub led : Step FormulaForm → Step FormulaForm
-led operand = do
-  word ← take_word leading_of
-  led_by operand word.0 word.1
+abbrev pub led :
+    FixpointNames → (Place → Step FormulaForm) → Step FormulaForm → Step FormulaForm
+led scope behind_fair operand = do
+  word ← take_word (leading_within scope)
+  led_by behind_fair operand word.0 word.1
 
-abbrev pub worded : Step FormulaForm → Step FormulaForm
-worded plain = λ s. if begins_word s.tokens then led (wordless plain) s else plain s
+abbrev pub worded :
+    FixpointNames → (Place → Step FormulaForm) → Step FormulaForm → Step FormulaForm
+worded scope behind_fair plain =
+    λ s. if begins_word s.tokens then led scope behind_fair (wordless plain) s else plain s
 
 -- what stands behind a node, from a word on
 abbrev pub joined_by : Step FormulaForm → FormulaForm → Step FormulaForm
@@ -145,6 +151,44 @@ joined_by node x = do
 
 abbrev pub joined : Step FormulaForm → Step FormulaForm
 joined node = extended is_name_kind node (λ x. unless_next is_name_kind (joined_by node x))
+
+-- ---- the processes of `fair`
+
+-- at most so many sets, each behind a comma
+unfoldable pub other_sets : ℕ → Step StepSetForm → Step (List StepSetForm)
+other_sets zero sets = unless_next is_comma (pure [])
+other_sets (suc more) sets = extended is_comma (pure []) (λ none. do
+  comma ← take_token
+  first ← sets
+  others ← other_sets more sets
+  pure (first ∷ others))
+
+-- behind the bracket
+abbrev pub processes_behind : Step StepSetForm → Step (StepSetForm × List StepSetForm)
+processes_behind sets = do
+  first ← sets
+  others ← other_sets most_others sets
+  close_bracket ← expect k.Close
+  word ← take_word fairly_of
+  pure (first, others)
+
+-- where no level may open, the bracket is refused
+abbrev pub processes_over :
+    Step Tok → Step StepSetForm → Step (StepSetForm × List StepSetForm)
+processes_over enter sets = peek >>= (λ kind.
+    if is_open kind then enter >>= (λ open_bracket. processes_behind sets)
+    else refuse Unexpected)
+
+unfoldable pub processes : ℕ → Step (StepSetForm × List StepSetForm)
+processes zero = processes_over (refuse Limit) (refuse Limit)
+processes (suc depth) = processes_over take_token (step_set depth)
+
+abbrev pub fair_over :
+    Step (StepSetForm × List StepSetForm) → Step FormulaForm → Place → Step FormulaForm
+fair_over sets operand place = do
+  found ← sets
+  x ← operand
+  pure (fair place found.0 found.1 x)
 
 -- ---- formulas
 
@@ -261,21 +305,31 @@ unfoldable mutual
   pub plain : FixpointNames → ℕ → Step FormulaForm
   plain scope zero = last_plain scope
   plain scope (suc depth) =
-      plain_over scope (worded (plain scope depth)) (formula scope depth) depth
+      plain_over scope (worded scope (behind_fair scope depth) (plain scope depth))
+      (formula scope depth) depth
+
+  -- behind `fair`
+  pub behind_fair : FixpointNames → ℕ → Place → Step FormulaForm
+  behind_fair scope zero = fair_over (processes zero) (refuse Limit)
+  behind_fair scope (suc depth) =
+      fair_over (processes (suc depth)) (wordless (plain (within_fair scope) depth))
 
   pub formula : FixpointNames → ℕ → Step FormulaForm
   formula scope zero =
-      connections (joined (worded (last_plain scope)))
+      connections
+      (joined (worded scope (fair_over (processes zero) (refuse Limit)) (last_plain scope)))
       (binder_over (refuse Limit) (λ name. refuse Limit) (refuse Limit))
   formula scope (suc depth) =
       connections
-      (joined
-      (worded (plain_over scope (worded (plain scope depth)) (formula scope depth) depth)))
+      (joined (worded scope
+      (fair_over (processes (suc depth)) (wordless (plain (within_fair scope) depth)))
+      (plain_over scope (worded scope (behind_fair scope depth) (plain scope depth))
+      (formula scope depth) depth)))
       (binder_over take_token (λ name. formula (within scope name) depth) (formula scope depth))
 
 -- a node, with a word before it or without
 abbrev pub node : FixpointNames → ℕ → Step FormulaForm
-node scope depth = worded (plain scope depth)
+node scope depth = worded scope (behind_fair scope depth) (plain scope depth)
 
 -- a node, or two with a word between them
 abbrev pub item : FixpointNames → ℕ → Step FormulaForm

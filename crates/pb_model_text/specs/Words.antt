@@ -3,13 +3,13 @@
 -- 1986: always is AG, possibly EF, inevitably AF, until AU) on paths that may end, where what is
 -- put off to the end never comes. What is inserted stands at the place of the word.
 use Rattle.std.specs.Prelude.{ℕ, Bool, true, if◌then◌else◌, ◌||◌, List, codes}
-use Rattle.std.specs.Prelude.{Option, Some, None, is_some}
+use Rattle.std.specs.Prelude.{Option, Some, None, is_some, map}
 use Rattle.std.specs.Str.{bytes_eq}
 use Rattle.pb_fixpoint.specs.declared.Sign.{Sign}
 use Rattle.pb_fixpoint.specs.declared.Sign.TheVariants as sign
 use Rattle.pb_text_tree.specs.declared.place.Place.{Place}
 use Rattle.pb_text_tree.specs.declared.operator.Connective.TheVariants as connective
-use Rattle.pb_text_tree.specs.Form.{Named}
+use Rattle.pb_text_tree.specs.Form.{Named, chained}
 use Rattle.pb_model_tree.specs.declared.formula.Modality.{Modality}
 use Rattle.pb_model_tree.specs.declared.formula.Modality.TheVariants as modality
 use Rattle.pb_protocol_tree.specs.Form.{StepSetForm, FormulaForm}
@@ -29,6 +29,7 @@ leading_of text =
     else if bytes_eq text (codes "possibly") then Some (leading.Before prefix.Possibly)
     else if bytes_eq text (codes "inevitably") then Some (leading.Before prefix.Inevitably)
     else if bytes_eq text (codes "no_deadlock") then Some leading.NoDeadlock
+    else if bytes_eq text (codes "fair") then Some leading.Fair
     else None
 
 -- which stand between two operands
@@ -37,6 +38,10 @@ infix_of text =
     if bytes_eq text (codes "until") then Some between.Until
     else if bytes_eq text (codes "leads_to") then Some between.LeadsTo
     else None
+
+-- which stands behind the sets of `fair`
+abbrev pub fairly_of : List ℕ → Option (Unit {0})
+fairly_of text = if bytes_eq text (codes "inevitably") then Some tt else None
 
 abbrev pub is_word : List ℕ → Bool
 is_word text = is_some (leading_of text) || is_some (infix_of text)
@@ -113,6 +118,42 @@ leads_to place p q =
     fixpoint_of sign.Nu place (codes "leads_to")
     (conjunction place (behind_steps modality.Box place (codes "leads_to"))
     (implication place p (inevitably place q)))
+
+-- `[A] fair`
+abbrev pub behind_process : Place → StepSetForm → FormulaForm
+behind_process place A =
+    FormulaForm.modal modality.Box place A
+    (FormulaForm.variable (variable_at place (codes "fair")))
+
+-- `<A> true || [true] fair`
+abbrev pub tries : Place → StepSetForm → FormulaForm
+tries place A =
+    disjunction place
+    (FormulaForm.modal modality.Diamond place A (FormulaForm.constant place true))
+    (behind_steps modality.Box place (codes "fair"))
+
+-- `<true> true && ([A] fair && ((<A> true || [true] fair) && [true] inevitably))`
+abbrev pub waits : Place → StepSetForm → FormulaForm
+waits place A =
+    conjunction place (some_step place)
+    (conjunction place (behind_process place A)
+    (conjunction place (tries place A) (behind_steps modality.Box place (codes "inevitably"))))
+
+-- `nu inevitably . p || waits`: p, unless from some state on A can take a step and takes none
+abbrev pub unfair_to : Place → FormulaForm → StepSetForm → FormulaForm
+unfair_to place p A =
+    fixpoint_of sign.Nu place (codes "inevitably") (disjunction place p (waits place A))
+
+abbrev pub unfair_to_others :
+    Place → FormulaForm → List StepSetForm → List (Place × FormulaForm)
+unfair_to_others place p = map (λ A. (place, unfair_to place p A))
+
+-- `mu fair .` that of one set, or of another
+abbrev pub fair : Place → StepSetForm → List StepSetForm → FormulaForm → FormulaForm
+fair place A others p =
+    fixpoint_of sign.Mu place (codes "fair")
+    (chained (FormulaForm.connected connective.Or) (unfair_to place p A)
+    (unfair_to_others place p others))
 
 -- a word before an operand
 abbrev pub prefixed : Prefix → Place → FormulaForm → FormulaForm

@@ -9,19 +9,18 @@ ghost use Rattle.pb_text_lexer.specs.Steps.{Gives};
 ghost use Rattle.pb_text_terms.specs.Reading as terms;
 ghost use Rattle.pb_text_formulas.specs.Reading.{is_name_kind};
 ghost use Rattle.pb_protocol_tree.specs.Form.{FormulaForm, formula_form};
-ghost use Rattle.pb_model_text.specs.Links.{link_forms};
+ghost use Rattle.pb_protocol_copies.specs.Links.{link_forms};
 ghost use Rattle.pb_model_text.specs.Grammar as grammar;
 ghost use Rattle.pb_model_text.specs.Reading as reading;
 ghost use Rattle.pb_model_text.specs.Reading.{names_of};
 
-use crate::atom::{close, constant, data_atom, name_atom, unexpected_name, value};
+use crate::atom::{close, constant, data_atom, value};
 use crate::fixpoint::{extended, sign};
 use crate::modality::{modal_node, modal_steps};
 use crate::node::joined;
 use crate::pair::both;
-use crate::pattern::{constant_word, infixed, prefixed};
 use crate::scope::Scope;
-use crate::word::{Leading, infix_word, is_word, leading_word};
+use crate::worded::{item, node};
 use pb_fixpoint::Sign;
 use pb_model_tree::Modality;
 use pb_protocol_tree::{Formula, Link};
@@ -30,7 +29,7 @@ use pb_text_lexer::input::Input;
 use pb_text_lexer::kind::{Kind, same_kind};
 use pb_text_terms::operator::{is_connective, quantifier, symbol};
 use pb_text_terms::variable::variables;
-use pb_text_tree::{Connective, Name, Place, Quantifier};
+use pb_text_tree::{Connective, Name, Quantifier};
 use std::alloc::Global;
 
 /// `!` and its operand.
@@ -100,7 +99,7 @@ fn modal<'a>(
 /// What begins with no name: a negation, a formula in brackets, a modality, a constant or data.
 #[cycle(formulas)]
 #[tactic(auto, unfolding(crate::specs::Reading::plain))]
-fn nameless<'a>(
+pub fn nameless<'a>(
     input: &mut Input<'a>,
     alloc: Global,
     scope: Scope<'_, 'a>,
@@ -122,138 +121,6 @@ fn nameless<'a>(
         Kind::Minus => data_atom(input, alloc, scope.depth),
         _ => Err(ReadingError::Refused(input.refuse(ReadingRule::Unexpected))),
     }
-}
-
-/// What begins with a name that is no word.
-#[cycle(formulas)]
-#[inline(never)]
-fn wordless<'a>(
-    input: &mut Input<'a>,
-    alloc: Global,
-    scope: Scope<'_, 'a>,
-) -> Result<Formula, ReadingError>
-    ensures reads { Gives formula_form (reading.wordless (reading.plain
-        (names_of scope.entry.names.now) scope.entry.depth) input.old) result input.new }
-    ensures fewer { OnOk result (length input.new.tokens < length input.old.tokens) }
-{
-    if !same_kind(input.kind(), Kind::Name) {
-        return nameless(input, alloc, scope);
-    }
-    let (place, text) = input.expect_name()?;
-    if is_word(text.as_bytes()) {
-        return Err(ReadingError::Refused(unexpected_name(place)));
-    }
-    name_atom(input, alloc, scope, place, text)
-}
-
-/// What a word stands for with which an operand begins, and which is read.
-#[cycle(formulas)]
-#[inline(never)]
-fn led<'a>(
-    input: &mut Input<'a>,
-    alloc: Global,
-    scope: Scope<'_, 'a>,
-    word: Leading,
-    place: Place,
-) -> Result<Formula, ReadingError>
-    ensures reads { Gives formula_form (reading.led_by (reading.wordless (reading.plain
-        (names_of scope.entry.names.now) scope.entry.depth)) word place input.old)
-        result input.new }
-    ensures fewer { OnOk result (length input.new.tokens ≤ length input.old.tokens) }
-{
-    match word {
-        Leading::NoDeadlock => constant_word(input, alloc, place),
-        Leading::Before(prefix) => {
-            let operand = wordless(input, alloc, scope)?;
-            Ok(prefixed(alloc, prefix, place, operand)?)
-        }
-    }
-}
-
-/// What begins with a name: a word, data or a fixpoint's variable.
-#[cycle(formulas)]
-#[inline(never)]
-fn named<'a>(
-    input: &mut Input<'a>,
-    alloc: Global,
-    scope: Scope<'_, 'a>,
-) -> Result<Formula, ReadingError>
-    requires { spec.kind input.old ≡ Kind.Name }
-    ensures reads { Gives formula_form (reading.node (names_of scope.entry.names.now)
-        scope.entry.depth input.old) result input.new }
-    ensures fewer { OnOk result (length input.new.tokens < length input.old.tokens) }
-{
-    let (place, text) = input.expect_name()?;
-    if !is_word(text.as_bytes()) {
-        return name_atom(input, alloc, scope, place, text);
-    }
-    match leading_word(text.as_bytes()) {
-        Some(word) => led(input, alloc, scope, word, place),
-        None => Err(ReadingError::Refused(unexpected_name(place))),
-    }
-}
-
-/// An operand of a negation or a modality.
-#[cycle(formulas)]
-fn node<'a>(
-    input: &mut Input<'a>,
-    alloc: Global,
-    scope: Scope<'_, 'a>,
-) -> Result<Formula, ReadingError>
-    ensures reads { Gives formula_form (reading.node (names_of scope.entry.names.now)
-        scope.entry.depth input.old) result input.new }
-    ensures fewer { OnOk result (length input.new.tokens < length input.old.tokens) }
-{
-    if same_kind(input.kind(), Kind::Name) {
-        named(input, alloc, scope)
-    } else {
-        nameless(input, alloc, scope)
-    }
-}
-
-/// What a word makes of an operand before it and of the one behind it, behind which no other word
-/// stands.
-#[cycle(formulas)]
-#[inline(never)]
-fn joined_behind<'a>(
-    input: &mut Input<'a>,
-    alloc: Global,
-    scope: Scope<'_, 'a>,
-    first: Formula,
-) -> Result<Formula, ReadingError>
-    requires { spec.kind input.old ≡ Kind.Name }
-    ensures reads { Gives formula_form (spec.unless_next is_name_kind (reading.joined_by
-        (reading.node (names_of scope.entry.names.now) scope.entry.depth) (formula_form first))
-        input.old) result input.new }
-    ensures fewer { OnOk result (length input.new.tokens < length input.old.tokens) }
-{
-    let (place, text) = input.expect_name()?;
-    let Some(word) = infix_word(text.as_bytes()) else {
-        return Err(ReadingError::Refused(unexpected_name(place)));
-    };
-    let second = node(input, alloc, scope)?;
-    if same_kind(input.kind(), Kind::Name) {
-        return Err(ReadingError::Refused(input.refuse(ReadingRule::Unexpected)));
-    }
-    Ok(infixed(alloc, word, place, first, second)?)
-}
-
-/// An operand of a connective that is no binder: a node, or two with a word between them.
-#[cycle(formulas)]
-fn item<'a>(
-    input: &mut Input<'a>,
-    alloc: Global,
-    scope: Scope<'_, 'a>,
-) -> Result<Formula, ReadingError>
-    ensures reads { Gives formula_form (reading.item (names_of scope.entry.names.now)
-        scope.entry.depth input.old) result input.new }
-    ensures fewer { OnOk result (length input.new.tokens < length input.old.tokens) }
-{
-    let first = node(input, alloc, scope)?;
-    if !same_kind(input.kind(), Kind::Name) {
-        return Ok(first);
-    }
-    joined_behind(input, alloc, scope, first)
 }
 
 /// The body of a fixpoint, in which its name is bound.

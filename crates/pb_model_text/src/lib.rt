@@ -17,11 +17,13 @@ mod model;
 mod node;
 mod pair;
 mod pattern;
+mod processes;
 mod scope;
 mod state;
 mod step;
 mod step_set;
 pub mod text;
 mod word;
+mod worded;
 
 pub use text::parse_model;

@@ -3,7 +3,7 @@
 ghost use Rattle.std.specs.Prelude.{◌≡◌, IfOk};
 ghost use Rattle.pb_text_tree.specs.Form.{chained};
 ghost use Rattle.pb_protocol_tree.specs.Form.{FormulaForm, formula_form};
-ghost use Rattle.pb_model_text.specs.Links.{link_forms};
+ghost use Rattle.pb_protocol_copies.specs.Links.{link_forms};
 
 use pb_protocol_tree::{Formula, Link};
 use pb_text_tree::{Connective, Place};

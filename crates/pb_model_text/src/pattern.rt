@@ -1,21 +1,25 @@
 //! Makes the formulas that words stand for. What a word inserts stands at its place.
 
-ghost use Rattle.std.specs.Prelude.{◌≡◌, ◌≤◌, true, length, IfOk, OnOk};
+ghost use Rattle.std.specs.Prelude.{◌≡◌, ◌≤◌, true, length, map, IfOk, OnOk};
 ghost use Rattle.pb_names.specs.Names.{is_spelled};
 ghost use Rattle.pb_text_tree.specs.Form.{named};
 ghost use Rattle.pb_text_lexer.specs.Steps as spec;
 ghost use Rattle.pb_text_lexer.specs.Steps.{Gives};
-ghost use Rattle.pb_protocol_tree.specs.Form.{formula_form};
+ghost use Rattle.pb_protocol_tree.specs.Form.{formula_form, step_set_form};
+ghost use Rattle.pb_protocol_copies.specs.Links.{link_forms};
+ghost use Rattle.pb_model_text.specs.Links.{processes_form};
 ghost use Rattle.pb_model_text.specs.Reading as reading;
 ghost use Rattle.pb_model_text.specs.Words as words;
 
 use crate::atom::unless_going_on;
 use crate::modality::modal_node;
-use crate::node::connected;
+use crate::node::{connected, joined};
+use crate::processes::Processes;
 use crate::word::{Infix, Prefix};
 use pb_fixpoint::Sign;
 use pb_model_tree::Modality;
-use pb_protocol_tree::{Formula, StepSet};
+use pb_protocol_copies::{copy_formula, copy_step_set};
+use pb_protocol_tree::{Formula, Link, StepSet};
 use pb_text_lexer::fault::ReadingError;
 use pb_text_lexer::input::Input;
 use pb_text_tree::{Connective, Name, Place};
@@ -157,6 +161,93 @@ fn leads_to(
     let behind = behind_steps(alloc, Modality::Box, place, "leads_to")?;
     let body = connected(alloc, Connective::And, place, behind, response)?;
     fixpoint_of(alloc, Sign::Nu, place, "leads_to", body)
+}
+
+/// `<A> true || [true] fair`
+fn tries(alloc: Global, place: Place, steps: StepSet) -> Result<Formula, AllocError>
+    ensures { IfOk result (λ f. formula_form f ≡ words.tries place (step_set_form steps)) }
+{
+    let operand = Formula::Constant { place, value: true };
+    let able = modal_node(alloc, place, Modality::Diamond, steps, operand)?;
+    let behind = behind_steps(alloc, Modality::Box, place, "fair")?;
+    connected(alloc, Connective::Or, place, able, behind)
+}
+
+/// `[A] fair`
+fn behind_process(alloc: Global, place: Place, steps: StepSet) -> Result<Formula, AllocError>
+    ensures { IfOk result (λ f. formula_form f
+        ≡ words.behind_process place (step_set_form steps)) }
+{
+    let variable = variable_at(alloc, place, "fair")?;
+    let operand = Formula::Variable(variable);
+    modal_node(alloc, place, Modality::Box, steps, operand)
+}
+
+/// What `fair` says of one process besides its operand.
+fn waits(alloc: Global, place: Place, steps: StepSet) -> Result<Formula, AllocError>
+    ensures { IfOk result (λ f. formula_form f ≡ words.waits place (step_set_form steps)) }
+{
+    let copy = copy_step_set(alloc, &steps)?;
+    let tries = tries(alloc, place, copy)?;
+    let on = behind_steps(alloc, Modality::Box, place, "inevitably")?;
+    let on = connected(alloc, Connective::And, place, tries, on)?;
+    let behind = behind_process(alloc, place, steps)?;
+    let on = connected(alloc, Connective::And, place, behind, on)?;
+    let some_step = some_step(alloc, place)?;
+    connected(alloc, Connective::And, place, some_step, on)
+}
+
+/// What `fair` says of one process.
+fn unfair_to(
+    alloc: Global,
+    place: Place,
+    operand: Formula,
+    steps: StepSet,
+) -> Result<Formula, AllocError>
+    ensures { IfOk result (λ f. formula_form f
+        ≡ words.unfair_to place (formula_form operand) (step_set_form steps)) }
+{
+    let waits = waits(alloc, place, steps)?;
+    let body = connected(alloc, Connective::Or, place, operand, waits)?;
+    fixpoint_of(alloc, Sign::Nu, place, "inevitably", body)
+}
+
+/// What `fair` says of all processes but the first.
+fn unfair_to_others(
+    alloc: Global,
+    place: Place,
+    operand: &Formula,
+    others: Vec<StepSet>,
+) -> Result<Vec<Link>, AllocError>
+    ensures { IfOk result (λ links. link_forms links.items
+        ≡ words.unfair_to_others place (formula_form operand.now)
+        (map step_set_form others.items)) }
+{
+    let mut links = Vec::with_capacity(alloc, others.len())?;
+    'others: for steps in others {
+        let copy = copy_formula(alloc, operand)?;
+        let operand = unfair_to(alloc, place, copy, steps)?;
+        links.push(Link { place, operand })?;
+    }
+    Ok(links)
+}
+
+/// What `fair` stands for, with its sets and its operand.
+#[inline(never)]
+pub fn fair(
+    alloc: Global,
+    place: Place,
+    processes: Processes,
+    operand: Formula,
+) -> Result<Formula, AllocError>
+    ensures { IfOk result (λ f. formula_form f ≡ words.fair place
+        (processes_form processes).0 (processes_form processes).1 (formula_form operand)) }
+{
+    let Processes { first, others } = processes;
+    let links = unfair_to_others(alloc, place, &operand, others)?;
+    let first = unfair_to(alloc, place, operand, first)?;
+    let body = joined(alloc, Connective::Or, first, links)?;
+    fixpoint_of(alloc, Sign::Mu, place, "fair", body)
 }
 
 /// What a word before an operand stands for.

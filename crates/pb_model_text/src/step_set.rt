@@ -6,7 +6,7 @@ ghost use Rattle.pb_text_tree.specs.Form.{chained};
 ghost use Rattle.pb_protocol_tree.specs.Form.{StepSetForm, step_set_form};
 ghost use Rattle.pb_text_lexer.specs.Steps as spec;
 ghost use Rattle.pb_text_lexer.specs.Steps.{Gives};
-ghost use Rattle.pb_model_text.specs.Links.{step_set_links};
+ghost use Rattle.pb_protocol_copies.specs.Links.{step_set_links};
 ghost use Rattle.pb_model_text.specs.Reading as reading;
 
 use crate::instances::step_instances;

@@ -1,7 +1,7 @@
 //! The words for formulas of the usual patterns. A word is a name by its bytes, and a word by where
 //! it stands alone, so that steps, properties and variables may be called as it is.
 
-ghost use Rattle.std.specs.Prelude.{◌≡◌};
+ghost use Rattle.std.specs.Prelude.{◌≡◌, is_some};
 ghost use Rattle.pb_model_text.specs.Words as words;
 
 /// A word that stands before an operand.
@@ -20,6 +20,8 @@ pub enum Prefix {
 pub enum Leading {
     /// `no_deadlock`, which is an operand itself.
     NoDeadlock,
+    /// `fair`, behind which sets of steps stand in brackets, and `inevitably` with its operand.
+    Fair,
     /// A word that stands before one.
     Before(Prefix),
 }
@@ -49,6 +51,9 @@ pub fn leading_word(text: &[u8]) -> Option<Leading>
     if text == b"no_deadlock".as_slice() {
         return Some(Leading::NoDeadlock);
     }
+    if text == b"fair".as_slice() {
+        return Some(Leading::Fair);
+    }
     None
 }
 
@@ -63,6 +68,13 @@ pub fn infix_word(text: &[u8]) -> Option<Infix>
         return Some(Infix::LeadsTo);
     }
     None
+}
+
+/// Whether the bytes are the word that stands behind the sets of `fair`.
+pub fn is_fairly(text: &[u8]) -> bool
+    ensures { result ≡ is_some (words.fairly_of text.now) }
+{
+    text == b"inevitably".as_slice()
 }
 
 /// Whether the bytes are a word.

@@ -14,8 +14,8 @@ one\n\
 In a model also: a test that begins with a bracket, or has a connective or a\n  \
 quantifier, outside val(..); a fixpoint or a quantifier directly behind !, [A]\n  \
 or <A>; = for :=; one of model state define step property skip as a name; a\n  \
-word without an operand or before a word, a second until or leads_to. Place:\n  \
-the token\n\
+word without an operand or before a word, a second until or leads_to, a ninth\n  \
+set behind fair, fair within fair. Place: the token\n\
 What to do: read the token at the place, and the grammar in docs/MANUAL.md\n\
 $ echo 'nu X = X; init X;' | pbsolve solve\n\
 P02 line 1 column 1\n";
@@ -29,11 +29,11 @@ pub const P04_WORDS: &str = "P04: brackets, argument lists, quantifiers, ! or un
 more than 64\n  \
 deep, or more than 8,192 operators with two operands in one equation or in\n  \
 init\n\
-In a model also: [, <, mu, nu, forall and exists open a level each; a step, a\n  \
-definition, init and a property may have 8,192 operators each, and so may a\n  \
-term or a formula with its quantifiers and definitions written out;\n  \
-definitions in which others stand may nest 200 levels. Place: the token; the\n  \
-use, the quantifier or the operator that passes it\n\
+In a model also: [, <, the bracket of fair, mu, nu, forall and exists open a\n  \
+level each; a step, a definition, init and a property may have 8,192 operators\n  \
+each, and so may a term or a formula with its quantifiers and definitions\n  \
+written out; definitions in which others stand may nest 200 levels. Place: the\n  \
+token; the use, the quantifier or the operator that passes it\n\
 What to do: split the equation: give a part an equation of its own with the same\n  \
 sign, directly behind it\n\
 $ python3 -c \"print('pbes nu X = ' + 'X && ' * 8193 + 'X; init X;')\" | pbsolve solve\n\

@@ -1,6 +1,6 @@
 -- What is read as an operand is free of words.
 use Rattle.std.specs.Prelude.{codes, flat_map, if◌then◌else◌}
-use Rattle.std.proofs.Common.{◌≡◌, ℕ, zero, suc, Bool, true, false, not, ◌&&◌, ◌||◌, List, [], ◌∷◌, ◌++◌, refl, sym, ap, ◌∙◌, subst, inl, inr}
+use Rattle.std.proofs.Common.{◌≡◌, ℕ, zero, suc, Bool, true, false, not, ◌&&◌, List, [], ◌∷◌, ◌++◌, refl, sym, ap, ◌∙◌, subst, inl, inr}
 use Rattle.std.proofs.lemmas.Bool.{or_from}
 use Rattle.std.proofs.lemmas.Slice.Eq.{bytes_eq-Decides}
 use Rattle.pb_fixpoint.specs.declared.Sign.{Sign}
@@ -10,7 +10,7 @@ use Rattle.pb_text_tree.specs.declared.operator.Connective.{Connective}
 use Rattle.pb_text_tree.specs.declared.operator.Connective.TheVariants as connective
 use Rattle.pb_text_tree.specs.declared.operator.Quantifier.{Quantifier}
 use Rattle.pb_text_tree.specs.declared.operator.Quantifier.TheVariants.{Forall, Exists}
-use Rattle.pb_text_tree.specs.Form.{Named, TermForm, InstanceForm, ArgumentForms, no_arguments, argument, VariableForm}
+use Rattle.pb_text_tree.specs.Form.{Named, TermForm, InstanceForm, ArgumentForms, no_arguments, argument, VariableForm, chained}
 use Rattle.pb_text_lexer.specs.declared.kind.Kind.{Kind}
 use Rattle.pb_text_lexer.specs.declared.kind.Kind.TheVariants as k
 use Rattle.pb_text_lexer.specs.Kinds.{same_kind}
@@ -43,8 +43,8 @@ use Rattle.pb_model_text.specs.declared.word.Leading.{Leading}
 use Rattle.pb_model_text.specs.declared.word.Leading.TheVariants as leading
 use Rattle.pb_model_text.specs.declared.word.Infix.{Infix}
 use Rattle.pb_model_text.specs.declared.word.Infix.TheVariants as between
-use Rattle.pb_model_text.specs.Words.{is_word, no_deadlock, prefixed, infixed}
-use Rattle.pb_model_text.specs.Grammar.{FixpointNames, is_bound, atom_of, Beginning, Atom, Modal, Begun, begins_word, Wordless, LedBy, Led, Worded, Joined, Binding, FixpointBy, Fixpoint, Binder, Connections, within, IsStepSet, IsPlain, IsNode, IsFormula}
+use Rattle.pb_model_text.specs.Words.{is_word, no_deadlock, fair, unfair_to, unfair_to_others, prefixed, infixed}
+use Rattle.pb_model_text.specs.Grammar.{FixpointNames, is_bound, atom_of, Atom, Modal, Begun, begins_word, Wordless, LedBy, Led, Worded, Joined, Fair, Binding, FixpointBy, Fixpoint, Binder, Connections, within, within_fair, IsStepSet, IsProcesses, IsPlain, IsFair, IsFormula}
 use Rattle.pb_run_laws.specs.Free.{is_free}
 use Rattle.pb_word_laws.specs.Patterns.{written_out}
 use Rattle.pb_word_laws.specs.Free.{OperandsAreFreeOfWords}
@@ -122,6 +122,17 @@ no_deadlock_words p m ρ x w = bound (codes "no_deadlock") x _ (λ e. e)
 infixed_words : (word : Infix) (p : Place) (f g : FormulaForm) → HasNoWord f → HasNoWord g → HasNoWord (infixed word p f g)
 infixed_words between.Until p f g h i m ρ x w = bound (codes "until") x _ (λ e. or_from _ _ (i m ρ x w) (or_from _ _ (h m ρ x w) e))
 infixed_words between.LeadsTo p f g h i m ρ x w = bound (codes "leads_to") x _ (λ e. or_from _ _ e (or_from _ _ (h m ρ x w) (prefixed_words prefix.Inevitably p g i m ρ x w)))
+
+fair_words : (p : Place) (A : StepSetForm) (others : List StepSetForm) (f : FormulaForm) → HasNoWord f → HasNoWord (fair p A others f)
+fair_words p A others f h m ρ x w = bound (codes "fair") x _ (λ e. all A others e)
+  where
+    one : (A : StepSetForm) → same_name (codes "fair") x ≡ false → is_free x (written_out m ρ (unfair_to p f A)) ≡ false
+    one A e = bound (codes "inevitably") x _ (λ i. or_from _ _ (h m ρ x w) (or_from _ _ e (or_from _ _ e i)))
+
+    all : (A : StepSetForm) (others : List StepSetForm) → same_name (codes "fair") x ≡ false
+        → is_free x (written_out m ρ (chained (FormulaForm.connected connective.Or) (unfair_to p f A) (unfair_to_others p f others))) ≡ false
+    all A [] e = one A e
+    all A (B ∷ others) e = or_from _ _ (one A e) (all B others e)
 
 -- ---- data: a name alone is the first token
 
@@ -285,14 +296,20 @@ module _ (scope : FixpointNames) (Node Formula : Reads FormulaForm) (d : ℕ) (S
 wordless_given : (Plain : Reads FormulaForm) → SaysWordless HasNoWord Plain → Says HasNoWord (Wordless Plain)
 wordless_given Plain plain s y z r = plain s y z r.0 r.1
 
-led_by_given : (Operand : Reads FormulaForm) → Says HasNoWord Operand → (word : Leading) (p : Place) → Says HasNoWord (LedBy Operand word p)
-led_by_given Operand operand leading.NoDeadlock p = says_is HasNoWord _ (no_deadlock_words p)
-led_by_given Operand operand (leading.Before word) p = says_then HasNoWord HasNoWord Operand _ operand (λ f h. says_is HasNoWord _ (prefixed_words word p f h))
+fair_given : (Sets : Reads (StepSetForm × List StepSetForm)) (Operand : Reads FormulaForm) → Says HasNoWord Operand → (p : Place) → Says HasNoWord (Fair Sets Operand p)
+fair_given Sets Operand operand p =
+    says_behind HasNoWord _ _ (λ sets. says_then HasNoWord HasNoWord Operand _ operand (λ f h. says_is HasNoWord _ (fair_words p sets.0 sets.1 f h)))
 
-worded_given : (Plain : Reads FormulaForm) → SaysWordless HasNoWord Plain → Says HasNoWord (Worded Plain)
-worded_given Plain plain =
-    says_either HasNoWord (Wordless Plain) (Led (Wordless Plain)) (wordless_given Plain plain)
-    (says_behind HasNoWord _ _ (λ word. led_by_given (Wordless Plain) (wordless_given Plain plain) word.0 word.1))
+module _ (scope : FixpointNames) (Behind : Place → Reads FormulaForm) (behind : (p : Place) → Says HasNoWord (Behind p)) where
+  led_by_given : (Operand : Reads FormulaForm) → Says HasNoWord Operand → (word : Leading) (p : Place) → Says HasNoWord (LedBy Behind Operand word p)
+  led_by_given Operand operand leading.NoDeadlock p = says_is HasNoWord _ (no_deadlock_words p)
+  led_by_given Operand operand leading.Fair p = behind p
+  led_by_given Operand operand (leading.Before word) p = says_then HasNoWord HasNoWord Operand _ operand (λ f h. says_is HasNoWord _ (prefixed_words word p f h))
+
+  worded_given : (Plain : Reads FormulaForm) → SaysWordless HasNoWord Plain → Says HasNoWord (Worded scope Behind Plain)
+  worded_given Plain plain =
+      says_either HasNoWord (Wordless Plain) (Led scope Behind (Wordless Plain)) (wordless_given Plain plain)
+      (says_behind HasNoWord _ _ (λ word. led_by_given (Wordless Plain) (wordless_given Plain plain) word.0 word.1))
 
 joined_given : (Node : Reads FormulaForm) → Says HasNoWord Node → Says HasNoWord (Joined Node)
 joined_given Node node =
@@ -337,20 +354,27 @@ mutual
   plain_given : (scope : FixpointNames) (depth : ℕ) → SaysWordless HasNoWord (IsPlain scope depth)
   plain_given scope zero = first_given scope Nothing Nothing zero Nothing (says_nothing HasNoWord) (says_nothing HasNoWord)
   plain_given scope (suc depth) =
-      first_given scope (Worded (IsPlain scope depth)) (IsFormula scope depth) (suc depth) (IsStepSet depth)
-      (worded_given (IsPlain scope depth) (plain_given scope depth)) (formula_given scope depth)
+      first_given scope (Worded scope (IsFair scope depth) (IsPlain scope depth)) (IsFormula scope depth) (suc depth) (IsStepSet depth)
+      (worded_given scope (IsFair scope depth) (behind_fair_given scope depth) (IsPlain scope depth) (plain_given scope depth)) (formula_given scope depth)
+
+  behind_fair_given : (scope : FixpointNames) (depth : ℕ) (p : Place) → Says HasNoWord (IsFair scope depth p)
+  behind_fair_given scope zero p = says_nothing HasNoWord
+  behind_fair_given scope (suc depth) p =
+      fair_given (IsProcesses (suc depth)) (Wordless (IsPlain (within_fair scope) depth)) (wordless_given (IsPlain (within_fair scope) depth) (plain_given (within_fair scope) depth)) p
 
   formula_given : (scope : FixpointNames) (depth : ℕ) → Says HasNoWord (IsFormula scope depth)
   formula_given scope zero =
       connections_given _ (Binder (λ name. Nothing) Nothing)
-      (joined_given _ (worded_given _ (first_given scope Nothing Nothing zero Nothing (says_nothing HasNoWord) (says_nothing HasNoWord))))
+      (joined_given _ (worded_given scope (λ p. Nothing) (λ p. says_nothing HasNoWord) _ (first_given scope Nothing Nothing zero Nothing (says_nothing HasNoWord) (says_nothing HasNoWord))))
       (binder_given (λ name. Nothing) Nothing (λ name. says_nothing HasNoWord) (says_nothing HasNoWord))
   formula_given scope (suc depth) =
       connections_given _ (Binder (λ name. IsFormula (within scope name) depth) (IsFormula scope depth))
-      (joined_given _ (worded_given _
-      (first_given scope (Worded (IsPlain scope depth)) (IsFormula scope depth) (suc depth) (IsStepSet depth)
-      (worded_given (IsPlain scope depth) (plain_given scope depth)) (formula_given scope depth))))
+      (joined_given _ (worded_given scope (Fair (IsProcesses (suc depth)) (Wordless (IsPlain (within_fair scope) depth)))
+      (fair_given (IsProcesses (suc depth)) (Wordless (IsPlain (within_fair scope) depth)) (wordless_given (IsPlain (within_fair scope) depth) (plain_given (within_fair scope) depth))) _
+      (first_given scope (Worded scope (IsFair scope depth) (IsPlain scope depth)) (IsFormula scope depth) (suc depth) (IsStepSet depth)
+      (worded_given scope (IsFair scope depth) (behind_fair_given scope depth) (IsPlain scope depth) (plain_given scope depth)) (formula_given scope depth))))
       (binder_given (λ name. IsFormula (within scope name) depth) (IsFormula scope depth) (λ name. formula_given (within scope name) depth) (formula_given scope depth))
 
 pub operands_have_no_word : OperandsAreFreeOfWords
-operands_have_no_word scope depth s z p r m ρ x w = worded_given (IsPlain scope depth) (plain_given scope depth) s p z r m ρ x w
+operands_have_no_word scope depth s z p r m ρ x w =
+    worded_given scope (IsFair scope depth) (behind_fair_given scope depth) (IsPlain scope depth) (plain_given scope depth) s p z r m ρ x w

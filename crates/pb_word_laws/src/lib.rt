@@ -6,9 +6,10 @@
 ghost use Rattle.pb_word_laws.specs.Patterns.{AlwaysIsItsPattern, PossiblyIsItsPattern};
 ghost use Rattle.pb_word_laws.specs.Patterns.{InevitablyIsItsPattern, NoDeadlockIsItsPattern};
 ghost use Rattle.pb_word_laws.specs.Patterns.{UntilIsItsPattern, LeadsToIsItsPattern};
+ghost use Rattle.pb_word_laws.specs.Patterns.{FairIsItsPattern};
 ghost use Rattle.pb_word_laws.specs.Free.{OperandsAreFreeOfWords};
 
-/// Each word stands for the formula of its pattern, over all steps.
+/// Each word stands for the formula of its pattern, over all steps or those that stand with it.
 pub fn words_are_patterns()
     ensures always { AlwaysIsItsPattern }
     ensures possibly { PossiblyIsItsPattern }
@@ -16,6 +17,7 @@ pub fn words_are_patterns()
     ensures no_deadlock { NoDeadlockIsItsPattern }
     ensures until { UntilIsItsPattern }
     ensures leads_to { LeadsToIsItsPattern }
+    ensures fair { FairIsItsPattern }
 {}
 
 /// No word is free in what is read as an operand of one.

@@ -1,14 +1,10 @@
-use Rattle.std.proofs.Common.{arith, ◌≡◌, ◌∷◌, [], ◌++◌, List, map, length, refl, sym, ap, ◌∙◌, append_assoc, append-nil}
+use Rattle.std.proofs.Common.{arith, ◌≡◌, ◌∷◌, [], ◌++◌, map, length, sym, ap, ◌∙◌, append_assoc, append-nil}
 use Rattle.std.proofs.lemmas.List.{map-append}
 use Rattle.std.specs.Vec.Iter.{into_iter_items}
 use Rattle.pb_protocol_tree.specs.Form.{step_value_form}
 use Rattle.pb_model_text.specs.Links.{step_value_of}
-use Rattle.pb_model_text.proofs.InstanceLemmas.{values-are}
+use Rattle.pb_model_text.proofs.InstanceLemmas.{values-are, nothing-left}
 use Rattle.pb_model_text.proofs.instances.step_values.Goals as goal
-
-nothing-left : {X : Type 0} (xs : List X) → length xs ≡ 0 → xs ≡ []
-nothing-left [] h = refl
-nothing-left (x ∷ xs) h = absurd (omega arith)
 
 pub arguments-preserved : goal.arguments-preserved
 arguments-preserved c =

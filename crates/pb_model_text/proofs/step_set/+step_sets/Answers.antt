@@ -7,7 +7,7 @@ use Rattle.pb_text_lexer.specs.Kinds.{same_kind}
 use Rattle.pb_text_lexer.specs.Steps.{kind}
 use Rattle.pb_text_lexer.specs.Tokens.{tok}
 use Rattle.pb_text_lexer.proofs.LoopLemmas.{resumed-first, resumed-first-fails, resumed-end, resumed-more, resumed-operator-fails, resumed-operand-fails}
-use Rattle.pb_model_text.specs.Links.{step_set_links}
+use Rattle.pb_protocol_copies.specs.Links.{step_set_links}
 use Rattle.pb_model_text.specs.Reading.{set}
 use Rattle.pb_model_text.proofs.StepSetLemmas.{sets-chain, set-links-last, set-other, set-named}
 use Rattle.pb_model_text.proofs.step_set.+step_sets.Goals as goal

@@ -2,7 +2,7 @@ use Rattle.std.proofs.Common.{◌≡◌, ◌+◌, ◌*◌, ◌-◌, ◌<◌, len
 use Rattle.pb_protocol_tree.specs.Form.{StepSetForm, step_set_form}
 use Rattle.pb_text_lexer.specs.declared.kind.Kind.TheVariants.{Or}
 use Rattle.pb_text_lexer.proofs.LoopLemmas.{resumed}
-use Rattle.pb_model_text.specs.Links.{step_set_links}
+use Rattle.pb_protocol_copies.specs.Links.{step_set_links}
 use Rattle.pb_model_text.specs.Reading.{set, step_set}
 use Rattle.pb_model_text.proofs.step_set.+step_sets.Given as goal
 
