@@ -10,16 +10,10 @@ use Rattle.pb_packer.specs.View.{text_of}
 
 -- the parts of the number of several variables, one after another
 pub record Parts (new : Name → Option Term) (t : Term) (p : Member) (ps : List Member) : Type 0 where
-  pub copy : Term
-  pub old : Term
-  pub number : Term
-  pub product : Term
+  pub part : Term
   pub remainder : Term
   pub sum : Term
-  pub copied : copy ≡ t
-  pub divides : old ≡ divided copy p.weight
-  pub after : number ≡ number_after (new (text_of p.variable.name)) (member_of p) old
-  pub multiplied : product ≡ times number p.weight
+  pub made : part ≡ times (number_after (new (text_of p.variable.name)) (member_of p) (divided t p.weight)) p.weight
   pub remains : remainder ≡ rest t p.weight
   pub others : sum ≡ number_of new remainder (members_of ps)
 
@@ -30,11 +24,10 @@ several-numbers new t p [] some = absurd (some refl)
 several-numbers new t p (q ∷ ps) some = refl
 
 pub number-more : (new : Name → Option Term) (t : Term) (p : Member) (ps : List Member) → p.weight ≡ capacity (members_of ps) → (length ps ≡ 0 → ⊥) → (h : Parts new t p ps)
-    → Term.Binary Operator.Plus h.product h.sum ≡ number_of new t (members_of (p ∷ ps))
+    → Term.Binary Operator.Plus h.part h.sum ≡ number_of new t (members_of (p ∷ ps))
 number-more new t p ps weight some h =
     let after = number_after (new (text_of p.variable.name)) (member_of p) in
-    ap (λ (z : Term). Term.Binary Operator.Plus z h.sum)
-    (h.multiplied ∙ ap (λ (z : Term). times z p.weight) (h.after ∙ ap after (h.divides ∙ ap (λ (z : Term). divided z p.weight) h.copied)))
+    ap (λ (z : Term). Term.Binary Operator.Plus z h.sum) h.made
     ∙ ap (Term.Binary Operator.Plus (times (after (divided t p.weight)) p.weight))
     (h.others ∙ ap (λ (z : Term). number_of new z (members_of ps)) h.remains)
     ∙ ap (λ (n : ℕ). Term.Binary Operator.Plus (times (after (divided t n)) n) (number_of new (rest t n) (members_of ps))) weight

@@ -3,7 +3,7 @@ use Rattle.std.proofs.Common.{◌≡◌, ℕ, ℤ, pos, ◌-ℤ◌, Bool, true, 
 use Rattle.std.specs.Prelude.{Option, Some, None, nat_lt, ◌^◌}
 use Rattle.std.specs.Option.{option_map}
 use Rattle.pb_text_meaning.specs.Syntax.{Operator, Term, Terms}
-use Rattle.pb_packing.specs.Numbers.{Whole, number, constant_number, number_or, lowered, to_number}
+use Rattle.pb_packing.specs.Numbers.{Boolean, Whole, number, constant_number, number_or, lowered, to_number}
 use Rattle.pb_packer.specs.Written.{written_in, small_in}
 
 constant-small : (low : ℤ) (x : Term) → constant_number Whole low x ≡ option_map (λ n. pos n -ℤ low) (small_in (written_in x))
@@ -29,3 +29,14 @@ whole-some low x n e = whole-small low x (Some n) e
 
 pub whole-none : (low : ℤ) (x : Term) → None ≡ small_in (written_in x) → to_number Whole low x ≡ lowered x low
 whole-none low x e = whole-small low x None e
+
+-- the number of a truth value, whatever the lowest value is
+pub truth-from : (low : ℤ) (x : Term) → to_number Boolean (pos 0) x ≡ to_number Boolean low x
+truth-from low (Term.Truth b) = refl
+truth-from low (Term.Number n) = refl
+truth-from low (Term.Named x) = refl
+truth-from low (Term.Not x) = refl
+truth-from low (Term.Negative x) = refl
+truth-from low (Term.Binary o x y) = refl
+truth-from low (Term.Apply f xs) = refl
+truth-from low (Term.Quantified q xs x) = refl

@@ -133,15 +133,16 @@ impl Builder {
         ensures { IfOk result (λ t. term_of t
             ≡ numbers.either (term_of condition) (term_of chosen) (term_of other)) }
     {
+        let arguments = vec![in self.alloc;
+            self.argument(condition),
+            self.argument(chosen),
+            self.argument(other),
+        ]?;
         let text = "if".to_owned(self.alloc)?;
         let function = Name {
             place: self.place,
             text,
         };
-        let mut arguments = Vec::new(self.alloc);
-        arguments.push(self.argument(condition))?;
-        arguments.push(self.argument(chosen))?;
-        arguments.push(self.argument(other))?;
         Ok(application(function, arguments))
     }
 

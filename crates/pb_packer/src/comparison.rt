@@ -58,6 +58,20 @@ fn compared_place(comparison: Comparison, kind: &Kind, term: &Term) -> Option<us
     }
 }
 
+/// A digit that is compared with the number of a place.
+fn compared_with(
+    builder: Builder,
+    comparison: Comparison,
+    digit: &Digit<'_>,
+    place: usize,
+) -> Result<Term, AllocError>
+    ensures { IfOk result (λ t. term_of t ≡ syntax.Term.Binary (of_comparison comparison)
+        (digit_of digit.now).term (syntax.Term.Number place)) }
+{
+    let number = copy_term(builder.alloc, &digit.term)?;
+    builder.compared(comparison, number, builder.number(place as u64))
+}
+
 /// Two terms that are compared, the first with the digit that stands for it.
 fn compared_by(
     builder: Builder,
@@ -71,10 +85,7 @@ fn compared_by(
 {
     match compared_place(comparison, &digit.member.kind, &right) {
         None => builder.compared(comparison, left, right),
-        Some(place) => {
-            let number = copy_term(builder.alloc, &digit.term)?;
-            builder.compared(comparison, number, builder.number(place as u64))
-        }
+        Some(place) => compared_with(builder, comparison, digit, place),
     }
 }
 

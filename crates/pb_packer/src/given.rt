@@ -3,9 +3,10 @@
 ghost use Rattle.std.specs.Prelude.{◌≡◌, ◌++◌, IfOk, OnOk};
 ghost use Rattle.std.specs.Option.{option_map};
 ghost use Rattle.pb_model_meaning.specs.Steps.{assigned_term};
+ghost use Rattle.pb_packing.specs.Numbers as numbers;
 ghost use Rattle.pb_packing.specs.Packing as packing;
 ghost use Rattle.pb_packer.specs.View.{term_of};
-ghost use Rattle.pb_packer.specs.Members.{member_of, members_of};
+ghost use Rattle.pb_packer.specs.Members.{kind_of, member_of, members_of};
 ghost use Rattle.pb_packer.specs.Given.{given_in, new_in, term_by, terms_in};
 
 use crate::builder::Builder;
@@ -34,6 +35,15 @@ pub(crate) fn given_for<'a>(given: &'a [Given<'_>], name: &str) -> Option<&'a Te
     None
 }
 
+/// The number of a value that a variable gets, of which the term stays.
+fn number_by(builder: Builder, member: &Member, term: &Term) -> Result<Term, AllocError>
+    ensures { IfOk result (λ t. term_of t ≡ numbers.to_number
+        (kind_of member.now.kind) member.now.low (term_of term.now)) }
+{
+    let copy = copy_term(builder.alloc, term)?;
+    to_number(builder, member, copy)
+}
+
 /// The number of what a variable gets, else the number that it had.
 pub(crate) fn number_after(
     builder: Builder,
@@ -45,7 +55,7 @@ pub(crate) fn number_after(
         (new_in given.now (member_of member.now)) (member_of member.now) (term_of old)) }
 {
     match given_for(given, &member.variable.name.text) {
-        Some(term) => to_number(builder, member, copy_term(builder.alloc, term)?),
+        Some(term) => number_by(builder, member, term),
         None => Ok(old),
     }
 }

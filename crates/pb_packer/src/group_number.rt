@@ -6,8 +6,8 @@ ghost use Rattle.pb_packing.specs.Numbers as numbers;
 ghost use Rattle.pb_packing.specs.Packing as packing;
 ghost use Rattle.pb_text_meaning.specs.Syntax as syntax;
 ghost use Rattle.pb_packer.specs.View.{term_of};
-ghost use Rattle.pb_packer.specs.Members.{are_weighted, members_of};
-ghost use Rattle.pb_packer.specs.Given.{given_in, terms_in};
+ghost use Rattle.pb_packer.specs.Members.{are_weighted, member_of, members_of};
+ghost use Rattle.pb_packer.specs.Given.{given_in, new_in, terms_in};
 
 use crate::builder::Builder;
 use crate::given::{Given, all_tests, number_after};
@@ -44,6 +44,22 @@ pub(crate) fn rest(builder: Builder, term: Term, number: u32) -> Result<Term, Al
     builder.computed(Arithmetic::Mod, term, builder.number(u64::from(number)))
 }
 
+/// What a variable adds to the number afterwards, where that was the number of a term.
+fn part_after(
+    builder: Builder,
+    given: &[Given<'_>],
+    member: &Member,
+    number: &Term,
+) -> Result<Term, AllocError>
+    ensures { IfOk result (λ t. term_of t ≡ numbers.times (packing.number_after
+        (new_in given.now (member_of member.now)) (member_of member.now)
+        (numbers.divided (term_of number.now) member.now.weight)) member.now.weight) }
+{
+    let old = divided(builder, copy_term(builder.alloc, number)?, member.weight)?;
+    let new = number_after(builder, given, member, old)?;
+    times(builder, new, member.weight)
+}
+
 /// The number that the variables make afterwards, where it was that of a term.
 fn number_of(
     builder: Builder,
@@ -61,12 +77,10 @@ fn number_of(
     if others.is_empty() {
         return number_after(builder, given, member, term);
     }
-    let old = divided(builder, copy_term(builder.alloc, &term)?, member.weight)?;
-    let number = number_after(builder, given, member, old)?;
-    let product = times(builder, number, member.weight)?;
+    let part = part_after(builder, given, member, &term)?;
     let remainder = rest(builder, term, member.weight)?;
     let sum = number_of(builder, given, remainder, others)?;
-    builder.computed(Arithmetic::Plus, product, sum)
+    builder.computed(Arithmetic::Plus, part, sum)
 }
 
 /// A term where all tests hold, and a number else.

@@ -113,17 +113,33 @@ fn truth_test(builder: Builder, term: &Term) -> Result<Term, AllocError>
     builder.connected(Connective::Or, is_false, is_true)
 }
 
+/// Whether a term isn't below a number.
+fn least_test(builder: Builder, term: &Term, least: i64) -> Result<Term, AllocError>
+    ensures { IfOk result (λ t. term_of t ≡ syntax.Term.Binary syntax.Operator.LessEqual
+        (numbers.number least) (term_of term.now)) }
+{
+    let least = builder.whole(least)?;
+    let right = copy_term(builder.alloc, term)?;
+    builder.compared(Comparison::LessEqual, least, right)
+}
+
+/// Whether a term is below a number.
+fn end_test(builder: Builder, term: &Term, end: i64) -> Result<Term, AllocError>
+    ensures { IfOk result (λ t. term_of t ≡ syntax.Term.Binary syntax.Operator.Less
+        (term_of term.now) (numbers.number end)) }
+{
+    let left = copy_term(builder.alloc, term)?;
+    let end = builder.whole(end)?;
+    builder.compared(Comparison::Less, left, end)
+}
+
 /// Whether a term is one of so many numbers from a lowest on.
 fn whole_test(builder: Builder, term: &Term, low: i32, size: u32) -> Result<Term, AllocError>
     ensures { IfOk result (λ t. term_of t
         ≡ numbers.test_of numbers.Kind.Whole low size (term_of term.now)) }
 {
-    let least = builder.whole(i64::from(low))?;
-    let end = builder.whole(i64::from(low) + i64::from(size))?;
-    let left = copy_term(builder.alloc, term)?;
-    let right = copy_term(builder.alloc, term)?;
-    let from_least = builder.compared(Comparison::LessEqual, least, left)?;
-    let before_end = builder.compared(Comparison::Less, right, end)?;
+    let from_least = least_test(builder, term, i64::from(low))?;
+    let before_end = end_test(builder, term, i64::from(low) + i64::from(size))?;
     builder.connected(Connective::And, from_least, before_end)
 }
 

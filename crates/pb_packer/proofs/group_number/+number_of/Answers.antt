@@ -1,6 +1,5 @@
 use Rattle.std.proofs.Common.{◌≡◌, ◌∙◌, ◌==◌, ℕ, true, true≢false, List, ◌∷◌, length, ap, sym, subst, arith, IfOk}
 use Rattle.pb_text_meaning.specs.Syntax.{Term}
-use Rattle.pb_text_meaning.specs.Erase.{erased_term}
 use Rattle.pb_model_meaning.specs.Steps.{assigned_term}
 use Rattle.pb_packing.specs.Packing.{number_of}
 use Rattle.pb_packer.specs.declared.member.Member.{Member}
@@ -26,16 +25,10 @@ returns t c =
     let some : length ps ≡ 0 → ⊥ = λ e.
     true≢false (sym (ap (λ (n : ℕ). n == 0) e) ∙ sym c.is_empty.ensures ∙ c.if-is_empty.false) in
     let parts : Parts new (term_of c.args.term) p ps = record {
-      copy = term_of c.in_ok-copy_term.field-0;
-      old = term_of c.in_ok-old.old;
-      number = term_of c.in_ok-number.number;
-      product = term_of c.in_ok-product.product;
+      part = term_of c.in_ok-part.part;
       remainder = term_of c.in_ok-remainder.remainder;
       sum = term_of c.in_ok-sum.sum;
-      copied = ap erased_term c.in_ok-copy_term.ensures;
-      divides = c.in_ok-old.ensures;
-      after = c.in_ok-number.ensures;
-      multiplied = c.in_ok-product.ensures;
+      made = c.in_ok-part.ensures;
       remains = c.in_ok-remainder.ensures;
       others = c.in_ok-sum.ensures;
     } in
