@@ -12,7 +12,7 @@ import sys
 from check_certificate import components
 from models import Model, holds
 
-VERDICT = re.compile(r"([A-Za-z_][\w']*) (true|false)$")
+VERDICT = re.compile(r"([A-Za-z_][\w']*) (true|false|unknown)$")
 LINE = re.compile(r"(\d+) ([A-Za-z_][\w']*)(?:: (.*)| (?:from (\d+) )?(.*))$")
 MOVE = re.compile(r"(by no step|[A-Za-z_][\w']*)(?:\(([^()]*)\))?(?:: (.*))?$")
 EDGE = re.compile(r"  (.*), (?:(back to line (\d+), for ever)|to line (\d+)|outside the ranges)$")

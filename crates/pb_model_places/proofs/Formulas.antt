@@ -2,7 +2,8 @@
 use Rattle.std.proofs.Common.{◌≡◌, ◌⊎◌, ℕ, zero, suc, Bool, true, false, if◌then◌else◌, List, [], ◌∷◌, ◌++◌, subst, inl, inr, Option}
 use Rattle.std.specs.Prelude.{Contains}
 use Rattle.pb_text_tree.specs.declared.place.Place.{Place}
-use Rattle.pb_text_tree.specs.Form.{TermForm}
+use Rattle.pb_text_tree.specs.Form.{TermForm, chained}
+use Rattle.pb_text_tree.specs.declared.operator.Connective.TheVariants as connective
 use Rattle.pb_text_lexer.specs.declared.kind.Kind.{Kind}
 use Rattle.pb_text_lexer.specs.declared.kind.Kind.TheVariants as k
 use Rattle.pb_text_lexer.specs.Grammar.{Reads, Is, Nothing, One, First}
@@ -23,8 +24,8 @@ use Rattle.pb_model_text.specs.declared.word.Leading.{Leading}
 use Rattle.pb_model_text.specs.declared.word.Leading.TheVariants as leading
 use Rattle.pb_model_text.specs.declared.word.Infix.{Infix}
 use Rattle.pb_model_text.specs.declared.word.Infix.TheVariants as between
-use Rattle.pb_model_text.specs.Words.{leading_of, infix_of, no_deadlock, prefixed, infixed}
-use Rattle.pb_model_text.specs.Grammar.{IsInstance, SetBegun, united_by, Union, IsSet, IsStepSet, FixpointNames, is_bound, atom_of, Beginning, Atom, Modal, Begun, Binding, FixpointBy, Fixpoint, Binder, Connections, Word, Wordless, LedBy, Led, Worded, Joined, within, IsPlain, IsFormula}
+use Rattle.pb_model_text.specs.Words.{fairly_of, infix_of, no_deadlock, fair, unfair_to, unfair_to_others, prefixed, infixed}
+use Rattle.pb_model_text.specs.Grammar.{IsInstance, SetBegun, united_by, Union, IsSet, IsStepSet, FixpointNames, is_bound, atom_of, Beginning, Atom, Modal, Begun, Binding, FixpointBy, Fixpoint, Binder, Connections, Word, leading_within, Wordless, LedBy, Led, Worded, Joined, Others, most_others, IsProcesses, Fair, within, within_fair, IsPlain, IsFair, IsFormula}
 use Rattle.pb_model_places.specs.Apart.{formula_places}
 use Rattle.pb_model_runs.proofs.Elements.{either_of, first_of, in-left, in-right, in-either}
 use Rattle.pb_model_places.proofs.Keeping.{Keeps, Skips, no-place, keeps-nothing, keeps-is, skips-is, keeps-one, keeps-bind, skips-of, skip, skips-one, keeps-first, keeps-either, keeps-chained, keeps-placed, keeps-connected, keeps-extended}
@@ -205,19 +206,81 @@ infixed-places between.LeadsTo q f g p e = among-three q f g p (elim (either_of 
   ]
 ])
 
+-- of `fair`: the place of the word, or a place of its operand
+module _ (q : Place) (f : FormulaForm) (p : Place) where
+  abbrev OfFair : Type 0
+  OfFair = (q ≡ p) ⊎ Contains (formula_places f) p
+
+  of-word : Contains (q ∷ q ∷ q ∷ []) p → q ≡ p
+  of-word e = elim (either_of q (q ∷ q ∷ []) p e) [
+    | inl same ↦ same
+    | inr two ↦ elim (either_of q (q ∷ []) p two) [
+      | inl same ↦ same
+      | inr one ↦ elim (either_of q [] p one) [ inl same ↦ same | inr none ↦ no-place p none ]
+    ]
+  ]
+
+  of-set : (A : StepSetForm) → Contains (formula_places (unfair_to q f A)) p → OfFair
+  of-set A e = elim (either_of q (formula_places f ++ q ∷ q ∷ q ∷ []) p e) [
+    | inl same ↦ inl same
+    | inr later ↦ elim (in-either (formula_places f) (q ∷ q ∷ q ∷ []) p later) [ inl first ↦ inr first | inr rest ↦ inl (of-word rest) ]
+  ]
+
+  of-sets : (A : StepSetForm) (others : List StepSetForm)
+      → Contains (formula_places (chained (FormulaForm.connected connective.Or) (unfair_to q f A) (unfair_to_others q f others))) p → OfFair
+  of-sets A [] e = of-set A e
+  of-sets A (B ∷ others) e =
+      elim (in-either (formula_places (unfair_to q f A)) (formula_places (chained (FormulaForm.connected connective.Or) (unfair_to q f B) (unfair_to_others q f others))) p e) [
+        | inl first ↦ of-set A first
+        | inr rest ↦ of-sets B others rest
+      ]
+
+  fair-places : (A : StepSetForm) (others : List StepSetForm) → Contains (formula_places (fair q A others f)) p → Contains (formula_places f ++ q ∷ []) p
+  fair-places A others e = among (elim (either_of q (formula_places (chained (FormulaForm.connected connective.Or) (unfair_to q f A) (unfair_to_others q f others))) p e) [
+    | inl same ↦ inl same
+    | inr later ↦ of-sets A others later
+  ])
+    where
+      among : OfFair → Contains (formula_places f ++ q ∷ []) p
+      among (inl same) = in-right (formula_places f) (q ∷ []) p (subst (λ r. Contains (q ∷ []) r) same (first_of q []))
+      among (inr first) = in-left (formula_places f) (q ∷ []) p first
+
+-- the sets of `fair` have none
+
+skips-others : (more : ℕ) (Set : Reads StepSetForm) → Skips Set → Skips (Others more Set)
+skips-others zero Set set = skips-is []
+skips-others (suc more) Set set =
+    keeps-extended [] no_places (Is []) _ (skips-is [])
+    (skip _ _ [] no_places (skips-is []) (λ none. skip _ _ [] no_places (skips-one k.Comma) (λ comma. skip _ _ [] no_places set (λ first.
+    skip _ _ [] no_places (skips-others more Set set) (λ others. skips-is _)))))
+
+skips-processes : (depth : ℕ) → Skips (IsProcesses depth)
+skips-processes zero = keeps-nothing [] no_places
+skips-processes (suc depth) =
+    skip _ _ [] no_places (skips-one k.Open) (λ open_bracket. skip _ _ [] no_places (skips-step-set depth) (λ first.
+    skip _ _ [] no_places (skips-others most_others (IsStepSet depth) (skips-step-set depth)) (λ others. skip _ _ [] no_places (skips-one k.Close) (λ close_bracket.
+    skip _ _ [] no_places (skips-of (Word fairly_of) (λ word. word.1 ∷ []) (keeps-word fairly_of)) (λ word. skips-is _)))))
+
+keeps-fair : (Sets : Reads (StepSetForm × List StepSetForm)) (Operand : Reads FormulaForm) → Skips Sets → Keeps [] formula_places Operand → (q : Place) → Keeps (q ∷ []) formula_places (Fair Sets Operand q)
+keeps-fair Sets Operand sets operand q =
+    skip _ _ (q ∷ []) formula_places sets (λ found. keeps-bind Operand _ (q ∷ []) formula_places formula_places operand (λ f.
+    keeps-is (formula_places f ++ q ∷ []) formula_places (fair q found.0 found.1 f) (λ p e. fair-places q f p found.0 found.1 e)))
+
 keeps-wordless : (R : Reads FormulaForm) → Keeps [] formula_places R → Keeps [] formula_places (Wordless R)
 keeps-wordless R r s y z h = r s y z h.1
 
-keeps-led-by : (Operand : Reads FormulaForm) → Keeps [] formula_places Operand → (word : Leading) (q : Place) → Keeps (q ∷ []) formula_places (LedBy Operand word q)
-keeps-led-by Operand operand leading.NoDeadlock q = keeps-is (q ∷ []) formula_places (no_deadlock q) (no-deadlock-places q)
-keeps-led-by Operand operand (leading.Before word) q =
-    keeps-bind Operand _ (q ∷ []) formula_places formula_places operand (λ f. keeps-is (formula_places f ++ q ∷ []) formula_places (prefixed word q f) (prefixed-places word q f))
+module _ (scope : FixpointNames) (Behind : Place → Reads FormulaForm) (behind : (q : Place) → Keeps (q ∷ []) formula_places (Behind q)) where
+  keeps-led-by : (Operand : Reads FormulaForm) → Keeps [] formula_places Operand → (word : Leading) (q : Place) → Keeps (q ∷ []) formula_places (LedBy Behind Operand word q)
+  keeps-led-by Operand operand leading.NoDeadlock q = keeps-is (q ∷ []) formula_places (no_deadlock q) (no-deadlock-places q)
+  keeps-led-by Operand operand leading.Fair q = behind q
+  keeps-led-by Operand operand (leading.Before word) q =
+      keeps-bind Operand _ (q ∷ []) formula_places formula_places operand (λ f. keeps-is (formula_places f ++ q ∷ []) formula_places (prefixed word q f) (prefixed-places word q f))
 
-keeps-worded : (Plain : Reads FormulaForm) → Keeps [] formula_places Plain → Keeps [] formula_places (Worded Plain)
-keeps-worded Plain plain =
-    keeps-either [] formula_places (Wordless Plain) (Led (Wordless Plain)) (keeps-wordless Plain plain)
-    (keeps-bind (Word leading_of) _ [] (λ (word : Leading × Place). word.1 ∷ []) formula_places (keeps-word leading_of)
-    (λ word. keeps-led-by (Wordless Plain) (keeps-wordless Plain plain) word.0 word.1))
+  keeps-worded : (Plain : Reads FormulaForm) → Keeps [] formula_places Plain → Keeps [] formula_places (Worded scope Behind Plain)
+  keeps-worded Plain plain =
+      keeps-either [] formula_places (Wordless Plain) (Led scope Behind (Wordless Plain)) (keeps-wordless Plain plain)
+      (keeps-bind (Word (leading_within scope)) _ [] (λ (word : Leading × Place). word.1 ∷ []) formula_places (keeps-word (leading_within scope))
+      (λ word. keeps-led-by (Wordless Plain) (keeps-wordless Plain plain) word.0 word.1))
 
 keeps-joined : (Node : Reads FormulaForm) → Keeps [] formula_places Node → Keeps [] formula_places (Joined Node)
 keeps-joined Node node =
@@ -244,18 +307,26 @@ mutual
       (keeps-begun scope Nothing Nothing (IsUnary zero) Nothing (keeps-nothing [] formula_places) (keeps-nothing [] formula_places) (keeps-unary zero) (keeps-nothing [] no_places))
   keeps-plain scope (suc depth) =
       keeps-first [] formula_places _
-      (keeps-begun scope (Worded (IsPlain scope depth)) (IsFormula scope depth) (IsUnary (suc depth)) (IsStepSet depth)
-      (keeps-worded (IsPlain scope depth) (keeps-plain scope depth)) (keeps-formula scope depth) (keeps-unary (suc depth)) (skips-step-set depth))
+      (keeps-begun scope (Worded scope (IsFair scope depth) (IsPlain scope depth)) (IsFormula scope depth) (IsUnary (suc depth)) (IsStepSet depth)
+      (keeps-worded scope (IsFair scope depth) (keeps-behind-fair scope depth) (IsPlain scope depth) (keeps-plain scope depth)) (keeps-formula scope depth) (keeps-unary (suc depth)) (skips-step-set depth))
+
+  keeps-behind-fair : (scope : FixpointNames) (depth : ℕ) (q : Place) → Keeps (q ∷ []) formula_places (IsFair scope depth q)
+  keeps-behind-fair scope zero q = keeps-nothing (q ∷ []) formula_places
+  keeps-behind-fair scope (suc depth) q =
+      keeps-fair (IsProcesses (suc depth)) (Wordless (IsPlain (within_fair scope) depth)) (skips-processes (suc depth))
+      (keeps-wordless (IsPlain (within_fair scope) depth) (keeps-plain (within_fair scope) depth)) q
 
   pub keeps-formula : (scope : FixpointNames) (depth : ℕ) → Keeps [] formula_places (IsFormula scope depth)
   keeps-formula scope zero =
       keeps-connections _ _
-      (keeps-joined _ (keeps-worded _ (keeps-first [] formula_places _
+      (keeps-joined _ (keeps-worded scope (λ q. Nothing) (λ q. keeps-nothing (q ∷ []) formula_places) _ (keeps-first [] formula_places _
       (keeps-begun scope Nothing Nothing (IsUnary zero) Nothing (keeps-nothing [] formula_places) (keeps-nothing [] formula_places) (keeps-unary zero) (keeps-nothing [] no_places)))))
       (keeps-binder (λ name. Nothing) Nothing (λ name. keeps-nothing [] formula_places) (keeps-nothing [] formula_places))
   keeps-formula scope (suc depth) =
       keeps-connections _ _
-      (keeps-joined _ (keeps-worded _ (keeps-first [] formula_places _
-      (keeps-begun scope (Worded (IsPlain scope depth)) (IsFormula scope depth) (IsUnary (suc depth)) (IsStepSet depth)
-      (keeps-worded (IsPlain scope depth) (keeps-plain scope depth)) (keeps-formula scope depth) (keeps-unary (suc depth)) (skips-step-set depth)))))
+      (keeps-joined _ (keeps-worded scope (Fair (IsProcesses (suc depth)) (Wordless (IsPlain (within_fair scope) depth)))
+      (keeps-fair (IsProcesses (suc depth)) (Wordless (IsPlain (within_fair scope) depth)) (skips-processes (suc depth))
+      (keeps-wordless (IsPlain (within_fair scope) depth) (keeps-plain (within_fair scope) depth))) _ (keeps-first [] formula_places _
+      (keeps-begun scope (Worded scope (IsFair scope depth) (IsPlain scope depth)) (IsFormula scope depth) (IsUnary (suc depth)) (IsStepSet depth)
+      (keeps-worded scope (IsFair scope depth) (keeps-behind-fair scope depth) (IsPlain scope depth) (keeps-plain scope depth)) (keeps-formula scope depth) (keeps-unary (suc depth)) (skips-step-set depth)))))
       (keeps-binder (λ name. IsFormula (within scope name) depth) (IsFormula scope depth) (λ name. keeps-formula (within scope name) depth) (keeps-formula scope depth))

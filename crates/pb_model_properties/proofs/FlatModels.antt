@@ -1,5 +1,5 @@
 -- The model to which a protocol is unfolded, and what keeps it from being that.
-use Rattle.std.proofs.Common.{◌≡◌, ◌∙◌, Bool, false, ℕ, List, [], ◌∷◌, ◌++◌, zero, suc, Option, Some, None, map, refl, sym, ap, ap₂, subst, inl, inr}
+use Rattle.std.proofs.Common.{◌≡◌, ◌∙◌, Bool, false, ℕ, List, [], ◌∷◌, ◌++◌, zero, suc, Option, Some, map, refl, sym, ap, ap₂, subst, inl, inr}
 use Rattle.std.specs.Prelude.{All, Contains, length, string_bytes}
 use Rattle.std.specs.List.{slice_get}
 use Rattle.std.proofs.lemmas.List.Elements.{All-cons, All-contains, All-nil}
@@ -24,7 +24,7 @@ use Rattle.pb_model_words.specs.Vocabulary.{told_vocabulary}
 use Rattle.pb_folding.specs.FoldedModels.{folded_property}
 use Rattle.pb_protocol_tree.specs.Form as protocol_form
 use Rattle.pb_protocol_tree.specs.Form.{ProtocolForm}
-use Rattle.pb_protocol_meaning.specs.Syntax.{Formula, Property, Protocol}
+use Rattle.pb_protocol_meaning.specs.Syntax.{Formula, Property}
 use Rattle.pb_protocol_meaning.specs.Erase.{erase}
 use Rattle.pb_protocol_typing.specs.Faults.{protocol_faults}
 use Rattle.pb_unfolding.specs.Unfolding.{unfolded, unfolded_property}
@@ -46,7 +46,7 @@ use Rattle.pb_model_properties.specs.declared.error.ModelFault.TheVariants as mo
 use Rattle.pb_model_properties.specs.declared.solved.ToldNames.{ToldNames}
 use Rattle.pb_model_properties.specs.Faults.{as_model_fault}
 use Rattle.pb_model_properties.specs.Flat.{IsFlatModelFor, IsUnfoldedTo}
-use Rattle.pb_model_properties.specs.Refusals.{BreaksRules, IsRefusedProtocol, told_at, told_place}
+use Rattle.pb_model_properties.specs.Refusals.{IsRefusedProtocol, told_at, told_place}
 use Rattle.pb_model_properties.specs.Refusals.{step_place as step_place_of}
 use Rattle.pb_model_properties.specs.Solvable.{CanBeSolved}
 use Rattle.pb_model_properties.specs.Words.{AreNamesOf, words_where}

@@ -1,8 +1,8 @@
 -- Properties of a flat model and of what it becomes, one by one.
-use Rattle.std.proofs.Common.{◌≡◌, ◌∙◌, true, not, ◌&&◌, ℕ, List, [], ◌∷◌, ◌++◌, Some, map, refl, sym, ap, ap₂, subst}
+use Rattle.std.proofs.Common.{◌≡◌, ◌∙◌, true, not, ◌&&◌, List, [], ◌∷◌, Some, map, refl, sym, ap, ap₂, subst}
 use Rattle.std.specs.Prelude.{All, Contains}
 use Rattle.std.specs.List.{list_all, slice_get}
-use Rattle.std.proofs.lemmas.List.Elements.{All-cons, All-contains, All-head, All-nil, All-tail, Contains-append_left, Contains-append_right, Contains-push}
+use Rattle.std.proofs.lemmas.List.Elements.{All-cons, All-head, All-nil, All-tail, Contains-append_left, Contains-append_right, Contains-push}
 use Rattle.pb_text_tree.specs.declared.place.Place.{Place}
 use Rattle.pb_model_tree.specs.Form.{FormulaForm, ModelForm, PropertyForm}
 use Rattle.pb_model_meaning.specs.Syntax as model

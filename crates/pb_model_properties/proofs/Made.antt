@@ -10,7 +10,6 @@ use Rattle.pb_errors.specs.declared.or_memory.OrMemory.TheVariants.{Refused, Mem
 use Rattle.pb_text_tree.specs.declared.place.Place.{Place}
 use Rattle.pb_text.specs.declared.error.TextFault.{TextFault}
 use Rattle.pb_typing_declarations.specs.declared.fault.TypingFault.{TypingFault}
-use Rattle.pb_model_tree.specs.declared.model.Model.{Model}
 use Rattle.pb_model_tree.specs.Form as flat
 use Rattle.pb_model_tree.specs.Form.{ModelForm, model_form}
 use Rattle.pb_model_meaning.specs.Erase as model_text
@@ -29,7 +28,7 @@ use Rattle.pb_model_properties.specs.declared.error.ModelFault.{ModelFault}
 use Rattle.pb_model_properties.specs.declared.error.ModelFault.TheVariants as model_fault
 use Rattle.pb_model_properties.specs.Made.{has_many_variables}
 use Rattle.pb_model_properties.specs.Refusals.{IsRefusedModel, IsRefusedProtocol, IsUnread, told_at, told_fault, told_place}
-use Rattle.pb_model_properties.specs.Said.{IsModelOf, IsTheReading}
+use Rattle.pb_model_properties.specs.Said.{IsTheReading}
 use Rattle.pb_model_properties.specs.Solvable.{CanBeSolved}
 use Rattle.pb_model_properties.specs.Flat.{IsFlatModelFor}
 use Rattle.pb_model_properties.specs.declared.solved.SolvedModel.{SolvedModel}

@@ -2,14 +2,11 @@
 use Rattle.std.proofs.Common.{◌≡◌, ◌∙◌, ℕ, Bool, true, false, true≢false, not, ◌&&◌, ◌||◌, List, [], ◌∷◌, ◌++◌, Some, map, flat_map, refl, sym, ap, subst}
 use Rattle.std.specs.Prelude.{codes, if◌then◌else◌}
 use Rattle.pb_fixpoint.specs.declared.Sign.TheVariants.{Nu}
-use Rattle.std.specs.List.{find}
 use Rattle.std.proofs.lemmas.Slice.Eq.{bytes_eq-Decides}
-use Rattle.pb_carriers.specs.Carrier.{Tuple, contains, is_within}
-use Rattle.pb_text_tree.specs.Form.{Named}
+use Rattle.pb_carriers.specs.Carrier.{Tuple, is_within}
 use Rattle.pb_text_meaning.specs.Syntax.{Name, same_name, Variable, Terms, Equation, Spec}
-use Rattle.pb_text_meaning.specs.Value.{Assignment, value, values}
+use Rattle.pb_text_meaning.specs.Value.{Assignment, values}
 use Rattle.pb_text_meaning.specs.Formula.{carriers_of, equation_named, fits, is_instance}
-use Rattle.pb_text_meaning.specs.Erase.{erased_variables}
 use Rattle.pb_typing_declarations.specs.declared.fault.TypingRule.TheVariants.{NameTwice}
 use Rattle.pb_typing_declarations.specs.Faults.{unless, is_among, repeated_after, repeated}
 use Rattle.pb_typing_declarations.specs.Declarations.{variable_names}
@@ -17,7 +14,6 @@ use Rattle.pb_typing_declarations.proofs.Parts.{no_parts, holds_unless}
 use Rattle.pb_typing_rules.specs.WellTyped.{IsWellTyped}
 use Rattle.pb_model_tree.specs.Form.{AssignmentForm, StepForm, ModelForm}
 use Rattle.pb_model_meaning.specs.Syntax as model
-use Rattle.pb_model_meaning.specs.Steps.{data_of}
 use Rattle.pb_model_meaning.specs.Erase.{erase, erased_assignment, erased_step}
 use Rattle.pb_model_translation.specs.Apart.{IsNew, AreApart}
 use Rattle.pb_model_translation.specs.Names as equation_names

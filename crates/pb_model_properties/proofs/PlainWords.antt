@@ -1,5 +1,5 @@
 -- A plain protocol's model has the protocol's words and places.
-use Rattle.std.proofs.Common.{◌≡◌, ◌∙◌, List, [], ◌∷◌, ◌++◌, map, refl, sym, ap, subst}
+use Rattle.std.proofs.Common.{◌≡◌, ◌∙◌, List, [], ◌∷◌, ◌++◌, map, refl, ap}
 use Rattle.std.specs.Prelude.{All, Contains}
 use Rattle.std.proofs.lemmas.List.Elements.{All-cons, All-contains, All-nil, All-weaker, Contains-append_left, Contains-append_right, Contains-push}
 use Rattle.pb_text_meaning.specs.Syntax.{Variable}
@@ -8,7 +8,6 @@ use Rattle.pb_model_tree.specs.Form as flat
 use Rattle.pb_model_meaning.specs.Syntax as model
 use Rattle.pb_model_meaning.specs.Erase as model_text
 use Rattle.pb_model_runs.specs.Exact as model_places
-use Rattle.pb_protocol_tree.specs.Form.{PropertyForm, ProtocolForm}
 use Rattle.pb_unfolding.specs.Plain as plain
 use Rattle.pb_unfolder.specs.Plain as form
 use Rattle.pb_model_spelling.specs.Writable as flat_words

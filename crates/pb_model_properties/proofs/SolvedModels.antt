@@ -1,7 +1,7 @@
 -- The model that is solved in the place of a protocol that a flat model is for, and what keeps one from
 -- being solved.
-use Rattle.std.proofs.Common.{◌≡◌, ◌∙◌, Bool, true, false, List, [], ◌∷◌, Option, Some, None, map, refl, sym, ap, ap₂, subst, inl, inr}
-use Rattle.std.specs.Prelude.{All, Contains, Result, Ok, Err, IfOk}
+use Rattle.std.proofs.Common.{◌≡◌, ◌∙◌, true, false, List, [], Option, Some, None, refl, sym, ap, ap₂, subst, inl, inr}
+use Rattle.std.specs.Prelude.{All, Result, Ok, Err, IfOk}
 use Rattle.std.proofs.lemmas.List.Elements.{All-contains}
 use Rattle.pb_errors.specs.OrMemory.{IfFault, IfRefused, raised}
 use Rattle.pb_errors.specs.declared.or_memory.OrMemory.{OrMemory}
@@ -10,7 +10,7 @@ use Rattle.pb_text_tree.specs.declared.place.Place.{Place}
 use Rattle.pb_text_printer.specs.Sayable.{Each}
 use Rattle.pb_typing_declarations.specs.declared.fault.TypingFault.{TypingFault}
 use Rattle.pb_model_tree.specs.declared.model.Model.{Model}
-use Rattle.pb_model_tree.specs.Form.{ModelForm, PropertyForm, model_form}
+use Rattle.pb_model_tree.specs.Form.{ModelForm, model_form}
 use Rattle.pb_model_meaning.specs.Syntax as model
 use Rattle.pb_model_meaning.specs.Erase as model_text
 use Rattle.pb_model_runs.specs.Exact.{step_places}

@@ -1,8 +1,6 @@
 -- What keeps a protocol from being unfolded, as a fault of a model.
-use Rattle.pb_text.specs.declared.error.TextFault.{TextFault}
 use Rattle.pb_text.specs.declared.error.TextRule.TheVariants.{LimitExceeded}
 use Rattle.pb_text_tree.specs.declared.place.Place.{Place}
-use Rattle.pb_typing_declarations.specs.declared.fault.TypingFault.{TypingFault}
 use Rattle.pb_typing_declarations.specs.declared.fault.TypingRule.{TypingRule}
 use Rattle.pb_typing_declarations.specs.declared.fault.TypingRule.TheVariants as rule
 use Rattle.pb_unfolder.specs.declared.fault.UnfoldingFault.{UnfoldingFault}

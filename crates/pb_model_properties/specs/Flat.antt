@@ -1,5 +1,5 @@
 -- The flat model of a protocol that keeps the rules.
-use Rattle.std.specs.Prelude.{◌≡◌, true, List, Contains, Some, length, map, string_bytes}
+use Rattle.std.specs.Prelude.{◌≡◌, true, Contains, Some, length, map, string_bytes}
 use Rattle.std.specs.List.{slice_get}
 use Rattle.pb_text_tree.specs.declared.place.Place.{Place}
 use Rattle.pb_model_tree.specs.Form.{ModelForm, PropertyForm, model_form}

@@ -7,7 +7,8 @@ use Rattle.std.specs.List.{slice_get}
 use Rattle.pb_text_tree.specs.declared.place.Place.{Place}
 use Rattle.pb_text_tree.specs.declared.operator.Quantifier.{Quantifier}
 use Rattle.pb_text_tree.specs.declared.operator.Quantifier.TheVariants.{Forall, Exists}
-use Rattle.pb_text_tree.specs.Form.{Named, RangeForm, TermForm, ArgumentForms, InstanceForm, VariableForm}
+use Rattle.pb_text_tree.specs.Form.{Named, RangeForm, TermForm, ArgumentForms, InstanceForm, VariableForm, chained}
+use Rattle.pb_text_tree.specs.declared.operator.Connective.TheVariants as connective
 use Rattle.pb_fixpoint.specs.declared.Sign.{Sign}
 use Rattle.pb_fixpoint.specs.declared.Sign.TheVariants as sign
 use Rattle.pb_text_lexer.specs.declared.kind.Kind.{Kind}
@@ -36,8 +37,8 @@ use Rattle.pb_model_text.specs.declared.word.Leading.{Leading}
 use Rattle.pb_model_text.specs.declared.word.Leading.TheVariants as leading
 use Rattle.pb_model_text.specs.declared.word.Infix.{Infix}
 use Rattle.pb_model_text.specs.declared.word.Infix.TheVariants as between
-use Rattle.pb_model_text.specs.Words.{leading_of, infix_of, prefixed, infixed}
-use Rattle.pb_model_text.specs.Grammar.{IsInstance, SetBegun, united_by, IsSet, IsStepSet, atom_of, FixpointNames, is_bound, Beginning, Atom, Modal, Begun, Binding, FixpointBy, Fixpoint, Binder, Connections, Word, Wordless, LedBy, Led, Worded, Joined, within, IsPlain, IsFormula, Indexed, of_sort, StateGroup, StateVariables, IsDefinition, DefinedBy, Definitions, IsAssignment, AssignedBy, Assigned, IsStep, Steps, IsInitialState, IsProperty, Properties, IsModel}
+use Rattle.pb_model_text.specs.Words.{fairly_of, infix_of, fair, unfair_to, unfair_to_others, prefixed, infixed}
+use Rattle.pb_model_text.specs.Grammar.{IsInstance, SetBegun, united_by, IsSet, IsStepSet, atom_of, FixpointNames, is_bound, Beginning, Atom, Modal, Begun, Binding, FixpointBy, Fixpoint, Binder, Connections, Word, leading_within, Wordless, LedBy, Led, Worded, Joined, Others, most_others, IsProcesses, Fair, within, within_fair, IsPlain, IsFair, IsFormula, Indexed, of_sort, StateGroup, StateVariables, IsDefinition, DefinedBy, Definitions, IsAssignment, AssignedBy, Assigned, IsStep, Steps, IsInitialState, IsProperty, Properties, IsModel}
 use Rattle.pb_model_spelling.specs.Writable.{IsWord, VariableWritable, TermWritable, AllWritable}
 use Rattle.pb_model_spelling.specs.Protocols.{FormulaWritable, PropertyWritable, StateVariableWritable, DefinitionWritable, AssignmentWritable, StepWritable, ProtocolWritable}
 use Rattle.pb_model_spelling.specs.Laws.{ReadProtocolsAreWritable, ReadProtocolsHaveProperties}
@@ -242,6 +243,10 @@ leads_to_word : IsWord (codes "leads_to")
 unfolding word_kind same_kind
 leads_to_word = refl
 
+fair_word : IsWord (codes "fair")
+unfolding word_kind same_kind
+fair_word = refl
+
 prefixed_words : (word : Prefix) (p : Place) (f : FormulaForm) → HasWords f → HasWords (prefixed word p f)
 prefixed_words prefix.Always p f h = (always_word, (h, tt))
 prefixed_words prefix.Possibly p f h = (possibly_word, (h, tt))
@@ -254,14 +259,39 @@ infixed_words between.LeadsTo p f g h i = (leads_to_word, (tt, (h, (inevitably_w
 wordless_given : (R : Reads FormulaForm) → Gives HasWords R → Gives HasWords (Wordless R)
 wordless_given R gives s x z r h = gives s x z r.1 h
 
-led_by_given : (Operand : Reads FormulaForm) → Gives HasWords Operand → (word : Leading) (p : Place) → Gives HasWords (LedBy Operand word p)
-led_by_given Operand operand leading.NoDeadlock p = gives_is HasWords _ (no_deadlock_word, (tt, tt))
-led_by_given Operand operand (leading.Before word) p = gives_then HasWords HasWords _ _ operand (λ f h. gives_is HasWords _ (prefixed_words word p f h))
+fair_words : (p : Place) (A : StepSetForm) (others : List StepSetForm) (f : FormulaForm) → HasWords f → HasWords (fair p A others f)
+fair_words p A others f h = (fair_word, all A others)
+  where
+    all : (A : StepSetForm) (others : List StepSetForm) → HasWords (chained (FormulaForm.connected connective.Or) (unfair_to p f A) (unfair_to_others p f others))
+    all A [] = (inevitably_word, (h, (tt, (tt, ((tt, tt), tt)))))
+    all A (B ∷ others) = ((inevitably_word, (h, (tt, (tt, ((tt, tt), tt))))), all B others)
 
-worded_given : (Plain : Reads FormulaForm) → Gives HasWords Plain → Gives HasWords (Worded Plain)
-worded_given Plain plain =
-    gives_either HasWords (Wordless Plain) (Led (Wordless Plain)) (wordless_given Plain plain)
-    (gives_then Any HasWords _ _ (word_given leading_of) (λ word u. led_by_given (Wordless Plain) (wordless_given Plain plain) word.0 word.1))
+others_given : (n : ℕ) (Set : Reads StepSetForm) → Gives Any Set → Gives Any (Others n Set)
+others_given zero Set set = gives_is Any _ tt
+others_given (suc n) Set set =
+    gives_extended Any (Is []) _ (gives_is Any _ tt) (λ none u. gives_behind k.Comma Any _ (λ c. gives_then Any Any _ _ set (λ first v.
+    gives_then Any Any _ _ (others_given n Set set) (λ others w. gives_is Any _ tt))))
+
+processes_given : (depth : ℕ) → Gives Any (IsProcesses depth)
+processes_given zero = gives_nothing Any
+processes_given (suc depth) =
+    gives_behind k.Open Any _ (λ o. gives_then Any Any _ _ (steps_given depth) (λ first u. gives_then Any Any _ _ (others_given most_others (IsStepSet depth) (steps_given depth)) (λ others v.
+    gives_behind k.Close Any _ (λ c. gives_then Any Any _ _ (word_given fairly_of) (λ w x. gives_is Any _ tt)))))
+
+fair_given : (Sets : Reads (StepSetForm × List StepSetForm)) (Operand : Reads FormulaForm) → Gives Any Sets → Gives HasWords Operand → (p : Place) → Gives HasWords (Fair Sets Operand p)
+fair_given Sets Operand sets operand p =
+    gives_then Any HasWords _ _ sets (λ found u. gives_then HasWords HasWords _ _ operand (λ f h. gives_is HasWords _ (fair_words p found.0 found.1 f h)))
+
+module _ (scope : FixpointNames) (Behind : Place → Reads FormulaForm) (behind : (p : Place) → Gives HasWords (Behind p)) where
+  led_by_given : (Operand : Reads FormulaForm) → Gives HasWords Operand → (word : Leading) (p : Place) → Gives HasWords (LedBy Behind Operand word p)
+  led_by_given Operand operand leading.NoDeadlock p = gives_is HasWords _ (no_deadlock_word, (tt, tt))
+  led_by_given Operand operand leading.Fair p = behind p
+  led_by_given Operand operand (leading.Before word) p = gives_then HasWords HasWords _ _ operand (λ f h. gives_is HasWords _ (prefixed_words word p f h))
+
+  worded_given : (Plain : Reads FormulaForm) → Gives HasWords Plain → Gives HasWords (Worded scope Behind Plain)
+  worded_given Plain plain =
+      gives_either HasWords (Wordless Plain) (Led scope Behind (Wordless Plain)) (wordless_given Plain plain)
+      (gives_then Any HasWords _ _ (word_given (leading_within scope)) (λ word u. led_by_given (Wordless Plain) (wordless_given Plain plain) word.0 word.1))
 
 joined_given : (Node : Reads FormulaForm) → Gives HasWords Node → Gives HasWords (Joined Node)
 joined_given Node node =
@@ -272,21 +302,30 @@ mutual
   plain_given : (scope : FixpointNames) (depth : ℕ) → Gives HasWords (IsPlain scope depth)
   plain_given scope zero = first_formula scope Nothing Nothing (IsUnary zero) Nothing (gives_nothing HasWords) (gives_nothing HasWords) (unary_given zero) (equated_given zero) (gives_nothing Any)
   plain_given scope (suc depth) =
-      first_formula scope (Worded (IsPlain scope depth)) (IsFormula scope depth) (IsUnary (suc depth)) (IsStepSet depth)
-      (worded_given (IsPlain scope depth) (plain_given scope depth)) (formula_given scope depth) (unary_given (suc depth)) (equated_given (suc depth)) (steps_given depth)
+      first_formula scope (Worded scope (IsFair scope depth) (IsPlain scope depth)) (IsFormula scope depth) (IsUnary (suc depth)) (IsStepSet depth)
+      (worded_given scope (IsFair scope depth) (behind_fair_given scope depth) (IsPlain scope depth) (plain_given scope depth)) (formula_given scope depth) (unary_given (suc depth)) (equated_given (suc depth)) (steps_given depth)
+
+  behind_fair_given : (scope : FixpointNames) (depth : ℕ) (p : Place) → Gives HasWords (IsFair scope depth p)
+  behind_fair_given scope zero p = gives_nothing HasWords
+  behind_fair_given scope (suc depth) p =
+      fair_given (IsProcesses (suc depth)) (Wordless (IsPlain (within_fair scope) depth)) (processes_given (suc depth))
+      (wordless_given (IsPlain (within_fair scope) depth) (plain_given (within_fair scope) depth)) p
 
   formula_given : (scope : FixpointNames) (depth : ℕ) → Gives HasWords (IsFormula scope depth)
   formula_given scope zero =
-      connections_given (Joined (Worded (First (Begun scope Nothing Nothing (IsUnary zero) Nothing)))) (Binder (λ name. Nothing) Nothing)
-      (joined_given _ (worded_given _
+      connections_given (Joined (Worded scope (λ p. Nothing) (First (Begun scope Nothing Nothing (IsUnary zero) Nothing)))) (Binder (λ name. Nothing) Nothing)
+      (joined_given _ (worded_given scope (λ p. Nothing) (λ p. gives_nothing HasWords) _
       (first_formula scope Nothing Nothing (IsUnary zero) Nothing (gives_nothing HasWords) (gives_nothing HasWords) (unary_given zero) (equated_given zero) (gives_nothing Any))))
       (binder_given (λ name. Nothing) Nothing (λ name. gives_nothing HasWords) (gives_nothing HasWords))
   formula_given scope (suc depth) =
-      connections_given (Joined (Worded (First (Begun scope (Worded (IsPlain scope depth)) (IsFormula scope depth) (IsUnary (suc depth)) (IsStepSet depth)))))
+      let Behind = Fair (IsProcesses (suc depth)) (Wordless (IsPlain (within_fair scope) depth)) in
+      connections_given (Joined (Worded scope Behind (First (Begun scope (Worded scope (IsFair scope depth) (IsPlain scope depth)) (IsFormula scope depth) (IsUnary (suc depth)) (IsStepSet depth)))))
       (Binder (λ name. IsFormula (within scope name) depth) (IsFormula scope depth))
-      (joined_given _ (worded_given _
-      (first_formula scope (Worded (IsPlain scope depth)) (IsFormula scope depth) (IsUnary (suc depth)) (IsStepSet depth)
-      (worded_given (IsPlain scope depth) (plain_given scope depth)) (formula_given scope depth) (unary_given (suc depth)) (equated_given (suc depth)) (steps_given depth))))
+      (joined_given _ (worded_given scope Behind
+      (fair_given (IsProcesses (suc depth)) (Wordless (IsPlain (within_fair scope) depth)) (processes_given (suc depth))
+      (wordless_given (IsPlain (within_fair scope) depth) (plain_given (within_fair scope) depth))) _
+      (first_formula scope (Worded scope (IsFair scope depth) (IsPlain scope depth)) (IsFormula scope depth) (IsUnary (suc depth)) (IsStepSet depth)
+      (worded_given scope (IsFair scope depth) (behind_fair_given scope depth) (IsPlain scope depth) (plain_given scope depth)) (formula_given scope depth) (unary_given (suc depth)) (equated_given (suc depth)) (steps_given depth))))
       (binder_given (λ name. IsFormula (within scope name) depth) (IsFormula scope depth) (λ name. formula_given (within scope name) depth) (formula_given scope depth))
 
 -- ---- steps, the initial state, properties

@@ -17,7 +17,8 @@ use Rattle.pb_typing_declarations.specs.Faults.{IsAmong}
 use Rattle.pb_typing_rules.specs.Faults.{faults}
 use Rattle.pb_typing_rules.specs.WellTyped.{IsWellTyped}
 use Rattle.pb_model_tree.specs.declared.model.Property as tree
-use Rattle.pb_model_tree.specs.Form.{FormulaForm, PropertyForm, ModelForm, model_form, property_form}
+use Rattle.pb_model_tree.specs.declared.step.Step as declared_step
+use Rattle.pb_model_tree.specs.Form.{FormulaForm, StepForm, PropertyForm, ModelForm, model_form, step_form, property_form}
 use Rattle.pb_model_meaning.specs.Erase.{erase, erased_formula, model_of}
 use Rattle.pb_model_translation.specs.Placed.{placed, every_step_form}
 use Rattle.pb_model_translation.proofs.Answer.{translations_have_the_answer}
@@ -29,6 +30,7 @@ use Rattle.pb_errors.proofs.Faults.{if_fault, if_raised}
 use Rattle.pb_model_typing.specs.Data.{fault_in_model}
 use Rattle.pb_model_typing.specs.Faults.{model_faults}
 use Rattle.pb_model_typing.specs.Laws.{FormulasAreDecided}
+use Rattle.pb_model_typing.specs.Reached.{reached, reached_form}
 use Rattle.pb_model_typing.specs.Texts.{HasTypedText, IsTypedModel, IsFaultFromText, IsModelFault}
 use Rattle.pb_model_typing.proofs.Apart.{names_are_apart}
 
@@ -64,15 +66,19 @@ module _ (model : ModelForm) where
   pub rule-broken : (e : OrMemory TypingFault) → IsAmong (model_faults model) e → IfFault e (λ _. ¬ IsTypedModel model)
   rule-broken e = if_fault e (λ fault h typed. let none : Contains [] fault = subst (λ (zs : List TypingFault). Contains zs fault) typed.rules h in omega (arith, none.1))
 
+-- what the item at a place says
+form-at : {X Y : Type 0} (form : X → Y) (xs : List X) (i : ℕ) (x : X) (y : Y) → i < length xs → x ≡ get_or xs i x → slice_get (map form xs) i ≡ Some y → form x ≡ y
+form-at form [] i x y below at is = absurd (omega arith)
+form-at form (z ∷ xs) zero x y below at is =
+    let same : form z ≡ y = cc in
+    ap form at ∙ same
+form-at form (z ∷ xs) (suc i) x y below at is = form-at form xs i x y (omega arith) at is
+
 -- ---- the text of a property
 
 -- the property at a place
 pub property-at : (ps : List tree.Property) (i : ℕ) (x : tree.Property) (p : PropertyForm) → i < length ps → x ≡ get_or ps i x → slice_get (map property_form ps) i ≡ Some p → property_form x ≡ p
-property-at [] i x p below at is = absurd (omega arith)
-property-at (y ∷ ps) zero x p below at is =
-    let same : property_form y ≡ p = cc in
-    ap property_form at ∙ same
-property-at (y ∷ ps) (suc i) x p below at is = property-at ps i x p (omega arith) at is
+property-at ps i x p below at is = form-at property_form ps i x p below at is
 
 -- its text has the answer
 pub property-decided : (model : declared_model.Model) (p : PropertyForm) (t : SpecForm) → ∥ IsTypedModel (model_form model) ∥₁ → t ≡ placed (model_form model) p.name.place p.formula
@@ -87,3 +93,16 @@ pub steps-typed : (model : ModelForm) (t : SpecForm) → ∥ IsTypedModel model 
 steps-typed model t typed says not =
     let said = text-said model model.initial.place (every_step_form model.initial.place) t says in
     not_there typed (λ h. not (subst (λ (S : Spec). IsWellTyped S) (sym said) h.steps))
+
+-- ---- the text that asks whether a step can be taken
+
+-- the step at a place
+pub step-at : (steps : List declared_step.Step) (i : ℕ) (x : declared_step.Step) (a : StepForm) → i < length steps → x ≡ get_or steps i x → slice_get (map step_form steps) i ≡ Some a → step_form x ≡ a
+step-at steps i x a below at is = form-at step_form steps i x a below at is
+
+-- its text has the answer
+pub reached-decided : (model : declared_model.Model) (here : Place) (a : StepForm) (t : SpecForm) → ∥ IsTypedModel (model_form model) ∥₁ → t ≡ placed (model_form model) here (reached_form here a.name.text)
+    → answer (text.erase t) ≡ satisfies (model_of model) (reached a.name.text)
+reached-decided model here a t typed says =
+    ap answer (text-said (model_form model) here (reached_form here a.name.text) t says)
+    ∙ ∥∥₁_elim typed (hlevel props) (λ h. formulas_are_decided (model_form model) (reached a.name.text) h.rules)

@@ -1,11 +1,11 @@
 -- What the answer to a module is. The trees that its instances have are determined by the module,
 -- and there are such trees (`meaning_is_unique` and `instances_have_trees` of pb_machine); a fact
 -- about them is said of whichever trees they have.
-use Rattle.std.specs.Prelude.{◌≡◌, ℕ, ◌<◌, ◌≤◌, List}
+use Rattle.std.specs.Prelude.{◌≡◌, ℕ, Bool, ◌<◌, ◌≤◌, List}
 use Rattle.pb_trees.specs.Tree.{Tree}
 use Rattle.pb_rows.specs.Row.{TokenRow}
 use Rattle.pb_bytecode.specs.Contents.{Contents}
-use Rattle.pb_bytecode.specs.Meaning.{AreTrees}
+use Rattle.pb_bytecode.specs.Meaning.{AreTrees, answer}
 use Rattle.pb_exploration.specs.Rows.{AreReached, AreExploredRows}
 use Rattle.pb_game_of_trees.specs.Explored.{IsModuleGame}
 use Rattle.pb_report.specs.declared.answer.Answer.{Answer}
@@ -13,6 +13,10 @@ use Rattle.pb_report.specs.ModuleTexts.{answer_for}
 use Rattle.pb_module_solver.specs.declared.built_module.BuiltModule.{BuiltModule}
 use Rattle.pb_module_solver.specs.declared.solved_module.SolvedModule.{SolvedModule}
 use Rattle.pb_limits.specs.declared.TheConstants.{MAX_VERTICES}
+
+-- the truth of the initial instance in the solution of the module's equations
+abbrev pub IsTruthOf : Contents → Bool → Type 0
+IsTruthOf m truth = (trees : ℕ → Tree) → AreTrees m trees → truth ≡ answer m trees
 
 -- The truth of the initial instance in the solution of the module's equations, and the counts of
 -- its reached instances, of those whose tree has a Cut, and of their game's vertices, which are at

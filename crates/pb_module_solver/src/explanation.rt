@@ -100,7 +100,7 @@ fn shows_truth(verified: &Verified) -> bool {
 /// Evidence from the instances that are nearest to the initial one, where they are enough. These
 /// are explored breadth first on the calling thread, so that what is found is the same whatever the
 /// workers do. A round whose last instance calls too many is left out.
-fn explain_early<R: Threads + Sync, G: Gate + Sync>(
+pub(crate) fn explain_early<R: Threads + Sync, G: Gate + Sync>(
     context: &Context<'_, R, G>,
     verified: &Verified,
     options: SolveOptions,

@@ -10,6 +10,7 @@ pub mod explanation;
 pub mod options;
 pub mod solved_module;
 mod solver;
+mod truth;
 
 pub use answer::answer_module;
 pub use built_module::{BuiltModule, build_explored, build_module};
@@ -18,3 +19,4 @@ pub use explanation::{explain_module, write_explanation};
 pub use options::SolveOptions;
 pub use solved_module::{SolvedModule, solve_module};
 pub use solver::solve;
+pub use truth::answer_early;

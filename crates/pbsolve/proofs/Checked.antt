@@ -1,56 +1,101 @@
--- What a fault says of a model that is checked, whichever layer finds it.
+-- What a fault says of a model that is checked or explained, whichever layer finds it.
 use Rattle.std.proofs.Common.{◌≡◌, ℕ, false, List, sym, subst, inl, inr}
 use Rattle.pb_model_tree.specs.Form.{ModelForm}
+use Rattle.pb_negation.specs.Negated.{negated_protocol}
 use Rattle.pb_protocol_tree.specs.Form.{ProtocolForm}
 use Rattle.pb_model_properties.specs.declared.error.ModelFault.{ModelFault}
 use Rattle.pb_model_properties.specs.declared.error.ModelFault.TheVariants as model_fault
 use Rattle.pb_model_properties.specs.Asked.{have_properties}
 use Rattle.pb_model_properties.specs.Negations.{IsRefusedNegation}
 use Rattle.pb_model_properties.specs.Refusals.{IsRefusedModel}
-use Rattle.pb_model_properties.specs.Said.{IsModelOf, IsTheReading}
+use Rattle.pb_model_properties.specs.Said.{IsModelFor, IsModelOf, IsTheReading}
 use Rattle.pb_faults.specs.Errors.{fault_of_model}
 use Rattle.pb_faults.specs.declared.solve_fault.SolveFault.{SolveFault}
 use Rattle.pb_faults.specs.declared.solve_fault.SolveFault.TheVariants as solve_fault
-use Rattle.pbsolve.specs.Models.{IsUnchecked}
-use Rattle.pbsolve.specs.Outcomes.{IsUntyped, IsUntypedNegation}
+use Rattle.pbsolve.specs.Models.{IsUnchecked, IsUnexplained, IsUnnegated, IsUntold}
+use Rattle.pbsolve.specs.Outcomes.{IsUntyped}
+use Rattle.pbsolve.specs.ReachedSteps.{IsUntypedStep}
 
-module _ (names : List (List ℕ)) (bytes : List ℕ) where
-  -- the bytes say no model
-  pub model_unchecked : (f : ModelFault) → IsRefusedModel bytes f → IsUnchecked names bytes (fault_of_model f)
-  model_unchecked (model_fault.Text fault) h = inl h
-  model_unchecked (model_fault.Typing fault) h = inl (inl h)
-  model_unchecked model_fault.NoProperty h = absurd h
+module _ (bytes : List ℕ) where
+  -- the negations are refused
+  pub negations_unnegated : (f : ModelFault) → IsRefusedNegation bytes f → IsUnnegated bytes (fault_of_model f)
+  negations_unnegated (model_fault.Text fault) h = h
+  negations_unnegated (model_fault.Typing fault) h = inl h
+  negations_unnegated model_fault.NoProperty h = elim h [ inl unread ↦ absurd unread | inr refused ↦ absurd refused.2 ]
 
-  -- the model has no property of a name
-  pub names_unchecked : (model : ModelForm) → IsModelOf bytes model → (f : ModelFault)
-      → (f ≡ model_fault.NoProperty) × (have_properties names model.properties ≡ false) → IsUnchecked names bytes (fault_of_model f)
-  names_unchecked model said f h =
-      subst (λ (x : ModelFault). IsUnchecked names bytes (fault_of_model x)) (sym h.0) (model, said, h.1)
+  -- or the text of one isn't well typed
+  pub text_unnegated : (protocol : ProtocolForm) → IsTheReading bytes protocol → (model : ModelForm) → IsModelFor (negated_protocol protocol) model
+      → (f : SolveFault) → IsUntyped model f → IsUnnegated bytes f
+  text_unnegated protocol read model is_for (solve_fault.Text fault) h = absurd h
+  text_unnegated protocol read model is_for (solve_fault.Typing fault) h = inr (protocol, read, (model, is_for, h))
+  text_unnegated protocol read model is_for (solve_fault.Limit excess) h = absurd h
+  text_unnegated protocol read model is_for (solve_fault.Module fault) h = absurd h
+  text_unnegated protocol read model is_for (solve_fault.Acceptance fault) h = absurd h
+  text_unnegated protocol read model is_for solve_fault.TooManyVertices h = absurd h
+  text_unnegated protocol read model is_for (solve_fault.Property fault) h = absurd h
+  text_unnegated protocol read model is_for solve_fault.NoProperty h = absurd h
+
+  pub unnegated_untold : (f : SolveFault) → IsUnnegated bytes f → IsUntold bytes f
+  unnegated_untold (solve_fault.Text fault) h = inr h
+  unnegated_untold (solve_fault.Typing fault) h = inr h
+  unnegated_untold (solve_fault.Limit excess) h = absurd h
+  unnegated_untold (solve_fault.Module fault) h = absurd h
+  unnegated_untold (solve_fault.Acceptance fault) h = absurd h
+  unnegated_untold solve_fault.TooManyVertices h = absurd h
+  unnegated_untold (solve_fault.Property fault) h = absurd h
+  unnegated_untold solve_fault.NoProperty h = absurd h
 
   -- the text of a property isn't well typed
-  pub text_unchecked : (model : ModelForm) → IsModelOf bytes model → (f : SolveFault) → IsUntyped model f → IsUnchecked names bytes f
-  text_unchecked model said (solve_fault.Typing fault) h = inl (inr (model, said, h))
-  text_unchecked model said (solve_fault.Text fault) h = absurd h
-  text_unchecked model said (solve_fault.Limit excess) h = absurd h
-  text_unchecked model said (solve_fault.Module fault) h = absurd h
-  text_unchecked model said (solve_fault.Acceptance fault) h = absurd h
-  text_unchecked model said solve_fault.TooManyVertices h = absurd h
-  text_unchecked model said (solve_fault.Property fault) h = absurd h
-  text_unchecked model said solve_fault.NoProperty h = absurd h
+  pub text_untold : (model : ModelForm) → IsModelOf bytes model → (f : SolveFault) → IsUntyped model f → IsUntold bytes f
+  text_untold model said (solve_fault.Text fault) h = absurd h
+  text_untold model said (solve_fault.Typing fault) h = inl (inr (model, said, h))
+  text_untold model said (solve_fault.Limit excess) h = absurd h
+  text_untold model said (solve_fault.Module fault) h = absurd h
+  text_untold model said (solve_fault.Acceptance fault) h = absurd h
+  text_untold model said solve_fault.TooManyVertices h = absurd h
+  text_untold model said (solve_fault.Property fault) h = absurd h
+  text_untold model said solve_fault.NoProperty h = absurd h
 
-  -- nor that of a negation
-  pub negation_unchecked : (protocol : ProtocolForm) → IsTheReading bytes protocol → (f : SolveFault) → IsUntypedNegation protocol f → IsUnchecked names bytes f
-  negation_unchecked protocol read (solve_fault.Typing fault) (model, are_for, h) = inr (inr (protocol, read, (model, are_for, h)))
-  negation_unchecked protocol read (solve_fault.Text fault) (model, are_for, h) = absurd h
-  negation_unchecked protocol read (solve_fault.Limit excess) (model, are_for, h) = absurd h
-  negation_unchecked protocol read (solve_fault.Module fault) (model, are_for, h) = absurd h
-  negation_unchecked protocol read (solve_fault.Acceptance fault) (model, are_for, h) = absurd h
-  negation_unchecked protocol read solve_fault.TooManyVertices (model, are_for, h) = absurd h
-  negation_unchecked protocol read (solve_fault.Property fault) (model, are_for, h) = absurd h
-  negation_unchecked protocol read solve_fault.NoProperty (model, are_for, h) = absurd h
+  -- the bytes say no model
+  pub model_untold : (f : ModelFault) → IsRefusedModel bytes f → IsUntold bytes (fault_of_model f)
+  model_untold (model_fault.Text fault) h = inl h
+  model_untold (model_fault.Typing fault) h = inl (inl h)
+  model_untold model_fault.NoProperty h = absurd h
 
-  -- or the negations are refused
-  pub negations_unchecked : (f : ModelFault) → IsRefusedNegation bytes f → IsUnchecked names bytes (fault_of_model f)
-  negations_unchecked (model_fault.Text fault) h = inr h
-  negations_unchecked (model_fault.Typing fault) h = inr (inl h)
-  negations_unchecked model_fault.NoProperty h = elim h [ inl unread ↦ absurd unread | inr refused ↦ absurd refused.2 ]
+  pub untold_unexplained : (f : SolveFault) → IsUntold bytes f → IsUnexplained bytes f
+  untold_unexplained (solve_fault.Text fault) h = h
+  untold_unexplained (solve_fault.Typing fault) h = h
+  untold_unexplained (solve_fault.Limit excess) h = absurd h
+  untold_unexplained (solve_fault.Module fault) h = absurd h
+  untold_unexplained (solve_fault.Acceptance fault) h = absurd h
+  untold_unexplained solve_fault.TooManyVertices h = absurd h
+  untold_unexplained (solve_fault.Property fault) h = absurd h
+  untold_unexplained solve_fault.NoProperty h = absurd h
+
+  module _ (names : List (List ℕ)) where
+    pub untold_unchecked : (f : SolveFault) → IsUntold bytes f → IsUnchecked names bytes f
+    untold_unchecked (solve_fault.Text fault) h = h
+    untold_unchecked (solve_fault.Typing fault) h = inl h
+    untold_unchecked (solve_fault.Limit excess) h = absurd h
+    untold_unchecked (solve_fault.Module fault) h = absurd h
+    untold_unchecked (solve_fault.Acceptance fault) h = absurd h
+    untold_unchecked solve_fault.TooManyVertices h = absurd h
+    untold_unchecked (solve_fault.Property fault) h = absurd h
+    untold_unchecked solve_fault.NoProperty h = absurd h
+
+    -- the text that asks for a step isn't well typed
+    pub step_unchecked : (model : ModelForm) → IsModelOf bytes model → (f : SolveFault) → IsUntypedStep model f → IsUnchecked names bytes f
+    step_unchecked model said (solve_fault.Typing fault) h = inr (model, said, h)
+    step_unchecked model said (solve_fault.Text fault) h = absurd h
+    step_unchecked model said (solve_fault.Limit excess) h = absurd h
+    step_unchecked model said (solve_fault.Module fault) h = absurd h
+    step_unchecked model said (solve_fault.Acceptance fault) h = absurd h
+    step_unchecked model said solve_fault.TooManyVertices h = absurd h
+    step_unchecked model said (solve_fault.Property fault) h = absurd h
+    step_unchecked model said solve_fault.NoProperty h = absurd h
+
+    -- the model has no property of a name
+    pub names_unchecked : (model : ModelForm) → IsModelOf bytes model → (f : ModelFault)
+        → (f ≡ model_fault.NoProperty) × (have_properties names model.properties ≡ false) → IsUnchecked names bytes (fault_of_model f)
+    names_unchecked model said f h =
+        subst (λ (x : ModelFault). IsUnchecked names bytes (fault_of_model x)) (sym h.0) (model, said, h.1)

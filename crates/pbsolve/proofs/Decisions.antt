@@ -1,6 +1,6 @@
 -- What is found of a property, by its text and by that of its negation.
-use Rattle.std.proofs.Common.{◌≡◌, ◌∙◌, ℕ, zero, suc, ◌<◌, ◌≤◌, ◌+◌, true, false, Bool, List, [], ◌∷◌, Option, Some, None, length, refl, sym, ap, subst, inl, inr, arith}
-use Rattle.std.specs.Prelude.{IfSome, option_map, if◌then◌else◌}
+use Rattle.std.proofs.Common.{◌≡◌, ◌∙◌, ℕ, zero, suc, ◌<◌, ◌≤◌, ◌+◌, true, false, Bool, List, [], ◌∷◌, Option, Some, length, refl, sym, ap, subst, inl, inr, arith}
+use Rattle.std.specs.Prelude.{◌⊎◌, IfSome, Ok, Err, option_map, if◌then◌else◌}
 use Rattle.std.specs.List.{All, slice_get}
 use Rattle.std.proofs.lemmas.List.Elements.{All-nil, All-cons, All-weaker}
 use Rattle.std.proofs.lemmas.Option.{slice_get-map, slice_get_within}
@@ -15,21 +15,25 @@ use Rattle.pb_negation.specs.Laws.{NegationsErase, SatisfactionIsKept}
 use Rattle.pb_solved_model.specs.Solved.{AreSameProperties, IsSameProperty}
 use Rattle.pb_report.specs.declared.answer.Answer.{Answer}
 use Rattle.pb_faults.specs.declared.property_fault.PropertyExcess.{PropertyExcess}
-use Rattle.pb_model_properties.specs.declared.solved.SolvedModel.{SolvedModel}
+use Rattle.pb_model_properties.specs.declared.verdicts.Verdict.{Verdict}
 use Rattle.pb_model_properties.specs.declared.verdicts.Verdict.TheVariants.{True, False, Unknown}
-use Rattle.pb_model_properties.specs.Asked.{asked_from, asked_places, is_asked}
+use Rattle.pb_model_properties.specs.declared.solved.SolvedModel.{SolvedModel}
 use Rattle.pb_model_properties.specs.Negations.{IsNegatedModelOf}
-use Rattle.pb_model_properties.specs.Said.{protocol_satisfies, satisfies, IsModelFor, IsTheReading}
-use Rattle.pb_limits.specs.declared.TheConstants as limits
+use Rattle.pb_model_properties.specs.Asked.{asked_from, asked_places, is_asked}
+use Rattle.pb_model_properties.specs.Said.{protocol_satisfies, satisfies, IsModelFor, IsModelOf, IsTheReading}
+use Rattle.pbsolve.proofs.PropertyVerdicts.{some_at}
 use Rattle.pbsolve.specs.declared.finding.Finding.{Finding}
-use Rattle.pbsolve.specs.declared.finding.Finding.TheVariants.{Decided, Refused}
+use Rattle.pbsolve.specs.declared.finding.Finding.TheVariants.{Decided, Refused, Shown}
 use Rattle.pbsolve.specs.declared.finding.Found.{Found}
-use Rattle.pbsolve.specs.declared.outcome.AskedOutcome.{AskedOutcome}
 use Rattle.pbsolve.specs.declared.outcome.Outcome.{Outcome}
 use Rattle.pbsolve.specs.declared.outcome.Outcome.TheVariants as outcome
-use Rattle.pbsolve.specs.declared.property_text.AskedText.{AskedText}
-use Rattle.pbsolve.specs.Models.{IsFinding, IsFound, IsPropertyAnswer}
-use Rattle.pbsolve.specs.Outcomes.{AreNegations, IsDecision, IsDecisionAt, IsOutcome, IsOutcomeAt, IsPropertyText, IsTextAt}
+use Rattle.pbsolve.specs.declared.property_module.AskedModule.{AskedModule}
+use Rattle.pbsolve.specs.declared.property_module.PropertyModule.{PropertyModule}
+use Rattle.pb_faults.specs.declared.solve_fault.SolveFault.{SolveFault}
+use Rattle.pb_faults.specs.declared.solve_fault.SolveFault.TheVariants as solve_fault
+use Rattle.pbsolve.specs.Models.{IsFinding, IsFound, IsPropertyAnswer, IsShown, IsTooLargeNegation, IsTooLargeProperty, IsUnexplained}
+use Rattle.pbsolve.specs.Outcomes.{IsDecision, IsDeniedAt, IsNegationAt, IsOutcome, IsPropertyModule, IsShownAt, verdict_in}
+use Rattle.pbsolve.specs.Why.{IsVerdict}
 
 -- ---- properties of a protocol and of the model that is solved in its place
 
@@ -51,91 +55,226 @@ solved_at P m (x ∷ ps) [] k p same at = absurd same
 solved_at P m (x ∷ ps) (q ∷ qs) zero p same at = let is : x ≡ p = cc at in (q, refl, subst (λ (y : protocol_form.PropertyForm). IsSameProperty P m y q) is same.0)
 solved_at P m (x ∷ ps) (q ∷ qs) (suc k) p same at = solved_at P m ps qs k p same.1 at
 
-module _ (protocol : ProtocolForm) (model : ModelForm) (is_for : IsModelFor protocol model) where
-  -- what is found at the place of an outcome
-  found_at : (asked : AskedOutcome) (finding : Finding) → IsOutcomeAt model asked
-      → ((p : protocol_form.PropertyForm) (q : PropertyForm) → slice_get protocol.properties asked.place ≡ Some p → IsSameProperty protocol model p q → IsOutcome model q asked.outcome
-      → IsFinding protocol p model q asked.place finding)
-      → IsFound protocol model (record { place = asked.place; finding = finding })
-  found_at asked finding at h =
-      let same = same_at protocol model protocol.properties model.properties asked.place at.property is_for.solved.properties at.stands in record {
-        asked = same.0;
-        stands = same.1;
-        solved = at.property;
-        in_model = at.stands;
-        finding = h same.0 at.property same.1 same.2 at.outcome;
-      }
-
-  pub found_large : (asked : AskedOutcome) (excess : PropertyExcess) → asked.outcome ≡ outcome.TooLarge excess → IsOutcomeAt model asked
-      → IsFound protocol model (record { place = asked.place; finding = Refused excess })
-  found_large asked excess is at = found_at asked (Refused excess) at (λ p q stands same large. inl (subst (IsOutcome model q) is large))
-
-  -- the protocol satisfies the property as its text is answered
-  told_truth : (p : protocol_form.PropertyForm) (q : PropertyForm) (a : Answer) (b : Bool) → IsSameProperty protocol model p q → IsPropertyAnswer model q a → a.truth ≡ b
-      → protocol_satisfies protocol p.formula ≡ b
-  told_truth p q a b same answer truth = sym same.satisfied ∙ (sym answer.exact ∙ truth)
-
-  pub found_true : (asked : AskedOutcome) (a : Answer) → asked.outcome ≡ outcome.Answered a → a.truth ≡ true → IsOutcomeAt model asked
-      → IsFound protocol model (record { place = asked.place; finding = Decided True a })
-  found_true asked a is truth at = found_at asked (Decided True a) at (λ p q stands same answered.
-      let answer : IsPropertyAnswer model q a = subst (IsOutcome model q) is answered in (told_truth p q a true same answer truth, answer))
-
-  pub found_false : (asked : AskedOutcome) (a : Answer) → asked.outcome ≡ outcome.Answered a → a.truth ≡ false → a.cut ≡ 0 → IsOutcomeAt model asked
-      → IsFound protocol model (record { place = asked.place; finding = Decided False a })
-  found_false asked a is truth cut at = found_at asked (Decided False a) at (λ p q stands same answered.
-      let answer : IsPropertyAnswer model q a = subst (IsOutcome model q) is answered in ((told_truth p q a false same answer truth, inl cut), answer))
-
-  -- the model of the negations satisfies a property exactly where the protocol satisfies that property's negation
-  module _ (erased : NegationsErase) (kept : SatisfactionIsKept) (negations : ModelForm) (are_for : IsModelFor (negated_protocol protocol) negations) where
-    negated_at : (k : ℕ) (p : protocol_form.PropertyForm) → slice_get protocol.properties k ≡ Some p
-        → slice_get (negated_protocol protocol).properties k ≡ Some (negated_property p)
-    negated_at k p at = slice_get-map negated_property protocol.properties k ∙ ap (option_map negated_property) at
-
-    told_negation : (k : ℕ) (p : protocol_form.PropertyForm) (n : PropertyForm) (b : Bool) → slice_get protocol.properties k ≡ Some p
-        → slice_get negations.properties k ≡ Some n → satisfies negations n.formula ≡ b → protocol_satisfies protocol (negated p.formula) ≡ b
-    told_negation k p n b at there truth =
-        let same = same_at (negated_protocol protocol) negations (negated_protocol protocol).properties negations.properties k n are_for.solved.properties there in
-        let both : Some same.0 ≡ Some (negated_property p) = sym same.1 ∙ negated_at k p at in
-        let is : same.0 ≡ negated_property p = cc both in
-        let f = erased_formula (negated p.formula) in
-        let of_negated : satisfies negations n.formula ≡ protocol_meaning.satisfies (erase (negated_protocol protocol)) f =
-        same.2.satisfied ∙ ap (λ (x : protocol_form.PropertyForm). protocol_meaning.satisfies (erase (negated_protocol protocol)) (erased_formula x.formula)) is in
-        let of_protocol : protocol_meaning.satisfies (erase (negated_protocol protocol)) f ≡ protocol_meaning.satisfies (erase protocol) f =
-        ap (λ (m : Protocol). protocol_meaning.satisfies m f) (erased protocol) ∙ kept (erase protocol) f in
-        sym of_protocol ∙ (sym of_negated ∙ truth)
-
-    pub found_open : (asked : AskedOutcome) (a : Answer) (finding : Finding) → asked.outcome ≡ outcome.Answered a → a.truth ≡ false → 0 < a.cut → IsOutcomeAt model asked
-        → IsDecisionAt negations asked.place a finding → IsFound protocol model (record { place = asked.place; finding = finding })
-    found_open asked a (Refused excess) is truth cut at (n, there, large) =
-        found_at asked (Refused excess) at (λ p q stands same answered. inr (negations, are_for, (n, there, large)))
-    found_open asked a (Decided True b) is truth cut at (n, there, decided) = absurd decided
-    found_open asked a (Decided False b) is truth cut at (n, there, decided) = found_at asked (Decided False b) at (λ p q stands same answered.
-        let answer : IsPropertyAnswer model q a = subst (IsOutcome model q) is answered in
-        subst (λ (x : Answer). IsFinding protocol p model q asked.place (Decided False x)) (sym decided.0)
-        ((told_truth p q a false same answer truth, inr (told_negation asked.place p n true stands there decided.1)), answer))
-    found_open asked a (Decided Unknown b) is truth cut at (n, there, decided) = found_at asked (Decided Unknown b) at (λ p q stands same answered.
-        let answer : IsPropertyAnswer model q a = subst (IsOutcome model q) is answered in
-        subst (λ (x : Answer). IsFinding protocol p model q asked.place (Decided Unknown x)) (sym decided.0)
-        ((told_truth p q a false same answer truth, told_negation asked.place p n false stands there decided.1, cut), answer))
-
-    -- a property of the model has a negation at its place
-    pub negation_within : (k : ℕ) (q : PropertyForm) → slice_get model.properties k ≡ Some q → k < length negations.properties
-    negation_within k q at =
-        let same = same_at protocol model protocol.properties model.properties k q is_for.solved.properties at in
-        let there = solved_at (negated_protocol protocol) negations (negated_protocol protocol).properties negations.properties k (negated_property same.0)
-        are_for.solved.properties (negated_at k same.0 same.1) in
-        slice_get_within negations.properties k there.0 there.1
-
--- ---- the negations of the protocol that bytes say
+pub same_lengths : (P : ProtocolForm) (m : ModelForm) (ps : List protocol_form.PropertyForm) (qs : List PropertyForm) → AreSameProperties P m ps qs → length ps ≡ length qs
+same_lengths P m [] [] same = refl
+same_lengths P m [] (x ∷ qs) same = absurd same
+same_lengths P m (p ∷ ps) [] same = absurd same
+same_lengths P m (p ∷ ps) (x ∷ qs) same = ap suc (same_lengths P m ps qs same.1)
 
 -- what the bytes say is one protocol
 same_reading : (bytes : List ℕ) (p q : ProtocolForm) → IsTheReading bytes p → IsTheReading bytes q → q ≡ p
 same_reading bytes p q of_p of_q = of_p.only _ _ q of_q.reading
 
-pub negations_of : (bytes : List ℕ) (protocol : ProtocolForm) → IsTheReading bytes protocol → (o : Option SolvedModel) → IfSome o (IsNegatedModelOf bytes) → AreNegations protocol o
-negations_of bytes protocol read None none = tt
-negations_of bytes protocol read (Some solved) is =
+-- ---- negations
+
+-- the model of the negations satisfies a property exactly where the protocol satisfies that property's negation
+module _ (erased : NegationsErase) (kept : SatisfactionIsKept) (protocol : ProtocolForm) (negations : ModelForm) (are_for : IsModelFor (negated_protocol protocol) negations) where
+  negated_at : (k : ℕ) (p : protocol_form.PropertyForm) → slice_get protocol.properties k ≡ Some p
+      → slice_get (negated_protocol protocol).properties k ≡ Some (negated_property p)
+  negated_at k p at = slice_get-map negated_property protocol.properties k ∙ ap (option_map negated_property) at
+
+  told_negation : (k : ℕ) (p : protocol_form.PropertyForm) (n : PropertyForm) → slice_get protocol.properties k ≡ Some p
+      → slice_get negations.properties k ≡ Some n → satisfies negations n.formula ≡ protocol_satisfies protocol (negated p.formula)
+  told_negation k p n at there =
+      let same = same_at (negated_protocol protocol) negations (negated_protocol protocol).properties negations.properties k n are_for.solved.properties there in
+      let both : Some same.0 ≡ Some (negated_property p) = sym same.1 ∙ negated_at k p at in
+      let is : same.0 ≡ negated_property p = cc both in
+      let f = erased_formula (negated p.formula) in
+      let of_negated : satisfies negations n.formula ≡ protocol_meaning.satisfies (erase (negated_protocol protocol)) f =
+      same.2.satisfied ∙ ap (λ (x : protocol_form.PropertyForm). protocol_meaning.satisfies (erase (negated_protocol protocol)) (erased_formula x.formula)) is in
+      let of_protocol : protocol_meaning.satisfies (erase (negated_protocol protocol)) f ≡ protocol_meaning.satisfies (erase protocol) f =
+      ap (λ (m : Protocol). protocol_meaning.satisfies m f) (erased protocol) ∙ kept (erase protocol) f in
+      of_negated ∙ of_protocol
+
+-- the negations that were read are those of the protocol that the bytes say
+pub same_negations : (bytes : List ℕ) (protocol : ProtocolForm) → IsTheReading bytes protocol → (solved : SolvedModel) → IsNegatedModelOf bytes solved
+    → IsModelFor (negated_protocol protocol) (model_form solved.typed.model)
+same_negations bytes protocol read solved is =
     subst (λ (p : ProtocolForm). IsModelFor (negated_protocol p) (model_form solved.typed.model)) (same_reading bytes protocol is.protocol read is.read) is.told.is_for
+
+-- a property of the model has a negation at its place
+pub negation_within : (protocol : ProtocolForm) (model negations : ModelForm) → IsModelFor protocol model → IsModelFor (negated_protocol protocol) negations
+    → (k : ℕ) → k < length model.properties → k < length negations.properties
+negation_within protocol model negations is_for are_for k within =
+    let some = some_at model.properties k within in
+    let same = same_at protocol model protocol.properties model.properties k some.0 is_for.solved.properties some.1 in
+    let negated : slice_get (negated_protocol protocol).properties k ≡ Some (negated_property same.0) =
+    slice_get-map negated_property protocol.properties k ∙ ap (option_map negated_property) same.1 in
+    let there = solved_at (negated_protocol protocol) negations (negated_protocol protocol).properties negations.properties k (negated_property same.0) are_for.solved.properties negated in
+    slice_get_within negations.properties k there.0 there.1
+
+-- the module is that of the negation of the property p at the place
+pub record HasNegation (protocol : ProtocolForm) (place : ℕ) (p : protocol_form.PropertyForm) (compiled : PropertyModule) : Type 0 where
+  pub model : ModelForm
+  pub is_for : IsModelFor (negated_protocol protocol) model
+  pub negation : PropertyForm
+  pub stands : slice_get model.properties place ≡ Some negation
+  pub of_negation : IsPropertyModule model negation compiled
+  pub says : satisfies model negation.formula ≡ protocol_satisfies protocol (negated p.formula)
+
+pub has_negation : NegationsErase → SatisfactionIsKept → (bytes : List ℕ) (protocol : ProtocolForm) → IsTheReading bytes protocol → (asked : AskedModule) → IsNegationAt bytes asked
+    → (place : ℕ) → asked.place ≡ place → (p : protocol_form.PropertyForm) → slice_get protocol.properties place ≡ Some p → HasNegation protocol place p asked.compiled
+has_negation erased kept bytes protocol read asked (other, other_read, (model, other_for, at)) place here p stands =
+    let is_for : IsModelFor (negated_protocol protocol) model =
+    subst (λ (x : ProtocolForm). IsModelFor (negated_protocol x) model) (same_reading bytes protocol other read other_read) other_for in
+    let there : slice_get model.properties place ≡ Some at.property = subst (λ (k : ℕ). slice_get model.properties k ≡ Some at.property) here at.stands in
+    record {
+      model = model;
+      is_for = is_for;
+      negation = at.property;
+      stands = there;
+      of_negation = at.compiled;
+      says = told_negation erased kept protocol model is_for place p at.property stands there;
+    }
+
+-- ---- what is found
+
+-- what the negation decides: it is satisfied, or it isn't
+pub decides_false : (m : ModelForm) (a second : Answer) (o : Outcome) → o ≡ outcome.Answered second → second.truth ≡ true
+    → (q : PropertyForm) → IsOutcome m q o → IsDecision m q a (Decided False a)
+decides_false m a second o is truth q h = let answered : IsPropertyAnswer m q second = subst (IsOutcome m q) is h in (refl, sym answered.exact ∙ truth)
+
+pub decides_unknown : (m : ModelForm) (a second : Answer) (o : Outcome) → o ≡ outcome.Answered second → second.truth ≡ false
+    → (q : PropertyForm) → IsOutcome m q o → IsDecision m q a (Decided Unknown a)
+decides_unknown m a second o is truth q h = let answered : IsPropertyAnswer m q second = subst (IsOutcome m q) is h in (refl, sym answered.exact ∙ truth)
+
+-- what holds of a property that has the module
+abbrev pub OfModule : PropertyModule → (ModelForm → PropertyForm → Type 0) → Type 0
+OfModule compiled P = (m : ModelForm) (q : PropertyForm) → IsPropertyModule m q compiled → P m q
+
+-- what holds of an answer that is known
+pub of_known : (P : Bool → Type 0) (o : Option Bool) (x b : Bool) → o ≡ Some x → x ≡ b → IfSome o P → P b
+of_known P o x b is same h = subst P same (subst (λ (y : Option Bool). IfSome y P) is h)
+
+module _ (counts : Bool) (protocol : ProtocolForm) (model : ModelForm) (is_for : IsModelFor protocol model) (place : ℕ) (q : PropertyForm) (at : slice_get model.properties place ≡ Some q) where
+  pub asked_here : (p : protocol_form.PropertyForm) × (slice_get protocol.properties place ≡ Some p) × IsSameProperty protocol model p q
+  asked_here = same_at protocol model protocol.properties model.properties place q is_for.solved.properties at
+
+  found_by : (finding : Finding)
+      → ((p : protocol_form.PropertyForm) → slice_get protocol.properties place ≡ Some p → IsSameProperty protocol model p q
+      → IsFinding counts protocol p model q place finding)
+      → IsFound counts protocol model (record { place = place; finding = finding })
+  found_by finding h = record {
+    asked = asked_here.0;
+    stands = asked_here.1;
+    solved = q;
+    in_model = at;
+    finding = h asked_here.0 asked_here.1 asked_here.2;
+  }
+
+  -- the protocol satisfies the property exactly where the model does
+  told_truth : (p : protocol_form.PropertyForm) (b : Bool) → IsSameProperty protocol model p q → b ≡ satisfies model q.formula
+      → protocol_satisfies protocol p.formula ≡ b
+  told_truth p b same truth = sym same.satisfied ∙ sym truth
+
+  -- ---- by what becomes of its text
+
+  pub found_large : (excess : PropertyExcess) → IsTooLargeProperty model q excess → IsFound counts protocol model (record { place = place; finding = Refused excess })
+  found_large excess large = found_by (Refused excess) (λ p stands same. inl large)
+
+  module _ (a : Answer) (answered : IsPropertyAnswer model q a) where
+    told_answer : (p : protocol_form.PropertyForm) (b : Bool) → IsSameProperty protocol model p q → a.truth ≡ b → protocol_satisfies protocol p.formula ≡ b
+    told_answer p b same truth = told_truth p b same (sym truth ∙ answered.exact)
+
+    pub found_true : a.truth ≡ true → IsFound counts protocol model (record { place = place; finding = Decided True a })
+    found_true truth = found_by (Decided True a) (λ p stands same. (told_answer p true same truth, answered))
+
+    pub found_false : a.truth ≡ false → a.cut ≡ 0 → IsFound counts protocol model (record { place = place; finding = Decided False a })
+    found_false truth cut = found_by (Decided False a) (λ p stands same. ((told_answer p false same truth, inl cut), answered))
+
+    module _ (erased : NegationsErase) (kept : SatisfactionIsKept) (bytes : List ℕ) (read : IsTheReading bytes protocol) (negation : AskedModule) (is_negation : IsNegationAt bytes negation)
+        (here : negation.place ≡ place) (truth : a.truth ≡ false) (cut : 0 < a.cut) where
+      negation_here : (p : protocol_form.PropertyForm) → slice_get protocol.properties place ≡ Some p → HasNegation protocol place p negation.compiled
+      negation_here p stands = has_negation erased kept bytes protocol read negation is_negation place here p stands
+
+      -- by what the negation decides
+      pub found_open : (finding : Finding) → OfModule negation.compiled (λ m x. IsDecision m x a finding)
+          → IsFound counts protocol model (record { place = place; finding = finding })
+      found_open (Refused excess) decides = found_by (Refused excess) (λ p stands same.
+          let n = negation_here p stands in
+          inr (n.model, n.is_for, (n.negation, n.stands, decides n.model n.negation n.of_negation)))
+      found_open (Shown b) decides = let n = negation_here asked_here.0 asked_here.1 in absurd (decides n.model n.negation n.of_negation)
+      found_open (Decided True b) decides = let n = negation_here asked_here.0 asked_here.1 in absurd (decides n.model n.negation n.of_negation)
+      found_open (Decided False b) decides = found_by (Decided False b) (λ p stands same.
+          let n = negation_here p stands in
+          let decided = decides n.model n.negation n.of_negation in
+          subst (λ (x : Answer). IsFinding counts protocol p model q place (Decided False x)) (sym decided.0)
+          ((told_answer p false same truth, inr (sym n.says ∙ decided.1)), answered))
+      found_open (Decided Unknown b) decides = found_by (Decided Unknown b) (λ p stands same.
+          let n = negation_here p stands in
+          let decided = decides n.model n.negation n.of_negation in
+          subst (λ (x : Answer). IsFinding counts protocol p model q place (Decided Unknown x)) (sym decided.0)
+          ((told_answer p false same truth, sym n.says ∙ decided.1, cut), answered))
+
+  -- ---- by what is shown
+
+  pub shown_true : true ≡ satisfies model q.formula → IsShownAt protocol place true
+  shown_true truth = (asked_here.0, asked_here.1, told_truth asked_here.0 true asked_here.2 truth)
+
+  pub shown_false : (bytes : List ℕ) → IsTheReading bytes protocol → IsDeniedAt bytes place → false ≡ satisfies model q.formula → IsShownAt protocol place false
+  shown_false bytes read denied truth =
+      (asked_here.0, asked_here.1, (told_truth asked_here.0 false asked_here.2 truth, denied protocol read asked_here.0 asked_here.1))
+
+  pub found_shown : (b : Bool) → counts ≡ false → IsShownAt protocol place b → IsFound counts protocol model (record { place = place; finding = Shown b })
+  found_shown b uncounted (x, there, shown) = found_by (Shown b) (λ p stands same.
+      let both : Some x ≡ Some p = sym there ∙ stands in
+      let is : x ≡ p = cc both in
+      (uncounted, subst (λ (y : protocol_form.PropertyForm). IsShown protocol y.formula b) is shown))
+
+-- the negation is satisfied
+pub denied_at : NegationsErase → SatisfactionIsKept → (bytes : List ℕ) (negation : AskedModule) → IsNegationAt bytes negation → (place : ℕ) → negation.place ≡ place
+    → OfModule negation.compiled (λ m q. true ≡ satisfies m q.formula) → IsDeniedAt bytes place
+denied_at erased kept bytes negation is_negation place here truth = λ protocol read p stands.
+    let n = has_negation erased kept bytes protocol read negation is_negation place here p stands in
+    sym n.says ∙ sym (truth n.model n.negation n.of_negation)
+
+-- ---- what is told of it
+
+-- the verdict that is found is one
+pub found_verdict : (protocol : ProtocolForm) (model : ModelForm) (place : ℕ) (p : protocol_form.PropertyForm) (q : PropertyForm)
+    → slice_get protocol.properties place ≡ Some p → slice_get model.properties place ≡ Some q → (finding : Finding) → IsFinding false protocol p model q place finding
+    → (v : Verdict) → verdict_in finding ≡ Ok v → IsVerdict protocol p.formula model q v
+found_verdict protocol model place p q stands at (Decided True a) h v is = let same : True ≡ v = cc is in subst (IsVerdict protocol p.formula model q) same h.0
+found_verdict protocol model place p q stands at (Decided Unknown a) h v is =
+    let same : Unknown ≡ v = cc is in subst (IsVerdict protocol p.formula model q) same (h.0.0, h.0.1, (a, h.1, h.0.2))
+found_verdict protocol model place p q stands at (Decided False a) h v is =
+    let same : False ≡ v = cc is in
+    subst (IsVerdict protocol p.formula model q) same (h.0.0, elim h.0.1 [ inl uncut ↦ inr (a, h.1, uncut) | inr denied ↦ inl denied ])
+found_verdict protocol model place p q stands at (Shown true) h v is = let same : True ≡ v = cc is in subst (IsVerdict protocol p.formula model q) same h.1
+found_verdict protocol model place p q stands at (Shown false) h v is =
+    let same : False ≡ v = cc is in subst (IsVerdict protocol p.formula model q) same (h.1.0, inl h.1.1)
+found_verdict protocol model place p q stands at (Refused excess) h v is = absurd (cc is)
+
+-- what is found of the properties at a place
+pub finding_at : (counts : Bool) (protocol : ProtocolForm) (model : ModelForm) (place : ℕ) (finding : Finding) → IsFound counts protocol model (record { place = place; finding = finding })
+    → (p : protocol_form.PropertyForm) (q : PropertyForm) → slice_get protocol.properties place ≡ Some p → slice_get model.properties place ≡ Some q
+    → IsFinding counts protocol p model q place finding
+finding_at counts protocol model place finding found p q stands at =
+    let both : Some found.asked ≡ Some p = sym found.stands ∙ stands in
+    let is : found.asked ≡ p = cc both in
+    let both_solved : Some found.solved ≡ Some q = sym found.in_model ∙ at in
+    let is_solved : found.solved ≡ q = cc both_solved in
+    subst (λ (x : protocol_form.PropertyForm). IsFinding counts protocol x model q place finding) is
+    (subst (λ (x : PropertyForm). IsFinding counts protocol found.asked model x place finding) is_solved found.finding)
+
+-- what is too large for one is a fault of the property
+pub found_unexplained : (bytes : List ℕ) (model : ModelForm) (said : IsModelOf bytes model) (place : ℕ) (q : PropertyForm) → slice_get model.properties place ≡ Some q
+    → (finding : Finding) → IsFound false said.protocol model (record { place = place; finding = finding }) → (excess : PropertyExcess) → verdict_in finding ≡ Err excess
+    → (f : SolveFault) → f ≡ solve_fault.Property (record { excess = excess; place = q.name.place }) → IsUnexplained bytes f
+found_unexplained bytes model said place q at (Decided v a) found excess is f same = absurd (cc is)
+found_unexplained bytes model said place q at (Shown b) found excess is f same = absurd (cc is)
+found_unexplained bytes model said place q at (Refused other) found excess is f same =
+    let is_excess : other ≡ excess = cc is in
+    let large = (finding_at false said.protocol model place (Refused other) found found.asked q found.stands at) in
+    subst (IsUnexplained bytes) (sym same) (record {
+      model = model;
+      said = said;
+      index = place;
+      property = q;
+      asked = at;
+      stands = refl;
+      large = subst (λ (x : PropertyExcess). IsTooLargeProperty model q x ⊎ IsTooLargeNegation said.protocol place x) is_excess large;
+    })
 
 -- ---- places
 
@@ -151,45 +290,8 @@ pub places_within : (names : List (List ℕ)) (ps : List PropertyForm) (bound : 
 places_within names ps bound long = asked_within names ps 0 bound (omega (arith, long))
 
 -- what is found stands at a place of a property
-pub found_within : (protocol : ProtocolForm) (model : ModelForm) (bound : ℕ) → length model.properties ≡ bound → (fs : List Found) → All (IsFound protocol model) fs
+pub found_within : (counts : Bool) (protocol : ProtocolForm) (model : ModelForm) (bound : ℕ) → length model.properties ≡ bound → (fs : List Found) → All (IsFound counts protocol model) fs
     → All (λ found. found.place < bound) fs
-found_within protocol model bound long fs all =
-    All-weaker (IsFound protocol model) (λ found. found.place < bound)
+found_within counts protocol model bound long fs all =
+    All-weaker (IsFound counts protocol model) (λ found. found.place < bound)
     (λ found is. let within = slice_get_within model.properties found.place is.solved is.in_model in omega (arith, within, long)) fs all
-
--- ---- what a negation decides
-
--- by what becomes of its text
-pub decided_at : (negations : ModelForm) (asked : AskedText) (place : ℕ) (a : Answer) (o : Outcome) (finding : Finding) → asked.place ≡ place → IsTextAt negations asked
-    → ((m : ModelForm) (q : PropertyForm) → IsPropertyText m q asked.text → IsOutcome m q o) → ((q : PropertyForm) → IsOutcome negations q o → IsDecision negations q a finding)
-    → IsDecisionAt negations place a finding
-decided_at negations asked place a o finding here at becomes decides =
-    (at.property, subst (λ (k : ℕ). slice_get negations.properties k ≡ Some at.property) here at.stands, decides at.property (becomes negations at.property at.text))
-
--- it is satisfied, or it isn't
-decides_false : (m : ModelForm) (a second : Answer) (o : Outcome) → o ≡ outcome.Answered second → second.truth ≡ true
-    → (q : PropertyForm) → IsOutcome m q o → IsDecision m q a (Decided False a)
-decides_false m a second o is truth q h = let answered : IsPropertyAnswer m q second = subst (IsOutcome m q) is h in (refl, sym answered.exact ∙ truth)
-
-decides_unknown : (m : ModelForm) (a second : Answer) (o : Outcome) → o ≡ outcome.Answered second → second.truth ≡ false
-    → (q : PropertyForm) → IsOutcome m q o → IsDecision m q a (Decided Unknown a)
-decides_unknown m a second o is truth q h = let answered : IsPropertyAnswer m q second = subst (IsOutcome m q) is h in (refl, sym answered.exact ∙ truth)
-
-pub decided_false : (m : ModelForm) (asked : AskedText) (place : ℕ) (a second : Answer) (o : Outcome) → asked.place ≡ place → IsTextAt m asked
-    → ((x : ModelForm) (q : PropertyForm) → IsPropertyText x q asked.text → IsOutcome x q o) → o ≡ outcome.Answered second → second.truth ≡ true
-    → IsDecisionAt m place a (Decided False a)
-decided_false m asked place a second o here at becomes is truth =
-    decided_at m asked place a o (Decided False a) here at becomes (decides_false m a second o is truth)
-
-pub decided_unknown : (m : ModelForm) (asked : AskedText) (place : ℕ) (a second : Answer) (o : Outcome) → asked.place ≡ place → IsTextAt m asked
-    → ((x : ModelForm) (q : PropertyForm) → IsPropertyText x q asked.text → IsOutcome x q o) → o ≡ outcome.Answered second → second.truth ≡ false
-    → IsDecisionAt m place a (Decided Unknown a)
-decided_unknown m asked place a second o here at becomes is truth =
-    decided_at m asked place a o (Decided Unknown a) here at becomes (decides_unknown m a second o is truth)
-
--- or it is too large
-pub decided_large : (m : ModelForm) (asked : AskedText) (place : ℕ) (a : Answer) (excess : PropertyExcess) (o : Outcome) → asked.place ≡ place → IsTextAt m asked
-    → ((x : ModelForm) (q : PropertyForm) → IsPropertyText x q asked.text → IsOutcome x q o) → o ≡ outcome.TooLarge excess
-    → IsDecisionAt m place a (Refused excess)
-decided_large m asked place a excess o here at becomes is =
-    decided_at m asked place a o (Refused excess) here at becomes (λ q h. subst (IsOutcome m q) is h)

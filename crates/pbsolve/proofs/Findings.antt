@@ -1,16 +1,15 @@
 -- The steps of loops over what is found of properties.
-use Rattle.std.proofs.Common.{◌≡◌, ◌∙◌, ◌++◌, ◌+◌, ◌<◌, ◌||◌, ℕ, Bool, true, false, List, [], ◌∷◌, Option, Some, None, length, map, drop, get_or, sym, ap, subst, string_bytes}
-use Rattle.std.specs.Prelude.{IfNone, IfOk, Result, Ok, Err, option_map}
+use Rattle.std.proofs.Common.{◌≡◌, ◌∙◌, ◌++◌, ◌+◌, ◌<◌, ℕ, Bool, List, [], ◌∷◌, Option, Some, length, map, drop, get_or, sym, ap, subst, string_bytes}
+use Rattle.std.specs.Prelude.{IfOk, Result, Ok, Err, option_map}
 use Rattle.std.specs.Result.{IsErrAnd}
 use Rattle.std.specs.Io.KnownBytes.{Appends}
 use Rattle.std.specs.Option.{option_map_or}
-use Rattle.std.specs.List.{All, list_any, slice_get}
+use Rattle.std.specs.List.{All, slice_get}
 use Rattle.std.proofs.lemmas.List.{append_assoc, drop_more, map-append}
 use Rattle.std.proofs.lemmas.List.Elements.{All-get_or}
 use Rattle.std.proofs.lemmas.Option.{slice_get-map, slice_get-get_or}
 use Rattle.pb_model_tree.specs.declared.model.Property.{Property}
 use Rattle.pb_model_tree.specs.Form.{ModelForm, PropertyForm, property_form}
-use Rattle.pb_protocol_tree.specs.Form.{ProtocolForm}
 use Rattle.pb_errors.specs.OrMemory.{IfRefused}
 use Rattle.pb_errors.specs.declared.or_memory.OrMemory.{OrMemory}
 use Rattle.pb_errors.specs.declared.or_memory.OrMemory.TheVariants as or_memory
@@ -23,10 +22,11 @@ use Rattle.pb_module_commands.specs.Delivery.{Delivers, is_failed_write}
 use Rattle.pb_command_line.specs.declared.options.Checking.{Checking}
 use Rattle.pb_model_properties.specs.Said.{IsModelOf}
 use Rattle.pbsolve.specs.declared.status.Status.{Status}
-use Rattle.pbsolve.specs.Outputs.{OutputsVerdicts}
+use Rattle.pbsolve.specs.Outputs.{OutputsVerdicts, lines_of_steps}
+use Rattle.pbsolve.specs.declared.step_finding.StepFinding.{StepFinding}
+use Rattle.pbsolve.specs.ReachedSteps.{AreStepsFoundWhere, status_of_checked}
 use Rattle.pbsolve.specs.declared.finding.Found.{Found}
-use Rattle.pbsolve.specs.Outcomes.{IsUntypedNegation}
-use Rattle.pbsolve.specs.Models.{AreFound, finding_lines, found_lines, name_at, status_of_findings}
+use Rattle.pbsolve.specs.Models.{AreFound, IsUnnegated, finding_lines, found_lines, name_at}
 
 -- what holds of all holds of the one at a place
 pub at_place : {X : Type 0} (P : X → Type 0) (xs : List X) (k : ℕ) (x d : X) → k < length xs → x ≡ get_or xs k d → All P xs → P x
@@ -42,17 +42,6 @@ places_step f g ys k y d xs new x below is before pushed same =
     let rest = map g (drop (k + 1) ys) in
     ap (λ zs. map f zs ++ rest) pushed ∙ ap (λ l. l ++ rest) (map-append f xs (x ∷ [])) ∙ append_assoc (map f xs) (f x ∷ []) rest
     ∙ ap (λ z. map f xs ++ z ∷ rest) same ∙ ap (λ zs. map f xs ++ map g zs) (next_first ys k y d below is) ∙ before
-
-none_behind : (a b : Bool) → (a || b) ≡ false → b ≡ false
-none_behind false b h = h
-none_behind true b h = absurd (cc h)
-
--- where none of those left needs a thing, none of those behind the next does
-pub needed_step : {S Y : Type 0} (p : Y → Bool) (o : Option S) (ys : List Y) (k : ℕ) (y d : Y) → k < length ys → y ≡ get_or ys k d
-    → IfNone o (list_any p (drop k ys) ≡ false) → IfNone o (list_any p (drop (k + 1) ys) ≡ false)
-needed_step p (Some s) ys k y d below is h = h
-needed_step p None ys k y d below is h =
-    none_behind (p y) (list_any p (drop (k + 1) ys)) (ap (list_any p) (next_first ys k y d below is) ∙ h)
 
 -- the lines of one more finding
 pub lines_step : (counts : Bool) (model : ModelForm) (fs : List Found) (k : ℕ) (f d : Found) (old new : List ℕ) → k < length fs → f ≡ get_or fs k d
@@ -76,18 +65,18 @@ pub all_found : {T E : Type 0} (A B C : T → Type 0) → ((v : T) → A v → B
 all_found A B C both (Ok v) a b = both v a b
 all_found A B C both (Err e) a b = tt
 
--- what is refused of a negation's text isn't want of a property
-pub names_no_property : {T : Type 0} (protocol : ProtocolForm) (r : Result T (OrMemory SolveFault)) → r ≡ Err (or_memory.Refused solve_fault.NoProperty)
-    → IfRefused r (IsUntypedNegation protocol) → ⊥
-names_no_property protocol r is h = let refused = subst (λ x. IfRefused x (IsUntypedNegation protocol)) is h in refused.2
+-- what is refused of a negation isn't want of a property
+pub names_no_property : {T : Type 0} (bytes : List ℕ) (r : Result T (OrMemory SolveFault)) → r ≡ Err (or_memory.Refused solve_fault.NoProperty)
+    → IfRefused r (IsUnnegated bytes) → ⊥
+names_no_property bytes r is h = subst (λ x. IfRefused x (IsUnnegated bytes)) is h
 
 -- ---- what is written
 
 -- the lines of what is found
-pub verdicts_told : (options : Checking) (bytes : List ℕ) (S : Status → Type 0) (text : List ℕ) (model : ModelForm) (findings : List Found) (said : IsModelOf bytes model)
-    → AreFound said.protocol model (map string_bytes options.properties.items) findings → S (status_of_findings options.status findings)
-    → text ≡ found_lines options.counts model findings → (P : List ℕ → Type 0) → P text → OutputsVerdicts options bytes S P
-verdicts_told options bytes S text model findings said found status same P h = (model, findings, said, found, status, subst P same h)
+pub verdicts_told : (options : Checking) (bytes : List ℕ) (S : Status → Type 0) (text : List ℕ) (model : ModelForm) (findings : List Found) (steps : List StepFinding) (said : IsModelOf bytes model)
+    → AreFound options.counts said.protocol model (map string_bytes options.properties.items) findings → AreStepsFoundWhere options.counts model steps → S (status_of_checked options.status findings steps)
+    → text ≡ found_lines options.counts model findings ++ lines_of_steps said steps → (P : List ℕ → Type 0) → P text → OutputsVerdicts options bytes S P
+verdicts_told options bytes S text model findings steps said found taken status same P h = (model, findings, steps, said, found, taken, status, subst P same h)
 
 -- there is no status where there is an error
 pub no_status : {T E : Type 0} (P : T → Type 0) (Q : E → Type 0) (r : Result T E) → IsErrAnd r Q → IfOk r P

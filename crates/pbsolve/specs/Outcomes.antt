@@ -1,14 +1,20 @@
--- What becomes of the texts of properties.
-use Rattle.std.specs.Prelude.{◌≡◌, ◌&&◌, ⊤, not, nat_lt, ℕ, Bool, true, false, Option, Some, None}
+-- What becomes of the texts of properties, and of those of their negations.
+use Rattle.std.specs.Prelude.{◌≡◌, ⊤, ℕ, Bool, true, false, List, Option, Some, None, IfSome}
+use Rattle.std.specs.Prelude.{Result, Ok, Err}
 use Rattle.std.specs.List.{slice_get}
-use Rattle.pb_text_tree.specs.Form.{spec_form}
-use Rattle.pb_model_tree.specs.Form.{ModelForm, PropertyForm, model_form}
-use Rattle.pb_negation.specs.Negated.{negated_protocol}
+use Rattle.pb_text_tree.specs.Form.{SpecForm, spec_form}
+use Rattle.pb_model_tree.specs.Form.{ModelForm, PropertyForm}
+use Rattle.pb_negation.specs.Negated.{negated, negated_protocol}
+use Rattle.pb_protocol_tree.specs.Form as protocol_form
 use Rattle.pb_protocol_tree.specs.Form.{ProtocolForm}
 use Rattle.pb_model_properties.specs.declared.solved.SolvedModel.{SolvedModel}
+use Rattle.pb_model_properties.specs.declared.verdicts.Verdict.{Verdict}
 use Rattle.pb_model_properties.specs.declared.verdicts.Verdict.TheVariants.{True, False, Unknown}
-use Rattle.pb_model_properties.specs.Said.{satisfies, IsModelFor, IsTextOf}
+use Rattle.pb_model_properties.specs.Negations.{IsNegatedModelOf}
+use Rattle.pb_model_properties.specs.Said.{protocol_satisfies, satisfies, IsModelFor}
+use Rattle.pb_model_properties.specs.Said.{IsTextOf, IsTheReading}
 use Rattle.pb_report.specs.declared.answer.Answer.{Answer}
+use Rattle.pb_report.specs.ModuleEvidence.{IsExplanation}
 use Rattle.pb_errors.specs.declared.or_memory.OrMemory.{OrMemory}
 use Rattle.pb_errors.specs.declared.or_memory.OrMemory.TheVariants as or_memory
 use Rattle.pb_typing_declarations.specs.declared.fault.TypingRule.{TypingRule}
@@ -16,19 +22,24 @@ use Rattle.pb_typing_declarations.specs.declared.fault.TypingRule.TheVariants as
 use Rattle.pb_model_properties.specs.declared.error.ModelFault.{ModelFault}
 use Rattle.pb_model_properties.specs.declared.error.ModelFault.TheVariants as model_fault
 use Rattle.pb_faults.specs.declared.property_fault.PropertyExcess.{PropertyExcess}
-use Rattle.pb_faults.specs.declared.property_fault.PropertyExcess.TheVariants.{Code, Game}
+use Rattle.pb_faults.specs.declared.property_fault.PropertyExcess.TheVariants.{Code}
 use Rattle.pb_faults.specs.declared.solve_fault.SolveFault.{SolveFault}
 use Rattle.pb_faults.specs.declared.solve_fault.SolveFault.TheVariants as solve_fault
 use Rattle.pbsolve.specs.declared.finding.Finding.{Finding}
-use Rattle.pbsolve.specs.declared.finding.Finding.TheVariants.{Decided, Refused}
+use Rattle.pbsolve.specs.declared.finding.Finding.TheVariants.{Decided, Refused, Shown}
+use Rattle.pbsolve.specs.declared.explained.ExplainedText.{ExplainedText}
 use Rattle.pbsolve.specs.declared.outcome.AskedOutcome.{AskedOutcome}
 use Rattle.pbsolve.specs.declared.outcome.Outcome.{Outcome}
 use Rattle.pbsolve.specs.declared.outcome.Outcome.TheVariants as outcome
+use Rattle.pbsolve.specs.declared.property_module.AskedModule.{AskedModule}
+use Rattle.pbsolve.specs.declared.property_module.PropertyModule.{PropertyModule}
+use Rattle.pbsolve.specs.declared.property_module.PropertyModule.TheVariants as property_module
 use Rattle.pbsolve.specs.declared.property_text.AskedText.{AskedText}
 use Rattle.pbsolve.specs.declared.property_text.PropertyText.{PropertyText}
 use Rattle.pbsolve.specs.declared.property_text.PropertyText.TheVariants as property_text
-use Rattle.pbsolve.specs.Models.{HasIllTyped, IsOverTextLimit, IsPropertyAnswer}
-use Rattle.pbsolve.specs.Models.{IsTooLargeProperty}
+use Rattle.pbsolve.specs.Answers.{IsModuleOfForm}
+use Rattle.pbsolve.specs.Models.{HasIllTyped, IsOverTextLimit, IsPropertyAnswer, IsShown}
+use Rattle.pbsolve.specs.Models.{IsTooLargeProperty, verdict_of}
 
 -- ---- texts
 
@@ -73,6 +84,20 @@ abbrev pub IsUntyped : ModelForm → SolveFault → Type 0
 IsUntyped model (solve_fault.Typing fault) = HasIllTyped model fault
 IsUntyped model fault = ⊥
 
+-- ---- modules
+
+-- the module of the property's text, or what of the text is too large
+abbrev pub IsPropertyModule : ModelForm → PropertyForm → PropertyModule → Type 0
+IsPropertyModule model p (property_module.Verified m) =
+    (text : SpecForm) × IsTextOf model p text × IsModuleOfForm text m
+IsPropertyModule model p (property_module.TooLarge excess) = IsTooLargeProperty model p excess
+
+-- that of the property at its place
+pub record IsModuleAt (model : ModelForm) (asked : AskedModule) : Type 0 where
+  pub property : PropertyForm
+  pub stands : slice_get model.properties asked.place ≡ Some property
+  pub compiled : IsPropertyModule model property asked.compiled
+
 -- ---- outcomes
 
 abbrev pub IsOutcome : ModelForm → PropertyForm → Outcome → Type 0
@@ -85,10 +110,9 @@ pub record IsOutcomeAt (model : ModelForm) (asked : AskedOutcome) : Type 0 where
   pub stands : slice_get model.properties asked.place ≡ Some property
   pub outcome : IsOutcome model property asked.outcome
 
--- what of a property is too large, by the fault of its text
+-- what of a property is too large, by the fault of the code of its text
 abbrev pub excess_of : SolveFault → Option PropertyExcess
 excess_of (solve_fault.Limit excess) = Some (Code excess.limit)
-excess_of solve_fault.TooManyVertices = Some Game
 excess_of fault = None
 
 -- something of the property is too large
@@ -96,34 +120,59 @@ abbrev pub IsExcess : ModelForm → PropertyForm → Option PropertyExcess → T
 IsExcess model p (Some excess) = IsTooLargeProperty model p excess
 IsExcess model p None = ⊥
 
--- the property isn't satisfied, and calls outside the ranges were met: its negation is asked
-abbrev pub is_open : Outcome → Bool
-is_open (outcome.Answered answer) = not answer.truth && nat_lt 0 answer.cut
-is_open (outcome.TooLarge excess) = false
+-- the verdict that is found, or what is too large for one
+abbrev pub verdict_in : Finding → Result Verdict PropertyExcess
+verdict_in (Decided verdict a) = Ok verdict
+verdict_in (Shown b) = Ok (verdict_of b)
+verdict_in (Refused excess) = Err excess
 
 -- ---- negations
 
--- the model is solved in the place of the negated protocol, where there is one
-abbrev pub AreNegations : ProtocolForm → Option SolvedModel → Type 0
-AreNegations protocol None = ⊤
-AreNegations protocol (Some solved) =
-    IsModelFor (negated_protocol protocol) (model_form solved.typed.model)
+-- the negations of the properties of the protocol that the bytes say, where they were read
+abbrev pub AreNegations : List ℕ → Option SolvedModel → Type 0
+AreNegations bytes negations = IfSome negations (IsNegatedModelOf bytes)
 
--- the text of a negation isn't well typed
-abbrev pub IsUntypedNegation : ProtocolForm → SolveFault → Type 0
-IsUntypedNegation protocol fault =
-    (model : ModelForm) × IsModelFor (negated_protocol protocol) model × IsUntyped model fault
+-- the module of the negation of the property at its place
+abbrev pub IsNegationAt : List ℕ → AskedModule → Type 0
+IsNegationAt bytes asked =
+    (protocol : ProtocolForm) × IsTheReading bytes protocol
+    × ((model : ModelForm) × IsModelFor (negated_protocol protocol) model
+    × IsModuleAt model asked)
 
--- what the negation at a place decides of a property that has this answer
+-- the protocol that the bytes say satisfies the negation of the property at the place
+abbrev pub IsDeniedAt : List ℕ → ℕ → Type 0
+IsDeniedAt bytes place =
+    (protocol : ProtocolForm) → IsTheReading bytes protocol → (p : protocol_form.PropertyForm)
+    → slice_get protocol.properties place ≡ Some p
+    → protocol_satisfies protocol (negated p.formula) ≡ true
+
+-- what is shown of the property at a place
+abbrev pub IsShownAt : ProtocolForm → ℕ → Bool → Type 0
+IsShownAt protocol place b =
+    (p : protocol_form.PropertyForm) × (slice_get protocol.properties place ≡ Some p)
+    × IsShown protocol p.formula b
+
+-- what the negation q decides of a property that has this answer
 abbrev pub IsDecision : ModelForm → PropertyForm → Answer → Finding → Type 0
 IsDecision model q answer (Decided True a) = ⊥
 IsDecision model q answer (Decided False a) =
     (a ≡ answer) × (satisfies model q.formula ≡ true)
 IsDecision model q answer (Decided Unknown a) =
     (a ≡ answer) × (satisfies model q.formula ≡ false)
+IsDecision model q answer (Shown b) = ⊥
 IsDecision model q answer (Refused excess) = IsTooLargeProperty model q excess
 
-abbrev pub IsDecisionAt : ModelForm → ℕ → Answer → Finding → Type 0
-IsDecisionAt model place answer finding =
-    (q : PropertyForm) × (slice_get model.properties place ≡ Some q)
-    × IsDecision model q answer finding
+-- ---- explained texts
+
+-- the text of the property, its module, and an explanation of that module's answer
+pub record IsExplainedText (model : ModelForm) (q : PropertyForm) (explained : ExplainedText)
+    : Type 0 where
+  pub text : IsTextOf model q (spec_form explained.typed.spec)
+  pub of_text : IsModuleOfForm (spec_form explained.typed.spec) explained.verified
+  pub explains : IsExplanation explained.verified explained.explanation
+
+-- those of the property at a place
+abbrev pub IsExplainedAt : ModelForm → ℕ → ExplainedText → Type 0
+IsExplainedAt model place explained =
+    (q : PropertyForm) → slice_get model.properties place ≡ Some q
+    → IsExplainedText model q explained

@@ -1,6 +1,7 @@
 -- What is told of the properties of a model: the verdicts, with the steps that show them.
-use Rattle.std.specs.Prelude.{◌≡◌, ℕ, Bool, true, false, not, ◌||◌, List, [], ◌∷◌, ◌++◌, if◌then◌else◌}
-use Rattle.std.specs.Prelude.{Contains, MatchOption, Option, Some, None}
+use Rattle.std.specs.Prelude.{◌≡◌, ◌⊎◌, ◌<◌, ℕ, Bool, true, false, not, ◌||◌, List, [], ◌∷◌, ◌++◌}
+use Rattle.std.specs.Prelude.{if◌then◌else◌, Contains, MatchOption, Option, Some, None}
+use Rattle.std.specs.List.{slice_get}
 use Rattle.pb_text_tree.specs.Form.{SpecForm}
 use Rattle.pb_sorts.specs.Instance.{Instance}
 use Rattle.pb_trees.specs.Tree.{Tree}
@@ -9,6 +10,9 @@ use Rattle.pb_bytecode.specs.Meaning.{AreTrees, parameters}
 use Rattle.pb_model_tree.specs.Form.{ModelForm, PropertyForm, StepForm}
 use Rattle.pb_model_meaning.specs.Erase.{erase, erased_step}
 use Rattle.pb_model_meaning.specs.Steps.{State, is_state}
+use Rattle.pb_negation.specs.Negated.{negated}
+use Rattle.pb_protocol_tree.specs.Form as protocol_form
+use Rattle.pb_protocol_tree.specs.Form.{ProtocolForm}
 use Rattle.pb_protocol_meaning.specs.Syntax.{StepSet}
 use Rattle.pb_protocol_meaning.specs.Steps.{successors}
 use Rattle.pb_protocol_meaning.specs.Erase as protocol_text
@@ -19,24 +23,25 @@ use Rattle.pb_model_words.specs.States.{says}
 use Rattle.pb_model_words.specs.Vocabulary.{Vocabulary}
 use Rattle.pb_call_places.specs.MadeCalls.{MadeCall, calls_at}
 use Rattle.pb_model_translation.specs.Placed.{placed, every_step_form}
-use Rattle.pb_model_properties.specs.Asked.{IsAskedFor}
+use Rattle.pb_model_properties.specs.Asked.{IsAskedAt}
 use Rattle.pb_model_properties.specs.Made.{said_where}
 use Rattle.pb_model_properties.specs.Refusals.{LacksProperty}
-use Rattle.pb_model_properties.specs.Said.{satisfies, IsModelOf, IsTextOf}
+use Rattle.pb_model_properties.specs.Said.{protocol_satisfies, satisfies, IsModelOf, IsTextOf}
 use Rattle.pb_model_properties.specs.declared.verdicts.Verdict.{Verdict}
 use Rattle.pb_model_properties.specs.declared.verdicts.Verdict.TheVariants as verdict
 use Rattle.pb_model_properties.specs.Verdicts.{verdict_line}
 use Rattle.pb_model_properties.specs.Words.{words_of}
 use Rattle.pb_evidence.specs.declared.Evidence.{Evidence}
 use Rattle.pb_evidence.specs.Evidence.{graph_of}
+use Rattle.pb_report.specs.declared.answer.Answer.{Answer}
 use Rattle.pb_report.specs.Cuts.{cuts_of}
-use Rattle.pb_report.specs.ModuleEvidence.{IsModuleEvidence}
 use Rattle.pb_why.specs.InstanceLines.{instance_lines}
 use Rattle.pb_why.specs.WhyText.{Told, why_lines}
 use Rattle.pb_faults.specs.declared.solve_fault.SolveFault.{SolveFault}
 use Rattle.pb_faults.specs.declared.solve_fault.SolveFault.TheVariants as solve_fault
 use Rattle.pbsolve.specs.Answers.{IsModuleOfForm}
-use Rattle.pbsolve.specs.Models.{IsUnexplained}
+use Rattle.pb_report.specs.ModuleEvidence.{IsModuleEvidence}
+use Rattle.pbsolve.specs.Models.{IsPropertyAnswer, IsUnexplained}
 
 -- Each call of a property's text at a state is a step of the model: that at whose name it stands,
 -- with the call's own values, at which its guard is true, to the state that the call names. Where
@@ -92,55 +97,84 @@ shown_by vocabulary text steps m trees e = record {
 abbrev pub lines_of : Bool → Told → List ℕ
 lines_of instances shown = if instances then instance_lines shown else why_lines shown
 
--- the verdict that is shown
-abbrev pub verdict_of : Bool → Verdict
-verdict_of true = verdict.True
-verdict_of false = verdict.False
+-- The verdict on the property p of the protocol, which is q of the model that is solved in its
+-- place. It is false, and not unknown, where the negation is satisfied, or where no reached
+-- instance of the property's text calls one outside the ranges.
+abbrev pub IsVerdict :
+    ProtocolForm → protocol_form.FormulaForm → ModelForm → PropertyForm → Verdict → Type 0
+IsVerdict protocol f model q verdict.True = protocol_satisfies protocol f ≡ true
+IsVerdict protocol f model q verdict.False =
+    (protocol_satisfies protocol f ≡ false)
+    × ((protocol_satisfies protocol (negated f) ≡ true)
+    ⊎ ((a : Answer) × IsPropertyAnswer model q a × (a.cut ≡ 0)))
+IsVerdict protocol f model q verdict.Unknown =
+    (protocol_satisfies protocol f ≡ false) × (protocol_satisfies protocol (negated f) ≡ false)
+    × ((a : Answer) × IsPropertyAnswer model q a × (0 < a.cut))
 
--- the line of a verdict, and behind it the lines that show it: always, or where it is false
-abbrev pub told_text : Bool → List ℕ → Bool → List ℕ → List ℕ
-told_text always name truth lines =
-    verdict_line name (verdict_of truth) ++ (if always || not truth then lines else [])
+abbrev pub is_true : Verdict → Bool
+is_true verdict.True = true
+is_true verdict.False = false
+is_true verdict.Unknown = false
 
--- The verdict on a property is told, which is true exactly where the model satisfies it. What shows
--- it, by lines of instances or in these words, is evidence of the module of the property's text.
-pub record IsTold (instances always : Bool) (words : Vocabulary) (model : ModelForm)
-    (p : PropertyForm) (told : List ℕ) : Type 0 where
+-- the line of a verdict, and behind it the lines that show it: always, or where it isn't true
+abbrev pub told_text : Bool → List ℕ → Verdict → List ℕ → List ℕ
+told_text always name verdict lines =
+    verdict_line name verdict ++ (if always || not (is_true verdict) then lines else [])
+
+-- The verdict on a property of the protocol is told. What shows whether the model satisfies it, by
+-- lines of instances or in these words, is evidence of the module of the property's text.
+pub record IsTold (instances always : Bool) (words : Vocabulary) (protocol : ProtocolForm)
+    (model : ModelForm) (p : protocol_form.PropertyForm) (q : PropertyForm) (told : List ℕ)
+    : Type 0 where
+  pub verdict : Verdict
+  pub of_verdict : IsVerdict protocol p.formula model q verdict
   pub text : SpecForm
-  pub of_property : IsTextOf model p text
+  pub of_property : IsTextOf model q text
   pub contents : Contents
   pub of_text : IsModuleOfForm text contents
   pub evidence : Evidence
   pub shown : IsModuleEvidence contents evidence
-  pub exact : evidence.truth ≡ satisfies model p.formula
+  pub exact : evidence.truth ≡ satisfies model q.formula
   pub printed : (trees : ℕ → Tree) → AreTrees contents trees
-      → told ≡ told_text always p.name.text evidence.truth
+      → told ≡ told_text always q.name.text verdict
       (lines_of instances
       (shown_by words text (steps_of model) contents trees evidence))
 
--- each of these properties is told, in order, and shown where it doesn't hold
-abbrev pub AreTold : Bool → Vocabulary → ModelForm → List PropertyForm → List ℕ → Type 0
-AreTold instances words model [] lines = lines ≡ []
-AreTold instances words model (p ∷ ps) lines =
-    (told : List ℕ) × (rest : List ℕ) × IsTold instances false words model p told
-    × (lines ≡ told ++ rest) × AreTold instances words model ps rest
+-- each of these properties, which are those of the model, is told, in order, and shown where the
+-- verdict isn't true
+abbrev pub AreTold : Bool → Vocabulary → ProtocolForm → ModelForm →
+    List protocol_form.PropertyForm → List PropertyForm → List ℕ → Type 0
+AreTold instances words protocol model [] [] lines = lines ≡ []
+AreTold instances words protocol model (p ∷ ps) (q ∷ qs) lines =
+    (told : List ℕ) × (rest : List ℕ) × IsTold instances false words protocol model p q told
+    × (lines ≡ told ++ rest) × AreTold instances words protocol model ps qs rest
+AreTold instances words protocol model [] (q ∷ qs) lines = ⊥
+AreTold instances words protocol model (p ∷ ps) [] lines = ⊥
 
--- the property of a name is told, and shown, or all are told where none is named
+-- the property of a name is told, and shown
+pub record IsNamedTold (instances : Bool) (name : List ℕ) (words : Vocabulary)
+    (protocol : ProtocolForm) (model : ModelForm) (lines : List ℕ) : Type 0 where
+  pub place : ℕ
+  pub named : IsAskedAt (Some name) model.properties place
+  pub asked : protocol_form.PropertyForm
+  pub stands : slice_get protocol.properties place ≡ Some asked
+  pub told : IsTold instances true words protocol model asked named.property lines
+
+-- so it is with that of a name, or all are told where none is named
 abbrev pub TellAsked :
-    Bool → Option (List ℕ) → Vocabulary → ModelForm → List ℕ → Type 0
-TellAsked instances None words model lines =
-    AreTold instances words model model.properties lines
-TellAsked instances (Some name) words model lines =
-    (p : PropertyForm) × IsAskedFor (Some name) model.properties p
-    × IsTold instances true words model p lines
+    Bool → Option (List ℕ) → Vocabulary → ProtocolForm → ModelForm → List ℕ → Type 0
+TellAsked instances None words protocol model lines =
+    AreTold instances words protocol model protocol.properties model.properties lines
+TellAsked instances (Some name) words protocol model lines =
+    IsNamedTold instances name words protocol model lines
 
 -- P holds of what is told of the property of a name, or of all where none is named, of the model
 -- that is solved for the bytes, by lines of instances or in the words of the protocol that they say
 abbrev pub OutputsWhy : Bool → Option (List ℕ) → List ℕ → (List ℕ → Type 0) → Type 0
 OutputsWhy instances name bytes P =
     (model : ModelForm) × (lines : List ℕ) × (said : IsModelOf bytes model)
-    × TellAsked instances name (words_of said.protocol model said.is_for.made) model
-    lines × P lines
+    × TellAsked instances name (words_of said.protocol model said.is_for.made) said.protocol
+    model lines × P lines
 
 -- the model isn't explained, or it has no property of the name
 abbrev pub IsUnshown : Option (List ℕ) → List ℕ → SolveFault → Type 0

@@ -9,13 +9,16 @@ ghost use Rattle.pb_model_properties.specs.Said.{IsModelOf};
 ghost use Rattle.pb_module_commands.specs.Delivery.{Delivers};
 ghost use Rattle.pbsolve.specs.Models.{AreFound, IsUnchecked};
 ghost use Rattle.pbsolve.specs.Outputs.{OutputsVerdicts};
+ghost use Rattle.pbsolve.specs.ReachedSteps.{AreStepsFoundWhere};
 
-use crate::decision::{findings_of, negations_for};
+use crate::decision::{DecisionOptions, findings_of};
 use crate::finding::Found;
-use crate::finding_lines::{lines_of, status_of};
-use crate::outcome::asked_outcomes;
+use crate::finding_lines::lines_of;
 use crate::property_text::asked_texts;
+use crate::reached_steps::steps_on;
 use crate::status::Status;
+use crate::step_finding::StepFinding;
+use crate::step_lines::{push_steps, status_of_checked};
 use pb_command_line::Checking;
 use pb_errors::OrMemory;
 use pb_exploration::Gate;
@@ -28,7 +31,7 @@ use pb_sorts::Sink;
 use std::thread::Threads;
 
 // What is found of the properties that are asked for, of a model that was read. The texts of all
-// are made before the first is solved; those of negations only where they are needed.
+// are made before the first is solved.
 fn findings_on<R: Threads + Sync, G: Gate + Sync>(
     context: &Context<'_, R, G>,
     bytes: &[u8],
@@ -39,7 +42,7 @@ fn findings_on<R: Threads + Sync, G: Gate + Sync>(
     requires read { IsModelOf bytes.now (model_form solved.now.typed.model) }
     ensures found { IfOk result (λ findings.
         (said : IsModelOf bytes.now (model_form solved.now.typed.model))
-        → AreFound said.protocol (model_form solved.now.typed.model)
+        → AreFound options.now.counts said.protocol (model_form solved.now.typed.model)
         (map string_bytes options.now.properties.items) findings.items) }
     ensures refused { IfRefused result
         (IsUnchecked (map string_bytes options.now.properties.items) bytes.now) }
@@ -56,12 +59,43 @@ fn findings_on<R: Threads + Sync, G: Gate + Sync>(
         workers: options.solving.workers,
         solver: options.solving.solver,
     };
-    let outcomes = asked_outcomes(context, &texts, solving)?;
-    let negations = match negations_for(alloc, bytes, &outcomes) {
-        Ok(negations) => negations,
-        Err(error) => return Err(error.raise()),
+    let deciding = DecisionOptions {
+        solving,
+        counts: options.counts,
     };
-    findings_of(context, &negations, &outcomes, solving)
+    findings_of(context, bytes, &texts, deciding)
+}
+
+// What is found of the properties that are asked for, and of the steps of the model.
+#[derive(Drop)]
+struct Checked {
+    findings: Vec<Found>,
+    steps: Vec<StepFinding>,
+}
+
+// What is found of a model that was read.
+fn checked_on<R: Threads + Sync, G: Gate + Sync>(
+    context: &Context<'_, R, G>,
+    bytes: &[u8],
+    solved: &SolvedModel,
+    options: &Checking,
+) -> Result<Checked, OrMemory<SolveFault>>
+    requires input { length bytes.now ≤ MAX_INPUT_BYTES }
+    requires read { IsModelOf bytes.now (model_form solved.now.typed.model) }
+    ensures findings { IfOk result (λ checked.
+        (said : IsModelOf bytes.now (model_form solved.now.typed.model))
+        → AreFound options.now.counts said.protocol (model_form solved.now.typed.model)
+        (map string_bytes options.now.properties.items) checked.findings.items) }
+    ensures steps { IfOk result (λ checked. AreStepsFoundWhere options.now.counts
+        (model_form solved.now.typed.model) checked.steps.items) }
+    ensures refused { IfRefused result
+        (IsUnchecked (map string_bytes options.now.properties.items) bytes.now) }
+    ensures named { result ≡ Err (Refused NoProperty)
+        → map string_bytes options.now.properties.items ≢ [] }
+{
+    let findings = findings_on(context, bytes, solved, options)?;
+    let steps = steps_on(context, solved, options)?;
+    Ok(Checked { findings, steps })
 }
 
 /// Checks a model: writes for each property that is asked for, in the model's order, a line with
@@ -71,16 +105,20 @@ fn findings_on<R: Threads + Sync, G: Gate + Sync>(
 /// lies outside the ranges: because no reached instance of its text calls one outside, or because
 /// the protocol satisfies the negation. Else it is `unknown`, and a line behind it says how many
 /// instances call one outside. It is `refused`, by the number of a rule, where a text is too large.
-/// Where counts are asked for, three lines behind each verdict tell them.
+/// Where counts are asked for, three lines behind each verdict tell them, and behind all a line
+/// names each step that can be taken in no reached state.
 ///
 /// Each text is explored and solved once, as `solve_text` solves a text; those of negations only
-/// where a property isn't satisfied and instances outside were called.
+/// where a property isn't satisfied and instances outside were called, and those that ask for steps
+/// where counts are asked for. Without counts the instances nearest to the initial one are tried
+/// before: where those of the text show that the property is satisfied, or those of its negation
+/// that this is, there is no more to do.
 ///
 /// # Errors
 /// `Text` and `Typing` say which rule the model breaks, or the text of a property that is asked for
-/// or of its negation, but for that of limits, and where. `NoProperty` comes exactly where the
-/// model has no property of a name. Others are as with `solve_text`, but for `Limit` and
-/// `TooManyVertices`.
+/// or of its negation, or one that asks for a step, but for that of limits, and where. `NoProperty`
+/// comes exactly where the model has no property of a name. Others are as with `solve_text`, but
+/// for `Limit` and `TooManyVertices`.
 pub fn check_text<R: Threads + Sync, G: Gate + Sync, S: Sink>(
     context: &Context<'_, R, G>,
     bytes: &[u8],
@@ -98,9 +136,10 @@ pub fn check_text<R: Threads + Sync, G: Gate + Sync, S: Sink>(
         → map string_bytes options.now.properties.items ≢ [] }
 {
     let solved = read_protocol(context.alloc, bytes)?;
-    let findings = findings_on(context, bytes, &solved, options)?;
+    let checked = checked_on(context, bytes, &solved, options)?;
     let properties = &solved.typed.model.properties;
-    let lines = lines_of(context.alloc, properties, &findings, options.counts)?;
+    let mut lines = lines_of(context.alloc, properties, &checked.findings, options.counts)?;
+    push_steps(&mut lines, &solved, &checked.steps)?;
     deliver(lines.as_bytes(), writer)?;
-    Ok(status_of(&findings, options.status))
+    Ok(status_of_checked(&checked.findings, &checked.steps, options.status))
 }

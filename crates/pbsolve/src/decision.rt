@@ -1,68 +1,111 @@
-//! The verdicts: what is found of properties, by what becomes of their texts and of those of their
-//! negations.
-ghost use Rattle.std.specs.Prelude.{◌≡◌, ◌≤◌, ◌<◌, length, map, true, false, IfNone, IfOk, IfSome, IsSome};
-ghost use Rattle.std.specs.List.{All, list_any};
+//! What is found of properties, by what becomes of their texts and of those of their negations.
+ghost use Rattle.std.specs.Prelude.{◌≡◌, ◌≤◌, ◌<◌, Bool, length, map, true, false, IfOk, IfSome};
+ghost use Rattle.std.specs.List.{All};
 ghost use Rattle.pb_errors.specs.OrMemory.{IfRefused};
-ghost use Rattle.pb_model_tree.specs.Form.{ModelForm, model_form};
-ghost use Rattle.pb_protocol_tree.specs.Form.{ProtocolForm};
-ghost use Rattle.pb_model_properties.specs.Negations.{IsNegatedModelOf, IsRefusedNegation};
-ghost use Rattle.pb_model_properties.specs.Said.{IsModelFor};
-ghost use Rattle.pbsolve.specs.Models.{IsFound};
-ghost use Rattle.pbsolve.specs.Outcomes.{AreNegations, IsDecisionAt, IsOutcomeAt, IsUntyped};
-ghost use Rattle.pbsolve.specs.Outcomes.{IsUntypedNegation, is_open};
+ghost use Rattle.pb_model_tree.specs.Form.{ModelForm, PropertyForm};
+ghost use Rattle.pb_model_properties.specs.Said.{IsModelOf};
+ghost use Rattle.pbsolve.specs.Models.{IsFound, IsUnnegated};
+ghost use Rattle.pbsolve.specs.Outcomes.{AreNegations, IsDecision, IsDeniedAt, IsModuleAt};
+ghost use Rattle.pbsolve.specs.Outcomes.{IsOutcomeAt, IsPropertyModule, IsShownAt, IsTextAt};
 
 use crate::finding::{Finding, Found};
-use crate::outcome::{AskedOutcome, Outcome, outcome_of};
-use crate::property_text::asked_text;
+use crate::negation::negation_module;
+use crate::outcome::{AskedOutcome, Outcome, early_truth, outcome_of};
+use crate::property_module::{AskedModule, PropertyModule, asked_module};
+use crate::property_text::AskedText;
 use pb_errors::OrMemory;
 use pb_exploration::Gate;
 use pb_faults::SolveFault;
 use pb_limits::MAX_INPUT_BYTES;
-use pb_model_properties::{ModelError, SolvedModel, Verdict, read_negations};
+use pb_model_properties::{SolvedModel, Verdict};
 use pb_module_solver::{Context, SolveOptions};
 use pb_negation::negations_erase;
 use pb_report::Answer;
-use std::alloc::Global;
+use std::alloc::AllocError;
 use std::thread::Threads;
 
-/// The model of the negations, where an outcome is open.
-///
-/// # Errors
-/// As with `read_negations`.
-pub(crate) fn negations_for(
-    alloc: Global,
-    bytes: &[u8],
-    outcomes: &[AskedOutcome],
-) -> Result<Option<SolvedModel>, ModelError>
-    requires { length bytes.now ≤ MAX_INPUT_BYTES }
-    ensures negations { IfOk result (λ found. IfSome found (IsNegatedModelOf bytes.now)) }
-    ensures none { IfOk result (λ found. IfNone found
-        (list_any (λ asked. is_open asked.outcome) outcomes.now ≡ false)) }
-    ensures refused { IfRefused result (IsRefusedNegation bytes.now) }
-{
-    for asked in outcomes {
-        if asked.outcome.is_open() {
-            return Ok(Some(read_negations(alloc, bytes)?));
-        }
-    }
-    Ok(None)
+/// How texts are solved, and whether counts are asked for.
+#[derive(Clone, Copy)]
+pub(crate) struct DecisionOptions {
+    pub solving: SolveOptions,
+    pub counts: bool,
 }
 
-// What the negation at a place decides of a property that has this answer.
+/// Whether the instances nearest to the initial one of the negation's text show that this is
+/// satisfied. They don't where the negation is refused.
+///
+/// # Errors
+/// Memory was refused.
+pub(crate) fn is_denied<R: Threads + Sync, G: Gate + Sync>(
+    context: &Context<'_, R, G>,
+    bytes: &[u8],
+    negations: &mut Option<SolvedModel>,
+    place: usize,
+    options: SolveOptions,
+) -> Result<bool, AllocError>
+    requires input { length bytes.now ≤ MAX_INPUT_BYTES }
+    requires within { (model : ModelForm) × IsModelOf bytes.now model
+        × (place < length model.properties) }
+    requires read { AreNegations bytes.now negations.now }
+    ensures read { AreNegations bytes.now negations.new }
+    ensures denied { IfOk result (λ denied. denied ≡ true → IsDeniedAt bytes.now place) }
+{
+    negations_erase();
+    match negation_module(context.alloc, bytes, negations, place) {
+        Ok(negation) => match early_truth(context, &negation.compiled, options)? {
+            Some(true) => Ok(true),
+            _ => Ok(false),
+        },
+        Err(OrMemory::Refused(_)) => Ok(false),
+        Err(OrMemory::Memory) => Err(AllocError),
+    }
+}
+
+// What the instances nearest to the initial one show of a property, where counts aren't asked for:
+// of its text, and where they show that this is false, of its negation's.
+fn shown<R: Threads + Sync, G: Gate + Sync>(
+    context: &Context<'_, R, G>,
+    bytes: &[u8],
+    negations: &mut Option<SolvedModel>,
+    asked: &AskedModule,
+    options: DecisionOptions,
+) -> Result<Option<bool>, AllocError>
+    requires input { length bytes.now ≤ MAX_INPUT_BYTES }
+    requires given { (model : ModelForm) × IsModelOf bytes.now model × IsModuleAt model asked.now }
+    requires read { AreNegations bytes.now negations.now }
+    ensures read { AreNegations bytes.now negations.new }
+    ensures uncounted { IfOk result (λ found. IfSome found (λ _. options.counts ≡ false)) }
+    ensures shown { IfOk result (λ found. IfSome found (λ truth. (model : ModelForm)
+        → (said : IsModelOf bytes.now model) → IsModuleAt model asked.now
+        → IsShownAt said.protocol asked.now.place truth)) }
+{
+    if options.counts {
+        return Ok(None);
+    }
+    match early_truth(context, &asked.compiled, options.solving)? {
+        None => Ok(None),
+        Some(true) => Ok(Some(true)),
+        Some(false) => {
+            let denied = is_denied(context, bytes, negations, asked.place, options.solving)?;
+            if denied {
+                return Ok(Some(false));
+            }
+            Ok(None)
+        }
+    }
+}
+
+// What the negation decides of a property that has this answer.
 fn decision<R: Threads + Sync, G: Gate + Sync>(
     context: &Context<'_, R, G>,
-    negations: &SolvedModel,
-    place: usize,
+    negation: &PropertyModule,
     answer: Answer,
     options: SolveOptions,
-) -> Result<Finding, OrMemory<SolveFault>>
-    requires { place < length negations.now.typed.model.properties.items }
-    ensures decision { IfOk result
-        (IsDecisionAt (model_form negations.now.typed.model) place answer) }
-    ensures refused { IfRefused result (IsUntyped (model_form negations.now.typed.model)) }
+) -> Result<Finding, AllocError>
+    ensures { IfOk result (λ finding. (model : ModelForm) (q : PropertyForm)
+        → IsPropertyModule model q negation.now → IsDecision model q answer finding) }
 {
-    let asked = asked_text(context.alloc, negations, place)?;
-    match outcome_of(context, &asked.text, options)? {
+    match outcome_of(context, negation, options)? {
         Outcome::TooLarge(excess) => Ok(Finding::Refused(excess)),
         Outcome::Answered(second) => {
             let verdict = if second.truth {
@@ -75,76 +118,102 @@ fn decision<R: Threads + Sync, G: Gate + Sync>(
     }
 }
 
-// What is found of a property, by what becomes of its text.
-fn finding_of<R: Threads + Sync, G: Gate + Sync>(
+/// What is found of a property by what becomes of its text, and of that of its negation where the
+/// verdict needs it.
+///
+/// # Errors
+/// `Text` and `Typing` where the negations are refused, or the text of this one isn't well typed.
+pub(crate) fn decided<R: Threads + Sync, G: Gate + Sync>(
     context: &Context<'_, R, G>,
-    negations: &Option<SolvedModel>,
+    bytes: &[u8],
+    negations: &mut Option<SolvedModel>,
     asked: AskedOutcome,
     options: SolveOptions,
-) -> Result<Found, OrMemory<SolveFault>>
-    requires given { (protocol : ProtocolForm) × (model : ModelForm) × IsModelFor protocol model
-        × IsOutcomeAt model asked × AreNegations protocol negations.now }
-    requires needed { is_open asked.outcome ≡ true → IsSome negations.now }
-    ensures place { IfOk result (λ found. found.place ≡ asked.place) }
-    ensures found { IfOk result (λ found. (protocol : ProtocolForm) (model : ModelForm)
-        → IsModelFor protocol model → IsOutcomeAt model asked
-        → AreNegations protocol negations.now → IsFound protocol model found) }
-    ensures refused { IfRefused result (λ fault. (protocol : ProtocolForm)
-        → AreNegations protocol negations.now → IsUntypedNegation protocol fault) }
+) -> Result<Finding, OrMemory<SolveFault>>
+    requires input { length bytes.now ≤ MAX_INPUT_BYTES }
+    requires given { (model : ModelForm) × IsModelOf bytes.now model × IsOutcomeAt model asked }
+    requires read { AreNegations bytes.now negations.now }
+    ensures read { AreNegations bytes.now negations.new }
+    ensures found { IfOk result (λ finding. (counts : Bool) (model : ModelForm)
+        → (said : IsModelOf bytes.now model) → IsOutcomeAt model asked
+        → IsFound counts said.protocol model
+        (record { place = asked.place; finding = finding })) }
+    ensures refused { IfRefused result (IsUnnegated bytes.now) }
 {
     negations_erase();
-    let place = asked.place;
     match asked.outcome {
-        Outcome::TooLarge(excess) => {
-            let finding = Finding::Refused(excess);
-            Ok(Found { place, finding })
-        }
+        Outcome::TooLarge(excess) => Ok(Finding::Refused(excess)),
         Outcome::Answered(answer) => {
             if answer.truth {
-                let finding = Finding::Decided(Verdict::True, answer);
-                return Ok(Found { place, finding });
+                return Ok(Finding::Decided(Verdict::True, answer));
             }
             if answer.cut == 0 {
-                let finding = Finding::Decided(Verdict::False, answer);
-                return Ok(Found { place, finding });
+                return Ok(Finding::Decided(Verdict::False, answer));
             }
-            match negations {
-                Some(negations) => {
-                    let finding = decision(context, negations, place, answer, options)?;
-                    Ok(Found { place, finding })
-                }
-                None => unreachable!(),
-            }
+            let negation = negation_module(context.alloc, bytes, negations, asked.place)?;
+            Ok(decision(context, &negation.compiled, answer, options)?)
         }
     }
 }
 
-/// What is found of each property, by what becomes of its text.
+// What is found of a property, by its text.
+fn finding_of<R: Threads + Sync, G: Gate + Sync>(
+    context: &Context<'_, R, G>,
+    bytes: &[u8],
+    negations: &mut Option<SolvedModel>,
+    asked: &AskedText,
+    options: DecisionOptions,
+) -> Result<Finding, OrMemory<SolveFault>>
+    requires input { length bytes.now ≤ MAX_INPUT_BYTES }
+    requires given { (model : ModelForm) × IsModelOf bytes.now model × IsTextAt model asked.now }
+    requires read { AreNegations bytes.now negations.now }
+    ensures read { AreNegations bytes.now negations.new }
+    ensures found { IfOk result (λ finding. (model : ModelForm)
+        → (said : IsModelOf bytes.now model) → IsTextAt model asked.now
+        → IsFound options.counts said.protocol model
+        (record { place = asked.now.place; finding = finding })) }
+    ensures refused { IfRefused result (IsUnnegated bytes.now) }
+{
+    let place = asked.place;
+    let asked = asked_module(context.alloc, asked)?;
+    match shown(context, bytes, negations, &asked, options)? {
+        Some(truth) => Ok(Finding::Shown(truth)),
+        None => {
+            let outcome = outcome_of(context, &asked.compiled, options.solving)?;
+            let asked = AskedOutcome { place, outcome };
+            decided(context, bytes, negations, asked, options.solving)
+        }
+    }
+}
+
+/// What is found of each property, by its text.
 ///
 /// # Errors
-/// `Typing` where the text of a negation isn't well typed.
+/// `Text` and `Typing` where the negations are refused, or the text of one isn't well typed.
 pub(crate) fn findings_of<R: Threads + Sync, G: Gate + Sync>(
     context: &Context<'_, R, G>,
-    negations: &Option<SolvedModel>,
-    outcomes: &[AskedOutcome],
-    options: SolveOptions,
+    bytes: &[u8],
+    texts: &[AskedText],
+    options: DecisionOptions,
 ) -> Result<Vec<Found>, OrMemory<SolveFault>>
-    requires given { (protocol : ProtocolForm) × (model : ModelForm) × IsModelFor protocol model
-        × All (IsOutcomeAt model) outcomes.now × AreNegations protocol negations.now }
-    requires needed { IfNone negations.now
-        (list_any (λ asked. is_open asked.outcome) outcomes.now ≡ false) }
+    requires input { length bytes.now ≤ MAX_INPUT_BYTES }
+    requires given { (model : ModelForm) × IsModelOf bytes.now model
+        × All (IsTextAt model) texts.now }
     ensures places { IfOk result (λ findings. map (λ found. found.place) findings.items
-        ≡ map (λ asked. asked.place) outcomes.now) }
-    ensures found { IfOk result (λ findings. (protocol : ProtocolForm) (model : ModelForm)
-        → IsModelFor protocol model → All (IsOutcomeAt model) outcomes.now
-        → AreNegations protocol negations.now → All (IsFound protocol model) findings.items) }
-    ensures refused { IfRefused result (λ fault. (protocol : ProtocolForm)
-        → AreNegations protocol negations.now → IsUntypedNegation protocol fault) }
+        ≡ map (λ asked. asked.place) texts.now) }
+    ensures found { IfOk result (λ findings. (model : ModelForm)
+        → (said : IsModelOf bytes.now model) → All (IsTextAt model) texts.now
+        → All (IsFound options.counts said.protocol model) findings.items) }
+    ensures refused { IfRefused result (IsUnnegated bytes.now) }
 {
+    let mut negations = None;
     let mut findings = Vec::new(context.alloc);
-    for asked in outcomes {
-        let found = finding_of(context, negations, *asked, options)?;
-        findings.push(found)?;
+    for asked in texts {
+        let finding = finding_of(context, bytes, &mut negations, asked, options)?;
+        findings.push(Found {
+            place: asked.place,
+            finding,
+        })?;
     }
     Ok(findings)
 }

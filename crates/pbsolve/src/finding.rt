@@ -1,5 +1,4 @@
 //! What is found of properties.
-ghost use Rattle.std.specs.Prelude.{◌≡◌, true};
 
 use pb_faults::PropertyExcess;
 use pb_model_properties::Verdict;
@@ -10,6 +9,9 @@ use pb_report::Answer;
 pub enum Finding {
     /// The verdict on it, and what was counted of its text.
     Decided(Verdict, Answer),
+    /// What the instances nearest to the initial one show, where counts aren't asked for: that it
+    /// is satisfied; or that its negation is, and so it isn't.
+    Shown(bool),
     /// It is refused: its text is too large, or that of its negation, where the verdict needs it.
     Refused(PropertyExcess),
 }

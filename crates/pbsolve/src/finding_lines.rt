@@ -3,7 +3,7 @@ ghost use Rattle.std.specs.Prelude.{◌≡◌, ◌<◌, ◌++◌, length, map, I
 ghost use Rattle.std.specs.List.{All, list_any};
 ghost use Rattle.pb_model_tree.specs.Form.{ModelForm, property_form};
 ghost use Rattle.pbsolve.specs.Models.{finding_lines, found_lines, lines_behind, says_false};
-ghost use Rattle.pbsolve.specs.Models.{refuses, says_unknown, status_of_findings};
+ghost use Rattle.pbsolve.specs.Models.{refuses, says_unknown, status_of_findings, verdict_of};
 
 use crate::finding::{Finding, Found};
 use crate::status::Status;
@@ -12,6 +12,13 @@ use pb_model_tree::Property;
 use pb_report::Answer;
 use std::alloc::{AllocError, Global};
 
+/// The verdict by what is shown.
+pub(crate) fn verdict_of(truth: bool) -> Verdict
+    ensures { result ≡ verdict_of truth }
+{
+    if truth { Verdict::True } else { Verdict::False }
+}
+
 impl Finding {
     /// Whether the property is refused.
     fn refuses(self) -> bool
@@ -19,7 +26,7 @@ impl Finding {
     {
         match self {
             Finding::Refused(_) => true,
-            Finding::Decided(_, _) => false,
+            Finding::Decided(_, _) | Finding::Shown(_) => false,
         }
     }
 
@@ -29,6 +36,7 @@ impl Finding {
     {
         match self {
             Finding::Refused(_) => false,
+            Finding::Shown(truth) => !truth,
             Finding::Decided(verdict, _) => match verdict {
                 Verdict::True => false,
                 Verdict::False => true,
@@ -42,7 +50,7 @@ impl Finding {
         ensures { result ≡ says_unknown self }
     {
         match self {
-            Finding::Refused(_) => false,
+            Finding::Refused(_) | Finding::Shown(_) => false,
             Finding::Decided(verdict, _) => match verdict {
                 Verdict::True => false,
                 Verdict::False => false,
@@ -87,6 +95,7 @@ fn push_finding(
             push_verdict(lines, name, verdict)?;
             push_behind(lines, verdict, answer, counts)
         }
+        Finding::Shown(truth) => push_verdict(lines, name, verdict_of(truth)),
         Finding::Refused(excess) => push_refused(lines, name, excess.number()),
     }
 }

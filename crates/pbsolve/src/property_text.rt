@@ -20,7 +20,7 @@ pub(crate) enum PropertyText {
     TooLarge,
 }
 
-/// The text of the property at a place.
+/// The text of the property at a place, or that which asks for the step there.
 #[derive(Drop)]
 pub(crate) struct AskedText {
     pub place: usize,
@@ -40,8 +40,8 @@ fn is_limit(fault: ModelFault) -> bool
     }
 }
 
-// The text of a property that isn't well typed by this error.
-fn untyped(error: ModelError, place: usize) -> Result<AskedText, OrMemory<SolveFault>>
+/// The text of the property at a place that isn't well typed by this error.
+pub(crate) fn untyped(error: ModelError, place: usize) -> Result<AskedText, OrMemory<SolveFault>>
     ensures large { IfOk result (λ asked. (asked.place ≡ place)
         × (asked.text ≡ PropertyText.TooLarge) × IfFault error (λ fault. is_limit fault ≡ true)
         × IsFault error) }

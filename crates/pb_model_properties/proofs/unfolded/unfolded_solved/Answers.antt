@@ -1,5 +1,5 @@
 -- What the protocol is unfolded to, solved in its place.
-use Rattle.std.proofs.Common.{◌≡◌, ◌∙◌, List, map, refl, ap, Some}
+use Rattle.std.proofs.Common.{◌∙◌, List, map, refl, ap, Some}
 use Rattle.pb_model_tree.specs.Form.{model_form}
 use Rattle.pb_protocol_tree.specs.Form.{protocol_form}
 use Rattle.pb_unfolder.specs.declared.origin.StepOrigin.{StepOrigin}

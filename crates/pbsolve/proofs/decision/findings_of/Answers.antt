@@ -1,26 +1,32 @@
 -- One more is found.
-use Rattle.std.proofs.Common.{false, get_or, refl, sym, subst}
-use Rattle.std.specs.List.{All}
-use Rattle.std.proofs.lemmas.List.Elements.{All-push}
-use Rattle.pbsolve.specs.declared.outcome.AskedOutcome.{AskedOutcome}
-use Rattle.pbsolve.specs.declared.outcome.Outcome.TheVariants.{Answered}
+use Rattle.std.proofs.Common.{map, refl}
+use Rattle.pb_model_tree.specs.Form.{ModelForm}
+use Rattle.pbsolve.specs.declared.finding.Found.{Found}
+use Rattle.pbsolve.specs.declared.property_text.AskedText.{AskedText}
 use Rattle.pbsolve.specs.Models.{IsFound}
-use Rattle.pbsolve.specs.Outcomes.{IsOutcomeAt, is_open}
-use Rattle.pbsolve.proofs.Findings.{at_place, needed_step, places_step}
+use Rattle.pbsolve.specs.Outcomes.{IsTextAt}
+use Rattle.pbsolve.proofs.Orders.{all_pushed, next_made, of_item}
 use Rattle.pbsolve.proofs.decision.findings_of.Goals as goal
+
+pub finding_of-requires-clause-given : goal.finding_of-requires-clause-given
+finding_of-requires-clause-given g c κs within =
+    let given = c.requires.given in
+    (given.0, given.1, of_item (IsTextAt given.0) c.args.texts.now c.loop-asked.asked-index c.asked-item.result given.2 c.loop-asked-test.true c.asked-item.is)
 
 pub loop-asked-preserved : goal.loop-asked-preserved
 loop-asked-preserved g c =
-    let other : AskedOutcome = record { place = 0; outcome = Answered (record { truth = false; instances = 0; cut = 0; vertices = 0 }) } in
-    let k = c.loop-asked.asked-index in
-    let all = c.args.outcomes.now in
-    let asked = get_or all k other in
-    let before = c.loop-asked.invariant in
+    let texts = c.args.texts.now in
+    let loop = c.loop-asked in
+    let asked = c.asked-item.result in
+    let found : Found = record { place = asked.place; finding = c.in_ok-finding.finding } in
+    let new = c.push.new.self.items in
+    let pushed = c.in_ok-push.ensures.items in
     record {
-      places = places_step (λ found. found.place) (λ x. x.place) all k asked other c.loop-asked.findings.items c.push.new.self.items c.in_ok-found.found
-          c.loop-asked-test.true refl before.places c.in_ok-push.ensures.items c.in_ok-found.ensures.place;
-      needed = needed_step (λ x. is_open x.outcome) c.args.negations.now all k asked other c.loop-asked-test.true refl before.needed;
-      found = λ protocol model is_for outcomes are. subst (All (IsFound protocol model)) (sym c.in_ok-push.ensures.items)
-          (All-push (IsFound protocol model) c.loop-asked.findings.items c.in_ok-found.found (before.found protocol model is_for outcomes are)
-          (c.in_ok-found.ensures.found protocol model is_for (at_place (IsOutcomeAt model) all k asked other c.loop-asked-test.true refl outcomes) are));
+      read = c.finding_of.ensures.read;
+      places = next_made (λ (f : Found). f.place) (map (λ (a : AskedText). a.place)) new loop.findings.items texts loop.asked-index found asked asked
+          pushed c.loop-asked-test.true c.asked-item.is refl loop.invariant.places;
+      found = λ (model : ModelForm) said all.
+          let at = of_item (IsTextAt model) texts loop.asked-index asked all c.loop-asked-test.true c.asked-item.is in
+          all_pushed (IsFound c.args.options.counts said.protocol model) new loop.findings.items found pushed (loop.invariant.found model said all)
+          (c.in_ok-finding.ensures.found model said at);
     }

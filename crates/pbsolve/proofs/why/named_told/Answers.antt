@@ -7,8 +7,9 @@ use Rattle.pb_faults.specs.declared.solve_fault.SolveFault.{SolveFault}
 use Rattle.pb_errors.proofs.Faults.{if_refused}
 use Rattle.pb_model_tree.specs.Form.{model_form, property_form}
 use Rattle.pb_model_properties.specs.Asked.{IsAskedAt, NoneIsAskedFor}
-use Rattle.pb_model_words.specs.View.{vocabulary_of}
-use Rattle.pbsolve.proofs.Told.{named_is_told, where_unshown, within_mapped, WhereUnshown}
+use Rattle.pb_model_properties.specs.Words.{words_in}
+use Rattle.pbsolve.specs.Why.{IsUnshown}
+use Rattle.pbsolve.proofs.Tellings.{named_is_told, ok_more, unshown, within_mapped}
 use Rattle.pbsolve.proofs.why.named_told.Goals as goal
 
 pub told_at-requires-clause-within : goal.told_at-requires-clause-within
@@ -20,11 +21,11 @@ pub returns-clause-told : goal.returns-clause-told
 returns-clause-told g c =
     let model = model_form c.args.solved.now.typed.model in
     let found = subst (λ (ps : List _). IsAskedAt (Some c.args.name.now) (map property_form ps) c.in-Some.place) c.deref.ensures.value c.in-Some.ensures.found in
-    named_is_told string_bytes c.args.options.lines c.args.name.now (vocabulary_of c.args.vocabulary.now) model c.in-Some.place found c.told_at.result c.told_at.ensures.told
+    ok_more _ _ (λ lines h said. named_is_told c.args.options.lines c.args.name.now (words_in c.args.solved.now) said.protocol model said.is_for c.in-Some.place found (string_bytes lines) (h said))
+    c.told_at.result c.told_at.ensures.told
 
 pub returns-clause-refused : goal.returns-clause-refused
-returns-clause-refused g c =
-    if_refused c.told_at.result (where_unshown (Some c.args.name.now) (model_form c.args.solved.now.typed.model)) c.told_at.ensures.refused
+returns-clause-refused g c = if_refused c.told_at.result (unshown (Some c.args.name.now) c.args.bytes.now) c.told_at.ensures.refused
 
 -- what holds where nothing is found
 where_none : {T : Type 0} (Q : Type 0) (r : Option T) → ((x : T) → r ≡ Some x → ⊥) → IfNone r Q → Q
@@ -36,5 +37,5 @@ returns-in_default-clause-refused g c =
     let model = model_form c.args.solved.now.typed.model in
     let name = Some c.args.name.now in
     let none = subst (λ (ps : List _). IfNone c.place_of.result (NoneIsAskedFor name (map property_form ps))) c.deref.ensures.value c.place_of.ensures.none in
-    subst (λ (e : OrMemory SolveFault). IfFault e (WhereUnshown name model)) (sym c.into.ensures)
-    (λ bytes said. (model, said, where_none (NoneIsAskedFor name model.properties) c.place_of.result c.in_default.not-Some none))
+    subst (λ (e : OrMemory SolveFault). IfFault e (IsUnshown name c.args.bytes.now)) (sym c.into.ensures)
+    (model, c.requires.said, where_none (NoneIsAskedFor name model.properties) c.place_of.result c.in_default.not-Some none)

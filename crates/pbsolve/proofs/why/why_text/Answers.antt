@@ -5,8 +5,8 @@ use Rattle.pb_model_tree.specs.Form.{model_form}
 use Rattle.pb_model_words.specs.Vocabulary.{Vocabulary}
 use Rattle.pbsolve.specs.Why.{IsUnshown, OutputsWhy, TellAsked}
 use Rattle.pb_module_commands.proofs.Deliveries.{less_delivered, nothing_written, only_write}
-use Rattle.pbsolve.proofs.PropertyVerdicts.{model_unexplained}
-use Rattle.pbsolve.proofs.Told.{missed, no_name, never_missed_model, unshown, WhereUnshown}
+use Rattle.pbsolve.proofs.Checked.{model_untold, untold_unexplained}
+use Rattle.pbsolve.proofs.Tellings.{missed, no_name, never_missed_model, unshown}
 use Rattle.pb_faults.proofs.HandedUp.{handed_up, refused_up}
 use Rattle.pb_model_properties.specs.Refusals.{IsRefusedModel}
 use Rattle.pb_faults.specs.Errors.{fault_of_model}
@@ -15,8 +15,7 @@ use Rattle.pbsolve.proofs.why.why_text.Goals as goal
 pub returns-in_err-lines-clause-refused : goal.returns-in_err-lines-clause-refused
 returns-in_err-lines-clause-refused g c =
     let name = option_copied c.args.property in
-    handed_up (WhereUnshown name (model_form c.in_ok-solved.solved.typed.model)) (IsUnshown name c.args.bytes.now)
-    (λ f h. h c.args.bytes.now c.in_ok-solved.ensures.model.said)
+    handed_up (IsUnshown name c.args.bytes.now) (IsUnshown name c.args.bytes.now) (λ f h. h)
     c.in_err-lines.field-0.0 c.from_residual-in_err-lines.result c.in_err-lines.ensures.refused c.from_residual-in_err-lines.ensures.1
 
 pub returns-in_err-solved-clause-told : goal.returns-in_err-solved-clause-told
@@ -32,13 +31,14 @@ returns-in_err-lines-clause-told g c =
 pub returns-clause-told : goal.returns-clause-told
 returns-clause-told g c =
     let model = model_form c.in_ok-solved.solved.typed.model in
-    let told = subst (λ (v : Vocabulary). TellAsked c.args.options.lines (option_copied c.args.property) v model (string_bytes c.in_ok-lines.lines))
-    c.in_ok-solved.ensures.model.words c.in_ok-lines.ensures.told in
+    let said = c.in_ok-solved.ensures.model.said in
+    let told = subst (λ (v : Vocabulary). TellAsked c.args.options.lines (option_copied c.args.property) v said.protocol model (string_bytes c.in_ok-lines.lines))
+    c.in_ok-solved.ensures.model.words (c.in_ok-lines.ensures.told said) in
     less_delivered g.S.Sink.taken g.S.Sink.has_failed (λ (P : List ℕ → Type 0). P c.as_bytes.result.now) (OutputsWhy c.args.options.lines (option_copied c.args.property) c.args.bytes.now)
     (λ (P : List ℕ → Type 0) h. (
       model,
       string_bytes c.in_ok-lines.lines,
-      c.in_ok-solved.ensures.model.said,
+      said,
       told,
       subst P c.as_bytes.ensures.value h,
     )) c.args.writer.now c.deliver.new.writer c.deliver.result c.deliver.ensures.text
@@ -51,7 +51,7 @@ returns-in_err-solved-clause-refused g c =
     let name = option_copied c.args.property in
     let bytes = c.args.bytes.now in
     refused_up (λ f above. above ≡ fault_of_model f) (IsRefusedModel bytes) (IsUnshown name bytes)
-    (λ f above same h. subst (IsUnshown name bytes) (sym same) (unshown name bytes (fault_of_model f) (model_unexplained bytes f h)))
+    (λ f above same h. subst (IsUnshown name bytes) (sym same) (unshown name bytes (fault_of_model f) (untold_unexplained bytes (fault_of_model f) (model_untold bytes f h))))
     c.in_err-solved.field-0.0 c.from_residual.result c.in_err-solved.ensures.refused c.from_residual.ensures.1
 
 pub returns-clause-named : goal.returns-clause-named

@@ -1,0 +1,65 @@
+-- The text of the property at the place is explained, or the model isn't.
+use Rattle.std.proofs.Common.{subst, sym, inl, inr}
+use Rattle.std.specs.Prelude.{Contains}
+use Rattle.pb_errors.proofs.Faults.{if_raised}
+use Rattle.pb_text_tree.specs.Form.{spec_form}
+use Rattle.pb_model_tree.specs.Form.{PropertyForm, model_form, property_form}
+use Rattle.pb_faults.specs.Errors.{fault_of_model}
+use Rattle.pb_model_properties.specs.Refusals.{IsRefusedText, told_places}
+use Rattle.pb_model_properties.specs.declared.error.ModelFault.{ModelFault}
+use Rattle.pb_model_properties.specs.declared.error.ModelFault.TheVariants as model_fault
+use Rattle.pb_model_properties.specs.declared.solved.SolvedModel.{SolvedModel}
+use Rattle.pbsolve.proofs.PropertyVerdicts.{contains_at, some_property, text_at_place, WhereUnexplained, refused_property, uncompiled_property}
+use Rattle.pbsolve.proofs.explained.explained_at.Goals as goal
+
+-- a model with a property whose text isn't well typed isn't explained
+text_unexplained : (solved : SolvedModel) (p : PropertyForm) → Contains (model_form solved.typed.model).properties p → (fault : ModelFault) → IsRefusedText solved p fault
+    → WhereUnexplained (model_form solved.typed.model) (fault_of_model fault)
+text_unexplained solved p among (model_fault.Typing fault) h = λ bytes said. inl (inr (model_form solved.typed.model, said, (p, told_places solved.names, among, h)))
+text_unexplained solved p among (model_fault.Text fault) h = absurd h
+text_unexplained solved p among model_fault.NoProperty h = absurd h
+
+pub returns-in-Err-clause-refused : goal.returns-in-Err-clause-refused
+returns-in-Err-clause-refused g c =
+    let solved = c.args.solved.now in
+    let model = model_form solved.typed.model in
+    let some = some_property property_form solved.typed.model.properties.items c.args.place c.requires in
+    if_raised c.in-Err.error c.raise.result c.raise.ensures
+    (λ fault above same h. subst (WhereUnexplained model) (sym same)
+    (text_unexplained solved some.0 (contains_at model.properties c.args.place some.0 some.1) fault (h some.0 some.1)))
+    c.in-Err.ensures.refused
+
+pub verified-requires : goal.verified-requires
+verified-requires g c =
+    let some = some_property property_form c.args.solved.now.typed.model.properties.items c.args.place c.requires in
+    record { well_typed = (c.in-Ok.ensures.text some.0 some.1).typed }
+
+pub returns-in-Err-verified-clause-refused : goal.returns-in-Err-verified-clause-refused
+returns-in-Err-verified-clause-refused g c =
+    let model = model_form c.args.solved.now.typed.model in
+    let text = spec_form c.in-Ok.typed.spec in
+    let some = some_property property_form c.args.solved.now.typed.model.properties.items c.args.place c.requires in
+    let at = text_at_place model c.args.place text some c.in-Ok.ensures.text in
+    if_raised c.in-Err-verified.error c.error_of_property.result c.error_of_property.ensures
+    (λ fault above same h. subst (WhereUnexplained model) (sym same)
+    (uncompiled_property model c.args.place text at c.name_place-here.result (c.name_place-here.ensures at.property at.stands) fault h))
+    c.in-Err-verified.ensures.refused
+
+pub returns-in-Err-explained-clause-refused : goal.returns-in-Err-explained-clause-refused
+returns-in-Err-explained-clause-refused g c =
+    let model = model_form c.args.solved.now.typed.model in
+    let text = spec_form c.in-Ok.typed.spec in
+    let some = some_property property_form c.args.solved.now.typed.model.properties.items c.args.place c.requires in
+    let at = text_at_place model c.args.place text some c.in-Ok.ensures.text in
+    if_raised c.in-Err-explained.error c.error_of_property-in-Err-explained.result c.error_of_property-in-Err-explained.ensures
+    (λ fault above same h. subst (WhereUnexplained model) (sym same)
+    (refused_property model c.args.place text at c.name_place-here.result (c.name_place-here.ensures at.property at.stands)
+    c.in-Ok-verified.verified c.in-Ok-verified.ensures.«module» fault h))
+    c.in-Err-explained.ensures.refused
+
+pub returns-in-Ok-explained-clause-explained : goal.returns-in-Ok-explained-clause-explained
+returns-in-Ok-explained-clause-explained g c q stands = record {
+  text = c.in-Ok.ensures.text q stands;
+  of_text = c.in-Ok-verified.ensures.«module»;
+  explains = c.in-Ok-explained.ensures.explanation;
+}

@@ -1,0 +1,107 @@
+//! Which steps of a model can be taken in a reached state. The guard of one that can't is true in
+//! none, which mostly is a mistake.
+ghost use Rattle.std.specs.Prelude.{◌<◌, length, IfOk};
+ghost use Rattle.pb_errors.specs.OrMemory.{IfRefused};
+ghost use Rattle.pb_model_tree.specs.Form.{model_form};
+ghost use Rattle.pbsolve.specs.ReachedSteps.{AreStepsFound, AreStepsFoundWhere, IsFoundOfStep};
+ghost use Rattle.pbsolve.specs.ReachedSteps.{IsStepText, IsUntypedStep};
+
+use crate::outcome::{Outcome, early_truth, outcome_of};
+use crate::property_module::property_module;
+use crate::property_text::{AskedText, PropertyText, untyped};
+use crate::step_finding::StepFinding;
+use pb_command_line::Checking;
+use pb_errors::OrMemory;
+use pb_exploration::Gate;
+use pb_faults::SolveFault;
+use pb_model_properties::{SolvedModel, reached_text_at};
+use pb_module_solver::{Context, SolveOptions};
+use std::alloc::Global;
+use std::thread::Threads;
+
+// The text that asks whether the step at a place can be taken in a reached state.
+fn step_text(
+    alloc: Global,
+    solved: &SolvedModel,
+    step: usize,
+) -> Result<AskedText, OrMemory<SolveFault>>
+    requires { step < length solved.now.typed.model.steps.items }
+    ensures text { IfOk result
+        (λ asked. IsStepText (model_form solved.now.typed.model) step asked.text) }
+    ensures refused { IfRefused result (IsUntypedStep (model_form solved.now.typed.model)) }
+{
+    match reached_text_at(alloc, solved, step) {
+        Ok(typed) => Ok(AskedText {
+            place: step,
+            text: PropertyText::Typed(typed),
+        }),
+        Err(error) => untyped(error, step),
+    }
+}
+
+// What is found of the step at a place.
+fn step_finding<R: Threads + Sync, G: Gate + Sync>(
+    context: &Context<'_, R, G>,
+    solved: &SolvedModel,
+    step: usize,
+    options: SolveOptions,
+) -> Result<StepFinding, OrMemory<SolveFault>>
+    requires { step < length solved.now.typed.model.steps.items }
+    ensures found { IfOk result (IsFoundOfStep (model_form solved.now.typed.model) step) }
+    ensures refused { IfRefused result (IsUntypedStep (model_form solved.now.typed.model)) }
+{
+    let asked = step_text(context.alloc, solved, step)?;
+    let compiled = property_module(context.alloc, &asked.text)?;
+    let early = early_truth(context, &compiled, options)?;
+    if let Some(truth) = early {
+        return Ok(StepFinding::by_truth(truth));
+    }
+    let outcome = outcome_of(context, &compiled, options)?;
+    match outcome {
+        Outcome::TooLarge(excess) => Ok(StepFinding::Refused(excess)),
+        Outcome::Answered(answer) => Ok(StepFinding::by_truth(answer.truth)),
+    }
+}
+
+// What is found of each step.
+fn all_steps<R: Threads + Sync, G: Gate + Sync>(
+    context: &Context<'_, R, G>,
+    solved: &SolvedModel,
+    options: SolveOptions,
+) -> Result<Vec<StepFinding>, OrMemory<SolveFault>>
+    ensures found { IfOk result
+        (λ findings. AreStepsFound (model_form solved.now.typed.model) findings.items) }
+    ensures refused { IfRefused result (IsUntypedStep (model_form solved.now.typed.model)) }
+{
+    let mut findings = Vec::new(context.alloc);
+    for step in 0..solved.typed.model.steps.len() {
+        let finding = step_finding(context, solved, step, options)?;
+        findings.push(finding)?;
+    }
+    Ok(findings)
+}
+
+/// What is found of each step, where counts are asked for.
+///
+/// # Errors
+/// `Typing` where the text that asks whether a step can be taken isn't well typed by another rule
+/// than that of limits.
+pub(crate) fn steps_on<R: Threads + Sync, G: Gate + Sync>(
+    context: &Context<'_, R, G>,
+    solved: &SolvedModel,
+    options: &Checking,
+) -> Result<Vec<StepFinding>, OrMemory<SolveFault>>
+    ensures found { IfOk result (λ findings.
+        AreStepsFoundWhere options.now.counts (model_form solved.now.typed.model)
+        findings.items) }
+    ensures refused { IfRefused result (IsUntypedStep (model_form solved.now.typed.model)) }
+{
+    if !options.counts {
+        return Ok(Vec::new(context.alloc));
+    }
+    let solving = SolveOptions {
+        workers: options.solving.workers,
+        solver: options.solving.solver,
+    };
+    all_steps(context, solved, solving)
+}

@@ -1,0 +1,60 @@
+//! The lines that name steps that can be taken in no reached state, and how a check ends.
+ghost use Rattle.std.specs.Prelude.{◌≡◌, ◌++◌, OnOk, string_bytes};
+ghost use Rattle.std.specs.List.{list_any};
+ghost use Rattle.pb_model_properties.specs.Words.{words_in};
+ghost use Rattle.pbsolve.specs.ReachedSteps.{refuses_step, status_of_checked, step_line};
+ghost use Rattle.pbsolve.specs.ReachedSteps.{step_lines};
+
+use crate::finding::Found;
+use crate::finding_lines::status_of;
+use crate::status::Status;
+use crate::step_finding::StepFinding;
+use pb_model_properties::{SolvedModel, name_of_step, push_refused, push_unreached};
+use std::alloc::AllocError;
+
+// Puts the line of a step behind others, where something is told of it.
+fn push_step(lines: &mut String, name: &str, finding: StepFinding) -> Result<(), AllocError>
+    ensures { OnOk result
+        (string_bytes lines.new ≡ string_bytes lines.old ++ step_line name.now finding) }
+{
+    match finding {
+        StepFinding::Reached => Ok(()),
+        StepFinding::Never => push_unreached(lines, name),
+        StepFinding::Refused(excess) => push_refused(lines, name, excess.number()),
+    }
+}
+
+/// Puts the lines of what is found of the model's steps behind others.
+///
+/// # Errors
+/// Memory was refused.
+pub(crate) fn push_steps(
+    lines: &mut String,
+    solved: &SolvedModel,
+    findings: &[StepFinding],
+) -> Result<(), AllocError>
+    ensures { OnOk result (string_bytes lines.new
+        ≡ string_bytes lines.old ++ step_lines (words_in solved.now) findings.now) }
+{
+    for (step, finding) in findings.iter().enumerate() {
+        push_step(lines, name_of_step(solved, step), *finding)?;
+    }
+    Ok(())
+}
+
+// Whether a text that asks for a step is refused.
+fn has_refused(steps: &[StepFinding]) -> bool
+    ensures { result ≡ list_any refuses_step steps.now }
+{
+    steps.iter().any(|step| step.is_refused())
+}
+
+/// How the run ends, where the exit status tells the verdicts or doesn't.
+pub(crate) fn status_of_checked(findings: &[Found], steps: &[StepFinding], tells: bool) -> Status
+    ensures { result ≡ status_of_checked tells findings.now steps.now }
+{
+    if has_refused(steps) {
+        return Status::Refused;
+    }
+    status_of(findings, tells)
+}

@@ -1,0 +1,226 @@
+//! What is told of the property at a place: the verdict, and what shows it.
+ghost use Rattle.std.specs.Prelude.{◌≡◌, ◌≤◌, ◌<◌, ℕ, IfOk, Some};
+ghost use Rattle.std.specs.Prelude.{length, string_bytes};
+ghost use Rattle.std.specs.List.{slice_get};
+ghost use Rattle.pb_errors.specs.OrMemory.{IfRefused};
+ghost use Rattle.pb_text_tree.specs.Form.{spec_form};
+ghost use Rattle.pb_text_tree.specs.declared.place.Place.{Place};
+ghost use Rattle.pb_text_meaning.specs.Erase.{erase};
+ghost use Rattle.pb_trees.specs.Tree.{Tree};
+ghost use Rattle.pb_bytecode.specs.Meaning.{AreTrees};
+ghost use Rattle.pb_assembler_modules.specs.Module.{IsCompiledModule};
+ghost use Rattle.pb_report.specs.ModuleEvidence.{IsExplanation};
+ghost use Rattle.pb_model_tree.specs.Form.{FormulaForm, PropertyForm, model_form};
+ghost use Rattle.pb_model_translation.specs.Placed.{placed};
+ghost use Rattle.pb_protocol_tree.specs.Form as protocol_form;
+ghost use Rattle.pb_model_properties.specs.Said.{IsModelOf};
+ghost use Rattle.pb_model_properties.specs.Words.{words_in};
+ghost use Rattle.pb_model_words.specs.View.{vocabulary_of};
+ghost use Rattle.pbsolve.specs.Models.{IsUnexplained};
+ghost use Rattle.pbsolve.specs.Outcomes.{AreNegations, IsExplainedAt, verdict_in};
+ghost use Rattle.pbsolve.specs.Why.{IsTold, is_true, lines_of, shown_by, steps_of, told_text};
+
+use crate::explained::{ExplainedText, explained_at};
+use crate::explained_finding::{Asked, explained_finding};
+use crate::finding::Finding;
+use crate::finding_lines::verdict_of;
+use crate::property_faults::too_large_at;
+use pb_errors::OrMemory;
+use pb_exploration::Gate;
+use pb_faults::{PropertyExcess, SolveFault};
+use pb_limits::MAX_INPUT_BYTES;
+use pb_machine::instances_have_trees;
+use pb_model_properties::{SolvedModel, Verdict, push_verdict, words_of};
+use pb_model_tree::Model;
+use pb_model_typing::steps_text;
+use pb_model_words::Vocabulary;
+use pb_module_solver::Context;
+use pb_typing::Typed;
+use pb_why::{Shown, push_instance_lines, push_why};
+use std::alloc::{AllocError, Global};
+use std::thread::Threads;
+
+// A verdict as it is told: whether what shows it always stands behind it, and whether by lines of
+// instances.
+#[derive(Clone, Copy, Debug, PartialEq, Eq)]
+struct ToldVerdict {
+    verdict: Verdict,
+    always: bool,
+    lines: bool,
+}
+
+// The verdict that is found, or what is too large for one.
+fn verdict_in(finding: Finding) -> Result<Verdict, PropertyExcess>
+    ensures { result ≡ verdict_in finding }
+{
+    match finding {
+        Finding::Decided(verdict, _) => Ok(verdict),
+        Finding::Shown(truth) => Ok(verdict_of(truth)),
+        Finding::Refused(excess) => Err(excess),
+    }
+}
+
+// Whether the verdict is true.
+fn is_true(verdict: Verdict) -> bool
+    ensures { result ≡ is_true verdict }
+{
+    match verdict {
+        Verdict::True => true,
+        Verdict::False | Verdict::Unknown => false,
+    }
+}
+
+// The verdict on a property, and behind it what shows it.
+fn told(
+    alloc: Global,
+    telling: ToldVerdict,
+    name: &str,
+    shown: &Shown<'_>,
+) -> Result<String, AllocError>
+    requires compiled { IsCompiledModule (erase (spec_form shown.now.typed.now.spec))
+        shown.now.verified.now }
+    requires trees { (trees : ℕ → Tree) × AreTrees shown.now.verified.now trees }
+    requires explanation { IsExplanation shown.now.verified.now shown.now.explanation.now }
+    requires property { (here : Place) × (f : FormulaForm)
+        × (spec_form shown.now.typed.now.spec ≡ placed (model_form shown.now.model.now) here f) }
+    requires steps { (here : Place) × (f : FormulaForm)
+        × (spec_form shown.now.steps.now.spec ≡ placed (model_form shown.now.model.now) here f) }
+    ensures { IfOk result (λ told. (trees : ℕ → Tree) → AreTrees shown.now.verified.now trees
+        → string_bytes told ≡ told_text telling.always name.now telling.verdict
+        (lines_of telling.lines
+        (shown_by (vocabulary_of shown.now.vocabulary.now) (spec_form shown.now.typed.now.spec)
+        (spec_form shown.now.steps.now.spec) shown.now.verified.now trees
+        shown.now.explanation.now.evidence))) }
+{
+    let mut told = String::new(alloc);
+    push_verdict(&mut told, name, telling.verdict)?;
+    if telling.always || !is_true(telling.verdict) {
+        if telling.lines {
+            push_instance_lines(alloc, shown, &mut told)?;
+        } else {
+            push_why(alloc, shown, &mut told)?;
+        }
+    }
+    Ok(told)
+}
+
+// What is shown, but for the words in which it is told.
+#[derive(Clone, Copy)]
+struct ShownParts<'a> {
+    model: &'a Model,
+    steps: &'a Typed,
+    explained: &'a ExplainedText,
+}
+
+// The same, in these words. A vocabulary can't be lent beside what is lent already, so that what is
+// shown is put together here.
+fn told_in(
+    alloc: Global,
+    telling: ToldVerdict,
+    name: &str,
+    vocabulary: &Vocabulary<'_>,
+    parts: &ShownParts<'_>,
+) -> Result<String, AllocError>
+    requires compiled { IsCompiledModule
+        (erase (spec_form parts.now.explained.now.typed.spec)) parts.now.explained.now.verified }
+    requires trees { (trees : ℕ → Tree) × AreTrees parts.now.explained.now.verified trees }
+    requires explanation { IsExplanation parts.now.explained.now.verified
+        parts.now.explained.now.explanation }
+    requires property { (here : Place) × (f : FormulaForm)
+        × (spec_form parts.now.explained.now.typed.spec
+        ≡ placed (model_form parts.now.model.now) here f) }
+    requires steps { (here : Place) × (f : FormulaForm) × (spec_form
+        parts.now.steps.now.spec ≡ placed (model_form parts.now.model.now) here f) }
+    ensures { IfOk result (λ told. (trees : ℕ → Tree)
+        → AreTrees parts.now.explained.now.verified trees
+        → string_bytes told ≡ told_text telling.always name.now telling.verdict
+        (lines_of telling.lines
+        (shown_by (vocabulary_of vocabulary.now) (spec_form parts.now.explained.now.typed.spec)
+        (spec_form parts.now.steps.now.spec) parts.now.explained.now.verified trees
+        parts.now.explained.now.explanation.evidence))) }
+{
+    let explained = parts.explained;
+    let shown = Shown {
+        model: parts.model,
+        vocabulary,
+        typed: &explained.typed,
+        steps: parts.steps,
+        verified: &explained.verified,
+        explanation: &explained.explanation,
+    };
+    told(alloc, telling, name, &shown)
+}
+
+// What is told of the property at a place, whose text is explained.
+fn explained_told(
+    alloc: Global,
+    solved: &SolvedModel,
+    explained: &ExplainedText,
+    place: usize,
+    telling: ToldVerdict,
+) -> Result<String, AllocError>
+    requires within { place < length solved.now.typed.model.properties.items }
+    requires explained { IsExplainedAt (model_form solved.now.typed.model) place explained.now }
+    ensures { IfOk result (λ told. (q : PropertyForm)
+        → slice_get (model_form solved.now.typed.model).properties place ≡ Some q
+        → (trees : ℕ → Tree) → AreTrees explained.now.verified trees
+        → string_bytes told ≡ told_text telling.always q.name.text telling.verdict
+        (lines_of telling.lines
+        (shown_by (words_in solved.now) (spec_form explained.now.typed.spec)
+        (steps_of (model_form solved.now.typed.model)) explained.now.verified trees
+        explained.now.explanation.evidence))) }
+{
+    instances_have_trees(&explained.verified);
+    let model = &solved.typed;
+    let steps = steps_text(alloc, model)?;
+    let vocabulary = words_of(alloc, solved)?;
+    let parts = ShownParts {
+        model: &model.model,
+        steps: &steps,
+        explained,
+    };
+    let name = &model.model.properties[place].name.text;
+    told_in(alloc, telling, name, &vocabulary, &parts)
+}
+
+/// What is told of the property at a place.
+///
+/// # Errors
+/// `Property` where something of it or of its negation is too large; `Typing` where the text of one
+/// of the two isn't well typed. `Text` and `Typing` come too where the negations are refused.
+pub(crate) fn told_at<R: Threads + Sync, G: Gate + Sync>(
+    context: &Context<'_, R, G>,
+    bytes: &[u8],
+    solved: &SolvedModel,
+    negations: &mut Option<SolvedModel>,
+    asked: Asked,
+) -> Result<String, OrMemory<SolveFault>>
+    requires input { length bytes.now ≤ MAX_INPUT_BYTES }
+    requires said { IsModelOf bytes.now (model_form solved.now.typed.model) }
+    requires within { asked.place < length solved.now.typed.model.properties.items }
+    requires read { AreNegations bytes.now negations.now }
+    ensures read { AreNegations bytes.now negations.new }
+    ensures told { IfOk result (λ told.
+        (said : IsModelOf bytes.now (model_form solved.now.typed.model))
+        (p : protocol_form.PropertyForm) (q : PropertyForm)
+        → slice_get said.protocol.properties asked.place ≡ Some p
+        → slice_get (model_form solved.now.typed.model).properties asked.place ≡ Some q
+        → IsTold asked.options.lines asked.always (words_in solved.now) said.protocol
+        (model_form solved.now.typed.model) p q (string_bytes told)) }
+    ensures refused { IfRefused result (IsUnexplained bytes.now) }
+{
+    let explained = explained_at(context, solved, asked.place, asked.options)?;
+    instances_have_trees(&explained.verified);
+    let finding = explained_finding(context, bytes, negations, &explained, asked)?;
+    match verdict_in(finding) {
+        Err(excess) => Err(too_large_at(&solved.typed, asked.place, excess).into()),
+        Ok(verdict) => {
+            let telling = ToldVerdict {
+                verdict,
+                always: asked.always,
+                lines: asked.options.lines,
+            };
+            Ok(explained_told(context.alloc, solved, &explained, asked.place, telling)?)
+        }
+    }
+}
