@@ -11,8 +11,7 @@ and calloc, and those of pthread_create.
 For each case requests are counted up until a run meets no refusal (with two workers, whose requests vary with
 their interleaving, until twenty runs in a row meet none). A run that met one must end with status 3, the line `M01` and
 nothing on standard output. Only where the C library asked, as it does to start a thread, or a thread was refused, or the
-program asked inside the call that starts the workers, or for room ahead, may the whole answer come instead; the table counts these
-apart."""
+program asked inside the call that starts the workers, may the whole answer come instead; the table counts these apart."""
 import concurrent.futures
 import os
 import re
@@ -75,8 +74,6 @@ CASES = [
     ("solve-code", "counts down", COUNTS_DOWN, b"answer true\ninstances 10\ncut 0\nvertices 12\n"),
 ]
 NO_MEMORY = (3, b"", b"M01\n")
-# How many requests of a case ask for room ahead, as `collect` does, which goes on without it and asks again for what it needs.
-ROOM_AHEAD = {("why", "model"): 2, ("why", "protocol"): 4}
 WORKER_ALONE = "worker_without_memory"
 TEST_ERROR = 101
 STEP = 7
@@ -123,7 +120,7 @@ class Refusals:
 def sweep(refusals, case, workers, kind, is_part, wrong):
     """Refuses each request or thread in turn: how many were refused, and how many of these runs answered all the same."""
     command, name, text, output = case
-    whole, number, refused, answered, calm, ahead = (0, output, b""), 1, 0, 0, 0, 0
+    whole, number, refused, answered, calm = (0, output, b""), 1, 0, 0, 0
     while calm < (20 if workers > 1 and not is_part else 1):
         ended, what, places = refusals.run([command, "--workers", str(workers)], text, **{kind: number})
         if what == "nothing":
@@ -133,8 +130,7 @@ def sweep(refusals, case, workers, kind, is_part, wrong):
             calm, refused = 0, refused + 1
             answered += ended == whole
             may_answer = what != "program" or workers > 1 and any("thread" in it for it in refusals.callers(places))
-            ahead += not may_answer and ended == whole
-            is_wanted = ended == NO_MEMORY or ended == whole and (may_answer or ahead <= ROOM_AHEAD.get((command, name), 0))
+            is_wanted = ended == NO_MEMORY or may_answer and ended == whole
         if not is_wanted:
             wrong.append((command, name, workers, kind, number, what, ended, refusals.callers(places)))
         number += STEP if workers > 1 and is_part else 1

@@ -27,16 +27,21 @@ fn are_many(groups: &[usize]) -> bool
 fn flat_counts(alloc: Global, state: &[Variables]) -> Result<Vec<usize>, AllocError>
     ensures { IfOk result (λ v. v.items ≡ map (λ group. vec_len group.names) state.now) }
 {
-    state.iter().map(|group| group.names.len()).collect(alloc)
+    let mut counts = Vec::new(alloc);
+    for group in state {
+        counts.push(group.names.len())?;
+    }
+    Ok(counts)
 }
 
 fn protocol_counts(alloc: Global, state: &[StateVariables]) -> Result<Vec<usize>, AllocError>
     ensures { IfOk result (λ v. v.items ≡ map (λ group. vec_len group.variables) state.now) }
 {
-    state
-        .iter()
-        .map(|group| group.variables.len())
-        .collect(alloc)
+    let mut counts = Vec::new(alloc);
+    for group in state {
+        counts.push(group.variables.len())?;
+    }
+    Ok(counts)
 }
 
 /// Whether the state of a flat model has more variables than a text has parameters.

@@ -31,7 +31,11 @@ pub(crate) fn names_of(alloc: Global, steps: &[StepOrigin]) -> Result<Vec<String
 pub(crate) fn places_of(alloc: Global, steps: &[StepOrigin]) -> Result<Vec<Place>, AllocError>
     ensures { IfOk result (λ v. v.items ≡ map origin_place steps.now) }
 {
-    steps.iter().map(|step| step.place).collect(alloc)
+    let mut places = Vec::new(alloc);
+    for step in steps {
+        places.push(step.place)?;
+    }
+    Ok(places)
 }
 
 /// Where a place of an unfolded model stands in the protocol: one at column 0 is that of the step

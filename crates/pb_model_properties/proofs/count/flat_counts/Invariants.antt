@@ -1,0 +1,8 @@
+use Rattle.std.proofs.Common.{◌≡◌, ◌++◌, drop, map}
+use Rattle.std.specs.Prelude.{vec_len}
+use Rattle.pb_text_tree.specs.declared.variable.Variables.{Variables}
+use Rattle.pb_model_properties.proofs.count.flat_counts.Given as goal
+
+-- the counts so far, and those that are left
+abbrev pub invariant-loop-group : goal.invariant-loop-group
+invariant-loop-group l = let count = λ (g : Variables). vec_len g.names in l.counts.items ++ map count (drop l.group-index l.state) ≡ map count l.state
