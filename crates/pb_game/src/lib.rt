@@ -24,7 +24,7 @@ pub use parts::{GameError, GameFault, Parts};
 pub use pb_trees::Player;
 use predecessors::{Predecessors, transpose};
 pub use solver::Solver;
-use std::alloc::Global;
+use std::alloc::{AllocError, Global};
 
 /// A parity game within the limits of vertices and priorities. Its vertices are the numbers below
 /// [`Game::len`].
@@ -44,7 +44,7 @@ pub struct Game {
 impl Game {
     ghost use Rattle.pb_game.specs.Games.{vertex_count, owner_of, priority_of, greatest_priority};
     ghost use Rattle.pb_game.specs.Games.{successors_of, predecessors_of, HasEdge, IsGame};
-    ghost use Rattle.pb_game.specs.Parts.{IsGameOfParts, Refuses};
+    ghost use Rattle.pb_game.specs.Parts.{AreGame, IsGameOfParts, Refuses};
 
     /// The game of these parts.
     ///
@@ -57,6 +57,15 @@ impl Game {
         ensures refused { IfRefused result (Refuses parts) }
     {
         parts.check()?;
+        Ok(Game::of_parts(alloc, parts)?)
+    }
+
+    /// The game of parts that make one. They aren't tested.
+    pub fn of_parts(alloc: Global, parts: Parts) -> Result<Game, AllocError>
+        requires { AreGame parts }
+        ensures game { IfOk result (λ game. IsGameOfParts parts game) }
+        ensures well_formed { IfOk result (λ game. IsGame game) }
+    {
         let greatest = parts.greatest();
         let Predecessors { places, vertices } = transpose(
             alloc,

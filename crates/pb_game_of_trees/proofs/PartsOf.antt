@@ -12,9 +12,7 @@ use Rattle.pb_trees.specs.declared.player.Player.TheVariants.{Even}
 use Rattle.pb_game.specs.declared.Game.{Game}
 use Rattle.pb_game.specs.declared.parts.Parts.{Parts}
 use Rattle.pb_game.specs.Adjacency.{row}
-use Rattle.pb_game.specs.declared.parts.GameFault.{GameFault}
-use Rattle.pb_game.specs.declared.parts.GameFault.TheVariants as fault
-use Rattle.pb_game.specs.Parts.{AreGame, IsGameOfParts, Refuses}
+use Rattle.pb_game.specs.Parts.{AreGame, IsGameOfParts}
 use Rattle.pb_strategy.specs.Vertices.{HasVertices}
 use Rattle.pb_game_of_trees.specs.Draft.{successors, edge_sums, places, ArePartsOf, MakeGame}
 
@@ -89,13 +87,6 @@ each_successor P (x ∷ vs) h k d l = All-append P x.successors (successors vs) 
 
 length-places : (vs : List Vertex) → length (places vs) ≡ length vs + 1
 length-places vs = length-map (edge_sums vs) (λ (n : ℕ). length (successors vs) - n) ∙ length-edge_sums vs
-
-pub ruled_out : (p : Parts) → AreGame p → (fault : GameFault) → Refuses p fault → ⊥
-ruled_out p game fault.TooManyVertices h = h game.few
-ruled_out p game fault.Priorities h = h.1 game.priorities
-ruled_out p game fault.Places h = h.2 game.places
-ruled_out p game fault.Successors h = h.3 game.successors
-ruled_out p game fault.TooManyPriorities h = h.4 game.few_priorities
 
 pub parts_are_game : (vs : List Vertex) → MakeGame vs → (p : Parts) → ArePartsOf p vs → AreGame p
 parts_are_game vs make p is =

@@ -13,8 +13,5 @@ pub(crate) fn game_of(alloc: Global, parts: Parts) -> Result<Game, AllocError>
     ensures { IfOk result (λ game. (vertices : List Vertex) → ArePartsOf parts vertices
         → HasVertices game vertices) }
 {
-    match Game::from_parts(alloc, parts) {
-        Ok(game) => Ok(game),
-        Err(error) => Err(error.only_memory()),
-    }
+    Game::of_parts(alloc, parts)
 }

@@ -42,6 +42,22 @@ impl Budget {
         }
     }
 
+    /// How many looks are left.
+    #[inline]
+    pub fn left(&self) -> usize {
+        self.looks
+    }
+
+    /// Takes these looks, for which a vertex or list is still to be paid.
+    #[inline]
+    pub fn pass(&mut self, looks: usize) -> Result<(), Stop> {
+        if self.looks <= looks {
+            return Err(Stop::GaveUp);
+        }
+        self.looks -= looks;
+        Ok(())
+    }
+
     /// Takes these looks, and one more for the vertex or list that they belong to.
     #[inline]
     pub fn spend(&mut self, looks: usize) -> Result<(), Stop> {

@@ -2,8 +2,10 @@
 
 use crate::arena::priority;
 use crate::budget::Stop;
+use crate::rounds::Forced;
 use crate::workspace::{Attractor, Region, Workspace, item};
 use pb_game::{Game, Player};
+use std::thread::Threads;
 
 /// A subgame: the vertices from one place of the list to below another. Their priorities are below
 /// the limit.
@@ -50,11 +52,25 @@ impl Level {
             but: 0,
         }
     }
+
+    /// The player's vertices that the opponent may win.
+    pub fn forced(&self) -> Forced {
+        Forced {
+            player: self.player,
+            least: self.front,
+            greatest: u32::MAX,
+            region: self.region(),
+        }
+    }
 }
 
 /// The greatest priority of a subgame.
 pub(crate) fn greatest(game: &Game, space: &mut Workspace, part: Part) -> Result<u32, Stop> {
-    space.budget.spend(part.to.saturating_sub(part.from))?;
+    let vertices = part.to.saturating_sub(part.from);
+    space.budget.spend(vertices)?;
+    if vertices == game.len() as usize {
+        return Ok(game.greatest_priority());
+    }
     let mut greatest = 0;
     for k in part.from..part.to {
         let Some(v) = item(&space.list, k) else { break };
@@ -65,6 +81,7 @@ pub(crate) fn greatest(game: &Game, space: &mut Workspace, part: Part) -> Result
 
 /// Divides a subgame into the front and the rest, which stands first in the list then.
 pub(crate) fn open(
+    rt: &(impl Threads + Sync),
     game: &Game,
     space: &mut Workspace,
     part: Part,
@@ -92,7 +109,7 @@ pub(crate) fn open(
             but: level.front,
         },
     };
-    space.attract(game, attractor)?;
+    space.attract(rt, game, attractor)?;
     number_front(space, &mut level, heads);
     for k in part.from..part.to {
         let Some(v) = item(&space.list, k) else { break };

@@ -15,6 +15,7 @@ mod measure;
 mod method;
 mod promotion;
 mod recursion;
+mod rounds;
 mod share;
 mod split;
 mod support;
@@ -55,14 +56,14 @@ const MORE_PROMOTION: usize = 1 << 22;
 ///
 /// Memory alone.
 pub fn search(
-    _rt: &(impl Threads + Sync),
+    rt: &(impl Threads + Sync),
     alloc: Global,
     game: &Game,
     method: Search,
 ) -> Result<Option<Solution>, AllocError> {
     let found = match method {
-        Search::Recursion => recurse(alloc, game, false),
-        Search::Components => recurse(alloc, game, true),
+        Search::Recursion => recurse(rt, alloc, game, false),
+        Search::Components => recurse(rt, alloc, game, true),
         Search::Promotion => promote_within(alloc, game),
     };
     match found {
@@ -73,7 +74,12 @@ pub fn search(
 }
 
 /// A solution by the recursion.
-fn recurse(alloc: Global, game: &Game, by_components: bool) -> Result<Solution, Stop> {
+fn recurse(
+    rt: &(impl Threads + Sync),
+    alloc: Global,
+    game: &Game,
+    by_components: bool,
+) -> Result<Solution, Stop> {
     let budget = if by_components {
         Budget::new(game, COMPONENTS, MORE_COMPONENTS)
     } else {
@@ -85,7 +91,7 @@ fn recurse(alloc: Global, game: &Game, by_components: bool) -> Result<Solution, 
         to: game.len() as usize,
         limit: space.draft.width,
     };
-    solve_parts(game, &mut space, whole)?;
+    solve_parts(rt, game, &mut space, whole)?;
     let Workspace { draft, .. } = space;
     let Draft { solution, .. } = draft;
     Ok(solution)

@@ -11,10 +11,16 @@ use crate::split::Split;
 use crate::turns::take_turn;
 use crate::workspace::Workspace;
 use pb_game::Game;
+use std::thread::Threads;
 
 /// Solves a subgame, in turns.
 #[cycle(levels)]
-pub(crate) fn solve(game: &Game, space: &mut Workspace, part: Part) -> Result<(), Stop> {
+pub(crate) fn solve(
+    rt: &(impl Threads + Sync),
+    game: &Game,
+    space: &mut Workspace,
+    part: Part,
+) -> Result<(), Stop> {
     if part.to <= part.from {
         return Ok(());
     }
@@ -22,19 +28,19 @@ pub(crate) fn solve(game: &Game, space: &mut Workspace, part: Part) -> Result<()
     if part.limit <= top {
         return Err(Stop::GaveUp);
     }
-    let mut level = open(game, space, part, top)?;
+    let mut level = open(rt, game, space, part, top)?;
     for _ in 0..u64::MAX {
         let inner = Part {
             from: part.from,
             to: level.end,
             limit: top,
         };
-        let is_split = solve_parts(game, space, inner)?;
+        let is_split = solve_parts(rt, game, space, inner)?;
         read_back(space, &mut level, is_split)?;
         if space.taken.is_empty() {
             break;
         }
-        take_turn(game, space, &mut level)?;
+        take_turn(rt, game, space, &mut level)?;
     }
     close(game, space, &level)
 }
@@ -42,11 +48,16 @@ pub(crate) fn solve(game: &Game, space: &mut Workspace, part: Part) -> Result<()
 /// Solves a subgame component by component, where these are asked for and there are several of
 /// them, and else at once. Whether it was split.
 #[cycle(levels)]
-pub(crate) fn solve_parts(game: &Game, space: &mut Workspace, part: Part) -> Result<bool, Stop> {
+pub(crate) fn solve_parts(
+    rt: &(impl Threads + Sync),
+    game: &Game,
+    space: &mut Workspace,
+    part: Part,
+) -> Result<bool, Stop> {
     let mut split = match Split::new(game, space, part)? {
         Some(split) => split,
         None => {
-            solve(game, space, part)?;
+            solve(rt, game, space, part)?;
             return Ok(false);
         }
     };
@@ -57,8 +68,8 @@ pub(crate) fn solve_parts(game: &Game, space: &mut Workspace, part: Part) -> Res
             to,
             limit: part.limit,
         };
-        solve(game, space, component)?;
-        split.settle(game, space, component)?;
+        solve(rt, game, space, component)?;
+        split.settle(rt, game, space, component)?;
     }
     split.close(space);
     Ok(true)

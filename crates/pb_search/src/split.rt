@@ -6,6 +6,7 @@ use crate::levels::Part;
 use crate::share::Share;
 use crate::workspace::{Attractor, Region, Workspace, item};
 use pb_game::{Game, Player};
+use std::thread::Threads;
 
 /// A subgame that is solved component by component, last ones first. What a player wins attracts
 /// from the components that are left.
@@ -100,7 +101,13 @@ impl Split {
 
     /// Reads who wins what of a component that is solved, and attracts to it from those that are
     /// left.
-    pub fn settle(&mut self, game: &Game, space: &mut Workspace, part: Part) -> Result<(), Stop> {
+    pub fn settle(
+        &mut self,
+        rt: &(impl Threads + Sync),
+        game: &Game,
+        space: &mut Workspace,
+        part: Part,
+    ) -> Result<(), Stop> {
         space.budget.spend(part.to.saturating_sub(part.from))?;
         let (mut mine, mut theirs) = (self.mine, self.theirs);
         for k in part.from..part.to {
@@ -116,27 +123,22 @@ impl Split {
                 theirs.take(space, v, self.theirs.greatest.saturating_add(count));
             }
         }
-        self.theirs = self.attract(game, space, part, theirs)?;
-        self.mine = self.attract(game, space, part, mine)?;
+        take_won(space, part, theirs.label)?;
+        self.theirs = self.attract(rt, game, space, theirs)?;
+        take_won(space, part, mine.label)?;
+        self.mine = self.attract(rt, game, space, mine)?;
         Ok(())
     }
 
-    /// Attracts, of the components that are left, to what a player has won of one.
+    /// Attracts, of the components that are left, to what is taken, which a player has won.
     fn attract(
         &self,
+        rt: &(impl Threads + Sync),
         game: &Game,
         space: &mut Workspace,
-        part: Part,
         share: Share,
     ) -> Result<Share, Stop> {
         let mut share = share;
-        space.taken.clear();
-        for k in part.from..part.to {
-            let Some(v) = item(&space.list, k) else { break };
-            if space.label.get(v) == share.label {
-                space.taken.push(v)?;
-            }
-        }
         let had = space.taken.len();
         let attractor = Attractor {
             player: share.player,
@@ -147,7 +149,7 @@ impl Split {
                 but: share.label,
             },
         };
-        space.attract(game, attractor)?;
+        space.attract(rt, game, attractor)?;
         for k in had..space.taken.len() {
             let Some(v) = item(&space.taken, k) else {
                 break
@@ -162,6 +164,18 @@ impl Split {
     pub fn close(&self, space: &mut Workspace) {
         space.components.ends.truncate(self.first);
     }
+}
+
+/// Takes what has this label of a subgame.
+fn take_won(space: &mut Workspace, part: Part, label: u32) -> Result<(), Stop> {
+    space.taken.clear();
+    for k in part.from..part.to {
+        let Some(v) = item(&space.list, k) else { break };
+        if space.label.get(v) == label {
+            space.taken.push(v)?;
+        }
+    }
+    Ok(())
 }
 
 /// Labels a subgame, and finds its components.

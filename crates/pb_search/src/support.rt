@@ -5,6 +5,7 @@ use crate::budget::Stop;
 use crate::levels::Level;
 use crate::workspace::{Attractor, Region, Workspace, item};
 use pb_game::Game;
+use std::thread::Threads;
 
 /// A turn: its level, and the label of what has lost its support.
 #[derive(Clone, Copy)]
@@ -60,7 +61,12 @@ pub(crate) fn replace(
 }
 
 /// The front attracts another way what it can of what it has lost.
-pub(crate) fn regain_front(game: &Game, space: &mut Workspace, turn: Turn) -> Result<(), Stop> {
+pub(crate) fn regain_front(
+    rt: &(impl Threads + Sync),
+    game: &Game,
+    space: &mut Workspace,
+    turn: Turn,
+) -> Result<(), Stop> {
     let region = Region {
         stamp: space.fresh()?,
         from: turn.level.rest,
@@ -71,7 +77,7 @@ pub(crate) fn regain_front(game: &Game, space: &mut Workspace, turn: Turn) -> Re
         let Some(x) = item(&space.lost, k) else { break };
         regain(game, space, turn, region, x)?;
     }
-    attract_again(game, space, turn, region)
+    attract_again(rt, game, space, turn, region)
 }
 
 /// Takes in the vertex `x`, if the player has a successor there of the label that the region leaves
@@ -104,6 +110,7 @@ fn regain(
 
 /// Attracts, of what has lost its support, to what is taken.
 fn attract_again(
+    rt: &(impl Threads + Sync),
     game: &Game,
     space: &mut Workspace,
     turn: Turn,
@@ -114,11 +121,16 @@ fn attract_again(
         open: turn.now,
         region,
     };
-    space.attract(game, attractor)
+    space.attract(rt, game, attractor)
 }
 
 /// What stays of the rest is the player's; it attracts what it can of what the rest has lost.
-pub(crate) fn regain_rest(game: &Game, space: &mut Workspace, turn: Turn) -> Result<(), Stop> {
+pub(crate) fn regain_rest(
+    rt: &(impl Threads + Sync),
+    game: &Game,
+    space: &mut Workspace,
+    turn: Turn,
+) -> Result<(), Stop> {
     let region = Region {
         stamp: space.fresh()?,
         from: turn.now,
@@ -129,7 +141,7 @@ pub(crate) fn regain_rest(game: &Game, space: &mut Workspace, turn: Turn) -> Res
         let Some(x) = item(&space.part, k) else { break };
         regain(game, space, turn, region, x)?;
     }
-    attract_again(game, space, turn, region)
+    attract_again(rt, game, space, turn, region)
 }
 
 /// Numbers what was attracted to the rest above all that stays of it.

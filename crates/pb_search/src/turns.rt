@@ -4,30 +4,43 @@
 use crate::arena::{owner, predecessors};
 use crate::budget::Stop;
 use crate::levels::{Level, number_front};
+use crate::rounds::{Round, look_ahead};
 use crate::support::{Turn, number_rest, regain_front, regain_rest, replace};
 use crate::workspace::{Workspace, item};
 use pb_game::Game;
+use std::thread::Threads;
 
 /// The opponent wins what it attracts to what is taken; what is solved again stands first in the
 /// level's part of the list then.
-pub(crate) fn take_turn(game: &Game, space: &mut Workspace, level: &mut Level) -> Result<(), Stop> {
-    concede(game, space, level)?;
+pub(crate) fn take_turn(
+    rt: &(impl Threads + Sync),
+    game: &Game,
+    space: &mut Workspace,
+    level: &mut Level,
+) -> Result<(), Stop> {
+    concede(rt, game, space, level)?;
     let turn = Turn {
         level: *level,
         now: space.fresh()?,
     };
     lose_choices(game, space, turn)?;
     lose_front(game, space, turn)?;
-    regain_front(game, space, turn)?;
+    regain_front(rt, game, space, turn)?;
     number_front(space, level, 0);
     lose_rest(game, space, turn)?;
-    regain_rest(game, space, turn)?;
+    regain_rest(rt, game, space, turn)?;
     number_rest(space, level);
     collect(space, level, turn.now)
 }
 
-/// The opponent wins what it attracts to what is taken. Whose choice is gone is hit.
-fn concede(game: &Game, space: &mut Workspace, level: &mut Level) -> Result<(), Stop> {
+/// The opponent wins what it attracts, round by round, to what is taken. Whose choice is gone is
+/// hit.
+fn concede(
+    rt: &(impl Threads + Sync),
+    game: &Game,
+    space: &mut Workspace,
+    level: &mut Level,
+) -> Result<(), Stop> {
     space.hit.clear();
     for k in 0..space.taken.len() {
         let Some(v) = item(&space.taken, k) else {
@@ -35,11 +48,15 @@ fn concede(game: &Game, space: &mut Workspace, level: &mut Level) -> Result<(), 
         };
         space.label.set(v, 0);
     }
+    let mut round = Round::new();
     for k in 0..usize::MAX {
         let Some(x) = item(&space.taken, k) else {
             break
         };
         let row = predecessors(game, x);
+        if round.turns_large(k, row.len(), &space.taken, &space.budget) {
+            look_ahead(rt, game, space, level.forced(), k..round.end)?;
+        }
         space.budget.spend(row.len())?;
         for &u in row {
             if space.label.get(u) >= level.front {

@@ -3,8 +3,10 @@
 use crate::arena::{Draft, Numbers, owner, predecessors, successors};
 use crate::budget::{Budget, Stop};
 use crate::components::Components;
+use crate::rounds::{Ahead, Forced, Round, Ways, look_ahead};
 use pb_game::{Game, Player};
 use std::alloc::{AllocError, Global};
+use std::thread::Threads;
 
 /// A region: the vertices whose label is at least `from`, except those of the label `but`. How many
 /// of a vertex's first successors are outside is kept under the stamp, as long as none of them
@@ -16,6 +18,14 @@ pub(crate) struct Region {
     pub but: u32,
 }
 
+impl Region {
+    /// Whether a vertex of this label is in the region.
+    #[inline]
+    pub fn has(self, label: u32) -> bool {
+        self.from <= label && label != self.but
+    }
+}
+
 /// An attractor: the player takes in vertices of the label `open`, and they get the label that the
 /// region leaves out. The opponent's vertices are taken in once no successor is in the region.
 #[derive(Clone, Copy)]
@@ -23,6 +33,18 @@ pub(crate) struct Attractor {
     pub player: Player,
     pub open: u32,
     pub region: Region,
+}
+
+impl Attractor {
+    /// The opponent's vertices that it may take in.
+    fn forced(self) -> Forced {
+        Forced {
+            player: self.player.opponent(),
+            least: self.open,
+            greatest: self.open,
+            region: self.region,
+        }
+    }
 }
 
 /// The lists of a search by recursion. Labels and stamps are numbers of one clock, so that none has
@@ -51,6 +73,7 @@ pub(crate) struct Workspace {
     pub lost: Vec<u32>,
     /// What the rest has lost, and is solved again.
     pub part: Vec<u32>,
+    pub ahead: Ahead,
     /// Whether each level solves its rest component by component.
     pub by_components: bool,
     pub components: Components,
@@ -88,6 +111,7 @@ impl Workspace {
             hit: Vec::new(alloc),
             lost: Vec::new(alloc),
             part: Vec::new(alloc),
+            ahead: Ahead::new(alloc),
             by_components,
             components: Components::new(alloc, of_components)?,
         })
@@ -119,36 +143,46 @@ impl Workspace {
         }
     }
 
+    /// How many of the first successors of `u` are known to be outside of the region.
+    #[inline]
+    pub fn passed_before(&mut self, u: u32, region: Region) -> u32 {
+        if self.stamp.get(u) == region.stamp {
+            return self.passed.get(u);
+        }
+        self.stamp.set(u, region.stamp);
+        0
+    }
+
     /// The first successor of `u` in the region, looked for where the last search under this stamp
     /// stopped.
     #[inline]
     pub fn way_out(&mut self, game: &Game, u: u32, region: Region) -> Result<Option<u32>, Stop> {
-        let row = successors(game, u);
-        let mut from = 0;
-        if self.stamp.get(u) == region.stamp {
-            from = self.passed.get(u) as usize;
-        } else {
-            self.stamp.set(u, region.stamp);
-        }
-        for k in from..row.len() {
-            let w = row[k];
-            let label = self.label.get(w);
-            if label >= region.from && label != region.but {
-                self.passed.set(u, narrow(k));
-                self.budget.spend(k - from)?;
-                return Ok(Some(w));
-            }
-        }
-        self.passed.set(u, narrow(row.len()));
-        self.budget.spend(row.len().saturating_sub(from))?;
-        Ok(None)
+        let from = self.passed_before(u, region);
+        let ways = Ways {
+            game,
+            label: &self.label,
+            region,
+        };
+        let place = ways.first(u, from);
+        self.passed.set(u, place);
+        self.budget.spend(place.saturating_sub(from) as usize)?;
+        Ok(item(successors(game, u), place as usize))
     }
 
-    /// Takes in what the player forces into the vertices that are taken already.
-    pub fn attract(&mut self, game: &Game, attractor: Attractor) -> Result<(), Stop> {
+    /// Takes in, round by round, what the player forces into the vertices that are taken already.
+    pub fn attract(
+        &mut self,
+        rt: &(impl Threads + Sync),
+        game: &Game,
+        attractor: Attractor,
+    ) -> Result<(), Stop> {
+        let mut round = Round::new();
         for k in 0..usize::MAX {
             let Some(x) = item(&self.taken, k) else { break };
             let row = predecessors(game, x);
+            if round.turns_large(k, row.len(), &self.taken, &self.budget) {
+                look_ahead(rt, game, self, attractor.forced(), k..round.end)?;
+            }
             self.budget.spend(row.len())?;
             for &u in row {
                 if self.label.get(u) == attractor.open {

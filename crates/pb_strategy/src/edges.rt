@@ -9,11 +9,25 @@ ghost use Rattle.pb_game.specs.Flaws.{LeavesAlong, IncreasesAlong, StaysAlong};
 ghost use Rattle.pb_game.specs.Flaws.{IsFirstRule};
 ghost use Rattle.pb_strategy.specs.Comparisons.{Compares, DecreasesAlong, DontIncrease, EachKept};
 
+use crate::rules::is_certified_at;
 use pb_game::{CertificateRule, Game, Solution};
 use std::cmp::Ordering;
 
 /// The first rule that fails at `v`.
 pub(crate) fn flaw_at(game: &Game, solution: &Solution, v: u32) -> Option<CertificateRule>
+    requires lengths { HasLengths game.now solution.now }
+    requires vertex { v < vertex_count game.now }
+    ensures { MatchOption result (IsCertifiedAt game.now solution.now v)
+        (λ rule. IsFirstRule game.now solution.now v rule) }
+{
+    if is_certified_at(game, solution, v) {
+        return None;
+    }
+    first_rule_at(game, solution, v)
+}
+
+/// The first rule that fails at `v`, by a look at all edges for each rule.
+fn first_rule_at(game: &Game, solution: &Solution, v: u32) -> Option<CertificateRule>
     requires lengths { HasLengths game.now solution.now }
     requires vertex { v < vertex_count game.now }
     ensures { MatchOption result (IsCertifiedAt game.now solution.now v)
@@ -40,7 +54,7 @@ pub(crate) fn flaw_at(game: &Game, solution: &Solution, v: u32) -> Option<Certif
 }
 
 /// Whether `u` is a successor of `v`, as the winner's choice has to be (K01).
-fn has_edge(game: &Game, v: u32, u: u32) -> bool
+pub(crate) fn has_edge(game: &Game, v: u32, u: u32) -> bool
     requires { v < vertex_count game.now }
     ensures { IsTrue result ↔ HasEdge game.now v u }
 {
@@ -116,7 +130,7 @@ fn stays(game: &Game, solution: &Solution, v: u32) -> bool
 
 /// How the counts that matter to the winner of `v` change from `v` to `u`: the highest priority
 /// comes first.
-fn compare(game: &Game, solution: &Solution, v: u32, u: u32) -> Ordering
+pub(crate) fn compare(game: &Game, solution: &Solution, v: u32, u: u32) -> Ordering
     requires lengths { HasLengths game.now solution.now }
     requires from { v < vertex_count game.now }
     requires to { u < vertex_count game.now }

@@ -2,13 +2,14 @@
 //!
 //! [`check`] takes a game and lists that claim to solve it, from whatever solver, and answers with
 //! the lists' winners only where they are a certificate: winning regions with strategies and
-//! progress measures (Jurdzinski 2000). It takes no memory, and reads each edge a few times for
-//! each priority.
+//! progress measures (Jurdzinski 2000). It takes no memory, and looks at each edge once; which rule
+//! fails is looked for at the first vertex alone where one does.
 #![tactic(auto)]
 
 mod certified;
 mod edges;
 pub mod laws;
+mod rules;
 
 ghost use Rattle.std.specs.Prelude.{◌≡◌, ◌*◌, ◌<◌, ◌↔◌, length, IsTrue, IsOk, IfErr, IfOk};
 ghost use Rattle.pb_game.specs.Games.{vertex_count, priority_count};

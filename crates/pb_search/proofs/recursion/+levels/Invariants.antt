@@ -3,7 +3,7 @@ use Rattle.std.proofs.Common.{◌+◌, ◌*◌}
 use Rattle.pb_search.proofs.recursion.+levels.Given as goal
 
 abbrev pub decreases-solve : goal.decreases-solve
-decreases-solve l = 2 * l.part.limit
+decreases-solve g l = 2 * l.part.limit
 
 abbrev pub decreases-solve_parts : goal.decreases-solve_parts
-decreases-solve_parts l = 2 * l.part.limit + 1
+decreases-solve_parts g l = 2 * l.part.limit + 1

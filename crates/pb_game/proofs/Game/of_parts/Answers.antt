@@ -5,18 +5,18 @@ use Rattle.pb_game.specs.Parts.{AreGame}
 use Rattle.pb_game.proofs.Checking.{parts_rows, game_rows, game_total}
 use Rattle.pb_game.proofs.Greatest.{greatest_of-below}
 use Rattle.pb_game.proofs.Laws.{is_game}
-use Rattle.pb_game.proofs.Game.from_parts.Goals as goal
+use Rattle.pb_game.proofs.Game.of_parts.Goals as goal
 
 pub transpose-requires-clause-rows : goal.transpose-requires-clause-rows
 transpose-requires-clause-rows c =
-    let g : AreGame c.args.parts = c.in_ok-check.ensures.ok in
+    let g : AreGame c.args.parts = c.requires in
     let n : c.len.result ≡ length c.args.parts.owners.items = search rules in
     game_rows c.args.parts g _ _ _ n c.deref.ensures.value c.deref-2.ensures.value
 
 pub invariant_of-result : goal.invariant_of-result
 invariant_of-result c =
     let p = c.args.parts in
-    let g : AreGame p = c.in_ok-check.ensures.ok in
+    let g : AreGame p = c.requires in
     let places = c.in_ok-places.field-0.places.items in
     let vertices = c.in_ok-places.field-0.vertices.items in
     let n : c.len.result ≡ length p.owners.items = search rules in
@@ -42,7 +42,7 @@ invariant_of-result c =
 pub returns-clause-game : goal.returns-clause-game
 unfolding vertex_count owner_of priority_of successors_of
 returns-clause-game c =
-    let g : AreGame c.args.parts = c.in_ok-check.ensures.ok in
+    let g : AreGame c.args.parts = c.requires in
     record { parts = g; vertices = refl; owner = λ v h. refl; priority = λ v h. refl; successors = λ v h. refl }
 
 pub returns-clause-well_formed : goal.returns-clause-well_formed

@@ -9,8 +9,8 @@ use Rattle.pb_game.specs.Solutions.{winner_of, choice_of, HasLengths}
 use Rattle.pb_game.specs.Flaws.{Fails, rule_order}
 use Rattle.pb_strategy.specs.Comparisons.{DontIncrease, EachKept}
 use Rattle.pb_strategy.proofs.Flaws.{one_way, not_same}
-use Rattle.pb_strategy.proofs.edges.flaw_at.Goals as goal
-use Rattle.pb_strategy.proofs.edges.flaw_at.Goals.{then-eq+else-not-has_edge, else-eq}
+use Rattle.pb_strategy.proofs.edges.first_rule_at.Goals as goal
+use Rattle.pb_strategy.proofs.edges.first_rule_at.Goals.{then-eq+else-not-has_edge, else-eq}
 
 -- the winner's choice is a successor
 abbrev Chooses : Game → Solution → ℕ → Type 0
