@@ -4,3 +4,4 @@ mod OkLemmas
 mod RefusalLemmas
 mod StateLemmas
 mod StepLemmas
+mod OutsideLemmas

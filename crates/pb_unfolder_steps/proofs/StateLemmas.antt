@@ -20,6 +20,7 @@ use Rattle.pb_protocol_meaning.specs.Steps.{data_of}
 use Rattle.pb_unfolding.specs.Unfolding.{elements_of, instances_of, all_elements, instances}
 use Rattle.pb_unfolder_terms.specs.View.{declarations, ranges_said}
 use Rattle.pb_unfolder_steps.specs.Elements.{elements_of_variable, elements_of_state, instances_of_step, instances_of_steps}
+use Rattle.pb_unfolder_steps.specs.Outside.{forms_of_step, forms_of_steps, placed_instances, placed_instances_of}
 use Rattle.pb_unfolder_steps.specs.Refusals.{element_places, instance_places, places_of_elements, places_of_instances, places_of_state, places_of_step, places_of_steps, places_of_variable}
 
 sorts-said : (ds : List SortDeclaration) → declarations ds ≡ map erased_declaration (map sort_declaration_form ds)
@@ -92,6 +93,13 @@ instances-said spec p same = ap (λ (s : Spec). instances_of_steps s p.steps.ite
 places-of-all : (spec : Spec) (steps : List declared_step.Step) → places_of_steps spec steps ≡ flat_map (places_of_instances spec) (map step_form steps)
 places-of-all spec [] = refl
 places-of-all spec (a ∷ steps) = ap (λ v. places_of_step spec a ++ v) (places-of-all spec steps)
+
+forms-of-all : (spec : Spec) (steps : List declared_step.Step) → forms_of_steps spec steps ≡ flat_map (placed_instances_of spec) (map step_form steps)
+forms-of-all spec [] = refl
+forms-of-all spec (a ∷ steps) = ap (λ v. forms_of_step spec a ++ v) (forms-of-all spec steps)
+
+pub instance-forms-said : (spec : Spec) (p : declared_protocol.Protocol) → spec ≡ data_of (protocol_of p) → forms_of_steps spec p.steps.items ≡ placed_instances (protocol_form p)
+instance-forms-said spec p same = ap (λ (s : Spec). forms_of_steps s p.steps.items) same ∙ forms-of-all (data_of (protocol_of p)) p.steps.items
 
 pub instance-places-said : (spec : Spec) (p : declared_protocol.Protocol) → spec ≡ data_of (protocol_of p) → places_of_steps spec p.steps.items ≡ instance_places (protocol_form p)
 instance-places-said spec p same = ap (λ (s : Spec). places_of_steps s p.steps.items) same ∙ places-of-all (data_of (protocol_of p)) p.steps.items

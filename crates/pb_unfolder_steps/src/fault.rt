@@ -1,6 +1,8 @@
 //! Why the state or the steps of a protocol aren't unfolded.
 
+ghost use Rattle.std.specs.Prelude.{◌≡◌};
 ghost use Rattle.pb_errors.specs.OrMemory.{IfFault};
+ghost use Rattle.pb_unfolder_steps.specs.Outside.{term_error};
 ghost use Rattle.pb_unfolder_steps.specs.Refusals.{IsTermOr};
 
 use pb_errors::{Fault, OrMemory};
@@ -24,7 +26,8 @@ pub type StepsError = OrMemory<StepsFault>;
 
 /// The fault of a term.
 pub(crate) fn of_term(error: UnfoldError) -> StepsError
-    ensures { IfFault result (IsTermOr ⊥) }
+    ensures refused { IfFault result (IsTermOr ⊥) }
+    ensures error { result ≡ term_error error }
 {
     match error {
         OrMemory::Refused(fault) => OrMemory::Refused(StepsFault::Term(fault)),

@@ -1,7 +1,8 @@
 //! The values of the elements at the start.
 
 ghost use Rattle.std.specs.Prelude.{◌≡◌, ◌<◌, ◌++◌, false, length, map, flat_map, IfOk, OnOk};
-ghost use Rattle.pb_text_tree.specs.Form.{argument_forms};
+ghost use Rattle.pb_text_tree.specs.Form.{argument_forms, term_form};
+ghost use Rattle.pb_protocol_tree.specs.Form.{protocol_form};
 ghost use Rattle.pb_text_meaning.specs.Erase.{erased_arguments};
 ghost use Rattle.pb_errors.specs.OrMemory.{IfRefused};
 ghost use Rattle.pb_folding.specs.Folding.{folded_arguments};
@@ -17,6 +18,9 @@ ghost use Rattle.pb_unfolder_steps.specs.Unfolder.{IsInitial};
 ghost use Rattle.pb_unfolder_steps.specs.Initial.{argument_term, indices_behind, indices_of_group};
 ghost use Rattle.pb_unfolder_steps.specs.Initial.{indices_of_state, indices_said};
 ghost use Rattle.pb_unfolder_steps.specs.Initial.{initial_values, term_at, terms_at};
+ghost use Rattle.pb_unfolder_steps.specs.Outside.{IsOutsideAt, IsOutsideAtSome, IsOutsideAtStart};
+ghost use Rattle.pb_unfolder_steps.specs.Outside.{IsOutsideInValue, IsOutsideInValues, OnTerm};
+ghost use Rattle.pb_unfolder_steps.specs.Outside.{value_form};
 ghost use Rattle.pb_unfolder_steps.specs.Refusals.{IsTermOr};
 
 use crate::fault::{StepsError, of_term};
@@ -75,6 +79,9 @@ impl Initial<'_> {
         ensures term { IfOk result (λ t. term_of t ≡ term_at (protocol_of self.now.protocol.now)
             (map variable_of indices.now) (term_of term.now) (map written_term values.now)) }
         ensures refused { IfRefused result (IsTermOr ⊥) }
+        ensures outside { IfRefused result (OnTerm (IsOutsideAt
+            (protocol_form self.now.protocol.now) (map variable_of indices.now)
+            (term_form term.now) (map written_term values.now))) }
     {
         let scope = TermScope::Values {
             variables: indices,
@@ -101,6 +108,9 @@ impl Initial<'_> {
             ++ map (term_at (protocol_of self.now.protocol.now) (map variable_of indices.now)
             (argument_term value.now)) (map tuple_of tuples.now)) }
         ensures refused { IfRefused result (IsTermOr ⊥) }
+        ensures outside { IfRefused result (OnTerm (IsOutsideAtSome
+            (protocol_form self.now.protocol.now) (map variable_of indices.now)
+            (value_form value.now) (map tuple_of tuples.now))) }
     {
         let place = value.place;
         for values in tuples {
@@ -125,6 +135,9 @@ impl Initial<'_> {
         ensures refused { IfRefused result (IsTermOr (MAX_OPERATORS
             < length (written_tuples (data_of (protocol_of self.now.protocol.now))
             (indices_said variable.now)))) }
+        ensures outside { IfRefused result (OnTerm (IsOutsideInValue
+            (protocol_form self.now.protocol.now) (indices_said variable.now)
+            (value_form value.now))) }
     {
         let indices = variables_of(self.alloc, &variable.indices)?;
         let sorts = sorts_of(self.protocol);
@@ -145,6 +158,9 @@ impl Initial<'_> {
         ensures refused { IfRefused result (IsTermOr (MAX_OPERATORS
             < length (flat_map (written_tuples (data_of (protocol_of self.now.protocol.now)))
             (map indices_behind variables.now)))) }
+        ensures outside { IfRefused result (OnTerm (IsOutsideInValues
+            (protocol_form self.now.protocol.now) (map indices_behind variables.now)
+            (map value_form values.now))) }
     {
         let mut terms = Vec::new(self.alloc);
         for at in 0..variables.len().min(values.len()) {
@@ -167,6 +183,7 @@ pub fn initial_terms(alloc: Global, protocol: &Protocol) -> Result<Vec<Argument>
         (protocol_of protocol.now).variables (protocol_of protocol.now).initial))) }
     ensures refused { IfRefused result (IsTermOr
         (MAX_OPERATORS < length (definitions.all_elements (protocol_of protocol.now)))) }
+    ensures outside { IfRefused result (OnTerm (IsOutsideAtStart (protocol_form protocol.now))) }
 {
     let variables = state_variables(alloc, &protocol.state)?;
     let initial = Initial {

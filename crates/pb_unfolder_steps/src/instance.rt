@@ -3,13 +3,15 @@
 ghost use Rattle.std.specs.Prelude.{◌≡◌, ◌≤◌, ◌+◌, ◌++◌, length, map, IfOk, OnOk};
 ghost use Rattle.std.specs.Prelude.{string_bytes};
 ghost use Rattle.pb_errors.specs.OrMemory.{IfRefused};
-ghost use Rattle.pb_protocol_tree.specs.Form.{protocol_form};
+ghost use Rattle.pb_protocol_tree.specs.Form.{protocol_form, step_form};
 ghost use Rattle.pb_protocol_meaning.specs.Erase.{protocol_of};
 ghost use Rattle.pb_unfolding.specs.Unfolding as definitions;
 ghost use Rattle.pb_unfolder_terms.specs.View.{spec_of};
 ghost use Rattle.pb_unfolder_terms.specs.Values.{tuple_of};
 ghost use Rattle.pb_unfolder_steps.specs.Elements.{instance_at, instance_said};
 ghost use Rattle.pb_unfolder_steps.specs.Elements.{instances_of_step, instances_of_steps};
+ghost use Rattle.pb_unfolder_steps.specs.Outside.{forms_of_step, forms_of_steps, instance_form};
+ghost use Rattle.pb_unfolder_steps.specs.Outside.{placed_at, placed_instances};
 ghost use Rattle.pb_unfolder_steps.specs.Refusals.{IsPassed, IsPassedIn, instance_place};
 ghost use Rattle.pb_unfolder_steps.specs.Refusals.{instance_places, placed, places_of_step};
 ghost use Rattle.pb_unfolder_steps.specs.Refusals.{places_of_steps};
@@ -42,6 +44,9 @@ fn push_with<'a>(
     ensures places { OnOk result (map instance_place instances.new.items
         ≡ map instance_place instances.old.items
         ++ placed step.now.name.place tuples.entry.items) }
+    ensures forms { OnOk result (map instance_form instances.new.items
+        ≡ map instance_form instances.old.items
+        ++ map (placed_at (step_form step.now)) (map tuple_of tuples.entry.items)) }
 {
     for own in tuples {
         instances.push(Instance { step, own })?;
@@ -62,6 +67,9 @@ fn push_instances<'a>(
     ensures places { OnOk result (map instance_place instances.new.items
         ≡ map instance_place instances.old.items
         ++ places_of_step (spec_of sorts.entry) step.now) }
+    ensures forms { OnOk result (map instance_form instances.new.items
+        ≡ map instance_form instances.old.items
+        ++ forms_of_step (spec_of sorts.entry) step.now) }
     ensures few { OnOk result (length instances.new.items ≤ MAX_WRITTEN_STEPS) }
     ensures refused { IfRefused result (IsPassed MAX_WRITTEN_STEPS (length instances.old.items
         + length (instances_of_step (spec_of sorts.entry) step.now)) step.now.name.place) }
@@ -82,6 +90,8 @@ fn instances_of<'a>(
         (λ v. map instance_said v.items ≡ instances_of_steps (spec_of sorts.entry) steps.now) }
     ensures places { IfOk result
         (λ v. map instance_place v.items ≡ places_of_steps (spec_of sorts.entry) steps.now) }
+    ensures forms { IfOk result
+        (λ v. map instance_form v.items ≡ forms_of_steps (spec_of sorts.entry) steps.now) }
     ensures few { IfOk result (λ v. length v.items ≤ MAX_WRITTEN_STEPS) }
     ensures refused { IfRefused result
         (IsPassedIn MAX_WRITTEN_STEPS (places_of_steps (spec_of sorts.entry) steps.now)) }
@@ -103,6 +113,8 @@ pub fn instances<'a>(alloc: Global, protocol: &'a Protocol) -> Result<Vec<Instan
         ≡ definitions.instances (protocol_of protocol.now)) }
     ensures places { IfOk result
         (λ v. map instance_place v.items ≡ instance_places (protocol_form protocol.now)) }
+    ensures forms { IfOk result
+        (λ v. map instance_form v.items ≡ placed_instances (protocol_form protocol.now)) }
     ensures few { IfOk result (λ v. length v.items ≤ MAX_WRITTEN_STEPS) }
     ensures refused { IfRefused result
         (IsPassedIn MAX_WRITTEN_STEPS (instance_places (protocol_form protocol.now))) }

@@ -1,6 +1,8 @@
 //! Unfolds the terms of a protocol.
 
-ghost use Rattle.std.specs.Prelude.{◌≡◌, IfOk};
+ghost use Rattle.std.specs.Prelude.{◌≡◌, map, IfOk};
+ghost use Rattle.pb_text_tree.specs.Form.{term_form};
+ghost use Rattle.pb_protocol_tree.specs.Form.{assignment_form, protocol_form};
 ghost use Rattle.pb_errors.specs.OrMemory.{IfRefused};
 ghost use Rattle.pb_folding.specs.Folding.{folded};
 ghost use Rattle.pb_folding.specs.View.{term_of};
@@ -8,9 +10,12 @@ ghost use Rattle.pb_protocol_meaning.specs.Erase.{protocol_of};
 ghost use Rattle.pb_protocol_meaning.specs.Steps.{data_of};
 ghost use Rattle.pb_unfolding.specs.Unfolding as definitions;
 ghost use Rattle.pb_unfolder_steps.specs.Elements.{element_said};
+ghost use Rattle.pb_unfolder_terms.specs.TermFaults.{HasValues, IsOutsideIn, surroundings_of};
+ghost use Rattle.pb_unfolder_steps.specs.Outside.{AssignOutside, OnTerm};
 ghost use Rattle.pb_unfolder_steps.specs.Refusals.{IsTermOr};
 ghost use Rattle.pb_unfolder_steps.specs.Steps.{assigned, assignments_said};
-ghost use Rattle.pb_unfolder_steps.specs.Unfolder.{IsUnfolder, protocol_in, scope_in};
+ghost use Rattle.pb_unfolder_steps.specs.Unfolder.{IsUnfolder, form_in, protocol_in};
+ghost use Rattle.pb_unfolder_steps.specs.Unfolder.{scope_in};
 
 use crate::element::Element;
 use crate::fault::{StepsError, of_term};
@@ -36,6 +41,7 @@ impl<'a> Unfolder<'a> {
     pub fn new(alloc: Global, protocol: &'a Protocol) -> Result<Unfolder<'a>, AllocError>
         ensures unfolder { IfOk result IsUnfolder }
         ensures protocol { IfOk result (λ u. protocol_in u ≡ protocol_of protocol.now) }
+        ensures form { IfOk result (λ u. form_in u ≡ protocol_form protocol.now) }
     {
         let context = Context::new(alloc, protocol)?;
         Ok(Unfolder {
@@ -61,6 +67,9 @@ impl<'a> Unfolder<'a> {
             (definitions.unfolded_term (protocol_in self.now) (scope_in self.now scope.now)
             (term_of term.now))) }
         ensures refused { IfRefused result (IsTermOr ⊥) }
+        ensures outside { HasValues scope.now → IfRefused result (OnTerm (IsOutsideIn
+            (surroundings_of (form_in self.now)) (scope_in self.now scope.now)
+            (term_form term.now))) }
     {
         match unfold_term(&self.context, scope, truth, term) {
             Ok(unfolded) => Ok(unfolded.term),
@@ -80,6 +89,9 @@ impl<'a> Unfolder<'a> {
             (scope_in self.now scope.now) (assignments_said assignments.now)
             (element_said element.now)) }
         ensures refused { IfRefused result (IsTermOr ⊥) }
+        ensures outside { HasValues scope.now → IfRefused result (OnTerm (AssignOutside
+            (form_in self.now) (scope_in self.now scope.now)
+            (map assignment_form assignments.now))) }
     {
         let element = terms::Element {
             array: element.name,

@@ -14,3 +14,5 @@ pub mod SortsLemmas
 pub mod ProtocolLemmas
 pub mod AssignedLemmas
 pub mod BehindLemmas
+pub mod BoundsLemmas
+pub mod MetLemmas

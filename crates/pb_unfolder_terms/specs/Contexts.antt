@@ -1,7 +1,9 @@
 -- What terms are unfolded by, in the words of the definitions.
-use Rattle.std.specs.Prelude.{◌≡◌, ℕ, suc, List, [], map, take, Option, Some, None, string_bytes}
+use Rattle.std.specs.Prelude.{◌≡◌, ℕ, suc, ⊤, List, [], ◌∷◌, map, take, Option, Some}
+use Rattle.std.specs.Prelude.{None, string_bytes}
 use Rattle.std.specs.Borrow.{Bor}
 use Rattle.std.specs.List.{slice_get}
+use Rattle.pb_intervals.specs.Interval.{IntegerInterval}
 use Rattle.pb_text_meaning.specs.Syntax.{Name, Term, Terms, Spec, NoTerms}
 use Rattle.pb_protocol_meaning.specs.Syntax.{StateVariable, Definition, Protocol}
 use Rattle.pb_folding.specs.View as tree
@@ -13,7 +15,9 @@ use Rattle.pb_unfolder_terms.specs.declared.context.StateVariable as declared_va
 use Rattle.pb_unfolder_terms.specs.declared.context.Definition as declared_definition
 use Rattle.pb_unfolder_terms.specs.declared.context.Meant as declared_meant
 use Rattle.pb_unfolder_terms.specs.declared.context.Meant.TheVariants as meant
+use Rattle.pb_unfolder_terms.specs.declared.sorts.Variable as declared_index
 use Rattle.pb_unfolder_terms.specs.declared.scope.TermScope as declared_scope
+use Rattle.pb_unfolder_terms.specs.Bounds.{IsSeenWithin, interval, intervals, sort_interval}
 use Rattle.pb_unfolder_terms.specs.Scopes.{scope_of}
 use Rattle.pb_unfolder_terms.specs.View.{declarations, ranges_said, variable_of}
 
@@ -39,6 +43,20 @@ spec_in c = record {
   initial = [];
   arguments = NoTerms;
 }
+
+-- between which numbers a flat term stays
+abbrev pub interval_in : declared_context.Context → Term → Option IntegerInterval
+interval_in c t = interval (spec_in c) (map state_variable_of c.variables.items) t
+
+abbrev pub intervals_in : declared_context.Context → Terms → List (Option IntegerInterval)
+intervals_in c ts = intervals (spec_in c) (map state_variable_of c.variables.items) ts
+
+-- it is seen to stay among the values of the first of these indices, if there is one
+abbrev pub IsSeenInside :
+    declared_context.Context → List declared_index.Variable → Term → Type 0
+IsSeenInside c [] t = ⊤
+IsSeenInside c (i ∷ is) t =
+    IsSeenWithin (interval_in c t) (sort_interval (spec_in c) i.sort.now)
 
 -- what terms are folded by: the sorts alone
 abbrev pub folding_in : declared_context.Context → Spec

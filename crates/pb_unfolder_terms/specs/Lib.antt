@@ -10,3 +10,7 @@ pub mod Puts
 pub mod Copies
 pub mod Assigned
 pub mod Behind
+pub mod Bounds
+pub mod Met
+pub mod Tells
+pub mod TermFaults

@@ -1,7 +1,9 @@
 -- The values of a sort as the code finds them.
 use Rattle.std.specs.Prelude.{◌≡◌, ◌<◌, Bool, true, false, List, [], ◌∷◌, map, length, string_bytes, Vec}
+use Rattle.std.specs.Prelude.{Option, Some, None}
 use Rattle.std.specs.declared.alloc.Global.{Global}
 use Rattle.pb_carriers.specs.Carrier.{interval}
+use Rattle.pb_intervals.specs.Interval.{IntegerInterval, unless_empty}
 use Rattle.pb_text_tree.specs.declared.place.Place.{Place}
 use Rattle.pb_text_tree.specs.declared.sort.Enumerator as declared_enumerator
 use Rattle.pb_text_tree.specs.Form.{enumerator_form}
@@ -10,6 +12,7 @@ use Rattle.pb_text_meaning.specs.Erase.{erased_enumerator}
 use Rattle.pb_folding.specs.Folding.{number}
 use Rattle.pb_errors.specs.OrMemory.{IfFault}
 use Rattle.pb_errors.specs.declared.or_memory.OrMemory.{OrMemory}
+use Rattle.pb_unfolder_terms.specs.Bounds.{places, truths}
 use Rattle.pb_unfolder_terms.specs.declared.fault.UnfoldRule.TheVariants as rule
 use Rattle.pb_unfolder_terms.specs.declared.fault.UnfoldFault.{UnfoldFault}
 use Rattle.pb_unfolder_terms.specs.declared.written.Written as declared_written
@@ -32,6 +35,13 @@ values_in (values.Numbers low high) = map number (interval low high)
 values_in values.Truths = Term.Truth false ∷ Term.Truth true ∷ []
 values_in (values.Enumerators es) = map named_by (enumerators_said es.now)
 values_in values.Unknown = []
+
+-- between which numbers they stay
+abbrev pub interval_of : declared_values.Values → Option IntegerInterval
+interval_of (values.Numbers low high) = unless_empty (record { low = low; high = high })
+interval_of values.Truths = Some truths
+interval_of (values.Enumerators es) = unless_empty (places (length (enumerators_said es.now)))
+interval_of values.Unknown = None
 
 abbrev pub too_many : Place → UnfoldFault
 too_many place = record { rule = rule.Values; place = place }

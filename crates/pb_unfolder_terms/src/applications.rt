@@ -1,12 +1,15 @@
 //! Unfolds names with arguments, definitions, arrays and functions of data, and arithmetic.
 
 ghost use Rattle.std.specs.Prelude.{◌≡◌, true, length, string_bytes};
+ghost use Rattle.pb_text_tree.specs.Form.{TermForm, argument_forms, arithmetic_links};
+ghost use Rattle.pb_text_tree.specs.Form.{calculated, named, term_form};
 ghost use Rattle.pb_text_meaning.specs.Functions.{named_function};
 ghost use Rattle.pb_text_meaning.specs.Syntax as syntax;
 ghost use Rattle.pb_folding.specs.Folding.{is_if};
 ghost use Rattle.pb_folding.specs.View as tree;
 ghost use Rattle.pb_unfolder_terms.specs.Contexts.{folding_in};
 ghost use Rattle.pb_unfolder_terms.specs.Puts.{UnfoldsAll, calculated_term, put, puts};
+ghost use Rattle.pb_unfolder_terms.specs.Tells.{AreArgumentsMet, IsTermMet, Tells};
 ghost use Rattle.pb_unfolder_terms.specs.Unfolding.{Unfolds};
 
 use crate::arguments::{UnfoldedArguments, function_term, is_choice, no_arguments, with_argument};
@@ -32,8 +35,10 @@ fn unfold_arguments<'a>(
     level: Level,
     arguments: &'a [Argument],
 ) -> Result<UnfoldedArguments, UnfoldError>
-    ensures { UnfoldsAll (folding_in context.now) level.truth level.room
+    ensures term { UnfoldsAll (folding_in context.now) level.truth level.room
         (puts context.now level.definitions scope.now (tree.terms_of arguments.now)) result }
+    ensures faults { Tells context.now result
+        (AreArgumentsMet context.now level.definitions scope.now arguments.now) }
 {
     let Some(argument) = arguments.first() else {
         return Ok(no_arguments(context.alloc, level.room));
@@ -63,9 +68,11 @@ fn unfold_choice<'a>(
 ) -> Result<Unfolded, UnfoldError>
     requires choice { is_if (named_function (string_bytes function.now.text)) ≡ true }
     requires arguments { length arguments.now ≡ 3 }
-    ensures { Unfolds (folding_in context.now) level.truth level.room
+    ensures term { Unfolds (folding_in context.now) level.truth level.room
         (syntax.Term.Apply (string_bytes function.now.text)
         (puts context.now level.definitions scope.now (tree.terms_of arguments.now))) result }
+    ensures faults { Tells context.now result
+        (AreArgumentsMet context.now level.definitions scope.now arguments.now) }
 {
     let room = behind_one(level.room, function.place)?;
     let inner = Level {
@@ -104,9 +111,11 @@ fn unfold_function<'a>(
     function: &'a Name,
     arguments: &'a [Argument],
 ) -> Result<Unfolded, UnfoldError>
-    ensures { Unfolds (folding_in context.now) level.truth level.room
+    ensures term { Unfolds (folding_in context.now) level.truth level.room
         (syntax.Term.Apply (string_bytes function.now.text)
         (puts context.now level.definitions scope.now (tree.terms_of arguments.now))) result }
+    ensures faults { Tells context.now result
+        (AreArgumentsMet context.now level.definitions scope.now arguments.now) }
 {
     let truth = is_choice(function.text.as_str());
     if truth && arguments.len() == 3 {
@@ -131,9 +140,11 @@ pub(crate) fn unfold_application<'a>(
     function: &'a Name,
     arguments: &'a [Argument],
 ) -> Result<Unfolded, UnfoldError>
-    ensures { Unfolds (folding_in context.now) level.truth level.room
+    ensures term { Unfolds (folding_in context.now) level.truth level.room
         (put context.now level.definitions scope.now
         (syntax.Term.Apply (string_bytes function.now.text) (tree.terms_of arguments.now))) result }
+    ensures faults { Tells context.now result (IsTermMet context.now level.definitions scope.now
+        (TermForm.application (named function.now) (argument_forms arguments.now))) }
 {
     if arguments.is_empty() {
         return unfold_function(context, scope, level, function, arguments);
@@ -158,7 +169,6 @@ pub(crate) fn unfold_application<'a>(
                 name: &name,
                 indices: &variable.indices,
                 arguments: &*arguments,
-                sort: variable.sort,
             };
             unfold_read(&*context, &*scope, level, array)
         }
@@ -175,9 +185,11 @@ pub(crate) fn unfold_arithmetic<'a>(
     first: &'a Term,
     links: &'a [ArithmeticLink],
 ) -> Result<Unfolded, UnfoldError>
-    ensures { Unfolds (folding_in context.now) level.truth level.room
+    ensures term { Unfolds (folding_in context.now) level.truth level.room
         (put context.now level.definitions scope.now
         (calculated_term (tree.term_of first.now) links.now)) result }
+    ensures faults { Tells context.now result (IsTermMet context.now level.definitions scope.now
+        (calculated (term_form first.now) (arithmetic_links links.now))) }
 {
     if links.is_empty() {
         return unfold(context, scope, level, first);

@@ -8,11 +8,9 @@ ghost use Rattle.pb_folding.specs.View.{spec_of};
 ghost use Rattle.pb_unfolder_terms.specs.Puts.{AreArguments};
 ghost use Rattle.pb_unfolder_terms.specs.Unfolding.{IsUnfolded};
 
-use crate::bounds::{bounds_of, of_function};
 use crate::form::Form;
 use crate::unfolded::Unfolded;
 use pb_folding::{Folding, application_term};
-use pb_intervals::Interval;
 use pb_text_copies::copy_name;
 use pb_text_meaning::NamedFunction;
 use pb_text_tree::{Argument, Name, Place};
@@ -24,9 +22,6 @@ pub(crate) struct UnfoldedArguments {
     pub arguments: Vec<Argument>,
     /// How many more operators there may be behind them.
     pub room: u32,
-    /// Between which numbers the first one stays, and the second one.
-    pub first: Option<Interval>,
-    pub second: Option<Interval>,
 }
 
 /// No arguments.
@@ -37,8 +32,6 @@ pub(crate) fn no_arguments(alloc: Global, room: u32) -> UnfoldedArguments
     UnfoldedArguments {
         arguments: Vec::new(alloc),
         room,
-        first: None,
-        second: None,
     }
 }
 
@@ -55,21 +48,13 @@ pub(crate) fn with_argument(
         → IfOk result (AreArguments (spec_of folding.now.sorts.now) truth n
         (syntax.Then x xs)) }
 {
-    let bounds = bounds_of(folding.sorts, &first);
     let UnfoldedArguments {
         mut arguments,
         room,
-        first: second,
-        ..
     } = others;
     let term = first.term;
     arguments.insert(0, Argument { place, term })?;
-    Ok(UnfoldedArguments {
-        arguments,
-        room,
-        first: bounds,
-        second,
-    })
+    Ok(UnfoldedArguments { arguments, room })
 }
 
 /// Whether a function chooses one of its arguments.
@@ -94,7 +79,6 @@ pub(crate) fn function_term(
         → IfOk result (IsUnfolded (spec_of folding.now.sorts.now) truth (suc n)
         (syntax.Term.Apply (string_bytes function.now.text) xs)) }
 {
-    let bounds = of_function(function.text.as_str(), arguments.first, arguments.second);
     let room = arguments.room;
     let function = copy_name(folding.alloc, function)?;
     let term = application_term(folding, function, arguments.arguments)?;
@@ -102,6 +86,5 @@ pub(crate) fn function_term(
         term,
         form: Form::Other,
         room,
-        bounds,
     })
 }

@@ -8,7 +8,6 @@ ghost use Rattle.pb_folding.specs.Folding.{folded_operation};
 ghost use Rattle.pb_folding.specs.View.{spec_of, term_of};
 ghost use Rattle.pb_unfolder_terms.specs.Unfolding.{IsUnfolded};
 
-use crate::bounds::{bounds_of, of_arithmetic};
 use crate::form::Form;
 use crate::unfolded::Unfolded;
 use pb_folding::{Folding, arithmetic_term};
@@ -59,11 +58,6 @@ pub(crate) fn calculation(
         → IfOk result (IsUnfolded (spec_of folding.now.sorts.now) truth n
         (syntax.Term.Binary (of_arithmetic operator) x y)) }
 {
-    let bounds = of_arithmetic(
-        operator,
-        bounds_of(folding.sorts, &left),
-        bounds_of(folding.sorts, &right),
-    );
     let room = right.room;
     let operand = right.term;
     let link = ArithmeticLink {
@@ -76,6 +70,5 @@ pub(crate) fn calculation(
         term,
         form: Form::Other,
         room,
-        bounds,
     })
 }

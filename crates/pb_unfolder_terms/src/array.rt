@@ -13,7 +13,6 @@ ghost use Rattle.pb_unfolder_terms.specs.Puts.{IsWrittenAs, choice_of};
 ghost use Rattle.pb_unfolder_terms.specs.Unfolding.{IsUnfolded, name_in, operator_count};
 ghost use Rattle.pb_unfolder_terms.specs.Values.{written_term};
 
-use crate::bounds::{bounds_of, of_either};
 use crate::form::{Form, is_same};
 use crate::names::value_term;
 use crate::sorts::Variable;
@@ -24,14 +23,12 @@ use pb_text_copies::copy_term;
 use pb_text_tree::{Argument, Comparison, Name, Place, Term};
 use std::alloc::{AllocError, Global};
 
-/// An array, or a part of one, with an argument for each of its indices, and the sort of its
-/// elements.
+/// An array, or a part of one, with an argument for each of its indices.
 #[derive(Clone, Copy)]
 pub(crate) struct Array<'a> {
     pub name: &'a Name,
     pub indices: &'a [Variable<'a>],
     pub arguments: &'a [Argument],
-    pub sort: &'a str,
 }
 
 /// Which element of an array is meant by an index that isn't written: one of those at these values.
@@ -59,7 +56,6 @@ impl<'a> Array<'a> {
             name: self.name,
             indices: &self.indices[1..],
             arguments: &self.arguments[1..],
-            sort: self.sort,
         }
     }
 }
@@ -116,7 +112,6 @@ pub(crate) fn chosen(unfolded: Unfolded) -> Unfolded
         term: unfolded.term,
         form: Form::Other,
         room: unfolded.room,
-        bounds: unfolded.bounds,
     }
 }
 
@@ -137,10 +132,6 @@ pub(crate) fn choice(
         → IfOk result (IsUnfolded (spec_of folding.now.sorts.now) truth m
         (choice_of (string_bytes function.text) c x y)) }
 {
-    let bounds = of_either(
-        bounds_of(folding.sorts, &left),
-        bounds_of(folding.sorts, &right),
-    );
     let room = right.room;
     let place = function.place;
     let mut arguments = Vec::new(folding.alloc);
@@ -155,6 +146,5 @@ pub(crate) fn choice(
         term,
         form: Form::Other,
         room,
-        bounds,
     })
 }

@@ -1,6 +1,8 @@
 //! Unfolds what an element of an array gets by assignments.
 
-ghost use Rattle.std.specs.Prelude.{◌≡◌, ◌≤◌, ◌+◌, suc, false, true, length, IfErr, IfOk};
+ghost use Rattle.std.specs.Prelude.{◌≡◌, ◌≤◌, ◌↔◌, ◌+◌, suc, false, true, length, drop, map, IfOk, IsTrue};
+ghost use Rattle.std.specs.Prelude.{IfErr, string_bytes};
+ghost use Rattle.pb_protocol_tree.specs.Form.{assignment_form};
 ghost use Rattle.std.specs.Prelude.{MatchResult};
 ghost use Rattle.pb_folding.specs.Folding.{folded};
 ghost use Rattle.pb_folding.specs.View.{term_of};
@@ -11,7 +13,13 @@ ghost use Rattle.pb_unfolding.specs.Unfolding as spec;
 ghost use Rattle.pb_unfolder_terms.specs.Assigned.{after_by, assignments_said, compared_by};
 ghost use Rattle.pb_unfolder_terms.specs.Assigned.{IsLatest, element_said};
 ghost use Rattle.pb_unfolder_terms.specs.Behind.{IsBehind};
-ghost use Rattle.pb_unfolder_terms.specs.Contexts.{IsContext, folding_in, scope_in};
+ghost use Rattle.pb_unfolder_terms.specs.Contexts.{IsContext, IsSeenInside, folding_in};
+ghost use Rattle.pb_unfolder_terms.specs.Contexts.{scope_in};
+ghost use Rattle.pb_unfolder_terms.specs.Met.{Surroundings};
+ghost use Rattle.pb_unfolder_terms.specs.TermFaults.{HasValues, IfFaultAt, IsOutsideInAssignments};
+ghost use Rattle.pb_unfolder_terms.specs.TermFaults.{scope_by};
+ghost use Rattle.pb_unfolder_terms.specs.Tells.{AreIndices, IsReadMet, Tells, scope_said};
+ghost use Rattle.pb_unfolder_terms.specs.Tells.{surroundings_in};
 ghost use Rattle.pb_unfolder_terms.specs.Unfolding.{IsRefusal, IsUnfolded, Unfolds};
 ghost use Rattle.pb_unfolder_terms.specs.Unfolding.{operator_count};
 
@@ -28,7 +36,7 @@ use crate::sorts::Variable;
 use crate::term::MAX_LEVELS;
 use crate::unfold::unfold;
 use crate::unfolded::Unfolded;
-use crate::written::{Written, written_values};
+use crate::written::Written;
 use pb_folding::truth_value;
 use pb_limits::MAX_OPERATORS;
 use pb_protocol_tree::Assignment;
@@ -74,24 +82,17 @@ fn truth(place: Place, value: bool, room: u32) -> Unfolded
         term: Term::Constant { place, value },
         form: Form::Truth(value),
         room,
-        bounds: None,
     }
 }
 
 /// Whether an unfolded index is seen to stay inside the sort of an array's first index.
-fn stays_inside(
-    context: &Context<'_>,
-    indices: &[Variable<'_>],
-    index: &Unfolded,
-    place: Place,
-) -> Result<bool, UnfoldError>
-    ensures { IfErr result (λ error. (n : _) (whole : syntax.Term) → IsRefusal n whole error) }
+fn stays_inside(context: &Context<'_>, indices: &[Variable<'_>], index: &Term) -> bool
+    ensures { IsTrue result ↔ IsSeenInside context.now indices.now (term_of index.now) }
 {
-    let Some(variable) = indices.first() else {
-        return Ok(true);
-    };
-    let values = written_values(context.alloc, context.sorts(), variable.sort, place)?;
-    Ok(is_within(context.declarations, index, &values))
+    match indices.first() {
+        Some(variable) => is_within(context, index, variable.sort),
+        None => true,
+    }
 }
 
 /// A comparison and what is compared behind it, both true.
@@ -111,7 +112,6 @@ fn both(alloc: Global, place: Place, equal: Term, others: Unfolded) -> Result<Un
         term,
         form: Form::Other,
         room: others.room,
-        bounds: None,
     })
 }
 
@@ -129,7 +129,6 @@ fn none_equal(place: Place, room: u32) -> Unfolded
         },
         form: Form::Other,
         room,
-        bounds: None,
     }
 }
 
@@ -144,8 +143,17 @@ fn itself(alloc: Global, element: Element<'_>, room: u32) -> Result<Unfolded, Al
         term: Term::Name(name),
         form: Form::Name,
         room,
-        bounds: None,
     })
+}
+
+/// The indices of the state variable of a name with so many, if there is one.
+fn indices_of<'a>(context: &'a Context<'a>, array: &str, count: usize) -> &'a [Variable<'a>]
+    ensures { AreIndices context.now array.now result.now }
+{
+    match variable_at(&context.variables, array, count) {
+        Some(variable) => variable.indices.as_slice(),
+        None => &[],
+    }
 }
 
 /// The arguments of an assignment to an element's array, with the element's values.
@@ -156,22 +164,21 @@ fn compared_with<'a>(
 ) -> Compared<'a>
     ensures arguments { result.arguments.now ≡ assignment.now.index.items }
     ensures index { result.index.now ≡ element.entry.index.now }
+    ensures indices { AreIndices context.now (string_bytes element.entry.array.now.text)
+        result.indices.now }
 {
-    let array = element.array.text.as_str();
-    let indices = match variable_at(&context.variables, array, element.index.len()) {
-        Some(variable) => variable.indices.as_slice(),
-        None => &[],
-    };
     Compared {
         place: assignment.variable.place,
         arguments: &assignment.index,
         index: element.index,
-        indices,
+        indices: indices_of(context, element.array.text.as_str(), element.index.len()),
     }
 }
 
 /// The array's indices behind the first.
-fn behind_first<'a>(indices: &'a [Variable<'a>]) -> &'a [Variable<'a>] {
+fn behind_first<'a>(indices: &'a [Variable<'a>]) -> &'a [Variable<'a>]
+    ensures { result.now ≡ drop 1 indices.now }
+{
     if indices.is_empty() {
         return indices;
     }
@@ -185,8 +192,10 @@ fn unfold_compared<'a>(
     level: Level,
     compared: Compared<'a>,
 ) -> Result<Unfolded, UnfoldError>
-    ensures { Unfolds (folding_in context.now) true level.room
+    ensures term { Unfolds (folding_in context.now) true level.room
         (compared_by context.now level.definitions scope.now compared.entry) result }
+    ensures faults { Tells context.now result (IsReadMet context.now level.definitions scope.now
+        compared.entry.arguments.now compared.entry.indices.now) }
 {
     let place = compared.place;
     let Some(argument) = compared.arguments.first() else {
@@ -205,7 +214,7 @@ fn unfold_compared<'a>(
         ..level
     };
     let index = unfold(context, scope, inner, &argument.term)?;
-    if !stays_inside(context, compared.indices, &index, place)? {
+    if !stays_inside(context, compared.indices, &index.term) {
         return Err(refused(UnfoldRule::Index, argument.place));
     }
     let equal = equality(&context.folding(), &index.term, *value, place)?;
@@ -257,11 +266,14 @@ fn last_assignment<'a>(
     assignments: &'a [Assignment],
     element: Element<'a>,
 ) -> Result<Latest, UnfoldError>
-    ensures { (sort : syntax.Name) → MatchResult result
+    ensures latest { (sort : syntax.Name) → MatchResult result
         (IsLatest context.now level.definitions level.room scope.now assignments.now
         (element_said element.entry sort))
         (IsRefusal level.room (after_by context.now level.definitions scope.now assignments.now
         (element_said element.entry sort))) }
+    ensures faults { HasValues scope.now → IfErr result
+        (IfFaultAt (IsOutsideInAssignments (surroundings_in context.now) level.definitions
+        (scope_said context.now scope.now) (map assignment_form assignments.now))) }
 {
     let mut room = level.room;
     let mut passed = false;
@@ -294,9 +306,12 @@ fn unfold_after<'a>(
     assignments: &'a [Assignment],
     element: Element<'a>,
 ) -> Result<Unfolded, UnfoldError>
-    ensures { (sort : syntax.Name) → Unfolds (folding_in context.now) false level.room
+    ensures term { (sort : syntax.Name) → Unfolds (folding_in context.now) false level.room
         (after_by context.now level.definitions scope.now assignments.now
         (element_said element.entry sort)) result }
+    ensures faults { HasValues scope.now → IfErr result
+        (IfFaultAt (IsOutsideInAssignments (surroundings_in context.now) level.definitions
+        (scope_said context.now scope.now) (map assignment_form assignments.now))) }
 {
     let latest = last_assignment(context, scope, level, assignments, element)?;
     match latest {
@@ -334,9 +349,13 @@ fn unfold_assigned_by<'a>(
     assignments: &'a [Assignment],
     element: Element<'a>,
 ) -> Result<Unfolded, UnfoldError>
-    ensures { (sort : syntax.Name) → Unfolds (folding_in context.now) false MAX_OPERATORS
+    ensures term { (sort : syntax.Name) → Unfolds (folding_in context.now) false MAX_OPERATORS
         (after_by context.now (length context.now.definitions.items) scope.now assignments.now
         (element_said element.entry sort)) result }
+    ensures faults { HasValues scope.now → IfErr result
+        (IfFaultAt (IsOutsideInAssignments (surroundings_in context.now)
+        (length context.now.definitions.items) (scope_said context.now scope.now)
+        (map assignment_form assignments.now))) }
 {
     let level = Level {
         truth: false,
@@ -359,9 +378,12 @@ pub fn unfold_assigned<'a>(
     assignments: &'a [Assignment],
     element: &'a Element<'a>,
 ) -> Result<Unfolded, UnfoldError>
-    ensures { (m : protocol.Protocol) (sort : syntax.Name) → IsContext m context.now
+    ensures term { (m : protocol.Protocol) (sort : syntax.Name) → IsContext m context.now
         → Unfolds (data_of m) false MAX_OPERATORS (spec.unfolded_assignment m (scope_in m scope.now)
         (assignments_said assignments.now) (element_said element.now sort)).term result }
+    ensures faults { (m : Surroundings) → surroundings_in context.now ≡ m → HasValues scope.now
+        → IfErr result (IfFaultAt (IsOutsideInAssignments m (length m.definitions)
+        (scope_by m scope.now) (map assignment_form assignments.now))) }
 {
     unfold_assigned_by(context, scope, assignments, *element)
 }

@@ -2,6 +2,7 @@
 //! decides.
 
 ghost use Rattle.std.specs.Prelude.{◌<◌, length, MatchResult};
+ghost use Rattle.pb_text_tree.specs.Form.{TermForm, chained, term_form, term_links};
 ghost use Rattle.pb_text_tree.specs.Form.{variable_forms};
 ghost use Rattle.pb_text_meaning.specs.Erase.{erased_variables};
 ghost use Rattle.pb_text_meaning.specs.Syntax as syntax;
@@ -12,6 +13,7 @@ ghost use Rattle.pb_unfolder_terms.specs.Contexts.{folding_in};
 ghost use Rattle.pb_unfolder_terms.specs.Copies.{copied_term};
 ghost use Rattle.pb_unfolder_terms.specs.Operands.{AreOperands};
 ghost use Rattle.pb_unfolder_terms.specs.Puts.{put};
+ghost use Rattle.pb_unfolder_terms.specs.Tells.{AreCopiesMet, IsTermMet, Tells};
 ghost use Rattle.pb_unfolder_terms.specs.Unfolding.{IsRefusal, Unfolds};
 
 use crate::context::Context;
@@ -62,13 +64,16 @@ pub(crate) fn unfold_operands<'a>(
     chain: Chain<'a>,
 ) -> Result<Operands, UnfoldError>
     requires { 0 < length chain.links.now }
-    ensures { MatchResult result
+    ensures operands { MatchResult result
         (AreOperands (folding_in context.now) chain.entry.connective level.truth level.room
         (put context.now level.definitions scope.now (chain_term chain.entry.connective
         (tree.term_of chain.entry.first.now) (operands_of chain.entry.links.now))))
         (IsRefusal level.room (put context.now level.definitions scope.now
         (chain_term chain.entry.connective (tree.term_of chain.entry.first.now)
         (operands_of chain.entry.links.now)))) }
+    ensures faults { Tells context.now result (IsTermMet context.now level.definitions scope.now
+        (chained (TermForm.connected chain.entry.connective) (term_form chain.entry.first.now)
+        (term_links chain.entry.links.now))) }
 {
     let mut before = Vec::new(context.alloc);
     let mut room = level.room;
@@ -118,12 +123,14 @@ fn unfold_copies<'a>(
     copies: Copies<'a>,
 ) -> Result<Operands, UnfoldError>
     requires { 0 < length copies.tuples.now }
-    ensures { MatchResult result
+    ensures operands { MatchResult result
         (AreOperands (folding_in context.now) (kept.joining quantified.entry.quantifier)
         level.truth level.room (copied_term context.now level.definitions scope.now
         quantified.entry.quantifier copies.entry (tree.term_of quantified.entry.body.now)))
         (IsRefusal level.room (copied_term context.now level.definitions scope.now
         quantified.entry.quantifier copies.entry (tree.term_of quantified.entry.body.now))) }
+    ensures faults { Tells context.now result (AreCopiesMet context.now level.definitions scope.now
+        copies.entry (term_form quantified.entry.body.now)) }
 {
     let place = quantified.place;
     let connective = joining(quantified.quantifier);
@@ -162,11 +169,15 @@ pub(crate) fn unfold_quantified<'a>(
     level: Level,
     quantified: Quantified<'a>,
 ) -> Result<Unfolded, UnfoldError>
-    ensures { Unfolds (folding_in context.now) level.truth level.room
+    ensures term { Unfolds (folding_in context.now) level.truth level.room
         (put context.now level.definitions scope.now
         (syntax.Term.Quantified quantified.entry.quantifier
         (erased_variables (variable_forms quantified.entry.variables.now))
         (tree.term_of quantified.entry.body.now))) result }
+    ensures faults { Tells context.now result (IsTermMet context.now level.definitions scope.now
+        (TermForm.quantified quantified.entry.quantifier quantified.entry.place
+        (variable_forms quantified.entry.variables.now)
+        (term_form quantified.entry.body.now))) }
 {
     let variables = variables_of(context.alloc, quantified.variables)?;
     let place = quantified.place;

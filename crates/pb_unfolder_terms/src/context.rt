@@ -1,12 +1,16 @@
 //! What terms are unfolded by: the sorts, state variables and definitions of a protocol.
 
-ghost use Rattle.std.specs.Prelude.{◌≡◌, ◌<◌, ◌≤◌, ◌&&◌, length, map, take, IfSome};
+ghost use Rattle.std.specs.Prelude.{◌≡◌, ◌<◌, ◌≤◌, ◌&&◌, true, length, map, take, IfSome, Some};
+ghost use Rattle.std.specs.Prelude.{Contains, string_bytes};
+ghost use Rattle.std.specs.List.{slice_get};
 ghost use Rattle.pb_text_meaning.specs.Syntax as syntax;
 ghost use Rattle.pb_unfolding.specs.PutIn as spec;
 ghost use Rattle.pb_unfolder_terms.specs.Contexts.{definition_of, definition_term, forms_in};
 ghost use Rattle.pb_unfolder_terms.specs.Contexts.{meant_term, terms_count};
 ghost use Rattle.pb_unfolder_terms.specs.Contexts.{state_variable_of, variable_term};
 ghost use Rattle.pb_unfolder_terms.specs.Contexts.{spec_in};
+ghost use Rattle.pb_unfolder_terms.specs.declared.context.Definition as declared_definition;
+ghost use Rattle.pb_unfolder_terms.specs.Tells.{IsNamed};
 ghost use Rattle.pb_unfolder_terms.specs.View.{variable_of};
 ghost use Rattle.pb_unfolder_terms.specs.View as view;
 
@@ -43,7 +47,8 @@ pub struct Context<'a> {
 
 /// Whether a declaration is meant by a name with so many arguments.
 fn is_meant(declared: &str, variables: &[Variable<'_>], name: &str, count: usize) -> bool
-    ensures { (ts : syntax.Terms) → terms_count ts ≡ count
+    ensures named { result ≡ true → declared.now ≡ name.now }
+    ensures meant { (ts : syntax.Terms) → terms_count ts ≡ count
         → result ≡ (syntax.same_name declared.now name.now
         && spec.are_as_many (map variable_of variables.now) ts) }
 {
@@ -59,6 +64,8 @@ pub(crate) fn definition_at(
 ) -> Option<usize>
     requires { limit ≤ length definitions.now }
     ensures within { IfSome result (λ k. k < limit) }
+    ensures named { IfSome result (λ k. (d : declared_definition.Definition)
+        → slice_get definitions.now k ≡ Some d → d.name.now ≡ name.now) }
     ensures meant { (sorts : syntax.Spec) (base : spec.Forms) (ts : syntax.Terms)
         → terms_count ts ≡ count
         → spec.with_definitions sorts base (take limit (map definition_of definitions.now))
@@ -80,7 +87,9 @@ pub(crate) fn variable_at<'a>(
     name: &str,
     count: usize,
 ) -> Option<&'a StateVariable<'a>>
-    ensures { (sorts : syntax.Spec) (ts : syntax.Terms) → terms_count ts ≡ count
+    ensures named { IfSome result (λ y. Contains variables.now y.now
+        × (string_bytes y.now.name.now.text ≡ name.now)) }
+    ensures meant { (sorts : syntax.Spec) (ts : syntax.Terms) → terms_count ts ≡ count
         → spec.reads sorts (map state_variable_of variables.now) name.now ts
         ≡ variable_term sorts result ts }
 {
@@ -105,7 +114,8 @@ pub(crate) enum Meant<'a> {
 impl<'a> Context<'a> {
     /// What a name with so many arguments means by so many of the definitions.
     pub(crate) fn meant(&'a self, definitions: usize, name: &str, count: usize) -> Meant<'a>
-        ensures { (ts : syntax.Terms) → terms_count ts ≡ count
+        ensures named { IsNamed self.now definitions name.now result }
+        ensures meant { (ts : syntax.Terms) → terms_count ts ≡ count
             → forms_in self.now definitions name.now ts ≡ meant_term self.now result ts }
     {
         let limit = definitions.min(self.definitions.len());

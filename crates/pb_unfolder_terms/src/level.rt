@@ -4,6 +4,8 @@ ghost use Rattle.std.specs.Prelude.{◌≡◌, ◌+◌, ◌<◌, ℕ, suc, Match
 ghost use Rattle.pb_errors.specs.declared.or_memory.OrMemory.TheVariants.{Refused};
 ghost use Rattle.pb_text_meaning.specs.Syntax as syntax;
 ghost use Rattle.pb_unfolder_terms.specs.declared.fault.UnfoldRule.TheVariants.{Operators};
+ghost use Rattle.pb_unfolder_terms.specs.Met.{Occurrence, Surroundings};
+ghost use Rattle.pb_unfolder_terms.specs.Tells.{IsFaultOf};
 ghost use Rattle.pb_unfolder_terms.specs.Unfolding.{IsRefusal};
 
 use crate::fault::{UnfoldError, UnfoldFault, UnfoldRule};
@@ -51,7 +53,9 @@ pub(crate) fn behind_all(room: u32, operators: u32, place: Place) -> Result<u32,
 /// Why an index isn't unfolded, which says nothing of the operators around it: where it has too
 /// many it nests too deep.
 pub(crate) fn of_index(error: UnfoldError) -> UnfoldError
-    ensures { (n : ℕ) (whole : syntax.Term) → IsRefusal n whole result }
+    ensures refusal { (n : ℕ) (whole : syntax.Term) → IsRefusal n whole result }
+    ensures faults { (m : Surroundings) (whole : Occurrence) → IsFaultOf m whole error
+        → IsFaultOf m whole result }
 {
     match error {
         UnfoldError::Refused(UnfoldFault { rule, place }) => match rule {

@@ -16,7 +16,7 @@ use crate::context::{Context, StateVariable};
 use crate::enumerator::is_enumerator;
 use crate::form::Form;
 use crate::unfolded::Unfolded;
-use crate::written::{Written, bounds_of_sort};
+use crate::written::Written;
 use pb_folding::{Folding, negative_term};
 use pb_text_copies::copy_name;
 use pb_text_tree::{Name, Place, Term};
@@ -31,7 +31,6 @@ pub(crate) fn nothing(place: Place, room: u32) -> Unfolded
         term: Term::Number { place, value: 0 },
         form: Form::Number(0),
         room,
-        bounds: None,
     }
 }
 
@@ -45,71 +44,39 @@ pub(crate) fn value_term(
     ensures { (truth : _) → IfOk result (IsUnfolded (tree.spec_of folding.now.sorts.now) truth
         room (written_term value.entry)) }
 {
-    let bounds = None;
     match value {
         Written::Truth(value) => {
             let term = Term::Constant { place, value };
             let form = Form::Truth(value);
-            Ok(Unfolded {
-                term,
-                form,
-                room,
-                bounds,
-            })
+            Ok(Unfolded { term, form, room })
         }
         Written::Number(value) => {
             let term = Term::Number { place, value };
             let form = Form::Number(value);
-            Ok(Unfolded {
-                term,
-                form,
-                room,
-                bounds,
-            })
+            Ok(Unfolded { term, form, room })
         }
         Written::Negative(value) => {
             let term = negative_term(folding, place, Term::Number { place, value })?;
             let form = Form::Negative(value);
-            Ok(Unfolded {
-                term,
-                form,
-                room,
-                bounds,
-            })
+            Ok(Unfolded { term, form, room })
         }
         Written::Enumerator(name) => {
             let text = name.text.as_str().to_owned(folding.alloc)?;
             let term = Term::Name(Name { place, text });
             let form = Form::Name;
-            Ok(Unfolded {
-                term,
-                form,
-                room,
-                bounds,
-            })
+            Ok(Unfolded { term, form, room })
         }
     }
 }
 
-/// A name that stands for itself as it is: an element of an array, or the array, of this sort.
-pub(crate) fn element_term(
-    context: &Context<'_>,
-    name: &Name,
-    sort: &str,
-    room: u32,
-) -> Result<Unfolded, AllocError>
+/// A name that stands for itself as it is: an element of an array, or the array.
+pub(crate) fn element_term(alloc: Global, name: &Name, room: u32) -> Result<Unfolded, AllocError>
     ensures { (folding : syntax.Spec) (truth : _) → IfOk result
         (IsUnfolded folding truth room (syntax.Term.Named (string_bytes name.now.text))) }
 {
-    let term = Term::Name(copy_name(context.alloc, name)?);
+    let term = Term::Name(copy_name(alloc, name)?);
     let form = Form::Name;
-    let bounds = bounds_of_sort(context.sorts(), sort);
-    Ok(Unfolded {
-        term,
-        form,
-        room,
-        bounds,
-    })
+    Ok(Unfolded { term, form, room })
 }
 
 /// A name at another place.
@@ -135,19 +102,12 @@ pub(crate) fn bare_variable(
         let text = variable.name.text.as_str().to_owned(context.alloc)?;
         let term = Term::Name(Name { place, text });
         let form = Form::Name;
-        let bounds = bounds_of_sort(context.sorts(), variable.sort);
-        return Ok(Unfolded {
-            term,
-            form,
-            room,
-            bounds,
-        });
+        return Ok(Unfolded { term, form, room });
     }
     Ok(Unfolded {
         term: Term::Number { place, value: 0 },
         form: Form::Number(0),
         room,
-        bounds: None,
     })
 }
 
@@ -166,7 +126,6 @@ pub(crate) fn own_name(
             term: Term::Name(copy_name(context.alloc, name)?),
             form: Form::Name,
             room,
-            bounds: None,
         });
     }
     Ok(Unfolded {
@@ -176,6 +135,5 @@ pub(crate) fn own_name(
         },
         form: Form::Number(0),
         room,
-        bounds: None,
     })
 }

@@ -9,7 +9,6 @@ ghost use Rattle.pb_unfolder_terms.specs.Operands.{AreOperands, behind};
 ghost use Rattle.pb_unfolder_terms.specs.Chains.{operands_of};
 ghost use Rattle.pb_unfolder_terms.specs.Unfolding.{IsUnfolded};
 
-use crate::bounds::of_truth;
 use crate::form::Form;
 use crate::unfolded::Unfolded;
 use pb_folding::{and_term, implies_term, or_term};
@@ -63,7 +62,6 @@ pub(crate) fn said_of_none(quantifier: Quantifier, place: Place, room: u32) -> U
         term: Term::Constant { place, value },
         form: Form::Truth(value),
         room,
-        bounds: None,
     }
 }
 
@@ -150,6 +148,5 @@ pub(crate) fn joined_operands(
         term,
         form: Form::Other,
         room: operands.room,
-        bounds: of_truth(),
     })
 }

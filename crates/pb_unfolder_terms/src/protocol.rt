@@ -1,11 +1,14 @@
 //! What terms of a protocol are unfolded by.
 
 ghost use Rattle.std.specs.Prelude.{◌≡◌, ◌++◌, map, flat_map, IfOk, OnOk};
-ghost use Rattle.pb_protocol_tree.specs.Form.{definition_form, state_variables_form};
+ghost use Rattle.pb_protocol_tree.specs.Form.{definition_form, protocol_form, state_variables_form};
 ghost use Rattle.pb_protocol_meaning.specs.Erase.{erased_definition, erased_state_variable};
 ghost use Rattle.pb_protocol_meaning.specs.Erase.{protocol_of};
 ghost use Rattle.pb_unfolder_terms.specs.Contexts.{definition_of, state_variable_of, IsContext};
 ghost use Rattle.pb_unfolder_terms.specs.Contexts.{without_state};
+ghost use Rattle.pb_unfolder_terms.specs.Tells.{placed_term, surroundings_in};
+ghost use Rattle.pb_unfolder_terms.specs.TermFaults.{surroundings_at_start, surroundings_of};
+ghost use Rattle.pb_unfolder_terms.specs.TermFaults.{term_of_definition};
 
 use crate::context::{Context, Definition, StateVariable};
 use crate::variables::variables_of;
@@ -50,8 +53,10 @@ fn definitions(
     alloc: Global,
     declared: &[tree::Definition],
 ) -> Result<Vec<Definition<'_>>, AllocError>
-    ensures { IfOk result (λ v. map definition_of v.items
+    ensures definitions { IfOk result (λ v. map definition_of v.items
         ≡ map erased_definition (map definition_form declared.now)) }
+    ensures terms { IfOk result (λ v. map placed_term v.items
+        ≡ map term_of_definition (map definition_form declared.now)) }
 {
     let mut definitions = Vec::new(alloc);
     for definition in declared {
@@ -71,7 +76,9 @@ impl<'a> Context<'a> {
     /// # Errors
     /// Memory was refused.
     pub fn new(alloc: Global, protocol: &'a tree::Protocol) -> Result<Context<'a>, AllocError>
-        ensures { IfOk result (IsContext (protocol_of protocol.now)) }
+        ensures context { IfOk result (IsContext (protocol_of protocol.now)) }
+        ensures surroundings { IfOk result
+            (λ c. surroundings_in c ≡ surroundings_of (protocol_form protocol.now)) }
     {
         let mut context = Context::of_initial(alloc, protocol);
         context.variables = state_variables(alloc, &protocol.state)?;
@@ -81,8 +88,9 @@ impl<'a> Context<'a> {
 
     /// What terms of the initial state are unfolded by: no state variable and no definition.
     pub fn of_initial(alloc: Global, protocol: &'a tree::Protocol) -> Context<'a>
-        ensures { IsContext (without_state (protocol_of protocol.now))
-            result }
+        ensures context { IsContext (without_state (protocol_of protocol.now)) result }
+        ensures surroundings { surroundings_in result
+            ≡ surroundings_at_start (protocol_form protocol.now) }
     {
         Context {
             alloc,

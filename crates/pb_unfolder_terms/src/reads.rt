@@ -7,6 +7,7 @@ ghost use Rattle.pb_folding.specs.View as tree;
 ghost use Rattle.pb_unfolding.specs.PutIn as spec;
 ghost use Rattle.pb_unfolder_terms.specs.Contexts.{folding_in};
 ghost use Rattle.pb_unfolder_terms.specs.Puts.{element_by, read_by};
+ghost use Rattle.pb_unfolder_terms.specs.Tells.{IsReadMet, Tells};
 ghost use Rattle.pb_unfolder_terms.specs.Unfolding.{Unfolds, operator_count};
 ghost use Rattle.pb_unfolder_terms.specs.Values.{written_term};
 
@@ -32,9 +33,11 @@ fn unfold_element<'a>(
     others: Array<'a>,
     value: Written<'a>,
 ) -> Result<Unfolded, UnfoldError>
-    ensures { (truth : _) → Unfolds (folding_in context.now) truth level.room
+    ensures term { (truth : _) → Unfolds (folding_in context.now) truth level.room
         (element_by context.now level.definitions scope.now others.entry
         (written_term value.entry)) result }
+    ensures faults { Tells context.now result (IsReadMet context.now level.definitions scope.now
+        others.entry.arguments.now others.entry.indices.now) }
 {
     let name = element(context.alloc, others.name, value)?;
     let array = Array {
@@ -52,12 +55,14 @@ fn unfold_choices<'a>(
     level: Level,
     choices: Choices<'a>,
 ) -> Result<Unfolded, UnfoldError>
-    ensures { (t : syntax.Term) (truth : _) →
+    ensures term { (t : syntax.Term) (truth : _) →
         tree.term_of choices.entry.index.now ≡ folded (folding_in context.now) false t
         → choices.entry.operators ≤ operator_count t
         → Unfolds (folding_in context.now) truth level.room (spec.choices
         (element_by context.now level.definitions scope.now choices.entry.others) t
         (map written_term choices.entry.values.now)) result }
+    ensures faults { Tells context.now result (IsReadMet context.now level.definitions scope.now
+        choices.entry.others.arguments.now choices.entry.others.indices.now) }
 {
     let place = choices.others.name.place;
     let Some(depth) = level.depth.checked_sub(1) else {
@@ -101,8 +106,10 @@ pub(crate) fn unfold_read<'a>(
     level: Level,
     array: Array<'a>,
 ) -> Result<Unfolded, UnfoldError>
-    ensures { (truth : _) → Unfolds (folding_in context.now) truth level.room
+    ensures term { (truth : _) → Unfolds (folding_in context.now) truth level.room
         (read_by context.now level.definitions scope.now array.entry) result }
+    ensures faults { Tells context.now result (IsReadMet context.now level.definitions scope.now
+        array.entry.arguments.now array.entry.indices.now) }
 {
     let place = array.name.place;
     let Some(depth) = level.depth.checked_sub(1) else {
@@ -114,7 +121,7 @@ pub(crate) fn unfold_read<'a>(
         ..level
     };
     let Some(index) = array.indices.first() else {
-        return Ok(element_term(context, array.name, array.sort, level.room)?);
+        return Ok(element_term(context.alloc, array.name, level.room)?);
     };
     let Some(argument) = array.arguments.first() else {
         return Ok(nothing(place, level.room));
@@ -124,7 +131,7 @@ pub(crate) fn unfold_read<'a>(
         Ok(unfolded) => unfolded,
         Err(error) => return Err(of_index(error)),
     };
-    if !is_within(context.declarations, &unfolded, &values) {
+    if !is_within(context, &unfolded.term, index.sort) {
         return Err(refused(UnfoldRule::Index, argument.place));
     }
     if let Some(value) = written_as(&unfolded, &values) {

@@ -3,6 +3,9 @@
 ghost use Rattle.std.specs.Prelude.{◌≡◌, ℕ, None};
 ghost use Rattle.pb_text_meaning.specs.Syntax.{Spec};
 ghost use Rattle.pb_unfolding.specs.PutIn as spec;
+ghost use Rattle.pb_unfolder_terms.specs.declared.context.Context as declared_context;
+ghost use Rattle.pb_unfolder_terms.specs.Met.{Occurrence};
+ghost use Rattle.pb_unfolder_terms.specs.Tells.{IsFoundMet, IsScopeMet};
 ghost use Rattle.pb_unfolder_terms.specs.Scopes.{argument_said, found_term, looked, scope_of};
 
 use crate::sorts::Variable;
@@ -81,7 +84,9 @@ fn argument_of<'a>(
 
 /// What a name stands for.
 pub fn looked_up<'a>(scope: &'a TermScope<'a>, name: &str) -> Found<'a>
-    ensures { (sorts : Spec) (forms : ℕ → spec.Forms) → found_term sorts forms result
+    ensures met { (c : declared_context.Context) (whole : Occurrence)
+        → IsScopeMet c scope.now whole → IsFoundMet c result whole }
+    ensures term { (sorts : Spec) (forms : ℕ → spec.Forms) → found_term sorts forms result
         ≡ spec.term_of (scope_of sorts forms scope.now) name.now }
 {
     match scope {

@@ -1,6 +1,7 @@
 //! Unfolds a term: what its names stand for is put in, and what is decided is folded at once.
 
 ghost use Rattle.std.specs.Prelude.{None, string_bytes};
+ghost use Rattle.pb_text_tree.specs.Form.{TermForm, named, term_form};
 ghost use Rattle.pb_text_meaning.specs.Syntax.{NoTerms};
 ghost use Rattle.pb_text_meaning.specs.Syntax as syntax;
 ghost use Rattle.pb_folding.specs.View as tree;
@@ -8,6 +9,7 @@ ghost use Rattle.pb_unfolding.specs.PutIn as spec;
 ghost use Rattle.pb_unfolder_terms.specs.Contexts.{forms_in, folding_in, spec_in};
 ghost use Rattle.pb_unfolder_terms.specs.Puts.{put};
 ghost use Rattle.pb_unfolder_terms.specs.Scopes.{scope_of};
+ghost use Rattle.pb_unfolder_terms.specs.Tells.{IsMetAt, IsTermMet, Tells};
 ghost use Rattle.pb_unfolder_terms.specs.Unfolding.{Unfolds};
 
 use crate::applications::{unfold_application, unfold_arithmetic};
@@ -29,10 +31,12 @@ fn unfold_free<'a>(
     level: Level,
     name: &'a Name,
 ) -> Result<Unfolded, UnfoldError>
-    ensures { Unfolds (folding_in context.now) level.truth level.room
+    ensures term { Unfolds (folding_in context.now) level.truth level.room
         (spec.named_term (spec_in context.now) None
         (forms_in context.now level.definitions (string_bytes name.now.text) NoTerms)
         (string_bytes name.now.text)) result }
+    ensures faults { (ρ : spec.TermScope) → Tells context.now result
+        (IsMetAt context.now level.definitions ρ (TermForm.name (named name.now))) }
 {
     match context.meant(level.definitions, name.text.as_str(), 0) {
         Meant::Definition(definition, before) => {
@@ -58,10 +62,12 @@ fn unfold_name<'a>(
     level: Level,
     name: &'a Name,
 ) -> Result<Unfolded, UnfoldError>
-    ensures { Unfolds (folding_in context.now) level.truth level.room
+    ensures term { Unfolds (folding_in context.now) level.truth level.room
         (spec.put_in (spec_in context.now) (forms_in context.now level.definitions)
         (scope_of (spec_in context.now) (forms_in context.now) scope.now)
         (syntax.Term.Named (string_bytes name.now.text))) result }
+    ensures faults { Tells context.now result (IsTermMet context.now level.definitions scope.now
+        (TermForm.name (named name.now))) }
 {
     match looked_up(scope, name.text.as_str()) {
         Found::Value(value) => {
@@ -95,10 +101,12 @@ pub(crate) fn unfold<'a>(
     level: Level,
     term: &'a Term,
 ) -> Result<Unfolded, UnfoldError>
-    ensures { Unfolds (folding_in context.now) level.truth level.room
+    ensures term { Unfolds (folding_in context.now) level.truth level.room
         (spec.put_in (spec_in context.now) (forms_in context.now level.definitions)
         (scope_of (spec_in context.now) (forms_in context.now) scope.now)
         (tree.term_of term.now)) result }
+    ensures faults { Tells context.now result
+        (IsTermMet context.now level.definitions scope.now (term_form term.now)) }
 {
     let Some(depth) = level.depth.checked_sub(1) else {
         return Err(refused(UnfoldRule::Depth, place_of(term)));
@@ -112,7 +120,6 @@ pub(crate) fn unfold<'a>(
             },
             form: Form::Truth(*value),
             room: level.room,
-            bounds: None,
         }),
         Term::Number { place, value } => Ok(Unfolded {
             term: Term::Number {
@@ -121,7 +128,6 @@ pub(crate) fn unfold<'a>(
             },
             form: Form::Number(*value),
             room: level.room,
-            bounds: None,
         }),
         Term::Name(name) => unfold_name(context, scope, level, name),
         Term::Not { place, operand } => {

@@ -7,10 +7,8 @@ ghost use Rattle.pb_folding.specs.View.{spec_of};
 ghost use Rattle.pb_unfolder_terms.specs.Unfolding.{IsUnfolded, name_in};
 ghost use Rattle.pb_unfolder_terms.specs.Unfolding as spec;
 
-use crate::bounds::{bounds_of, of_negative, of_truth};
 use crate::form::Form;
 use pb_folding::{Folding, compared_term, negative_term, not_term};
-use pb_intervals::Interval;
 use pb_text_tree::{Comparison, Place, Term};
 use std::alloc::AllocError;
 
@@ -22,8 +20,6 @@ pub struct Unfolded {
     pub(crate) form: Form,
     /// How many more operators there may be behind it.
     pub(crate) room: u32,
-    /// Between which numbers it stays, where that is known and it isn't written as one.
-    pub(crate) bounds: Option<Interval>,
 }
 
 /// The name that a term is, and nothing of another term.
@@ -52,7 +48,6 @@ pub(crate) fn negation(
         term,
         form: Form::Other,
         room: operand.room,
-        bounds: of_truth(),
     })
 }
 
@@ -77,16 +72,10 @@ pub(crate) fn negative(
         → IfOk result (IsUnfolded (spec_of folding.now.sorts.now) truth (suc n)
         (syntax.Term.Negative x)) }
 {
-    let bounds = of_negative(bounds_of(folding.sorts, &operand));
     let form = negative_form(operand.form);
     let room = operand.room;
     let term = negative_term(folding, place, operand.term)?;
-    Ok(Unfolded {
-        term,
-        form,
-        room,
-        bounds,
-    })
+    Ok(Unfolded { term, form, room })
 }
 
 /// A comparison of two unfolded terms, the right one behind the left one.
@@ -108,6 +97,5 @@ pub(crate) fn comparison(
         term,
         form: Form::Other,
         room: right.room,
-        bounds: of_truth(),
     })
 }

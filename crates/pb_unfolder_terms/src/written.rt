@@ -12,7 +12,8 @@ ghost use Rattle.pb_unfolding.specs.Written as spec;
 ghost use Rattle.pb_unfolder_terms.specs.View.{declarations, range_said, ranges_said, sort_said};
 ghost use Rattle.pb_unfolder_terms.specs.View.{spec_of, variable_of};
 ghost use Rattle.pb_unfolder_terms.specs.Values.{enumerators_said, named_by, values_in, IsTooLong};
-ghost use Rattle.pb_unfolder_terms.specs.Values.{tuple_of, with_each, written_term};
+ghost use Rattle.pb_unfolder_terms.specs.Bounds.{interval_within, sort_interval};
+ghost use Rattle.pb_unfolder_terms.specs.Values.{interval_of, tuple_of, with_each, written_term};
 
 use crate::fault::{UnfoldError, UnfoldFault, UnfoldRule};
 use crate::sorts::{Sorts, Variable};
@@ -89,7 +90,10 @@ fn declared<'a>(declared_sorts: &'a [SortDeclaration], name: &str) -> Option<&'a
 
 /// What the values of a sort are, through at most this many aliases.
 fn values_within<'a>(sorts: Sorts<'a>, name: &str, aliases: usize) -> Values<'a>
-    ensures { values_in result ≡ spec.written_within (suc aliases) (spec_of sorts.entry) name.now }
+    ensures values { values_in result
+        ≡ spec.written_within (suc aliases) (spec_of sorts.entry) name.now }
+    ensures interval { interval_of result
+        ≡ interval_within (suc aliases) (spec_of sorts.entry) name.now }
 {
     if let Some(range) = range_of(sorts.ranges, name) {
         return Values::Numbers {
@@ -190,6 +194,23 @@ impl<'a> Values<'a> {
         }
     }
 
+    /// Between which numbers they stay, if there are any: of other values than numbers their
+    /// places.
+    fn bounds(self) -> Option<Interval>
+        ensures { result ≡ interval_of self.entry }
+    {
+        match self {
+            Values::Numbers { low, high } if low <= high => {
+                Some(Interval::new(i64::from(low), i64::from(high)))
+            }
+            Values::Truths => Some(Interval::new(0, 1)),
+            Values::Enumerators(enumerators) if !enumerators.is_empty() => {
+                Some(Interval::new(0, enumerators.len() as i64 - 1))
+            }
+            _ => None,
+        }
+    }
+
     /// They in order.
     fn all(self, alloc: Global) -> Result<Vec<Written<'a>>, AllocError>
         ensures { IfOk result (λ v. map written_term v.items ≡ values_in self.entry) }
@@ -229,19 +250,10 @@ pub fn written_values<'a>(
 
 /// The bounds of a sort's values, if there are any: of other values than numbers those of their
 /// places.
-pub(crate) fn bounds_of_sort(sorts: Sorts<'_>, sort: &str) -> Option<Interval> {
-    match values_within(sorts, sort, sorts.declarations.len()) {
-        Values::Numbers { low, high } if low <= high => {
-            Some(Interval::new(i64::from(low), i64::from(high)))
-        }
-        Values::Truths => Some(Interval::new(0, 1)),
-        Values::Enumerators(enumerators) => {
-            let count = u32::try_from(enumerators.len()).ok()?;
-            let last = count.checked_sub(1)?;
-            Some(Interval::new(0, i64::from(last)))
-        }
-        Values::Numbers { .. } | Values::Unknown => None,
-    }
+pub(crate) fn bounds_of_sort(sorts: Sorts<'_>, sort: &str) -> Option<Interval>
+    ensures { result ≡ sort_interval (spec_of sorts.entry) sort.now }
+{
+    values_within(sorts, sort, sorts.declarations.len()).bounds()
 }
 
 /// A tuple with one more value in front.

@@ -44,10 +44,23 @@ use Rattle.pb_unfolder_terms.proofs.OperandLemmas.{chain-end, chain-form, chain-
 use Rattle.pb_unfolder_terms.proofs.ReadLemmas.{choices-more, choices-same, choices-none, choices-one, chosen-otherwise, chosen-written, read-first, read-itself, read-nothing, same-parts}
 use Rattle.pb_unfolder_terms.proofs.TermLemmas.{arithmetic-said, calculated-end, calculated-next, calculated-within, copies-of-tuples, next-within, quantified-said}
 use Rattle.pb_text_tree.specs.declared.term.ArithmeticLink.{ArithmeticLink}
+use Rattle.std.proofs.Common.{inl, inr}
+use Rattle.std.proofs.lemmas.Bool.{false≢true}
+use Rattle.std.proofs.lemmas.Option.{slice_get-map}
+use Rattle.std.specs.Prelude.{option_map}
+use Rattle.std.specs.Prelude.{Contains}
+use Rattle.pb_text_tree.specs.Form.{TermForm, argument_forms, arithmetic_links, calculated, chained, named, term_form, term_links}
+use Rattle.pb_text_tree.proofs.FormLemmas.{term-application, term-arithmetic, term-chain}
+use Rattle.pb_unfolder_terms.specs.Bounds.{IsSeenWithin, sort_interval}
+use Rattle.pb_unfolder_terms.specs.Contexts.{definition_of, interval_in, state_variable_of}
+use Rattle.pb_unfolder_terms.specs.Met.{Body, Defined, HaveOutside, IsOperand, IsOutside, Operand, at, name_used}
+use Rattle.pb_unfolder_terms.specs.Tells.{AreMetAt, IsFaultOf, IsMetAt, placed_term, scope_said, surroundings_in}
+use Rattle.pb_unfolder_terms.proofs.SortsLemmas.{same-folded}
+use Rattle.pb_unfolder_terms.proofs.MetLemmas.{arguments-met, arithmetic-first-met, arithmetic-link-met, chain-first-met, chain-next-met, err-told, first-outside, item-in, mapped-in, other-arguments-met, others-met}
 use Rattle.pb_unfolder_terms.proofs.+unfolding.Goals as goal
 
-pub unfold::unfold-returns-in_ok-negation-in-Not : goal.unfold::unfold-returns-in_ok-negation-in-Not
-unfold::unfold-returns-in_ok-negation-in-Not t c =
+pub unfold::unfold-returns-in_ok-negation-in-Not-clause-term : goal.unfold::unfold-returns-in_ok-negation-in-Not-clause-term
+unfold::unfold-returns-in_ok-negation-in-Not-clause-term t c =
     let k = c.args.context.now in
     let put : declared_term.Term → Term = λ x. put_in (spec_in k) (forms_in k c.args.level.definitions) (scope_of (spec_in k) (forms_in k) c.args.scope.now) (tree.term_of x) in
     let u = c.in_ok-operand-in-Not.operand in
@@ -55,10 +68,10 @@ unfold::unfold-returns-in_ok-negation-in-Not t c =
     let x = put c.deref.result.now in
     carried c.args.level.truth c.in_ok-negation-in-Not.field-0 c.folding.result.sorts.now k.declarations.now (suc n) c.args.level.room (Term.Not x) (put c.args.term.now)
     c.folding.ensures (sym c.in_ok-room-in-Not.ensures) (ap (λ y. Term.Not (put y)) c.deref.ensures ∙ ap put (sym c.in-Not.is))
-    (c.in_ok-negation-in-Not.ensures x n c.args.level.truth (subst (λ (ds : List SortDeclaration). IsUnfolded (tree.spec_of ds) true n x u) (sym c.folding.ensures) c.in_ok-operand-in-Not.ensures))
+    (c.in_ok-negation-in-Not.ensures x n c.args.level.truth (subst (λ (ds : List SortDeclaration). IsUnfolded (tree.spec_of ds) true n x u) (sym c.folding.ensures) c.in_ok-operand-in-Not.ensures.term))
 
-pub unfold::unfold-returns-in_ok-negative-in-Negative : goal.unfold::unfold-returns-in_ok-negative-in-Negative
-unfold::unfold-returns-in_ok-negative-in-Negative t c =
+pub unfold::unfold-returns-in_ok-negative-in-Negative-clause-term : goal.unfold::unfold-returns-in_ok-negative-in-Negative-clause-term
+unfold::unfold-returns-in_ok-negative-in-Negative-clause-term t c =
     let k = c.args.context.now in
     let put : declared_term.Term → Term = λ x. put_in (spec_in k) (forms_in k c.args.level.definitions) (scope_of (spec_in k) (forms_in k) c.args.scope.now) (tree.term_of x) in
     let u = c.in_ok-operand-in-Negative.operand in
@@ -66,46 +79,46 @@ unfold::unfold-returns-in_ok-negative-in-Negative t c =
     let x = put c.deref-in-Negative.result.now in
     carried c.args.level.truth c.in_ok-negative-in-Negative.field-0 c.folding-in-Negative.result.sorts.now k.declarations.now (suc n) c.args.level.room (Term.Negative x) (put c.args.term.now)
     c.folding-in-Negative.ensures (sym c.in_ok-room-in-Negative.ensures) (ap (λ y. Term.Negative (put y)) c.deref-in-Negative.ensures ∙ ap put (sym c.in-Negative.is))
-    (c.in_ok-negative-in-Negative.ensures x n c.args.level.truth (subst (λ (ds : List SortDeclaration). IsUnfolded (tree.spec_of ds) false n x u) (sym c.folding-in-Negative.ensures) c.in_ok-operand-in-Negative.ensures))
+    (c.in_ok-negative-in-Negative.ensures x n c.args.level.truth (subst (λ (ds : List SortDeclaration). IsUnfolded (tree.spec_of ds) false n x u) (sym c.folding-in-Negative.ensures) c.in_ok-operand-in-Negative.ensures.term))
 
-pub unfold::unfold_free-returns-in-Definition : goal.unfold::unfold_free-returns-in-Definition
-unfold::unfold_free-returns-in-Definition t c =
+pub unfold::unfold_free-returns-in-Definition-clause-term : goal.unfold::unfold_free-returns-in-Definition-clause-term
+unfold::unfold_free-returns-in-Definition-clause-term t c =
     let k = c.args.context.now in
     let x : Name = string_bytes c.args.name.now.text in
     let d = c.in-Definition.definition.now in
     let f = forms_in k c.in-Definition.before in
     let e : forms_in k c.args.level.definitions x Terms.NoTerms ≡ Some (put_in (spec_in k) f [] (tree.term_of d.term.now)) =
-    ap (λ (y : Name). forms_in k c.args.level.definitions y Terms.NoTerms) (sym c.as_str.ensures.value) ∙ c.in-Definition.ensures Terms.NoTerms refl
+    ap (λ (y : Name). forms_in k c.args.level.definitions y Terms.NoTerms) (sym c.as_str.ensures.value) ∙ c.in-Definition.ensures.meant Terms.NoTerms refl
     ∙ ap (λ (ρ : TermScope). Some (put_in (spec_in k) f ρ (tree.term_of d.term.now))) (standing-none (map variable_of d.parameters.items) []) in
-    subst (λ (o : Option Term). Unfolds (folding_in k) c.args.level.truth c.args.level.room (named_term (spec_in k) None o x) c.unfold.result) (sym e) c.unfold.ensures
+    subst (λ (o : Option Term). Unfolds (folding_in k) c.args.level.truth c.args.level.room (named_term (spec_in k) None o x) c.unfold.result) (sym e) c.unfold.ensures.term
 
-pub unfold::unfold_free-returns-in_ok-bare_variable-in-Variable : goal.unfold::unfold_free-returns-in_ok-bare_variable-in-Variable
-unfold::unfold_free-returns-in_ok-bare_variable-in-Variable t c =
+pub unfold::unfold_free-returns-in_ok-bare_variable-in-Variable-clause-term : goal.unfold::unfold_free-returns-in_ok-bare_variable-in-Variable-clause-term
+unfold::unfold_free-returns-in_ok-bare_variable-in-Variable-clause-term t c =
     let k = c.args.context.now in
     let x : Name = string_bytes c.args.name.now.text in
-    let e = ap (λ (y : Name). forms_in k c.args.level.definitions y Terms.NoTerms) (sym c.as_str.ensures.value) ∙ c.in-Variable.ensures Terms.NoTerms refl in
+    let e = ap (λ (y : Name). forms_in k c.args.level.definitions y Terms.NoTerms) (sym c.as_str.ensures.value) ∙ c.in-Variable.ensures.meant Terms.NoTerms refl in
     subst (λ (o : Option Term). IsUnfolded (folding_in k) c.args.level.truth c.args.level.room (named_term (spec_in k) None o x) c.in_ok-bare_variable-in-Variable.field-0) (sym e)
     (c.in_ok-bare_variable-in-Variable.ensures (folding_in k) (spec_in k) c.args.level.truth)
 
-pub unfold::unfold_free-returns-in_ok-own_name-in-Neither : goal.unfold::unfold_free-returns-in_ok-own_name-in-Neither
-unfold::unfold_free-returns-in_ok-own_name-in-Neither t c =
+pub unfold::unfold_free-returns-in_ok-own_name-in-Neither-clause-term : goal.unfold::unfold_free-returns-in_ok-own_name-in-Neither-clause-term
+unfold::unfold_free-returns-in_ok-own_name-in-Neither-clause-term t c =
     let k = c.args.context.now in
     let x : Name = string_bytes c.args.name.now.text in
-    let e = ap (λ (y : Name). forms_in k c.args.level.definitions y Terms.NoTerms) (sym c.as_str.ensures.value) ∙ c.in-Neither.ensures Terms.NoTerms refl in
+    let e = ap (λ (y : Name). forms_in k c.args.level.definitions y Terms.NoTerms) (sym c.as_str.ensures.value) ∙ c.in-Neither.ensures.meant Terms.NoTerms refl in
     subst (λ (o : Option Term). IsUnfolded (folding_in k) c.args.level.truth c.args.level.room (named_term (spec_in k) None o x) c.in_ok-own_name-in-Neither.field-0) (sym e)
     (c.in_ok-own_name-in-Neither.ensures c.args.level.truth)
 
-pub unfold::unfold_name-returns-in_ok-value_term-in-Value : goal.unfold::unfold_name-returns-in_ok-value_term-in-Value
-unfold::unfold_name-returns-in_ok-value_term-in-Value t c =
+pub unfold::unfold_name-returns-in_ok-value_term-in-Value-clause-term : goal.unfold::unfold_name-returns-in_ok-value_term-in-Value-clause-term
+unfold::unfold_name-returns-in_ok-value_term-in-Value-clause-term t c =
     let k = c.args.context.now in
     let x : Name = string_bytes c.args.name.now.text in
     let ρ = scope_of (spec_in k) (forms_in k) c.args.scope.now in
-    let e = c.in-Value.ensures (spec_in k) (forms_in k) ∙ ap (λ (y : Name). term_of ρ y) c.as_str.ensures.value in
+    let e = c.in-Value.ensures.term (spec_in k) (forms_in k) ∙ ap (λ (y : Name). term_of ρ y) c.as_str.ensures.value in
     subst (λ (o : Option Term). IsUnfolded (folding_in k) c.args.level.truth c.args.level.room (named_term (spec_in k) o (forms_in k c.args.level.definitions x Terms.NoTerms) x) c.in_ok-value_term-in-Value.field-0) e
     (subst (λ (ds : List SortDeclaration). IsUnfolded (tree.spec_of ds) c.args.level.truth c.args.level.room (written_term c.in-Value.value) c.in_ok-value_term-in-Value.field-0) c.folding.ensures (c.in_ok-value_term-in-Value.ensures c.args.level.truth))
 
-pub unfold::unfold-returns-in_ok-comparison-in-Comparison : goal.unfold::unfold-returns-in_ok-comparison-in-Comparison
-unfold::unfold-returns-in_ok-comparison-in-Comparison t c =
+pub unfold::unfold-returns-in_ok-comparison-in-Comparison-clause-term : goal.unfold::unfold-returns-in_ok-comparison-in-Comparison-clause-term
+unfold::unfold-returns-in_ok-comparison-in-Comparison-clause-term t c =
     let k = c.args.context.now in
     let put : declared_term.Term → Term = λ x. put_in (spec_in k) (forms_in k c.args.level.definitions) (scope_of (spec_in k) (forms_in k) c.args.scope.now) (tree.term_of x) in
     let o = of_comparison c.in-Comparison.sign in
@@ -119,11 +132,11 @@ unfold::unfold-returns-in_ok-comparison-in-Comparison t c =
     c.folding-in-Comparison.ensures (sym c.in_ok-room-in-Comparison.ensures)
     (ap (λ z. Term.Binary o (put z) y) c.deref-in-Comparison.ensures ∙ ap (λ z. Term.Binary o (put (box_value c.in-Comparison.left)) (put z)) c.deref-in-Comparison-2.ensures ∙ ap put (sym c.in-Comparison.is))
     (c.in_ok-comparison-in-Comparison.ensures x y n c.args.level.truth
-    (subst (λ (ds : List SortDeclaration). IsUnfolded (tree.spec_of ds) false n x u) back c.in_ok-left-in-Comparison.ensures)
-    (subst (λ (ds : List SortDeclaration). IsUnfolded (tree.spec_of ds) false u.room y v) back c.in_ok-right-in-Comparison.ensures))
+    (subst (λ (ds : List SortDeclaration). IsUnfolded (tree.spec_of ds) false n x u) back c.in_ok-left-in-Comparison.ensures.term)
+    (subst (λ (ds : List SortDeclaration). IsUnfolded (tree.spec_of ds) false u.room y v) back c.in_ok-right-in-Comparison.ensures.term))
 
-pub unfold::unfold-returns-in_err-right-in-Comparison : goal.unfold::unfold-returns-in_err-right-in-Comparison
-unfold::unfold-returns-in_err-right-in-Comparison t c =
+pub unfold::unfold-returns-in_err-right-in-Comparison-clause-term : goal.unfold::unfold-returns-in_err-right-in-Comparison-clause-term
+unfold::unfold-returns-in_err-right-in-Comparison-clause-term t c =
     let k = c.args.context.now in
     let put : declared_term.Term → Term = λ x. put_in (spec_in k) (forms_in k c.args.level.definitions) (scope_of (spec_in k) (forms_in k) c.args.scope.now) (tree.term_of x) in
     let o = of_comparison c.in-Comparison.sign in
@@ -131,12 +144,12 @@ unfold::unfold-returns-in_err-right-in-Comparison t c =
     let y = put c.deref-in-Comparison-2.result.now in
     let same : Term.Binary o x y ≡ put c.args.term.now =
     ap (λ z. Term.Binary o (put z) y) c.deref-in-Comparison.ensures ∙ ap (λ z. Term.Binary o (put (box_value c.in-Comparison.left)) (put z)) c.deref-in-Comparison-2.ensures ∙ ap put (sym c.in-Comparison.is) in
-    let more = refusal-behind c.args.level.room c.in_ok-room-in-Comparison.room c.in_ok-left-in-Comparison.left.room o x y (put c.args.term.now) c.in_err-right-in-Comparison.field-0.0 c.in_ok-room-in-Comparison.ensures c.in_ok-left-in-Comparison.ensures.room same in
+    let more = refusal-behind c.args.level.room c.in_ok-room-in-Comparison.room c.in_ok-left-in-Comparison.left.room o x y (put c.args.term.now) c.in_err-right-in-Comparison.field-0.0 c.in_ok-room-in-Comparison.ensures c.in_ok-left-in-Comparison.ensures.term.room same in
     err-kept c.from_residual-in_err-right-in-Comparison.result c.in_err-right-in-Comparison.field-0.0 (IsUnfolded (folding_in k) c.args.level.truth c.args.level.room (put c.args.term.now)) (IsRefusal c.args.level.room (put c.args.term.now))
-    c.from_residual-in_err-right-in-Comparison.ensures.1 (more c.in_err-right-in-Comparison.ensures)
+    c.from_residual-in_err-right-in-Comparison.ensures.1 (more c.in_err-right-in-Comparison.ensures.term)
 
-pub applications::unfold_application-returns-in-Definition : goal.applications::unfold_application-returns-in-Definition
-applications::unfold_application-returns-in-Definition t c =
+pub applications::unfold_application-returns-in-Definition-clause-term : goal.applications::unfold_application-returns-in-Definition-clause-term
+applications::unfold_application-returns-in-Definition-clause-term t c =
     let k = c.args.context.now in
     let f : Name = string_bytes c.args.function.now.text in
     let n = c.args.level.definitions in
@@ -149,20 +162,20 @@ applications::unfold_application-returns-in-Definition t c =
     let some : 0 < length given = grind (arith, nat_tests) in
     let e : Some (body c.deref.result.now) ≡ given_arguments (forms_in k n) f ts =
     ap (λ vs. Some (body vs)) c.deref.ensures.value
-    ∙ sym (c.in-Definition.ensures ts (arguments-counted (spec_in k) (forms_in k n) ρ given))
+    ∙ sym (c.in-Definition.ensures.meant ts (arguments-counted (spec_in k) (forms_in k n) ρ given))
     ∙ ap (λ (y : Name). forms_in k n y ts) c.as_str.ensures.value
     ∙ given-there (spec_in k) (forms_in k n) ρ f given some in
-    subst (λ (o : Option Term). Unfolds (folding_in k) c.args.level.truth c.args.level.room (applied_term o f ts) c.unfold.result) e c.unfold.ensures
+    subst (λ (o : Option Term). Unfolds (folding_in k) c.args.level.truth c.args.level.room (applied_term o f ts) c.unfold.result) e c.unfold.ensures.term
 
-pub unfold::unfold-returns-in-Application : goal.unfold::unfold-returns-in-Application
-unfold::unfold-returns-in-Application t c =
+pub unfold::unfold-returns-in-Application-clause-term : goal.unfold::unfold-returns-in-Application-clause-term
+unfold::unfold-returns-in-Application-clause-term t c =
     let k = c.args.context.now in
     let put : Term → Term = λ x. put_in (spec_in k) (forms_in k c.args.level.definitions) (scope_of (spec_in k) (forms_in k) c.args.scope.now) x in
     let f = c.in-Application.function in
     let said : Term.Apply (string_bytes f.text) (tree.terms_of c.deref-in-Application.result.now) ≡ tree.term_of c.args.term.now =
     ap (λ ls. Term.Apply (string_bytes f.text) (tree.terms_of ls)) c.deref-in-Application.ensures.value
     ∙ sym (application-said f c.in-Application.arguments) ∙ ap tree.term_of (sym c.in-Application.is) in
-    subst (λ (x : Term). Unfolds (folding_in k) c.args.level.truth c.args.level.room (put x) c.unfold_application.result) said c.unfold_application.ensures
+    subst (λ (x : Term). Unfolds (folding_in k) c.args.level.truth c.args.level.room (put x) c.unfold_application.result) said c.unfold_application.ensures.term
 
 pub connectives::unfold_operands-loop-link-preserved : goal.connectives::unfold_operands-loop-link-preserved
 connectives::unfold_operands-loop-link-preserved t c =
@@ -180,13 +193,15 @@ connectives::unfold_operands-loop-link-preserved t c =
     let l = c.link-item.result in
     let rest' = p (chain_term o (operand_of l) (operands_of (drop (i + 1) ls))) in
     let split : rest ≡ Term.Binary (of_connective o) (p x) rest' = ap p (chain-next o x ls i l c.loop-link-test.true c.link-item.is) in
-    let u = c.in_ok-unfolded.unfolded in
-    left-further (folding_in k) o b room whole rest (p x) rest' (operands_of c.loop-link.before.items) (operands_of c.push.new.self.items) c.loop-link.room c.in_ok-behind_one.field-0 u.room (tree.term_of u.term)
-    c.in_ok-behind_one.ensures split c.in_ok-unfolded.ensures.term c.in_ok-unfolded.ensures.room
-    (ap operands_of c.in_ok-push.ensures.items ∙ operands-more c.loop-link.before.items (record { place = l.place; operand = u.term })) c.loop-link.invariant
+    let u = c.in_ok-unfolded.unfolded in (
+      left-further (folding_in k) o b room whole rest (p x) rest' (operands_of c.loop-link.before.items) (operands_of c.push.new.self.items) c.loop-link.room c.in_ok-behind_one.field-0 u.room (tree.term_of u.term)
+          c.in_ok-behind_one.ensures split c.in_ok-unfolded.ensures.term.term c.in_ok-unfolded.ensures.term.room
+          (ap operands_of c.in_ok-push.ensures.items ∙ operands-more c.loop-link.before.items (record { place = l.place; operand = u.term })) c.loop-link.invariant.0,
+      λ w h. let met = c.loop-link.invariant.1 w h in (chain-next-met k n (scope_said k c.args.scope.now) w o (term_form c.loop-link.term.now) ls i l c.loop-link-test.true c.link-item.is met.0, met.1),
+    )
 
-pub connectives::unfold_operands-returns-then-decides : goal.connectives::unfold_operands-returns-then-decides
-connectives::unfold_operands-returns-then-decides t c =
+pub connectives::unfold_operands-returns-then-decides-clause-operands : goal.connectives::unfold_operands-returns-then-decides-clause-operands
+connectives::unfold_operands-returns-then-decides-clause-operands t c =
     let k = c.args.context.now in
     let n = c.args.level.definitions in
     let b = c.args.level.truth in
@@ -203,11 +218,11 @@ connectives::unfold_operands-returns-then-decides t c =
     let split : rest ≡ Term.Binary (of_connective o) (p x) rest' = ap p (chain-next o x ls i l c.loop-link-test.true c.link-item.is) in
     let u = c.in_ok-unfolded.unfolded in
     left-decided (folding_in k) o b room whole rest (p x) rest' (record { before = c.loop-link.before; last = c.decided-last.result; room = u.room }) c.loop-link.room c.in_ok-behind_one.field-0
-    c.in_ok-behind_one.ensures split (sym (c.decides.ensures c.if-decides.true) ∙ c.in_ok-unfolded.ensures.term) c.in_ok-unfolded.ensures.room c.decided-last.ensures
-    (chain-form o (tree.term_of c.args.chain.first.now) ls p (λ o y z. refl) c.requires) c.loop-link.invariant
+    c.in_ok-behind_one.ensures split (sym (c.decides.ensures c.if-decides.true) ∙ c.in_ok-unfolded.ensures.term.term) c.in_ok-unfolded.ensures.term.room c.decided-last.ensures
+    (chain-form o (tree.term_of c.args.chain.first.now) ls p (λ o y z. refl) c.requires) c.loop-link.invariant.0
 
-pub connectives::unfold_operands-returns : goal.connectives::unfold_operands-returns
-connectives::unfold_operands-returns t c =
+pub connectives::unfold_operands-returns-clause-operands : goal.connectives::unfold_operands-returns-clause-operands
+connectives::unfold_operands-returns-clause-operands t c =
     let k = c.args.context.now in
     let n = c.args.level.definitions in
     let b = c.args.level.truth in
@@ -221,11 +236,11 @@ connectives::unfold_operands-returns t c =
     let rest = p (chain_term o x (operands_of (drop i ls))) in
     let u = c.in_ok-unfolded-2.unfolded in
     left-last (folding_in k) o b c.truth_counts-truth.result room whole rest (p x) (record { before = c.loop-link.before; last = u.term; room = u.room }) c.loop-link.room
-    (ap p (chain-end o x ls i (λ h. omega (arith, h, c.loop-link-test.false)))) (c.truth_counts-truth.ensures ∙ ap (λ xs. truth_counts b (operands_of xs)) c.deref.ensures.value) c.in_ok-unfolded-2.ensures.term c.in_ok-unfolded-2.ensures.room
-    (chain-form o (tree.term_of c.args.chain.first.now) ls p (λ o y z. refl) c.requires) c.loop-link.invariant
+    (ap p (chain-end o x ls i (λ h. omega (arith, h, c.loop-link-test.false)))) (c.truth_counts-truth.ensures ∙ ap (λ xs. truth_counts b (operands_of xs)) c.deref.ensures.value) c.in_ok-unfolded-2.ensures.term.term c.in_ok-unfolded-2.ensures.term.room
+    (chain-form o (tree.term_of c.args.chain.first.now) ls p (λ o y z. refl) c.requires) c.loop-link.invariant.0
 
-pub connectives::unfold_operands-returns-in_err-unfolded-2 : goal.connectives::unfold_operands-returns-in_err-unfolded-2
-connectives::unfold_operands-returns-in_err-unfolded-2 t c =
+pub connectives::unfold_operands-returns-in_err-unfolded-2-clause-operands : goal.connectives::unfold_operands-returns-in_err-unfolded-2-clause-operands
+connectives::unfold_operands-returns-in_err-unfolded-2-clause-operands t c =
     let k = c.args.context.now in
     let n = c.args.level.definitions in
     let b = c.args.level.truth in
@@ -239,7 +254,7 @@ connectives::unfold_operands-returns-in_err-unfolded-2 t c =
     let rest = p (chain_term o x (operands_of (drop i ls))) in
     let e = c.in_err-unfolded-2.field-0.0 in
     err-kept c.from_residual-in_err-unfolded-2.result e _ (IsRefusal room whole) c.from_residual-in_err-unfolded-2.ensures.1
-    (last-refused (folding_in k) o b room whole rest (p x) (operands_of c.loop-link.before.items) c.loop-link.room e (ap p (chain-end o x ls i (λ h. omega (arith, h, c.loop-link-test.false)))) c.loop-link.invariant c.in_err-unfolded-2.ensures)
+    (last-refused (folding_in k) o b room whole rest (p x) (operands_of c.loop-link.before.items) c.loop-link.room e (ap p (chain-end o x ls i (λ h. omega (arith, h, c.loop-link-test.false)))) c.loop-link.invariant.0 c.in_err-unfolded-2.ensures.term)
 
 pub connectives::unfold_copies-loop-values-preserved : goal.connectives::unfold_copies-loop-values-preserved
 connectives::unfold_copies-loop-values-preserved t c =
@@ -262,13 +277,13 @@ connectives::unfold_copies-loop-values-preserved t c =
     let split : rest ≡ Term.Binary (of_connective o) x rest' = joined-next q tuple_of f xs i v c.loop-values-test.true c.values-item.is in
     let u = c.in_ok-unfolded.unfolded in
     let inner = c.in_ok-behind_one.field-0 in
-    let h : IsUnfolded (folding_in k) true inner x u = subst (λ (z : Term). IsUnfolded (folding_in k) true inner z u) (ap (λ ws. f (map written_term ws)) c.deref.ensures.value) c.in_ok-unfolded.ensures in
+    let h : IsUnfolded (folding_in k) true inner x u = subst (λ (z : Term). IsUnfolded (folding_in k) true inner z u) (ap (λ ws. f (map written_term ws)) c.deref.ensures.value) c.in_ok-unfolded.ensures.term in
     left-further (folding_in k) o b room whole rest x rest' (operands_of c.loop-values.before.items) (operands_of c.push.new.self.items) c.loop-values.room inner u.room (tree.term_of u.term)
     c.in_ok-behind_one.ensures split h.term h.room
     (ap operands_of c.in_ok-push.ensures.items ∙ operands-more c.loop-values.before.items (record { place = c.args.quantified.place; operand = u.term })) c.loop-values.invariant
 
-pub connectives::unfold_copies-returns-then-decides : goal.connectives::unfold_copies-returns-then-decides
-connectives::unfold_copies-returns-then-decides t c =
+pub connectives::unfold_copies-returns-then-decides-clause-operands : goal.connectives::unfold_copies-returns-then-decides-clause-operands
+connectives::unfold_copies-returns-then-decides-clause-operands t c =
     let k = c.args.context.now in
     let n = c.args.level.definitions in
     let b = c.args.level.truth in
@@ -288,14 +303,14 @@ connectives::unfold_copies-returns-then-decides t c =
     let split : rest ≡ Term.Binary (of_connective o) x rest' = joined-next q tuple_of f xs i v c.loop-values-test.true c.values-item.is in
     let u = c.in_ok-unfolded.unfolded in
     let inner = c.in_ok-behind_one.field-0 in
-    let h : IsUnfolded (folding_in k) true inner x u = subst (λ (z : Term). IsUnfolded (folding_in k) true inner z u) (ap (λ ws. f (map written_term ws)) c.deref.ensures.value) c.in_ok-unfolded.ensures in
+    let h : IsUnfolded (folding_in k) true inner x u = subst (λ (z : Term). IsUnfolded (folding_in k) true inner z u) (ap (λ ws. f (map written_term ws)) c.deref.ensures.value) c.in_ok-unfolded.ensures.term in
     let decides : Term.Truth (deciding o) ≡ folded (folding_in k) true x = ap (λ d. Term.Truth (deciding d)) (sym c.joining-connective.ensures) ∙ sym (c.decides.ensures c.if-decides.true) ∙ h.term in
     left-decided (folding_in k) o b room whole rest x rest' (record { before = c.loop-values.before; last = c.decided-last.result; room = u.room }) c.loop-values.room inner
     c.in_ok-behind_one.ensures split decides h.room (c.decided-last.ensures ∙ ap (λ d. Term.Truth (outcome d)) c.joining-connective.ensures)
     (joined-form q tuple_of f xs c.requires) c.loop-values.invariant
 
-pub connectives::unfold_copies-returns-in_err-behind_one : goal.connectives::unfold_copies-returns-in_err-behind_one
-connectives::unfold_copies-returns-in_err-behind_one t c =
+pub connectives::unfold_copies-returns-in_err-behind_one-clause-operands : goal.connectives::unfold_copies-returns-in_err-behind_one-clause-operands
+connectives::unfold_copies-returns-in_err-behind_one-clause-operands t c =
     let k = c.args.context.now in
     let n = c.args.level.definitions in
     let b = c.args.level.truth in
@@ -317,8 +332,8 @@ connectives::unfold_copies-returns-in_err-behind_one t c =
     err-kept c.from_residual.result e _ (IsRefusal room whole) c.from_residual.ensures.1
     (no-room room whole e c.args.quantified.place c.in_err-behind_one.ensures.0 (left-without-room (folding_in k) o b room whole rest x rest' (operands_of c.loop-values.before.items) c.loop-values.room c.in_err-behind_one.ensures.1 split c.loop-values.invariant))
 
-pub connectives::unfold_copies-returns-in_err-unfolded : goal.connectives::unfold_copies-returns-in_err-unfolded
-connectives::unfold_copies-returns-in_err-unfolded t c =
+pub connectives::unfold_copies-returns-in_err-unfolded-clause-operands : goal.connectives::unfold_copies-returns-in_err-unfolded-clause-operands
+connectives::unfold_copies-returns-in_err-unfolded-clause-operands t c =
     let k = c.args.context.now in
     let n = c.args.level.definitions in
     let b = c.args.level.truth in
@@ -340,10 +355,10 @@ connectives::unfold_copies-returns-in_err-unfolded t c =
     let inner = c.in_ok-behind_one.field-0 in
     err-kept c.from_residual-in_err-unfolded.result e _ (IsRefusal room whole) c.from_residual-in_err-unfolded.ensures.1
     (left-refused (folding_in k) o b room whole rest x rest' (operands_of c.loop-values.before.items) c.loop-values.room inner e c.in_ok-behind_one.ensures split c.loop-values.invariant
-    (subst (λ (z : Term). IsRefusal inner z e) (ap (λ ws. f (map written_term ws)) c.deref.ensures.value) c.in_err-unfolded.ensures))
+    (subst (λ (z : Term). IsRefusal inner z e) (ap (λ ws. f (map written_term ws)) c.deref.ensures.value) c.in_err-unfolded.ensures.term))
 
-pub connectives::unfold_quantified-returns-then-is_empty : goal.connectives::unfold_quantified-returns-then-is_empty
-connectives::unfold_quantified-returns-then-is_empty t c =
+pub connectives::unfold_quantified-returns-then-is_empty-clause-term : goal.connectives::unfold_quantified-returns-then-is_empty-clause-term
+connectives::unfold_quantified-returns-then-is_empty-clause-term t c =
     let k = c.args.context.now in
     let n = c.args.level.definitions in
     let b = c.args.level.truth in
@@ -365,8 +380,8 @@ connectives::unfold_quantified-returns-then-is_empty t c =
     subst (λ (z : Term). IsUnfolded (folding_in k) b room z c.said_of_none.result)
     (sym (joined-none q) ∙ ap (λ ts. joined q (map (f vs) (map tuple_of ts))) (sym none) ∙ said) (c.said_of_none.ensures (folding_in k) b)
 
-pub connectives::unfold_quantified-returns : goal.connectives::unfold_quantified-returns
-connectives::unfold_quantified-returns t c =
+pub connectives::unfold_quantified-returns-clause-term : goal.connectives::unfold_quantified-returns-clause-term
+connectives::unfold_quantified-returns-clause-term t c =
     let k = c.args.context.now in
     let n = c.args.level.definitions in
     let b = c.args.level.truth in
@@ -388,10 +403,10 @@ connectives::unfold_quantified-returns t c =
     ∙ ap (λ ts. joined q (map (f vs) (map tuple_of ts))) c.deref-3.ensures.value ∙ said in
     subst (λ (z : Term). IsUnfolded (folding_in k) b room z c.in_ok-joined_operands.field-0) copied
     (c.in_ok-joined_operands.ensures (folding_in k) room (copied_term k n c.args.scope.now q (record { variables = c.deref-2.result; tuples = c.deref-3.result }) body)
-    (subst (λ (d : Connective). AreOperands (folding_in k) d b room (copied_term k n c.args.scope.now q (record { variables = c.deref-2.result; tuples = c.deref-3.result }) body) c.in_ok-operands.operands) (sym c.joining.ensures) c.in_ok-operands.ensures))
+    (subst (λ (d : Connective). AreOperands (folding_in k) d b room (copied_term k n c.args.scope.now q (record { variables = c.deref-2.result; tuples = c.deref-3.result }) body) c.in_ok-operands.operands) (sym c.joining.ensures) c.in_ok-operands.ensures.operands))
 
-pub connectives::unfold_quantified-returns-in_err-operands : goal.connectives::unfold_quantified-returns-in_err-operands
-connectives::unfold_quantified-returns-in_err-operands t c =
+pub connectives::unfold_quantified-returns-in_err-operands-clause-term : goal.connectives::unfold_quantified-returns-in_err-operands-clause-term
+connectives::unfold_quantified-returns-in_err-operands-clause-term t c =
     let k = c.args.context.now in
     let n = c.args.level.definitions in
     let b = c.args.level.truth in
@@ -413,10 +428,10 @@ connectives::unfold_quantified-returns-in_err-operands t c =
     ∙ ap (λ ts. joined q (map (f vs) (map tuple_of ts))) c.deref-3.ensures.value ∙ said in
     let e = c.in_err-operands.field-0.0 in
     err-kept c.from_residual-in_err-operands.result e _ (IsRefusal room (p (Term.Quantified q vs body))) c.from_residual-in_err-operands.ensures.1
-    (subst (λ (z : Term). IsRefusal room z e) copied c.in_err-operands.ensures)
+    (subst (λ (z : Term). IsRefusal room z e) copied c.in_err-operands.ensures.operands)
 
-pub applications::unfold_application-returns-in_ok-name-in-Variable : goal.applications::unfold_application-returns-in_ok-name-in-Variable
-applications::unfold_application-returns-in_ok-name-in-Variable t c =
+pub applications::unfold_application-returns-in_ok-name-in-Variable-clause-term : goal.applications::unfold_application-returns-in_ok-name-in-Variable-clause-term
+applications::unfold_application-returns-in_ok-name-in-Variable-clause-term t c =
     let k = c.args.context.now in
     let n = c.args.level.definitions in
     let f : Name = string_bytes c.args.function.now.text in
@@ -427,13 +442,13 @@ applications::unfold_application-returns-in_ok-name-in-Variable t c =
     let e : Some (read (spec_in k) (string_bytes c.in_ok-name-in-Variable.name.text) (map variable_of c.deref-in-Variable.result.now) ts) ≡ given_arguments (forms_in k n) f ts =
     ap (λ x. Some (read (spec_in k) x (map variable_of c.deref-in-Variable.result.now) ts)) c.in_ok-name-in-Variable.ensures
     ∙ ap (λ vs. Some (read (spec_in k) (string_bytes y.name.now.text) (map variable_of vs) ts)) c.deref-in-Variable.ensures.value
-    ∙ sym (c.in-Variable.ensures ts (arguments-counted (spec_in k) (forms_in k n) (scope_of (spec_in k) (forms_in k) c.args.scope.now) given))
+    ∙ sym (c.in-Variable.ensures.meant ts (arguments-counted (spec_in k) (forms_in k n) (scope_of (spec_in k) (forms_in k) c.args.scope.now) given))
     ∙ ap (λ (x : Name). forms_in k n x ts) c.as_str.ensures.value
     ∙ given-there (spec_in k) (forms_in k n) (scope_of (spec_in k) (forms_in k) c.args.scope.now) f given some in
-    subst (λ (o : Option Term). Unfolds (folding_in k) c.args.level.truth c.args.level.room (applied_term o f ts) c.unfold_read.result) e (c.unfold_read.ensures c.args.level.truth)
+    subst (λ (o : Option Term). Unfolds (folding_in k) c.args.level.truth c.args.level.room (applied_term o f ts) c.unfold_read.result) e (c.unfold_read.ensures.term c.args.level.truth)
 
-pub applications::unfold_application-returns-in-Neither : goal.applications::unfold_application-returns-in-Neither
-applications::unfold_application-returns-in-Neither t c =
+pub applications::unfold_application-returns-in-Neither-clause-term : goal.applications::unfold_application-returns-in-Neither-clause-term
+applications::unfold_application-returns-in-Neither-clause-term t c =
     let k = c.args.context.now in
     let n = c.args.level.definitions in
     let f : Name = string_bytes c.args.function.now.text in
@@ -441,13 +456,13 @@ applications::unfold_application-returns-in-Neither t c =
     let ts : Terms = puts k n c.args.scope.now (tree.terms_of given) in
     let some : 0 < length given = grind (arith, nat_tests) in
     let e : None ≡ given_arguments (forms_in k n) f ts =
-    sym (c.in-Neither.ensures ts (arguments-counted (spec_in k) (forms_in k n) (scope_of (spec_in k) (forms_in k) c.args.scope.now) given))
+    sym (c.in-Neither.ensures.meant ts (arguments-counted (spec_in k) (forms_in k n) (scope_of (spec_in k) (forms_in k) c.args.scope.now) given))
     ∙ ap (λ (x : Name). forms_in k n x ts) c.as_str.ensures.value
     ∙ given-there (spec_in k) (forms_in k n) (scope_of (spec_in k) (forms_in k) c.args.scope.now) f given some in
-    subst (λ (o : Option Term). Unfolds (folding_in k) c.args.level.truth c.args.level.room (applied_term o f ts) c.unfold_function-in-Neither.result) e c.unfold_function-in-Neither.ensures
+    subst (λ (o : Option Term). Unfolds (folding_in k) c.args.level.truth c.args.level.room (applied_term o f ts) c.unfold_function-in-Neither.result) e c.unfold_function-in-Neither.ensures.term
 
-pub applications::unfold_arguments-returns-in_default : goal.applications::unfold_arguments-returns-in_default
-applications::unfold_arguments-returns-in_default t c =
+pub applications::unfold_arguments-returns-in_default-clause-term : goal.applications::unfold_arguments-returns-in_default-clause-term
+applications::unfold_arguments-returns-in_default-clause-term t c =
     let k = c.args.context.now in
     let n = c.args.level.definitions in
     let room = c.args.level.room in
@@ -457,8 +472,8 @@ applications::unfold_arguments-returns-in_default t c =
     subst (λ (ts : Terms). AreArguments (folding_in k) c.args.level.truth room ts c.no_arguments.result)
     (arguments-none (spec_in k) (forms_in k n) ρ given c.in_default.ensures.value) (c.no_arguments.ensures (folding_in k) c.args.level.truth)
 
-pub applications::unfold_arguments-returns-in_err-first : goal.applications::unfold_arguments-returns-in_err-first
-applications::unfold_arguments-returns-in_err-first t c =
+pub applications::unfold_arguments-returns-in_err-first-clause-term : goal.applications::unfold_arguments-returns-in_err-first-clause-term
+applications::unfold_arguments-returns-in_err-first-clause-term t c =
     let k = c.args.context.now in
     let n = c.args.level.definitions in
     let room = c.args.level.room in
@@ -470,10 +485,10 @@ applications::unfold_arguments-returns-in_err-first t c =
     let xs : Terms = puts k n c.args.scope.now (tree.terms_of (drop 1 given)) in
     let same : Terms.Then x xs ≡ whole = arguments-first (spec_in k) (forms_in k n) ρ given a c.in-Some.ensures.value in
     let e = c.in_err-first.field-0.0 in
-    err-kept c.from_residual.result e _ (IsRefusalOfAll room whole) c.from_residual.ensures.1 (first-refused room x xs whole e same c.in_err-first.ensures)
+    err-kept c.from_residual.result e _ (IsRefusalOfAll room whole) c.from_residual.ensures.1 (first-refused room x xs whole e same c.in_err-first.ensures.term)
 
-pub applications::unfold_arguments-returns-in_err-others : goal.applications::unfold_arguments-returns-in_err-others
-applications::unfold_arguments-returns-in_err-others t c =
+pub applications::unfold_arguments-returns-in_err-others-clause-term : goal.applications::unfold_arguments-returns-in_err-others-clause-term
+applications::unfold_arguments-returns-in_err-others-clause-term t c =
     let k = c.args.context.now in
     let n = c.args.level.definitions in
     let room = c.args.level.room in
@@ -486,11 +501,11 @@ applications::unfold_arguments-returns-in_err-others t c =
     let same : Terms.Then x xs ≡ whole = arguments-first (spec_in k) (forms_in k n) ρ given a c.in-Some.ensures.value in
     let e = c.in_err-others.field-0.0 in
     err-kept c.from_residual-in_err-others.result e _ (IsRefusalOfAll room whole) c.from_residual-in_err-others.ensures.1
-    (others-refused room c.in_ok-first.first.room x xs whole e same c.in_ok-first.ensures.room
-    (subst (λ (rest-args : List Argument). IsRefusalOfAll c.in_ok-first.first.room (puts k n c.args.scope.now (tree.terms_of rest-args)) e) (behind-first given) c.in_err-others.ensures))
+    (others-refused room c.in_ok-first.first.room x xs whole e same c.in_ok-first.ensures.term.room
+    (subst (λ (rest-args : List Argument). IsRefusalOfAll c.in_ok-first.first.room (puts k n c.args.scope.now (tree.terms_of rest-args)) e) (behind-first given) c.in_err-others.ensures.term))
 
-pub applications::unfold_arguments-returns : goal.applications::unfold_arguments-returns
-applications::unfold_arguments-returns t c =
+pub applications::unfold_arguments-returns-clause-term : goal.applications::unfold_arguments-returns-clause-term
+applications::unfold_arguments-returns-clause-term t c =
     let k = c.args.context.now in
     let n = c.args.level.definitions in
     let room = c.args.level.room in
@@ -507,12 +522,12 @@ applications::unfold_arguments-returns t c =
     subst (λ (ts : Terms). AreArguments (folding_in k) b room ts c.in_ok-with_argument.field-0) same
     (subst (λ (ds : List SortDeclaration). AreArguments (tree.spec_of ds) b room (Terms.Then x xs) c.in_ok-with_argument.field-0) c.folding.ensures
     (c.in_ok-with_argument.ensures x xs room b
-    (subst (λ (ds : List SortDeclaration). IsUnfolded (tree.spec_of ds) b room x u) back c.in_ok-first.ensures)
+    (subst (λ (ds : List SortDeclaration). IsUnfolded (tree.spec_of ds) b room x u) back c.in_ok-first.ensures.term)
     (subst (λ (ds : List SortDeclaration). AreArguments (tree.spec_of ds) false u.room xs c.in_ok-others.others) back
-    (subst (λ (rest-args : List Argument). AreArguments (folding_in k) false u.room (puts k n c.args.scope.now (tree.terms_of rest-args)) c.in_ok-others.others) (behind-first given) c.in_ok-others.ensures))))
+    (subst (λ (rest-args : List Argument). AreArguments (folding_in k) false u.room (puts k n c.args.scope.now (tree.terms_of rest-args)) c.in_ok-others.others) (behind-first given) c.in_ok-others.ensures.term))))
 
-pub applications::unfold_arithmetic-returns-then-is_empty : goal.applications::unfold_arithmetic-returns-then-is_empty
-applications::unfold_arithmetic-returns-then-is_empty t c =
+pub applications::unfold_arithmetic-returns-then-is_empty-clause-term : goal.applications::unfold_arithmetic-returns-then-is_empty-clause-term
+applications::unfold_arithmetic-returns-then-is_empty-clause-term t c =
     let k = c.args.context.now in
     let n = c.args.level.definitions in
     let b = c.args.level.truth in
@@ -524,10 +539,10 @@ applications::unfold_arithmetic-returns-then-is_empty t c =
     let x0 = tree.term_of c.args.first.now in
     let whole = p (calculated_term x0 ls) in
     let none : ls ≡ [] = none-of ls (length ls) refl (sym c.is_empty.ensures ∙ c.if-is_empty.true) in
-    subst (λ (ms : List ArithmeticLink). Unfolds (folding_in k) b room (p (calculated_term x0 ms)) c.unfold.result) (sym none) c.unfold.ensures
+    subst (λ (ms : List ArithmeticLink). Unfolds (folding_in k) b room (p (calculated_term x0 ms)) c.unfold.result) (sym none) c.unfold.ensures.term
 
-pub applications::unfold_arithmetic-returns-in_err-left : goal.applications::unfold_arithmetic-returns-in_err-left
-applications::unfold_arithmetic-returns-in_err-left t c =
+pub applications::unfold_arithmetic-returns-in_err-left-clause-term : goal.applications::unfold_arithmetic-returns-in_err-left-clause-term
+applications::unfold_arithmetic-returns-in_err-left-clause-term t c =
     let k = c.args.context.now in
     let n = c.args.level.definitions in
     let b = c.args.level.truth in
@@ -540,7 +555,7 @@ applications::unfold_arithmetic-returns-in_err-left t c =
     let whole = p (calculated_term x0 ls) in
     let e = c.in_err-left.field-0.0 in
     err-kept c.from_residual.result e _ (IsRefusal room whole) c.from_residual.ensures.1
-    (refusal-weaker room room (p x0) whole e (λ h. omega (arith, h, calculated-within (spec_in k) forms ρ x0 ls)) c.in_err-left.ensures)
+    (refusal-weaker room room (p x0) whole e (λ h. omega (arith, h, calculated-within (spec_in k) forms ρ x0 ls)) c.in_err-left.ensures.term)
 
 pub applications::unfold_arithmetic-loop-link-init : goal.applications::unfold_arithmetic-loop-link-init
 applications::unfold_arithmetic-loop-link-init t c =
@@ -555,10 +570,10 @@ applications::unfold_arithmetic-loop-link-init t c =
     let x0 = tree.term_of c.args.first.now in
     let whole = p (calculated_term x0 ls) in
     λ truth e. subst (λ (ms : List ArithmeticLink). IsUnfolded (folding_in k) truth room (p (calculated_term x0 ms)) c.in_ok-left.left) (sym (taken-none ls))
-    (subst (λ (z : Bool). IsUnfolded (folding_in k) z room (p x0) c.in_ok-left.left) (sym (e refl)) c.in_ok-left.ensures)
+    (subst (λ (z : Bool). IsUnfolded (folding_in k) z room (p x0) c.in_ok-left.left) (sym (e refl)) c.in_ok-left.ensures.term)
 
-pub applications::unfold_arithmetic-returns-in_err-room : goal.applications::unfold_arithmetic-returns-in_err-room
-applications::unfold_arithmetic-returns-in_err-room t c =
+pub applications::unfold_arithmetic-returns-in_err-room-clause-term : goal.applications::unfold_arithmetic-returns-in_err-room-clause-term
+applications::unfold_arithmetic-returns-in_err-room-clause-term t c =
     let k = c.args.context.now in
     let n = c.args.level.definitions in
     let b = c.args.level.truth in
@@ -580,8 +595,8 @@ applications::unfold_arithmetic-returns-in_err-room t c =
     err-kept c.from_residual-in_err-room.result e _ (IsRefusal room whole) c.from_residual-in_err-room.ensures.1
     (no-room room whole e l.place c.in_err-room.ensures.0 (omega (arith, c.in_err-room.ensures.1, left.room, size)))
 
-pub applications::unfold_arithmetic-returns-in_err-right : goal.applications::unfold_arithmetic-returns-in_err-right
-applications::unfold_arithmetic-returns-in_err-right t c =
+pub applications::unfold_arithmetic-returns-in_err-right-clause-term : goal.applications::unfold_arithmetic-returns-in_err-right-clause-term
+applications::unfold_arithmetic-returns-in_err-right-clause-term t c =
     let k = c.args.context.now in
     let n = c.args.level.definitions in
     let b = c.args.level.truth in
@@ -602,7 +617,7 @@ applications::unfold_arithmetic-returns-in_err-right t c =
     let e = c.in_err-right.field-0.0 in
     let inner = c.in_ok-room.room in
     err-kept c.from_residual-in_err-right.result e _ (IsRefusal room whole) c.from_residual-in_err-right.ensures.1
-    (refusal-weaker room inner y whole e (λ h. omega (arith, h, c.in_ok-room.ensures, left.room, size)) c.in_err-right.ensures)
+    (refusal-weaker room inner y whole e (λ h. omega (arith, h, c.in_ok-room.ensures, left.room, size)) c.in_err-right.ensures.term)
 
 pub applications::unfold_arithmetic-loop-link-preserved : goal.applications::unfold_arithmetic-loop-link-preserved
 applications::unfold_arithmetic-loop-link-preserved t c =
@@ -631,10 +646,10 @@ applications::unfold_arithmetic-loop-link-preserved t c =
     (ap p (calculated-next x0 ls i l c.loop-link-test.true c.link-item.is))
     (c.in_ok-left-2.ensures x y room inner truth c.in_ok-room.ensures
     (subst (λ (ds : List SortDeclaration). IsUnfolded (tree.spec_of ds) false room x u) back left)
-    (subst (λ (ds : List SortDeclaration). IsUnfolded (tree.spec_of ds) false inner y v) back c.in_ok-right.ensures))
+    (subst (λ (ds : List SortDeclaration). IsUnfolded (tree.spec_of ds) false inner y v) back c.in_ok-right.ensures.term))
 
-pub applications::unfold_arithmetic-returns : goal.applications::unfold_arithmetic-returns
-applications::unfold_arithmetic-returns t c =
+pub applications::unfold_arithmetic-returns-clause-term : goal.applications::unfold_arithmetic-returns-clause-term
+applications::unfold_arithmetic-returns-clause-term t c =
     let k = c.args.context.now in
     let n = c.args.level.definitions in
     let b = c.args.level.truth in
@@ -650,8 +665,8 @@ applications::unfold_arithmetic-returns t c =
     let some : i ≡ 0 → ⊥ = λ e. some-of ls (sym c.is_empty.ensures ∙ c.if-is_empty.false) (omega (arith, e, c.loop-link-test.false)) in
     subst (λ (z : Term). IsUnfolded (folding_in k) b room (p z) c.loop-link.left) (calculated-end x0 ls i end) (c.loop-link.invariant b (λ e. absurd (some e)))
 
-pub applications::unfold_function-returns : goal.applications::unfold_function-returns
-applications::unfold_function-returns t c =
+pub applications::unfold_function-returns-clause-term : goal.applications::unfold_function-returns-clause-term
+applications::unfold_function-returns-clause-term t c =
     let k = c.args.context.now in
     let n = c.args.level.definitions in
     let b = c.args.level.truth in
@@ -665,10 +680,10 @@ applications::unfold_function-returns t c =
     carried b c.in_ok-function_term.field-0 c.folding.result.sorts.now k.declarations.now (suc inner) room (Term.Apply f xs) (Term.Apply f xs) c.folding.ensures (sym c.in_ok-room.ensures) refl
     (c.in_ok-function_term.ensures xs inner b
     (subst (λ (ds : List SortDeclaration). AreArguments (tree.spec_of ds) (is_if (named_function f)) inner xs c.in_ok-unfolded.unfolded) back
-    (subst (λ (t : Bool). AreArguments (folding_in k) t inner xs c.in_ok-unfolded.unfolded) truth c.in_ok-unfolded.ensures)))
+    (subst (λ (t : Bool). AreArguments (folding_in k) t inner xs c.in_ok-unfolded.unfolded) truth c.in_ok-unfolded.ensures.term)))
 
-pub applications::unfold_choice-returns-in-Some-true : goal.applications::unfold_choice-returns-in-Some-true
-applications::unfold_choice-returns-in-Some-true t c =
+pub applications::unfold_choice-returns-in-Some-true-clause-term : goal.applications::unfold_choice-returns-in-Some-true-clause-term
+applications::unfold_choice-returns-in-Some-true-clause-term t c =
     let k = c.args.context.now in
     let n = c.args.level.definitions in
     let b = c.args.level.truth in
@@ -683,18 +698,18 @@ applications::unfold_choice-returns-in-Some-true t c =
     let whole = Term.Apply f (puts k n c.args.scope.now (tree.terms_of given)) in
     let inner = c.in_ok-room.room in
     let m = c.in_ok-condition.condition.room in
-    let within : room ≤ m + suc (operator_count x0) = omega (arith, c.in_ok-room.ensures, c.in_ok-condition.ensures.room) in
+    let within : room ≤ m + suc (operator_count x0) = omega (arith, c.in_ok-room.ensures, c.in_ok-condition.ensures.term.room) in
     let a1 = get_or given 1 c.index-arguments-1.result in
     let is1 : a1 ≡ get_or given 1 a1 = ap (λ (r : Argument). get_or given 1 r) c.index-arguments-1.is in
     let x1 = p (tree.term_of a1.term) in
     let x2 = p (tree.term_of (get_or given 2 a0).term) in
     let same : choice_of f x0 x1 x2 ≡ whole = first-and-second (spec_in k) (forms_in k n) ρ f given a0 a1 c.requires.arguments is0 is1 in
     subst (λ (z : Term). IsUnfolded (folding_in k) b room z c.chosen.result) same
-    (c.chosen.ensures (folding_in k) f x0 x1 x2 m room true b c.requires.choice (sym c.in_ok-condition.ensures.term ∙ truth-said c.in_ok-condition.condition.term true (ap Some (sym c.in-Some-true.field-0-test) ∙ c.in-Some-true.ensures))
-    c.in_ok-unfold-in-Some-true.ensures within)
+    (c.chosen.ensures (folding_in k) f x0 x1 x2 m room true b c.requires.choice (sym c.in_ok-condition.ensures.term.term ∙ truth-said c.in_ok-condition.condition.term true (ap Some (sym c.in-Some-true.field-0-test) ∙ c.in-Some-true.ensures))
+    c.in_ok-unfold-in-Some-true.ensures.term within)
 
-pub applications::unfold_choice-returns-in_err-unfold-in-Some-true : goal.applications::unfold_choice-returns-in_err-unfold-in-Some-true
-applications::unfold_choice-returns-in_err-unfold-in-Some-true t c =
+pub applications::unfold_choice-returns-in_err-unfold-in-Some-true-clause-term : goal.applications::unfold_choice-returns-in_err-unfold-in-Some-true-clause-term
+applications::unfold_choice-returns-in_err-unfold-in-Some-true-clause-term t c =
     let k = c.args.context.now in
     let n = c.args.level.definitions in
     let b = c.args.level.truth in
@@ -709,7 +724,7 @@ applications::unfold_choice-returns-in_err-unfold-in-Some-true t c =
     let whole = Term.Apply f (puts k n c.args.scope.now (tree.terms_of given)) in
     let inner = c.in_ok-room.room in
     let m = c.in_ok-condition.condition.room in
-    let within : room ≤ m + suc (operator_count x0) = omega (arith, c.in_ok-room.ensures, c.in_ok-condition.ensures.room) in
+    let within : room ≤ m + suc (operator_count x0) = omega (arith, c.in_ok-room.ensures, c.in_ok-condition.ensures.term.room) in
     let a1 = get_or given 1 c.index-arguments-1.result in
     let is1 : a1 ≡ get_or given 1 a1 = ap (λ (r : Argument). get_or given 1 r) c.index-arguments-1.is in
     let x1 = p (tree.term_of a1.term) in
@@ -717,10 +732,10 @@ applications::unfold_choice-returns-in_err-unfold-in-Some-true t c =
     let same : choice_of f x0 x1 x2 ≡ whole = first-and-second (spec_in k) (forms_in k n) ρ f given a0 a1 c.requires.arguments is0 is1 in
     let e = c.in_err-unfold-in-Some-true.field-0.0 in
     err-kept c.from_residual-in_err-unfold-in-Some-true.result e _ (IsRefusal room whole) c.from_residual-in_err-unfold-in-Some-true.ensures.1
-    (subst (λ (z : Term). IsRefusal room z e) same (chosen-refused room m f x0 x1 x2 true e within c.in_err-unfold-in-Some-true.ensures))
+    (subst (λ (z : Term). IsRefusal room z e) same (chosen-refused room m f x0 x1 x2 true e within c.in_err-unfold-in-Some-true.ensures.term))
 
-pub applications::unfold_choice-returns-in-Some-false : goal.applications::unfold_choice-returns-in-Some-false
-applications::unfold_choice-returns-in-Some-false t c =
+pub applications::unfold_choice-returns-in-Some-false-clause-term : goal.applications::unfold_choice-returns-in-Some-false-clause-term
+applications::unfold_choice-returns-in-Some-false-clause-term t c =
     let k = c.args.context.now in
     let n = c.args.level.definitions in
     let b = c.args.level.truth in
@@ -735,18 +750,18 @@ applications::unfold_choice-returns-in-Some-false t c =
     let whole = Term.Apply f (puts k n c.args.scope.now (tree.terms_of given)) in
     let inner = c.in_ok-room.room in
     let m = c.in_ok-condition.condition.room in
-    let within : room ≤ m + suc (operator_count x0) = omega (arith, c.in_ok-room.ensures, c.in_ok-condition.ensures.room) in
+    let within : room ≤ m + suc (operator_count x0) = omega (arith, c.in_ok-room.ensures, c.in_ok-condition.ensures.term.room) in
     let a2 = get_or given 2 c.index-arguments-2.result in
     let is2 : a2 ≡ get_or given 2 a2 = ap (λ (r : Argument). get_or given 2 r) c.index-arguments-2.is in
     let x1 = p (tree.term_of (get_or given 1 a0).term) in
     let x2 = p (tree.term_of a2.term) in
     let same : choice_of f x0 x1 x2 ≡ whole = first-and-third (spec_in k) (forms_in k n) ρ f given a0 a2 c.requires.arguments is0 is2 in
     subst (λ (z : Term). IsUnfolded (folding_in k) b room z c.chosen-in-Some-false.result) same
-    (c.chosen-in-Some-false.ensures (folding_in k) f x0 x1 x2 m room false b c.requires.choice (sym c.in_ok-condition.ensures.term ∙ truth-said c.in_ok-condition.condition.term false (ap Some (sym c.in-Some-false.field-0-test) ∙ c.in-Some-false.ensures))
-    c.in_ok-unfold-in-Some-false.ensures within)
+    (c.chosen-in-Some-false.ensures (folding_in k) f x0 x1 x2 m room false b c.requires.choice (sym c.in_ok-condition.ensures.term.term ∙ truth-said c.in_ok-condition.condition.term false (ap Some (sym c.in-Some-false.field-0-test) ∙ c.in-Some-false.ensures))
+    c.in_ok-unfold-in-Some-false.ensures.term within)
 
-pub applications::unfold_choice-returns-in_err-unfold-in-Some-false : goal.applications::unfold_choice-returns-in_err-unfold-in-Some-false
-applications::unfold_choice-returns-in_err-unfold-in-Some-false t c =
+pub applications::unfold_choice-returns-in_err-unfold-in-Some-false-clause-term : goal.applications::unfold_choice-returns-in_err-unfold-in-Some-false-clause-term
+applications::unfold_choice-returns-in_err-unfold-in-Some-false-clause-term t c =
     let k = c.args.context.now in
     let n = c.args.level.definitions in
     let b = c.args.level.truth in
@@ -761,7 +776,7 @@ applications::unfold_choice-returns-in_err-unfold-in-Some-false t c =
     let whole = Term.Apply f (puts k n c.args.scope.now (tree.terms_of given)) in
     let inner = c.in_ok-room.room in
     let m = c.in_ok-condition.condition.room in
-    let within : room ≤ m + suc (operator_count x0) = omega (arith, c.in_ok-room.ensures, c.in_ok-condition.ensures.room) in
+    let within : room ≤ m + suc (operator_count x0) = omega (arith, c.in_ok-room.ensures, c.in_ok-condition.ensures.term.room) in
     let a2 = get_or given 2 c.index-arguments-2.result in
     let is2 : a2 ≡ get_or given 2 a2 = ap (λ (r : Argument). get_or given 2 r) c.index-arguments-2.is in
     let x1 = p (tree.term_of (get_or given 1 a0).term) in
@@ -769,10 +784,10 @@ applications::unfold_choice-returns-in_err-unfold-in-Some-false t c =
     let same : choice_of f x0 x1 x2 ≡ whole = first-and-third (spec_in k) (forms_in k n) ρ f given a0 a2 c.requires.arguments is0 is2 in
     let e = c.in_err-unfold-in-Some-false.field-0.0 in
     err-kept c.from_residual-in_err-unfold-in-Some-false.result e _ (IsRefusal room whole) c.from_residual-in_err-unfold-in-Some-false.ensures.1
-    (subst (λ (z : Term). IsRefusal room z e) same (chosen-refused room m f x0 x1 x2 false e within c.in_err-unfold-in-Some-false.ensures))
+    (subst (λ (z : Term). IsRefusal room z e) same (chosen-refused room m f x0 x1 x2 false e within c.in_err-unfold-in-Some-false.ensures.term))
 
-pub applications::unfold_choice-returns-in_err-left-in-None : goal.applications::unfold_choice-returns-in_err-left-in-None
-applications::unfold_choice-returns-in_err-left-in-None t c =
+pub applications::unfold_choice-returns-in_err-left-in-None-clause-term : goal.applications::unfold_choice-returns-in_err-left-in-None-clause-term
+applications::unfold_choice-returns-in_err-left-in-None-clause-term t c =
     let k = c.args.context.now in
     let n = c.args.level.definitions in
     let b = c.args.level.truth in
@@ -787,7 +802,7 @@ applications::unfold_choice-returns-in_err-left-in-None t c =
     let whole = Term.Apply f (puts k n c.args.scope.now (tree.terms_of given)) in
     let inner = c.in_ok-room.room in
     let m = c.in_ok-condition.condition.room in
-    let within : room ≤ m + suc (operator_count x0) = omega (arith, c.in_ok-room.ensures, c.in_ok-condition.ensures.room) in
+    let within : room ≤ m + suc (operator_count x0) = omega (arith, c.in_ok-room.ensures, c.in_ok-condition.ensures.term.room) in
     let a1 = get_or given 1 c.index-arguments-1-in-None.result in
     let is1 : a1 ≡ get_or given 1 a1 = ap (λ (r : Argument). get_or given 1 r) c.index-arguments-1-in-None.is in
     let x1 = p (tree.term_of a1.term) in
@@ -795,10 +810,10 @@ applications::unfold_choice-returns-in_err-left-in-None t c =
     let same : choice_of f x0 x1 x2 ≡ whole = first-and-second (spec_in k) (forms_in k n) ρ f given a0 a1 c.requires.arguments is0 is1 in
     let e = c.in_err-left-in-None.field-0.0 in
     err-kept c.from_residual-in_err-left-in-None.result e _ (IsRefusal room whole) c.from_residual-in_err-left-in-None.ensures.1
-    (subst (λ (z : Term). IsRefusal room z e) same (chosen-refused room m f x0 x1 x2 true e within c.in_err-left-in-None.ensures))
+    (subst (λ (z : Term). IsRefusal room z e) same (chosen-refused room m f x0 x1 x2 true e within c.in_err-left-in-None.ensures.term))
 
-pub applications::unfold_choice-returns-in_err-right-in-None : goal.applications::unfold_choice-returns-in_err-right-in-None
-applications::unfold_choice-returns-in_err-right-in-None t c =
+pub applications::unfold_choice-returns-in_err-right-in-None-clause-term : goal.applications::unfold_choice-returns-in_err-right-in-None-clause-term
+applications::unfold_choice-returns-in_err-right-in-None-clause-term t c =
     let k = c.args.context.now in
     let n = c.args.level.definitions in
     let b = c.args.level.truth in
@@ -813,7 +828,7 @@ applications::unfold_choice-returns-in_err-right-in-None t c =
     let whole = Term.Apply f (puts k n c.args.scope.now (tree.terms_of given)) in
     let inner = c.in_ok-room.room in
     let m = c.in_ok-condition.condition.room in
-    let within : room ≤ m + suc (operator_count x0) = omega (arith, c.in_ok-room.ensures, c.in_ok-condition.ensures.room) in
+    let within : room ≤ m + suc (operator_count x0) = omega (arith, c.in_ok-room.ensures, c.in_ok-condition.ensures.term.room) in
     let a1 = get_or given 1 c.index-arguments-1-in-None.result in
     let a2 = get_or given 2 c.index-arguments-2-in-None.result in
     let is1 : a1 ≡ get_or given 1 a1 = ap (λ (r : Argument). get_or given 1 r) c.index-arguments-1-in-None.is in
@@ -823,10 +838,10 @@ applications::unfold_choice-returns-in_err-right-in-None t c =
     let same : choice_of f x0 x1 x2 ≡ whole = arguments-three (spec_in k) (forms_in k n) ρ f given a0 a1 a2 c.requires.arguments is0 is1 is2 in
     let e = c.in_err-right-in-None.field-0.0 in
     err-kept c.from_residual-in_err-right-in-None.result e _ (IsRefusal room whole) c.from_residual-in_err-right-in-None.ensures.1
-    (subst (λ (z : Term). IsRefusal room z e) same (right-refused room m c.in_ok-left-in-None.left.room f x0 x1 x2 e within c.in_ok-left-in-None.ensures.room c.in_err-right-in-None.ensures))
+    (subst (λ (z : Term). IsRefusal room z e) same (right-refused room m c.in_ok-left-in-None.left.room f x0 x1 x2 e within c.in_ok-left-in-None.ensures.term.room c.in_err-right-in-None.ensures.term))
 
-pub applications::unfold_choice-returns : goal.applications::unfold_choice-returns
-applications::unfold_choice-returns t c =
+pub applications::unfold_choice-returns-clause-term : goal.applications::unfold_choice-returns-clause-term
+applications::unfold_choice-returns-clause-term t c =
     let k = c.args.context.now in
     let n = c.args.level.definitions in
     let b = c.args.level.truth in
@@ -841,7 +856,7 @@ applications::unfold_choice-returns t c =
     let whole = Term.Apply f (puts k n c.args.scope.now (tree.terms_of given)) in
     let inner = c.in_ok-room.room in
     let m = c.in_ok-condition.condition.room in
-    let within : room ≤ m + suc (operator_count x0) = omega (arith, c.in_ok-room.ensures, c.in_ok-condition.ensures.room) in
+    let within : room ≤ m + suc (operator_count x0) = omega (arith, c.in_ok-room.ensures, c.in_ok-condition.ensures.term.room) in
     let a1 = get_or given 1 c.index-arguments-1-in-None.result in
     let a2 = get_or given 2 c.index-arguments-2-in-None.result in
     let is1 : a1 ≡ get_or given 1 a1 = ap (λ (r : Argument). get_or given 1 r) c.index-arguments-1-in-None.is in
@@ -854,21 +869,21 @@ applications::unfold_choice-returns t c =
     carried b c.in_ok-choice-in-None.field-0 c.folding.result.sorts.now k.declarations.now room room (choice_of (string_bytes c.in_ok-name-in-None.name.text) x0 x1 x2) whole c.folding.ensures refl
     (ap (λ (r : Named). choice_of r.text x0 x1 x2) c.in_ok-name-in-None.ensures ∙ same)
     (c.in_ok-choice-in-None.ensures m room x0 x1 x2 b
-    (c.in_ok-condition.ensures.term ∙ ap (λ ds. folded (tree.spec_of ds) true x0) back)
-    (subst (λ (ds : List SortDeclaration). IsUnfolded (tree.spec_of ds) false m x1 u) back c.in_ok-left-in-None.ensures)
-    (subst (λ (ds : List SortDeclaration). IsUnfolded (tree.spec_of ds) false u.room x2 c.in_ok-right-in-None.right) back c.in_ok-right-in-None.ensures)
+    (c.in_ok-condition.ensures.term.term ∙ ap (λ ds. folded (tree.spec_of ds) true x0) back)
+    (subst (λ (ds : List SortDeclaration). IsUnfolded (tree.spec_of ds) false m x1 u) back c.in_ok-left-in-None.ensures.term)
+    (subst (λ (ds : List SortDeclaration). IsUnfolded (tree.spec_of ds) false u.room x2 c.in_ok-right-in-None.right) back c.in_ok-right-in-None.ensures.term)
     within)
 
-pub reads::unfold_element-returns : goal.reads::unfold_element-returns
-reads::unfold_element-returns t c =
+pub reads::unfold_element-returns-clause-term : goal.reads::unfold_element-returns-clause-term
+reads::unfold_element-returns-clause-term t c =
     let k = c.args.context.now in
     let n = c.args.level.definitions in
     λ truth. subst (λ (x : Name). Unfolds (folding_in k) truth c.args.level.room
     (read (spec_in k) x (map variable_of c.args.others.indices.now) (puts k n c.args.scope.now (tree.terms_of c.args.others.arguments.now))) c.unfold_read.result)
-    c.in_ok-name.ensures (c.unfold_read.ensures truth)
+    c.in_ok-name.ensures (c.unfold_read.ensures.term truth)
 
-pub reads::unfold_read-returns-in_default-first : goal.reads::unfold_read-returns-in_default-first
-reads::unfold_read-returns-in_default-first t c =
+pub reads::unfold_read-returns-in_default-first-clause-term : goal.reads::unfold_read-returns-in_default-first-clause-term
+reads::unfold_read-returns-in_default-first-clause-term t c =
     let k = c.args.context.now in
     let n = c.args.level.definitions in
     let room = c.args.level.room in
@@ -880,8 +895,8 @@ reads::unfold_read-returns-in_default-first t c =
     λ truth. subst (λ (z : Term). IsUnfolded (folding_in k) truth room z c.in_ok-element_term.field-0)
     (sym (read-itself (spec_in k) forms ρ x is (all_put_in (spec_in k) forms ρ (tree.terms_of given)) c.in_default-first.ensures.value)) (c.in_ok-element_term.ensures (folding_in k) truth)
 
-pub reads::unfold_read-returns-in_default-first-2 : goal.reads::unfold_read-returns-in_default-first-2
-reads::unfold_read-returns-in_default-first-2 t c =
+pub reads::unfold_read-returns-in_default-first-2-clause-term : goal.reads::unfold_read-returns-in_default-first-2-clause-term
+reads::unfold_read-returns-in_default-first-2-clause-term t c =
     let k = c.args.context.now in
     let n = c.args.level.definitions in
     let room = c.args.level.room in
@@ -893,8 +908,8 @@ reads::unfold_read-returns-in_default-first-2 t c =
     λ truth. subst (λ (z : Term). IsUnfolded (folding_in k) truth room z c.nothing.result)
     (sym (read-nothing (spec_in k) forms ρ x is given c.in-Some-first.index.now c.in-Some-first.ensures.value c.in_default-first-2.ensures.value)) (c.nothing.ensures (folding_in k) truth)
 
-pub reads::unfold_read-returns-in-Some-written_as : goal.reads::unfold_read-returns-in-Some-written_as
-reads::unfold_read-returns-in-Some-written_as t c =
+pub reads::unfold_read-returns-in-Some-written_as-clause-term : goal.reads::unfold_read-returns-in-Some-written_as-clause-term
+reads::unfold_read-returns-in-Some-written_as-clause-term t c =
     let k = c.args.context.now in
     let n = c.args.level.definitions in
     let room = c.args.level.room in
@@ -909,18 +924,18 @@ reads::unfold_read-returns-in-Some-written_as t c =
     let f : Term → Term = λ z. read (spec_in k) (element x z) (map variable_of (drop 1 is)) (all_put_in (spec_in k) forms ρ (tree.terms_of (drop 1 given))) in
     let ks = written_values (spec_in k) i.sort.now in
     let first = read-first (spec_in k) forms ρ x is given i a c.in-Some-first.ensures.value c.in-Some-first-2.ensures.value in
-    let values : map written_term c.deref-2.result.now ≡ ks = ap (map written_term) c.deref-2.ensures.value ∙ c.in_ok-values.ensures ∙ ap (λ S. written_values S i.sort.now) c.sorts.ensures in
+    let values : map written_term c.deref.result.now ≡ ks = ap (map written_term) c.deref.ensures.value ∙ c.in_ok-values.ensures ∙ ap (λ S. written_values S i.sort.now) c.sorts.ensures in
     let v = c.in-Some-written_as.value in
-    let w : IsWrittenAs (Some v) t ks = subst (λ (zs : List Term). IsWrittenAs (Some v) t zs) values (c.in-Some-written_as.ensures t c.in-Ok.ensures.form) in
+    let w : IsWrittenAs (Some v) t ks = subst (λ (zs : List Term). IsWrittenAs (Some v) t zs) values (c.in-Some-written_as.ensures t c.in-Ok.ensures.term.form) in
     let h = c.others.result in
     let same : element_by k n c.args.scope.now h (written_term v) ≡ read_by k n c.args.scope.now c.args.array =
     same-parts (spec_in k) forms ρ (string_bytes h.name.now.text) x h.indices.now (drop 1 is) h.arguments.now (drop 1 given) (written_term v)
     (ap (λ y. string_bytes y.text) c.others.ensures.name) c.others.ensures.indices c.others.ensures.arguments
     ∙ chosen-written f t ks v w ∙ sym first in
-    λ truth. subst (λ (z : Term). Unfolds (folding_in k) truth room z c.unfold_element.result) same (c.unfold_element.ensures truth)
+    λ truth. subst (λ (z : Term). Unfolds (folding_in k) truth room z c.unfold_element.result) same (c.unfold_element.ensures.term truth)
 
-pub reads::unfold_read-returns : goal.reads::unfold_read-returns
-reads::unfold_read-returns t c =
+pub reads::unfold_read-returns-clause-term : goal.reads::unfold_read-returns-clause-term
+reads::unfold_read-returns-clause-term t c =
     let k = c.args.context.now in
     let n = c.args.level.definitions in
     let room = c.args.level.room in
@@ -935,20 +950,20 @@ reads::unfold_read-returns t c =
     let f : Term → Term = λ z. read (spec_in k) (element x z) (map variable_of (drop 1 is)) (all_put_in (spec_in k) forms ρ (tree.terms_of (drop 1 given))) in
     let ks = written_values (spec_in k) i.sort.now in
     let first = read-first (spec_in k) forms ρ x is given i a c.in-Some-first.ensures.value c.in-Some-first-2.ensures.value in
-    let values : map written_term c.deref-2.result.now ≡ ks = ap (map written_term) c.deref-2.ensures.value ∙ c.in_ok-values.ensures ∙ ap (λ S. written_values S i.sort.now) c.sorts.ensures in
+    let values : map written_term c.deref.result.now ≡ ks = ap (map written_term) c.deref.ensures.value ∙ c.in_ok-values.ensures ∙ ap (λ S. written_values S i.sort.now) c.sorts.ensures in
     let u = c.in-Ok.unfolded in
-    let w : IsWrittenAs None t ks = subst (λ (zs : List Term). IsWrittenAs None t zs) values (c.in_default-written_as.ensures t c.in-Ok.ensures.form) in
+    let w : IsWrittenAs None t ks = subst (λ (zs : List Term). IsWrittenAs None t zs) values (c.in_default-written_as.ensures t c.in-Ok.ensures.term.form) in
     let h = c.others-2.result in
     let g : Term → Term = element_by k n c.args.scope.now h in
     let by-parts : (z : Term) → g z ≡ f z = λ z. same-parts (spec_in k) forms ρ (string_bytes h.name.now.text) x h.indices.now (drop 1 is) h.arguments.now (drop 1 given) z
     (ap (λ y. string_bytes y.text) c.others-2.ensures.name) c.others-2.ensures.indices c.others-2.ensures.arguments in
-    let same : choices g t (map written_term c.deref-3.result.now) ≡ read_by k n c.args.scope.now c.args.array =
-    ap (λ zs. choices g t (map written_term zs)) (c.deref-3.ensures.value ∙ sym c.deref-2.ensures.value) ∙ ap (choices g t) values ∙ choices-same g f by-parts t ks ∙ chosen-otherwise f t ks w ∙ sym first in
+    let same : choices g t (map written_term c.deref-2.result.now) ≡ read_by k n c.args.scope.now c.args.array =
+    ap (λ zs. choices g t (map written_term zs)) (c.deref-2.ensures.value ∙ sym c.deref.ensures.value) ∙ ap (choices g t) values ∙ choices-same g f by-parts t ks ∙ chosen-otherwise f t ks w ∙ sym first in
     λ truth. subst (λ (z : Term). Unfolds (folding_in k) truth room z c.unfold_choices.result) same
-    (c.unfold_choices.ensures t truth c.in-Ok.ensures.term (omega (arith, c.in-Ok.ensures.room, c.saturating_sub.ensures)))
+    (c.unfold_choices.ensures.term t truth c.in-Ok.ensures.term.term (omega (arith, c.in-Ok.ensures.term.room, c.saturating_sub.ensures)))
 
-pub reads::unfold_choices-returns-in_default-first : goal.reads::unfold_choices-returns-in_default-first
-reads::unfold_choices-returns-in_default-first t c =
+pub reads::unfold_choices-returns-in_default-first-clause-term : goal.reads::unfold_choices-returns-in_default-first-clause-term
+reads::unfold_choices-returns-in_default-first-clause-term t c =
     let k = c.args.context.now in
     let n = c.args.level.definitions in
     let room = c.args.level.room in
@@ -957,8 +972,8 @@ reads::unfold_choices-returns-in_default-first t c =
     λ t truth said within. subst (λ (z : Term). IsUnfolded (folding_in k) truth room z c.nothing.result)
     (choices-none g t vs c.in_default-first.ensures.value) (c.nothing.ensures (folding_in k) truth)
 
-pub reads::unfold_choices-returns-then-is_empty : goal.reads::unfold_choices-returns-then-is_empty
-reads::unfold_choices-returns-then-is_empty t c =
+pub reads::unfold_choices-returns-then-is_empty-clause-term : goal.reads::unfold_choices-returns-then-is_empty-clause-term
+reads::unfold_choices-returns-then-is_empty-clause-term t c =
     let k = c.args.context.now in
     let n = c.args.level.definitions in
     let room = c.args.level.room in
@@ -967,10 +982,10 @@ reads::unfold_choices-returns-then-is_empty t c =
     let v = c.in-Some-first.value.now in
     let end : length (drop 1 vs) ≡ 0 = grind (arith, nat_tests) in
     λ t truth said within. subst (λ (z : Term). Unfolds (folding_in k) truth room z c.unfold_element.result)
-    (choices-one g t vs v c.in-Some-first.ensures.value end) (c.unfold_element.ensures truth)
+    (choices-one g t vs v c.in-Some-first.ensures.value end) (c.unfold_element.ensures.term truth)
 
-pub reads::unfold_choices-returns-in-Some-true : goal.reads::unfold_choices-returns-in-Some-true
-reads::unfold_choices-returns-in-Some-true t c =
+pub reads::unfold_choices-returns-in-Some-true-clause-term : goal.reads::unfold_choices-returns-in-Some-true-clause-term
+reads::unfold_choices-returns-in-Some-true-clause-term t c =
     let k = c.args.context.now in
     let n = c.args.level.definitions in
     let room = c.args.level.room in
@@ -986,10 +1001,10 @@ reads::unfold_choices-returns-in-Some-true t c =
     λ t said. c.in_ok-condition.ensures t true (said ∙ ap (λ ds. folded (tree.spec_of ds) false t) (sym c.folding.ensures)) ∙ ap (λ ds. folded (tree.spec_of ds) true (eq t)) c.folding.ensures in
     λ t truth said within. subst (λ (z : Term). IsUnfolded (folding_in k) truth room z c.chosen.result) (same t)
     (c.chosen.ensures (folding_in k) (codes "if") (eq t) y (rest t) room room true truth if-named (sym (condition t said) ∙ truth-said c.in_ok-condition.condition true (ap Some (sym c.in-Some-true.field-0-test) ∙ c.in-Some-true.ensures))
-    (c.in_ok-unfold_element-in-Some-true.ensures false) (omega arith))
+    (c.in_ok-unfold_element-in-Some-true.ensures.term false) (omega arith))
 
-pub reads::unfold_choices-returns-in-Some-false : goal.reads::unfold_choices-returns-in-Some-false
-reads::unfold_choices-returns-in-Some-false t c =
+pub reads::unfold_choices-returns-in-Some-false-clause-term : goal.reads::unfold_choices-returns-in-Some-false-clause-term
+reads::unfold_choices-returns-in-Some-false-clause-term t c =
     let k = c.args.context.now in
     let n = c.args.level.definitions in
     let room = c.args.level.room in
@@ -1005,10 +1020,10 @@ reads::unfold_choices-returns-in-Some-false t c =
     λ t said. c.in_ok-condition.ensures t true (said ∙ ap (λ ds. folded (tree.spec_of ds) false t) (sym c.folding.ensures)) ∙ ap (λ ds. folded (tree.spec_of ds) true (eq t)) c.folding.ensures in
     λ t truth said within. subst (λ (z : Term). IsUnfolded (folding_in k) truth room z c.chosen-in-Some-false.result) (same t)
     (c.chosen-in-Some-false.ensures (folding_in k) (codes "if") (eq t) y (rest t) room room false truth if-named (sym (condition t said) ∙ truth-said c.in_ok-condition.condition false (ap Some (sym c.in-Some-false.field-0-test) ∙ c.in-Some-false.ensures))
-    (subst (λ (ws : List Written). IsUnfolded (folding_in k) false room (choices g t (map written_term ws)) c.in_ok-unfold_choices-in-Some-false.field-0) (behind-first vs) (c.in_ok-unfold_choices-in-Some-false.ensures t false said within)) (omega arith))
+    (subst (λ (ws : List Written). IsUnfolded (folding_in k) false room (choices g t (map written_term ws)) c.in_ok-unfold_choices-in-Some-false.field-0) (behind-first vs) (c.in_ok-unfold_choices-in-Some-false.ensures.term t false said within)) (omega arith))
 
-pub reads::unfold_choices-returns-in_err-unfold_element-in-Some-true : goal.reads::unfold_choices-returns-in_err-unfold_element-in-Some-true
-reads::unfold_choices-returns-in_err-unfold_element-in-Some-true t c =
+pub reads::unfold_choices-returns-in_err-unfold_element-in-Some-true-clause-term : goal.reads::unfold_choices-returns-in_err-unfold_element-in-Some-true-clause-term
+reads::unfold_choices-returns-in_err-unfold_element-in-Some-true-clause-term t c =
     let k = c.args.context.now in
     let n = c.args.level.definitions in
     let room = c.args.level.room in
@@ -1024,10 +1039,10 @@ reads::unfold_choices-returns-in_err-unfold_element-in-Some-true t c =
     λ t said. c.in_ok-condition.ensures t true (said ∙ ap (λ ds. folded (tree.spec_of ds) false t) (sym c.folding.ensures)) ∙ ap (λ ds. folded (tree.spec_of ds) true (eq t)) c.folding.ensures in
     let e = c.in_err-unfold_element-in-Some-true.field-0.0 in
     λ t truth said within. err-kept c.from_residual-in_err-unfold_element-in-Some-true.result e _ (IsRefusal room (choices g t (map written_term vs))) c.from_residual-in_err-unfold_element-in-Some-true.ensures.1
-    (subst (λ (z : Term). IsRefusal room z e) (same t) (chosen-refused room room (codes "if") (eq t) y (rest t) true e (omega arith) (c.in_err-unfold_element-in-Some-true.ensures truth)))
+    (subst (λ (z : Term). IsRefusal room z e) (same t) (chosen-refused room room (codes "if") (eq t) y (rest t) true e (omega arith) (c.in_err-unfold_element-in-Some-true.ensures.term truth)))
 
-pub reads::unfold_choices-returns-in_err-unfold_choices-in-Some-false : goal.reads::unfold_choices-returns-in_err-unfold_choices-in-Some-false
-reads::unfold_choices-returns-in_err-unfold_choices-in-Some-false t c =
+pub reads::unfold_choices-returns-in_err-unfold_choices-in-Some-false-clause-term : goal.reads::unfold_choices-returns-in_err-unfold_choices-in-Some-false-clause-term
+reads::unfold_choices-returns-in_err-unfold_choices-in-Some-false-clause-term t c =
     let k = c.args.context.now in
     let n = c.args.level.definitions in
     let room = c.args.level.room in
@@ -1043,10 +1058,10 @@ reads::unfold_choices-returns-in_err-unfold_choices-in-Some-false t c =
     λ t said. c.in_ok-condition.ensures t true (said ∙ ap (λ ds. folded (tree.spec_of ds) false t) (sym c.folding.ensures)) ∙ ap (λ ds. folded (tree.spec_of ds) true (eq t)) c.folding.ensures in
     let e = c.in_err-unfold_choices-in-Some-false.field-0.0 in
     λ t truth said within. err-kept c.from_residual-in_err-unfold_choices-in-Some-false.result e _ (IsRefusal room (choices g t (map written_term vs))) c.from_residual-in_err-unfold_choices-in-Some-false.ensures.1
-    (subst (λ (z : Term). IsRefusal room z e) (same t) (chosen-refused room room (codes "if") (eq t) y (rest t) false e (omega arith) (subst (λ (ws : List Written). IsRefusal room (choices g t (map written_term ws)) e) (behind-first vs) (c.in_err-unfold_choices-in-Some-false.ensures t truth said within))))
+    (subst (λ (z : Term). IsRefusal room z e) (same t) (chosen-refused room room (codes "if") (eq t) y (rest t) false e (omega arith) (subst (λ (ws : List Written). IsRefusal room (choices g t (map written_term ws)) e) (behind-first vs) (c.in_err-unfold_choices-in-Some-false.ensures.term t truth said within))))
 
-pub reads::unfold_choices-returns-in_err-left-in-None : goal.reads::unfold_choices-returns-in_err-left-in-None
-reads::unfold_choices-returns-in_err-left-in-None t c =
+pub reads::unfold_choices-returns-in_err-left-in-None-clause-term : goal.reads::unfold_choices-returns-in_err-left-in-None-clause-term
+reads::unfold_choices-returns-in_err-left-in-None-clause-term t c =
     let k = c.args.context.now in
     let n = c.args.level.definitions in
     let room = c.args.level.room in
@@ -1064,10 +1079,10 @@ reads::unfold_choices-returns-in_err-left-in-None t c =
     let spent : (t : Term) → c.args.choices.operators ≤ operator_count t → room ≤ m + suc (operator_count (eq t)) = λ t within. omega (arith, within, c.in_ok-room-in-None.ensures, c.in_ok-room-in-None-2.ensures) in
     let e = c.in_err-left-in-None.field-0.0 in
     λ t truth said within. err-kept c.from_residual-in_err-left-in-None.result e _ (IsRefusal room (choices g t (map written_term vs))) c.from_residual-in_err-left-in-None.ensures.1
-    (subst (λ (z : Term). IsRefusal room z e) (same t) (chosen-refused room m (codes "if") (eq t) y (rest t) true e (spent t within) (c.in_err-left-in-None.ensures truth)))
+    (subst (λ (z : Term). IsRefusal room z e) (same t) (chosen-refused room m (codes "if") (eq t) y (rest t) true e (spent t within) (c.in_err-left-in-None.ensures.term truth)))
 
-pub reads::unfold_choices-returns-in_err-right-in-None : goal.reads::unfold_choices-returns-in_err-right-in-None
-reads::unfold_choices-returns-in_err-right-in-None t c =
+pub reads::unfold_choices-returns-in_err-right-in-None-clause-term : goal.reads::unfold_choices-returns-in_err-right-in-None-clause-term
+reads::unfold_choices-returns-in_err-right-in-None-clause-term t c =
     let k = c.args.context.now in
     let n = c.args.level.definitions in
     let room = c.args.level.room in
@@ -1085,14 +1100,14 @@ reads::unfold_choices-returns-in_err-right-in-None t c =
     let spent : (t : Term) → c.args.choices.operators ≤ operator_count t → room ≤ m + suc (operator_count (eq t)) = λ t within. omega (arith, within, c.in_ok-room-in-None.ensures, c.in_ok-room-in-None-2.ensures) in
     let e = c.in_err-right-in-None.field-0.0 in
     λ t truth said within. err-kept c.from_residual-in_err-right-in-None.result e _ (IsRefusal room (choices g t (map written_term vs))) c.from_residual-in_err-right-in-None.ensures.1
-    (subst (λ (z : Term). IsRefusal room z e) (same t) (right-refused room m c.in_ok-left-in-None.left.room (codes "if") (eq t) y (rest t) e (spent t within) ((c.in_ok-left-in-None.ensures truth).room) (subst (λ (ws : List Written). IsRefusal c.in_ok-left-in-None.left.room (choices g t (map written_term ws)) e) (behind-first vs) (c.in_err-right-in-None.ensures t truth said within))))
+    (subst (λ (z : Term). IsRefusal room z e) (same t) (right-refused room m c.in_ok-left-in-None.left.room (codes "if") (eq t) y (rest t) e (spent t within) ((c.in_ok-left-in-None.ensures.term truth).room) (subst (λ (ws : List Written). IsRefusal c.in_ok-left-in-None.left.room (choices g t (map written_term ws)) e) (behind-first vs) (c.in_err-right-in-None.ensures.term t truth said within))))
 
 pub reads::unfold_choices-choice-requires : goal.reads::unfold_choices-choice-requires
 reads::unfold_choices-choice-requires t c =
     ap (λ (f : Name). is_if (named_function f)) c.in_ok-name-in-None.ensures ∙ if-named
 
-pub reads::unfold_choices-returns : goal.reads::unfold_choices-returns
-reads::unfold_choices-returns t c =
+pub reads::unfold_choices-returns-clause-term : goal.reads::unfold_choices-returns-clause-term
+reads::unfold_choices-returns-clause-term t c =
     let k = c.args.context.now in
     let n = c.args.level.definitions in
     let room = c.args.level.room in
@@ -1114,13 +1129,13 @@ reads::unfold_choices-returns t c =
     (ap (λ (f : Name). choice_of f (eq t) y (rest t)) c.in_ok-name-in-None.ensures ∙ same t)
     (c.in_ok-choice-in-None.ensures m room (eq t) y (rest t) truth
     (condition t said ∙ ap (λ ds. folded (tree.spec_of ds) true (eq t)) back)
-    (subst (λ (ds : List SortDeclaration). IsUnfolded (tree.spec_of ds) false m y u) back (c.in_ok-left-in-None.ensures false))
+    (subst (λ (ds : List SortDeclaration). IsUnfolded (tree.spec_of ds) false m y u) back (c.in_ok-left-in-None.ensures.term false))
     (subst (λ (ds : List SortDeclaration). IsUnfolded (tree.spec_of ds) false u.room (rest t) c.in_ok-right-in-None.right) back
-    (subst (λ (ws : List Written). IsUnfolded (folding_in k) false u.room (choices g t (map written_term ws)) c.in_ok-right-in-None.right) (behind-first vs) (c.in_ok-right-in-None.ensures t false said within)))
+    (subst (λ (ws : List Written). IsUnfolded (folding_in k) false u.room (choices g t (map written_term ws)) c.in_ok-right-in-None.right) (behind-first vs) (c.in_ok-right-in-None.ensures.term t false said within)))
     (spent t within))
 
-pub unfold::unfold-returns-in-Arithmetic : goal.unfold::unfold-returns-in-Arithmetic
-unfold::unfold-returns-in-Arithmetic t c =
+pub unfold::unfold-returns-in-Arithmetic-clause-term : goal.unfold::unfold-returns-in-Arithmetic-clause-term
+unfold::unfold-returns-in-Arithmetic-clause-term t c =
     let k = c.args.context.now in
     let n = c.args.level.definitions in
     let b = c.args.level.truth in
@@ -1130,10 +1145,10 @@ unfold::unfold-returns-in-Arithmetic t c =
     ap (λ y. calculated_term (tree.term_of y) c.deref-in-Arithmetic-2.result.now) c.deref-in-Arithmetic.ensures
     ∙ ap (calculated_term (tree.term_of (box_value c.in-Arithmetic.first))) c.deref-in-Arithmetic-2.ensures.value
     ∙ sym (arithmetic-said c.in-Arithmetic.first c.in-Arithmetic.links) ∙ ap tree.term_of (sym c.in-Arithmetic.is) in
-    subst (λ (x : Term). Unfolds (folding_in k) b room (p x) c.unfold_arithmetic.result) said c.unfold_arithmetic.ensures
+    subst (λ (x : Term). Unfolds (folding_in k) b room (p x) c.unfold_arithmetic.result) said c.unfold_arithmetic.ensures.term
 
-pub unfold::unfold-returns-in-Quantified : goal.unfold::unfold-returns-in-Quantified
-unfold::unfold-returns-in-Quantified t c =
+pub unfold::unfold-returns-in-Quantified-clause-term : goal.unfold::unfold-returns-in-Quantified-clause-term
+unfold::unfold-returns-in-Quantified-clause-term t c =
     let k = c.args.context.now in
     let n = c.args.level.definitions in
     let b = c.args.level.truth in
@@ -1144,10 +1159,10 @@ unfold::unfold-returns-in-Quantified t c =
     ap (λ vs. Term.Quantified q (erased_variables (variable_forms vs)) (tree.term_of c.deref-in-Quantified-2.result.now)) c.deref-in-Quantified.ensures.value
     ∙ ap (λ y. Term.Quantified q (erased_variables (variable_forms c.in-Quantified.variables.items)) (tree.term_of y)) c.deref-in-Quantified-2.ensures
     ∙ sym (quantified-said c.in-Quantified.place q c.in-Quantified.variables c.in-Quantified.body) ∙ ap tree.term_of (sym c.in-Quantified.is) in
-    subst (λ (x : Term). Unfolds (folding_in k) b room (p x) c.unfold_quantified.result) said c.unfold_quantified.ensures
+    subst (λ (x : Term). Unfolds (folding_in k) b room (p x) c.unfold_quantified.result) said c.unfold_quantified.ensures.term
 
-pub unfold::unfold-returns-in_err-operands-in-Chain : goal.unfold::unfold-returns-in_err-operands-in-Chain
-unfold::unfold-returns-in_err-operands-in-Chain t c =
+pub unfold::unfold-returns-in_err-operands-in-Chain-clause-term : goal.unfold::unfold-returns-in_err-operands-in-Chain-clause-term
+unfold::unfold-returns-in_err-operands-in-Chain-clause-term t c =
     let k = c.args.context.now in
     let n = c.args.level.definitions in
     let b = c.args.level.truth in
@@ -1160,10 +1175,10 @@ unfold::unfold-returns-in_err-operands-in-Chain t c =
     ∙ sym (chain-said o c.in-Chain.first c.in-Chain.links) ∙ ap tree.term_of (sym c.in-Chain.is) in
     let e = c.in_err-operands-in-Chain.field-0.0 in
     err-kept c.from_residual-in_err-operands-in-Chain.result e _ (IsRefusal room (p (tree.term_of c.args.term.now))) c.from_residual-in_err-operands-in-Chain.ensures.1
-    (subst (λ (x : Term). IsRefusal room (p x) e) said c.in_err-operands-in-Chain.ensures)
+    (subst (λ (x : Term). IsRefusal room (p x) e) said c.in_err-operands-in-Chain.ensures.operands)
 
-pub unfold::unfold-returns-in_ok-joined_operands-in-Chain : goal.unfold::unfold-returns-in_ok-joined_operands-in-Chain
-unfold::unfold-returns-in_ok-joined_operands-in-Chain t c =
+pub unfold::unfold-returns-in_ok-joined_operands-in-Chain-clause-term : goal.unfold::unfold-returns-in_ok-joined_operands-in-Chain-clause-term
+unfold::unfold-returns-in_ok-joined_operands-in-Chain-clause-term t c =
     let k = c.args.context.now in
     let n = c.args.level.definitions in
     let b = c.args.level.truth in
@@ -1175,10 +1190,10 @@ unfold::unfold-returns-in_ok-joined_operands-in-Chain t c =
     ∙ ap (λ ls. chain_term o (tree.term_of (box_value c.in-Chain.first)) (operands_of ls)) c.deref-in-Chain-2.ensures.value
     ∙ sym (chain-said o c.in-Chain.first c.in-Chain.links) ∙ ap tree.term_of (sym c.in-Chain.is) in
     subst (λ (x : Term). IsUnfolded (folding_in k) b room (p x) c.in_ok-joined_operands-in-Chain.field-0) said
-    (c.in_ok-joined_operands-in-Chain.ensures (folding_in k) room _ c.in_ok-operands-in-Chain.ensures)
+    (c.in_ok-joined_operands-in-Chain.ensures (folding_in k) room _ c.in_ok-operands-in-Chain.ensures.operands)
 
-pub unfold::unfold-returns-then-is_empty : goal.unfold::unfold-returns-then-is_empty
-unfold::unfold-returns-then-is_empty t c =
+pub unfold::unfold-returns-then-is_empty-clause-term : goal.unfold::unfold-returns-then-is_empty-clause-term
+unfold::unfold-returns-then-is_empty-clause-term t c =
     let k = c.args.context.now in
     let n = c.args.level.definitions in
     let b = c.args.level.truth in
@@ -1192,4 +1207,281 @@ unfold::unfold-returns-then-is_empty t c =
     ap tree.term_of c.deref-then-is_empty.ensures
     ∙ ap (λ ls. chain_term o (tree.term_of (box_value c.in-Chain.first)) (operands_of ls)) (sym none)
     ∙ sym (chain-said o c.in-Chain.first c.in-Chain.links) ∙ ap tree.term_of (sym c.in-Chain.is) in
-    subst (λ (x : Term). Unfolds (folding_in k) b room (p x) c.unfold-then-is_empty.result) said c.unfold-then-is_empty.ensures
+    subst (λ (x : Term). Unfolds (folding_in k) b room (p x) c.unfold-then-is_empty.result) said c.unfold-then-is_empty.ensures.term
+
+-- ---- what faults tell
+
+pub unfold::unfold-returns-in_err-operand-in-Not-clause-faults : goal.unfold::unfold-returns-in_err-operand-in-Not-clause-faults
+unfold::unfold-returns-in_err-operand-in-Not-clause-faults t c =
+    let k = c.args.context.now in
+    let n = c.args.level.definitions in
+    let σ = scope_said k c.args.scope.now in
+    λ w h. let e = c.in_err-operand-in-Not.field-0.0 in
+    let part = subst (λ t. IsOperand (term_form t) (term_form c.deref.result.now)) (sym c.in-Not.is) (ap term_form c.deref.ensures) in
+    err-told c.from_residual-in_err-operand-in-Not.result e (IsFaultOf (surroundings_in k) w) c.from_residual-in_err-operand-in-Not.ensures.1
+    (c.in_err-operand-in-Not.ensures.faults w (Operand n σ (term_form c.args.term.now) (term_form c.deref.result.now) h.0 part, h.1))
+
+pub unfold::unfold-returns-in_err-operand-in-Negative-clause-faults : goal.unfold::unfold-returns-in_err-operand-in-Negative-clause-faults
+unfold::unfold-returns-in_err-operand-in-Negative-clause-faults t c =
+    let k = c.args.context.now in
+    let n = c.args.level.definitions in
+    let σ = scope_said k c.args.scope.now in
+    λ w h. let e = c.in_err-operand-in-Negative.field-0.0 in
+    let part = subst (λ t. IsOperand (term_form t) (term_form c.deref-in-Negative.result.now)) (sym c.in-Negative.is) (ap term_form c.deref-in-Negative.ensures) in
+    err-told c.from_residual-in_err-operand-in-Negative.result e (IsFaultOf (surroundings_in k) w) c.from_residual-in_err-operand-in-Negative.ensures.1
+    (c.in_err-operand-in-Negative.ensures.faults w (Operand n σ (term_form c.args.term.now) (term_form c.deref-in-Negative.result.now) h.0 part, h.1))
+
+pub unfold::unfold-returns-in_err-left-in-Comparison-clause-faults : goal.unfold::unfold-returns-in_err-left-in-Comparison-clause-faults
+unfold::unfold-returns-in_err-left-in-Comparison-clause-faults t c =
+    let k = c.args.context.now in
+    let n = c.args.level.definitions in
+    let σ = scope_said k c.args.scope.now in
+    λ w h. let e = c.in_err-left-in-Comparison.field-0.0 in
+    let part = subst (λ t. IsOperand (term_form t) (term_form c.deref-in-Comparison.result.now)) (sym c.in-Comparison.is) (inl (ap term_form c.deref-in-Comparison.ensures)) in
+    err-told c.from_residual-in_err-left-in-Comparison.result e (IsFaultOf (surroundings_in k) w) c.from_residual-in_err-left-in-Comparison.ensures.1
+    (c.in_err-left-in-Comparison.ensures.faults w (Operand n σ (term_form c.args.term.now) (term_form c.deref-in-Comparison.result.now) h.0 part, h.1))
+
+pub unfold::unfold-returns-in_err-right-in-Comparison-clause-faults : goal.unfold::unfold-returns-in_err-right-in-Comparison-clause-faults
+unfold::unfold-returns-in_err-right-in-Comparison-clause-faults t c =
+    let k = c.args.context.now in
+    let n = c.args.level.definitions in
+    let σ = scope_said k c.args.scope.now in
+    λ w h. let e = c.in_err-right-in-Comparison.field-0.0 in
+    let part = subst (λ t. IsOperand (term_form t) (term_form c.deref-in-Comparison-2.result.now)) (sym c.in-Comparison.is) (inr (ap term_form c.deref-in-Comparison-2.ensures)) in
+    err-told c.from_residual-in_err-right-in-Comparison.result e (IsFaultOf (surroundings_in k) w) c.from_residual-in_err-right-in-Comparison.ensures.1
+    (c.in_err-right-in-Comparison.ensures.faults w (Operand n σ (term_form c.args.term.now) (term_form c.deref-in-Comparison-2.result.now) h.0 part, h.1))
+
+pub unfold::unfold-returns-then-is_empty-clause-faults : goal.unfold::unfold-returns-then-is_empty-clause-faults
+unfold::unfold-returns-then-is_empty-clause-faults t c =
+    let k = c.args.context.now in
+    let n = c.args.level.definitions in
+    let σ = scope_said k c.args.scope.now in
+    let v = c.in-Chain.links in
+    let counted : vec_len v ≡ length v.items = omega (arith, v.ok.0) in
+    let none : v.items ≡ [] = none-of v.items (vec_len v) counted (sym c.is_empty.ensures ∙ c.if-is_empty.true) in
+    let o = c.in-Chain.connective in
+    let said : term_form c.args.term.now ≡ term_form c.deref-then-is_empty.result.now =
+    ap term_form c.in-Chain.is ∙ term-chain o c.in-Chain.first v ∙ ap (λ ls. chained (TermForm.connected o) (term_form (box_value c.in-Chain.first)) (term_links ls)) none
+    ∙ ap term_form (sym c.deref-then-is_empty.ensures) in
+    λ w h. c.unfold-then-is_empty.ensures.faults w (subst (λ (x : TermForm). IsMetAt k n σ x w) said h.0, h.1)
+
+pub unfold::unfold-returns-in_err-operands-in-Chain-clause-faults : goal.unfold::unfold-returns-in_err-operands-in-Chain-clause-faults
+unfold::unfold-returns-in_err-operands-in-Chain-clause-faults t c =
+    let k = c.args.context.now in
+    let n = c.args.level.definitions in
+    let σ = scope_said k c.args.scope.now in
+    let o = c.in-Chain.connective in
+    let said : term_form c.args.term.now ≡ chained (TermForm.connected o) (term_form c.deref-in-Chain.result.now) (term_links c.deref-in-Chain-2.result.now) =
+    ap term_form c.in-Chain.is ∙ term-chain o c.in-Chain.first c.in-Chain.links
+    ∙ ap (λ y. chained (TermForm.connected o) (term_form y) (term_links c.in-Chain.links.items)) (sym c.deref-in-Chain.ensures)
+    ∙ ap (λ ls. chained (TermForm.connected o) (term_form c.deref-in-Chain.result.now) (term_links ls)) (sym c.deref-in-Chain-2.ensures.value) in
+    λ w h. let e = c.in_err-operands-in-Chain.field-0.0 in
+    err-told c.from_residual-in_err-operands-in-Chain.result e (IsFaultOf (surroundings_in k) w) c.from_residual-in_err-operands-in-Chain.ensures.1
+    (c.in_err-operands-in-Chain.ensures.faults w (subst (λ (x : TermForm). IsMetAt k n σ x w) said h.0, h.1))
+
+pub unfold::unfold-returns-in-Application-clause-faults : goal.unfold::unfold-returns-in-Application-clause-faults
+unfold::unfold-returns-in-Application-clause-faults t c =
+    let k = c.args.context.now in
+    let n = c.args.level.definitions in
+    let σ = scope_said k c.args.scope.now in
+    let f = c.in-Application.function in
+    let said : term_form c.args.term.now ≡ TermForm.application (named f) (argument_forms c.deref-in-Application.result.now) =
+    ap term_form c.in-Application.is ∙ term-application f c.in-Application.arguments ∙ ap (λ ls. TermForm.application (named f) (argument_forms ls)) (sym c.deref-in-Application.ensures.value) in
+    λ w h. c.unfold_application.ensures.faults w (subst (λ (x : TermForm). IsMetAt k n σ x w) said h.0, h.1)
+
+pub unfold::unfold-returns-in-Arithmetic-clause-faults : goal.unfold::unfold-returns-in-Arithmetic-clause-faults
+unfold::unfold-returns-in-Arithmetic-clause-faults t c =
+    let k = c.args.context.now in
+    let n = c.args.level.definitions in
+    let σ = scope_said k c.args.scope.now in
+    let said : term_form c.args.term.now ≡ calculated (term_form c.deref-in-Arithmetic.result.now) (arithmetic_links c.deref-in-Arithmetic-2.result.now) =
+    ap term_form c.in-Arithmetic.is ∙ term-arithmetic c.in-Arithmetic.first c.in-Arithmetic.links
+    ∙ ap (λ y. calculated (term_form y) (arithmetic_links c.in-Arithmetic.links.items)) (sym c.deref-in-Arithmetic.ensures)
+    ∙ ap (λ ls. calculated (term_form c.deref-in-Arithmetic.result.now) (arithmetic_links ls)) (sym c.deref-in-Arithmetic-2.ensures.value) in
+    λ w h. c.unfold_arithmetic.ensures.faults w (subst (λ (x : TermForm). IsMetAt k n σ x w) said h.0, h.1)
+
+pub unfold::unfold_free-returns-in-Definition-clause-faults : goal.unfold::unfold_free-returns-in-Definition-clause-faults
+unfold::unfold_free-returns-in-Definition-clause-faults t c =
+    let k = c.args.context.now in
+    let n = c.args.level.definitions in
+    let x = TermForm.name (named c.args.name.now) in
+    let d = c.in-Definition.definition.now in
+    let m = c.in-Definition.before in
+    let is = c.in-Definition.ensures.named in
+    let at-definition = slice_get-map definition_of k.definitions.items m ∙ ap (option_map definition_of) is.1 in
+    let at-term = slice_get-map placed_term k.definitions.items m ∙ ap (option_map placed_term) is.1 in
+    let name : name_used x ≡ Some d.name.now = ap Some (sym (is.2 ∙ c.as_str.ensures.value)) in
+    λ ρ w h. c.unfold.ensures.faults w (
+      subst (λ (σ : TermScope). IsMetAt k m σ (placed_term d) w) (standing-none (map variable_of d.parameters.items) [])
+          (Defined n ρ x m (definition_of d) (placed_term d) h name is.0 at-definition at-term),
+      tt,
+    )
+
+pub applications::unfold_application-returns-in-Definition-clause-faults : goal.applications::unfold_application-returns-in-Definition-clause-faults
+applications::unfold_application-returns-in-Definition-clause-faults t c =
+    let k = c.args.context.now in
+    let n = c.args.level.definitions in
+    let σ = scope_said k c.args.scope.now in
+    let given = c.args.arguments.now in
+    let x = TermForm.application (named c.args.function.now) (argument_forms given) in
+    let ts : Terms = all_put_in (spec_in k) (forms_in k n) σ (tree.terms_of given) in
+    let d = c.in-Definition.definition.now in
+    let m = c.in-Definition.before in
+    let is = c.in-Definition.ensures.named in
+    let at-definition = slice_get-map definition_of k.definitions.items m ∙ ap (option_map definition_of) is.1 in
+    let at-term = slice_get-map placed_term k.definitions.items m ∙ ap (option_map placed_term) is.1 in
+    let name : name_used x ≡ Some d.name.now = ap Some (sym (is.2 ∙ c.as_str.ensures.value)) in
+    λ w h. c.unfold.ensures.faults w (
+      subst (λ (vs : List declared_variable.Variable). IsMetAt k m (standing (map variable_of vs) ts []) (placed_term d) w) (sym c.deref.ensures.value)
+          (Defined n σ x m (definition_of d) (placed_term d) h.0 name is.0 at-definition at-term),
+      (arguments-met k n σ w (named c.args.function.now) given h.0, h.1),
+    )
+
+pub applications::unfold_application-returns-in_ok-name-in-Variable-clause-faults : goal.applications::unfold_application-returns-in_ok-name-in-Variable-clause-faults
+applications::unfold_application-returns-in_ok-name-in-Variable-clause-faults t c =
+    let k = c.args.context.now in
+    let n = c.args.level.definitions in
+    let σ = scope_said k c.args.scope.now in
+    let given = c.args.arguments.now in
+    let x = TermForm.application (named c.args.function.now) (argument_forms given) in
+    let y = c.in-Variable.variable.now in
+    let is = c.in-Variable.ensures.named in
+    let name : string_bytes y.name.now.text ≡ (named c.args.function.now).text = is.1 ∙ c.as_str.ensures.value in
+    λ w h. c.unfold_read.ensures.faults w (
+      (arguments-met k n σ w (named c.args.function.now) given h.0, h.1),
+      (λ p o. (
+        at n σ x,
+        h.0,
+        (
+          state_variable_of y,
+          mapped-in state_variable_of k.variables.items y is.0,
+          name,
+          subst (λ (vs : List declared_variable.Variable). HaveOutside (surroundings_in k) n σ (argument_forms given) (map variable_of vs) p) c.deref-in-Variable.ensures.value o,
+        ),
+      )),
+    )
+
+pub applications::unfold_application-returns-in-Neither-clause-faults : goal.applications::unfold_application-returns-in-Neither-clause-faults
+applications::unfold_application-returns-in-Neither-clause-faults t c =
+    let k = c.args.context.now in
+    let n = c.args.level.definitions in
+    let σ = scope_said k c.args.scope.now in
+    let given = c.args.arguments.now in
+    λ w h. c.unfold_function-in-Neither.ensures.faults w (arguments-met k n σ w (named c.args.function.now) given h.0, h.1)
+
+pub applications::unfold_arguments-returns-in_err-others-clause-faults : goal.applications::unfold_arguments-returns-in_err-others-clause-faults
+applications::unfold_arguments-returns-in_err-others-clause-faults t c =
+    let k = c.args.context.now in
+    let n = c.args.level.definitions in
+    let σ = scope_said k c.args.scope.now in
+    let given = c.args.arguments.now in
+    λ w h. let e = c.in_err-others.field-0.0 in
+    let others = subst (λ (bs : List Argument). AreMetAt k n σ bs w) (sym (behind-first given)) (other-arguments-met k n σ w given h.0) in
+    err-told c.from_residual-in_err-others.result e (IsFaultOf (surroundings_in k) w) c.from_residual-in_err-others.ensures.1
+    (c.in_err-others.ensures.faults w (others, h.1))
+
+pub applications::unfold_arithmetic-returns-in_err-left-clause-faults : goal.applications::unfold_arithmetic-returns-in_err-left-clause-faults
+applications::unfold_arithmetic-returns-in_err-left-clause-faults t c =
+    let k = c.args.context.now in
+    let n = c.args.level.definitions in
+    let σ = scope_said k c.args.scope.now in
+    λ w h. let e = c.in_err-left.field-0.0 in
+    err-told c.from_residual.result e (IsFaultOf (surroundings_in k) w) c.from_residual.ensures.1
+    (c.in_err-left.ensures.faults w (arithmetic-first-met k n σ w (term_form c.args.first.now) c.args.links.now h.0, h.1))
+
+pub applications::unfold_arithmetic-returns-in_err-right-clause-faults : goal.applications::unfold_arithmetic-returns-in_err-right-clause-faults
+applications::unfold_arithmetic-returns-in_err-right-clause-faults t c =
+    let k = c.args.context.now in
+    let n = c.args.level.definitions in
+    let σ = scope_said k c.args.scope.now in
+    λ w h. let e = c.in_err-right.field-0.0 in
+    err-told c.from_residual-in_err-right.result e (IsFaultOf (surroundings_in k) w) c.from_residual-in_err-right.ensures.1
+    (c.in_err-right.ensures.faults w (arithmetic-link-met k n σ w (term_form c.args.first.now) c.args.links.now c.loop-link.link-index c.link-item.result c.loop-link-test.true c.link-item.is h.0, h.1))
+
+pub connectives::unfold_copies-returns-in_err-unfolded-clause-faults : goal.connectives::unfold_copies-returns-in_err-unfolded-clause-faults
+connectives::unfold_copies-returns-in_err-unfolded-clause-faults t c =
+    let k = c.args.context.now in
+    let n = c.args.level.definitions in
+    let σ = scope_said k c.args.scope.now in
+    let v = c.values-item.result in
+    let vs = map variable_of c.args.copies.variables.now in
+    let x = term_form c.args.quantified.body.now in
+    let there = mapped-in tuple_of c.args.copies.tuples.now v (item-in c.args.copies.tuples.now c.loop-values.values-index v c.loop-values-test.true c.values-item.is) in
+    λ w h. let e = c.in_err-unfolded.field-0.0 in
+    let met = subst (λ ws. IsMetAt k n (standing vs (terms_of (map written_term ws)) σ) x w) (sym c.deref.ensures.value) (h.0 (tuple_of v) there) in
+    err-told c.from_residual-in_err-unfolded.result e (IsFaultOf (surroundings_in k) w) c.from_residual-in_err-unfolded.ensures.1
+    (c.in_err-unfolded.ensures.faults w (met, h.1))
+
+pub connectives::unfold_operands-returns-in_err-unfolded-clause-faults : goal.connectives::unfold_operands-returns-in_err-unfolded-clause-faults
+connectives::unfold_operands-returns-in_err-unfolded-clause-faults t c =
+    let k = c.args.context.now in
+    let n = c.args.level.definitions in
+    let σ = scope_said k c.args.scope.now in
+    let o = c.args.chain.connective in
+    let ls = drop c.loop-link.link-index c.args.chain.links.now in
+    λ w h. let e = c.in_err-unfolded.field-0.0 in
+    let met = c.loop-link.invariant.1 w h in
+    err-told c.from_residual-in_err-unfolded.result e (IsFaultOf (surroundings_in k) w) c.from_residual-in_err-unfolded.ensures.1
+    (c.in_err-unfolded.ensures.faults w (chain-first-met k n σ w o (term_form c.loop-link.term.now) ls met.0, met.1))
+
+pub connectives::unfold_operands-returns-in_err-unfolded-2-clause-faults : goal.connectives::unfold_operands-returns-in_err-unfolded-2-clause-faults
+connectives::unfold_operands-returns-in_err-unfolded-2-clause-faults t c =
+    let k = c.args.context.now in
+    let n = c.args.level.definitions in
+    let σ = scope_said k c.args.scope.now in
+    let o = c.args.chain.connective in
+    let ls = drop c.loop-link.link-index c.args.chain.links.now in
+    λ w h. let e = c.in_err-unfolded-2.field-0.0 in
+    let met = c.loop-link.invariant.1 w h in
+    err-told c.from_residual-in_err-unfolded-2.result e (IsFaultOf (surroundings_in k) w) c.from_residual-in_err-unfolded-2.ensures.1
+    (c.in_err-unfolded-2.ensures.faults w (chain-first-met k n σ w o (term_form c.loop-link.term.now) ls met.0, met.1))
+
+pub connectives::unfold_quantified-returns-in_err-operands-clause-faults : goal.connectives::unfold_quantified-returns-in_err-operands-clause-faults
+connectives::unfold_quantified-returns-in_err-operands-clause-faults t c =
+    let k = c.args.context.now in
+    let n = c.args.level.definitions in
+    let σ = scope_said k c.args.scope.now in
+    let q = c.args.quantified.quantifier in
+    let x = term_form c.args.quantified.body.now in
+    let form = variable_forms c.args.quantified.variables.now in
+    let vs = erased_variables form in
+    let tuples : map tuple_of c.deref-3.result.now ≡ written_tuples (spec_in k) vs =
+    ap (map tuple_of) c.deref-3.ensures.value ∙ c.in_ok-tuples.ensures ∙ ap (λ S. written_tuples S (map variable_of c.deref.result.now)) c.sorts.ensures
+    ∙ ap (λ ws. written_tuples (spec_in k) (map variable_of ws)) c.deref.ensures.value ∙ ap (written_tuples (spec_in k)) c.in_ok-variables.ensures in
+    let variables : map variable_of c.deref-2.result.now ≡ vs = ap (map variable_of) c.deref-2.ensures.value ∙ c.in_ok-variables.ensures in
+    λ w h. let e = c.in_err-operands.field-0.0 in
+    let copies : (ks : List Term) → Contains (map tuple_of c.deref-3.result.now) ks → IsMetAt k n (standing (map variable_of c.deref-2.result.now) (terms_of ks) σ) x w =
+    λ ks in-it. subst (λ (zs : List Variable). IsMetAt k n (standing zs (terms_of ks) σ) x w) (sym variables)
+    (Body n σ q c.args.quantified.place form x ks h.0 (subst (λ (kss : List (List Term)). Contains kss ks) tuples in-it)) in
+    err-told c.from_residual-in_err-operands.result e (IsFaultOf (surroundings_in k) w) c.from_residual-in_err-operands.ensures.1
+    (c.in_err-operands.ensures.faults w (copies, h.1))
+
+pub reads::unfold_read-returns-then-not-is_within-clause-faults : goal.reads::unfold_read-returns-then-not-is_within-clause-faults
+reads::unfold_read-returns-then-not-is_within-clause-faults t c =
+    let k = c.args.context.now in
+    let n = c.args.level.definitions in
+    let σ = scope_said k c.args.scope.now in
+    let i = c.in-Some-first.index.now in
+    let a = c.in-Some-first-2.argument.now in
+    let x = put k n c.args.scope.now (tree.term_of a.term) in
+    let folded-by : tree.term_of c.in-Ok.unfolded.term ≡ folded (spec_in k) false x = c.in-Ok.ensures.term.term ∙ same-folded (folding_in k) (spec_in k) refl false x in
+    let outside : IsOutside (surroundings_in k) n σ (term_form a.term) i.sort.now =
+    λ seen. false≢true (c.if-not-is_within.ensures.1 (subst (λ (t : Term). IsSeenWithin (interval_in k t) (sort_interval (spec_in k) i.sort.now)) (sym folded-by) seen)) in
+    λ w h. subst (IsFaultOf (surroundings_in k) w) (sym c.refused-then-not-is_within.ensures)
+    (h.1 a.place (first-outside k n σ w c.args.array.indices.now c.args.array.arguments.now i a c.in-Some-first.ensures.value c.in-Some-first-2.ensures.value outside))
+
+pub reads::unfold_read-returns-in-Some-written_as-clause-faults : goal.reads::unfold_read-returns-in-Some-written_as-clause-faults
+reads::unfold_read-returns-in-Some-written_as-clause-faults t c =
+    let k = c.args.context.now in
+    let n = c.args.level.definitions in
+    let σ = scope_said k c.args.scope.now in
+    let o = c.others.result in
+    λ w h. c.unfold_element.ensures.faults w (others-met k n c.args.scope.now w c.args.array.indices.now o.indices.now c.args.array.arguments.now o.arguments.now c.others.ensures.indices c.others.ensures.arguments h)
+
+pub reads::unfold_read-returns-clause-faults : goal.reads::unfold_read-returns-clause-faults
+reads::unfold_read-returns-clause-faults t c =
+    let k = c.args.context.now in
+    let n = c.args.level.definitions in
+    let σ = scope_said k c.args.scope.now in
+    let o = c.others-2.result in
+    λ w h. c.unfold_choices.ensures.faults w (others-met k n c.args.scope.now w c.args.array.indices.now o.indices.now c.args.array.arguments.now o.arguments.now c.others-2.ensures.indices c.others-2.ensures.arguments h)

@@ -1,12 +1,15 @@
 use Rattle.std.proofs.Common.{◌≡◌, ◌+◌, ◌*◌, Bool, false, drop, take}
+use Rattle.pb_text_tree.specs.Form.{TermForm, chained, term_form, term_links}
 use Rattle.pb_folding.specs.View as tree
 use Rattle.pb_folding.specs.Kept.{joining}
 use Rattle.pb_unfolding.specs.PutIn.{joined}
 use Rattle.pb_unfolder_terms.specs.Chains.{chain_term, operands_of}
 use Rattle.pb_unfolder_terms.specs.Contexts.{folding_in}
 use Rattle.pb_unfolder_terms.specs.Copies.{copies_by, copied_term}
+use Rattle.pb_unfolder_terms.specs.Met.{Occurrence}
 use Rattle.pb_unfolder_terms.specs.Operands.{IsLeft}
 use Rattle.pb_unfolder_terms.specs.Puts.{calculated_term, put}
+use Rattle.pb_unfolder_terms.specs.Tells.{IsTermMet}
 use Rattle.pb_unfolder_terms.specs.Unfolding.{IsUnfolded}
 use Rattle.pb_unfolder_terms.proofs.+unfolding.Given as goal
 
@@ -62,6 +65,8 @@ invariant-connectives::unfold_operands-loop-link l =
     (put l.context n l.scope (chain_term c (tree.term_of l.fn.chain.first.now) (operands_of l.fn.chain.links.now)))
     (put l.context n l.scope (chain_term c (tree.term_of l.term) (operands_of (drop l.link-index l.chain.links.now))))
     (operands_of l.before.items) l.room
+    × ((whole : Occurrence) → IsTermMet l.context n l.scope (chained (TermForm.connected c) (term_form l.fn.chain.first.now) (term_links l.fn.chain.links.now)) whole
+    → IsTermMet l.context n l.scope (chained (TermForm.connected c) (term_form l.term) (term_links (drop l.link-index l.chain.links.now))) whole)
 
 -- what is left of the copies from the tuple on that comes next
 abbrev pub invariant-connectives::unfold_copies-loop-values : goal.invariant-connectives::unfold_copies-loop-values

@@ -3,8 +3,9 @@ use Rattle.pb_errors.specs.OrMemory.{IfRefused}
 use Rattle.pb_text_tree.specs.declared.place.Place.{Place}
 use Rattle.pb_unfolder_terms.specs.View.{spec_of}
 use Rattle.pb_unfolder_steps.specs.Elements.{instances_of_steps}
+use Rattle.pb_unfolder_steps.specs.Outside.{forms_of_steps}
 use Rattle.pb_unfolder_steps.specs.Refusals.{IsPassedIn, places_of_steps}
-use Rattle.pb_unfolder_steps.proofs.StateLemmas.{instance-places-said, instances-said}
+use Rattle.pb_unfolder_steps.proofs.StateLemmas.{instance-forms-said, instance-places-said, instances-said}
 use Rattle.pb_unfolder_steps.proofs.OkLemmas.{if-ok}
 use Rattle.pb_unfolder_steps.proofs.instance.instances.Goals as goal
 
@@ -23,3 +24,8 @@ returns-clause-refused c =
     let spec = spec_of c.sorts_of.result in
     subst (λ (v : List Place). IfRefused c.instances_of.result (IsPassedIn 1024 v))
     (ap (places_of_steps spec) c.deref.ensures.value ∙ instance-places-said spec c.args.protocol.now c.sorts_of.ensures) c.instances_of.ensures.refused
+
+pub returns-clause-forms : goal.returns-clause-forms
+returns-clause-forms c =
+    let spec = spec_of c.sorts_of.result in
+    if-ok c.instances_of.result (λ v same. same ∙ ap (forms_of_steps spec) c.deref.ensures.value ∙ instance-forms-said spec c.args.protocol.now c.sorts_of.ensures) c.instances_of.ensures.forms

@@ -19,6 +19,14 @@ use Rattle.pb_unfolder_terms.proofs.BehindLemmas.{behind-refused, choice-behind,
 use Rattle.pb_unfolder_terms.proofs.ChainLemmas.{err-kept, no-room}
 use Rattle.pb_unfolder_terms.proofs.ChoiceLemmas.{condition-refused}
 use Rattle.pb_unfolder_terms.proofs.ReadLemmas.{some-is}
+use Rattle.std.proofs.Common.{inl, map}
+use Rattle.pb_text_tree.specs.Form.{TermForm, argument_forms, named}
+use Rattle.pb_protocol_tree.specs.Form.{assignment_form}
+use Rattle.pb_folding.proofs.FoldedModels.{same-names}
+use Rattle.pb_unfolder_terms.specs.Met.{Itself, at}
+use Rattle.pb_unfolder_terms.specs.Tells.{IsReadMet, scope_said, surroundings_in}
+use Rattle.pb_unfolder_terms.specs.TermFaults.{IfFaultAt, IsOutsideInAssignments}
+use Rattle.pb_unfolder_terms.proofs.MetLemmas.{arguments-met, assigned-read, at-by, err-told, item-in, mapped-in, values-met}
 use Rattle.pb_unfolder_terms.proofs.assigned.last_assignment.Goals as goal
 
 pub loop-place-init : goal.loop-place-init
@@ -57,8 +65,8 @@ loop-place-preserved-then-ne c =
     λ sort. subst (λ (z : Term). IsBehind F room (whole sort) z c.loop-place.passed c.loop-place.room)
     (ap (λ (m : ℕ). upto m sort) next ∙ after-other (spec_in k) forms ρ bs p a (E sort) within c.index-assignments-place.is test) (c.loop-place.invariant sort)
 
-pub returns-in_err-behind_one : goal.returns-in_err-behind_one
-returns-in_err-behind_one c =
+pub returns-in_err-behind_one-clause-latest : goal.returns-in_err-behind_one-clause-latest
+returns-in_err-behind_one-clause-latest c =
     let k = c.args.context.now in
     let n = c.args.level.definitions in
     let room = c.args.level.room in
@@ -88,8 +96,8 @@ returns-in_err-behind_one c =
     (behind-refused F room (whole sort) (choice b x (rest sort)) passed now e (behind sort)
     (no-room now (choice b x (rest sort)) e a.variable.place c.in_err-behind_one.ensures.0 (omega (arith, c.in_err-behind_one.ensures.1))))
 
-pub returns-in_err-condition : goal.returns-in_err-condition
-returns-in_err-condition c =
+pub returns-in_err-condition-clause-latest : goal.returns-in_err-condition-clause-latest
+returns-in_err-condition-clause-latest c =
     let k = c.args.context.now in
     let n = c.args.level.definitions in
     let room = c.args.level.room in
@@ -119,7 +127,7 @@ returns-in_err-condition c =
     let e = c.in_err-condition.field-0.0 in
     let compared : IsRefusal inner b e =
     subst (λ (gs : List Argument). IsRefusal inner (comparing (spec_in k) forms ρ gs vs) e) c.compared_with-compared.ensures.arguments
-    (subst (λ (ws : List Written). IsRefusal inner (comparing (spec_in k) forms ρ h.arguments.now ws) e) c.compared_with-compared.ensures.index c.in_err-condition.ensures) in
+    (subst (λ (ws : List Written). IsRefusal inner (comparing (spec_in k) forms ρ h.arguments.now ws) e) c.compared_with-compared.ensures.index c.in_err-condition.ensures.term) in
     λ sort. err-kept c.from_residual-in_err-condition.result e _ (IsRefusal room (whole sort)) c.from_residual-in_err-condition.ensures.1
     (behind-refused F room (whole sort) (choice b x (rest sort)) passed now e (behind sort)
     (condition-refused now inner (codes "if") b x (rest sort) e c.in_ok-behind_one.ensures compared))
@@ -155,12 +163,12 @@ loop-place-preserved c =
     let condition = c.in_ok-condition.condition in
     let compared : IsUnfolded F true inner b condition =
     subst (λ (gs : List Argument). IsUnfolded F true inner (comparing (spec_in k) forms ρ gs vs) condition) c.compared_with-compared.ensures.arguments
-    (subst (λ (ws : List Written). IsUnfolded F true inner (comparing (spec_in k) forms ρ h.arguments.now ws) condition) c.compared_with-compared.ensures.index c.in_ok-condition.ensures) in
+    (subst (λ (ws : List Written). IsUnfolded F true inner (comparing (spec_in k) forms ρ h.arguments.now ws) condition) c.compared_with-compared.ensures.index c.in_ok-condition.ensures.term) in
     let says = sym compared.term ∙ c.decides.ensures c.if-not-decides.false in
     λ sort. further-behind F room (whole sort) b x (rest sort) passed now inner c.room_behind-room.result c.in_ok-behind_one.ensures (omega (arith, c.room_behind-room.ensures, compared.room)) says (behind sort)
 
-pub returns-then-not-decides : goal.returns-then-not-decides
-returns-then-not-decides c =
+pub returns-then-not-decides-clause-latest : goal.returns-then-not-decides-clause-latest
+returns-then-not-decides-clause-latest c =
     let k = c.args.context.now in
     let n = c.args.level.definitions in
     let room = c.args.level.room in
@@ -190,7 +198,7 @@ returns-then-not-decides c =
     let condition = c.in_ok-condition.condition in
     let compared : IsUnfolded F true inner b condition =
     subst (λ (gs : List Argument). IsUnfolded F true inner (comparing (spec_in k) forms ρ gs vs) condition) c.compared_with-compared.ensures.arguments
-    (subst (λ (ws : List Written). IsUnfolded F true inner (comparing (spec_in k) forms ρ h.arguments.now ws) condition) c.compared_with-compared.ensures.index c.in_ok-condition.ensures) in
+    (subst (λ (ws : List Written). IsUnfolded F true inner (comparing (spec_in k) forms ρ h.arguments.now ws) condition) c.compared_with-compared.ensures.index c.in_ok-condition.ensures.term) in
     λ sort. (
       within,
       λ d there.
@@ -200,8 +208,8 @@ returns-then-not-decides c =
           (compared.term, choice-behind F room (whole sort) b x (rest sort) passed now inner condition.room c.in_ok-behind_one.ensures compared.room (behind sort)),
     )
 
-pub returns : goal.returns
-returns c =
+pub returns-clause-latest : goal.returns-clause-latest
+returns-clause-latest c =
     let k = c.args.context.now in
     let n = c.args.level.definitions in
     let room = c.args.level.room in
@@ -217,3 +225,25 @@ returns c =
     (subst (λ (z : Term). IsBehind F room (whole sort) z c.loop-place.passed c.loop-place.room)
     (ap (λ (m : ℕ). upto m sort) first ∙ ap (λ (ds : List Assignment). after (spec_in k) forms ρ ds (E sort)) (taken-none bs)) (c.loop-place.invariant sort))
     (c.in_ok-unfolded.ensures F sort false)
+
+pub returns-in_err-condition-clause-faults : goal.returns-in_err-condition-clause-faults
+returns-in_err-condition-clause-faults c =
+    let k = c.args.context.now in
+    let n = c.args.level.definitions in
+    let σ = scope_said k c.args.scope.now in
+    let m = surroundings_in k in
+    let bs = c.args.assignments.now in
+    let p : ℕ = c.loop-place.place - 1 in
+    let within : p < length bs = omega (arith, c.loop-place.auto.place, c.loop-place-test.true) in
+    let a = c.index-assignments-place.result in
+    let test : same_name (string_bytes a.variable.text) (string_bytes c.args.element.array.now.text) ≡ true = (ap (λ (y : Name). same_name y (string_bytes c.args.element.array.now.text)) (sym c.as_str.ensures.value) ∙ ap (λ (y : Name). same_name c.as_str.result.now y) (sym c.as_str-in-loop-place.ensures.value) ∙ not-fails (same_name c.as_str.result.now c.as_str-in-loop-place.result.now) (sym c.ne.ensures ∙ c.if-ne.false)) in
+    let name : string_bytes c.args.element.array.now.text ≡ (named a.variable).text = sym (same-names (string_bytes a.variable.text) (string_bytes c.args.element.array.now.text) test) in
+    let h = c.compared_with-compared.result in
+    let w = at n σ (TermForm.application (named a.variable) (argument_forms a.index.items)) in
+    let there = mapped-in assignment_form bs a (item-in bs p a within c.index-assignments-place.is) in
+    let e = c.in_err-condition.field-0.0 in
+    λ v. let read : IsReadMet k n c.args.scope.now a.index.items h.indices.now w =
+    ((arguments-met k n σ w (named a.variable) a.index.items Itself, values-met k c.args.scope.now w v), (λ q o. assigned-read k n σ (named a.variable) a.index.items (string_bytes c.args.element.array.now.text) h.indices.now c.compared_with-compared.ensures.indices name q o)) in
+    err-told c.from_residual-in_err-condition.result e (IfFaultAt (IsOutsideInAssignments m n σ (map assignment_form bs))) c.from_residual-in_err-condition.ensures.1
+    (at-by m w (IsOutsideInAssignments m n σ (map assignment_form bs)) e (λ q o. (assignment_form a, there, inl o))
+    (c.in_err-condition.ensures.faults w (subst (λ (gs : List Argument). IsReadMet k n c.args.scope.now gs h.indices.now w) (sym c.compared_with-compared.ensures.arguments) read)))

@@ -16,7 +16,7 @@ returns-then-is_meant-clause-meant c = λ sorts base ts e.
     c.loop-place.invariant sorts base ts e
     ∙ definition-meant sorts base (map definition_of ds) c.loop-place.place k (definition_of d) c.args.name.now ts next
     (definition-there ds k d (omega (arith, c.requires, c.loop-place.auto.place, c.loop-place-test.true)) c.index-definitions-place.is)
-    (sym (ap (λ vs. same_name d.name.now c.args.name.now && are_as_many (map variable_of vs) ts) c.deref.ensures.value) ∙ sym (c.is_meant.ensures ts e) ∙ c.if-is_meant.true)
+    (sym (ap (λ vs. same_name d.name.now c.args.name.now && are_as_many (map variable_of vs) ts) c.deref.ensures.value) ∙ sym (c.is_meant.ensures.meant ts e) ∙ c.if-is_meant.true)
 
 pub loop-place-preserved : goal.loop-place-preserved
 loop-place-preserved c = λ sorts base ts e.
@@ -27,4 +27,4 @@ loop-place-preserved c = λ sorts base ts e.
     c.loop-place.invariant sorts base ts e
     ∙ definition-passed sorts base (map definition_of ds) c.loop-place.place k (definition_of d) c.args.name.now ts next
     (definition-there ds k d (omega (arith, c.requires, c.loop-place.auto.place, c.loop-place-test.true)) c.index-definitions-place.is)
-    (sym (ap (λ vs. same_name d.name.now c.args.name.now && are_as_many (map variable_of vs) ts) c.deref.ensures.value) ∙ sym (c.is_meant.ensures ts e) ∙ c.if-is_meant.false)
+    (sym (ap (λ vs. same_name d.name.now c.args.name.now && are_as_many (map variable_of vs) ts) c.deref.ensures.value) ∙ sym (c.is_meant.ensures.meant ts e) ∙ c.if-is_meant.false)

@@ -5,7 +5,7 @@ use Rattle.pb_unfolder_terms.specs.View.{variable_of}
 use Rattle.pb_unfolder_terms.proofs.ContextLemmas.{as-many}
 use Rattle.pb_unfolder_terms.proofs.context.is_meant.Goals as goal
 
-pub returns-then-eq : goal.returns-then-eq
-returns-then-eq c = λ ts e.
+pub returns-then-eq-clause-meant : goal.returns-then-eq-clause-meant
+returns-then-eq-clause-meant c = λ ts e.
     let vs = c.args.variables.now in
     sym (as-many vs ts c.args.count e) ∙ ap (λ (b : Bool). b && are_as_many (map variable_of vs) ts) (sym c.if-eq.true ∙ c.eq.ensures)

@@ -1,0 +1,242 @@
+-- Parts of what is met are met, and what their faults tell is told of the whole.
+use Rattle.std.proofs.Common.{◌≡◌, ◌<◌, ◌∙◌, ◌⊎◌, ◌+◌, ℕ, zero, suc, Bool, true, false, if◌then◌else◌, inl, inr, refl, sym, ap, subst, arith, List, [], ◌∷◌, map, drop, take, length, get_or, add-one, Option, Some, None}
+use Rattle.std.specs.List.{slice_get}
+use Rattle.std.specs.Prelude.{Contains, IfErr, IsErrAnd, Result, Ok, Err}
+use Rattle.pb_errors.specs.declared.or_memory.OrMemory.{OrMemory}
+use Rattle.pb_errors.specs.declared.or_memory.OrMemory.TheVariants.{Refused, Memory}
+use Rattle.pb_text_tree.specs.declared.place.Place.{Place}
+use Rattle.pb_text_tree.specs.declared.operator.Connective.{Connective}
+use Rattle.pb_text_tree.specs.declared.term.Argument.{Argument}
+use Rattle.pb_text_tree.specs.declared.term.ArithmeticLink.{ArithmeticLink}
+use Rattle.pb_text_tree.specs.declared.term.TermLink.{TermLink}
+use Rattle.pb_text_tree.specs.Form.{Named, TermForm, argument_forms, arithmetic_links, calculated, chained, term_form, term_links}
+use Rattle.pb_text_meaning.specs.Syntax.{Name, same_name, Term}
+use Rattle.pb_text_meaning.specs.Erase.{erased_term}
+use Rattle.pb_folding.specs.Folding.{folded}
+use Rattle.pb_unfolding.specs.PutIn.{TermScope, put_in}
+use Rattle.pb_unfolder_terms.specs.declared.context.Context.{Context}
+use Rattle.pb_unfolder_terms.specs.declared.fault.UnfoldFault.{UnfoldFault}
+use Rattle.pb_unfolder_terms.specs.declared.sorts.Variable.{Variable}
+use Rattle.pb_unfolder_terms.specs.declared.scope.TermScope as declared_scope
+use Rattle.pb_unfolder_terms.specs.Met.{HaveOutside, IsArgument, IsIndexFault, IsOutside, Itself, Occurrence, Operand, Surroundings, at}
+use Rattle.pb_unfolder_terms.specs.Scopes.{looked}
+use Rattle.pb_unfolder_terms.specs.Tells.{AreIndices, AreMetAt, Breaks, IsFaultOf, IsMetAt, IsReadMet, IsScopeMet, scope_said, surroundings_in}
+use Rattle.pb_unfolder_terms.specs.TermFaults.{HasValues, IfFaultAt, OnIndex}
+use Rattle.pb_unfolder_terms.specs.Bounds.{IsSeenWithin, sort_interval}
+use Rattle.pb_unfolder_terms.specs.Contexts.{IsSeenInside, forms_in, interval_in, spec_in, state_variable_of}
+use Rattle.pb_unfolder_terms.specs.declared.fault.UnfoldRule.{UnfoldRule}
+use Rattle.pb_unfolder_terms.specs.declared.fault.UnfoldRule.TheVariants as rule
+use Rattle.pb_unfolder_terms.specs.declared.scope.TermScope.TheVariants.{Empty, Values', Arguments'}
+use Rattle.pb_unfolder_terms.specs.Values.{IsTooLong}
+use Rattle.pb_unfolder_terms.specs.View.{variable_of}
+use Rattle.pb_unfolder_terms.proofs.ReadLemmas.{not-none, some-is}
+
+-- ---- members of lists
+
+pub first-in : {X : Type 0} (x : X) (xs : List X) → Contains (x ∷ xs) x
+first-in x xs = (0, omega arith, refl)
+
+pub behind-in : {X : Type 0} (y : X) (xs : List X) (x : X) → Contains xs x → Contains (y ∷ xs) x
+behind-in y xs x h = (suc h.0, omega (arith, h.1), h.2)
+
+pub item-in : {X : Type 0} (xs : List X) (k : ℕ) (x : X) → k < length xs → x ≡ get_or xs k x → Contains xs x
+item-in xs k x within is = (k, within, sym is)
+
+pub left-in : {X : Type 0} (xs : List X) (x : X) → Contains (drop 1 xs) x → Contains xs x
+left-in [] x h = h
+left-in (y ∷ xs) x h = behind-in y xs x h
+
+pub mapped-in : {X Y : Type 0} (g : X → Y) (xs : List X) (x : X) → Contains xs x → Contains (map g xs) (g x)
+mapped-in g [] x h = absurd (omega (arith, h.1))
+mapped-in g (y ∷ xs) x (zero, within, e) = subst (Contains (map g (y ∷ xs))) (ap g e) (first-in (g y) (map g xs))
+mapped-in g (y ∷ xs) x (suc k, within, e) = behind-in (g y) (map g xs) (g x) (mapped-in g xs x (k, omega (arith, within), e))
+
+-- ---- what names stand for
+
+either-in : (x : Name) (vs : List Variable) (given : List Argument) (o : Option Argument) (a : Argument) → looked vs given x o ≡ Some a → (o ≡ Some a) ⊎ Contains given a
+either-in x [] given o a e = inl e
+either-in x (v ∷ vs) [] o a e = inl e
+either-in x (v ∷ vs) (b ∷ given) o a e = by (same_name v.name.now x) (either-in x vs given (if same_name v.name.now x then Some b else o) a e)
+  where
+    by : (t : Bool) → ((if t then Some b else o) ≡ Some a) ⊎ Contains given a → (o ≡ Some a) ⊎ Contains (b ∷ given) a
+    by t (inr h) = inr (behind-in b given a h)
+    by false (inl h) = inl h
+    by true (inl h) = inr (subst (Contains (b ∷ given)) (same h) (first-in b given))
+      where
+        same : Some b ≡ Some a → b ≡ a
+        same i = cc
+
+-- an argument that is found is one of those that are given
+pub found-in : (x : Name) (vs : List Variable) (given : List Argument) (a : Argument) → Some a ≡ looked vs given x None → Contains given a
+found-in x vs given a e = elim (either-in x vs given None a (sym e)) [
+  | inl h ↦ absurd (no h)
+  | inr h ↦ h
+]
+  where
+    no : None ≡ Some a → ⊥
+    no h = cc
+
+-- ---- parts
+
+module _ (c : Context) (n : ℕ) (ρ : TermScope) (whole : Occurrence) where
+  module _ (k : Connective) where
+    pub chain-first-met : (x : TermForm) (ls : List TermLink) → IsMetAt c n ρ (chained (TermForm.connected k) x (term_links ls)) whole → IsMetAt c n ρ x whole
+    chain-first-met x [] h = h
+    chain-first-met x (l ∷ ls) h = Operand n ρ (chained (TermForm.connected k) x (term_links (l ∷ ls))) x h (inl refl)
+
+    chain-step-met : (x : TermForm) (ls : List TermLink) (i : ℕ) (l : TermLink) → i < length ls → l ≡ get_or ls i l
+        → IsMetAt c n ρ (chained (TermForm.connected k) x (term_links (drop i ls))) whole
+        → IsMetAt c n ρ (chained (TermForm.connected k) (term_form l.operand) (term_links (drop (suc i) ls))) whole
+    chain-step-met x [] i l within is h = absurd (omega (arith, within))
+    chain-step-met x (m ∷ ls) zero l within is h =
+        subst (λ (d : TermLink). IsMetAt c n ρ (chained (TermForm.connected k) (term_form d.operand) (term_links ls)) whole) (sym is)
+        (Operand n ρ (chained (TermForm.connected k) x (term_links (m ∷ ls))) (chained (TermForm.connected k) (term_form m.operand) (term_links ls)) h (inr refl))
+    chain-step-met x (m ∷ ls) (suc i) l within is h = chain-step-met x ls i l (omega (arith, within)) is h
+
+    -- one operand further
+    pub chain-next-met : (x : TermForm) (ls : List TermLink) (i : ℕ) (l : TermLink) → i < length ls → l ≡ get_or ls i l
+        → IsMetAt c n ρ (chained (TermForm.connected k) x (term_links (drop i ls))) whole
+        → IsMetAt c n ρ (chained (TermForm.connected k) (term_form l.operand) (term_links (drop (i + 1) ls))) whole
+    chain-next-met x ls i l within is h =
+        subst (λ (j : ℕ). IsMetAt c n ρ (chained (TermForm.connected k) (term_form l.operand) (term_links (drop j ls))) whole) (sym (add-one i)) (chain-step-met x ls i l within is h)
+
+  pub arithmetic-first-met : (x : TermForm) (ls : List ArithmeticLink) → IsMetAt c n ρ (calculated x (arithmetic_links ls)) whole → IsMetAt c n ρ x whole
+  arithmetic-first-met x [] h = h
+  arithmetic-first-met x (l ∷ ls) h =
+      let y = TermForm.computed l.operator l.place x (term_form l.operand) in
+      Operand n ρ y x (arithmetic-first-met y ls h) (inl refl)
+
+  pub arithmetic-link-met : (x : TermForm) (ls : List ArithmeticLink) (i : ℕ) (l : ArithmeticLink) → i < length ls → l ≡ get_or ls i l
+      → IsMetAt c n ρ (calculated x (arithmetic_links ls)) whole → IsMetAt c n ρ (term_form l.operand) whole
+  arithmetic-link-met x [] i l within is h = absurd (omega (arith, within))
+  arithmetic-link-met x (m ∷ ls) zero l within is h =
+      let y = TermForm.computed m.operator m.place x (term_form m.operand) in
+      subst (λ (d : ArithmeticLink). IsMetAt c n ρ (term_form d.operand) whole) (sym is) (Operand n ρ y (term_form m.operand) (arithmetic-first-met y ls h) (inr refl))
+  arithmetic-link-met x (m ∷ ls) (suc i) l within is h =
+      arithmetic-link-met (TermForm.computed m.operator m.place x (term_form m.operand)) ls i l (omega (arith, within)) is h
+
+  argument-in : (given : List Argument) (a : Argument) → Contains given a → IsArgument (argument_forms given) (term_form a.term)
+  argument-in [] a h = absurd (omega (arith, h.1))
+  argument-in (b ∷ given) a (zero, within, e) = inl (ap (λ (d : Argument). term_form d.term) (sym e))
+  argument-in (b ∷ given) a (suc k, within, e) = inr (argument-in given a (k, omega (arith, within), e))
+
+  -- the arguments of what is met
+  pub arguments-met : (f : Named) (given : List Argument) → IsMetAt c n ρ (TermForm.application f (argument_forms given)) whole → AreMetAt c n ρ given whole
+  arguments-met f given h = λ a in-it. Operand n ρ (TermForm.application f (argument_forms given)) (term_form a.term) h (argument-in given a in-it)
+
+  pub argument-at-met : (given : List Argument) (i : ℕ) (a : Argument) → i < length given → a ≡ get_or given i a → AreMetAt c n ρ given whole → IsMetAt c n ρ (term_form a.term) whole
+  argument-at-met given i a within is h = h a (item-in given i a within is)
+
+  pub other-arguments-met : (given : List Argument) → AreMetAt c n ρ given whole → AreMetAt c n ρ (drop 1 given) whole
+  other-arguments-met given h = λ a in-it. h a (left-in given a in-it)
+
+  -- ---- reads
+
+  -- the first argument is outside
+  pub first-outside : (is : List Variable) (given : List Argument) (i : Variable) (a : Argument) → Some i ≡ slice_get is 0 → Some a ≡ slice_get given 0
+      → IsOutside (surroundings_in c) n ρ (term_form a.term) i.sort.now → HaveOutside (surroundings_in c) n ρ (argument_forms given) (map variable_of is) a.place
+  first-outside [] given i a is there h = absurd (not-none i is)
+  first-outside (j ∷ js) [] i a is there h = absurd (not-none a there)
+  first-outside (j ∷ js) (b ∷ given) i a is there h =
+      inl (
+        ap (λ (d : Argument). d.place) (some-is a b there),
+        subst (λ (d : Argument). IsOutside (surroundings_in c) n ρ (term_form d.term) j.sort.now) (some-is a b there)
+            (subst (λ (v : Variable). IsOutside (surroundings_in c) n ρ (term_form a.term) v.sort.now) (some-is i j is) h),
+      )
+
+  -- one behind it is
+  others-outside : (is : List Variable) (given : List Argument) (p : Place) → HaveOutside (surroundings_in c) n ρ (argument_forms (drop 1 given)) (map variable_of (drop 1 is)) p
+      → HaveOutside (surroundings_in c) n ρ (argument_forms given) (map variable_of is) p
+  others-outside is [] p h = absurd h
+  others-outside [] (a ∷ []) p h = absurd h
+  others-outside [] (a ∷ b ∷ given) p h = absurd h
+  others-outside (i ∷ is) (a ∷ given) p h = inr h
+
+pub others-met : (c : Context) (n : ℕ) (scope : declared_scope.TermScope) (whole : Occurrence) (is js : List Variable) (given others : List Argument) → js ≡ drop 1 is → others ≡ drop 1 given
+    → IsReadMet c n scope given is whole → IsReadMet c n scope others js whole
+others-met c n scope whole is js given others e f h =
+    let ρ = scope_said c scope in
+    subst (λ (vs : List Variable). IsReadMet c n scope others vs whole) (sym e)
+    (subst (λ (bs : List Argument). IsReadMet c n scope bs (drop 1 is) whole) (sym f)
+    ((other-arguments-met c n ρ whole given h.0.0, h.0.1), (λ p o. h.1 p (others-outside c n ρ whole is given p o))))
+
+-- ---- faults
+
+-- an error is passed on
+pub err-told : {A : Type 0} (r : Result A (OrMemory UnfoldFault)) (e : OrMemory UnfoldFault) (Q : OrMemory UnfoldFault → Type 0) → IsErrAnd r (λ d. d ≡ e) → Q e → IfErr r Q
+err-told (Ok a) e Q h q = absurd h
+err-told (Err d) e Q h q = subst Q (sym h) q
+
+pub too-long-told : {A : Type 0} (m : Surroundings) (whole : Occurrence) (xs : List A) (place : Place) (e : OrMemory UnfoldFault) → IsTooLong xs place e → IsFaultOf m whole e
+too-long-told m whole xs place Memory h = tt
+too-long-told m whole xs place (Refused f) h = subst (λ (g : UnfoldFault). IsFaultOf m whole (Refused g)) (sym h.0) tt
+
+-- an index outside is what P says of the place
+pub at-by : (m : Surroundings) (whole : Occurrence) (P : Place → Type 0) (e : OrMemory UnfoldFault) → ((p : Place) → IsIndexFault m whole p → P p) → IsFaultOf m whole e → IfFaultAt P e
+at-by m whole P Memory to h = tt
+at-by m whole P (Refused f) to h = by f.rule h
+  where
+    by : (r : UnfoldRule) → Breaks m whole r f.place → OnIndex P r f.place
+    by rule.Index h = to f.place h
+    by rule.Operators h = tt
+    by rule.Depth h = tt
+    by rule.Values h = tt
+
+pub at-weaker : (P Q : Place → Type 0) (e : OrMemory UnfoldFault) → ((p : Place) → P p → Q p) → IfFaultAt P e → IfFaultAt Q e
+at-weaker P Q Memory to h = tt
+at-weaker P Q (Refused f) to h = by f.rule h
+  where
+    by : (r : UnfoldRule) → OnIndex P r f.place → OnIndex Q r f.place
+    by rule.Index h = to f.place h
+    by rule.Operators h = tt
+    by rule.Depth h = tt
+    by rule.Values h = tt
+
+pub result-at : {A : Type 0} (m : Surroundings) (whole : Occurrence) (r : Result A (OrMemory UnfoldFault)) → IfErr r (IsFaultOf m whole) → IfErr r (IfFaultAt (IsIndexFault m whole))
+result-at m whole (Ok u) h = tt
+result-at m whole (Err e) h = at-by m whole (IsIndexFault m whole) e (λ p o. o) h
+
+-- ---- scopes of values
+
+-- names that stand for values have no arguments
+pub values-met : (c : Context) (scope : declared_scope.TermScope) (whole : Occurrence) → HasValues scope → IsScopeMet c scope whole
+values-met c Empty whole v = tt
+values-met c (Values' variables values p outer) whole v = values-met c outer whole v
+values-met c (Arguments' parameters arguments n p user) whole v = absurd v
+
+-- ---- assignments
+
+pub taken-in : {X Y : Type 0} (g : X → Y) (k : ℕ) (xs : List X) (y : Y) → Contains (map g (take k xs)) y → Contains (map g xs) y
+taken-in g zero xs y h = absurd (omega (arith, h.1))
+taken-in g (suc k) [] y h = absurd (omega (arith, h.1))
+taken-in g (suc k) (x ∷ xs) y (zero, within, e) = (zero, omega arith, e)
+taken-in g (suc k) (x ∷ xs) y (suc j, within, e) = behind-in (g x) (map g xs) y (taken-in g k xs y (j, omega (arith, within), e))
+
+no-indices : (c : Context) (n : ℕ) (ρ : TermScope) (given : List Argument) (p : Place) → HaveOutside (surroundings_in c) n ρ (argument_forms given) [] p → ⊥
+no-indices c n ρ [] p h = h
+no-indices c n ρ (a ∷ given) p h = h
+
+-- an index of what is assigned to is one of what is read
+pub assigned-read : (c : Context) (n : ℕ) (ρ : TermScope) (f : Named) (given : List Argument) (x : Name) (indices : List Variable) → AreIndices c x indices → x ≡ f.text → (p : Place)
+    → HaveOutside (surroundings_in c) n ρ (argument_forms given) (map variable_of indices) p
+    → IsIndexFault (surroundings_in c) (at n ρ (TermForm.application f (argument_forms given))) p
+assigned-read c n ρ f given x indices (inl e) same p o =
+    absurd (no-indices c n ρ given p (subst (λ (vs : List Variable). HaveOutside (surroundings_in c) n ρ (argument_forms given) (map variable_of vs) p) e o))
+assigned-read c n ρ f given x indices (inr (y, there, name, e)) same p o = (
+  at n ρ (TermForm.application f (argument_forms given)),
+  Itself,
+  (
+    state_variable_of y,
+    mapped-in state_variable_of c.variables.items y there,
+    name ∙ same,
+    subst (λ (vs : List Variable). HaveOutside (surroundings_in c) n ρ (argument_forms given) (map variable_of vs) p) e o,
+  ),
+)
+
+-- the first argument isn't seen to stay inside
+pub not-inside-outside : (c : Context) (n : ℕ) (ρ : TermScope) (whole : Occurrence) (is : List Variable) (given : List Argument) (a : Argument) (t : Term) → Some a ≡ slice_get given 0
+    → t ≡ folded (spec_in c) false (put_in (spec_in c) (forms_in c n) ρ (erased_term (term_form a.term))) → (IsSeenInside c is t → ⊥)
+    → HaveOutside (surroundings_in c) n ρ (argument_forms given) (map variable_of is) a.place
+not-inside-outside c n ρ whole [] given a t there same h = absurd (h tt)
+not-inside-outside c n ρ whole (i ∷ is) given a t there same h =
+    first-outside c n ρ whole (i ∷ is) given i a refl there (λ seen. h (subst (λ (u : Term). IsSeenWithin (interval_in c u) (sort_interval (spec_in c) i.sort.now)) (sym same) seen))

@@ -1,0 +1,140 @@
+-- What the fault of a term tells, where the term is met when another one is unfolded.
+use Rattle.std.specs.Prelude.{◌≡◌, ◌<◌, ◌⊎◌, ℕ, List, [], map, Contains, Result, IfErr, string_bytes}
+use Rattle.std.specs.List.{slice_get}
+use Rattle.std.specs.Prelude.{Some}
+use Rattle.pb_errors.specs.OrMemory.{IfFault}
+use Rattle.pb_errors.specs.declared.or_memory.OrMemory.{OrMemory}
+use Rattle.pb_text_tree.specs.declared.place.Place.{Place}
+use Rattle.pb_text_tree.specs.declared.term.Argument as declared_argument
+use Rattle.pb_text_tree.specs.Form.{TermForm, argument_forms, term_form}
+use Rattle.pb_text_meaning.specs.Syntax.{Name, Term}
+use Rattle.pb_unfolding.specs.PutIn.{TermScope, standing}
+use Rattle.pb_unfolding.specs.Unfolding.{terms_of}
+use Rattle.pb_unfolder_terms.specs.declared.connectives.Copies as declared_copies
+use Rattle.pb_unfolder_terms.specs.declared.context.Context as declared_context
+use Rattle.pb_unfolder_terms.specs.declared.context.Definition as declared_definition
+use Rattle.pb_unfolder_terms.specs.declared.context.StateVariable as declared_state
+use Rattle.pb_unfolder_terms.specs.declared.context.Meant as declared_meant
+use Rattle.pb_unfolder_terms.specs.declared.context.Meant.TheVariants as meant
+use Rattle.pb_unfolder_terms.specs.declared.fault.UnfoldFault.{UnfoldFault}
+use Rattle.pb_unfolder_terms.specs.declared.fault.UnfoldRule.{UnfoldRule}
+use Rattle.pb_unfolder_terms.specs.declared.fault.UnfoldRule.TheVariants as rule
+use Rattle.pb_unfolder_terms.specs.declared.scope.Found as declared_found
+use Rattle.pb_unfolder_terms.specs.declared.scope.Found.TheVariants as found
+use Rattle.pb_unfolder_terms.specs.declared.scope.TermScope as declared_scope
+use Rattle.pb_unfolder_terms.specs.declared.scope.TermScope.TheVariants.{Empty, Values', Arguments'}
+use Rattle.pb_unfolder_terms.specs.declared.sorts.Variable as declared_variable
+use Rattle.pb_unfolder_terms.specs.Contexts.{definition_of, forms_in, spec_in, state_variable_of}
+use Rattle.pb_unfolder_terms.specs.Met.{HaveOutside, IsIndexFault, IsMet, Occurrence, Surroundings}
+use Rattle.pb_unfolder_terms.specs.Met.{at}
+use Rattle.pb_unfolder_terms.specs.Scopes.{scope_of}
+use Rattle.pb_unfolder_terms.specs.Values.{tuple_of}
+use Rattle.pb_unfolder_terms.specs.View.{variable_of}
+
+-- ---- faults
+
+-- by the rule of indices an array is read at an index outside; by the others nothing is said
+abbrev pub Breaks : Surroundings → Occurrence → UnfoldRule → Place → Type 0
+Breaks m whole rule.Index p = IsIndexFault m whole p
+Breaks m whole r p = Unit {0}
+
+-- what a fault says of the term that is unfolded
+abbrev pub IsFaultOf : Surroundings → Occurrence → OrMemory UnfoldFault → Type 0
+IsFaultOf m whole error = IfFault error (λ fault. Breaks m whole fault.rule fault.place)
+
+-- ---- as the code holds it
+
+abbrev pub placed_term : declared_definition.Definition → TermForm
+placed_term d = term_form d.term.now
+
+abbrev pub surroundings_in : declared_context.Context → Surroundings
+surroundings_in c = record {
+  spec = spec_in c;
+  variables = map state_variable_of c.variables.items;
+  definitions = map definition_of c.definitions.items;
+  terms = map placed_term c.definitions.items;
+}
+
+abbrev pub scope_said : declared_context.Context → declared_scope.TermScope → TermScope
+scope_said c scope = scope_of (spec_in c) (forms_in c) scope
+
+abbrev pub IsMetAt :
+    declared_context.Context → ℕ → TermScope → TermForm → Occurrence → Type 0
+IsMetAt c n ρ x whole = IsMet (surroundings_in c) whole (at n ρ x)
+
+abbrev pub AreMetAt :
+    declared_context.Context → ℕ → TermScope → List declared_argument.Argument → Occurrence →
+    Type 0
+AreMetAt c n ρ arguments whole =
+    (a : declared_argument.Argument) → Contains arguments a
+    → IsMetAt c n ρ (term_form a.term) whole
+
+-- the arguments that names stand for are met
+abbrev pub IsScopeMet :
+    declared_context.Context → declared_scope.TermScope → Occurrence → Type 0
+IsScopeMet c Empty whole = Unit {0}
+IsScopeMet c (Values' variables values p outer) whole = IsScopeMet c outer whole
+IsScopeMet c (Arguments' parameters arguments n p user) whole =
+    AreMetAt c n (scope_said c user) arguments.now whole × IsScopeMet c user whole
+
+-- ---- what is met, of each part that is unfolded
+
+abbrev pub IsTermMet :
+    declared_context.Context → ℕ → declared_scope.TermScope → TermForm → Occurrence → Type 0
+IsTermMet c n scope x whole =
+    IsMetAt c n (scope_said c scope) x whole × IsScopeMet c scope whole
+
+abbrev pub AreArgumentsMet :
+    declared_context.Context → ℕ → declared_scope.TermScope → List declared_argument.Argument →
+    Occurrence → Type 0
+AreArgumentsMet c n scope arguments whole =
+    AreMetAt c n (scope_said c scope) arguments whole × IsScopeMet c scope whole
+
+-- and where one of the arguments is outside, that is the whole's fault
+abbrev pub IsReadMet :
+    declared_context.Context → ℕ → declared_scope.TermScope → List declared_argument.Argument →
+    List declared_variable.Variable → Occurrence → Type 0
+IsReadMet c n scope arguments indices whole =
+    AreArgumentsMet c n scope arguments whole
+    × ((p : Place) → HaveOutside (surroundings_in c) n (scope_said c scope)
+    (argument_forms arguments) (map variable_of indices) p
+    → IsIndexFault (surroundings_in c) whole p)
+
+-- the body with each of these tuples of values
+abbrev pub AreCopiesMet :
+    declared_context.Context → ℕ → declared_scope.TermScope → declared_copies.Copies → TermForm →
+    Occurrence → Type 0
+AreCopiesMet c n scope copies x whole =
+    ((ks : List Term) → Contains (map tuple_of copies.tuples.now) ks
+    → IsMetAt c n (standing (map variable_of copies.variables.now) (terms_of ks)
+    (scope_said c scope)) x whole)
+    × IsScopeMet c scope whole
+
+-- what a name stands for
+abbrev pub IsFoundMet : declared_context.Context → declared_found.Found → Occurrence → Type 0
+IsFoundMet c (found.Argument term n user) whole =
+    IsTermMet c n user.now (term_form term.now) whole
+IsFoundMet c f whole = Unit {0}
+
+-- where it is met, an error is a fault of the whole
+abbrev pub Tells : {A : Type 0} →
+    declared_context.Context → Result A (OrMemory UnfoldFault) → (Occurrence → Type 0) → Type 0
+Tells c result Met =
+    (whole : Occurrence) → Met whole → IfErr result (IsFaultOf (surroundings_in c) whole)
+
+-- ---- what names mean
+
+-- the indices of a state variable of this name, or none
+abbrev pub AreIndices :
+    declared_context.Context → Name → List declared_variable.Variable → Type 0
+AreIndices c x indices =
+    (indices ≡ []) ⊎ ((y : declared_state.StateVariable) × Contains c.variables.items y
+    × (string_bytes y.name.now.text ≡ x) × (indices ≡ y.indices.items))
+
+-- a definition of this name among the first n, or a state variable of this name
+abbrev pub IsNamed : declared_context.Context → ℕ → Name → declared_meant.Meant → Type 0
+IsNamed c n x meant.Neither = Unit {0}
+IsNamed c n x (meant.Definition d k) =
+    (k < n) × (slice_get c.definitions.items k ≡ Some d.now) × (d.now.name.now ≡ x)
+IsNamed c n x (meant.Variable y) =
+    Contains c.variables.items y.now × (string_bytes y.now.name.now.text ≡ x)
