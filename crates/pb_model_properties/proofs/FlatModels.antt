@@ -49,7 +49,7 @@ use Rattle.pb_model_properties.specs.Flat.{IsFlatModelFor, IsUnfoldedTo}
 use Rattle.pb_model_properties.specs.Refusals.{IsRefusedProtocol, told_at, told_place}
 use Rattle.pb_model_properties.specs.Refusals.{step_place as step_place_of}
 use Rattle.pb_model_properties.specs.Solvable.{CanBeSolved}
-use Rattle.pb_model_properties.specs.Words.{AreNamesOf, words_where}
+use Rattle.pb_model_properties.specs.Words.{AreNamesOf, impossible_where, words_where}
 
 -- ---- words
 
@@ -149,10 +149,16 @@ unfolded_is_flat laws protocol u solvable is =
 
 -- told by the protocol's names
 pub unfolded_names : (protocol : ProtocolForm) (u : Unfolded) (names : ToldNames) → is_plain protocol ≡ false → IsUnfoldedTo protocol u
-    → names.variables ≡ u.variables → map string_bytes names.steps.items ≡ map origin_name u.steps.items → AreNamesOf protocol (model_form u.model) (Some names)
-unfolded_names protocol u names unfolds is variables steps =
-    ap₂ (told_vocabulary (model_form u.model)) (ap (λ (xs : _). map string_bytes xs.items) variables ∙ is.told_variables) (steps ∙ is.told_steps)
-    ∙ ap (λ (b : Bool). words_where b (erase protocol) (model_form u.model)) (sym unfolds)
+    → names.variables ≡ u.variables → map string_bytes names.steps.items ≡ map origin_name u.steps.items → names.impossible ≡ u.impossible
+    → AreNamesOf protocol (model_form u.model) (Some names)
+unfolded_names protocol u names unfolds is variables steps impossible = record {
+  words =
+      ap₂ (told_vocabulary (model_form u.model)) (ap (λ (xs : _). map string_bytes xs.items) variables ∙ is.told_variables) (steps ∙ is.told_steps)
+      ∙ ap (λ (b : Bool). words_where b (erase protocol) (model_form u.model)) (sym unfolds);
+  impossible =
+      ap (λ (xs : _). map string_bytes xs.items) impossible ∙ is.impossible
+      ∙ ap (λ (b : Bool). impossible_where b (erase protocol)) (sym unfolds);
+}
 
 -- ---- refusals
 

@@ -32,7 +32,7 @@ use Rattle.pb_model_properties.specs.Said.{IsTheReading}
 use Rattle.pb_model_properties.specs.Solvable.{CanBeSolved}
 use Rattle.pb_model_properties.specs.Flat.{IsFlatModelFor}
 use Rattle.pb_model_properties.specs.declared.solved.SolvedModel.{SolvedModel}
-use Rattle.pb_model_properties.specs.Words.{AreNamesOf, IsToldModel, IsToldModelOf, words_where}
+use Rattle.pb_model_properties.specs.Words.{AreNamesOf, IsToldModel, IsToldModelOf, impossible_where, words_where}
 use Rattle.pb_model_properties.proofs.PlainWords.{model_has, plain_places, plain_steps, property_among, property_has}
 use Rattle.pb_model_properties.proofs.SolvedModels.{as_it_is}
 
@@ -73,7 +73,10 @@ plain_is_flat law protocol m is plainly =
 
 -- and its words are its own
 pub plain_names_of : (protocol : ProtocolForm) (m : ModelForm) → is_plain protocol ≡ true → AreNamesOf protocol m None
-plain_names_of protocol m plainly = ap (λ (b : Bool). words_where b (erase protocol) m) (sym plainly)
+plain_names_of protocol m plainly = record {
+  words = ap (λ (b : Bool). words_where b (erase protocol) m) (sym plainly);
+  impossible = ap (λ (b : Bool). impossible_where b (erase protocol)) (sym plainly);
+}
 
 -- it has as many variables as the protocol
 pub plain_few : (protocol : ProtocolForm) (m : ModelForm) → protocol ≡ plain_form m → nat_lt MAX_PARAMETERS (length protocol.variables) ≡ false → has_many_variables m ≡ false
@@ -134,5 +137,5 @@ refused_of bytes protocol read (Err Memory) h = tt
 
 pub model_of_bytes : (bytes : List ℕ) (protocol : ProtocolForm) → IsTheReading bytes protocol → (r : Result SolvedModel (OrMemory ModelFault))
     → IfOk r (IsToldModel protocol) → IfOk r (IsToldModelOf bytes)
-model_of_bytes bytes protocol read (Ok x) h = record { said = record { protocol = protocol; read = read; is_for = h.is_for }; words = h.words }
+model_of_bytes bytes protocol read (Ok x) h = record { said = record { protocol = protocol; read = read; is_for = h.is_for }; words = h.words; impossible = h.impossible }
 model_of_bytes bytes protocol read (Err e) h = tt

@@ -61,7 +61,8 @@ flat_told said m t names few kept typed protocol is called =
         apart = flat.apart;
         sayable = can_be_said said (model_form t.model) flat.writable flat.formulas;
       };
-      words = subst (λ (x : Model). AreNamesOf protocol (model_form x) names) (sym kept) called;
+      words = (subst (λ (x : Model). AreNamesOf protocol (model_form x) names) (sym kept) called).words;
+      impossible = called.impossible;
     }
 
 -- ---- the flat model packed
@@ -107,7 +108,8 @@ packed_told laws u n t names many kept typed is_packed groups protocol is called
         apart = λ p among. All-contains (StandsApart (model_form t.model)) (model_form t.model).properties p apart among;
         sayable = can_be_said laws.said (model_form t.model) writable (λ p among. All-contains HasWords (model_form t.model).properties p words among);
       };
-      words = ap₂ packed_vocabulary groups called;
+      words = ap₂ packed_vocabulary groups called.words;
+      impossible = called.impossible;
     }
 
 -- ---- refusals

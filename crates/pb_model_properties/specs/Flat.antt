@@ -26,7 +26,8 @@ abbrev pub origin_place : StepOrigin → Place
 origin_place origin = origin.place
 
 -- What a protocol is unfolded to: a model with its properties by name, whose steps stand on lines
--- of their own, and the names by which its variables and steps are told.
+-- of their own, the names by which its variables and steps are told, and those of the protocol's
+-- steps that come to none.
 pub record IsUnfoldedTo (protocol : ProtocolForm) (u : Unfolded) : Type 0 where
   pub meaning : model_text.erase (model_form u.model) ≡ flat_model (erase protocol)
   pub hides_nothing : HidesNothing (erase protocol)
@@ -35,6 +36,8 @@ pub record IsUnfoldedTo (protocol : ProtocolForm) (u : Unfolded) : Type 0 where
   pub places : HavePlacesOf protocol (model_form u.model)
   pub told_variables : map string_bytes u.variables.items ≡ told.told_variables (erase protocol)
   pub told_steps : map origin_name u.steps.items ≡ told.told_steps (erase protocol)
+  pub impossible :
+      map string_bytes u.impossible.items ≡ told.impossible_steps (erase protocol)
 
 -- A flat model of the protocol that may be solved in its place. It has a property; the names of its
 -- steps stand at places of their own, and its names are words.

@@ -1,12 +1,14 @@
 -- The words in which the model is told that is solved in a protocol's place.
-use Rattle.std.specs.Prelude.{◌≡◌, ℕ, Bool, true, false, List, Option, Some, None, map}
+use Rattle.std.specs.Prelude.{◌≡◌, ℕ, Bool, true, false, List, [], Option, Some, None, map}
 use Rattle.std.specs.Prelude.{string_bytes}
+use Rattle.pb_text_meaning.specs.Syntax.{Name}
 use Rattle.pb_model_tree.specs.Form.{ModelForm, model_form}
 use Rattle.pb_model_meaning.specs.Erase as model_text
 use Rattle.pb_protocol_tree.specs.Form.{ProtocolForm}
 use Rattle.pb_protocol_meaning.specs.Syntax.{Protocol}
 use Rattle.pb_protocol_meaning.specs.Erase.{erase}
 use Rattle.pb_unfolder.specs.Plain.{is_plain}
+use Rattle.pb_unfolder.specs.Told as told
 use Rattle.pb_unfolder.specs.Told.{told_steps, told_variables}
 use Rattle.pb_packing.specs.Groups.{groups_of}
 use Rattle.pb_packer.specs.Groups.{groups_in}
@@ -55,15 +57,32 @@ words_by (Some unpacked) model names =
 abbrev pub words_in : SolvedModel → Vocabulary
 words_in solved = words_by solved.unpacked (model_form solved.typed.model) solved.names
 
+-- the names of the protocol's steps that come to no step of its flat model: none of a plain
+-- protocol, and of another those that with none of their values may be taken
+abbrev pub impossible_where : Bool → Protocol → List Name
+impossible_where true protocol = []
+impossible_where false protocol = told.impossible_steps protocol
+
+abbrev pub impossible_steps : ProtocolForm → List Name
+impossible_steps protocol = impossible_where (is_plain protocol) (erase protocol)
+
+-- those that are told beside these names
+abbrev pub impossible_in : Option ToldNames → List Name
+impossible_in None = []
+impossible_in (Some names) = map string_bytes names.impossible.items
+
 -- the names are those by which a flat model of the protocol is told
-abbrev pub AreNamesOf : ProtocolForm → ModelForm → Option ToldNames → Type 0
-AreNamesOf protocol flat names = words_with flat names ≡ flat_words protocol flat
+pub record AreNamesOf (protocol : ProtocolForm) (flat : ModelForm) (names : Option ToldNames)
+    : Type 0 where
+  pub words : words_with flat names ≡ flat_words protocol flat
+  pub impossible : impossible_in names ≡ impossible_steps protocol
 
 -- the model is solved in the protocol's place, and its words are the protocol's
 pub record IsToldModel (protocol : ProtocolForm) (solved : SolvedModel) : Type 0 where
   pub is_for : IsModelFor protocol (model_form solved.typed.model)
   pub words :
       words_in solved ≡ words_of protocol (model_form solved.typed.model) is_for.made
+  pub impossible : impossible_in solved.names ≡ impossible_steps protocol
 
 -- so it is with the protocol that the bytes say
 pub record IsToldModelOf (bytes : List ℕ) (solved : SolvedModel) : Type 0 where
@@ -71,6 +90,7 @@ pub record IsToldModelOf (bytes : List ℕ) (solved : SolvedModel) : Type 0 wher
   pub words :
       words_in solved
       ≡ words_of said.protocol (model_form solved.typed.model) said.is_for.made
+  pub impossible : impossible_in solved.names ≡ impossible_steps said.protocol
 
 -- it is the model for whatever protocol the flat one is for and these names are of
 abbrev pub IsSolvedFlat : ModelForm → Option ToldNames → SolvedModel → Type 0

@@ -1,9 +1,9 @@
 //! The model that is solved in a protocol's place, with the names by which users are told of it.
 
-ghost use Rattle.std.specs.Prelude.{◌≡◌, IfOk};
+ghost use Rattle.std.specs.Prelude.{◌≡◌, map, string_bytes, IfOk};
 ghost use Rattle.pb_model_tree.specs.Form.{model_form};
 ghost use Rattle.pb_model_words.specs.View.{vocabulary_of};
-ghost use Rattle.pb_model_properties.specs.Words.{words_in, words_with};
+ghost use Rattle.pb_model_properties.specs.Words.{impossible_in, words_in, words_with};
 
 use pb_model_tree::Model;
 use pb_model_typing::TypedModel;
@@ -12,13 +12,15 @@ use pb_packer::Group;
 use pb_text_tree::Place;
 use std::alloc::{AllocError, Global};
 
-/// What an unfolded model's variables and steps are called, in order, and where the names of the
-/// steps stand in the protocol.
+/// What an unfolded model's variables and steps are called, in order, where the names of the steps
+/// stand in the protocol, and which of the protocol's steps come to none: with none of their values
+/// may they be taken.
 #[derive(Debug, Drop)]
 pub struct ToldNames {
     pub variables: Vec<String>,
     pub steps: Vec<String>,
     pub places: Vec<Place>,
+    pub impossible: Vec<String>,
 }
 
 /// A flat model whose variables are packed, and the groups that they are packed in.
@@ -48,6 +50,18 @@ fn flat_words<'a>(
     match names {
         None => plain_vocabulary(alloc, model),
         Some(names) => told_vocabulary(alloc, model, &names.variables, &names.steps),
+    }
+}
+
+impl SolvedModel {
+    /// The names of the protocol's steps that come to none in the model, in order.
+    pub fn impossible_steps(&self) -> &[String]
+        ensures { map string_bytes result.now ≡ impossible_in self.now.names }
+    {
+        match &self.names {
+            None => &[],
+            Some(names) => &names.impossible,
+        }
     }
 }
 

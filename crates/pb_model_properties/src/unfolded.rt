@@ -56,6 +56,7 @@ pub(crate) fn unfolded_solved(alloc: Global, protocol: &Protocol) -> Result<Solv
         variables: unfolded.variables,
         steps,
         places,
+        impossible: unfolded.impossible,
     };
     flat_solved(alloc, unfolded.model, Some(names))
 }

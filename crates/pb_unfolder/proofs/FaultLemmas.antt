@@ -8,20 +8,15 @@ use Rattle.pb_errors.specs.declared.or_memory.OrMemory.{OrMemory}
 use Rattle.pb_errors.specs.declared.or_memory.OrMemory.TheVariants.{Refused, Memory}
 use Rattle.pb_text_tree.specs.declared.place.Place.{Place}
 use Rattle.pb_protocol_tree.specs.Form.{ProtocolForm}
+pub use Rattle.pb_unfolder_terms.proofs.MetLemmas.{behind-in, first-in, item-in}
 use Rattle.pb_unfolder_steps.specs.declared.fault.StepsFault.{StepsFault}
 use Rattle.pb_unfolder.specs.declared.fault.UnfoldingFault.{UnfoldingFault}
 use Rattle.pb_unfolder.specs.declared.fault.UnfoldingRule.{UnfoldingRule}
 use Rattle.pb_unfolder.specs.declared.fault.UnfoldingRule.TheVariants as rule
-use Rattle.pb_unfolder.specs.Faults.{Breaks, IsNameFault, IsUnfoldingFault, IsValueFault}
-use Rattle.pb_unfolder.specs.Parts.{AtNone, InPart, IsFaultIn, IsFaultOfTerm, IsOfNames, IsOfSteps}
+use Rattle.pb_unfolder.specs.Faults.{Breaks, IsFaultOfProperties, IsIndexFault, IsNameFault, IsUnfoldingFault, OfIndex, OfValue}
+use Rattle.pb_unfolder.specs.Parts.{AtNone, ByRule, InPart, IsFaultBy, IsFaultIn, IsFaultOfModel, IsFaultOfTerm, IsOfNames, IsOfSteps}
 
 -- ---- members of lists
-
-pub first-in : {X : Type 0} (x : X) (xs : List X) → Contains (x ∷ xs) x
-first-in x xs = (0, omega arith, refl)
-
-pub behind-in : {X : Type 0} (y : X) (xs : List X) (x : X) → Contains xs x → Contains (y ∷ xs) x
-behind-in y xs x h = (suc h.0, omega (arith, h.1), h.2)
 
 pub first-or-behind : {X : Type 0} (y : X) (xs : List X) (x : X) → Contains (y ∷ xs) x → (y ≡ x) ⊎ Contains xs x
 first-or-behind y xs x (zero, low, e) = inl e
@@ -50,10 +45,10 @@ at-item {X = X} g xs k x within is =
     mapped [] = refl
     mapped (y ∷ ys) = ap suc (mapped ys)
 
-pub item-in : {X : Type 0} (xs : List X) (k : ℕ) (x : X) → k < length xs → x ≡ get_or xs k x → Contains xs x
-item-in xs k x within is = (k, within, sym is)
-
 -- ---- by the rule
+
+value-not-index : rule.Value ≡ rule.Index → ⊥
+value-not-index e = cc
 
 in-rule : (P Q : Place → Type 0) → ((p : Place) → P p → Q p) → (r : UnfoldingRule) (p : Place) → InPart P r p → InPart Q r p
 in-rule P Q to rule.Names p is = is
@@ -92,23 +87,95 @@ part-so P Q r to is = refused-so (IsFaultIn P) (IsFaultIn Q) r (fault-in P Q to)
 pub of-term : {A : Type 0} (r : Result A (OrMemory UnfoldingFault)) (e : OrMemory UnfoldingFault) (Q : Place → Type 0) → IsErrAnd r (λ d. d ≡ e) → IfFault e IsFaultOfTerm → IfRefused r (IsFaultIn Q)
 of-term r e Q h is = part r e AtNone Q h (λ p none. absurd none) is
 
+-- ---- of values and indices
+
+by-rule : (P Q : Type 0) → (P → Q) → (r : UnfoldingRule) → ByRule r P → ByRule r Q
+by-rule P Q to rule.Names is = is
+by-rule P Q to rule.Value is = to is
+by-rule P Q to rule.Index is = to is
+by-rule P Q to rule.Count is = is
+by-rule P Q to rule.Operators is = is
+
+pub fault-by : (P Q : UnfoldingFault → Type 0) → ((f : UnfoldingFault) → P f → Q f) → (f : UnfoldingFault) → IsFaultBy P f → IsFaultBy Q f
+fault-by P Q to f is = by-rule (P f) (Q f) (to f) f.rule is
+
+pub part-by : {A : Type 0} (r : Result A (OrMemory UnfoldingFault)) (e : OrMemory UnfoldingFault) (P Q : UnfoldingFault → Type 0) → IsErrAnd r (λ d. d ≡ e) → ((f : UnfoldingFault) → P f → Q f) → IfFault e (IsFaultBy P) → IfRefused r (IsFaultBy Q)
+part-by r e P Q h to is = refused r e (IsFaultBy P) (IsFaultBy Q) h (fault-by P Q to) is
+
+pub part-by-so : {A : Type 0} (P Q : UnfoldingFault → Type 0) (r : Result A (OrMemory UnfoldingFault)) → ((f : UnfoldingFault) → P f → Q f) → IfRefused r (IsFaultBy P) → IfRefused r (IsFaultBy Q)
+part-by-so P Q r to is = refused-so (IsFaultBy P) (IsFaultBy Q) r (fault-by P Q to) is
+
+-- the fault of something too large is one of anything
+too-large : (Q : UnfoldingFault → Type 0) (f : UnfoldingFault) → IsFaultOfTerm f → IsFaultBy Q f
+too-large Q f is = by f.rule is
+  where
+    by : (r : UnfoldingRule) → InPart AtNone r f.place → ByRule r (Q f)
+    by rule.Names is = is
+    by rule.Value is = absurd is
+    by rule.Index is = absurd is
+    by rule.Count is = is
+    by rule.Operators is = tt
+
+pub of-term-by : {A : Type 0} (r : Result A (OrMemory UnfoldingFault)) (e : OrMemory UnfoldingFault) (Q : UnfoldingFault → Type 0) → IsErrAnd r (λ d. d ≡ e) → IfFault e IsFaultOfTerm → IfRefused r (IsFaultBy Q)
+of-term-by r e Q h is = refused r e IsFaultOfTerm (IsFaultBy Q) h (too-large Q) is
+
+-- one of a value, by its rule
+value-by : (P : Place → Type 0) (Q : UnfoldingFault → Type 0) → ((f : UnfoldingFault) → OfValue P f → Q f) → (f : UnfoldingFault) → IsFaultIn P f → IsFaultBy Q f
+value-by P Q to f is = by f.rule refl is
+  where
+    by : (r : UnfoldingRule) → f.rule ≡ r → InPart P r f.place → ByRule r (Q f)
+    by rule.Names e is = is
+    by rule.Value e is = to f (e, is)
+    by rule.Index e is = absurd is
+    by rule.Count e is = is
+    by rule.Operators e is = tt
+
+pub of-value-by : {A : Type 0} (r : Result A (OrMemory UnfoldingFault)) (e : OrMemory UnfoldingFault) (P : Place → Type 0) (Q : UnfoldingFault → Type 0) → IsErrAnd r (λ d. d ≡ e) → ((f : UnfoldingFault) → OfValue P f → Q f) → IfFault e (IsFaultIn P) → IfRefused r (IsFaultBy Q)
+of-value-by r e P Q h to is = refused r e (IsFaultIn P) (IsFaultBy Q) h (value-by P Q to) is
+
 -- ---- what it says of the protocol
 
 pub names-break : (m : ProtocolForm) (P : Place → Type 0) → ((p : Place) → P p → IsNameFault m p) → (f : UnfoldingFault) → IsOfNames P f → IsUnfoldingFault m f
 names-break m P to f is = subst (λ (r : UnfoldingRule). Breaks m r f.place) (sym is.0) (to f.place is.1)
 
-part-rule : (m : ProtocolForm) (P : Place → Type 0) → ((p : Place) → P p → IsValueFault m p) → (r : UnfoldingRule) (p : Place) → InPart P r p → Breaks m r p
-part-rule m P to rule.Names p is = absurd is
-part-rule m P to rule.Value p is = to p is
-part-rule m P to rule.Index p is = is
-part-rule m P to rule.Count p is = absurd is
-part-rule m P to rule.Operators p is = is
-
-pub part-breaks : (m : ProtocolForm) (P : Place → Type 0) → ((p : Place) → P p → IsValueFault m p) → (f : UnfoldingFault) → IsFaultIn P f → IsUnfoldingFault m f
-part-breaks m P to f is = part-rule m P to f.rule f.place is
-
 pub term-breaks : (m : ProtocolForm) (f : UnfoldingFault) → IsFaultOfTerm f → IsUnfoldingFault m f
-term-breaks m f is = part-breaks m AtNone (λ p none. absurd none) f is
+term-breaks m f is = by f.rule is
+  where
+    by : (r : UnfoldingRule) → InPart AtNone r f.place → Breaks m r f.place
+    by rule.Names is = absurd is
+    by rule.Value is = absurd is
+    by rule.Index is = absurd is
+    by rule.Count is = absurd is
+    by rule.Operators is = tt
+
+-- where the rule is that of indices, it is one of an index
+pub index-breaks : (m : ProtocolForm) (P : Place → Type 0) → ((p : Place) → P p → IsIndexFault m p) → (f : UnfoldingFault) → IsFaultBy (OfIndex P) f → IsUnfoldingFault m f
+index-breaks m P to f is = by f.rule refl is
+  where
+    other : (r : UnfoldingRule) → f.rule ≡ r → f.rule ≡ rule.Index → r ≡ rule.Index
+    other r e o = sym e ∙ o
+
+    by : (r : UnfoldingRule) → f.rule ≡ r → ByRule r (OfIndex P f) → Breaks m r f.place
+    by rule.Names e is = absurd is
+    by rule.Value e is = absurd (value-not-index (other rule.Value e is.0))
+    by rule.Index e is = to f.place is.1
+    by rule.Count e is = absurd is
+    by rule.Operators e is = tt
+
+pub model-breaks : (m : ProtocolForm) (f : UnfoldingFault) → IsFaultBy (IsFaultOfModel m m m.properties) f → IsUnfoldingFault m f
+model-breaks m f is = by f.rule refl is
+  where
+    as-it-is : (r : UnfoldingRule) → f.rule ≡ r → f ≡ record { rule = r; place = f.place }
+    as-it-is r e = ap (λ (s : UnfoldingRule). record { rule = s; place = f.place }) e
+
+    by : (r : UnfoldingRule) → f.rule ≡ r → ByRule r (IsFaultOfModel m m m.properties f) → Breaks m r f.place
+    by rule.Names e is = absurd is
+    by rule.Value e (inl o) = absurd (value-not-index (sym e ∙ o.0))
+    by rule.Value e (inr o) = subst (IsFaultOfProperties m m.properties) (as-it-is rule.Value e) o
+    by rule.Index e (inl o) = inr (inl o.1)
+    by rule.Index e (inr o) = inr (inr (subst (IsFaultOfProperties m m.properties) (as-it-is rule.Index e) o))
+    by rule.Count e is = absurd is
+    by rule.Operators e is = tt
 
 -- what a fault of the state or of steps becomes
 pub raised-so : (P : StepsFault → Type 0) (Q : UnfoldingFault → Type 0) (e : OrMemory StepsFault) (above : OrMemory UnfoldingFault)
@@ -117,3 +184,8 @@ raised-so P Q (Refused s) (Refused f) to gives is = to s f gives is
 raised-so P Q (Refused s) Memory to gives is = tt
 raised-so P Q Memory (Refused f) to gives is = absurd gives
 raised-so P Q Memory Memory to gives is = tt
+
+-- both of what a call says of an error
+pub both-of : (P Q : StepsFault → Type 0) (e : OrMemory StepsFault) → IfFault e P → IfFault e Q → IfFault e (λ s. P s × Q s)
+both-of P Q (Refused s) p q = (p, q)
+both-of P Q Memory p q = tt

@@ -1,6 +1,8 @@
 mod ApartLemmas
 mod Chains
 mod FormulaLemmas
+mod ImpossibleLaw
+mod ImpossibleLemmas
 mod Groups
 mod PlainChains
 mod PlainLaws

@@ -14,7 +14,7 @@ use Rattle.pb_protocol_tree.specs.declared.step_set.StepSetLink.{StepSetLink}
 use Rattle.pb_protocol_tree.specs.declared.formula.Formula as formula
 use Rattle.pb_protocol_tree.specs.declared.formula.Formula.{Formula}
 use Rattle.pb_protocol_tree.specs.declared.formula.Link.{Link}
-use Rattle.pb_protocol_tree.specs.Form.{FormulaForm, StepSetForm, StepValueForm, formula_form, step_set_form}
+use Rattle.pb_protocol_tree.specs.Form.{FormulaForm, ProtocolForm, StepSetForm, StepValueForm, formula_form, step_set_form}
 use Rattle.pb_protocol_meaning.specs.Syntax.{Protocol}
 use Rattle.pb_unfolding.specs.PutIn.{TermScope, term_of}
 use Rattle.pb_unfolder.specs.declared.fault.UnfoldingFault.{UnfoldingFault}
@@ -86,6 +86,7 @@ module _ (m : Protocol) (ρ : TermScope) (p : Place) where
       ∙ sym (ap step_set_form is ∙ union-form b v))
       (united own (step_set_form x) ls fault)
 
+module _ (m : ProtocolForm) (ρ : TermScope) (p : UnfoldingFault) where
   linked-fault : (c : Connective) (f : FormulaForm) (ls : List Link) → IsFaultOfFormula m ρ f p ⊎ IsFaultOfLinks m ρ ls p
       → IsFaultOfFormula m ρ (chained (FormulaForm.connected c) f (map link_form ls)) p
   linked-fault c f [] (inl is) = is

@@ -16,6 +16,8 @@ use Rattle.pb_unfolding.specs.Unfolding.{Instance, all_elements, instance_name, 
 use Rattle.pb_unfolding.specs.Unfolding.{terms_of}
 use Rattle.pb_unfolding.specs.Written.{written_tuples}
 use Rattle.pb_unfolder_steps.specs.declared.limits.TheConstants.{MAX_ELEMENTS, MAX_WRITTEN_STEPS}
+use Rattle.pb_unfolder_terms.specs.TermFaults.{IsOutsideIn, surroundings_of}
+use Rattle.pb_unfolder_steps.specs.Outside.{IsOutsideAtStart, IsOutsideInSteps, placed_instances}
 use Rattle.pb_unfolder_steps.specs.Refusals.{element_places, instance_places}
 use Rattle.pb_unfolder.specs.declared.fault.UnfoldingFault.{UnfoldingFault}
 use Rattle.pb_unfolder.specs.declared.fault.UnfoldingRule.{UnfoldingRule}
@@ -91,36 +93,57 @@ abbrev pub IsFaultOfSteps :
 IsFaultOfSteps m ρ steps A p =
     (i : Instance) × Contains steps i × IsFaultOfSet m ρ i.own A p
 
--- in a formula, or in a copy of it
-abbrev pub IsFaultOfFormula : Protocol → TermScope → FormulaForm → Place → Type 0
-IsFaultOfFormula m ρ (FormulaForm.constant q b) p = ⊥
-IsFaultOfFormula m ρ (FormulaForm.«data» q x) p = ⊥
-IsFaultOfFormula m ρ (FormulaForm.variable x) p = ⊥
-IsFaultOfFormula m ρ (FormulaForm.negation q f) p = IsFaultOfFormula m ρ f p
-IsFaultOfFormula m ρ (FormulaForm.connected c q f g) p =
-    IsFaultOfFormula m ρ f p ⊎ IsFaultOfFormula m ρ g p
-IsFaultOfFormula m ρ (FormulaForm.modal k q A f) p =
-    IsFaultOfSteps m ρ (instances m) A p ⊎ IsFaultOfFormula m ρ f p
-IsFaultOfFormula m ρ (FormulaForm.fixpoint sign q x f) p = IsFaultOfFormula m ρ f p
-IsFaultOfFormula m ρ (FormulaForm.quantified quantifier q xs f) p =
-    (ks : List Term) × Contains (written_tuples (data_of m) (erased_variables xs)) ks
-    × IsFaultOfFormula m (standing (erased_variables xs) (terms_of ks) ρ) f p
+-- ---- faults of formulas
 
-abbrev pub IsFaultOfProperties : Protocol → List PropertyForm → Place → Type 0
-IsFaultOfProperties m properties p =
-    (q : PropertyForm) × Contains properties q × IsFaultOfFormula m [] q.formula p
+-- by the rule of values, or of indices, and P of the place
+abbrev pub OfValue : (Place → Type 0) → UnfoldingFault → Type 0
+OfValue P fault = (fault.rule ≡ rule.Value) × P fault.place
+
+abbrev pub OfIndex : (Place → Type 0) → UnfoldingFault → Type 0
+OfIndex P fault = (fault.rule ≡ rule.Index) × P fault.place
+
+-- in a formula, or in a copy of it: of a value in a set of steps, or of an index in data
+abbrev pub IsFaultOfFormula : ProtocolForm → TermScope → FormulaForm → UnfoldingFault → Type 0
+IsFaultOfFormula m ρ (FormulaForm.constant q b) fault = ⊥
+IsFaultOfFormula m ρ (FormulaForm.«data» q x) fault =
+    OfIndex (IsOutsideIn (surroundings_of m) ρ x) fault
+IsFaultOfFormula m ρ (FormulaForm.variable x) fault = ⊥
+IsFaultOfFormula m ρ (FormulaForm.negation q f) fault = IsFaultOfFormula m ρ f fault
+IsFaultOfFormula m ρ (FormulaForm.connected c q f g) fault =
+    IsFaultOfFormula m ρ f fault ⊎ IsFaultOfFormula m ρ g fault
+IsFaultOfFormula m ρ (FormulaForm.modal k q A f) fault =
+    OfValue (IsFaultOfSteps (erase m) ρ (instances (erase m)) A) fault
+    ⊎ IsFaultOfFormula m ρ f fault
+IsFaultOfFormula m ρ (FormulaForm.fixpoint sign q x f) fault = IsFaultOfFormula m ρ f fault
+IsFaultOfFormula m ρ (FormulaForm.quantified quantifier q xs f) fault =
+    (ks : List Term) × Contains (written_tuples (data_of (erase m)) (erased_variables xs)) ks
+    × IsFaultOfFormula m (standing (erased_variables xs) (terms_of ks) ρ) f fault
+
+abbrev pub IsFaultOfProperties : ProtocolForm → List PropertyForm → UnfoldingFault → Type 0
+IsFaultOfProperties m properties fault =
+    (q : PropertyForm) × Contains properties q × IsFaultOfFormula m [] q.formula fault
 
 abbrev pub IsValueFault : ProtocolForm → Place → Type 0
-IsValueFault m p = IsFaultOfProperties (erase m) m.properties p
+IsValueFault m p =
+    IsFaultOfProperties m m.properties (record { rule = rule.Value; place = p })
+
+-- ---- indices
+
+-- in a step with its values, in a value at the start, or in a property
+abbrev pub IsIndexFault : ProtocolForm → Place → Type 0
+IsIndexFault m p =
+    IsOutsideInSteps m (placed_instances m) p
+    ⊎ (IsOutsideAtStart m p
+    ⊎ IsFaultOfProperties m m.properties (record { rule = rule.Index; place = p }))
 
 -- ---- faults
 
--- By the rules of indices and of operators nothing is said: where a term isn't unfolded it isn't
--- known at which of its places.
+-- By the rule of operators nothing is said: that something is too large isn't known at which of
+-- its places.
 abbrev pub Breaks : ProtocolForm → UnfoldingRule → Place → Type 0
 Breaks m rule.Names p = IsNameFault m p
 Breaks m rule.Value p = IsValueFault m p
-Breaks m rule.Index p = Unit {0}
+Breaks m rule.Index p = IsIndexFault m p
 Breaks m rule.Count p = IsCountFault m p
 Breaks m rule.Operators p = Unit {0}
 

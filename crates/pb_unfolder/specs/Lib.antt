@@ -1,6 +1,7 @@
 pub mod Apart
 pub mod Copies
 pub mod Faults
+pub mod Laws
 pub mod Left
 pub mod Links
 pub mod Origins

@@ -1,35 +1,51 @@
 -- What a fault says where one part of a protocol is unfolded.
-use Rattle.std.specs.Prelude.{◌≡◌, List, Contains, Option, Some, None}
+use Rattle.std.specs.Prelude.{◌≡◌, ◌⊎◌, List, Contains, Option, Some, None}
 use Rattle.pb_text_tree.specs.declared.place.Place.{Place}
 use Rattle.pb_text_meaning.specs.Syntax.{Name, Term, Variable}
 use Rattle.pb_protocol_tree.specs.declared.formula.Link.{Link}
-use Rattle.pb_protocol_tree.specs.Form.{FormulaForm, StepSetForm, formula_form}
+use Rattle.pb_protocol_tree.specs.Form.{FormulaForm, PropertyForm, ProtocolForm, StepSetForm}
+use Rattle.pb_protocol_tree.specs.Form.{formula_form}
 use Rattle.pb_protocol_meaning.specs.Syntax.{Protocol}
 use Rattle.pb_unfolding.specs.PutIn.{TermScope, standing}
 use Rattle.pb_unfolding.specs.Unfolding.{terms_of}
-use Rattle.pb_unfolder_terms.specs.declared.scope.TermScope as declared_scope
-use Rattle.pb_unfolder_terms.specs.declared.scope.TermScope.TheVariants.{Empty, Values', Arguments'}
+pub use Rattle.pb_unfolder_terms.specs.TermFaults.{HasValues}
+use Rattle.pb_unfolder_terms.specs.declared.fault.UnfoldFault.{UnfoldFault}
+use Rattle.pb_unfolder_terms.specs.declared.fault.UnfoldRule.{UnfoldRule}
+use Rattle.pb_unfolder_terms.specs.declared.fault.UnfoldRule.TheVariants as unfold_rule
 use Rattle.pb_unfolder_terms.specs.declared.written.Written.{Written}
 use Rattle.pb_unfolder_terms.specs.Values.{written_term}
+use Rattle.pb_unfolder_steps.specs.Outside.{IsOutsideAtStart}
 use Rattle.pb_unfolder_steps.specs.declared.fault.StepsFault.{StepsFault}
 use Rattle.pb_unfolder_steps.specs.declared.fault.StepsFault.TheVariants as steps_fault
 use Rattle.pb_unfolder.specs.declared.fault.UnfoldingFault.{UnfoldingFault}
 use Rattle.pb_unfolder.specs.declared.fault.UnfoldingRule.{UnfoldingRule}
 use Rattle.pb_unfolder.specs.declared.fault.UnfoldingRule.TheVariants as rule
-use Rattle.pb_unfolder.specs.Faults.{IsElementClash, IsFaultOfFormula, IsFaultOfSet, IsRepeated}
+use Rattle.pb_unfolder.specs.Faults.{IsElementClash, IsFaultOfFormula, IsFaultOfProperties}
+use Rattle.pb_unfolder.specs.Faults.{IsFaultOfSet, IsRepeated, OfIndex}
 
--- it isn't the fault of a name or of a limit; where it is that of a value, P of its place
+-- it isn't the fault of a name, an index or a limit; where it is that of a value, P of its place
 abbrev pub InPart : (Place → Type 0) → UnfoldingRule → Place → Type 0
 InPart P rule.Names p = ⊥
 InPart P rule.Value p = P p
-InPart P rule.Index p = Unit {0}
+InPart P rule.Index p = ⊥
 InPart P rule.Count p = ⊥
 InPart P rule.Operators p = Unit {0}
 
 abbrev pub IsFaultIn : (Place → Type 0) → UnfoldingFault → Type 0
 IsFaultIn P fault = InPart P fault.rule fault.place
 
--- nor that of a value: a term isn't unfolded, or something has too many operators
+-- it isn't the fault of a name or of a limit; where it isn't that of operators, P
+abbrev pub ByRule : UnfoldingRule → Type 0 → Type 0
+ByRule rule.Names P = ⊥
+ByRule rule.Value P = P
+ByRule rule.Index P = P
+ByRule rule.Count P = ⊥
+ByRule rule.Operators P = Unit {0}
+
+abbrev pub IsFaultBy : (UnfoldingFault → Type 0) → UnfoldingFault → Type 0
+IsFaultBy P fault = ByRule fault.rule (P fault)
+
+-- nor that of a value: something has too many operators, or nests too deep
 abbrev pub AtNone : Place → Type 0
 AtNone p = ⊥
 
@@ -40,10 +56,18 @@ IsFaultOfTerm fault = IsFaultIn AtNone fault
 abbrev pub IsAt : Place → Type 0 → Place → Type 0
 IsAt place P p = (p ≡ place) × P
 
+-- the rule that a term breaks: all but that of indices are limits of size
+abbrev pub rule_of : UnfoldRule → UnfoldingRule
+rule_of unfold_rule.Index = rule.Index
+rule_of r = rule.Operators
+
+abbrev pub IsOfTerm : UnfoldFault → UnfoldingFault → Type 0
+IsOfTerm f above = above ≡ record { rule = rule_of f.rule; place = f.place }
+
 -- a limit that is passed is told as such, and the fault of a term as one of a term
 abbrev pub IsOfSteps : StepsFault → UnfoldingFault → Type 0
 IsOfSteps (steps_fault.Limit place) above = above ≡ record { rule = rule.Count; place = place }
-IsOfSteps (steps_fault.Term f) above = IsFaultOfTerm above
+IsOfSteps (steps_fault.Term f) above = IsOfTerm f above
 
 -- by the rule of names, and P of the place
 abbrev pub IsOfNames : (Place → Type 0) → UnfoldingFault → Type 0
@@ -55,12 +79,6 @@ IsFaultOfElements enumerators names places fault =
 
 abbrev pub IsFaultOfInstances : List Name → List Place → UnfoldingFault → Type 0
 IsFaultOfInstances names places fault = IsOfNames (IsRepeated names places) fault
-
--- names stand for values alone, and not for the arguments of a definition
-abbrev pub HasValues : declared_scope.TermScope → Type 0
-HasValues Empty = Unit {0}
-HasValues (Values' variables values p outer) = HasValues outer
-HasValues (Arguments' parameters arguments definitions p user) = ⊥
 
 abbrev pub bound_term : Option Written → Option Term
 bound_term None = None
@@ -74,12 +92,20 @@ IsFaultOfSets m ρ own sets p =
     (A : StepSetForm) × Contains sets A × IsFaultOfSet m ρ own A p
 
 -- in the operand of a link
-abbrev pub IsFaultOfLinks : Protocol → TermScope → List Link → Place → Type 0
-IsFaultOfLinks m ρ links p =
-    (link : Link) × Contains links link × IsFaultOfFormula m ρ (formula_form link.operand) p
+abbrev pub IsFaultOfLinks : ProtocolForm → TermScope → List Link → UnfoldingFault → Type 0
+IsFaultOfLinks m ρ links fault =
+    (link : Link) × Contains links link × IsFaultOfFormula m ρ (formula_form link.operand) fault
 
 -- in a copy, where the variables stand for one of these tuples
 abbrev pub IsFaultOfCopies :
-    Protocol → TermScope → List Variable → List (List Term) → FormulaForm → Place → Type 0
-IsFaultOfCopies m ρ xs tuples f p =
-    (ks : List Term) × Contains tuples ks × IsFaultOfFormula m (standing xs (terms_of ks) ρ) f p
+    ProtocolForm → TermScope → List Variable → List (List Term) → FormulaForm → UnfoldingFault →
+    Type 0
+IsFaultOfCopies m ρ xs tuples f fault =
+    (ks : List Term) × Contains tuples ks
+    × IsFaultOfFormula m (standing xs (terms_of ks) ρ) f fault
+
+-- of a flat model's parts: in a value at the start of one protocol, or in properties
+abbrev pub IsFaultOfModel :
+    ProtocolForm → ProtocolForm → List PropertyForm → UnfoldingFault → Type 0
+IsFaultOfModel start m properties fault =
+    OfIndex (IsOutsideAtStart start) fault ⊎ IsFaultOfProperties m properties fault

@@ -1,10 +1,13 @@
 -- Names by which users are told of elements and of steps with their values.
-use Rattle.std.specs.Prelude.{Bool, true, false, List, [], ◌∷◌, ◌++◌, map, filter, codes, decimal}
+use Rattle.std.specs.Prelude.{Bool, true, false, not, List, [], ◌∷◌, ◌++◌, map, filter, codes}
+use Rattle.std.specs.Prelude.{decimal}
+use Rattle.std.specs.List.{list_any}
 use Rattle.pb_text_meaning.specs.Syntax.{Name, Term}
-use Rattle.pb_protocol_meaning.specs.Syntax.{Protocol}
+use Rattle.pb_protocol_meaning.specs.Syntax.{Protocol, Step}
 use Rattle.pb_folding.specs.FoldedModels.{folded_step, is_possible}
 use Rattle.pb_protocol_meaning.specs.Steps.{data_of}
-use Rattle.pb_unfolding.specs.Unfolding.{Element, Instance, all_elements, instances, unfolded_step}
+use Rattle.pb_unfolding.specs.Unfolding.{Element, Instance, all_elements, instances, instances_of}
+use Rattle.pb_unfolding.specs.Unfolding.{unfolded_step}
 
 -- how a written value is told
 abbrev pub told_value : Term → Name
@@ -51,3 +54,11 @@ told_steps m = map told_instance (filter (may_be_taken m) (instances m))
 -- and of one, if it is left
 abbrev pub told_step : Protocol → Instance → List Name
 told_step m i = map told_instance (filter (may_be_taken m) (i ∷ []))
+
+-- a step that with none of its values may be taken
+abbrev pub is_impossible : Protocol → Step → Bool
+is_impossible m a = not (list_any (may_be_taken m) (instances_of (data_of m) a))
+
+-- the names of those steps, in order
+abbrev pub impossible_steps : Protocol → List Name
+impossible_steps m = map (λ (a : Step). a.name) (filter (is_impossible m) m.steps)

@@ -1,10 +1,9 @@
 //! Why a protocol isn't unfolded.
 
 ghost use Rattle.std.specs.Prelude.{◌≡◌};
-ghost use Rattle.pb_errors.specs.OrMemory.{IfFault, raised};
+ghost use Rattle.pb_errors.specs.OrMemory.{raised};
 ghost use Rattle.pb_errors.specs.declared.or_memory.OrMemory.TheVariants.{Refused};
-ghost use Rattle.pb_text_tree.specs.declared.place.Place as declared_place;
-ghost use Rattle.pb_unfolder.specs.Parts.{AtNone, InPart, IsFaultOfTerm, IsOfSteps};
+ghost use Rattle.pb_unfolder.specs.Parts.{IsOfSteps, IsOfTerm, rule_of};
 
 use pb_errors::{Fault, OrMemory};
 use pb_text_tree::Place;
@@ -52,7 +51,7 @@ pub(crate) fn refused(rule: UnfoldingRule, place: Place) -> UnfoldingError
 
 /// The rule that a term breaks.
 fn rule_of_term(rule: UnfoldRule) -> UnfoldingRule
-    ensures { (p : declared_place.Place) → InPart AtNone result p }
+    ensures { result ≡ rule_of rule }
 {
     match rule {
         UnfoldRule::Operators | UnfoldRule::Depth | UnfoldRule::Values => UnfoldingRule::Operators,
@@ -62,7 +61,7 @@ fn rule_of_term(rule: UnfoldRule) -> UnfoldingRule
 
 /// The fault of a term.
 fn fault_of_term(fault: UnfoldFault) -> UnfoldingFault
-    ensures { IsFaultOfTerm result }
+    ensures { IsOfTerm fault result }
 {
     UnfoldingFault {
         rule: rule_of_term(fault.rule),
@@ -72,7 +71,7 @@ fn fault_of_term(fault: UnfoldFault) -> UnfoldingFault
 
 /// The error of a term.
 pub(crate) fn of_term(error: UnfoldError) -> UnfoldingError
-    ensures { IfFault result IsFaultOfTerm }
+    ensures { raised IsOfTerm error result }
 {
     match error {
         OrMemory::Refused(fault) => OrMemory::Refused(fault_of_term(fault)),

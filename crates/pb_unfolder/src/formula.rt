@@ -2,6 +2,7 @@
 
 ghost use Rattle.std.specs.Prelude.{◌≡◌, [], map, flat_map, IfOk, box_value};
 ghost use Rattle.pb_errors.specs.OrMemory.{IfRefused};
+ghost use Rattle.pb_text_tree.specs.Form.{term_form};
 ghost use Rattle.pb_protocol_tree.specs.Form.{formula_form};
 ghost use Rattle.pb_protocol_meaning.specs.Erase.{protocol_of};
 ghost use Rattle.pb_protocol_meaning.specs.Steps.{data_of};
@@ -9,13 +10,14 @@ ghost use Rattle.pb_folding.specs.Places.{AreAmong, places_of};
 ghost use Rattle.pb_folding.specs.View.{formula_of};
 ghost use Rattle.pb_unfolder_terms.specs.View.{spec_of, variable_of};
 ghost use Rattle.pb_unfolder_terms.specs.Values.{tuple_of};
-ghost use Rattle.pb_unfolder_steps.specs.Unfolder.{protocol_in, scope_in};
+ghost use Rattle.pb_unfolder_terms.specs.TermFaults.{IsOutsideIn, surroundings_of};
+ghost use Rattle.pb_unfolder_steps.specs.Unfolder.{form_in, protocol_in, scope_in};
 ghost use Rattle.pb_unfolder.specs.Copies.{copy_of, data_formula, left_operand};
 ghost use Rattle.pb_unfolder.specs.Copies.{tuples_in};
-ghost use Rattle.pb_unfolder.specs.Faults.{IsFaultOfFormula};
+ghost use Rattle.pb_unfolder.specs.Faults.{IsFaultOfFormula, OfIndex};
 ghost use Rattle.pb_unfolder.specs.Left.{AreFormulas, left_formula};
 ghost use Rattle.pb_unfolder.specs.Links.{linked_formula};
-ghost use Rattle.pb_unfolder.specs.Parts.{HasValues, IsFaultIn, IsFaultOfCopies, IsFaultOfLinks};
+ghost use Rattle.pb_unfolder.specs.Parts.{HasValues, IsFaultBy, IsFaultOfCopies, IsFaultOfLinks};
 ghost use Rattle.pb_unfolder.specs.Parts.{IsFaultOfTerm};
 ghost use Rattle.pb_unfolder.specs.Places.{flat_link_places, link_places, places_in};
 
@@ -69,7 +71,9 @@ fn unfold_data(
     ensures formula { IfOk result (λ f. formula_of f
         ≡ data_formula formulas.now.unfolder.now scope.now term.now) }
     ensures places { IfOk result (λ f. places_of f ≡ []) }
-    ensures refused { IfRefused result IsFaultOfTerm }
+    ensures refused { HasValues scope.now → IfRefused result (IsFaultBy (OfIndex
+        (IsOutsideIn (surroundings_of (form_in formulas.now.unfolder.now))
+        (scope_in formulas.now.unfolder.now scope.now) (term_form term.now)))) }
 {
     match formulas.unfolder.unfold(scope, true, term) {
         Ok(term) => {
@@ -81,7 +85,7 @@ fn unfold_data(
 }
 
 /// All tuples of values of variables.
-fn tuples_of<'a>(
+pub(crate) fn tuples_of<'a>(
     unfolder: &Unfolder<'a>,
     variables: &[Variable<'a>],
     place: Place,
@@ -116,7 +120,7 @@ fn unfold_copies<'a>(
     ensures places { IfOk result
         (λ v. AreAmong (flat_map places_of v.items) (places_in (box_value body.now))) }
     ensures refused { IfRefused result
-        (IsFaultIn (IsFaultOfCopies (protocol_in formulas.now.unfolder.now)
+        (IsFaultBy (IsFaultOfCopies (form_in formulas.now.unfolder.now)
         (scope_in formulas.now.unfolder.now copies.now.outer.now)
         (map variable_of copies.now.variables.now) (map tuple_of copies.now.tuples.now)
         (formula_form (box_value body.now)))) }
@@ -149,7 +153,7 @@ fn unfold_links<'a>(
     ensures places { IfOk result (λ v. AreAmong (flat_map flat_link_places v.items)
         (flat_map link_places links.now)) }
     ensures refused { IfRefused result
-        (IsFaultIn (IsFaultOfLinks (protocol_in formulas.now.unfolder.now)
+        (IsFaultBy (IsFaultOfLinks (form_in formulas.now.unfolder.now)
         (scope_in formulas.now.unfolder.now scope.now) links.now)) }
 {
     let mut flat_links = Vec::new(formulas.unfolder.alloc);
@@ -176,7 +180,7 @@ pub(crate) fn unfold_formula<'a>(
         ≡ left_formula formulas.now.unfolder.now scope.now (formula_form formula.now)) }
     ensures places { IfOk result (λ f. AreAmong (places_of f) (places_in formula.now)) }
     ensures refused { IfRefused result
-        (IsFaultIn (IsFaultOfFormula (protocol_in formulas.now.unfolder.now)
+        (IsFaultBy (IsFaultOfFormula (form_in formulas.now.unfolder.now)
         (scope_in formulas.now.unfolder.now scope.now) (formula_form formula.now))) }
 {
     let alloc = formulas.unfolder.alloc;

@@ -8,6 +8,8 @@ mod bound;
 mod chain;
 mod fault;
 mod formula;
+mod impossible;
+mod laws;
 mod left;
 mod named_steps;
 mod names;
@@ -26,6 +28,7 @@ mod told;
 mod value;
 
 pub use fault::{UnfoldingError, UnfoldingFault, UnfoldingRule};
+pub use laws::impossible_steps_lead_nowhere;
 pub use origin::StepOrigin;
 pub use plain::plain_model;
 pub use plain_test::is_plain;

@@ -5,10 +5,10 @@ ghost use Rattle.pb_errors.specs.OrMemory.{IfRefused};
 ghost use Rattle.pb_model_tree.specs.Form as flat_form;
 ghost use Rattle.pb_protocol_tree.specs.Form.{formula_form, property_form};
 ghost use Rattle.pb_folding.specs.Places.{AreAmong, places_of};
-ghost use Rattle.pb_unfolder_steps.specs.Unfolder.{protocol_in};
+ghost use Rattle.pb_unfolder_steps.specs.Unfolder.{form_in};
 ghost use Rattle.pb_unfolder.specs.Faults.{IsFaultOfFormula, IsFaultOfProperties};
 ghost use Rattle.pb_unfolder.specs.Left.{AreFormulas};
-ghost use Rattle.pb_unfolder.specs.Parts.{IsFaultIn};
+ghost use Rattle.pb_unfolder.specs.Parts.{IsFaultBy};
 ghost use Rattle.pb_unfolder.specs.Places.{HavePlaces, places_in};
 ghost use Rattle.pb_unfolder.specs.Unfolded.{flat_name, left_property, property_name};
 ghost use Rattle.pb_unfolder.specs.Unfolded.{property_said};
@@ -33,7 +33,7 @@ fn unfold_property(
     ensures places { IfOk result
         (λ p. AreAmong (places_of p.formula) (places_in property.now.formula)) }
     ensures refused { IfRefused result
-        (IsFaultIn (IsFaultOfFormula (protocol_in formulas.now.unfolder.now) []
+        (IsFaultBy (IsFaultOfFormula (form_in formulas.now.unfolder.now) []
         (formula_form property.now.formula))) }
 {
     let name = copy_name(formulas.unfolder.alloc, &property.name)?;
@@ -55,7 +55,7 @@ pub(crate) fn unfold_properties(
     ensures places { IfOk result (λ v. HavePlaces (map property_form properties.now)
         (map flat_form.property_form v.items)) }
     ensures refused { IfRefused result
-        (IsFaultIn (IsFaultOfProperties (protocol_in formulas.now.unfolder.now)
+        (IsFaultBy (IsFaultOfProperties (form_in formulas.now.unfolder.now)
         (map property_form properties.now))) }
 {
     let mut unfolded = Vec::new(formulas.unfolder.alloc);

@@ -15,19 +15,23 @@ ghost use Rattle.pb_unfolding.specs.Hygiene.{HidesNothing};
 ghost use Rattle.pb_unfolding.specs.Unfolding as definitions;
 ghost use Rattle.pb_unfolder_steps.specs.Elements.{element_said, instance_said};
 ghost use Rattle.pb_unfolder_steps.specs.Steps.{is_kept, places_from, step_place, step_said};
-ghost use Rattle.pb_unfolder_steps.specs.Unfolder.{IsUnfolder, protocol_in};
+ghost use Rattle.pb_unfolder_steps.specs.Unfolder.{IsUnfolder, form_in, protocol_in};
+ghost use Rattle.pb_unfolder_steps.specs.Outside.{IsOutsideAtStart, IsOutsideInSteps};
+ghost use Rattle.pb_unfolder_steps.specs.Outside.{instance_form, placed_instances};
 ghost use Rattle.pb_unfolder_steps.specs.Refusals.{element_place, element_places};
 ghost use Rattle.pb_unfolder_steps.specs.Refusals.{instance_place, instance_places};
-ghost use Rattle.pb_unfolder.specs.Faults.{IsFaultOfProperties, IsUnfoldingFault};
+ghost use Rattle.pb_unfolder.specs.Faults.{IsUnfoldingFault, OfIndex};
 ghost use Rattle.pb_unfolder.specs.Left.{AreLeft};
 ghost use Rattle.pb_unfolder.specs.Origins.{origin_name};
-ghost use Rattle.pb_unfolder.specs.Parts.{IsFaultIn, IsFaultOfTerm};
+ghost use Rattle.pb_unfolder.specs.Parts.{IsFaultBy, IsFaultOfModel, IsFaultOfTerm};
 ghost use Rattle.pb_unfolder.specs.Places.{HavePlacesOf};
 ghost use Rattle.pb_unfolder.specs.Told.{told_steps, told_variables};
+ghost use Rattle.pb_unfolder.specs.Told as told;
 ghost use Rattle.pb_unfolder.specs.Unfolded.{flat_name, property_name};
 
 use crate::fault::{UnfoldingError, of_steps};
 use crate::formula::Formulas;
+use crate::impossible::impossible_steps;
 use crate::left::left_instances;
 use crate::names::{check_elements, check_instances};
 use crate::origin::{StepOrigin, step_origins, told_elements};
@@ -62,6 +66,8 @@ fn instances_of(alloc: Global, protocol: &Protocol) -> Result<Vec<Instance<'_>>,
         ≡ definitions.instances (protocol_of protocol.now)) }
     ensures places { IfOk result
         (λ v. map instance_place v.items ≡ instance_places (protocol_form protocol.now)) }
+    ensures forms { IfOk result
+        (λ v. map instance_form v.items ≡ placed_instances (protocol_form protocol.now)) }
     ensures few { IfOk result (λ v. length v.items ≤ MAX_WRITTEN_STEPS) }
     ensures refused { IfRefused result (IsUnfoldingFault (protocol_form protocol.now)) }
 {
@@ -75,7 +81,8 @@ fn initial_of(alloc: Global, protocol: &Protocol) -> Result<Vec<Argument>, Unfol
     requires few { length (definitions.all_elements (protocol_of protocol.now)) ≤ MAX_ELEMENTS }
     ensures initial { IfOk result (λ v. erased_arguments (argument_forms v.items)
         ≡ (folded_model (definitions.unfolded (protocol_of protocol.now))).initial) }
-    ensures refused { IfRefused result IsFaultOfTerm }
+    ensures refused { IfRefused result
+        (IsFaultBy (OfIndex (IsOutsideAtStart (protocol_form protocol.now)))) }
 {
     match initial_terms(alloc, protocol) {
         Ok(terms) => Ok(terms),
@@ -100,7 +107,8 @@ fn steps_of(
         ≡ map (is_kept (protocol_in unfolder.now)) (map instance_said instances.now)) }
     ensures places { IfOk result (λ u. map step_place u.steps.items
         ≡ places_from 0 (length u.steps.items)) }
-    ensures refused { IfRefused result IsFaultOfTerm }
+    ensures refused { IfRefused result (IsFaultBy (OfIndex
+        (IsOutsideInSteps (form_in unfolder.now) (map instance_form instances.now)))) }
 {
     match unfold_steps(unfolder, elements, instances) {
         Ok(steps) => Ok(steps),
@@ -116,6 +124,9 @@ pub struct Unfolded {
     pub variables: Vec<String>,
     /// For each step where it comes from.
     pub steps: Vec<StepOrigin>,
+    /// The names of the protocol's steps that come to none, in order: with none of their values may
+    /// they be taken.
+    pub impossible: Vec<String>,
 }
 
 /// The flat model of a protocol: its steps are these, its other parts are unfolded and folded.
@@ -143,7 +154,7 @@ fn flat_model(
         (λ m. HavePlacesOf (protocol_form protocol.now) (flat_form.model_form m)) }
     ensures kept { IfOk result (λ m. m.steps ≡ steps) }
     ensures refused { IfRefused result
-        (IsFaultIn (IsFaultOfProperties (protocol_in unfolder.now)
+        (IsFaultBy (IsFaultOfModel (protocol_form protocol.now) (form_in unfolder.now)
         (map property_form protocol.now.properties.items))) }
 {
     let alloc = unfolder.alloc;
@@ -180,6 +191,8 @@ pub fn unfold(alloc: Global, protocol: &Protocol) -> Result<Unfolded, UnfoldingE
         ≡ told_variables (protocol_of protocol.now)) }
     ensures told_steps { IfOk result
         (λ u. map origin_name u.steps.items ≡ told_steps (protocol_of protocol.now)) }
+    ensures impossible { IfOk result (λ u. map string_bytes u.impossible.items
+        ≡ told.impossible_steps (protocol_of protocol.now)) }
     ensures places { IfOk result (λ u. map step_place u.model.steps.items
         ≡ places_from 0 (length u.model.steps.items)) }
     ensures formulas { IfOk result
@@ -199,9 +212,11 @@ pub fn unfold(alloc: Global, protocol: &Protocol) -> Result<Unfolded, UnfoldingE
     let variables = told_elements(alloc, &elements)?;
     let origins = step_origins(alloc, &left)?;
     let model = flat_model(protocol, &unfolder, &elements, &left, steps)?;
+    let impossible = impossible_steps(&unfolder, &kept)?;
     Ok(Unfolded {
         model,
         variables,
         steps: origins,
+        impossible,
     })
 }

@@ -75,7 +75,7 @@ names_no_property bytes r is h = subst (λ x. IfRefused x (IsUnnegated bytes)) i
 -- the lines of what is found
 pub verdicts_told : (options : Checking) (bytes : List ℕ) (S : Status → Type 0) (text : List ℕ) (model : ModelForm) (findings : List Found) (steps : List StepFinding) (said : IsModelOf bytes model)
     → AreFound options.counts said.protocol model (map string_bytes options.properties.items) findings → AreStepsFoundWhere options.counts model steps → S (status_of_checked options.status findings steps)
-    → text ≡ found_lines options.counts model findings ++ lines_of_steps said steps → (P : List ℕ → Type 0) → P text → OutputsVerdicts options bytes S P
+    → text ≡ found_lines options.counts model findings ++ lines_of_steps options.counts said steps → (P : List ℕ → Type 0) → P text → OutputsVerdicts options bytes S P
 verdicts_told options bytes S text model findings steps said found taken status same P h = (model, findings, steps, said, found, taken, status, subst P same h)
 
 -- there is no status where there is an error

@@ -1,6 +1,6 @@
 -- What is found of the steps of a model: whether they can be taken in a reached state.
 use Rattle.std.specs.Prelude.{◌≡◌, ℕ, ◌+◌, Bool, true, false, List, [], ◌∷◌, ◌++◌, Some}
-use Rattle.std.specs.Prelude.{if◌then◌else◌, length}
+use Rattle.std.specs.Prelude.{if◌then◌else◌, length, flat_map}
 use Rattle.std.specs.List.{list_any, slice_get}
 use Rattle.pb_model_tree.specs.Form.{ModelForm, StepForm}
 use Rattle.pb_model_words.specs.Vocabulary.{Vocabulary}
@@ -70,6 +70,12 @@ step_lines_from place words (f ∷ fs) =
 
 abbrev pub step_lines : Vocabulary → List StepFinding → List ℕ
 step_lines = step_lines_from 0
+
+-- the lines of the protocol's steps of these names, which come to none in the model, where counts
+-- are asked for
+abbrev pub impossible_lines : Bool → List (List ℕ) → List ℕ
+impossible_lines true names = flat_map unreached_line names
+impossible_lines false names = []
 
 -- the text that asks for the step is refused
 abbrev pub refuses_step : StepFinding → Bool

@@ -18,7 +18,7 @@ use crate::property_text::asked_texts;
 use crate::reached_steps::steps_on;
 use crate::status::Status;
 use crate::step_finding::StepFinding;
-use crate::step_lines::{push_steps, status_of_checked};
+use crate::step_lines::{push_lines_of_steps, status_of_checked};
 use pb_command_line::Checking;
 use pb_errors::OrMemory;
 use pb_exploration::Gate;
@@ -106,7 +106,8 @@ fn checked_on<R: Threads + Sync, G: Gate + Sync>(
 /// the protocol satisfies the negation. Else it is `unknown`, and a line behind it says how many
 /// instances call one outside. It is `refused`, by the number of a rule, where a text is too large.
 /// Where counts are asked for, three lines behind each verdict tell them, and behind all a line
-/// names each step that can be taken in no reached state.
+/// names each step that can be taken in no reached state: those of the model, then those of the
+/// protocol that come to none in it.
 ///
 /// Each text is explored and solved once, as `solve_text` solves a text; those of negations only
 /// where a property isn't satisfied and instances outside were called, and those that ask for steps
@@ -139,7 +140,7 @@ pub fn check_text<R: Threads + Sync, G: Gate + Sync, S: Sink>(
     let checked = checked_on(context, bytes, &solved, options)?;
     let properties = &solved.typed.model.properties;
     let mut lines = lines_of(context.alloc, properties, &checked.findings, options.counts)?;
-    push_steps(&mut lines, &solved, &checked.steps)?;
+    push_lines_of_steps(&mut lines, &solved, &checked.steps, options.counts)?;
     deliver(lines.as_bytes(), writer)?;
     Ok(status_of_checked(&checked.findings, &checked.steps, options.status))
 }

@@ -1,9 +1,10 @@
 //! The lines that name steps that can be taken in no reached state, and how a check ends.
-ghost use Rattle.std.specs.Prelude.{◌≡◌, ◌++◌, OnOk, string_bytes};
+ghost use Rattle.std.specs.Prelude.{◌≡◌, ◌++◌, map, flat_map, OnOk, string_bytes};
 ghost use Rattle.std.specs.List.{list_any};
-ghost use Rattle.pb_model_properties.specs.Words.{words_in};
-ghost use Rattle.pbsolve.specs.ReachedSteps.{refuses_step, status_of_checked, step_line};
-ghost use Rattle.pbsolve.specs.ReachedSteps.{step_lines};
+ghost use Rattle.pb_model_properties.specs.Verdicts.{unreached_line};
+ghost use Rattle.pb_model_properties.specs.Words.{impossible_in, words_in};
+ghost use Rattle.pbsolve.specs.ReachedSteps.{impossible_lines, refuses_step, status_of_checked};
+ghost use Rattle.pbsolve.specs.ReachedSteps.{step_line, step_lines};
 
 use crate::finding::Found;
 use crate::finding_lines::status_of;
@@ -24,11 +25,8 @@ fn push_step(lines: &mut String, name: &str, finding: StepFinding) -> Result<(),
     }
 }
 
-/// Puts the lines of what is found of the model's steps behind others.
-///
-/// # Errors
-/// Memory was refused.
-pub(crate) fn push_steps(
+// Puts the lines of what is found of the model's steps behind others.
+fn push_steps(
     lines: &mut String,
     solved: &SolvedModel,
     findings: &[StepFinding],
@@ -38,6 +36,39 @@ pub(crate) fn push_steps(
 {
     for (step, finding) in findings.iter().enumerate() {
         push_step(lines, name_of_step(solved, step), *finding)?;
+    }
+    Ok(())
+}
+
+// Puts the lines of steps of these names, which come to none in the model, behind others.
+fn push_impossible(lines: &mut String, names: &[String]) -> Result<(), AllocError>
+    ensures { OnOk result (string_bytes lines.new
+        ≡ string_bytes lines.old ++ flat_map unreached_line (map string_bytes names.now)) }
+{
+    for name in names {
+        push_unreached(lines, name.as_str())?;
+    }
+    Ok(())
+}
+
+/// Puts the lines that tell of steps behind others: of the model's, and of those of the protocol
+/// that come to none in it, where counts are asked for.
+///
+/// # Errors
+/// Memory was refused.
+pub(crate) fn push_lines_of_steps(
+    lines: &mut String,
+    solved: &SolvedModel,
+    findings: &[StepFinding],
+    counts: bool,
+) -> Result<(), AllocError>
+    ensures { OnOk result (string_bytes lines.new ≡ string_bytes lines.old
+        ++ (step_lines (words_in solved.now) findings.now
+        ++ impossible_lines counts (impossible_in solved.now.names))) }
+{
+    push_steps(lines, solved, findings)?;
+    if counts {
+        push_impossible(lines, solved.impossible_steps())?;
     }
     Ok(())
 }

@@ -21,6 +21,7 @@ returns-in-Ok-unfold-clause-flat c =
       places = c.in-Ok-unfold.ensures.formulas;
       told_variables = c.in-Ok-unfold.ensures.told_variables;
       told_steps = c.in-Ok-unfold.ensures.told_steps;
+      impossible = c.in-Ok-unfold.ensures.impossible;
     }
 
 pub returns-in-Err-unfold-clause-refused : goal.returns-in-Err-unfold-clause-refused

@@ -20,8 +20,8 @@ returns-clause-model c =
       formulas = c.flat_formulas_are_writable.ensures;
     }) protocol u c.requires.solvable is in
     let steps = c.in_ok-steps.ensures ∙ ap (λ (xs : List StepOrigin). map origin_name xs) c.deref.ensures.value in
-    let names : ToldNames = record { variables = u.variables; steps = c.in_ok-steps.steps; places = c.in_ok-places.places } in
-    let called = unfolded_names protocol u names c.requires.unfolds is refl steps in
+    let names : ToldNames = record { variables = u.variables; steps = c.in_ok-steps.steps; places = c.in_ok-places.places; impossible = u.impossible } in
+    let called = unfolded_names protocol u names c.requires.unfolds is refl steps refl in
     solved_for protocol (model_form u.model) (Some names) flat called c.flat_solved.result c.flat_solved.ensures.model
 
 pub returns-clause-refused : goal.returns-clause-refused

@@ -15,18 +15,21 @@ use Rattle.pb_unfolder_terms.specs.declared.written.Written.{Written}
 use Rattle.pb_unfolder_terms.specs.View.{variable_of}
 use Rattle.pb_unfolder_terms.specs.Values.{tuple_of, written_term}
 use Rattle.std.specs.Prelude.{box_value}
-use Rattle.pb_text_tree.specs.declared.place.Place.{Place}
 use Rattle.pb_unfolding.specs.PutIn.{standing}
 use Rattle.pb_unfolding.specs.Unfolding.{instances, terms_of}
-use Rattle.pb_unfolder_steps.specs.Unfolder.{protocol_in, scope_in}
+use Rattle.pb_text_tree.specs.Form.{term_form}
+use Rattle.pb_protocol_meaning.specs.Erase.{erase}
+use Rattle.pb_unfolder_terms.specs.TermFaults.{IsOutsideIn, surroundings_of}
+use Rattle.pb_unfolder_steps.specs.Unfolder.{form_in, scope_in}
+use Rattle.pb_unfolder.specs.declared.fault.UnfoldingFault.{UnfoldingFault}
 use Rattle.pb_unfolder.specs.declared.formula.Copies.{Copies}
 use Rattle.pb_unfolder.specs.Copies.{tuples_in}
 use Rattle.pb_unfolder.specs.Left.{left_formula}
 use Rattle.pb_unfolder.specs.Links.{folded_chain, linked_formula}
-use Rattle.pb_unfolder.specs.Faults.{IsFaultOfFormula, IsFaultOfSteps}
-use Rattle.pb_unfolder.specs.Parts.{AtNone, IsFaultOfCopies, IsFaultOfLinks}
+use Rattle.pb_unfolder.specs.Faults.{IsFaultOfFormula, IsFaultOfSteps, OfIndex}
+use Rattle.pb_unfolder.specs.Parts.{IsFaultOfCopies, IsFaultOfLinks}
 use Rattle.pb_unfolder.specs.Places.{flat_link_places, link_places, places_in}
-use Rattle.pb_unfolder.proofs.FaultLemmas.{at-item, item-in, of-term, part, part-so}
+use Rattle.pb_unfolder.proofs.FaultLemmas.{at-item, item-in, of-term-by, of-value-by, part-by, part-by-so}
 use Rattle.pb_unfolder.proofs.ValueFaults.{fault-of-chain}
 use Rattle.pb_unfolder.proofs.ChainFormulas.{copies-made, left-chain, left-quantified}
 use Rattle.pb_folding.proofs.Places.{same-among}
@@ -136,21 +139,21 @@ pub unfold_copies-returns-in_err-take-clause-refused : goal.unfold_copies-return
 unfold_copies-returns-in_err-take-clause-refused t c =
     let u = c.args.formulas.now.unfolder.now in
     let a = c.args.copies.now in
-    of-term c.from_residual.result c.in_err-take.field-0.0
-    (IsFaultOfCopies (protocol_in u) (scope_in u a.outer.now) (map variable_of a.variables.now) (map tuple_of a.tuples.now) (formula_form (box_value c.args.body.now)))
+    of-term-by c.from_residual.result c.in_err-take.field-0.0
+    (IsFaultOfCopies (form_in u) (scope_in u a.outer.now) (map variable_of a.variables.now) (map tuple_of a.tuples.now) (formula_form (box_value c.args.body.now)))
     c.from_residual.ensures.1 c.in_err-take.ensures
 
 pub unfold_copies-returns-in_err-unfold_formula-clause-refused : goal.unfold_copies-returns-in_err-unfold_formula-clause-refused
 unfold_copies-returns-in_err-unfold_formula-clause-refused t c =
     let u = c.args.formulas.now.unfolder.now in
-    let m = protocol_in u in
+    let m = form_in u in
     let a = c.args.copies.now in
     let ρ = scope_in u a.outer.now in
     let xs = map variable_of a.variables.now in
     let ts = a.tuples.now in
     let ks = c.values-item.result in
     let body = c.deref-in-loop-values.result.now in
-    part c.from_residual-in_err-unfold_formula.result c.in_err-unfold_formula.field-0.0
+    part-by c.from_residual-in_err-unfold_formula.result c.in_err-unfold_formula.field-0.0
     (IsFaultOfFormula m (standing xs (terms_of (map written_term c.deref.result.now)) ρ) (formula_form body))
     (IsFaultOfCopies m ρ xs (map tuple_of ts) (formula_form (box_value c.args.body.now))) c.from_residual-in_err-unfold_formula.ensures.1
     (λ p is. (
@@ -164,98 +167,101 @@ unfold_copies-returns-in_err-unfold_formula-clause-refused t c =
 pub unfold_links-returns-in_err-take-clause-refused : goal.unfold_links-returns-in_err-take-clause-refused
 unfold_links-returns-in_err-take-clause-refused t c =
     let u = c.args.formulas.now.unfolder.now in
-    of-term c.from_residual.result c.in_err-take.field-0.0 (IsFaultOfLinks (protocol_in u) (scope_in u c.args.scope.now) c.args.links.now) c.from_residual.ensures.1 c.in_err-take.ensures
+    of-term-by c.from_residual.result c.in_err-take.field-0.0 (IsFaultOfLinks (form_in u) (scope_in u c.args.scope.now) c.args.links.now) c.from_residual.ensures.1 c.in_err-take.ensures
 
 pub unfold_links-returns-in_err-operand-clause-refused : goal.unfold_links-returns-in_err-operand-clause-refused
 unfold_links-returns-in_err-operand-clause-refused t c =
     let u = c.args.formulas.now.unfolder.now in
-    let m = protocol_in u in
+    let m = form_in u in
     let ρ = scope_in u c.args.scope.now in
     let ls = c.args.links.now in
     let l = c.link-item.result in
-    part c.from_residual-in_err-operand.result c.in_err-operand.field-0.0 (IsFaultOfFormula m ρ (formula_form l.operand)) (IsFaultOfLinks m ρ ls) c.from_residual-in_err-operand.ensures.1
+    part-by c.from_residual-in_err-operand.result c.in_err-operand.field-0.0 (IsFaultOfFormula m ρ (formula_form l.operand)) (IsFaultOfLinks m ρ ls) c.from_residual-in_err-operand.ensures.1
     (λ p is. (l, item-in ls c.loop-link.link-index l c.loop-link-test.true c.link-item.is, is)) c.in_err-operand.ensures.refused
 
 pub unfold_formula-returns-in-Data-clause-refused : goal.unfold_formula-returns-in-Data-clause-refused
 unfold_formula-returns-in-Data-clause-refused t c =
     let u = c.args.formulas.now.unfolder.now in
-    part-so AtNone (IsFaultOfFormula (protocol_in u) (scope_in u c.args.scope.now) (formula_form c.args.formula.now)) c.unfold_data.result (λ p none. absurd none) c.unfold_data.ensures.refused
+    let m = form_in u in
+    let ρ = scope_in u c.args.scope.now in
+    part-by-so (OfIndex (IsOutsideIn (surroundings_of m) ρ (term_form c.in-Data.term))) (IsFaultOfFormula m ρ (formula_form c.args.formula.now)) c.unfold_data.result
+    (λ f is. subst (λ (g : tree.Formula). IsFaultOfFormula m ρ (formula_form g) f) (sym c.in-Data.is) is) (c.unfold_data.ensures.refused c.requires.scope)
 
 pub unfold_formula-returns-in_err-take-in-Negation-clause-refused : goal.unfold_formula-returns-in_err-take-in-Negation-clause-refused
 unfold_formula-returns-in_err-take-in-Negation-clause-refused t c =
     let u = c.args.formulas.now.unfolder.now in
-    of-term c.from_residual-in_err-take-in-Negation.result c.in_err-take-in-Negation.field-0.0 (IsFaultOfFormula (protocol_in u) (scope_in u c.args.scope.now) (formula_form c.args.formula.now)) c.from_residual-in_err-take-in-Negation.ensures.1 c.in_err-take-in-Negation.ensures
+    of-term-by c.from_residual-in_err-take-in-Negation.result c.in_err-take-in-Negation.field-0.0 (IsFaultOfFormula (form_in u) (scope_in u c.args.scope.now) (formula_form c.args.formula.now)) c.from_residual-in_err-take-in-Negation.ensures.1 c.in_err-take-in-Negation.ensures
 
 pub unfold_formula-returns-in_err-operand-in-Negation-clause-refused : goal.unfold_formula-returns-in_err-operand-in-Negation-clause-refused
 unfold_formula-returns-in_err-operand-in-Negation-clause-refused t c =
     let u = c.args.formulas.now.unfolder.now in
-    let fault : tree.Formula → Place → Type 0 = λ f. IsFaultOfFormula (protocol_in u) (scope_in u c.args.scope.now) (formula_form f) in
-    part c.from_residual-in_err-operand-in-Negation.result c.in_err-operand-in-Negation.field-0.0 (fault c.deref.result.now) (fault c.args.formula.now) c.from_residual-in_err-operand-in-Negation.ensures.1
+    let fault : tree.Formula → UnfoldingFault → Type 0 = λ f. IsFaultOfFormula (form_in u) (scope_in u c.args.scope.now) (formula_form f) in
+    part-by c.from_residual-in_err-operand-in-Negation.result c.in_err-operand-in-Negation.field-0.0 (fault c.deref.result.now) (fault c.args.formula.now) c.from_residual-in_err-operand-in-Negation.ensures.1
     (λ p is. subst (λ (f : tree.Formula). fault f p) (sym c.in-Negation.is) (subst (λ (f : tree.Formula). fault f p) c.deref.ensures is)) c.in_err-operand-in-Negation.ensures.refused
 
 pub unfold_formula-returns-in_err-first-in-Chain-clause-refused : goal.unfold_formula-returns-in_err-first-in-Chain-clause-refused
 unfold_formula-returns-in_err-first-in-Chain-clause-refused t c =
     let u = c.args.formulas.now.unfolder.now in
-    let m = protocol_in u in
+    let m = form_in u in
     let ρ = scope_in u c.args.scope.now in
     let x = c.deref-in-Chain.result.now in
     let f = c.args.formula.now in
-    part c.from_residual-in_err-first-in-Chain.result c.in_err-first-in-Chain.field-0.0 (IsFaultOfFormula m ρ (formula_form x)) (IsFaultOfFormula m ρ (formula_form f)) c.from_residual-in_err-first-in-Chain.ensures.1
+    part-by c.from_residual-in_err-first-in-Chain.result c.in_err-first-in-Chain.field-0.0 (IsFaultOfFormula m ρ (formula_form x)) (IsFaultOfFormula m ρ (formula_form f)) c.from_residual-in_err-first-in-Chain.ensures.1
     (λ p is. fault-of-chain m ρ p c.in-Chain.connective x c.in-Chain.first c.in-Chain.links c.in-Chain.links.items f c.in-Chain.is c.deref-in-Chain.ensures refl (inl is)) c.in_err-first-in-Chain.ensures.refused
 
 pub unfold_formula-returns-in_err-links-in-Chain-clause-refused : goal.unfold_formula-returns-in_err-links-in-Chain-clause-refused
 unfold_formula-returns-in_err-links-in-Chain-clause-refused t c =
     let u = c.args.formulas.now.unfolder.now in
-    let m = protocol_in u in
+    let m = form_in u in
     let ρ = scope_in u c.args.scope.now in
     let x = c.deref-in-Chain.result.now in
     let ls = c.deref-in-Chain-2.result.now in
     let f = c.args.formula.now in
-    part c.from_residual-in_err-links-in-Chain.result c.in_err-links-in-Chain.field-0.0 (IsFaultOfLinks m ρ ls) (IsFaultOfFormula m ρ (formula_form f)) c.from_residual-in_err-links-in-Chain.ensures.1
+    part-by c.from_residual-in_err-links-in-Chain.result c.in_err-links-in-Chain.field-0.0 (IsFaultOfLinks m ρ ls) (IsFaultOfFormula m ρ (formula_form f)) c.from_residual-in_err-links-in-Chain.ensures.1
     (λ p is. fault-of-chain m ρ p c.in-Chain.connective x c.in-Chain.first c.in-Chain.links ls f c.in-Chain.is c.deref-in-Chain.ensures c.deref-in-Chain-2.ensures.value (inr is)) c.in_err-links-in-Chain.ensures.refused
 
 pub unfold_formula-returns-in_err-take-in-Modal-clause-refused : goal.unfold_formula-returns-in_err-take-in-Modal-clause-refused
 unfold_formula-returns-in_err-take-in-Modal-clause-refused t c =
     let u = c.args.formulas.now.unfolder.now in
-    of-term c.from_residual-in_err-take-in-Modal.result c.in_err-take-in-Modal.field-0.0 (IsFaultOfFormula (protocol_in u) (scope_in u c.args.scope.now) (formula_form c.args.formula.now)) c.from_residual-in_err-take-in-Modal.ensures.1 c.in_err-take-in-Modal.ensures
+    of-term-by c.from_residual-in_err-take-in-Modal.result c.in_err-take-in-Modal.field-0.0 (IsFaultOfFormula (form_in u) (scope_in u c.args.scope.now) (formula_form c.args.formula.now)) c.from_residual-in_err-take-in-Modal.ensures.1 c.in_err-take-in-Modal.ensures
 
 pub unfold_formula-returns-in_err-steps-in-Modal-clause-refused : goal.unfold_formula-returns-in_err-steps-in-Modal-clause-refused
 unfold_formula-returns-in_err-steps-in-Modal-clause-refused t c =
     let u = c.args.formulas.now.unfolder.now in
-    let m = protocol_in u in
+    let m = form_in u in
     let ρ = scope_in u c.args.scope.now in
     let f = c.args.formula.now in
-    part c.from_residual-in_err-steps-in-Modal.result c.in_err-steps-in-Modal.field-0.0 (IsFaultOfSteps m ρ (instances m) (step_set_form c.in-Modal.steps)) (IsFaultOfFormula m ρ (formula_form f)) c.from_residual-in_err-steps-in-Modal.ensures.1
+    of-value-by c.from_residual-in_err-steps-in-Modal.result c.in_err-steps-in-Modal.field-0.0 (IsFaultOfSteps (erase m) ρ (instances (erase m)) (step_set_form c.in-Modal.steps)) (IsFaultOfFormula m ρ (formula_form f)) c.from_residual-in_err-steps-in-Modal.ensures.1
     (λ p is. subst (λ (g : tree.Formula). IsFaultOfFormula m ρ (formula_form g) p) (sym c.in-Modal.is) (inl is)) c.in_err-steps-in-Modal.ensures.refused
 
 pub unfold_formula-returns-in_err-operand-in-Modal-clause-refused : goal.unfold_formula-returns-in_err-operand-in-Modal-clause-refused
 unfold_formula-returns-in_err-operand-in-Modal-clause-refused t c =
     let u = c.args.formulas.now.unfolder.now in
-    let fault : tree.Formula → Place → Type 0 = λ f. IsFaultOfFormula (protocol_in u) (scope_in u c.args.scope.now) (formula_form f) in
-    part c.from_residual-in_err-operand-in-Modal.result c.in_err-operand-in-Modal.field-0.0 (fault c.deref-in-Modal.result.now) (fault c.args.formula.now) c.from_residual-in_err-operand-in-Modal.ensures.1
+    let fault : tree.Formula → UnfoldingFault → Type 0 = λ f. IsFaultOfFormula (form_in u) (scope_in u c.args.scope.now) (formula_form f) in
+    part-by c.from_residual-in_err-operand-in-Modal.result c.in_err-operand-in-Modal.field-0.0 (fault c.deref-in-Modal.result.now) (fault c.args.formula.now) c.from_residual-in_err-operand-in-Modal.ensures.1
     (λ p is. subst (λ (f : tree.Formula). fault f p) (sym c.in-Modal.is) (inr (subst (λ (f : tree.Formula). fault f p) c.deref-in-Modal.ensures is))) c.in_err-operand-in-Modal.ensures.refused
 
 pub unfold_formula-returns-in_err-take-in-Fixpoint-clause-refused : goal.unfold_formula-returns-in_err-take-in-Fixpoint-clause-refused
 unfold_formula-returns-in_err-take-in-Fixpoint-clause-refused t c =
     let u = c.args.formulas.now.unfolder.now in
-    of-term c.from_residual-in_err-take-in-Fixpoint.result c.in_err-take-in-Fixpoint.field-0.0 (IsFaultOfFormula (protocol_in u) (scope_in u c.args.scope.now) (formula_form c.args.formula.now)) c.from_residual-in_err-take-in-Fixpoint.ensures.1 c.in_err-take-in-Fixpoint.ensures
+    of-term-by c.from_residual-in_err-take-in-Fixpoint.result c.in_err-take-in-Fixpoint.field-0.0 (IsFaultOfFormula (form_in u) (scope_in u c.args.scope.now) (formula_form c.args.formula.now)) c.from_residual-in_err-take-in-Fixpoint.ensures.1 c.in_err-take-in-Fixpoint.ensures
 
 pub unfold_formula-returns-in_err-body-in-Fixpoint-clause-refused : goal.unfold_formula-returns-in_err-body-in-Fixpoint-clause-refused
 unfold_formula-returns-in_err-body-in-Fixpoint-clause-refused t c =
     let u = c.args.formulas.now.unfolder.now in
-    let fault : tree.Formula → Place → Type 0 = λ f. IsFaultOfFormula (protocol_in u) (scope_in u c.args.scope.now) (formula_form f) in
-    part c.from_residual-in_err-body-in-Fixpoint.result c.in_err-body-in-Fixpoint.field-0.0 (fault c.deref-in-Fixpoint.result.now) (fault c.args.formula.now) c.from_residual-in_err-body-in-Fixpoint.ensures.1
+    let fault : tree.Formula → UnfoldingFault → Type 0 = λ f. IsFaultOfFormula (form_in u) (scope_in u c.args.scope.now) (formula_form f) in
+    part-by c.from_residual-in_err-body-in-Fixpoint.result c.in_err-body-in-Fixpoint.field-0.0 (fault c.deref-in-Fixpoint.result.now) (fault c.args.formula.now) c.from_residual-in_err-body-in-Fixpoint.ensures.1
     (λ p is. subst (λ (f : tree.Formula). fault f p) (sym c.in-Fixpoint.is) (subst (λ (f : tree.Formula). fault f p) c.deref-in-Fixpoint.ensures is)) c.in_err-body-in-Fixpoint.ensures.refused
 
 pub unfold_formula-returns-in_err-tuples-in-Quantified-clause-refused : goal.unfold_formula-returns-in_err-tuples-in-Quantified-clause-refused
 unfold_formula-returns-in_err-tuples-in-Quantified-clause-refused t c =
     let u = c.args.formulas.now.unfolder.now in
-    of-term c.from_residual-in_err-tuples-in-Quantified.result c.in_err-tuples-in-Quantified.field-0.0 (IsFaultOfFormula (protocol_in u) (scope_in u c.args.scope.now) (formula_form c.args.formula.now)) c.from_residual-in_err-tuples-in-Quantified.ensures.1 c.in_err-tuples-in-Quantified.ensures.refused
+    of-term-by c.from_residual-in_err-tuples-in-Quantified.result c.in_err-tuples-in-Quantified.field-0.0 (IsFaultOfFormula (form_in u) (scope_in u c.args.scope.now) (formula_form c.args.formula.now)) c.from_residual-in_err-tuples-in-Quantified.ensures.1 c.in_err-tuples-in-Quantified.ensures.refused
 
 pub unfold_formula-returns-in_err-operands-in-Quantified-clause-refused : goal.unfold_formula-returns-in_err-operands-in-Quantified-clause-refused
 unfold_formula-returns-in_err-operands-in-Quantified-clause-refused t c =
     let u = c.args.formulas.now.unfolder.now in
-    let m = protocol_in u in
+    let m = form_in u in
     let ρ = scope_in u c.args.scope.now in
     let f = formula_form (box_value c.in-Quantified.body) in
     let groups = c.in-Quantified.variables.items in
@@ -268,7 +274,7 @@ unfold_formula-returns-in_err-operands-in-Quantified-clause-refused t c =
     let are : ts ≡ tuples_in u xs =
     ap (map tuple_of) c.deref-in-Quantified-4.ensures.value ∙ c.in_ok-tuples-in-Quantified.ensures.tuples
     ∙ ap (λ (ws : List Variable). tuples_in u (map variable_of ws)) c.deref-in-Quantified-2.ensures.value ∙ ap (tuples_in u) named in
-    part c.from_residual-in_err-operands-in-Quantified.result c.in_err-operands-in-Quantified.field-0.0 (IsFaultOfCopies m ρ vs ts f) (IsFaultOfFormula m ρ (formula_form c.args.formula.now)) c.from_residual-in_err-operands-in-Quantified.ensures.1
+    part-by c.from_residual-in_err-operands-in-Quantified.result c.in_err-operands-in-Quantified.field-0.0 (IsFaultOfCopies m ρ vs ts f) (IsFaultOfFormula m ρ (formula_form c.args.formula.now)) c.from_residual-in_err-operands-in-Quantified.ensures.1
     (λ p is.
     subst (λ (g : tree.Formula). IsFaultOfFormula m ρ (formula_form g) p) (sym c.in-Quantified.is)
     (subst (λ (ys : List syntax.Variable). IsFaultOfCopies m ρ ys (tuples_in u xs) f p) variables (subst (λ (kss : List (List syntax.Term)). IsFaultOfCopies m ρ vs kss f p) are is)))

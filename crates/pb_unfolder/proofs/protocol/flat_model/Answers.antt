@@ -1,4 +1,4 @@
-use Rattle.std.proofs.Common.{◌∙◌, refl, ap, subst, List, map}
+use Rattle.std.proofs.Common.{◌∙◌, inl, inr, refl, ap, subst, List, map}
 use Rattle.pb_text_tree.specs.declared.sort.SortDeclaration.{SortDeclaration}
 use Rattle.pb_text_tree.specs.declared.sort.Range.{Range}
 use Rattle.pb_text_tree.specs.Form.{sort_declaration_form, range_form}
@@ -7,13 +7,15 @@ use Rattle.pb_model_tree.specs.declared.model.Model.{Model}
 use Rattle.pb_model_tree.specs.Form.{model_form}
 use Rattle.pb_model_tree.specs.Form as flat_form
 use Rattle.pb_protocol_tree.specs.declared.protocol.Property.{Property}
-use Rattle.pb_protocol_tree.specs.Form.{property_form}
+use Rattle.pb_protocol_tree.specs.Form.{property_form, protocol_form}
 use Rattle.pb_unfolding.specs.Unfolding.{Element, variable_of}
-use Rattle.pb_unfolder_steps.specs.Unfolder.{protocol_in}
-use Rattle.pb_unfolder.specs.Faults.{IsFaultOfProperties}
+use Rattle.pb_unfolder_steps.specs.Outside.{IsOutsideAtStart}
+use Rattle.pb_unfolder_steps.specs.Unfolder.{form_in}
+use Rattle.pb_unfolder.specs.Faults.{IsFaultOfProperties, OfIndex}
+use Rattle.pb_unfolder.specs.Parts.{IsFaultOfModel}
 use Rattle.pb_unfolder.specs.Places.{HavePlaces}
 use Rattle.pb_unfolder.specs.Unfolded.{left_property}
-use Rattle.pb_unfolder.proofs.FaultLemmas.{of-term, part}
+use Rattle.pb_unfolder.proofs.FaultLemmas.{part-by}
 use Rattle.pb_unfolder.proofs.UnfoldedLemmas.{model-said}
 use Rattle.pb_unfolder.proofs.protocol.flat_model.Goals as goal
 
@@ -42,11 +44,13 @@ returns-clause-formulas c =
 
 pub returns-in_err-values-clause-refused : goal.returns-in_err-values-clause-refused
 returns-in_err-values-clause-refused c =
-    let m = protocol_in c.args.unfolder.now in
-    of-term c.from_residual-in_err-values.result c.in_err-values.field-0.0 (IsFaultOfProperties m (map property_form c.args.protocol.now.properties.items)) c.from_residual-in_err-values.ensures.1 c.in_err-values.ensures.refused
+    let p = c.args.protocol.now in
+    part-by c.from_residual-in_err-values.result c.in_err-values.field-0.0 (OfIndex (IsOutsideAtStart (protocol_form p))) (IsFaultOfModel (protocol_form p) (form_in c.args.unfolder.now) (map property_form p.properties.items)) c.from_residual-in_err-values.ensures.1
+    (λ f o. inl o) c.in_err-values.ensures.refused
 
 pub returns-in_err-properties-clause-refused : goal.returns-in_err-properties-clause-refused
 returns-in_err-properties-clause-refused c =
-    let m = protocol_in c.args.unfolder.now in
-    part c.from_residual-in_err-properties.result c.in_err-properties.field-0.0 (IsFaultOfProperties m (map property_form c.deref-3.result.now)) (IsFaultOfProperties m (map property_form c.args.protocol.now.properties.items)) c.from_residual-in_err-properties.ensures.1
-    (λ p is. subst (λ (ps : List Property). IsFaultOfProperties m (map property_form ps) p) c.deref-3.ensures.value is) c.in_err-properties.ensures.refused
+    let m = form_in c.args.unfolder.now in
+    let p = c.args.protocol.now in
+    part-by c.from_residual-in_err-properties.result c.in_err-properties.field-0.0 (IsFaultOfProperties m (map property_form c.deref-3.result.now)) (IsFaultOfModel (protocol_form p) m (map property_form p.properties.items)) c.from_residual-in_err-properties.ensures.1
+    (λ f is. inr (subst (λ (ps : List Property). IsFaultOfProperties m (map property_form ps) f) c.deref-3.ensures.value is)) c.in_err-properties.ensures.refused

@@ -1,7 +1,6 @@
-use Rattle.std.proofs.Common.{◌∙◌, ap, subst, List, map}
+use Rattle.std.proofs.Common.{◌≡◌, ◌∙◌, inl, ap, subst, sym, List, map}
 use Rattle.pb_text_tree.specs.declared.sort.SortDeclaration.{SortDeclaration}
-use Rattle.pb_protocol_meaning.specs.Syntax.{Protocol}
-use Rattle.pb_protocol_tree.specs.Form.{property_form, protocol_form}
+use Rattle.pb_protocol_tree.specs.Form.{protocol_form}
 use Rattle.pb_folding.specs.Names.{enumerators_in}
 use Rattle.pb_unfolding.specs.Unfolding as definitions
 use Rattle.pb_unfolding.specs.Unfolding.{name_of}
@@ -9,12 +8,15 @@ use Rattle.pb_unfolder_steps.specs.declared.instance.Instance as declared
 use Rattle.pb_unfolder_steps.specs.declared.element.Element as declared_element
 use Rattle.pb_unfolder_steps.specs.Elements.{element_said, instance_said}
 use Rattle.pb_unfolder_steps.specs.Refusals.{element_place, instance_place}
-use Rattle.pb_unfolder_steps.specs.Unfolder.{protocol_in}
+use Rattle.pb_unfolder_steps.specs.Steps.{is_kept}
+use Rattle.pb_protocol_tree.specs.Form.{ProtocolForm}
+use Rattle.pb_unfolder_steps.specs.Outside.{IsOutsideInSteps, PlacedInstance, instance_form, placed_instances}
+use Rattle.pb_unfolder_steps.specs.Unfolder.{form_in, protocol_in}
 use Rattle.pb_unfolder.specs.Apart.{declarations_said}
-use Rattle.pb_unfolder.specs.Faults.{IsFaultOfProperties, IsUnfoldingFault}
-use Rattle.pb_unfolder.specs.Parts.{IsFaultIn, IsFaultOfElements, IsFaultOfInstances, IsFaultOfTerm}
-use Rattle.pb_unfolder.specs.Told.{told_instance, told_steps}
-use Rattle.pb_unfolder.proofs.FaultLemmas.{part-breaks, refused, term-breaks}
+use Rattle.pb_unfolder.specs.Faults.{IsUnfoldingFault, OfIndex}
+use Rattle.pb_unfolder.specs.Parts.{IsFaultBy, IsFaultOfElements, IsFaultOfInstances, IsFaultOfModel, IsFaultOfTerm}
+use Rattle.pb_unfolder.specs.Told.{impossible_steps, told_instance, told_steps}
+use Rattle.pb_unfolder.proofs.FaultLemmas.{fault-by, index-breaks, model-breaks, refused, term-breaks}
 use Rattle.pb_unfolder.proofs.NameFaults.{elements-clash, instances-clash}
 use Rattle.pb_unfolder.proofs.UnfoldedLemmas.{kept-instances, apart-instances}
 use Rattle.pb_unfolder.proofs.protocol.unfold.Goals as goal
@@ -72,14 +74,38 @@ returns-in_err-check_instances-clause-refused c =
 pub returns-in_err-steps-clause-refused : goal.returns-in_err-steps-clause-refused
 returns-in_err-steps-clause-refused c =
     let m = protocol_form c.args.protocol.now in
-    refused c.from_residual-in_err-steps.result c.in_err-steps.field-0.0 IsFaultOfTerm (IsUnfoldingFault m) c.from_residual-in_err-steps.ensures.1 (term-breaks m) c.in_err-steps.ensures.refused
+    let F = form_in c.in_ok-unfolder.unfolder in
+    let is = map instance_form c.deref-5.result.now in
+    let steps : is ≡ placed_instances m = ap (map instance_form) c.deref-5.ensures.value ∙ c.in_ok-instances.ensures.forms in
+    let P = IsOutsideInSteps F is in
+    refused c.from_residual-in_err-steps.result c.in_err-steps.field-0.0 (IsFaultBy (OfIndex P)) (IsUnfoldingFault m) c.from_residual-in_err-steps.ensures.1
+    (index-breaks m P (λ p o. inl (subst (λ (js : List PlacedInstance). IsOutsideInSteps m js p) steps (subst (λ (G : ProtocolForm). IsOutsideInSteps G is p) c.in_ok-unfolder.ensures.form o)))) c.in_err-steps.ensures.refused
 
 pub returns-in_err-model-clause-refused : goal.returns-in_err-model-clause-refused
 returns-in_err-model-clause-refused c =
     let m = protocol_form c.args.protocol.now in
-    let u = c.in_ok-unfolder.unfolder in
-    let properties = map property_form c.args.protocol.now.properties.items in
-    let fault = IsFaultOfProperties (protocol_in u) properties in
-    refused c.from_residual-in_err-model.result c.in_err-model.field-0.0 (IsFaultIn fault) (IsUnfoldingFault m) c.from_residual-in_err-model.ensures.1
-    (part-breaks m fault (λ p is. subst (λ (v : Protocol). IsFaultOfProperties v properties p) c.in_ok-unfolder.ensures.protocol is))
+    let F = form_in c.in_ok-unfolder.unfolder in
+    let P = IsFaultOfModel m F m.properties in
+    let Q = IsFaultOfModel m m m.properties in
+    refused c.from_residual-in_err-model.result c.in_err-model.field-0.0 (IsFaultBy P) (IsUnfoldingFault m) c.from_residual-in_err-model.ensures.1
+    (λ f is. model-breaks m f (fault-by P Q (λ g o. subst (λ (G : ProtocolForm). IsFaultOfModel m G m.properties g) c.in_ok-unfolder.ensures.form o) f is))
     c.in_err-model.ensures.refused
+
+pub impossible_steps-requires : goal.impossible_steps-requires
+impossible_steps-requires c =
+    let u = c.in_ok-unfolder.unfolder in
+    let same = c.in_ok-unfolder.ensures.protocol in
+    record {
+      kept =
+          c.deref-12.ensures.value ∙ c.in_ok-steps.ensures.kept
+          ∙ ap (λ (xs : List declared.Instance). map (is_kept (protocol_in u)) (map instance_said xs)) c.deref-5.ensures.value
+          ∙ ap (map (is_kept (protocol_in u))) (c.in_ok-instances.ensures.instances ∙ ap definitions.instances (sym same));
+    }
+
+pub returns-clause-impossible : goal.returns-clause-impossible
+returns-clause-impossible c = c.in_ok-impossible.ensures.names ∙ ap impossible_steps c.in_ok-unfolder.ensures.protocol
+
+pub returns-in_err-impossible-clause-refused : goal.returns-in_err-impossible-clause-refused
+returns-in_err-impossible-clause-refused c =
+    let m = protocol_form c.args.protocol.now in
+    refused c.from_residual-in_err-impossible.result c.in_err-impossible.field-0.0 IsFaultOfTerm (IsUnfoldingFault m) c.from_residual-in_err-impossible.ensures.1 (term-breaks m) c.in_err-impossible.ensures.refused
