@@ -2,9 +2,8 @@
 //! numbers of instances in a layout, the trees of instances, and the module that comes back where it
 //! is refused; then, on one small module, steps of the reference, words that two seats step on, and
 //! one worker alone with and without memory. The expected values were worked out by hand, and the
-//! helpers keep the conditions of what they call. Bytes, codes and
-//! listings are tested by `rows/` (`modules.toml`, `code.toml`), and generated modules by
-//! `bench/fuzzing_modules.py`.
+//! helpers keep the conditions of what they call. Bytes, codes and listings are tested by
+//! `tests/rows/` (`modules.toml`, `code.toml`), and generated modules by `tests/fuzzing_modules.py`.
 #![tactic(auto)]
 
 #[cfg(test)]

@@ -224,7 +224,7 @@ fn one_worker(rt: HostRuntime) -> Result<(), Fail> {
 }
 
 // After refused memory nothing is taken: the seat gave back what it held and kept what it marked,
-// be it at its first, its second or its third instance. `bench/refusals.py` refuses the requests in
+// be it at its first, its second or its third instance. `tests/refusals.py` refuses the requests in
 // turn, and reads from what is printed at which instance each left the worker.
 #[test]
 fn worker_without_memory(rt: HostRuntime) -> Result<(), Fail> {

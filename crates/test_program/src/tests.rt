@@ -1,6 +1,6 @@
 //! One run of the program in memory, for the tests below. What the program writes of an input is
-//! tested by `rows/`; here stand readers and writers that fail, workers that are watched, and what
-//! is compared with the plain solver.
+//! tested by `tests/rows/`; here stand readers and writers that fail, workers that are watched, and
+//! what is compared with the plain solver.
 mod faults;
 mod overlap;
 mod parts;

@@ -1,4 +1,4 @@
-//! A module in bytes. Listings of modules stand in `rows/listings.toml`.
+//! A module in bytes. Listings of modules stand in `tests/rows/listings.toml`.
 
 use crate::compiled::compiled;
 use std::test::Fail;

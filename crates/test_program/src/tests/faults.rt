@@ -21,7 +21,7 @@ fn writer(alloc: Global, budget: usize, is_slow: bool) -> Budget {
     }
 }
 
-// U01: no words at all. Other words stand in `rows/words.toml`.
+// U01: no words at all. Other words stand in `tests/rows/words.toml`.
 const WRONG_WORDS: [&[&str]; 1] = [&[]];
 
 #[test]

@@ -1,5 +1,5 @@
 //! Both solvers: the one that is asked for works. That what the program writes is the same with
-//! either is tested by `rows/answers.toml`.
+//! either is tested by `tests/rows/answers.toml`.
 use super::ROOM;
 use crate::budget::Budget;
 use crossbeam_utils::atomic::AtomicCell;

@@ -1,7 +1,7 @@
 #!/usr/bin/env python3
 """Turns what `pbsolve explain` or `pbsolve game` writes, on standard input, into a graph for Graphviz:
 
-    pbsolve explain < FILE | python3 bench/picture.py | dot -Tsvg > FILE.svg
+    pbsolve explain < FILE | python3 tools/picture.py | dot -Tsvg > FILE.svg
 
 Of evidence: a node for each instance, with edges to those that it rests on; the initial one has a double border, and what lies on
 cycles is red (of a lasso: the run that goes round). With `--places` each edge has the place of its call. Of a game, which is to be

@@ -1,6 +1,6 @@
 """Data terms of models and texts from a generator: each a text, and a function from the values of its variables to its own.
 
-Of bench/fuzzing_models.py. What a term means was written anew from docs/MANUAL.md, "The text language"."""
+Of tests/fuzzing_models.py. What a term means was written anew from docs/MANUAL.md, "The text language"."""
 
 # The sorts with their values: an enumeration, aliases with ranges of their own, one of them of a single number.
 VALUES = {"Bool": (False, True), "Nat": (0, 1, 2), "Small": (-1, 0, 1), "One": (1,), "D": ("a", "c")}

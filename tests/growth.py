@@ -1,7 +1,7 @@
 #!/usr/bin/env python3
 """Counts how often the program's loops turn on families of texts that are made to be hard, so that no time of squares comes back unseen.
 
-    bench/growth.py PROGRAM [FAMILY..]    by a built program: all of families.py and game_families.py, or those of these names
+    tests/growth.py PROGRAM [FAMILY..]    by a built program: all of families.py and game_families.py, or those of these names
 
 Each family is solved at a size and at twice that size. Counted are turns of loops (`turns.c`, compiled by the toolchain's own clang), which are
 the same in each run on each machine: a jump to what stands before it, as `llvm-objdump` finds them, is a breakpoint. What the program takes for a

@@ -1,7 +1,7 @@
 #!/usr/bin/env python3
 """Asks the program of generated and changed texts, each made from its seed: random words, or a known text with up to three changes.
 
-    bench/fuzzing_texts.py PROGRAM [FIRST [COUNT]]    the seeds from FIRST on, 4,000 from 0 on where nothing is said: the gate's part
+    tests/fuzzing_texts.py PROGRAM [FIRST [COUNT]]    the seeds from FIRST on, 4,000 from 0 on where nothing is said: the gate's part
 
 Each is answered with status 0, something on standard output and nothing on standard error, or refused with status 1, one line on
 standard error and nothing on standard output. Prints each that is not, and how many were answered and refused."""
@@ -10,6 +10,9 @@ import os
 import re
 import subprocess
 import sys
+
+sys.dont_write_bytecode = True
+from generator import Generator
 
 COMMANDS = ("solve", "game", "solution", "compile")
 # Words of which texts are made.
@@ -33,24 +36,6 @@ TEXTS = (
     "%range Int 0 2\npbes nu X = exists m, n: Int . forall k: Int . val(n == 2 && m == 2 && k + n == m); init X;",
     "pbes nu X(b: Bool) = val(!b => b || b && true) || !(!X(!b)); init X(false);",
 )
-
-
-class Generator:
-    """A linear congruential generator with Knuth's constants, of whose state the high bits are given. Neighbouring seeds begin far apart."""
-
-    def __init__(self, seed):
-        self.state = seed * 0x9E3779B97F4A7C15
-        self.below(1)
-
-    def below(self, bound):
-        self.state = (self.state * 6364136223846793005 + 1442695040888963407) % (1 << 64)
-        return (self.state >> 33) % bound
-
-    def once_in(self, times):
-        return self.below(times) == 0
-
-    def one_of(self, items):
-        return items[self.below(len(items))]
 
 
 def random_words(generator):

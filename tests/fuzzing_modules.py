@@ -1,10 +1,10 @@
 #!/usr/bin/env python3
 """Asks the program of known modules with each byte changed, and of generated and changed modules, each made from its seed.
 
-    bench/fuzzing_modules.py PROGRAM                  the gate's part: the known modules, and the seeds from 0 to 3,999
-    bench/fuzzing_modules.py PROGRAM FIRST [COUNT]    the seeds from FIRST on alone, 4,000 where no number is said
+    tests/fuzzing_modules.py PROGRAM                  the gate's part: the known modules, and the seeds from 0 to 3,999
+    tests/fuzzing_modules.py PROGRAM FIRST [COUNT]    the seeds from FIRST on alone, 4,000 where no number is said
 
-What a module says and means is worked out by bench/modules.py and bench/module_runs.py, which were written for this from its definition.
+What a module says and means is worked out by tests/modules.py and tests/module_runs.py, which were written for this from its definition.
 A module is refused by the same rule at the same place; else it is accepted or refused so, and one in four is listed so. Accepted code is run by a machine
 that tests the kinds and bounds of each step, at 256 instances of an equation at most, evenly spread: it never faults. Where at most 64
 instances are reached, the program's report is that of the nested fixpoint over their trees; so it is with other initial instances in the module's
@@ -20,6 +20,7 @@ import sys
 
 sys.dont_write_bytecode = True
 import modules
+from generator import Generator
 from module_runs import Fault, Machine, instances_of, reached_from, report
 
 # How many instances of an equation are run, and how many a module may reach whose report is compared.
@@ -46,33 +47,16 @@ COMMANDS = ("verify", "list", "solve-code")
 OPEN = 6
 
 
-class Generator:
-    """A linear congruential generator with Knuth's constants, of whose state the high bits are given. Neighbouring seeds begin far apart."""
-
-    def __init__(self, seed):
-        self.state = seed * 0x9E3779B97F4A7C15
-        self.below(1)
-
-    def below(self, bound):
-        self.state = (self.state * 6364136223846793005 + 1442695040888963407) % (1 << 64)
-        return (self.state >> 33) % bound if bound else 0
-
-    def once_in(self, times):
-        return self.below(times) == 0
-
-    def one_of(self, items):
-        return items[self.below(len(items))]
-
-    def carrier(self, sorts):
-        """A carrier of few values."""
-        way = self.below(4)
-        if way == 0:
-            return modules.BOOL
-        if way == 1 and sorts:
-            sort = self.below(len(sorts))
-            return modules.Values(sort, 0, sorts[sort] - 1)
-        low = self.below(5) - 2
-        return modules.Values("Int", low, low + self.below(4))
+def carrier_of(generator, sorts):
+    """A carrier of few values."""
+    way = generator.below(4)
+    if way == 0:
+        return modules.BOOL
+    if way == 1 and sorts:
+        sort = generator.below(len(sorts))
+        return modules.Values(sort, 0, sorts[sort] - 1)
+    low = generator.below(5) - 2
+    return modules.Values("Int", low, low + generator.below(4))
 
 
 def spelled(carriers):
@@ -262,7 +246,7 @@ def generated(generator):
     """A module with a valid header, at most two sorts and four equations, and random code."""
     sorts = [generator.below(4) + 1 for _ in range(generator.below(3))]
     equations = [
-        tuple([generator.carrier(sorts) for _ in range(generator.below(bound))] for bound in (3, 4)) for _ in range(generator.below(4) + 1)
+        tuple([carrier_of(generator, sorts) for _ in range(generator.below(bound))] for bound in (3, 4)) for _ in range(generator.below(4) + 1)
     ]
     version = generator.below(2) + 1
     parts = [b"PBES", bytes([version, len(sorts)]), *(bytes([count]) + b"\1e" * count for count in sorts), bytes([len(equations)])]

@@ -1,5 +1,5 @@
-"""Families of texts that are made to be hard for a part of the program: each takes a size and gives a text. Of bench/hard; game_families.py has those
-whose games are hard."""
+"""Families of texts that are made to be hard for a part of the program: each takes a size and gives a text. Of growth.py and of bench/hard;
+game_families.py has those whose games are hard."""
 
 
 def wide(sign, quantifier, size):

@@ -1,10 +1,9 @@
 """Models from a generator: state variables, steps, an initial state and properties, with all states and where each step leads from them.
 
-Of bench/fuzzing_models.py. What a step means was written anew from docs/MANUAL.md, "Models"."""
+Of tests/fuzzing_models.py. What a step means was written anew from docs/MANUAL.md, "Models"."""
 import itertools
 import re
 
-from fuzzing_systems import Generator
 from generated_terms import DECLARATIONS, KIND, VALUES, Terms
 
 # What stands in `val(..)` as a test: it begins as a formula might, or has a connective or a quantifier.
@@ -16,9 +15,9 @@ OUTSIDE, TRUE, FALSE = None, ("true",), ("false",)
 class Model:
     """State variables, steps, an initial state and properties, with all states and where each step leads from them."""
 
-    def __init__(self, seed):
-        self.generator = Generator(seed)
-        self.terms = Terms(self.generator, self.generator.below(3) == 0)
+    def __init__(self, generator):
+        self.generator = generator
+        self.terms = Terms(generator, generator.below(3) == 0)
         kept = [pair for pair in (("n", "Nat"), ("m", "Small"), ("d", "D"), ("b", "Bool")) if self.generator.below(3)]
         self.sorts = dict(kept or [("n", "Nat")])
         self.states = list(itertools.product(*(VALUES[sort] for sort in self.sorts.values())))

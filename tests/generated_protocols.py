@@ -1,6 +1,6 @@
 """Models with arrays, definitions, steps by their values and quantified formulas, from a generator: with all states and where each step leads.
 
-Of bench/fuzzing_models.py. What they mean was written anew from docs/MANUAL.md, "Models", by values alone: an array is a table, a definition
+Of tests/fuzzing_models.py. What they mean was written anew from docs/MANUAL.md, "Models", by values alone: an array is a table, a definition
 a function, and nothing is put in for a name."""
 import itertools
 

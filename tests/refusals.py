@@ -1,8 +1,8 @@
 #!/usr/bin/env python3
 """Refuses each request for memory of the program in turn, and each start of a thread, and prints a table of what came of it.
 
-    bench/refusals.py PROGRAM          PROGRAM is crates/pbsolve_main/out/pbsolve_main, as LLVM builds it
-    bench/refusals.py PROGRAM TESTS    the gate's part: with two workers one request in seven and one calm run alone; and the test of one
+    tests/refusals.py PROGRAM          PROGRAM is crates/pbsolve_main/out/pbsolve_main, as LLVM builds it
+    tests/refusals.py PROGRAM TESTS    the gate's part: with two workers one request in seven and one calm run alone; and the test of one
                                        worker without memory in TESTS, the built tests of test_modules, is refused each of its requests too
 
 `refuse.c` beside this file is compiled, by the toolchain's own clang, and loaded into the program; it counts the calls of malloc, realloc
@@ -20,20 +20,15 @@ import sys
 import tempfile
 import threading
 
+sys.dont_write_bytecode = True
+from fuzzing_modules import COUNTS_DOWN, OTHERS as MODULE
+
 CYCLE = b"pbes mu X = Y; nu Y = X; init X;"
 OTHERS = b"sort D = struct a | b | c; pbes nu X(d: D) = forall e: D . val(e != d) => X(e); init X(a);"
 INNER = b"pbes nu X = (X && Y) || Y; mu Y = Y; init X;"
 DATA = (
     b"%range Nat 0 3\nsort D = struct a?is_a | b; M = Nat; pbes nu X(d: D, n: M) = (forall m: M . val(m < n || is_a(d)) => X(d, m)) && "
     b"val(exists e: D . e != d); mu Y(n: Nat) = val(max(n, 1) div 2 == 0 && -n mod 2 == if(n > 0, 1, 0)) || Y(pred(n)); init Y(3);"
-)
-MODULE = bytes.fromhex(
-    "50424553010103016101620163010101580101000101001c000000050000000c001e1c01040104001415190900040124001d2000"
-    "000000000000000000"
-)
-COUNTS_DOWN = bytes.fromhex(
-    "504245530200010001580102000000000900000000" "0a000000040000000a001f2500010000000900000007000400"
-    "0101000000000000000724001808002120000009" "00000000000000"
 )
 MODEL = (
     b"sort D = struct a | b; model state p: D, q: Bool; step s(d: D): d != p -> p := d; t: p == b -> q := !q; init a, false; "

@@ -1,10 +1,9 @@
 """Families of texts whose games are hard for solvers that look at the same vertices again and again: bench/hard times them at four sizes, and
-bench/growth.py counts at two small ones that none of them grows faster than it should.
+growth.py counts at two small ones that none of them grows faster than it should.
 
 Layers are countdowns that may idle: each layer is a cycle of its own, so that a turn of Zielonka's recursion (1998) takes one of them. With `back` the
 winner may go back to the start at its own cost, so that all layers are one strongly connected component."""
-import random
-
+from generator import Generator
 
 
 def counting_down(n, back=False):
@@ -117,9 +116,9 @@ def ladders(rungs, beside=1, back=False):
 
 def blocks(count):
     """Small components side by side, each of 63 vertices with as many priorities and two successors drawn at random."""
-    drawn, equations = random.Random(1), ""
+    generator, equations = Generator(8), ""
     for k in range(63):
-        left, right, joined = drawn.randrange(63), drawn.randrange(63), drawn.choice(("&&", "||"))
+        left, right, joined = generator.below(63), generator.below(63), generator.one_of(("&&", "||"))
         equations += f"{'mu' if k % 2 == 0 else 'nu'} X{k}(n: Int) = X{left}(n) {joined} X{right}(n);\n"
     return f"%range Int 0 {count - 1}\npbes nu Z = forall n: Int . X0(n);\n{equations}init Z;\n"
 

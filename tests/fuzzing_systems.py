@@ -1,7 +1,7 @@
 #!/usr/bin/env python3
 """Asks the program of generated systems of three equations over the numbers 0 to 2 and a sort of two, each made from its seed.
 
-    bench/fuzzing_systems.py PROGRAM [FIRST [COUNT]]    the seeds from FIRST on, 1,000 from 0 on where nothing is said: the gate's part
+    tests/fuzzing_systems.py PROGRAM [FIRST [COUNT]]    the seeds from FIRST on, 1,000 from 0 on where nothing is said: the gate's part
 
 The truth of each instance is worked out by the nested fixpoint as it is defined. `solve` and `solution` must tell it, and the lines of
 `explain` must be a proof graph for it (Cranen, Luttik and Willemse 2013), by a checker that was written from what a proof graph is
@@ -13,6 +13,9 @@ import os
 import re
 import subprocess
 import sys
+
+sys.dont_write_bytecode = True
+from generator import Generator
 
 # What a right side may begin with, each of which opens one bracket, and its truth, where `t` tells that of an instance and `rest` that of what follows.
 OPENINGS = (
@@ -44,20 +47,6 @@ LINE = re.compile(r"(\w\(\d,\w\)) (true|false):((?: \w\(\d,\w\))*)( cut)?")
 
 # An equation with the parameters `n: Nat, d: D`, and the truth of its right side.
 Equation = collections.namedtuple("Equation", "sign name text truth")
-
-
-class Generator:
-    """A linear congruential generator with Knuth's constants, of whose state the high bits are given."""
-
-    def __init__(self, seed):
-        self.state = seed
-
-    def below(self, bound):
-        self.state = (self.state * 6364136223846793005 + 1442695040888963407) % (1 << 64)
-        return (self.state >> 33) % bound
-
-    def one_of(self, items):
-        return items[self.below(len(items))]
 
 
 def truth_of(openings, ending):

@@ -1,7 +1,7 @@
 #!/usr/bin/env python3
 """Compares what the program reads with a recogniser of the grammar.
 
-    bench/recognising_texts.py PROGRAM [FIRST [COUNT]]    the sentences of these seeds, 5,000 from 0 on where nothing is said: the gate's part
+    tests/recognising_texts.py PROGRAM [FIRST [COUNT]]    the sentences of these seeds, 5,000 from 0 on where nothing is said: the gate's part
 
 The recogniser keeps a set of states (Earley 1970) and is written from the grammar's table alone, so that the reader, which goes down
 recursively, is compared with something that is made in another way. Tried are all sequences of three tokens as the right side of an
@@ -14,6 +14,9 @@ import os
 import re
 import subprocess
 import sys
+
+sys.dont_write_bytecode = True
+from generator import Generator
 
 # A level, and what may stand for it: first what leads to an end soonest. A word that begins with a capital letter is a level, or the end.
 GRAMMAR = """
@@ -73,21 +76,6 @@ BEGINNINGS = ("pbes nu name =".split(), "pbes nu name = val (".split())
 ENDING = "; init name ;".split()
 SPELLINGS = {"name": "X", "number": "10"}
 DEFECTS = (("# ", "P01"), ("4611686018427387905 ", "P03"), ("\n%range X 1\n", "P05"))
-
-
-class Generator:
-    """A linear congruential generator with Knuth's constants, of whose state the high bits are given. Neighbouring seeds begin far apart."""
-
-    def __init__(self, seed):
-        self.state = seed * 0x9E3779B97F4A7C15
-        self.below(1)
-
-    def below(self, bound):
-        self.state = (self.state * 6364136223846793005 + 1442695040888963407) % (1 << 64)
-        return (self.state >> 33) % bound
-
-    def one_of(self, items):
-        return items[self.below(len(items))]
 
 
 def closed(states, earlier):
