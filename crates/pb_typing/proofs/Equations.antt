@@ -1,28 +1,27 @@
 -- The right sides of a text's equations, one by one.
-use Rattle.std.proofs.Common.{◌≡◌, ℕ, zero, suc, ◌+◌, ◌<◌, ◌≤◌, List, [], ◌∷◌, ◌++◌, map, length, get_or, drop, refl, sym, ◌∙◌, ap, subst, arith}
-use Rattle.std.specs.List.{All}
-use Rattle.std.proofs.lemmas.List.{append-nil, append_assoc, drop_all}
+use Rattle.std.proofs.Common.{◌≡◌, ℕ, zero, suc, ◌+◌, ◌<◌, ◌≤◌, List, [], ◌∷◌, ◌++◌, map, length, get_or, drop, refl, sym, ◌∙◌, ap, arith, Some}
+use Rattle.std.specs.List.{slice_get}
+use Rattle.std.proofs.lemmas.List.{append-nil, append_assoc, drop_all, length-map}
+use Rattle.std.proofs.lemmas.Option.{same_Some}
+use Rattle.pb_sorts.specs.declared.carrier.Carrier.{Carrier}
 use Rattle.pb_sorts.proofs.Places.{drop-at}
 use Rattle.pb_text_tree.specs.declared.place.Place.{Place}
 use Rattle.pb_text_tree.specs.declared.spec.Equation.{Equation}
-use Rattle.pb_text_tree.specs.Form.{EquationForm, SpecForm, equation_form}
+use Rattle.pb_text_tree.specs.Form.{EquationForm, equation_form}
 use Rattle.pb_text_meaning.specs.Syntax as syntax
 use Rattle.pb_text_meaning.specs.Syntax.{Spec}
-use Rattle.pb_text_meaning.specs.Erase.{erase, erased_equation, erased_variables}
-use Rattle.pb_typing_declarations.specs.Declarations.{declaration_faults}
+use Rattle.pb_text_meaning.specs.Erase.{erased_equation, erased_variables}
 use Rattle.pb_typing_declarations.specs.Entries.{shapes_of}
-use Rattle.pb_typing_declarations.specs.Shapes.{Shape}
-use Rattle.pb_typing_declarations.specs.WellDeclared.{AreVariables}
-use Rattle.pb_typing_declarations.proofs.DeclaredLaw as declaration
+use Rattle.pb_typing_declarations.specs.Shapes.{Shape, variable_shapes}
 use Rattle.pb_typing_rules.specs.Faults.{right_faults}
 use Rattle.pb_typed_tree.specs.declared.formula.Equation as declared
 use Rattle.pb_typed_tree.specs.Calls.{call_places, calls_in, tree_calls}
 use Rattle.pb_typed_tree.specs.Elaboration.{elaborated_equation}
-use Rattle.pb_typed_tree.specs.Loops.{AreShaped, equation_loops}
+use Rattle.pb_typed_tree.specs.Loops.{equation_loops}
 use Rattle.pb_typed_tree.specs.Tree.{Formula}
 use Rattle.pb_typed_tree.specs.View.{formula_view}
 use Rattle.pb_typing.specs.Rights.{AreRights, IsRight, own_faults}
-use Rattle.pb_typing_nodes.proofs.Shaped.{variables-shaped}
+use Rattle.pb_typing.specs.Typed.{IsLayout}
 
 abbrev pub erased : Equation → syntax.Equation
 erased X = erased_equation (equation_form X)
@@ -32,19 +31,32 @@ all_erased xs = map erased_equation (map equation_form xs)
 
 -- ---- their parameters
 
-abbrev pub AreShapedEquations : Spec → List Equation → Type 0
-AreShapedEquations S [] = Unit {0}
-AreShapedEquations S (X ∷ xs) = AreShaped S (erased_variables (equation_form X).parameters) × AreShapedEquations S xs
+pub layout_length : (S : Spec) (xs : List Equation) (layout : List (List Carrier)) → IsLayout S layout → S.equations ≡ all_erased xs → length layout ≡ length xs
+layout_length S xs layout laid are =
+    let lists = length-map layout shapes_of in
+    let forms = length-map xs equation_form in
+    let erasures = length-map (map equation_form xs) erased_equation in
+    let shapes = length-map (all_erased xs) (λ (X : syntax.Equation). variable_shapes S X.parameters) in
+    let same : length (map shapes_of layout) ≡ length (map (λ (X : syntax.Equation). variable_shapes S X.parameters) (all_erased xs)) =
+    ap length (laid.shapes ∙ ap (map (λ (X : syntax.Equation). variable_shapes S X.parameters)) are) in
+    omega (arith, lists, forms, erasures, shapes, same)
 
-shaped_equations : (S : Spec) (xs : List Equation) → All (λ (X : syntax.Equation). AreVariables S X.parameters) (all_erased xs) → AreShapedEquations S xs
-shaped_equations S [] all = tt
-shaped_equations S (X ∷ xs) all =
-    (variables-shaped S (erased X).parameters (all zero (erased X) (omega arith)).shaped, shaped_equations S xs (λ k e below. all (suc k) e (omega (arith, below))))
+shapes_there : (S : Spec) (xs : List Equation) (layout : List (List Carrier)) (k : ℕ) (X : Equation) (cs : List Carrier) → map shapes_of layout ≡ map (λ (Y : syntax.Equation). variable_shapes S Y.parameters) (all_erased xs)
+    → slice_get layout k ≡ Some cs → k < length xs → X ≡ get_or xs k X → shapes_of cs ≡ variable_shapes S (erased X).parameters
+shapes_there S [] layout k X cs same there below at = absurd (omega (arith, below))
+shapes_there S (Y ∷ xs) [] k X cs same there below at = cc
+shapes_there S (Y ∷ xs) (ds ∷ layout) zero X cs same there below at =
+    let first : shapes_of ds ≡ variable_shapes S (erased Y).parameters = cc in
+    ap shapes_of (sym (same_Some ds cs there)) ∙ (first ∙ ap (λ (Z : Equation). variable_shapes S (erased Z).parameters) (sym at))
+shapes_there S (Y ∷ xs) (ds ∷ layout) (suc k) X cs same there below at =
+    let rest : map shapes_of layout ≡ map (λ (Z : syntax.Equation). variable_shapes S Z.parameters) (all_erased xs) = cc in
+    shapes_there S xs layout k X cs rest there (omega (arith, below)) at
 
-pub text_shaped : (text : SpecForm) (xs : List Equation) → declaration_faults text ≡ [] → text.equations ≡ map equation_form xs → AreShapedEquations (erase text) xs
-text_shaped text xs none same =
-    shaped_equations (erase text) xs
-    (subst (λ (E : List EquationForm). All (λ (X : syntax.Equation). AreVariables (erase text) X.parameters) (map erased_equation E)) same (declaration.declared text none).parameters)
+-- the carriers that stand at an equation's place are those of its parameters
+pub parameters_at : (S : Spec) (xs : List Equation) (layout : List (List Carrier)) (k : ℕ) (X : Equation) (cs : List Carrier) → IsLayout S layout → S.equations ≡ all_erased xs
+    → slice_get layout k ≡ Some cs → k < length xs → X ≡ get_or xs k X → shapes_of cs ≡ variable_shapes S (erased_variables (equation_form X).parameters)
+parameters_at S xs layout k X cs laid are there below at =
+    shapes_there S xs layout k X cs (laid.shapes ∙ ap (map (λ (Y : syntax.Equation). variable_shapes S Y.parameters)) are) there below at
 
 -- ---- equation by equation
 
@@ -75,19 +87,14 @@ pub record AreDone (S : Spec) (xs : List Equation) (k : ℕ) (done : List declar
   pub rights : map (elaborated_equation S) (all_erased xs) ≡ rights_of done ++ map (elaborated_equation S) (all_erased (drop k xs))
   pub loops : map (equation_loops S) (all_erased xs) ≡ loops_of done ++ map (equation_loops S) (all_erased (drop k xs))
   pub calls : map calls_of (map equation_form xs) ≡ tree_calls done ++ map calls_of (map equation_form (drop k xs))
-  pub shaped : AreShapedEquations S (drop k xs)
 
-pub done_begun : (S : Spec) (xs : List Equation) (done : List declared.Equation) → done ≡ [] → AreShapedEquations S xs → AreDone S xs 0 done
-done_begun S xs done e shaped = record {
+pub done_begun : (S : Spec) (xs : List Equation) (done : List declared.Equation) → done ≡ [] → AreDone S xs 0 done
+done_begun S xs done e = record {
   faults = refl;
   rights = ap (λ (d : List declared.Equation). rights_of d ++ map (elaborated_equation S) (all_erased xs)) (sym e);
   loops = ap (λ (d : List declared.Equation). loops_of d ++ map (equation_loops S) (all_erased xs)) (sym e);
   calls = ap (λ (d : List declared.Equation). tree_calls d ++ map calls_of (map equation_form xs)) (sym e);
-  shaped = shaped;
 }
-
-pub shaped_at : (S : Spec) (xs : List Equation) (k : ℕ) (X : Equation) (done : List declared.Equation) → k < length xs → X ≡ get_or xs k X → AreDone S xs k done → AreShaped S (erased_variables (equation_form X).parameters)
-shaped_at S xs k X done below at h = (subst (AreShapedEquations S) (drop-at xs k X below at) h.shaped).0
 
 -- the faults of the equations that are left are those of the next one, and of those behind it
 pub faults_next : (S : Spec) (xs : List Equation) (k : ℕ) (X : Equation) → k < length xs → X ≡ get_or xs k X
@@ -121,7 +128,6 @@ done_next S xs k X Y done more below at pushed clear made h =
           ∙ (ap (λ (ps : List Place). tree_calls done ++ ps ∷ called) (sym made.calls)
           ∙ (sym (append_assoc (tree_calls done) (call_places Y.right ∷ []) called)
           ∙ (ap (λ (pss : List (List Place)). pss ++ called) (sym (calls-push done Y)) ∙ ap (λ (d : List declared.Equation). tree_calls d ++ called) (sym pushed)))));
-      shaped = (subst (AreShapedEquations S) left h.shaped).1;
     }
 
 -- all equations are checked

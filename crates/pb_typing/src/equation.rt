@@ -3,10 +3,11 @@
 ghost use Rattle.std.specs.Prelude.{◌≡◌, [], length, true, MatchResult};
 ghost use Rattle.pb_text_tree.specs.Form.{equation_form, formula_form, spec_form};
 ghost use Rattle.pb_text_meaning.specs.Erase.{erased_variables};
+ghost use Rattle.pb_typing_declarations.specs.Entries.{shapes_of};
 ghost use Rattle.pb_typing_declarations.specs.Faults.{IsAmong};
 ghost use Rattle.pb_typing_declarations.specs.View.{spec_of, text_of};
 ghost use Rattle.pb_typing_rules.specs.Faults.{formula_faults, right_faults};
-ghost use Rattle.pb_typed_tree.specs.Loops.{AreShaped};
+ghost use Rattle.pb_typed_tree.specs.Loops.{variable_shapes};
 ghost use Rattle.pb_typing_nodes.specs.Contexts.{scope_in, slots_in, text_in};
 ghost use Rattle.pb_typing.specs.Rights.{AreRights, IsRight, IsRightIn, own_faults};
 ghost use Rattle.pb_typing.specs.Typed.{IsLayout};
@@ -37,30 +38,32 @@ pub(crate) fn check_rights(
         (IsAmong (right_faults (spec_of declarations.now) (spec_form spec.now).equations)) }
 {
     let mut equations = Vec::with_capacity(alloc, spec.equations.len())?;
-    for equation in &spec.equations {
-        let checked = check_right(alloc, declarations, layout, equation)?;
+    for (place, equation) in spec.equations.iter().enumerate() {
+        let parameters = layout.carriers(place);
+        let checked = check_right(alloc, declarations, layout, parameters, equation)?;
         equations.push(checked)?;
     }
     Ok(equations)
 }
 
-/// Checks a right side under its equation's parameters, which have the first slots.
+/// Checks a right side under its equation's parameters, whose carriers are given. They have the
+/// first slots.
 fn check_right(
     alloc: Global,
     declarations: &Declarations<'_>,
     layout: &Layout,
+    parameters: &[Carrier],
     equation: &pb_text_tree::Equation,
 ) -> Result<Equation, TypeError>
     requires layout { IsLayout (spec_of declarations.now) layout.now }
-    requires shaped { AreShaped (spec_of declarations.now)
+    requires parameters { shapes_of parameters.now ≡ variable_shapes (spec_of declarations.now)
         (erased_variables (equation_form equation.now).parameters) }
     ensures { MatchResult result
         (λ X. (own_faults (spec_of declarations.now) (equation_form equation.now) ≡ [])
         × IsRight (spec_of declarations.now) (equation_form equation.now) X)
         (IsAmong (own_faults (spec_of declarations.now) (equation_form equation.now))) }
 {
-    let mut carriers = Vec::new(alloc);
-    let table = declare_variables(alloc, declarations, &equation.parameters, &mut carriers)?;
+    let table = declare_variables(alloc, &equation.parameters, parameters, 0)?;
     let scope = Scope::Inner(&table, &Scope::Outermost);
     let context = Context {
         alloc,
@@ -68,13 +71,13 @@ fn check_right(
         layout,
         scope: &scope,
     };
-    check_under(&context, carriers, &equation.right)
+    check_under(&context, parameters, &equation.right)
 }
 
 /// Checks a right side, where the first slots have these carriers.
 fn check_under<'t>(
     context: &Context<'_, '_, 't>,
-    mut carriers: Vec<Carrier>,
+    parameters: &[Carrier],
     formula: &'t Formula,
 ) -> Result<Equation, TypeError>
     requires { IsLayout (text_in context.now) context.now.layout.now }
@@ -82,12 +85,12 @@ fn check_under<'t>(
         (λ X. (formula_faults (text_in context.now) true (scope_in context.now)
         (formula_form formula.now) ≡ [])
         × IsRightIn (text_in context.now) (scope_in context.now) (slots_in context.now)
-        (length carriers.items) formula.now X)
+        (length parameters.now) formula.now X)
         (IsAmong (formula_faults (text_in context.now) true (scope_in context.now)
         (formula_form formula.now))) }
 {
-    let parameters = carriers.len();
+    let mut carriers = Vec::from_slice(context.alloc, parameters)?;
     let right = check_formula(context, &mut carriers, Polarity::Positive, formula)?;
-    let loops = carriers_from(context.alloc, &carriers, parameters)?;
+    let loops = carriers_from(context.alloc, &carriers, parameters.len())?;
     Ok(Equation { right, loops })
 }

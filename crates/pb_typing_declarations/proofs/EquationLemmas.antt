@@ -1,5 +1,5 @@
--- Carriers of equations, equation by equation.
-use Rattle.std.proofs.Common.{◌≡◌, ◌≤◌, ◌∙◌, ◌++◌, zero, suc, List, [], ◌∷◌, length, map, sym, ap, subst, arith, Vec, Global}
+-- Equations and the carriers of their parameters, equation by equation.
+use Rattle.std.proofs.Common.{◌≡◌, ◌≤◌, ◌<◌, ◌∙◌, ◌++◌, ℕ, zero, suc, false, List, [], ◌∷◌, length, get_or, map, sym, ap, subst, arith, Vec, Global}
 use Rattle.std.specs.Prelude.{All}
 use Rattle.std.proofs.lemmas.List.{map-append}
 use Rattle.pb_sorts.specs.declared.carrier.Carrier.{Carrier}
@@ -8,6 +8,11 @@ use Rattle.pb_sorts.specs.Layout as layouts
 use Rattle.pb_sorts.specs.Layout.{lists_of}
 use Rattle.pb_carriers.specs.Carrier as carriers
 use Rattle.pb_limits.specs.declared.TheConstants.{MAX_PARAMETERS}
+use Rattle.pb_text_tree.specs.declared.spec.Equation.{Equation}
+use Rattle.pb_text_tree.specs.Form.{equation_form}
+use Rattle.pb_typing_declarations.specs.declared.fault.TypingRule.TheVariants.{Limit}
+use Rattle.pb_typing_declarations.specs.Faults.{unless}
+use Rattle.pb_typing_declarations.specs.Declarations.{limit_faults, equation_names}
 use Rattle.pb_typing_declarations.specs.Entries.{shapes_of}
 
 abbrev Parameters : Type 0
@@ -40,3 +45,10 @@ all_one (y ∷ xs) x hs h (suc k) d below = all_one xs x (λ j e lt. hs (suc j) 
 pub all_pushed : (old new : List Parameters) (v : Parameters) → new ≡ old ++ (v ∷ []) → All Short (lists_of old) → length v.items ≤ MAX_PARAMETERS → All Short (lists_of new)
 all_pushed old new v is hs h =
     subst (λ (ls : List (List Carrier)). All Short ls) (sym (ap lists_of is ∙ map-append (λ (u : Parameters). u.items) old (v ∷ []))) (all_one (lists_of old) v.items hs h)
+
+-- ---- the equation that passes a limit
+
+pub equation_beyond : (xs : List Equation) (limit : ℕ) (X : Equation) → limit < length xs → X ≡ get_or xs limit X → limit_faults limit (equation_names (map equation_form xs)) ≡ unless false Limit X.name.place
+equation_beyond [] limit X below at = absurd (omega (arith, below))
+equation_beyond (Y ∷ xs) zero X below at = ap (λ (Z : Equation). unless false Limit Z.name.place) (sym at)
+equation_beyond (Y ∷ xs) (suc limit) X below at = equation_beyond xs limit X (omega (arith, below)) at

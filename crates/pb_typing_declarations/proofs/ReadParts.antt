@@ -1,13 +1,11 @@
 -- The faults that are found as names are gathered, and those that are found by the tables, part by part.
-use Rattle.std.proofs.Common.{◌≡◌, ◌++◌, List, [], map, subst, arith}
-use Rattle.std.specs.Prelude.{flat_map, Contains}
+use Rattle.std.proofs.Common.{◌≡◌, ◌++◌, List, [], map}
+use Rattle.std.specs.Prelude.{flat_map}
 use Rattle.pb_limits.specs.declared.TheConstants.{MAX_EQUATIONS}
 use Rattle.pb_text_tree.specs.Form.{SpecForm}
 use Rattle.pb_text_meaning.specs.Erase.{erase}
 use Rattle.pb_typing_declarations.specs.declared.fault.TypingFault.{TypingFault}
-use Rattle.pb_errors.specs.OrMemory.{IfFault}
 use Rattle.pb_errors.specs.declared.or_memory.OrMemory.{OrMemory}
-use Rattle.pb_errors.proofs.Faults.{if_fault}
 use Rattle.pb_typing_declarations.specs.Faults.{repeated, IsAmong}
 use Rattle.pb_typing_declarations.specs.Declarations.{structs_faults, empty_faults, names_of_enumerator, all_enumerator_forms, sort_names, range_name, equation_names, tables_faults, checks_faults, declaration_faults, sort_faults, range_faults, limit_faults, equations_faults_behind}
 use Rattle.pb_typing_declarations.proofs.Parts.{among_left, among_right, among_parts, no_whole, no_parts}
@@ -78,6 +76,9 @@ module _ (t : SpecForm) where
   pub in_ranges : (e : OrMemory TypingFault) → IsAmong ranges e → IsAmong (checks_faults t) e
   in_ranges e h = among_right sorts _ e (among_left ranges _ e h)
 
+  pub in_too_many : (e : OrMemory TypingFault) → IsAmong too_many e → IsAmong (checks_faults t) e
+  in_too_many e h = among_right sorts _ e (among_right ranges _ e (among_left too_many _ e h))
+
   pub in_equations : (e : OrMemory TypingFault) → IsAmong equations e → IsAmong (checks_faults t) e
   in_equations e h = among_right sorts _ e (among_right ranges _ e (among_right too_many _ e h))
 
@@ -86,18 +87,8 @@ module _ (t : SpecForm) where
 
   -- ---- where there is no fault
 
-  pub equations_clear : declaration_faults t ≡ [] → equations ≡ []
-  equations_clear e =
-      let checks = (no_parts (tables_faults t) (checks_faults t) e).1 in
-      let behind = (no_parts sorts _ checks).1 in
-      (no_parts too_many _ (no_parts ranges _ behind).1).1
-
   pub few_clear : declaration_faults t ≡ [] → too_many ≡ []
   few_clear e =
       let checks = (no_parts (tables_faults t) (checks_faults t) e).1 in
       let behind = (no_parts sorts _ checks).1 in
       (no_parts too_many _ (no_parts ranges _ behind).1).0
-
--- among no faults there is none
-pub none_among : (all : List TypingFault) (e : OrMemory TypingFault) → all ≡ [] → IsAmong all e → IfFault e (λ _. ⊥)
-none_among all e none = if_fault e (λ fault h. let here : Contains [] fault = subst (λ (zs : List TypingFault). Contains zs fault) none h in omega (arith, here.1))

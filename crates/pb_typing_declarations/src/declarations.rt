@@ -4,15 +4,18 @@ ghost use Rattle.std.specs.Prelude.{◌≡◌, [], MatchOption, MatchResult, IfO
 ghost use Rattle.std.specs.Option.{option_map};
 ghost use Rattle.pb_sorts.specs.Carrier.{values_of};
 ghost use Rattle.pb_sorts.specs.Layout as layouts;
+ghost use Rattle.pb_sorts.specs.Layout.{lists_of};
 ghost use Rattle.pb_text_tree.specs.Form.{spec_form, variable_forms};
 ghost use Rattle.pb_text_meaning.specs.Syntax.{same_name, Equation};
 ghost use Rattle.pb_text_meaning.specs.Sorts.{carrier_of, is_recogniser, place_in};
+ghost use Rattle.pb_text_meaning.specs.Erase.{erase, erased_variables};
 ghost use Rattle.pb_text_meaning.specs.Formula.{carriers_of};
 ghost use Rattle.pb_typing_declarations.specs.Faults.{IsAmong};
 ghost use Rattle.pb_typing_declarations.specs.Shapes.{sort_shape, variable_shapes};
 ghost use Rattle.pb_typing_declarations.specs.Enumerators.{enumerator_of, recogniser_of};
 ghost use Rattle.pb_typing_declarations.specs.Entries.{carrier_shape, shapes_of};
 ghost use Rattle.pb_typing_declarations.specs.Agreement.{equation_place};
+ghost use Rattle.pb_typing_declarations.specs.Reading.{HasCarriers};
 ghost use Rattle.pb_typing_declarations.specs.Declarations.{variables_faults, declaration_faults};
 
 use crate::definition::{as_enumerator, as_recogniser};
@@ -28,7 +31,11 @@ use std::alloc::{AllocError, Global};
 #[derive(Drop)]
 pub struct Declarations<'a> {
     tables: Tables<'a>,
+    /// The carriers of each equation's parameters.
+    carriers: Vec<Vec<Carrier>>,
     pub ghost faultless: { declaration_faults (spec_form tables.spec.now) ≡ [] },
+    pub ghost carried: { HasCarriers (erase (spec_form tables.spec.now)) 0
+        (spec_form tables.spec.now).equations (lists_of carriers.items) },
 }
 
 impl<'a> Declarations<'a> {
@@ -46,8 +53,8 @@ impl<'a> Declarations<'a> {
             (IsAmong (declaration_faults (spec_form spec.now))) }
     {
         let tables = Tables::read(alloc, spec)?;
-        tables.check(alloc)?;
-        Ok(Declarations { tables })
+        let carriers = tables.check(alloc)?;
+        Ok(Declarations { tables, carriers })
     }
 
     /// The carrier of a sort; none where no such sort has values.
@@ -86,15 +93,24 @@ impl<'a> Declarations<'a> {
     }
 
     /// Checks one list of variables, a quantifier's or an equation's parameters: no name stands
-    /// twice, and each sort has values.
-    pub fn check_variables(&self, alloc: Global, groups: &[Variables]) -> Result<(), TypeError>
-        ensures { MatchResult result
+    /// twice, and each sort has values. Hands out the carriers of their sorts, in order.
+    ///
+    /// # Errors
+    /// A fault of the list exactly where there is one; where several rules fail, any one of them.
+    /// `TypeError::Memory` comes only where memory was refused.
+    pub fn check_variables(
+        &self,
+        alloc: Global,
+        groups: &[Variables],
+    ) -> Result<Vec<Carrier>, TypeError>
+        ensures checked { MatchResult result
             (λ _. variables_faults (spec_of self.now) (variable_forms groups.now) ≡ [])
             (IsAmong (variables_faults (spec_of self.now) (variable_forms groups.now))) }
+        ensures shapes { IfOk result (λ carriers. shapes_of carriers.items
+            ≡ variable_shapes (spec_of self.now) (erased_variables (variable_forms groups.now))) }
     {
         let variables = variable_entries(alloc, groups)?;
-        self.tables.variable_carriers(alloc, &variables)?;
-        Ok(())
+        self.tables.variable_carriers(alloc, &variables)
     }
 
     /// The layout of the equations' instances, each parameter with its sort's carrier: the
@@ -107,11 +123,7 @@ impl<'a> Declarations<'a> {
             ≡ map (λ (X : Equation). variable_shapes (spec_of self.now) X.parameters)
             (spec_of self.now).equations) }
     {
-        let carriers = match self.tables.carriers(alloc, &self.tables.spec.equations) {
-            Ok(carriers) => carriers,
-            Err(error) => return Err(error.only_memory()),
-        };
-        match Layout::new(alloc, &carriers) {
+        match Layout::new(alloc, &self.carriers) {
             Ok(layout) => Ok(layout),
             Err(error) => Err(error.only_memory()),
         }

@@ -118,18 +118,19 @@ impl<'a> Tables<'a> {
         self.equations.get(name).copied()
     }
 
-    /// Checks sorts, ranges and predicate variables.
-    pub fn check(&self, alloc: Global) -> Result<(), TypeError>
+    /// Checks sorts, ranges and predicate variables, and hands out the carriers of each equation's
+    /// parameters.
+    pub fn check(&self, alloc: Global) -> Result<Vec<Vec<Carrier>>, TypeError>
         ensures { MatchResult result
-            (λ _. checks_faults (spec_form self.now.spec.now) ≡ [])
+            (λ carriers. (checks_faults (spec_form self.now.spec.now) ≡ [])
+            × HasCarriers (erase (spec_form self.now.spec.now)) 0
+            (spec_form self.now.spec.now).equations (lists_of carriers.items))
             (IsAmong (checks_faults (spec_form self.now.spec.now))) }
     {
         self.check_sorts(alloc, &self.spec.sorts)?;
         self.check_ranges(alloc, &self.spec.ranges)?;
-        let equations = equation_entries(alloc, &self.spec.equations)?;
-        check_limit(&equations, MAX_EQUATIONS)?;
-        self.carriers(alloc, &self.spec.equations)?;
-        Ok(())
+        check_equation_count(&self.spec.equations)?;
+        self.carriers(alloc, &self.spec.equations)
     }
 
     fn check_sorts(&self, alloc: Global, sorts: &[SortDeclaration]) -> Result<(), TypingFault>
@@ -209,7 +210,7 @@ impl<'a> Tables<'a> {
 
     /// The carriers of each equation's parameters, if its predicate variable is as it must be and
     /// there are few enough instances.
-    pub fn carriers(
+    fn carriers(
         &self,
         alloc: Global,
         equations: &[Equation],
@@ -336,6 +337,23 @@ fn equation_entries(
         })?;
     }
     Ok(entries)
+}
+
+/// Whether there are at most so many equations as a text may have; the fault (T12) stands at the
+/// name of the one that passes the limit.
+fn check_equation_count(equations: &[Equation]) -> Result<(), TypingFault>
+    ensures { MatchResult result
+        (λ _. limit_faults MAX_EQUATIONS (equation_names (map equation_form equations.now)) ≡ [])
+        (Contains (limit_faults MAX_EQUATIONS
+        (equation_names (map equation_form equations.now)))) }
+{
+    match equations.get(MAX_EQUATIONS) {
+        None => Ok(()),
+        Some(equation) => Err(TypingFault {
+            rule: TypingRule::Limit,
+            place: equation.name.place,
+        }),
+    }
 }
 
 /// Whether there are at most so many; the fault (T12) stands at the one that passes the limit.

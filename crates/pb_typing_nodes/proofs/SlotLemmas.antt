@@ -1,7 +1,7 @@
 -- How lists of variables get shapes, slots and carriers.
-use Rattle.std.proofs.Common.{◌≡◌, ℕ, zero, suc, ◌+◌, ◌<◌, ◌≤◌, Bool, true, false, cond, List, [], ◌∷◌, ◌++◌, map, length, get_or, drop, replicate, refl, sym, ◌∙◌, ap, subst, arith, string_bytes, Option, Some}
+use Rattle.std.proofs.Common.{◌≡◌, ℕ, zero, suc, ◌+◌, ◌<◌, ◌≤◌, Bool, true, false, cond, List, [], ◌∷◌, ◌++◌, map, length, get_or, drop, refl, sym, ◌∙◌, ap, arith, string_bytes, Option, Some}
 use Rattle.std.proofs.Math.Path.{fun_ext}
-use Rattle.std.proofs.lemmas.List.{append_assoc, append-nil, length-append, length-replicate, drop_all}
+use Rattle.std.proofs.lemmas.List.{length-append, length-map, drop-drop, drop_all}
 use Rattle.std.specs.HashMap.{IsEmpty}
 use Rattle.std.specs.Option.{option_map}
 use Rattle.pb_sorts.specs.declared.carrier.Carrier.{Carrier}
@@ -14,13 +14,11 @@ use Rattle.pb_typing_rules.specs.Scope as scopes
 use Rattle.pb_typing_rules.specs.Scope.{Scope, outermost, declare, bound}
 use Rattle.pb_text_meaning.specs.Sorts.{or_else}
 use Rattle.pb_text_meaning.specs.Erase.{erased_variables}
-use Rattle.pb_typing_declarations.specs.Shapes.{Shape, Unknown, sort_shape, end_of}
-use Rattle.pb_typing_declarations.specs.Entries.{carrier_shape, shape_of}
+use Rattle.pb_typing_declarations.specs.Shapes.{Shape, sort_shape}
+use Rattle.pb_typing_declarations.specs.Entries.{shape_of}
 use Rattle.pb_typing_declarations.specs.Tables.{Table, looked_up}
-use Rattle.pb_typing_declarations.specs.WellDeclared.{has_shape}
 use Rattle.pb_typing_declarations.proofs.Filling.{none_in}
-use Rattle.pb_typing_declarations.proofs.ShapeLaws.{known}
-use Rattle.pb_typed_tree.specs.Loops.{AreShaped, variable_shapes}
+use Rattle.pb_typed_tree.specs.Loops.{variable_shapes}
 use Rattle.pb_typed_tree.specs.Elaboration.{Slotting, unslotted, with_slot, with_slots}
 use Rattle.pb_typed_tree.specs.View.{shape_view}
 use Rattle.pb_typing_nodes.specs.declared.scope.Variable as program
@@ -45,12 +43,14 @@ slots-put y v old new put =
     fun_ext (λ x. ap (λ (o : Option program.Variable). option_map f o) (put x) ∙ mapped f (same_name y x) v (looked_up old x))
 
 -- a name that is put into a table
-pub shapes_next : (names : List ast.Name) (k : ℕ) (n : ast.Name) (old new : Table program.Variable) (v : program.Variable) (s : Shape) → k < length names → n ≡ get_or names k n → shape_view v.shape ≡ s
-    → ((x : Name) → looked_up new x ≡ with_entry (string_bytes n.text) v (looked_up old) x)
-    → named_shapes (drop (k + 1) names) s (table_view new) ≡ named_shapes (drop k names) s (table_view old)
-shapes_next names k n old new v s below at is put =
-    ap (named_shapes (drop (k + 1) names) s) (view-put (string_bytes n.text) v old new put ∙ ap (λ (t : Shape). declare (string_bytes n.text) t (table_view old)) is)
-    ∙ sym (ap (λ (ns : List ast.Name). named_shapes ns s (table_view old)) (drop-at names k n below at))
+pub shapes_next : (names : List ast.Name) (k : ℕ) (n : ast.Name) (carriers : List Carrier) (slot : ℕ) (carrier : Carrier) (old new : Table program.Variable) (v : program.Variable) → k < length names → n ≡ get_or names k n
+    → slot < length carriers → carrier ≡ get_or carriers slot carrier → shape_view v.shape ≡ shape_of carrier → ((x : Name) → looked_up new x ≡ with_entry (string_bytes n.text) v (looked_up old) x)
+    → named_shapes (drop (k + 1) names) (shapes_of (drop (slot + 1) carriers)) (table_view new) ≡ named_shapes (drop k names) (shapes_of (drop slot carriers)) (table_view old)
+shapes_next names k n carriers slot carrier old new v below at within here is put =
+    let shapes = shapes_of (drop (slot + 1) carriers) in
+    ap (named_shapes (drop (k + 1) names) shapes) (view-put (string_bytes n.text) v old new put ∙ ap (λ (t : Shape). declare (string_bytes n.text) t (table_view old)) is)
+    ∙ (sym (ap (λ (ns : List ast.Name). named_shapes ns (shape_of carrier ∷ shapes) (table_view old)) (drop-at names k n below at))
+    ∙ sym (ap (λ (cs : List Carrier). named_shapes (drop k names) (shapes_of cs) (table_view old)) (drop-at carriers slot carrier within here)))
 
 pub slots_next : (names : List ast.Name) (k : ℕ) (n : ast.Name) (old new : Table program.Variable) (v : program.Variable) (slot : ℕ) → k < length names → n ≡ get_or names k n → v.slot ≡ slot
     → ((x : Name) → looked_up new x ≡ with_entry (string_bytes n.text) v (looked_up old) x)
@@ -59,18 +59,25 @@ slots_next names k n old new v slot below at is put =
     ap (named_slots (drop (k + 1) names) (suc slot)) (slots-put (string_bytes n.text) v old new put ∙ ap (λ (m : ℕ). with_slot (string_bytes n.text) m (table_slots old)) is)
     ∙ sym (ap (λ (ns : List ast.Name). named_slots ns slot (table_slots old)) (drop-at names k n below at))
 
-pub shapes_all : (names : List ast.Name) (k : ℕ) (s : Shape) (a : Scope) → length names ≤ k → named_shapes (drop k names) s a ≡ a
-shapes_all names k s a h = ap (λ (ns : List ast.Name). named_shapes ns s a) (drop_all k names h)
+pub shapes_all : (names : List ast.Name) (k : ℕ) (shapes : List Shape) (a : Scope) → length names ≤ k → named_shapes (drop k names) shapes a ≡ a
+shapes_all names k shapes a h = ap (λ (ns : List ast.Name). named_shapes ns shapes a) (drop_all k names h)
 
 pub slots_all : (names : List ast.Name) (k n : ℕ) (c : Slotting) → length names ≤ k → named_slots (drop k names) n c ≡ c
 slots_all names k n c h = ap (λ (ns : List ast.Name). named_slots ns n c) (drop_all k names h)
 
--- a carrier for each name
-pub carriers_next : (names : List ast.Name) (k : ℕ) (n : ast.Name) (carrier : Carrier) (old all : List Carrier) → k < length names → n ≡ get_or names k n
-    → old ++ replicate (length (drop k names)) carrier ≡ all → (old ++ carrier ∷ []) ++ replicate (length (drop (k + 1) names)) carrier ≡ all
-carriers_next names k n carrier old all below at h =
-    append_assoc old (carrier ∷ []) (replicate (length (drop (k + 1) names)) carrier)
-    ∙ (ap (λ (ns : List ast.Name). old ++ replicate (length ns) carrier) (sym (drop-at names k n below at)) ∙ h)
+-- ---- carriers, as shapes
+
+shapes-drop : (n : ℕ) (cs : List Carrier) → shapes_of (drop n cs) ≡ drop n (shapes_of cs)
+shapes-drop zero cs = refl
+shapes-drop (suc n) [] = refl
+shapes-drop (suc n) (c ∷ cs) = shapes-drop n cs
+
+drop-shapes : (slot n : ℕ) (cs : List Carrier) → shapes_of (drop (slot + n) cs) ≡ drop n (shapes_of (drop slot cs))
+drop-shapes slot n cs = ap shapes_of (sym (drop-drop n slot cs)) ∙ shapes-drop n (drop slot cs)
+
+pub shapes-append : (xs ys : List Carrier) → shapes_of (xs ++ ys) ≡ shapes_of xs ++ shapes_of ys
+shapes-append [] ys = refl
+shapes-append (x ∷ xs) ys = ap (λ (ss : List Shape). shape_of x ∷ ss) (shapes-append xs ys)
 
 -- ---- groups of names
 
@@ -82,34 +89,15 @@ group-slots : (group : Variables) (rest : List Variables) (names : List ast.Name
 group-slots group rest [] n m c e = ap (λ (k : ℕ). with_slots (erased_variables (variable_forms rest)) k c) (omega (arith, e))
 group-slots group rest (x ∷ names) n m c e = group-slots group rest names (suc n) m (with_slot (string_bytes x.text) n c) (omega (arith, e))
 
-group-shapes : (S : Spec) (group : Variables) (rest : List Variables) (names : List ast.Name)
-    → variable_shapes S (erased_variables (group_variables group names ++ variable_forms rest)) ≡ replicate (length names) (sort_shape S (string_bytes group.sort.text)) ++ variable_shapes S (erased_variables (variable_forms rest))
-group-shapes S group rest [] = refl
-group-shapes S group rest (x ∷ names) = ap (λ (ss : List Shape). sort_shape S (string_bytes group.sort.text) ∷ ss) (group-shapes S group rest names)
-
-group-shaped : (S : Spec) (group : Variables) (rest : List Variables) (names : List ast.Name)
-    → AreShaped S (erased_variables (group_variables group names ++ variable_forms rest)) → AreShaped S (erased_variables (variable_forms rest))
-group-shaped S group rest [] h = h
-group-shaped S group rest (x ∷ names) h = group-shaped S group rest names h.1
-
-pub shapes-append : (xs ys : List Carrier) → shapes_of (xs ++ ys) ≡ shapes_of xs ++ shapes_of ys
-shapes-append [] ys = refl
-shapes-append (x ∷ xs) ys = ap (λ (ss : List Shape). carrier_shape (Some x) ∷ ss) (shapes-append xs ys)
-
-pub shapes-replicate : (n : ℕ) (c : Carrier) → shapes_of (replicate n c) ≡ replicate n (carrier_shape (Some c))
-shapes-replicate zero c = refl
-shapes-replicate (suc n) c = ap (λ (ss : List Shape). carrier_shape (Some c) ∷ ss) (shapes-replicate n c)
-
-pub length-push : {A : Type 0} (xs : List A) (x : A) (ys : List A) → ys ≡ xs ++ x ∷ [] → length ys ≡ suc (length xs)
-length-push [] x ys e = ap length e
-length-push (y ∷ xs) x ys e = ap length e ∙ ap suc (length-push xs x (xs ++ x ∷ []) refl)
-
-length-grown : (xs : List Carrier) (n : ℕ) (c : Carrier) (ys : List Carrier) → ys ≡ xs ++ replicate n c → length ys ≡ length xs + n
-length-grown xs n c ys e = ap length e ∙ (length-append xs (replicate n c) ∙ ap (λ (m : ℕ). length xs + m) (length-replicate n c))
+-- the shapes behind those of the group
+group-behind : (S : Spec) (group : Variables) (rest : List Variables) (names : List ast.Name)
+    → drop (length names) (variable_shapes S (erased_variables (group_variables group names ++ variable_forms rest))) ≡ variable_shapes S (erased_variables (variable_forms rest))
+group-behind S group rest [] = refl
+group-behind S group rest (x ∷ names) = group-behind S group rest names
 
 group-bound : (S : Spec) (group : Variables) (rest : List Variables) (names : List ast.Name) (scope : Scope)
-    → bound S (erased_variables (group_variables group names ++ variable_forms rest)) scope
-    ≡ bound S (erased_variables (variable_forms rest)) (named_shapes names (sort_shape S (string_bytes group.sort.text)) scope)
+    → bound S (erased_variables (variable_forms rest)) (named_shapes names (variable_shapes S (erased_variables (group_variables group names ++ variable_forms rest))) scope)
+    ≡ bound S (erased_variables (group_variables group names ++ variable_forms rest)) scope
 group-bound S group rest [] scope = refl
 group-bound S group rest (n ∷ names) scope = group-bound S group rest names (declare (string_bytes n.text) (sort_shape S (string_bytes group.sort.text)) scope)
 
@@ -128,49 +116,36 @@ group_put groups k group names n m old new below at are count put =
     ∙ (sym (group-slots group rest group.names.items n m old (count ∙ ap (λ (ns : List ast.Name). n + length ns) are))
     ∙ sym (ap (λ (gs : List Variables). with_slots (variables_of gs) n old) (drop-at groups k group below at)))
 
--- and their shapes, where its names have that of its sort
-pub group_shown : (S : Spec) (groups : List Variables) (k : ℕ) (group : Variables) (names : List ast.Name) (sort : List ℕ) (s : Shape) (old new : Scope) → k < length groups → group ≡ get_or groups k group → names ≡ group.names.items
-    → sort ≡ string_bytes group.sort.text → s ≡ sort_shape S sort → new ≡ named_shapes names s old
+-- the shapes of the groups that are left, where a group's names have the first ones
+pub group_shown : (S : Spec) (groups : List Variables) (k : ℕ) (group : Variables) (names : List ast.Name) (shapes : List Shape) (old new : Scope) → k < length groups → group ≡ get_or groups k group → names ≡ group.names.items
+    → shapes ≡ variable_shapes S (variables_of (drop k groups)) → new ≡ named_shapes names shapes old
     → bound S (variables_of (drop (k + 1) groups)) new ≡ bound S (variables_of (drop k groups)) old
-group_shown S groups k group names sort s old new below at are sort_is shape_is put =
+group_shown S groups k group names shapes old new below at are is put =
     let rest = drop (k + 1) groups in
-    ap (bound S (variables_of rest)) (put ∙ (ap (λ (ns : List ast.Name). named_shapes ns s old) are ∙ ap (λ (t : Shape). named_shapes group.names.items t old) (shape_is ∙ ap (sort_shape S) sort_is)))
-    ∙ (sym (group-bound S group rest group.names.items old)
-    ∙ sym (ap (λ (gs : List Variables). bound S (variables_of gs) old) (drop-at groups k group below at)))
+    let left = drop-at groups k group below at in
+    ap (bound S (variables_of rest)) (put ∙ (ap (λ (ns : List ast.Name). named_shapes ns shapes old) are ∙ ap (λ (ss : List Shape). named_shapes group.names.items ss old) (is ∙ ap (λ (gs : List Variables). variable_shapes S (variables_of gs)) left)))
+    ∙ (group-bound S group rest group.names.items old
+    ∙ sym (ap (λ (gs : List Variables). bound S (variables_of gs) old) left))
 
--- the shapes of the groups that are left, where a group's names have carriers
-pub group_carried : (S : Spec) (groups : List Variables) (k : ℕ) (group : Variables) (names : List ast.Name) (sort : List ℕ) (carrier : Carrier) (old new : List Carrier) → k < length groups → group ≡ get_or groups k group
-    → names ≡ group.names.items → sort ≡ string_bytes group.sort.text → carrier_shape (Some carrier) ≡ sort_shape S sort → new ≡ old ++ replicate (length names) carrier
-    → shapes_of new ++ variable_shapes S (variables_of (drop (k + 1) groups)) ≡ shapes_of old ++ variable_shapes S (variables_of (drop k groups))
-group_carried S groups k group names sort carrier old new below at are sort_is shape_is grown =
-    let rest = variable_shapes S (variables_of (drop (k + 1) groups)) in
-    let shape : carrier_shape (Some carrier) ≡ sort_shape S (string_bytes group.sort.text) = shape_is ∙ ap (sort_shape S) sort_is in
-    ap (λ (cs : List Carrier). shapes_of cs ++ rest) (grown ∙ ap (λ (ns : List ast.Name). old ++ replicate (length ns) carrier) are)
-    ∙ (ap (λ (ss : List Shape). ss ++ rest) (shapes-append old (replicate (length group.names.items) carrier))
-    ∙ (append_assoc (shapes_of old) (shapes_of (replicate (length group.names.items) carrier)) rest
-    ∙ (ap (λ (ss : List Shape). shapes_of old ++ (ss ++ rest)) (shapes-replicate (length group.names.items) carrier)
-    ∙ (ap (λ (s : Shape). shapes_of old ++ (replicate (length group.names.items) s ++ rest)) shape
-    ∙ (ap (λ (ss : List Shape). shapes_of old ++ ss) (sym (group-shapes S group (drop (k + 1) groups) group.names.items))
-    ∙ sym (ap (λ (gs : List Variables). shapes_of old ++ variable_shapes S (variables_of gs)) (drop-at groups k group below at)))))))
+-- and the ones behind these
+pub group_behind : (S : Spec) (groups : List Variables) (k : ℕ) (group : Variables) (names : List ast.Name) (carriers : List Carrier) (slot : ℕ) → k < length groups → group ≡ get_or groups k group → names ≡ group.names.items
+    → shapes_of (drop slot carriers) ≡ variable_shapes S (variables_of (drop k groups))
+    → shapes_of (drop (slot + length names) carriers) ≡ variable_shapes S (variables_of (drop (k + 1) groups))
+group_behind S groups k group names carriers slot below at are is =
+    let left = drop-at groups k group below at in
+    drop-shapes slot (length names) carriers
+    ∙ (ap (drop (length names)) (is ∙ ap (λ (gs : List Variables). variable_shapes S (variables_of gs)) left)
+    ∙ (ap (λ (ns : List ast.Name). drop (length ns) (variable_shapes S (variables_of (group ∷ drop (k + 1) groups)))) are
+    ∙ group-behind S group (drop (k + 1) groups) group.names.items))
 
-pub group_shaped : (S : Spec) (groups : List Variables) (k : ℕ) (group : Variables) → k < length groups → group ≡ get_or groups k group → AreShaped S (variables_of (drop k groups)) → AreShaped S (variables_of (drop (k + 1) groups))
-group_shaped S groups k group below at h =
-    group-shaped S group (drop (k + 1) groups) group.names.items (subst (λ (gs : List Variables). AreShaped S (variables_of gs)) (drop-at groups k group below at) h)
-
-no-shape : (S : Spec) (sort : List ℕ) → sort_shape S sort ≡ Unknown → has_shape (end_of S sort) ≡ true → ⊥
-no-shape S sort e h = known S sort h e
-
--- a group whose sort has no values has no variables
-pub group_empty : (S : Spec) (groups : List Variables) (k : ℕ) (group : Variables) (sort : List ℕ) → k < length groups → group ≡ get_or groups k group → sort ≡ string_bytes group.sort.text → Unknown ≡ sort_shape S sort
-    → AreShaped S (variables_of (drop k groups)) → variables_of (drop k groups) ≡ variables_of (drop (k + 1) groups)
-group_empty S groups k group sort below at is none h =
-    ap variables_of (drop-at groups k group below at)
-    ∙ by_names group.names.items (subst (λ (gs : List Variables). AreShaped S (variables_of gs)) (drop-at groups k group below at) h)
-  where
-    by_names : (names : List ast.Name) → AreShaped S (erased_variables (group_variables group names ++ variable_forms (drop (k + 1) groups)))
-        → erased_variables (group_variables group names ++ variable_forms (drop (k + 1) groups)) ≡ variables_of (drop (k + 1) groups)
-    by_names [] h = refl
-    by_names (x ∷ names) h = absurd (no-shape S (string_bytes group.sort.text) (sym (none ∙ ap (sort_shape S) is)) h.0)
+pub group_counted : (groups : List Variables) (k : ℕ) (group : Variables) (names : List ast.Name) → k < length groups → group ≡ get_or groups k group → names ≡ group.names.items
+    → length (variable_forms (drop k groups)) ≡ length names + length (variable_forms (drop (k + 1) groups))
+group_counted groups k group names below at are =
+    let rest = variable_forms (drop (k + 1) groups) in
+    ap (λ (gs : List Variables). length (variable_forms gs)) (drop-at groups k group below at)
+    ∙ (length-append (group_variables group group.names.items) rest
+    ∙ (ap (λ (n : ℕ). n + length rest) (length-map group.names.items (λ (n : ast.Name). record { name = named n; sort = named group.sort }))
+    ∙ ap (λ (ns : List ast.Name). length ns + length rest) (sym are)))
 
 pub groups_begun : (groups : List Variables) (n : ℕ) (table : Table program.Variable) → IsEmpty table → with_slots (variables_of groups) n (table_slots table) ≡ with_slots (variables_of groups) n unslotted
 groups_begun groups n table e =
@@ -186,39 +161,32 @@ groups_ended groups k n c h = ap (λ (gs : List Variables). with_slots (variable
 pub scopes_ended : (S : Spec) (groups : List Variables) (k : ℕ) (a : Scope) → length groups ≤ k → bound S (variables_of (drop k groups)) a ≡ a
 scopes_ended S groups k a h = ap (λ (gs : List Variables). bound S (variables_of gs) a) (drop_all k groups h)
 
-pub shapes_ended : (S : Spec) (groups : List Variables) (k : ℕ) (ss : List Shape) → length groups ≤ k → ss ++ variable_shapes S (variables_of (drop k groups)) ≡ ss
-shapes_ended S groups k ss h = ap (λ (gs : List Variables). ss ++ variable_shapes S (variables_of gs)) (drop_all k groups h) ∙ append-nil ss
+-- the groups that are left, over a table, make the shapes and the slots of all; their carriers stand from a slot on
+pub record AreLeft (all : List Variables) (carriers : List Carrier) (first : ℕ) (left : List Variables) (slot : ℕ) (table : Table program.Variable) : Type 0 where
+  pub shapes : (S : Spec) → shapes_of (drop first carriers) ≡ variable_shapes S (variables_of all)
+      → (shapes_of (drop slot carriers) ≡ variable_shapes S (variables_of left)) × (bound S (variables_of left) (table_view table) ≡ bound S (variables_of all) outermost)
+  pub slots : with_slots (variables_of left) slot (table_slots table) ≡ with_slots (variables_of all) first unslotted
+  pub count : length carriers ≡ slot + length (variable_forms left)
 
--- the groups that are left, over a table and carriers so far, make the shapes, the slots and the carriers of all behind those before
-pub record AreLeft (S : Spec) (all : List Variables) (before : List Carrier) (left : List Variables) (now : List Carrier) (table : Table program.Variable) : Type 0 where
-  pub shapes : bound S (variables_of left) (table_view table) ≡ bound S (variables_of all) outermost
-  pub slots : with_slots (variables_of left) (length now) (table_slots table) ≡ with_slots (variables_of all) (length before) unslotted
-  pub carriers : shapes_of now ++ variable_shapes S (variables_of left) ≡ shapes_of before ++ variable_shapes S (variables_of all)
-  pub shaped : AreShaped S (variables_of left)
-
-pub next_put : (S : Spec) (all : List Variables) (before : List Carrier) (k : ℕ) (group : Variables) (names : List ast.Name) (sort : List ℕ) (carrier : Carrier) (cs ds : List Carrier) (old new : Table program.Variable)
-    → k < length all → group ≡ get_or all k group → names ≡ group.names.items → sort ≡ string_bytes group.sort.text → carrier_shape (Some carrier) ≡ sort_shape S sort
-    → table_view new ≡ named_shapes names (shape_of carrier) (table_view old)
-    → table_slots new ≡ named_slots names (length cs) (table_slots old) → ds ≡ cs ++ replicate (length names) carrier
-    → AreLeft S all before (drop k all) cs old → AreLeft S all before (drop (k + 1) all) ds new
-next_put S all before k group names sort carrier cs ds old new below at are sort_is shape_is shown put grown h = record {
-  shapes = group_shown S all k group names sort (shape_of carrier) (table_view old) (table_view new) below at are sort_is shape_is shown ∙ h.shapes;
-  slots = group_put all k group names (length cs) (length ds) (table_slots old) (table_slots new) below at are (length-grown cs (length names) carrier ds grown) put ∙ h.slots;
-  carriers = group_carried S all k group names sort carrier cs ds below at are sort_is shape_is grown ∙ h.carriers;
-  shaped = group_shaped S all k group below at h.shaped;
+pub left_begun : (all : List Variables) (carriers : List Carrier) (first : ℕ) (table : Table program.Variable) → length carriers ≡ first + length (variable_forms all) → IsEmpty table → AreLeft all carriers first all first table
+left_begun all carriers first table count empty = record {
+  shapes = λ S is. (is, scopes_begun S all table empty);
+  slots = groups_begun all first table empty;
+  count = count;
 }
 
-pub next_empty : (S : Spec) (all : List Variables) (before : List Carrier) (k : ℕ) (group : Variables) (sort : List ℕ) (cs : List Carrier) (table : Table program.Variable)
-    → k < length all → group ≡ get_or all k group → sort ≡ string_bytes group.sort.text → Unknown ≡ sort_shape S sort
-    → AreLeft S all before (drop k all) cs table → AreLeft S all before (drop (k + 1) all) cs table
-next_empty S all before k group sort cs table below at sort_is none h =
-    let same = group_empty S all k group sort below at sort_is none h.shaped in
-    record {
-      shapes = ap (λ (xs : List Variable). bound S xs (table_view table)) (sym same) ∙ h.shapes;
-      slots = ap (λ (xs : List Variable). with_slots xs (length cs) (table_slots table)) (sym same) ∙ h.slots;
-      carriers = ap (λ (xs : List Variable). shapes_of cs ++ variable_shapes S xs) (sym same) ∙ h.carriers;
-      shaped = group_shaped S all k group below at h.shaped;
-    }
+pub left_next : (all : List Variables) (carriers : List Carrier) (first k : ℕ) (group : Variables) (names : List ast.Name) (slot next : ℕ) (old new : Table program.Variable)
+    → k < length all → group ≡ get_or all k group → names ≡ group.names.items → next ≡ slot + length names
+    → table_view new ≡ named_shapes names (shapes_of (drop slot carriers)) (table_view old) → table_slots new ≡ named_slots names slot (table_slots old)
+    → AreLeft all carriers first (drop k all) slot old → AreLeft all carriers first (drop (k + 1) all) next new
+left_next all carriers first k group names slot next old new below at are is shown put h = record {
+  shapes = λ S e. let left = h.shapes S e in (
+    ap (λ (n : ℕ). shapes_of (drop n carriers)) is ∙ group_behind S all k group names carriers slot below at are left.0,
+    group_shown S all k group names (shapes_of (drop slot carriers)) (table_view old) (table_view new) below at are left.0 shown ∙ left.1,
+  );
+  slots = group_put all k group names slot next (table_slots old) (table_slots new) below at are is put ∙ h.slots;
+  count = let counted = group_counted all k group names below at are in let before = h.count in omega (arith, counted, before, is);
+}
 
 -- ---- an inner list of variables
 
@@ -262,11 +230,6 @@ length-variables S (x ∷ xs) = ap suc (length-variables S xs)
 -- carriers that grew by so many
 pub length_behind : (old new : List Carrier) (ss : List Shape) → shapes_of new ≡ shapes_of old ++ ss → length new ≡ length old + length ss
 length_behind old new ss e = sym (length-shapes new) ∙ (ap length e ∙ (length-append (shapes_of old) ss ∙ ap (λ (n : ℕ). n + length ss) (length-shapes old)))
-
-shapes-drop : (n : ℕ) (cs : List Carrier) → shapes_of (drop n cs) ≡ drop n (shapes_of cs)
-shapes-drop zero cs = refl
-shapes-drop (suc n) [] = refl
-shapes-drop (suc n) (c ∷ cs) = shapes-drop n cs
 
 drop-length : (xs ys : List Shape) → drop (length xs) (xs ++ ys) ≡ ys
 drop-length [] ys = refl

@@ -45,10 +45,12 @@ slotting (Inner' table p outer) = inner_slots table.now (slotting outer)
 
 -- ---- some more names, the first first
 
--- all of one shape
-abbrev pub named_shapes : List Name → Shape → Scope → Scope
-named_shapes [] s scope = scope
-named_shapes (x ∷ names) s scope = named_shapes names s (declare (string_bytes x.text) s scope)
+-- each with the next shape
+abbrev pub named_shapes : List Name → List Shape → Scope → Scope
+named_shapes [] shapes scope = scope
+named_shapes (x ∷ names) [] scope = scope
+named_shapes (x ∷ names) (s ∷ shapes) scope =
+    named_shapes names shapes (declare (string_bytes x.text) s scope)
 
 -- the next slots being theirs
 abbrev pub named_slots : List Name → ℕ → Slotting → Slotting

@@ -1,19 +1,18 @@
 //! Lists of variables: each variable gets the next slot.
 
-ghost use Rattle.std.specs.Prelude.{◌≡◌, ◌≤◌, ◌++◌, [], drop, length, replicate, IfOk, OnOk};
+ghost use Rattle.std.specs.Prelude.{◌≡◌, ◌≤◌, ◌+◌, ◌++◌, [], drop, length, IfOk, OnOk};
 ghost use Rattle.std.specs.Prelude.{MatchResult, string_bytes};
 ghost use Rattle.pb_text_tree.specs.Form.{variable_forms};
 ghost use Rattle.pb_text_meaning.specs.Erase.{erased_variables};
 ghost use Rattle.pb_text_meaning.specs.Syntax as syntax;
 ghost use Rattle.pb_typing_declarations.specs.Declarations.{variables_faults};
-ghost use Rattle.pb_typing_declarations.specs.Entries.{shape_of, shapes_of};
+ghost use Rattle.pb_typing_declarations.specs.Entries.{shapes_of};
 ghost use Rattle.pb_typing_declarations.specs.Faults.{IsAmong};
 ghost use Rattle.pb_typing_declarations.specs.Tables.{looked_up};
-ghost use Rattle.pb_typing_declarations.specs.View.{spec_of};
 ghost use Rattle.pb_typing_rules.specs.Scope.{bound, outermost};
 ghost use Rattle.pb_typed_tree.specs.Calls.{call_places};
 ghost use Rattle.pb_typed_tree.specs.Elaboration.{unslotted, with_slots};
-ghost use Rattle.pb_typed_tree.specs.Loops.{AreShaped, variable_shapes};
+ghost use Rattle.pb_typed_tree.specs.Loops.{variable_shapes};
 ghost use Rattle.pb_typed_tree.specs.View.{formula_view, nested};
 ghost use Rattle.pb_typing_nodes.specs.Bound.{IsBound};
 ghost use Rattle.pb_typing_nodes.specs.Contexts.{text_in};
@@ -26,7 +25,7 @@ use crate::shape::carrier_shape;
 use pb_sorts::Carrier;
 use pb_text_tree::{Name, Quantifier, Variables};
 use pb_typed_tree::Formula;
-use pb_typing_declarations::{Declarations, TypeError};
+use pb_typing_declarations::TypeError;
 use std::alloc::{AllocError, Global};
 use std::collections::HashMap;
 
@@ -57,10 +56,10 @@ pub fn bind_variables<'t>(
         ≡ shapes_of carriers.old.items ++ variable_shapes (text_in context.now)
         (erased_variables (variable_forms groups.now))) }
 {
-    context.declarations.check_variables(context.alloc, groups)?;
+    let own = context.declarations.check_variables(context.alloc, groups)?;
     let slot = carriers.len();
-    let table = declare_variables(context.alloc, context.declarations, groups, carriers)?;
-    let own = carriers_from(context.alloc, carriers, slot)?;
+    carriers.extend_from_slice(&own)?;
+    let table = declare_variables(context.alloc, groups, carriers, slot)?;
     Ok(Bound {
         table,
         slot,
@@ -68,54 +67,51 @@ pub fn bind_variables<'t>(
     })
 }
 
-/// Gives each variable of a list the next slot, and adds its carrier to those of the slots so far.
+/// Gives each variable of a list the next slot from `first` on, where the carriers of all slots are
+/// given: behind those of the slots before, the variables' own.
 ///
 /// # Errors
 /// Memory was refused.
 pub fn declare_variables<'t>(
     alloc: Global,
-    declarations: &Declarations<'_>,
     groups: &'t [Variables],
-    carriers: &mut Vec<Carrier>,
+    carriers: &[Carrier],
+    first: usize,
 ) -> Result<HashMap<&'t str, Variable>, AllocError>
-    requires { AreShaped (spec_of declarations.now) (erased_variables (variable_forms groups.now)) }
-    ensures shapes { IfOk result (λ table. table_view table ≡ bound (spec_of declarations.now)
-        (erased_variables (variable_forms groups.now)) outermost) }
-    ensures slots { IfOk result (λ table. table_slots table ≡ with_slots
-        (erased_variables (variable_forms groups.now)) (length carriers.old.items) unslotted) }
-    ensures carriers { OnOk result (shapes_of carriers.new.items
-        ≡ shapes_of carriers.old.items ++ variable_shapes (spec_of declarations.now)
-        (erased_variables (variable_forms groups.now))) }
+    requires { length carriers.now ≡ first + length (variable_forms groups.now) }
+    ensures shapes { (S : syntax.Spec) → shapes_of (drop first carriers.now)
+        ≡ variable_shapes S (erased_variables (variable_forms groups.now))
+        → IfOk result (λ table. table_view table
+        ≡ bound S (erased_variables (variable_forms groups.now)) outermost) }
+    ensures slots { IfOk result (λ table. table_slots table
+        ≡ with_slots (erased_variables (variable_forms groups.now)) first unslotted) }
 {
     let mut table = HashMap::new(alloc);
+    let mut slot = first;
     for group in groups {
-        // A sort without values has no variable.
-        if let Some(carrier) = declarations.carrier(&group.sort.text) {
-            table = declare_names(table, &group.names, carrier, carriers)?;
-        }
+        table = declare_names(table, &group.names, carriers, slot)?;
+        slot += group.names.len();
     }
     Ok(table)
 }
 
-/// Gives each name the next slot, all with one carrier.
+/// Gives each name the next slot from `first` on, with the slot's carrier.
 fn declare_names<'t>(
     mut table: HashMap<&'t str, Variable>,
     names: &'t [Name],
-    carrier: Carrier,
-    carriers: &mut Vec<Carrier>,
+    carriers: &[Carrier],
+    first: usize,
 ) -> Result<HashMap<&'t str, Variable>, AllocError>
+    requires { first + length names.now ≤ length carriers.now }
     ensures shapes { IfOk result (λ more. table_view more
-        ≡ named_shapes names.now (shape_of carrier) (table_view table.entry)) }
+        ≡ named_shapes names.now (shapes_of (drop first carriers.now)) (table_view table.entry)) }
     ensures slots { IfOk result (λ more. table_slots more
-        ≡ named_slots names.now (length carriers.old.items) (table_slots table.entry)) }
-    ensures carriers { OnOk result (carriers.new.items
-        ≡ carriers.old.items ++ replicate (length names.now) carrier) }
+        ≡ named_slots names.now first (table_slots table.entry)) }
 {
-    for name in names {
-        let slot = carriers.len();
-        let shape = carrier_shape(carrier);
+    for (place, name) in names.iter().enumerate() {
+        let slot = first + place;
+        let shape = carrier_shape(carriers[slot]);
         table = with_name(table, name, Variable { slot, shape })?;
-        carriers.push(carrier)?;
     }
     Ok(table)
 }

@@ -13,5 +13,5 @@ returns-in_err-check_variables c =
     let lists = c.args.lists.now in
     let error = c.in_err-check_variables.field-0.0 in
     let h : IsAmong (flat_map faults (list_forms lists)) error =
-    among_item faults list_form lists c.loop-groups.groups-index c.groups-item.result error c.loop-groups-test.true c.groups-item.is c.loop-groups.invariant c.in_err-check_variables.ensures in
+    among_item faults list_form lists c.loop-groups.groups-index c.groups-item.result error c.loop-groups-test.true c.groups-item.is c.loop-groups.invariant c.in_err-check_variables.ensures.checked in
     search rules

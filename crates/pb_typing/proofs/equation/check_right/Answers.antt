@@ -1,9 +1,12 @@
-use Rattle.std.proofs.Common.{◌≡◌, ℕ, ◌++◌, [], true, List, length, ◌∙◌, ap, subst, arith, Result, Ok, Err}
+use Rattle.std.proofs.Common.{◌≡◌, ℕ, [], true, List, length, ◌∙◌, sym, ap, subst, arith, Result, Ok, Err}
 use Rattle.std.specs.Prelude.{MatchResult}
+use Rattle.std.proofs.lemmas.List.{length-map}
+use Rattle.pb_sorts.specs.declared.carrier.Carrier.{Carrier}
 use Rattle.pb_text_tree.specs.declared.variable.Variables.{Variables}
 use Rattle.pb_text_tree.specs.declared.formula.Formula as ast
 use Rattle.pb_text_tree.specs.declared.spec.Equation as declared
-use Rattle.pb_text_tree.specs.Form.{equation_form, formula_form}
+use Rattle.pb_text_tree.specs.Form.{equation_form, formula_form, variable_forms}
+use Rattle.pb_text_meaning.specs.Erase.{erased_variable}
 use Rattle.pb_text_meaning.specs.Syntax.{Spec}
 use Rattle.pb_errors.specs.declared.or_memory.OrMemory.{OrMemory}
 use Rattle.pb_typing_declarations.specs.declared.fault.TypingFault.{TypingFault}
@@ -17,7 +20,7 @@ use Rattle.pb_typed_tree.specs.Elaboration.{Slotting, unslotted, with_slots}
 use Rattle.pb_typed_tree.specs.Loops.{variable_shapes}
 use Rattle.pb_typing.specs.Rights.{IsRight, IsRightIn, own_faults}
 use Rattle.pb_typing_nodes.specs.Scopes.{inner_slots}
-use Rattle.pb_typing_nodes.proofs.SlotLemmas.{inner_scope, inner_slotting, length_behind, length-variables, variables_of}
+use Rattle.pb_typing_nodes.proofs.SlotLemmas.{inner_scope, inner_slotting, length-shapes, length-variables, variables_of}
 use Rattle.pb_typing.proofs.equation.check_right.Goals as goal
 
 -- what is found of a right side in a scope
@@ -31,6 +34,22 @@ made : (S : Spec) (X : declared.Equation) (r : Result Equation (OrMemory TypingF
 made S X (Ok Y) h = (h.0, record { right = h.1.right; loops = h.1.loops; calls = h.1.calls })
 made S X (Err e) h = h
 
+counted : (S : Spec) (groups : List Variables) (carriers : List Carrier) → shapes_of carriers ≡ variable_shapes S (variables_of groups) → length carriers ≡ length (variables_of groups)
+counted S groups carriers are =
+    let shapes = length-shapes carriers in
+    let variables = length-variables S (variables_of groups) in
+    let same : length (shapes_of carriers) ≡ length (variable_shapes S (variables_of groups)) = ap length are in
+    omega (arith, shapes, variables, same)
+
+pub declare_variables-requires : goal.declare_variables-requires
+declare_variables-requires c =
+    let S = spec_of c.args.declarations.now in
+    let groups = c.args.equation.now.parameters.items in
+    let count = counted S groups c.args.parameters.now c.requires.parameters in
+    let forms = length-map (variable_forms groups) erased_variable in
+    let same : length (variable_forms c.deref.result.now) ≡ length (variable_forms groups) = ap (λ (gs : List Variables). length (variable_forms gs)) c.deref.ensures.value in
+    omega (arith, count, forms, same)
+
 pub returns : goal.returns
 returns c =
     let S = spec_of c.args.declarations.now in
@@ -39,15 +58,11 @@ returns c =
     let f = c.args.equation.now.right in
     let r = c.check_under.result in
     let table = c.in_ok-table.table in
-    let mid = c.declare_variables.new.carriers.items in
-    let begun : length c.new-carriers.result.items ≡ 0 = ap length c.new-carriers.ensures.items in
-    let shapes = c.in_ok-table.ensures.shapes ∙ ap (λ (gs : List Variables). bound S (variables_of gs) outermost) c.deref.ensures.value in
-    let slots = c.in_ok-table.ensures.slots
-    ∙ (ap (λ (gs : List Variables). with_slots (variables_of gs) (length c.new-carriers.result.items) unslotted) c.deref.ensures.value
-    ∙ ap (λ (n : ℕ). with_slots xs n unslotted) begun) in
-    let grown = c.in_ok-table.ensures.carriers ∙ ap (λ (gs : List Variables). shapes_of c.new-carriers.result.items ++ variable_shapes S (variables_of gs)) c.deref.ensures.value in
-    let count : length mid ≡ length xs = omega (arith, length_behind c.new-carriers.result.items mid (variable_shapes S xs) grown, length-variables S xs, begun) in
+    let carriers = c.args.parameters.now in
+    let own = c.requires.parameters ∙ ap (λ (gs : List Variables). variable_shapes S (variables_of gs)) (sym c.deref.ensures.value) in
+    let shapes = c.in_ok-table.ensures.shapes S own ∙ ap (λ (gs : List Variables). bound S (variables_of gs) outermost) c.deref.ensures.value in
+    let slots = c.in_ok-table.ensures.slots ∙ ap (λ (gs : List Variables). with_slots (variables_of gs) 0 unslotted) c.deref.ensures.value in
     made S c.args.equation.now r
-    (subst (λ (n : ℕ). Found S f r (bound S xs outermost) (with_slots xs 0 unslotted) n) count
-    (subst (λ (s : Slotting). Found S f r (bound S xs outermost) s (length mid)) (inner_slotting xs 0 table unslotted slots)
-    (subst (λ (a : Scope). Found S f r a (inner_slots table unslotted) (length mid)) (inner_scope S xs table outermost shapes) c.check_under.ensures)))
+    (subst (λ (n : ℕ). Found S f r (bound S xs outermost) (with_slots xs 0 unslotted) n) (counted S groups carriers c.requires.parameters)
+    (subst (λ (s : Slotting). Found S f r (bound S xs outermost) s (length carriers)) (inner_slotting xs 0 table unslotted slots)
+    (subst (λ (a : Scope). Found S f r a (inner_slots table unslotted) (length carriers)) (inner_scope S xs table outermost shapes) c.check_under.ensures)))

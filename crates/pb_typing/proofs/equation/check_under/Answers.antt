@@ -1,27 +1,24 @@
-use Rattle.std.proofs.Common.{◌≡◌, ◌∙◌, ap, arith, drop, length, List}
+use Rattle.std.proofs.Common.{◌≡◌, ◌∙◌, ℕ, sym, ap, drop, length, List}
 use Rattle.pb_sorts.specs.declared.carrier.Carrier.{Carrier}
-use Rattle.pb_typing_nodes.proofs.SlotLemmas.{length_behind, shapes_behind}
+use Rattle.pb_typed_tree.specs.Elaboration.{elaborated}
+use Rattle.pb_typing_nodes.specs.Contexts.{scope_in, slots_in, text_in}
+use Rattle.pb_typing_nodes.proofs.SlotLemmas.{shapes_behind}
+use Rattle.pb_typing.specs.Tree.{formula_of}
 use Rattle.pb_typing.proofs.equation.check_under.Goals as goal
-
-pub carriers_from-requires : goal.carriers_from-requires
-carriers_from-requires c =
-    omega (
-      arith,
-      c.len-parameters.ensures,
-      c.args.carriers.ok.0,
-      ap length c.deref.ensures.value,
-      length_behind c.args.carriers.items c.check_formula.new.carriers.items _ c.in_ok-right.ensures.carriers,
-    )
 
 pub returns : goal.returns
 returns c =
-    let h = c.in_ok-right.ensures in
-    let own = c.in_ok-loops.ensures ∙ ap (λ (cs : List Carrier). drop c.len-parameters.result cs) c.deref.ensures.value in
-    let at : c.len-parameters.result ≡ length c.args.carriers.items = omega (arith, c.len-parameters.ensures, c.args.carriers.ok.0) in (
+    let context = c.args.context.now in
+    let f = c.args.formula.now in
+    let parameters = c.args.parameters.now in
+    let begun = c.in_ok-carriers.carriers.items in
+    let at : length begun ≡ length parameters = ap length c.in_ok-carriers.ensures.items in
+    let own = c.in_ok-loops.ensures ∙ ap (λ (cs : List Carrier). drop (length parameters) cs) c.deref.ensures.value in
+    let h = c.in_ok-right.ensures in (
       h.checked.0,
       record {
-        right = h.checked.1;
-        loops = shapes_behind c.args.carriers.items c.check_formula.new.carriers.items c.in_ok-loops.loops.items c.len-parameters.result _ h.carriers at own;
+        right = h.checked.1 ∙ ap (λ (n : ℕ). elaborated (text_in context) (slots_in context) (scope_in context) n (formula_of f)) at;
+        loops = shapes_behind begun c.check_formula.new.carriers.items c.in_ok-loops.loops.items (length parameters) _ h.carriers (sym at) own;
         calls = h.places;
       },
     )

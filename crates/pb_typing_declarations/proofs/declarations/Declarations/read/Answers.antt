@@ -13,10 +13,10 @@ returns-in_err-tables-clause-checked c =
     let h : IsAmong (declaration_faults text) e = among_left (tables_faults text) _ e c.in_err-tables.ensures in
     search rules
 
-pub returns-in_err-check-clause-checked : goal.returns-in_err-check-clause-checked
-returns-in_err-check-clause-checked c =
+pub returns-in_err-carriers-clause-checked : goal.returns-in_err-carriers-clause-checked
+returns-in_err-carriers-clause-checked c =
     let text = spec_form c.args.spec.now in
-    let e = c.in_err-check.field-0.0 in
+    let e = c.in_err-carriers.field-0.0 in
     let h : IsAmong (declaration_faults text) e =
-    among_right (tables_faults text) _ e (subst (λ (s : Spec). IsAmong (checks_faults (spec_form s)) e) c.in_ok-tables.ensures.0 c.in_err-check.ensures) in
+    among_right (tables_faults text) _ e (subst (λ (s : Spec). IsAmong (checks_faults (spec_form s)) e) c.in_ok-tables.ensures.0 c.in_err-carriers.ensures) in
     search rules
