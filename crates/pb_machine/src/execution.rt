@@ -1,5 +1,6 @@
 //! Runs: one instruction after another, up to END.
-ghost use Rattle.std.specs.Prelude.{◌≡◌, ◌<◌, ◌≤◌, IfOk, Some, map, slice_get, true};
+ghost use Rattle.std.specs.Prelude.{◌≡◌, ◌<◌, ◌≤◌, ◌++◌, IfOk, List, Some, ℤ, map, slice_get, take};
+ghost use Rattle.std.specs.Prelude.{true, vec_len};
 ghost use Rattle.arrayvec.specs.ArrayVec.{array_vec_len};
 ghost use Rattle.pb_carriers.specs.Carrier.{tuples, tuple_count};
 ghost use Rattle.pb_sorts.specs.Carrier.{values_of};
@@ -28,6 +29,20 @@ fn fill(operands: &mut ArrayVec<i64, MAX_OPERANDS>)
     if !operands.is_full() {
         *operands = ArrayVec::from([0; MAX_OPERANDS]);
     }
+}
+
+/// Makes there be so many slots, the first of which stay as they are. Most runs have as many as the
+/// one before, which is seen without a call.
+#[inline(always)]
+fn resize(slots: &mut Vec<i64>, count: usize) -> Result<(), AllocError>
+    ensures count { IfOk result (λ _. vec_len slots.new ≡ count) }
+    ensures first { IfOk result (λ _. (more : List ℤ)
+        × (slots.new.items ≡ take count slots.old.items ++ more)) }
+{
+    if slots.len() != count {
+        slots.resize(count, 0)?;
+    }
+    Ok(())
 }
 
 impl Machine {
@@ -123,21 +138,14 @@ impl Machine {
         true
     }
 
-    /// Makes the values at a place among the `count` tuples of their carriers the slots.
-    pub(crate) fn load(
-        &mut self,
-        carriers: &[Carrier],
-        count: u32,
-        place: u32,
-    ) -> Result<(), AllocError>
-        requires count { count ≡ tuple_count (map values_of carriers.now) }
-        requires below { place < count }
+    /// Makes the values at a place among the tuples of their carriers the slots.
+    pub(crate) fn load(&mut self, carriers: &[Carrier], place: u32) -> Result<(), AllocError>
+        requires { place < tuple_count (map values_of carriers.now) }
         ensures { IfOk result (λ _. slice_get (tuples (map values_of carriers.now)) place
             ≡ Some self.new.slots.items) }
     {
-        self.slots.clear();
-        self.slots.reserve(carriers.len())?;
-        write_values(&mut self.slots, carriers, count, place);
+        resize(&mut self.slots, carriers.len())?;
+        write_values(&mut self.slots, carriers, place);
         Ok(())
     }
 
@@ -152,7 +160,8 @@ impl Machine {
     {
         fill(&mut self.operands);
         self.loops.clear();
-        self.slots.resize(self.slots.len() + code.loops.len(), 0)?;
+        let slots = self.slots.len() + code.loops.len();
+        resize(&mut self.slots, slots)?;
         self.output.clear();
         self.output.reserve(code.tokens as usize)?;
         Ok(())

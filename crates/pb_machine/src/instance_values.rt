@@ -1,6 +1,5 @@
 //! The values of an instance from its place among those of its equation: the last one runs fastest.
-ghost use Rattle.std.specs.Prelude.{◌≡◌, ◌<◌, ◌≤◌, [], length, map, Some, slice_get};
-ghost use Rattle.std.specs.Prelude.{vec_capacity};
+ghost use Rattle.std.specs.Prelude.{◌≡◌, ◌<◌, ◌+◌, ◌*◌, length, map, Some, slice_get};
 ghost use Rattle.pb_carriers.specs.Carrier.{tuples, tuple_count};
 ghost use Rattle.pb_sorts.specs.Carrier.{values_of};
 
@@ -15,20 +14,31 @@ fn value_at(carrier: &Carrier, place: u64) -> i64
     least + place as i64
 }
 
-/// Writes the values at a place among the `count` tuples of their carriers behind nothing, where
-/// there is room for them.
-pub(crate) fn write_values(values: &mut Vec<i64>, carriers: &[Carrier], count: u32, place: u32)
-    requires none { values.old.items ≡ [] }
-    requires room { length carriers.now ≤ vec_capacity values.old }
-    requires count { count ≡ tuple_count (map values_of carriers.now) }
-    requires below { place < count }
-    ensures { slice_get (tuples (map values_of carriers.now)) place ≡ Some values.new.items }
+/// A number as a multiple of a size and what is left of it. One below the size, as that of the
+/// first value always is, isn't divided, since dividing takes as long as many other steps.
+fn divided(number: u64, size: u64) -> (u64, u64)
+    requires { 0 < size }
+    ensures whole { number ≡ result.0 * size + result.1 }
+    ensures rest { result.1 < size }
 {
-    let mut weight = count as u64;
+    if number < size {
+        (0, number)
+    } else {
+        (number / size, number % size)
+    }
+}
+
+/// Writes the values at a place among the tuples of their carriers over as many others.
+pub(crate) fn write_values(values: &mut [i64], carriers: &[Carrier], place: u32)
+    requires one_each { length values.old ≡ length carriers.now }
+    requires below { place < tuple_count (map values_of carriers.now) }
+    ensures { slice_get (tuples (map values_of carriers.now)) place ≡ Some values.new }
+{
     let mut rest = place as u64;
-    for carrier in carriers {
-        weight /= carrier.size();
-        values.push_reserved(value_at(carrier, rest / weight));
-        rest %= weight;
+    for index in (0..carriers.len()).rev() {
+        let carrier = &carriers[index];
+        let (before, last) = divided(rest, carrier.size());
+        values[index] = value_at(carrier, last);
+        rest = before;
     }
 }
