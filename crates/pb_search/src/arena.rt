@@ -50,6 +50,22 @@ impl Numbers {
         Ok(Numbers { items })
     }
 
+    /// No table yet: all numbers are 0 until one is made.
+    pub fn none(alloc: Global) -> Numbers {
+        Numbers {
+            items: Vec::new(alloc),
+        }
+    }
+
+    /// Makes the table of so many vertices, unless it is there.
+    #[inline]
+    pub fn make(&mut self, length: usize) -> Result<(), AllocError> {
+        if self.items.is_empty() {
+            self.items.resize(length, 0)?;
+        }
+        Ok(())
+    }
+
     #[inline]
     pub fn get(&self, v: u32) -> u32 {
         if (v as usize) < self.items.len() {

@@ -10,6 +10,7 @@ mod arena;
 mod budget;
 mod chains;
 mod components;
+mod few;
 mod levels;
 mod measure;
 mod method;

@@ -31,8 +31,8 @@ pub(crate) fn solve(
     let mut level = open(rt, game, space, part, top)?;
     for _ in 0..u64::MAX {
         let inner = Part {
-            from: part.from,
-            to: level.end,
+            from: level.inner.from,
+            to: level.inner.to,
             limit: top,
         };
         let is_split = solve_parts(rt, game, space, inner)?;

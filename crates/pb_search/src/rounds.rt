@@ -134,7 +134,7 @@ fn list_candidate(game: &Game, space: &mut Workspace, forced: Forced, u: u32) ->
     if label < forced.least || forced.greatest < label || owner(game, u) != forced.player {
         return Ok(());
     }
-    let passed = space.passed_before(u, forced.region);
+    let passed = space.passed_before(u, forced.region)?;
     if passed != LISTED {
         space.passed.set(u, LISTED);
         space

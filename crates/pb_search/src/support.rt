@@ -29,7 +29,7 @@ fn find_successor(
     u: u32,
     wanted: Wanted,
 ) -> Result<Option<u32>, Stop> {
-    space.way_out(game, u, turn.level.region())?;
+    space.pass_over(game, u, turn.level.region())?;
     let row = successors(game, u);
     for k in space.passed.get(u) as usize..row.len() {
         space.budget.spend(0)?;

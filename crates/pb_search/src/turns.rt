@@ -3,7 +3,8 @@
 
 use crate::arena::{owner, predecessors};
 use crate::budget::Stop;
-use crate::levels::{Level, number_front};
+use crate::few::is_front_apart;
+use crate::levels::{Level, Places, number_front};
 use crate::rounds::{Round, look_ahead};
 use crate::support::{Turn, number_rest, regain_front, regain_rest, replace};
 use crate::workspace::{Workspace, item};
@@ -18,6 +19,9 @@ pub(crate) fn take_turn(
     space: &mut Workspace,
     level: &mut Level,
 ) -> Result<(), Stop> {
+    if is_front_apart(game, space, level)? {
+        return Ok(());
+    }
     concede(rt, game, space, level)?;
     let turn = Turn {
         level: *level,
@@ -26,7 +30,7 @@ pub(crate) fn take_turn(
     lose_choices(game, space, turn)?;
     lose_front(game, space, turn)?;
     regain_front(rt, game, space, turn)?;
-    number_front(space, level, 0);
+    number_front(space, level, 0)?;
     lose_rest(game, space, turn)?;
     regain_rest(rt, game, space, turn)?;
     number_rest(space, level);
@@ -42,12 +46,6 @@ fn concede(
     level: &mut Level,
 ) -> Result<(), Stop> {
     space.hit.clear();
-    for k in 0..space.taken.len() {
-        let Some(v) = item(&space.taken, k) else {
-            break
-        };
-        space.label.set(v, 0);
-    }
     let mut round = Round::new();
     for k in 0..usize::MAX {
         let Some(x) = item(&space.taken, k) else {
@@ -64,6 +62,7 @@ fn concede(
             }
         }
     }
+    level.undecided = level.undecided.saturating_sub(space.taken.len());
     Ok(())
 }
 
@@ -160,13 +159,16 @@ fn lose_rest(game: &Game, space: &mut Workspace, turn: Turn) -> Result<(), Stop>
 /// Puts what is solved again first in the level's part of the list.
 fn collect(space: &mut Workspace, level: &mut Level, now: u32) -> Result<(), Stop> {
     space.budget.spend(space.part.len())?;
-    level.end = level.part.from;
+    level.inner = Places {
+        from: level.part.from,
+        to: level.part.from,
+    };
     for k in 0..space.part.len() {
         let Some(v) = item(&space.part, k) else { break };
         if space.label.get(v) == now {
             let place = space.position.get(v) as usize;
-            space.swap(place, level.end);
-            level.end = level.end.saturating_add(1);
+            space.swap(place, level.inner.to);
+            level.inner.to = level.inner.to.saturating_add(1);
         }
     }
     Ok(())

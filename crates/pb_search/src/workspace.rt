@@ -56,9 +56,11 @@ pub(crate) struct Workspace {
     /// The part of the game that a vertex belongs to: at a level its front, its rest, what lost its
     /// support, or 0 for what is decided. Deeper levels have greater labels.
     pub label: Numbers,
-    /// In which order the front of a level took in the vertex, 0 at its heads.
+    /// In which order the front of a level took in the vertex, 0 at its heads. It is made when a
+    /// front first takes in any.
     pub order: Numbers,
-    /// How many of the vertex's first successors are outside of the region of its stamp.
+    /// How many of the vertex's first successors are outside of the region of its stamp. Both are
+    /// made when a search for a way out first passes over one.
     pub passed: Numbers,
     pub stamp: Numbers,
     /// All vertices: a level has a part of this list, and what it solves again stands first there.
@@ -101,9 +103,9 @@ impl Workspace {
             budget,
             clock: 0,
             label: Numbers::new(alloc, vertices)?,
-            order: Numbers::new(alloc, vertices)?,
-            passed: Numbers::new(alloc, vertices)?,
-            stamp: Numbers::new(alloc, vertices)?,
+            order: Numbers::none(alloc),
+            passed: Numbers::none(alloc),
+            stamp: Numbers::none(alloc),
             list,
             position,
             draft: Draft::new(alloc, game)?,
@@ -127,8 +129,9 @@ impl Workspace {
     }
 
     /// Changes the places of two vertices in the list.
+    #[inline]
     pub fn swap(&mut self, i: usize, j: usize) {
-        if i < self.list.len() && j < self.list.len() {
+        if i != j && i < self.list.len() && j < self.list.len() {
             let (v, u) = (self.list[i], self.list[j]);
             self.put(i, u);
             self.put(j, v);
@@ -145,19 +148,32 @@ impl Workspace {
 
     /// How many of the first successors of `u` are known to be outside of the region.
     #[inline]
-    pub fn passed_before(&mut self, u: u32, region: Region) -> u32 {
+    pub fn passed_before(&mut self, u: u32, region: Region) -> Result<u32, AllocError> {
         if self.stamp.get(u) == region.stamp {
-            return self.passed.get(u);
+            return Ok(self.passed.get(u));
         }
+        self.stamp.make(self.list.len())?;
+        self.passed.make(self.list.len())?;
         self.stamp.set(u, region.stamp);
-        0
+        Ok(0)
+    }
+
+    /// The first successor of `u` in the region.
+    #[inline]
+    pub fn way_out(&mut self, game: &Game, u: u32, region: Region) -> Result<Option<u32>, Stop> {
+        if let Some(w) = item(successors(game, u), 0) {
+            if region.has(self.label.get(w)) {
+                self.budget.spend(0)?;
+                return Ok(Some(w));
+            }
+        }
+        self.pass_over(game, u, region)
     }
 
     /// The first successor of `u` in the region, looked for where the last search under this stamp
-    /// stopped.
-    #[inline]
-    pub fn way_out(&mut self, game: &Game, u: u32, region: Region) -> Result<Option<u32>, Stop> {
-        let from = self.passed_before(u, region);
+    /// stopped; those before it are passed.
+    pub fn pass_over(&mut self, game: &Game, u: u32, region: Region) -> Result<Option<u32>, Stop> {
+        let from = self.passed_before(u, region)?;
         let ways = Ways {
             game,
             label: &self.label,
