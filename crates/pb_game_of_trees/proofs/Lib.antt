@@ -2,6 +2,8 @@ pub mod Rising
 pub mod Opened
 pub mod First
 pub mod Reading
+pub mod LaidOut
+pub mod AroundLeaf
 pub mod Rows
 pub mod Reached
 pub mod Closing

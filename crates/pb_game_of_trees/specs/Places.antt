@@ -35,6 +35,10 @@ CallBelow count rows = (row : Row) → Contains rows row → TreeCalls (λ n. n 
 abbrev pub IsSizeOf : List in_memory.TokenRow → ℕ → Type 0
 IsSizeOf rows size = (plain : List Row) → Hold rows plain → size ≡ vertex_behind plain 2
 
+-- these are the vertices of the rows
+abbrev pub ArePlacesOf : List in_memory.TokenRow → List ℕ → Type 0
+ArePlacesOf rows vertices = (plain : List Row) → Hold rows plain → vertices ≡ vertices_from plain 2
+
 -- the vertex that stands where a number stands among these, and 0 where it stands nowhere
 abbrev pub vertex_in : List ℕ → List ℕ → ℕ → ℕ
 vertex_in numbers vertices n = slice_index vertices (position_or_len (λ k. k == n) numbers)

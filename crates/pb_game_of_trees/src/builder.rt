@@ -23,6 +23,9 @@ use std::alloc::AllocError;
 /// How many rows are looked at before the first of them is built.
 const BLOCK: usize = 128;
 
+/// How many tokens a bracket around one leaf has.
+const ONE_LEAF: usize = 3;
+
 #[derive(Drop)]
 pub(crate) struct Builder {
     /// The vertices so far.
@@ -159,7 +162,7 @@ impl Builder {
             → vertex ≡ target at l → IsAt at self.old [] behind limit
             → HasTree at self.new priority (Single l) behind limit) }
     {
-        self.draft.put(Player::Even, priority, &mut [vertex])?;
+        self.draft.put_one(Player::Even, priority, vertex)?;
         self.next -= 1;
         Ok(())
     }
@@ -229,6 +232,9 @@ impl Builder {
             (slice_index (table_of vertices.now)) self.old [] behind limit
             → HasTree (slice_index (table_of vertices.now)) self.new priority tree behind limit) }
     {
+        if tokens.len() == ONE_LEAF {
+            return self.put_small(vertices, tokens, priority);
+        }
         let mut k = tokens.len();
         while k > 1 {
             k -= 1;

@@ -56,6 +56,22 @@ impl Draft {
         Ok(())
     }
 
+    /// Puts a vertex with one successor before the others.
+    pub fn put_one(&mut self, owner: Player, priority: u32, target: u32) -> Result<(), AllocError>
+        ensures { OnOk result ((vertices : List Vertex) → IsDraft self.old vertices
+            → IsDraft self.new (record {
+              owner = owner;
+              priority = priority;
+              successors = target ∷ [];
+            } ∷ vertices)) }
+    {
+        self.successors.push(target)?;
+        self.edges.push(self.successors.len())?;
+        self.priorities.push(priority)?;
+        self.owners.push(owner)?;
+        Ok(())
+    }
+
     /// The lists from the first vertex on.
     pub fn into_parts(self) -> Parts
         requires { (vertices : List Vertex) × IsDraft self vertices }

@@ -1,13 +1,11 @@
 //! The vertices of instances by their numbers.
-ghost use Rattle.std.specs.Prelude.{◌≡◌, ◌≤◌, ◌<◌, ℕ, IfOk, List, length, slice_index};
+ghost use Rattle.std.specs.Prelude.{◌≡◌, ◌<◌, ℕ, IfOk, List, length, slice_index};
 ghost use Rattle.std.specs.List.Sorted.{IsStrictlyIncreasing};
 ghost use Rattle.pb_trees.specs.Rows.{Row as plain_row};
 ghost use Rattle.pb_game_of_trees.specs.Held.{Hold};
 ghost use Rattle.pb_game_of_trees.specs.Numbering.{table_of};
-ghost use Rattle.pb_game_of_trees.specs.Places.{vertex_behind, vertices_from, numbers};
-ghost use Rattle.pb_limits.specs.declared.TheConstants.{MAX_VERTICES};
+ghost use Rattle.pb_game_of_trees.specs.Places.{numbers};
 
-use crate::size::inner_brackets;
 use crate::sorted_vertices::{SortedVertices, numbers_of_rows};
 use pb_game::Game;
 use pb_rows::IndexedRows;
@@ -36,22 +34,6 @@ impl Numbering<'_> {
             Numbering::Sorted(sorted) => sorted.vertex(number),
         }
     }
-}
-
-/// The vertices of the rows' trees lie side by side, behind the two sinks.
-pub(crate) fn vertices_of_rows(alloc: Global, rows: &IndexedRows) -> Result<Vec<u32>, AllocError>
-    requires { (plain : List plain_row) × Hold rows.now plain
-        × (vertex_behind plain 2 ≤ MAX_VERTICES) }
-    ensures { IfOk result (λ vertices. (plain : List plain_row) → Hold rows.now plain
-        → vertices.items ≡ vertices_from plain 2) }
-{
-    let mut vertices = Vec::with_capacity(alloc, rows.len())?;
-    let mut next: u32 = 2;
-    for k in 0..rows.len() {
-        vertices.push(next)?;
-        next += inner_brackets(rows.tokens(k)) as u32 + 1;
-    }
-    Ok(vertices)
 }
 
 /// The vertex of each number of a row; of the other numbers below `count` 0.

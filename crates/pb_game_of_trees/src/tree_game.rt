@@ -5,10 +5,11 @@ ghost use Rattle.pb_game.specs.Games.{vertex_count};
 
 use crate::finished::game_of;
 use crate::levels::{count_instances, levels};
-use crate::numbering::{number_vertices, vertices_of_rows};
+use crate::numbering::number_vertices;
+use crate::places::{Laid, lay_rows};
 use crate::row_loop::draft_of;
 use crate::signature::Signature;
-use crate::size::{Size, size_of};
+use crate::size::size_of;
 use pb_errors::{Fault, OrMemory};
 use pb_game::Game;
 use pb_rows::IndexedRows;
@@ -51,10 +52,11 @@ impl TreeGame {
     ghost use Rattle.pb_trees.specs.Equations.{total};
     ghost use Rattle.pb_game_of_trees.specs.Equations.{equations_of};
     ghost use Rattle.pb_game_of_trees.specs.TreeGame.{RowsHaveTrees, IsGameOf, IsRefusedExactly};
-    ghost use Rattle.pb_game_of_trees.specs.Places.{IsSizeOf};
+    ghost use Rattle.pb_game_of_trees.specs.Places.{IsSizeOf, ArePlacesOf};
 
     /// The game of the reached instances of these equations, where `initial` is one of them. How
-    /// many vertices it has is found before anything of that size is made.
+    /// many vertices it has is found before the game is made: with the vertex of each row, or
+    /// without, where there is no memory for these.
     ///
     /// # Errors
     /// `TooManyVertices` exactly where there would be more than 2^24; else `Memory`.
@@ -70,28 +72,33 @@ impl TreeGame {
         ensures game { IfOk result (IsGameOf (equations_of signatures.now) rows.now initial) }
         ensures too_many { IsRefusedExactly result (equations_of signatures.now) rows.now }
     {
-        match size_of(rows) {
-            None => Err(BuildError::Refused(TooManyVertices)),
-            Some(size) => Ok(TreeGame::of_size(alloc, signatures, rows, initial, size)?),
+        match lay_rows(alloc, rows) {
+            Ok(None) => Err(BuildError::Refused(TooManyVertices)),
+            Ok(Some(laid)) => Ok(TreeGame::of_laid(alloc, signatures, rows, initial, laid)?),
+            Err(AllocError) => match size_of(rows) {
+                None => Err(BuildError::Refused(TooManyVertices)),
+                Some(_) => Err(BuildError::Memory),
+            },
         }
     }
 
-    /// The game, of a size that is known.
-    fn of_size(
+    /// The game, whose vertices are laid out.
+    fn of_laid(
         alloc: Global,
         signatures: &[Signature],
         rows: &IndexedRows,
         initial: u32,
-        size: Size,
+        laid: Laid,
     ) -> Result<TreeGame, AllocError>
         requires few { length signatures.now < 256 }
         requires numbers { total (equations_of signatures.now) < 2 ^ 32 }
-        requires small { size.vertices ≤ MAX_VERTICES }
+        requires small { laid.size.vertices ≤ MAX_VERTICES }
         requires reached { RowsHaveTrees (equations_of signatures.now) rows.now initial }
-        requires size { IsSizeOf rows.now size.vertices }
+        requires size { IsSizeOf rows.now laid.size.vertices }
+        requires vertices { ArePlacesOf rows.now laid.vertices.items }
         ensures { IfOk result (IsGameOf (equations_of signatures.now) rows.now initial) }
     {
-        let vertices = vertices_of_rows(alloc, rows)?;
+        let Laid { size, vertices } = laid;
         let numbers = count_instances(signatures) as usize;
         let numbering = number_vertices(alloc, rows, &vertices, numbers)?;
         let levels = levels(alloc, signatures)?;

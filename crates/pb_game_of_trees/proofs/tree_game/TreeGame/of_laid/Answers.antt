@@ -11,16 +11,7 @@ use Rattle.pb_game_of_trees.proofs.Reached.{found_row, reached_of}
 use Rattle.pb_game_of_trees.proofs.Vertices.{IsTable, table_at, vertices_are, fewer_rows, length-vertices_from}
 use Rattle.pb_game_of_trees.proofs.Placed.{start_below}
 use Rattle.pb_game_of_trees.proofs.Built.{count_vertices, number_below, reached_below, call_below, built, makes_game}
-use Rattle.pb_game_of_trees.proofs.tree_game.TreeGame.of_size.Goals as goal
-
-pub vertices_of_rows-requires : goal.vertices_of_rows-requires
-vertices_of_rows-requires c =
-    let sigs = equations_of c.args.signatures.now in
-    let rows = c.args.rows.now in
-    let trees = c.requires.reached.0 in
-    let reached = rows_of trees rows in
-    let are = reached_of trees sigs rows c.requires.reached.1.are in
-    (reached, are.held, omega (arith, c.requires.small, c.requires.size reached are.held))
+use Rattle.pb_game_of_trees.proofs.tree_game.TreeGame.of_laid.Goals as goal
 
 pub number_vertices-requires-clause-lengths : goal.number_vertices-requires-clause-lengths
 number_vertices-requires-clause-lengths c =
@@ -29,7 +20,7 @@ number_vertices-requires-clause-lengths c =
     let trees = c.requires.reached.0 in
     let reached = rows_of trees rows in
     let are = reached_of trees sigs rows c.requires.reached.1.are in
-    count_vertices sigs trees rows reached are c.deref.result.now (c.deref.ensures.value ∙ c.in_ok-vertices.ensures reached are.held)
+    count_vertices sigs trees rows reached are c.deref.result.now (c.deref.ensures.value ∙ c.requires.vertices reached are.held)
 
 pub number_vertices-requires-clause-within : goal.number_vertices-requires-clause-within
 number_vertices-requires-clause-within c =
@@ -68,7 +59,7 @@ into_parts-requires c =
     let are = reached_of trees sigs rows c.requires.reached.1.are in
     let table = c.in_ok-numbering.ensures reached are.held in
     let is_table : IsTable (table_of c.in_ok-numbering.numbering) reached = record {
-      at = λ k l. table.1 k l ∙ ap (λ (ts : List ℕ). slice_index ts k) (c.deref.ensures.value ∙ c.in_ok-vertices.ensures reached are.held);
+      at = λ k l. table.1 k l ∙ ap (λ (ts : List ℕ). slice_index ts k) (c.deref.ensures.value ∙ c.requires.vertices reached are.held);
     } in
     let vertices = game_vertices sigs reached in
     let draft : IsDraft c.in_ok-draft.draft vertices = subst (IsDraft c.in_ok-draft.draft)
@@ -85,7 +76,7 @@ game_of-requires c =
     let are = reached_of trees sigs rows c.requires.reached.1.are in
     let table = c.in_ok-numbering.ensures reached are.held in
     let is_table : IsTable (table_of c.in_ok-numbering.numbering) reached = record {
-      at = λ k l. table.1 k l ∙ ap (λ (ts : List ℕ). slice_index ts k) (c.deref.ensures.value ∙ c.in_ok-vertices.ensures reached are.held);
+      at = λ k l. table.1 k l ∙ ap (λ (ts : List ℕ). slice_index ts k) (c.deref.ensures.value ∙ c.requires.vertices reached are.held);
     } in
     let vertices = game_vertices sigs reached in
     let draft : IsDraft c.in_ok-draft.draft vertices = subst (IsDraft c.in_ok-draft.draft)
@@ -117,10 +108,10 @@ invariant_of-result c =
     let reached = rows_of trees rows in
     let are = reached_of trees sigs rows c.requires.reached.1.are in
     let is = found_row trees rows c.args.initial c.requires.reached.1.found in
-    let count : length c.in_ok-vertices.vertices.items ≡ length reached = ap length (c.in_ok-vertices.ensures reached are.held) ∙ length-vertices_from reached 2 in
+    let count : length c.args.laid.vertices.items ≡ length reached = ap length (c.requires.vertices reached are.held) ∙ length-vertices_from reached 2 in
     let table = c.in_ok-numbering.ensures reached are.held in
     let is_table : IsTable (table_of c.in_ok-numbering.numbering) reached = record {
-      at = λ k l. table.1 k l ∙ ap (λ (ts : List ℕ). slice_index ts k) (c.deref.ensures.value ∙ c.in_ok-vertices.ensures reached are.held);
+      at = λ k l. table.1 k l ∙ ap (λ (ts : List ℕ). slice_index ts k) (c.deref.ensures.value ∙ c.requires.vertices reached are.held);
     } in
     let vertices = game_vertices sigs reached in
     let draft : IsDraft c.in_ok-draft.draft vertices = subst (IsDraft c.in_ok-draft.draft)
@@ -142,7 +133,7 @@ returns c = λ trees from.
     let is = found_row trees rows c.args.initial from.found in
     let table = c.in_ok-numbering.ensures reached are.held in
     let is_table : IsTable (table_of c.in_ok-numbering.numbering) reached = record {
-      at = λ k l. table.1 k l ∙ ap (λ (ts : List ℕ). slice_index ts k) (c.deref.ensures.value ∙ c.in_ok-vertices.ensures reached are.held);
+      at = λ k l. table.1 k l ∙ ap (λ (ts : List ℕ). slice_index ts k) (c.deref.ensures.value ∙ c.requires.vertices reached are.held);
     } in
     let vertices = game_vertices sigs reached in
     let draft : IsDraft c.in_ok-draft.draft vertices = subst (IsDraft c.in_ok-draft.draft)
@@ -151,6 +142,6 @@ returns c = λ trees from.
     let parts = c.into_parts.ensures vertices draft in
     record {
       game = record { reached = are.are; vertices = c.in_ok-game.ensures vertices parts };
-      vertices = c.in_ok-vertices.ensures reached are.held ∙ vertices_are reached are.rising;
+      vertices = c.requires.vertices reached are.held ∙ vertices_are reached are.rising;
       start = c.vertex-start.ensures ∙ table_at (table_of c.in_ok-numbering.numbering) reached is_table are.rising c.args.initial is;
     }
