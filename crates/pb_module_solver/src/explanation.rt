@@ -48,6 +48,14 @@ struct Part {
     is_whole: bool,
 }
 
+/// Evidence from a part of the instances.
+#[derive(Drop)]
+pub(crate) struct EarlyExplanation {
+    pub explanation: Explanation,
+    /// Whether the part is all reached instances, of which nothing is claimed.
+    pub is_whole: bool,
+}
+
 /// The instances nearby, from which this truth value may be shown.
 fn part_of(alloc: Global, nearby: &Nearby, truth: bool) -> Result<Part, AllocError>
     requires { (m : Contents) × IsNearby m nearby.now }
@@ -104,8 +112,9 @@ pub(crate) fn explain_early<R: Threads + Sync, G: Gate + Sync>(
     context: &Context<'_, R, G>,
     verified: &Verified,
     options: SolveOptions,
-) -> Result<Option<Explanation>, AllocError>
-    ensures { IfOk result (λ found. IfSome found (IsExplanation verified.now)) }
+) -> Result<Option<EarlyExplanation>, AllocError>
+    ensures { IfOk result (λ found. IfSome found
+        (λ early. IsExplanation verified.now early.explanation)) }
 {
     let shows_truth = shows_truth(verified);
     let mut nearby = Nearby::new(context.alloc, verified)?;
@@ -119,9 +128,11 @@ pub(crate) fn explain_early<R: Threads + Sync, G: Gate + Sync>(
                 continue;
             }
             let part = part_of(context.alloc, &nearby, truth)?;
-            let found = shown_by(context, verified, options, &part)?;
-            if found.is_some() {
-                return Ok(found);
+            if let Some(explanation) = shown_by(context, verified, options, &part)? {
+                return Ok(Some(EarlyExplanation {
+                    explanation,
+                    is_whole: part.is_whole,
+                }));
             }
         }
     }
@@ -159,8 +170,8 @@ pub fn explain_module<R: Threads + Sync, G: Gate + Sync>(
     ensures evidence { IfOk result (IsExplanation verified.now) }
     ensures too_many { OnRefused result (IsTooLarge verified.now) }
 {
-    if let Some(explanation) = explain_early(context, verified, options)? {
-        return Ok(explanation);
+    if let Some(early) = explain_early(context, verified, options)? {
+        return Ok(early.explanation);
     }
     explain_whole(context, verified, options)
 }

@@ -19,4 +19,4 @@ pub use explanation::{explain_module, write_explanation};
 pub use options::SolveOptions;
 pub use solved_module::{SolvedModule, solve_module};
 pub use solver::solve;
-pub use truth::answer_early;
+pub use truth::{answer_early, answer_from_part};

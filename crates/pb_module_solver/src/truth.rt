@@ -23,8 +23,30 @@ pub fn answer_early<R: Threads + Sync, G: Gate + Sync>(
 ) -> Result<Option<bool>, AllocError>
     ensures { IfOk result (λ found. IfSome found (IsTruthOf verified.now)) }
 {
-    let Some(explanation) = explain_early(context, verified, options)? else {
+    let Some(early) = explain_early(context, verified, options)? else {
         return Ok(None);
     };
-    Ok(Some(explanation.evidence.truth))
+    Ok(Some(early.explanation.evidence.truth))
+}
+
+/// As `answer_early`, but none where the initial instance is false and all reached ones are near:
+/// there `answer_module` costs little more, and tells as well how many call a cut.
+///
+/// # Errors
+/// Memory was refused.
+pub fn answer_from_part<R: Threads + Sync, G: Gate + Sync>(
+    context: &Context<'_, R, G>,
+    verified: &Verified,
+    options: SolveOptions,
+) -> Result<Option<bool>, AllocError>
+    ensures { IfOk result (λ found. IfSome found (IsTruthOf verified.now)) }
+{
+    let Some(early) = explain_early(context, verified, options)? else {
+        return Ok(None);
+    };
+    let truth = early.explanation.evidence.truth;
+    if early.is_whole && !truth {
+        return Ok(None);
+    }
+    Ok(Some(truth))
 }

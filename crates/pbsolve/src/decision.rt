@@ -10,7 +10,7 @@ ghost use Rattle.pbsolve.specs.Outcomes.{IsOutcomeAt, IsPropertyModule, IsShownA
 
 use crate::finding::{Finding, Found};
 use crate::negation::negation_module;
-use crate::outcome::{AskedOutcome, Outcome, early_truth, outcome_of};
+use crate::outcome::{AskedOutcome, Outcome, early_truth, outcome_of, truth_from_part};
 use crate::property_module::{AskedModule, PropertyModule, asked_module};
 use crate::property_text::AskedText;
 use pb_errors::OrMemory;
@@ -62,7 +62,8 @@ pub(crate) fn is_denied<R: Threads + Sync, G: Gate + Sync>(
 }
 
 // What the instances nearest to the initial one show of a property, where counts aren't asked for:
-// of its text, and where they show that this is false, of its negation's.
+// of its text, and where they show that this is false, of its negation's. Where all are near, all
+// are solved in place of that, which tells what is cut and mostly wants no second text.
 fn shown<R: Threads + Sync, G: Gate + Sync>(
     context: &Context<'_, R, G>,
     bytes: &[u8],
@@ -82,7 +83,7 @@ fn shown<R: Threads + Sync, G: Gate + Sync>(
     if options.counts {
         return Ok(None);
     }
-    match early_truth(context, &asked.compiled, options.solving)? {
+    match truth_from_part(context, &asked.compiled, options.solving)? {
         None => Ok(None),
         Some(true) => Ok(Some(true)),
         Some(false) => {

@@ -9,7 +9,7 @@ use pb_errors::OrMemory;
 use pb_exploration::Gate;
 use pb_faults::PropertyExcess;
 use pb_machine::instances_have_trees;
-use pb_module_solver::{Context, SolveOptions, answer_early, answer_module};
+use pb_module_solver::{Context, SolveOptions, answer_early, answer_from_part, answer_module};
 use pb_report::Answer;
 use pb_verifier::Verified;
 use std::alloc::AllocError;
@@ -47,6 +47,28 @@ pub(crate) fn early_truth<R: Threads + Sync, G: Gate + Sync>(
         PropertyModule::Verified(verified) => {
             instances_have_trees(verified);
             answer_early(context, verified, options)
+        }
+    }
+}
+
+/// As `early_truth`, but none where the property isn't satisfied and all instances are near: there
+/// to solve them all costs little more.
+///
+/// # Errors
+/// Memory was refused.
+pub(crate) fn truth_from_part<R: Threads + Sync, G: Gate + Sync>(
+    context: &Context<'_, R, G>,
+    property: &PropertyModule,
+    options: SolveOptions,
+) -> Result<Option<bool>, AllocError>
+    ensures { IfOk result (λ found. IfSome found (λ truth. (model : ModelForm) (p : PropertyForm)
+        → IsPropertyModule model p property.now → truth ≡ satisfies model p.formula)) }
+{
+    match property {
+        PropertyModule::TooLarge(_) => Ok(None),
+        PropertyModule::Verified(verified) => {
+            instances_have_trees(verified);
+            answer_from_part(context, verified, options)
         }
     }
 }

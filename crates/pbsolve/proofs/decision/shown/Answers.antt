@@ -13,12 +13,12 @@ is_denied-requires-clause-within g c κs within =
 pub returns-in-Some-true-clause-shown : goal.returns-in-Some-true-clause-shown
 returns-in-Some-true-clause-shown g c model said at =
     shown_true c.args.options.counts said.protocol model said.is_for c.args.asked.now.place at.property at.stands
-    (of_known (λ (b : Bool). OfModule c.args.asked.now.compiled (λ m q. b ≡ satisfies m q.formula)) c.in_ok-early_truth.field-0 c.in-Some-true.field-0 true c.in-Some-true.is
-    c.in-Some-true.field-0-test c.in_ok-early_truth.ensures model at.property at.compiled)
+    (of_known (λ (b : Bool). OfModule c.args.asked.now.compiled (λ m q. b ≡ satisfies m q.formula)) c.in_ok-truth_from_part.field-0 c.in-Some-true.field-0 true c.in-Some-true.is
+    c.in-Some-true.field-0-test c.in_ok-truth_from_part.ensures model at.property at.compiled)
 
 pub returns-then-denied-clause-shown : goal.returns-then-denied-clause-shown
 returns-then-denied-clause-shown g c model said at =
     shown_false c.args.options.counts said.protocol model said.is_for c.args.asked.now.place at.property at.stands c.args.bytes.now said.read
     (c.in_ok-denied-in-Some-false.ensures.denied c.if-denied.true)
-    (of_known (λ (b : Bool). OfModule c.args.asked.now.compiled (λ m q. b ≡ satisfies m q.formula)) c.in_ok-early_truth.field-0 c.in-Some-false.field-0 false c.in-Some-false.is
-    c.in-Some-false.field-0-test c.in_ok-early_truth.ensures model at.property at.compiled)
+    (of_known (λ (b : Bool). OfModule c.args.asked.now.compiled (λ m q. b ≡ satisfies m q.formula)) c.in_ok-truth_from_part.field-0 c.in-Some-false.field-0 false c.in-Some-false.is
+    c.in-Some-false.field-0-test c.in_ok-truth_from_part.ensures model at.property at.compiled)
