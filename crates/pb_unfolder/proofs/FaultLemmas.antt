@@ -13,8 +13,10 @@ use Rattle.pb_unfolder_steps.specs.declared.fault.StepsFault.{StepsFault}
 use Rattle.pb_unfolder.specs.declared.fault.UnfoldingFault.{UnfoldingFault}
 use Rattle.pb_unfolder.specs.declared.fault.UnfoldingRule.{UnfoldingRule}
 use Rattle.pb_unfolder.specs.declared.fault.UnfoldingRule.TheVariants as rule
-use Rattle.pb_unfolder.specs.Faults.{Breaks, IsFaultOfProperties, IsIndexFault, IsNameFault, IsUnfoldingFault, OfIndex, OfValue}
-use Rattle.pb_unfolder.specs.Parts.{AtNone, ByRule, InPart, IsFaultBy, IsFaultIn, IsFaultOfModel, IsFaultOfTerm, IsOfNames, IsOfSteps}
+use Rattle.pb_unfolder_terms.specs.declared.fault.UnfoldRule.{UnfoldRule}
+use Rattle.pb_unfolder_terms.specs.declared.fault.UnfoldRule.TheVariants as unfold_rule
+use Rattle.pb_unfolder.specs.Faults.{Breaks, IsFaultOfPart, IsNameFault, IsUnfoldingFault, IsValueFault, OfTerm, OfToken, OfValue, rule_of}
+use Rattle.pb_unfolder.specs.Parts.{ByRule, InPart, IsFaultBy, IsFaultIn, IsFaultOfModel, IsOfNames, IsOfSteps, OfManyTuples}
 
 -- ---- members of lists
 
@@ -46,9 +48,6 @@ at-item {X = X} g xs k x within is =
     mapped (y ∷ ys) = ap suc (mapped ys)
 
 -- ---- by the rule
-
-value-not-index : rule.Value ≡ rule.Index → ⊥
-value-not-index e = cc
 
 in-rule : (P Q : Place → Type 0) → ((p : Place) → P p → Q p) → (r : UnfoldingRule) (p : Place) → InPart P r p → InPart Q r p
 in-rule P Q to rule.Names p is = is
@@ -83,18 +82,14 @@ part r e P Q h to is = refused r e (IsFaultIn P) (IsFaultIn Q) h (fault-in P Q t
 pub part-so : {A : Type 0} (P Q : Place → Type 0) (r : Result A (OrMemory UnfoldingFault)) → ((p : Place) → P p → Q p) → IfRefused r (IsFaultIn P) → IfRefused r (IsFaultIn Q)
 part-so P Q r to is = refused-so (IsFaultIn P) (IsFaultIn Q) r (fault-in P Q to) is
 
--- the fault of a term is one of anything
-pub of-term : {A : Type 0} (r : Result A (OrMemory UnfoldingFault)) (e : OrMemory UnfoldingFault) (Q : Place → Type 0) → IsErrAnd r (λ d. d ≡ e) → IfFault e IsFaultOfTerm → IfRefused r (IsFaultIn Q)
-of-term r e Q h is = part r e AtNone Q h (λ p none. absurd none) is
-
--- ---- of values and indices
+-- ---- of values and terms
 
 by-rule : (P Q : Type 0) → (P → Q) → (r : UnfoldingRule) → ByRule r P → ByRule r Q
 by-rule P Q to rule.Names is = is
 by-rule P Q to rule.Value is = to is
 by-rule P Q to rule.Index is = to is
 by-rule P Q to rule.Count is = is
-by-rule P Q to rule.Operators is = is
+by-rule P Q to rule.Operators is = to is
 
 pub fault-by : (P Q : UnfoldingFault → Type 0) → ((f : UnfoldingFault) → P f → Q f) → (f : UnfoldingFault) → IsFaultBy P f → IsFaultBy Q f
 fault-by P Q to f is = by-rule (P f) (Q f) (to f) f.rule is
@@ -105,19 +100,18 @@ part-by r e P Q h to is = refused r e (IsFaultBy P) (IsFaultBy Q) h (fault-by P 
 pub part-by-so : {A : Type 0} (P Q : UnfoldingFault → Type 0) (r : Result A (OrMemory UnfoldingFault)) → ((f : UnfoldingFault) → P f → Q f) → IfRefused r (IsFaultBy P) → IfRefused r (IsFaultBy Q)
 part-by-so P Q r to is = refused-so (IsFaultBy P) (IsFaultBy Q) r (fault-by P Q to) is
 
--- the fault of something too large is one of anything
-too-large : (Q : UnfoldingFault → Type 0) (f : UnfoldingFault) → IsFaultOfTerm f → IsFaultBy Q f
-too-large Q f is = by f.rule is
-  where
-    by : (r : UnfoldingRule) → InPart AtNone r f.place → ByRule r (Q f)
-    by rule.Names is = is
-    by rule.Value is = absurd is
-    by rule.Index is = absurd is
-    by rule.Count is = is
-    by rule.Operators is = tt
+-- one of a token, by its rule
+token-by : (place : Place) (Q : UnfoldingFault → Type 0) → ((f : UnfoldingFault) → OfToken place f → Q f) → (f : UnfoldingFault) → OfToken place f → IsFaultBy Q f
+token-by place Q to f is = subst (λ (r : UnfoldingRule). ByRule r (Q f)) (sym is.0) (to f is)
 
-pub of-term-by : {A : Type 0} (r : Result A (OrMemory UnfoldingFault)) (e : OrMemory UnfoldingFault) (Q : UnfoldingFault → Type 0) → IsErrAnd r (λ d. d ≡ e) → IfFault e IsFaultOfTerm → IfRefused r (IsFaultBy Q)
-of-term-by r e Q h is = refused r e IsFaultOfTerm (IsFaultBy Q) h (too-large Q) is
+pub of-token-by : {A : Type 0} (r : Result A (OrMemory UnfoldingFault)) (e : OrMemory UnfoldingFault) (place : Place) (Q : UnfoldingFault → Type 0) → IsErrAnd r (λ d. d ≡ e)
+    → ((f : UnfoldingFault) → OfToken place f → Q f) → IfFault e (OfToken place) → IfRefused r (IsFaultBy Q)
+of-token-by r e place Q h to is = refused r e (OfToken place) (IsFaultBy Q) h (token-by place Q to) is
+
+-- one of too many tuples, by the token
+pub of-tuples-by : {A B : Type 0} (r : Result A (OrMemory UnfoldingFault)) (e : OrMemory UnfoldingFault) (place : Place) (tuples : List B) (Q : UnfoldingFault → Type 0) → IsErrAnd r (λ d. d ≡ e)
+    → ((f : UnfoldingFault) → OfToken place f → Q f) → IfFault e (OfManyTuples place tuples) → IfRefused r (IsFaultBy Q)
+of-tuples-by r e place tuples Q h to is = refused r e (OfManyTuples place tuples) (IsFaultBy Q) h (λ f o. token-by place Q to f o.0) is
 
 -- one of a value, by its rule
 value-by : (P : Place → Type 0) (Q : UnfoldingFault → Type 0) → ((f : UnfoldingFault) → OfValue P f → Q f) → (f : UnfoldingFault) → IsFaultIn P f → IsFaultBy Q f
@@ -128,7 +122,7 @@ value-by P Q to f is = by f.rule refl is
     by rule.Value e is = to f (e, is)
     by rule.Index e is = absurd is
     by rule.Count e is = is
-    by rule.Operators e is = tt
+    by rule.Operators e is = absurd is
 
 pub of-value-by : {A : Type 0} (r : Result A (OrMemory UnfoldingFault)) (e : OrMemory UnfoldingFault) (P : Place → Type 0) (Q : UnfoldingFault → Type 0) → IsErrAnd r (λ d. d ≡ e) → ((f : UnfoldingFault) → OfValue P f → Q f) → IfFault e (IsFaultIn P) → IfRefused r (IsFaultBy Q)
 of-value-by r e P Q h to is = refused r e (IsFaultIn P) (IsFaultBy Q) h (value-by P Q to) is
@@ -138,44 +132,37 @@ of-value-by r e P Q h to is = refused r e (IsFaultIn P) (IsFaultBy Q) h (value-b
 pub names-break : (m : ProtocolForm) (P : Place → Type 0) → ((p : Place) → P p → IsNameFault m p) → (f : UnfoldingFault) → IsOfNames P f → IsUnfoldingFault m f
 names-break m P to f is = subst (λ (r : UnfoldingRule). Breaks m r f.place) (sym is.0) (to f.place is.1)
 
-pub term-breaks : (m : ProtocolForm) (f : UnfoldingFault) → IsFaultOfTerm f → IsUnfoldingFault m f
-term-breaks m f is = by f.rule is
-  where
-    by : (r : UnfoldingRule) → InPart AtNone r f.place → Breaks m r f.place
-    by rule.Names is = absurd is
-    by rule.Value is = absurd is
-    by rule.Index is = absurd is
-    by rule.Count is = absurd is
-    by rule.Operators is = tt
+-- no rule of a term is that of values
+not-value : (r : UnfoldRule) → rule.Value ≡ rule_of r → ⊥
+not-value unfold_rule.Index e = cc
+not-value unfold_rule.Operators e = cc
+not-value unfold_rule.Depth e = cc
+not-value unfold_rule.Values e = cc
 
--- where the rule is that of indices, it is one of an index
-pub index-breaks : (m : ProtocolForm) (P : Place → Type 0) → ((p : Place) → P p → IsIndexFault m p) → (f : UnfoldingFault) → IsFaultBy (OfIndex P) f → IsUnfoldingFault m f
-index-breaks m P to f is = by f.rule refl is
-  where
-    other : (r : UnfoldingRule) → f.rule ≡ r → f.rule ≡ rule.Index → r ≡ rule.Index
-    other r e o = sym e ∙ o
+as-it-is : (f : UnfoldingFault) (r : UnfoldingRule) → f.rule ≡ r → f ≡ record { rule = r; place = f.place }
+as-it-is f r e = ap (λ (s : UnfoldingRule). record { rule = s; place = f.place }) e
 
-    by : (r : UnfoldingRule) → f.rule ≡ r → ByRule r (OfIndex P f) → Breaks m r f.place
+-- the fault of a part, by the rule of a term or of values
+pub part-breaks : (m : ProtocolForm) (f : UnfoldingFault) → IsFaultBy (IsFaultOfPart m) f → IsUnfoldingFault m f
+part-breaks m f is = by f.rule refl is
+  where
+    valued : IsFaultOfPart m (record { rule = rule.Value; place = f.place }) → IsValueFault m f.place
+    valued (inl o) = absurd (not-value o.0 o.1)
+    valued (inr (inl o)) = absurd (not-value o.0 o.1)
+    valued (inr (inr o)) = o
+
+    by : (r : UnfoldingRule) → f.rule ≡ r → ByRule r (IsFaultOfPart m f) → Breaks m r f.place
     by rule.Names e is = absurd is
-    by rule.Value e is = absurd (value-not-index (other rule.Value e is.0))
-    by rule.Index e is = to f.place is.1
+    by rule.Value e is = valued (subst (IsFaultOfPart m) (as-it-is f rule.Value e) is)
+    by rule.Index e is = subst (IsFaultOfPart m) (as-it-is f rule.Index e) is
     by rule.Count e is = absurd is
-    by rule.Operators e is = tt
+    by rule.Operators e is = subst (IsFaultOfPart m) (as-it-is f rule.Operators e) is
+
+pub term-breaks : (m : ProtocolForm) (P : UnfoldRule → Place → Type 0) → ((f : UnfoldingFault) → OfTerm P f → IsFaultOfPart m f) → (f : UnfoldingFault) → IsFaultBy (OfTerm P) f → IsUnfoldingFault m f
+term-breaks m P to f is = part-breaks m f (fault-by (OfTerm P) (IsFaultOfPart m) to f is)
 
 pub model-breaks : (m : ProtocolForm) (f : UnfoldingFault) → IsFaultBy (IsFaultOfModel m m m.properties) f → IsUnfoldingFault m f
-model-breaks m f is = by f.rule refl is
-  where
-    as-it-is : (r : UnfoldingRule) → f.rule ≡ r → f ≡ record { rule = r; place = f.place }
-    as-it-is r e = ap (λ (s : UnfoldingRule). record { rule = s; place = f.place }) e
-
-    by : (r : UnfoldingRule) → f.rule ≡ r → ByRule r (IsFaultOfModel m m m.properties f) → Breaks m r f.place
-    by rule.Names e is = absurd is
-    by rule.Value e (inl o) = absurd (value-not-index (sym e ∙ o.0))
-    by rule.Value e (inr o) = subst (IsFaultOfProperties m m.properties) (as-it-is rule.Value e) o
-    by rule.Index e (inl o) = inr (inl o.1)
-    by rule.Index e (inr o) = inr (inr (subst (IsFaultOfProperties m m.properties) (as-it-is rule.Index e) o))
-    by rule.Count e is = absurd is
-    by rule.Operators e is = tt
+model-breaks m f is = part-breaks m f (fault-by (IsFaultOfModel m m m.properties) (IsFaultOfPart m) (λ g o. inr o) f is)
 
 -- what a fault of the state or of steps becomes
 pub raised-so : (P : StepsFault → Type 0) (Q : UnfoldingFault → Type 0) (e : OrMemory StepsFault) (above : OrMemory UnfoldingFault)

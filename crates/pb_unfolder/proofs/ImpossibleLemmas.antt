@@ -1,6 +1,7 @@
 -- The names of the steps of a tree of which nothing is kept, step by step.
-use Rattle.std.proofs.Common.{◌≡◌, ◌∙◌, ◌<◌, ◌+◌, ℕ, refl, sym, ap, Bool, true, false, not, ◌||◌, if◌then◌else◌, List, [], ◌∷◌, ◌++◌, map, filter, flat_map, length, take, drop, get_or, string_bytes}
+use Rattle.std.proofs.Common.{◌≡◌, ◌∙◌, ◌<◌, ◌≤◌, ◌+◌, ℕ, refl, sym, ap, subst, arith, Bool, true, false, not, ◌||◌, if◌then◌else◌, List, [], ◌∷◌, ◌++◌, map, filter, flat_map, length, take, drop, get_or, string_bytes}
 use Rattle.std.specs.List.{list_any}
+use Rattle.std.proofs.lemmas.List.Folds.{length-flat_map-take}
 use Rattle.std.proofs.lemmas.List.{append_assoc, drop_more, length-map, map-append}
 use Rattle.std.proofs.Math.Seq.{take-append_seam, drop-append_seam}
 use Rattle.pb_text_meaning.specs.Syntax.{Name}
@@ -19,6 +20,19 @@ any-mapped p (x ∷ xs) = ap (λ b. p x || b) (any-mapped p xs)
 module _ (m : Protocol) where
   abbrev pub own_instances : declared.Step → List Instance
   own_instances a = instances_of (data_of m) (erased_step (step_form a))
+
+  instances-parted : (steps : List declared.Step) → flat_map own_instances steps ≡ flat_map (instances_of (data_of m)) (map erased_step (map step_form steps))
+  instances-parted [] = refl
+  instances-parted (a ∷ others) = ap (λ (is : List Instance). own_instances a ++ is) (instances-parted others)
+
+  -- a step makes no more of them than all do
+  pub no-more-than-all : (steps : List declared.Step) (k : ℕ) (a : declared.Step) → k < length steps → a ≡ get_or steps k a
+      → length (own_instances a) ≤ length (flat_map (instances_of (data_of m)) (map erased_step (map step_form steps)))
+  no-more-than-all steps k a below is =
+      let f = own_instances in
+      let all = flat_map f steps in
+      let upto = subst (λ (b : declared.Step). length (flat_map f (take k steps)) + length (f b) ≤ length all) (sym is) (length-flat_map-take f steps k a below) in
+      subst (λ (is : List Instance). length (f a) ≤ length is) (instances-parted steps) (omega (arith, upto))
 
   -- whether the steps with values of these steps are kept
   abbrev pub kept_of : List declared.Step → List Bool

@@ -18,14 +18,13 @@ use Rattle.pb_errors.specs.declared.or_memory.OrMemory.TheVariants.{Refused, Mem
 use Rattle.pb_unfolder_terms.specs.declared.fault.UnfoldFault.{UnfoldFault}
 use Rattle.pb_unfolder_terms.specs.declared.fault.UnfoldRule.{UnfoldRule}
 use Rattle.pb_unfolder_terms.specs.declared.fault.UnfoldRule.TheVariants as unfold_rule
-use Rattle.pb_unfolder_terms.specs.TermFaults.{OnIndex}
 use Rattle.pb_unfolder_terms.specs.Values.{IsTooLong}
-use Rattle.pb_unfolder_steps.specs.Outside.{OnTerm}
+use Rattle.pb_unfolder_steps.specs.StepFaults.{OnTerm}
 use Rattle.pb_unfolder_steps.specs.Refusals.{IsPassedIn, IsTermOr, element_places, instance_places}
 use Rattle.pb_unfolder.specs.declared.fault.UnfoldingFault.{UnfoldingFault}
 use Rattle.pb_unfolder.specs.Apart.{IsTakenAt, RepeatsAt}
-use Rattle.pb_unfolder.specs.Faults.{IsElementClash, IsRepeated, IsTaken, IsUnfoldingFault, OfIndex}
-use Rattle.pb_unfolder.specs.Parts.{IsFaultBy, IsFaultOfElements, IsFaultOfInstances, IsFaultOfTerm, IsOfSteps, IsOfTerm, rule_of}
+use Rattle.pb_unfolder.specs.Faults.{IsElementClash, IsRepeated, IsTaken, IsUnfoldingFault, OfTerm, OfToken, rule_of}
+use Rattle.pb_unfolder.specs.Parts.{IsFaultBy, IsFaultOfElements, IsFaultOfInstances, IsOfSteps, IsOfTerm}
 use Rattle.pb_unfolder.proofs.FaultLemmas.{names-break}
 
 -- ---- a name and its place
@@ -74,21 +73,22 @@ pub instances-passed : (m : ProtocolForm) (s : StepsFault) (f : UnfoldingFault) 
 instances-passed m (steps_fault.Limit p) f gives at = subst (IsUnfoldingFault m) (sym gives) (inr at)
 instances-passed m (steps_fault.Term t) f gives at = absurd at
 
--- no limit is passed, so it is a term, of which an index is outside or which is too large
-pub of-outside : (X : Type 0) → (X → ⊥) → (P : Place → Type 0) (s : StepsFault) (f : UnfoldingFault) → IsOfSteps s f → IsTermOr X s × OnTerm P s → IsFaultBy (OfIndex P) f
-of-outside X never P (steps_fault.Limit p) f gives is = absurd (never is.0)
-of-outside X never P (steps_fault.Term t) f gives is = subst (IsFaultBy (OfIndex P)) (sym gives) (by t.rule is.1)
+-- no limit is passed, so it is the fault of a term
+pub of-steps-term : (X : Type 0) → (X → ⊥) → (P : UnfoldRule → Place → Type 0) (s : StepsFault) (f : UnfoldingFault) → IsOfSteps s f → IsTermOr X s × OnTerm P s → IsFaultBy (OfTerm P) f
+of-steps-term X never P (steps_fault.Limit p) f gives is = absurd (never is.0)
+of-steps-term X never P (steps_fault.Term t) f gives is = subst (IsFaultBy (OfTerm P)) (sym gives) (by t.rule is.1)
   where
-    by : (r : UnfoldRule) → OnIndex P r t.place → IsFaultBy (OfIndex P) (record { rule = rule_of r; place = t.place })
-    by unfold_rule.Index o = (refl, o)
-    by unfold_rule.Operators o = tt
-    by unfold_rule.Depth o = tt
-    by unfold_rule.Values o = tt
+    by : (r : UnfoldRule) → P r t.place → IsFaultBy (OfTerm P) (record { rule = rule_of r; place = t.place })
+    by unfold_rule.Index o = (unfold_rule.Index, refl, o)
+    by unfold_rule.Operators o = (unfold_rule.Operators, refl, o)
+    by unfold_rule.Depth o = (unfold_rule.Depth, refl, o)
+    by unfold_rule.Values o = (unfold_rule.Values, refl, o)
 
 -- too many values are too large
-pub too-many-told : {A : Type 0} (xs : List A) (place : Place) (e : OrMemory UnfoldFault) (above : OrMemory UnfoldingFault) → raised IsOfTerm e above → IsTooLong xs place e → IfFault above IsFaultOfTerm
+pub too-many-told : {A : Type 0} (xs : List A) (place : Place) (e : OrMemory UnfoldFault) (above : OrMemory UnfoldingFault) → raised IsOfTerm e above → IsTooLong xs place e
+    → IfFault above (λ f. OfToken place f × (8192 < length xs))
 too-many-told xs place (Refused t) (Refused f) gives is =
-    subst IsFaultOfTerm (sym (gives ∙ ap (λ (u : UnfoldFault). record { rule = rule_of u.rule; place = u.place }) is.0)) tt
+    subst (λ (g : UnfoldingFault). OfToken place g × (8192 < length xs)) (sym (gives ∙ ap (λ (u : UnfoldFault). record { rule = rule_of u.rule; place = u.place }) is.0)) ((refl, refl), is.1)
 too-many-told xs place (Refused t) Memory gives is = tt
 too-many-told xs place Memory (Refused f) gives is = absurd gives
 too-many-told xs place Memory Memory gives is = tt

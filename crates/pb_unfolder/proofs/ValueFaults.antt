@@ -16,10 +16,12 @@ use Rattle.pb_protocol_tree.specs.declared.formula.Formula.{Formula}
 use Rattle.pb_protocol_tree.specs.declared.formula.Link.{Link}
 use Rattle.pb_protocol_tree.specs.Form.{FormulaForm, ProtocolForm, StepSetForm, StepValueForm, formula_form, step_set_form}
 use Rattle.pb_protocol_meaning.specs.Syntax.{Protocol}
+use Rattle.pb_protocol_meaning.specs.Erase.{erase}
+use Rattle.pb_model_tree.specs.declared.formula.Modality.{Modality}
 use Rattle.pb_unfolding.specs.PutIn.{TermScope, term_of}
 use Rattle.pb_unfolder.specs.declared.fault.UnfoldingFault.{UnfoldingFault}
-use Rattle.pb_unfolder.specs.Faults.{HasNoValue, IsFaultOfFormula, IsFaultOfSet, IsFaultOfValue, meant}
-use Rattle.pb_unfolder.specs.Parts.{IsAt, IsFaultIn, IsFaultOfLinks, IsFaultOfSets}
+use Rattle.pb_unfolder.specs.Faults.{HasNoValue, IsFaultOfFormula, IsFaultOfSet, IsFaultOfValue, OfToken, meant}
+use Rattle.pb_unfolder.specs.Parts.{IsAt, IsFaultIn, IsFaultOfLinks, IsFaultOfModality, IsFaultOfSets}
 use Rattle.pb_unfolder.specs.View.{link_form, set_link_form, set_operand}
 use Rattle.pb_unfolder.proofs.Chains.{chain-form, union-form}
 use Rattle.pb_unfolder.proofs.FaultLemmas.{first-or-behind, none-in}
@@ -91,12 +93,22 @@ module _ (m : ProtocolForm) (ρ : TermScope) (p : UnfoldingFault) where
       → IsFaultOfFormula m ρ (chained (FormulaForm.connected c) f (map link_form ls)) p
   linked-fault c f [] (inl is) = is
   linked-fault c f [] (inr (l, at, is)) = absurd (none-in l at)
-  linked-fault c f (l ∷ ls) (inl is) = inl is
+  linked-fault c f (l ∷ ls) (inl is) = inr (inl is)
   linked-fault c f (l ∷ ls) (inr (k, at, is)) =
       elim (first-or-behind l ls k at) [
-        | inl same ↦ inr (linked-fault c (formula_form l.operand) ls (inl (subst (λ (j : Link). IsFaultOfFormula m ρ (formula_form j.operand) p) (sym same) is)))
-        | inr behind ↦ inr (linked-fault c (formula_form l.operand) ls (inr (k, behind, is)))
+        | inl same ↦ by (λ fault. linked-fault c (formula_form l.operand) ls (inl fault)) (subst (λ (j : Link). OfToken j.place p ⊎ IsFaultOfFormula m ρ (formula_form j.operand) p) (sym same) is)
+        | inr behind ↦ inr (inr (linked-fault c (formula_form l.operand) ls (inr (k, behind, is))))
       ]
+    where
+      by : (IsFaultOfFormula m ρ (formula_form l.operand) p → IsFaultOfFormula m ρ (chained (FormulaForm.connected c) (formula_form l.operand) (map link_form ls)) p)
+          → OfToken l.place p ⊎ IsFaultOfFormula m ρ (formula_form l.operand) p → IsFaultOfFormula m ρ (chained (FormulaForm.connected c) f (map link_form (l ∷ ls))) p
+      by behind (inl token) = inl token
+      by behind (inr fault) = inr (inr (behind fault))
+
+  -- the set of steps of a modality
+  pub fault-of-set : (k : Modality) (q : Place) (A : StepSetForm) (f : FormulaForm) → IsFaultOfModality (erase m) ρ q A p → IsFaultOfFormula m ρ (FormulaForm.modal k q A f) p
+  fault-of-set k q A f (inl token) = inl token
+  fault-of-set k q A f (inr value) = inr (inl value)
 
   pub fault-of-chain : (c : Connective) (x : Formula) (b : Box Formula Global) (v : Vec Link Global) (ls : List Link) (f : Formula) → f ≡ formula.Chain c b v → x ≡ box_value b → ls ≡ v.items
       → IsFaultOfFormula m ρ (formula_form x) p ⊎ IsFaultOfLinks m ρ ls p → IsFaultOfFormula m ρ (formula_form f) p

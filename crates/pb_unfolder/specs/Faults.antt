@@ -16,8 +16,10 @@ use Rattle.pb_unfolding.specs.Unfolding.{Instance, all_elements, instance_name, 
 use Rattle.pb_unfolding.specs.Unfolding.{terms_of}
 use Rattle.pb_unfolding.specs.Written.{written_tuples}
 use Rattle.pb_unfolder_steps.specs.declared.limits.TheConstants.{MAX_ELEMENTS, MAX_WRITTEN_STEPS}
-use Rattle.pb_unfolder_terms.specs.TermFaults.{IsOutsideIn, surroundings_of}
-use Rattle.pb_unfolder_steps.specs.Outside.{IsOutsideAtStart, IsOutsideInSteps, placed_instances}
+use Rattle.pb_unfolder_terms.specs.declared.fault.UnfoldRule.{UnfoldRule}
+use Rattle.pb_unfolder_terms.specs.declared.fault.UnfoldRule.TheVariants as unfold_rule
+use Rattle.pb_unfolder_terms.specs.TermFaults.{IsFaultInTerm, surroundings_of}
+use Rattle.pb_unfolder_steps.specs.StepFaults.{IsFaultAtStart, IsFaultInSteps, placed_instances}
 use Rattle.pb_unfolder_steps.specs.Refusals.{element_places, instance_places}
 use Rattle.pb_unfolder.specs.declared.fault.UnfoldingFault.{UnfoldingFault}
 use Rattle.pb_unfolder.specs.declared.fault.UnfoldingRule.{UnfoldingRule}
@@ -95,29 +97,47 @@ IsFaultOfSteps m ρ steps A p =
 
 -- ---- faults of formulas
 
--- by the rule of values, or of indices, and P of the place
+-- by the rule of values, and P of the place
 abbrev pub OfValue : (Place → Type 0) → UnfoldingFault → Type 0
 OfValue P fault = (fault.rule ≡ rule.Value) × P fault.place
 
-abbrev pub OfIndex : (Place → Type 0) → UnfoldingFault → Type 0
-OfIndex P fault = (fault.rule ≡ rule.Index) × P fault.place
+-- by the rule of operators, at this place: the token that passes the limit of a formula
+abbrev pub OfToken : Place → UnfoldingFault → Type 0
+OfToken place fault = (fault.rule ≡ rule.Operators) × (fault.place ≡ place)
 
--- in a formula, or in a copy of it: of a value in a set of steps, or of an index in data
+-- the rule that a user sees where a term breaks one: too many operators, too many values and terms
+-- that nest too deep are one to him
+abbrev pub rule_of : UnfoldRule → UnfoldingRule
+rule_of unfold_rule.Index = rule.Index
+rule_of unfold_rule.Operators = rule.Operators
+rule_of unfold_rule.Depth = rule.Operators
+rule_of unfold_rule.Values = rule.Operators
+
+-- a term breaks such a rule, and P holds of it and of the place
+abbrev pub OfTerm : (UnfoldRule → Place → Type 0) → UnfoldingFault → Type 0
+OfTerm P fault = (r : UnfoldRule) × (fault.rule ≡ rule_of r) × P r fault.place
+
+-- in a formula, or in a copy of it: of a value in a set of steps, of data, or of a connective,
+-- modality, fixpoint, quantifier or data with which a formula is too large
 abbrev pub IsFaultOfFormula : ProtocolForm → TermScope → FormulaForm → UnfoldingFault → Type 0
 IsFaultOfFormula m ρ (FormulaForm.constant q b) fault = ⊥
 IsFaultOfFormula m ρ (FormulaForm.«data» q x) fault =
-    OfIndex (IsOutsideIn (surroundings_of m) ρ x) fault
+    OfTerm (IsFaultInTerm (surroundings_of m) ρ x) fault ⊎ OfToken q fault
 IsFaultOfFormula m ρ (FormulaForm.variable x) fault = ⊥
-IsFaultOfFormula m ρ (FormulaForm.negation q f) fault = IsFaultOfFormula m ρ f fault
+IsFaultOfFormula m ρ (FormulaForm.negation q f) fault =
+    OfToken q fault ⊎ IsFaultOfFormula m ρ f fault
 IsFaultOfFormula m ρ (FormulaForm.connected c q f g) fault =
-    IsFaultOfFormula m ρ f fault ⊎ IsFaultOfFormula m ρ g fault
+    OfToken q fault ⊎ (IsFaultOfFormula m ρ f fault ⊎ IsFaultOfFormula m ρ g fault)
 IsFaultOfFormula m ρ (FormulaForm.modal k q A f) fault =
-    OfValue (IsFaultOfSteps (erase m) ρ (instances (erase m)) A) fault
-    ⊎ IsFaultOfFormula m ρ f fault
-IsFaultOfFormula m ρ (FormulaForm.fixpoint sign q x f) fault = IsFaultOfFormula m ρ f fault
+    OfToken q fault
+    ⊎ (OfValue (IsFaultOfSteps (erase m) ρ (instances (erase m)) A) fault
+    ⊎ IsFaultOfFormula m ρ f fault)
+IsFaultOfFormula m ρ (FormulaForm.fixpoint sign q x f) fault =
+    OfToken q fault ⊎ IsFaultOfFormula m ρ f fault
 IsFaultOfFormula m ρ (FormulaForm.quantified quantifier q xs f) fault =
-    (ks : List Term) × Contains (written_tuples (data_of (erase m)) (erased_variables xs)) ks
-    × IsFaultOfFormula m (standing (erased_variables xs) (terms_of ks) ρ) f fault
+    OfToken q fault
+    ⊎ ((ks : List Term) × Contains (written_tuples (data_of (erase m)) (erased_variables xs)) ks
+    × IsFaultOfFormula m (standing (erased_variables xs) (terms_of ks) ρ) f fault)
 
 abbrev pub IsFaultOfProperties : ProtocolForm → List PropertyForm → UnfoldingFault → Type 0
 IsFaultOfProperties m properties fault =
@@ -127,25 +147,30 @@ abbrev pub IsValueFault : ProtocolForm → Place → Type 0
 IsValueFault m p =
     IsFaultOfProperties m m.properties (record { rule = rule.Value; place = p })
 
--- ---- indices
+-- ---- indices and sizes
 
 -- in a step with its values, in a value at the start, or in a property
+abbrev pub IsFaultOfPart : ProtocolForm → UnfoldingFault → Type 0
+IsFaultOfPart m fault =
+    OfTerm (IsFaultInSteps m (placed_instances m)) fault
+    ⊎ (OfTerm (IsFaultAtStart m) fault ⊎ IsFaultOfProperties m m.properties fault)
+
+-- an index there is outside
 abbrev pub IsIndexFault : ProtocolForm → Place → Type 0
-IsIndexFault m p =
-    IsOutsideInSteps m (placed_instances m) p
-    ⊎ (IsOutsideAtStart m p
-    ⊎ IsFaultOfProperties m m.properties (record { rule = rule.Index; place = p }))
+IsIndexFault m p = IsFaultOfPart m (record { rule = rule.Index; place = p })
+
+-- something there, as it is unfolded, is too large
+abbrev pub IsSizeFaultOfPart : ProtocolForm → Place → Type 0
+IsSizeFaultOfPart m p = IsFaultOfPart m (record { rule = rule.Operators; place = p })
 
 -- ---- faults
 
--- By the rule of operators nothing is said: that something is too large isn't known at which of
--- its places.
 abbrev pub Breaks : ProtocolForm → UnfoldingRule → Place → Type 0
 Breaks m rule.Names p = IsNameFault m p
 Breaks m rule.Value p = IsValueFault m p
 Breaks m rule.Index p = IsIndexFault m p
 Breaks m rule.Count p = IsCountFault m p
-Breaks m rule.Operators p = Unit {0}
+Breaks m rule.Operators p = IsSizeFaultOfPart m p
 
 -- what the fault says of the protocol
 abbrev pub IsUnfoldingFault : ProtocolForm → UnfoldingFault → Type 0

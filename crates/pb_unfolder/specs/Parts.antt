@@ -1,5 +1,6 @@
 -- What a fault says where one part of a protocol is unfolded.
-use Rattle.std.specs.Prelude.{◌≡◌, ◌⊎◌, List, Contains, Option, Some, None}
+use Rattle.std.specs.Prelude.{◌≡◌, ◌<◌, ◌⊎◌, List, length, Contains, Option, Some, None}
+use Rattle.pb_limits.specs.declared.TheConstants.{MAX_OPERATORS}
 use Rattle.pb_text_tree.specs.declared.place.Place.{Place}
 use Rattle.pb_text_meaning.specs.Syntax.{Name, Term, Variable}
 use Rattle.pb_protocol_tree.specs.declared.formula.Link.{Link}
@@ -7,59 +8,56 @@ use Rattle.pb_protocol_tree.specs.Form.{FormulaForm, PropertyForm, ProtocolForm,
 use Rattle.pb_protocol_tree.specs.Form.{formula_form}
 use Rattle.pb_protocol_meaning.specs.Syntax.{Protocol}
 use Rattle.pb_unfolding.specs.PutIn.{TermScope, standing}
-use Rattle.pb_unfolding.specs.Unfolding.{terms_of}
+use Rattle.pb_unfolding.specs.Unfolding.{instances, terms_of}
 pub use Rattle.pb_unfolder_terms.specs.TermFaults.{HasValues}
 use Rattle.pb_unfolder_terms.specs.declared.fault.UnfoldFault.{UnfoldFault}
-use Rattle.pb_unfolder_terms.specs.declared.fault.UnfoldRule.{UnfoldRule}
-use Rattle.pb_unfolder_terms.specs.declared.fault.UnfoldRule.TheVariants as unfold_rule
 use Rattle.pb_unfolder_terms.specs.declared.written.Written.{Written}
 use Rattle.pb_unfolder_terms.specs.Values.{written_term}
-use Rattle.pb_unfolder_steps.specs.Outside.{IsOutsideAtStart}
+use Rattle.pb_unfolder_steps.specs.StepFaults.{IsFaultAtStart}
 use Rattle.pb_unfolder_steps.specs.declared.fault.StepsFault.{StepsFault}
 use Rattle.pb_unfolder_steps.specs.declared.fault.StepsFault.TheVariants as steps_fault
 use Rattle.pb_unfolder.specs.declared.fault.UnfoldingFault.{UnfoldingFault}
 use Rattle.pb_unfolder.specs.declared.fault.UnfoldingRule.{UnfoldingRule}
 use Rattle.pb_unfolder.specs.declared.fault.UnfoldingRule.TheVariants as rule
 use Rattle.pb_unfolder.specs.Faults.{IsElementClash, IsFaultOfFormula, IsFaultOfProperties}
-use Rattle.pb_unfolder.specs.Faults.{IsFaultOfSet, IsRepeated, OfIndex}
+use Rattle.pb_unfolder.specs.Faults.{IsFaultOfSet, IsFaultOfSteps, IsRepeated, OfTerm}
+use Rattle.pb_unfolder.specs.Faults.{OfToken, OfValue, rule_of}
 
--- it isn't the fault of a name, an index or a limit; where it is that of a value, P of its place
+-- it is the fault of a value, and P holds of its place
 abbrev pub InPart : (Place → Type 0) → UnfoldingRule → Place → Type 0
 InPart P rule.Names p = ⊥
 InPart P rule.Value p = P p
 InPart P rule.Index p = ⊥
 InPart P rule.Count p = ⊥
-InPart P rule.Operators p = Unit {0}
+InPart P rule.Operators p = ⊥
 
 abbrev pub IsFaultIn : (Place → Type 0) → UnfoldingFault → Type 0
 IsFaultIn P fault = InPart P fault.rule fault.place
 
--- it isn't the fault of a name or of a limit; where it isn't that of operators, P
+-- it isn't the fault of a name or of a limit, and P
 abbrev pub ByRule : UnfoldingRule → Type 0 → Type 0
 ByRule rule.Names P = ⊥
 ByRule rule.Value P = P
 ByRule rule.Index P = P
 ByRule rule.Count P = ⊥
-ByRule rule.Operators P = Unit {0}
+ByRule rule.Operators P = P
 
 abbrev pub IsFaultBy : (UnfoldingFault → Type 0) → UnfoldingFault → Type 0
 IsFaultBy P fault = ByRule fault.rule (P fault)
 
--- nor that of a value: something has too many operators, or nests too deep
-abbrev pub AtNone : Place → Type 0
-AtNone p = ⊥
+-- the token at this place has too many tuples of values
+abbrev pub OfManyTuples : {A : Type 0} → Place → List A → UnfoldingFault → Type 0
+OfManyTuples place tuples fault = OfToken place fault × (MAX_OPERATORS < length tuples)
 
-abbrev pub IsFaultOfTerm : UnfoldingFault → Type 0
-IsFaultOfTerm fault = IsFaultIn AtNone fault
+-- of the set of steps of a modality at this place
+abbrev pub IsFaultOfModality :
+    Protocol → TermScope → Place → StepSetForm → UnfoldingFault → Type 0
+IsFaultOfModality m ρ place A fault =
+    OfToken place fault ⊎ OfValue (IsFaultOfSteps m ρ (instances m) A) fault
 
 -- at this place, and P
 abbrev pub IsAt : Place → Type 0 → Place → Type 0
 IsAt place P p = (p ≡ place) × P
-
--- the rule that a term breaks: all but that of indices are limits of size
-abbrev pub rule_of : UnfoldRule → UnfoldingRule
-rule_of unfold_rule.Index = rule.Index
-rule_of r = rule.Operators
 
 abbrev pub IsOfTerm : UnfoldFault → UnfoldingFault → Type 0
 IsOfTerm f above = above ≡ record { rule = rule_of f.rule; place = f.place }
@@ -91,21 +89,23 @@ abbrev pub IsFaultOfSets : Protocol → TermScope → List Term → List StepSet
 IsFaultOfSets m ρ own sets p =
     (A : StepSetForm) × Contains sets A × IsFaultOfSet m ρ own A p
 
--- in the operand of a link
+-- of the connective of a link, or in its operand
 abbrev pub IsFaultOfLinks : ProtocolForm → TermScope → List Link → UnfoldingFault → Type 0
 IsFaultOfLinks m ρ links fault =
-    (link : Link) × Contains links link × IsFaultOfFormula m ρ (formula_form link.operand) fault
+    (link : Link) × Contains links link
+    × (OfToken link.place fault ⊎ IsFaultOfFormula m ρ (formula_form link.operand) fault)
 
--- in a copy, where the variables stand for one of these tuples
+-- of the quantifier at this place, or in a copy, where the variables stand for one of these tuples
 abbrev pub IsFaultOfCopies :
-    ProtocolForm → TermScope → List Variable → List (List Term) → FormulaForm → UnfoldingFault →
-    Type 0
-IsFaultOfCopies m ρ xs tuples f fault =
-    (ks : List Term) × Contains tuples ks
-    × IsFaultOfFormula m (standing xs (terms_of ks) ρ) f fault
+    ProtocolForm → TermScope → Place → List Variable → List (List Term) → FormulaForm →
+    UnfoldingFault → Type 0
+IsFaultOfCopies m ρ place xs tuples f fault =
+    OfToken place fault
+    ⊎ ((ks : List Term) × Contains tuples ks
+    × IsFaultOfFormula m (standing xs (terms_of ks) ρ) f fault)
 
 -- of a flat model's parts: in a value at the start of one protocol, or in properties
 abbrev pub IsFaultOfModel :
     ProtocolForm → ProtocolForm → List PropertyForm → UnfoldingFault → Type 0
 IsFaultOfModel start m properties fault =
-    OfIndex (IsOutsideAtStart start) fault ⊎ IsFaultOfProperties m properties fault
+    OfTerm (IsFaultAtStart start) fault ⊎ IsFaultOfProperties m properties fault

@@ -3,7 +3,8 @@
 ghost use Rattle.std.specs.Prelude.{◌≡◌};
 ghost use Rattle.pb_errors.specs.OrMemory.{raised};
 ghost use Rattle.pb_errors.specs.declared.or_memory.OrMemory.TheVariants.{Refused};
-ghost use Rattle.pb_unfolder.specs.Parts.{IsOfSteps, IsOfTerm, rule_of};
+ghost use Rattle.pb_unfolder.specs.Faults.{rule_of};
+ghost use Rattle.pb_unfolder.specs.Parts.{IsOfSteps, IsOfTerm};
 
 use pb_errors::{Fault, OrMemory};
 use pb_text_tree::Place;

@@ -3,22 +3,21 @@
 ghost use Rattle.std.specs.Prelude.{◌≡◌, [], map, flat_map, IfOk, box_value};
 ghost use Rattle.pb_errors.specs.OrMemory.{IfRefused};
 ghost use Rattle.pb_text_tree.specs.Form.{term_form};
-ghost use Rattle.pb_protocol_tree.specs.Form.{formula_form};
+ghost use Rattle.pb_protocol_tree.specs.Form.{FormulaForm, formula_form};
 ghost use Rattle.pb_protocol_meaning.specs.Erase.{protocol_of};
 ghost use Rattle.pb_protocol_meaning.specs.Steps.{data_of};
 ghost use Rattle.pb_folding.specs.Places.{AreAmong, places_of};
 ghost use Rattle.pb_folding.specs.View.{formula_of};
 ghost use Rattle.pb_unfolder_terms.specs.View.{spec_of, variable_of};
 ghost use Rattle.pb_unfolder_terms.specs.Values.{tuple_of};
-ghost use Rattle.pb_unfolder_terms.specs.TermFaults.{IsOutsideIn, surroundings_of};
 ghost use Rattle.pb_unfolder_steps.specs.Unfolder.{form_in, protocol_in, scope_in};
 ghost use Rattle.pb_unfolder.specs.Copies.{copy_of, data_formula, left_operand};
 ghost use Rattle.pb_unfolder.specs.Copies.{tuples_in};
-ghost use Rattle.pb_unfolder.specs.Faults.{IsFaultOfFormula, OfIndex};
+ghost use Rattle.pb_unfolder.specs.Faults.{IsFaultOfFormula};
 ghost use Rattle.pb_unfolder.specs.Left.{AreFormulas, left_formula};
 ghost use Rattle.pb_unfolder.specs.Links.{linked_formula};
 ghost use Rattle.pb_unfolder.specs.Parts.{HasValues, IsFaultBy, IsFaultOfCopies, IsFaultOfLinks};
-ghost use Rattle.pb_unfolder.specs.Parts.{IsFaultOfTerm};
+ghost use Rattle.pb_unfolder.specs.Parts.{OfManyTuples};
 ghost use Rattle.pb_unfolder.specs.Places.{flat_link_places, link_places, places_in};
 
 use crate::chain::joined;
@@ -71,9 +70,10 @@ fn unfold_data(
     ensures formula { IfOk result (λ f. formula_of f
         ≡ data_formula formulas.now.unfolder.now scope.now term.now) }
     ensures places { IfOk result (λ f. places_of f ≡ []) }
-    ensures refused { HasValues scope.now → IfRefused result (IsFaultBy (OfIndex
-        (IsOutsideIn (surroundings_of (form_in formulas.now.unfolder.now))
-        (scope_in formulas.now.unfolder.now scope.now) (term_form term.now)))) }
+    ensures refused { HasValues scope.now → IfRefused result
+        (IsFaultBy (IsFaultOfFormula (form_in formulas.now.unfolder.now)
+        (scope_in formulas.now.unfolder.now scope.now)
+        (FormulaForm.«data» place (term_form term.now)))) }
 {
     match formulas.unfolder.unfold(scope, true, term) {
         Ok(term) => {
@@ -92,7 +92,8 @@ pub(crate) fn tuples_of<'a>(
 ) -> Result<Vec<Vec<Written<'a>>>, UnfoldingError>
     ensures tuples { IfOk result (λ v. map tuple_of v.items
         ≡ tuples_in unfolder.now (map variable_of variables.now)) }
-    ensures refused { IfRefused result IsFaultOfTerm }
+    ensures refused { IfRefused result (OfManyTuples place
+        (tuples_in unfolder.now (map variable_of variables.now))) }
 {
     match written_tuples(
         unfolder.alloc,
@@ -121,7 +122,7 @@ fn unfold_copies<'a>(
         (λ v. AreAmong (flat_map places_of v.items) (places_in (box_value body.now))) }
     ensures refused { IfRefused result
         (IsFaultBy (IsFaultOfCopies (form_in formulas.now.unfolder.now)
-        (scope_in formulas.now.unfolder.now copies.now.outer.now)
+        (scope_in formulas.now.unfolder.now copies.now.outer.now) copies.now.place
         (map variable_of copies.now.variables.now) (map tuple_of copies.now.tuples.now)
         (formula_form (box_value body.now)))) }
 {

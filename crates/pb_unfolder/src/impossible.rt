@@ -1,6 +1,6 @@
 //! The steps of a protocol that with none of their values may be taken.
 
-ghost use Rattle.std.specs.Prelude.{◌≡◌, ◌++◌, [], ◌∷◌, if◌then◌else◌, length, map, IfOk, OnOk};
+ghost use Rattle.std.specs.Prelude.{◌≡◌, ◌≤◌, ◌++◌, [], ◌∷◌, if◌then◌else◌, length, map, IfOk, OnOk};
 ghost use Rattle.std.specs.Prelude.{string_bytes};
 ghost use Rattle.std.specs.List.{list_any};
 ghost use Rattle.pb_errors.specs.OrMemory.{IfRefused};
@@ -9,13 +9,13 @@ ghost use Rattle.pb_unfolding.specs.Unfolding as definitions;
 ghost use Rattle.pb_unfolder_steps.specs.Elements.{instances_of_step};
 ghost use Rattle.pb_unfolder_steps.specs.Steps.{is_kept};
 ghost use Rattle.pb_unfolder_steps.specs.Unfolder.{protocol_in};
-ghost use Rattle.pb_unfolder.specs.Parts.{IsFaultOfTerm};
+ghost use Rattle.pb_unfolder.specs.Parts.{OfManyTuples};
 ghost use Rattle.pb_unfolder.specs.Told as told;
 
 use crate::fault::UnfoldingError;
 use crate::formula::tuples_of;
 use pb_protocol_tree::Step;
-use pb_unfolder_steps::Unfolder;
+use pb_unfolder_steps::{MAX_WRITTEN_STEPS, Unfolder};
 use pb_unfolder_terms::variables_of;
 use std::alloc::{AllocError, Global};
 
@@ -23,7 +23,8 @@ use std::alloc::{AllocError, Global};
 fn instance_count(unfolder: &Unfolder<'_>, step: &Step) -> Result<usize, UnfoldingError>
     ensures count { IfOk result (λ n. n
         ≡ length (instances_of_step (data_of (protocol_in unfolder.now)) step.now)) }
-    ensures refused { IfRefused result IsFaultOfTerm }
+    ensures refused { IfRefused result (OfManyTuples step.now.name.place
+        (instances_of_step (data_of (protocol_in unfolder.now)) step.now)) }
 {
     let variables = variables_of(unfolder.alloc, &step.variables)?;
     let tuples = tuples_of(unfolder, &variables, step.name.place)?;
@@ -62,9 +63,10 @@ pub(crate) fn impossible_steps(
 ) -> Result<Vec<String>, UnfoldingError>
     requires kept { kept.now ≡ map (is_kept (protocol_in unfolder.now))
         (definitions.instances (protocol_in unfolder.now)) }
+    requires few { length (definitions.instances (protocol_in unfolder.now)) ≤ MAX_WRITTEN_STEPS }
     ensures names { IfOk result
         (λ v. map string_bytes v.items ≡ told.impossible_steps (protocol_in unfolder.now)) }
-    ensures refused { IfRefused result IsFaultOfTerm }
+    ensures refused { IfRefused result (λ _. ⊥) }
 {
     let mut names = Vec::new(unfolder.alloc);
     let mut rest = kept;

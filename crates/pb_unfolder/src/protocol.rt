@@ -16,14 +16,14 @@ ghost use Rattle.pb_unfolding.specs.Unfolding as definitions;
 ghost use Rattle.pb_unfolder_steps.specs.Elements.{element_said, instance_said};
 ghost use Rattle.pb_unfolder_steps.specs.Steps.{is_kept, places_from, step_place, step_said};
 ghost use Rattle.pb_unfolder_steps.specs.Unfolder.{IsUnfolder, form_in, protocol_in};
-ghost use Rattle.pb_unfolder_steps.specs.Outside.{IsOutsideAtStart, IsOutsideInSteps};
-ghost use Rattle.pb_unfolder_steps.specs.Outside.{instance_form, placed_instances};
+ghost use Rattle.pb_unfolder_steps.specs.StepFaults.{IsFaultAtStart, IsFaultInSteps};
+ghost use Rattle.pb_unfolder_steps.specs.StepFaults.{instance_form, placed_instances};
 ghost use Rattle.pb_unfolder_steps.specs.Refusals.{element_place, element_places};
 ghost use Rattle.pb_unfolder_steps.specs.Refusals.{instance_place, instance_places};
-ghost use Rattle.pb_unfolder.specs.Faults.{IsUnfoldingFault, OfIndex};
+ghost use Rattle.pb_unfolder.specs.Faults.{IsUnfoldingFault, OfTerm};
 ghost use Rattle.pb_unfolder.specs.Left.{AreLeft};
 ghost use Rattle.pb_unfolder.specs.Origins.{origin_name};
-ghost use Rattle.pb_unfolder.specs.Parts.{IsFaultBy, IsFaultOfModel, IsFaultOfTerm};
+ghost use Rattle.pb_unfolder.specs.Parts.{IsFaultBy, IsFaultOfModel};
 ghost use Rattle.pb_unfolder.specs.Places.{HavePlacesOf};
 ghost use Rattle.pb_unfolder.specs.Told.{told_steps, told_variables};
 ghost use Rattle.pb_unfolder.specs.Told as told;
@@ -82,7 +82,7 @@ fn initial_of(alloc: Global, protocol: &Protocol) -> Result<Vec<Argument>, Unfol
     ensures initial { IfOk result (λ v. erased_arguments (argument_forms v.items)
         ≡ (folded_model (definitions.unfolded (protocol_of protocol.now))).initial) }
     ensures refused { IfRefused result
-        (IsFaultBy (OfIndex (IsOutsideAtStart (protocol_form protocol.now)))) }
+        (IsFaultBy (OfTerm (IsFaultAtStart (protocol_form protocol.now)))) }
 {
     match initial_terms(alloc, protocol) {
         Ok(terms) => Ok(terms),
@@ -107,8 +107,8 @@ fn steps_of(
         ≡ map (is_kept (protocol_in unfolder.now)) (map instance_said instances.now)) }
     ensures places { IfOk result (λ u. map step_place u.steps.items
         ≡ places_from 0 (length u.steps.items)) }
-    ensures refused { IfRefused result (IsFaultBy (OfIndex
-        (IsOutsideInSteps (form_in unfolder.now) (map instance_form instances.now)))) }
+    ensures refused { IfRefused result (IsFaultBy (OfTerm
+        (IsFaultInSteps (form_in unfolder.now) (map instance_form instances.now)))) }
 {
     match unfold_steps(unfolder, elements, instances) {
         Ok(steps) => Ok(steps),

@@ -1,7 +1,7 @@
 //! How many operators an unfolded formula may have.
 
 ghost use Rattle.pb_errors.specs.OrMemory.{IfRefused};
-ghost use Rattle.pb_unfolder.specs.Parts.{IsFaultOfTerm};
+ghost use Rattle.pb_unfolder.specs.Faults.{OfToken};
 
 use crate::fault::{UnfoldingError, UnfoldingRule, refused};
 use pb_limits::MAX_OPERATORS;
@@ -23,7 +23,7 @@ impl Room {
 
     /// Takes so many operators; where there are fewer, the token at the place passes the limit.
     pub(crate) fn take(&mut self, operators: usize, place: Place) -> Result<(), UnfoldingError>
-        ensures { IfRefused result IsFaultOfTerm }
+        ensures { IfRefused result (OfToken place) }
     {
         if operators > self.operators {
             return Err(refused(UnfoldingRule::Operators, place));
@@ -34,7 +34,7 @@ impl Room {
 
     #[cycle(operators)]
     fn take_links(&mut self, links: &[TermLink], place: Place) -> Result<(), UnfoldingError>
-        ensures { IfRefused result IsFaultOfTerm }
+        ensures { IfRefused result (OfToken place) }
     {
         for link in links {
             self.take(1, place)?;
@@ -49,7 +49,7 @@ impl Room {
         links: &[ArithmeticLink],
         place: Place,
     ) -> Result<(), UnfoldingError>
-        ensures { IfRefused result IsFaultOfTerm }
+        ensures { IfRefused result (OfToken place) }
     {
         for link in links {
             self.take(1, place)?;
@@ -60,7 +60,7 @@ impl Room {
 
     #[cycle(operators)]
     fn take_arguments(&mut self, arguments: &[Argument], place: Place) -> Result<(), UnfoldingError>
-        ensures { IfRefused result IsFaultOfTerm }
+        ensures { IfRefused result (OfToken place) }
     {
         for argument in arguments {
             self.take_term(&argument.term, place)?;
@@ -72,7 +72,7 @@ impl Room {
     /// passes the limit.
     #[cycle(operators)]
     pub(crate) fn take_term(&mut self, term: &Term, place: Place) -> Result<(), UnfoldingError>
-        ensures { IfRefused result IsFaultOfTerm }
+        ensures { IfRefused result (OfToken place) }
     {
         match term {
             Term::Constant { .. } | Term::Number { .. } | Term::Name(_) => Ok(()),

@@ -4,13 +4,12 @@ ghost use Rattle.std.specs.Prelude.{◌≡◌, ◌++◌, map, IfOk, OnOk, is_som
 ghost use Rattle.pb_errors.specs.OrMemory.{IfRefused};
 ghost use Rattle.pb_folding.specs.View.{set_of};
 ghost use Rattle.pb_protocol_tree.specs.Form.{step_set_form};
-ghost use Rattle.pb_unfolding.specs.Unfolding as definitions;
 ghost use Rattle.pb_unfolder_steps.specs.Elements.{instance_said};
 ghost use Rattle.pb_unfolder_steps.specs.Unfolder.{protocol_in, scope_in};
 ghost use Rattle.pb_unfolder.specs.Apart.{name_bytes};
 ghost use Rattle.pb_unfolder.specs.Faults.{IsFaultOfSet, IsFaultOfSteps};
 ghost use Rattle.pb_unfolder.specs.Left.{AreFormulas, left_set, member_name, member_names};
-ghost use Rattle.pb_unfolder.specs.Parts.{HasValues, IsFaultIn};
+ghost use Rattle.pb_unfolder.specs.Parts.{HasValues, IsFaultBy, IsFaultIn, IsFaultOfModality};
 ghost use Rattle.pb_unfolder.specs.Sets.{is_each};
 
 use crate::fault::UnfoldingError;
@@ -99,10 +98,8 @@ pub(crate) fn unfold_set(
     ensures set { IfOk result (λ A. set_of A
         ≡ left_set formulas.now.unfolder.now scope.now (step_set_form set.now)) }
     ensures refused { IfRefused result
-        (IsFaultIn (IsFaultOfSteps (protocol_in formulas.now.unfolder.now)
-        (scope_in formulas.now.unfolder.now scope.now)
-        (definitions.instances (protocol_in formulas.now.unfolder.now))
-        (step_set_form set.now))) }
+        (IsFaultBy (IsFaultOfModality (protocol_in formulas.now.unfolder.now)
+        (scope_in formulas.now.unfolder.now scope.now) place (step_set_form set.now))) }
 {
     if let Some(place) = place_of_all(set) {
         return Ok(flat::StepSet::All { place });

@@ -4,4 +4,4 @@ mod OkLemmas
 mod RefusalLemmas
 mod StateLemmas
 mod StepLemmas
-mod OutsideLemmas
+mod StepFaultLemmas

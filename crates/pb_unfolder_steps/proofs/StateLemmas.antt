@@ -20,7 +20,7 @@ use Rattle.pb_protocol_meaning.specs.Steps.{data_of}
 use Rattle.pb_unfolding.specs.Unfolding.{elements_of, instances_of, all_elements, instances}
 use Rattle.pb_unfolder_terms.specs.View.{declarations, ranges_said}
 use Rattle.pb_unfolder_steps.specs.Elements.{elements_of_variable, elements_of_state, instances_of_step, instances_of_steps}
-use Rattle.pb_unfolder_steps.specs.Outside.{forms_of_step, forms_of_steps, placed_instances, placed_instances_of}
+use Rattle.pb_unfolder_steps.specs.StepFaults.{forms_of_step, forms_of_steps, placed_instances, placed_instances_of}
 use Rattle.pb_unfolder_steps.specs.Refusals.{element_places, instance_places, places_of_elements, places_of_instances, places_of_state, places_of_step, places_of_steps, places_of_variable}
 
 sorts-said : (ds : List SortDeclaration) → declarations ds ≡ map erased_declaration (map sort_declaration_form ds)

@@ -4,4 +4,4 @@ pub mod Initial
 pub mod Steps
 pub mod Refusals
 pub mod Unfolder
-pub mod Outside
+pub mod StepFaults

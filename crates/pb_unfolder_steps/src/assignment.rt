@@ -4,9 +4,9 @@ ghost use Rattle.std.specs.Prelude.{◌≡◌, ◌++◌, map, IfOk, OnOk, string
 ghost use Rattle.pb_errors.specs.OrMemory.{IfRefused};
 ghost use Rattle.pb_folding.specs.View.{term_of};
 ghost use Rattle.pb_protocol_tree.specs.Form.{assignment_form};
-ghost use Rattle.pb_unfolder_terms.specs.TermFaults.{HasValues};
+ghost use Rattle.pb_unfolder_terms.specs.TermFaults.{HasValues, IsFaultInElement, surroundings_of};
 ghost use Rattle.pb_unfolder_steps.specs.Elements.{element_said};
-ghost use Rattle.pb_unfolder_steps.specs.Outside.{AssignOutside, OnTerm};
+ghost use Rattle.pb_unfolder_steps.specs.StepFaults.{IsFaultInElements, OnTerm};
 ghost use Rattle.pb_unfolder_steps.specs.Refusals.{IsTermOr};
 ghost use Rattle.pb_unfolder_steps.specs.Steps.{assignment_said, assignments_said, change_of};
 ghost use Rattle.pb_unfolder_steps.specs.Steps.{changed, changes};
@@ -64,9 +64,10 @@ fn push_assignment(
         (scope_in unfolder.now assigning.now.scope.now)
         (assignments_said assigning.now.assignments.now) (element_said element.now)) }
     ensures refused { IfRefused result (IsTermOr ⊥) }
-    ensures outside { HasValues assigning.now.scope.now → IfRefused result (OnTerm
-        (AssignOutside (form_in unfolder.now) (scope_in unfolder.now assigning.now.scope.now)
-        (map assignment_form assigning.now.assignments.now))) }
+    ensures faults { HasValues assigning.now.scope.now → IfRefused result (OnTerm
+        (IsFaultInElement (surroundings_of (form_in unfolder.now))
+        (scope_in unfolder.now assigning.now.scope.now)
+        (map assignment_form assigning.now.assignments.now) (element_said element.now))) }
 {
     let variable = element_name(unfolder.alloc, element.name, &element.index)?;
     let term = unfolder.unfold_assigned(assigning.scope, assigning.assignments, element)?;
@@ -86,9 +87,9 @@ pub(crate) fn unfold_assignments(
         (scope_in unfolder.now assigning.now.scope.now)
         (assignments_said assigning.now.assignments.now) (map element_said elements.now)) }
     ensures refused { IfRefused result (IsTermOr ⊥) }
-    ensures outside { HasValues assigning.now.scope.now → IfRefused result (OnTerm
-        (AssignOutside (form_in unfolder.now) (scope_in unfolder.now assigning.now.scope.now)
-        (map assignment_form assigning.now.assignments.now))) }
+    ensures faults { HasValues assigning.now.scope.now → IfRefused result (OnTerm
+        (IsFaultInElements (form_in unfolder.now) (scope_in unfolder.now assigning.now.scope.now)
+        (map assignment_form assigning.now.assignments.now) (map element_said elements.now))) }
 {
     let mut assignments = Vec::new(unfolder.alloc);
     for element in elements {

@@ -2,7 +2,7 @@
 
 ghost use Rattle.std.specs.Prelude.{◌≡◌};
 ghost use Rattle.pb_errors.specs.OrMemory.{IfFault};
-ghost use Rattle.pb_unfolder_steps.specs.Outside.{term_error};
+ghost use Rattle.pb_unfolder_steps.specs.StepFaults.{term_error};
 ghost use Rattle.pb_unfolder_steps.specs.Refusals.{IsTermOr};
 
 use pb_errors::{Fault, OrMemory};

@@ -18,9 +18,9 @@ ghost use Rattle.pb_unfolder_steps.specs.Unfolder.{IsInitial};
 ghost use Rattle.pb_unfolder_steps.specs.Initial.{argument_term, indices_behind, indices_of_group};
 ghost use Rattle.pb_unfolder_steps.specs.Initial.{indices_of_state, indices_said};
 ghost use Rattle.pb_unfolder_steps.specs.Initial.{initial_values, term_at, terms_at};
-ghost use Rattle.pb_unfolder_steps.specs.Outside.{IsOutsideAt, IsOutsideAtSome, IsOutsideAtStart};
-ghost use Rattle.pb_unfolder_steps.specs.Outside.{IsOutsideInValue, IsOutsideInValues, OnTerm};
-ghost use Rattle.pb_unfolder_steps.specs.Outside.{value_form};
+ghost use Rattle.pb_unfolder_steps.specs.StepFaults.{IsFaultAtValues, IsFaultAtSome, IsFaultAtStart};
+ghost use Rattle.pb_unfolder_steps.specs.StepFaults.{IsFaultInValue, IsFaultInValues, OnTerm};
+ghost use Rattle.pb_unfolder_steps.specs.StepFaults.{value_form};
 ghost use Rattle.pb_unfolder_steps.specs.Refusals.{IsTermOr};
 
 use crate::fault::{StepsError, of_term};
@@ -79,7 +79,7 @@ impl Initial<'_> {
         ensures term { IfOk result (λ t. term_of t ≡ term_at (protocol_of self.now.protocol.now)
             (map variable_of indices.now) (term_of term.now) (map written_term values.now)) }
         ensures refused { IfRefused result (IsTermOr ⊥) }
-        ensures outside { IfRefused result (OnTerm (IsOutsideAt
+        ensures faults { IfRefused result (OnTerm (IsFaultAtValues
             (protocol_form self.now.protocol.now) (map variable_of indices.now)
             (term_form term.now) (map written_term values.now))) }
     {
@@ -108,7 +108,7 @@ impl Initial<'_> {
             ++ map (term_at (protocol_of self.now.protocol.now) (map variable_of indices.now)
             (argument_term value.now)) (map tuple_of tuples.now)) }
         ensures refused { IfRefused result (IsTermOr ⊥) }
-        ensures outside { IfRefused result (OnTerm (IsOutsideAtSome
+        ensures faults { IfRefused result (OnTerm (IsFaultAtSome
             (protocol_form self.now.protocol.now) (map variable_of indices.now)
             (value_form value.now) (map tuple_of tuples.now))) }
     {
@@ -135,7 +135,7 @@ impl Initial<'_> {
         ensures refused { IfRefused result (IsTermOr (MAX_OPERATORS
             < length (written_tuples (data_of (protocol_of self.now.protocol.now))
             (indices_said variable.now)))) }
-        ensures outside { IfRefused result (OnTerm (IsOutsideInValue
+        ensures faults { IfRefused result (OnTerm (IsFaultInValue
             (protocol_form self.now.protocol.now) (indices_said variable.now)
             (value_form value.now))) }
     {
@@ -158,7 +158,7 @@ impl Initial<'_> {
         ensures refused { IfRefused result (IsTermOr (MAX_OPERATORS
             < length (flat_map (written_tuples (data_of (protocol_of self.now.protocol.now)))
             (map indices_behind variables.now)))) }
-        ensures outside { IfRefused result (OnTerm (IsOutsideInValues
+        ensures faults { IfRefused result (OnTerm (IsFaultInValues
             (protocol_form self.now.protocol.now) (map indices_behind variables.now)
             (map value_form values.now))) }
     {
@@ -183,7 +183,7 @@ pub fn initial_terms(alloc: Global, protocol: &Protocol) -> Result<Vec<Argument>
         (protocol_of protocol.now).variables (protocol_of protocol.now).initial))) }
     ensures refused { IfRefused result (IsTermOr
         (MAX_OPERATORS < length (definitions.all_elements (protocol_of protocol.now)))) }
-    ensures outside { IfRefused result (OnTerm (IsOutsideAtStart (protocol_form protocol.now))) }
+    ensures faults { IfRefused result (OnTerm (IsFaultAtStart (protocol_form protocol.now))) }
 {
     let variables = state_variables(alloc, &protocol.state)?;
     let initial = Initial {

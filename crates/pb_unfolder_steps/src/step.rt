@@ -9,8 +9,8 @@ ghost use Rattle.pb_protocol_meaning.specs.Steps.{data_of};
 ghost use Rattle.pb_unfolding.specs.Unfolding as definitions;
 ghost use Rattle.pb_unfolder_steps.specs.Elements.{element_said, instance_said};
 ghost use Rattle.pb_unfolder_terms.specs.TermFaults.{HasValues};
-ghost use Rattle.pb_unfolder_steps.specs.Outside.{IsOutsideInStep, IsOutsideInSteps, OnTerm};
-ghost use Rattle.pb_unfolder_steps.specs.Outside.{instance_form};
+ghost use Rattle.pb_unfolder_steps.specs.StepFaults.{IsFaultInStep, IsFaultInSteps, OnTerm};
+ghost use Rattle.pb_unfolder_steps.specs.StepFaults.{instance_form};
 ghost use Rattle.pb_unfolder_steps.specs.Refusals.{IsTermOr};
 ghost use Rattle.pb_unfolder_steps.specs.Steps.{is_kept, kept_step, own_scope, place_of_step};
 ghost use Rattle.pb_unfolder_steps.specs.Steps.{places_from};
@@ -68,8 +68,8 @@ fn unfold_in_scope(
         ≡ kept_step (protocol_in unfolder.now) (instance_said instance.now)) }
     ensures place { IfOk result (λ found. IfSome found (λ a. step_place a ≡ place)) }
     ensures refused { IfRefused result (IsTermOr ⊥) }
-    ensures outside { HasValues scope.now → IfRefused result (OnTerm
-        (IsOutsideInStep (form_in unfolder.now) (instance_form instance.now))) }
+    ensures faults { HasValues scope.now → IfRefused result (OnTerm
+        (IsFaultInStep (form_in unfolder.now) (instance_form instance.now))) }
 {
     let step = instance.step;
     let guard = unfolder.unfold(scope, true, &step.guard)?;
@@ -105,8 +105,8 @@ fn unfold_step(
         ≡ kept_step (protocol_in unfolder.now) (instance_said instance.now)) }
     ensures place { IfOk result (λ found. IfSome found (λ a. step_place a ≡ place)) }
     ensures refused { IfRefused result (IsTermOr ⊥) }
-    ensures outside { IfRefused result (OnTerm
-        (IsOutsideInStep (form_in unfolder.now) (instance_form instance.now))) }
+    ensures faults { IfRefused result (OnTerm
+        (IsFaultInStep (form_in unfolder.now) (instance_form instance.now))) }
 {
     let variables = variables_of(unfolder.alloc, &instance.step.variables)?;
     let scope = TermScope::Values {
@@ -162,8 +162,8 @@ pub fn unfold_steps(
     ensures places { IfOk result (λ u. map step_place u.steps.items
         ≡ places_from 0 (length u.steps.items)) }
     ensures refused { IfRefused result (IsTermOr ⊥) }
-    ensures outside { IfRefused result (OnTerm
-        (IsOutsideInSteps (form_in unfolder.now) (map instance_form instances.now))) }
+    ensures faults { IfRefused result (OnTerm
+        (IsFaultInSteps (form_in unfolder.now) (map instance_form instances.now))) }
 {
     let mut unfolded = UnfoldedSteps {
         steps: Vec::new(unfolder.alloc),

@@ -10,8 +10,9 @@ ghost use Rattle.pb_protocol_meaning.specs.Erase.{protocol_of};
 ghost use Rattle.pb_protocol_meaning.specs.Steps.{data_of};
 ghost use Rattle.pb_unfolding.specs.Unfolding as definitions;
 ghost use Rattle.pb_unfolder_steps.specs.Elements.{element_said};
-ghost use Rattle.pb_unfolder_terms.specs.TermFaults.{HasValues, IsOutsideIn, surroundings_of};
-ghost use Rattle.pb_unfolder_steps.specs.Outside.{AssignOutside, OnTerm};
+ghost use Rattle.pb_unfolder_terms.specs.TermFaults.{HasValues, IsFaultInElement, IsFaultInTerm};
+ghost use Rattle.pb_unfolder_terms.specs.TermFaults.{surroundings_of};
+ghost use Rattle.pb_unfolder_steps.specs.StepFaults.{OnTerm};
 ghost use Rattle.pb_unfolder_steps.specs.Refusals.{IsTermOr};
 ghost use Rattle.pb_unfolder_steps.specs.Steps.{assigned, assignments_said};
 ghost use Rattle.pb_unfolder_steps.specs.Unfolder.{IsUnfolder, form_in, protocol_in};
@@ -67,7 +68,7 @@ impl<'a> Unfolder<'a> {
             (definitions.unfolded_term (protocol_in self.now) (scope_in self.now scope.now)
             (term_of term.now))) }
         ensures refused { IfRefused result (IsTermOr ⊥) }
-        ensures outside { HasValues scope.now → IfRefused result (OnTerm (IsOutsideIn
+        ensures faults { HasValues scope.now → IfRefused result (OnTerm (IsFaultInTerm
             (surroundings_of (form_in self.now)) (scope_in self.now scope.now)
             (term_form term.now))) }
     {
@@ -89,9 +90,9 @@ impl<'a> Unfolder<'a> {
             (scope_in self.now scope.now) (assignments_said assignments.now)
             (element_said element.now)) }
         ensures refused { IfRefused result (IsTermOr ⊥) }
-        ensures outside { HasValues scope.now → IfRefused result (OnTerm (AssignOutside
-            (form_in self.now) (scope_in self.now scope.now)
-            (map assignment_form assignments.now))) }
+        ensures faults { HasValues scope.now → IfRefused result (OnTerm (IsFaultInElement
+            (surroundings_of (form_in self.now)) (scope_in self.now scope.now)
+            (map assignment_form assignments.now) (element_said element.now))) }
     {
         let element = terms::Element {
             array: element.name,

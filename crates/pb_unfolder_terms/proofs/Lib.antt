@@ -16,3 +16,4 @@ pub mod AssignedLemmas
 pub mod BehindLemmas
 pub mod BoundsLemmas
 pub mod MetLemmas
+pub mod LargeLemmas

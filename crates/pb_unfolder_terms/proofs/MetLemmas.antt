@@ -10,7 +10,7 @@ use Rattle.pb_text_tree.specs.declared.term.Argument.{Argument}
 use Rattle.pb_text_tree.specs.declared.term.ArithmeticLink.{ArithmeticLink}
 use Rattle.pb_text_tree.specs.declared.term.TermLink.{TermLink}
 use Rattle.pb_text_tree.specs.Form.{Named, TermForm, argument_forms, arithmetic_links, calculated, chained, term_form, term_links}
-use Rattle.pb_text_meaning.specs.Syntax.{Name, same_name, Term}
+use Rattle.pb_text_meaning.specs.Syntax.{Name, same_name, Spec, Term}
 use Rattle.pb_text_meaning.specs.Erase.{erased_term}
 use Rattle.pb_folding.specs.Folding.{folded}
 use Rattle.pb_unfolding.specs.PutIn.{TermScope, put_in}
@@ -18,16 +18,15 @@ use Rattle.pb_unfolder_terms.specs.declared.context.Context.{Context}
 use Rattle.pb_unfolder_terms.specs.declared.fault.UnfoldFault.{UnfoldFault}
 use Rattle.pb_unfolder_terms.specs.declared.sorts.Variable.{Variable}
 use Rattle.pb_unfolder_terms.specs.declared.scope.TermScope as declared_scope
+use Rattle.pb_unfolder_terms.specs.Large.{HasManyValues, IsFirstToken, IsValuesFault}
 use Rattle.pb_unfolder_terms.specs.Met.{HaveOutside, IsArgument, IsIndexFault, IsOutside, Itself, Occurrence, Operand, Surroundings, at}
 use Rattle.pb_unfolder_terms.specs.Scopes.{looked}
-use Rattle.pb_unfolder_terms.specs.Tells.{AreIndices, AreMetAt, Breaks, IsFaultOf, IsMetAt, IsReadMet, IsScopeMet, scope_said, surroundings_in}
-use Rattle.pb_unfolder_terms.specs.TermFaults.{HasValues, IfFaultAt, OnIndex}
+use Rattle.pb_unfolder_terms.specs.Tells.{AreIndices, AreMetAt, IsFaultOf, IsMetAt, IsReadMet, IsScopeMet, scope_said, surroundings_in}
+use Rattle.pb_unfolder_terms.specs.TermFaults.{Breaks, HasValues, IfFaultAt}
 use Rattle.pb_unfolder_terms.specs.Bounds.{IsSeenWithin, sort_interval}
 use Rattle.pb_unfolder_terms.specs.Contexts.{IsSeenInside, forms_in, interval_in, spec_in, state_variable_of}
 use Rattle.pb_unfolder_terms.specs.declared.fault.UnfoldRule.{UnfoldRule}
-use Rattle.pb_unfolder_terms.specs.declared.fault.UnfoldRule.TheVariants as rule
 use Rattle.pb_unfolder_terms.specs.declared.scope.TermScope.TheVariants.{Empty, Values', Arguments'}
-use Rattle.pb_unfolder_terms.specs.Values.{IsTooLong}
 use Rattle.pb_unfolder_terms.specs.View.{variable_of}
 use Rattle.pb_unfolder_terms.proofs.ReadLemmas.{not-none, some-is}
 
@@ -120,12 +119,20 @@ module _ (c : Context) (n : ℕ) (ρ : TermScope) (whole : Occurrence) where
   argument-in (b ∷ given) a (zero, within, e) = inl (ap (λ (d : Argument). term_form d.term) (sym e))
   argument-in (b ∷ given) a (suc k, within, e) = inr (argument-in given a (k, omega (arith, within), e))
 
+  first-token : (given : List Argument) (a : Argument) → Contains given a → IsFirstToken (argument_forms given) a.place
+  first-token [] a h = absurd (omega (arith, h.1))
+  first-token (b ∷ given) a (zero, within, e) = inl (ap (λ (d : Argument). d.place) (sym e))
+  first-token (b ∷ given) a (suc k, within, e) = inr (first-token given a (k, omega (arith, within), e))
+
   -- the arguments of what is met
   pub arguments-met : (f : Named) (given : List Argument) → IsMetAt c n ρ (TermForm.application f (argument_forms given)) whole → AreMetAt c n ρ given whole
-  arguments-met f given h = λ a in-it. Operand n ρ (TermForm.application f (argument_forms given)) (term_form a.term) h (argument-in given a in-it)
+  arguments-met f given h = λ a in-it. (
+    Operand n ρ (TermForm.application f (argument_forms given)) (term_form a.term) h (argument-in given a in-it),
+    (at n ρ (TermForm.application f (argument_forms given)), h, inr (first-token given a in-it)),
+  )
 
   pub argument-at-met : (given : List Argument) (i : ℕ) (a : Argument) → i < length given → a ≡ get_or given i a → AreMetAt c n ρ given whole → IsMetAt c n ρ (term_form a.term) whole
-  argument-at-met given i a within is h = h a (item-in given i a within is)
+  argument-at-met given i a within is h = (h a (item-in given i a within is)).0
 
   pub other-arguments-met : (given : List Argument) → AreMetAt c n ρ given whole → AreMetAt c n ρ (drop 1 given) whole
   other-arguments-met given h = λ a in-it. h a (left-in given a in-it)
@@ -152,13 +159,23 @@ module _ (c : Context) (n : ℕ) (ρ : TermScope) (whole : Occurrence) where
   others-outside [] (a ∷ b ∷ given) p h = absurd h
   others-outside (i ∷ is) (a ∷ given) p h = inr h
 
-pub others-met : (c : Context) (n : ℕ) (scope : declared_scope.TermScope) (whole : Occurrence) (is js : List Variable) (given others : List Argument) → js ≡ drop 1 is → others ≡ drop 1 given
-    → IsReadMet c n scope given is whole → IsReadMet c n scope others js whole
-others-met c n scope whole is js given others e f h =
+others-many : (S : Spec) (is : List Variable) → HasManyValues S (map variable_of (drop 1 is)) → HasManyValues S (map variable_of is)
+others-many S [] v = v
+others-many S (i ∷ is) (x, there, many) = (x, behind-in (variable_of i) (map variable_of is) x there, many)
+
+pub others-met : (c : Context) (n : ℕ) (scope : declared_scope.TermScope) (whole : Occurrence) (p q : Place) (is js : List Variable) (given others : List Argument) → q ≡ p → js ≡ drop 1 is → others ≡ drop 1 given
+    → IsReadMet c n scope p given is whole → IsReadMet c n scope q others js whole
+others-met c n scope whole p q is js given others d e f h =
     let ρ = scope_said c scope in
-    subst (λ (vs : List Variable). IsReadMet c n scope others vs whole) (sym e)
-    (subst (λ (bs : List Argument). IsReadMet c n scope bs (drop 1 is) whole) (sym f)
-    ((other-arguments-met c n ρ whole given h.0.0, h.0.1), (λ p o. h.1 p (others-outside c n ρ whole is given p o))))
+    subst (λ (r : Place). IsReadMet c n scope r others js whole) (sym d)
+    (subst (λ (vs : List Variable). IsReadMet c n scope p others vs whole) (sym e)
+    (subst (λ (bs : List Argument). IsReadMet c n scope p bs (drop 1 is) whole) (sym f)
+    (record {
+      arguments_met = (other-arguments-met c n ρ whole given h.arguments_met.0, h.arguments_met.1);
+      outside = λ r o. h.outside r (others-outside c n ρ whole is given r o);
+      token = h.token;
+      values = λ many. h.values (others-many (spec_in c) is many);
+    })))
 
 -- ---- faults
 
@@ -167,34 +184,13 @@ pub err-told : {A : Type 0} (r : Result A (OrMemory UnfoldFault)) (e : OrMemory 
 err-told (Ok a) e Q h q = absurd h
 err-told (Err d) e Q h q = subst Q (sym h) q
 
-pub too-long-told : {A : Type 0} (m : Surroundings) (whole : Occurrence) (xs : List A) (place : Place) (e : OrMemory UnfoldFault) → IsTooLong xs place e → IsFaultOf m whole e
-too-long-told m whole xs place Memory h = tt
-too-long-told m whole xs place (Refused f) h = subst (λ (g : UnfoldFault). IsFaultOf m whole (Refused g)) (sym h.0) tt
-
--- an index outside is what P says of the place
-pub at-by : (m : Surroundings) (whole : Occurrence) (P : Place → Type 0) (e : OrMemory UnfoldFault) → ((p : Place) → IsIndexFault m whole p → P p) → IsFaultOf m whole e → IfFaultAt P e
-at-by m whole P Memory to h = tt
-at-by m whole P (Refused f) to h = by f.rule h
-  where
-    by : (r : UnfoldRule) → Breaks m whole r f.place → OnIndex P r f.place
-    by rule.Index h = to f.place h
-    by rule.Operators h = tt
-    by rule.Depth h = tt
-    by rule.Values h = tt
-
-pub at-weaker : (P Q : Place → Type 0) (e : OrMemory UnfoldFault) → ((p : Place) → P p → Q p) → IfFaultAt P e → IfFaultAt Q e
+-- a fault at a place is what P says of it
+pub at-weaker : (P Q : UnfoldRule → Place → Type 0) (e : OrMemory UnfoldFault) → ((r : UnfoldRule) (p : Place) → P r p → Q r p) → IfFaultAt P e → IfFaultAt Q e
 at-weaker P Q Memory to h = tt
-at-weaker P Q (Refused f) to h = by f.rule h
-  where
-    by : (r : UnfoldRule) → OnIndex P r f.place → OnIndex Q r f.place
-    by rule.Index h = to f.place h
-    by rule.Operators h = tt
-    by rule.Depth h = tt
-    by rule.Values h = tt
+at-weaker P Q (Refused f) to h = to f.rule f.place h
 
-pub result-at : {A : Type 0} (m : Surroundings) (whole : Occurrence) (r : Result A (OrMemory UnfoldFault)) → IfErr r (IsFaultOf m whole) → IfErr r (IfFaultAt (IsIndexFault m whole))
-result-at m whole (Ok u) h = tt
-result-at m whole (Err e) h = at-by m whole (IsIndexFault m whole) e (λ p o. o) h
+pub at-by : (m : Surroundings) (whole : Occurrence) (P : UnfoldRule → Place → Type 0) (e : OrMemory UnfoldFault) → ((r : UnfoldRule) (p : Place) → Breaks m whole r p → P r p) → IsFaultOf m whole e → IfFaultAt P e
+at-by m whole P e to h = at-weaker (Breaks m whole) P e to h
 
 -- ---- scopes of values
 
@@ -230,6 +226,27 @@ assigned-read c n ρ f given x indices (inr (y, there, name, e)) same p o = (
     mapped-in state_variable_of c.variables.items y there,
     name ∙ same,
     subst (λ (vs : List Variable). HaveOutside (surroundings_in c) n ρ (argument_forms given) (map variable_of vs) p) e o,
+  ),
+)
+
+-- nor has an index of it too many values
+pub assigned-many : (c : Context) (n : ℕ) (ρ : TermScope) (f : Named) (given : List Argument) (x : Name) (indices : List Variable) → AreIndices c x indices → x ≡ f.text
+    → HasManyValues (spec_in c) (map variable_of indices)
+    → IsValuesFault (surroundings_in c) (at n ρ (TermForm.application f (argument_forms given))) f.place
+assigned-many c n ρ f given x indices (inl e) same many =
+    absurd (none (subst (λ (vs : List Variable). HasManyValues (spec_in c) (map variable_of vs)) e many))
+  where
+    none : HasManyValues (spec_in c) [] → ⊥
+    none v = omega (arith, v.1.1)
+assigned-many c n ρ f given x indices (inr (y, there, name, e)) same many = (
+  at n ρ (TermForm.application f (argument_forms given)),
+  Itself,
+  (
+    refl,
+    state_variable_of y,
+    mapped-in state_variable_of c.variables.items y there,
+    name ∙ same,
+    subst (λ (vs : List Variable). HasManyValues (spec_in c) (map variable_of vs)) e many,
   ),
 )
 

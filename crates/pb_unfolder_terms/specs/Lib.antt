@@ -12,5 +12,6 @@ pub mod Assigned
 pub mod Behind
 pub mod Bounds
 pub mod Met
+pub mod Large
 pub mod Tells
 pub mod TermFaults

@@ -17,26 +17,21 @@ use Rattle.pb_unfolder_terms.specs.declared.context.StateVariable as declared_st
 use Rattle.pb_unfolder_terms.specs.declared.context.Meant as declared_meant
 use Rattle.pb_unfolder_terms.specs.declared.context.Meant.TheVariants as meant
 use Rattle.pb_unfolder_terms.specs.declared.fault.UnfoldFault.{UnfoldFault}
-use Rattle.pb_unfolder_terms.specs.declared.fault.UnfoldRule.{UnfoldRule}
-use Rattle.pb_unfolder_terms.specs.declared.fault.UnfoldRule.TheVariants as rule
 use Rattle.pb_unfolder_terms.specs.declared.scope.Found as declared_found
 use Rattle.pb_unfolder_terms.specs.declared.scope.Found.TheVariants as found
 use Rattle.pb_unfolder_terms.specs.declared.scope.TermScope as declared_scope
 use Rattle.pb_unfolder_terms.specs.declared.scope.TermScope.TheVariants.{Empty, Values', Arguments'}
 use Rattle.pb_unfolder_terms.specs.declared.sorts.Variable as declared_variable
 use Rattle.pb_unfolder_terms.specs.Contexts.{definition_of, forms_in, spec_in, state_variable_of}
+use Rattle.pb_unfolder_terms.specs.Large.{HasManyValues, IsTokenMet, IsValuesFault}
 use Rattle.pb_unfolder_terms.specs.Met.{HaveOutside, IsIndexFault, IsMet, Occurrence, Surroundings}
 use Rattle.pb_unfolder_terms.specs.Met.{at}
 use Rattle.pb_unfolder_terms.specs.Scopes.{scope_of}
+use Rattle.pb_unfolder_terms.specs.TermFaults.{Breaks}
 use Rattle.pb_unfolder_terms.specs.Values.{tuple_of}
 use Rattle.pb_unfolder_terms.specs.View.{variable_of}
 
 -- ---- faults
-
--- by the rule of indices an array is read at an index outside; by the others nothing is said
-abbrev pub Breaks : Surroundings → Occurrence → UnfoldRule → Place → Type 0
-Breaks m whole rule.Index p = IsIndexFault m whole p
-Breaks m whole r p = Unit {0}
 
 -- what a fault says of the term that is unfolded
 abbrev pub IsFaultOf : Surroundings → Occurrence → OrMemory UnfoldFault → Type 0
@@ -62,12 +57,16 @@ abbrev pub IsMetAt :
     declared_context.Context → ℕ → TermScope → TermForm → Occurrence → Type 0
 IsMetAt c n ρ x whole = IsMet (surroundings_in c) whole (at n ρ x)
 
+abbrev pub IsTokenAt : declared_context.Context → Place → Occurrence → Type 0
+IsTokenAt c p whole = IsTokenMet (surroundings_in c) whole p
+
+-- each with its first token
 abbrev pub AreMetAt :
     declared_context.Context → ℕ → TermScope → List declared_argument.Argument → Occurrence →
     Type 0
 AreMetAt c n ρ arguments whole =
     (a : declared_argument.Argument) → Contains arguments a
-    → IsMetAt c n ρ (term_form a.term) whole
+    → IsMetAt c n ρ (term_form a.term) whole × IsTokenAt c a.place whole
 
 -- the arguments that names stand for are met
 abbrev pub IsScopeMet :
@@ -90,25 +89,29 @@ abbrev pub AreArgumentsMet :
 AreArgumentsMet c n scope arguments whole =
     AreMetAt c n (scope_said c scope) arguments whole × IsScopeMet c scope whole
 
--- and where one of the arguments is outside, that is the whole's fault
-abbrev pub IsReadMet :
-    declared_context.Context → ℕ → declared_scope.TermScope → List declared_argument.Argument →
-    List declared_variable.Variable → Occurrence → Type 0
-IsReadMet c n scope arguments indices whole =
-    AreArgumentsMet c n scope arguments whole
-    × ((p : Place) → HaveOutside (surroundings_in c) n (scope_said c scope)
-    (argument_forms arguments) (map variable_of indices) p
-    → IsIndexFault (surroundings_in c) whole p)
+-- an array that is used at the place: where one of the arguments is outside, or an index has too
+-- many values, that is the whole's fault
+pub record IsReadMet (c : declared_context.Context) (n : ℕ) (scope : declared_scope.TermScope)
+    (place : Place) (arguments : List declared_argument.Argument)
+    (indices : List declared_variable.Variable) (whole : Occurrence) : Type 0 where
+  pub arguments_met : AreArgumentsMet c n scope arguments whole
+  pub outside : (p : Place)
+      → HaveOutside (surroundings_in c) n (scope_said c scope) (argument_forms arguments)
+      (map variable_of indices) p
+      → IsIndexFault (surroundings_in c) whole p
+  pub token : IsTokenAt c place whole
+  pub values : HasManyValues (spec_in c) (map variable_of indices)
+      → IsValuesFault (surroundings_in c) whole place
 
--- the body with each of these tuples of values
+-- the quantifier at the place, and the body with each of these tuples of values
 abbrev pub AreCopiesMet :
-    declared_context.Context → ℕ → declared_scope.TermScope → declared_copies.Copies → TermForm →
-    Occurrence → Type 0
-AreCopiesMet c n scope copies x whole =
+    declared_context.Context → ℕ → declared_scope.TermScope → Place → declared_copies.Copies →
+    TermForm → Occurrence → Type 0
+AreCopiesMet c n scope place copies x whole =
     ((ks : List Term) → Contains (map tuple_of copies.tuples.now) ks
     → IsMetAt c n (standing (map variable_of copies.variables.now) (terms_of ks)
     (scope_said c scope)) x whole)
-    × IsScopeMet c scope whole
+    × IsScopeMet c scope whole × IsTokenAt c place whole
 
 -- what a name stands for
 abbrev pub IsFoundMet : declared_context.Context → declared_found.Found → Occurrence → Type 0

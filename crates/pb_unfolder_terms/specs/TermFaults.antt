@@ -1,20 +1,25 @@
 -- What the fault of a protocol's term, or of a step's assignments, says.
-use Rattle.std.specs.Prelude.{◌⊎◌, ℕ, List, [], map, length, Contains}
+use Rattle.std.specs.Prelude.{◌⊎◌, ◌<◌, ℕ, List, [], map, length, Contains}
 use Rattle.pb_errors.specs.OrMemory.{IfFault}
 use Rattle.pb_errors.specs.declared.or_memory.OrMemory.{OrMemory}
+use Rattle.pb_limits.specs.declared.TheConstants.{MAX_OPERATORS}
 use Rattle.pb_text_tree.specs.declared.place.Place.{Place}
 use Rattle.pb_text_tree.specs.Form.{TermForm}
 use Rattle.pb_protocol_tree.specs.Form.{AssignmentForm, DefinitionForm, ProtocolForm}
-use Rattle.pb_protocol_meaning.specs.Erase.{erase}
+use Rattle.pb_text_meaning.specs.Syntax.{Term}
+use Rattle.pb_protocol_meaning.specs.Erase.{erase, erased_assignment}
 use Rattle.pb_protocol_meaning.specs.Steps.{data_of}
 use Rattle.pb_unfolding.specs.PutIn.{TermScope}
+use Rattle.pb_unfolding.specs.Unfolding.{Element, name_of, term_after}
 use Rattle.pb_unfolder_terms.specs.declared.fault.UnfoldFault.{UnfoldFault}
 use Rattle.pb_unfolder_terms.specs.declared.fault.UnfoldRule.{UnfoldRule}
 use Rattle.pb_unfolder_terms.specs.declared.fault.UnfoldRule.TheVariants as rule
 use Rattle.pb_unfolder_terms.specs.declared.scope.TermScope as declared_scope
 use Rattle.pb_unfolder_terms.specs.declared.scope.TermScope.TheVariants.{Empty, Values', Arguments'}
-use Rattle.pb_unfolder_terms.specs.Met.{IsIndexFault, Surroundings, at, forms}
+use Rattle.pb_unfolder_terms.specs.Large.{HasManyOperators, IsTokenMet, IsValuesFault}
+use Rattle.pb_unfolder_terms.specs.Met.{IsIndexFault, Occurrence, Surroundings, at, forms}
 use Rattle.pb_unfolder_terms.specs.Scopes.{scope_of}
+use Rattle.pb_unfolder_terms.specs.Unfolding.{operator_count}
 
 -- ---- what terms are unfolded by
 
@@ -47,28 +52,54 @@ scope_by m scope = scope_of m.spec (forms m) scope
 
 -- ---- faults
 
--- where the rule is that of indices, P of the place
-abbrev pub OnIndex : (Place → Type 0) → UnfoldRule → Place → Type 0
-OnIndex P rule.Index p = P p
-OnIndex P r p = Unit {0}
+-- an array is read at an index outside, or too many values are written out; too many operators, and
+-- levels, are told of at a token of what is met
+abbrev pub Breaks : Surroundings → Occurrence → UnfoldRule → Place → Type 0
+Breaks m whole rule.Index p = IsIndexFault m whole p
+Breaks m whole rule.Values p = IsValuesFault m whole p
+Breaks m whole rule.Operators p = IsTokenMet m whole p
+Breaks m whole rule.Depth p = IsTokenMet m whole p
 
-abbrev pub IsFaultAt : (Place → Type 0) → UnfoldFault → Type 0
-IsFaultAt P fault = OnIndex P fault.rule fault.place
+-- P of the rule and the place
+abbrev pub IsFaultAt : (UnfoldRule → Place → Type 0) → UnfoldFault → Type 0
+IsFaultAt P fault = P fault.rule fault.place
 
-abbrev pub IfFaultAt : (Place → Type 0) → OrMemory UnfoldFault → Type 0
+abbrev pub IfFaultAt : (UnfoldRule → Place → Type 0) → OrMemory UnfoldFault → Type 0
 IfFaultAt P error = IfFault error (IsFaultAt P)
 
--- in a term, by all definitions
-abbrev pub IsOutsideIn : Surroundings → TermScope → TermForm → Place → Type 0
-IsOutsideIn m ρ x p = IsIndexFault m (at (length m.definitions) ρ x) p
+-- where the rule is that of operators, Many as well
+abbrev pub WithMany : Type 0 → (UnfoldRule → Place → Type 0) → UnfoldRule → Place → Type 0
+WithMany Many P rule.Operators p = Many × P rule.Operators p
+WithMany Many P r p = P r p
+
+-- in a term, by all definitions: of operators it has too many
+abbrev pub IsFaultInTerm : Surroundings → TermScope → TermForm → UnfoldRule → Place → Type 0
+IsFaultInTerm m ρ x =
+    let whole = at (length m.definitions) ρ x in
+    WithMany (HasManyOperators m whole) (Breaks m whole)
 
 -- in an assignment: as in the read of what it assigns to, or in its term
-abbrev pub IsOutsideInAssignment : Surroundings → ℕ → TermScope → AssignmentForm → Place → Type 0
-IsOutsideInAssignment m n ρ a p =
-    IsIndexFault m (at n ρ (TermForm.application a.variable a.index)) p
-    ⊎ IsIndexFault m (at n ρ a.value) p
+abbrev pub IsFaultInAssignment :
+    Surroundings → ℕ → TermScope → AssignmentForm → UnfoldRule → Place → Type 0
+IsFaultInAssignment m n ρ a r p =
+    Breaks m (at n ρ (TermForm.application a.variable a.index)) r p
+    ⊎ Breaks m (at n ρ a.value) r p
 
-abbrev pub IsOutsideInAssignments :
-    Surroundings → ℕ → TermScope → List AssignmentForm → Place → Type 0
-IsOutsideInAssignments m n ρ assignments p =
-    (a : AssignmentForm) × Contains assignments a × IsOutsideInAssignment m n ρ a p
+abbrev pub IsFaultInAssignments :
+    Surroundings → ℕ → TermScope → List AssignmentForm → UnfoldRule → Place → Type 0
+IsFaultInAssignments m n ρ assignments r p =
+    (a : AssignmentForm) × Contains assignments a × IsFaultInAssignment m n ρ a r p
+
+-- what an element is after them, unfolded, has more than 8,192 operators
+abbrev pub HasManyAssigned :
+    Surroundings → ℕ → TermScope → List AssignmentForm → Element → Type 0
+HasManyAssigned m n ρ assignments e =
+    MAX_OPERATORS < operator_count (term_after m.spec (forms m n) ρ
+    (map erased_assignment assignments) e (Term.Named (name_of e)))
+
+-- where it is unfolded what an element is after them, by all definitions
+abbrev pub IsFaultInElement :
+    Surroundings → TermScope → List AssignmentForm → Element → UnfoldRule → Place → Type 0
+IsFaultInElement m ρ assignments e =
+    let n = length m.definitions in
+    WithMany (HasManyAssigned m n ρ assignments e) (IsFaultInAssignments m n ρ assignments)

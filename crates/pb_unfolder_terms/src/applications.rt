@@ -71,8 +71,8 @@ fn unfold_choice<'a>(
     ensures term { Unfolds (folding_in context.now) level.truth level.room
         (syntax.Term.Apply (string_bytes function.now.text)
         (puts context.now level.definitions scope.now (tree.terms_of arguments.now))) result }
-    ensures faults { Tells context.now result
-        (AreArgumentsMet context.now level.definitions scope.now arguments.now) }
+    ensures faults { Tells context.now result (IsTermMet context.now level.definitions scope.now
+        (TermForm.application (named function.now) (argument_forms arguments.now))) }
 {
     let room = behind_one(level.room, function.place)?;
     let inner = Level {
@@ -114,8 +114,8 @@ fn unfold_function<'a>(
     ensures term { Unfolds (folding_in context.now) level.truth level.room
         (syntax.Term.Apply (string_bytes function.now.text)
         (puts context.now level.definitions scope.now (tree.terms_of arguments.now))) result }
-    ensures faults { Tells context.now result
-        (AreArgumentsMet context.now level.definitions scope.now arguments.now) }
+    ensures faults { Tells context.now result (IsTermMet context.now level.definitions scope.now
+        (TermForm.application (named function.now) (argument_forms arguments.now))) }
 {
     let truth = is_choice(function.text.as_str());
     if truth && arguments.len() == 3 {

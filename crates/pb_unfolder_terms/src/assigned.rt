@@ -16,8 +16,8 @@ ghost use Rattle.pb_unfolder_terms.specs.Behind.{IsBehind};
 ghost use Rattle.pb_unfolder_terms.specs.Contexts.{IsContext, IsSeenInside, folding_in};
 ghost use Rattle.pb_unfolder_terms.specs.Contexts.{scope_in};
 ghost use Rattle.pb_unfolder_terms.specs.Met.{Surroundings};
-ghost use Rattle.pb_unfolder_terms.specs.TermFaults.{HasValues, IfFaultAt, IsOutsideInAssignments};
-ghost use Rattle.pb_unfolder_terms.specs.TermFaults.{scope_by};
+ghost use Rattle.pb_unfolder_terms.specs.TermFaults.{HasValues, IfFaultAt, IsFaultInAssignments};
+ghost use Rattle.pb_unfolder_terms.specs.TermFaults.{IsFaultInElement, scope_by};
 ghost use Rattle.pb_unfolder_terms.specs.Tells.{AreIndices, IsReadMet, Tells, scope_said};
 ghost use Rattle.pb_unfolder_terms.specs.Tells.{surroundings_in};
 ghost use Rattle.pb_unfolder_terms.specs.Unfolding.{IsRefusal, IsUnfolded, Unfolds};
@@ -166,6 +166,7 @@ fn compared_with<'a>(
     ensures index { result.index.now ≡ element.entry.index.now }
     ensures indices { AreIndices context.now (string_bytes element.entry.array.now.text)
         result.indices.now }
+    ensures place { result.place ≡ assignment.now.variable.place }
 {
     Compared {
         place: assignment.variable.place,
@@ -195,7 +196,7 @@ fn unfold_compared<'a>(
     ensures term { Unfolds (folding_in context.now) true level.room
         (compared_by context.now level.definitions scope.now compared.entry) result }
     ensures faults { Tells context.now result (IsReadMet context.now level.definitions scope.now
-        compared.entry.arguments.now compared.entry.indices.now) }
+        compared.entry.place compared.entry.arguments.now compared.entry.indices.now) }
 {
     let place = compared.place;
     let Some(argument) = compared.arguments.first() else {
@@ -272,7 +273,7 @@ fn last_assignment<'a>(
         (IsRefusal level.room (after_by context.now level.definitions scope.now assignments.now
         (element_said element.entry sort))) }
     ensures faults { HasValues scope.now → IfErr result
-        (IfFaultAt (IsOutsideInAssignments (surroundings_in context.now) level.definitions
+        (IfFaultAt (IsFaultInAssignments (surroundings_in context.now) level.definitions
         (scope_said context.now scope.now) (map assignment_form assignments.now))) }
 {
     let mut room = level.room;
@@ -310,7 +311,7 @@ fn unfold_after<'a>(
         (after_by context.now level.definitions scope.now assignments.now
         (element_said element.entry sort)) result }
     ensures faults { HasValues scope.now → IfErr result
-        (IfFaultAt (IsOutsideInAssignments (surroundings_in context.now) level.definitions
+        (IfFaultAt (IsFaultInAssignments (surroundings_in context.now) level.definitions
         (scope_said context.now scope.now) (map assignment_form assignments.now))) }
 {
     let latest = last_assignment(context, scope, level, assignments, element)?;
@@ -328,7 +329,7 @@ fn unfold_after<'a>(
             }
             let name = choosing(context.alloc, assignment.variable.place)?;
             let Some(depth) = level.depth.checked_sub(1) else {
-                return Err(refused(UnfoldRule::Depth, name.place));
+                return Err(refused(UnfoldRule::Depth, assignment.variable.place));
             };
             let inner = Level { depth, ..inner };
             let left = unfold(context, scope, inner, &assignment.value.term)?;
@@ -353,7 +354,7 @@ fn unfold_assigned_by<'a>(
         (after_by context.now (length context.now.definitions.items) scope.now assignments.now
         (element_said element.entry sort)) result }
     ensures faults { HasValues scope.now → IfErr result
-        (IfFaultAt (IsOutsideInAssignments (surroundings_in context.now)
+        (IfFaultAt (IsFaultInAssignments (surroundings_in context.now)
         (length context.now.definitions.items) (scope_said context.now scope.now)
         (map assignment_form assignments.now))) }
 {
@@ -381,9 +382,9 @@ pub fn unfold_assigned<'a>(
     ensures term { (m : protocol.Protocol) (sort : syntax.Name) → IsContext m context.now
         → Unfolds (data_of m) false MAX_OPERATORS (spec.unfolded_assignment m (scope_in m scope.now)
         (assignments_said assignments.now) (element_said element.now sort)).term result }
-    ensures faults { (m : Surroundings) → surroundings_in context.now ≡ m → HasValues scope.now
-        → IfErr result (IfFaultAt (IsOutsideInAssignments m (length m.definitions)
-        (scope_by m scope.now) (map assignment_form assignments.now))) }
+    ensures faults { (m : Surroundings) (sort : syntax.Name) → surroundings_in context.now ≡ m
+        → HasValues scope.now → IfErr result (IfFaultAt (IsFaultInElement m (scope_by m scope.now)
+        (map assignment_form assignments.now) (element_said element.now sort))) }
 {
     unfold_assigned_by(context, scope, assignments, *element)
 }

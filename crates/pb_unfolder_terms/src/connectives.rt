@@ -130,7 +130,7 @@ fn unfold_copies<'a>(
         (IsRefusal level.room (copied_term context.now level.definitions scope.now
         quantified.entry.quantifier copies.entry (tree.term_of quantified.entry.body.now))) }
     ensures faults { Tells context.now result (AreCopiesMet context.now level.definitions scope.now
-        copies.entry (term_form quantified.entry.body.now)) }
+        quantified.entry.place copies.entry (term_form quantified.entry.body.now)) }
 {
     let place = quantified.place;
     let connective = joining(quantified.quantifier);

@@ -41,8 +41,9 @@ fn push_spelled(name: &mut String, value: Written<'_>) -> Result<(), AllocError>
 /// The name of an array, or of a part of one, at one more written value: `x'k`, at the place of the
 /// array's name.
 pub(crate) fn element(alloc: Global, name: &Name, value: Written<'_>) -> Result<Name, AllocError>
-    ensures { IfOk result (λ n. string_bytes n.text
+    ensures text { IfOk result (λ n. string_bytes n.text
         ≡ element (string_bytes name.now.text) (written_term value.entry)) }
+    ensures place { IfOk result (λ n. n.place ≡ name.now.place) }
 {
     let mut text = name.text.as_str().to_owned(alloc)?;
     text.push_str("'")?;

@@ -2,10 +2,13 @@
 
 ghost use Rattle.std.specs.Prelude.{◌≡◌, ◌+◌, ◌<◌, ℕ, suc, MatchResult};
 ghost use Rattle.pb_errors.specs.declared.or_memory.OrMemory.TheVariants.{Refused};
+ghost use Rattle.pb_text_tree.specs.Form.{term_form};
 ghost use Rattle.pb_text_meaning.specs.Syntax as syntax;
+ghost use Rattle.pb_unfolding.specs.PutIn.{TermScope};
+ghost use Rattle.pb_unfolder_terms.specs.declared.context.Context as declared_context;
 ghost use Rattle.pb_unfolder_terms.specs.declared.fault.UnfoldRule.TheVariants.{Operators};
 ghost use Rattle.pb_unfolder_terms.specs.Met.{Occurrence, Surroundings};
-ghost use Rattle.pb_unfolder_terms.specs.Tells.{IsFaultOf};
+ghost use Rattle.pb_unfolder_terms.specs.Tells.{IsFaultOf, IsMetAt, IsTokenAt};
 ghost use Rattle.pb_unfolder_terms.specs.Unfolding.{IsRefusal};
 
 use crate::fault::{UnfoldError, UnfoldFault, UnfoldRule};
@@ -66,8 +69,11 @@ pub(crate) fn of_index(error: UnfoldError) -> UnfoldError
     }
 }
 
-/// A place at which a term that nests too deep is refused.
-pub(crate) fn place_of(term: &Term) -> Place {
+/// A place at which a term that nests too deep is refused: that of a token of a part of it.
+pub(crate) fn place_of(term: &Term) -> Place
+    ensures { (c : declared_context.Context) (n : ℕ) (ρ : TermScope) (whole : Occurrence)
+        → IsMetAt c n ρ (term_form term.now) whole → IsTokenAt c result whole }
+{
     match term {
         Term::Constant { place, .. }
         | Term::Number { place, .. }

@@ -81,7 +81,8 @@ pub(crate) fn element_term(alloc: Global, name: &Name, room: u32) -> Result<Unfo
 
 /// A name at another place.
 pub(crate) fn placed_name(alloc: Global, name: &Name, place: Place) -> Result<Name, AllocError>
-    ensures { IfOk result (λ n. string_bytes n.text ≡ string_bytes name.now.text) }
+    ensures text { IfOk result (λ n. string_bytes n.text ≡ string_bytes name.now.text) }
+    ensures place { IfOk result (λ n. n.place ≡ place) }
 {
     let text = name.text.as_str().to_owned(alloc)?;
     Ok(Name { place, text })

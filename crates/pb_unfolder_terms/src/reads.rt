@@ -37,7 +37,7 @@ fn unfold_element<'a>(
         (element_by context.now level.definitions scope.now others.entry
         (written_term value.entry)) result }
     ensures faults { Tells context.now result (IsReadMet context.now level.definitions scope.now
-        others.entry.arguments.now others.entry.indices.now) }
+        others.entry.name.now.place others.entry.arguments.now others.entry.indices.now) }
 {
     let name = element(context.alloc, others.name, value)?;
     let array = Array {
@@ -62,7 +62,8 @@ fn unfold_choices<'a>(
         (element_by context.now level.definitions scope.now choices.entry.others) t
         (map written_term choices.entry.values.now)) result }
     ensures faults { Tells context.now result (IsReadMet context.now level.definitions scope.now
-        choices.entry.others.arguments.now choices.entry.others.indices.now) }
+        choices.entry.others.name.now.place choices.entry.others.arguments.now
+        choices.entry.others.indices.now) }
 {
     let place = choices.others.name.place;
     let Some(depth) = level.depth.checked_sub(1) else {
@@ -109,7 +110,7 @@ pub(crate) fn unfold_read<'a>(
     ensures term { (truth : _) → Unfolds (folding_in context.now) truth level.room
         (read_by context.now level.definitions scope.now array.entry) result }
     ensures faults { Tells context.now result (IsReadMet context.now level.definitions scope.now
-        array.entry.arguments.now array.entry.indices.now) }
+        array.entry.name.now.place array.entry.arguments.now array.entry.indices.now) }
 {
     let place = array.name.place;
     let Some(depth) = level.depth.checked_sub(1) else {

@@ -7,10 +7,10 @@ ghost use Rattle.pb_protocol_meaning.specs.Syntax.{Protocol};
 ghost use Rattle.pb_protocol_meaning.specs.Steps.{data_of};
 ghost use Rattle.pb_unfolding.specs.Unfolding.{unfolded_term};
 ghost use Rattle.pb_unfolder_terms.specs.Contexts.{IsContext, folding_in, scope_in};
-ghost use Rattle.pb_unfolder_terms.specs.Met.{IsIndexFault, Surroundings, at};
+ghost use Rattle.pb_unfolder_terms.specs.Met.{Surroundings, at};
 ghost use Rattle.pb_unfolder_terms.specs.Puts.{put};
-ghost use Rattle.pb_unfolder_terms.specs.Tells.{scope_said, surroundings_in};
-ghost use Rattle.pb_unfolder_terms.specs.TermFaults.{HasValues, IfFaultAt, IsOutsideIn, scope_by};
+ghost use Rattle.pb_unfolder_terms.specs.Tells.{IsFaultOf, scope_said, surroundings_in};
+ghost use Rattle.pb_unfolder_terms.specs.TermFaults.{HasValues, IfFaultAt, IsFaultInTerm, scope_by};
 ghost use Rattle.pb_unfolder_terms.specs.Unfolding.{Unfolds};
 
 use crate::context::Context;
@@ -35,10 +35,9 @@ fn unfold_by<'a>(
     ensures term { Unfolds (folding_in context.now) truth MAX_OPERATORS
         (put context.now (length context.now.definitions.items) scope.now
         (tree.term_of term.now)) result }
-    ensures faults { HasValues scope.now → IfErr result
-        (IfFaultAt (IsIndexFault (surroundings_in context.now)
+    ensures faults { HasValues scope.now → IfErr result (IsFaultOf (surroundings_in context.now)
         (at (length context.now.definitions.items) (scope_said context.now scope.now)
-        (term_form term.now)))) }
+        (term_form term.now))) }
 {
     let level = Level {
         truth,
@@ -63,7 +62,7 @@ pub fn unfold_term<'a>(
     ensures term { (m : Protocol) → IsContext m context.now → Unfolds (data_of m) truth
         MAX_OPERATORS (unfolded_term m (scope_in m scope.now) (tree.term_of term.now)) result }
     ensures faults { (m : Surroundings) → surroundings_in context.now ≡ m → HasValues scope.now
-        → IfErr result (IfFaultAt (IsOutsideIn m (scope_by m scope.now) (term_form term.now))) }
+        → IfErr result (IfFaultAt (IsFaultInTerm m (scope_by m scope.now) (term_form term.now))) }
 {
     unfold_by(context, scope, truth, term)
 }

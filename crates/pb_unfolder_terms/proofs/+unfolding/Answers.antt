@@ -3,6 +3,8 @@ use Rattle.std.proofs.lemmas.Bool.Decides.{nat_tests}
 use Rattle.pb_unfolder_terms.specs.declared.sorts.Variable as declared_variable
 use Rattle.pb_unfolder_terms.proofs.ContextLemmas.{arguments-counted, given-there}
 use Rattle.pb_text_tree.specs.declared.sort.SortDeclaration.{SortDeclaration}
+use Rattle.pb_text_tree.specs.declared.name.Name as declared_name
+use Rattle.pb_text_tree.specs.declared.place.Place.{Place}
 use Rattle.pb_text_tree.specs.declared.term.Term as declared_term
 use Rattle.std.specs.Prelude.{box_value}
 use Rattle.pb_text_meaning.specs.Syntax.{Name, Term, Terms}
@@ -11,7 +13,7 @@ use Rattle.pb_unfolder_terms.specs.Chains.{chain_term, deciding, operand_of, ope
 use Rattle.pb_unfolder_terms.proofs.ChainLemmas.{application-said, chain-said, err-kept, refusal-behind}
 use Rattle.pb_folding.specs.View as tree
 use Rattle.pb_unfolding.specs.PutIn.{TermScope, term_of, named_term, put_in, standing, all_put_in, applied_term, given_arguments}
-use Rattle.pb_unfolder_terms.specs.View.{variable_of}
+use Rattle.pb_unfolder_terms.specs.View.{spec_of, variable_of}
 use Rattle.pb_unfolder_terms.specs.Scopes.{scope_of}
 use Rattle.pb_unfolder_terms.specs.Contexts.{forms_in, folding_in, spec_in}
 use Rattle.pb_unfolder_terms.specs.Unfolding.{IsRefusal, IsUnfolded, Unfolds}
@@ -53,10 +55,12 @@ use Rattle.pb_text_tree.specs.Form.{TermForm, argument_forms, arithmetic_links, 
 use Rattle.pb_text_tree.proofs.FormLemmas.{term-application, term-arithmetic, term-chain}
 use Rattle.pb_unfolder_terms.specs.Bounds.{IsSeenWithin, sort_interval}
 use Rattle.pb_unfolder_terms.specs.Contexts.{definition_of, interval_in, state_variable_of}
+use Rattle.pb_unfolder_terms.specs.Large.{HasManyValues, IsTokenOf}
 use Rattle.pb_unfolder_terms.specs.Met.{Body, Defined, HaveOutside, IsOperand, IsOutside, Operand, at, name_used}
-use Rattle.pb_unfolder_terms.specs.Tells.{AreMetAt, IsFaultOf, IsMetAt, placed_term, scope_said, surroundings_in}
+use Rattle.pb_unfolder_terms.specs.Tells.{AreMetAt, IsFaultOf, IsMetAt, IsReadMet, placed_term, scope_said, surroundings_in}
 use Rattle.pb_unfolder_terms.proofs.SortsLemmas.{same-folded}
-use Rattle.pb_unfolder_terms.proofs.MetLemmas.{arguments-met, arithmetic-first-met, arithmetic-link-met, chain-first-met, chain-next-met, err-told, first-outside, item-in, mapped-in, other-arguments-met, others-met}
+use Rattle.pb_unfolder_terms.proofs.LargeLemmas.{arithmetic-token, chain-token, depth-told, first-argument, first-many, room-told, values-told}
+use Rattle.pb_unfolder_terms.proofs.MetLemmas.{argument-at-met, arguments-met, arithmetic-first-met, arithmetic-link-met, chain-first-met, chain-next-met, err-told, first-outside, item-in, mapped-in, other-arguments-met, others-met}
 use Rattle.pb_unfolder_terms.proofs.+unfolding.Goals as goal
 
 pub unfold::unfold-returns-in_ok-negation-in-Not-clause-term : goal.unfold::unfold-returns-in_ok-negation-in-Not-clause-term
@@ -440,7 +444,7 @@ applications::unfold_application-returns-in_ok-name-in-Variable-clause-term t c 
     let y = c.in-Variable.variable.now in
     let some : 0 < length given = grind (arith, nat_tests) in
     let e : Some (read (spec_in k) (string_bytes c.in_ok-name-in-Variable.name.text) (map variable_of c.deref-in-Variable.result.now) ts) ≡ given_arguments (forms_in k n) f ts =
-    ap (λ x. Some (read (spec_in k) x (map variable_of c.deref-in-Variable.result.now) ts)) c.in_ok-name-in-Variable.ensures
+    ap (λ x. Some (read (spec_in k) x (map variable_of c.deref-in-Variable.result.now) ts)) c.in_ok-name-in-Variable.ensures.text
     ∙ ap (λ vs. Some (read (spec_in k) (string_bytes y.name.now.text) (map variable_of vs) ts)) c.deref-in-Variable.ensures.value
     ∙ sym (c.in-Variable.ensures.meant ts (arguments-counted (spec_in k) (forms_in k n) (scope_of (spec_in k) (forms_in k) c.args.scope.now) given))
     ∙ ap (λ (x : Name). forms_in k n x ts) c.as_str.ensures.value
@@ -880,7 +884,7 @@ reads::unfold_element-returns-clause-term t c =
     let n = c.args.level.definitions in
     λ truth. subst (λ (x : Name). Unfolds (folding_in k) truth c.args.level.room
     (read (spec_in k) x (map variable_of c.args.others.indices.now) (puts k n c.args.scope.now (tree.terms_of c.args.others.arguments.now))) c.unfold_read.result)
-    c.in_ok-name.ensures (c.unfold_read.ensures.term truth)
+    c.in_ok-name.ensures.text (c.unfold_read.ensures.term truth)
 
 pub reads::unfold_read-returns-in_default-first-clause-term : goal.reads::unfold_read-returns-in_default-first-clause-term
 reads::unfold_read-returns-in_default-first-clause-term t c =
@@ -1347,27 +1351,31 @@ applications::unfold_application-returns-in_ok-name-in-Variable-clause-faults t 
     let y = c.in-Variable.variable.now in
     let is = c.in-Variable.ensures.named in
     let name : string_bytes y.name.now.text ≡ (named c.args.function.now).text = is.1 ∙ c.as_str.ensures.value in
-    λ w h. c.unfold_read.ensures.faults w (
-      (arguments-met k n σ w (named c.args.function.now) given h.0, h.1),
-      (λ p o. (
+    let there = mapped-in state_variable_of k.variables.items y is.0 in
+    let at-name = c.in_ok-name-in-Variable.ensures.place in
+    λ w h. c.unfold_read.ensures.faults w (record {
+      arguments_met = (arguments-met k n σ w (named c.args.function.now) given h.0, h.1);
+      outside = λ p o. (
         at n σ x,
         h.0,
         (
           state_variable_of y,
-          mapped-in state_variable_of k.variables.items y is.0,
+          there,
           name,
           subst (λ (vs : List declared_variable.Variable). HaveOutside (surroundings_in k) n σ (argument_forms given) (map variable_of vs) p) c.deref-in-Variable.ensures.value o,
         ),
-      )),
-    )
+      );
+      token = (at n σ x, h.0, inl at-name);
+      values = λ many. (
+        at n σ x,
+        h.0,
+        (at-name, state_variable_of y, there, name, subst (λ (vs : List declared_variable.Variable). HasManyValues (spec_in k) (map variable_of vs)) c.deref-in-Variable.ensures.value many),
+      );
+    })
 
 pub applications::unfold_application-returns-in-Neither-clause-faults : goal.applications::unfold_application-returns-in-Neither-clause-faults
 applications::unfold_application-returns-in-Neither-clause-faults t c =
-    let k = c.args.context.now in
-    let n = c.args.level.definitions in
-    let σ = scope_said k c.args.scope.now in
-    let given = c.args.arguments.now in
-    λ w h. c.unfold_function-in-Neither.ensures.faults w (arguments-met k n σ w (named c.args.function.now) given h.0, h.1)
+    λ w h. c.unfold_function-in-Neither.ensures.faults w h
 
 pub applications::unfold_arguments-returns-in_err-others-clause-faults : goal.applications::unfold_arguments-returns-in_err-others-clause-faults
 applications::unfold_arguments-returns-in_err-others-clause-faults t c =
@@ -1454,7 +1462,7 @@ connectives::unfold_quantified-returns-in_err-operands-clause-faults t c =
     λ ks in-it. subst (λ (zs : List Variable). IsMetAt k n (standing zs (terms_of ks) σ) x w) (sym variables)
     (Body n σ q c.args.quantified.place form x ks h.0 (subst (λ (kss : List (List Term)). Contains kss ks) tuples in-it)) in
     err-told c.from_residual-in_err-operands.result e (IsFaultOf (surroundings_in k) w) c.from_residual-in_err-operands.ensures.1
-    (c.in_err-operands.ensures.faults w (copies, h.1))
+    (c.in_err-operands.ensures.faults w (copies, h.1, (at n σ (TermForm.quantified q c.args.quantified.place form x), h.0, refl)))
 
 pub reads::unfold_read-returns-then-not-is_within-clause-faults : goal.reads::unfold_read-returns-then-not-is_within-clause-faults
 reads::unfold_read-returns-then-not-is_within-clause-faults t c =
@@ -1468,7 +1476,7 @@ reads::unfold_read-returns-then-not-is_within-clause-faults t c =
     let outside : IsOutside (surroundings_in k) n σ (term_form a.term) i.sort.now =
     λ seen. false≢true (c.if-not-is_within.ensures.1 (subst (λ (t : Term). IsSeenWithin (interval_in k t) (sort_interval (spec_in k) i.sort.now)) (sym folded-by) seen)) in
     λ w h. subst (IsFaultOf (surroundings_in k) w) (sym c.refused-then-not-is_within.ensures)
-    (h.1 a.place (first-outside k n σ w c.args.array.indices.now c.args.array.arguments.now i a c.in-Some-first.ensures.value c.in-Some-first-2.ensures.value outside))
+    (h.outside a.place (first-outside k n σ w c.args.array.indices.now c.args.array.arguments.now i a c.in-Some-first.ensures.value c.in-Some-first-2.ensures.value outside))
 
 pub reads::unfold_read-returns-in-Some-written_as-clause-faults : goal.reads::unfold_read-returns-in-Some-written_as-clause-faults
 reads::unfold_read-returns-in-Some-written_as-clause-faults t c =
@@ -1476,7 +1484,7 @@ reads::unfold_read-returns-in-Some-written_as-clause-faults t c =
     let n = c.args.level.definitions in
     let σ = scope_said k c.args.scope.now in
     let o = c.others.result in
-    λ w h. c.unfold_element.ensures.faults w (others-met k n c.args.scope.now w c.args.array.indices.now o.indices.now c.args.array.arguments.now o.arguments.now c.others.ensures.indices c.others.ensures.arguments h)
+    λ w h. c.unfold_element.ensures.faults w (others-met k n c.args.scope.now w c.args.array.name.now.place o.name.now.place c.args.array.indices.now o.indices.now c.args.array.arguments.now o.arguments.now (ap (λ (x : declared_name.Name). x.place) c.others.ensures.name) c.others.ensures.indices c.others.ensures.arguments h)
 
 pub reads::unfold_read-returns-clause-faults : goal.reads::unfold_read-returns-clause-faults
 reads::unfold_read-returns-clause-faults t c =
@@ -1484,4 +1492,224 @@ reads::unfold_read-returns-clause-faults t c =
     let n = c.args.level.definitions in
     let σ = scope_said k c.args.scope.now in
     let o = c.others-2.result in
-    λ w h. c.unfold_choices.ensures.faults w (others-met k n c.args.scope.now w c.args.array.indices.now o.indices.now c.args.array.arguments.now o.arguments.now c.others-2.ensures.indices c.others-2.ensures.arguments h)
+    λ w h. c.unfold_choices.ensures.faults w (others-met k n c.args.scope.now w c.args.array.name.now.place o.name.now.place c.args.array.indices.now o.indices.now c.args.array.arguments.now o.arguments.now (ap (λ (x : declared_name.Name). x.place) c.others-2.ensures.name) c.others-2.ensures.indices c.others-2.ensures.arguments h)
+
+-- ---- what is too large
+
+pub unfold::unfold-returns-in_err-room-in-Not-clause-faults : goal.unfold::unfold-returns-in_err-room-in-Not-clause-faults
+unfold::unfold-returns-in_err-room-in-Not-clause-faults t c =
+    let k = c.args.context.now in
+    let o = at c.args.level.definitions (scope_said k c.args.scope.now) (term_form c.args.term.now) in
+    let p = c.in-Not.place in
+    λ w h. room-told (surroundings_in k) w p c.from_residual.result c.in_err-room-in-Not.field-0.0 c.from_residual.ensures.1 c.in_err-room-in-Not.ensures.0
+    (o, h.0, subst (λ (x : declared_term.Term). IsTokenOf (term_form x) p) (sym c.in-Not.is) refl)
+
+pub unfold::unfold-returns-in_err-room-in-Negative-clause-faults : goal.unfold::unfold-returns-in_err-room-in-Negative-clause-faults
+unfold::unfold-returns-in_err-room-in-Negative-clause-faults t c =
+    let k = c.args.context.now in
+    let o = at c.args.level.definitions (scope_said k c.args.scope.now) (term_form c.args.term.now) in
+    let p = c.in-Negative.place in
+    λ w h. room-told (surroundings_in k) w p c.from_residual-in_err-room-in-Negative.result c.in_err-room-in-Negative.field-0.0 c.from_residual-in_err-room-in-Negative.ensures.1 c.in_err-room-in-Negative.ensures.0
+    (o, h.0, subst (λ (x : declared_term.Term). IsTokenOf (term_form x) p) (sym c.in-Negative.is) refl)
+
+pub unfold::unfold-returns-in_err-room-in-Comparison-clause-faults : goal.unfold::unfold-returns-in_err-room-in-Comparison-clause-faults
+unfold::unfold-returns-in_err-room-in-Comparison-clause-faults t c =
+    let k = c.args.context.now in
+    let o = at c.args.level.definitions (scope_said k c.args.scope.now) (term_form c.args.term.now) in
+    let p = c.in-Comparison.place in
+    λ w h. room-told (surroundings_in k) w p c.from_residual-in_err-room-in-Comparison.result c.in_err-room-in-Comparison.field-0.0 c.from_residual-in_err-room-in-Comparison.ensures.1 c.in_err-room-in-Comparison.ensures.0
+    (o, h.0, subst (λ (x : declared_term.Term). IsTokenOf (term_form x) p) (sym c.in-Comparison.is) refl)
+
+pub applications::unfold_arithmetic-returns-in_err-room-clause-faults : goal.applications::unfold_arithmetic-returns-in_err-room-clause-faults
+applications::unfold_arithmetic-returns-in_err-room-clause-faults t c =
+    let k = c.args.context.now in
+    let n = c.args.level.definitions in
+    let σ = scope_said k c.args.scope.now in
+    let l = c.link-item.result in
+    λ w h. room-told (surroundings_in k) w l.place c.from_residual-in_err-room.result c.in_err-room.field-0.0 c.from_residual-in_err-room.ensures.1 c.in_err-room.ensures.0
+    (arithmetic-token k n σ w (term_form c.args.first.now) c.args.links.now c.loop-link.link-index l c.loop-link-test.true c.link-item.is h.0)
+
+pub applications::unfold_function-returns-in_err-room-clause-faults : goal.applications::unfold_function-returns-in_err-room-clause-faults
+applications::unfold_function-returns-in_err-room-clause-faults t c =
+    let k = c.args.context.now in
+    let f = named c.args.function.now in
+    let o = at c.args.level.definitions (scope_said k c.args.scope.now) (TermForm.application f (argument_forms c.args.arguments.now)) in
+    λ w h. room-told (surroundings_in k) w f.place c.from_residual.result c.in_err-room.field-0.0 c.from_residual.ensures.1 c.in_err-room.ensures.0 (o, h.0, inl refl)
+
+pub applications::unfold_function-returns-in_err-unfolded-clause-faults : goal.applications::unfold_function-returns-in_err-unfolded-clause-faults
+applications::unfold_function-returns-in_err-unfolded-clause-faults t c =
+    let k = c.args.context.now in
+    let n = c.args.level.definitions in
+    let σ = scope_said k c.args.scope.now in
+    λ w h. let e = c.in_err-unfolded.field-0.0 in
+    err-told c.from_residual-in_err-unfolded.result e (IsFaultOf (surroundings_in k) w) c.from_residual-in_err-unfolded.ensures.1
+    (c.in_err-unfolded.ensures.faults w (arguments-met k n σ w (named c.args.function.now) c.args.arguments.now h.0, h.1))
+
+pub applications::unfold_choice-returns-in_err-room-clause-faults : goal.applications::unfold_choice-returns-in_err-room-clause-faults
+applications::unfold_choice-returns-in_err-room-clause-faults t c =
+    let k = c.args.context.now in
+    let f = named c.args.function.now in
+    let o = at c.args.level.definitions (scope_said k c.args.scope.now) (TermForm.application f (argument_forms c.args.arguments.now)) in
+    λ w h. room-told (surroundings_in k) w f.place c.from_residual.result c.in_err-room.field-0.0 c.from_residual.ensures.1 c.in_err-room.ensures.0 (o, h.0, inl refl)
+
+pub connectives::unfold_copies-returns-in_err-behind_one-clause-faults : goal.connectives::unfold_copies-returns-in_err-behind_one-clause-faults
+connectives::unfold_copies-returns-in_err-behind_one-clause-faults t c =
+    let k = c.args.context.now in
+    λ w h. room-told (surroundings_in k) w c.args.quantified.place c.from_residual.result c.in_err-behind_one.field-0.0 c.from_residual.ensures.1 c.in_err-behind_one.ensures.0 h.2
+
+pub connectives::unfold_operands-returns-in_err-behind_one-clause-faults : goal.connectives::unfold_operands-returns-in_err-behind_one-clause-faults
+connectives::unfold_operands-returns-in_err-behind_one-clause-faults t c =
+    let k = c.args.context.now in
+    let n = c.args.level.definitions in
+    let σ = scope_said k c.args.scope.now in
+    let l = c.link-item.result in
+    λ w h. room-told (surroundings_in k) w l.place c.from_residual.result c.in_err-behind_one.field-0.0 c.from_residual.ensures.1 c.in_err-behind_one.ensures.0
+    (chain-token k n σ w c.args.chain.connective (term_form c.loop-link.term.now) c.args.chain.links.now c.loop-link.link-index l c.loop-link-test.true c.link-item.is (c.loop-link.invariant.1 w h).0)
+
+pub connectives::unfold_quantified-returns-in_err-tuples-clause-faults : goal.connectives::unfold_quantified-returns-in_err-tuples-clause-faults
+connectives::unfold_quantified-returns-in_err-tuples-clause-faults t c =
+    let k = c.args.context.now in
+    let n = c.args.level.definitions in
+    let σ = scope_said k c.args.scope.now in
+    let q = c.args.quantified.quantifier in
+    let p = c.args.quantified.place in
+    let x = term_form c.args.quantified.body.now in
+    let form = variable_forms c.args.quantified.variables.now in
+    let tuples : written_tuples (spec_of c.sorts.result) (map variable_of c.deref.result.now) ≡ written_tuples (spec_in k) (erased_variables form) =
+    ap (λ S. written_tuples S (map variable_of c.deref.result.now)) c.sorts.ensures
+    ∙ ap (λ ws. written_tuples (spec_in k) (map variable_of ws)) c.deref.ensures.value ∙ ap (written_tuples (spec_in k)) c.in_ok-variables.ensures in
+    λ w h. values-told (surroundings_in k) w (written_tuples (spec_of c.sorts.result) (map variable_of c.deref.result.now)) p c.from_residual-in_err-tuples.result c.in_err-tuples.field-0.0 c.from_residual-in_err-tuples.ensures.1 c.in_err-tuples.ensures
+    (λ many. (at n σ (TermForm.quantified q p form x), h.0, (refl, subst (λ (ts : List (List Term)). 8192 < length ts) tuples many)))
+
+pub reads::unfold_element-returns-clause-faults : goal.reads::unfold_element-returns-clause-faults
+reads::unfold_element-returns-clause-faults t c =
+    let k = c.args.context.now in
+    let n = c.args.level.definitions in
+    let others = c.args.others in
+    λ w h. c.unfold_read.ensures.faults w (subst (λ (p : Place). IsReadMet k n c.args.scope.now p others.arguments.now others.indices.now w) (sym c.in_ok-name.ensures.place) h)
+
+pub reads::unfold_read-returns-in_err-values-clause-faults : goal.reads::unfold_read-returns-in_err-values-clause-faults
+reads::unfold_read-returns-in_err-values-clause-faults t c =
+    let k = c.args.context.now in
+    let i = c.in-Some-first.index.now in
+    let is = c.args.array.indices.now in
+    let p = c.args.array.name.now.place in
+    let values : written_values (spec_of c.sorts.result) i.sort.now ≡ written_values (spec_in k) i.sort.now = ap (λ S. written_values S i.sort.now) c.sorts.ensures in
+    λ w h. values-told (surroundings_in k) w (written_values (spec_of c.sorts.result) i.sort.now) p c.from_residual-in_err-values.result c.in_err-values.field-0.0 c.from_residual-in_err-values.ensures.1 c.in_err-values.ensures
+    (λ many. h.values (first-many (spec_in k) is i c.in-Some-first.ensures.value (subst (λ (ts : List Term). 8192 < length ts) values many)))
+
+pub applications::unfold_choice-returns-in_err-condition-clause-faults : goal.applications::unfold_choice-returns-in_err-condition-clause-faults
+applications::unfold_choice-returns-in_err-condition-clause-faults t c =
+    let k = c.args.context.now in
+    let n = c.args.level.definitions in
+    let σ = scope_said k c.args.scope.now in
+    let given = c.args.arguments.now in
+    let a = get_or given 0 c.index-arguments-0.result in
+    let is : a ≡ get_or given 0 a = ap (λ (r : Argument). get_or given 0 r) c.index-arguments-0.is in
+    λ w h. let e = c.in_err-condition.field-0.0 in
+    err-told c.from_residual-in_err-condition.result e (IsFaultOf (surroundings_in k) w) c.from_residual-in_err-condition.ensures.1
+    (c.in_err-condition.ensures.faults w (argument-at-met k n σ w given 0 a (omega (arith, c.requires.arguments)) is (arguments-met k n σ w (named c.args.function.now) given h.0), h.1))
+
+pub applications::unfold_choice-returns-in_err-unfold-in-Some-true-clause-faults : goal.applications::unfold_choice-returns-in_err-unfold-in-Some-true-clause-faults
+applications::unfold_choice-returns-in_err-unfold-in-Some-true-clause-faults t c =
+    let k = c.args.context.now in
+    let n = c.args.level.definitions in
+    let σ = scope_said k c.args.scope.now in
+    let given = c.args.arguments.now in
+    let a = get_or given 1 c.index-arguments-1.result in
+    let is : a ≡ get_or given 1 a = ap (λ (r : Argument). get_or given 1 r) c.index-arguments-1.is in
+    λ w h. let e = c.in_err-unfold-in-Some-true.field-0.0 in
+    err-told c.from_residual-in_err-unfold-in-Some-true.result e (IsFaultOf (surroundings_in k) w) c.from_residual-in_err-unfold-in-Some-true.ensures.1
+    (c.in_err-unfold-in-Some-true.ensures.faults w (argument-at-met k n σ w given 1 a (omega (arith, c.requires.arguments)) is (arguments-met k n σ w (named c.args.function.now) given h.0), h.1))
+
+pub applications::unfold_choice-returns-in_err-unfold-in-Some-false-clause-faults : goal.applications::unfold_choice-returns-in_err-unfold-in-Some-false-clause-faults
+applications::unfold_choice-returns-in_err-unfold-in-Some-false-clause-faults t c =
+    let k = c.args.context.now in
+    let n = c.args.level.definitions in
+    let σ = scope_said k c.args.scope.now in
+    let given = c.args.arguments.now in
+    let a = get_or given 2 c.index-arguments-2.result in
+    let is : a ≡ get_or given 2 a = ap (λ (r : Argument). get_or given 2 r) c.index-arguments-2.is in
+    λ w h. let e = c.in_err-unfold-in-Some-false.field-0.0 in
+    err-told c.from_residual-in_err-unfold-in-Some-false.result e (IsFaultOf (surroundings_in k) w) c.from_residual-in_err-unfold-in-Some-false.ensures.1
+    (c.in_err-unfold-in-Some-false.ensures.faults w (argument-at-met k n σ w given 2 a (omega (arith, c.requires.arguments)) is (arguments-met k n σ w (named c.args.function.now) given h.0), h.1))
+
+pub applications::unfold_choice-returns-in_err-left-in-None-clause-faults : goal.applications::unfold_choice-returns-in_err-left-in-None-clause-faults
+applications::unfold_choice-returns-in_err-left-in-None-clause-faults t c =
+    let k = c.args.context.now in
+    let n = c.args.level.definitions in
+    let σ = scope_said k c.args.scope.now in
+    let given = c.args.arguments.now in
+    let a = get_or given 1 c.index-arguments-1-in-None.result in
+    let is : a ≡ get_or given 1 a = ap (λ (r : Argument). get_or given 1 r) c.index-arguments-1-in-None.is in
+    λ w h. let e = c.in_err-left-in-None.field-0.0 in
+    err-told c.from_residual-in_err-left-in-None.result e (IsFaultOf (surroundings_in k) w) c.from_residual-in_err-left-in-None.ensures.1
+    (c.in_err-left-in-None.ensures.faults w (argument-at-met k n σ w given 1 a (omega (arith, c.requires.arguments)) is (arguments-met k n σ w (named c.args.function.now) given h.0), h.1))
+
+pub applications::unfold_choice-returns-in_err-right-in-None-clause-faults : goal.applications::unfold_choice-returns-in_err-right-in-None-clause-faults
+applications::unfold_choice-returns-in_err-right-in-None-clause-faults t c =
+    let k = c.args.context.now in
+    let n = c.args.level.definitions in
+    let σ = scope_said k c.args.scope.now in
+    let given = c.args.arguments.now in
+    let a = get_or given 2 c.index-arguments-2-in-None.result in
+    let is : a ≡ get_or given 2 a = ap (λ (r : Argument). get_or given 2 r) c.index-arguments-2-in-None.is in
+    λ w h. let e = c.in_err-right-in-None.field-0.0 in
+    err-told c.from_residual-in_err-right-in-None.result e (IsFaultOf (surroundings_in k) w) c.from_residual-in_err-right-in-None.ensures.1
+    (c.in_err-right-in-None.ensures.faults w (argument-at-met k n σ w given 2 a (omega (arith, c.requires.arguments)) is (arguments-met k n σ w (named c.args.function.now) given h.0), h.1))
+
+pub applications::unfold_arguments-returns-in_err-first-clause-faults : goal.applications::unfold_arguments-returns-in_err-first-clause-faults
+applications::unfold_arguments-returns-in_err-first-clause-faults t c =
+    let k = c.args.context.now in
+    let n = c.args.level.definitions in
+    let σ = scope_said k c.args.scope.now in
+    λ w h. let e = c.in_err-first.field-0.0 in
+    err-told c.from_residual.result e (IsFaultOf (surroundings_in k) w) c.from_residual.ensures.1
+    (c.in_err-first.ensures.faults w ((first-argument k n σ w c.args.arguments.now c.in-Some.argument.now c.in-Some.ensures.value h.0).0, h.1))
+
+pub reads::unfold_read-returns-in-Err-clause-faults : goal.reads::unfold_read-returns-in-Err-clause-faults
+reads::unfold_read-returns-in-Err-clause-faults t c =
+    let k = c.args.context.now in
+    let n = c.args.level.definitions in
+    let σ = scope_said k c.args.scope.now in
+    λ w h. c.of_index.ensures.faults (surroundings_in k) w
+    (c.in-Err.ensures.faults w ((first-argument k n σ w c.args.array.arguments.now c.in-Some-first-2.argument.now c.in-Some-first-2.ensures.value h.arguments_met.0).0, h.arguments_met.1))
+
+pub reads::unfold_choices-returns-in_err-room-in-None-clause-faults : goal.reads::unfold_choices-returns-in_err-room-in-None-clause-faults
+reads::unfold_choices-returns-in_err-room-in-None-clause-faults t c =
+    let k = c.args.context.now in
+    λ w h. room-told (surroundings_in k) w c.args.choices.others.name.now.place c.from_residual-in_err-room-in-None.result c.in_err-room-in-None.field-0.0 c.from_residual-in_err-room-in-None.ensures.1 c.in_err-room-in-None.ensures.0 h.token
+
+pub reads::unfold_choices-returns-in_err-room-in-None-2-clause-faults : goal.reads::unfold_choices-returns-in_err-room-in-None-2-clause-faults
+reads::unfold_choices-returns-in_err-room-in-None-2-clause-faults t c =
+    let k = c.args.context.now in
+    λ w h. room-told (surroundings_in k) w c.args.choices.others.name.now.place c.from_residual-in_err-room-in-None-2.result c.in_err-room-in-None-2.field-0.0 c.from_residual-in_err-room-in-None-2.ensures.1 c.in_err-room-in-None-2.ensures.0 h.token
+
+-- ---- what nests too deep
+
+pub unfold::unfold-returns-in_default-clause-faults : goal.unfold::unfold-returns-in_default-clause-faults
+unfold::unfold-returns-in_default-clause-faults t c =
+    let k = c.args.context.now in
+    λ w h. depth-told (surroundings_in k) w c.place_of.result c.refused.result c.refused.ensures (c.place_of.ensures k c.args.level.definitions (scope_said k c.args.scope.now) w h.0)
+
+pub unfold::unfold_name-returns-in_default-clause-faults : goal.unfold::unfold_name-returns-in_default-clause-faults
+unfold::unfold_name-returns-in_default-clause-faults t c =
+    let k = c.args.context.now in
+    let x = named c.args.name.now in
+    λ w h. depth-told (surroundings_in k) w x.place c.refused.result c.refused.ensures (at c.args.level.definitions (scope_said k c.args.scope.now) (TermForm.name x), h.0, refl)
+
+pub applications::unfold_arguments-returns-in_default-checked_sub-clause-faults : goal.applications::unfold_arguments-returns-in_default-checked_sub-clause-faults
+applications::unfold_arguments-returns-in_default-checked_sub-clause-faults t c =
+    let k = c.args.context.now in
+    let n = c.args.level.definitions in
+    let σ = scope_said k c.args.scope.now in
+    let a = c.in-Some.argument.now in
+    λ w h. depth-told (surroundings_in k) w a.place c.refused.result c.refused.ensures (first-argument k n σ w c.args.arguments.now a c.in-Some.ensures.value h.0).1
+
+pub reads::unfold_read-returns-in_default-clause-faults : goal.reads::unfold_read-returns-in_default-clause-faults
+reads::unfold_read-returns-in_default-clause-faults t c =
+    λ w h. depth-told (surroundings_in c.args.context.now) w c.args.array.name.now.place c.refused.result c.refused.ensures h.token
+
+pub reads::unfold_choices-returns-in_default-clause-faults : goal.reads::unfold_choices-returns-in_default-clause-faults
+reads::unfold_choices-returns-in_default-clause-faults t c =
+    λ w h. depth-told (surroundings_in c.args.context.now) w c.args.choices.others.name.now.place c.refused.result c.refused.ensures h.token

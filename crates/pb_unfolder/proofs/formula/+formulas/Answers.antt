@@ -7,7 +7,7 @@ use Rattle.pb_text_tree.specs.Form.{variable_forms}
 use Rattle.pb_model_meaning.specs.Syntax.{Formula}
 use Rattle.pb_protocol_tree.specs.declared.formula.Formula as tree
 use Rattle.pb_protocol_tree.specs.declared.formula.Link.{Link}
-use Rattle.pb_protocol_tree.specs.Form.{formula_form, step_set_form}
+use Rattle.pb_protocol_tree.specs.Form.{FormulaForm, formula_form, step_set_form}
 use Rattle.pb_folding.specs.FoldedModels.{folded_joined_formula}
 use Rattle.pb_folding.specs.Places.{AreAmong, places_of}
 use Rattle.pb_unfolder_terms.specs.declared.sorts.Variable.{Variable}
@@ -16,21 +16,20 @@ use Rattle.pb_unfolder_terms.specs.View.{variable_of}
 use Rattle.pb_unfolder_terms.specs.Values.{tuple_of, written_term}
 use Rattle.std.specs.Prelude.{box_value}
 use Rattle.pb_unfolding.specs.PutIn.{standing}
-use Rattle.pb_unfolding.specs.Unfolding.{instances, terms_of}
+use Rattle.pb_unfolding.specs.Unfolding.{terms_of}
 use Rattle.pb_text_tree.specs.Form.{term_form}
 use Rattle.pb_protocol_meaning.specs.Erase.{erase}
-use Rattle.pb_unfolder_terms.specs.TermFaults.{IsOutsideIn, surroundings_of}
 use Rattle.pb_unfolder_steps.specs.Unfolder.{form_in, scope_in}
 use Rattle.pb_unfolder.specs.declared.fault.UnfoldingFault.{UnfoldingFault}
 use Rattle.pb_unfolder.specs.declared.formula.Copies.{Copies}
 use Rattle.pb_unfolder.specs.Copies.{tuples_in}
 use Rattle.pb_unfolder.specs.Left.{left_formula}
 use Rattle.pb_unfolder.specs.Links.{folded_chain, linked_formula}
-use Rattle.pb_unfolder.specs.Faults.{IsFaultOfFormula, IsFaultOfSteps, OfIndex}
-use Rattle.pb_unfolder.specs.Parts.{IsFaultOfCopies, IsFaultOfLinks}
+use Rattle.pb_unfolder.specs.Faults.{IsFaultOfFormula}
+use Rattle.pb_unfolder.specs.Parts.{IsFaultOfCopies, IsFaultOfLinks, IsFaultOfModality}
 use Rattle.pb_unfolder.specs.Places.{flat_link_places, link_places, places_in}
-use Rattle.pb_unfolder.proofs.FaultLemmas.{at-item, item-in, of-term-by, of-value-by, part-by, part-by-so}
-use Rattle.pb_unfolder.proofs.ValueFaults.{fault-of-chain}
+use Rattle.pb_unfolder.proofs.FaultLemmas.{at-item, item-in, of-token-by, of-tuples-by, part-by, part-by-so}
+use Rattle.pb_unfolder.proofs.ValueFaults.{fault-of-chain, fault-of-set}
 use Rattle.pb_unfolder.proofs.ChainFormulas.{copies-made, left-chain, left-quantified}
 use Rattle.pb_folding.proofs.Places.{same-among}
 use Rattle.pb_unfolder.proofs.PlaceLemmas.{behind-among, chain-among, part-among, pushed-among, taken-among, through-among}
@@ -139,9 +138,9 @@ pub unfold_copies-returns-in_err-take-clause-refused : goal.unfold_copies-return
 unfold_copies-returns-in_err-take-clause-refused t c =
     let u = c.args.formulas.now.unfolder.now in
     let a = c.args.copies.now in
-    of-term-by c.from_residual.result c.in_err-take.field-0.0
-    (IsFaultOfCopies (form_in u) (scope_in u a.outer.now) (map variable_of a.variables.now) (map tuple_of a.tuples.now) (formula_form (box_value c.args.body.now)))
-    c.from_residual.ensures.1 c.in_err-take.ensures
+    of-token-by c.from_residual.result c.in_err-take.field-0.0 a.place
+    (IsFaultOfCopies (form_in u) (scope_in u a.outer.now) a.place (map variable_of a.variables.now) (map tuple_of a.tuples.now) (formula_form (box_value c.args.body.now)))
+    c.from_residual.ensures.1 (λ f o. inl o) c.in_err-take.ensures
 
 pub unfold_copies-returns-in_err-unfold_formula-clause-refused : goal.unfold_copies-returns-in_err-unfold_formula-clause-refused
 unfold_copies-returns-in_err-unfold_formula-clause-refused t c =
@@ -155,8 +154,8 @@ unfold_copies-returns-in_err-unfold_formula-clause-refused t c =
     let body = c.deref-in-loop-values.result.now in
     part-by c.from_residual-in_err-unfold_formula.result c.in_err-unfold_formula.field-0.0
     (IsFaultOfFormula m (standing xs (terms_of (map written_term c.deref.result.now)) ρ) (formula_form body))
-    (IsFaultOfCopies m ρ xs (map tuple_of ts) (formula_form (box_value c.args.body.now))) c.from_residual-in_err-unfold_formula.ensures.1
-    (λ p is. (
+    (IsFaultOfCopies m ρ a.place xs (map tuple_of ts) (formula_form (box_value c.args.body.now))) c.from_residual-in_err-unfold_formula.ensures.1
+    (λ p is. inr (
       tuple_of ks,
       at-item tuple_of ts c.loop-values.values-index ks c.loop-values-test.true c.values-item.is,
       subst (λ (g : tree.Formula). IsFaultOfFormula m (standing xs (terms_of (tuple_of ks)) ρ) (formula_form g) p) c.deref-in-loop-values.ensures
@@ -167,7 +166,10 @@ unfold_copies-returns-in_err-unfold_formula-clause-refused t c =
 pub unfold_links-returns-in_err-take-clause-refused : goal.unfold_links-returns-in_err-take-clause-refused
 unfold_links-returns-in_err-take-clause-refused t c =
     let u = c.args.formulas.now.unfolder.now in
-    of-term-by c.from_residual.result c.in_err-take.field-0.0 (IsFaultOfLinks (form_in u) (scope_in u c.args.scope.now) c.args.links.now) c.from_residual.ensures.1 c.in_err-take.ensures
+    let ls = c.args.links.now in
+    let l = c.link-item.result in
+    of-token-by c.from_residual.result c.in_err-take.field-0.0 l.place (IsFaultOfLinks (form_in u) (scope_in u c.args.scope.now) ls) c.from_residual.ensures.1
+    (λ f o. (l, item-in ls c.loop-link.link-index l c.loop-link-test.true c.link-item.is, inl o)) c.in_err-take.ensures
 
 pub unfold_links-returns-in_err-operand-clause-refused : goal.unfold_links-returns-in_err-operand-clause-refused
 unfold_links-returns-in_err-operand-clause-refused t c =
@@ -177,27 +179,29 @@ unfold_links-returns-in_err-operand-clause-refused t c =
     let ls = c.args.links.now in
     let l = c.link-item.result in
     part-by c.from_residual-in_err-operand.result c.in_err-operand.field-0.0 (IsFaultOfFormula m ρ (formula_form l.operand)) (IsFaultOfLinks m ρ ls) c.from_residual-in_err-operand.ensures.1
-    (λ p is. (l, item-in ls c.loop-link.link-index l c.loop-link-test.true c.link-item.is, is)) c.in_err-operand.ensures.refused
+    (λ p is. (l, item-in ls c.loop-link.link-index l c.loop-link-test.true c.link-item.is, inr is)) c.in_err-operand.ensures.refused
 
 pub unfold_formula-returns-in-Data-clause-refused : goal.unfold_formula-returns-in-Data-clause-refused
 unfold_formula-returns-in-Data-clause-refused t c =
     let u = c.args.formulas.now.unfolder.now in
     let m = form_in u in
     let ρ = scope_in u c.args.scope.now in
-    part-by-so (OfIndex (IsOutsideIn (surroundings_of m) ρ (term_form c.in-Data.term))) (IsFaultOfFormula m ρ (formula_form c.args.formula.now)) c.unfold_data.result
+    part-by-so (IsFaultOfFormula m ρ (FormulaForm.«data» c.in-Data.place (term_form c.in-Data.term))) (IsFaultOfFormula m ρ (formula_form c.args.formula.now)) c.unfold_data.result
     (λ f is. subst (λ (g : tree.Formula). IsFaultOfFormula m ρ (formula_form g) f) (sym c.in-Data.is) is) (c.unfold_data.ensures.refused c.requires.scope)
 
 pub unfold_formula-returns-in_err-take-in-Negation-clause-refused : goal.unfold_formula-returns-in_err-take-in-Negation-clause-refused
 unfold_formula-returns-in_err-take-in-Negation-clause-refused t c =
     let u = c.args.formulas.now.unfolder.now in
-    of-term-by c.from_residual-in_err-take-in-Negation.result c.in_err-take-in-Negation.field-0.0 (IsFaultOfFormula (form_in u) (scope_in u c.args.scope.now) (formula_form c.args.formula.now)) c.from_residual-in_err-take-in-Negation.ensures.1 c.in_err-take-in-Negation.ensures
+    let fault : tree.Formula → UnfoldingFault → Type 0 = λ f. IsFaultOfFormula (form_in u) (scope_in u c.args.scope.now) (formula_form f) in
+    of-token-by c.from_residual-in_err-take-in-Negation.result c.in_err-take-in-Negation.field-0.0 c.in-Negation.place (fault c.args.formula.now) c.from_residual-in_err-take-in-Negation.ensures.1
+    (λ p o. subst (λ (f : tree.Formula). fault f p) (sym c.in-Negation.is) (inl o)) c.in_err-take-in-Negation.ensures
 
 pub unfold_formula-returns-in_err-operand-in-Negation-clause-refused : goal.unfold_formula-returns-in_err-operand-in-Negation-clause-refused
 unfold_formula-returns-in_err-operand-in-Negation-clause-refused t c =
     let u = c.args.formulas.now.unfolder.now in
     let fault : tree.Formula → UnfoldingFault → Type 0 = λ f. IsFaultOfFormula (form_in u) (scope_in u c.args.scope.now) (formula_form f) in
     part-by c.from_residual-in_err-operand-in-Negation.result c.in_err-operand-in-Negation.field-0.0 (fault c.deref.result.now) (fault c.args.formula.now) c.from_residual-in_err-operand-in-Negation.ensures.1
-    (λ p is. subst (λ (f : tree.Formula). fault f p) (sym c.in-Negation.is) (subst (λ (f : tree.Formula). fault f p) c.deref.ensures is)) c.in_err-operand-in-Negation.ensures.refused
+    (λ p is. subst (λ (f : tree.Formula). fault f p) (sym c.in-Negation.is) (inr (subst (λ (f : tree.Formula). fault f p) c.deref.ensures is))) c.in_err-operand-in-Negation.ensures.refused
 
 pub unfold_formula-returns-in_err-first-in-Chain-clause-refused : goal.unfold_formula-returns-in_err-first-in-Chain-clause-refused
 unfold_formula-returns-in_err-first-in-Chain-clause-refused t c =
@@ -223,7 +227,9 @@ unfold_formula-returns-in_err-links-in-Chain-clause-refused t c =
 pub unfold_formula-returns-in_err-take-in-Modal-clause-refused : goal.unfold_formula-returns-in_err-take-in-Modal-clause-refused
 unfold_formula-returns-in_err-take-in-Modal-clause-refused t c =
     let u = c.args.formulas.now.unfolder.now in
-    of-term-by c.from_residual-in_err-take-in-Modal.result c.in_err-take-in-Modal.field-0.0 (IsFaultOfFormula (form_in u) (scope_in u c.args.scope.now) (formula_form c.args.formula.now)) c.from_residual-in_err-take-in-Modal.ensures.1 c.in_err-take-in-Modal.ensures
+    let fault : tree.Formula → UnfoldingFault → Type 0 = λ f. IsFaultOfFormula (form_in u) (scope_in u c.args.scope.now) (formula_form f) in
+    of-token-by c.from_residual-in_err-take-in-Modal.result c.in_err-take-in-Modal.field-0.0 c.in-Modal.place (fault c.args.formula.now) c.from_residual-in_err-take-in-Modal.ensures.1
+    (λ p o. subst (λ (f : tree.Formula). fault f p) (sym c.in-Modal.is) (inl o)) c.in_err-take-in-Modal.ensures
 
 pub unfold_formula-returns-in_err-steps-in-Modal-clause-refused : goal.unfold_formula-returns-in_err-steps-in-Modal-clause-refused
 unfold_formula-returns-in_err-steps-in-Modal-clause-refused t c =
@@ -231,32 +237,36 @@ unfold_formula-returns-in_err-steps-in-Modal-clause-refused t c =
     let m = form_in u in
     let ρ = scope_in u c.args.scope.now in
     let f = c.args.formula.now in
-    of-value-by c.from_residual-in_err-steps-in-Modal.result c.in_err-steps-in-Modal.field-0.0 (IsFaultOfSteps (erase m) ρ (instances (erase m)) (step_set_form c.in-Modal.steps)) (IsFaultOfFormula m ρ (formula_form f)) c.from_residual-in_err-steps-in-Modal.ensures.1
-    (λ p is. subst (λ (g : tree.Formula). IsFaultOfFormula m ρ (formula_form g) p) (sym c.in-Modal.is) (inl is)) c.in_err-steps-in-Modal.ensures.refused
+    part-by c.from_residual-in_err-steps-in-Modal.result c.in_err-steps-in-Modal.field-0.0 (IsFaultOfModality (erase m) ρ c.in-Modal.place (step_set_form c.in-Modal.steps)) (IsFaultOfFormula m ρ (formula_form f)) c.from_residual-in_err-steps-in-Modal.ensures.1
+    (λ p is. subst (λ (g : tree.Formula). IsFaultOfFormula m ρ (formula_form g) p) (sym c.in-Modal.is) (fault-of-set m ρ p c.in-Modal.modality c.in-Modal.place (step_set_form c.in-Modal.steps) (formula_form (box_value c.in-Modal.operand)) is)) c.in_err-steps-in-Modal.ensures.refused
 
 pub unfold_formula-returns-in_err-operand-in-Modal-clause-refused : goal.unfold_formula-returns-in_err-operand-in-Modal-clause-refused
 unfold_formula-returns-in_err-operand-in-Modal-clause-refused t c =
     let u = c.args.formulas.now.unfolder.now in
     let fault : tree.Formula → UnfoldingFault → Type 0 = λ f. IsFaultOfFormula (form_in u) (scope_in u c.args.scope.now) (formula_form f) in
     part-by c.from_residual-in_err-operand-in-Modal.result c.in_err-operand-in-Modal.field-0.0 (fault c.deref-in-Modal.result.now) (fault c.args.formula.now) c.from_residual-in_err-operand-in-Modal.ensures.1
-    (λ p is. subst (λ (f : tree.Formula). fault f p) (sym c.in-Modal.is) (inr (subst (λ (f : tree.Formula). fault f p) c.deref-in-Modal.ensures is))) c.in_err-operand-in-Modal.ensures.refused
+    (λ p is. subst (λ (f : tree.Formula). fault f p) (sym c.in-Modal.is) (inr (inr (subst (λ (f : tree.Formula). fault f p) c.deref-in-Modal.ensures is)))) c.in_err-operand-in-Modal.ensures.refused
 
 pub unfold_formula-returns-in_err-take-in-Fixpoint-clause-refused : goal.unfold_formula-returns-in_err-take-in-Fixpoint-clause-refused
 unfold_formula-returns-in_err-take-in-Fixpoint-clause-refused t c =
     let u = c.args.formulas.now.unfolder.now in
-    of-term-by c.from_residual-in_err-take-in-Fixpoint.result c.in_err-take-in-Fixpoint.field-0.0 (IsFaultOfFormula (form_in u) (scope_in u c.args.scope.now) (formula_form c.args.formula.now)) c.from_residual-in_err-take-in-Fixpoint.ensures.1 c.in_err-take-in-Fixpoint.ensures
+    let fault : tree.Formula → UnfoldingFault → Type 0 = λ f. IsFaultOfFormula (form_in u) (scope_in u c.args.scope.now) (formula_form f) in
+    of-token-by c.from_residual-in_err-take-in-Fixpoint.result c.in_err-take-in-Fixpoint.field-0.0 c.in-Fixpoint.place (fault c.args.formula.now) c.from_residual-in_err-take-in-Fixpoint.ensures.1
+    (λ p o. subst (λ (f : tree.Formula). fault f p) (sym c.in-Fixpoint.is) (inl o)) c.in_err-take-in-Fixpoint.ensures
 
 pub unfold_formula-returns-in_err-body-in-Fixpoint-clause-refused : goal.unfold_formula-returns-in_err-body-in-Fixpoint-clause-refused
 unfold_formula-returns-in_err-body-in-Fixpoint-clause-refused t c =
     let u = c.args.formulas.now.unfolder.now in
     let fault : tree.Formula → UnfoldingFault → Type 0 = λ f. IsFaultOfFormula (form_in u) (scope_in u c.args.scope.now) (formula_form f) in
     part-by c.from_residual-in_err-body-in-Fixpoint.result c.in_err-body-in-Fixpoint.field-0.0 (fault c.deref-in-Fixpoint.result.now) (fault c.args.formula.now) c.from_residual-in_err-body-in-Fixpoint.ensures.1
-    (λ p is. subst (λ (f : tree.Formula). fault f p) (sym c.in-Fixpoint.is) (subst (λ (f : tree.Formula). fault f p) c.deref-in-Fixpoint.ensures is)) c.in_err-body-in-Fixpoint.ensures.refused
+    (λ p is. subst (λ (f : tree.Formula). fault f p) (sym c.in-Fixpoint.is) (inr (subst (λ (f : tree.Formula). fault f p) c.deref-in-Fixpoint.ensures is))) c.in_err-body-in-Fixpoint.ensures.refused
 
 pub unfold_formula-returns-in_err-tuples-in-Quantified-clause-refused : goal.unfold_formula-returns-in_err-tuples-in-Quantified-clause-refused
 unfold_formula-returns-in_err-tuples-in-Quantified-clause-refused t c =
     let u = c.args.formulas.now.unfolder.now in
-    of-term-by c.from_residual-in_err-tuples-in-Quantified.result c.in_err-tuples-in-Quantified.field-0.0 (IsFaultOfFormula (form_in u) (scope_in u c.args.scope.now) (formula_form c.args.formula.now)) c.from_residual-in_err-tuples-in-Quantified.ensures.1 c.in_err-tuples-in-Quantified.ensures.refused
+    let fault : tree.Formula → UnfoldingFault → Type 0 = λ f. IsFaultOfFormula (form_in u) (scope_in u c.args.scope.now) (formula_form f) in
+    of-tuples-by c.from_residual-in_err-tuples-in-Quantified.result c.in_err-tuples-in-Quantified.field-0.0 c.in-Quantified.place (tuples_in u (map variable_of c.deref-in-Quantified-2.result.now)) (fault c.args.formula.now)
+    c.from_residual-in_err-tuples-in-Quantified.ensures.1 (λ p o. subst (λ (f : tree.Formula). fault f p) (sym c.in-Quantified.is) (inl o)) c.in_err-tuples-in-Quantified.ensures.refused
 
 pub unfold_formula-returns-in_err-operands-in-Quantified-clause-refused : goal.unfold_formula-returns-in_err-operands-in-Quantified-clause-refused
 unfold_formula-returns-in_err-operands-in-Quantified-clause-refused t c =
@@ -274,8 +284,9 @@ unfold_formula-returns-in_err-operands-in-Quantified-clause-refused t c =
     let are : ts ≡ tuples_in u xs =
     ap (map tuple_of) c.deref-in-Quantified-4.ensures.value ∙ c.in_ok-tuples-in-Quantified.ensures.tuples
     ∙ ap (λ (ws : List Variable). tuples_in u (map variable_of ws)) c.deref-in-Quantified-2.ensures.value ∙ ap (tuples_in u) named in
-    part-by c.from_residual-in_err-operands-in-Quantified.result c.in_err-operands-in-Quantified.field-0.0 (IsFaultOfCopies m ρ vs ts f) (IsFaultOfFormula m ρ (formula_form c.args.formula.now)) c.from_residual-in_err-operands-in-Quantified.ensures.1
+    let q = c.in-Quantified.place in
+    part-by c.from_residual-in_err-operands-in-Quantified.result c.in_err-operands-in-Quantified.field-0.0 (IsFaultOfCopies m ρ q vs ts f) (IsFaultOfFormula m ρ (formula_form c.args.formula.now)) c.from_residual-in_err-operands-in-Quantified.ensures.1
     (λ p is.
     subst (λ (g : tree.Formula). IsFaultOfFormula m ρ (formula_form g) p) (sym c.in-Quantified.is)
-    (subst (λ (ys : List syntax.Variable). IsFaultOfCopies m ρ ys (tuples_in u xs) f p) variables (subst (λ (kss : List (List syntax.Term)). IsFaultOfCopies m ρ vs kss f p) are is)))
+    (subst (λ (ys : List syntax.Variable). IsFaultOfCopies m ρ q ys (tuples_in u xs) f p) variables (subst (λ (kss : List (List syntax.Term)). IsFaultOfCopies m ρ q vs kss f p) are is)))
     c.in_err-operands-in-Quantified.ensures.refused

@@ -1,17 +1,30 @@
+use Rattle.std.proofs.Common.{inl, inr}
 use Rattle.pb_text_tree.specs.Form.{term_form}
-use Rattle.pb_unfolder_terms.specs.TermFaults.{IsOutsideIn, surroundings_of}
-use Rattle.pb_unfolder_steps.specs.Outside.{OnTerm}
+use Rattle.pb_protocol_tree.specs.Form.{FormulaForm}
+use Rattle.pb_unfolder_terms.specs.TermFaults.{IsFaultInTerm, surroundings_of}
+use Rattle.pb_unfolder_steps.specs.StepFaults.{OnTerm}
 use Rattle.pb_unfolder_steps.specs.Refusals.{IsTermOr}
 use Rattle.pb_unfolder_steps.specs.Unfolder.{form_in, scope_in}
-use Rattle.pb_unfolder.specs.Faults.{OfIndex}
+use Rattle.pb_unfolder.specs.Faults.{IsFaultOfFormula, OfTerm}
 use Rattle.pb_unfolder.specs.Parts.{IsFaultBy}
-use Rattle.pb_unfolder.proofs.FaultLemmas.{both-of, raised-so}
-use Rattle.pb_unfolder.proofs.NameFaults.{of-outside}
+use Rattle.pb_unfolder.proofs.FaultLemmas.{both-of, fault-by, of-token-by, raised-so}
+use Rattle.pb_unfolder.proofs.NameFaults.{of-steps-term}
 use Rattle.pb_unfolder.proofs.formula.unfold_data.Goals as goal
 
 pub returns-in-Err-clause-refused : goal.returns-in-Err-clause-refused
 returns-in-Err-clause-refused c =
-    let u = c.args.formulas.now.unfolder.now in
-    let P = IsOutsideIn (surroundings_of (form_in u)) (scope_in u c.args.scope.now) (term_form c.args.term.now) in
-    λ v. raised-so (λ s. IsTermOr ⊥ s × OnTerm P s) (IsFaultBy (OfIndex P)) c.in-Err.error c.of_steps.result (of-outside ⊥ (λ h. h) P) c.of_steps.ensures
-    (both-of (IsTermOr ⊥) (OnTerm P) c.in-Err.error c.in-Err.ensures.refused (c.in-Err.ensures.outside v))
+    let m = form_in c.args.formulas.now.unfolder.now in
+    let ρ = scope_in c.args.formulas.now.unfolder.now c.args.scope.now in
+    let x = term_form c.args.term.now in
+    let P = IsFaultInTerm (surroundings_of m) ρ x in
+    let Q = IsFaultOfFormula m ρ (FormulaForm.«data» c.args.place x) in
+    λ v. raised-so (λ s. IsTermOr ⊥ s × OnTerm P s) (IsFaultBy Q) c.in-Err.error c.of_steps.result
+    (λ s f gives is. fault-by (OfTerm P) Q (λ g o. inl o) f (of-steps-term ⊥ (λ h. h) P s f gives is)) c.of_steps.ensures
+    (both-of (IsTermOr ⊥) (OnTerm P) c.in-Err.error c.in-Err.ensures.refused (c.in-Err.ensures.faults v))
+
+pub returns-in_err-take_term-in-Ok-clause-refused : goal.returns-in_err-take_term-in-Ok-clause-refused
+returns-in_err-take_term-in-Ok-clause-refused c =
+    let m = form_in c.args.formulas.now.unfolder.now in
+    let ρ = scope_in c.args.formulas.now.unfolder.now c.args.scope.now in
+    let Q = IsFaultOfFormula m ρ (FormulaForm.«data» c.args.place (term_form c.args.term.now)) in
+    λ v. of-token-by c.from_residual.result c.in_err-take_term-in-Ok.field-0.0 c.args.place Q c.from_residual.ensures.1 (λ f o. inr o) c.in_err-take_term-in-Ok.ensures

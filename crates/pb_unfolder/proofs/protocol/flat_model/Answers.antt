@@ -9,9 +9,9 @@ use Rattle.pb_model_tree.specs.Form as flat_form
 use Rattle.pb_protocol_tree.specs.declared.protocol.Property.{Property}
 use Rattle.pb_protocol_tree.specs.Form.{property_form, protocol_form}
 use Rattle.pb_unfolding.specs.Unfolding.{Element, variable_of}
-use Rattle.pb_unfolder_steps.specs.Outside.{IsOutsideAtStart}
+use Rattle.pb_unfolder_steps.specs.StepFaults.{IsFaultAtStart}
 use Rattle.pb_unfolder_steps.specs.Unfolder.{form_in}
-use Rattle.pb_unfolder.specs.Faults.{IsFaultOfProperties, OfIndex}
+use Rattle.pb_unfolder.specs.Faults.{IsFaultOfProperties, OfTerm}
 use Rattle.pb_unfolder.specs.Parts.{IsFaultOfModel}
 use Rattle.pb_unfolder.specs.Places.{HavePlaces}
 use Rattle.pb_unfolder.specs.Unfolded.{left_property}
@@ -45,7 +45,7 @@ returns-clause-formulas c =
 pub returns-in_err-values-clause-refused : goal.returns-in_err-values-clause-refused
 returns-in_err-values-clause-refused c =
     let p = c.args.protocol.now in
-    part-by c.from_residual-in_err-values.result c.in_err-values.field-0.0 (OfIndex (IsOutsideAtStart (protocol_form p))) (IsFaultOfModel (protocol_form p) (form_in c.args.unfolder.now) (map property_form p.properties.items)) c.from_residual-in_err-values.ensures.1
+    part-by c.from_residual-in_err-values.result c.in_err-values.field-0.0 (OfTerm (IsFaultAtStart (protocol_form p))) (IsFaultOfModel (protocol_form p) (form_in c.args.unfolder.now) (map property_form p.properties.items)) c.from_residual-in_err-values.ensures.1
     (λ f o. inl o) c.in_err-values.ensures.refused
 
 pub returns-in_err-properties-clause-refused : goal.returns-in_err-properties-clause-refused

@@ -1,4 +1,5 @@
-use Rattle.std.proofs.Common.{◌≡◌, ◌∙◌, inl, ap, subst, sym, List, map}
+use Rattle.std.proofs.Common.{◌≡◌, ◌∙◌, inl, ap, arith, length, subst, sym, List, map}
+use Rattle.std.proofs.lemmas.List.{length-map}
 use Rattle.pb_text_tree.specs.declared.sort.SortDeclaration.{SortDeclaration}
 use Rattle.pb_protocol_tree.specs.Form.{protocol_form}
 use Rattle.pb_folding.specs.Names.{enumerators_in}
@@ -10,13 +11,13 @@ use Rattle.pb_unfolder_steps.specs.Elements.{element_said, instance_said}
 use Rattle.pb_unfolder_steps.specs.Refusals.{element_place, instance_place}
 use Rattle.pb_unfolder_steps.specs.Steps.{is_kept}
 use Rattle.pb_protocol_tree.specs.Form.{ProtocolForm}
-use Rattle.pb_unfolder_steps.specs.Outside.{IsOutsideInSteps, PlacedInstance, instance_form, placed_instances}
+use Rattle.pb_unfolder_steps.specs.StepFaults.{IsFaultInSteps, PlacedInstance, instance_form, placed_instances}
 use Rattle.pb_unfolder_steps.specs.Unfolder.{form_in, protocol_in}
 use Rattle.pb_unfolder.specs.Apart.{declarations_said}
-use Rattle.pb_unfolder.specs.Faults.{IsUnfoldingFault, OfIndex}
-use Rattle.pb_unfolder.specs.Parts.{IsFaultBy, IsFaultOfElements, IsFaultOfInstances, IsFaultOfModel, IsFaultOfTerm}
+use Rattle.pb_unfolder.specs.Faults.{IsUnfoldingFault, OfTerm}
+use Rattle.pb_unfolder.specs.Parts.{IsFaultBy, IsFaultOfElements, IsFaultOfInstances, IsFaultOfModel}
 use Rattle.pb_unfolder.specs.Told.{impossible_steps, told_instance, told_steps}
-use Rattle.pb_unfolder.proofs.FaultLemmas.{fault-by, index-breaks, model-breaks, refused, term-breaks}
+use Rattle.pb_unfolder.proofs.FaultLemmas.{fault-by, model-breaks, refused, term-breaks}
 use Rattle.pb_unfolder.proofs.NameFaults.{elements-clash, instances-clash}
 use Rattle.pb_unfolder.proofs.UnfoldedLemmas.{kept-instances, apart-instances}
 use Rattle.pb_unfolder.proofs.protocol.unfold.Goals as goal
@@ -77,9 +78,9 @@ returns-in_err-steps-clause-refused c =
     let F = form_in c.in_ok-unfolder.unfolder in
     let is = map instance_form c.deref-5.result.now in
     let steps : is ≡ placed_instances m = ap (map instance_form) c.deref-5.ensures.value ∙ c.in_ok-instances.ensures.forms in
-    let P = IsOutsideInSteps F is in
-    refused c.from_residual-in_err-steps.result c.in_err-steps.field-0.0 (IsFaultBy (OfIndex P)) (IsUnfoldingFault m) c.from_residual-in_err-steps.ensures.1
-    (index-breaks m P (λ p o. inl (subst (λ (js : List PlacedInstance). IsOutsideInSteps m js p) steps (subst (λ (G : ProtocolForm). IsOutsideInSteps G is p) c.in_ok-unfolder.ensures.form o)))) c.in_err-steps.ensures.refused
+    let P = IsFaultInSteps F is in
+    refused c.from_residual-in_err-steps.result c.in_err-steps.field-0.0 (IsFaultBy (OfTerm P)) (IsUnfoldingFault m) c.from_residual-in_err-steps.ensures.1
+    (term-breaks m P (λ f o. inl (subst (λ (js : List PlacedInstance). OfTerm (IsFaultInSteps m js) f) steps (subst (λ (G : ProtocolForm). OfTerm (IsFaultInSteps G is) f) c.in_ok-unfolder.ensures.form o)))) c.in_err-steps.ensures.refused
 
 pub returns-in_err-model-clause-refused : goal.returns-in_err-model-clause-refused
 returns-in_err-model-clause-refused c =
@@ -100,6 +101,12 @@ impossible_steps-requires c =
           c.deref-12.ensures.value ∙ c.in_ok-steps.ensures.kept
           ∙ ap (λ (xs : List declared.Instance). map (is_kept (protocol_in u)) (map instance_said xs)) c.deref-5.ensures.value
           ∙ ap (map (is_kept (protocol_in u))) (c.in_ok-instances.ensures.instances ∙ ap definitions.instances (sym same));
+      few = omega (
+        arith,
+        c.in_ok-instances.ensures.few,
+        length-map c.in_ok-instances.instances.items instance_said,
+        ap (λ (is : List definitions.Instance). length is) (c.in_ok-instances.ensures.instances ∙ ap definitions.instances (sym same)),
+      );
     }
 
 pub returns-clause-impossible : goal.returns-clause-impossible
@@ -108,4 +115,4 @@ returns-clause-impossible c = c.in_ok-impossible.ensures.names ∙ ap impossible
 pub returns-in_err-impossible-clause-refused : goal.returns-in_err-impossible-clause-refused
 returns-in_err-impossible-clause-refused c =
     let m = protocol_form c.args.protocol.now in
-    refused c.from_residual-in_err-impossible.result c.in_err-impossible.field-0.0 IsFaultOfTerm (IsUnfoldingFault m) c.from_residual-in_err-impossible.ensures.1 (term-breaks m) c.in_err-impossible.ensures.refused
+    refused c.from_residual-in_err-impossible.result c.in_err-impossible.field-0.0 (λ f. ⊥) (IsUnfoldingFault m) c.from_residual-in_err-impossible.ensures.1 (λ f none. absurd none) c.in_err-impossible.ensures.refused

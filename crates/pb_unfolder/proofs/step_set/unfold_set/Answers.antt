@@ -1,4 +1,4 @@
-use Rattle.std.proofs.Common.{◌∙◌, sym, ap, subst, List, map}
+use Rattle.std.proofs.Common.{◌∙◌, inl, inr, sym, ap, subst, List, map}
 use Rattle.std.specs.Prelude.{Contains}
 use Rattle.pb_protocol_tree.specs.Form.{step_set_form}
 use Rattle.pb_unfolding.specs.Unfolding.{Instance, instances, named_steps}
@@ -6,7 +6,8 @@ use Rattle.pb_unfolder_steps.specs.Elements.{instance_said}
 use Rattle.pb_unfolder_steps.specs.Steps.{is_kept}
 use Rattle.pb_unfolder_steps.specs.Unfolder.{protocol_in, scope_in}
 use Rattle.pb_unfolder.specs.Faults.{IsFaultOfSteps}
-use Rattle.pb_unfolder.proofs.FaultLemmas.{kept-in, of-term, part}
+use Rattle.pb_unfolder.specs.Parts.{IsFaultOfModality}
+use Rattle.pb_unfolder.proofs.FaultLemmas.{kept-in, of-token-by, of-value-by}
 use Rattle.pb_unfolder.proofs.LeftLemmas.{named-left}
 use Rattle.pb_unfolder.proofs.step_set.unfold_set.Goals as goal
 
@@ -22,11 +23,12 @@ returns-in_err-names-clause-refused c =
     let ρ = scope_in u c.args.scope.now in
     let left = map instance_said c.args.formulas.now.left.now in
     let A = step_set_form c.args.set.now in
-    part c.from_residual.result c.in_err-names.field-0.0 (IsFaultOfSteps m ρ left A) (IsFaultOfSteps m ρ (instances m) A) c.from_residual.ensures.1
-    (λ p is. (is.0, kept-in (is_kept m) (instances m) is.0 (subst (λ (v : List Instance). Contains v is.0) c.requires.formulas.steps is.1), is.2)) c.in_err-names.ensures.refused
+    of-value-by c.from_residual.result c.in_err-names.field-0.0 (IsFaultOfSteps m ρ left A) (IsFaultOfModality m ρ c.args.place A) c.from_residual.ensures.1
+    (λ f o. inr (o.0, (o.1.0, kept-in (is_kept m) (instances m) o.1.0 (subst (λ (v : List Instance). Contains v o.1.0) c.requires.formulas.steps o.1.1), o.1.2))) c.in_err-names.ensures.refused
 
 pub returns-in_err-take-clause-refused : goal.returns-in_err-take-clause-refused
 returns-in_err-take-clause-refused c =
     let u = c.args.formulas.now.unfolder.now in
     let m = protocol_in u in
-    of-term c.from_residual-in_err-take.result c.in_err-take.field-0.0 (IsFaultOfSteps m (scope_in u c.args.scope.now) (instances m) (step_set_form c.args.set.now)) c.from_residual-in_err-take.ensures.1 c.in_err-take.ensures
+    of-token-by c.from_residual-in_err-take.result c.in_err-take.field-0.0 c.args.place (IsFaultOfModality m (scope_in u c.args.scope.now) c.args.place (step_set_form c.args.set.now)) c.from_residual-in_err-take.ensures.1
+    (λ f o. inl o) c.in_err-take.ensures

@@ -11,8 +11,8 @@ use Rattle.pb_unfolder_steps.proofs.RefusalLemmas.{refused-so, term-or}
 use Rattle.pb_unfolder_steps.proofs.OkLemmas.{if-ok}
 use Rattle.pb_errors.specs.OrMemory.{IfRefused}
 use Rattle.pb_protocol_tree.specs.Form.{protocol_form}
-use Rattle.pb_unfolder_steps.specs.Outside.{IsOutsideInValues, OnTerm, indices_at, value_form}
-use Rattle.pb_unfolder_steps.proofs.OutsideLemmas.{indices-of-state, values-said}
+use Rattle.pb_unfolder_steps.specs.StepFaults.{IsFaultInValues, OnTerm, indices_at, value_form}
+use Rattle.pb_unfolder_steps.proofs.StepFaultLemmas.{indices-of-state, values-said}
 use Rattle.pb_unfolder_steps.proofs.initial.initial_terms.Goals as goal
 
 pub returns-clause-terms : goal.returns-clause-terms
@@ -37,11 +37,11 @@ returns-clause-refused c =
     let all = 8192 < length (all_elements m) in
     refused-so (IsTermOr now) (IsTermOr all) c.values_of.result (term-or now all (subst (λ (n : ℕ). 8192 < n) same)) c.values_of.ensures.refused
 
-pub returns-clause-outside : goal.returns-clause-outside
-returns-clause-outside c =
+pub returns-clause-faults : goal.returns-clause-faults
+returns-clause-faults c =
     let p = c.args.protocol.now in
     let F = protocol_form p in
     let variables = ap (map indices_behind) c.deref-2.ensures.value ∙ c.in_ok-variables.ensures ∙ ap indices_of_state c.deref.ensures.value ∙ indices-of-state p.state.items in
     let values = ap (map value_form) c.deref-3.ensures.value ∙ values-said p.initial.values.items in
-    subst (λ xs. IfRefused c.values_of.result (OnTerm (IsOutsideInValues F (map indices_at F.variables) xs))) values
-    (subst (λ iss. IfRefused c.values_of.result (OnTerm (IsOutsideInValues F iss (map value_form c.deref-3.result.now)))) variables c.values_of.ensures.outside)
+    subst (λ xs. IfRefused c.values_of.result (OnTerm (IsFaultInValues F (map indices_at F.variables) xs))) values
+    (subst (λ iss. IfRefused c.values_of.result (OnTerm (IsFaultInValues F iss (map value_form c.deref-3.result.now)))) variables c.values_of.ensures.faults)

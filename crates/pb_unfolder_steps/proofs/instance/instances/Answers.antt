@@ -3,7 +3,7 @@ use Rattle.pb_errors.specs.OrMemory.{IfRefused}
 use Rattle.pb_text_tree.specs.declared.place.Place.{Place}
 use Rattle.pb_unfolder_terms.specs.View.{spec_of}
 use Rattle.pb_unfolder_steps.specs.Elements.{instances_of_steps}
-use Rattle.pb_unfolder_steps.specs.Outside.{forms_of_steps}
+use Rattle.pb_unfolder_steps.specs.StepFaults.{forms_of_steps}
 use Rattle.pb_unfolder_steps.specs.Refusals.{IsPassedIn, places_of_steps}
 use Rattle.pb_unfolder_steps.proofs.StateLemmas.{instance-forms-said, instance-places-said, instances-said}
 use Rattle.pb_unfolder_steps.proofs.OkLemmas.{if-ok}

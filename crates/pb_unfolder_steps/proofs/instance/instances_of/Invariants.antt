@@ -1,7 +1,7 @@
 use Rattle.std.proofs.Common.{◌≡◌, ◌≤◌, ◌++◌, length, map, drop}
 use Rattle.pb_unfolder_terms.specs.View.{spec_of}
 use Rattle.pb_unfolder_steps.specs.Elements.{instance_said, instances_of_steps}
-use Rattle.pb_unfolder_steps.specs.Outside.{forms_of_steps, instance_form}
+use Rattle.pb_unfolder_steps.specs.StepFaults.{forms_of_steps, instance_form}
 use Rattle.pb_unfolder_steps.specs.Refusals.{instance_place, places_of_steps}
 use Rattle.pb_unfolder_steps.proofs.instance.instances_of.Given as goal
 

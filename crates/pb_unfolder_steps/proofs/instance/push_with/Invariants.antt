@@ -2,7 +2,7 @@ use Rattle.std.proofs.Common.{◌≡◌, ◌++◌, map}
 use Rattle.pb_unfolder_terms.specs.Values.{tuple_of}
 use Rattle.pb_unfolder_steps.specs.Elements.{instance_at, instance_said}
 use Rattle.pb_protocol_tree.specs.Form.{step_form}
-use Rattle.pb_unfolder_steps.specs.Outside.{instance_form, placed_at}
+use Rattle.pb_unfolder_steps.specs.StepFaults.{instance_form, placed_at}
 use Rattle.pb_unfolder_steps.specs.Refusals.{instance_place, placed}
 use Rattle.pb_unfolder_steps.proofs.instance.push_with.Given as goal
 

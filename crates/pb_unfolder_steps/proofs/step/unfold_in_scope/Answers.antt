@@ -11,10 +11,10 @@ use Rattle.pb_unfolder_steps.specs.Steps.{assignment_said, assignments_said, cha
 use Rattle.std.proofs.Common.{inl, inr, subst}
 use Rattle.pb_text_tree.specs.Form.{term_form}
 use Rattle.pb_protocol_tree.specs.Form.{assignment_form, step_form}
-use Rattle.pb_unfolder_terms.specs.TermFaults.{IsOutsideIn, surroundings_of}
-use Rattle.pb_unfolder_steps.specs.Outside.{AssignOutside, IsOutsideInStep, OnTerm, instance_form}
+use Rattle.pb_unfolder_terms.specs.TermFaults.{IsFaultInTerm, surroundings_of}
+use Rattle.pb_unfolder_steps.specs.StepFaults.{IsFaultInElements, IsFaultInStep, OnTerm, instance_form}
 use Rattle.pb_unfolder_steps.specs.Unfolder.{form_in, protocol_in, scope_in}
-use Rattle.pb_unfolder_steps.proofs.OutsideLemmas.{term-in}
+use Rattle.pb_unfolder_steps.proofs.StepFaultLemmas.{term-in}
 use Rattle.pb_unfolder_steps.proofs.RefusalLemmas.{refused}
 use Rattle.pb_unfolder_steps.proofs.StepLemmas.{step-kept, step-made}
 use Rattle.pb_unfolder_steps.proofs.step.unfold_in_scope.Goals as goal
@@ -36,22 +36,24 @@ returns-clause-step c =
     ap (λ (a : flat.Step). a ∷ []) (step-made (record { name = c.in_ok-name.name; variables = c.new.result; guard = g; assignments = bs }) c.new.ensures.items)
     ∙ step-kept m i _ (term_of g) (map assignment_said bs.items) c.in_ok-name.ensures.text guard assigned (sym c.is_possible.ensures ∙ c.if-not-is_possible.false)
 
-pub returns-in_err-guard-clause-outside : goal.returns-in_err-guard-clause-outside
-returns-in_err-guard-clause-outside c =
+pub returns-in_err-guard-clause-faults : goal.returns-in_err-guard-clause-faults
+returns-in_err-guard-clause-faults c =
     let u = c.args.unfolder.now in
     let a = c.args.instance.now.step.now in
     let M = surroundings_of (form_in u) in
-    let P = IsOutsideIn M (scope_in u c.args.scope.now) (term_form a.guard) in
-    let Q = IsOutsideInStep (form_in u) (instance_form c.args.instance.now) in
+    let P = IsFaultInTerm M (scope_in u c.args.scope.now) (term_form a.guard) in
+    let Q = IsFaultInStep (form_in u) (instance_form c.args.instance.now) in
     λ v. refused c.from_residual.result c.in_err-guard.field-0.0 (OnTerm P) (OnTerm Q) c.from_residual.ensures.1
-    (term-in P Q (λ p o. inl (subst (λ (σ : TermScope). IsOutsideIn M σ (term_form a.guard) p) c.requires.scope o))) (c.in_err-guard.ensures.outside v)
+    (term-in P Q (λ r p o. inl (subst (λ (σ : TermScope). IsFaultInTerm M σ (term_form a.guard) r p) c.requires.scope o))) (c.in_err-guard.ensures.faults v)
 
-pub returns-in_err-assignments-clause-outside : goal.returns-in_err-assignments-clause-outside
-returns-in_err-assignments-clause-outside c =
+pub returns-in_err-assignments-clause-faults : goal.returns-in_err-assignments-clause-faults
+returns-in_err-assignments-clause-faults c =
     let u = c.args.unfolder.now in
     let F = form_in u in
-    let P = AssignOutside F (scope_in u c.args.scope.now) (map assignment_form c.deref.result.now) in
-    let Q = IsOutsideInStep F (instance_form c.args.instance.now) in
+    let es = map element_said c.args.elements.now in
+    let P = IsFaultInElements F (scope_in u c.args.scope.now) (map assignment_form c.deref.result.now) es in
+    let Q = IsFaultInStep F (instance_form c.args.instance.now) in
     λ v. refused c.from_residual-in_err-assignments.result c.in_err-assignments.field-0.0 (OnTerm P) (OnTerm Q) c.from_residual-in_err-assignments.ensures.1
-    (term-in P Q (λ p o. inr (subst (λ (σ : TermScope). AssignOutside F σ (step_form c.args.instance.now.step.now).assignments p) c.requires.scope
-    (subst (λ (bs : List Assignment). AssignOutside F (scope_in u c.args.scope.now) (map assignment_form bs) p) c.deref.ensures.value o)))) (c.in_err-assignments.ensures.outside v)
+    (term-in P Q (λ r p o. inr (subst (λ (ds : List Element). IsFaultInElements F (own_scope (instance_said c.args.instance.now)) (step_form c.args.instance.now.step.now).assignments ds r p) c.requires.elements
+    (subst (λ (σ : TermScope). IsFaultInElements F σ (step_form c.args.instance.now.step.now).assignments es r p) c.requires.scope
+    (subst (λ (bs : List Assignment). IsFaultInElements F (scope_in u c.args.scope.now) (map assignment_form bs) es r p) c.deref.ensures.value o))))) (c.in_err-assignments.ensures.faults v)

@@ -17,6 +17,7 @@ use Rattle.std.proofs.lemmas.Bool.{false≢true}
 use Rattle.pb_unfolder_terms.specs.Contexts.{IsSeenInside}
 use Rattle.pb_unfolder_terms.specs.Puts.{put}
 use Rattle.pb_unfolder_terms.specs.Tells.{IsFaultOf, scope_said, surroundings_in}
+use Rattle.pb_unfolder_terms.proofs.LargeLemmas.{depth-told, first-argument, room-told}
 use Rattle.pb_unfolder_terms.proofs.MetLemmas.{err-told, not-inside-outside, others-met}
 use Rattle.pb_unfolder_terms.proofs.SortsLemmas.{same-folded}
 use Rattle.pb_unfolder_terms.proofs.assigned.+unfold_compared.Goals as goal
@@ -185,7 +186,7 @@ returns-then-not-stays_inside-clause-faults t c =
     let folded-by : tree.term_of c.in_ok-index.index.term ≡ folded (spec_in k) false x = c.in_ok-index.ensures.term.term ∙ same-folded (folding_in k) (spec_in k) refl false x in
     let outside : IsSeenInside k c.args.compared.indices.now (tree.term_of c.in_ok-index.index.term) → ⊥ = λ seen. false≢true (c.if-not-stays_inside.ensures.1 seen) in
     λ w h. subst (IsFaultOf (surroundings_in k) w) (sym c.refused-then-not-stays_inside.ensures)
-    (h.1 a.place (not-inside-outside k n σ w c.args.compared.indices.now given a (tree.term_of c.in_ok-index.index.term) c.in-Some.ensures.value folded-by outside))
+    (h.outside a.place (not-inside-outside k n σ w c.args.compared.indices.now given a (tree.term_of c.in_ok-index.index.term) c.in-Some.ensures.value folded-by outside))
 
 pub returns-in_err-others-clause-faults : goal.returns-in_err-others-clause-faults
 returns-in_err-others-clause-faults t c =
@@ -195,4 +196,25 @@ returns-in_err-others-clause-faults t c =
     let given = c.args.compared.arguments.now in
     λ w h. let e = c.in_err-others.field-0.0 in
     err-told c.from_residual-in_err-others.result e (IsFaultOf (surroundings_in k) w) c.from_residual-in_err-others.ensures.1
-    (c.in_err-others.ensures.faults w (others-met k n c.args.scope.now w c.args.compared.indices.now _ given _ c.behind_first.ensures (behind-first given) h))
+    (c.in_err-others.ensures.faults w (others-met k n c.args.scope.now w c.args.compared.place c.args.compared.place c.args.compared.indices.now _ given _ refl c.behind_first.ensures (behind-first given) h))
+
+pub returns-in_err-index-clause-faults : goal.returns-in_err-index-clause-faults
+returns-in_err-index-clause-faults t c =
+    let k = c.args.context.now in
+    let n = c.args.level.definitions in
+    let σ = scope_said k c.args.scope.now in
+    λ w h. let e = c.in_err-index.field-0.0 in
+    err-told c.from_residual-in_err-index.result e (IsFaultOf (surroundings_in k) w) c.from_residual-in_err-index.ensures.1
+    (c.in_err-index.ensures.faults w ((first-argument k n σ w c.args.compared.arguments.now c.in-Some.argument.now c.in-Some.ensures.value h.arguments_met.0).0, h.arguments_met.1))
+
+pub returns-in_err-behind_all-clause-faults : goal.returns-in_err-behind_all-clause-faults
+returns-in_err-behind_all-clause-faults t c =
+    λ w h. room-told (surroundings_in c.args.context.now) w c.args.compared.place c.from_residual.result c.in_err-behind_all.field-0.0 c.from_residual.ensures.1 c.in_err-behind_all.ensures.0 h.token
+
+pub returns-in_default-checked_sub-clause-faults : goal.returns-in_default-checked_sub-clause-faults
+returns-in_default-checked_sub-clause-faults t c =
+    let k = c.args.context.now in
+    let n = c.args.level.definitions in
+    let σ = scope_said k c.args.scope.now in
+    let a = c.in-Some.argument.now in
+    λ w h. depth-told (surroundings_in k) w a.place c.refused.result c.refused.ensures (first-argument k n σ w c.args.compared.arguments.now a c.in-Some.ensures.value h.arguments_met.0).1

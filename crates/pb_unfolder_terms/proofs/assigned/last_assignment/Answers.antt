@@ -19,14 +19,17 @@ use Rattle.pb_unfolder_terms.proofs.BehindLemmas.{behind-refused, choice-behind,
 use Rattle.pb_unfolder_terms.proofs.ChainLemmas.{err-kept, no-room}
 use Rattle.pb_unfolder_terms.proofs.ChoiceLemmas.{condition-refused}
 use Rattle.pb_unfolder_terms.proofs.ReadLemmas.{some-is}
-use Rattle.std.proofs.Common.{inl, map}
+use Rattle.std.proofs.Common.{inl, map, refl}
+use Rattle.pb_text_tree.specs.declared.place.Place.{Place}
 use Rattle.pb_text_tree.specs.Form.{TermForm, argument_forms, named}
 use Rattle.pb_protocol_tree.specs.Form.{assignment_form}
 use Rattle.pb_folding.proofs.FoldedModels.{same-names}
+use Rattle.pb_unfolder_terms.specs.declared.fault.UnfoldRule.TheVariants as rule
 use Rattle.pb_unfolder_terms.specs.Met.{Itself, at}
 use Rattle.pb_unfolder_terms.specs.Tells.{IsReadMet, scope_said, surroundings_in}
-use Rattle.pb_unfolder_terms.specs.TermFaults.{IfFaultAt, IsOutsideInAssignments}
-use Rattle.pb_unfolder_terms.proofs.MetLemmas.{arguments-met, assigned-read, at-by, err-told, item-in, mapped-in, values-met}
+use Rattle.pb_unfolder_terms.specs.TermFaults.{IfFaultAt, IsFaultInAssignments}
+use Rattle.pb_unfolder_terms.proofs.LargeLemmas.{assigned-room}
+use Rattle.pb_unfolder_terms.proofs.MetLemmas.{arguments-met, assigned-many, assigned-read, at-by, err-told, item-in, mapped-in, values-met}
 use Rattle.pb_unfolder_terms.proofs.assigned.last_assignment.Goals as goal
 
 pub loop-place-init : goal.loop-place-init
@@ -242,8 +245,29 @@ returns-in_err-condition-clause-faults c =
     let w = at n σ (TermForm.application (named a.variable) (argument_forms a.index.items)) in
     let there = mapped-in assignment_form bs a (item-in bs p a within c.index-assignments-place.is) in
     let e = c.in_err-condition.field-0.0 in
-    λ v. let read : IsReadMet k n c.args.scope.now a.index.items h.indices.now w =
-    ((arguments-met k n σ w (named a.variable) a.index.items Itself, values-met k c.args.scope.now w v), (λ q o. assigned-read k n σ (named a.variable) a.index.items (string_bytes c.args.element.array.now.text) h.indices.now c.compared_with-compared.ensures.indices name q o)) in
-    err-told c.from_residual-in_err-condition.result e (IfFaultAt (IsOutsideInAssignments m n σ (map assignment_form bs))) c.from_residual-in_err-condition.ensures.1
-    (at-by m w (IsOutsideInAssignments m n σ (map assignment_form bs)) e (λ q o. (assignment_form a, there, inl o))
-    (c.in_err-condition.ensures.faults w (subst (λ (gs : List Argument). IsReadMet k n c.args.scope.now gs h.indices.now w) (sym c.compared_with-compared.ensures.arguments) read)))
+    let x = string_bytes c.args.element.array.now.text in
+    let indices = c.compared_with-compared.ensures.indices in
+    λ v. let read : IsReadMet k n c.args.scope.now a.variable.place a.index.items h.indices.now w = record {
+      arguments_met = (arguments-met k n σ w (named a.variable) a.index.items Itself, values-met k c.args.scope.now w v);
+      outside = λ q o. assigned-read k n σ (named a.variable) a.index.items x h.indices.now indices name q o;
+      token = (w, Itself, inl refl);
+      values = λ many. assigned-many k n σ (named a.variable) a.index.items x h.indices.now indices name many;
+    } in
+    err-told c.from_residual-in_err-condition.result e (IfFaultAt (IsFaultInAssignments m n σ (map assignment_form bs))) c.from_residual-in_err-condition.ensures.1
+    (at-by m w (IsFaultInAssignments m n σ (map assignment_form bs)) e (λ r q o. (assignment_form a, there, inl o))
+    (c.in_err-condition.ensures.faults w (subst (λ (q : Place). IsReadMet k n c.args.scope.now q h.arguments.now h.indices.now w) (sym c.compared_with-compared.ensures.place)
+    (subst (λ (gs : List Argument). IsReadMet k n c.args.scope.now a.variable.place gs h.indices.now w) (sym c.compared_with-compared.ensures.arguments) read))))
+
+pub returns-in_err-behind_one-clause-faults : goal.returns-in_err-behind_one-clause-faults
+returns-in_err-behind_one-clause-faults c =
+    let k = c.args.context.now in
+    let n = c.args.level.definitions in
+    let σ = scope_said k c.args.scope.now in
+    let m = surroundings_in k in
+    let bs = c.args.assignments.now in
+    let p : ℕ = c.loop-place.place - 1 in
+    let within : p < length bs = omega (arith, c.loop-place.auto.place, c.loop-place-test.true) in
+    let a = c.index-assignments-place.result in
+    let e = c.in_err-behind_one.field-0.0 in
+    λ v. err-told c.from_residual.result e (IfFaultAt (IsFaultInAssignments m n σ (map assignment_form bs))) c.from_residual.ensures.1
+    (assigned-room m n σ bs a rule.Operators e c.in_err-behind_one.ensures.0 (item-in bs p a within c.index-assignments-place.is) (λ w token. token))

@@ -6,7 +6,7 @@ use Rattle.std.proofs.Common.{map}
 use Rattle.std.specs.Prelude.{IfErr}
 use Rattle.pb_protocol_tree.specs.Form.{assignment_form}
 use Rattle.pb_unfolder_terms.specs.Tells.{scope_said, surroundings_in}
-use Rattle.pb_unfolder_terms.specs.TermFaults.{IfFaultAt, IsOutsideInAssignments}
+use Rattle.pb_unfolder_terms.specs.TermFaults.{IfFaultAt, IsFaultInAssignments}
 use Rattle.pb_unfolder_terms.proofs.assigned.unfold_assigned_by.Goals as goal
 
 pub returns-clause-term : goal.returns-clause-term
@@ -20,5 +20,5 @@ pub returns-clause-faults : goal.returns-clause-faults
 returns-clause-faults c =
     let k = c.args.context.now in
     let counted : c.len.result ≡ length k.definitions.items = omega (arith, c.len.ensures, k.definitions.ok.0) in
-    λ v. subst (λ (n : ℕ). IfErr c.unfold_after.result (IfFaultAt (IsOutsideInAssignments (surroundings_in k) n (scope_said k c.args.scope.now) (map assignment_form c.args.assignments.now))))
+    λ v. subst (λ (n : ℕ). IfErr c.unfold_after.result (IfFaultAt (IsFaultInAssignments (surroundings_in k) n (scope_said k c.args.scope.now) (map assignment_form c.args.assignments.now))))
     counted (c.unfold_after.ensures.faults v)

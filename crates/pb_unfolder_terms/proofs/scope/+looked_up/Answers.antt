@@ -45,4 +45,4 @@ returns-in-Some-argument_of-clause-met t c = λ k whole h.
     let a = c.in-Some-argument_of.argument.now in
     let s : AreMetAt k c.in-Arguments.definitions (scope_said k c.in-Arguments.user.now) c.in-Arguments.arguments.now whole × IsScopeMet k c.in-Arguments.user.now whole =
     subst (λ s. IsScopeMet k s whole) c.in-Arguments.is h in
-    (s.0 a (found-in c.args.name.now c.in-Arguments.parameters.now c.in-Arguments.arguments.now a c.in-Some-argument_of.ensures), s.1)
+    ((s.0 a (found-in c.args.name.now c.in-Arguments.parameters.now c.in-Arguments.arguments.now a c.in-Some-argument_of.ensures)).0, s.1)

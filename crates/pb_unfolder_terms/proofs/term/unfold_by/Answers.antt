@@ -1,10 +1,9 @@
 use Rattle.std.proofs.Common.{◌≡◌, ℕ, length, subst, arith}
 use Rattle.std.specs.Prelude.{IfErr}
 use Rattle.pb_text_tree.specs.Form.{term_form}
-use Rattle.pb_unfolder_terms.specs.Met.{IsIndexFault, Itself, at}
-use Rattle.pb_unfolder_terms.specs.Tells.{scope_said, surroundings_in}
-use Rattle.pb_unfolder_terms.specs.TermFaults.{IfFaultAt}
-use Rattle.pb_unfolder_terms.proofs.MetLemmas.{result-at, values-met}
+use Rattle.pb_unfolder_terms.specs.Met.{Itself, at}
+use Rattle.pb_unfolder_terms.specs.Tells.{IsFaultOf, scope_said, surroundings_in}
+use Rattle.pb_unfolder_terms.proofs.MetLemmas.{values-met}
 use Rattle.pb_unfolder_terms.proofs.term.unfold_by.Goals as goal
 
 pub returns-clause-faults : goal.returns-clause-faults
@@ -14,5 +13,5 @@ returns-clause-faults c =
     let x = term_form c.args.term.now in
     let w = at c.len.result σ x in
     let counted : c.len.result ≡ length k.definitions.items = omega (arith, c.len.ensures, k.definitions.ok.0) in
-    λ v. subst (λ (n : ℕ). IfErr c.unfold.result (IfFaultAt (IsIndexFault (surroundings_in k) (at n σ x)))) counted
-    (result-at (surroundings_in k) w c.unfold.result (c.unfold.ensures.faults w (Itself, values-met k c.args.scope.now w v)))
+    λ v. subst (λ (n : ℕ). IfErr c.unfold.result (IsFaultOf (surroundings_in k) (at n σ x))) counted
+    (c.unfold.ensures.faults w (Itself, values-met k c.args.scope.now w v))

@@ -10,8 +10,8 @@ use Rattle.pb_unfolder_steps.specs.Refusals.{IsTermOr}
 use Rattle.pb_unfolder_steps.proofs.RefusalLemmas.{part-of-all, refused, term-or}
 use Rattle.pb_unfolder_steps.proofs.InitialLemmas.{one-more, nothing-left}
 use Rattle.pb_protocol_tree.specs.Form.{protocol_form}
-use Rattle.pb_unfolder_steps.specs.Outside.{IsOutsideInValue, IsOutsideInValues, OnTerm, value_form}
-use Rattle.pb_unfolder_steps.proofs.OutsideLemmas.{term-in}
+use Rattle.pb_unfolder_steps.specs.StepFaults.{IsFaultInValue, IsFaultInValues, OnTerm, value_form}
+use Rattle.pb_unfolder_steps.proofs.StepFaultLemmas.{term-in}
 use Rattle.std.proofs.Common.{Some}
 use Rattle.std.specs.Prelude.{option_map}
 use Rattle.std.proofs.lemmas.Option.{slice_get-map, slice_get-get_or}
@@ -58,8 +58,8 @@ returns-in_err-push_values-clause-refused c =
     (term-or one all (λ more. omega (arith, more, part-of-all (λ z. f (indices_behind z)) ys k y in-ys c.index-variables-at.is, ap (λ (v : List (List Term)). length v) (flat_map-map f indices_behind ys))))
     c.in_err-push_values.ensures.refused
 
-pub returns-in_err-push_values-clause-outside : goal.returns-in_err-push_values-clause-outside
-returns-in_err-push_values-clause-outside c =
+pub returns-in_err-push_values-clause-faults : goal.returns-in_err-push_values-clause-faults
+returns-in_err-push_values-clause-faults c =
     let F = protocol_form c.args.self.now.protocol.now in
     let ys = c.args.variables.now in
     let xs = c.args.values.now in
@@ -70,7 +70,7 @@ returns-in_err-push_values-clause-outside c =
     let in-xs : k < length xs = omega (arith, c.loop-at-test.true, c.min-at-end.ensures) in
     let of-ys = slice_get-map indices_behind ys k ∙ ap (option_map indices_behind) (slice_get-get_or ys k y in-ys ∙ ap Some (sym c.index-variables-at.is)) in
     let of-xs = slice_get-map value_form xs k ∙ ap (option_map value_form) (slice_get-get_or xs k x in-xs ∙ ap Some (sym c.index-values-at.is)) in
-    let P = IsOutsideInValue F (indices_said y.now) (value_form x) in
-    let Q = IsOutsideInValues F (map indices_behind ys) (map value_form xs) in
+    let P = IsFaultInValue F (indices_said y.now) (value_form x) in
+    let Q = IsFaultInValues F (map indices_behind ys) (map value_form xs) in
     refused c.from_residual.result c.in_err-push_values.field-0.0 (OnTerm P) (OnTerm Q) c.from_residual.ensures.1
-    (term-in P Q (λ p o. (k, indices_said y.now, value_form x, of-ys, of-xs, o))) c.in_err-push_values.ensures.outside
+    (term-in P Q (λ r p o. (k, indices_said y.now, value_form x, of-ys, of-xs, o))) c.in_err-push_values.ensures.faults

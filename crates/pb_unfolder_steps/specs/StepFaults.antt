@@ -1,6 +1,6 @@
--- Where an index of an array isn't seen to stay among the values of its sort: in the steps of a
--- protocol with their values, and in the values at the start.
-use Rattle.std.specs.Prelude.{◌≡◌, ◌⊎◌, ℕ, List, [], ◌∷◌, map, flat_map, length, Contains, Some}
+-- What the fault of a term says: in the steps of a protocol with their values, and in the values at
+-- the start.
+use Rattle.std.specs.Prelude.{◌≡◌, ◌⊎◌, ℕ, List, [], ◌∷◌, map, flat_map, Contains, Some}
 use Rattle.std.specs.List.{slice_get}
 use Rattle.pb_errors.specs.declared.or_memory.OrMemory.{OrMemory}
 use Rattle.pb_errors.specs.declared.or_memory.OrMemory.TheVariants.{Refused, Memory}
@@ -15,10 +15,11 @@ use Rattle.pb_protocol_tree.specs.Form.{step_form}
 use Rattle.pb_protocol_meaning.specs.Erase.{erase}
 use Rattle.pb_protocol_meaning.specs.Steps.{data_of}
 use Rattle.pb_unfolding.specs.PutIn.{TermScope}
-use Rattle.pb_unfolding.specs.Unfolding.{written}
+use Rattle.pb_unfolding.specs.Unfolding.{Element, all_elements, written}
 use Rattle.pb_unfolding.specs.Written.{written_tuples}
 use Rattle.pb_unfolder_terms.specs.declared.fault.UnfoldFault.{UnfoldFault}
-use Rattle.pb_unfolder_terms.specs.TermFaults.{IsFaultAt, IsOutsideIn, IsOutsideInAssignments}
+use Rattle.pb_unfolder_terms.specs.declared.fault.UnfoldRule.{UnfoldRule}
+use Rattle.pb_unfolder_terms.specs.TermFaults.{IsFaultAt, IsFaultInElement, IsFaultInTerm}
 use Rattle.pb_unfolder_terms.specs.TermFaults.{surroundings_at_start, surroundings_of}
 use Rattle.pb_unfolder_terms.specs.Values.{tuple_of}
 use Rattle.pb_unfolder_steps.specs.declared.fault.StepsFault.{StepsFault}
@@ -54,21 +55,23 @@ forms_of_steps spec steps = flat_map (forms_of_step spec) steps
 
 -- ---- faults
 
--- in an assignment
-abbrev pub AssignOutside : ProtocolForm → TermScope → List AssignmentForm → Place → Type 0
-AssignOutside m ρ assignments p =
-    let M = surroundings_of m in
-    IsOutsideInAssignments M (length M.definitions) ρ assignments p
+-- where it is unfolded what one of these elements is after assignments
+abbrev pub IsFaultInElements :
+    ProtocolForm → TermScope → List AssignmentForm → List Element → UnfoldRule → Place → Type 0
+IsFaultInElements m ρ assignments elements r p =
+    (e : Element) × Contains elements e
+    × IsFaultInElement (surroundings_of m) ρ assignments e r p
 
--- in the guard or in an assignment, where the step's own variables stand for the values
-abbrev pub IsOutsideInStep : ProtocolForm → PlacedInstance → Place → Type 0
-IsOutsideInStep m i p =
+-- in the guard or in the assignments, where the step's own variables stand for the values
+abbrev pub IsFaultInStep : ProtocolForm → PlacedInstance → UnfoldRule → Place → Type 0
+IsFaultInStep m i r p =
     let ρ = written (erased_variables i.step.variables) i.own in
-    IsOutsideIn (surroundings_of m) ρ i.step.guard p ⊎ AssignOutside m ρ i.step.assignments p
+    IsFaultInTerm (surroundings_of m) ρ i.step.guard r p
+    ⊎ IsFaultInElements m ρ i.step.assignments (all_elements (erase m)) r p
 
-abbrev pub IsOutsideInSteps : ProtocolForm → List PlacedInstance → Place → Type 0
-IsOutsideInSteps m instances p =
-    (i : PlacedInstance) × Contains instances i × IsOutsideInStep m i p
+abbrev pub IsFaultInSteps : ProtocolForm → List PlacedInstance → UnfoldRule → Place → Type 0
+IsFaultInSteps m instances r p =
+    (i : PlacedInstance) × Contains instances i × IsFaultInStep m i r p
 
 -- ---- values at the start
 
@@ -83,35 +86,37 @@ abbrev pub value_form : declared_argument.Argument → TermForm
 value_form a = term_form a.term
 
 -- in the value of a state variable, where its indices stand for these values
-abbrev pub IsOutsideAt : ProtocolForm → List Variable → TermForm → List Term → Place → Type 0
-IsOutsideAt m indices x ks p = IsOutsideIn (surroundings_at_start m) (written indices ks) x p
+abbrev pub IsFaultAtValues :
+    ProtocolForm → List Variable → TermForm → List Term → UnfoldRule → Place → Type 0
+IsFaultAtValues m indices x ks =
+    IsFaultInTerm (surroundings_at_start m) (written indices ks) x
 
 -- for one of these tuples of values
-abbrev pub IsOutsideAtSome :
-    ProtocolForm → List Variable → TermForm → List (List Term) → Place → Type 0
-IsOutsideAtSome m indices x tuples p =
-    (ks : List Term) × Contains tuples ks × IsOutsideAt m indices x ks p
+abbrev pub IsFaultAtSome :
+    ProtocolForm → List Variable → TermForm → List (List Term) → UnfoldRule → Place → Type 0
+IsFaultAtSome m indices x tuples r p =
+    (ks : List Term) × Contains tuples ks × IsFaultAtValues m indices x ks r p
 
-abbrev pub IsOutsideInValue : ProtocolForm → List Variable → TermForm → Place → Type 0
-IsOutsideInValue m indices x p =
-    IsOutsideAtSome m indices x (written_tuples (data_of (erase m)) indices) p
+abbrev pub IsFaultInValue :
+    ProtocolForm → List Variable → TermForm → UnfoldRule → Place → Type 0
+IsFaultInValue m indices x =
+    IsFaultAtSome m indices x (written_tuples (data_of (erase m)) indices)
 
 -- of one of these variables, by their indices
-abbrev pub IsOutsideInValues :
-    ProtocolForm → List (List Variable) → List TermForm → Place → Type 0
-IsOutsideInValues m variables values p =
+abbrev pub IsFaultInValues :
+    ProtocolForm → List (List Variable) → List TermForm → UnfoldRule → Place → Type 0
+IsFaultInValues m variables values r p =
     (k : ℕ) × (indices : List Variable) × (x : TermForm)
     × (slice_get variables k ≡ Some indices) × (slice_get values k ≡ Some x)
-    × IsOutsideInValue m indices x p
+    × IsFaultInValue m indices x r p
 
-abbrev pub IsOutsideAtStart : ProtocolForm → Place → Type 0
-IsOutsideAtStart m p =
-    IsOutsideInValues m (map indices_at m.variables) (value_terms m.initial.values) p
+abbrev pub IsFaultAtStart : ProtocolForm → UnfoldRule → Place → Type 0
+IsFaultAtStart m = IsFaultInValues m (map indices_at m.variables) (value_terms m.initial.values)
 
 -- ---- what a fault says
 
--- of a term's fault by the rule of indices P holds of the place
-abbrev pub OnTerm : (Place → Type 0) → StepsFault → Type 0
+-- of a term's fault P holds, of the rule and the place
+abbrev pub OnTerm : (UnfoldRule → Place → Type 0) → StepsFault → Type 0
 OnTerm P (fault.Limit place) = Unit {0}
 OnTerm P (fault.Term f) = IsFaultAt P f
 

@@ -1,4 +1,4 @@
--- Indices outside of parts are outside of what they are parts of.
+-- Faults of parts are faults of what they are parts of.
 use Rattle.std.proofs.Common.{◌≡◌, refl, sym, ap, subst, List, [], ◌∷◌, ◌++◌, ◌∙◌, map, flat_map}
 use Rattle.std.proofs.lemmas.List.{map-append}
 use Rattle.pb_errors.specs.OrMemory.{IfFault}
@@ -7,8 +7,7 @@ use Rattle.pb_errors.specs.declared.or_memory.OrMemory.TheVariants.{Refused, Mem
 use Rattle.pb_text_tree.specs.declared.place.Place.{Place}
 use Rattle.pb_unfolder_terms.specs.declared.fault.UnfoldFault.{UnfoldFault}
 use Rattle.pb_unfolder_terms.specs.declared.fault.UnfoldRule.{UnfoldRule}
-use Rattle.pb_unfolder_terms.specs.declared.fault.UnfoldRule.TheVariants as rule
-use Rattle.pb_unfolder_terms.specs.TermFaults.{IfFaultAt, OnIndex}
+use Rattle.pb_unfolder_terms.specs.TermFaults.{IfFaultAt}
 use Rattle.pb_unfolder_steps.specs.declared.fault.StepsFault.{StepsFault}
 use Rattle.pb_unfolder_steps.specs.declared.fault.StepsFault.TheVariants.{Limit, Term}
 use Rattle.pb_text_tree.specs.declared.name.Name.{Name}
@@ -18,23 +17,17 @@ use Rattle.pb_protocol_tree.specs.declared.protocol.StateVariable as declared_va
 use Rattle.pb_protocol_tree.specs.declared.protocol.StateVariables as declared_state
 use Rattle.pb_protocol_tree.specs.Form.{state_variable_form, state_variables_form}
 use Rattle.pb_unfolder_steps.specs.Initial.{indices_of_state, indices_said}
-use Rattle.pb_unfolder_steps.specs.Outside.{OnTerm, indices_at, term_error, value_form, value_terms}
+use Rattle.pb_unfolder_steps.specs.StepFaults.{OnTerm, indices_at, term_error, value_form, value_terms}
 
 -- the fault of a term is told as one of steps
-pub term-told : (P : Place → Type 0) (e : OrMemory UnfoldFault) (r : OrMemory StepsFault) → r ≡ term_error e → IfFaultAt P e → IfFault r (OnTerm P)
+pub term-told : (P : UnfoldRule → Place → Type 0) (e : OrMemory UnfoldFault) (r : OrMemory StepsFault) → r ≡ term_error e → IfFaultAt P e → IfFault r (OnTerm P)
 term-told P (Refused f) r same h = subst (λ (x : OrMemory StepsFault). IfFault x (OnTerm P)) (sym same) h
 term-told P Memory r same h = subst (λ (x : OrMemory StepsFault). IfFault x (OnTerm P)) (sym same) tt
 
 -- and one of a part as one of the whole
-pub term-in : (P Q : Place → Type 0) → ((p : Place) → P p → Q p) → (f : StepsFault) → OnTerm P f → OnTerm Q f
+pub term-in : (P Q : UnfoldRule → Place → Type 0) → ((r : UnfoldRule) (p : Place) → P r p → Q r p) → (f : StepsFault) → OnTerm P f → OnTerm Q f
 term-in P Q to (Limit p) h = tt
-term-in P Q to (Term f) h = by f.rule h
-  where
-    by : (r : UnfoldRule) → OnIndex P r f.place → OnIndex Q r f.place
-    by rule.Index h = to f.place h
-    by rule.Operators h = tt
-    by rule.Depth h = tt
-    by rule.Values h = tt
+term-in P Q to (Term f) h = to f.rule f.place h
 
 -- ---- the tree
 
