@@ -1,5 +1,5 @@
 -- Chains of operands, and refusals of what stands around a refused term.
-use Rattle.std.proofs.Common.{◌≡◌, ℕ, suc, ◌+◌, ◌<◌, ◌≤◌, subst, List, [], ◌∷◌, drop, refl, sym, ◌∙◌, ap, arith, Some, None, Vec, Global, Box}
+use Rattle.std.proofs.Common.{◌≡◌, ℕ, suc, ◌+◌, ◌<◌, ◌≤◌, subst, List, [], ◌∷◌, drop, length, refl, sym, ◌∙◌, ap, arith, Some, None, Vec, Global, Box}
 use Rattle.std.specs.Prelude.{box_value, string_bytes}
 use Rattle.pb_text_tree.specs.declared.name.Name.{Name}
 use Rattle.pb_text_tree.specs.declared.place.Place.{Place}
@@ -8,6 +8,8 @@ use Rattle.std.specs.List.{slice_get}
 use Rattle.std.specs.Prelude.{Result, Ok, Err, IsErrAnd, MatchResult}
 use Rattle.pb_text_tree.specs.declared.operator.Connective.{Connective}
 use Rattle.pb_text_tree.specs.declared.term.Term as declared_term
+use Rattle.pb_text_tree.specs.declared.term.Term.{items_hidden-the_row-TermLink-0, items_hidden-the_row-ArithmeticLink-1}
+use Rattle.pb_text_tree.specs.declared.term.ArithmeticLink.{ArithmeticLink}
 use Rattle.pb_text_tree.specs.declared.term.TermLink.{TermLink}
 use Rattle.pb_text_tree.specs.Form.{TermForm, chained, term_form, term_links}
 use Rattle.pb_text_tree.proofs.FormLemmas.{term-chain, term-application}
@@ -19,7 +21,7 @@ use Rattle.pb_errors.specs.declared.or_memory.OrMemory.TheVariants.{Refused, Mem
 use Rattle.pb_unfolder_terms.specs.declared.fault.UnfoldFault.{UnfoldFault}
 use Rattle.pb_unfolder_terms.specs.declared.fault.UnfoldRule.{UnfoldRule}
 use Rattle.pb_unfolder_terms.specs.declared.fault.UnfoldRule.TheVariants as rule
-use Rattle.pb_unfolder_terms.specs.Chains.{chain_term, operand_of, operands_of}
+use Rattle.pb_unfolder_terms.specs.Chains.{HasLinks, chain_term, operand_of, operands_of}
 use Rattle.pb_unfolder_terms.specs.Unfolding.{operator_count, OnOperators, IsRefusal}
 
 erased-chained : (c : Connective) (x : TermForm) (ls : List TermLink) → erased_term (chained (TermForm.connected c) x (term_links ls)) ≡ chain_term c (erased_term x) (operands_of ls)
@@ -81,3 +83,11 @@ application-said f v = ap erased_term (term-application f v)
 -- no room for an operator
 pub no-room : (n : ℕ) (whole : Term) (e : OrMemory UnfoldFault) (place : Place) → e ≡ Refused record { rule = rule.Operators; place = place } → n < operator_count whole → IsRefusal n whole e
 no-room n whole e place same h = subst (IsRefusal n whole) (sym same) h
+
+-- ---- two operands and more
+
+pub chain-links : (k : Connective) (first : Box declared_term.Term Global) (v : Vec TermLink Global) → HasLinks (declared_term.Chain k first v) → 0 < length v.items
+chain-links k first v h = subst (λ ls. 0 < length ls) (items_hidden-the_row-TermLink-0 v) h
+
+pub arithmetic-links : (first : Box declared_term.Term Global) (v : Vec ArithmeticLink Global) → HasLinks (declared_term.Arithmetic first v) → 0 < length v.items
+arithmetic-links first v h = subst (λ ls. 0 < length ls) (items_hidden-the_row-ArithmeticLink-1 v) h

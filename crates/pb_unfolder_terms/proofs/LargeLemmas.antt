@@ -1,5 +1,5 @@
 -- What is too large is told at a token of what is met.
-use Rattle.std.proofs.Common.{◌≡◌, ◌<◌, ℕ, zero, suc, Bool, inl, refl, sym, ap, subst, arith, List, [], ◌∷◌, drop, length, get_or, map, Some}
+use Rattle.std.proofs.Common.{◌≡◌, ◌<◌, ℕ, zero, suc, Bool, inl, inr, refl, sym, ap, subst, arith, List, [], ◌∷◌, take, length, get_or, map, Some}
 use Rattle.std.specs.List.{slice_get}
 use Rattle.std.specs.Prelude.{Contains, IfErr, IsErrAnd, Result, Ok, Err}
 use Rattle.pb_errors.specs.declared.or_memory.OrMemory.{OrMemory}
@@ -21,21 +21,22 @@ use Rattle.pb_unfolder_terms.specs.declared.fault.UnfoldRule.{UnfoldRule}
 use Rattle.pb_unfolder_terms.specs.declared.fault.UnfoldRule.TheVariants as rule
 use Rattle.pb_unfolder_terms.specs.declared.sorts.Variable.{Variable}
 use Rattle.pb_unfolder_terms.specs.declared.unfolded.Unfolded.{Unfolded}
-use Rattle.pb_unfolder_terms.specs.Large.{HasManyValues, IsTokenMet, IsValuesFault}
+use Rattle.pb_unfolder_terms.specs.Deep.{IsDepthFault}
+use Rattle.pb_unfolder_terms.specs.Large.{HasManyValues, IsConnectiveAt, IsOperatorAt, IsTokenMet, IsValuesFault}
 use Rattle.pb_unfolder_terms.specs.Met.{Itself, Occurrence, Surroundings, at}
 use Rattle.pb_unfolder_terms.specs.Tells.{AreMetAt, IsFaultOf, IsMetAt, IsTokenAt}
-use Rattle.pb_unfolder_terms.specs.TermFaults.{Breaks, IfFaultAt, IsFaultInAssignments, WithMany}
+use Rattle.pb_unfolder_terms.specs.TermFaults.{Breaks, IfFaultAt, IsFaultInAssignment, IsFaultInAssignments, WithMany}
 use Rattle.pb_unfolder_terms.specs.Unfolding.{OnOperators, Unfolds, operator_count}
 use Rattle.pb_unfolder_terms.specs.Values.{IsTooLong}
 use Rattle.pb_unfolder_terms.specs.View.{variable_of}
-use Rattle.pb_unfolder_terms.proofs.MetLemmas.{arithmetic-first-met, err-told, first-in, mapped-in}
+use Rattle.pb_unfolder_terms.proofs.MetLemmas.{err-told, first-in, mapped-in, taken-at, taken-length}
 use Rattle.pb_unfolder_terms.proofs.ReadLemmas.{not-none, some-is}
 
 -- ---- faults
 
--- it nests too deep at a token
-pub depth-told : (m : Surroundings) (whole : Occurrence) (p : Place) (e : OrMemory UnfoldFault) → e ≡ Refused (record { rule = rule.Depth; place = p }) → IsTokenMet m whole p → IsFaultOf m whole e
-depth-told m whole p e is token = subst (IsFaultOf m whole) (sym is) token
+-- it nests too deep
+pub depth-told : (m : Surroundings) (whole : Occurrence) (p : Place) (e : OrMemory UnfoldFault) → e ≡ Refused (record { rule = rule.Depth; place = p }) → IsDepthFault m whole p → IsFaultOf m whole e
+depth-told m whole p e is deep = subst (IsFaultOf m whole) (sym is) deep
 
 -- there is no room at a token
 pub room-told : {A : Type 0} (m : Surroundings) (whole : Occurrence) (p : Place) (r : Result A (OrMemory UnfoldFault)) (e : OrMemory UnfoldFault) → IsErrAnd r (λ d. d ≡ e)
@@ -72,37 +73,69 @@ first-many S (j ∷ js) i there many =
 
 -- ---- tokens
 
-module _ (c : Context) (n : ℕ) (ρ : TermScope) (whole : Occurrence) where
-  -- the connective behind an operand
-  pub chain-token : (k : Connective) (x : TermForm) (ls : List TermLink) (i : ℕ) (l : TermLink) → i < length ls → l ≡ get_or ls i l
-      → IsMetAt c n ρ (chained (TermForm.connected k) x (term_links (drop i ls))) whole → IsTokenAt c l.place whole
-  chain-token k x [] i l within is h = absurd (omega (arith, within))
-  chain-token k x (m ∷ ls) zero l within is h =
-      (at n ρ (chained (TermForm.connected k) x (term_links (m ∷ ls))), h, ap (λ (d : TermLink). d.place) is)
-  chain-token k x (m ∷ ls) (suc i) l within is h = chain-token k x ls i l (omega (arith, within)) is h
+module _ (c : Context) (l n : ℕ) (ρ : TermScope) (whole : Occurrence) where
+  connective-at : (k : Connective) (x : TermForm) (ls : List TermLink) (i : ℕ) (d : TermLink) → i < length ls → d ≡ get_or ls i d
+      → IsConnectiveAt (chained (TermForm.connected k) x (term_links ls)) d.place
+  connective-at k x [] i d within is = absurd (omega (arith, within))
+  connective-at k x (m ∷ ls) zero d within is = inl (ap (λ (b : TermLink). b.place) is)
+  connective-at k x (m ∷ ls) (suc i) d within is = inr (connective-at k (term_form m.operand) ls i d (omega (arith, within)) is)
+
+  -- a connective of a chain
+  pub chain-token : (k : Connective) (x : TermForm) (ls : List TermLink) (i : ℕ) (d : TermLink) → i < length ls → d ≡ get_or ls i d
+      → IsMetAt c l n ρ (chained (TermForm.connected k) x (term_links ls)) whole → IsTokenAt c d.place whole
+  chain-token k x ls i d within is h = (at l n ρ (chained (TermForm.connected k) x (term_links ls)), h, inr (inl (connective-at k x ls i d within is)))
+
+  operator-within : (x : TermForm) (ls : List ArithmeticLink) (p : Place) → IsOperatorAt x p → IsOperatorAt (calculated x (arithmetic_links ls)) p
+  operator-within x [] p h = h
+  operator-within x (m ∷ ls) p h = operator-within (TermForm.computed m.operator m.place x (term_form m.operand)) ls p (inr h)
+
+  operator-at : (x : TermForm) (ls : List ArithmeticLink) (i : ℕ) (d : ArithmeticLink) → i < length ls → d ≡ get_or ls i d → IsOperatorAt (calculated x (arithmetic_links ls)) d.place
+  operator-at x [] i d within is = absurd (omega (arith, within))
+  operator-at x (m ∷ ls) zero d within is = operator-within (TermForm.computed m.operator m.place x (term_form m.operand)) ls d.place (inl (ap (λ (b : ArithmeticLink). b.place) is))
+  operator-at x (m ∷ ls) (suc i) d within is = operator-at (TermForm.computed m.operator m.place x (term_form m.operand)) ls i d (omega (arith, within)) is
 
   -- the operator before an operand
-  pub arithmetic-token : (x : TermForm) (ls : List ArithmeticLink) (i : ℕ) (l : ArithmeticLink) → i < length ls → l ≡ get_or ls i l
-      → IsMetAt c n ρ (calculated x (arithmetic_links ls)) whole → IsTokenAt c l.place whole
-  arithmetic-token x [] i l within is h = absurd (omega (arith, within))
-  arithmetic-token x (m ∷ ls) zero l within is h =
-      let y = TermForm.computed m.operator m.place x (term_form m.operand) in
-      (at n ρ y, arithmetic-first-met c n ρ whole y ls h, ap (λ (d : ArithmeticLink). d.place) is)
-  arithmetic-token x (m ∷ ls) (suc i) l within is h =
-      arithmetic-token (TermForm.computed m.operator m.place x (term_form m.operand)) ls i l (omega (arith, within)) is h
+  pub arithmetic-token : (x : TermForm) (ls : List ArithmeticLink) (i : ℕ) (d : ArithmeticLink) → i < length ls → d ≡ get_or ls i d
+      → IsMetAt c l n ρ (calculated x (arithmetic_links ls)) whole → IsTokenAt c d.place whole
+  arithmetic-token x ls i d within is h = (at l n ρ (calculated x (arithmetic_links ls)), h, inr (inr (operator-at x ls i d within is)))
 
   -- the first of the arguments
-  pub first-argument : (given : List Argument) (a : Argument) → Some a ≡ slice_get given 0 → AreMetAt c n ρ given whole → IsMetAt c n ρ (term_form a.term) whole × IsTokenAt c a.place whole
+  pub first-argument : (given : List Argument) (a : Argument) → Some a ≡ slice_get given 0 → AreMetAt c l n ρ given whole → IsMetAt c l n ρ (term_form a.term) whole
   first-argument [] a there h = absurd (not-none a there)
   first-argument (b ∷ given) a there h = h a (subst (Contains (b ∷ given)) (sym (some-is a b there)) (first-in b given))
 
 -- ---- assignments
 
+mapped-count : {X Y : Type 0} (g : X → Y) (xs : List X) → length (map g xs) ≡ length xs
+mapped-count g [] = refl
+mapped-count g (x ∷ xs) = ap suc (mapped-count g xs)
+
+-- a fault in one of the assignments, with all levels
+pub assigned-in : (m : Surroundings) (l n : ℕ) (ρ : TermScope) (bs : List Assignment) (a : Assignment) (r : UnfoldRule) (p : Place) → Contains bs a
+    → IsFaultInAssignment m l n ρ (assignment_form a) r p → IsFaultInAssignments m l n ρ (map assignment_form bs) r p
+assigned-in m l n ρ bs a r p there h =
+    let placed = mapped-in assignment_form bs a there in
+    (assignment_form a, placed, l, omega (arith, placed.1), h)
+
+-- one in those before a place, which have a level less
+pub assigned-before : (m : Surroundings) (l n : ℕ) (ρ : TermScope) (k : ℕ) (bs : List Assignment) (r : UnfoldRule) (p : Place) → k < length bs
+    → IsFaultInAssignments m l n ρ (map assignment_form (take k bs)) r p → IsFaultInAssignments m (suc l) n ρ (map assignment_form bs) r p
+assigned-before m l n ρ k bs r p within (a, there, j, less, h) =
+    let before = taken-at assignment_form k bs a there in
+    (a, before.0, j, omega (arith, less, before.1, before.2, mapped-count assignment_form (take k bs), mapped-count assignment_form bs, taken-length k bs, within), h)
+
 -- a fault at the token of what is assigned to
-pub assigned-room : (m : Surroundings) (n : ℕ) (ρ : TermScope) (bs : List Assignment) (a : Assignment) (r : UnfoldRule) (e : OrMemory UnfoldFault) → e ≡ Refused (record { rule = r; place = a.variable.place })
+pub assigned-room : (m : Surroundings) (l n : ℕ) (ρ : TermScope) (bs : List Assignment) (a : Assignment) (r : UnfoldRule) (e : OrMemory UnfoldFault) → e ≡ Refused (record { rule = r; place = a.variable.place })
     → Contains bs a → ((w : Occurrence) → IsTokenMet m w a.variable.place → Breaks m w r a.variable.place)
-    → IfFaultAt (IsFaultInAssignments m n ρ (map assignment_form bs)) e
-assigned-room m n ρ bs a r e is there breaks =
-    let w = at n ρ (TermForm.application (named a.variable) (argument_forms a.index.items)) in
-    subst (IfFaultAt (IsFaultInAssignments m n ρ (map assignment_form bs))) (sym is)
-    (assignment_form a, mapped-in assignment_form bs a there, inl (breaks w (w, Itself, inl refl)))
+    → IfFaultAt (IsFaultInAssignments m l n ρ (map assignment_form bs)) e
+assigned-room m l n ρ bs a r e is there breaks =
+    let w = at (suc l) n ρ (TermForm.application (named a.variable) (argument_forms a.index.items)) in
+    subst (IfFaultAt (IsFaultInAssignments m l n ρ (map assignment_form bs))) (sym is)
+    (assigned-in m l n ρ bs a r a.variable.place there (inl (breaks w (w, Itself, inl refl))))
+
+-- no level is left to choose it
+pub assigned-deep : (m : Surroundings) (l n : ℕ) (ρ : TermScope) (bs : List Assignment) (a : Assignment) (e : OrMemory UnfoldFault) → e ≡ Refused (record { rule = rule.Depth; place = a.variable.place })
+    → Contains bs a → l ≡ 0 → IfFaultAt (IsFaultInAssignments m l n ρ (map assignment_form bs)) e
+assigned-deep m l n ρ bs a e is there none =
+    subst (IfFaultAt (IsFaultInAssignments m l n ρ (map assignment_form bs))) (sym is)
+    (assigned-in m l n ρ bs a rule.Depth a.variable.place there (inr (inr (none, refl, refl))))

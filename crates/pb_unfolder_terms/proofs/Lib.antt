@@ -17,3 +17,4 @@ pub mod BehindLemmas
 pub mod BoundsLemmas
 pub mod MetLemmas
 pub mod LargeLemmas
+pub mod DeepLemmas

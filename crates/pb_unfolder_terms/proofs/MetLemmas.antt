@@ -1,5 +1,5 @@
 -- Parts of what is met are met, and what their faults tell is told of the whole.
-use Rattle.std.proofs.Common.{◌≡◌, ◌<◌, ◌∙◌, ◌⊎◌, ◌+◌, ℕ, zero, suc, Bool, true, false, if◌then◌else◌, inl, inr, refl, sym, ap, subst, arith, List, [], ◌∷◌, map, drop, take, length, get_or, add-one, Option, Some, None}
+use Rattle.std.proofs.Common.{◌≡◌, ◌<◌, ◌≤◌, ◌∙◌, ◌⊎◌, ◌+◌, ℕ, zero, suc, Bool, true, false, if◌then◌else◌, inl, inr, refl, sym, ap, subst, arith, List, [], ◌∷◌, map, drop, take, length, get_or, Option, Some, None}
 use Rattle.std.specs.List.{slice_get}
 use Rattle.std.specs.Prelude.{Contains, IfErr, IsErrAnd, Result, Ok, Err}
 use Rattle.pb_errors.specs.declared.or_memory.OrMemory.{OrMemory}
@@ -18,10 +18,10 @@ use Rattle.pb_unfolder_terms.specs.declared.context.Context.{Context}
 use Rattle.pb_unfolder_terms.specs.declared.fault.UnfoldFault.{UnfoldFault}
 use Rattle.pb_unfolder_terms.specs.declared.sorts.Variable.{Variable}
 use Rattle.pb_unfolder_terms.specs.declared.scope.TermScope as declared_scope
-use Rattle.pb_unfolder_terms.specs.Large.{HasManyValues, IsFirstToken, IsValuesFault}
-use Rattle.pb_unfolder_terms.specs.Met.{HaveOutside, IsArgument, IsIndexFault, IsOutside, Itself, Occurrence, Operand, Surroundings, at}
+use Rattle.pb_unfolder_terms.specs.Large.{HasManyValues, IsValuesFault}
+use Rattle.pb_unfolder_terms.specs.Met.{HaveOutside, IsArgument, IsCalculated, IsChained, IsIndex, IsIndexFault, IsOutside, Itself, Occurrence, Operand, Surroundings, all_index_levels, at, index_levels}
 use Rattle.pb_unfolder_terms.specs.Scopes.{looked}
-use Rattle.pb_unfolder_terms.specs.Tells.{AreIndices, AreMetAt, IsFaultOf, IsMetAt, IsReadMet, IsScopeMet, scope_said, surroundings_in}
+use Rattle.pb_unfolder_terms.specs.Tells.{AreIndices, AreIndicesMet, AreMetAt, IsArrayMet, IsFaultOf, IsMetAt, IsReadMet, IsScopeMet, scope_said, surroundings_in}
 use Rattle.pb_unfolder_terms.specs.TermFaults.{Breaks, HasValues, IfFaultAt}
 use Rattle.pb_unfolder_terms.specs.Bounds.{IsSeenWithin, sort_interval}
 use Rattle.pb_unfolder_terms.specs.Contexts.{IsSeenInside, forms_in, interval_in, spec_in, state_variable_of}
@@ -77,66 +77,66 @@ found-in x vs given a e = elim (either-in x vs given None a (sym e)) [
 
 -- ---- parts
 
-module _ (c : Context) (n : ℕ) (ρ : TermScope) (whole : Occurrence) where
+-- y is the first operand of a chain, or one behind it
+abbrev pub IsChainOperand : TermForm → List TermLink → TermForm → Type 0
+IsChainOperand x ls y = (y ≡ x) ⊎ ((d : TermLink) × Contains ls d × (y ≡ term_form d.operand))
+
+module _ (c : Context) (l n : ℕ) (ρ : TermScope) (whole : Occurrence) where
   module _ (k : Connective) where
-    pub chain-first-met : (x : TermForm) (ls : List TermLink) → IsMetAt c n ρ (chained (TermForm.connected k) x (term_links ls)) whole → IsMetAt c n ρ x whole
-    chain-first-met x [] h = h
-    chain-first-met x (l ∷ ls) h = Operand n ρ (chained (TermForm.connected k) x (term_links (l ∷ ls))) x h (inl refl)
+    link-chained : (x : TermForm) (ls : List TermLink) (d : TermLink) → Contains ls d → IsChained (chained (TermForm.connected k) x (term_links ls)) (term_form d.operand)
+    link-chained x [] d h = absurd (omega (arith, h.1))
+    link-chained x (m ∷ []) d (zero, within, e) = inr (inl (ap (λ (b : TermLink). term_form b.operand) (sym e)))
+    link-chained x (m ∷ o ∷ ls) d (zero, within, e) = inr (inr (inl (ap (λ (b : TermLink). term_form b.operand) (sym e))))
+    link-chained x (m ∷ ls) d (suc i, within, e) = inr (inr (link-chained (term_form m.operand) ls d (i, omega (arith, within), e)))
 
-    chain-step-met : (x : TermForm) (ls : List TermLink) (i : ℕ) (l : TermLink) → i < length ls → l ≡ get_or ls i l
-        → IsMetAt c n ρ (chained (TermForm.connected k) x (term_links (drop i ls))) whole
-        → IsMetAt c n ρ (chained (TermForm.connected k) (term_form l.operand) (term_links (drop (suc i) ls))) whole
-    chain-step-met x [] i l within is h = absurd (omega (arith, within))
-    chain-step-met x (m ∷ ls) zero l within is h =
-        subst (λ (d : TermLink). IsMetAt c n ρ (chained (TermForm.connected k) (term_form d.operand) (term_links ls)) whole) (sym is)
-        (Operand n ρ (chained (TermForm.connected k) x (term_links (m ∷ ls))) (chained (TermForm.connected k) (term_form m.operand) (term_links ls)) h (inr refl))
-    chain-step-met x (m ∷ ls) (suc i) l within is h = chain-step-met x ls i l (omega (arith, within)) is h
+    -- an operand of a chain
+    pub chain-operand-met : (x : TermForm) (ls : List TermLink) (y : TermForm) → 0 < length ls → IsChainOperand x ls y
+        → IsMetAt c (suc l) n ρ (chained (TermForm.connected k) x (term_links ls)) whole → IsMetAt c l n ρ y whole
+    chain-operand-met x [] y some o h = absurd (omega (arith, some))
+    chain-operand-met x (m ∷ ls) y some (inl e) h = Operand l n ρ (chained (TermForm.connected k) x (term_links (m ∷ ls))) y h (inr (inl (inl e)))
+    chain-operand-met x (m ∷ ls) y some (inr (d, there, e)) h =
+        Operand l n ρ (chained (TermForm.connected k) x (term_links (m ∷ ls))) y h
+        (inr (inl (subst (IsChained (chained (TermForm.connected k) x (term_links (m ∷ ls)))) (sym e) (link-chained x (m ∷ ls) d there))))
 
-    -- one operand further
-    pub chain-next-met : (x : TermForm) (ls : List TermLink) (i : ℕ) (l : TermLink) → i < length ls → l ≡ get_or ls i l
-        → IsMetAt c n ρ (chained (TermForm.connected k) x (term_links (drop i ls))) whole
-        → IsMetAt c n ρ (chained (TermForm.connected k) (term_form l.operand) (term_links (drop (i + 1) ls))) whole
-    chain-next-met x ls i l within is h =
-        subst (λ (j : ℕ). IsMetAt c n ρ (chained (TermForm.connected k) (term_form l.operand) (term_links (drop j ls))) whole) (sym (add-one i)) (chain-step-met x ls i l within is h)
+  calculated-within : (x : TermForm) (ls : List ArithmeticLink) (y : TermForm) → IsCalculated x y → IsCalculated (calculated x (arithmetic_links ls)) y
+  calculated-within x [] y h = h
+  calculated-within x (m ∷ ls) y h = calculated-within (TermForm.computed m.operator m.place x (term_form m.operand)) ls y (inr (inr h))
 
-  pub arithmetic-first-met : (x : TermForm) (ls : List ArithmeticLink) → IsMetAt c n ρ (calculated x (arithmetic_links ls)) whole → IsMetAt c n ρ x whole
-  arithmetic-first-met x [] h = h
-  arithmetic-first-met x (l ∷ ls) h =
-      let y = TermForm.computed l.operator l.place x (term_form l.operand) in
-      Operand n ρ y x (arithmetic-first-met y ls h) (inl refl)
+  first-calculated : (x : TermForm) (ls : List ArithmeticLink) → 0 < length ls → IsCalculated (calculated x (arithmetic_links ls)) x
+  first-calculated x [] some = absurd (omega (arith, some))
+  first-calculated x (m ∷ ls) some = calculated-within (TermForm.computed m.operator m.place x (term_form m.operand)) ls x (inr (inl refl))
 
-  pub arithmetic-link-met : (x : TermForm) (ls : List ArithmeticLink) (i : ℕ) (l : ArithmeticLink) → i < length ls → l ≡ get_or ls i l
-      → IsMetAt c n ρ (calculated x (arithmetic_links ls)) whole → IsMetAt c n ρ (term_form l.operand) whole
-  arithmetic-link-met x [] i l within is h = absurd (omega (arith, within))
-  arithmetic-link-met x (m ∷ ls) zero l within is h =
-      let y = TermForm.computed m.operator m.place x (term_form m.operand) in
-      subst (λ (d : ArithmeticLink). IsMetAt c n ρ (term_form d.operand) whole) (sym is) (Operand n ρ y (term_form m.operand) (arithmetic-first-met y ls h) (inr refl))
-  arithmetic-link-met x (m ∷ ls) (suc i) l within is h =
-      arithmetic-link-met (TermForm.computed m.operator m.place x (term_form m.operand)) ls i l (omega (arith, within)) is h
+  link-calculated : (x : TermForm) (ls : List ArithmeticLink) (d : ArithmeticLink) → Contains ls d → IsCalculated (calculated x (arithmetic_links ls)) (term_form d.operand)
+  link-calculated x [] d h = absurd (omega (arith, h.1))
+  link-calculated x (m ∷ ls) d (zero, within, e) =
+      calculated-within (TermForm.computed m.operator m.place x (term_form m.operand)) ls (term_form d.operand) (inl (ap (λ (b : ArithmeticLink). term_form b.operand) (sym e)))
+  link-calculated x (m ∷ ls) d (suc i, within, e) = link-calculated (TermForm.computed m.operator m.place x (term_form m.operand)) ls d (i, omega (arith, within), e)
+
+  -- the first operand of arithmetic, and one behind it
+  pub arithmetic-first-met : (x : TermForm) (ls : List ArithmeticLink) → 0 < length ls → IsMetAt c (suc l) n ρ (calculated x (arithmetic_links ls)) whole → IsMetAt c l n ρ x whole
+  arithmetic-first-met x ls some h = Operand l n ρ (calculated x (arithmetic_links ls)) x h (inr (inr (first-calculated x ls some)))
+
+  pub arithmetic-link-met : (x : TermForm) (ls : List ArithmeticLink) (i : ℕ) (d : ArithmeticLink) → i < length ls → d ≡ get_or ls i d
+      → IsMetAt c (suc l) n ρ (calculated x (arithmetic_links ls)) whole → IsMetAt c l n ρ (term_form d.operand) whole
+  arithmetic-link-met x ls i d within is h =
+      Operand l n ρ (calculated x (arithmetic_links ls)) (term_form d.operand) h (inr (inr (link-calculated x ls d (item-in ls i d within is))))
 
   argument-in : (given : List Argument) (a : Argument) → Contains given a → IsArgument (argument_forms given) (term_form a.term)
   argument-in [] a h = absurd (omega (arith, h.1))
   argument-in (b ∷ given) a (zero, within, e) = inl (ap (λ (d : Argument). term_form d.term) (sym e))
   argument-in (b ∷ given) a (suc k, within, e) = inr (argument-in given a (k, omega (arith, within), e))
 
-  first-token : (given : List Argument) (a : Argument) → Contains given a → IsFirstToken (argument_forms given) a.place
-  first-token [] a h = absurd (omega (arith, h.1))
-  first-token (b ∷ given) a (zero, within, e) = inl (ap (λ (d : Argument). d.place) (sym e))
-  first-token (b ∷ given) a (suc k, within, e) = inr (first-token given a (k, omega (arith, within), e))
-
   -- the arguments of what is met
-  pub arguments-met : (f : Named) (given : List Argument) → IsMetAt c n ρ (TermForm.application f (argument_forms given)) whole → AreMetAt c n ρ given whole
-  arguments-met f given h = λ a in-it. (
-    Operand n ρ (TermForm.application f (argument_forms given)) (term_form a.term) h (argument-in given a in-it),
-    (at n ρ (TermForm.application f (argument_forms given)), h, inr (first-token given a in-it)),
-  )
+  pub arguments-met : (f : Named) (given : List Argument) → IsMetAt c (suc l) n ρ (TermForm.application f (argument_forms given)) whole → AreMetAt c l n ρ given whole
+  arguments-met f given h = λ a in-it. Operand l n ρ (TermForm.application f (argument_forms given)) (term_form a.term) h (inl (argument-in given a in-it))
 
-  pub argument-at-met : (given : List Argument) (i : ℕ) (a : Argument) → i < length given → a ≡ get_or given i a → AreMetAt c n ρ given whole → IsMetAt c n ρ (term_form a.term) whole
-  argument-at-met given i a within is h = (h a (item-in given i a within is)).0
+  pub argument-at-met : (given : List Argument) (i : ℕ) (a : Argument) → i < length given → a ≡ get_or given i a → AreMetAt c l n ρ given whole → IsMetAt c l n ρ (term_form a.term) whole
+  argument-at-met given i a within is h = h a (item-in given i a within is)
 
-  pub other-arguments-met : (given : List Argument) → AreMetAt c n ρ given whole → AreMetAt c n ρ (drop 1 given) whole
+  pub other-arguments-met : (given : List Argument) → AreMetAt c l n ρ given whole → AreMetAt c l n ρ (drop 1 given) whole
   other-arguments-met given h = λ a in-it. h a (left-in given a in-it)
 
+module _ (c : Context) (n : ℕ) (ρ : TermScope) (whole : Occurrence) where
   -- ---- reads
 
   -- the first argument is outside
@@ -163,19 +163,72 @@ others-many : (S : Spec) (is : List Variable) → HasManyValues S (map variable_
 others-many S [] v = v
 others-many S (i ∷ is) (x, there, many) = (x, behind-in (variable_of i) (map variable_of is) x there, many)
 
-pub others-met : (c : Context) (n : ℕ) (scope : declared_scope.TermScope) (whole : Occurrence) (p q : Place) (is js : List Variable) (given others : List Argument) → q ≡ p → js ≡ drop 1 is → others ≡ drop 1 given
-    → IsReadMet c n scope p given is whole → IsReadMet c n scope q others js whole
-others-met c n scope whole p q is js given others d e f h =
-    let ρ = scope_said c scope in
-    subst (λ (r : Place). IsReadMet c n scope r others js whole) (sym d)
-    (subst (λ (vs : List Variable). IsReadMet c n scope p others vs whole) (sym e)
-    (subst (λ (bs : List Argument). IsReadMet c n scope p bs (drop 1 is) whole) (sym f)
-    (record {
-      arguments_met = (other-arguments-met c n ρ whole given h.arguments_met.0, h.arguments_met.1);
-      outside = λ r o. h.outside r (others-outside c n ρ whole is given r o);
-      token = h.token;
-      values = λ many. h.values (others-many (spec_in c) is many);
-    })))
+module _ (c : Context) (n : ℕ) (scope : declared_scope.TermScope) (whole : Occurrence) (p : Place) (is : List Variable) (given : List Argument) where
+  read-others : IsReadMet c n scope p given is whole → IsReadMet c n scope p (drop 1 given) (drop 1 is) whole
+  read-others h = record {
+    scope_met = h.scope_met;
+    outside = λ r o. h.outside r (others-outside c n (scope_said c scope) whole is given r o);
+    token = h.token;
+    values = λ many. h.values (others-many (spec_in c) is many);
+  }
+
+  -- behind the first index, which takes d levels
+  pub array-others : (k d : ℕ) (i : Variable) (a : Argument) → Some i ≡ slice_get is 0 → Some a ≡ slice_get given 0 → 0 < d
+      → d ≤ index_levels (surroundings_in c) n (scope_said c scope) (term_form a.term) (variable_of i)
+      → IsArrayMet c (k + d) n scope p given is whole → IsArrayMet c k n scope p (drop 1 given) (drop 1 is) whole
+  array-others k d i a there first some within h = record {
+    read = read-others h.read;
+    index = λ j e y same o. h.index j (d + e) y (omega (arith, same)) (later is given there first e y o);
+    deep = λ less. h.deep (more is given there first less);
+  }
+    where
+      m : Surroundings
+      m = surroundings_in c
+
+      σ : TermScope
+      σ = scope_said c scope
+
+      later : (js : List Variable) (bs : List Argument) → Some i ≡ slice_get js 0 → Some a ≡ slice_get bs 0 → (e : ℕ) (y : TermForm)
+          → IsIndex m n σ (argument_forms (drop 1 bs)) (map variable_of (drop 1 js)) e y → IsIndex m n σ (argument_forms bs) (map variable_of js) (d + e) y
+      later [] bs u v e y o = absurd (not-none i u)
+      later (j ∷ js) [] u v e y o = absurd (not-none a v)
+      later (j ∷ js) (b ∷ bs) u v e y o =
+          inr (
+            d,
+            e,
+            refl,
+            some,
+            subst (λ (z : Argument). d ≤ index_levels m n σ (term_form z.term) (variable_of j)) (some-is a b v)
+                (subst (λ (z : Variable). d ≤ index_levels m n σ (term_form a.term) (variable_of z)) (some-is i j u) within),
+            o,
+          )
+
+      more : (js : List Variable) (bs : List Argument) → Some i ≡ slice_get js 0 → Some a ≡ slice_get bs 0
+          → k < all_index_levels m n σ (argument_forms (drop 1 bs)) (map variable_of (drop 1 js)) → k + d < all_index_levels m n σ (argument_forms bs) (map variable_of js)
+      more [] bs u v less = absurd (not-none i u)
+      more (j ∷ js) [] u v less = absurd (not-none a v)
+      more (j ∷ js) (b ∷ bs) u v less =
+          let bound = subst (λ (z : Argument). d ≤ index_levels m n σ (term_form z.term) (variable_of j)) (some-is a b v)
+          (subst (λ (z : Variable). d ≤ index_levels m n σ (term_form a.term) (variable_of z)) (some-is i j u) within) in
+          omega (arith, less, bound)
+
+  -- the first index
+  pub array-first : (l : ℕ) (i : Variable) (a : Argument) → Some i ≡ slice_get is 0 → Some a ≡ slice_get given 0
+      → IsArrayMet c l n scope p given is whole → IsMetAt c l n (scope_said c scope) (term_form a.term) whole
+  array-first l i a there first h = h.index l 0 (term_form a.term) (omega arith) (here is given there first)
+    where
+      here : (js : List Variable) (bs : List Argument) → Some i ≡ slice_get js 0 → Some a ≡ slice_get bs 0
+          → IsIndex (surroundings_in c) n (scope_said c scope) (argument_forms bs) (map variable_of js) 0 (term_form a.term)
+      here [] bs u v = absurd (not-none i u)
+      here (j ∷ js) [] u v = absurd (not-none a v)
+      here (j ∷ js) (b ∷ bs) u v = inl (refl, ap (λ (z : Argument). term_form z.term) (some-is a b v))
+
+  -- behind the first argument of what is compared
+  pub indices-others : (l : ℕ) → AreIndicesMet c l n scope p given is whole → AreIndicesMet c l n scope p (drop 1 given) (drop 1 is) whole
+  indices-others l h = record {
+    read = read-others h.read;
+    arguments_met = other-arguments-met c l n (scope_said c scope) whole given h.arguments_met;
+  }
 
 -- ---- faults
 
@@ -202,24 +255,33 @@ values-met c (Arguments' parameters arguments n p user) whole v = absurd v
 
 -- ---- assignments
 
-pub taken-in : {X Y : Type 0} (g : X → Y) (k : ℕ) (xs : List X) (y : Y) → Contains (map g (take k xs)) y → Contains (map g xs) y
-taken-in g zero xs y h = absurd (omega (arith, h.1))
-taken-in g (suc k) [] y h = absurd (omega (arith, h.1))
-taken-in g (suc k) (x ∷ xs) y (zero, within, e) = (zero, omega arith, e)
-taken-in g (suc k) (x ∷ xs) y (suc j, within, e) = behind-in (g x) (map g xs) y (taken-in g k xs y (j, omega (arith, within), e))
+-- an item of the first k stands where it stands in all
+pub taken-at : {X Y : Type 0} (g : X → Y) (k : ℕ) (xs : List X) (y : Y) (there : Contains (map g (take k xs)) y)
+    → (all : Contains (map g xs) y) × (all.0 ≡ there.0) × (there.0 < length (map g (take k xs)))
+taken-at g zero xs y h = absurd (omega (arith, h.1))
+taken-at g (suc k) [] y h = absurd (omega (arith, h.1))
+taken-at g (suc k) (x ∷ xs) y (zero, within, e) = ((zero, omega arith, e), refl, within)
+taken-at g (suc k) (x ∷ xs) y (suc j, within, e) =
+    let rest = taken-at g k xs y (j, omega (arith, within), e) in
+    ((suc rest.0.0, omega (arith, rest.0.1), rest.0.2), ap suc rest.1, within)
+
+pub taken-length : {X : Type 0} (k : ℕ) (xs : List X) → length (take k xs) ≤ k
+taken-length zero xs = omega arith
+taken-length (suc k) [] = omega arith
+taken-length (suc k) (x ∷ xs) = omega (arith, taken-length k xs)
 
 no-indices : (c : Context) (n : ℕ) (ρ : TermScope) (given : List Argument) (p : Place) → HaveOutside (surroundings_in c) n ρ (argument_forms given) [] p → ⊥
 no-indices c n ρ [] p h = h
 no-indices c n ρ (a ∷ given) p h = h
 
 -- an index of what is assigned to is one of what is read
-pub assigned-read : (c : Context) (n : ℕ) (ρ : TermScope) (f : Named) (given : List Argument) (x : Name) (indices : List Variable) → AreIndices c x indices → x ≡ f.text → (p : Place)
+pub assigned-read : (c : Context) (l n : ℕ) (ρ : TermScope) (f : Named) (given : List Argument) (x : Name) (indices : List Variable) → AreIndices c x indices → x ≡ f.text → (p : Place)
     → HaveOutside (surroundings_in c) n ρ (argument_forms given) (map variable_of indices) p
-    → IsIndexFault (surroundings_in c) (at n ρ (TermForm.application f (argument_forms given))) p
-assigned-read c n ρ f given x indices (inl e) same p o =
+    → IsIndexFault (surroundings_in c) (at l n ρ (TermForm.application f (argument_forms given))) p
+assigned-read c l n ρ f given x indices (inl e) same p o =
     absurd (no-indices c n ρ given p (subst (λ (vs : List Variable). HaveOutside (surroundings_in c) n ρ (argument_forms given) (map variable_of vs) p) e o))
-assigned-read c n ρ f given x indices (inr (y, there, name, e)) same p o = (
-  at n ρ (TermForm.application f (argument_forms given)),
+assigned-read c l n ρ f given x indices (inr (y, there, name, e)) same p o = (
+  at l n ρ (TermForm.application f (argument_forms given)),
   Itself,
   (
     state_variable_of y,
@@ -230,16 +292,16 @@ assigned-read c n ρ f given x indices (inr (y, there, name, e)) same p o = (
 )
 
 -- nor has an index of it too many values
-pub assigned-many : (c : Context) (n : ℕ) (ρ : TermScope) (f : Named) (given : List Argument) (x : Name) (indices : List Variable) → AreIndices c x indices → x ≡ f.text
+pub assigned-many : (c : Context) (l n : ℕ) (ρ : TermScope) (f : Named) (given : List Argument) (x : Name) (indices : List Variable) → AreIndices c x indices → x ≡ f.text
     → HasManyValues (spec_in c) (map variable_of indices)
-    → IsValuesFault (surroundings_in c) (at n ρ (TermForm.application f (argument_forms given))) f.place
-assigned-many c n ρ f given x indices (inl e) same many =
+    → IsValuesFault (surroundings_in c) (at l n ρ (TermForm.application f (argument_forms given))) f.place
+assigned-many c l n ρ f given x indices (inl e) same many =
     absurd (none (subst (λ (vs : List Variable). HasManyValues (spec_in c) (map variable_of vs)) e many))
   where
     none : HasManyValues (spec_in c) [] → ⊥
     none v = omega (arith, v.1.1)
-assigned-many c n ρ f given x indices (inr (y, there, name, e)) same many = (
-  at n ρ (TermForm.application f (argument_forms given)),
+assigned-many c l n ρ f given x indices (inr (y, there, name, e)) same many = (
+  at l n ρ (TermForm.application f (argument_forms given)),
   Itself,
   (
     refl,

@@ -3,7 +3,7 @@
 use Rattle.std.specs.Prelude.{◌≡◌, ◌<◌, ◌⊎◌, List, length, Contains}
 use Rattle.pb_limits.specs.declared.TheConstants.{MAX_OPERATORS}
 use Rattle.pb_text_tree.specs.declared.place.Place.{Place}
-use Rattle.pb_text_tree.specs.Form.{TermForm, ArgumentForms, no_arguments, argument}
+use Rattle.pb_text_tree.specs.Form.{TermForm}
 use Rattle.pb_text_meaning.specs.Syntax.{Variable, Spec}
 use Rattle.pb_text_meaning.specs.Erase.{erased_term, erased_variables}
 use Rattle.pb_protocol_meaning.specs.Syntax.{StateVariable}
@@ -14,28 +14,32 @@ use Rattle.pb_unfolder_terms.specs.Unfolding.{operator_count}
 
 -- ---- tokens
 
--- the first token of one of these arguments stands at p
-abbrev pub IsFirstToken : ArgumentForms → Place → Type 0
-IsFirstToken no_arguments p = ⊥
-IsFirstToken (argument q x xs) p = (p ≡ q) ⊎ IsFirstToken xs p
-
--- the term's own token stands at p, its operator, name, quantifier or constant, or the first one of
--- an argument
+-- the term's own token stands at p, its operator, name, quantifier or constant
 abbrev pub IsTokenOf : TermForm → Place → Type 0
 IsTokenOf (TermForm.constant q b) p = p ≡ q
 IsTokenOf (TermForm.number q n) p = p ≡ q
 IsTokenOf (TermForm.name x) p = p ≡ x.place
 IsTokenOf (TermForm.not q x) p = p ≡ q
 IsTokenOf (TermForm.negative q x) p = p ≡ q
-IsTokenOf (TermForm.connected c q x y) p = p ≡ q
 IsTokenOf (TermForm.compared c q x y) p = p ≡ q
-IsTokenOf (TermForm.computed o q x y) p = p ≡ q
-IsTokenOf (TermForm.application f xs) p = (p ≡ f.place) ⊎ IsFirstToken xs p
+IsTokenOf (TermForm.application f xs) p = p ≡ f.place
 IsTokenOf (TermForm.quantified q r xs x) p = p ≡ r
+IsTokenOf x p = ⊥
+
+-- a connective of a row of them stands at p, or an operator of arithmetic
+abbrev pub IsConnectiveAt : TermForm → Place → Type 0
+IsConnectiveAt (TermForm.connected c q x y) p = (p ≡ q) ⊎ IsConnectiveAt y p
+IsConnectiveAt x p = ⊥
+
+abbrev pub IsOperatorAt : TermForm → Place → Type 0
+IsOperatorAt (TermForm.computed o q x y) p = (p ≡ q) ⊎ IsOperatorAt x p
+IsOperatorAt x p = ⊥
 
 -- of a term that is met
 abbrev pub IsTokenMet : Surroundings → Occurrence → Place → Type 0
-IsTokenMet m whole p = (o : Occurrence) × IsMet m whole o × IsTokenOf o.term p
+IsTokenMet m whole p =
+    (o : Occurrence) × IsMet m whole o
+    × (IsTokenOf o.term p ⊎ (IsConnectiveAt o.term p ⊎ IsOperatorAt o.term p))
 
 -- ---- operators
 

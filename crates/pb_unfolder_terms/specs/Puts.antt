@@ -51,6 +51,16 @@ calculated_term x [] = x
 calculated_term x (l ∷ ls) =
     calculated_term (Term.Binary (of_arithmetic l.operator) x (tree.term_of l.operand)) ls
 
+-- arguments with one more behind them
+abbrev pub with_last : Terms → Term → Terms
+with_last Terms.NoTerms y = Terms.Then y Terms.NoTerms
+with_last (Terms.Then x xs) y = Terms.Then x (with_last xs y)
+
+-- of the one behind them the truth alone may count where it is the first
+abbrev pub truth_behind : Bool → Terms → Bool
+truth_behind truth Terms.NoTerms = truth
+truth_behind truth (Terms.Then x xs) = false
+
 -- f(c, x, y)
 abbrev pub choice_of : Name → Term → Term → Term → Term
 choice_of f c x y =

@@ -1,5 +1,6 @@
 -- What the fault of a term tells, where the term is met when another one is unfolded.
-use Rattle.std.specs.Prelude.{◌≡◌, ◌<◌, ◌⊎◌, ℕ, List, [], map, Contains, Result, IfErr, string_bytes}
+use Rattle.std.specs.Prelude.{◌≡◌, ◌<◌, ◌≤◌, ◌+◌, ◌⊎◌, ℕ, List, [], map, length, Contains}
+use Rattle.std.specs.Prelude.{Result, IfErr, string_bytes}
 use Rattle.std.specs.List.{slice_get}
 use Rattle.std.specs.Prelude.{Some}
 use Rattle.pb_errors.specs.OrMemory.{IfFault}
@@ -10,6 +11,7 @@ use Rattle.pb_text_tree.specs.Form.{TermForm, argument_forms, term_form}
 use Rattle.pb_text_meaning.specs.Syntax.{Name, Term}
 use Rattle.pb_unfolding.specs.PutIn.{TermScope, standing}
 use Rattle.pb_unfolding.specs.Unfolding.{terms_of}
+use Rattle.pb_unfolder_terms.specs.declared.array.Choices as declared_choices
 use Rattle.pb_unfolder_terms.specs.declared.connectives.Copies as declared_copies
 use Rattle.pb_unfolder_terms.specs.declared.context.Context as declared_context
 use Rattle.pb_unfolder_terms.specs.declared.context.Definition as declared_definition
@@ -24,8 +26,9 @@ use Rattle.pb_unfolder_terms.specs.declared.scope.TermScope.TheVariants.{Empty, 
 use Rattle.pb_unfolder_terms.specs.declared.sorts.Variable as declared_variable
 use Rattle.pb_unfolder_terms.specs.Contexts.{definition_of, forms_in, spec_in, state_variable_of}
 use Rattle.pb_unfolder_terms.specs.Large.{HasManyValues, IsTokenMet, IsValuesFault}
-use Rattle.pb_unfolder_terms.specs.Met.{HaveOutside, IsIndexFault, IsMet, Occurrence, Surroundings}
-use Rattle.pb_unfolder_terms.specs.Met.{at}
+use Rattle.pb_unfolder_terms.specs.Deep.{IsDepthFault}
+use Rattle.pb_unfolder_terms.specs.Met.{HaveOutside, IsIndex, IsIndexFault, IsMet, Occurrence}
+use Rattle.pb_unfolder_terms.specs.Met.{Surroundings, all_index_levels, at}
 use Rattle.pb_unfolder_terms.specs.Scopes.{scope_of}
 use Rattle.pb_unfolder_terms.specs.TermFaults.{Breaks}
 use Rattle.pb_unfolder_terms.specs.Values.{tuple_of}
@@ -54,47 +57,47 @@ abbrev pub scope_said : declared_context.Context → declared_scope.TermScope �
 scope_said c scope = scope_of (spec_in c) (forms_in c) scope
 
 abbrev pub IsMetAt :
-    declared_context.Context → ℕ → TermScope → TermForm → Occurrence → Type 0
-IsMetAt c n ρ x whole = IsMet (surroundings_in c) whole (at n ρ x)
+    declared_context.Context → ℕ → ℕ → TermScope → TermForm → Occurrence → Type 0
+IsMetAt c l n ρ x whole = IsMet (surroundings_in c) whole (at l n ρ x)
 
 abbrev pub IsTokenAt : declared_context.Context → Place → Occurrence → Type 0
 IsTokenAt c p whole = IsTokenMet (surroundings_in c) whole p
 
--- each with its first token
 abbrev pub AreMetAt :
-    declared_context.Context → ℕ → TermScope → List declared_argument.Argument → Occurrence →
+    declared_context.Context → ℕ → ℕ → TermScope → List declared_argument.Argument → Occurrence →
     Type 0
-AreMetAt c n ρ arguments whole =
+AreMetAt c l n ρ arguments whole =
     (a : declared_argument.Argument) → Contains arguments a
-    → IsMetAt c n ρ (term_form a.term) whole × IsTokenAt c a.place whole
+    → IsMetAt c l n ρ (term_form a.term) whole
 
--- the arguments that names stand for are met
+-- the arguments that names stand for are met, with levels of their own
 abbrev pub IsScopeMet :
     declared_context.Context → declared_scope.TermScope → Occurrence → Type 0
 IsScopeMet c Empty whole = Unit {0}
 IsScopeMet c (Values' variables values p outer) whole = IsScopeMet c outer whole
 IsScopeMet c (Arguments' parameters arguments n p user) whole =
-    AreMetAt c n (scope_said c user) arguments.now whole × IsScopeMet c user whole
+    ((l : ℕ) × AreMetAt c l n (scope_said c user) arguments.now whole)
+    × IsScopeMet c user whole
 
 -- ---- what is met, of each part that is unfolded
 
 abbrev pub IsTermMet :
-    declared_context.Context → ℕ → declared_scope.TermScope → TermForm → Occurrence → Type 0
-IsTermMet c n scope x whole =
-    IsMetAt c n (scope_said c scope) x whole × IsScopeMet c scope whole
+    declared_context.Context → ℕ → ℕ → declared_scope.TermScope → TermForm → Occurrence → Type 0
+IsTermMet c l n scope x whole =
+    IsMetAt c l n (scope_said c scope) x whole × IsScopeMet c scope whole
 
 abbrev pub AreArgumentsMet :
-    declared_context.Context → ℕ → declared_scope.TermScope → List declared_argument.Argument →
-    Occurrence → Type 0
-AreArgumentsMet c n scope arguments whole =
-    AreMetAt c n (scope_said c scope) arguments whole × IsScopeMet c scope whole
+    declared_context.Context → ℕ → ℕ → declared_scope.TermScope →
+    List declared_argument.Argument → Occurrence → Type 0
+AreArgumentsMet c l n scope arguments whole =
+    AreMetAt c l n (scope_said c scope) arguments whole × IsScopeMet c scope whole
 
 -- an array that is used at the place: where one of the arguments is outside, or an index has too
 -- many values, that is the whole's fault
 pub record IsReadMet (c : declared_context.Context) (n : ℕ) (scope : declared_scope.TermScope)
     (place : Place) (arguments : List declared_argument.Argument)
     (indices : List declared_variable.Variable) (whole : Occurrence) : Type 0 where
-  pub arguments_met : AreArgumentsMet c n scope arguments whole
+  pub scope_met : IsScopeMet c scope whole
   pub outside : (p : Place)
       → HaveOutside (surroundings_in c) n (scope_said c scope) (argument_forms arguments)
       (map variable_of indices) p
@@ -103,20 +106,52 @@ pub record IsReadMet (c : declared_context.Context) (n : ℕ) (scope : declared_
   pub values : HasManyValues (spec_in c) (map variable_of indices)
       → IsValuesFault (surroundings_in c) whole place
 
+-- with its arguments, each at so many levels
+pub record AreIndicesMet (c : declared_context.Context) (l n : ℕ) (scope : declared_scope.TermScope)
+    (place : Place) (arguments : List declared_argument.Argument)
+    (indices : List declared_variable.Variable) (whole : Occurrence) : Type 0 where
+  pub read : IsReadMet c n scope place arguments indices whole
+  pub arguments_met : AreMetAt c l n (scope_said c scope) arguments whole
+
+-- an array that is read with so many levels left: each argument is met behind what those before it
+-- take, and too few levels for all are the whole's fault
+pub record IsArrayMet (c : declared_context.Context) (l n : ℕ) (scope : declared_scope.TermScope)
+    (place : Place) (arguments : List declared_argument.Argument)
+    (indices : List declared_variable.Variable) (whole : Occurrence) : Type 0 where
+  pub read : IsReadMet c n scope place arguments indices whole
+  pub index : (k d : ℕ) (y : TermForm) → l ≡ k + d
+      → IsIndex (surroundings_in c) n (scope_said c scope) (argument_forms arguments)
+      (map variable_of indices) d y → IsMetAt c k n (scope_said c scope) y whole
+  pub deep : l < all_index_levels (surroundings_in c) n (scope_said c scope)
+      (argument_forms arguments) (map variable_of indices)
+      → IsDepthFault (surroundings_in c) whole place
+
+-- a choice with so many levels left, of which each value takes one
+pub record AreChoicesMet (c : declared_context.Context) (l n : ℕ)
+    (scope : declared_scope.TermScope) (choices : declared_choices.Choices) (whole : Occurrence)
+    : Type 0 where
+  pub others : (k d : ℕ) → 0 < d → d ≤ length choices.values.now → l ≡ k + d
+      → IsArrayMet c k n scope choices.others.name.now.place choices.others.arguments.now
+      choices.others.indices.now whole
+  pub deep : l < length choices.values.now
+      → IsDepthFault (surroundings_in c) whole choices.others.name.now.place
+  pub token : IsTokenAt c choices.others.name.now.place whole
+
 -- the quantifier at the place, and the body with each of these tuples of values
 abbrev pub AreCopiesMet :
-    declared_context.Context → ℕ → declared_scope.TermScope → Place → declared_copies.Copies →
-    TermForm → Occurrence → Type 0
-AreCopiesMet c n scope place copies x whole =
+    declared_context.Context → ℕ → ℕ → declared_scope.TermScope → Place →
+    declared_copies.Copies → TermForm → Occurrence → Type 0
+AreCopiesMet c l n scope place copies x whole =
     ((ks : List Term) → Contains (map tuple_of copies.tuples.now) ks
-    → IsMetAt c n (standing (map variable_of copies.variables.now) (terms_of ks)
+    → IsMetAt c l n (standing (map variable_of copies.variables.now) (terms_of ks)
     (scope_said c scope)) x whole)
     × IsScopeMet c scope whole × IsTokenAt c place whole
 
 -- what a name stands for
 abbrev pub IsFoundMet : declared_context.Context → declared_found.Found → Occurrence → Type 0
 IsFoundMet c (found.Argument term n user) whole =
-    IsTermMet c n user.now (term_form term.now) whole
+    ((l : ℕ) × IsMetAt c l n (scope_said c user.now) (term_form term.now) whole)
+    × IsScopeMet c user.now whole
 IsFoundMet c f whole = Unit {0}
 
 -- where it is met, an error is a fault of the whole

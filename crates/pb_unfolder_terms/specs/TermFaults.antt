@@ -1,5 +1,5 @@
 -- What the fault of a protocol's term, or of a step's assignments, says.
-use Rattle.std.specs.Prelude.{◌⊎◌, ◌<◌, ℕ, List, [], map, length, Contains}
+use Rattle.std.specs.Prelude.{◌≡◌, ◌⊎◌, ◌<◌, ◌≤◌, ◌+◌, ℕ, suc, List, [], map, length, Contains}
 use Rattle.pb_errors.specs.OrMemory.{IfFault}
 use Rattle.pb_errors.specs.declared.or_memory.OrMemory.{OrMemory}
 use Rattle.pb_limits.specs.declared.TheConstants.{MAX_OPERATORS}
@@ -16,6 +16,8 @@ use Rattle.pb_unfolder_terms.specs.declared.fault.UnfoldRule.{UnfoldRule}
 use Rattle.pb_unfolder_terms.specs.declared.fault.UnfoldRule.TheVariants as rule
 use Rattle.pb_unfolder_terms.specs.declared.scope.TermScope as declared_scope
 use Rattle.pb_unfolder_terms.specs.declared.scope.TermScope.TheVariants.{Empty, Values', Arguments'}
+use Rattle.pb_unfolder_terms.specs.declared.term.TheConstants.{MAX_LEVELS}
+use Rattle.pb_unfolder_terms.specs.Deep.{IsDepthFault}
 use Rattle.pb_unfolder_terms.specs.Large.{HasManyOperators, IsTokenMet, IsValuesFault}
 use Rattle.pb_unfolder_terms.specs.Met.{IsIndexFault, Occurrence, Surroundings, at, forms}
 use Rattle.pb_unfolder_terms.specs.Scopes.{scope_of}
@@ -52,13 +54,13 @@ scope_by m scope = scope_of m.spec (forms m) scope
 
 -- ---- faults
 
--- an array is read at an index outside, or too many values are written out; too many operators, and
--- levels, are told of at a token of what is met
+-- an array is read at an index outside, too many values are written out, or terms nest too deep;
+-- too many operators are told of at a token of what is met
 abbrev pub Breaks : Surroundings → Occurrence → UnfoldRule → Place → Type 0
 Breaks m whole rule.Index p = IsIndexFault m whole p
 Breaks m whole rule.Values p = IsValuesFault m whole p
 Breaks m whole rule.Operators p = IsTokenMet m whole p
-Breaks m whole rule.Depth p = IsTokenMet m whole p
+Breaks m whole rule.Depth p = IsDepthFault m whole p
 
 -- P of the rule and the place
 abbrev pub IsFaultAt : (UnfoldRule → Place → Type 0) → UnfoldFault → Type 0
@@ -75,20 +77,24 @@ WithMany Many P r p = P r p
 -- in a term, by all definitions: of operators it has too many
 abbrev pub IsFaultInTerm : Surroundings → TermScope → TermForm → UnfoldRule → Place → Type 0
 IsFaultInTerm m ρ x =
-    let whole = at (length m.definitions) ρ x in
+    let whole = at MAX_LEVELS (length m.definitions) ρ x in
     WithMany (HasManyOperators m whole) (Breaks m whole)
 
--- in an assignment: as in the read of what it assigns to, or in its term
+-- in an assignment with so many levels for its term and its indices: as in the read of what it
+-- assigns to, in its term, or no level is left to choose it
 abbrev pub IsFaultInAssignment :
-    Surroundings → ℕ → TermScope → AssignmentForm → UnfoldRule → Place → Type 0
-IsFaultInAssignment m n ρ a r p =
-    Breaks m (at n ρ (TermForm.application a.variable a.index)) r p
-    ⊎ Breaks m (at n ρ a.value) r p
+    Surroundings → ℕ → ℕ → TermScope → AssignmentForm → UnfoldRule → Place → Type 0
+IsFaultInAssignment m l n ρ a r p =
+    Breaks m (at (suc l) n ρ (TermForm.application a.variable a.index)) r p
+    ⊎ Breaks m (at l n ρ a.value) r p
+    ⊎ ((l ≡ 0) × (r ≡ rule.Depth) × (p ≡ a.variable.place))
 
+-- in one of them, which has a level less than all for each at most of those behind it
 abbrev pub IsFaultInAssignments :
-    Surroundings → ℕ → TermScope → List AssignmentForm → UnfoldRule → Place → Type 0
-IsFaultInAssignments m n ρ assignments r p =
-    (a : AssignmentForm) × Contains assignments a × IsFaultInAssignment m n ρ a r p
+    Surroundings → ℕ → ℕ → TermScope → List AssignmentForm → UnfoldRule → Place → Type 0
+IsFaultInAssignments m levels n ρ assignments r p =
+    (a : AssignmentForm) × (there : Contains assignments a) × (l : ℕ)
+    × (levels + suc there.0 ≤ l + length assignments) × IsFaultInAssignment m l n ρ a r p
 
 -- what an element is after them, unfolded, has more than 8,192 operators
 abbrev pub HasManyAssigned :
@@ -102,4 +108,5 @@ abbrev pub IsFaultInElement :
     Surroundings → TermScope → List AssignmentForm → Element → UnfoldRule → Place → Type 0
 IsFaultInElement m ρ assignments e =
     let n = length m.definitions in
-    WithMany (HasManyAssigned m n ρ assignments e) (IsFaultInAssignments m n ρ assignments)
+    WithMany (HasManyAssigned m n ρ assignments e)
+    (IsFaultInAssignments m MAX_LEVELS n ρ assignments)

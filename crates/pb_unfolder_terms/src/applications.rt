@@ -1,6 +1,6 @@
 //! Unfolds names with arguments, definitions, arrays and functions of data, and arithmetic.
 
-ghost use Rattle.std.specs.Prelude.{◌≡◌, true, length, string_bytes};
+ghost use Rattle.std.specs.Prelude.{◌≡◌, ◌<◌, suc, true, length, string_bytes};
 ghost use Rattle.pb_text_tree.specs.Form.{TermForm, argument_forms, arithmetic_links};
 ghost use Rattle.pb_text_tree.specs.Form.{calculated, named, term_form};
 ghost use Rattle.pb_text_meaning.specs.Functions.{named_function};
@@ -16,8 +16,8 @@ use crate::arguments::{UnfoldedArguments, function_term, is_choice, no_arguments
 use crate::arithmetic::calculation;
 use crate::array::{Array, choice, chosen};
 use crate::context::{Context, Meant};
-use crate::fault::{UnfoldError, UnfoldRule};
-use crate::level::{Level, behind_one, refused};
+use crate::fault::UnfoldError;
+use crate::level::{Level, behind_one};
 use crate::names::placed_name;
 use crate::reads::unfold_read;
 use crate::scope::TermScope;
@@ -38,23 +38,21 @@ fn unfold_arguments<'a>(
     ensures term { UnfoldsAll (folding_in context.now) level.truth level.room
         (puts context.now level.definitions scope.now (tree.terms_of arguments.now)) result }
     ensures faults { Tells context.now result
-        (AreArgumentsMet context.now level.definitions scope.now arguments.now) }
+        (AreArgumentsMet context.now level.depth level.definitions scope.now arguments.now) }
 {
-    let Some(argument) = arguments.first() else {
-        return Ok(no_arguments(context.alloc, level.room));
-    };
-    let Some(depth) = level.depth.checked_sub(1) else {
-        return Err(refused(UnfoldRule::Depth, argument.place));
-    };
-    let level = Level { depth, ..level };
-    let first = unfold(context, scope, level, &argument.term)?;
-    let inner = Level {
-        truth: false,
-        room: first.room,
-        ..level
-    };
-    let others = unfold_arguments(context, scope, inner, &arguments[1..])?;
-    Ok(with_argument(&context.folding(), argument.place, first, others)?)
+    let mut unfolded = no_arguments(context.alloc, level.room);
+    let mut truth = level.truth;
+    for argument in arguments {
+        let inner = Level {
+            truth,
+            room: unfolded.room,
+            ..level
+        };
+        let next = unfold(context, scope, inner, &argument.term)?;
+        unfolded = with_argument(&context.folding(), argument.place, unfolded, next)?;
+        truth = false;
+    }
+    Ok(unfolded)
 }
 
 /// `if` with its three arguments: of two where the condition decides, only the one that is chosen.
@@ -71,7 +69,8 @@ fn unfold_choice<'a>(
     ensures term { Unfolds (folding_in context.now) level.truth level.room
         (syntax.Term.Apply (string_bytes function.now.text)
         (puts context.now level.definitions scope.now (tree.terms_of arguments.now))) result }
-    ensures faults { Tells context.now result (IsTermMet context.now level.definitions scope.now
+    ensures faults { Tells context.now result (IsTermMet context.now (suc level.depth)
+        level.definitions scope.now
         (TermForm.application (named function.now) (argument_forms arguments.now))) }
 {
     let room = behind_one(level.room, function.place)?;
@@ -114,7 +113,8 @@ fn unfold_function<'a>(
     ensures term { Unfolds (folding_in context.now) level.truth level.room
         (syntax.Term.Apply (string_bytes function.now.text)
         (puts context.now level.definitions scope.now (tree.terms_of arguments.now))) result }
-    ensures faults { Tells context.now result (IsTermMet context.now level.definitions scope.now
+    ensures faults { Tells context.now result (IsTermMet context.now (suc level.depth)
+        level.definitions scope.now
         (TermForm.application (named function.now) (argument_forms arguments.now))) }
 {
     let truth = is_choice(function.text.as_str());
@@ -143,7 +143,8 @@ pub(crate) fn unfold_application<'a>(
     ensures term { Unfolds (folding_in context.now) level.truth level.room
         (put context.now level.definitions scope.now
         (syntax.Term.Apply (string_bytes function.now.text) (tree.terms_of arguments.now))) result }
-    ensures faults { Tells context.now result (IsTermMet context.now level.definitions scope.now
+    ensures faults { Tells context.now result (IsTermMet context.now (suc level.depth)
+        level.definitions scope.now
         (TermForm.application (named function.now) (argument_forms arguments.now))) }
 {
     if arguments.is_empty() {
@@ -185,15 +186,14 @@ pub(crate) fn unfold_arithmetic<'a>(
     first: &'a Term,
     links: &'a [ArithmeticLink],
 ) -> Result<Unfolded, UnfoldError>
+    requires { 0 < length links.now }
     ensures term { Unfolds (folding_in context.now) level.truth level.room
         (put context.now level.definitions scope.now
         (calculated_term (tree.term_of first.now) links.now)) result }
-    ensures faults { Tells context.now result (IsTermMet context.now level.definitions scope.now
-        (calculated (term_form first.now) (arithmetic_links links.now))) }
+    ensures faults { Tells context.now result (IsTermMet context.now (suc level.depth)
+        level.definitions scope.now (calculated (term_form first.now)
+        (arithmetic_links links.now))) }
 {
-    if links.is_empty() {
-        return unfold(context, scope, level, first);
-    }
     let inner = Level {
         truth: false,
         ..level

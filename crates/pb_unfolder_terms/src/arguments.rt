@@ -1,11 +1,11 @@
 //! Arguments that are unfolded, and functions of data of them.
 
-ghost use Rattle.std.specs.Prelude.{◌≡◌, ℕ, suc, false, IfOk, string_bytes};
+ghost use Rattle.std.specs.Prelude.{◌≡◌, ℕ, suc, IfOk, string_bytes};
 ghost use Rattle.pb_text_meaning.specs.Functions.{named_function};
 ghost use Rattle.pb_text_meaning.specs.Syntax as syntax;
 ghost use Rattle.pb_folding.specs.Folding.{is_if};
 ghost use Rattle.pb_folding.specs.View.{spec_of};
-ghost use Rattle.pb_unfolder_terms.specs.Puts.{AreArguments};
+ghost use Rattle.pb_unfolder_terms.specs.Puts.{AreArguments, truth_behind, with_last};
 ghost use Rattle.pb_unfolder_terms.specs.Unfolding.{IsUnfolded};
 
 use crate::form::Form;
@@ -35,25 +35,21 @@ pub(crate) fn no_arguments(alloc: Global, room: u32) -> UnfoldedArguments
     }
 }
 
-/// Arguments with one more in front of them, the place being that of its first token.
+/// Arguments with one more behind them, the place being that of its first token.
 pub(crate) fn with_argument(
     folding: &Folding<'_>,
     place: Place,
-    first: Unfolded,
-    others: UnfoldedArguments,
+    before: UnfoldedArguments,
+    last: Unfolded,
 ) -> Result<UnfoldedArguments, AllocError>
-    ensures { (x : syntax.Term) (xs : syntax.Terms) (n : ℕ) (truth : _) →
-        IsUnfolded (spec_of folding.now.sorts.now) truth n x first
-        → AreArguments (spec_of folding.now.sorts.now) false first.room xs others
-        → IfOk result (AreArguments (spec_of folding.now.sorts.now) truth n
-        (syntax.Then x xs)) }
+    ensures { (xs : syntax.Terms) (x : syntax.Term) (n : ℕ) (truth : _) →
+        AreArguments (spec_of folding.now.sorts.now) truth n xs before
+        → IsUnfolded (spec_of folding.now.sorts.now) (truth_behind truth xs) before.room x last
+        → IfOk result (AreArguments (spec_of folding.now.sorts.now) truth n (with_last xs x)) }
 {
-    let UnfoldedArguments {
-        mut arguments,
-        room,
-    } = others;
-    let term = first.term;
-    arguments.insert(0, Argument { place, term })?;
+    let UnfoldedArguments { mut arguments, .. } = before;
+    let Unfolded { term, room, .. } = last;
+    arguments.push(Argument { place, term })?;
     Ok(UnfoldedArguments { arguments, room })
 }
 

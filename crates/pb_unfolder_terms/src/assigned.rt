@@ -18,7 +18,7 @@ ghost use Rattle.pb_unfolder_terms.specs.Contexts.{scope_in};
 ghost use Rattle.pb_unfolder_terms.specs.Met.{Surroundings};
 ghost use Rattle.pb_unfolder_terms.specs.TermFaults.{HasValues, IfFaultAt, IsFaultInAssignments};
 ghost use Rattle.pb_unfolder_terms.specs.TermFaults.{IsFaultInElement, scope_by};
-ghost use Rattle.pb_unfolder_terms.specs.Tells.{AreIndices, IsReadMet, Tells, scope_said};
+ghost use Rattle.pb_unfolder_terms.specs.Tells.{AreIndices, AreIndicesMet, Tells, scope_said};
 ghost use Rattle.pb_unfolder_terms.specs.Tells.{surroundings_in};
 ghost use Rattle.pb_unfolder_terms.specs.Unfolding.{IsRefusal, IsUnfolded, Unfolds};
 ghost use Rattle.pb_unfolder_terms.specs.Unfolding.{operator_count};
@@ -195,8 +195,9 @@ fn unfold_compared<'a>(
 ) -> Result<Unfolded, UnfoldError>
     ensures term { Unfolds (folding_in context.now) true level.room
         (compared_by context.now level.definitions scope.now compared.entry) result }
-    ensures faults { Tells context.now result (IsReadMet context.now level.definitions scope.now
-        compared.entry.place compared.entry.arguments.now compared.entry.indices.now) }
+    ensures faults { Tells context.now result (AreIndicesMet context.now level.depth
+        level.definitions scope.now compared.entry.place compared.entry.arguments.now
+        compared.entry.indices.now) }
 {
     let place = compared.place;
     let Some(argument) = compared.arguments.first() else {
@@ -205,13 +206,9 @@ fn unfold_compared<'a>(
     let Some(value) = compared.index.first() else {
         return Ok(truth(place, false, level.room));
     };
-    let Some(depth) = level.depth.checked_sub(1) else {
-        return Err(refused(UnfoldRule::Depth, argument.place));
-    };
     let inner = Level {
         truth: false,
         room: behind_all(level.room, 2, place)?,
-        depth,
         ..level
     };
     let index = unfold(context, scope, inner, &argument.term)?;
@@ -273,8 +270,9 @@ fn last_assignment<'a>(
         (IsRefusal level.room (after_by context.now level.definitions scope.now assignments.now
         (element_said element.entry sort))) }
     ensures faults { HasValues scope.now → IfErr result
-        (IfFaultAt (IsFaultInAssignments (surroundings_in context.now) level.definitions
-        (scope_said context.now scope.now) (map assignment_form assignments.now))) }
+        (IfFaultAt (IsFaultInAssignments (surroundings_in context.now) level.depth
+        level.definitions (scope_said context.now scope.now)
+        (map assignment_form assignments.now))) }
 {
     let mut room = level.room;
     let mut passed = false;
@@ -311,8 +309,9 @@ fn unfold_after<'a>(
         (after_by context.now level.definitions scope.now assignments.now
         (element_said element.entry sort)) result }
     ensures faults { HasValues scope.now → IfErr result
-        (IfFaultAt (IsFaultInAssignments (surroundings_in context.now) level.definitions
-        (scope_said context.now scope.now) (map assignment_form assignments.now))) }
+        (IfFaultAt (IsFaultInAssignments (surroundings_in context.now) level.depth
+        level.definitions (scope_said context.now scope.now)
+        (map assignment_form assignments.now))) }
 {
     let latest = last_assignment(context, scope, level, assignments, element)?;
     match latest {
@@ -331,10 +330,10 @@ fn unfold_after<'a>(
             let Some(depth) = level.depth.checked_sub(1) else {
                 return Err(refused(UnfoldRule::Depth, assignment.variable.place));
             };
-            let inner = Level { depth, ..inner };
             let left = unfold(context, scope, inner, &assignment.value.term)?;
             let inner = Level {
                 room: left.room,
+                depth,
                 ..inner
             };
             let right = unfold_after(context, scope, inner, &assignments[..place], element)?;
@@ -354,7 +353,7 @@ fn unfold_assigned_by<'a>(
         (after_by context.now (length context.now.definitions.items) scope.now assignments.now
         (element_said element.entry sort)) result }
     ensures faults { HasValues scope.now → IfErr result
-        (IfFaultAt (IsFaultInAssignments (surroundings_in context.now)
+        (IfFaultAt (IsFaultInAssignments (surroundings_in context.now) MAX_LEVELS
         (length context.now.definitions.items) (scope_said context.now scope.now)
         (map assignment_form assignments.now))) }
 {

@@ -1,7 +1,7 @@
 //! Unfolds connectives and quantifiers: their operands one after another, up to the first that
 //! decides.
 
-ghost use Rattle.std.specs.Prelude.{◌<◌, length, MatchResult};
+ghost use Rattle.std.specs.Prelude.{◌<◌, length, suc, MatchResult};
 ghost use Rattle.pb_text_tree.specs.Form.{TermForm, chained, term_form, term_links};
 ghost use Rattle.pb_text_tree.specs.Form.{variable_forms};
 ghost use Rattle.pb_text_meaning.specs.Erase.{erased_variables};
@@ -71,9 +71,9 @@ pub(crate) fn unfold_operands<'a>(
         (IsRefusal level.room (put context.now level.definitions scope.now
         (chain_term chain.entry.connective (tree.term_of chain.entry.first.now)
         (operands_of chain.entry.links.now)))) }
-    ensures faults { Tells context.now result (IsTermMet context.now level.definitions scope.now
-        (chained (TermForm.connected chain.entry.connective) (term_form chain.entry.first.now)
-        (term_links chain.entry.links.now))) }
+    ensures faults { Tells context.now result (IsTermMet context.now (suc level.depth)
+        level.definitions scope.now (chained (TermForm.connected chain.entry.connective)
+        (term_form chain.entry.first.now) (term_links chain.entry.links.now))) }
 {
     let mut before = Vec::new(context.alloc);
     let mut room = level.room;
@@ -129,8 +129,9 @@ fn unfold_copies<'a>(
         quantified.entry.quantifier copies.entry (tree.term_of quantified.entry.body.now)))
         (IsRefusal level.room (copied_term context.now level.definitions scope.now
         quantified.entry.quantifier copies.entry (tree.term_of quantified.entry.body.now))) }
-    ensures faults { Tells context.now result (AreCopiesMet context.now level.definitions scope.now
-        quantified.entry.place copies.entry (term_form quantified.entry.body.now)) }
+    ensures faults { Tells context.now result (AreCopiesMet context.now level.depth
+        level.definitions scope.now quantified.entry.place copies.entry
+        (term_form quantified.entry.body.now)) }
 {
     let place = quantified.place;
     let connective = joining(quantified.quantifier);
@@ -174,9 +175,9 @@ pub(crate) fn unfold_quantified<'a>(
         (syntax.Term.Quantified quantified.entry.quantifier
         (erased_variables (variable_forms quantified.entry.variables.now))
         (tree.term_of quantified.entry.body.now))) result }
-    ensures faults { Tells context.now result (IsTermMet context.now level.definitions scope.now
-        (TermForm.quantified quantified.entry.quantifier quantified.entry.place
-        (variable_forms quantified.entry.variables.now)
+    ensures faults { Tells context.now result (IsTermMet context.now (suc level.depth)
+        level.definitions scope.now (TermForm.quantified quantified.entry.quantifier
+        quantified.entry.place (variable_forms quantified.entry.variables.now)
         (term_form quantified.entry.body.now))) }
 {
     let variables = variables_of(context.alloc, quantified.variables)?;

@@ -4,12 +4,12 @@ ghost use Rattle.std.specs.Prelude.{◌≡◌, ◌+◌, ◌<◌, ℕ, suc, Match
 ghost use Rattle.pb_errors.specs.declared.or_memory.OrMemory.TheVariants.{Refused};
 ghost use Rattle.pb_text_tree.specs.Form.{term_form};
 ghost use Rattle.pb_text_meaning.specs.Syntax as syntax;
-ghost use Rattle.pb_unfolding.specs.PutIn.{TermScope};
-ghost use Rattle.pb_unfolder_terms.specs.declared.context.Context as declared_context;
+ghost use Rattle.pb_unfolder_terms.specs.Chains.{HasLinks};
+ghost use Rattle.pb_unfolder_terms.specs.Deep.{HasLargePart, told_at};
 ghost use Rattle.pb_unfolder_terms.specs.declared.fault.UnfoldRule.TheVariants.{Operators};
 ghost use Rattle.pb_unfolder_terms.specs.Met.{Occurrence, Surroundings};
-ghost use Rattle.pb_unfolder_terms.specs.Tells.{IsFaultOf, IsMetAt, IsTokenAt};
-ghost use Rattle.pb_unfolder_terms.specs.Unfolding.{IsRefusal};
+ghost use Rattle.pb_unfolder_terms.specs.Tells.{IsFaultOf};
+ghost use Rattle.pb_unfolder_terms.specs.Unfolding.{IsRefusal, operator_count};
 
 use crate::fault::{UnfoldError, UnfoldFault, UnfoldRule};
 use pb_text_tree::{Place, Term};
@@ -57,8 +57,9 @@ pub(crate) fn behind_all(room: u32, operators: u32, place: Place) -> Result<u32,
 /// many it nests too deep.
 pub(crate) fn of_index(error: UnfoldError) -> UnfoldError
     ensures refusal { (n : ℕ) (whole : syntax.Term) → IsRefusal n whole result }
-    ensures faults { (m : Surroundings) (whole : Occurrence) → IsFaultOf m whole error
-        → IsFaultOf m whole result }
+    ensures faults { (m : Surroundings) (whole : Occurrence) (n : ℕ) (index : syntax.Term)
+        → IsRefusal n index error → (n < operator_count index → HasLargePart m whole)
+        → IsFaultOf m whole error → IsFaultOf m whole result }
 {
     match error {
         UnfoldError::Refused(UnfoldFault { rule, place }) => match rule {
@@ -69,10 +70,9 @@ pub(crate) fn of_index(error: UnfoldError) -> UnfoldError
     }
 }
 
-/// A place at which a term that nests too deep is refused: that of a token of a part of it.
+/// The place at which a term that nests too deep is refused.
 pub(crate) fn place_of(term: &Term) -> Place
-    ensures { (c : declared_context.Context) (n : ℕ) (ρ : TermScope) (whole : Occurrence)
-        → IsMetAt c n ρ (term_form term.now) whole → IsTokenAt c result whole }
+    ensures { result ≡ told_at (term_form term.now) }
 {
     match term {
         Term::Constant { place, .. }
@@ -85,5 +85,29 @@ pub(crate) fn place_of(term: &Term) -> Place
         Term::Application { function, .. } => function.place,
         Term::Chain { first, .. } => place_of(first),
         Term::Arithmetic { first, .. } => place_of(first),
+    }
+}
+
+/// A term without chains and arithmetic of one operand around it.
+pub(crate) fn operated(term: &Term) -> &Term
+    ensures form { term_form result.now ≡ term_form term.now }
+    ensures links { HasLinks result.now }
+{
+    match term {
+        Term::Chain { first, links, .. } => {
+            if links.is_empty() {
+                operated(first)
+            } else {
+                term
+            }
+        }
+        Term::Arithmetic { first, links } => {
+            if links.is_empty() {
+                operated(first)
+            } else {
+                term
+            }
+        }
+        _ => term,
     }
 }

@@ -7,7 +7,7 @@ ghost use Rattle.pb_folding.specs.View as tree;
 ghost use Rattle.pb_unfolding.specs.PutIn as spec;
 ghost use Rattle.pb_unfolder_terms.specs.Contexts.{folding_in};
 ghost use Rattle.pb_unfolder_terms.specs.Puts.{element_by, read_by};
-ghost use Rattle.pb_unfolder_terms.specs.Tells.{IsReadMet, Tells};
+ghost use Rattle.pb_unfolder_terms.specs.Tells.{AreChoicesMet, IsArrayMet, Tells};
 ghost use Rattle.pb_unfolder_terms.specs.Unfolding.{Unfolds, operator_count};
 ghost use Rattle.pb_unfolder_terms.specs.Values.{written_term};
 
@@ -23,6 +23,7 @@ use crate::unfold::unfold;
 use crate::unfolded::Unfolded;
 use crate::written::{Written, written_values};
 use pb_folding::truth_value;
+use pb_limits::MAX_OPERATORS;
 
 /// An element of an array at one more value.
 #[cycle(unfolding)]
@@ -36,8 +37,9 @@ fn unfold_element<'a>(
     ensures term { (truth : _) → Unfolds (folding_in context.now) truth level.room
         (element_by context.now level.definitions scope.now others.entry
         (written_term value.entry)) result }
-    ensures faults { Tells context.now result (IsReadMet context.now level.definitions scope.now
-        others.entry.name.now.place others.entry.arguments.now others.entry.indices.now) }
+    ensures faults { Tells context.now result (IsArrayMet context.now level.depth
+        level.definitions scope.now others.entry.name.now.place others.entry.arguments.now
+        others.entry.indices.now) }
 {
     let name = element(context.alloc, others.name, value)?;
     let array = Array {
@@ -61,18 +63,17 @@ fn unfold_choices<'a>(
         → Unfolds (folding_in context.now) truth level.room (spec.choices
         (element_by context.now level.definitions scope.now choices.entry.others) t
         (map written_term choices.entry.values.now)) result }
-    ensures faults { Tells context.now result (IsReadMet context.now level.definitions scope.now
-        choices.entry.others.name.now.place choices.entry.others.arguments.now
-        choices.entry.others.indices.now) }
+    ensures faults { Tells context.now result (AreChoicesMet context.now level.depth
+        level.definitions scope.now choices.entry) }
 {
     let place = choices.others.name.place;
+    let Some(value) = choices.values.first() else {
+        return Ok(nothing(place, level.room));
+    };
     let Some(depth) = level.depth.checked_sub(1) else {
         return Err(refused(UnfoldRule::Depth, place));
     };
     let level = Level { depth, ..level };
-    let Some(value) = choices.values.first() else {
-        return Ok(nothing(place, level.room));
-    };
     let values = &choices.values[1..];
     if values.is_empty() {
         return unfold_element(context, scope, level, choices.others, *value);
@@ -109,39 +110,41 @@ pub(crate) fn unfold_read<'a>(
 ) -> Result<Unfolded, UnfoldError>
     ensures term { (truth : _) → Unfolds (folding_in context.now) truth level.room
         (read_by context.now level.definitions scope.now array.entry) result }
-    ensures faults { Tells context.now result (IsReadMet context.now level.definitions scope.now
-        array.entry.name.now.place array.entry.arguments.now array.entry.indices.now) }
+    ensures faults { Tells context.now result (IsArrayMet context.now level.depth
+        level.definitions scope.now array.entry.name.now.place array.entry.arguments.now
+        array.entry.indices.now) }
 {
     let place = array.name.place;
-    let Some(depth) = level.depth.checked_sub(1) else {
-        return Err(refused(UnfoldRule::Depth, place));
-    };
-    let level = Level {
-        truth: false,
-        depth,
-        ..level
-    };
     let Some(index) = array.indices.first() else {
         return Ok(element_term(context.alloc, array.name, level.room)?);
     };
     let Some(argument) = array.arguments.first() else {
         return Ok(nothing(place, level.room));
     };
+    let Some(depth) = level.depth.checked_sub(1) else {
+        return Err(refused(UnfoldRule::Depth, place));
+    };
     let values = written_values(context.alloc, context.sorts(), index.sort, place)?;
-    let unfolded = match unfold(context, scope, level, &argument.term) {
+    let inner = Level {
+        truth: false,
+        room: MAX_OPERATORS as u32,
+        ..level
+    };
+    let unfolded = match unfold(context, scope, inner, &argument.term) {
         Ok(unfolded) => unfolded,
         Err(error) => return Err(of_index(error)),
     };
     if !is_within(context, &unfolded.term, index.sort) {
         return Err(refused(UnfoldRule::Index, argument.place));
     }
+    let level = Level { depth, ..level };
     if let Some(value) = written_as(&unfolded, &values) {
         return unfold_element(context, scope, level, array.others(), value);
     }
     let choices = Choices {
         others: array.others(),
         index: &unfolded.term,
-        operators: level.room.saturating_sub(unfolded.room),
+        operators: (MAX_OPERATORS as u32).saturating_sub(unfolded.room),
         values: &values,
     };
     unfold_choices(&*context, &*scope, level, choices)

@@ -23,7 +23,7 @@ use pb_limits::MAX_OPERATORS;
 use pb_text_tree::Term;
 
 /// How many terms may be open, each within the one before or what a name in it stands for.
-pub(crate) const MAX_LEVELS: u32 = 200;
+pub const MAX_LEVELS: u32 = 200;
 
 /// A term by what the code has of a protocol.
 fn unfold_by<'a>(
@@ -36,7 +36,7 @@ fn unfold_by<'a>(
         (put context.now (length context.now.definitions.items) scope.now
         (tree.term_of term.now)) result }
     ensures faults { HasValues scope.now → IfErr result (IsFaultOf (surroundings_in context.now)
-        (at (length context.now.definitions.items) (scope_said context.now scope.now)
+        (at MAX_LEVELS (length context.now.definitions.items) (scope_said context.now scope.now)
         (term_form term.now))) }
 {
     let level = Level {

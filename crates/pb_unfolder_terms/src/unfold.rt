@@ -1,11 +1,12 @@
 //! Unfolds a term: what its names stand for is put in, and what is decided is folded at once.
 
-ghost use Rattle.std.specs.Prelude.{None, string_bytes};
+ghost use Rattle.std.specs.Prelude.{None, string_bytes, suc};
 ghost use Rattle.pb_text_tree.specs.Form.{TermForm, named, term_form};
 ghost use Rattle.pb_text_meaning.specs.Syntax.{NoTerms};
 ghost use Rattle.pb_text_meaning.specs.Syntax as syntax;
 ghost use Rattle.pb_folding.specs.View as tree;
 ghost use Rattle.pb_unfolding.specs.PutIn as spec;
+ghost use Rattle.pb_unfolder_terms.specs.Chains.{HasLinks};
 ghost use Rattle.pb_unfolder_terms.specs.Contexts.{forms_in, folding_in, spec_in};
 ghost use Rattle.pb_unfolder_terms.specs.Puts.{put};
 ghost use Rattle.pb_unfolder_terms.specs.Scopes.{scope_of};
@@ -17,7 +18,7 @@ use crate::connectives::{Chain, Quantified, unfold_operands, unfold_quantified};
 use crate::context::{Context, Meant};
 use crate::fault::{UnfoldError, UnfoldRule};
 use crate::form::Form;
-use crate::level::{Level, behind_one, place_of, refused};
+use crate::level::{Level, behind_one, operated, place_of, refused};
 use crate::names::{bare_variable, own_name, value_term};
 use crate::operands::{Connected, joined_operands};
 use crate::scope::{Found, TermScope, looked_up};
@@ -36,7 +37,8 @@ fn unfold_free<'a>(
         (forms_in context.now level.definitions (string_bytes name.now.text) NoTerms)
         (string_bytes name.now.text)) result }
     ensures faults { (ρ : spec.TermScope) → Tells context.now result
-        (IsMetAt context.now level.definitions ρ (TermForm.name (named name.now))) }
+        (IsMetAt context.now (suc level.depth) level.definitions ρ
+        (TermForm.name (named name.now))) }
 {
     match context.meant(level.definitions, name.text.as_str(), 0) {
         Meant::Definition(definition, before) => {
@@ -66,8 +68,8 @@ fn unfold_name<'a>(
         (spec.put_in (spec_in context.now) (forms_in context.now level.definitions)
         (scope_of (spec_in context.now) (forms_in context.now) scope.now)
         (syntax.Term.Named (string_bytes name.now.text))) result }
-    ensures faults { Tells context.now result (IsTermMet context.now level.definitions scope.now
-        (TermForm.name (named name.now))) }
+    ensures faults { Tells context.now result (IsTermMet context.now (suc level.depth)
+        level.definitions scope.now (TermForm.name (named name.now))) }
 {
     match looked_up(scope, name.text.as_str()) {
         Found::Value(value) => {
@@ -84,34 +86,27 @@ fn unfold_name<'a>(
             };
             unfold(context, user, inner, term)
         }
-        Found::Nothing => {
-            let Some(depth) = level.depth.checked_sub(1) else {
-                return Err(refused(UnfoldRule::Depth, name.place));
-            };
-            unfold_free(context, Level { depth, ..level }, name)
-        }
+        Found::Nothing => unfold_free(context, level, name),
     }
 }
 
-/// A term with what its names stand for put in, folded.
+/// A term that is open with what its names stand for put in, folded.
 #[cycle(unfolding)]
-pub(crate) fn unfold<'a>(
+fn unfold_opened<'a>(
     context: &'a Context<'a>,
     scope: &'a TermScope<'a>,
     level: Level,
     term: &'a Term,
 ) -> Result<Unfolded, UnfoldError>
+    requires { HasLinks term.now }
     ensures term { Unfolds (folding_in context.now) level.truth level.room
         (spec.put_in (spec_in context.now) (forms_in context.now level.definitions)
         (scope_of (spec_in context.now) (forms_in context.now) scope.now)
         (tree.term_of term.now)) result }
     ensures faults { Tells context.now result
-        (IsTermMet context.now level.definitions scope.now (term_form term.now)) }
+        (IsTermMet context.now (suc level.depth) level.definitions scope.now
+        (term_form term.now)) }
 {
-    let Some(depth) = level.depth.checked_sub(1) else {
-        return Err(refused(UnfoldRule::Depth, place_of(term)));
-    };
-    let level = Level { depth, ..level };
     match term {
         Term::Constant { place, value } => Ok(Unfolded {
             term: Term::Constant {
@@ -155,9 +150,6 @@ pub(crate) fn unfold<'a>(
             first,
             links,
         } => {
-            if links.is_empty() {
-                return unfold(context, scope, level, first);
-            }
             let chain = Chain {
                 connective: *connective,
                 first,
@@ -213,4 +205,25 @@ pub(crate) fn unfold<'a>(
             unfold_quantified(context, scope, level, quantified)
         }
     }
+}
+
+/// A term with what its names stand for put in, folded. It takes a level.
+#[cycle(unfolding)]
+pub(crate) fn unfold<'a>(
+    context: &'a Context<'a>,
+    scope: &'a TermScope<'a>,
+    level: Level,
+    term: &'a Term,
+) -> Result<Unfolded, UnfoldError>
+    ensures term { Unfolds (folding_in context.now) level.truth level.room
+        (spec.put_in (spec_in context.now) (forms_in context.now level.definitions)
+        (scope_of (spec_in context.now) (forms_in context.now) scope.now)
+        (tree.term_of term.now)) result }
+    ensures faults { Tells context.now result (IsTermMet context.now level.depth level.definitions
+        scope.now (term_form term.now)) }
+{
+    let Some(depth) = level.depth.checked_sub(1) else {
+        return Err(refused(UnfoldRule::Depth, place_of(term)));
+    };
+    unfold_opened(context, scope, Level { depth, ..level }, operated(term))
 }

@@ -8,9 +8,9 @@ use Rattle.pb_text_tree.specs.declared.place.Place.{Place}
 use Rattle.pb_text_tree.specs.declared.term.Term as declared_term
 use Rattle.std.specs.Prelude.{box_value}
 use Rattle.pb_text_meaning.specs.Syntax.{Name, Term, Terms}
-use Rattle.pb_text_meaning.specs.Erase.{of_comparison, of_connective}
-use Rattle.pb_unfolder_terms.specs.Chains.{chain_term, deciding, operand_of, operands_of, outcome}
-use Rattle.pb_unfolder_terms.proofs.ChainLemmas.{application-said, chain-said, err-kept, refusal-behind}
+use Rattle.pb_text_meaning.specs.Erase.{erased_term, of_comparison, of_connective}
+use Rattle.pb_unfolder_terms.specs.Chains.{HasLinks, chain_term, deciding, operand_of, operands_of, outcome}
+use Rattle.pb_unfolder_terms.proofs.ChainLemmas.{application-said, arithmetic-links, chain-links, chain-said, err-kept, refusal-behind}
 use Rattle.pb_folding.specs.View as tree
 use Rattle.pb_unfolding.specs.PutIn.{TermScope, term_of, named_term, put_in, standing, all_put_in, applied_term, given_arguments}
 use Rattle.pb_unfolder_terms.specs.View.{spec_of, variable_of}
@@ -36,17 +36,17 @@ use Rattle.pb_unfolding.specs.Unfolding.{terms_of}
 use Rattle.pb_text_tree.specs.declared.operator.Connective.{Connective}
 use Rattle.pb_unfolder_terms.specs.Operands.{AreOperands}
 use Rattle.pb_unfolder_terms.specs.Copies.{copied_term}
-use Rattle.pb_unfolder_terms.specs.Puts.{AreArguments, IsRefusalOfAll, IsWrittenAs, calculated_term, choice_of, element_by, put, puts, read_by}
+use Rattle.pb_unfolder_terms.specs.Puts.{AreArguments, IsRefusalOfAll, IsWrittenAs, calculated_term, choice_of, element_by, put, puts, read_by, truth_behind, with_last}
 use Rattle.pb_unfolder_terms.specs.Unfolding.{operator_count}
 use Rattle.pb_unfolder_terms.specs.Values.{tuple_of}
-use Rattle.pb_unfolder_terms.proofs.ArgumentLemmas.{arguments-first, arguments-none, arguments-three, behind-first, first-and-second, first-and-third, first-refused, none-of, others-refused, some-of, taken-none}
+use Rattle.pb_unfolder_terms.proofs.ArgumentLemmas.{argument-next, argument-within, arguments-three, behind-first, behind-last, first-and-second, first-and-third, next-refused, none-of, some-of, taken-all, taken-none}
 use Rattle.pb_unfolder_terms.proofs.ChainLemmas.{no-room, refusal-weaker}
 use Rattle.pb_unfolder_terms.proofs.ChoiceLemmas.{chosen-refused, if-named, right-refused, truth-said}
 use Rattle.pb_unfolder_terms.proofs.OperandLemmas.{chain-end, chain-form, chain-next, joined-form, joined-next, joined-none, last-refused, left-decided, left-further, left-last, left-refused, left-without-room, operands-more}
 use Rattle.pb_unfolder_terms.proofs.ReadLemmas.{choices-more, choices-same, choices-none, choices-one, chosen-otherwise, chosen-written, read-first, read-itself, read-nothing, same-parts}
 use Rattle.pb_unfolder_terms.proofs.TermLemmas.{arithmetic-said, calculated-end, calculated-next, calculated-within, copies-of-tuples, next-within, quantified-said}
 use Rattle.pb_text_tree.specs.declared.term.ArithmeticLink.{ArithmeticLink}
-use Rattle.std.proofs.Common.{inl, inr}
+use Rattle.std.proofs.Common.{ℕ, inl, inr}
 use Rattle.std.proofs.lemmas.Bool.{false≢true}
 use Rattle.std.proofs.lemmas.Option.{slice_get-map}
 use Rattle.std.specs.Prelude.{option_map}
@@ -56,15 +56,17 @@ use Rattle.pb_text_tree.proofs.FormLemmas.{term-application, term-arithmetic, te
 use Rattle.pb_unfolder_terms.specs.Bounds.{IsSeenWithin, sort_interval}
 use Rattle.pb_unfolder_terms.specs.Contexts.{definition_of, interval_in, state_variable_of}
 use Rattle.pb_unfolder_terms.specs.Large.{HasManyValues, IsTokenOf}
-use Rattle.pb_unfolder_terms.specs.Met.{Body, Defined, HaveOutside, IsOperand, IsOutside, Operand, at, name_used}
-use Rattle.pb_unfolder_terms.specs.Tells.{AreMetAt, IsFaultOf, IsMetAt, IsReadMet, placed_term, scope_said, surroundings_in}
+use Rattle.pb_unfolder_terms.specs.Met.{Body, Defined, Given, HaveOutside, Index, IsIndex, IsOutside, IsPart, Operand, all_index_levels, at, name_used}
+use Rattle.pb_unfolder_terms.specs.Tells.{IsArrayMet, IsFaultOf, IsMetAt, placed_term, scope_said, surroundings_in}
 use Rattle.pb_unfolder_terms.proofs.SortsLemmas.{same-folded}
-use Rattle.pb_unfolder_terms.proofs.LargeLemmas.{arithmetic-token, chain-token, depth-told, first-argument, first-many, room-told, values-told}
-use Rattle.pb_unfolder_terms.proofs.MetLemmas.{argument-at-met, arguments-met, arithmetic-first-met, arithmetic-link-met, chain-first-met, chain-next-met, err-told, first-outside, item-in, mapped-in, other-arguments-met, others-met}
+use Rattle.pb_unfolder_terms.proofs.LargeLemmas.{arithmetic-token, chain-token, depth-told, first-many, room-told, values-told}
+use Rattle.pb_unfolder_terms.proofs.MetLemmas.{argument-at-met, arguments-met, arithmetic-first-met, arithmetic-link-met, array-first, chain-operand-met, err-told, first-outside, item-in, mapped-in}
+use Rattle.pb_unfolder_terms.proofs.DeepLemmas.{array-deep, choice-first, choices-deep, choices-further, choices-met, element-met, unwritten-levels}
+use Rattle.pb_unfolder_terms.proofs.ProtocolLemmas.{mapped-length}
 use Rattle.pb_unfolder_terms.proofs.+unfolding.Goals as goal
 
-pub unfold::unfold-returns-in_ok-negation-in-Not-clause-term : goal.unfold::unfold-returns-in_ok-negation-in-Not-clause-term
-unfold::unfold-returns-in_ok-negation-in-Not-clause-term t c =
+pub unfold::unfold_opened-returns-in_ok-negation-in-Not-clause-term : goal.unfold::unfold_opened-returns-in_ok-negation-in-Not-clause-term
+unfold::unfold_opened-returns-in_ok-negation-in-Not-clause-term t c =
     let k = c.args.context.now in
     let put : declared_term.Term → Term = λ x. put_in (spec_in k) (forms_in k c.args.level.definitions) (scope_of (spec_in k) (forms_in k) c.args.scope.now) (tree.term_of x) in
     let u = c.in_ok-operand-in-Not.operand in
@@ -74,8 +76,8 @@ unfold::unfold-returns-in_ok-negation-in-Not-clause-term t c =
     c.folding.ensures (sym c.in_ok-room-in-Not.ensures) (ap (λ y. Term.Not (put y)) c.deref.ensures ∙ ap put (sym c.in-Not.is))
     (c.in_ok-negation-in-Not.ensures x n c.args.level.truth (subst (λ (ds : List SortDeclaration). IsUnfolded (tree.spec_of ds) true n x u) (sym c.folding.ensures) c.in_ok-operand-in-Not.ensures.term))
 
-pub unfold::unfold-returns-in_ok-negative-in-Negative-clause-term : goal.unfold::unfold-returns-in_ok-negative-in-Negative-clause-term
-unfold::unfold-returns-in_ok-negative-in-Negative-clause-term t c =
+pub unfold::unfold_opened-returns-in_ok-negative-in-Negative-clause-term : goal.unfold::unfold_opened-returns-in_ok-negative-in-Negative-clause-term
+unfold::unfold_opened-returns-in_ok-negative-in-Negative-clause-term t c =
     let k = c.args.context.now in
     let put : declared_term.Term → Term = λ x. put_in (spec_in k) (forms_in k c.args.level.definitions) (scope_of (spec_in k) (forms_in k) c.args.scope.now) (tree.term_of x) in
     let u = c.in_ok-operand-in-Negative.operand in
@@ -121,8 +123,8 @@ unfold::unfold_name-returns-in_ok-value_term-in-Value-clause-term t c =
     subst (λ (o : Option Term). IsUnfolded (folding_in k) c.args.level.truth c.args.level.room (named_term (spec_in k) o (forms_in k c.args.level.definitions x Terms.NoTerms) x) c.in_ok-value_term-in-Value.field-0) e
     (subst (λ (ds : List SortDeclaration). IsUnfolded (tree.spec_of ds) c.args.level.truth c.args.level.room (written_term c.in-Value.value) c.in_ok-value_term-in-Value.field-0) c.folding.ensures (c.in_ok-value_term-in-Value.ensures c.args.level.truth))
 
-pub unfold::unfold-returns-in_ok-comparison-in-Comparison-clause-term : goal.unfold::unfold-returns-in_ok-comparison-in-Comparison-clause-term
-unfold::unfold-returns-in_ok-comparison-in-Comparison-clause-term t c =
+pub unfold::unfold_opened-returns-in_ok-comparison-in-Comparison-clause-term : goal.unfold::unfold_opened-returns-in_ok-comparison-in-Comparison-clause-term
+unfold::unfold_opened-returns-in_ok-comparison-in-Comparison-clause-term t c =
     let k = c.args.context.now in
     let put : declared_term.Term → Term = λ x. put_in (spec_in k) (forms_in k c.args.level.definitions) (scope_of (spec_in k) (forms_in k) c.args.scope.now) (tree.term_of x) in
     let o = of_comparison c.in-Comparison.sign in
@@ -139,8 +141,8 @@ unfold::unfold-returns-in_ok-comparison-in-Comparison-clause-term t c =
     (subst (λ (ds : List SortDeclaration). IsUnfolded (tree.spec_of ds) false n x u) back c.in_ok-left-in-Comparison.ensures.term)
     (subst (λ (ds : List SortDeclaration). IsUnfolded (tree.spec_of ds) false u.room y v) back c.in_ok-right-in-Comparison.ensures.term))
 
-pub unfold::unfold-returns-in_err-right-in-Comparison-clause-term : goal.unfold::unfold-returns-in_err-right-in-Comparison-clause-term
-unfold::unfold-returns-in_err-right-in-Comparison-clause-term t c =
+pub unfold::unfold_opened-returns-in_err-right-in-Comparison-clause-term : goal.unfold::unfold_opened-returns-in_err-right-in-Comparison-clause-term
+unfold::unfold_opened-returns-in_err-right-in-Comparison-clause-term t c =
     let k = c.args.context.now in
     let put : declared_term.Term → Term = λ x. put_in (spec_in k) (forms_in k c.args.level.definitions) (scope_of (spec_in k) (forms_in k) c.args.scope.now) (tree.term_of x) in
     let o = of_comparison c.in-Comparison.sign in
@@ -171,8 +173,8 @@ applications::unfold_application-returns-in-Definition-clause-term t c =
     ∙ given-there (spec_in k) (forms_in k n) ρ f given some in
     subst (λ (o : Option Term). Unfolds (folding_in k) c.args.level.truth c.args.level.room (applied_term o f ts) c.unfold.result) e c.unfold.ensures.term
 
-pub unfold::unfold-returns-in-Application-clause-term : goal.unfold::unfold-returns-in-Application-clause-term
-unfold::unfold-returns-in-Application-clause-term t c =
+pub unfold::unfold_opened-returns-in-Application-clause-term : goal.unfold::unfold_opened-returns-in-Application-clause-term
+unfold::unfold_opened-returns-in-Application-clause-term t c =
     let k = c.args.context.now in
     let put : Term → Term = λ x. put_in (spec_in k) (forms_in k c.args.level.definitions) (scope_of (spec_in k) (forms_in k) c.args.scope.now) x in
     let f = c.in-Application.function in
@@ -201,7 +203,7 @@ connectives::unfold_operands-loop-link-preserved t c =
       left-further (folding_in k) o b room whole rest (p x) rest' (operands_of c.loop-link.before.items) (operands_of c.push.new.self.items) c.loop-link.room c.in_ok-behind_one.field-0 u.room (tree.term_of u.term)
           c.in_ok-behind_one.ensures split c.in_ok-unfolded.ensures.term.term c.in_ok-unfolded.ensures.term.room
           (ap operands_of c.in_ok-push.ensures.items ∙ operands-more c.loop-link.before.items (record { place = l.place; operand = u.term })) c.loop-link.invariant.0,
-      λ w h. let met = c.loop-link.invariant.1 w h in (chain-next-met k n (scope_said k c.args.scope.now) w o (term_form c.loop-link.term.now) ls i l c.loop-link-test.true c.link-item.is met.0, met.1),
+      inr (l, item-in ls i l c.loop-link-test.true c.link-item.is, refl),
     )
 
 pub connectives::unfold_operands-returns-then-decides-clause-operands : goal.connectives::unfold_operands-returns-then-decides-clause-operands
@@ -465,86 +467,6 @@ applications::unfold_application-returns-in-Neither-clause-term t c =
     ∙ given-there (spec_in k) (forms_in k n) (scope_of (spec_in k) (forms_in k) c.args.scope.now) f given some in
     subst (λ (o : Option Term). Unfolds (folding_in k) c.args.level.truth c.args.level.room (applied_term o f ts) c.unfold_function-in-Neither.result) e c.unfold_function-in-Neither.ensures.term
 
-pub applications::unfold_arguments-returns-in_default-clause-term : goal.applications::unfold_arguments-returns-in_default-clause-term
-applications::unfold_arguments-returns-in_default-clause-term t c =
-    let k = c.args.context.now in
-    let n = c.args.level.definitions in
-    let room = c.args.level.room in
-    let ρ = scope_of (spec_in k) (forms_in k) c.args.scope.now in
-    let given = c.args.arguments.now in
-    let whole : Terms = puts k n c.args.scope.now (tree.terms_of given) in
-    subst (λ (ts : Terms). AreArguments (folding_in k) c.args.level.truth room ts c.no_arguments.result)
-    (arguments-none (spec_in k) (forms_in k n) ρ given c.in_default.ensures.value) (c.no_arguments.ensures (folding_in k) c.args.level.truth)
-
-pub applications::unfold_arguments-returns-in_err-first-clause-term : goal.applications::unfold_arguments-returns-in_err-first-clause-term
-applications::unfold_arguments-returns-in_err-first-clause-term t c =
-    let k = c.args.context.now in
-    let n = c.args.level.definitions in
-    let room = c.args.level.room in
-    let ρ = scope_of (spec_in k) (forms_in k) c.args.scope.now in
-    let given = c.args.arguments.now in
-    let whole : Terms = puts k n c.args.scope.now (tree.terms_of given) in
-    let a = c.in-Some.argument.now in
-    let x = put k n c.args.scope.now (tree.term_of a.term) in
-    let xs : Terms = puts k n c.args.scope.now (tree.terms_of (drop 1 given)) in
-    let same : Terms.Then x xs ≡ whole = arguments-first (spec_in k) (forms_in k n) ρ given a c.in-Some.ensures.value in
-    let e = c.in_err-first.field-0.0 in
-    err-kept c.from_residual.result e _ (IsRefusalOfAll room whole) c.from_residual.ensures.1 (first-refused room x xs whole e same c.in_err-first.ensures.term)
-
-pub applications::unfold_arguments-returns-in_err-others-clause-term : goal.applications::unfold_arguments-returns-in_err-others-clause-term
-applications::unfold_arguments-returns-in_err-others-clause-term t c =
-    let k = c.args.context.now in
-    let n = c.args.level.definitions in
-    let room = c.args.level.room in
-    let ρ = scope_of (spec_in k) (forms_in k) c.args.scope.now in
-    let given = c.args.arguments.now in
-    let whole : Terms = puts k n c.args.scope.now (tree.terms_of given) in
-    let a = c.in-Some.argument.now in
-    let x = put k n c.args.scope.now (tree.term_of a.term) in
-    let xs : Terms = puts k n c.args.scope.now (tree.terms_of (drop 1 given)) in
-    let same : Terms.Then x xs ≡ whole = arguments-first (spec_in k) (forms_in k n) ρ given a c.in-Some.ensures.value in
-    let e = c.in_err-others.field-0.0 in
-    err-kept c.from_residual-in_err-others.result e _ (IsRefusalOfAll room whole) c.from_residual-in_err-others.ensures.1
-    (others-refused room c.in_ok-first.first.room x xs whole e same c.in_ok-first.ensures.term.room
-    (subst (λ (rest-args : List Argument). IsRefusalOfAll c.in_ok-first.first.room (puts k n c.args.scope.now (tree.terms_of rest-args)) e) (behind-first given) c.in_err-others.ensures.term))
-
-pub applications::unfold_arguments-returns-clause-term : goal.applications::unfold_arguments-returns-clause-term
-applications::unfold_arguments-returns-clause-term t c =
-    let k = c.args.context.now in
-    let n = c.args.level.definitions in
-    let room = c.args.level.room in
-    let ρ = scope_of (spec_in k) (forms_in k) c.args.scope.now in
-    let given = c.args.arguments.now in
-    let whole : Terms = puts k n c.args.scope.now (tree.terms_of given) in
-    let a = c.in-Some.argument.now in
-    let x = put k n c.args.scope.now (tree.term_of a.term) in
-    let xs : Terms = puts k n c.args.scope.now (tree.terms_of (drop 1 given)) in
-    let same : Terms.Then x xs ≡ whole = arguments-first (spec_in k) (forms_in k n) ρ given a c.in-Some.ensures.value in
-    let back = sym c.folding.ensures in
-    let b = c.args.level.truth in
-    let u = c.in_ok-first.first in
-    subst (λ (ts : Terms). AreArguments (folding_in k) b room ts c.in_ok-with_argument.field-0) same
-    (subst (λ (ds : List SortDeclaration). AreArguments (tree.spec_of ds) b room (Terms.Then x xs) c.in_ok-with_argument.field-0) c.folding.ensures
-    (c.in_ok-with_argument.ensures x xs room b
-    (subst (λ (ds : List SortDeclaration). IsUnfolded (tree.spec_of ds) b room x u) back c.in_ok-first.ensures.term)
-    (subst (λ (ds : List SortDeclaration). AreArguments (tree.spec_of ds) false u.room xs c.in_ok-others.others) back
-    (subst (λ (rest-args : List Argument). AreArguments (folding_in k) false u.room (puts k n c.args.scope.now (tree.terms_of rest-args)) c.in_ok-others.others) (behind-first given) c.in_ok-others.ensures.term))))
-
-pub applications::unfold_arithmetic-returns-then-is_empty-clause-term : goal.applications::unfold_arithmetic-returns-then-is_empty-clause-term
-applications::unfold_arithmetic-returns-then-is_empty-clause-term t c =
-    let k = c.args.context.now in
-    let n = c.args.level.definitions in
-    let b = c.args.level.truth in
-    let room = c.args.level.room in
-    let forms = forms_in k n in
-    let ρ = scope_of (spec_in k) (forms_in k) c.args.scope.now in
-    let p : Term → Term = λ x. put k n c.args.scope.now x in
-    let ls = c.args.links.now in
-    let x0 = tree.term_of c.args.first.now in
-    let whole = p (calculated_term x0 ls) in
-    let none : ls ≡ [] = none-of ls (length ls) refl (sym c.is_empty.ensures ∙ c.if-is_empty.true) in
-    subst (λ (ms : List ArithmeticLink). Unfolds (folding_in k) b room (p (calculated_term x0 ms)) c.unfold.result) (sym none) c.unfold.ensures.term
-
 pub applications::unfold_arithmetic-returns-in_err-left-clause-term : goal.applications::unfold_arithmetic-returns-in_err-left-clause-term
 applications::unfold_arithmetic-returns-in_err-left-clause-term t c =
     let k = c.args.context.now in
@@ -666,7 +588,7 @@ applications::unfold_arithmetic-returns-clause-term t c =
     let whole = p (calculated_term x0 ls) in
     let i = c.loop-link.link-index in
     let end : i < length ls → ⊥ = λ h. omega (arith, h, c.loop-link-test.false) in
-    let some : i ≡ 0 → ⊥ = λ e. some-of ls (sym c.is_empty.ensures ∙ c.if-is_empty.false) (omega (arith, e, c.loop-link-test.false)) in
+    let some : i ≡ 0 → ⊥ = λ e. omega (arith, e, c.loop-link-test.false, c.requires) in
     subst (λ (z : Term). IsUnfolded (folding_in k) b room (p z) c.loop-link.left) (calculated-end x0 ls i end) (c.loop-link.invariant b (λ e. absurd (some e)))
 
 pub applications::unfold_function-returns-clause-term : goal.applications::unfold_function-returns-clause-term
@@ -886,6 +808,19 @@ reads::unfold_element-returns-clause-term t c =
     (read (spec_in k) x (map variable_of c.args.others.indices.now) (puts k n c.args.scope.now (tree.terms_of c.args.others.arguments.now))) c.unfold_read.result)
     c.in_ok-name.ensures.text (c.unfold_read.ensures.term truth)
 
+pub reads::unfold_read-returns-in_default-clause-term : goal.reads::unfold_read-returns-in_default-clause-term
+reads::unfold_read-returns-in_default-clause-term t c =
+    let k = c.args.context.now in
+    let n = c.args.level.definitions in
+    let room = c.args.level.room in
+    let forms = forms_in k n in
+    let ρ = scope_of (spec_in k) (forms_in k) c.args.scope.now in
+    let x : Name = string_bytes c.args.array.name.now.text in
+    let is = c.args.array.indices.now in
+    let given = c.args.array.arguments.now in
+    λ truth. subst (λ (z : Term). IsUnfolded (folding_in k) truth room z c.in_ok-element_term.field-0)
+    (sym (read-itself (spec_in k) forms ρ x is (all_put_in (spec_in k) forms ρ (tree.terms_of given)) c.in_default.ensures.value)) (c.in_ok-element_term.ensures (folding_in k) truth)
+
 pub reads::unfold_read-returns-in_default-first-clause-term : goal.reads::unfold_read-returns-in_default-first-clause-term
 reads::unfold_read-returns-in_default-first-clause-term t c =
     let k = c.args.context.now in
@@ -896,21 +831,8 @@ reads::unfold_read-returns-in_default-first-clause-term t c =
     let x : Name = string_bytes c.args.array.name.now.text in
     let is = c.args.array.indices.now in
     let given = c.args.array.arguments.now in
-    λ truth. subst (λ (z : Term). IsUnfolded (folding_in k) truth room z c.in_ok-element_term.field-0)
-    (sym (read-itself (spec_in k) forms ρ x is (all_put_in (spec_in k) forms ρ (tree.terms_of given)) c.in_default-first.ensures.value)) (c.in_ok-element_term.ensures (folding_in k) truth)
-
-pub reads::unfold_read-returns-in_default-first-2-clause-term : goal.reads::unfold_read-returns-in_default-first-2-clause-term
-reads::unfold_read-returns-in_default-first-2-clause-term t c =
-    let k = c.args.context.now in
-    let n = c.args.level.definitions in
-    let room = c.args.level.room in
-    let forms = forms_in k n in
-    let ρ = scope_of (spec_in k) (forms_in k) c.args.scope.now in
-    let x : Name = string_bytes c.args.array.name.now.text in
-    let is = c.args.array.indices.now in
-    let given = c.args.array.arguments.now in
     λ truth. subst (λ (z : Term). IsUnfolded (folding_in k) truth room z c.nothing.result)
-    (sym (read-nothing (spec_in k) forms ρ x is given c.in-Some-first.index.now c.in-Some-first.ensures.value c.in_default-first-2.ensures.value)) (c.nothing.ensures (folding_in k) truth)
+    (sym (read-nothing (spec_in k) forms ρ x is given c.in-Some.index.now c.in-Some.ensures.value c.in_default-first.ensures.value)) (c.nothing.ensures (folding_in k) truth)
 
 pub reads::unfold_read-returns-in-Some-written_as-clause-term : goal.reads::unfold_read-returns-in-Some-written_as-clause-term
 reads::unfold_read-returns-in-Some-written_as-clause-term t c =
@@ -922,12 +844,12 @@ reads::unfold_read-returns-in-Some-written_as-clause-term t c =
     let x : Name = string_bytes c.args.array.name.now.text in
     let is = c.args.array.indices.now in
     let given = c.args.array.arguments.now in
-    let i = c.in-Some-first.index.now in
-    let a = c.in-Some-first-2.argument.now in
+    let i = c.in-Some.index.now in
+    let a = c.in-Some-first.argument.now in
     let t = put_in (spec_in k) forms ρ (tree.term_of a.term) in
     let f : Term → Term = λ z. read (spec_in k) (element x z) (map variable_of (drop 1 is)) (all_put_in (spec_in k) forms ρ (tree.terms_of (drop 1 given))) in
     let ks = written_values (spec_in k) i.sort.now in
-    let first = read-first (spec_in k) forms ρ x is given i a c.in-Some-first.ensures.value c.in-Some-first-2.ensures.value in
+    let first = read-first (spec_in k) forms ρ x is given i a c.in-Some.ensures.value c.in-Some-first.ensures.value in
     let values : map written_term c.deref.result.now ≡ ks = ap (map written_term) c.deref.ensures.value ∙ c.in_ok-values.ensures ∙ ap (λ S. written_values S i.sort.now) c.sorts.ensures in
     let v = c.in-Some-written_as.value in
     let w : IsWrittenAs (Some v) t ks = subst (λ (zs : List Term). IsWrittenAs (Some v) t zs) values (c.in-Some-written_as.ensures t c.in-Ok.ensures.term.form) in
@@ -948,12 +870,12 @@ reads::unfold_read-returns-clause-term t c =
     let x : Name = string_bytes c.args.array.name.now.text in
     let is = c.args.array.indices.now in
     let given = c.args.array.arguments.now in
-    let i = c.in-Some-first.index.now in
-    let a = c.in-Some-first-2.argument.now in
+    let i = c.in-Some.index.now in
+    let a = c.in-Some-first.argument.now in
     let t = put_in (spec_in k) forms ρ (tree.term_of a.term) in
     let f : Term → Term = λ z. read (spec_in k) (element x z) (map variable_of (drop 1 is)) (all_put_in (spec_in k) forms ρ (tree.terms_of (drop 1 given))) in
     let ks = written_values (spec_in k) i.sort.now in
-    let first = read-first (spec_in k) forms ρ x is given i a c.in-Some-first.ensures.value c.in-Some-first-2.ensures.value in
+    let first = read-first (spec_in k) forms ρ x is given i a c.in-Some.ensures.value c.in-Some-first.ensures.value in
     let values : map written_term c.deref.result.now ≡ ks = ap (map written_term) c.deref.ensures.value ∙ c.in_ok-values.ensures ∙ ap (λ S. written_values S i.sort.now) c.sorts.ensures in
     let u = c.in-Ok.unfolded in
     let w : IsWrittenAs None t ks = subst (λ (zs : List Term). IsWrittenAs None t zs) values (c.in_default-written_as.ensures t c.in-Ok.ensures.term.form) in
@@ -966,15 +888,15 @@ reads::unfold_read-returns-clause-term t c =
     λ truth. subst (λ (z : Term). Unfolds (folding_in k) truth room z c.unfold_choices.result) same
     (c.unfold_choices.ensures.term t truth c.in-Ok.ensures.term.term (omega (arith, c.in-Ok.ensures.term.room, c.saturating_sub.ensures)))
 
-pub reads::unfold_choices-returns-in_default-first-clause-term : goal.reads::unfold_choices-returns-in_default-first-clause-term
-reads::unfold_choices-returns-in_default-first-clause-term t c =
+pub reads::unfold_choices-returns-in_default-clause-term : goal.reads::unfold_choices-returns-in_default-clause-term
+reads::unfold_choices-returns-in_default-clause-term t c =
     let k = c.args.context.now in
     let n = c.args.level.definitions in
     let room = c.args.level.room in
     let g : Term → Term = element_by k n c.args.scope.now c.args.choices.others in
     let vs = c.args.choices.values.now in
     λ t truth said within. subst (λ (z : Term). IsUnfolded (folding_in k) truth room z c.nothing.result)
-    (choices-none g t vs c.in_default-first.ensures.value) (c.nothing.ensures (folding_in k) truth)
+    (choices-none g t vs c.in_default.ensures.value) (c.nothing.ensures (folding_in k) truth)
 
 pub reads::unfold_choices-returns-then-is_empty-clause-term : goal.reads::unfold_choices-returns-then-is_empty-clause-term
 reads::unfold_choices-returns-then-is_empty-clause-term t c =
@@ -983,10 +905,10 @@ reads::unfold_choices-returns-then-is_empty-clause-term t c =
     let room = c.args.level.room in
     let g : Term → Term = element_by k n c.args.scope.now c.args.choices.others in
     let vs = c.args.choices.values.now in
-    let v = c.in-Some-first.value.now in
+    let v = c.in-Some.value.now in
     let end : length (drop 1 vs) ≡ 0 = grind (arith, nat_tests) in
     λ t truth said within. subst (λ (z : Term). Unfolds (folding_in k) truth room z c.unfold_element.result)
-    (choices-one g t vs v c.in-Some-first.ensures.value end) (c.unfold_element.ensures.term truth)
+    (choices-one g t vs v c.in-Some.ensures.value end) (c.unfold_element.ensures.term truth)
 
 pub reads::unfold_choices-returns-in-Some-true-clause-term : goal.reads::unfold_choices-returns-in-Some-true-clause-term
 reads::unfold_choices-returns-in-Some-true-clause-term t c =
@@ -995,12 +917,12 @@ reads::unfold_choices-returns-in-Some-true-clause-term t c =
     let room = c.args.level.room in
     let g : Term → Term = element_by k n c.args.scope.now c.args.choices.others in
     let vs = c.args.choices.values.now in
-    let v = c.in-Some-first.value.now in
+    let v = c.in-Some.value.now in
     let more : length (drop 1 vs) ≡ 0 → ⊥ = λ end. some-of (take (length vs - 1) (drop 1 vs)) (sym c.is_empty.ensures ∙ c.if-is_empty.false) (ap length (behind-first vs) ∙ end) in
     let eq : Term → Term = λ t. Term.Binary Operator.Equal t (written_term v) in
     let y = g (written_term v) in
     let rest : Term → Term = λ t. choices g t (map written_term (drop 1 vs)) in
-    let same : (t : Term) → choice_of (codes "if") (eq t) y (rest t) ≡ choices g t (map written_term vs) = λ t. choices-more g t vs v c.in-Some-first.ensures.value more in
+    let same : (t : Term) → choice_of (codes "if") (eq t) y (rest t) ≡ choices g t (map written_term vs) = λ t. choices-more g t vs v c.in-Some.ensures.value more in
     let condition : (t : Term) → tree.term_of c.args.choices.index.now ≡ folded (folding_in k) false t → tree.term_of c.in_ok-condition.condition ≡ folded (folding_in k) true (eq t) =
     λ t said. c.in_ok-condition.ensures t true (said ∙ ap (λ ds. folded (tree.spec_of ds) false t) (sym c.folding.ensures)) ∙ ap (λ ds. folded (tree.spec_of ds) true (eq t)) c.folding.ensures in
     λ t truth said within. subst (λ (z : Term). IsUnfolded (folding_in k) truth room z c.chosen.result) (same t)
@@ -1014,12 +936,12 @@ reads::unfold_choices-returns-in-Some-false-clause-term t c =
     let room = c.args.level.room in
     let g : Term → Term = element_by k n c.args.scope.now c.args.choices.others in
     let vs = c.args.choices.values.now in
-    let v = c.in-Some-first.value.now in
+    let v = c.in-Some.value.now in
     let more : length (drop 1 vs) ≡ 0 → ⊥ = λ end. some-of (take (length vs - 1) (drop 1 vs)) (sym c.is_empty.ensures ∙ c.if-is_empty.false) (ap length (behind-first vs) ∙ end) in
     let eq : Term → Term = λ t. Term.Binary Operator.Equal t (written_term v) in
     let y = g (written_term v) in
     let rest : Term → Term = λ t. choices g t (map written_term (drop 1 vs)) in
-    let same : (t : Term) → choice_of (codes "if") (eq t) y (rest t) ≡ choices g t (map written_term vs) = λ t. choices-more g t vs v c.in-Some-first.ensures.value more in
+    let same : (t : Term) → choice_of (codes "if") (eq t) y (rest t) ≡ choices g t (map written_term vs) = λ t. choices-more g t vs v c.in-Some.ensures.value more in
     let condition : (t : Term) → tree.term_of c.args.choices.index.now ≡ folded (folding_in k) false t → tree.term_of c.in_ok-condition.condition ≡ folded (folding_in k) true (eq t) =
     λ t said. c.in_ok-condition.ensures t true (said ∙ ap (λ ds. folded (tree.spec_of ds) false t) (sym c.folding.ensures)) ∙ ap (λ ds. folded (tree.spec_of ds) true (eq t)) c.folding.ensures in
     λ t truth said within. subst (λ (z : Term). IsUnfolded (folding_in k) truth room z c.chosen-in-Some-false.result) (same t)
@@ -1033,12 +955,12 @@ reads::unfold_choices-returns-in_err-unfold_element-in-Some-true-clause-term t c
     let room = c.args.level.room in
     let g : Term → Term = element_by k n c.args.scope.now c.args.choices.others in
     let vs = c.args.choices.values.now in
-    let v = c.in-Some-first.value.now in
+    let v = c.in-Some.value.now in
     let more : length (drop 1 vs) ≡ 0 → ⊥ = λ end. some-of (take (length vs - 1) (drop 1 vs)) (sym c.is_empty.ensures ∙ c.if-is_empty.false) (ap length (behind-first vs) ∙ end) in
     let eq : Term → Term = λ t. Term.Binary Operator.Equal t (written_term v) in
     let y = g (written_term v) in
     let rest : Term → Term = λ t. choices g t (map written_term (drop 1 vs)) in
-    let same : (t : Term) → choice_of (codes "if") (eq t) y (rest t) ≡ choices g t (map written_term vs) = λ t. choices-more g t vs v c.in-Some-first.ensures.value more in
+    let same : (t : Term) → choice_of (codes "if") (eq t) y (rest t) ≡ choices g t (map written_term vs) = λ t. choices-more g t vs v c.in-Some.ensures.value more in
     let condition : (t : Term) → tree.term_of c.args.choices.index.now ≡ folded (folding_in k) false t → tree.term_of c.in_ok-condition.condition ≡ folded (folding_in k) true (eq t) =
     λ t said. c.in_ok-condition.ensures t true (said ∙ ap (λ ds. folded (tree.spec_of ds) false t) (sym c.folding.ensures)) ∙ ap (λ ds. folded (tree.spec_of ds) true (eq t)) c.folding.ensures in
     let e = c.in_err-unfold_element-in-Some-true.field-0.0 in
@@ -1052,12 +974,12 @@ reads::unfold_choices-returns-in_err-unfold_choices-in-Some-false-clause-term t 
     let room = c.args.level.room in
     let g : Term → Term = element_by k n c.args.scope.now c.args.choices.others in
     let vs = c.args.choices.values.now in
-    let v = c.in-Some-first.value.now in
+    let v = c.in-Some.value.now in
     let more : length (drop 1 vs) ≡ 0 → ⊥ = λ end. some-of (take (length vs - 1) (drop 1 vs)) (sym c.is_empty.ensures ∙ c.if-is_empty.false) (ap length (behind-first vs) ∙ end) in
     let eq : Term → Term = λ t. Term.Binary Operator.Equal t (written_term v) in
     let y = g (written_term v) in
     let rest : Term → Term = λ t. choices g t (map written_term (drop 1 vs)) in
-    let same : (t : Term) → choice_of (codes "if") (eq t) y (rest t) ≡ choices g t (map written_term vs) = λ t. choices-more g t vs v c.in-Some-first.ensures.value more in
+    let same : (t : Term) → choice_of (codes "if") (eq t) y (rest t) ≡ choices g t (map written_term vs) = λ t. choices-more g t vs v c.in-Some.ensures.value more in
     let condition : (t : Term) → tree.term_of c.args.choices.index.now ≡ folded (folding_in k) false t → tree.term_of c.in_ok-condition.condition ≡ folded (folding_in k) true (eq t) =
     λ t said. c.in_ok-condition.ensures t true (said ∙ ap (λ ds. folded (tree.spec_of ds) false t) (sym c.folding.ensures)) ∙ ap (λ ds. folded (tree.spec_of ds) true (eq t)) c.folding.ensures in
     let e = c.in_err-unfold_choices-in-Some-false.field-0.0 in
@@ -1071,12 +993,12 @@ reads::unfold_choices-returns-in_err-left-in-None-clause-term t c =
     let room = c.args.level.room in
     let g : Term → Term = element_by k n c.args.scope.now c.args.choices.others in
     let vs = c.args.choices.values.now in
-    let v = c.in-Some-first.value.now in
+    let v = c.in-Some.value.now in
     let more : length (drop 1 vs) ≡ 0 → ⊥ = λ end. some-of (take (length vs - 1) (drop 1 vs)) (sym c.is_empty.ensures ∙ c.if-is_empty.false) (ap length (behind-first vs) ∙ end) in
     let eq : Term → Term = λ t. Term.Binary Operator.Equal t (written_term v) in
     let y = g (written_term v) in
     let rest : Term → Term = λ t. choices g t (map written_term (drop 1 vs)) in
-    let same : (t : Term) → choice_of (codes "if") (eq t) y (rest t) ≡ choices g t (map written_term vs) = λ t. choices-more g t vs v c.in-Some-first.ensures.value more in
+    let same : (t : Term) → choice_of (codes "if") (eq t) y (rest t) ≡ choices g t (map written_term vs) = λ t. choices-more g t vs v c.in-Some.ensures.value more in
     let condition : (t : Term) → tree.term_of c.args.choices.index.now ≡ folded (folding_in k) false t → tree.term_of c.in_ok-condition.condition ≡ folded (folding_in k) true (eq t) =
     λ t said. c.in_ok-condition.ensures t true (said ∙ ap (λ ds. folded (tree.spec_of ds) false t) (sym c.folding.ensures)) ∙ ap (λ ds. folded (tree.spec_of ds) true (eq t)) c.folding.ensures in
     let m = c.in_ok-room-in-None-2.room in
@@ -1092,12 +1014,12 @@ reads::unfold_choices-returns-in_err-right-in-None-clause-term t c =
     let room = c.args.level.room in
     let g : Term → Term = element_by k n c.args.scope.now c.args.choices.others in
     let vs = c.args.choices.values.now in
-    let v = c.in-Some-first.value.now in
+    let v = c.in-Some.value.now in
     let more : length (drop 1 vs) ≡ 0 → ⊥ = λ end. some-of (take (length vs - 1) (drop 1 vs)) (sym c.is_empty.ensures ∙ c.if-is_empty.false) (ap length (behind-first vs) ∙ end) in
     let eq : Term → Term = λ t. Term.Binary Operator.Equal t (written_term v) in
     let y = g (written_term v) in
     let rest : Term → Term = λ t. choices g t (map written_term (drop 1 vs)) in
-    let same : (t : Term) → choice_of (codes "if") (eq t) y (rest t) ≡ choices g t (map written_term vs) = λ t. choices-more g t vs v c.in-Some-first.ensures.value more in
+    let same : (t : Term) → choice_of (codes "if") (eq t) y (rest t) ≡ choices g t (map written_term vs) = λ t. choices-more g t vs v c.in-Some.ensures.value more in
     let condition : (t : Term) → tree.term_of c.args.choices.index.now ≡ folded (folding_in k) false t → tree.term_of c.in_ok-condition.condition ≡ folded (folding_in k) true (eq t) =
     λ t said. c.in_ok-condition.ensures t true (said ∙ ap (λ ds. folded (tree.spec_of ds) false t) (sym c.folding.ensures)) ∙ ap (λ ds. folded (tree.spec_of ds) true (eq t)) c.folding.ensures in
     let m = c.in_ok-room-in-None-2.room in
@@ -1117,12 +1039,12 @@ reads::unfold_choices-returns-clause-term t c =
     let room = c.args.level.room in
     let g : Term → Term = element_by k n c.args.scope.now c.args.choices.others in
     let vs = c.args.choices.values.now in
-    let v = c.in-Some-first.value.now in
+    let v = c.in-Some.value.now in
     let more : length (drop 1 vs) ≡ 0 → ⊥ = λ end. some-of (take (length vs - 1) (drop 1 vs)) (sym c.is_empty.ensures ∙ c.if-is_empty.false) (ap length (behind-first vs) ∙ end) in
     let eq : Term → Term = λ t. Term.Binary Operator.Equal t (written_term v) in
     let y = g (written_term v) in
     let rest : Term → Term = λ t. choices g t (map written_term (drop 1 vs)) in
-    let same : (t : Term) → choice_of (codes "if") (eq t) y (rest t) ≡ choices g t (map written_term vs) = λ t. choices-more g t vs v c.in-Some-first.ensures.value more in
+    let same : (t : Term) → choice_of (codes "if") (eq t) y (rest t) ≡ choices g t (map written_term vs) = λ t. choices-more g t vs v c.in-Some.ensures.value more in
     let condition : (t : Term) → tree.term_of c.args.choices.index.now ≡ folded (folding_in k) false t → tree.term_of c.in_ok-condition.condition ≡ folded (folding_in k) true (eq t) =
     λ t said. c.in_ok-condition.ensures t true (said ∙ ap (λ ds. folded (tree.spec_of ds) false t) (sym c.folding.ensures)) ∙ ap (λ ds. folded (tree.spec_of ds) true (eq t)) c.folding.ensures in
     let m = c.in_ok-room-in-None-2.room in
@@ -1138,8 +1060,8 @@ reads::unfold_choices-returns-clause-term t c =
     (subst (λ (ws : List Written). IsUnfolded (folding_in k) false u.room (choices g t (map written_term ws)) c.in_ok-right-in-None.right) (behind-first vs) (c.in_ok-right-in-None.ensures.term t false said within)))
     (spent t within))
 
-pub unfold::unfold-returns-in-Arithmetic-clause-term : goal.unfold::unfold-returns-in-Arithmetic-clause-term
-unfold::unfold-returns-in-Arithmetic-clause-term t c =
+pub unfold::unfold_opened-returns-in-Arithmetic-clause-term : goal.unfold::unfold_opened-returns-in-Arithmetic-clause-term
+unfold::unfold_opened-returns-in-Arithmetic-clause-term t c =
     let k = c.args.context.now in
     let n = c.args.level.definitions in
     let b = c.args.level.truth in
@@ -1151,8 +1073,8 @@ unfold::unfold-returns-in-Arithmetic-clause-term t c =
     ∙ sym (arithmetic-said c.in-Arithmetic.first c.in-Arithmetic.links) ∙ ap tree.term_of (sym c.in-Arithmetic.is) in
     subst (λ (x : Term). Unfolds (folding_in k) b room (p x) c.unfold_arithmetic.result) said c.unfold_arithmetic.ensures.term
 
-pub unfold::unfold-returns-in-Quantified-clause-term : goal.unfold::unfold-returns-in-Quantified-clause-term
-unfold::unfold-returns-in-Quantified-clause-term t c =
+pub unfold::unfold_opened-returns-in-Quantified-clause-term : goal.unfold::unfold_opened-returns-in-Quantified-clause-term
+unfold::unfold_opened-returns-in-Quantified-clause-term t c =
     let k = c.args.context.now in
     let n = c.args.level.definitions in
     let b = c.args.level.truth in
@@ -1165,8 +1087,8 @@ unfold::unfold-returns-in-Quantified-clause-term t c =
     ∙ sym (quantified-said c.in-Quantified.place q c.in-Quantified.variables c.in-Quantified.body) ∙ ap tree.term_of (sym c.in-Quantified.is) in
     subst (λ (x : Term). Unfolds (folding_in k) b room (p x) c.unfold_quantified.result) said c.unfold_quantified.ensures.term
 
-pub unfold::unfold-returns-in_err-operands-in-Chain-clause-term : goal.unfold::unfold-returns-in_err-operands-in-Chain-clause-term
-unfold::unfold-returns-in_err-operands-in-Chain-clause-term t c =
+pub unfold::unfold_opened-returns-in_err-operands-in-Chain-clause-term : goal.unfold::unfold_opened-returns-in_err-operands-in-Chain-clause-term
+unfold::unfold_opened-returns-in_err-operands-in-Chain-clause-term t c =
     let k = c.args.context.now in
     let n = c.args.level.definitions in
     let b = c.args.level.truth in
@@ -1181,8 +1103,8 @@ unfold::unfold-returns-in_err-operands-in-Chain-clause-term t c =
     err-kept c.from_residual-in_err-operands-in-Chain.result e _ (IsRefusal room (p (tree.term_of c.args.term.now))) c.from_residual-in_err-operands-in-Chain.ensures.1
     (subst (λ (x : Term). IsRefusal room (p x) e) said c.in_err-operands-in-Chain.ensures.operands)
 
-pub unfold::unfold-returns-in_ok-joined_operands-in-Chain-clause-term : goal.unfold::unfold-returns-in_ok-joined_operands-in-Chain-clause-term
-unfold::unfold-returns-in_ok-joined_operands-in-Chain-clause-term t c =
+pub unfold::unfold_opened-returns-in_ok-joined_operands-in-Chain-clause-term : goal.unfold::unfold_opened-returns-in_ok-joined_operands-in-Chain-clause-term
+unfold::unfold_opened-returns-in_ok-joined_operands-in-Chain-clause-term t c =
     let k = c.args.context.now in
     let n = c.args.level.definitions in
     let b = c.args.level.truth in
@@ -1196,83 +1118,57 @@ unfold::unfold-returns-in_ok-joined_operands-in-Chain-clause-term t c =
     subst (λ (x : Term). IsUnfolded (folding_in k) b room (p x) c.in_ok-joined_operands-in-Chain.field-0) said
     (c.in_ok-joined_operands-in-Chain.ensures (folding_in k) room _ c.in_ok-operands-in-Chain.ensures.operands)
 
-pub unfold::unfold-returns-then-is_empty-clause-term : goal.unfold::unfold-returns-then-is_empty-clause-term
-unfold::unfold-returns-then-is_empty-clause-term t c =
-    let k = c.args.context.now in
-    let n = c.args.level.definitions in
-    let b = c.args.level.truth in
-    let room = c.args.level.room in
-    let p : Term → Term = λ x. put k n c.args.scope.now x in
-    let v = c.in-Chain.links in
-    let counted : vec_len v ≡ length v.items = omega (arith, v.ok.0) in
-    let none : v.items ≡ [] = none-of v.items (vec_len v) counted (sym c.is_empty.ensures ∙ c.if-is_empty.true) in
-    let o = c.in-Chain.connective in
-    let said : tree.term_of c.deref-then-is_empty.result.now ≡ tree.term_of c.args.term.now =
-    ap tree.term_of c.deref-then-is_empty.ensures
-    ∙ ap (λ ls. chain_term o (tree.term_of (box_value c.in-Chain.first)) (operands_of ls)) (sym none)
-    ∙ sym (chain-said o c.in-Chain.first c.in-Chain.links) ∙ ap tree.term_of (sym c.in-Chain.is) in
-    subst (λ (x : Term). Unfolds (folding_in k) b room (p x) c.unfold-then-is_empty.result) said c.unfold-then-is_empty.ensures.term
-
 -- ---- what faults tell
 
-pub unfold::unfold-returns-in_err-operand-in-Not-clause-faults : goal.unfold::unfold-returns-in_err-operand-in-Not-clause-faults
-unfold::unfold-returns-in_err-operand-in-Not-clause-faults t c =
+pub unfold::unfold_opened-returns-in_err-operand-in-Not-clause-faults : goal.unfold::unfold_opened-returns-in_err-operand-in-Not-clause-faults
+unfold::unfold_opened-returns-in_err-operand-in-Not-clause-faults t c =
     let k = c.args.context.now in
     let n = c.args.level.definitions in
+    let l = c.args.level.depth in
     let σ = scope_said k c.args.scope.now in
     λ w h. let e = c.in_err-operand-in-Not.field-0.0 in
-    let part = subst (λ t. IsOperand (term_form t) (term_form c.deref.result.now)) (sym c.in-Not.is) (ap term_form c.deref.ensures) in
+    let part = subst (λ t. IsPart (term_form t) (term_form c.deref.result.now)) (sym c.in-Not.is) (ap term_form c.deref.ensures) in
     err-told c.from_residual-in_err-operand-in-Not.result e (IsFaultOf (surroundings_in k) w) c.from_residual-in_err-operand-in-Not.ensures.1
-    (c.in_err-operand-in-Not.ensures.faults w (Operand n σ (term_form c.args.term.now) (term_form c.deref.result.now) h.0 part, h.1))
+    (c.in_err-operand-in-Not.ensures.faults w (Operand l n σ (term_form c.args.term.now) (term_form c.deref.result.now) h.0 (inl part), h.1))
 
-pub unfold::unfold-returns-in_err-operand-in-Negative-clause-faults : goal.unfold::unfold-returns-in_err-operand-in-Negative-clause-faults
-unfold::unfold-returns-in_err-operand-in-Negative-clause-faults t c =
+pub unfold::unfold_opened-returns-in_err-operand-in-Negative-clause-faults : goal.unfold::unfold_opened-returns-in_err-operand-in-Negative-clause-faults
+unfold::unfold_opened-returns-in_err-operand-in-Negative-clause-faults t c =
     let k = c.args.context.now in
     let n = c.args.level.definitions in
+    let l = c.args.level.depth in
     let σ = scope_said k c.args.scope.now in
     λ w h. let e = c.in_err-operand-in-Negative.field-0.0 in
-    let part = subst (λ t. IsOperand (term_form t) (term_form c.deref-in-Negative.result.now)) (sym c.in-Negative.is) (ap term_form c.deref-in-Negative.ensures) in
+    let part = subst (λ t. IsPart (term_form t) (term_form c.deref-in-Negative.result.now)) (sym c.in-Negative.is) (ap term_form c.deref-in-Negative.ensures) in
     err-told c.from_residual-in_err-operand-in-Negative.result e (IsFaultOf (surroundings_in k) w) c.from_residual-in_err-operand-in-Negative.ensures.1
-    (c.in_err-operand-in-Negative.ensures.faults w (Operand n σ (term_form c.args.term.now) (term_form c.deref-in-Negative.result.now) h.0 part, h.1))
+    (c.in_err-operand-in-Negative.ensures.faults w (Operand l n σ (term_form c.args.term.now) (term_form c.deref-in-Negative.result.now) h.0 (inl part), h.1))
 
-pub unfold::unfold-returns-in_err-left-in-Comparison-clause-faults : goal.unfold::unfold-returns-in_err-left-in-Comparison-clause-faults
-unfold::unfold-returns-in_err-left-in-Comparison-clause-faults t c =
+pub unfold::unfold_opened-returns-in_err-left-in-Comparison-clause-faults : goal.unfold::unfold_opened-returns-in_err-left-in-Comparison-clause-faults
+unfold::unfold_opened-returns-in_err-left-in-Comparison-clause-faults t c =
     let k = c.args.context.now in
     let n = c.args.level.definitions in
+    let l = c.args.level.depth in
     let σ = scope_said k c.args.scope.now in
     λ w h. let e = c.in_err-left-in-Comparison.field-0.0 in
-    let part = subst (λ t. IsOperand (term_form t) (term_form c.deref-in-Comparison.result.now)) (sym c.in-Comparison.is) (inl (ap term_form c.deref-in-Comparison.ensures)) in
+    let part = subst (λ t. IsPart (term_form t) (term_form c.deref-in-Comparison.result.now)) (sym c.in-Comparison.is) (inl (ap term_form c.deref-in-Comparison.ensures)) in
     err-told c.from_residual-in_err-left-in-Comparison.result e (IsFaultOf (surroundings_in k) w) c.from_residual-in_err-left-in-Comparison.ensures.1
-    (c.in_err-left-in-Comparison.ensures.faults w (Operand n σ (term_form c.args.term.now) (term_form c.deref-in-Comparison.result.now) h.0 part, h.1))
+    (c.in_err-left-in-Comparison.ensures.faults w (Operand l n σ (term_form c.args.term.now) (term_form c.deref-in-Comparison.result.now) h.0 (inl part), h.1))
 
-pub unfold::unfold-returns-in_err-right-in-Comparison-clause-faults : goal.unfold::unfold-returns-in_err-right-in-Comparison-clause-faults
-unfold::unfold-returns-in_err-right-in-Comparison-clause-faults t c =
+pub unfold::unfold_opened-returns-in_err-right-in-Comparison-clause-faults : goal.unfold::unfold_opened-returns-in_err-right-in-Comparison-clause-faults
+unfold::unfold_opened-returns-in_err-right-in-Comparison-clause-faults t c =
     let k = c.args.context.now in
     let n = c.args.level.definitions in
+    let l = c.args.level.depth in
     let σ = scope_said k c.args.scope.now in
     λ w h. let e = c.in_err-right-in-Comparison.field-0.0 in
-    let part = subst (λ t. IsOperand (term_form t) (term_form c.deref-in-Comparison-2.result.now)) (sym c.in-Comparison.is) (inr (ap term_form c.deref-in-Comparison-2.ensures)) in
+    let part = subst (λ t. IsPart (term_form t) (term_form c.deref-in-Comparison-2.result.now)) (sym c.in-Comparison.is) (inr (ap term_form c.deref-in-Comparison-2.ensures)) in
     err-told c.from_residual-in_err-right-in-Comparison.result e (IsFaultOf (surroundings_in k) w) c.from_residual-in_err-right-in-Comparison.ensures.1
-    (c.in_err-right-in-Comparison.ensures.faults w (Operand n σ (term_form c.args.term.now) (term_form c.deref-in-Comparison-2.result.now) h.0 part, h.1))
+    (c.in_err-right-in-Comparison.ensures.faults w (Operand l n σ (term_form c.args.term.now) (term_form c.deref-in-Comparison-2.result.now) h.0 (inl part), h.1))
 
-pub unfold::unfold-returns-then-is_empty-clause-faults : goal.unfold::unfold-returns-then-is_empty-clause-faults
-unfold::unfold-returns-then-is_empty-clause-faults t c =
+pub unfold::unfold_opened-returns-in_err-operands-in-Chain-clause-faults : goal.unfold::unfold_opened-returns-in_err-operands-in-Chain-clause-faults
+unfold::unfold_opened-returns-in_err-operands-in-Chain-clause-faults t c =
     let k = c.args.context.now in
     let n = c.args.level.definitions in
-    let σ = scope_said k c.args.scope.now in
-    let v = c.in-Chain.links in
-    let counted : vec_len v ≡ length v.items = omega (arith, v.ok.0) in
-    let none : v.items ≡ [] = none-of v.items (vec_len v) counted (sym c.is_empty.ensures ∙ c.if-is_empty.true) in
-    let o = c.in-Chain.connective in
-    let said : term_form c.args.term.now ≡ term_form c.deref-then-is_empty.result.now =
-    ap term_form c.in-Chain.is ∙ term-chain o c.in-Chain.first v ∙ ap (λ ls. chained (TermForm.connected o) (term_form (box_value c.in-Chain.first)) (term_links ls)) none
-    ∙ ap term_form (sym c.deref-then-is_empty.ensures) in
-    λ w h. c.unfold-then-is_empty.ensures.faults w (subst (λ (x : TermForm). IsMetAt k n σ x w) said h.0, h.1)
-
-pub unfold::unfold-returns-in_err-operands-in-Chain-clause-faults : goal.unfold::unfold-returns-in_err-operands-in-Chain-clause-faults
-unfold::unfold-returns-in_err-operands-in-Chain-clause-faults t c =
-    let k = c.args.context.now in
-    let n = c.args.level.definitions in
+    let l = c.args.level.depth in
     let σ = scope_said k c.args.scope.now in
     let o = c.in-Chain.connective in
     let said : term_form c.args.term.now ≡ chained (TermForm.connected o) (term_form c.deref-in-Chain.result.now) (term_links c.deref-in-Chain-2.result.now) =
@@ -1281,33 +1177,36 @@ unfold::unfold-returns-in_err-operands-in-Chain-clause-faults t c =
     ∙ ap (λ ls. chained (TermForm.connected o) (term_form c.deref-in-Chain.result.now) (term_links ls)) (sym c.deref-in-Chain-2.ensures.value) in
     λ w h. let e = c.in_err-operands-in-Chain.field-0.0 in
     err-told c.from_residual-in_err-operands-in-Chain.result e (IsFaultOf (surroundings_in k) w) c.from_residual-in_err-operands-in-Chain.ensures.1
-    (c.in_err-operands-in-Chain.ensures.faults w (subst (λ (x : TermForm). IsMetAt k n σ x w) said h.0, h.1))
+    (c.in_err-operands-in-Chain.ensures.faults w (subst (λ (x : TermForm). IsMetAt k (suc l) n σ x w) said h.0, h.1))
 
-pub unfold::unfold-returns-in-Application-clause-faults : goal.unfold::unfold-returns-in-Application-clause-faults
-unfold::unfold-returns-in-Application-clause-faults t c =
+pub unfold::unfold_opened-returns-in-Application-clause-faults : goal.unfold::unfold_opened-returns-in-Application-clause-faults
+unfold::unfold_opened-returns-in-Application-clause-faults t c =
     let k = c.args.context.now in
     let n = c.args.level.definitions in
+    let l = c.args.level.depth in
     let σ = scope_said k c.args.scope.now in
     let f = c.in-Application.function in
     let said : term_form c.args.term.now ≡ TermForm.application (named f) (argument_forms c.deref-in-Application.result.now) =
     ap term_form c.in-Application.is ∙ term-application f c.in-Application.arguments ∙ ap (λ ls. TermForm.application (named f) (argument_forms ls)) (sym c.deref-in-Application.ensures.value) in
-    λ w h. c.unfold_application.ensures.faults w (subst (λ (x : TermForm). IsMetAt k n σ x w) said h.0, h.1)
+    λ w h. c.unfold_application.ensures.faults w (subst (λ (x : TermForm). IsMetAt k (suc l) n σ x w) said h.0, h.1)
 
-pub unfold::unfold-returns-in-Arithmetic-clause-faults : goal.unfold::unfold-returns-in-Arithmetic-clause-faults
-unfold::unfold-returns-in-Arithmetic-clause-faults t c =
+pub unfold::unfold_opened-returns-in-Arithmetic-clause-faults : goal.unfold::unfold_opened-returns-in-Arithmetic-clause-faults
+unfold::unfold_opened-returns-in-Arithmetic-clause-faults t c =
     let k = c.args.context.now in
     let n = c.args.level.definitions in
+    let l = c.args.level.depth in
     let σ = scope_said k c.args.scope.now in
     let said : term_form c.args.term.now ≡ calculated (term_form c.deref-in-Arithmetic.result.now) (arithmetic_links c.deref-in-Arithmetic-2.result.now) =
     ap term_form c.in-Arithmetic.is ∙ term-arithmetic c.in-Arithmetic.first c.in-Arithmetic.links
     ∙ ap (λ y. calculated (term_form y) (arithmetic_links c.in-Arithmetic.links.items)) (sym c.deref-in-Arithmetic.ensures)
     ∙ ap (λ ls. calculated (term_form c.deref-in-Arithmetic.result.now) (arithmetic_links ls)) (sym c.deref-in-Arithmetic-2.ensures.value) in
-    λ w h. c.unfold_arithmetic.ensures.faults w (subst (λ (x : TermForm). IsMetAt k n σ x w) said h.0, h.1)
+    λ w h. c.unfold_arithmetic.ensures.faults w (subst (λ (x : TermForm). IsMetAt k (suc l) n σ x w) said h.0, h.1)
 
 pub unfold::unfold_free-returns-in-Definition-clause-faults : goal.unfold::unfold_free-returns-in-Definition-clause-faults
 unfold::unfold_free-returns-in-Definition-clause-faults t c =
     let k = c.args.context.now in
     let n = c.args.level.definitions in
+    let l = c.args.level.depth in
     let x = TermForm.name (named c.args.name.now) in
     let d = c.in-Definition.definition.now in
     let m = c.in-Definition.before in
@@ -1316,8 +1215,8 @@ unfold::unfold_free-returns-in-Definition-clause-faults t c =
     let at-term = slice_get-map placed_term k.definitions.items m ∙ ap (option_map placed_term) is.1 in
     let name : name_used x ≡ Some d.name.now = ap Some (sym (is.2 ∙ c.as_str.ensures.value)) in
     λ ρ w h. c.unfold.ensures.faults w (
-      subst (λ (σ : TermScope). IsMetAt k m σ (placed_term d) w) (standing-none (map variable_of d.parameters.items) [])
-          (Defined n ρ x m (definition_of d) (placed_term d) h name is.0 at-definition at-term),
+      subst (λ (σ : TermScope). IsMetAt k l m σ (placed_term d) w) (standing-none (map variable_of d.parameters.items) [])
+          (Defined l n ρ x m (definition_of d) (placed_term d) h name is.0 at-definition at-term),
       tt,
     )
 
@@ -1325,6 +1224,7 @@ pub applications::unfold_application-returns-in-Definition-clause-faults : goal.
 applications::unfold_application-returns-in-Definition-clause-faults t c =
     let k = c.args.context.now in
     let n = c.args.level.definitions in
+    let l = c.args.level.depth in
     let σ = scope_said k c.args.scope.now in
     let given = c.args.arguments.now in
     let x = TermForm.application (named c.args.function.now) (argument_forms given) in
@@ -1336,15 +1236,16 @@ applications::unfold_application-returns-in-Definition-clause-faults t c =
     let at-term = slice_get-map placed_term k.definitions.items m ∙ ap (option_map placed_term) is.1 in
     let name : name_used x ≡ Some d.name.now = ap Some (sym (is.2 ∙ c.as_str.ensures.value)) in
     λ w h. c.unfold.ensures.faults w (
-      subst (λ (vs : List declared_variable.Variable). IsMetAt k m (standing (map variable_of vs) ts []) (placed_term d) w) (sym c.deref.ensures.value)
-          (Defined n σ x m (definition_of d) (placed_term d) h.0 name is.0 at-definition at-term),
-      (arguments-met k n σ w (named c.args.function.now) given h.0, h.1),
+      subst (λ (vs : List declared_variable.Variable). IsMetAt k l m (standing (map variable_of vs) ts []) (placed_term d) w) (sym c.deref.ensures.value)
+          (Defined l n σ x m (definition_of d) (placed_term d) h.0 name is.0 at-definition at-term),
+      ((l, arguments-met k l n σ w (named c.args.function.now) given h.0), h.1),
     )
 
 pub applications::unfold_application-returns-in_ok-name-in-Variable-clause-faults : goal.applications::unfold_application-returns-in_ok-name-in-Variable-clause-faults
 applications::unfold_application-returns-in_ok-name-in-Variable-clause-faults t c =
     let k = c.args.context.now in
     let n = c.args.level.definitions in
+    let l = c.args.level.depth in
     let σ = scope_said k c.args.scope.now in
     let given = c.args.arguments.now in
     let x = TermForm.application (named c.args.function.now) (argument_forms given) in
@@ -1353,23 +1254,40 @@ applications::unfold_application-returns-in_ok-name-in-Variable-clause-faults t 
     let name : string_bytes y.name.now.text ≡ (named c.args.function.now).text = is.1 ∙ c.as_str.ensures.value in
     let there = mapped-in state_variable_of k.variables.items y is.0 in
     let at-name = c.in_ok-name-in-Variable.ensures.place in
+    let is-those = c.deref-in-Variable.ensures.value in
     λ w h. c.unfold_read.ensures.faults w (record {
-      arguments_met = (arguments-met k n σ w (named c.args.function.now) given h.0, h.1);
-      outside = λ p o. (
-        at n σ x,
+      read = record {
+        scope_met = h.1;
+        outside = λ p o. (
+          at (suc l) n σ x,
+          h.0,
+          (
+            state_variable_of y,
+            there,
+            name,
+            subst (λ (vs : List declared_variable.Variable). HaveOutside (surroundings_in k) n σ (argument_forms given) (map variable_of vs) p) is-those o,
+          ),
+        );
+        token = (at (suc l) n σ x, h.0, inl at-name);
+        values = λ many. (
+          at (suc l) n σ x,
+          h.0,
+          (at-name, state_variable_of y, there, name, subst (λ (vs : List declared_variable.Variable). HasManyValues (spec_in k) (map variable_of vs)) is-those many),
+        );
+      };
+      index = λ j d z same o. Index j d n σ (named c.args.function.now) (argument_forms given) (state_variable_of y) z
+          (subst (λ (i : ℕ). IsMetAt k (suc i) n σ x w) same h.0) there name
+          (subst (λ (vs : List declared_variable.Variable). IsIndex (surroundings_in k) n σ (argument_forms given) (map variable_of vs) d z) is-those o);
+      deep = λ less. inl (
+        at (suc l) n σ x,
         h.0,
-        (
+        inr (
           state_variable_of y,
           there,
           name,
-          subst (λ (vs : List declared_variable.Variable). HaveOutside (surroundings_in k) n σ (argument_forms given) (map variable_of vs) p) c.deref-in-Variable.ensures.value o,
+          subst (λ (vs : List declared_variable.Variable). l < all_index_levels (surroundings_in k) n σ (argument_forms given) (map variable_of vs)) is-those less,
         ),
-      );
-      token = (at n σ x, h.0, inl at-name);
-      values = λ many. (
-        at n σ x,
-        h.0,
-        (at-name, state_variable_of y, there, name, subst (λ (vs : List declared_variable.Variable). HasManyValues (spec_in k) (map variable_of vs)) c.deref-in-Variable.ensures.value many),
+        at-name,
       );
     })
 
@@ -1377,46 +1295,38 @@ pub applications::unfold_application-returns-in-Neither-clause-faults : goal.app
 applications::unfold_application-returns-in-Neither-clause-faults t c =
     λ w h. c.unfold_function-in-Neither.ensures.faults w h
 
-pub applications::unfold_arguments-returns-in_err-others-clause-faults : goal.applications::unfold_arguments-returns-in_err-others-clause-faults
-applications::unfold_arguments-returns-in_err-others-clause-faults t c =
-    let k = c.args.context.now in
-    let n = c.args.level.definitions in
-    let σ = scope_said k c.args.scope.now in
-    let given = c.args.arguments.now in
-    λ w h. let e = c.in_err-others.field-0.0 in
-    let others = subst (λ (bs : List Argument). AreMetAt k n σ bs w) (sym (behind-first given)) (other-arguments-met k n σ w given h.0) in
-    err-told c.from_residual-in_err-others.result e (IsFaultOf (surroundings_in k) w) c.from_residual-in_err-others.ensures.1
-    (c.in_err-others.ensures.faults w (others, h.1))
-
 pub applications::unfold_arithmetic-returns-in_err-left-clause-faults : goal.applications::unfold_arithmetic-returns-in_err-left-clause-faults
 applications::unfold_arithmetic-returns-in_err-left-clause-faults t c =
     let k = c.args.context.now in
     let n = c.args.level.definitions in
+    let l = c.args.level.depth in
     let σ = scope_said k c.args.scope.now in
     λ w h. let e = c.in_err-left.field-0.0 in
     err-told c.from_residual.result e (IsFaultOf (surroundings_in k) w) c.from_residual.ensures.1
-    (c.in_err-left.ensures.faults w (arithmetic-first-met k n σ w (term_form c.args.first.now) c.args.links.now h.0, h.1))
+    (c.in_err-left.ensures.faults w (arithmetic-first-met k l n σ w (term_form c.args.first.now) c.args.links.now c.requires h.0, h.1))
 
 pub applications::unfold_arithmetic-returns-in_err-right-clause-faults : goal.applications::unfold_arithmetic-returns-in_err-right-clause-faults
 applications::unfold_arithmetic-returns-in_err-right-clause-faults t c =
     let k = c.args.context.now in
     let n = c.args.level.definitions in
+    let l = c.args.level.depth in
     let σ = scope_said k c.args.scope.now in
     λ w h. let e = c.in_err-right.field-0.0 in
     err-told c.from_residual-in_err-right.result e (IsFaultOf (surroundings_in k) w) c.from_residual-in_err-right.ensures.1
-    (c.in_err-right.ensures.faults w (arithmetic-link-met k n σ w (term_form c.args.first.now) c.args.links.now c.loop-link.link-index c.link-item.result c.loop-link-test.true c.link-item.is h.0, h.1))
+    (c.in_err-right.ensures.faults w (arithmetic-link-met k l n σ w (term_form c.args.first.now) c.args.links.now c.loop-link.link-index c.link-item.result c.loop-link-test.true c.link-item.is h.0, h.1))
 
 pub connectives::unfold_copies-returns-in_err-unfolded-clause-faults : goal.connectives::unfold_copies-returns-in_err-unfolded-clause-faults
 connectives::unfold_copies-returns-in_err-unfolded-clause-faults t c =
     let k = c.args.context.now in
     let n = c.args.level.definitions in
+    let l = c.args.level.depth in
     let σ = scope_said k c.args.scope.now in
     let v = c.values-item.result in
     let vs = map variable_of c.args.copies.variables.now in
     let x = term_form c.args.quantified.body.now in
     let there = mapped-in tuple_of c.args.copies.tuples.now v (item-in c.args.copies.tuples.now c.loop-values.values-index v c.loop-values-test.true c.values-item.is) in
     λ w h. let e = c.in_err-unfolded.field-0.0 in
-    let met = subst (λ ws. IsMetAt k n (standing vs (terms_of (map written_term ws)) σ) x w) (sym c.deref.ensures.value) (h.0 (tuple_of v) there) in
+    let met = subst (λ ws. IsMetAt k l n (standing vs (terms_of (map written_term ws)) σ) x w) (sym c.deref.ensures.value) (h.0 (tuple_of v) there) in
     err-told c.from_residual-in_err-unfolded.result e (IsFaultOf (surroundings_in k) w) c.from_residual-in_err-unfolded.ensures.1
     (c.in_err-unfolded.ensures.faults w (met, h.1))
 
@@ -1424,30 +1334,31 @@ pub connectives::unfold_operands-returns-in_err-unfolded-clause-faults : goal.co
 connectives::unfold_operands-returns-in_err-unfolded-clause-faults t c =
     let k = c.args.context.now in
     let n = c.args.level.definitions in
+    let l = c.args.level.depth in
     let σ = scope_said k c.args.scope.now in
     let o = c.args.chain.connective in
-    let ls = drop c.loop-link.link-index c.args.chain.links.now in
     λ w h. let e = c.in_err-unfolded.field-0.0 in
-    let met = c.loop-link.invariant.1 w h in
+    let met = chain-operand-met k l n σ w o (term_form c.args.chain.first.now) c.args.chain.links.now (term_form c.loop-link.term.now) c.requires c.loop-link.invariant.1 h.0 in
     err-told c.from_residual-in_err-unfolded.result e (IsFaultOf (surroundings_in k) w) c.from_residual-in_err-unfolded.ensures.1
-    (c.in_err-unfolded.ensures.faults w (chain-first-met k n σ w o (term_form c.loop-link.term.now) ls met.0, met.1))
+    (c.in_err-unfolded.ensures.faults w (met, h.1))
 
 pub connectives::unfold_operands-returns-in_err-unfolded-2-clause-faults : goal.connectives::unfold_operands-returns-in_err-unfolded-2-clause-faults
 connectives::unfold_operands-returns-in_err-unfolded-2-clause-faults t c =
     let k = c.args.context.now in
     let n = c.args.level.definitions in
+    let l = c.args.level.depth in
     let σ = scope_said k c.args.scope.now in
     let o = c.args.chain.connective in
-    let ls = drop c.loop-link.link-index c.args.chain.links.now in
     λ w h. let e = c.in_err-unfolded-2.field-0.0 in
-    let met = c.loop-link.invariant.1 w h in
+    let met = chain-operand-met k l n σ w o (term_form c.args.chain.first.now) c.args.chain.links.now (term_form c.loop-link.term.now) c.requires c.loop-link.invariant.1 h.0 in
     err-told c.from_residual-in_err-unfolded-2.result e (IsFaultOf (surroundings_in k) w) c.from_residual-in_err-unfolded-2.ensures.1
-    (c.in_err-unfolded-2.ensures.faults w (chain-first-met k n σ w o (term_form c.loop-link.term.now) ls met.0, met.1))
+    (c.in_err-unfolded-2.ensures.faults w (met, h.1))
 
 pub connectives::unfold_quantified-returns-in_err-operands-clause-faults : goal.connectives::unfold_quantified-returns-in_err-operands-clause-faults
 connectives::unfold_quantified-returns-in_err-operands-clause-faults t c =
     let k = c.args.context.now in
     let n = c.args.level.definitions in
+    let l = c.args.level.depth in
     let σ = scope_said k c.args.scope.now in
     let q = c.args.quantified.quantifier in
     let x = term_form c.args.quantified.body.now in
@@ -1458,98 +1369,85 @@ connectives::unfold_quantified-returns-in_err-operands-clause-faults t c =
     ∙ ap (λ ws. written_tuples (spec_in k) (map variable_of ws)) c.deref.ensures.value ∙ ap (written_tuples (spec_in k)) c.in_ok-variables.ensures in
     let variables : map variable_of c.deref-2.result.now ≡ vs = ap (map variable_of) c.deref-2.ensures.value ∙ c.in_ok-variables.ensures in
     λ w h. let e = c.in_err-operands.field-0.0 in
-    let copies : (ks : List Term) → Contains (map tuple_of c.deref-3.result.now) ks → IsMetAt k n (standing (map variable_of c.deref-2.result.now) (terms_of ks) σ) x w =
-    λ ks in-it. subst (λ (zs : List Variable). IsMetAt k n (standing zs (terms_of ks) σ) x w) (sym variables)
-    (Body n σ q c.args.quantified.place form x ks h.0 (subst (λ (kss : List (List Term)). Contains kss ks) tuples in-it)) in
+    let copies : (ks : List Term) → Contains (map tuple_of c.deref-3.result.now) ks → IsMetAt k l n (standing (map variable_of c.deref-2.result.now) (terms_of ks) σ) x w =
+    λ ks in-it. subst (λ (zs : List Variable). IsMetAt k l n (standing zs (terms_of ks) σ) x w) (sym variables)
+    (Body l n σ q c.args.quantified.place form x ks h.0 (subst (λ (kss : List (List Term)). Contains kss ks) tuples in-it)) in
     err-told c.from_residual-in_err-operands.result e (IsFaultOf (surroundings_in k) w) c.from_residual-in_err-operands.ensures.1
-    (c.in_err-operands.ensures.faults w (copies, h.1, (at n σ (TermForm.quantified q c.args.quantified.place form x), h.0, refl)))
+    (c.in_err-operands.ensures.faults w (copies, h.1, (at (suc l) n σ (TermForm.quantified q c.args.quantified.place form x), h.0, inl refl)))
 
 pub reads::unfold_read-returns-then-not-is_within-clause-faults : goal.reads::unfold_read-returns-then-not-is_within-clause-faults
 reads::unfold_read-returns-then-not-is_within-clause-faults t c =
     let k = c.args.context.now in
     let n = c.args.level.definitions in
+    let l = c.args.level.depth in
     let σ = scope_said k c.args.scope.now in
-    let i = c.in-Some-first.index.now in
-    let a = c.in-Some-first-2.argument.now in
+    let i = c.in-Some.index.now in
+    let a = c.in-Some-first.argument.now in
     let x = put k n c.args.scope.now (tree.term_of a.term) in
     let folded-by : tree.term_of c.in-Ok.unfolded.term ≡ folded (spec_in k) false x = c.in-Ok.ensures.term.term ∙ same-folded (folding_in k) (spec_in k) refl false x in
     let outside : IsOutside (surroundings_in k) n σ (term_form a.term) i.sort.now =
     λ seen. false≢true (c.if-not-is_within.ensures.1 (subst (λ (t : Term). IsSeenWithin (interval_in k t) (sort_interval (spec_in k) i.sort.now)) (sym folded-by) seen)) in
     λ w h. subst (IsFaultOf (surroundings_in k) w) (sym c.refused-then-not-is_within.ensures)
-    (h.outside a.place (first-outside k n σ w c.args.array.indices.now c.args.array.arguments.now i a c.in-Some-first.ensures.value c.in-Some-first-2.ensures.value outside))
-
-pub reads::unfold_read-returns-in-Some-written_as-clause-faults : goal.reads::unfold_read-returns-in-Some-written_as-clause-faults
-reads::unfold_read-returns-in-Some-written_as-clause-faults t c =
-    let k = c.args.context.now in
-    let n = c.args.level.definitions in
-    let σ = scope_said k c.args.scope.now in
-    let o = c.others.result in
-    λ w h. c.unfold_element.ensures.faults w (others-met k n c.args.scope.now w c.args.array.name.now.place o.name.now.place c.args.array.indices.now o.indices.now c.args.array.arguments.now o.arguments.now (ap (λ (x : declared_name.Name). x.place) c.others.ensures.name) c.others.ensures.indices c.others.ensures.arguments h)
-
-pub reads::unfold_read-returns-clause-faults : goal.reads::unfold_read-returns-clause-faults
-reads::unfold_read-returns-clause-faults t c =
-    let k = c.args.context.now in
-    let n = c.args.level.definitions in
-    let σ = scope_said k c.args.scope.now in
-    let o = c.others-2.result in
-    λ w h. c.unfold_choices.ensures.faults w (others-met k n c.args.scope.now w c.args.array.name.now.place o.name.now.place c.args.array.indices.now o.indices.now c.args.array.arguments.now o.arguments.now (ap (λ (x : declared_name.Name). x.place) c.others-2.ensures.name) c.others-2.ensures.indices c.others-2.ensures.arguments h)
+    (h.read.outside a.place (first-outside k n σ w c.args.array.indices.now c.args.array.arguments.now i a c.in-Some.ensures.value c.in-Some-first.ensures.value outside))
 
 -- ---- what is too large
 
-pub unfold::unfold-returns-in_err-room-in-Not-clause-faults : goal.unfold::unfold-returns-in_err-room-in-Not-clause-faults
-unfold::unfold-returns-in_err-room-in-Not-clause-faults t c =
+pub unfold::unfold_opened-returns-in_err-room-in-Not-clause-faults : goal.unfold::unfold_opened-returns-in_err-room-in-Not-clause-faults
+unfold::unfold_opened-returns-in_err-room-in-Not-clause-faults t c =
     let k = c.args.context.now in
-    let o = at c.args.level.definitions (scope_said k c.args.scope.now) (term_form c.args.term.now) in
+    let o = at (suc c.args.level.depth) c.args.level.definitions (scope_said k c.args.scope.now) (term_form c.args.term.now) in
     let p = c.in-Not.place in
     λ w h. room-told (surroundings_in k) w p c.from_residual.result c.in_err-room-in-Not.field-0.0 c.from_residual.ensures.1 c.in_err-room-in-Not.ensures.0
-    (o, h.0, subst (λ (x : declared_term.Term). IsTokenOf (term_form x) p) (sym c.in-Not.is) refl)
+    (o, h.0, inl (subst (λ (x : declared_term.Term). IsTokenOf (term_form x) p) (sym c.in-Not.is) refl))
 
-pub unfold::unfold-returns-in_err-room-in-Negative-clause-faults : goal.unfold::unfold-returns-in_err-room-in-Negative-clause-faults
-unfold::unfold-returns-in_err-room-in-Negative-clause-faults t c =
+pub unfold::unfold_opened-returns-in_err-room-in-Negative-clause-faults : goal.unfold::unfold_opened-returns-in_err-room-in-Negative-clause-faults
+unfold::unfold_opened-returns-in_err-room-in-Negative-clause-faults t c =
     let k = c.args.context.now in
-    let o = at c.args.level.definitions (scope_said k c.args.scope.now) (term_form c.args.term.now) in
+    let o = at (suc c.args.level.depth) c.args.level.definitions (scope_said k c.args.scope.now) (term_form c.args.term.now) in
     let p = c.in-Negative.place in
     λ w h. room-told (surroundings_in k) w p c.from_residual-in_err-room-in-Negative.result c.in_err-room-in-Negative.field-0.0 c.from_residual-in_err-room-in-Negative.ensures.1 c.in_err-room-in-Negative.ensures.0
-    (o, h.0, subst (λ (x : declared_term.Term). IsTokenOf (term_form x) p) (sym c.in-Negative.is) refl)
+    (o, h.0, inl (subst (λ (x : declared_term.Term). IsTokenOf (term_form x) p) (sym c.in-Negative.is) refl))
 
-pub unfold::unfold-returns-in_err-room-in-Comparison-clause-faults : goal.unfold::unfold-returns-in_err-room-in-Comparison-clause-faults
-unfold::unfold-returns-in_err-room-in-Comparison-clause-faults t c =
+pub unfold::unfold_opened-returns-in_err-room-in-Comparison-clause-faults : goal.unfold::unfold_opened-returns-in_err-room-in-Comparison-clause-faults
+unfold::unfold_opened-returns-in_err-room-in-Comparison-clause-faults t c =
     let k = c.args.context.now in
-    let o = at c.args.level.definitions (scope_said k c.args.scope.now) (term_form c.args.term.now) in
+    let o = at (suc c.args.level.depth) c.args.level.definitions (scope_said k c.args.scope.now) (term_form c.args.term.now) in
     let p = c.in-Comparison.place in
     λ w h. room-told (surroundings_in k) w p c.from_residual-in_err-room-in-Comparison.result c.in_err-room-in-Comparison.field-0.0 c.from_residual-in_err-room-in-Comparison.ensures.1 c.in_err-room-in-Comparison.ensures.0
-    (o, h.0, subst (λ (x : declared_term.Term). IsTokenOf (term_form x) p) (sym c.in-Comparison.is) refl)
+    (o, h.0, inl (subst (λ (x : declared_term.Term). IsTokenOf (term_form x) p) (sym c.in-Comparison.is) refl))
 
 pub applications::unfold_arithmetic-returns-in_err-room-clause-faults : goal.applications::unfold_arithmetic-returns-in_err-room-clause-faults
 applications::unfold_arithmetic-returns-in_err-room-clause-faults t c =
     let k = c.args.context.now in
     let n = c.args.level.definitions in
+    let l = c.args.level.depth in
     let σ = scope_said k c.args.scope.now in
-    let l = c.link-item.result in
-    λ w h. room-told (surroundings_in k) w l.place c.from_residual-in_err-room.result c.in_err-room.field-0.0 c.from_residual-in_err-room.ensures.1 c.in_err-room.ensures.0
-    (arithmetic-token k n σ w (term_form c.args.first.now) c.args.links.now c.loop-link.link-index l c.loop-link-test.true c.link-item.is h.0)
+    let d = c.link-item.result in
+    λ w h. room-told (surroundings_in k) w d.place c.from_residual-in_err-room.result c.in_err-room.field-0.0 c.from_residual-in_err-room.ensures.1 c.in_err-room.ensures.0
+    (arithmetic-token k (suc l) n σ w (term_form c.args.first.now) c.args.links.now c.loop-link.link-index d c.loop-link-test.true c.link-item.is h.0)
 
 pub applications::unfold_function-returns-in_err-room-clause-faults : goal.applications::unfold_function-returns-in_err-room-clause-faults
 applications::unfold_function-returns-in_err-room-clause-faults t c =
     let k = c.args.context.now in
     let f = named c.args.function.now in
-    let o = at c.args.level.definitions (scope_said k c.args.scope.now) (TermForm.application f (argument_forms c.args.arguments.now)) in
+    let o = at (suc c.args.level.depth) c.args.level.definitions (scope_said k c.args.scope.now) (TermForm.application f (argument_forms c.args.arguments.now)) in
     λ w h. room-told (surroundings_in k) w f.place c.from_residual.result c.in_err-room.field-0.0 c.from_residual.ensures.1 c.in_err-room.ensures.0 (o, h.0, inl refl)
 
 pub applications::unfold_function-returns-in_err-unfolded-clause-faults : goal.applications::unfold_function-returns-in_err-unfolded-clause-faults
 applications::unfold_function-returns-in_err-unfolded-clause-faults t c =
     let k = c.args.context.now in
     let n = c.args.level.definitions in
+    let l = c.args.level.depth in
     let σ = scope_said k c.args.scope.now in
     λ w h. let e = c.in_err-unfolded.field-0.0 in
     err-told c.from_residual-in_err-unfolded.result e (IsFaultOf (surroundings_in k) w) c.from_residual-in_err-unfolded.ensures.1
-    (c.in_err-unfolded.ensures.faults w (arguments-met k n σ w (named c.args.function.now) c.args.arguments.now h.0, h.1))
+    (c.in_err-unfolded.ensures.faults w (arguments-met k l n σ w (named c.args.function.now) c.args.arguments.now h.0, h.1))
 
 pub applications::unfold_choice-returns-in_err-room-clause-faults : goal.applications::unfold_choice-returns-in_err-room-clause-faults
 applications::unfold_choice-returns-in_err-room-clause-faults t c =
     let k = c.args.context.now in
     let f = named c.args.function.now in
-    let o = at c.args.level.definitions (scope_said k c.args.scope.now) (TermForm.application f (argument_forms c.args.arguments.now)) in
+    let o = at (suc c.args.level.depth) c.args.level.definitions (scope_said k c.args.scope.now) (TermForm.application f (argument_forms c.args.arguments.now)) in
     λ w h. room-told (surroundings_in k) w f.place c.from_residual.result c.in_err-room.field-0.0 c.from_residual.ensures.1 c.in_err-room.ensures.0 (o, h.0, inl refl)
 
 pub connectives::unfold_copies-returns-in_err-behind_one-clause-faults : goal.connectives::unfold_copies-returns-in_err-behind_one-clause-faults
@@ -1561,15 +1459,17 @@ pub connectives::unfold_operands-returns-in_err-behind_one-clause-faults : goal.
 connectives::unfold_operands-returns-in_err-behind_one-clause-faults t c =
     let k = c.args.context.now in
     let n = c.args.level.definitions in
+    let l = c.args.level.depth in
     let σ = scope_said k c.args.scope.now in
-    let l = c.link-item.result in
-    λ w h. room-told (surroundings_in k) w l.place c.from_residual.result c.in_err-behind_one.field-0.0 c.from_residual.ensures.1 c.in_err-behind_one.ensures.0
-    (chain-token k n σ w c.args.chain.connective (term_form c.loop-link.term.now) c.args.chain.links.now c.loop-link.link-index l c.loop-link-test.true c.link-item.is (c.loop-link.invariant.1 w h).0)
+    let d = c.link-item.result in
+    λ w h. room-told (surroundings_in k) w d.place c.from_residual.result c.in_err-behind_one.field-0.0 c.from_residual.ensures.1 c.in_err-behind_one.ensures.0
+    (chain-token k (suc l) n σ w c.args.chain.connective (term_form c.args.chain.first.now) c.args.chain.links.now c.loop-link.link-index d c.loop-link-test.true c.link-item.is h.0)
 
 pub connectives::unfold_quantified-returns-in_err-tuples-clause-faults : goal.connectives::unfold_quantified-returns-in_err-tuples-clause-faults
 connectives::unfold_quantified-returns-in_err-tuples-clause-faults t c =
     let k = c.args.context.now in
     let n = c.args.level.definitions in
+    let l = c.args.level.depth in
     let σ = scope_said k c.args.scope.now in
     let q = c.args.quantified.quantifier in
     let p = c.args.quantified.place in
@@ -1579,101 +1479,82 @@ connectives::unfold_quantified-returns-in_err-tuples-clause-faults t c =
     ap (λ S. written_tuples S (map variable_of c.deref.result.now)) c.sorts.ensures
     ∙ ap (λ ws. written_tuples (spec_in k) (map variable_of ws)) c.deref.ensures.value ∙ ap (written_tuples (spec_in k)) c.in_ok-variables.ensures in
     λ w h. values-told (surroundings_in k) w (written_tuples (spec_of c.sorts.result) (map variable_of c.deref.result.now)) p c.from_residual-in_err-tuples.result c.in_err-tuples.field-0.0 c.from_residual-in_err-tuples.ensures.1 c.in_err-tuples.ensures
-    (λ many. (at n σ (TermForm.quantified q p form x), h.0, (refl, subst (λ (ts : List (List Term)). 8192 < length ts) tuples many)))
-
-pub reads::unfold_element-returns-clause-faults : goal.reads::unfold_element-returns-clause-faults
-reads::unfold_element-returns-clause-faults t c =
-    let k = c.args.context.now in
-    let n = c.args.level.definitions in
-    let others = c.args.others in
-    λ w h. c.unfold_read.ensures.faults w (subst (λ (p : Place). IsReadMet k n c.args.scope.now p others.arguments.now others.indices.now w) (sym c.in_ok-name.ensures.place) h)
+    (λ many. (at (suc l) n σ (TermForm.quantified q p form x), h.0, (refl, subst (λ (ts : List (List Term)). 8192 < length ts) tuples many)))
 
 pub reads::unfold_read-returns-in_err-values-clause-faults : goal.reads::unfold_read-returns-in_err-values-clause-faults
 reads::unfold_read-returns-in_err-values-clause-faults t c =
     let k = c.args.context.now in
-    let i = c.in-Some-first.index.now in
+    let i = c.in-Some.index.now in
     let is = c.args.array.indices.now in
     let p = c.args.array.name.now.place in
     let values : written_values (spec_of c.sorts.result) i.sort.now ≡ written_values (spec_in k) i.sort.now = ap (λ S. written_values S i.sort.now) c.sorts.ensures in
     λ w h. values-told (surroundings_in k) w (written_values (spec_of c.sorts.result) i.sort.now) p c.from_residual-in_err-values.result c.in_err-values.field-0.0 c.from_residual-in_err-values.ensures.1 c.in_err-values.ensures
-    (λ many. h.values (first-many (spec_in k) is i c.in-Some-first.ensures.value (subst (λ (ts : List Term). 8192 < length ts) values many)))
+    (λ many. h.read.values (first-many (spec_in k) is i c.in-Some.ensures.value (subst (λ (ts : List Term). 8192 < length ts) values many)))
 
 pub applications::unfold_choice-returns-in_err-condition-clause-faults : goal.applications::unfold_choice-returns-in_err-condition-clause-faults
 applications::unfold_choice-returns-in_err-condition-clause-faults t c =
     let k = c.args.context.now in
     let n = c.args.level.definitions in
+    let l = c.args.level.depth in
     let σ = scope_said k c.args.scope.now in
     let given = c.args.arguments.now in
     let a = get_or given 0 c.index-arguments-0.result in
     let is : a ≡ get_or given 0 a = ap (λ (r : Argument). get_or given 0 r) c.index-arguments-0.is in
     λ w h. let e = c.in_err-condition.field-0.0 in
     err-told c.from_residual-in_err-condition.result e (IsFaultOf (surroundings_in k) w) c.from_residual-in_err-condition.ensures.1
-    (c.in_err-condition.ensures.faults w (argument-at-met k n σ w given 0 a (omega (arith, c.requires.arguments)) is (arguments-met k n σ w (named c.args.function.now) given h.0), h.1))
+    (c.in_err-condition.ensures.faults w (argument-at-met k l n σ w given 0 a (omega (arith, c.requires.arguments)) is (arguments-met k l n σ w (named c.args.function.now) given h.0), h.1))
 
 pub applications::unfold_choice-returns-in_err-unfold-in-Some-true-clause-faults : goal.applications::unfold_choice-returns-in_err-unfold-in-Some-true-clause-faults
 applications::unfold_choice-returns-in_err-unfold-in-Some-true-clause-faults t c =
     let k = c.args.context.now in
     let n = c.args.level.definitions in
+    let l = c.args.level.depth in
     let σ = scope_said k c.args.scope.now in
     let given = c.args.arguments.now in
     let a = get_or given 1 c.index-arguments-1.result in
     let is : a ≡ get_or given 1 a = ap (λ (r : Argument). get_or given 1 r) c.index-arguments-1.is in
     λ w h. let e = c.in_err-unfold-in-Some-true.field-0.0 in
     err-told c.from_residual-in_err-unfold-in-Some-true.result e (IsFaultOf (surroundings_in k) w) c.from_residual-in_err-unfold-in-Some-true.ensures.1
-    (c.in_err-unfold-in-Some-true.ensures.faults w (argument-at-met k n σ w given 1 a (omega (arith, c.requires.arguments)) is (arguments-met k n σ w (named c.args.function.now) given h.0), h.1))
+    (c.in_err-unfold-in-Some-true.ensures.faults w (argument-at-met k l n σ w given 1 a (omega (arith, c.requires.arguments)) is (arguments-met k l n σ w (named c.args.function.now) given h.0), h.1))
 
 pub applications::unfold_choice-returns-in_err-unfold-in-Some-false-clause-faults : goal.applications::unfold_choice-returns-in_err-unfold-in-Some-false-clause-faults
 applications::unfold_choice-returns-in_err-unfold-in-Some-false-clause-faults t c =
     let k = c.args.context.now in
     let n = c.args.level.definitions in
+    let l = c.args.level.depth in
     let σ = scope_said k c.args.scope.now in
     let given = c.args.arguments.now in
     let a = get_or given 2 c.index-arguments-2.result in
     let is : a ≡ get_or given 2 a = ap (λ (r : Argument). get_or given 2 r) c.index-arguments-2.is in
     λ w h. let e = c.in_err-unfold-in-Some-false.field-0.0 in
     err-told c.from_residual-in_err-unfold-in-Some-false.result e (IsFaultOf (surroundings_in k) w) c.from_residual-in_err-unfold-in-Some-false.ensures.1
-    (c.in_err-unfold-in-Some-false.ensures.faults w (argument-at-met k n σ w given 2 a (omega (arith, c.requires.arguments)) is (arguments-met k n σ w (named c.args.function.now) given h.0), h.1))
+    (c.in_err-unfold-in-Some-false.ensures.faults w (argument-at-met k l n σ w given 2 a (omega (arith, c.requires.arguments)) is (arguments-met k l n σ w (named c.args.function.now) given h.0), h.1))
 
 pub applications::unfold_choice-returns-in_err-left-in-None-clause-faults : goal.applications::unfold_choice-returns-in_err-left-in-None-clause-faults
 applications::unfold_choice-returns-in_err-left-in-None-clause-faults t c =
     let k = c.args.context.now in
     let n = c.args.level.definitions in
+    let l = c.args.level.depth in
     let σ = scope_said k c.args.scope.now in
     let given = c.args.arguments.now in
     let a = get_or given 1 c.index-arguments-1-in-None.result in
     let is : a ≡ get_or given 1 a = ap (λ (r : Argument). get_or given 1 r) c.index-arguments-1-in-None.is in
     λ w h. let e = c.in_err-left-in-None.field-0.0 in
     err-told c.from_residual-in_err-left-in-None.result e (IsFaultOf (surroundings_in k) w) c.from_residual-in_err-left-in-None.ensures.1
-    (c.in_err-left-in-None.ensures.faults w (argument-at-met k n σ w given 1 a (omega (arith, c.requires.arguments)) is (arguments-met k n σ w (named c.args.function.now) given h.0), h.1))
+    (c.in_err-left-in-None.ensures.faults w (argument-at-met k l n σ w given 1 a (omega (arith, c.requires.arguments)) is (arguments-met k l n σ w (named c.args.function.now) given h.0), h.1))
 
 pub applications::unfold_choice-returns-in_err-right-in-None-clause-faults : goal.applications::unfold_choice-returns-in_err-right-in-None-clause-faults
 applications::unfold_choice-returns-in_err-right-in-None-clause-faults t c =
     let k = c.args.context.now in
     let n = c.args.level.definitions in
+    let l = c.args.level.depth in
     let σ = scope_said k c.args.scope.now in
     let given = c.args.arguments.now in
     let a = get_or given 2 c.index-arguments-2-in-None.result in
     let is : a ≡ get_or given 2 a = ap (λ (r : Argument). get_or given 2 r) c.index-arguments-2-in-None.is in
     λ w h. let e = c.in_err-right-in-None.field-0.0 in
     err-told c.from_residual-in_err-right-in-None.result e (IsFaultOf (surroundings_in k) w) c.from_residual-in_err-right-in-None.ensures.1
-    (c.in_err-right-in-None.ensures.faults w (argument-at-met k n σ w given 2 a (omega (arith, c.requires.arguments)) is (arguments-met k n σ w (named c.args.function.now) given h.0), h.1))
-
-pub applications::unfold_arguments-returns-in_err-first-clause-faults : goal.applications::unfold_arguments-returns-in_err-first-clause-faults
-applications::unfold_arguments-returns-in_err-first-clause-faults t c =
-    let k = c.args.context.now in
-    let n = c.args.level.definitions in
-    let σ = scope_said k c.args.scope.now in
-    λ w h. let e = c.in_err-first.field-0.0 in
-    err-told c.from_residual.result e (IsFaultOf (surroundings_in k) w) c.from_residual.ensures.1
-    (c.in_err-first.ensures.faults w ((first-argument k n σ w c.args.arguments.now c.in-Some.argument.now c.in-Some.ensures.value h.0).0, h.1))
-
-pub reads::unfold_read-returns-in-Err-clause-faults : goal.reads::unfold_read-returns-in-Err-clause-faults
-reads::unfold_read-returns-in-Err-clause-faults t c =
-    let k = c.args.context.now in
-    let n = c.args.level.definitions in
-    let σ = scope_said k c.args.scope.now in
-    λ w h. c.of_index.ensures.faults (surroundings_in k) w
-    (c.in-Err.ensures.faults w ((first-argument k n σ w c.args.array.arguments.now c.in-Some-first-2.argument.now c.in-Some-first-2.ensures.value h.arguments_met.0).0, h.arguments_met.1))
+    (c.in_err-right-in-None.ensures.faults w (argument-at-met k l n σ w given 2 a (omega (arith, c.requires.arguments)) is (arguments-met k l n σ w (named c.args.function.now) given h.0), h.1))
 
 pub reads::unfold_choices-returns-in_err-room-in-None-clause-faults : goal.reads::unfold_choices-returns-in_err-room-in-None-clause-faults
 reads::unfold_choices-returns-in_err-room-in-None-clause-faults t c =
@@ -1685,31 +1566,293 @@ reads::unfold_choices-returns-in_err-room-in-None-2-clause-faults t c =
     let k = c.args.context.now in
     λ w h. room-told (surroundings_in k) w c.args.choices.others.name.now.place c.from_residual-in_err-room-in-None-2.result c.in_err-room-in-None-2.field-0.0 c.from_residual-in_err-room-in-None-2.ensures.1 c.in_err-room-in-None-2.ensures.0 h.token
 
+-- ---- arguments one after another
+
+pub applications::unfold_arguments-returns-in_err-next-clause-faults : goal.applications::unfold_arguments-returns-in_err-next-clause-faults
+applications::unfold_arguments-returns-in_err-next-clause-faults t c =
+    let k = c.args.context.now in
+    let n = c.args.level.definitions in
+    let l = c.args.level.depth in
+    let σ = scope_said k c.args.scope.now in
+    let given = c.args.arguments.now in
+    λ w h. let e = c.in_err-next.field-0.0 in
+    let met = argument-at-met k l n σ w given c.loop-argument.argument-index c.argument-item.result c.loop-argument-test.true c.argument-item.is h.0 in
+    err-told c.from_residual.result e (IsFaultOf (surroundings_in k) w) c.from_residual.ensures.1 (c.in_err-next.ensures.faults w (met, h.1))
+
+-- ---- reads of arrays
+
+pub reads::unfold_element-returns-clause-faults : goal.reads::unfold_element-returns-clause-faults
+reads::unfold_element-returns-clause-faults t c =
+    let k = c.args.context.now in
+    let n = c.args.level.definitions in
+    let others = c.args.others in
+    λ w h. c.unfold_read.ensures.faults w (subst (λ (p : Place). IsArrayMet k c.args.level.depth n c.args.scope.now p others.arguments.now others.indices.now w) (sym c.in_ok-name.ensures.place) h)
+
 -- ---- what nests too deep
+
+pub unfold::unfold_opened-unfold_operands-requires : goal.unfold::unfold_opened-unfold_operands-requires
+unfold::unfold_opened-unfold_operands-requires t c =
+    (omega (arith, c.decreases), subst (λ ls. 0 < length ls) (sym c.deref-in-Chain-2.ensures.value) (chain-links c.in-Chain.connective c.in-Chain.first c.in-Chain.links (subst HasLinks c.in-Chain.is c.requires)))
+
+pub unfold::unfold_opened-unfold_arithmetic-requires : goal.unfold::unfold_opened-unfold_arithmetic-requires
+unfold::unfold_opened-unfold_arithmetic-requires t c =
+    (omega (arith, c.decreases), subst (λ ls. 0 < length ls) (sym c.deref-in-Arithmetic-2.ensures.value) (arithmetic-links c.in-Arithmetic.first c.in-Arithmetic.links (subst HasLinks c.in-Arithmetic.is c.requires)))
+
+pub unfold::unfold-returns-clause-term : goal.unfold::unfold-returns-clause-term
+unfold::unfold-returns-clause-term t c =
+    let k = c.args.context.now in
+    let n = c.args.level.definitions in
+    let l = c.args.level.depth in
+    subst (λ (x : TermForm). Unfolds (folding_in k) c.args.level.truth c.args.level.room (put k n c.args.scope.now (erased_term x)) c.unfold_opened.result) c.operated.ensures.form c.unfold_opened.ensures.term
+
+pub unfold::unfold-returns-clause-faults : goal.unfold::unfold-returns-clause-faults
+unfold::unfold-returns-clause-faults t c =
+    let k = c.args.context.now in
+    let n = c.args.level.definitions in
+    let l = c.args.level.depth in
+    let σ = scope_said k c.args.scope.now in
+    let d = c.in-Some.depth in
+    let more : l ≡ suc d = omega (arith, c.in-Some.ensures.0, c.in-Some.ensures.1) in
+    λ w h. c.unfold_opened.ensures.faults w (
+      subst (λ (x : TermForm). IsMetAt k (suc d) n σ x w) (sym c.operated.ensures.form)
+          (subst (λ (j : ℕ). IsMetAt k j n σ (term_form c.args.term.now) w) more h.0),
+      h.1,
+    )
 
 pub unfold::unfold-returns-in_default-clause-faults : goal.unfold::unfold-returns-in_default-clause-faults
 unfold::unfold-returns-in_default-clause-faults t c =
     let k = c.args.context.now in
-    λ w h. depth-told (surroundings_in k) w c.place_of.result c.refused.result c.refused.ensures (c.place_of.ensures k c.args.level.definitions (scope_said k c.args.scope.now) w h.0)
+    let n = c.args.level.definitions in
+    let l = c.args.level.depth in
+    let o = at l n (scope_said k c.args.scope.now) (term_form c.args.term.now) in
+    λ w h. depth-told (surroundings_in k) w c.place_of.result c.refused.result c.refused.ensures
+    (inl (o, h.0, inl (omega (arith, c.in_default.ensures)), c.place_of.ensures))
 
-pub unfold::unfold_name-returns-in_default-clause-faults : goal.unfold::unfold_name-returns-in_default-clause-faults
-unfold::unfold_name-returns-in_default-clause-faults t c =
-    let k = c.args.context.now in
-    let x = named c.args.name.now in
-    λ w h. depth-told (surroundings_in k) w x.place c.refused.result c.refused.ensures (at c.args.level.definitions (scope_said k c.args.scope.now) (TermForm.name x), h.0, refl)
-
-pub applications::unfold_arguments-returns-in_default-checked_sub-clause-faults : goal.applications::unfold_arguments-returns-in_default-checked_sub-clause-faults
-applications::unfold_arguments-returns-in_default-checked_sub-clause-faults t c =
+pub unfold::unfold_name-returns-in-Argument-clause-faults : goal.unfold::unfold_name-returns-in-Argument-clause-faults
+unfold::unfold_name-returns-in-Argument-clause-faults t c =
     let k = c.args.context.now in
     let n = c.args.level.definitions in
+    let l = c.args.level.depth in
     let σ = scope_said k c.args.scope.now in
-    let a = c.in-Some.argument.now in
-    λ w h. depth-told (surroundings_in k) w a.place c.refused.result c.refused.ensures (first-argument k n σ w c.args.arguments.now a c.in-Some.ensures.value h.0).1
+    let f = c.in-Argument in
+    λ w h. let met = f.ensures.met k w h.1 in
+    c.unfold.ensures.faults w (
+      Given l n σ (named c.args.name.now) met.0.0 f.definitions (scope_said k f.user.now) (term_form f.term.now) h.0 met.0.1
+          (sym (f.ensures.term (spec_in k) (forms_in k) ∙ ap (λ (y : Name). term_of σ y) c.as_str.ensures.value)),
+      met.1,
+    )
 
-pub reads::unfold_read-returns-in_default-clause-faults : goal.reads::unfold_read-returns-in_default-clause-faults
-reads::unfold_read-returns-in_default-clause-faults t c =
-    λ w h. depth-told (surroundings_in c.args.context.now) w c.args.array.name.now.place c.refused.result c.refused.ensures h.token
+pub reads::unfold_read-returns-in_default-checked_sub-clause-faults : goal.reads::unfold_read-returns-in_default-checked_sub-clause-faults
+reads::unfold_read-returns-in_default-checked_sub-clause-faults t c =
+    let k = c.args.context.now in
+    let n = c.args.level.definitions in
+    let l = c.args.level.depth in
+    let σ = scope_said k c.args.scope.now in
+    let p = c.args.array.name.now.place in
+    let is = c.args.array.indices.now in
+    let given = c.args.array.arguments.now in
+    let i = c.in-Some.index.now in
+    let a = c.in-Some-first.argument.now in
+    let there = c.in-Some.ensures.value in
+    let first = c.in-Some-first.ensures.value in
+    λ w h. depth-told (surroundings_in k) w p c.refused.result c.refused.ensures (array-deep k n c.args.scope.now w p is given i a there first l (omega (arith, c.in_default-checked_sub.ensures)) h)
 
-pub reads::unfold_choices-returns-in_default-clause-faults : goal.reads::unfold_choices-returns-in_default-clause-faults
-reads::unfold_choices-returns-in_default-clause-faults t c =
-    λ w h. depth-told (surroundings_in c.args.context.now) w c.args.choices.others.name.now.place c.refused.result c.refused.ensures h.token
+pub reads::unfold_read-returns-in-Err-clause-faults : goal.reads::unfold_read-returns-in-Err-clause-faults
+reads::unfold_read-returns-in-Err-clause-faults t c =
+    let k = c.args.context.now in
+    let n = c.args.level.definitions in
+    let l = c.args.level.depth in
+    let σ = scope_said k c.args.scope.now in
+    let p = c.args.array.name.now.place in
+    let is = c.args.array.indices.now in
+    let given = c.args.array.arguments.now in
+    let i = c.in-Some.index.now in
+    let a = c.in-Some-first.argument.now in
+    let there = c.in-Some.ensures.value in
+    let first = c.in-Some-first.ensures.value in
+    λ w h. let met = array-first k n c.args.scope.now w p is given l i a there first h in
+    c.of_index.ensures.faults (surroundings_in k) w 8192 (put k n c.args.scope.now (tree.term_of a.term)) c.in-Err.ensures.term (λ many. (at l n σ (term_form a.term), met, many))
+    (c.in-Err.ensures.faults w (met, h.read.scope_met))
+
+pub reads::unfold_read-returns-in-Some-written_as-clause-faults : goal.reads::unfold_read-returns-in-Some-written_as-clause-faults
+reads::unfold_read-returns-in-Some-written_as-clause-faults t c =
+    let k = c.args.context.now in
+    let n = c.args.level.definitions in
+    let l = c.args.level.depth in
+    let σ = scope_said k c.args.scope.now in
+    let p = c.args.array.name.now.place in
+    let is = c.args.array.indices.now in
+    let given = c.args.array.arguments.now in
+    let i = c.in-Some.index.now in
+    let a = c.in-Some-first.argument.now in
+    let there = c.in-Some.ensures.value in
+    let first = c.in-Some-first.ensures.value in
+    let o = c.others.result in
+    λ w h. c.unfold_element.ensures.faults w (element-met k n c.args.scope.now w p is given i a there first l c.in-Some-checked_sub.depth o.name.now.place o.indices.now o.arguments.now
+    (ap (λ (x : declared_name.Name). x.place) c.others.ensures.name) c.others.ensures.indices c.others.ensures.arguments (omega (arith, c.in-Some-checked_sub.ensures.0, c.in-Some-checked_sub.ensures.1)) h)
+
+pub reads::unfold_read-returns-clause-faults : goal.reads::unfold_read-returns-clause-faults
+reads::unfold_read-returns-clause-faults t c =
+    let k = c.args.context.now in
+    let n = c.args.level.definitions in
+    let l = c.args.level.depth in
+    let σ = scope_said k c.args.scope.now in
+    let p = c.args.array.name.now.place in
+    let is = c.args.array.indices.now in
+    let given = c.args.array.arguments.now in
+    let i = c.in-Some.index.now in
+    let a = c.in-Some-first.argument.now in
+    let there = c.in-Some.ensures.value in
+    let first = c.in-Some-first.ensures.value in
+    let t = put k n c.args.scope.now (tree.term_of a.term) in
+    let ks = written_values (spec_in k) i.sort.now in
+    let values : map written_term c.deref.result.now ≡ ks = ap (map written_term) c.deref.ensures.value ∙ c.in_ok-values.ensures ∙ ap (λ S. written_values S i.sort.now) c.sorts.ensures in
+    let w : IsWrittenAs None t ks = subst (λ (zs : List Term). IsWrittenAs None t zs) values (c.in_default-written_as.ensures t c.in-Ok.ensures.term.form) in
+    let levels = unwritten-levels (surroundings_in k) n σ (term_form a.term) (variable_of i) w in
+    let count = ap length values in
+    let mapped = mapped-length written_term c.deref.result.now in
+    let same-values = ap length (c.deref-2.ensures.value ∙ sym c.deref.ensures.value) in
+    λ whole h. c.unfold_choices.ensures.faults whole (choices-met k n c.args.scope.now whole p is given i a there first l c.in-Some-checked_sub.depth _
+    (ap (λ (x : declared_name.Name). x.place) c.others-2.ensures.name) c.others-2.ensures.indices c.others-2.ensures.arguments (omega (arith, levels, count, mapped, same-values)) (omega (arith, c.in-Some-checked_sub.ensures.0, c.in-Some-checked_sub.ensures.1)) h)
+
+pub reads::unfold_choices-returns-in_default-checked_sub-clause-faults : goal.reads::unfold_choices-returns-in_default-checked_sub-clause-faults
+reads::unfold_choices-returns-in_default-checked_sub-clause-faults t c =
+    let k = c.args.context.now in
+    let n = c.args.level.definitions in
+    let l = c.args.level.depth in
+    let v = c.in-Some.value.now in
+    λ w h. depth-told (surroundings_in k) w c.args.choices.others.name.now.place c.refused.result c.refused.ensures
+    (choices-deep k n c.args.scope.now w l c.args.choices v c.in-Some.ensures.value (omega (arith, c.in_default-checked_sub.ensures)) h)
+
+pub reads::unfold_choices-returns-then-is_empty-clause-faults : goal.reads::unfold_choices-returns-then-is_empty-clause-faults
+reads::unfold_choices-returns-then-is_empty-clause-faults t c =
+    let k = c.args.context.now in
+    let n = c.args.level.definitions in
+    let l = c.args.level.depth in
+    let v = c.in-Some.value.now in
+    let some = c.in-Some.ensures.value in
+    let all = c.args.choices in
+    let d = c.in-Some-checked_sub.depth in
+    let more : l ≡ d + 1 = omega (arith, c.in-Some-checked_sub.ensures.0, c.in-Some-checked_sub.ensures.1) in
+    λ w h. c.unfold_element.ensures.faults w (choice-first k n c.args.scope.now w l all v some d more h)
+
+pub reads::unfold_choices-returns-in_err-unfold_element-in-Some-true-clause-faults : goal.reads::unfold_choices-returns-in_err-unfold_element-in-Some-true-clause-faults
+reads::unfold_choices-returns-in_err-unfold_element-in-Some-true-clause-faults t c =
+    let k = c.args.context.now in
+    let n = c.args.level.definitions in
+    let l = c.args.level.depth in
+    let v = c.in-Some.value.now in
+    let some = c.in-Some.ensures.value in
+    let all = c.args.choices in
+    let d = c.in-Some-checked_sub.depth in
+    let more : l ≡ d + 1 = omega (arith, c.in-Some-checked_sub.ensures.0, c.in-Some-checked_sub.ensures.1) in
+    λ w h. let e = c.in_err-unfold_element-in-Some-true.field-0.0 in
+    err-told c.from_residual-in_err-unfold_element-in-Some-true.result e (IsFaultOf (surroundings_in k) w) c.from_residual-in_err-unfold_element-in-Some-true.ensures.1 (c.in_err-unfold_element-in-Some-true.ensures.faults w (choice-first k n c.args.scope.now w l all v some d more h))
+
+pub reads::unfold_choices-returns-in_err-left-in-None-clause-faults : goal.reads::unfold_choices-returns-in_err-left-in-None-clause-faults
+reads::unfold_choices-returns-in_err-left-in-None-clause-faults t c =
+    let k = c.args.context.now in
+    let n = c.args.level.definitions in
+    let l = c.args.level.depth in
+    let v = c.in-Some.value.now in
+    let some = c.in-Some.ensures.value in
+    let all = c.args.choices in
+    let d = c.in-Some-checked_sub.depth in
+    let more : l ≡ d + 1 = omega (arith, c.in-Some-checked_sub.ensures.0, c.in-Some-checked_sub.ensures.1) in
+    λ w h. let e = c.in_err-left-in-None.field-0.0 in
+    err-told c.from_residual-in_err-left-in-None.result e (IsFaultOf (surroundings_in k) w) c.from_residual-in_err-left-in-None.ensures.1 (c.in_err-left-in-None.ensures.faults w (choice-first k n c.args.scope.now w l all v some d more h))
+
+pub reads::unfold_choices-returns-in_err-unfold_choices-in-Some-false-clause-faults : goal.reads::unfold_choices-returns-in_err-unfold_choices-in-Some-false-clause-faults
+reads::unfold_choices-returns-in_err-unfold_choices-in-Some-false-clause-faults t c =
+    let k = c.args.context.now in
+    let n = c.args.level.definitions in
+    let l = c.args.level.depth in
+    let v = c.in-Some.value.now in
+    let some = c.in-Some.ensures.value in
+    let all = c.args.choices in
+    let d = c.in-Some-checked_sub.depth in
+    let more : l ≡ d + 1 = omega (arith, c.in-Some-checked_sub.ensures.0, c.in-Some-checked_sub.ensures.1) in
+    λ w h. let e = c.in_err-unfold_choices-in-Some-false.field-0.0 in
+    err-told c.from_residual-in_err-unfold_choices-in-Some-false.result e (IsFaultOf (surroundings_in k) w) c.from_residual-in_err-unfold_choices-in-Some-false.ensures.1 (c.in_err-unfold_choices-in-Some-false.ensures.faults w (choices-further k n c.args.scope.now w l all v some d _ refl (behind-first all.values.now) more h))
+
+pub reads::unfold_choices-returns-in_err-right-in-None-clause-faults : goal.reads::unfold_choices-returns-in_err-right-in-None-clause-faults
+reads::unfold_choices-returns-in_err-right-in-None-clause-faults t c =
+    let k = c.args.context.now in
+    let n = c.args.level.definitions in
+    let l = c.args.level.depth in
+    let v = c.in-Some.value.now in
+    let some = c.in-Some.ensures.value in
+    let all = c.args.choices in
+    let d = c.in-Some-checked_sub.depth in
+    let more : l ≡ d + 1 = omega (arith, c.in-Some-checked_sub.ensures.0, c.in-Some-checked_sub.ensures.1) in
+    λ w h. let e = c.in_err-right-in-None.field-0.0 in
+    err-told c.from_residual-in_err-right-in-None.result e (IsFaultOf (surroundings_in k) w) c.from_residual-in_err-right-in-None.ensures.1 (c.in_err-right-in-None.ensures.faults w (choices-further k n c.args.scope.now w l all v some d _ refl (behind-first all.values.now) more h))
+
+pub applications::unfold_arguments-loop-argument-init : goal.applications::unfold_arguments-loop-argument-init
+applications::unfold_arguments-loop-argument-init t c =
+    let k = c.args.context.now in
+    let n = c.args.level.definitions in
+    let room = c.args.level.room in
+    let b = c.args.level.truth in
+    let ρ = scope_of (spec_in k) (forms_in k) c.args.scope.now in
+    let given = c.args.arguments.now in
+    let whole : Terms = puts k n c.args.scope.now (tree.terms_of given) in
+    let start = ap (λ (bs : List Argument). puts k n c.args.scope.now (tree.terms_of bs)) (sym (taken-none given)) in
+    (subst (λ (ts : Terms). AreArguments (folding_in k) b room ts c.no_arguments-unfolded.result) start (c.no_arguments-unfolded.ensures (folding_in k) b), ap (truth_behind b) start)
+
+pub applications::unfold_arguments-returns-in_err-next-clause-term : goal.applications::unfold_arguments-returns-in_err-next-clause-term
+applications::unfold_arguments-returns-in_err-next-clause-term t c =
+    let k = c.args.context.now in
+    let n = c.args.level.definitions in
+    let room = c.args.level.room in
+    let b = c.args.level.truth in
+    let ρ = scope_of (spec_in k) (forms_in k) c.args.scope.now in
+    let given = c.args.arguments.now in
+    let whole : Terms = puts k n c.args.scope.now (tree.terms_of given) in
+    let i = c.loop-argument.argument-index in
+    let a = c.argument-item.result in
+    let before = puts k n c.args.scope.now (tree.terms_of (take i given)) in
+    let x = put k n c.args.scope.now (tree.term_of a.term) in
+    let there = c.loop-argument-test.true in
+    let e = c.in_err-next.field-0.0 in
+    err-kept c.from_residual.result e _ (IsRefusalOfAll room whole) c.from_residual.ensures.1
+    (next-refused room c.loop-argument.unfolded.room x before whole e c.loop-argument.invariant.0.room (argument-within (spec_in k) (forms_in k n) ρ given i a there c.argument-item.is) c.in_err-next.ensures.term)
+
+pub applications::unfold_arguments-loop-argument-preserved : goal.applications::unfold_arguments-loop-argument-preserved
+applications::unfold_arguments-loop-argument-preserved t c =
+    let k = c.args.context.now in
+    let n = c.args.level.definitions in
+    let room = c.args.level.room in
+    let b = c.args.level.truth in
+    let ρ = scope_of (spec_in k) (forms_in k) c.args.scope.now in
+    let given = c.args.arguments.now in
+    let whole : Terms = puts k n c.args.scope.now (tree.terms_of given) in
+    let i = c.loop-argument.argument-index in
+    let a = c.argument-item.result in
+    let before = puts k n c.args.scope.now (tree.terms_of (take i given)) in
+    let x = put k n c.args.scope.now (tree.term_of a.term) in
+    let there = c.loop-argument-test.true in
+    let back = sym c.folding.ensures in
+    let next = argument-next (spec_in k) (forms_in k n) ρ given i a there c.argument-item.is in
+    let u = c.in_ok-next.next in
+    let counted = subst (λ (z : Bool). IsUnfolded (folding_in k) z c.loop-argument.unfolded.room x u) c.loop-argument.invariant.1 c.in_ok-next.ensures.term in
+    let done = c.in_ok-unfolded.ensures before x room b
+    (subst (λ (ds : List SortDeclaration). AreArguments (tree.spec_of ds) b room before c.loop-argument.unfolded) back c.loop-argument.invariant.0)
+    (subst (λ (ds : List SortDeclaration). IsUnfolded (tree.spec_of ds) (truth_behind b before) c.loop-argument.unfolded.room x u) back counted) in (
+      subst (λ (ts : Terms). AreArguments (folding_in k) b room ts c.in_ok-unfolded.unfolded) next
+          (subst (λ (ds : List SortDeclaration). AreArguments (tree.spec_of ds) b room (with_last before x) c.in_ok-unfolded.unfolded) c.folding.ensures done),
+      behind-last b before x ∙ ap (truth_behind b) next,
+    )
+
+pub applications::unfold_arguments-returns-clause-term : goal.applications::unfold_arguments-returns-clause-term
+applications::unfold_arguments-returns-clause-term t c =
+    let k = c.args.context.now in
+    let n = c.args.level.definitions in
+    let room = c.args.level.room in
+    let b = c.args.level.truth in
+    let ρ = scope_of (spec_in k) (forms_in k) c.args.scope.now in
+    let given = c.args.arguments.now in
+    let whole : Terms = puts k n c.args.scope.now (tree.terms_of given) in
+    let i = c.loop-argument.argument-index in
+    let end : i < length given → ⊥ = λ h. omega (arith, h, c.loop-argument-test.false) in
+    subst (λ (bs : List Argument). AreArguments (folding_in k) b room (puts k n c.args.scope.now (tree.terms_of bs)) c.loop-argument.unfolded) (taken-all given i end) c.loop-argument.invariant.0

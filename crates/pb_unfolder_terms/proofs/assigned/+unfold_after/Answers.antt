@@ -17,15 +17,14 @@ use Rattle.pb_unfolder_terms.proofs.BehindLemmas.{behind-refused, behind-unfolde
 use Rattle.pb_unfolder_terms.proofs.ChainLemmas.{err-kept}
 use Rattle.pb_unfolder_terms.proofs.ChoiceLemmas.{chosen-refused, if-named, right-refused, truth-said}
 use Rattle.pb_unfolder_terms.proofs.UnfoldLemmas.{carried}
-use Rattle.std.proofs.Common.{inr, map}
+use Rattle.std.proofs.Common.{inl, inr, map}
 use Rattle.pb_text_tree.specs.Form.{term_form}
 use Rattle.pb_protocol_tree.specs.Form.{assignment_form}
 use Rattle.pb_unfolder_terms.specs.Met.{Itself, at}
 use Rattle.pb_unfolder_terms.specs.Tells.{scope_said, surroundings_in}
 use Rattle.pb_unfolder_terms.specs.TermFaults.{IfFaultAt, IsFaultInAssignments}
-use Rattle.pb_unfolder_terms.specs.declared.fault.UnfoldRule.TheVariants as rule
-use Rattle.pb_unfolder_terms.proofs.LargeLemmas.{assigned-room}
-use Rattle.pb_unfolder_terms.proofs.MetLemmas.{at-by, at-weaker, err-told, item-in, mapped-in, taken-in, values-met}
+use Rattle.pb_unfolder_terms.proofs.LargeLemmas.{assigned-before, assigned-deep, assigned-in}
+use Rattle.pb_unfolder_terms.proofs.MetLemmas.{at-by, at-weaker, err-told, item-in, values-met}
 use Rattle.pb_unfolder_terms.proofs.assigned.+unfold_after.Goals as goal
 
 pub bounds-assignments-place : goal.bounds-assignments-place
@@ -232,46 +231,49 @@ pub returns-in_err-unfold-in-Assigned-clause-faults : goal.returns-in_err-unfold
 returns-in_err-unfold-in-Assigned-clause-faults t c =
     let k = c.args.context.now in
     let n = c.args.level.definitions in
+    let l = c.args.level.depth in
     let σ = scope_said k c.args.scope.now in
     let m = surroundings_in k in
     let bs = c.args.assignments.now in
-    let Q = IsFaultInAssignments m n σ (map assignment_form bs) in
+    let Q = IsFaultInAssignments m l n σ (map assignment_form bs) in
     let E = element_said c.args.element in
     let p = c.in-Assigned.place in
     let found : IsLatest k n c.args.level.room c.args.scope.now bs (E []) (latest.Assigned p c.in-Assigned.condition) = subst (IsLatest k n c.args.level.room c.args.scope.now bs (E [])) c.in-Assigned.is (c.in_ok-latest.ensures.latest []) in
     let a = c.index-assignments-place.result in
-    let w = at n σ (term_form a.value.term) in
-    let there = mapped-in assignment_form bs a (item-in bs p a found.0 c.index-assignments-place.is) in
+    let w = at l n σ (term_form a.value.term) in
+    let there = item-in bs p a found.0 c.index-assignments-place.is in
     let e = c.in_err-unfold-in-Assigned.field-0.0 in
     λ v. err-told c.from_residual-in_err-unfold-in-Assigned.result e (IfFaultAt Q) c.from_residual-in_err-unfold-in-Assigned.ensures.1
-    (at-by m w Q e (λ r q o. (assignment_form a, there, inr o)) (c.in_err-unfold-in-Assigned.ensures.faults w (Itself, values-met k c.args.scope.now w v)))
+    (at-by m w Q e (λ r q o. assigned-in m l n σ bs a r q there (inr (inl o))) (c.in_err-unfold-in-Assigned.ensures.faults w (Itself, values-met k c.args.scope.now w v)))
 
 pub returns-in_err-left-in-Assigned-clause-faults : goal.returns-in_err-left-in-Assigned-clause-faults
 returns-in_err-left-in-Assigned-clause-faults t c =
     let k = c.args.context.now in
     let n = c.args.level.definitions in
+    let l = c.args.level.depth in
     let σ = scope_said k c.args.scope.now in
     let m = surroundings_in k in
     let bs = c.args.assignments.now in
-    let Q = IsFaultInAssignments m n σ (map assignment_form bs) in
+    let Q = IsFaultInAssignments m l n σ (map assignment_form bs) in
     let E = element_said c.args.element in
     let p = c.in-Assigned.place in
     let found : IsLatest k n c.args.level.room c.args.scope.now bs (E []) (latest.Assigned p c.in-Assigned.condition) = subst (IsLatest k n c.args.level.room c.args.scope.now bs (E [])) c.in-Assigned.is (c.in_ok-latest.ensures.latest []) in
     let a = c.index-assignments-place.result in
-    let w = at n σ (term_form a.value.term) in
-    let there = mapped-in assignment_form bs a (item-in bs p a found.0 c.index-assignments-place.is) in
+    let w = at l n σ (term_form a.value.term) in
+    let there = item-in bs p a found.0 c.index-assignments-place.is in
     let e = c.in_err-left-in-Assigned.field-0.0 in
     λ v. err-told c.from_residual-in_err-left-in-Assigned.result e (IfFaultAt Q) c.from_residual-in_err-left-in-Assigned.ensures.1
-    (at-by m w Q e (λ r q o. (assignment_form a, there, inr o)) (c.in_err-left-in-Assigned.ensures.faults w (Itself, values-met k c.args.scope.now w v)))
+    (at-by m w Q e (λ r q o. assigned-in m l n σ bs a r q there (inr (inl o))) (c.in_err-left-in-Assigned.ensures.faults w (Itself, values-met k c.args.scope.now w v)))
 
 pub returns-in_err-latest-clause-faults : goal.returns-in_err-latest-clause-faults
 returns-in_err-latest-clause-faults t c =
     let k = c.args.context.now in
     let n = c.args.level.definitions in
+    let l = c.args.level.depth in
     let σ = scope_said k c.args.scope.now in
     let m = surroundings_in k in
     let bs = c.args.assignments.now in
-    let Q = IsFaultInAssignments m n σ (map assignment_form bs) in
+    let Q = IsFaultInAssignments m l n σ (map assignment_form bs) in
     let e = c.in_err-latest.field-0.0 in
     λ v. err-told c.from_residual.result e (IfFaultAt Q) c.from_residual.ensures.1 (c.in_err-latest.ensures.faults v)
 
@@ -279,14 +281,19 @@ pub returns-in_err-right-in-Assigned-clause-faults : goal.returns-in_err-right-i
 returns-in_err-right-in-Assigned-clause-faults t c =
     let k = c.args.context.now in
     let n = c.args.level.definitions in
+    let l = c.args.level.depth in
     let σ = scope_said k c.args.scope.now in
     let m = surroundings_in k in
     let bs = c.args.assignments.now in
-    let Q = IsFaultInAssignments m n σ (map assignment_form bs) in
+    let Q = IsFaultInAssignments m l n σ (map assignment_form bs) in
     let p = c.in-Assigned.place in
+    let found : IsLatest k n c.args.level.room c.args.scope.now bs (element_said c.args.element []) (latest.Assigned p c.in-Assigned.condition) = subst (IsLatest k n c.args.level.room c.args.scope.now bs (element_said c.args.element [])) c.in-Assigned.is (c.in_ok-latest.ensures.latest []) in
+    let within = found.0 in
+    let d = c.in-Some.depth in
+    let more : suc d ≡ l = omega (arith, c.in-Some.ensures.0, c.in-Some.ensures.1) in
     let e = c.in_err-right-in-Assigned.field-0.0 in
     λ v. err-told c.from_residual-in_err-right-in-Assigned.result e (IfFaultAt Q) c.from_residual-in_err-right-in-Assigned.ensures.1
-    (at-weaker (IsFaultInAssignments m n σ (map assignment_form (take p bs))) Q e (λ r q o. (o.0, taken-in assignment_form p bs o.0 o.1, o.2)) (c.in_err-right-in-Assigned.ensures.faults v))
+    (at-weaker (IsFaultInAssignments m d n σ (map assignment_form (take p bs))) Q e (λ r q o. subst (λ (j : ℕ). IsFaultInAssignments m j n σ (map assignment_form bs) r q) more (assigned-before m d n σ p bs r q within o)) (c.in_err-right-in-Assigned.ensures.faults v))
 
 pub returns-in_default-checked_sub-clause-faults : goal.returns-in_default-checked_sub-clause-faults
 returns-in_default-checked_sub-clause-faults t c =
@@ -297,4 +304,4 @@ returns-in_default-checked_sub-clause-faults t c =
     let p = c.in-Assigned.place in
     let found : IsLatest k n c.args.level.room c.args.scope.now bs (E []) (latest.Assigned p c.in-Assigned.condition) = subst (IsLatest k n c.args.level.room c.args.scope.now bs (E [])) c.in-Assigned.is (c.in_ok-latest.ensures.latest []) in
     let a = c.index-assignments-place.result in
-    λ v. assigned-room (surroundings_in k) n (scope_said k c.args.scope.now) bs a rule.Depth c.refused.result c.refused.ensures (item-in bs p a found.0 c.index-assignments-place.is) (λ w token. token)
+    λ v. assigned-deep (surroundings_in k) c.args.level.depth n (scope_said k c.args.scope.now) bs a c.refused.result c.refused.ensures (item-in bs p a found.0 c.index-assignments-place.is) (omega (arith, c.in_default-checked_sub.ensures))

@@ -4,6 +4,7 @@ use Rattle.pb_text_meaning.specs.Syntax.{Operator, Term}
 use Rattle.pb_folding.specs.Folding.{folded}
 use Rattle.pb_folding.specs.View as tree
 use Rattle.pb_unfolding.specs.PutIn.{put_in}
+use Rattle.pb_unfolder_terms.specs.declared.sorts.Variable.{Variable}
 use Rattle.pb_unfolder_terms.specs.declared.written.Written.{Written}
 use Rattle.pb_unfolder_terms.specs.Contexts.{folding_in, forms_in, spec_in}
 use Rattle.pb_unfolder_terms.specs.Scopes.{scope_of}
@@ -16,9 +17,9 @@ use Rattle.std.proofs.Common.{refl}
 use Rattle.std.proofs.lemmas.Bool.{false≢true}
 use Rattle.pb_unfolder_terms.specs.Contexts.{IsSeenInside}
 use Rattle.pb_unfolder_terms.specs.Puts.{put}
-use Rattle.pb_unfolder_terms.specs.Tells.{IsFaultOf, scope_said, surroundings_in}
-use Rattle.pb_unfolder_terms.proofs.LargeLemmas.{depth-told, first-argument, room-told}
-use Rattle.pb_unfolder_terms.proofs.MetLemmas.{err-told, not-inside-outside, others-met}
+use Rattle.pb_unfolder_terms.specs.Tells.{AreIndicesMet, IsFaultOf, scope_said, surroundings_in}
+use Rattle.pb_unfolder_terms.proofs.LargeLemmas.{first-argument, room-told}
+use Rattle.pb_unfolder_terms.proofs.MetLemmas.{err-told, indices-others, not-inside-outside}
 use Rattle.pb_unfolder_terms.proofs.SortsLemmas.{same-folded}
 use Rattle.pb_unfolder_terms.proofs.assigned.+unfold_compared.Goals as goal
 
@@ -185,8 +186,8 @@ returns-then-not-stays_inside-clause-faults t c =
     let x = put k n c.args.scope.now (tree.term_of a.term) in
     let folded-by : tree.term_of c.in_ok-index.index.term ≡ folded (spec_in k) false x = c.in_ok-index.ensures.term.term ∙ same-folded (folding_in k) (spec_in k) refl false x in
     let outside : IsSeenInside k c.args.compared.indices.now (tree.term_of c.in_ok-index.index.term) → ⊥ = λ seen. false≢true (c.if-not-stays_inside.ensures.1 seen) in
-    λ w h. subst (IsFaultOf (surroundings_in k) w) (sym c.refused-then-not-stays_inside.ensures)
-    (h.outside a.place (not-inside-outside k n σ w c.args.compared.indices.now given a (tree.term_of c.in_ok-index.index.term) c.in-Some.ensures.value folded-by outside))
+    λ w h. subst (IsFaultOf (surroundings_in k) w) (sym c.refused.ensures)
+    (h.read.outside a.place (not-inside-outside k n σ w c.args.compared.indices.now given a (tree.term_of c.in_ok-index.index.term) c.in-Some.ensures.value folded-by outside))
 
 pub returns-in_err-others-clause-faults : goal.returns-in_err-others-clause-faults
 returns-in_err-others-clause-faults t c =
@@ -194,9 +195,12 @@ returns-in_err-others-clause-faults t c =
     let n = c.args.level.definitions in
     let σ = scope_said k c.args.scope.now in
     let given = c.args.compared.arguments.now in
+    let l = c.args.level.depth in
     λ w h. let e = c.in_err-others.field-0.0 in
     err-told c.from_residual-in_err-others.result e (IsFaultOf (surroundings_in k) w) c.from_residual-in_err-others.ensures.1
-    (c.in_err-others.ensures.faults w (others-met k n c.args.scope.now w c.args.compared.place c.args.compared.place c.args.compared.indices.now _ given _ refl c.behind_first.ensures (behind-first given) h))
+    (c.in_err-others.ensures.faults w (subst (λ (vs : List Variable). AreIndicesMet k l n c.args.scope.now c.args.compared.place (take (length given - 1) (drop 1 given)) vs w) (sym c.behind_first.ensures)
+    (subst (λ (bs : List Argument). AreIndicesMet k l n c.args.scope.now c.args.compared.place bs (drop 1 c.args.compared.indices.now) w) (sym (behind-first given))
+    (indices-others k n c.args.scope.now w c.args.compared.place c.args.compared.indices.now given l h))))
 
 pub returns-in_err-index-clause-faults : goal.returns-in_err-index-clause-faults
 returns-in_err-index-clause-faults t c =
@@ -205,16 +209,8 @@ returns-in_err-index-clause-faults t c =
     let σ = scope_said k c.args.scope.now in
     λ w h. let e = c.in_err-index.field-0.0 in
     err-told c.from_residual-in_err-index.result e (IsFaultOf (surroundings_in k) w) c.from_residual-in_err-index.ensures.1
-    (c.in_err-index.ensures.faults w ((first-argument k n σ w c.args.compared.arguments.now c.in-Some.argument.now c.in-Some.ensures.value h.arguments_met.0).0, h.arguments_met.1))
+    (c.in_err-index.ensures.faults w (first-argument k c.args.level.depth n σ w c.args.compared.arguments.now c.in-Some.argument.now c.in-Some.ensures.value h.arguments_met, h.read.scope_met))
 
 pub returns-in_err-behind_all-clause-faults : goal.returns-in_err-behind_all-clause-faults
 returns-in_err-behind_all-clause-faults t c =
-    λ w h. room-told (surroundings_in c.args.context.now) w c.args.compared.place c.from_residual.result c.in_err-behind_all.field-0.0 c.from_residual.ensures.1 c.in_err-behind_all.ensures.0 h.token
-
-pub returns-in_default-checked_sub-clause-faults : goal.returns-in_default-checked_sub-clause-faults
-returns-in_default-checked_sub-clause-faults t c =
-    let k = c.args.context.now in
-    let n = c.args.level.definitions in
-    let σ = scope_said k c.args.scope.now in
-    let a = c.in-Some.argument.now in
-    λ w h. depth-told (surroundings_in k) w a.place c.refused.result c.refused.ensures (first-argument k n σ w c.args.compared.arguments.now a c.in-Some.ensures.value h.arguments_met.0).1
+    λ w h. room-told (surroundings_in c.args.context.now) w c.args.compared.place c.from_residual.result c.in_err-behind_all.field-0.0 c.from_residual.ensures.1 c.in_err-behind_all.ensures.0 h.read.token

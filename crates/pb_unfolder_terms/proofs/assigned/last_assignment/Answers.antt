@@ -26,10 +26,10 @@ use Rattle.pb_protocol_tree.specs.Form.{assignment_form}
 use Rattle.pb_folding.proofs.FoldedModels.{same-names}
 use Rattle.pb_unfolder_terms.specs.declared.fault.UnfoldRule.TheVariants as rule
 use Rattle.pb_unfolder_terms.specs.Met.{Itself, at}
-use Rattle.pb_unfolder_terms.specs.Tells.{IsReadMet, scope_said, surroundings_in}
+use Rattle.pb_unfolder_terms.specs.Tells.{AreIndicesMet, scope_said, surroundings_in}
 use Rattle.pb_unfolder_terms.specs.TermFaults.{IfFaultAt, IsFaultInAssignments}
-use Rattle.pb_unfolder_terms.proofs.LargeLemmas.{assigned-room}
-use Rattle.pb_unfolder_terms.proofs.MetLemmas.{arguments-met, assigned-many, assigned-read, at-by, err-told, item-in, mapped-in, values-met}
+use Rattle.pb_unfolder_terms.proofs.LargeLemmas.{assigned-in, assigned-room}
+use Rattle.pb_unfolder_terms.proofs.MetLemmas.{arguments-met, assigned-many, assigned-read, at-by, err-told, item-in, values-met}
 use Rattle.pb_unfolder_terms.proofs.assigned.last_assignment.Goals as goal
 
 pub loop-place-init : goal.loop-place-init
@@ -233,6 +233,7 @@ pub returns-in_err-condition-clause-faults : goal.returns-in_err-condition-claus
 returns-in_err-condition-clause-faults c =
     let k = c.args.context.now in
     let n = c.args.level.definitions in
+    let l = c.args.level.depth in
     let σ = scope_said k c.args.scope.now in
     let m = surroundings_in k in
     let bs = c.args.assignments.now in
@@ -242,26 +243,30 @@ returns-in_err-condition-clause-faults c =
     let test : same_name (string_bytes a.variable.text) (string_bytes c.args.element.array.now.text) ≡ true = (ap (λ (y : Name). same_name y (string_bytes c.args.element.array.now.text)) (sym c.as_str.ensures.value) ∙ ap (λ (y : Name). same_name c.as_str.result.now y) (sym c.as_str-in-loop-place.ensures.value) ∙ not-fails (same_name c.as_str.result.now c.as_str-in-loop-place.result.now) (sym c.ne.ensures ∙ c.if-ne.false)) in
     let name : string_bytes c.args.element.array.now.text ≡ (named a.variable).text = sym (same-names (string_bytes a.variable.text) (string_bytes c.args.element.array.now.text) test) in
     let h = c.compared_with-compared.result in
-    let w = at n σ (TermForm.application (named a.variable) (argument_forms a.index.items)) in
-    let there = mapped-in assignment_form bs a (item-in bs p a within c.index-assignments-place.is) in
+    let w = at (suc l) n σ (TermForm.application (named a.variable) (argument_forms a.index.items)) in
+    let there = item-in bs p a within c.index-assignments-place.is in
     let e = c.in_err-condition.field-0.0 in
     let x = string_bytes c.args.element.array.now.text in
     let indices = c.compared_with-compared.ensures.indices in
-    λ v. let read : IsReadMet k n c.args.scope.now a.variable.place a.index.items h.indices.now w = record {
-      arguments_met = (arguments-met k n σ w (named a.variable) a.index.items Itself, values-met k c.args.scope.now w v);
-      outside = λ q o. assigned-read k n σ (named a.variable) a.index.items x h.indices.now indices name q o;
-      token = (w, Itself, inl refl);
-      values = λ many. assigned-many k n σ (named a.variable) a.index.items x h.indices.now indices name many;
+    λ v. let met : AreIndicesMet k l n c.args.scope.now a.variable.place a.index.items h.indices.now w = record {
+      read = record {
+        scope_met = values-met k c.args.scope.now w v;
+        outside = λ q o. assigned-read k (suc l) n σ (named a.variable) a.index.items x h.indices.now indices name q o;
+        token = (w, Itself, inl refl);
+        values = λ many. assigned-many k (suc l) n σ (named a.variable) a.index.items x h.indices.now indices name many;
+      };
+      arguments_met = arguments-met k l n σ w (named a.variable) a.index.items Itself;
     } in
-    err-told c.from_residual-in_err-condition.result e (IfFaultAt (IsFaultInAssignments m n σ (map assignment_form bs))) c.from_residual-in_err-condition.ensures.1
-    (at-by m w (IsFaultInAssignments m n σ (map assignment_form bs)) e (λ r q o. (assignment_form a, there, inl o))
-    (c.in_err-condition.ensures.faults w (subst (λ (q : Place). IsReadMet k n c.args.scope.now q h.arguments.now h.indices.now w) (sym c.compared_with-compared.ensures.place)
-    (subst (λ (gs : List Argument). IsReadMet k n c.args.scope.now a.variable.place gs h.indices.now w) (sym c.compared_with-compared.ensures.arguments) read))))
+    err-told c.from_residual-in_err-condition.result e (IfFaultAt (IsFaultInAssignments m l n σ (map assignment_form bs))) c.from_residual-in_err-condition.ensures.1
+    (at-by m w (IsFaultInAssignments m l n σ (map assignment_form bs)) e (λ r q o. assigned-in m l n σ bs a r q there (inl o))
+    (c.in_err-condition.ensures.faults w (subst (λ (q : Place). AreIndicesMet k l n c.args.scope.now q h.arguments.now h.indices.now w) (sym c.compared_with-compared.ensures.place)
+    (subst (λ (gs : List Argument). AreIndicesMet k l n c.args.scope.now a.variable.place gs h.indices.now w) (sym c.compared_with-compared.ensures.arguments) met))))
 
 pub returns-in_err-behind_one-clause-faults : goal.returns-in_err-behind_one-clause-faults
 returns-in_err-behind_one-clause-faults c =
     let k = c.args.context.now in
     let n = c.args.level.definitions in
+    let l = c.args.level.depth in
     let σ = scope_said k c.args.scope.now in
     let m = surroundings_in k in
     let bs = c.args.assignments.now in
@@ -269,5 +274,5 @@ returns-in_err-behind_one-clause-faults c =
     let within : p < length bs = omega (arith, c.loop-place.auto.place, c.loop-place-test.true) in
     let a = c.index-assignments-place.result in
     let e = c.in_err-behind_one.field-0.0 in
-    λ v. err-told c.from_residual.result e (IfFaultAt (IsFaultInAssignments m n σ (map assignment_form bs))) c.from_residual.ensures.1
-    (assigned-room m n σ bs a rule.Operators e c.in_err-behind_one.ensures.0 (item-in bs p a within c.index-assignments-place.is) (λ w token. token))
+    λ v. err-told c.from_residual.result e (IfFaultAt (IsFaultInAssignments m l n σ (map assignment_form bs))) c.from_residual.ensures.1
+    (assigned-room m l n σ bs a rule.Operators e c.in_err-behind_one.ensures.0 (item-in bs p a within c.index-assignments-place.is) (λ w token. token))

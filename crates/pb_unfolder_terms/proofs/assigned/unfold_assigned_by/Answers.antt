@@ -20,5 +20,5 @@ pub returns-clause-faults : goal.returns-clause-faults
 returns-clause-faults c =
     let k = c.args.context.now in
     let counted : c.len.result ≡ length k.definitions.items = omega (arith, c.len.ensures, k.definitions.ok.0) in
-    λ v. subst (λ (n : ℕ). IfErr c.unfold_after.result (IfFaultAt (IsFaultInAssignments (surroundings_in k) n (scope_said k c.args.scope.now) (map assignment_form c.args.assignments.now))))
+    λ v. subst (λ (n : ℕ). IfErr c.unfold_after.result (IfFaultAt (IsFaultInAssignments (surroundings_in k) 200 n (scope_said k c.args.scope.now) (map assignment_form c.args.assignments.now))))
     counted (c.unfold_after.ensures.faults v)

@@ -1,4 +1,4 @@
-use Rattle.std.proofs.Common.{◌∙◌, sym, ap, subst, None}
+use Rattle.std.proofs.Common.{◌∙◌, ℕ, sym, ap, subst, None}
 use Rattle.pb_unfolding.specs.PutIn.{term_of}
 use Rattle.pb_unfolder_terms.specs.Scopes.{scope_of}
 use Rattle.pb_unfolder_terms.specs.Values.{written_term}
@@ -43,6 +43,6 @@ returns-in-None-argument_of-clause-term t c = λ sorts forms.
 pub returns-in-Some-argument_of-clause-met : goal.returns-in-Some-argument_of-clause-met
 returns-in-Some-argument_of-clause-met t c = λ k whole h.
     let a = c.in-Some-argument_of.argument.now in
-    let s : AreMetAt k c.in-Arguments.definitions (scope_said k c.in-Arguments.user.now) c.in-Arguments.arguments.now whole × IsScopeMet k c.in-Arguments.user.now whole =
+    let s : ((l : ℕ) × AreMetAt k l c.in-Arguments.definitions (scope_said k c.in-Arguments.user.now) c.in-Arguments.arguments.now whole) × IsScopeMet k c.in-Arguments.user.now whole =
     subst (λ s. IsScopeMet k s whole) c.in-Arguments.is h in
-    ((s.0 a (found-in c.args.name.now c.in-Arguments.parameters.now c.in-Arguments.arguments.now a c.in-Some-argument_of.ensures)).0, s.1)
+    ((s.0.0, s.0.1 a (found-in c.args.name.now c.in-Arguments.parameters.now c.in-Arguments.arguments.now a c.in-Some-argument_of.ensures)), s.1)

@@ -11,7 +11,7 @@ returns-clause-faults c =
     let k = c.args.context.now in
     let σ = scope_said k c.args.scope.now in
     let x = term_form c.args.term.now in
-    let w = at c.len.result σ x in
+    let w = at 200 c.len.result σ x in
     let counted : c.len.result ≡ length k.definitions.items = omega (arith, c.len.ensures, k.definitions.ok.0) in
-    λ v. subst (λ (n : ℕ). IfErr c.unfold.result (IsFaultOf (surroundings_in k) (at n σ x))) counted
+    λ v. subst (λ (n : ℕ). IfErr c.unfold.result (IsFaultOf (surroundings_in k) (at 200 n σ x))) counted
     (c.unfold.ensures.faults w (Itself, values-met k c.args.scope.now w v))

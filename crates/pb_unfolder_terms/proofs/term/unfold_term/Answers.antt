@@ -25,7 +25,7 @@ returns-clause-faults c =
     let k = c.args.context.now in
     let x = term_form c.args.term.now in
     let M = surroundings_in k in
-    let met : ℕ → Occurrence = λ n. at n (scope_said k c.args.scope.now) x in
+    let met : ℕ → Occurrence = λ n. at 200 n (scope_said k c.args.scope.now) x in
     let n = length k.definitions.items in
     λ m same v. subst (λ (N : Surroundings). IfErr c.unfold_by.result (IfFaultAt (IsFaultInTerm N (scope_by N c.args.scope.now) x))) same
     (subst (λ (j : ℕ). IfErr c.unfold_by.result (IfFaultAt (WithMany (HasManyOperators M (met j)) (Breaks M (met j)))))
