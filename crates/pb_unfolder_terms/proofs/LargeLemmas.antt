@@ -30,6 +30,7 @@ use Rattle.pb_unfolder_terms.specs.Unfolding.{OnOperators, Unfolds, operator_cou
 use Rattle.pb_unfolder_terms.specs.Values.{IsTooLong}
 use Rattle.pb_unfolder_terms.specs.View.{variable_of}
 use Rattle.pb_unfolder_terms.proofs.MetLemmas.{err-told, first-in, mapped-in, taken-at, taken-length}
+use Rattle.pb_unfolder_terms.proofs.ProtocolLemmas.{mapped-length}
 use Rattle.pb_unfolder_terms.proofs.ReadLemmas.{not-none, some-is}
 
 -- ---- faults
@@ -106,10 +107,6 @@ module _ (c : Context) (l n : ℕ) (ρ : TermScope) (whole : Occurrence) where
 
 -- ---- assignments
 
-mapped-count : {X Y : Type 0} (g : X → Y) (xs : List X) → length (map g xs) ≡ length xs
-mapped-count g [] = refl
-mapped-count g (x ∷ xs) = ap suc (mapped-count g xs)
-
 -- a fault in one of the assignments, with all levels
 pub assigned-in : (m : Surroundings) (l n : ℕ) (ρ : TermScope) (bs : List Assignment) (a : Assignment) (r : UnfoldRule) (p : Place) → Contains bs a
     → IsFaultInAssignment m l n ρ (assignment_form a) r p → IsFaultInAssignments m l n ρ (map assignment_form bs) r p
@@ -122,7 +119,7 @@ pub assigned-before : (m : Surroundings) (l n : ℕ) (ρ : TermScope) (k : ℕ) 
     → IsFaultInAssignments m l n ρ (map assignment_form (take k bs)) r p → IsFaultInAssignments m (suc l) n ρ (map assignment_form bs) r p
 assigned-before m l n ρ k bs r p within (a, there, j, less, h) =
     let before = taken-at assignment_form k bs a there in
-    (a, before.0, j, omega (arith, less, before.1, before.2, mapped-count assignment_form (take k bs), mapped-count assignment_form bs, taken-length k bs, within), h)
+    (a, before.0, j, omega (arith, less, before.1, before.2, mapped-length assignment_form (take k bs), mapped-length assignment_form bs, taken-length k bs, within), h)
 
 -- a fault at the token of what is assigned to
 pub assigned-room : (m : Surroundings) (l n : ℕ) (ρ : TermScope) (bs : List Assignment) (a : Assignment) (r : UnfoldRule) (e : OrMemory UnfoldFault) → e ≡ Refused (record { rule = r; place = a.variable.place })
