@@ -1,6 +1,6 @@
 -- Faults of parts are faults of what they are parts of.
 use Rattle.std.proofs.Common.{◌≡◌, ◌<◌, ◌∙◌, ◌⊎◌, ℕ, zero, suc, Bool, true, false, if◌then◌else◌, inl, inr, refl, sym, ap, subst, arith, List, [], ◌∷◌, map, length, get_or, Result, Ok, Err}
-use Rattle.std.specs.Prelude.{Contains, IsErrAnd, filter}
+use Rattle.std.specs.Prelude.{Contains, IsErrAnd, OnOk, filter}
 use Rattle.std.proofs.lemmas.List.{get_or-map}
 use Rattle.std.proofs.lemmas.List.Elements.{Contains-get_or}
 use Rattle.pb_errors.specs.OrMemory.{IfFault, IfRefused, raised}
@@ -15,7 +15,7 @@ use Rattle.pb_unfolder.specs.declared.fault.UnfoldingRule.{UnfoldingRule}
 use Rattle.pb_unfolder.specs.declared.fault.UnfoldingRule.TheVariants as rule
 use Rattle.pb_unfolder_terms.specs.declared.fault.UnfoldRule.{UnfoldRule}
 use Rattle.pb_unfolder_terms.specs.declared.fault.UnfoldRule.TheVariants as unfold_rule
-use Rattle.pb_unfolder.specs.Faults.{Breaks, IsFaultOfPart, IsNameFault, IsUnfoldingFault, IsValueFault, OfTerm, OfToken, OfValue, rule_of}
+use Rattle.pb_unfolder.specs.Faults.{Breaks, IsFaultOfPart, IsNameFault, IsUnfoldingFault, IsValueFault, OfMany, OfTerm, OfValue, rule_of}
 use Rattle.pb_unfolder.specs.Parts.{ByRule, InPart, IsFaultBy, IsFaultIn, IsFaultOfModel, IsOfNames, IsOfSteps, OfManyTuples}
 
 -- ---- members of lists
@@ -61,6 +61,11 @@ fault-in P Q to f is = in-rule P Q to f.rule f.place is
 
 -- ---- errors
 
+-- what follows where there is none
+pub ok-so : {A E : Type 0} (P Q : Type 0) (r : Result A E) → (P → Q) → OnOk r P → OnOk r Q
+ok-so P Q (Ok a) to p = to p
+ok-so P Q (Err e) to p = tt
+
 -- what follows of the fault of a call
 pub refused-so : {A : Type 0} (P Q : UnfoldingFault → Type 0) (r : Result A (OrMemory UnfoldingFault)) → ((f : UnfoldingFault) → P f → Q f) → IfRefused r P → IfRefused r Q
 refused-so P Q (Ok a) to p = tt
@@ -100,18 +105,18 @@ part-by r e P Q h to is = refused r e (IsFaultBy P) (IsFaultBy Q) h (fault-by P 
 pub part-by-so : {A : Type 0} (P Q : UnfoldingFault → Type 0) (r : Result A (OrMemory UnfoldingFault)) → ((f : UnfoldingFault) → P f → Q f) → IfRefused r (IsFaultBy P) → IfRefused r (IsFaultBy Q)
 part-by-so P Q r to is = refused-so (IsFaultBy P) (IsFaultBy Q) r (fault-by P Q to) is
 
+pub part-of : {A : Type 0} (r : Result A (OrMemory UnfoldingFault)) (e : OrMemory UnfoldingFault) (P Q : UnfoldingFault → Type 0) → IsErrAnd r (λ d. d ≡ e) → IfFault e (IsFaultBy P) → ((f : UnfoldingFault) → P f → Q f) → IfRefused r (IsFaultBy Q)
+part-of r e P Q h is to = refused r e (IsFaultBy P) (IsFaultBy Q) h (fault-by P Q to) is
+
 -- one of a token, by its rule
-token-by : (place : Place) (Q : UnfoldingFault → Type 0) → ((f : UnfoldingFault) → OfToken place f → Q f) → (f : UnfoldingFault) → OfToken place f → IsFaultBy Q f
-token-by place Q to f is = subst (λ (r : UnfoldingRule). ByRule r (Q f)) (sym is.0) (to f is)
+pub of-many-by : {A : Type 0} (r : Result A (OrMemory UnfoldingFault)) (e : OrMemory UnfoldingFault) (Many : Type 0) (place : Place) (Q : UnfoldingFault → Type 0) → IsErrAnd r (λ d. d ≡ e)
+    → ((f : UnfoldingFault) → OfMany Many place f → Q f) → IfFault e (OfMany Many place) → IfRefused r (IsFaultBy Q)
+of-many-by r e Many place Q h to is = refused r e (OfMany Many place) (IsFaultBy Q) h (λ f o. subst (λ (r : UnfoldingRule). ByRule r (Q f)) (sym o.1.0) (to f o)) is
 
-pub of-token-by : {A : Type 0} (r : Result A (OrMemory UnfoldingFault)) (e : OrMemory UnfoldingFault) (place : Place) (Q : UnfoldingFault → Type 0) → IsErrAnd r (λ d. d ≡ e)
-    → ((f : UnfoldingFault) → OfToken place f → Q f) → IfFault e (OfToken place) → IfRefused r (IsFaultBy Q)
-of-token-by r e place Q h to is = refused r e (OfToken place) (IsFaultBy Q) h (token-by place Q to) is
-
--- one of too many tuples, by the token
+-- one of too many tuples
 pub of-tuples-by : {A B : Type 0} (r : Result A (OrMemory UnfoldingFault)) (e : OrMemory UnfoldingFault) (place : Place) (tuples : List B) (Q : UnfoldingFault → Type 0) → IsErrAnd r (λ d. d ≡ e)
-    → ((f : UnfoldingFault) → OfToken place f → Q f) → IfFault e (OfManyTuples place tuples) → IfRefused r (IsFaultBy Q)
-of-tuples-by r e place tuples Q h to is = refused r e (OfManyTuples place tuples) (IsFaultBy Q) h (λ f o. token-by place Q to f o.0) is
+    → ((f : UnfoldingFault) → OfManyTuples place tuples f → Q f) → IfFault e (OfManyTuples place tuples) → IfRefused r (IsFaultBy Q)
+of-tuples-by r e place tuples Q h to is = refused r e (OfManyTuples place tuples) (IsFaultBy Q) h (λ f o. subst (λ (r : UnfoldingRule). ByRule r (Q f)) (sym o.0.0) (to f o)) is
 
 -- one of a value, by its rule
 value-by : (P : Place → Type 0) (Q : UnfoldingFault → Type 0) → ((f : UnfoldingFault) → OfValue P f → Q f) → (f : UnfoldingFault) → IsFaultIn P f → IsFaultBy Q f

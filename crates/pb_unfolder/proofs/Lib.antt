@@ -13,6 +13,7 @@ mod MemberLemmas
 mod ValueLemmas
 mod ChainFormulas
 mod LeftLemmas
+mod OperatorLemmas
 mod UnfoldedLemmas
 mod PlaceLemmas
 mod FaultLemmas

@@ -7,7 +7,8 @@ use Rattle.pb_errors.specs.declared.or_memory.OrMemory.{OrMemory}
 use Rattle.pb_text_tree.specs.declared.place.Place.{Place}
 use Rattle.pb_text_tree.specs.declared.operator.Connective.{Connective}
 use Rattle.pb_text_tree.specs.Form.{chained}
-use Rattle.pb_text_meaning.specs.Syntax.{Name, Term}
+use Rattle.pb_text_meaning.specs.Syntax.{Name, Term, Variable}
+use Rattle.pb_text_meaning.specs.Erase.{erased_variables}
 use Rattle.pb_protocol_tree.specs.declared.step_set.StepSet as set
 use Rattle.pb_protocol_tree.specs.declared.step_set.StepSet.{StepSet}
 use Rattle.pb_protocol_tree.specs.declared.step_set.StepSetLink.{StepSetLink}
@@ -18,10 +19,11 @@ use Rattle.pb_protocol_tree.specs.Form.{FormulaForm, ProtocolForm, StepSetForm, 
 use Rattle.pb_protocol_meaning.specs.Syntax.{Protocol}
 use Rattle.pb_protocol_meaning.specs.Erase.{erase}
 use Rattle.pb_model_tree.specs.declared.formula.Modality.{Modality}
-use Rattle.pb_unfolding.specs.PutIn.{TermScope, term_of}
+use Rattle.pb_unfolding.specs.PutIn.{TermScope, standing, term_of}
+use Rattle.pb_unfolding.specs.Unfolding.{terms_of}
 use Rattle.pb_unfolder.specs.declared.fault.UnfoldingFault.{UnfoldingFault}
-use Rattle.pb_unfolder.specs.Faults.{HasNoValue, IsFaultOfFormula, IsFaultOfSet, IsFaultOfValue, OfToken, meant}
-use Rattle.pb_unfolder.specs.Parts.{IsAt, IsFaultIn, IsFaultOfLinks, IsFaultOfModality, IsFaultOfSets}
+use Rattle.pb_unfolder.specs.Faults.{HasNoValue, IsFaultOfFormula, IsFaultOfSet, IsFaultOfValue, OfMany, meant}
+use Rattle.pb_unfolder.specs.Parts.{IsAt, IsFaultIn, IsFaultOfCopies, IsFaultOfLinks, IsFaultOfModality, IsFaultOfSets}
 use Rattle.pb_unfolder.specs.View.{link_form, set_link_form, set_operand}
 use Rattle.pb_unfolder.proofs.Chains.{chain-form, union-form}
 use Rattle.pb_unfolder.proofs.FaultLemmas.{first-or-behind, none-in}
@@ -88,32 +90,65 @@ module _ (m : Protocol) (ρ : TermScope) (p : Place) where
       ∙ sym (ap step_set_form is ∙ union-form b v))
       (united own (step_set_form x) ls fault)
 
-module _ (m : ProtocolForm) (ρ : TermScope) (p : UnfoldingFault) where
-  linked-fault : (c : Connective) (f : FormulaForm) (ls : List Link) → IsFaultOfFormula m ρ f p ⊎ IsFaultOfLinks m ρ ls p
-      → IsFaultOfFormula m ρ (chained (FormulaForm.connected c) f (map link_form ls)) p
+-- of what is too large the more follows
+pub fault-so : (m : ProtocolForm) (A B : Type 0) → (A → B) → (p : UnfoldingFault) (ρ : TermScope) (f : FormulaForm) → IsFaultOfFormula m A ρ f p → IsFaultOfFormula m B ρ f p
+fault-so m A B to p ρ (FormulaForm.constant q b) is = is
+fault-so m A B to p ρ (FormulaForm.«data» q x) (inl o) = inl o
+fault-so m A B to p ρ (FormulaForm.«data» q x) (inr o) = inr (to o.0, o.1)
+fault-so m A B to p ρ (FormulaForm.variable x) is = is
+fault-so m A B to p ρ (FormulaForm.negation q f) (inl o) = inl (to o.0, o.1)
+fault-so m A B to p ρ (FormulaForm.negation q f) (inr is) = inr (fault-so m A B to p ρ f is)
+fault-so m A B to p ρ (FormulaForm.connected c q f g) (inl o) = inl (to o.0, o.1)
+fault-so m A B to p ρ (FormulaForm.connected c q f g) (inr (inl is)) = inr (inl (fault-so m A B to p ρ f is))
+fault-so m A B to p ρ (FormulaForm.connected c q f g) (inr (inr is)) = inr (inr (fault-so m A B to p ρ g is))
+fault-so m A B to p ρ (FormulaForm.modal k q C f) (inl o) = inl (to o.0, o.1)
+fault-so m A B to p ρ (FormulaForm.modal k q C f) (inr (inl v)) = inr (inl v)
+fault-so m A B to p ρ (FormulaForm.modal k q C f) (inr (inr is)) = inr (inr (fault-so m A B to p ρ f is))
+fault-so m A B to p ρ (FormulaForm.fixpoint sign q x f) (inl o) = inl (to o.0, o.1)
+fault-so m A B to p ρ (FormulaForm.fixpoint sign q x f) (inr is) = inr (fault-so m A B to p ρ f is)
+fault-so m A B to p ρ (FormulaForm.quantified k q xs f) (inl o) = inl o
+fault-so m A B to p ρ (FormulaForm.quantified k q xs f) (inr (inl o)) = inr (inl (to o.0, o.1))
+fault-so m A B to p ρ (FormulaForm.quantified k q xs f) (inr (inr is)) = inr (inr (is.0, is.1, fault-so m A B to p (standing (erased_variables xs) (terms_of is.0) ρ) f is.2))
+
+pub modality-so : (m : Protocol) (X Y : Type 0) → (X → Y) → (p : UnfoldingFault) (ρ : TermScope) (q : Place) (A : StepSetForm) → IsFaultOfModality m X ρ q A p → IsFaultOfModality m Y ρ q A p
+modality-so m X Y to p ρ q A (inl o) = inl (to o.0, o.1)
+modality-so m X Y to p ρ q A (inr v) = inr v
+
+pub links-so : (m : ProtocolForm) (A B : Type 0) → (A → B) → (p : UnfoldingFault) (ρ : TermScope) (ls : List Link) → IsFaultOfLinks m A ρ ls p → IsFaultOfLinks m B ρ ls p
+links-so m A B to p ρ ls (l, at, inl o) = (l, at, inl (to o.0, o.1))
+links-so m A B to p ρ ls (l, at, inr is) = (l, at, inr (fault-so m A B to p ρ (formula_form l.operand) is))
+
+pub copies-so : (m : ProtocolForm) (A B : Type 0) → (A → B) → (p : UnfoldingFault) (ρ : TermScope) (q : Place) (xs : List Variable) (kss : List (List Term)) (f : FormulaForm)
+    → IsFaultOfCopies m A ρ q xs kss f p → IsFaultOfCopies m B ρ q xs kss f p
+copies-so m A B to p ρ q xs kss f (inl o) = inl (to o.0, o.1)
+copies-so m A B to p ρ q xs kss f (inr (ks, at, is)) = inr (ks, at, fault-so m A B to p (standing xs (terms_of ks) ρ) f is)
+
+module _ (m : ProtocolForm) (Many : Type 0) (ρ : TermScope) (p : UnfoldingFault) where
+  linked-fault : (c : Connective) (f : FormulaForm) (ls : List Link) → IsFaultOfFormula m Many ρ f p ⊎ IsFaultOfLinks m Many ρ ls p
+      → IsFaultOfFormula m Many ρ (chained (FormulaForm.connected c) f (map link_form ls)) p
   linked-fault c f [] (inl is) = is
   linked-fault c f [] (inr (l, at, is)) = absurd (none-in l at)
   linked-fault c f (l ∷ ls) (inl is) = inr (inl is)
   linked-fault c f (l ∷ ls) (inr (k, at, is)) =
       elim (first-or-behind l ls k at) [
-        | inl same ↦ by (λ fault. linked-fault c (formula_form l.operand) ls (inl fault)) (subst (λ (j : Link). OfToken j.place p ⊎ IsFaultOfFormula m ρ (formula_form j.operand) p) (sym same) is)
+        | inl same ↦ by (λ fault. linked-fault c (formula_form l.operand) ls (inl fault)) (subst (λ (j : Link). OfMany Many j.place p ⊎ IsFaultOfFormula m Many ρ (formula_form j.operand) p) (sym same) is)
         | inr behind ↦ inr (inr (linked-fault c (formula_form l.operand) ls (inr (k, behind, is))))
       ]
     where
-      by : (IsFaultOfFormula m ρ (formula_form l.operand) p → IsFaultOfFormula m ρ (chained (FormulaForm.connected c) (formula_form l.operand) (map link_form ls)) p)
-          → OfToken l.place p ⊎ IsFaultOfFormula m ρ (formula_form l.operand) p → IsFaultOfFormula m ρ (chained (FormulaForm.connected c) f (map link_form (l ∷ ls))) p
+      by : (IsFaultOfFormula m Many ρ (formula_form l.operand) p → IsFaultOfFormula m Many ρ (chained (FormulaForm.connected c) (formula_form l.operand) (map link_form ls)) p)
+          → OfMany Many l.place p ⊎ IsFaultOfFormula m Many ρ (formula_form l.operand) p → IsFaultOfFormula m Many ρ (chained (FormulaForm.connected c) f (map link_form (l ∷ ls))) p
       by behind (inl token) = inl token
       by behind (inr fault) = inr (inr (behind fault))
 
   -- the set of steps of a modality
-  pub fault-of-set : (k : Modality) (q : Place) (A : StepSetForm) (f : FormulaForm) → IsFaultOfModality (erase m) ρ q A p → IsFaultOfFormula m ρ (FormulaForm.modal k q A f) p
+  pub fault-of-set : (k : Modality) (q : Place) (A : StepSetForm) (f : FormulaForm) → IsFaultOfModality (erase m) Many ρ q A p → IsFaultOfFormula m Many ρ (FormulaForm.modal k q A f) p
   fault-of-set k q A f (inl token) = inl token
   fault-of-set k q A f (inr value) = inr (inl value)
 
   pub fault-of-chain : (c : Connective) (x : Formula) (b : Box Formula Global) (v : Vec Link Global) (ls : List Link) (f : Formula) → f ≡ formula.Chain c b v → x ≡ box_value b → ls ≡ v.items
-      → IsFaultOfFormula m ρ (formula_form x) p ⊎ IsFaultOfLinks m ρ ls p → IsFaultOfFormula m ρ (formula_form f) p
+      → IsFaultOfFormula m Many ρ (formula_form x) p ⊎ IsFaultOfLinks m Many ρ ls p → IsFaultOfFormula m Many ρ (formula_form f) p
   fault-of-chain c x b v ls f is at same fault =
-      subst (λ (g : FormulaForm). IsFaultOfFormula m ρ g p)
+      subst (λ (g : FormulaForm). IsFaultOfFormula m Many ρ g p)
       (ap (λ (y : Formula). chained (FormulaForm.connected c) (formula_form y) (map link_form ls)) at
       ∙ ap (λ (ks : List Link). chained (FormulaForm.connected c) (formula_form (box_value b)) (map link_form ks)) same
       ∙ sym (ap formula_form is ∙ chain-form c b v))

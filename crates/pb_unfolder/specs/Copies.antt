@@ -1,5 +1,5 @@
 -- Copies of a quantified formula, and data terms, unfolded and folded.
-use Rattle.std.specs.Prelude.{List, map, Vec}
+use Rattle.std.specs.Prelude.{ℕ, suc, List, map, Vec}
 use Rattle.std.specs.declared.alloc.Global.{Global}
 use Rattle.pb_text_tree.specs.declared.term.Term as declared_term
 use Rattle.pb_text_meaning.specs.Syntax.{Term, Variable}
@@ -22,7 +22,8 @@ use Rattle.pb_unfolder_terms.specs.View.{variable_of}
 use Rattle.pb_unfolder_steps.specs.declared.unfolder.Unfolder.{Unfolder}
 use Rattle.pb_unfolder_steps.specs.Unfolder.{protocol_in, scope_in}
 use Rattle.pb_unfolder.specs.declared.formula.Copies.{Copies}
-use Rattle.pb_unfolder.specs.Left.{left_formula}
+use Rattle.pb_unfolder.specs.Left.{left_formula, left_operators}
+use Rattle.pb_unfolder.specs.Operators.{written_operators}
 
 -- the tuples of values of variables
 abbrev pub tuples_in : Unfolder → List Variable → List (List Term)
@@ -48,3 +49,19 @@ copy_of u copies f values = copy_at u copies (formula_form f) (tuple_of values)
 -- the operand of a chain
 abbrev pub left_operand : Unfolder → TermScope → Link → flat.Formula
 left_operand u scope link = left_formula u scope (formula_form link.operand)
+
+-- how many operators an operand has, with the connective before it
+abbrev pub link_operators : Unfolder → TermScope → Link → ℕ
+link_operators u scope link = suc (left_operators u scope (formula_form link.operand))
+
+-- how many a copy has, with the connective behind it, where the variables stand for these values
+abbrev pub tuple_operators :
+    Unfolder → TermScope → List Variable → FormulaForm → List Term → ℕ
+tuple_operators u scope xs f ks =
+    suc (written_operators (protocol_in u) (standing xs (terms_of ks) (scope_in u scope))
+    (erased_formula f))
+
+abbrev pub copy_operators : Unfolder → Copies → Formula → Vec Written Global → ℕ
+copy_operators u copies f values =
+    tuple_operators u copies.outer.now (map variable_of copies.variables.now) (formula_form f)
+    (tuple_of values)

@@ -9,7 +9,7 @@ use Rattle.pb_folding.specs.Names.{enumerators_in}
 use Rattle.pb_protocol_tree.specs.Form.{StepValueForm, StepSetForm, FormulaForm, PropertyForm}
 use Rattle.pb_protocol_tree.specs.Form.{ProtocolForm}
 use Rattle.pb_protocol_meaning.specs.Syntax.{Protocol}
-use Rattle.pb_protocol_meaning.specs.Erase.{erase}
+use Rattle.pb_protocol_meaning.specs.Erase.{erase, erased_formula}
 use Rattle.pb_protocol_meaning.specs.Steps.{data_of}
 use Rattle.pb_unfolding.specs.PutIn.{TermScope, standing, term_of}
 use Rattle.pb_unfolding.specs.Unfolding.{Instance, all_elements, instance_name, instances, name_of}
@@ -18,6 +18,7 @@ use Rattle.pb_unfolding.specs.Written.{written_tuples}
 use Rattle.pb_unfolder_steps.specs.declared.limits.TheConstants.{MAX_ELEMENTS, MAX_WRITTEN_STEPS}
 use Rattle.pb_unfolder_terms.specs.declared.fault.UnfoldRule.{UnfoldRule}
 use Rattle.pb_unfolder_terms.specs.declared.fault.UnfoldRule.TheVariants as unfold_rule
+use Rattle.pb_unfolder_terms.specs.Large.{HaveManyTuples}
 use Rattle.pb_unfolder_terms.specs.TermFaults.{IsFaultInTerm, surroundings_of}
 use Rattle.pb_unfolder_steps.specs.StepFaults.{IsFaultAtStart, IsFaultInSteps, placed_instances}
 use Rattle.pb_unfolder_steps.specs.Refusals.{element_places, instance_places}
@@ -25,6 +26,7 @@ use Rattle.pb_unfolder.specs.declared.fault.UnfoldingFault.{UnfoldingFault}
 use Rattle.pb_unfolder.specs.declared.fault.UnfoldingRule.{UnfoldingRule}
 use Rattle.pb_unfolder.specs.declared.fault.UnfoldingRule.TheVariants as rule
 use Rattle.pb_unfolder.specs.Apart.{IsTakenAt, RepeatsAt}
+use Rattle.pb_unfolder.specs.Operators.{HasManyWritten}
 
 -- ---- names
 
@@ -105,6 +107,10 @@ OfValue P fault = (fault.rule ≡ rule.Value) × P fault.place
 abbrev pub OfToken : Place → UnfoldingFault → Type 0
 OfToken place fault = (fault.rule ≡ rule.Operators) × (fault.place ≡ place)
 
+-- and Many
+abbrev pub OfMany : Type 0 → Place → UnfoldingFault → Type 0
+OfMany Many place fault = Many × OfToken place fault
+
 -- the rule that a user sees where a term breaks one: too many operators, too many values and terms
 -- that nest too deep are one to him
 abbrev pub rule_of : UnfoldRule → UnfoldingRule
@@ -117,31 +123,41 @@ rule_of unfold_rule.Values = rule.Operators
 abbrev pub OfTerm : (UnfoldRule → Place → Type 0) → UnfoldingFault → Type 0
 OfTerm P fault = (r : UnfoldRule) × (fault.rule ≡ rule_of r) × P r fault.place
 
--- in a formula, or in a copy of it: of a value in a set of steps, of data, or of a connective,
--- modality, fixpoint, quantifier or data with which a formula is too large
-abbrev pub IsFaultOfFormula : ProtocolForm → TermScope → FormulaForm → UnfoldingFault → Type 0
-IsFaultOfFormula m ρ (FormulaForm.constant q b) fault = ⊥
-IsFaultOfFormula m ρ (FormulaForm.«data» q x) fault =
-    OfTerm (IsFaultInTerm (surroundings_of m) ρ x) fault ⊎ OfToken q fault
-IsFaultOfFormula m ρ (FormulaForm.variable x) fault = ⊥
-IsFaultOfFormula m ρ (FormulaForm.negation q f) fault =
-    OfToken q fault ⊎ IsFaultOfFormula m ρ f fault
-IsFaultOfFormula m ρ (FormulaForm.connected c q f g) fault =
-    OfToken q fault ⊎ (IsFaultOfFormula m ρ f fault ⊎ IsFaultOfFormula m ρ g fault)
-IsFaultOfFormula m ρ (FormulaForm.modal k q A f) fault =
-    OfToken q fault
+-- in a formula, or in a copy of it: of a value in a set of steps, of data, of a quantifier with
+-- more than 8,192 tuples of values, or, where Many, of a connective, modality, fixpoint, quantifier
+-- or data with which the formula is too large
+abbrev pub IsFaultOfFormula :
+    ProtocolForm → Type 0 → TermScope → FormulaForm → UnfoldingFault → Type 0
+IsFaultOfFormula m Many ρ (FormulaForm.constant q b) fault = ⊥
+IsFaultOfFormula m Many ρ (FormulaForm.«data» q x) fault =
+    OfTerm (IsFaultInTerm (surroundings_of m) ρ x) fault ⊎ OfMany Many q fault
+IsFaultOfFormula m Many ρ (FormulaForm.variable x) fault = ⊥
+IsFaultOfFormula m Many ρ (FormulaForm.negation q f) fault =
+    OfMany Many q fault ⊎ IsFaultOfFormula m Many ρ f fault
+IsFaultOfFormula m Many ρ (FormulaForm.connected c q f g) fault =
+    OfMany Many q fault
+    ⊎ (IsFaultOfFormula m Many ρ f fault ⊎ IsFaultOfFormula m Many ρ g fault)
+IsFaultOfFormula m Many ρ (FormulaForm.modal k q A f) fault =
+    OfMany Many q fault
     ⊎ (OfValue (IsFaultOfSteps (erase m) ρ (instances (erase m)) A) fault
-    ⊎ IsFaultOfFormula m ρ f fault)
-IsFaultOfFormula m ρ (FormulaForm.fixpoint sign q x f) fault =
-    OfToken q fault ⊎ IsFaultOfFormula m ρ f fault
-IsFaultOfFormula m ρ (FormulaForm.quantified quantifier q xs f) fault =
-    OfToken q fault
+    ⊎ IsFaultOfFormula m Many ρ f fault)
+IsFaultOfFormula m Many ρ (FormulaForm.fixpoint sign q x f) fault =
+    OfMany Many q fault ⊎ IsFaultOfFormula m Many ρ f fault
+IsFaultOfFormula m Many ρ (FormulaForm.quantified quantifier q xs f) fault =
+    OfMany (HaveManyTuples (data_of (erase m)) (erased_variables xs)) q fault
+    ⊎ (OfMany Many q fault
     ⊎ ((ks : List Term) × Contains (written_tuples (data_of (erase m)) (erased_variables xs)) ks
-    × IsFaultOfFormula m (standing (erased_variables xs) (terms_of ks) ρ) f fault)
+    × IsFaultOfFormula m Many (standing (erased_variables xs) (terms_of ks) ρ) f fault))
+
+-- of a property: its formula is too large where it has more than 8,192 operators as it is written
+-- out
+abbrev pub IsFaultOfProperty : ProtocolForm → PropertyForm → UnfoldingFault → Type 0
+IsFaultOfProperty m q fault =
+    IsFaultOfFormula m (HasManyWritten (erase m) (erased_formula q.formula)) [] q.formula fault
 
 abbrev pub IsFaultOfProperties : ProtocolForm → List PropertyForm → UnfoldingFault → Type 0
 IsFaultOfProperties m properties fault =
-    (q : PropertyForm) × Contains properties q × IsFaultOfFormula m [] q.formula fault
+    (q : PropertyForm) × Contains properties q × IsFaultOfProperty m q fault
 
 abbrev pub IsValueFault : ProtocolForm → Place → Type 0
 IsValueFault m p =

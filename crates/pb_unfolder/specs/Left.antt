@@ -1,5 +1,5 @@
 -- The steps with their values that are left, and what sets of steps and formulas become with them.
-use Rattle.std.specs.Prelude.{◌≡◌, if◌then◌else◌, List, [], ◌∷◌, map, filter, flat_map}
+use Rattle.std.specs.Prelude.{◌≡◌, ℕ, if◌then◌else◌, List, [], ◌∷◌, map, filter, flat_map}
 use Rattle.pb_text_meaning.specs.Syntax.{Name}
 use Rattle.pb_model_meaning.specs.Syntax as flat
 use Rattle.pb_protocol_tree.specs.Form.{FormulaForm, StepSetForm}
@@ -15,6 +15,7 @@ use Rattle.pb_unfolder_steps.specs.Elements.{instance_said}
 use Rattle.pb_unfolder_steps.specs.Steps.{is_kept}
 use Rattle.pb_unfolder_steps.specs.Unfolder.{IsUnfolder, protocol_in, scope_in}
 use Rattle.pb_unfolder.specs.declared.formula.Formulas.{Formulas}
+use Rattle.pb_unfolder.specs.Operators.{written_operators}
 use Rattle.pb_unfolder.specs.Values.{is_member}
 
 -- these are the steps with their values that may be taken, and no two of a protocol's have one name
@@ -44,3 +45,7 @@ abbrev pub left_formula : Unfolder → TermScope → FormulaForm → flat.Formul
 left_formula u scope f =
     folded_property_formula (unfolded (protocol_in u))
     (unfolded_formula (protocol_in u) (scope_in u scope) (erased_formula f))
+
+-- how many operators a formula has as it is written out
+abbrev pub left_operators : Unfolder → TermScope → FormulaForm → ℕ
+left_operators u scope f = written_operators (protocol_in u) (scope_in u scope) (erased_formula f)

@@ -4,6 +4,7 @@ pub mod Faults
 pub mod Laws
 pub mod Left
 pub mod Links
+pub mod Operators
 pub mod Origins
 pub mod Parts
 pub mod Places

@@ -21,7 +21,7 @@ use Rattle.pb_unfolder.specs.declared.fault.UnfoldingRule.{UnfoldingRule}
 use Rattle.pb_unfolder.specs.declared.fault.UnfoldingRule.TheVariants as rule
 use Rattle.pb_unfolder.specs.Faults.{IsElementClash, IsFaultOfFormula, IsFaultOfProperties}
 use Rattle.pb_unfolder.specs.Faults.{IsFaultOfSet, IsFaultOfSteps, IsRepeated, OfTerm}
-use Rattle.pb_unfolder.specs.Faults.{OfToken, OfValue, rule_of}
+use Rattle.pb_unfolder.specs.Faults.{OfMany, OfToken, OfValue, rule_of}
 
 -- it is the fault of a value, and P holds of its place
 abbrev pub InPart : (Place → Type 0) → UnfoldingRule → Place → Type 0
@@ -51,9 +51,9 @@ OfManyTuples place tuples fault = OfToken place fault × (MAX_OPERATORS < length
 
 -- of the set of steps of a modality at this place
 abbrev pub IsFaultOfModality :
-    Protocol → TermScope → Place → StepSetForm → UnfoldingFault → Type 0
-IsFaultOfModality m ρ place A fault =
-    OfToken place fault ⊎ OfValue (IsFaultOfSteps m ρ (instances m) A) fault
+    Protocol → Type 0 → TermScope → Place → StepSetForm → UnfoldingFault → Type 0
+IsFaultOfModality m Many ρ place A fault =
+    OfMany Many place fault ⊎ OfValue (IsFaultOfSteps m ρ (instances m) A) fault
 
 -- at this place, and P
 abbrev pub IsAt : Place → Type 0 → Place → Type 0
@@ -90,19 +90,20 @@ IsFaultOfSets m ρ own sets p =
     (A : StepSetForm) × Contains sets A × IsFaultOfSet m ρ own A p
 
 -- of the connective of a link, or in its operand
-abbrev pub IsFaultOfLinks : ProtocolForm → TermScope → List Link → UnfoldingFault → Type 0
-IsFaultOfLinks m ρ links fault =
+abbrev pub IsFaultOfLinks :
+    ProtocolForm → Type 0 → TermScope → List Link → UnfoldingFault → Type 0
+IsFaultOfLinks m Many ρ links fault =
     (link : Link) × Contains links link
-    × (OfToken link.place fault ⊎ IsFaultOfFormula m ρ (formula_form link.operand) fault)
+    × (OfMany Many link.place fault ⊎ IsFaultOfFormula m Many ρ (formula_form link.operand) fault)
 
 -- of the quantifier at this place, or in a copy, where the variables stand for one of these tuples
 abbrev pub IsFaultOfCopies :
-    ProtocolForm → TermScope → Place → List Variable → List (List Term) → FormulaForm →
+    ProtocolForm → Type 0 → TermScope → Place → List Variable → List (List Term) → FormulaForm →
     UnfoldingFault → Type 0
-IsFaultOfCopies m ρ place xs tuples f fault =
-    OfToken place fault
+IsFaultOfCopies m Many ρ place xs tuples f fault =
+    OfMany Many place fault
     ⊎ ((ks : List Term) × Contains tuples ks
-    × IsFaultOfFormula m (standing xs (terms_of ks) ρ) f fault)
+    × IsFaultOfFormula m Many (standing xs (terms_of ks) ρ) f fault)
 
 -- of a flat model's parts: in a value at the start of one protocol, or in properties
 abbrev pub IsFaultOfModel :

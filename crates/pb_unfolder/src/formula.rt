@@ -1,6 +1,7 @@
 //! Formulas without quantifiers: each quantifier is the chain of its copies.
 
-ghost use Rattle.std.specs.Prelude.{◌≡◌, [], map, flat_map, IfOk, box_value};
+ghost use Rattle.std.specs.Prelude.{◌≡◌, ◌+◌, ◌<◌, [], map, flat_map, IfOk, OnOk};
+ghost use Rattle.std.specs.Prelude.{box_value, sum_by};
 ghost use Rattle.pb_errors.specs.OrMemory.{IfRefused};
 ghost use Rattle.pb_text_tree.specs.Form.{term_form};
 ghost use Rattle.pb_protocol_tree.specs.Form.{FormulaForm, formula_form};
@@ -11,10 +12,10 @@ ghost use Rattle.pb_folding.specs.View.{formula_of};
 ghost use Rattle.pb_unfolder_terms.specs.View.{spec_of, variable_of};
 ghost use Rattle.pb_unfolder_terms.specs.Values.{tuple_of};
 ghost use Rattle.pb_unfolder_steps.specs.Unfolder.{form_in, protocol_in, scope_in};
-ghost use Rattle.pb_unfolder.specs.Copies.{copy_of, data_formula, left_operand};
-ghost use Rattle.pb_unfolder.specs.Copies.{tuples_in};
+ghost use Rattle.pb_unfolder.specs.Copies.{copy_of, copy_operators, data_formula, left_operand};
+ghost use Rattle.pb_unfolder.specs.Copies.{link_operators, tuples_in};
 ghost use Rattle.pb_unfolder.specs.Faults.{IsFaultOfFormula};
-ghost use Rattle.pb_unfolder.specs.Left.{AreFormulas, left_formula};
+ghost use Rattle.pb_unfolder.specs.Left.{AreFormulas, left_formula, left_operators};
 ghost use Rattle.pb_unfolder.specs.Links.{linked_formula};
 ghost use Rattle.pb_unfolder.specs.Parts.{HasValues, IsFaultBy, IsFaultOfCopies, IsFaultOfLinks};
 ghost use Rattle.pb_unfolder.specs.Parts.{OfManyTuples};
@@ -70,8 +71,13 @@ fn unfold_data(
     ensures formula { IfOk result (λ f. formula_of f
         ≡ data_formula formulas.now.unfolder.now scope.now term.now) }
     ensures places { IfOk result (λ f. places_of f ≡ []) }
+    ensures room { OnOk result (room.old.operators ≡ room.new.operators
+        + left_operators formulas.now.unfolder.now scope.now
+        (FormulaForm.«data» place (term_form term.now))) }
     ensures refused { HasValues scope.now → IfRefused result
         (IsFaultBy (IsFaultOfFormula (form_in formulas.now.unfolder.now)
+        (room.old.operators < left_operators formulas.now.unfolder.now scope.now
+        (FormulaForm.«data» place (term_form term.now)))
         (scope_in formulas.now.unfolder.now scope.now)
         (FormulaForm.«data» place (term_form term.now)))) }
 {
@@ -120,8 +126,14 @@ fn unfold_copies<'a>(
         copies.now.tuples.now) }
     ensures places { IfOk result
         (λ v. AreAmong (flat_map places_of v.items) (places_in (box_value body.now))) }
+    ensures room { OnOk result (room.old.operators ≡ room.new.operators
+        + sum_by (copy_operators formulas.now.unfolder.now copies.now (box_value body.now))
+        copies.now.tuples.now) }
     ensures refused { IfRefused result
         (IsFaultBy (IsFaultOfCopies (form_in formulas.now.unfolder.now)
+        (room.old.operators
+        < sum_by (copy_operators formulas.now.unfolder.now copies.now (box_value body.now))
+        copies.now.tuples.now)
         (scope_in formulas.now.unfolder.now copies.now.outer.now) copies.now.place
         (map variable_of copies.now.variables.now) (map tuple_of copies.now.tuples.now)
         (formula_form (box_value body.now)))) }
@@ -153,8 +165,12 @@ fn unfold_links<'a>(
         ≡ map (left_operand formulas.now.unfolder.now scope.now) links.now) }
     ensures places { IfOk result (λ v. AreAmong (flat_map flat_link_places v.items)
         (flat_map link_places links.now)) }
+    ensures room { OnOk result (room.old.operators ≡ room.new.operators
+        + sum_by (link_operators formulas.now.unfolder.now scope.now) links.now) }
     ensures refused { IfRefused result
         (IsFaultBy (IsFaultOfLinks (form_in formulas.now.unfolder.now)
+        (room.old.operators
+        < sum_by (link_operators formulas.now.unfolder.now scope.now) links.now)
         (scope_in formulas.now.unfolder.now scope.now) links.now)) }
 {
     let mut flat_links = Vec::new(formulas.unfolder.alloc);
@@ -180,8 +196,12 @@ pub(crate) fn unfold_formula<'a>(
     ensures formula { IfOk result (λ f. formula_of f
         ≡ left_formula formulas.now.unfolder.now scope.now (formula_form formula.now)) }
     ensures places { IfOk result (λ f. AreAmong (places_of f) (places_in formula.now)) }
+    ensures room { OnOk result (room.old.operators ≡ room.new.operators
+        + left_operators formulas.now.unfolder.now scope.now (formula_form formula.now)) }
     ensures refused { IfRefused result
         (IsFaultBy (IsFaultOfFormula (form_in formulas.now.unfolder.now)
+        (room.old.operators
+        < left_operators formulas.now.unfolder.now scope.now (formula_form formula.now))
         (scope_in formulas.now.unfolder.now scope.now) (formula_form formula.now))) }
 {
     let alloc = formulas.unfolder.alloc;

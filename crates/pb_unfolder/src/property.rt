@@ -3,10 +3,10 @@
 ghost use Rattle.std.specs.Prelude.{◌≡◌, [], map, IfOk};
 ghost use Rattle.pb_errors.specs.OrMemory.{IfRefused};
 ghost use Rattle.pb_model_tree.specs.Form as flat_form;
-ghost use Rattle.pb_protocol_tree.specs.Form.{formula_form, property_form};
+ghost use Rattle.pb_protocol_tree.specs.Form.{property_form};
 ghost use Rattle.pb_folding.specs.Places.{AreAmong, places_of};
 ghost use Rattle.pb_unfolder_steps.specs.Unfolder.{form_in};
-ghost use Rattle.pb_unfolder.specs.Faults.{IsFaultOfFormula, IsFaultOfProperties};
+ghost use Rattle.pb_unfolder.specs.Faults.{IsFaultOfProperties, IsFaultOfProperty};
 ghost use Rattle.pb_unfolder.specs.Left.{AreFormulas};
 ghost use Rattle.pb_unfolder.specs.Parts.{IsFaultBy};
 ghost use Rattle.pb_unfolder.specs.Places.{HavePlaces, places_in};
@@ -33,8 +33,8 @@ fn unfold_property(
     ensures places { IfOk result
         (λ p. AreAmong (places_of p.formula) (places_in property.now.formula)) }
     ensures refused { IfRefused result
-        (IsFaultBy (IsFaultOfFormula (form_in formulas.now.unfolder.now) []
-        (formula_form property.now.formula))) }
+        (IsFaultBy (IsFaultOfProperty (form_in formulas.now.unfolder.now)
+        (property_form property.now))) }
 {
     let name = copy_name(formulas.unfolder.alloc, &property.name)?;
     let mut room = Room::whole();

@@ -1,7 +1,13 @@
 //! How many operators an unfolded formula may have.
 
+ghost use Rattle.std.specs.Prelude.{◌≡◌, ◌+◌, ◌<◌, OnOk, sum_by};
 ghost use Rattle.pb_errors.specs.OrMemory.{IfRefused};
-ghost use Rattle.pb_unfolder.specs.Faults.{OfToken};
+ghost use Rattle.pb_folding.specs.View.{term_of};
+ghost use Rattle.pb_limits.specs.declared.TheConstants.{MAX_OPERATORS};
+ghost use Rattle.pb_unfolder_terms.specs.Unfolding.{operator_count};
+ghost use Rattle.pb_unfolder.specs.Faults.{OfMany};
+ghost use Rattle.pb_unfolder.specs.Operators.{argument_operators, operand_operators};
+ghost use Rattle.pb_unfolder.specs.Operators.{operation_operators};
 
 use crate::fault::{UnfoldingError, UnfoldingRule, refused};
 use pb_limits::MAX_OPERATORS;
@@ -15,7 +21,9 @@ pub(crate) struct Room {
 
 impl Room {
     /// The room of a whole formula.
-    pub(crate) fn whole() -> Room {
+    pub(crate) fn whole() -> Room
+        ensures { result.operators ≡ MAX_OPERATORS }
+    {
         Room {
             operators: MAX_OPERATORS,
         }
@@ -23,7 +31,10 @@ impl Room {
 
     /// Takes so many operators; where there are fewer, the token at the place passes the limit.
     pub(crate) fn take(&mut self, operators: usize, place: Place) -> Result<(), UnfoldingError>
-        ensures { IfRefused result (OfToken place) }
+        ensures taken { OnOk result (self.old.operators
+            ≡ self.new.operators + operators) }
+        ensures refused { IfRefused result
+            (OfMany (self.old.operators < operators) place) }
     {
         if operators > self.operators {
             return Err(refused(UnfoldingRule::Operators, place));
@@ -34,7 +45,10 @@ impl Room {
 
     #[cycle(operators)]
     fn take_links(&mut self, links: &[TermLink], place: Place) -> Result<(), UnfoldingError>
-        ensures { IfRefused result (OfToken place) }
+        ensures taken { OnOk result (self.old.operators
+            ≡ self.new.operators + sum_by operand_operators links.now) }
+        ensures refused { IfRefused result
+            (OfMany (self.old.operators < sum_by operand_operators links.now) place) }
     {
         for link in links {
             self.take(1, place)?;
@@ -49,7 +63,10 @@ impl Room {
         links: &[ArithmeticLink],
         place: Place,
     ) -> Result<(), UnfoldingError>
-        ensures { IfRefused result (OfToken place) }
+        ensures taken { OnOk result (self.old.operators
+            ≡ self.new.operators + sum_by operation_operators links.now) }
+        ensures refused { IfRefused result
+            (OfMany (self.old.operators < sum_by operation_operators links.now) place) }
     {
         for link in links {
             self.take(1, place)?;
@@ -60,7 +77,10 @@ impl Room {
 
     #[cycle(operators)]
     fn take_arguments(&mut self, arguments: &[Argument], place: Place) -> Result<(), UnfoldingError>
-        ensures { IfRefused result (OfToken place) }
+        ensures taken { OnOk result (self.old.operators
+            ≡ self.new.operators + sum_by argument_operators arguments.now) }
+        ensures refused { IfRefused result
+            (OfMany (self.old.operators < sum_by argument_operators arguments.now) place) }
     {
         for argument in arguments {
             self.take_term(&argument.term, place)?;
@@ -72,7 +92,10 @@ impl Room {
     /// passes the limit.
     #[cycle(operators)]
     pub(crate) fn take_term(&mut self, term: &Term, place: Place) -> Result<(), UnfoldingError>
-        ensures { IfRefused result (OfToken place) }
+        ensures taken { OnOk result (self.old.operators
+            ≡ self.new.operators + operator_count (term_of term.now)) }
+        ensures refused { IfRefused result
+            (OfMany (self.old.operators < operator_count (term_of term.now)) place) }
     {
         match term {
             Term::Constant { .. } | Term::Number { .. } | Term::Name(_) => Ok(()),

@@ -1,6 +1,7 @@
 //! Sets of steps by the names of the steps in them that are left.
 
-ghost use Rattle.std.specs.Prelude.{◌≡◌, ◌++◌, map, IfOk, OnOk, is_some};
+ghost use Rattle.std.specs.Prelude.{◌≡◌, ◌+◌, ◌<◌, ◌++◌, map, IfOk, OnOk};
+ghost use Rattle.std.specs.Prelude.{is_some};
 ghost use Rattle.pb_errors.specs.OrMemory.{IfRefused};
 ghost use Rattle.pb_folding.specs.View.{set_of};
 ghost use Rattle.pb_protocol_tree.specs.Form.{step_set_form};
@@ -9,6 +10,7 @@ ghost use Rattle.pb_unfolder_steps.specs.Unfolder.{protocol_in, scope_in};
 ghost use Rattle.pb_unfolder.specs.Apart.{name_bytes};
 ghost use Rattle.pb_unfolder.specs.Faults.{IsFaultOfSet, IsFaultOfSteps};
 ghost use Rattle.pb_unfolder.specs.Left.{AreFormulas, left_set, member_name, member_names};
+ghost use Rattle.pb_unfolder.specs.Operators.{name_count};
 ghost use Rattle.pb_unfolder.specs.Parts.{HasValues, IsFaultBy, IsFaultIn, IsFaultOfModality};
 ghost use Rattle.pb_unfolder.specs.Sets.{is_each};
 
@@ -97,8 +99,12 @@ pub(crate) fn unfold_set(
     requires scope { HasValues scope.now }
     ensures set { IfOk result (λ A. set_of A
         ≡ left_set formulas.now.unfolder.now scope.now (step_set_form set.now)) }
+    ensures room { OnOk result (room.old.operators ≡ room.new.operators
+        + name_count (left_set formulas.now.unfolder.now scope.now (step_set_form set.now))) }
     ensures refused { IfRefused result
         (IsFaultBy (IsFaultOfModality (protocol_in formulas.now.unfolder.now)
+        (room.old.operators
+        < name_count (left_set formulas.now.unfolder.now scope.now (step_set_form set.now)))
         (scope_in formulas.now.unfolder.now scope.now) place (step_set_form set.now))) }
 {
     if let Some(place) = place_of_all(set) {

@@ -1,8 +1,8 @@
-use Rattle.std.proofs.Common.{rules, arith, [], map}
+use Rattle.std.proofs.Common.{rules, arith, map}
 use Rattle.std.proofs.lemmas.Grind.{common_steps}
-use Rattle.pb_protocol_tree.specs.Form.{formula_form, property_form}
+use Rattle.pb_protocol_tree.specs.Form.{property_form}
 use Rattle.pb_unfolder_steps.specs.Unfolder.{form_in}
-use Rattle.pb_unfolder.specs.Faults.{IsFaultOfFormula, IsFaultOfProperties}
+use Rattle.pb_unfolder.specs.Faults.{IsFaultOfProperties, IsFaultOfProperty}
 use Rattle.pb_unfolder.proofs.FaultLemmas.{at-item, part-by}
 use Rattle.pb_unfolder.proofs.PlaceLemmas.{property-added}
 use Rattle.pb_unfolder.proofs.property.unfold_properties.Goals as goal
@@ -20,5 +20,5 @@ returns-in_err-unfold_property-clause-refused c =
     let m = form_in c.args.formulas.now.unfolder.now in
     let ps = c.args.properties.now in
     let q = c.property-item.result in
-    part-by c.from_residual.result c.in_err-unfold_property.field-0.0 (IsFaultOfFormula m [] (formula_form q.formula)) (IsFaultOfProperties m (map property_form ps)) c.from_residual.ensures.1
+    part-by c.from_residual.result c.in_err-unfold_property.field-0.0 (IsFaultOfProperty m (property_form q)) (IsFaultOfProperties m (map property_form ps)) c.from_residual.ensures.1
     (λ p is. (property_form q, at-item property_form ps c.loop-property.property-index q c.loop-property-test.true c.property-item.is, is)) c.in_err-unfold_property.ensures.refused
