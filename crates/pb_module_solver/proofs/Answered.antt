@@ -1,7 +1,6 @@
 -- The answer to a module whose game is solved, from what was counted of its rows.
 use Rattle.std.proofs.Common.{◌≡◌, ℕ, ◌≤◌, Bool, List, length, map, refl, ap, ◌∙◌}
 use Rattle.pb_trees.specs.Tree.{Tree}
-use Rattle.pb_trees.specs.Equations.{Signature, solved}
 use Rattle.pb_trees.specs.Rows as plain
 use Rattle.pb_rows.specs.Row.{TokenRow}
 use Rattle.pb_rows.specs.Reached.{rows_of}
@@ -11,20 +10,16 @@ use Rattle.pb_exploration.specs.Rows.{AreExploredRows}
 use Rattle.pb_game.specs.Games.{vertex_count}
 use Rattle.pb_game_of_trees.specs.Explored.{IsModuleGame}
 use Rattle.pb_game_of_trees.specs.declared.tree_game.TreeGame.{TreeGame}
-use Rattle.pb_game_of_trees.specs.TreeGame.{IsTreeGame, AreRowsFrom}
+use Rattle.pb_game_of_trees.specs.TreeGame.{AreRowsFrom}
 use Rattle.pb_game_of_trees.specs.Held.{Hold}
 use Rattle.pb_game_of_trees.proofs.Reached.{AreReached, found_row, reached_of}
 use Rattle.pb_report.specs.declared.answer.Answer.{Answer}
 use Rattle.pb_report.specs.CutCalls.{cut_count}
 use Rattle.pb_report.proofs.ReachedGames.{same_length}
 use Rattle.pb_module_solver.specs.Answers.{IsAnswerOf}
+use Rattle.pb_module_solver.specs.Parts.{IsTruthIn}
 use Rattle.pb_module_solver.proofs.Rows.{module_rows}
 use Rattle.pb_limits.specs.declared.TheConstants.{MAX_VERTICES}
-
--- whichever reached instances' game it is, that is the truth of the initial one
-abbrev pub IsTruth : TreeGame → Bool → Type 0
-IsTruth built truth = (signatures : List Signature) (trees : ℕ → Tree) (reached : List plain.Row) (initial : ℕ)
-    → IsTreeGame signatures trees reached initial built → plain.IsReached reached initial → truth ≡ solved signatures trees initial
 
 module _ (m : Contents) (rows : List TokenRow) (built : TreeGame) (explored : AreExploredRows m rows) (game : IsModuleGame m rows built) where
   from : (trees : ℕ → Tree) → AreTrees m trees → AreRowsFrom (map signature_of m.equations) trees rows (initial_of m)
@@ -39,7 +34,7 @@ module _ (m : Contents) (rows : List TokenRow) (built : TreeGame) (explored : Ar
   pub count : (trees : ℕ → Tree) → AreTrees m trees → length built.vertices.items ≡ length rows
   count trees have = same_length m rows built trees (rows_of trees rows) (initial_of m) (are trees have) (game trees have)
 
-  pub answer_is : (truth : Bool) (instances cut vertices : ℕ) → IsTruth built truth → instances ≡ length built.vertices.items
+  pub answer_is : (truth : Bool) (instances cut vertices : ℕ) → IsTruthIn built truth → instances ≡ length built.vertices.items
       → ((reached : List plain.Row) → Hold rows reached → cut ≡ cut_count reached)
       → vertices ≡ vertex_count built.game → vertices ≤ MAX_VERTICES
       → IsAnswerOf m (record { truth = truth; instances = instances; cut = cut; vertices = vertices })

@@ -1,5 +1,5 @@
 mod Rows
 mod Texts
 mod Answered
-mod Early
+mod Parts
 pub mod Results

@@ -1,7 +1,7 @@
 -- What the answer to a module is. The trees that its instances have are determined by the module,
 -- and there are such trees (`meaning_is_unique` and `instances_have_trees` of pb_machine); a fact
 -- about them is said of whichever trees they have.
-use Rattle.std.specs.Prelude.{◌≡◌, ℕ, Bool, ◌<◌, ◌≤◌, List}
+use Rattle.std.specs.Prelude.{◌≡◌, ⊤, ℕ, Bool, ◌<◌, ◌≤◌, List, Option, Some, None}
 use Rattle.pb_trees.specs.Tree.{Tree}
 use Rattle.pb_rows.specs.Row.{TokenRow}
 use Rattle.pb_bytecode.specs.Contents.{Contents}
@@ -11,6 +11,8 @@ use Rattle.pb_game_of_trees.specs.Explored.{IsModuleGame}
 use Rattle.pb_report.specs.declared.answer.Answer.{Answer}
 use Rattle.pb_report.specs.ModuleTexts.{answer_for}
 use Rattle.pb_module_solver.specs.declared.built_module.BuiltModule.{BuiltModule}
+use Rattle.pb_module_solver.specs.declared.early.Early.{Early}
+use Rattle.pb_module_solver.specs.declared.early.Early.TheVariants.{Unknown, Shown, Whole}
 use Rattle.pb_module_solver.specs.declared.solved_module.SolvedModule.{SolvedModule}
 use Rattle.pb_limits.specs.declared.TheConstants.{MAX_VERTICES}
 
@@ -29,6 +31,18 @@ pub record IsAnswerUnder (m : Contents) (trees : ℕ → Tree) (a : Answer) : Ty
 
 abbrev pub IsAnswerOf : Contents → Answer → Type 0
 IsAnswerOf m a = (trees : ℕ → Tree) → AreTrees m trees → IsAnswerUnder m trees a
+
+-- what is told by the nearest instances: nothing, that truth, or the answer
+abbrev pub IsEarly : Contents → Early → Type 0
+IsEarly m Unknown = ⊤
+IsEarly m (Shown truth) = IsTruthOf m truth
+IsEarly m (Whole answer) = IsAnswerOf m answer
+
+-- the truth of the initial instance, where it is told
+abbrev pub truth_in : Early → Option Bool
+truth_in Unknown = None
+truth_in (Shown truth) = Some truth
+truth_in (Whole answer) = Some answer.truth
 
 -- the game of the reached instances has more than 2^24 vertices
 pub record IsTooLargeUnder (m : Contents) (trees : ℕ → Tree) : Type 0 where

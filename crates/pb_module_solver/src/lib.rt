@@ -6,17 +6,18 @@
 mod answer;
 pub mod built_module;
 mod context;
+mod early;
 pub mod explanation;
 pub mod options;
+mod part;
 pub mod solved_module;
 mod solver;
-mod truth;
 
 pub use answer::answer_module;
 pub use built_module::{BuiltModule, build_explored, build_module};
 pub use context::Context;
+pub use early::{Early, answer_early};
 pub use explanation::{explain_module, write_explanation};
 pub use options::SolveOptions;
 pub use solved_module::{SolvedModule, solve_module};
 pub use solver::solve;
-pub use truth::{answer_early, answer_from_part};

@@ -22,16 +22,17 @@ use Rattle.pb_bytecode.specs.Meaning.{AreTrees, parameters, signature_of, initia
 use Rattle.pb_bytecode.proofs.InstanceCounts.{count_is_total}
 use Rattle.pb_sorts.specs.Layout.{count_of}
 use Rattle.pb_machine.specs.InstanceTree.{IsTreeAt}
-use Rattle.pb_machine.specs.Reachable.{successors}
+use Rattle.pb_machine.specs.Reachable.{IsReachable, successors}
+use Rattle.pb_machine.specs.Reachable.IsReachable.{Starts, Follows}
 use Rattle.pb_machine.proofs.Successors.{tree_meant, successor_called}
 use Rattle.pb_machine.proofs.TreeCalls.{each_tree}
 use Rattle.pb_evidence.specs.AssumedGraphs.{leaf_tree, IsAssumed}
 use Rattle.pb_evidence.proofs.Proving.{test_of, contained_of}
+use Rattle.pb_exploration.specs.Rows.{AreExploredRows}
 use Rattle.pb_rows.specs.Row.{TokenRow, nothing, row_of_tokens}
 use Rattle.pb_rows.specs.Reached.{numbers_of, row_of, rows_of}
 use Rattle.pb_game_of_trees.specs.TreeGame.{AreRowsFrom}
 use Rattle.pb_game_of_trees.proofs.Reached.{found_row}
-use Rattle.pb_game_of_trees.specs.Explored.{AreModuleRows}
 use Rattle.pb_nearby.specs.declared.nearby.Nearby.{Nearby}
 use Rattle.pb_nearby.specs.Nearby.{found_in, nearby_rows, IsNearby}
 use Rattle.pb_nearby.specs.Around.{leaf_of, IsAround, AreAssumedRows}
@@ -106,6 +107,21 @@ module _ (m : Contents) (x : Nearby) (is : IsNearby m x) where
 
   pub short_row : (k : ℕ) → k < length (nearby_rows x) → length (get_or (nearby_rows x) k nothing).tree < 2 ^ 32
   short_row k l = is.short (get_or (nearby_rows x) k nothing) (Contains-get_or (nearby_rows x) k nothing l)
+
+  -- where nothing is left, what can be reached was found
+  module _ (all : length (nearby_rows x) ≡ length (found_in x)) (trees : ℕ → Tree) (are : AreTrees m trees) where
+    call_found : (n k : ℕ) → Contains (found_in x) n → Contains (successors trees n) k → Contains (found_in x) k
+    call_found n k c called =
+        let at = contains_place (found_in x) n c in
+        let low : at.0 < length (nearby_rows x) = let w = at.1.within in omega (arith, w, all) in
+        let row = row_of_tokens n (get_or (nearby_rows x) at.0 nothing).tree in
+        let explored : Contains (nearby_rows x) row = explored_row n at.0 at.1.within at.1.there low in
+        let tree : IsTreeAt m n row.tree = subst (λ (z : TokenRow). IsTreeAt m z.number z.tree) explored.2 (is.trees explored.0 row explored.1) in
+        is.closed row explored k (successor_called m n row.tree tree trees are k called)
+
+    pub reachable_found : (n : ℕ) → IsReachable trees (initial_of m) n → Contains (found_in x) n
+    reachable_found n Starts = is.initial
+    reachable_found n (Follows k j before called) = call_found k n (reachable_found k before) called
 
   -- ---- the rows in order
 
@@ -207,13 +223,20 @@ module _ (m : Contents) (x : Nearby) (is : IsNearby m x) where
           ]),
     )
 
-    -- where nothing is left, the rows are the module's
-    pub are_whole : length (nearby_rows x) ≡ length (found_in x) → AreModuleRows m rows
+    -- where nothing is left, the rows are those of all reached instances
+    pub are_whole : length (nearby_rows x) ≡ length (found_in x) → AreExploredRows m rows
     are_whole all trees are =
-        assumed_rows trees are trees (λ n c. refl)
+        let from = assumed_rows trees are trees (λ n c. refl)
         (λ n c not_there. absurd (not_there
         (let at = contains_place (found_in x) n (numbered_back n c) in
         let l : at.0 < length (nearby_rows x) = let w = at.1.within in omega (arith, w, all) in
         let here : get_or (numbers_of (nearby_rows x)) at.0 0 ≡ n =
         ap (λ (ns : List ℕ). get_or ns at.0 0) is.first ∙ (get_or-take (length (nearby_rows x)) (found_in x) at.0 0 l ∙ at.1.there) in
-        contains_at (numbers_of (nearby_rows x)) n at.0 (record { within = omega (arith, l, count); there = here }))))
+        contains_at (numbers_of (nearby_rows x)) n at.0 (record { within = omega (arith, l, count); there = here })))) in
+        record {
+          rising = rising;
+          all = λ n r. numbered n (reachable_found all trees are n r);
+          only = λ n c. is.reachable trees are n (numbered_back n c);
+          of_trees = from.are.of_trees;
+          system = from.are.system;
+        }

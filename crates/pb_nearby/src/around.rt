@@ -3,7 +3,7 @@ ghost use Rattle.std.specs.Prelude.{◌≡◌, ◌≤◌, ◌<◌, ◌^◌, [], 
 ghost use Rattle.std.specs.Prelude.{map};
 ghost use Rattle.pb_rows.specs.Entries.{IsThere, row_there};
 ghost use Rattle.pb_bytecode.specs.Contents.{Contents};
-ghost use Rattle.pb_game_of_trees.specs.Explored.{AreModuleRows};
+ghost use Rattle.pb_exploration.specs.Rows.{AreExploredRows};
 ghost use Rattle.pb_nearby.specs.Nearby.{IsNearby, found_in, nearby_rows};
 ghost use Rattle.pb_nearby.specs.Around.{AddsAround, AreAssumedRows, IsAround};
 
@@ -40,7 +40,8 @@ fn in_order(alloc: Global, rows: Rows) -> Result<IndexedRows, AllocError>
 impl Nearby {
     /// The rows by rising number, from whose game this truth value may be shown of the initial
     /// instance: each explored instance has its tree, and each of the frontier, in place of its
-    /// tree, the leaf with the other value. Where there is no frontier, the rows are the module's.
+    /// tree, the leaf with the other value. Where there is no frontier, the rows are those of all
+    /// reached instances.
     ///
     /// # Errors
     /// Memory was refused.
@@ -50,7 +51,7 @@ impl Nearby {
         ensures assumed { IfOk result (λ rows. (m : Contents) → IsNearby m self.now
             → AreAssumedRows m truth rows) }
         ensures whole { IfOk result (λ rows. (m : Contents) → IsNearby m self.now
-            → length (nearby_rows self.now) ≡ length (found_in self.now) → AreModuleRows m rows) }
+            → length (nearby_rows self.now) ≡ length (found_in self.now) → AreExploredRows m rows) }
     {
         let mut numbers = Vec::from_slice(alloc, &self.found.numbers)?;
         numbers.sort_unstable();

@@ -1,5 +1,8 @@
 -- What a fault says of a model that is checked or explained, whichever layer finds it.
 use Rattle.std.proofs.Common.{◌≡◌, ℕ, false, List, sym, subst, inl, inr}
+use Rattle.pb_errors.specs.OrMemory.{IfFault, raised}
+use Rattle.pb_errors.specs.declared.or_memory.OrMemory.{OrMemory}
+use Rattle.pb_errors.specs.declared.or_memory.OrMemory.TheVariants as or_memory
 use Rattle.pb_model_tree.specs.Form.{ModelForm}
 use Rattle.pb_negation.specs.Negated.{negated_protocol}
 use Rattle.pb_protocol_tree.specs.Form.{ProtocolForm}
@@ -61,6 +64,16 @@ module _ (bytes : List ℕ) where
   model_untold (model_fault.Text fault) h = inl h
   model_untold (model_fault.Typing fault) h = inl (inl h)
   model_untold model_fault.NoProperty h = absurd h
+
+  -- what is refused of a model isn't want of a property
+  pub names_are_read : (e : OrMemory ModelFault) (x : OrMemory SolveFault) → raised (λ f above. above ≡ fault_of_model f) e x → IfFault e (IsRefusedModel bytes)
+      → x ≡ or_memory.Refused solve_fault.NoProperty → ⊥
+  names_are_read (or_memory.Refused (model_fault.Text fault)) (or_memory.Refused above) made h is = absurd (cc (made, is))
+  names_are_read (or_memory.Refused (model_fault.Typing fault)) (or_memory.Refused above) made h is = absurd (cc (made, is))
+  names_are_read (or_memory.Refused model_fault.NoProperty) (or_memory.Refused above) made h is = absurd h
+  names_are_read (or_memory.Refused fault) or_memory.Memory made h is = absurd (cc is)
+  names_are_read or_memory.Memory (or_memory.Refused above) made h is = absurd made
+  names_are_read or_memory.Memory or_memory.Memory made h is = absurd (cc is)
 
   pub untold_unexplained : (f : SolveFault) → IsUntold bytes f → IsUnexplained bytes f
   untold_unexplained (solve_fault.Text fault) h = h

@@ -15,6 +15,8 @@ use Rattle.pb_negation.specs.Laws.{NegationsErase, SatisfactionIsKept}
 use Rattle.pb_solved_model.specs.Solved.{AreSameProperties, IsSameProperty}
 use Rattle.pb_report.specs.declared.answer.Answer.{Answer}
 use Rattle.pb_faults.specs.declared.property_fault.PropertyExcess.{PropertyExcess}
+use Rattle.pb_module_solver.specs.declared.early.Early.{Early}
+use Rattle.pb_module_solver.specs.declared.early.Early.TheVariants as early
 use Rattle.pb_model_properties.specs.declared.verdicts.Verdict.{Verdict}
 use Rattle.pb_model_properties.specs.declared.verdicts.Verdict.TheVariants.{True, False, Unknown}
 use Rattle.pb_model_properties.specs.declared.solved.SolvedModel.{SolvedModel}
@@ -32,7 +34,7 @@ use Rattle.pbsolve.specs.declared.property_module.PropertyModule.{PropertyModule
 use Rattle.pb_faults.specs.declared.solve_fault.SolveFault.{SolveFault}
 use Rattle.pb_faults.specs.declared.solve_fault.SolveFault.TheVariants as solve_fault
 use Rattle.pbsolve.specs.Models.{IsFinding, IsFound, IsPropertyAnswer, IsShown, IsTooLargeNegation, IsTooLargeProperty, IsUnexplained}
-use Rattle.pbsolve.specs.Outcomes.{IsDecision, IsDeniedAt, IsNegationAt, IsOutcome, IsPropertyModule, IsShownAt, verdict_in}
+use Rattle.pbsolve.specs.Outcomes.{IsDecision, IsDeniedAt, IsEarlyAt, IsNegationAt, IsOutcome, IsOutcomeAt, IsPropertyModule, IsShownAt, verdict_in}
 use Rattle.pbsolve.specs.Why.{IsVerdict}
 
 -- ---- properties of a protocol and of the model that is solved in its place
@@ -220,6 +222,11 @@ module _ (counts : Bool) (protocol : ProtocolForm) (model : ModelForm) (is_for :
       let both : Some x ≡ Some p = sym there ∙ stands in
       let is : x ≡ p = cc both in
       (uncounted, subst (λ (y : protocol_form.PropertyForm). IsShown protocol y.formula b) is shown))
+
+-- the answer that is told of a property at a place
+pub told_here : (counts : Bool) (protocol : ProtocolForm) (model : ModelForm) (place : ℕ) (e : Early) (a : Answer) → e ≡ early.Whole a
+    → IsEarlyAt counts protocol model place e → IsOutcomeAt model (record { place = place; outcome = outcome.Answered a })
+told_here counts protocol model place e a is told = subst (IsEarlyAt counts protocol model place) is told
 
 -- the negation is satisfied
 pub denied_at : NegationsErase → SatisfactionIsKept → (bytes : List ℕ) (negation : AskedModule) → IsNegationAt bytes negation → (place : ℕ) → negation.place ≡ place

@@ -72,11 +72,10 @@ names_no_property bytes r is h = subst (λ x. IfRefused x (IsUnnegated bytes)) i
 
 -- ---- what is written
 
--- the lines of what is found
-pub verdicts_told : (options : Checking) (bytes : List ℕ) (S : Status → Type 0) (text : List ℕ) (model : ModelForm) (findings : List Found) (steps : List StepFinding) (said : IsModelOf bytes model)
-    → AreFound options.counts said.protocol model (map string_bytes options.properties.items) findings → AreStepsFoundWhere options.counts model steps → S (status_of_checked options.status findings steps)
-    → text ≡ found_lines options.counts model findings ++ lines_of_steps options.counts said steps → (P : List ℕ → Type 0) → P text → OutputsVerdicts options bytes S P
-verdicts_told options bytes S text model findings steps said found taken status same P h = (model, findings, steps, said, found, taken, status, subst P same h)
+-- the lines of what is found, of whose status less is known
+pub verdicts_told : (options : Checking) (bytes : List ℕ) (A S : Status → Type 0) → ((x : Status) → A x → S x) → (lines text : List ℕ) → text ≡ lines
+    → OutputsVerdicts options bytes A (λ (t : List ℕ). lines ≡ t) → (P : List ℕ → Type 0) → P text → OutputsVerdicts options bytes S P
+verdicts_told options bytes A S less lines text same told P h = (told.0, told.1, told.2, told.3, told.4, told.5, less _ told.6, subst P (same ∙ told.7) h)
 
 -- there is no status where there is an error
 pub no_status : {T E : Type 0} (P : T → Type 0) (Q : E → Type 0) (r : Result T E) → IsErrAnd r Q → IfOk r P

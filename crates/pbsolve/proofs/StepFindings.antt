@@ -32,7 +32,7 @@ use Rattle.pbsolve.specs.declared.step_finding.StepFinding.{StepFinding}
 use Rattle.pbsolve.specs.declared.step_finding.StepFinding.TheVariants.{Reached, Never, Refused}
 use Rattle.pbsolve.specs.Models.{IsPropertyAnswer}
 use Rattle.pbsolve.specs.Outcomes.{IsFault, IsOutcome, IsPropertyModule, IsPropertyText, is_limit}
-use Rattle.pbsolve.specs.ReachedSteps.{IsFoundOfStep, IsStepText, IsUntypedStep, by_truth, can_be_taken, step_line, step_lines_from}
+use Rattle.pbsolve.specs.ReachedSteps.{IsFoundOfStep, IsStepModule, IsStepText, IsUntypedStep, by_truth, can_be_taken, step_line, step_lines_from}
 use Rattle.pbsolve.proofs.PropertyTexts.{text_over_limit}
 
 -- ---- the text of a step
@@ -88,8 +88,12 @@ no_property_of_step model e (Err x) made is h =
 
 -- ---- what is found of the step at a place
 
-module _ (model : ModelForm) (place : ℕ) (text : PropertyText) (compiled : PropertyModule) (asks : IsStepText model place text)
-    (made : (m : ModelForm) (p : PropertyForm) → IsPropertyText m p text → IsPropertyModule m p compiled) where
+-- the module of its text
+pub module_of_step : (model : ModelForm) (place : ℕ) (text : PropertyText) (compiled : PropertyModule) → IsStepText model place text
+    → ((m : ModelForm) (p : PropertyForm) → IsPropertyText m p text → IsPropertyModule m p compiled) → IsStepModule model place compiled
+module_of_step model place text compiled asks made a at = made model (reached_property model a) (asks a at)
+
+module _ (model : ModelForm) (place : ℕ) (compiled : PropertyModule) (made : IsStepModule model place compiled) where
   step_known : (b : Bool) → ((a : StepForm) → slice_get model.steps place ≡ Some a → b ≡ can_be_taken model a) → IsFoundOfStep model place (by_truth b)
   step_known true known = λ a at. sym (known a at)
   step_known false known = λ a at. sym (known a at)
@@ -101,14 +105,14 @@ module _ (model : ModelForm) (place : ℕ) (text : PropertyText) (compiled : Pro
   step_shown early b finding is shows same =
       let known : (m : ModelForm) (p : PropertyForm) → IsPropertyModule m p compiled → b ≡ satisfies m p.formula =
       subst (λ (o : Option Bool). IfSome o (λ truth. (m : ModelForm) (p : PropertyForm) → IsPropertyModule m p compiled → truth ≡ satisfies m p.formula)) is shows in
-      subst (IsFoundOfStep model place) (sym same) (step_known b (λ a at. known model (reached_property model a) (made model (reached_property model a) (asks a at))))
+      subst (IsFoundOfStep model place) (sym same) (step_known b (λ a at. known model (reached_property model a) (made a at)))
 
   -- by all of them
   module _ (o : Outcome) (becomes : (m : ModelForm) (p : PropertyForm) → IsPropertyModule m p compiled → IsOutcome m p o) where
     becomes_of : (x : Outcome) → o ≡ x → (a : StepForm) → slice_get model.steps place ≡ Some a → IsOutcome model (reached_property model a) x
     becomes_of x is a at =
         let p = reached_property model a in
-        subst (IsOutcome model p) is (becomes model p (made model p (asks a at)))
+        subst (IsOutcome model p) is (becomes model p (made a at))
 
     pub step_large : (excess : PropertyExcess) → o ≡ outcome.TooLarge excess → IsFoundOfStep model place (Refused excess)
     step_large excess is = becomes_of (outcome.TooLarge excess) is

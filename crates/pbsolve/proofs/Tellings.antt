@@ -38,7 +38,7 @@ use Rattle.pbsolve.proofs.Texts.{HasTrees}
 pub explained_truth : (model : ModelForm) (q : PropertyForm) (e : ExplainedText) → HasTrees e.verified → IsExplainedText model q e
     → e.explanation.evidence.truth ≡ satisfies model q.formula
 explained_truth model q e some explained =
-    (explained.explains some.0 some.1).shown.truth ∙ ((explained.of_text.says some.0 some.1).answer ∙ explained.text.decides)
+    (explained.explanation.explains some.0 some.1).shown.truth ∙ ((explained.explanation.of_text.says some.0 some.1).answer ∙ explained.text.decides)
 
 -- the lines of an explanation of a property's text tell the property by its verdict
 abbrev pub ArePrinted : Bool → Bool → Vocabulary → ModelForm → PropertyForm → Verdict → ExplainedText → List ℕ → Type 0
@@ -55,9 +55,9 @@ property_told instances always words protocol model p q verdict is e some explai
   text = spec_form e.typed.spec;
   of_property = explained.text;
   contents = e.verified;
-  of_text = explained.of_text;
+  of_text = explained.explanation.of_text;
   evidence = e.explanation.evidence;
-  shown = λ trees are. (explained.explains trees are).shown;
+  shown = λ trees are. (explained.explanation.explains trees are).shown;
   exact = explained_truth model q e some explained;
   printed = printed;
 }

@@ -15,6 +15,8 @@ use Rattle.pb_model_properties.specs.Said.{protocol_satisfies, satisfies, IsMode
 use Rattle.pb_model_properties.specs.Said.{IsTextOf, IsTheReading}
 use Rattle.pb_report.specs.declared.answer.Answer.{Answer}
 use Rattle.pb_report.specs.ModuleEvidence.{IsExplanation}
+use Rattle.pb_module_solver.specs.declared.early.Early.{Early}
+use Rattle.pb_module_solver.specs.declared.early.Early.TheVariants as early
 use Rattle.pb_errors.specs.declared.or_memory.OrMemory.{OrMemory}
 use Rattle.pb_errors.specs.declared.or_memory.OrMemory.TheVariants as or_memory
 use Rattle.pb_typing_declarations.specs.declared.fault.TypingRule.{TypingRule}
@@ -152,6 +154,20 @@ IsShownAt protocol place b =
     (p : protocol_form.PropertyForm) × (slice_get protocol.properties place ≡ Some p)
     × IsShown protocol p.formula b
 
+-- what is told early of the property p: nothing, whether it is satisfied, or its answer
+abbrev pub IsEarlyOf : ModelForm → PropertyForm → Early → Type 0
+IsEarlyOf model p early.Unknown = ⊤
+IsEarlyOf model p (early.Shown b) = b ≡ satisfies model p.formula
+IsEarlyOf model p (early.Whole answer) = IsPropertyAnswer model p answer
+
+-- what is told early of the property at a place
+abbrev pub IsEarlyAt : Bool → ProtocolForm → ModelForm → ℕ → Early → Type 0
+IsEarlyAt counts protocol model place early.Unknown = ⊤
+IsEarlyAt counts protocol model place (early.Shown b) =
+    (counts ≡ false) × IsShownAt protocol place b
+IsEarlyAt counts protocol model place (early.Whole answer) =
+    IsOutcomeAt model (record { place = place; outcome = outcome.Answered answer })
+
 -- what the negation q decides of a property that has this answer
 abbrev pub IsDecision : ModelForm → PropertyForm → Answer → Finding → Type 0
 IsDecision model q answer (Decided True a) = ⊥
@@ -164,12 +180,16 @@ IsDecision model q answer (Refused excess) = IsTooLargeProperty model q excess
 
 -- ---- explained texts
 
--- the text of the property, its module, and an explanation of that module's answer
+-- a text's module, and an explanation of that module's answer
+pub record IsExplained (explained : ExplainedText) : Type 0 where
+  pub of_text : IsModuleOfForm (spec_form explained.typed.spec) explained.verified
+  pub explains : IsExplanation explained.verified explained.explanation
+
+-- so of the text of the property
 pub record IsExplainedText (model : ModelForm) (q : PropertyForm) (explained : ExplainedText)
     : Type 0 where
   pub text : IsTextOf model q (spec_form explained.typed.spec)
-  pub of_text : IsModuleOfForm (spec_form explained.typed.spec) explained.verified
-  pub explains : IsExplanation explained.verified explained.explanation
+  pub explanation : IsExplained explained
 
 -- those of the property at a place
 abbrev pub IsExplainedAt : ModelForm → ℕ → ExplainedText → Type 0

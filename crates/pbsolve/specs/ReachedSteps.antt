@@ -15,9 +15,10 @@ use Rattle.pbsolve.specs.declared.status.Status.{Status}
 use Rattle.pbsolve.specs.declared.status.Status.TheVariants as status
 use Rattle.pbsolve.specs.declared.step_finding.StepFinding.{StepFinding}
 use Rattle.pbsolve.specs.declared.step_finding.StepFinding.TheVariants.{Reached, Never, Refused}
+use Rattle.pbsolve.specs.declared.property_module.PropertyModule.{PropertyModule}
 use Rattle.pbsolve.specs.declared.property_text.PropertyText.{PropertyText}
 use Rattle.pbsolve.specs.Models.{status_of_findings, HasIllTypedStep, IsTooLargeProperty}
-use Rattle.pbsolve.specs.Outcomes.{IsPropertyText}
+use Rattle.pbsolve.specs.Outcomes.{IsPropertyModule, IsPropertyText}
 
 -- ---- what is found of a step
 
@@ -95,6 +96,12 @@ abbrev pub IsStepText : ModelForm → ℕ → PropertyText → Type 0
 IsStepText model place text =
     (a : StepForm) → slice_get model.steps place ≡ Some a →
     IsPropertyText model (reached_property model a) text
+
+-- its module
+abbrev pub IsStepModule : ModelForm → ℕ → PropertyModule → Type 0
+IsStepModule model place compiled =
+    (a : StepForm) → slice_get model.steps place ≡ Some a →
+    IsPropertyModule model (reached_property model a) compiled
 
 -- that of a step isn't well typed
 abbrev pub IsUntypedStep : ModelForm → SolveFault → Type 0

@@ -1,15 +1,19 @@
 //! The verdicts on the properties of a model.
-ghost use Rattle.std.specs.Prelude.{◌≡◌, ◌≤◌, ◌≢◌, [], length, map, Err, IfOk, string_bytes};
+ghost use Rattle.std.specs.Prelude.{◌≡◌, ◌≤◌, ◌<◌, ◌≢◌, ◌++◌, [], length, map};
+ghost use Rattle.std.specs.Prelude.{Err, IfOk, string_bytes};
+ghost use Rattle.std.specs.List.{All};
 ghost use Rattle.pb_errors.specs.OrMemory.{IfRefused};
 ghost use Rattle.pb_errors.specs.declared.or_memory.OrMemory.TheVariants.{Refused};
 ghost use Rattle.pb_faults.specs.Errors.{IfInputRefused};
 ghost use Rattle.pb_faults.specs.declared.solve_fault.SolveFault.TheVariants.{NoProperty};
 ghost use Rattle.pb_model_tree.specs.Form.{model_form};
 ghost use Rattle.pb_model_properties.specs.Said.{IsModelOf};
+ghost use Rattle.pb_model_properties.specs.Words.{impossible_in, words_in};
 ghost use Rattle.pb_module_commands.specs.Delivery.{Delivers};
-ghost use Rattle.pbsolve.specs.Models.{AreFound, IsUnchecked};
+ghost use Rattle.pbsolve.specs.Models.{AreFound, IsUnchecked, found_lines};
 ghost use Rattle.pbsolve.specs.Outputs.{OutputsVerdicts};
-ghost use Rattle.pbsolve.specs.ReachedSteps.{AreStepsFoundWhere};
+ghost use Rattle.pbsolve.specs.ReachedSteps.{AreStepsFoundWhere, impossible_lines};
+ghost use Rattle.pbsolve.specs.ReachedSteps.{status_of_checked, step_lines};
 
 use crate::decision::{DecisionOptions, findings_of};
 use crate::finding::Found;
@@ -28,6 +32,7 @@ use pb_model_properties::{SolvedModel, asked_of, read_protocol};
 use pb_module_commands::deliver;
 use pb_module_solver::{Context, SolveOptions};
 use pb_sorts::Sink;
+use std::alloc::{AllocError, Global};
 use std::thread::Threads;
 
 // What is found of the properties that are asked for, of a model that was read. The texts of all
@@ -98,6 +103,61 @@ fn checked_on<R: Threads + Sync, G: Gate + Sync>(
     Ok(Checked { findings, steps })
 }
 
+// The lines that tell what is found, and how the run ends.
+#[derive(Drop)]
+struct CheckReport {
+    lines: String,
+    status: Status,
+}
+
+// Those of what is found.
+fn report_of(
+    alloc: Global,
+    solved: &SolvedModel,
+    checked: &Checked,
+    options: &Checking,
+) -> Result<CheckReport, AllocError>
+    requires { All (λ found. found.place < length solved.now.typed.model.properties.items)
+        checked.now.findings.items }
+    ensures lines { IfOk result (λ report. string_bytes report.lines
+        ≡ found_lines options.now.counts (model_form solved.now.typed.model)
+        checked.now.findings.items
+        ++ (step_lines (words_in solved.now) checked.now.steps.items
+        ++ impossible_lines options.now.counts (impossible_in solved.now.names))) }
+    ensures status { IfOk result (λ report. report.status
+        ≡ status_of_checked options.now.status checked.now.findings.items
+        checked.now.steps.items) }
+{
+    let properties = &solved.typed.model.properties;
+    let mut lines = lines_of(alloc, properties, &checked.findings, options.counts)?;
+    push_lines_of_steps(&mut lines, solved, &checked.steps, options.counts)?;
+    let status = status_of_checked(&checked.findings, &checked.steps, options.status);
+    Ok(CheckReport { lines, status })
+}
+
+// Those of what is found of the model that the bytes say.
+fn checked_report<R: Threads + Sync, G: Gate + Sync>(
+    context: &Context<'_, R, G>,
+    bytes: &[u8],
+    options: &Checking,
+) -> Result<CheckReport, OrMemory<SolveFault>>
+    requires input { length bytes.now ≤ MAX_INPUT_BYTES }
+    ensures report { IfOk result (λ report. OutputsVerdicts options.now bytes.now
+        (λ status. report.status ≡ status) (λ text. string_bytes report.lines ≡ text)) }
+    ensures refused { IfRefused result
+        (IsUnchecked (map string_bytes options.now.properties.items) bytes.now) }
+    ensures named { result ≡ Err (Refused NoProperty)
+        → map string_bytes options.now.properties.items ≢ [] }
+{
+    let solved = match read_protocol(context.alloc, bytes) {
+        Ok(solved) => solved,
+        Err(error) => return Err(error.raise()),
+    };
+    let checked = checked_on(context, bytes, &solved, options)?;
+    let report = report_of(context.alloc, &solved, &checked, options)?;
+    Ok(report)
+}
+
 /// Checks a model: writes for each property that is asked for, in the model's order, a line with
 /// the verdict on it.
 ///
@@ -136,11 +196,7 @@ pub fn check_text<R: Threads + Sync, G: Gate + Sync, S: Sink>(
     ensures named { result ≡ Err (SolveError.Refused NoProperty)
         → map string_bytes options.now.properties.items ≢ [] }
 {
-    let solved = read_protocol(context.alloc, bytes)?;
-    let checked = checked_on(context, bytes, &solved, options)?;
-    let properties = &solved.typed.model.properties;
-    let mut lines = lines_of(context.alloc, properties, &checked.findings, options.counts)?;
-    push_lines_of_steps(&mut lines, &solved, &checked.steps, options.counts)?;
-    deliver(lines.as_bytes(), writer)?;
-    Ok(status_of_checked(&checked.findings, &checked.steps, options.status))
+    let report = checked_report(context, bytes, options)?;
+    deliver(report.lines.as_bytes(), writer)?;
+    Ok(report.status)
 }

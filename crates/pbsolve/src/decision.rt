@@ -1,16 +1,16 @@
 //! What is found of properties, by what becomes of their texts and of those of their negations.
-ghost use Rattle.std.specs.Prelude.{◌≡◌, ◌≤◌, ◌<◌, Bool, length, map, true, false, IfOk, IfSome};
+ghost use Rattle.std.specs.Prelude.{◌≡◌, ◌≤◌, ◌<◌, Bool, length, map, true, IfOk};
 ghost use Rattle.std.specs.List.{All};
 ghost use Rattle.pb_errors.specs.OrMemory.{IfRefused};
 ghost use Rattle.pb_model_tree.specs.Form.{ModelForm, PropertyForm};
 ghost use Rattle.pb_model_properties.specs.Said.{IsModelOf};
 ghost use Rattle.pbsolve.specs.Models.{IsFound, IsUnnegated};
-ghost use Rattle.pbsolve.specs.Outcomes.{AreNegations, IsDecision, IsDeniedAt, IsModuleAt};
-ghost use Rattle.pbsolve.specs.Outcomes.{IsOutcomeAt, IsPropertyModule, IsShownAt, IsTextAt};
+ghost use Rattle.pbsolve.specs.Outcomes.{AreNegations, IsDecision, IsDeniedAt, IsEarlyAt};
+ghost use Rattle.pbsolve.specs.Outcomes.{IsModuleAt, IsOutcomeAt, IsPropertyModule, IsTextAt};
 
 use crate::finding::{Finding, Found};
 use crate::negation::negation_module;
-use crate::outcome::{AskedOutcome, Outcome, early_truth, outcome_of, truth_from_part};
+use crate::outcome::{AskedOutcome, Outcome, early_of, early_truth, outcome_of};
 use crate::property_module::{AskedModule, PropertyModule, asked_module};
 use crate::property_text::AskedText;
 use pb_errors::OrMemory;
@@ -18,7 +18,7 @@ use pb_exploration::Gate;
 use pb_faults::SolveFault;
 use pb_limits::MAX_INPUT_BYTES;
 use pb_model_properties::{SolvedModel, Verdict};
-use pb_module_solver::{Context, SolveOptions};
+use pb_module_solver::{Context, Early, SolveOptions};
 use pb_negation::negations_erase;
 use pb_report::Answer;
 use std::alloc::AllocError;
@@ -61,37 +61,37 @@ pub(crate) fn is_denied<R: Threads + Sync, G: Gate + Sync>(
     }
 }
 
-// What the instances nearest to the initial one show of a property, where counts aren't asked for:
-// of its text, and where they show that this is false, of its negation's. Where all are near, all
-// are solved in place of that, which tells what is cut and mostly wants no second text.
-fn shown<R: Threads + Sync, G: Gate + Sync>(
+// What the instances nearest to the initial one tell of a property, where counts aren't asked for:
+// those of its text, and where they show that it isn't satisfied, those of its negation's.
+fn early_at<R: Threads + Sync, G: Gate + Sync>(
     context: &Context<'_, R, G>,
     bytes: &[u8],
     negations: &mut Option<SolvedModel>,
     asked: &AskedModule,
     options: DecisionOptions,
-) -> Result<Option<bool>, AllocError>
+) -> Result<Early, AllocError>
     requires input { length bytes.now ≤ MAX_INPUT_BYTES }
     requires given { (model : ModelForm) × IsModelOf bytes.now model × IsModuleAt model asked.now }
     requires read { AreNegations bytes.now negations.now }
     ensures read { AreNegations bytes.now negations.new }
-    ensures uncounted { IfOk result (λ found. IfSome found (λ _. options.counts ≡ false)) }
-    ensures shown { IfOk result (λ found. IfSome found (λ truth. (model : ModelForm)
+    ensures told { IfOk result (λ early. (model : ModelForm)
         → (said : IsModelOf bytes.now model) → IsModuleAt model asked.now
-        → IsShownAt said.protocol asked.now.place truth)) }
+        → IsEarlyAt options.counts said.protocol model asked.now.place early) }
 {
     if options.counts {
-        return Ok(None);
+        return Ok(Early::Unknown);
     }
-    match truth_from_part(context, &asked.compiled, options.solving)? {
-        None => Ok(None),
-        Some(true) => Ok(Some(true)),
-        Some(false) => {
+    let early = early_of(context, &asked.compiled, options.solving)?;
+    match early {
+        Early::Unknown => Ok(Early::Unknown),
+        Early::Whole(answer) => Ok(Early::Whole(answer)),
+        Early::Shown(true) => Ok(Early::Shown(true)),
+        Early::Shown(false) => {
             let denied = is_denied(context, bytes, negations, asked.place, options.solving)?;
             if denied {
-                return Ok(Some(false));
+                return Ok(Early::Shown(false));
             }
-            Ok(None)
+            Ok(Early::Unknown)
         }
     }
 }
@@ -157,6 +157,61 @@ pub(crate) fn decided<R: Threads + Sync, G: Gate + Sync>(
     }
 }
 
+// What is found of a property, by all instances of its text.
+fn decided_by_all<R: Threads + Sync, G: Gate + Sync>(
+    context: &Context<'_, R, G>,
+    bytes: &[u8],
+    negations: &mut Option<SolvedModel>,
+    asked: &AskedModule,
+    options: SolveOptions,
+) -> Result<Finding, OrMemory<SolveFault>>
+    requires input { length bytes.now ≤ MAX_INPUT_BYTES }
+    requires given { (model : ModelForm) × IsModelOf bytes.now model × IsModuleAt model asked.now }
+    requires read { AreNegations bytes.now negations.now }
+    ensures read { AreNegations bytes.now negations.new }
+    ensures found { IfOk result (λ finding. (counts : Bool) (model : ModelForm)
+        → (said : IsModelOf bytes.now model) → IsModuleAt model asked.now
+        → IsFound counts said.protocol model
+        (record { place = asked.now.place; finding = finding })) }
+    ensures refused { IfRefused result (IsUnnegated bytes.now) }
+{
+    let outcome = outcome_of(context, &asked.compiled, options)?;
+    let place = asked.place;
+    let known = AskedOutcome { place, outcome };
+    decided(context, bytes, negations, known, options)
+}
+
+// What is found of a property, by the module of its text.
+fn finding_by<R: Threads + Sync, G: Gate + Sync>(
+    context: &Context<'_, R, G>,
+    bytes: &[u8],
+    negations: &mut Option<SolvedModel>,
+    asked: &AskedModule,
+    options: DecisionOptions,
+) -> Result<Finding, OrMemory<SolveFault>>
+    requires input { length bytes.now ≤ MAX_INPUT_BYTES }
+    requires given { (model : ModelForm) × IsModelOf bytes.now model × IsModuleAt model asked.now }
+    requires read { AreNegations bytes.now negations.now }
+    ensures read { AreNegations bytes.now negations.new }
+    ensures found { IfOk result (λ finding. (model : ModelForm)
+        → (said : IsModelOf bytes.now model) → IsModuleAt model asked.now
+        → IsFound options.counts said.protocol model
+        (record { place = asked.now.place; finding = finding })) }
+    ensures refused { IfRefused result (IsUnnegated bytes.now) }
+{
+    let place = asked.place;
+    let early = early_at(context, bytes, negations, asked, options)?;
+    match early {
+        Early::Shown(truth) => Ok(Finding::Shown(truth)),
+        Early::Whole(answer) => {
+            let outcome = Outcome::Answered(answer);
+            let known = AskedOutcome { place, outcome };
+            decided(context, bytes, negations, known, options.solving)
+        }
+        Early::Unknown => decided_by_all(context, bytes, negations, asked, options.solving),
+    }
+}
+
 // What is found of a property, by its text.
 fn finding_of<R: Threads + Sync, G: Gate + Sync>(
     context: &Context<'_, R, G>,
@@ -175,16 +230,8 @@ fn finding_of<R: Threads + Sync, G: Gate + Sync>(
         (record { place = asked.now.place; finding = finding })) }
     ensures refused { IfRefused result (IsUnnegated bytes.now) }
 {
-    let place = asked.place;
-    let asked = asked_module(context.alloc, asked)?;
-    match shown(context, bytes, negations, &asked, options)? {
-        Some(truth) => Ok(Finding::Shown(truth)),
-        None => {
-            let outcome = outcome_of(context, &asked.compiled, options.solving)?;
-            let asked = AskedOutcome { place, outcome };
-            decided(context, bytes, negations, asked, options.solving)
-        }
-    }
+    let made = asked_module(context.alloc, asked)?;
+    finding_by(context, bytes, negations, &made, options)
 }
 
 /// What is found of each property, by its text.

@@ -1,10 +1,14 @@
-//! The texts of properties, explained.
-ghost use Rattle.std.specs.Prelude.{◌<◌, ℕ, List, IfOk, length};
+//! Texts, explained, and those of properties.
+ghost use Rattle.std.specs.Prelude.{◌≡◌, ◌<◌, ◌≤◌, ℕ, List, IfOk, length};
 ghost use Rattle.pb_errors.specs.OrMemory.{IfRefused};
+ghost use Rattle.pb_text_tree.specs.Form.{spec_form};
+ghost use Rattle.pb_text_meaning.specs.Erase.{erase};
+ghost use Rattle.pb_typing_rules.specs.WellTyped.{IsWellTyped};
 ghost use Rattle.pb_model_tree.specs.Form.{model_form};
 ghost use Rattle.pb_model_properties.specs.Said.{IsModelOf};
 ghost use Rattle.pbsolve.specs.Models.{IsUnexplained};
-ghost use Rattle.pbsolve.specs.Outcomes.{IsExplainedAt};
+ghost use Rattle.pbsolve.specs.Outcomes.{IsExplained, IsExplainedAt};
+ghost use Rattle.pbsolve.specs.Refusals.{IsUnexplainedForm};
 
 use crate::compile::verified;
 use crate::options::WhyOptions;
@@ -12,7 +16,6 @@ use crate::property_faults::{error_of_property, name_place};
 use pb_errors::OrMemory;
 use pb_exploration::Gate;
 use pb_faults::SolveFault;
-use pb_machine::instances_have_trees;
 use pb_model_properties::{SolvedModel, text_at};
 use pb_module_commands::explained;
 use pb_module_solver::Context;
@@ -21,12 +24,36 @@ use pb_typing::Typed;
 use pb_verifier::Verified;
 use std::thread::Threads;
 
-/// The text of a property, its module, and why that has its answer.
+/// A text, its module, and why that has its answer.
 #[derive(Drop)]
 pub(crate) struct ExplainedText {
     pub typed: Typed,
     pub verified: Verified,
     pub explanation: Explanation,
+}
+
+/// This text, explained.
+///
+/// # Errors
+/// `Limit` where its code exceeds a limit, and `TooManyVertices` where its game is too large.
+pub(crate) fn explained_typed<R: Threads + Sync, G: Gate + Sync>(
+    context: &Context<'_, R, G>,
+    typed: Typed,
+    workers: u32,
+) -> Result<ExplainedText, OrMemory<SolveFault>>
+    requires typed { IsWellTyped (erase (spec_form typed.spec)) }
+    requires workers { (0 < workers) × (workers ≤ 16) }
+    ensures typed { IfOk result (λ explained. explained.typed ≡ typed) }
+    ensures explained { IfOk result IsExplained }
+    ensures refused { IfRefused result (IsUnexplainedForm (spec_form typed.spec)) }
+{
+    let verified = verified(context.alloc, &typed)?;
+    let explanation = explained(context, &verified, workers)?;
+    Ok(ExplainedText {
+        typed,
+        verified,
+        explanation,
+    })
 }
 
 /// The text of the property at a place, explained.
@@ -49,16 +76,8 @@ pub(crate) fn explained_at<R: Threads + Sync, G: Gate + Sync>(
         Err(error) => return Err(error.raise()),
     };
     let here = name_place(&solved.typed, place);
-    let verified = match verified(context.alloc, &typed) {
-        Ok(verified) => verified,
-        Err(error) => return Err(error_of_property(error, here)),
-    };
-    match explained(context, &verified, options.workers) {
-        Ok(explanation) => Ok(ExplainedText {
-            typed,
-            verified,
-            explanation,
-        }),
+    match explained_typed(context, typed, options.workers) {
+        Ok(explained) => Ok(explained),
         Err(error) => Err(error_of_property(error, here)),
     }
 }

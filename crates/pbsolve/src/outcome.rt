@@ -2,14 +2,14 @@
 ghost use Rattle.std.specs.Prelude.{◌≡◌, IfOk, IfSome};
 ghost use Rattle.pb_model_tree.specs.Form.{ModelForm, PropertyForm};
 ghost use Rattle.pb_model_properties.specs.Said.{satisfies};
-ghost use Rattle.pbsolve.specs.Outcomes.{IsOutcome, IsPropertyModule};
+ghost use Rattle.pbsolve.specs.Outcomes.{IsEarlyOf, IsOutcome, IsPropertyModule};
 
 use crate::property_module::PropertyModule;
 use pb_errors::OrMemory;
 use pb_exploration::Gate;
 use pb_faults::PropertyExcess;
 use pb_machine::instances_have_trees;
-use pb_module_solver::{Context, SolveOptions, answer_early, answer_from_part, answer_module};
+use pb_module_solver::{Context, Early, SolveOptions, answer_early, answer_module};
 use pb_report::Answer;
 use pb_verifier::Verified;
 use std::alloc::AllocError;
@@ -29,8 +29,29 @@ pub(crate) struct AskedOutcome {
     pub outcome: Outcome,
 }
 
+/// What the instances nearest to the initial one of a property's text tell of the property.
+///
+/// # Errors
+/// Memory was refused.
+pub(crate) fn early_of<R: Threads + Sync, G: Gate + Sync>(
+    context: &Context<'_, R, G>,
+    property: &PropertyModule,
+    options: SolveOptions,
+) -> Result<Early, AllocError>
+    ensures { IfOk result (λ early. (model : ModelForm) (p : PropertyForm)
+        → IsPropertyModule model p property.now → IsEarlyOf model p early) }
+{
+    match property {
+        PropertyModule::TooLarge(_) => Ok(Early::Unknown),
+        PropertyModule::Verified(verified) => {
+            instances_have_trees(verified);
+            answer_early(context, verified, options)
+        }
+    }
+}
+
 /// Whether the property is satisfied, where the instances nearest to the initial one of its text
-/// show it.
+/// tell it.
 ///
 /// # Errors
 /// Memory was refused.
@@ -42,35 +63,8 @@ pub(crate) fn early_truth<R: Threads + Sync, G: Gate + Sync>(
     ensures { IfOk result (λ found. IfSome found (λ truth. (model : ModelForm) (p : PropertyForm)
         → IsPropertyModule model p property.now → truth ≡ satisfies model p.formula)) }
 {
-    match property {
-        PropertyModule::TooLarge(_) => Ok(None),
-        PropertyModule::Verified(verified) => {
-            instances_have_trees(verified);
-            answer_early(context, verified, options)
-        }
-    }
-}
-
-/// As `early_truth`, but none where the property isn't satisfied and all instances are near: there
-/// to solve them all costs little more.
-///
-/// # Errors
-/// Memory was refused.
-pub(crate) fn truth_from_part<R: Threads + Sync, G: Gate + Sync>(
-    context: &Context<'_, R, G>,
-    property: &PropertyModule,
-    options: SolveOptions,
-) -> Result<Option<bool>, AllocError>
-    ensures { IfOk result (λ found. IfSome found (λ truth. (model : ModelForm) (p : PropertyForm)
-        → IsPropertyModule model p property.now → truth ≡ satisfies model p.formula)) }
-{
-    match property {
-        PropertyModule::TooLarge(_) => Ok(None),
-        PropertyModule::Verified(verified) => {
-            instances_have_trees(verified);
-            answer_from_part(context, verified, options)
-        }
-    }
+    let early = early_of(context, property, options)?;
+    Ok(early.truth())
 }
 
 /// What becomes of the text of this module, which is explored and solved.

@@ -1,13 +1,13 @@
 //! Which steps of a model can be taken in a reached state. The guard of one that can't is true in
 //! none, which mostly is a mistake.
-ghost use Rattle.std.specs.Prelude.{◌<◌, length, IfOk};
+ghost use Rattle.std.specs.Prelude.{◌<◌, ℕ, length, IfOk};
 ghost use Rattle.pb_errors.specs.OrMemory.{IfRefused};
-ghost use Rattle.pb_model_tree.specs.Form.{model_form};
+ghost use Rattle.pb_model_tree.specs.Form.{ModelForm, model_form};
 ghost use Rattle.pbsolve.specs.ReachedSteps.{AreStepsFound, AreStepsFoundWhere, IsFoundOfStep};
-ghost use Rattle.pbsolve.specs.ReachedSteps.{IsStepText, IsUntypedStep};
+ghost use Rattle.pbsolve.specs.ReachedSteps.{IsStepModule, IsStepText, IsUntypedStep};
 
 use crate::outcome::{Outcome, early_truth, outcome_of};
-use crate::property_module::property_module;
+use crate::property_module::{PropertyModule, property_module};
 use crate::property_text::{AskedText, PropertyText, untyped};
 use crate::step_finding::StepFinding;
 use pb_command_line::Checking;
@@ -16,7 +16,7 @@ use pb_exploration::Gate;
 use pb_faults::SolveFault;
 use pb_model_properties::{SolvedModel, reached_text_at};
 use pb_module_solver::{Context, SolveOptions};
-use std::alloc::Global;
+use std::alloc::{AllocError, Global};
 use std::thread::Threads;
 
 // The text that asks whether the step at a place can be taken in a reached state.
@@ -39,6 +39,41 @@ fn step_text(
     }
 }
 
+// The module of that text.
+fn step_module(
+    alloc: Global,
+    solved: &SolvedModel,
+    step: usize,
+) -> Result<PropertyModule, OrMemory<SolveFault>>
+    requires { step < length solved.now.typed.model.steps.items }
+    ensures module { IfOk result (IsStepModule (model_form solved.now.typed.model) step) }
+    ensures refused { IfRefused result (IsUntypedStep (model_form solved.now.typed.model)) }
+{
+    let asked = step_text(alloc, solved, step)?;
+    let compiled = property_module(alloc, &asked.text)?;
+    Ok(compiled)
+}
+
+// What is found of a step by the module of the text that asks for it.
+fn finding_by<R: Threads + Sync, G: Gate + Sync>(
+    context: &Context<'_, R, G>,
+    compiled: &PropertyModule,
+    options: SolveOptions,
+) -> Result<StepFinding, AllocError>
+    ensures { IfOk result (λ finding. (model : ModelForm) (step : ℕ)
+        → IsStepModule model step compiled.now → IsFoundOfStep model step finding) }
+{
+    let early = early_truth(context, compiled, options)?;
+    if let Some(truth) = early {
+        return Ok(StepFinding::by_truth(truth));
+    }
+    let outcome = outcome_of(context, compiled, options)?;
+    match outcome {
+        Outcome::TooLarge(excess) => Ok(StepFinding::Refused(excess)),
+        Outcome::Answered(answer) => Ok(StepFinding::by_truth(answer.truth)),
+    }
+}
+
 // What is found of the step at a place.
 fn step_finding<R: Threads + Sync, G: Gate + Sync>(
     context: &Context<'_, R, G>,
@@ -50,17 +85,9 @@ fn step_finding<R: Threads + Sync, G: Gate + Sync>(
     ensures found { IfOk result (IsFoundOfStep (model_form solved.now.typed.model) step) }
     ensures refused { IfRefused result (IsUntypedStep (model_form solved.now.typed.model)) }
 {
-    let asked = step_text(context.alloc, solved, step)?;
-    let compiled = property_module(context.alloc, &asked.text)?;
-    let early = early_truth(context, &compiled, options)?;
-    if let Some(truth) = early {
-        return Ok(StepFinding::by_truth(truth));
-    }
-    let outcome = outcome_of(context, &compiled, options)?;
-    match outcome {
-        Outcome::TooLarge(excess) => Ok(StepFinding::Refused(excess)),
-        Outcome::Answered(answer) => Ok(StepFinding::by_truth(answer.truth)),
-    }
+    let compiled = step_module(context.alloc, solved, step)?;
+    let finding = finding_by(context, &compiled, options)?;
+    Ok(finding)
 }
 
 // What is found of each step.

@@ -1,6 +1,6 @@
 //! What is told of the property at a place: the verdict, and what shows it.
-ghost use Rattle.std.specs.Prelude.{◌≡◌, ◌≤◌, ◌<◌, ℕ, IfOk, Some};
-ghost use Rattle.std.specs.Prelude.{length, string_bytes};
+ghost use Rattle.std.specs.Prelude.{◌≡◌, ◌≤◌, ◌<◌, ℕ, List, false, IfOk};
+ghost use Rattle.std.specs.Prelude.{Some, length, string_bytes};
 ghost use Rattle.std.specs.List.{slice_get};
 ghost use Rattle.pb_errors.specs.OrMemory.{IfRefused};
 ghost use Rattle.pb_text_tree.specs.Form.{spec_form};
@@ -16,7 +16,7 @@ ghost use Rattle.pb_protocol_tree.specs.Form as protocol_form;
 ghost use Rattle.pb_model_properties.specs.Said.{IsModelOf};
 ghost use Rattle.pb_model_properties.specs.Words.{words_in};
 ghost use Rattle.pb_model_words.specs.View.{vocabulary_of};
-ghost use Rattle.pbsolve.specs.Models.{IsUnexplained};
+ghost use Rattle.pbsolve.specs.Models.{IsFound, IsUnexplained};
 ghost use Rattle.pbsolve.specs.Outcomes.{AreNegations, IsExplainedAt, verdict_in};
 ghost use Rattle.pbsolve.specs.Why.{IsTold, is_true, lines_of, shown_by, steps_of, told_text};
 
@@ -183,6 +183,45 @@ fn explained_told(
     told_in(alloc, telling, name, &vocabulary, &parts)
 }
 
+// What is told of the property at a place, whose text is explained, by what is found of it.
+fn found_told(
+    alloc: Global,
+    solved: &SolvedModel,
+    explained: &ExplainedText,
+    finding: Finding,
+    asked: Asked,
+) -> Result<String, OrMemory<SolveFault>>
+    requires within { asked.place < length solved.now.typed.model.properties.items }
+    requires explained { IsExplainedAt (model_form solved.now.typed.model) asked.place
+        explained.now }
+    ensures told { IfOk result (λ told. (bytes : List ℕ)
+        (said : IsModelOf bytes (model_form solved.now.typed.model))
+        → IsFound false said.protocol (model_form solved.now.typed.model)
+        (record { place = asked.place; finding = finding })
+        → (p : protocol_form.PropertyForm) (q : PropertyForm)
+        → slice_get said.protocol.properties asked.place ≡ Some p
+        → slice_get (model_form solved.now.typed.model).properties asked.place ≡ Some q
+        → IsTold asked.options.lines asked.always (words_in solved.now) said.protocol
+        (model_form solved.now.typed.model) p q (string_bytes told)) }
+    ensures refused { IfRefused result (λ fault. (bytes : List ℕ)
+        (said : IsModelOf bytes (model_form solved.now.typed.model))
+        → IsFound false said.protocol (model_form solved.now.typed.model)
+        (record { place = asked.place; finding = finding }) → IsUnexplained bytes fault) }
+{
+    instances_have_trees(&explained.verified);
+    match verdict_in(finding) {
+        Err(excess) => Err(too_large_at(&solved.typed, asked.place, excess).into()),
+        Ok(verdict) => {
+            let telling = ToldVerdict {
+                verdict,
+                always: asked.always,
+                lines: asked.options.lines,
+            };
+            Ok(explained_told(alloc, solved, explained, asked.place, telling)?)
+        }
+    }
+}
+
 /// What is told of the property at a place.
 ///
 /// # Errors
@@ -210,17 +249,6 @@ pub(crate) fn told_at<R: Threads + Sync, G: Gate + Sync>(
     ensures refused { IfRefused result (IsUnexplained bytes.now) }
 {
     let explained = explained_at(context, solved, asked.place, asked.options)?;
-    instances_have_trees(&explained.verified);
     let finding = explained_finding(context, bytes, negations, &explained, asked)?;
-    match verdict_in(finding) {
-        Err(excess) => Err(too_large_at(&solved.typed, asked.place, excess).into()),
-        Ok(verdict) => {
-            let telling = ToldVerdict {
-                verdict,
-                always: asked.always,
-                lines: asked.options.lines,
-            };
-            Ok(explained_told(context.alloc, solved, &explained, asked.place, telling)?)
-        }
-    }
+    found_told(context.alloc, solved, &explained, finding, asked)
 }

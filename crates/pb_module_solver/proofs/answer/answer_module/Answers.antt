@@ -2,7 +2,8 @@ use Rattle.std.proofs.Common.{ap, ◌∙◌, sym, subst, arith, length}
 use Rattle.pb_game.specs.Games.{vertex_count}
 use Rattle.pb_game_of_trees.specs.Held.{Hold}
 use Rattle.pb_game_of_trees.specs.declared.tree_game.TreeGame.{TreeGame}
-use Rattle.pb_module_solver.proofs.Answered.{IsTruth, count, answer_is}
+use Rattle.pb_module_solver.specs.Parts.{IsTruthIn}
+use Rattle.pb_module_solver.proofs.Answered.{count, answer_is}
 use Rattle.pb_module_solver.proofs.answer.answer_module.Goals as goal
 
 pub count_cut-cut-requires : goal.count_cut-cut-requires
@@ -17,7 +18,7 @@ returns-in_ok-solved-in-Ok-clause-answer g c =
     let e = c.in-Ok.ensures.built in
     let kept = c.in_ok-solved-in-Ok.ensures.built in
     answer_is c.args.verified.now _ _ e.explored e.game c.truth.result c.instances.result c.count_cut-cut.result c.len.result
-    (subst (λ x. IsTruth x c.truth.result) kept c.truth.ensures.meaning)
+    (subst (λ x. IsTruthIn x c.truth.result) kept c.truth.ensures.meaning)
     (c.instances.ensures ∙ ap (λ (x : TreeGame). length x.vertices.items) kept)
     (λ reached hold. c.count_cut-cut.ensures reached (subst (λ rs. Hold rs reached) (sym c.rows.ensures) hold))
     (c.len.ensures.value ∙ ap (λ (x : TreeGame). vertex_count x.game) kept)

@@ -9,7 +9,9 @@ use Rattle.pb_model_properties.specs.Refusals.{IsRefusedText, told_places}
 use Rattle.pb_model_properties.specs.declared.error.ModelFault.{ModelFault}
 use Rattle.pb_model_properties.specs.declared.error.ModelFault.TheVariants as model_fault
 use Rattle.pb_model_properties.specs.declared.solved.SolvedModel.{SolvedModel}
-use Rattle.pbsolve.proofs.PropertyVerdicts.{contains_at, some_property, text_at_place, WhereUnexplained, refused_property, uncompiled_property}
+use Rattle.pb_model_properties.specs.Said.{IsTextOf}
+use Rattle.pb_typing.specs.declared.typed.Typed.{Typed}
+use Rattle.pbsolve.proofs.PropertyVerdicts.{contains_at, some_property, text_at_place, unexplained_property, WhereUnexplained}
 use Rattle.pbsolve.proofs.explained.explained_at.Goals as goal
 
 -- a model with a property whose text isn't well typed isn't explained
@@ -29,37 +31,23 @@ returns-in-Err-clause-refused g c =
     (text_unexplained solved some.0 (contains_at model.properties c.args.place some.0 some.1) fault (h some.0 some.1)))
     c.in-Err.ensures.refused
 
-pub verified-requires : goal.verified-requires
-verified-requires g c =
-    let some = some_property property_form c.args.solved.now.typed.model.properties.items c.args.place c.requires in
-    record { well_typed = (c.in-Ok.ensures.text some.0 some.1).typed }
+pub explained_typed-requires-clause-typed : goal.explained_typed-requires-clause-typed
+explained_typed-requires-clause-typed g c κs within =
+    let some = some_property property_form c.args.solved.now.typed.model.properties.items c.args.place c.requires in (c.in-Ok.ensures.text some.0 some.1).typed
 
-pub returns-in-Err-verified-clause-refused : goal.returns-in-Err-verified-clause-refused
-returns-in-Err-verified-clause-refused g c =
+pub returns-in-Err-explained_typed-clause-refused : goal.returns-in-Err-explained_typed-clause-refused
+returns-in-Err-explained_typed-clause-refused g c =
     let model = model_form c.args.solved.now.typed.model in
     let text = spec_form c.in-Ok.typed.spec in
     let some = some_property property_form c.args.solved.now.typed.model.properties.items c.args.place c.requires in
     let at = text_at_place model c.args.place text some c.in-Ok.ensures.text in
-    if_raised c.in-Err-verified.error c.error_of_property.result c.error_of_property.ensures
+    if_raised c.in-Err-explained_typed.error c.error_of_property.result c.error_of_property.ensures
     (λ fault above same h. subst (WhereUnexplained model) (sym same)
-    (uncompiled_property model c.args.place text at c.name_place-here.result (c.name_place-here.ensures at.property at.stands) fault h))
-    c.in-Err-verified.ensures.refused
+    (unexplained_property model c.args.place text at c.name_place-here.result (c.name_place-here.ensures at.property at.stands) fault h))
+    c.in-Err-explained_typed.ensures.refused
 
-pub returns-in-Err-explained-clause-refused : goal.returns-in-Err-explained-clause-refused
-returns-in-Err-explained-clause-refused g c =
-    let model = model_form c.args.solved.now.typed.model in
-    let text = spec_form c.in-Ok.typed.spec in
-    let some = some_property property_form c.args.solved.now.typed.model.properties.items c.args.place c.requires in
-    let at = text_at_place model c.args.place text some c.in-Ok.ensures.text in
-    if_raised c.in-Err-explained.error c.error_of_property-in-Err-explained.result c.error_of_property-in-Err-explained.ensures
-    (λ fault above same h. subst (WhereUnexplained model) (sym same)
-    (refused_property model c.args.place text at c.name_place-here.result (c.name_place-here.ensures at.property at.stands)
-    c.in-Ok-verified.verified c.in-Ok-verified.ensures.«module» fault h))
-    c.in-Err-explained.ensures.refused
-
-pub returns-in-Ok-explained-clause-explained : goal.returns-in-Ok-explained-clause-explained
-returns-in-Ok-explained-clause-explained g c q stands = record {
-  text = c.in-Ok.ensures.text q stands;
-  of_text = c.in-Ok-verified.ensures.«module»;
-  explains = c.in-Ok-explained.ensures.explanation;
+pub returns-in-Ok-explained_typed-clause-explained : goal.returns-in-Ok-explained_typed-clause-explained
+returns-in-Ok-explained_typed-clause-explained g c q stands = record {
+  text = subst (λ (t : Typed). IsTextOf (model_form c.args.solved.now.typed.model) q (spec_form t.spec)) (sym c.in-Ok-explained_typed.ensures.typed) (c.in-Ok.ensures.text q stands);
+  explanation = c.in-Ok-explained_typed.ensures.explained;
 }

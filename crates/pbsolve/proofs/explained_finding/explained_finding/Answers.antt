@@ -20,7 +20,7 @@ outcome_at : (model : ModelForm) (e : ExplainedText) (place : ℕ) → place < l
 outcome_at model e place within at o becomes =
     let some = some_at model.properties place within in
     let x = at some.0 some.1 in
-    record { property = some.0; stands = some.1; outcome = becomes model some.0 (spec_form e.typed.spec, x.text, x.of_text) }
+    record { property = some.0; stands = some.1; outcome = becomes model some.0 (spec_form e.typed.spec, x.text, x.explanation.of_text) }
 
 pub returns-then-explained-clause-found : goal.returns-then-explained-clause-found
 returns-then-explained-clause-found g c model said within at =

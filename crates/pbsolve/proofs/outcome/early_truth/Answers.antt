@@ -1,7 +1,14 @@
--- The truth of the module is that of the property.
-use Rattle.pbsolve.proofs.Truths.{property_truths}
+-- The truth that is told is that of the property.
+use Rattle.std.proofs.Common.{◌≡◌, Bool, Option, sym, subst}
+use Rattle.std.specs.Prelude.{IfSome}
+use Rattle.pb_model_tree.specs.Form.{ModelForm, PropertyForm}
+use Rattle.pb_model_properties.specs.Said.{satisfies}
+use Rattle.pbsolve.specs.Outcomes.{IsPropertyModule}
+use Rattle.pbsolve.proofs.Truths.{told_truth}
 use Rattle.pbsolve.proofs.outcome.early_truth.Goals as goal
 
-pub returns-in-Verified : goal.returns-in-Verified
-returns-in-Verified g c =
-    property_truths c.args.property.now c.in-Verified.verified c.instances_have_trees.ensures c.in-Verified.is c.answer_early.result c.answer_early.ensures
+pub returns : goal.returns
+returns g c =
+    let compiled = c.args.property.now in
+    subst (λ (o : Option Bool). IfSome o (λ b. (model : ModelForm) (p : PropertyForm) → IsPropertyModule model p compiled → b ≡ satisfies model p.formula)) (sym c.truth.ensures)
+    (told_truth (λ model p. IsPropertyModule model p compiled) c.in_ok-early.early c.in_ok-early.ensures)

@@ -16,12 +16,12 @@ use Rattle.pbsolve.proofs.told.explained_told.Goals as goal
 pub told_in-requires-clause-compiled : goal.told_in-requires-clause-compiled
 told_in-requires-clause-compiled c =
     let some = some_property property_form c.args.solved.now.typed.model.properties.items c.args.place c.requires.within in
-    (c.requires.explained some.0 some.1).of_text.compiled
+    (c.requires.explained some.0 some.1).explanation.of_text.compiled
 
 pub told_in-requires-clause-explanation : goal.told_in-requires-clause-explanation
 told_in-requires-clause-explanation c =
     let some = some_property property_form c.args.solved.now.typed.model.properties.items c.args.place c.requires.within in
-    (c.requires.explained some.0 some.1).explains
+    (c.requires.explained some.0 some.1).explanation.explains
 
 pub told_in-requires-clause-property : goal.told_in-requires-clause-property
 told_in-requires-clause-property c =

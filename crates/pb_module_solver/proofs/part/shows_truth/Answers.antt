@@ -4,7 +4,7 @@ use Rattle.pb_sorts.specs.Instance.{instance_of, instances}
 use Rattle.pb_sorts.specs.Layout.{carriers_of}
 use Rattle.pb_sorts.specs.declared.carrier.Carrier.{Carrier}
 use Rattle.pb_machine.proofs.ModuleInstances.{equation_there}
-use Rattle.pb_module_solver.proofs.explanation.shows_truth.Goals as goal
+use Rattle.pb_module_solver.proofs.part.shows_truth.Goals as goal
 
 pub index-equation-requires : goal.index-equation-requires
 index-equation-requires c =

@@ -1,4 +1,4 @@
-use Rattle.pb_module_solver.proofs.explanation.part_of.Goals as goal
+use Rattle.pb_module_solver.proofs.part.part_of.Goals as goal
 
 pub returns : goal.returns
 returns c = λ m is. record {

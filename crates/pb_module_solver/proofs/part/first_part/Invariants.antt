@@ -1,5 +1,5 @@
 use Rattle.pb_nearby.specs.Nearby.{IsNearby}
-use Rattle.pb_module_solver.proofs.explanation.explain_early.Given as goal
+use Rattle.pb_module_solver.proofs.part.first_part.Given as goal
 
 abbrev pub invariant-loop-most : goal.invariant-loop-most
 invariant-loop-most g l = IsNearby l.verified l.nearby

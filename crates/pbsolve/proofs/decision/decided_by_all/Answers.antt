@@ -1,0 +1,25 @@
+-- What is found of the property, by what becomes of the module of its text.
+use Rattle.pb_model_tree.specs.Form.{ModelForm}
+use Rattle.pbsolve.specs.Outcomes.{IsModuleAt, IsOutcome, IsOutcomeAt}
+use Rattle.pbsolve.specs.declared.outcome.Outcome.{Outcome}
+use Rattle.pbsolve.specs.declared.property_module.AskedModule.{AskedModule}
+use Rattle.pbsolve.proofs.Decisions.{OfModule}
+use Rattle.pbsolve.proofs.Tellings.{ok_more}
+use Rattle.pbsolve.proofs.decision.decided_by_all.Goals as goal
+
+-- what becomes of the module becomes of the property at its place
+outcome_at : (model : ModelForm) (asked : AskedModule) → IsModuleAt model asked → (o : Outcome) → OfModule asked.compiled (λ m q. IsOutcome m q o)
+    → IsOutcomeAt model (record { place = asked.place; outcome = o })
+outcome_at model asked at o becomes = record {
+  property = at.property;
+  stands = at.stands;
+  outcome = becomes model at.property at.compiled;
+}
+
+pub decided-requires-clause-given : goal.decided-requires-clause-given
+decided-requires-clause-given g c κs within =
+    let given = c.requires.given in (given.0, given.1, outcome_at given.0 c.args.asked.now given.2 c.in_ok-outcome.outcome c.in_ok-outcome.ensures)
+
+pub returns-clause-found : goal.returns-clause-found
+returns-clause-found g c = ok_more _ _ (λ finding h counts model said at. h counts model said (outcome_at model c.args.asked.now at c.in_ok-outcome.outcome c.in_ok-outcome.ensures))
+    c.decided.result c.decided.ensures.found

@@ -1,0 +1,48 @@
+-- Evidence of the module of what a text says is evidence of the text.
+use Rattle.std.proofs.Common.{List, Option, sym, subst}
+use Rattle.pb_text_tree.specs.declared.place.Place.{Place}
+use Rattle.pb_text_tree.specs.Form.{spec_form}
+use Rattle.pb_bytecode.specs.Meaning.{parameters}
+use Rattle.pb_report.specs.CallPlaces.{AreCallPlaces}
+use Rattle.pb_report.specs.ModuleEvidence.{ForEvidenceText}
+use Rattle.pb_evidence_places.specs.CallPlaces.{told_place}
+use Rattle.pbsolve.specs.Outputs.{OutputsEvidence}
+use Rattle.pbsolve.specs.Refusals.{IsRefused}
+use Rattle.pb_module_commands.specs.Refusals.{IsRefusedModule}
+use Rattle.pb_module_commands.proofs.Deliveries.{less_delivered, nothing_in_want}
+use Rattle.pbsolve.proofs.Evidence.{text_evidence}
+use Rattle.pbsolve.proofs.Refusals.{module_of_text_refused}
+use Rattle.pb_faults.proofs.HandedUp.{if_input_refused, wanting_up}
+use Rattle.pbsolve.proofs.Texts.{of_bytes}
+use Rattle.pbsolve.proofs.solve.write_explained.Goals as goal
+
+pub write_evidence-requires-clause-places : goal.write_evidence-requires-clause-places
+write_evidence-requires-clause-places g c =
+    let explained = c.args.explained.now in
+    let place = told_place c.args.places (spec_form explained.typed.spec) (parameters explained.verified) in
+    (place, subst (λ (xs : List (Option Place)). AreCallPlaces place explained.explanation.evidence xs) (sym c.deref.ensures.value) c.in_ok-call_places.ensures)
+
+pub returns-in_err-call_places-clause-evidence : goal.returns-in_err-call_places-clause-evidence
+returns-in_err-call_places-clause-evidence g c bytes read =
+    nothing_in_want g.S.Sink.taken g.S.Sink.has_failed (OutputsEvidence c.args.places bytes) c.args.writer.now c.from_residual.result c.from_residual.ensures.1
+
+pub returns-in_err-call_places-clause-refused : goal.returns-in_err-call_places-clause-refused
+returns-in_err-call_places-clause-refused g c bytes read = wanting_up (IsRefused bytes) c.from_residual.result c.from_residual.ensures.1
+
+pub returns-clause-evidence : goal.returns-clause-evidence
+returns-clause-evidence g c bytes read =
+    let explained = c.args.explained.now in
+    let text = spec_form explained.typed.spec in
+    let m = explained.verified in
+    let place = told_place c.args.places text (parameters m) in
+    let are = subst (λ (xs : List (Option Place)). AreCallPlaces place explained.explanation.evidence xs) (sym c.deref.ensures.value) c.in_ok-call_places.ensures in
+    less_delivered g.S.Sink.taken g.S.Sink.has_failed (ForEvidenceText m place) (OutputsEvidence c.args.places bytes)
+    (text_evidence c.named_instances_are_called.ensures bytes text m c.instances_have_trees.ensures read c.requires.explained.of_text c.args.places)
+    c.args.writer.now c.write_evidence.new.writer c.write_evidence.result (c.write_evidence.ensures.evidence place are)
+
+pub returns-clause-refused : goal.returns-clause-refused
+returns-clause-refused g c bytes read =
+    let explained = c.args.explained.now in
+    let m = explained.verified in
+    let of_text = of_bytes bytes (spec_form explained.typed.spec) m read c.requires.explained.of_text in
+    if_input_refused (IsRefusedModule m) (IsRefused bytes) (module_of_text_refused bytes m of_text) c.write_evidence.result c.write_evidence.ensures.refused
