@@ -3,10 +3,10 @@ use Rattle.std.proofs.Common.{◌≡◌, ℕ, Bool, true, cond, List, [], ◌∷
 use Rattle.std.specs.Prelude.{ℤ, unwrap_or}
 use Rattle.std.specs.List.{slice_set}
 use Rattle.pb_sorts.specs.declared.carrier.Carrier.{Carrier}
-use Rattle.pb_typed_tree.specs.View.{shape_view}
+use Rattle.pb_typing_tree.specs.View.{shape_view}
 use Rattle.pb_bytecode_program.specs.declared.instruction.Leaf.TheVariants as leaf
 use Rattle.pb_bytecode_program.specs.declared.instruction.Op.TheVariants as op
-use Rattle.pb_typed_tree.specs.declared.formula.Argument.{Argument}
+use Rattle.pb_typing_tree.specs.declared.formula.Argument.{Argument}
 use Rattle.pb_normal.specs.Normal as normal
 use Rattle.pb_normal.specs.View.{argument_view, term_view}
 use Rattle.pb_assembler_scheme.specs.Pieces.{Piece, Plain, Then, Block, Leave}

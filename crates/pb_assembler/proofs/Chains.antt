@@ -6,8 +6,8 @@ use Rattle.pb_text_tree.specs.declared.operator.Connective.TheVariants as connec
 use Rattle.pb_text_meaning.specs.Erase.{of_arithmetic, of_connective}
 use Rattle.pb_normal.specs.Normal as normal
 use Rattle.pb_normal.specs.Normal.{Binary}
-use Rattle.pb_typed_tree.specs.declared.term.Term.{Term}
-use Rattle.pb_typed_tree.specs.declared.term.Link.{Link}
+use Rattle.pb_typing_tree.specs.declared.term.Term.{Term}
+use Rattle.pb_typing_tree.specs.declared.term.Link.{Link}
 use Rattle.pb_normal.specs.View.{calculated, chained, term_view, term_views, link_views}
 use Rattle.pb_assembler_scheme.specs.Pieces.{Then}
 use Rattle.pb_assembler_scheme.specs.Scheme.{data_piece}

@@ -5,9 +5,9 @@ use Rattle.std.specs.List.{list_all, slice_get, All}
 use Rattle.std.proofs.lemmas.Bool.{and_parts, and_from, lt-ltb, le-leb, eq-eqb}
 use Rattle.std.proofs.lemmas.List.{length-map}
 use Rattle.std.proofs.lemmas.List.Folds.{list_all-map}
-use Rattle.pb_carriers.specs.Carrier.{tuple_count}
-use Rattle.pb_intervals.proofs.Ends.{from_le}
-use Rattle.pb_limits.specs.declared.TheConstants.{MAX_ENUMERATORS, MAX_PARAMETERS, MAX_LOOP_SLOTS, MAX_INSTRUCTIONS}
+use Rattle.pb_base_values.specs.Carrier.{tuple_count}
+use Rattle.pb_base_intervals.proofs.Ends.{from_le}
+use Rattle.pb_base_limits.specs.declared.TheConstants.{MAX_ENUMERATORS, MAX_PARAMETERS, MAX_LOOP_SLOTS, MAX_INSTRUCTIONS}
 use Rattle.pb_sorts.specs.Carrier.{values_of}
 use Rattle.pb_sorts.specs.declared.carrier.Carrier.{Carrier}
 use Rattle.pb_sorts.specs.declared.carrier.Carrier.TheVariants as carrier

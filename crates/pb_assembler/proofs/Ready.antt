@@ -3,7 +3,7 @@ use Rattle.std.proofs.Common.{◌≡◌, ℕ, suc, ◌≤◌, true, List, [], �
 use Rattle.std.specs.List.{list_all, slice_get}
 use Rattle.std.proofs.lemmas.Bool.{and_parts}
 use Rattle.std.proofs.lemmas.List.{length-map}
-use Rattle.pb_limits.specs.declared.TheConstants.{MAX_LOOP_SLOTS}
+use Rattle.pb_base_limits.specs.declared.TheConstants.{MAX_LOOP_SLOTS}
 use Rattle.pb_sorts.specs.declared.carrier.Carrier.{Carrier}
 use Rattle.pb_text_tree.specs.Form.{EquationForm}
 use Rattle.pb_text_meaning.specs.Erase.{erased_equation}

@@ -5,9 +5,9 @@ use Rattle.std.specs.List.{list_all, slice_get, All}
 use Rattle.std.proofs.lemmas.List.{length-map}
 use Rattle.std.proofs.lemmas.Bool.{and_parts, and_from, le-leb}
 use Rattle.std.proofs.lemmas.Option.{slice_get_within, get_or_from_slice_get}
-use Rattle.pb_carriers.specs.Carrier as carriers
-use Rattle.pb_carriers.specs.Carrier.{is_within}
-use Rattle.pb_limits.specs.declared.TheConstants.{MAX_STRUCTS, MAX_EQUATIONS, MAX_INSTANCES}
+use Rattle.pb_base_values.specs.Carrier as carriers
+use Rattle.pb_base_values.specs.Carrier.{is_within}
+use Rattle.pb_base_limits.specs.declared.TheConstants.{MAX_STRUCTS, MAX_EQUATIONS, MAX_INSTANCES}
 use Rattle.pb_sorts.specs.Carrier.{values_of}
 use Rattle.pb_sorts.specs.declared.carrier.Carrier.{Carrier}
 use Rattle.pb_text_tree.specs.Form.{SpecForm}

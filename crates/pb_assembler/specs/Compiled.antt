@@ -1,7 +1,7 @@
 -- What the parts of a compiled module are made of.
 use Rattle.std.specs.Prelude.{◌≡◌, ◌≤◌, Bool, true, ◌&&◌, ⊤, List, [], ◌∷◌, length}
 use Rattle.std.specs.List.{list_all}
-use Rattle.pb_limits.specs.declared.TheConstants.{MAX_ENUMERATORS}
+use Rattle.pb_base_limits.specs.declared.TheConstants.{MAX_ENUMERATORS}
 use Rattle.pb_sorts.specs.declared.carrier.Carrier.{Carrier}
 use Rattle.pb_sorts.specs.declared.carrier.Carrier.TheVariants as carrier
 use Rattle.pb_text_tree.specs.Form.{EquationForm}

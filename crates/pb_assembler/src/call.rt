@@ -1,7 +1,7 @@
 //! Code of calls.
 
 ghost use Rattle.std.specs.Prelude.{◌≡◌, ◌<◌, true, length, map, option_map, OnOk};
-ghost use Rattle.pb_typed_tree.specs.View.{argument_view};
+ghost use Rattle.pb_typing_tree.specs.View.{argument_view};
 ghost use Rattle.pb_assembler_scheme.specs.Pieces.{Guard};
 ghost use Rattle.pb_assembler_scheme.specs.Scheme.{arguments_piece, call_piece};
 ghost use Rattle.pb_assembler.specs.Emitted.{Emits, block_end, called_piece, is_label, nowhere};
@@ -13,7 +13,7 @@ use pb_assembler_builder::{Builder, Jump, Label};
 use pb_assembler_measures::{any_tested, tested_range};
 use pb_bytecode_program::{Leaf, Op};
 use pb_sorts::{Carrier, Range};
-use pb_typed_tree::Argument;
+use pb_typing_tree::Argument;
 use std::alloc::AllocError;
 
 /// A call of the equation at a place, and the end of the block around it, if there is one.

@@ -2,7 +2,7 @@
 
 ghost use Rattle.std.specs.Prelude.{◌≡◌, true, drop, option_map, Option, None, IfSome};
 ghost use Rattle.std.specs.Prelude.{OnOk};
-ghost use Rattle.pb_typed_tree.specs.View.{chained};
+ghost use Rattle.pb_typing_tree.specs.View.{chained};
 ghost use Rattle.pb_normal.specs.Normal.{Join};
 ghost use Rattle.pb_normal.specs.Normalisation.{dual};
 ghost use Rattle.pb_normal.specs.View.{formula_view, formula_views, nested};

@@ -2,7 +2,7 @@
 
 ghost use Rattle.std.specs.Prelude.{◌≡◌, ◌++◌, ◌∷◌, [], true, IfOk, OnOk};
 ghost use Rattle.std.specs.List.{list_all};
-ghost use Rattle.pb_typed_tree.specs.InitialPlace.{initial_place, initial_values};
+ghost use Rattle.pb_typing_tree.specs.InitialPlace.{initial_place, initial_values};
 ghost use Rattle.pb_normal.specs.Text.{said};
 ghost use Rattle.pb_bytecode.specs.Limits.{is_byte, is_i64};
 

@@ -2,8 +2,8 @@
 
 ghost use Rattle.std.specs.Prelude.{◌≡◌, ◌&&◌, false, true, OnOk};
 ghost use Rattle.pb_text_meaning.specs.Erase.{of_comparison, of_connective};
-ghost use Rattle.pb_typed_tree.specs.Tree.{Binary};
-ghost use Rattle.pb_typed_tree.specs.View.{calculated, chained, link_views, term_view, term_views};
+ghost use Rattle.pb_typing_tree.specs.Tree.{Binary};
+ghost use Rattle.pb_typing_tree.specs.View.{calculated, chained, link_views, term_view, term_views};
 ghost use Rattle.pb_assembler_scheme.specs.Pieces.{Plain, Then, Choose};
 ghost use Rattle.pb_assembler_scheme.specs.Scheme.{data_piece, in_order};
 ghost use Rattle.pb_assembler_builder.specs.Draft.{has_target};
@@ -14,7 +14,7 @@ use crate::emission::emit_plain;
 use crate::operator::{arithmetic_op, comparison_op};
 use pb_assembler_builder::{Builder, Jump};
 use pb_bytecode_program::{Arithmetic, Connective, Equality, Op};
-use pb_typed_tree::{Link, Term};
+use pb_typing_tree::{Link, Term};
 use std::alloc::AllocError;
 
 /// The code that pushes a term's value.

@@ -6,7 +6,7 @@ use Rattle.std.specs.Prelude.{ℤ, ◌≤ℤ◌, int_le, slice_get, is_some, rev
 use Rattle.std.proofs.lemmas.List.{reverse-append}
 use Rattle.std.proofs.lemmas.Bool.{and_from, and_parts, eq-eqb, le-leb}
 use Rattle.std.proofs.lemmas.Int.{ints, clamps}
-use Rattle.pb_intervals.specs.Interval as intervals
+use Rattle.pb_base_intervals.specs.Interval as intervals
 use Rattle.pb_sorts.specs.declared.carrier.Carrier.{Carrier}
 use Rattle.pb_sorts.specs.declared.carrier.Carrier.TheVariants as carrier
 use Rattle.pb_typing_declarations.specs.Shapes.{Shape, Unknown, Truths, Places, Wholes}

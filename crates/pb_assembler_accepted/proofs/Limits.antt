@@ -2,8 +2,8 @@
 use Rattle.std.proofs.Common.{suc, ◌≤◌, Bool, false, ◌≡◌, ◌||◌, length}
 use Rattle.std.specs.Prelude.{nat_lt}
 use Rattle.std.proofs.lemmas.Bool.{ltb-false, le-ltb, or_parts}
-use Rattle.pb_limits.specs.declared.TheConstants.{MAX_LOOP_SLOTS, MAX_INSTRUCTIONS}
-use Rattle.pb_limits.specs.declared.TheConstants.{MAX_OPERANDS, MAX_BRACKETS, MAX_LOOPS, MAX_STEPS, MAX_TOKENS}
+use Rattle.pb_base_limits.specs.declared.TheConstants.{MAX_LOOP_SLOTS, MAX_INSTRUCTIONS}
+use Rattle.pb_base_limits.specs.declared.TheConstants.{MAX_OPERANDS, MAX_BRACKETS, MAX_LOOPS, MAX_STEPS, MAX_TOKENS}
 use Rattle.pb_bytecode_program.specs.Machine.{Program}
 use Rattle.pb_bytecode_program.specs.Counts.{static_steps, static_tokens}
 use Rattle.pb_bytecode.specs.declared.limit.Limit.{Limit}

@@ -5,8 +5,8 @@ use Rattle.std.specs.Option.{option_map}
 use Rattle.std.proofs.lemmas.Bool.{and_from, and_parts, eqb-true, eq-eqb}
 use Rattle.std.proofs.lemmas.Int.{ints, clamps}
 use Rattle.pb_bytecode_program.proofs.Ints.{from_le, le_true, from_below}
-use Rattle.pb_intervals.specs.Interval.{IntegerInterval, is_included, within, literals, words, singleton}
-use Rattle.pb_intervals.specs.Operation.{UnaryOperation, BinaryOperation, unary_interval, binary_interval}
+use Rattle.pb_base_intervals.specs.Interval.{IntegerInterval, is_included, within, literals, words, singleton}
+use Rattle.pb_base_intervals.specs.Operation.{UnaryOperation, BinaryOperation, unary_interval, binary_interval}
 use Rattle.pb_text_meaning.specs.Syntax as syntax
 use Rattle.pb_text_meaning.specs.Syntax.{Name, Operator, Terms, Spec}
 use Rattle.pb_text_meaning.specs.declared.function.NamedFunction.{NamedFunction}

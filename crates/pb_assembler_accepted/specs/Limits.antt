@@ -2,9 +2,9 @@
 -- many operands, brackets and loops are open at once is counted on the right side, as if every test
 -- of a truth value or of a range could go both ways.
 use Rattle.std.specs.Prelude.{◌≡◌, ℕ, suc, nat_lt, max, Bool, false, ◌||◌, List, [], ◌∷◌, length, Option, Some, None}
-use Rattle.pb_limits.specs.declared.TheConstants.{MAX_LOOP_SLOTS, MAX_INSTRUCTIONS}
+use Rattle.pb_base_limits.specs.declared.TheConstants.{MAX_LOOP_SLOTS, MAX_INSTRUCTIONS}
 use Rattle.pb_text_meaning.specs.Syntax.{Operator}
-use Rattle.pb_limits.specs.declared.TheConstants.{MAX_OPERANDS, MAX_BRACKETS, MAX_LOOPS, MAX_STEPS, MAX_TOKENS}
+use Rattle.pb_base_limits.specs.declared.TheConstants.{MAX_OPERANDS, MAX_BRACKETS, MAX_LOOPS, MAX_STEPS, MAX_TOKENS}
 use Rattle.pb_bytecode_program.specs.Machine.{Program}
 use Rattle.pb_bytecode_program.specs.Counts.{static_steps, static_tokens}
 use Rattle.pb_bytecode.specs.declared.limit.Limit.{Limit}

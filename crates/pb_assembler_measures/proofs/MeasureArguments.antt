@@ -3,7 +3,7 @@ use Rattle.std.proofs.Common.{◌≡◌, ℕ, zero, suc, ◌<◌, false, ◌||�
 use Rattle.std.specs.Prelude.{is_some}
 use Rattle.std.specs.List.{slice_get}
 use Rattle.pb_sorts.specs.declared.carrier.Carrier.{Carrier}
-use Rattle.pb_typed_tree.specs.declared.formula.Argument.{Argument}
+use Rattle.pb_typing_tree.specs.declared.formula.Argument.{Argument}
 use Rattle.pb_normal.specs.View.{argument_view, term_view}
 use Rattle.pb_assembler_scheme.specs.Scheme.{any_tested, tested_range}
 use Rattle.pb_assembler_measures.specs.MeasureTerms.{term_load}

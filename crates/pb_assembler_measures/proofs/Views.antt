@@ -5,11 +5,11 @@ use Rattle.pb_text_tree.specs.declared.operator.Connective.{Connective}
 use Rattle.pb_text_meaning.specs.Erase.{of_arithmetic, of_connective}
 use Rattle.pb_normal.specs.Normal as normal
 use Rattle.pb_normal.specs.Normal.{Binary}
-use Rattle.pb_typed_tree.specs.declared.term.Term as term
-use Rattle.pb_typed_tree.specs.declared.term.Term.{Term}
-use Rattle.pb_typed_tree.specs.declared.term.Link.{Link}
+use Rattle.pb_typing_tree.specs.declared.term.Term as term
+use Rattle.pb_typing_tree.specs.declared.term.Term.{Term}
+use Rattle.pb_typing_tree.specs.declared.term.Link.{Link}
 use Rattle.pb_normal.specs.View.{term_view, term_views, link_views, chained, calculated}
-use Rattle.pb_typed_tree.proofs.Views.{term-chain, term-arithmetic}
+use Rattle.pb_typing_tree.proofs.Views.{term-chain, term-arithmetic}
 
 -- in the code's words
 pub chain_is : (t x : Term) (o : Connective) (first : Box Term Global) (v : Vec Term Global) (links : List Term) → t ≡ term.Chain o first v → x ≡ box_value first → links ≡ v.items

@@ -2,12 +2,12 @@
 
 ghost use Rattle.std.specs.Prelude.{◌≡◌, ◌&&◌, map, option_map, Option};
 ghost use Rattle.std.specs.List.{slice_get};
-ghost use Rattle.pb_typed_tree.specs.View.{argument_view, shape_view};
+ghost use Rattle.pb_typing_tree.specs.View.{argument_view, shape_view};
 ghost use Rattle.pb_assembler_scheme.specs.Scheme.{any_tested, tested_range};
 ghost use Rattle.pb_assembler_measures.specs.MeasureFormulas.{is_tested};
 
 use pb_sorts::{Carrier, Range};
-use pb_typed_tree::{Argument, Shape};
+use pb_typing_tree::{Argument, Shape};
 
 /// The range that an argument is tested for: its parameter's, unless all that is known of the
 /// argument lies within.

@@ -1,7 +1,7 @@
 //! Why a text has no compiled module.
 
+use pb_base_errors::{Fault, OrMemory};
 use pb_bytecode::Limit;
-use pb_errors::{Fault, OrMemory};
 use thiserror::Error;
 
 /// `C01` to `C06`: the code of the equation at this place, counted from 0, exceeds a limit of the

@@ -2,7 +2,7 @@
 
 ghost use Rattle.std.specs.Prelude.{◌≡◌, ◌<◌, ◌||◌, ℕ, None, length, map};
 ghost use Rattle.std.specs.List.{slice_get};
-ghost use Rattle.pb_typed_tree.specs.View.{argument_view, chained};
+ghost use Rattle.pb_typing_tree.specs.View.{argument_view, chained};
 ghost use Rattle.pb_normal.specs.declared.formula.Junction.{Junction};
 ghost use Rattle.pb_normal.specs.Normal.{Call, Join};
 ghost use Rattle.pb_normal.specs.View.{formula_view, formula_views, nested};
@@ -25,7 +25,7 @@ use crate::test::{Test, as_test, measure_tested};
 use pb_normal::{Formula, Junction};
 use pb_sorts::{Carrier, Layout};
 use pb_text_tree::Quantifier;
-use pb_typed_tree::Argument;
+use pb_typing_tree::Argument;
 
 fn either(a: bool, b: bool) -> bool
     ensures { result ≡ (a || b) }

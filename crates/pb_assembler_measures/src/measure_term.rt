@@ -2,14 +2,14 @@
 
 ghost use Rattle.std.specs.Prelude.{◌≡◌};
 ghost use Rattle.pb_text_meaning.specs.Erase.{of_comparison, of_connective};
-ghost use Rattle.pb_typed_tree.specs.Tree.{Binary};
-ghost use Rattle.pb_typed_tree.specs.View.{calculated, chained, link_views, term_view, term_views};
+ghost use Rattle.pb_typing_tree.specs.Tree.{Binary};
+ghost use Rattle.pb_typing_tree.specs.View.{calculated, chained, link_views, term_view, term_views};
 ghost use Rattle.pb_assembler_measures.specs.MeasureTerms.{both, capped_load, choice_load, connective_load};
 ghost use Rattle.pb_assembler_measures.specs.MeasureTerms.{single, term_load, followed};
 
 use crate::measure_load::{Load, both, chosen, followed, single};
 use pb_text_tree::Connective;
-use pb_typed_tree::{Link, Term};
+use pb_typing_tree::{Link, Term};
 
 /// How many instructions a term's code has, and how many operands it holds at most.
 #[cycle(measures)]

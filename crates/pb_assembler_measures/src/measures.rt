@@ -3,10 +3,10 @@
 ghost use Rattle.std.specs.Prelude.{◌≡◌};
 ghost use Rattle.pb_assembler_measures.specs.Measures.{first_excess};
 
-use pb_bytecode::Limit;
-use pb_limits::{
+use pb_base_limits::{
     MAX_BRACKETS, MAX_INSTRUCTIONS, MAX_LOOP_SLOTS, MAX_LOOPS, MAX_OPERANDS, MAX_STEPS, MAX_TOKENS,
 };
+use pb_bytecode::Limit;
 
 /// How much an equation's code takes of each. What is above a limit is counted no further than just
 /// above it.

@@ -9,8 +9,8 @@ ghost use Rattle.pb_assembler_measures.specs.Tests.{tested_term};
 use crate::measure_load::Load;
 use crate::measure_term::{measure_one, measure_term};
 use pb_normal::Formula;
-use pb_typed_tree::Term;
 use pb_typing::Polarity;
+use pb_typing_tree::Term;
 
 /// A test: a data term, negated where the polarity is negative.
 #[derive(Clone, Copy)]

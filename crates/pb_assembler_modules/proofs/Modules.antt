@@ -3,16 +3,16 @@ use Rattle.std.proofs.Common.{◌≡◌, ℕ, zero, suc, List, [], ◌∷◌, ma
 use Rattle.std.specs.List.{All, slice_get}
 use Rattle.std.proofs.lemmas.Option.{slice_get_within, get_or_from_slice_get}
 use Rattle.std.proofs.lemmas.List.{length-map}
-use Rattle.pb_carriers.specs.Carrier.{tuple_count}
+use Rattle.pb_base_values.specs.Carrier.{tuple_count}
 use Rattle.pb_sorts.specs.Carrier.{values_of}
 use Rattle.pb_sorts.specs.Instance.{number_of}
 use Rattle.pb_sorts.specs.Layout as layout
-use Rattle.pb_trees.specs.Tree.{Tree}
-use Rattle.pb_trees.specs.Equations.{solved}
+use Rattle.pb_fixpoint_trees.specs.Tree.{Tree}
+use Rattle.pb_fixpoint_trees.specs.Equations.{solved}
 use Rattle.pb_text_meaning.specs.Syntax.{Enumerator, Sort, Struct, Alias, SortDeclaration, Equation, Spec}
 use Rattle.pb_text_meaning.specs.Formula.{carriers_of}
 use Rattle.pb_typing_rules.specs.WellTyped.{IsWellTyped}
-use Rattle.pb_evaluation.specs.Environment.{all_carriers}
+use Rattle.pb_typing_values.specs.Environment.{all_carriers}
 use Rattle.pb_bytecode_program.specs.Machine.{Program}
 use Rattle.pb_bytecode_program.specs.Safety.{AreArguments, EndsWith}
 use Rattle.pb_bytecode_program.specs.Accepted.{Accepted, Table}

@@ -3,9 +3,9 @@ use Rattle.std.specs.Prelude.{◌≡◌, ℕ, true, map, Some}
 use Rattle.std.specs.List.{slice_get}
 use Rattle.pb_fixpoint.specs.Solution.{Environment, solution, empty}
 use Rattle.pb_fixpoint.specs.Transfer.{Matches}
-use Rattle.pb_carriers.specs.Carrier.{Tuple}
-use Rattle.pb_trees.specs.Tree.{Tree, tree_truth}
-use Rattle.pb_trees.specs.Equations.{solved}
+use Rattle.pb_base_values.specs.Carrier.{Tuple}
+use Rattle.pb_fixpoint_trees.specs.Tree.{Tree, tree_truth}
+use Rattle.pb_fixpoint_trees.specs.Equations.{solved}
 use Rattle.pb_text_meaning.specs.Syntax.{Equation, Spec}
 use Rattle.pb_text_meaning.specs.Formula.{Instance, is_instance}
 use Rattle.pb_text_meaning.specs.Meaning as text

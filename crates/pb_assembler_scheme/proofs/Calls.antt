@@ -4,14 +4,14 @@ use Rattle.std.specs.Prelude.{ℤ, int_le, is_some, reverse}
 use Rattle.std.specs.List.{slice_get}
 use Rattle.std.proofs.lemmas.List.{reverse-append}
 use Rattle.std.proofs.lemmas.Bool.{and_from, or_right, and_right}
-use Rattle.pb_carriers.specs.Carrier as carriers
-use Rattle.pb_intervals.specs.Interval as intervals
+use Rattle.pb_base_values.specs.Carrier as carriers
+use Rattle.pb_base_intervals.specs.Interval as intervals
 use Rattle.pb_sorts.specs.declared.carrier.Carrier.{Carrier}
 use Rattle.pb_sorts.specs.declared.carrier.Carrier.TheVariants as carrier
 use Rattle.pb_sorts.specs.declared.carrier.Range as range
 use Rattle.pb_sorts.specs.Carrier.{values_of}
-use Rattle.pb_trees.specs.declared.Token.{Token}
-use Rattle.pb_trees.specs.declared.Token.TheVariants as token
+use Rattle.pb_fixpoint_trees.specs.declared.Token.{Token}
+use Rattle.pb_fixpoint_trees.specs.declared.Token.TheVariants as token
 use Rattle.pb_typing_declarations.specs.Shapes.{Shape, Unknown, Truths, Places, Wholes}
 use Rattle.pb_typing_rules.specs.Shapes.{interval}
 use Rattle.pb_bytecode_program.specs.Values.{TaggedValue, IntValue, untagged}

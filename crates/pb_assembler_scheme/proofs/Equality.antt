@@ -6,7 +6,7 @@ use Rattle.std.specs.Ordering.{int_eq}
 use Rattle.std.proofs.lemmas.Bool.{eqb-true, eq-eqb, and_parts, and_from}
 use Rattle.std.proofs.lemmas.Bool.Decides.{Decides-int_eq}
 use Rattle.std.proofs.lemmas.Int.{ints}
-use Rattle.pb_carriers.specs.Carrier.{of_bool}
+use Rattle.pb_base_values.specs.Carrier.{of_bool}
 use Rattle.pb_bytecode_program.proofs.Ints.{le_true, from_le}
 
 pub same_bools : (a b : Bool) → ((a && b) || (not a && not b)) ≡ int_eq (of_bool a) (of_bool b)

@@ -3,8 +3,8 @@ use Rattle.std.proofs.Common.{◌≡◌, zero, suc, true, List, [], ◌∷◌, l
 use Rattle.std.specs.List.{All}
 use Rattle.std.proofs.lemmas.Bool.{and_parts}
 use Rattle.std.proofs.lemmas.List.{length-map}
-use Rattle.pb_carriers.specs.Carrier.{Carrier, Tuple, contains, is_within}
-use Rattle.pb_trees.specs.Tree.{Tree}
+use Rattle.pb_base_values.specs.Carrier.{Carrier, Tuple, contains, is_within}
+use Rattle.pb_fixpoint_trees.specs.Tree.{Tree}
 use Rattle.pb_text_meaning.specs.Syntax.{Variable, Equation, Spec}
 use Rattle.pb_text_meaning.specs.Sorts.{carrier_of}
 use Rattle.pb_text_meaning.specs.Formula.{carriers_of}

@@ -4,8 +4,8 @@ use Rattle.std.specs.Prelude.{ℤ, nat_lt, ◌==◌}
 use Rattle.std.specs.List.{slice_get}
 use Rattle.pb_fixpoint.specs.Solution.{Environment}
 use Rattle.pb_sorts.specs.declared.carrier.Carrier.{Carrier}
-use Rattle.pb_trees.specs.declared.Token.{Token}
-use Rattle.pb_trees.specs.declared.Token.TheVariants as token
+use Rattle.pb_fixpoint_trees.specs.declared.Token.{Token}
+use Rattle.pb_fixpoint_trees.specs.declared.Token.TheVariants as token
 use Rattle.pb_text_meaning.specs.Value.{is_true}
 use Rattle.pb_bytecode_program.specs.Values.{TaggedValue, untagged, tagged_values}
 use Rattle.pb_bytecode_program.specs.Machine

@@ -1,11 +1,11 @@
 -- Tokens that stand as operands in an open bracket, and the truth to which they join.
 use Rattle.std.proofs.Common.{◌≡◌, ℕ, Bool, true, false, List, [], ◌∷◌, ◌++◌, refl, sym, ap, ◌∙◌}
 use Rattle.pb_fixpoint.specs.Solution.{Environment}
-use Rattle.pb_trees.specs.declared.Token.{Token}
-use Rattle.pb_trees.specs.declared.Token.TheVariants as token
-use Rattle.pb_trees.specs.Tree as trees
-use Rattle.pb_trees.specs.Tree.{Connective, Conjunction, Disjunction, Operands, End, LeafThen, BracketThen, operands_truth}
-use Rattle.pb_trees.specs.Tokens.{operands_tokens, leaf_token, opening}
+use Rattle.pb_fixpoint_trees.specs.declared.Token.{Token}
+use Rattle.pb_fixpoint_trees.specs.declared.Token.TheVariants as token
+use Rattle.pb_fixpoint_trees.specs.Tree as trees
+use Rattle.pb_fixpoint_trees.specs.Tree.{Connective, Conjunction, Disjunction, Operands, End, LeafThen, BracketThen, operands_truth}
+use Rattle.pb_fixpoint_trees.specs.Tokens.{operands_tokens, leaf_token, opening}
 use Rattle.pb_bytecode_program.specs.Machine
 use Rattle.pb_bytecode_program.specs.declared.instruction.Leaf.{Leaf}
 use Rattle.pb_bytecode_program.specs.declared.instruction.Leaf.TheVariants as leaf

@@ -8,7 +8,7 @@ use Rattle.std.proofs.lemmas.Bool.{and_parts, and_from, eqb-true, eq-eqb}
 use Rattle.std.proofs.lemmas.List.Folds.{find_at}
 use Rattle.std.proofs.lemmas.Option.{slice_get-map, slice_get_within}
 use Rattle.std.proofs.lemmas.Slice.Eq.{bytes_eq-Decides}
-use Rattle.pb_carriers.specs.Carrier.{Carrier, is_within}
+use Rattle.pb_base_values.specs.Carrier.{Carrier, is_within}
 use Rattle.pb_sorts.specs.declared.carrier.Carrier as program
 use Rattle.pb_sorts.specs.Instance as numbered
 use Rattle.pb_sorts.specs.Instance.{instances, number_of, owns_number, is_tuple_of}
@@ -18,7 +18,7 @@ use Rattle.pb_text_meaning.specs.Syntax.{Name, same_name, Equation, Spec}
 use Rattle.pb_text_meaning.specs.Formula.{Instance, carriers_of, equation_named, fits, is_instance}
 use Rattle.pb_text_meaning.specs.Meaning.{equation_of}
 use Rattle.pb_typing_declarations.specs.WellDeclared.{AreApart}
-use Rattle.pb_evaluation.specs.Environment.{all_carriers}
+use Rattle.pb_typing_values.specs.Environment.{all_carriers}
 use Rattle.pb_assembler_scheme.specs.Correct.{number_in}
 use Rattle.pb_assembler_scheme.proofs.Numbered.{first-named}
 

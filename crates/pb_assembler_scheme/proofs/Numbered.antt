@@ -9,7 +9,7 @@ use Rattle.std.proofs.lemmas.List.Folds.{find_at}
 use Rattle.std.proofs.lemmas.Slice.Eq.{bytes_eq-Decides}
 use Rattle.pb_fixpoint.specs.Solution.{Environment}
 use Rattle.pb_fixpoint.specs.Transfer.{Matches}
-use Rattle.pb_carriers.specs.Carrier.{numbers_from, is_within}
+use Rattle.pb_base_values.specs.Carrier.{numbers_from, is_within}
 use Rattle.pb_sorts.specs.declared.carrier.Carrier.{Carrier}
 use Rattle.pb_sorts.specs.declared.carrier.Carrier.TheVariants as carrier
 use Rattle.pb_sorts.specs.Carrier.{values_of}
@@ -23,7 +23,7 @@ use Rattle.pb_text_meaning.specs.Formula.{Instance, carriers_of, equation_named,
 use Rattle.pb_typing_declarations.specs.Shapes.{shape_carrier}
 use Rattle.pb_typing_declarations.specs.Entries.{carrier_shape}
 use Rattle.pb_typing_declarations.specs.WellDeclared.{AreApart}
-use Rattle.pb_evaluation.specs.Environment.{all_carriers}
+use Rattle.pb_typing_values.specs.Environment.{all_carriers}
 use Rattle.pb_bytecode_program.specs.Values.{tagged, untagged, tagged_values}
 use Rattle.pb_bytecode_program.specs.Machine.{Program, carrier_of}
 use Rattle.pb_normal.specs.declared.formula.Junction.{Junction}

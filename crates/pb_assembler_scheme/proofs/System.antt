@@ -10,16 +10,16 @@ use Rattle.pb_fixpoint.specs.Solution as fixpoint
 use Rattle.pb_fixpoint.specs.Solution.{Environment, solution, empty}
 use Rattle.pb_fixpoint.specs.Transfer.{Matches, IsSame, AreSame}
 use Rattle.pb_fixpoint.proofs.Transfer.{solution-matches}
-use Rattle.pb_carriers.specs.Carrier.{Carrier, is_within, tuple_count}
+use Rattle.pb_base_values.specs.Carrier.{Carrier, is_within, tuple_count}
 use Rattle.pb_sorts.specs.Instance.{first_of, size_of, tuple_count_at}
 use Rattle.pb_sorts.proofs.Numbers.{first_of-next}
-use Rattle.pb_trees.specs.Tree.{Tree, tree_truth}
-use Rattle.pb_trees.specs.Equations.{numbered, solved}
+use Rattle.pb_fixpoint_trees.specs.Tree.{Tree, tree_truth}
+use Rattle.pb_fixpoint_trees.specs.Equations.{numbered, solved}
 use Rattle.pb_text_meaning.specs.Syntax.{same_name, Equation, Spec}
 use Rattle.pb_text_meaning.specs.Formula.{Instance, carriers_of, equation_named, is_instance}
 use Rattle.pb_text_meaning.specs.Meaning.{equation_of, equations_of}
 use Rattle.pb_typing_rules.specs.WellTyped.{IsWellTyped}
-use Rattle.pb_evaluation.specs.Environment.{all_carriers}
+use Rattle.pb_typing_values.specs.Environment.{all_carriers}
 use Rattle.pb_bytecode_program.specs.Machine.{Program}
 use Rattle.pb_assembler_scheme.specs.Correct.{number_in}
 use Rattle.pb_assembler_scheme.specs.Equations.{IsProgramOf, DecidesEquation}
@@ -83,7 +83,7 @@ module _ (spec : Spec) (typed : IsWellTyped spec)
       ap tuple_count_at (slice_get-map (λ (Y : Equation). carriers_of spec Y.parameters) spec.equations k ∙ ap (option_map (λ (Y : Equation). carriers_of spec Y.parameters)) at)
 
   is-same : (k first : ℕ) (X : Equation) → slice_get spec.equations k ≡ Some X → first ≡ first_of (all_carriers spec) k
-      → IsSame (is_instance spec) (number_in spec) (Rattle.pb_trees.specs.Equations.equation first (signature_of spec X) trees) (made X)
+      → IsSame (is_instance spec) (number_in spec) (Rattle.pb_fixpoint_trees.specs.Equations.equation first (signature_of spec X) trees) (made X)
   is-same k first X at begins = record {
     sign = refl;
     size = refl;

@@ -4,8 +4,8 @@ use Rattle.std.specs.Prelude.{ℤ, pos, neg_ℤ, int_lt, ◌==◌}
 use Rattle.std.specs.List.{slice_get}
 use Rattle.std.specs.Ordering.{int_eq}
 use Rattle.std.proofs.Math.Bool.{and_comm, or_comm}
-use Rattle.pb_carriers.specs.Carrier.{of_bool}
-use Rattle.pb_trees.specs.declared.Token.{Token}
+use Rattle.pb_base_values.specs.Carrier.{of_bool}
+use Rattle.pb_fixpoint_trees.specs.declared.Token.{Token}
 use Rattle.pb_text_meaning.specs.Syntax.{Operator}
 use Rattle.pb_text_meaning.specs.Value.{is_true}
 use Rattle.pb_text_meaning.proofs.Truths.{is_true-of_bool}

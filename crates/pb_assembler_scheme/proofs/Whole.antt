@@ -1,12 +1,12 @@
 -- The code of an equation ends with one tree that has the formula's truth.
 use Rattle.std.proofs.Common.{◌≡◌, ℕ, zero, suc, ◌+◌, List, [], ◌∷◌, ◌++◌, refl, sym, ap, ◌∙◌, subst, arith, append-nil}
 use Rattle.pb_fixpoint.specs.Solution.{Environment}
-use Rattle.pb_carriers.specs.Carrier.{Tuple}
-use Rattle.pb_trees.specs.declared.Token.{Token}
-use Rattle.pb_trees.specs.declared.Token.TheVariants as token
-use Rattle.pb_trees.specs.Tree.{Tree, Root, tree_truth}
-use Rattle.pb_trees.specs.Tokens.{opening, tree_tokens}
-use Rattle.pb_trees.specs.Laws.{TokensAreOneTree}
+use Rattle.pb_base_values.specs.Carrier.{Tuple}
+use Rattle.pb_fixpoint_trees.specs.declared.Token.{Token}
+use Rattle.pb_fixpoint_trees.specs.declared.Token.TheVariants as token
+use Rattle.pb_fixpoint_trees.specs.Tree.{Tree, Root, tree_truth}
+use Rattle.pb_fixpoint_trees.specs.Tokens.{opening, tree_tokens}
+use Rattle.pb_fixpoint_trees.specs.Laws.{TokensAreOneTree}
 use Rattle.pb_text_meaning.specs.Syntax.{Spec}
 use Rattle.pb_bytecode_program.specs.Values.{TaggedValue}
 use Rattle.pb_bytecode_program.specs.Machine

@@ -2,8 +2,8 @@
 use Rattle.std.proofs.Common.{◌≡◌, ℕ, suc, ◌+◌, Bool, true, false, cond, List, ◌∷◌, length, Option, Some, refl, sym, subst}
 use Rattle.std.specs.Prelude.{ℤ, nat_lt}
 use Rattle.std.specs.List.{slice_get}
-use Rattle.pb_carriers.specs.Carrier.{of_bool}
-use Rattle.pb_trees.specs.declared.Token.{Token}
+use Rattle.pb_base_values.specs.Carrier.{of_bool}
+use Rattle.pb_fixpoint_trees.specs.declared.Token.{Token}
 use Rattle.pb_bytecode_program.specs.Values.{TaggedValue, BoolValue, IntValue, EnumValue, untagged, fits64}
 use Rattle.pb_bytecode_program.specs.Machine
 use Rattle.pb_bytecode_program.specs.Machine.{Program, State, Outcome, Continues, Ends, Faults, MachineFault}

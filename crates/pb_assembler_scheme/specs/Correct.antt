@@ -3,18 +3,18 @@ use Rattle.std.specs.Prelude.{◌≡◌, ◌≢◌, ⊤, ℕ, suc, List, [], ◌
 use Rattle.std.specs.List.{slice_get, position_or_len}
 use Rattle.pb_fixpoint.specs.Solution.{Environment}
 use Rattle.pb_fixpoint.specs.Transfer.{Matches}
-use Rattle.pb_carriers.specs.Carrier.{Tuple}
+use Rattle.pb_base_values.specs.Carrier.{Tuple}
 use Rattle.pb_sorts.specs.declared.carrier.Carrier.{Carrier}
 use Rattle.pb_sorts.specs.Instance.{number_of}
 use Rattle.pb_sorts.specs.Layout.{carriers_of}
-use Rattle.pb_trees.specs.Tree.{Tree, tree_truth}
-use Rattle.pb_trees.specs.Tokens.{tree_tokens}
+use Rattle.pb_fixpoint_trees.specs.Tree.{Tree, tree_truth}
+use Rattle.pb_fixpoint_trees.specs.Tokens.{tree_tokens}
 use Rattle.pb_text_meaning.specs.Syntax.{same_name, Equation, Spec}
 use Rattle.pb_text_meaning.specs.Formula.{Instance, is_instance}
 use Rattle.pb_typing_declarations.specs.Shapes.{Shape}
 use Rattle.pb_typing_declarations.specs.Entries.{carrier_shape}
 use Rattle.pb_typing_declarations.specs.WellDeclared.{AreApart}
-use Rattle.pb_evaluation.specs.Environment.{all_carriers}
+use Rattle.pb_typing_values.specs.Environment.{all_carriers}
 use Rattle.pb_bytecode_program.specs.Machine.{Program, Ends, Faults, MachineFault, run, start}
 use Rattle.pb_bytecode_program.specs.Counts.{static_steps, static_tokens}
 use Rattle.pb_bytecode_program.specs.Safety.{arguments}

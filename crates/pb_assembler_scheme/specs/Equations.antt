@@ -2,14 +2,14 @@
 use Rattle.std.specs.Prelude.{◌≡◌, ℕ, map}
 use Rattle.pb_fixpoint.specs.Solution.{Environment}
 use Rattle.pb_fixpoint.specs.Transfer.{Matches}
-use Rattle.pb_carriers.specs.Carrier.{Tuple}
+use Rattle.pb_base_values.specs.Carrier.{Tuple}
 use Rattle.pb_sorts.specs.Carrier.{values_of}
 use Rattle.pb_sorts.specs.Layout as layout
-use Rattle.pb_trees.specs.Tree.{Tree, tree_truth}
+use Rattle.pb_fixpoint_trees.specs.Tree.{Tree, tree_truth}
 use Rattle.pb_text_meaning.specs.Syntax.{Equation, Spec}
 use Rattle.pb_text_meaning.specs.Formula.{Instance, carriers_of, is_instance}
 use Rattle.pb_text_meaning.specs.Meaning.{equation_of}
-use Rattle.pb_evaluation.specs.Environment.{all_carriers}
+use Rattle.pb_typing_values.specs.Environment.{all_carriers}
 use Rattle.pb_bytecode_program.specs.Machine.{Program}
 use Rattle.pb_bytecode_program.specs.Safety.{AreArguments, EndsWith}
 use Rattle.pb_normal.specs.Equations.{normal_equation}

@@ -4,13 +4,13 @@ use Rattle.pb_fixpoint.specs.declared.Sign.TheVariants.{Mu, Nu}
 use Rattle.pb_text_tree.specs.declared.operator.Quantifier.TheVariants.{Forall}
 use Rattle.std.proofs.Common.{refl}
 use Rattle.std.proofs.lemmas.Bool.{ltb-true}
-use Rattle.pb_intervals.proofs.Ends.{le_true}
+use Rattle.pb_base_intervals.proofs.Ends.{le_true}
 use Rattle.pb_sorts.specs.declared.carrier.Carrier.{Carrier}
 use Rattle.pb_sorts.specs.declared.carrier.Carrier.TheVariants as carrier
 use Rattle.pb_text_meaning.specs.Syntax as syntax
 use Rattle.pb_text_meaning.specs.Syntax.{Operator, Equation, Spec, Variable}
 use Rattle.pb_typing_declarations.specs.Shapes.{Places, Wholes}
-use Rattle.pb_trees.specs.declared.Token.TheVariants as token
+use Rattle.pb_fixpoint_trees.specs.declared.Token.TheVariants as token
 use Rattle.pb_bytecode_program.specs.Machine.{Program, Ends, run, start}
 use Rattle.pb_bytecode_program.specs.Safety.{arguments}
 use Rattle.pb_bytecode_program.specs.declared.instruction.Arithmetic.TheVariants as arithmetic

@@ -1,15 +1,15 @@
 -- What the scheme's programs of all equations of a specification say together.
 use Rattle.std.specs.Prelude.{◌≡◌, ℕ, ⊤, List, [], ◌∷◌, map, Some}
 use Rattle.std.specs.List.{slice_get}
-use Rattle.pb_carriers.specs.Carrier.{Tuple, tuple_count}
+use Rattle.pb_base_values.specs.Carrier.{Tuple, tuple_count}
 use Rattle.pb_sorts.specs.Instance.{number_of}
-use Rattle.pb_trees.specs.Tree.{Tree}
-use Rattle.pb_trees.specs.Equations.{Signature, solved}
+use Rattle.pb_fixpoint_trees.specs.Tree.{Tree}
+use Rattle.pb_fixpoint_trees.specs.Equations.{Signature, solved}
 use Rattle.pb_text_meaning.specs.Syntax.{Equation, Spec}
 use Rattle.pb_text_meaning.specs.Value.{values}
 use Rattle.pb_text_meaning.specs.Formula.{Instance, carriers_of}
 use Rattle.pb_text_meaning.specs.Meaning.{answer}
-use Rattle.pb_evaluation.specs.Environment.{all_carriers}
+use Rattle.pb_typing_values.specs.Environment.{all_carriers}
 use Rattle.pb_bytecode_program.specs.Machine.{Program}
 use Rattle.pb_bytecode_program.specs.Safety.{AreArguments, EndsWith}
 use Rattle.pb_assembler_scheme.specs.Correct.{number_in}

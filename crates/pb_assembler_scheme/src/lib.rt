@@ -9,8 +9,8 @@
 
 ghost use Rattle.std.specs.Prelude.{◌≡◌, ℕ, true, List};
 ghost use Rattle.std.specs.List.{All};
-ghost use Rattle.pb_carriers.specs.Carrier.{Tuple};
-ghost use Rattle.pb_trees.specs.Tree.{Tree};
+ghost use Rattle.pb_base_values.specs.Carrier.{Tuple};
+ghost use Rattle.pb_fixpoint_trees.specs.Tree.{Tree};
 ghost use Rattle.pb_text_tree.specs.Form.{SpecForm};
 ghost use Rattle.pb_text_meaning.specs.Erase.{erase};
 ghost use Rattle.pb_text_meaning.specs.Syntax.{Equation, Spec};
@@ -38,7 +38,7 @@ pub fn compiled_code_decides()
         → Declares spec p.callees → AreArguments p.parameters tuple → EndsWith p tuple tree
         → TreeHasTruth spec f tuple tree }
 {
-    pb_trees::tokens_determine_tree();
+    pb_fixpoint_trees::tokens_determine_tree();
 }
 
 /// In a well-typed specification, a tree with which the run of an equation's program ends is true

@@ -1,7 +1,7 @@
 -- The equations of a module have as many instances as the layout of their parameters.
 use Rattle.std.proofs.Common.{◌≡◌, ◌+◌, ℕ, suc, List, [], ◌∷◌, length, map, refl, ap, ◌∙◌}
-use Rattle.pb_trees.specs.Equations.{total}
-use Rattle.pb_carriers.specs.Carrier.{tuple_count}
+use Rattle.pb_fixpoint_trees.specs.Equations.{total}
+use Rattle.pb_base_values.specs.Carrier.{tuple_count}
 use Rattle.pb_sorts.specs.Carrier.{values_of}
 use Rattle.pb_sorts.specs.Instance.{instances_from}
 use Rattle.pb_sorts.specs.Layout.{carriers_of, count_of}

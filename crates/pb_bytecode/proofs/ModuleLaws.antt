@@ -4,7 +4,7 @@ use Rattle.std.specs.Prelude.{ℤ, nat_le, nat_lt, ◌==◌}
 use Rattle.std.specs.Int.{w32, w64}
 use Rattle.std.specs.List.{flat_map, list_all}
 use Rattle.std.proofs.lemmas.Bool.{and_parts, and_from, le-ltb, ltb-true, lt-ltb, eqb-true}
-use Rattle.pb_limits.specs.declared.TheConstants.{MAX_STRUCTS, MAX_EQUATIONS, MAX_PARAMETERS, MAX_INSTANCES, MAX_LOOP_SLOTS, MAX_INSTRUCTIONS}
+use Rattle.pb_base_limits.specs.declared.TheConstants.{MAX_STRUCTS, MAX_EQUATIONS, MAX_PARAMETERS, MAX_INSTANCES, MAX_LOOP_SLOTS, MAX_INSTRUCTIONS}
 use Rattle.pb_sorts.specs.declared.carrier.Carrier.{Carrier}
 use Rattle.pb_bytecode.specs.declared.fault.FieldFault.{FieldFault}
 use Rattle.pb_bytecode.specs.declared.fault.ModuleRule.TheVariants as rule
@@ -25,7 +25,7 @@ use Rattle.std.proofs.lemmas.List.{append-nil, nil_from_length}
 use Rattle.std.proofs.lemmas.List.Concat.{flat_map-cons}
 use Rattle.pb_bytecode.proofs.NameLaws.{counted_reads, name_reads, sort_reads, carrier_reads}
 use Rattle.pb_bytecode.proofs.OpLaws.{code_reads}
-use Rattle.pb_carriers.specs.Carrier as carriers
+use Rattle.pb_base_values.specs.Carrier as carriers
 use Rattle.pb_sorts.specs.Carrier.{values_of}
 use Rattle.pb_fixpoint.specs.declared.Sign.{Sign}
 use Rattle.pb_fixpoint.specs.declared.Sign.TheVariants.{Mu, Nu}

@@ -1,6 +1,6 @@
 -- What a module says, without where it lies in memory.
 use Rattle.std.specs.Prelude.{ℕ, List, map, length}
-use Rattle.pb_carriers.specs.Carrier.{Tuple}
+use Rattle.pb_base_values.specs.Carrier.{Tuple}
 use Rattle.pb_fixpoint.specs.declared.Sign.{Sign}
 use Rattle.pb_sorts.specs.declared.carrier.Carrier.{Carrier}
 use Rattle.pb_bytecode_program.specs.declared.instruction.Op.{Op}

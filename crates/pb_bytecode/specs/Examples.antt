@@ -2,8 +2,8 @@
 use Rattle.std.specs.Prelude.{ℤ, Bool, List, [], ◌∷◌, codes}
 use Rattle.pb_fixpoint.specs.declared.Sign.{Sign}
 use Rattle.pb_fixpoint.specs.declared.Sign.TheVariants.{Mu}
-use Rattle.pb_trees.specs.Tree.{Single, Yes, No, Call}
-use Rattle.pb_trees.specs.Examples.{tree_at}
+use Rattle.pb_fixpoint_trees.specs.Tree.{Single, Yes, No, Call}
+use Rattle.pb_fixpoint_trees.specs.Examples.{tree_at}
 use Rattle.pb_sorts.specs.declared.carrier.Carrier.{Carrier}
 use Rattle.pb_sorts.specs.declared.carrier.Carrier.TheVariants as carrier
 use Rattle.pb_bytecode_program.specs.declared.version.Version.TheVariants as version

@@ -3,9 +3,9 @@
 -- instance's values ends.
 use Rattle.std.specs.Prelude.{◌≡◌, ℕ, Bool, List, map, Some}
 use Rattle.std.specs.List.{slice_get}
-use Rattle.pb_carriers.specs.Carrier.{Tuple, tuple_count}
-use Rattle.pb_trees.specs.Tree.{Tree}
-use Rattle.pb_trees.specs.Equations.{Signature, solved}
+use Rattle.pb_base_values.specs.Carrier.{Tuple, tuple_count}
+use Rattle.pb_fixpoint_trees.specs.Tree.{Tree}
+use Rattle.pb_fixpoint_trees.specs.Equations.{Signature, solved}
 use Rattle.pb_sorts.specs.Carrier.{values_of}
 use Rattle.pb_sorts.specs.Instance.{number_of}
 use Rattle.pb_sorts.specs.Layout.{carriers_of}

@@ -2,8 +2,8 @@
 use Rattle.std.specs.Prelude.{ℕ, ◌+◌, List, map}
 use Rattle.pb_fixpoint.specs.Solution.{Environment, Equation, operator, value_of}
 use Rattle.pb_fixpoint.specs.Fixpoint.{IsFixpoint, IsExtreme}
-use Rattle.pb_trees.specs.Tree.{Tree}
-use Rattle.pb_trees.specs.Equations.{equation, numbered}
+use Rattle.pb_fixpoint_trees.specs.Tree.{Tree}
+use Rattle.pb_fixpoint_trees.specs.Equations.{equation, numbered}
 use Rattle.pb_bytecode.specs.Contents.{EquationContents}
 use Rattle.pb_bytecode.specs.Meaning.{signature_of}
 

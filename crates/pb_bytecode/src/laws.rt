@@ -2,7 +2,7 @@
 //! contract.
 ghost use Rattle.std.specs.Prelude.{◌≡◌, ◌++◌, ℕ, List, map, pos, true, false};
 ghost use Rattle.pb_fixpoint.specs.declared.Sign.TheVariants.{Mu, Nu};
-ghost use Rattle.pb_trees.specs.Equations.{total};
+ghost use Rattle.pb_fixpoint_trees.specs.Equations.{total};
 ghost use Rattle.pb_sorts.specs.Layout.{count_of};
 ghost use Rattle.pb_bytecode.specs.Contents.{Contents};
 ghost use Rattle.pb_bytecode.specs.Limits.{fits, instance_count};

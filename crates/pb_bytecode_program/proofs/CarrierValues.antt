@@ -11,7 +11,7 @@ use Rattle.pb_bytecode_program.specs.declared.domain.AbstractValue.{AbstractValu
 use Rattle.pb_bytecode_program.specs.declared.domain.AbstractValue.TheVariants as abstract
 use Rattle.std.specs.Ordering.{int_eq}
 use Rattle.std.proofs.lemmas.Bool.Decides.{Decides-int_eq}
-use Rattle.pb_carriers.specs.Carrier as carriers
+use Rattle.pb_base_values.specs.Carrier as carriers
 use Rattle.pb_bytecode_program.specs.Machine
 use Rattle.pb_bytecode_program.proofs.Invariant.{AllWithin}
 use Rattle.pb_sorts.specs.declared.carrier.Carrier.{Carrier}

@@ -4,7 +4,7 @@ use Rattle.std.specs.Prelude.{ℤ, pos, ◌≤ℤ◌, int_lt, int_le, slice_get,
 use Rattle.std.specs.Int.{int_min, int_max}
 use Rattle.std.proofs.lemmas.Int.{ints, clamps}
 use Rattle.std.proofs.lemmas.Bool.{and_parts, and_from, cond-true, eqb-true, eq-eqb, ltb-true, lt-ltb, leb-true, not_from_false, false_from_ne_true}
-use Rattle.pb_trees.specs.declared.Token.{Token}
+use Rattle.pb_fixpoint_trees.specs.declared.Token.{Token}
 use Rattle.pb_bytecode_program.specs.Values.{TaggedValue, BoolValue, IntValue, EnumValue, equals, fits64, least64, greatest64}
 use Rattle.pb_bytecode_program.specs.Abstract.{IsAbstractedBy, same_kind}
 use Rattle.pb_bytecode_program.specs.declared.domain.AbstractValue.{AbstractValue}

@@ -2,10 +2,10 @@
 use Rattle.std.proofs.Common.{◌≡◌, ℕ, zero, suc, ◌+◌, ◌<◌, ◌≤◌, true, false, List, [], ◌∷◌, length, map, Some, refl, sym, ap, ◌∙◌, arith}
 use Rattle.std.specs.Prelude.{ℤ, slice_get}
 use Rattle.std.proofs.lemmas.Bool.{and_parts}
-use Rattle.pb_trees.specs.declared.Token.{Token}
+use Rattle.pb_fixpoint_trees.specs.declared.Token.{Token}
 use Rattle.pb_sorts.specs.Carrier.{values_of}
 use Rattle.pb_bytecode_program.specs.Abstract.{abstraction_of}
-use Rattle.pb_carriers.specs.Carrier as carriers
+use Rattle.pb_base_values.specs.Carrier as carriers
 use Rattle.pb_bytecode_program.specs.Safety.{AreArguments, arguments}
 use Rattle.pb_bytecode_program.proofs.CarrierValues.{tagged_within}
 use Rattle.pb_bytecode_program.specs.Machine

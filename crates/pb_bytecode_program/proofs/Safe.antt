@@ -1,8 +1,8 @@
 -- Accepted code is safe.
 use Rattle.std.proofs.Common.{◌≡◌, ◌+◌, ◌-◌, ◌≤◌, ◌∙◌, ap, subst, refl, arith}
 use Rattle.std.specs.Prelude.{length}
-use Rattle.pb_carriers.specs.Carrier.{Tuple}
-use Rattle.pb_trees.specs.Tree.{Tree}
+use Rattle.pb_base_values.specs.Carrier.{Tuple}
+use Rattle.pb_fixpoint_trees.specs.Tree.{Tree}
 use Rattle.pb_bytecode_program.specs.Machine.{Program, Ends, run, start}
 use Rattle.pb_bytecode_program.specs.Counts.{static_steps, static_tokens}
 use Rattle.pb_bytecode_program.specs.Accepted.{Accepted, Table}

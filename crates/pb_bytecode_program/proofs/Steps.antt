@@ -4,8 +4,8 @@ use Rattle.std.specs.Prelude.{ℤ, pos, neg_ℤ, ◌≤ℤ◌, int_lt, int_le, s
 use lib.Signed.{≤ℤ_refl}
 use Rattle.std.specs.Int.{int_min, int_max}
 use Rattle.std.proofs.lemmas.Bool.{cond_both}
-use Rattle.pb_trees.specs.declared.Token.{Token}
-use Rattle.pb_trees.specs.declared.Token.TheVariants as token
+use Rattle.pb_fixpoint_trees.specs.declared.Token.{Token}
+use Rattle.pb_fixpoint_trees.specs.declared.Token.TheVariants as token
 use Rattle.pb_bytecode_program.specs.Values.{TaggedValue, BoolValue, IntValue, EnumValue, untagged, arithmetic, divides, absolute, compares, equals, answers, connects, fits64}
 use Rattle.pb_bytecode_program.specs.Abstract.{IsAbstractedBy, interval_of, absolute_interval, same_kind}
 use Rattle.pb_bytecode_program.specs.declared.domain.AbstractValue.{AbstractValue}

@@ -4,11 +4,11 @@ use Rattle.std.proofs.Common.{◌≡◌, ℕ, zero, suc, ◌+◌, Bool, true, no
 use Rattle.std.specs.Prelude.{ℤ, pos, neg_ℤ, int_lt, int_le, reverse, slice_get, nat_lt, if◌then◌else◌}
 use Rattle.std.proofs.lemmas.Bool.{cond_both, and_from}
 use Rattle.std.proofs.lemmas.List.{reverse-append, reverse-reverse}
-use Rattle.pb_carriers.specs.Carrier as carriers
-use Rattle.pb_trees.specs.declared.Token.{Token}
-use Rattle.pb_trees.specs.declared.Token.TheVariants as token
-use Rattle.pb_trees.specs.Tree as trees
-use Rattle.pb_trees.specs.Tokens as tokens
+use Rattle.pb_base_values.specs.Carrier as carriers
+use Rattle.pb_fixpoint_trees.specs.declared.Token.{Token}
+use Rattle.pb_fixpoint_trees.specs.declared.Token.TheVariants as token
+use Rattle.pb_fixpoint_trees.specs.Tree as trees
+use Rattle.pb_fixpoint_trees.specs.Tokens as tokens
 use Rattle.pb_sorts.specs.Carrier.{values_of}
 use Rattle.pb_sorts.specs.Instance.{is_instance}
 use Rattle.pb_sorts.specs.Layout.{carriers_of}

@@ -1,9 +1,9 @@
 -- The tokens that a run writes are those of a tree, as far as it is written.
 use Rattle.std.proofs.Common.{◌≡◌, ℕ, zero, suc, List, [], ◌∷◌, ◌++◌, refl, sym, ap, ◌∙◌, append_assoc}
-use Rattle.pb_trees.specs.declared.Token.{Token}
-use Rattle.pb_trees.specs.declared.Token.TheVariants as token
-use Rattle.pb_trees.specs.Tree.{Connective, Leaf, LeafCalls, Operands, End, LeafThen, BracketThen, OperandsCall, Tree, Single, Root, TreeCalls}
-use Rattle.pb_trees.specs.Tokens.{opening, leaf_token, operands_tokens, tree_tokens}
+use Rattle.pb_fixpoint_trees.specs.declared.Token.{Token}
+use Rattle.pb_fixpoint_trees.specs.declared.Token.TheVariants as token
+use Rattle.pb_fixpoint_trees.specs.Tree.{Connective, Leaf, LeafCalls, Operands, End, LeafThen, BracketThen, OperandsCall, Tree, Single, Root, TreeCalls}
+use Rattle.pb_fixpoint_trees.specs.Tokens.{opening, leaf_token, operands_tokens, tree_tokens}
 
 -- two lists of operands, one behind the other
 abbrev pub append : Operands → Operands → Operands

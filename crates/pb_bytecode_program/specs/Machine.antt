@@ -4,9 +4,9 @@
 use Rattle.std.specs.Prelude.{ℕ, zero, suc, ◌+◌, ◌-◌, Bool, false, not, ◌&&◌, ◌||◌, List, [], ◌∷◌, ◌++◌, length, map, reverse, Option, Some, None, ℤ, pos, neg_ℤ, int_lt, int_le, ◌==◌, nat_lt, if◌then◌else◌, slice_get}
 use Rattle.pb_sorts.specs.Instance.{number_of}
 use Rattle.pb_sorts.specs.Layout.{carriers_of}
-use Rattle.pb_trees.specs.declared.Token.{Token}
-use Rattle.pb_trees.specs.declared.Token.TheVariants as token
-use Rattle.pb_limits.specs.declared.TheConstants.{MAX_OPERANDS, MAX_BRACKETS, MAX_LOOPS}
+use Rattle.pb_fixpoint_trees.specs.declared.Token.{Token}
+use Rattle.pb_fixpoint_trees.specs.declared.Token.TheVariants as token
+use Rattle.pb_base_limits.specs.declared.TheConstants.{MAX_OPERANDS, MAX_BRACKETS, MAX_LOOPS}
 use Rattle.pb_bytecode_program.specs.Values.{TaggedValue, BoolValue, IntValue, EnumValue, tagged_values, untagged, arithmetic, divides, absolute, compares, equals, answers, connects, fits64}
 use Rattle.pb_sorts.specs.declared.carrier.Carrier.{Carrier}
 use Rattle.pb_sorts.specs.declared.carrier.Carrier.TheVariants as carrier

@@ -1,11 +1,11 @@
 -- What accepted code owes: on any arguments of its declared carriers no fault comes, and the run
 -- ends within the static counts, with the tokens of a tree whose calls are instances.
 use Rattle.std.specs.Prelude.{◌≡◌, ℕ, ◌≤◌, true, List, [], ◌∷◌, length, map}
-use Rattle.pb_carriers.specs.Carrier.{Tuple, is_within}
+use Rattle.pb_base_values.specs.Carrier.{Tuple, is_within}
 use Rattle.pb_sorts.specs.Instance.{Instance, is_instance, number_of}
 use Rattle.pb_sorts.specs.Layout.{carriers_of}
-use Rattle.pb_trees.specs.Tree.{Tree, TreeCalls}
-use Rattle.pb_trees.specs.Tokens.{tree_tokens}
+use Rattle.pb_fixpoint_trees.specs.Tree.{Tree, TreeCalls}
+use Rattle.pb_fixpoint_trees.specs.Tokens.{tree_tokens}
 use Rattle.pb_sorts.specs.Carrier.{values_of}
 use Rattle.pb_bytecode_program.specs.Values.{TaggedValue, tagged}
 use Rattle.pb_bytecode_program.specs.Machine.{Program, Ends, Faults, MachineFault, run, start}

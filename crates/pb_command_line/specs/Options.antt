@@ -5,8 +5,8 @@ use Rattle.clap.specs.Walk.{Row, all_of, first_of}
 use Rattle.pb_game.specs.declared.solver.Solver.{Solver}
 use Rattle.pb_game.specs.declared.solver.Solver.TheVariants.{Zielonka}
 use Rattle.pb_game.specs.SolverNames.{solver_name}
-use Rattle.pb_rules.specs.Rules.{rule_of}
-use Rattle.pb_rules.specs.declared.rule.Rule as rules
+use Rattle.pb_command_rules.specs.Rules.{rule_of}
+use Rattle.pb_command_rules.specs.declared.rule.Rule as rules
 use Rattle.pb_command_line.specs.declared.options.Checking.{Checking}
 use Rattle.pb_command_line.specs.declared.options.Explaining.{Explaining}
 use Rattle.pb_command_line.specs.declared.options.Exploring.{Exploring}

@@ -3,9 +3,9 @@ ghost use Rattle.std.specs.Prelude.{◌≡◌, ◌<◌, ◌≤◌, ℕ, codes, m
 ghost use Rattle.std.specs.Prelude.{option_copied, option_map, string_bytes, unwrap_or};
 ghost use Rattle.clap.specs.Matches.{found_of};
 ghost use Rattle.clap.specs.Walk.{all_of, first_of, rows_of};
-ghost use Rattle.pb_errors.specs.OrMemory.{OnRefused};
+ghost use Rattle.pb_base_errors.specs.OrMemory.{OnRefused};
 ghost use Rattle.pb_game.specs.declared.solver.Solver.{Solver};
-ghost use Rattle.pb_rules.specs.declared.rule.Rule.{Rule};
+ghost use Rattle.pb_command_rules.specs.declared.rule.Rule.{Rule};
 ghost use Rattle.pb_command_line.specs.declared.options.Checking.{Checking};
 ghost use Rattle.pb_command_line.specs.declared.options.Explaining.{Explaining};
 ghost use Rattle.pb_command_line.specs.declared.options.Exploring.{Exploring};
@@ -18,9 +18,9 @@ ghost use Rattle.pb_command_line.specs.Options.{IsSolvingOf, IsTranslatingOf, Is
 use crate::options::{Checking, Explaining, Exploring, Showing, Solving, Translating};
 use crate::words::{Usage, WordsError};
 use clap::ArgMatches;
-use pb_errors::OrMemory;
+use pb_base_errors::OrMemory;
+use pb_command_rules::Rule;
 use pb_game::Solver;
-use pb_rules::Rule;
 use std::alloc::{AllocError, Global};
 
 // The word of an option, the first where there are several.

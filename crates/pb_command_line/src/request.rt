@@ -1,7 +1,7 @@
 //! Requests.
 
 use crate::options::{Checking, Explaining, Exploring, Showing, Solving, Translating};
-use pb_rules::Rule;
+use pb_command_rules::Rule;
 
 /// What the program is asked.
 #[derive(Debug, Drop)]

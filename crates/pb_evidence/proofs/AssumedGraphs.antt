@@ -2,7 +2,7 @@
 use Rattle.std.proofs.Common.{◌≡◌, ℕ, Bool, true, false, not, List, inl, inr, refl, sym, ap, ◌∙◌, subst}
 use Rattle.std.proofs.lemmas.Bool.{false≢true}
 use Rattle.pb_fixpoint.specs.Solution.{Environment}
-use Rattle.pb_trees.specs.Tree.{Tree, tree_truth}
+use Rattle.pb_fixpoint_trees.specs.Tree.{Tree, tree_truth}
 use Rattle.pb_strategy.proofs.Players.{not_other}
 use Rattle.pb_evidence.specs.ProofGraphs.{exactly}
 use Rattle.pb_evidence.specs.Supports.{IsSupport}

@@ -7,20 +7,20 @@ use Rattle.std.proofs.Math.Nat.{ℕ_set}
 use Rattle.std.proofs.Math.Logic.{∥∥₁_elim}
 use Rattle.std.proofs.lemmas.Option.{slice_get_within}
 use Rattle.std.proofs.lemmas.List.Elements.{Contains-append_left, Contains-append_right, Contains-append_cases}
-use Rattle.pb_trees.proofs.Players.{parity_exact}
-use Rattle.pb_trees.specs.Players.{parity_of}
-use Rattle.pb_trees.specs.declared.player.Player.TheVariants.{Even}
+use Rattle.pb_fixpoint_trees.proofs.Players.{parity_exact}
+use Rattle.pb_fixpoint_trees.specs.Players.{parity_of}
+use Rattle.pb_fixpoint_trees.specs.declared.player.Player.TheVariants.{Even}
 use Rattle.pb_game.specs.declared.Game.{Game}
 use Rattle.pb_game.specs.Adjacency.{is_among}
 use Rattle.pb_game.specs.Games.{vertex_count, owner_of, successors_of, priority_count, HasEdge}
 use Rattle.pb_game.specs.declared.certificate.Solution.{Solution}
 use Rattle.pb_game.specs.Solutions.{winner_of, choice_of, count_of}
 use Rattle.pb_game.specs.Certificates.{IsCertificate, IsKept}
-use Rattle.pb_trees.specs.Tree.{Connective, Conjunction, Disjunction, Leaf, Yes, No, Cut, Call, Operands, End, LeafThen, BracketThen, Tree, Single, Root, LeafCalls, OperandsCall, TreeCalls, of_none}
-use Rattle.pb_trees.specs.Equations.{Signature}
-use Rattle.pb_trees.specs.Game.{Vertex, brackets, inner, target, targets, vertex_of, sink_of, bracket_successors, bracket_vertex, inner_vertices, tree_vertices, row_vertices, priority_from, game_vertices, false_sink, true_sink}
-use Rattle.pb_trees.specs.Rows.{Row, IsReached}
-use Rattle.pb_trees.proofs.Members.{Among, among_of_contains, contains_of_among, among_rising, among_from_rising}
+use Rattle.pb_fixpoint_trees.specs.Tree.{Connective, Conjunction, Disjunction, Leaf, Yes, No, Cut, Call, Operands, End, LeafThen, BracketThen, Tree, Single, Root, LeafCalls, OperandsCall, TreeCalls, of_none}
+use Rattle.pb_fixpoint_trees.specs.Equations.{Signature}
+use Rattle.pb_fixpoint_trees.specs.Game.{Vertex, brackets, inner, target, targets, vertex_of, sink_of, bracket_successors, bracket_vertex, inner_vertices, tree_vertices, row_vertices, priority_from, game_vertices, false_sink, true_sink}
+use Rattle.pb_fixpoint_trees.specs.Rows.{Row, IsReached}
+use Rattle.pb_fixpoint_trees.proofs.Members.{Among, among_of_contains, contains_of_among, among_rising, among_from_rising}
 use Rattle.pb_strategy.specs.Meaning.{IsGameOfRows}
 use Rattle.pb_strategy.proofs.Players.{player, choosing, connective_cases, not_other, owner-choosing, owner-other, of_none-choosing}
 use Rattle.pb_strategy.proofs.Standing.{StandAt, BracketStands, bracket_stands, stand_all, row_stands}

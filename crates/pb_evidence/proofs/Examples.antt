@@ -3,10 +3,10 @@ use Rattle.std.proofs.Common.{◌≡◌, ℕ, Bool, true, false, List, [], ◌�
 use Rattle.std.specs.Prelude.{Contains}
 use Rattle.std.proofs.lemmas.Bool.{true≢false}
 use Rattle.std.proofs.lemmas.List.Elements.{Contains-append_left}
-use Rattle.pb_trees.specs.Tree.{tree_truth}
-use Rattle.pb_trees.specs.Equations.{Signature}
-use Rattle.pb_trees.specs.Examples.{mu, nu}
-use Rattle.pb_trees.proofs.Members.{among_of_contains, contains_of_among}
+use Rattle.pb_fixpoint_trees.specs.Tree.{tree_truth}
+use Rattle.pb_fixpoint_trees.specs.Equations.{Signature}
+use Rattle.pb_fixpoint_trees.specs.Examples.{mu, nu}
+use Rattle.pb_fixpoint_trees.proofs.Members.{among_of_contains, contains_of_among}
 use Rattle.pb_evidence.specs.ProofGraphs.{RestsThrough, exactly, sign_from, least_of, dominating_sign, supporting, IsProofGraph}
 use Rattle.pb_evidence.specs.Examples.{itself, loop, SelfReference, either, OneOfTwo}
 use Rattle.pb_evidence.specs.Supports.{HaveSame, IsSupport}

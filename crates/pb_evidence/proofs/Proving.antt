@@ -4,14 +4,14 @@ use Rattle.std.proofs.Common.{◌≡◌, ◌≢◌, ℕ, ◌%◌, ◌≤◌, Boo
 use Rattle.std.specs.Prelude.{Contains, nat_le, ◌==◌}
 use Rattle.std.proofs.lemmas.Bool.{cases_Bool, cases_lt, and_parts, and_from, or_cases, or_right, leb-true, le-leb, eqb-true, eq-eqb, cond-false}
 use Rattle.pb_fixpoint.specs.Solution.{empty}
-use Rattle.pb_trees.specs.Players.{parity_of}
+use Rattle.pb_fixpoint_trees.specs.Players.{parity_of}
 use Rattle.pb_game.specs.Adjacency.{is_among}
 use Rattle.pb_game.proofs.Membership.{among_at, among_place, contains_at, contains_place}
-use Rattle.pb_trees.specs.Tree.{Tree}
-use Rattle.pb_trees.specs.Equations.{Signature, solved}
-use Rattle.pb_trees.specs.Game.{priority_from}
-use Rattle.pb_trees.proofs.Members.{among_of_contains}
-use Rattle.pb_trees.proofs.Monotone.{tree_truth-keeps}
+use Rattle.pb_fixpoint_trees.specs.Tree.{Tree}
+use Rattle.pb_fixpoint_trees.specs.Equations.{Signature, solved}
+use Rattle.pb_fixpoint_trees.specs.Game.{priority_from}
+use Rattle.pb_fixpoint_trees.proofs.Members.{among_of_contains}
+use Rattle.pb_fixpoint_trees.proofs.Monotone.{tree_truth-keeps}
 use Rattle.pb_strategy.proofs.Players.{player, not_other}
 use Rattle.pb_strategy.proofs.Lexicographic.{IsLess, IsAtMost}
 use Rattle.pb_strategy.proofs.Arena.{Arena, claim}

@@ -4,17 +4,17 @@ use Rattle.std.specs.Prelude.{Contains, AllPairs, ◌==◌, IsTrue, ◌↔◌}
 use Rattle.std.proofs.lemmas.Bool.{cases_Bool, false≢true, eqb-true}
 use Rattle.std.proofs.lemmas.List.{get_or-map, length-map}
 use Rattle.std.proofs.lemmas.List.Elements.{Contains-get_or}
-use Rattle.pb_trees.proofs.Players.{even_or_odd}
-use Rattle.pb_trees.specs.declared.player.Player.TheVariants.{Even}
+use Rattle.pb_fixpoint_trees.proofs.Players.{even_or_odd}
+use Rattle.pb_fixpoint_trees.specs.declared.player.Player.TheVariants.{Even}
 use Rattle.pb_game.specs.declared.Game.{Game}
 use Rattle.pb_game.specs.Adjacency.{row}
 use Rattle.pb_game.specs.declared.certificate.Solution.{Solution}
 use Rattle.pb_game.specs.Solutions.{winner_of}
 use Rattle.pb_game.specs.Certificates.{IsCertificate}
-use Rattle.pb_trees.specs.Tree.{Tree}
-use Rattle.pb_trees.specs.Equations.{Signature, solved}
-use Rattle.pb_trees.specs.Game.{vertex_of}
-use Rattle.pb_trees.specs.Rows.{Row, IsReached}
+use Rattle.pb_fixpoint_trees.specs.Tree.{Tree}
+use Rattle.pb_fixpoint_trees.specs.Equations.{Signature, solved}
+use Rattle.pb_fixpoint_trees.specs.Game.{vertex_of}
+use Rattle.pb_fixpoint_trees.specs.Rows.{Row, IsReached}
 use Rattle.pb_strategy.specs.Meaning.{IsGameOfRows, IsSolvedAt}
 use Rattle.pb_strategy.proofs.Players.{player}
 use Rattle.pb_evidence.specs.ProofGraphs.{Graph, IsProofGraph}

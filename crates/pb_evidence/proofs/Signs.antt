@@ -2,11 +2,11 @@
 use Rattle.std.proofs.Common.{◌≡◌, ℕ, ◌+◌, ◌%◌, ◌<◌, ◌≤◌, ◌⊎◌, Bool, true, false, List, [], ◌∷◌, refl, sym, ap, ◌∙◌, inl, inr, arith}
 use Rattle.std.specs.Prelude.{Contains, min}
 use Rattle.std.proofs.lemmas.Bool.{cases_lt, lt-ltb, le-ltb}
-use Rattle.pb_trees.specs.Players.{parity_of}
+use Rattle.pb_fixpoint_trees.specs.Players.{parity_of}
 use Rattle.pb_fixpoint.specs.declared.Sign.{Sign}
 use Rattle.pb_fixpoint.specs.declared.Sign.TheVariants.{Mu, Nu}
-use Rattle.pb_trees.specs.Equations.{Signature, total}
-use Rattle.pb_trees.specs.Game.{first_priority, priority_from}
+use Rattle.pb_fixpoint_trees.specs.Equations.{Signature, total}
+use Rattle.pb_fixpoint_trees.specs.Game.{first_priority, priority_from}
 use Rattle.pb_strategy.proofs.Players.{player, begins}
 use Rattle.pb_strategy.proofs.Priorities.{first_parity, first_falls, priority_here, priority_later}
 use Rattle.pb_evidence.specs.ProofGraphs.{Graph, RestsThrough, sign_from, supporting, least_of, dominating_sign}

@@ -7,8 +7,8 @@ use Rattle.std.proofs.Math.Bool.{Bool-set}
 use Rattle.std.proofs.Math.Nat.{ℕ_set}
 use Rattle.std.proofs.Math.Logic.{∥∥₁_elim}
 use Rattle.std.proofs.lemmas.Option.{slice_get_within}
-use Rattle.pb_trees.proofs.Players.{parity_exact}
-use Rattle.pb_trees.specs.Players.{parity_of}
+use Rattle.pb_fixpoint_trees.proofs.Players.{parity_exact}
+use Rattle.pb_fixpoint_trees.specs.Players.{parity_of}
 use Rattle.pb_game.specs.declared.Game.{Game}
 use Rattle.pb_game.specs.Adjacency.{is_among}
 use Rattle.pb_game.specs.Games.{vertex_count, priority_of, priority_count}
@@ -16,11 +16,11 @@ use Rattle.pb_game.proofs.Laws.{successors_closed}
 use Rattle.pb_game.specs.declared.certificate.Solution.{Solution}
 use Rattle.pb_game.specs.Solutions.{winner_of, choice_of, count_of}
 use Rattle.pb_game.specs.Certificates.{IsCertificate, IsKept, IsProgress}
-use Rattle.pb_trees.specs.Tree.{Tree, Single, Root, tree_truth}
-use Rattle.pb_trees.specs.Equations.{Signature, total}
-use Rattle.pb_trees.specs.Game.{Vertex, inner, vertex_of, priority_from, tree_vertices, game_vertices}
-use Rattle.pb_trees.specs.Rows.{Row, IsReached}
-use Rattle.pb_trees.proofs.Members.{among_of_contains, contains_of_among}
+use Rattle.pb_fixpoint_trees.specs.Tree.{Tree, Single, Root, tree_truth}
+use Rattle.pb_fixpoint_trees.specs.Equations.{Signature, total}
+use Rattle.pb_fixpoint_trees.specs.Game.{Vertex, inner, vertex_of, priority_from, tree_vertices, game_vertices}
+use Rattle.pb_fixpoint_trees.specs.Rows.{Row, IsReached}
+use Rattle.pb_fixpoint_trees.proofs.Members.{among_of_contains, contains_of_among}
 use Rattle.pb_strategy.specs.Meaning.{IsGameOfRows}
 use Rattle.pb_strategy.proofs.Players.{player}
 use Rattle.pb_strategy.proofs.Lexicographic.{IsLess, IsAtMost, less_of_at_most, less-trans}

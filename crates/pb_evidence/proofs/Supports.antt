@@ -5,8 +5,8 @@ use Rattle.std.proofs.lemmas.Bool.{cond-true}
 use Rattle.std.proofs.lemmas.List.Elements.{Contains-append_left, Contains-append_right}
 use Rattle.pb_fixpoint.specs.Solution.{Environment}
 use Rattle.pb_game.specs.Adjacency.{is_among}
-use Rattle.pb_trees.specs.Tree.{Connective, Conjunction, Disjunction, Leaf, Yes, No, Cut, Call, Operands, End, LeafThen, BracketThen, Tree, Single, Root, joined, leaf_truth, operands_truth, tree_truth}
-use Rattle.pb_trees.proofs.Members.{contains_of_among}
+use Rattle.pb_fixpoint_trees.specs.Tree.{Connective, Conjunction, Disjunction, Leaf, Yes, No, Cut, Call, Operands, End, LeafThen, BracketThen, Tree, Single, Root, joined, leaf_truth, operands_truth, tree_truth}
+use Rattle.pb_fixpoint_trees.proofs.Members.{contains_of_among}
 use Rattle.pb_strategy.proofs.Players.{joined_left, joined_right, joined_both}
 use Rattle.pb_evidence.specs.ProofGraphs.{exactly}
 use Rattle.pb_evidence.specs.Supports.{IsLeafSupport, IsJoined, IsOperandsSupport, IsTreeSupport, SupportsSuffice}

@@ -1,7 +1,7 @@
 -- Evidence where the trees of some instances are not known.
 use Rattle.std.specs.Prelude.{ℕ, List}
-use Rattle.pb_trees.specs.Tree.{Tree}
-use Rattle.pb_trees.specs.Equations.{Signature}
+use Rattle.pb_fixpoint_trees.specs.Tree.{Tree}
+use Rattle.pb_fixpoint_trees.specs.Equations.{Signature}
 use Rattle.pb_evidence.specs.AssumedGraphs.{AreAssumed}
 use Rattle.pb_evidence.specs.declared.Evidence.{Evidence}
 use Rattle.pb_evidence.specs.Evidence.{Shows, graph_of}

@@ -1,8 +1,8 @@
 -- Proof graphs where the trees of some instances are not known: who gives each of those the tree of
 -- one leaf that hasn't the value finds proof graphs that hold whichever trees they have.
 use Rattle.std.specs.Prelude.{◌≡◌, ◌⊎◌, ℕ, Bool, true, false, not, List, Contains}
-use Rattle.pb_trees.specs.Tree.{Tree, Yes, No, Single}
-use Rattle.pb_trees.specs.Equations.{Signature}
+use Rattle.pb_fixpoint_trees.specs.Tree.{Tree, Yes, No, Single}
+use Rattle.pb_fixpoint_trees.specs.Equations.{Signature}
 use Rattle.pb_evidence.specs.ProofGraphs.{Graph, IsProofGraph}
 use Rattle.pb_evidence.specs.Supports.{RestsOnChoices}
 

@@ -4,10 +4,10 @@ use Rattle.std.specs.Prelude.{◌≡◌, ◌≢◌, ℕ, suc, ◌<◌, ◌==◌,
 use Rattle.std.specs.Prelude.{Contains, AllPairs, if◌then◌else◌}
 use Rattle.pb_game.specs.declared.Game.{Game}
 use Rattle.pb_game.specs.Adjacency.{row}
-use Rattle.pb_trees.specs.Tree.{Tree}
-use Rattle.pb_trees.specs.Equations.{Signature, solved}
-use Rattle.pb_trees.specs.Game.{vertex_of}
-use Rattle.pb_trees.specs.Rows.{Row, IsReached}
+use Rattle.pb_fixpoint_trees.specs.Tree.{Tree}
+use Rattle.pb_fixpoint_trees.specs.Equations.{Signature, solved}
+use Rattle.pb_fixpoint_trees.specs.Game.{vertex_of}
+use Rattle.pb_fixpoint_trees.specs.Rows.{Row, IsReached}
 use Rattle.pb_strategy.specs.Meaning.{IsGameOfRows}
 use Rattle.pb_evidence.specs.ProofGraphs.{Graph, IsProofGraph}
 use Rattle.pb_evidence.specs.Supports.{RestsOnChoices}

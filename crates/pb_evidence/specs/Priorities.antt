@@ -1,10 +1,10 @@
 -- The cycles of a proof graph in the words of games.
 use Rattle.std.specs.Prelude.{◌≡◌, ℕ, ◌%◌, Bool, List, ◌∷◌, map}
-use Rattle.pb_trees.specs.Players.{parity_of}
+use Rattle.pb_fixpoint_trees.specs.Players.{parity_of}
 use Rattle.pb_game.specs.Adjacency.{greatest_of}
-use Rattle.pb_trees.specs.Tree.{Tree}
-use Rattle.pb_trees.specs.Equations.{Signature}
-use Rattle.pb_trees.specs.Game.{priority_from}
+use Rattle.pb_fixpoint_trees.specs.Tree.{Tree}
+use Rattle.pb_fixpoint_trees.specs.Equations.{Signature}
+use Rattle.pb_fixpoint_trees.specs.Game.{priority_from}
 use Rattle.pb_evidence.specs.ProofGraphs.{Graph, RestsThrough, IsProofGraph}
 use Rattle.pb_evidence.specs.Strategies.{player_for}
 

@@ -1,17 +1,17 @@
 -- The graphs that a certificate's strategies give: an instance rests on those whose vertices its
 -- winner's play comes to next, over vertices of brackets alone.
 use Rattle.std.specs.Prelude.{◌≡◌, ◌≢◌, ℕ, Bool, true, false, List, [], ◌∷◌, Contains}
-use Rattle.pb_trees.specs.declared.player.Player.TheVariants.{Even, Odd}
-use Rattle.pb_trees.specs.declared.player.Player.{Player}
+use Rattle.pb_fixpoint_trees.specs.declared.player.Player.TheVariants.{Even, Odd}
+use Rattle.pb_fixpoint_trees.specs.declared.player.Player.{Player}
 use Rattle.pb_game.specs.declared.Game.{Game}
 use Rattle.pb_game.specs.Games.{priority_of}
 use Rattle.pb_game.specs.declared.certificate.Solution.{Solution}
 use Rattle.pb_game.specs.Solutions.{winner_of}
 use Rattle.pb_game.specs.Certificates.{IsKept, IsCertificate}
-use Rattle.pb_trees.specs.Tree.{Tree}
-use Rattle.pb_trees.specs.Equations.{Signature}
-use Rattle.pb_trees.specs.Game.{vertex_of}
-use Rattle.pb_trees.specs.Rows.{Row, IsReached}
+use Rattle.pb_fixpoint_trees.specs.Tree.{Tree}
+use Rattle.pb_fixpoint_trees.specs.Equations.{Signature}
+use Rattle.pb_fixpoint_trees.specs.Game.{vertex_of}
+use Rattle.pb_fixpoint_trees.specs.Rows.{Row, IsReached}
 use Rattle.pb_strategy.specs.Meaning.{IsGameOfRows}
 use Rattle.pb_evidence.specs.ProofGraphs.{Graph, RestsOn, IsProofGraph}
 use Rattle.pb_evidence.specs.Supports.{RestsOnChoices}

@@ -4,9 +4,9 @@
 -- A conjunction is false by one, and true by all. What isn't chosen is left out, so that a support
 -- has no call to which its choice doesn't come.
 use Rattle.std.specs.Prelude.{◌≡◌, ◌⊎◌, ◌↔◌, ℕ, Bool, true, false, List, [], ◌∷◌, ◌++◌, Contains}
-use Rattle.pb_trees.specs.Tree.{Connective, Conjunction, Disjunction, of_none, tree_truth}
-use Rattle.pb_trees.specs.Tree.{Leaf, Yes, No, Cut, Call, Operands, End, LeafThen, BracketThen}
-use Rattle.pb_trees.specs.Tree.{Tree, Single, Root}
+use Rattle.pb_fixpoint_trees.specs.Tree.{Connective, Conjunction, Disjunction, of_none, tree_truth}
+use Rattle.pb_fixpoint_trees.specs.Tree.{Leaf, Yes, No, Cut, Call, Operands, End, LeafThen, BracketThen}
+use Rattle.pb_fixpoint_trees.specs.Tree.{Tree, Single, Root}
 use Rattle.pb_evidence.specs.ProofGraphs.{Graph, exactly}
 
 -- a call has the value by itself; the other leaves have theirs by no call

@@ -7,11 +7,11 @@ use Rattle.std.specs.Prelude.{ℤ, int_le, is_some, reverse}
 use Rattle.std.specs.List.{slice_get}
 use Rattle.std.proofs.lemmas.List.{length-map, reverse-append}
 use Rattle.std.proofs.lemmas.Bool.{and_from, or_right}
-use Rattle.pb_carriers.specs.Carrier as carriers
+use Rattle.pb_base_values.specs.Carrier as carriers
 use Rattle.pb_sorts.specs.declared.carrier.Carrier.{Carrier}
 use Rattle.pb_sorts.specs.Carrier.{values_of}
-use Rattle.pb_trees.specs.declared.Token.{Token}
-use Rattle.pb_trees.specs.declared.Token.TheVariants as token
+use Rattle.pb_fixpoint_trees.specs.declared.Token.{Token}
+use Rattle.pb_fixpoint_trees.specs.declared.Token.TheVariants as token
 use Rattle.pb_bytecode_program.specs.Values.{TaggedValue, IntValue, untagged}
 use Rattle.pb_bytecode_program.specs.Machine
 use Rattle.pb_bytecode_program.specs.Machine.{Program, State, Outcome, MachineFault, argument_fault}

@@ -5,8 +5,8 @@ use Rattle.std.specs.Prelude.{IsSome, cond}
 use Rattle.std.specs.List.{find, slice_get}
 use Rattle.std.proofs.lemmas.Bool.{and_parts, eqb-true}
 use Rattle.std.proofs.lemmas.Option.{slice_get-get_or}
-use Rattle.pb_carriers.specs.Carrier as carriers
-use Rattle.pb_carriers.specs.Carrier.{Tuple}
+use Rattle.pb_base_values.specs.Carrier as carriers
+use Rattle.pb_base_values.specs.Carrier.{Tuple}
 use Rattle.pb_text_tree.specs.declared.place.Place.{Place}
 use Rattle.pb_text_tree.specs.Form.{EquationForm, SpecForm}
 use Rattle.pb_sorts.specs.declared.carrier.Carrier.{Carrier}
@@ -15,7 +15,7 @@ use Rattle.pb_sorts.specs.Instance.{Instance, instances, is_instance, is_tuple_o
 use Rattle.pb_sorts.specs.Layout.{carriers_of, count_of}
 use Rattle.pb_sorts.proofs.Numbers.{is_instance-slice_get, number-is_instance, number_of-slice_get}
 use Rattle.pb_sorts.proofs.Places.{map_cases, slice_get-mapped}
-use Rattle.pb_trees.specs.Tree.{Tree, TreeCalls}
+use Rattle.pb_fixpoint_trees.specs.Tree.{Tree, TreeCalls}
 use Rattle.pb_text_meaning.specs.Erase.{erase, erased_equation, erased_variables}
 use Rattle.pb_text_meaning.specs.Formula as meaning
 use Rattle.pb_text_meaning.specs.Positive.{IsPositive}
@@ -24,12 +24,12 @@ use Rattle.pb_text_meaning.specs.Syntax.{Equation, Operator, Spec}
 use Rattle.pb_typing_rules.specs.Formula.{IsProper}
 use Rattle.pb_typing_rules.specs.WellTyped.{IsWellTyped, parameter_scope}
 use Rattle.pb_typing_rules.specs.Scope.{Scope, bound}
-use Rattle.pb_typed_tree.specs.Calls.{calls, calls_in}
-use Rattle.pb_typed_tree.specs.Elaboration.{Slotting, elaborated, elaborated_equation, unslotted}
-use Rattle.pb_typed_tree.specs.Elaboration.{with_slots}
-use Rattle.pb_typed_tree.specs.Meaning.{Slots}
-use Rattle.pb_typed_tree.proofs.EquationsFit.{within-length}
-use Rattle.pb_evaluation.specs.Environment.{all_carriers}
+use Rattle.pb_typing_tree.specs.Calls.{calls, calls_in}
+use Rattle.pb_typing_tree.specs.Elaboration.{Slotting, elaborated, elaborated_equation, unslotted}
+use Rattle.pb_typing_tree.specs.Elaboration.{with_slots}
+use Rattle.pb_typing_tree.specs.Meaning.{Slots}
+use Rattle.pb_typing_tree.proofs.EquationsFit.{within-length}
+use Rattle.pb_typing_values.specs.Environment.{all_carriers}
 use Rattle.pb_bytecode_program.specs.Machine.{Program}
 use Rattle.pb_bytecode_program.specs.Safety.{AreArguments, EndsWith}
 use Rattle.pb_bytecode.specs.Contents.{Contents, EquationContents}
@@ -45,11 +45,11 @@ use Rattle.pb_assembler_scheme.proofs.FullCalls.{equation-full}
 use Rattle.pb_assembler_scheme.proofs.Numbered.{HasSlots}
 use Rattle.pb_assembler_scheme.proofs.Slots.{program-slots}
 use Rattle.pb_assembler_modules.specs.Module.{AreEquationsOf, IsCompiledModule, IsEquationOf}
-use Rattle.pb_call_places.specs.Calls.{same_place}
-use Rattle.pb_call_places.specs.Made.{first_made, made}
-use Rattle.pb_call_places.proofs.Callers.{first-kept, proper-at}
-use Rattle.pb_call_places.proofs.Elaborated.{calls-kept}
-use Rattle.pb_call_places.proofs.Unmade.{any_at, nothing_made}
+use Rattle.pb_evidence_calls.specs.Calls.{same_place}
+use Rattle.pb_evidence_calls.specs.Made.{first_made, made}
+use Rattle.pb_evidence_calls.proofs.Callers.{first-kept, proper-at}
+use Rattle.pb_evidence_calls.proofs.Elaborated.{calls-kept}
+use Rattle.pb_evidence_calls.proofs.Unmade.{any_at, nothing_made}
 use Rattle.pb_evidence_places.specs.CallPlaces.{AreCalled, instance_numbered, place_of_call}
 use Rattle.pb_evidence_places.proofs.Carriers.{equations_carriers}
 use Rattle.pb_evidence_places.proofs.FormulaCode.{NamesOnly, tree-names}
@@ -58,7 +58,7 @@ use Rattle.pb_evidence_places.proofs.Placing.{place_known}
 use Rattle.pb_evidence_places.proofs.Supported.{named-called}
 use Rattle.pb_bytecode.proofs.InstanceCounts.{count_is_total}
 use Rattle.pb_game_of_trees.specs.Explored.{ModuleHasTrees}
-use Rattle.pb_trees.specs.Equations.{total}
+use Rattle.pb_fixpoint_trees.specs.Equations.{total}
 use Rattle.pb_evidence.specs.Evidence.{graph_of}
 use Rattle.pb_evidence.specs.declared.Evidence.{Evidence}
 use Rattle.pb_report.specs.ModuleEvidence.{IsModuleEvidence}

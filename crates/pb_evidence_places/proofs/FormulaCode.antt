@@ -4,11 +4,11 @@ use Rattle.std.proofs.Common.{◌∷◌, ◌++◌, map, length, Option, Some, No
 use Rattle.std.proofs.Common.{add-one, arith}
 use Rattle.std.specs.Prelude.{ℤ, nat_lt, ◌==◌}
 use Rattle.std.specs.List.{slice_get}
-use Rattle.pb_carriers.specs.Carrier.{Tuple}
+use Rattle.pb_base_values.specs.Carrier.{Tuple}
 use Rattle.pb_sorts.specs.declared.carrier.Carrier.{Carrier}
-use Rattle.pb_trees.specs.declared.Token.{Token}
-use Rattle.pb_trees.specs.declared.Token.TheVariants as token
-use Rattle.pb_trees.specs.Tree.{Tree, TreeCalls}
+use Rattle.pb_fixpoint_trees.specs.declared.Token.{Token}
+use Rattle.pb_fixpoint_trees.specs.declared.Token.TheVariants as token
+use Rattle.pb_fixpoint_trees.specs.Tree.{Tree, TreeCalls}
 use Rattle.pb_text_meaning.specs.Value.{is_true}
 use Rattle.pb_bytecode_program.specs.Values.{TaggedValue, untagged, tagged_values}
 use Rattle.pb_bytecode_program.specs.Counts.{static_steps}

@@ -1,7 +1,7 @@
 -- The values that a loop's slot takes are those of its carrier.
 use Rattle.std.proofs.Common.{◌≡◌, ℕ, zero, suc, ◌+◌, List, [], ◌∷◌, map, Option, Some, None, refl, ap}
 use Rattle.std.specs.Prelude.{ℤ, pos}
-use Rattle.pb_carriers.specs.Carrier.{numbers_from}
+use Rattle.pb_base_values.specs.Carrier.{numbers_from}
 use Rattle.pb_sorts.specs.declared.carrier.Carrier.{Carrier}
 use Rattle.pb_sorts.specs.declared.carrier.Carrier.TheVariants as carrier
 use Rattle.pb_typing_declarations.specs.Entries.{carrier_shape}

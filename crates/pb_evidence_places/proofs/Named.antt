@@ -22,10 +22,10 @@ use Rattle.pb_text_meaning.specs.Value.{is_true, of_values}
 use Rattle.pb_text_meaning.proofs.Truths.{is_true-of_bool}
 use Rattle.pb_typing_declarations.specs.Shapes.{shape_carrier}
 use Rattle.pb_typing_rules.specs.Faults.{left_parity}
-use Rattle.pb_typed_tree.specs.Calls.{calls}
-use Rattle.pb_typed_tree.specs.Meaning.{Slots, set, truth, value}
-use Rattle.pb_typed_tree.specs.Tree as tree
-use Rattle.pb_typed_tree.specs.Tree.{Term, Argument, Formula, Test, Negation, Connected, Quantified, Call}
+use Rattle.pb_typing_tree.specs.Calls.{calls}
+use Rattle.pb_typing_tree.specs.Meaning.{Slots, set, truth, value}
+use Rattle.pb_typing_tree.specs.Tree as tree
+use Rattle.pb_typing_tree.specs.Tree.{Term, Argument, Formula, Test, Negation, Connected, Quantified, Call}
 use Rattle.pb_bytecode_program.specs.Machine.{Program, carrier_of}
 use Rattle.pb_normal.specs.Chains.{joins}
 use Rattle.pb_normal.specs.Normal as normal
@@ -34,9 +34,9 @@ use Rattle.pb_normal.specs.SignedForm.{signed_form}
 use Rattle.pb_assembler_scheme.specs.Correct.{HasFullCalls, IsFullCall}
 use Rattle.pb_assembler_scheme.specs.Scheme.{neutral, parameters, test_of}
 use Rattle.pb_assembler_scheme.proofs.Numbered.{HasSlots, argument_values, call_number}
-use Rattle.pb_call_places.specs.Calls.{decides, same_place}
-use Rattle.pb_call_places.specs.Made.{is_deciding, is_test, made}
-use Rattle.pb_call_places.specs.declared.side.Side.TheVariants.{Left, Right}
+use Rattle.pb_evidence_calls.specs.Calls.{decides, same_place}
+use Rattle.pb_evidence_calls.specs.Made.{is_deciding, is_test, made}
+use Rattle.pb_evidence_calls.specs.declared.side.Side.TheVariants.{Left, Right}
 use Rattle.pb_evidence_places.proofs.CallCode.{are_within}
 use Rattle.pb_evidence_places.proofs.FormulaCode.{BothName, NamesOnly, OfEach}
 use Rattle.pb_evidence_places.proofs.LoopValues.{values-of-loop}

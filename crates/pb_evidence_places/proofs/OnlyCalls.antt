@@ -1,11 +1,11 @@
 -- Tokens that call only instances of which something holds, and the tree that is made of them.
 use Rattle.std.proofs.Common.{ℕ, List, [], ◌∷◌, ◌++◌}
-use Rattle.pb_trees.specs.declared.Token.{Token}
-use Rattle.pb_trees.specs.declared.Token.TheVariants as token
-use Rattle.pb_trees.specs.Tree as trees
-use Rattle.pb_trees.specs.Tree.{Leaf, Operands, End, LeafThen, BracketThen, Tree, Single, Root}
-use Rattle.pb_trees.specs.Tree.{LeafCalls, OperandsCall, TreeCalls}
-use Rattle.pb_trees.specs.Tokens.{leaf_token, operands_tokens, tree_tokens}
+use Rattle.pb_fixpoint_trees.specs.declared.Token.{Token}
+use Rattle.pb_fixpoint_trees.specs.declared.Token.TheVariants as token
+use Rattle.pb_fixpoint_trees.specs.Tree as trees
+use Rattle.pb_fixpoint_trees.specs.Tree.{Leaf, Operands, End, LeafThen, BracketThen, Tree, Single, Root}
+use Rattle.pb_fixpoint_trees.specs.Tree.{LeafCalls, OperandsCall, TreeCalls}
+use Rattle.pb_fixpoint_trees.specs.Tokens.{leaf_token, operands_tokens, tree_tokens}
 
 module _ (P : ℕ → Type 0) where
   abbrev pub MayStand : Token → Type 0

@@ -2,9 +2,9 @@
 use Rattle.std.proofs.Common.{◌≡◌, ℕ, zero, suc, ◌<◌, inl, inr, Bool, true, false, List, [], ◌∷◌}
 use Rattle.std.proofs.Common.{◌++◌, length, get_or, sym, subst, arith}
 use Rattle.std.specs.Prelude.{Contains}
-use Rattle.pb_trees.specs.Tree as trees
-use Rattle.pb_trees.specs.Tree.{Connective, Conjunction, Disjunction, Leaf, Operands, End, LeafThen}
-use Rattle.pb_trees.specs.Tree.{BracketThen, Tree, Single, Root, LeafCalls, OperandsCall, TreeCalls}
+use Rattle.pb_fixpoint_trees.specs.Tree as trees
+use Rattle.pb_fixpoint_trees.specs.Tree.{Connective, Conjunction, Disjunction, Leaf, Operands, End, LeafThen}
+use Rattle.pb_fixpoint_trees.specs.Tree.{BracketThen, Tree, Single, Root, LeafCalls, OperandsCall, TreeCalls}
 use Rattle.pb_evidence.specs.Supports.{IsJoined, IsLeafSupport, IsOperandsSupport, IsTreeSupport}
 
 module _ (P : ℕ → Type 0) where

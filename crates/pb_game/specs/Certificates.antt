@@ -2,8 +2,8 @@
 -- along whose kept edges no play is lost (Jurdzinski 2000, for both players).
 use Rattle.std.specs.Prelude.{◌≡◌, ◌≢◌, ℕ, ◌%◌, ◌<◌, ◌≤◌, ◌⊎◌}
 use Rattle.pb_game.specs.declared.Game.{Game}
-use Rattle.pb_trees.specs.declared.player.Player.{Player}
-use Rattle.pb_trees.specs.Players.{parity_of}
+use Rattle.pb_fixpoint_trees.specs.declared.player.Player.{Player}
+use Rattle.pb_fixpoint_trees.specs.Players.{parity_of}
 use Rattle.pb_game.specs.Games.{vertex_count, owner_of, priority_of, priority_count, HasEdge}
 use Rattle.pb_game.specs.declared.certificate.Solution.{Solution}
 use Rattle.pb_game.specs.Solutions.{winner_of, choice_of, count_of, HasLengths}

@@ -2,7 +2,7 @@
 -- its first rule.
 use Rattle.std.specs.Prelude.{◌≡◌, ◌≢◌, ℕ, ◌%◌, ◌<◌}
 use Rattle.pb_game.specs.declared.Game.{Game}
-use Rattle.pb_trees.specs.Players.{parity_of}
+use Rattle.pb_fixpoint_trees.specs.Players.{parity_of}
 use Rattle.pb_game.specs.Games.{owner_of, priority_of, priority_count, HasEdge}
 use Rattle.pb_game.specs.declared.certificate.Solution.{Solution}
 use Rattle.pb_game.specs.declared.certificate.CertificateRule.{CertificateRule}

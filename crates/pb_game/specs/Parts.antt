@@ -2,13 +2,13 @@
 use Rattle.std.specs.Prelude.{◌≡◌, ℕ, ◌+◌, ◌<◌, ◌≤◌, length, slice_index, slice_index_or, All}
 use Rattle.std.specs.List.Sorted.{IsStrictlyIncreasing}
 use Rattle.pb_game.specs.declared.Game.{Game}
-use Rattle.pb_trees.specs.declared.player.Player.TheVariants.{Even}
+use Rattle.pb_fixpoint_trees.specs.declared.player.Player.TheVariants.{Even}
 use Rattle.pb_game.specs.declared.parts.Parts.{Parts}
 use Rattle.pb_game.specs.declared.parts.GameFault.{GameFault}
 use Rattle.pb_game.specs.declared.parts.GameFault.TheVariants.{TooManyVertices, Priorities, Places, Successors, TooManyPriorities}
 use Rattle.pb_game.specs.Adjacency.{row}
 use Rattle.pb_game.specs.Games.{vertex_count, owner_of, priority_of, successors_of}
-use Rattle.pb_limits.specs.declared.TheConstants.{MAX_VERTICES, MAX_PRIORITIES}
+use Rattle.pb_base_limits.specs.declared.TheConstants.{MAX_VERTICES, MAX_PRIORITIES}
 
 -- G01: vertices within their limit
 abbrev pub HasFewVertices : Parts → Type 0

@@ -14,14 +14,14 @@ mod solver;
 
 ghost use Rattle.std.specs.Prelude.{◌≡◌, ℕ, ◌<◌, ◌≤◌, length, slice_index, IfOk, IsTrue};
 ghost use Rattle.std.specs.Prelude.{Contains, ◌↔◌};
-ghost use Rattle.pb_errors.specs.OrMemory.{IfRefused};
+ghost use Rattle.pb_base_errors.specs.OrMemory.{IfRefused};
 ghost use Rattle.pb_game.specs.Adjacency.{IsFlatGame};
-ghost use Rattle.pb_limits.specs.declared.TheConstants.{MAX_VERTICES};
+ghost use Rattle.pb_base_limits.specs.declared.TheConstants.{MAX_VERTICES};
 
 use adjacency::row_of;
 pub use certificate::{CertificateRule, Flaw, Solution};
 pub use parts::{GameError, GameFault, Parts};
-pub use pb_trees::Player;
+pub use pb_fixpoint_trees::Player;
 use predecessors::{Predecessors, transpose};
 pub use solver::Solver;
 use std::alloc::{AllocError, Global};

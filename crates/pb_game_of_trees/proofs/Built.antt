@@ -1,14 +1,14 @@
 -- What is built from reached rows.
 use Rattle.std.proofs.Common.{◌≡◌, ℕ, ◌<◌, ◌≤◌, List, ◌∷◌, length, get_or, slice_index, sym, ap, ◌∙◌, subst, arith}
 use Rattle.std.proofs.lemmas.List.{get_or-map, length-map, get_or_default}
-use Rattle.pb_trees.specs.Tree.{Tree}
-use Rattle.pb_trees.specs.Equations.{Signature, total}
-use Rattle.pb_trees.specs.Rows.{Row, IsReached}
-use Rattle.pb_trees.specs.Game.{Vertex, vertex_of, priority_from, row_vertices, false_sink, true_sink, game_vertices}
-use Rattle.pb_trees.specs.Laws.{GameIsTotal}
-use Rattle.pb_trees.proofs.Calls.{tree_weaker}
-use Rattle.pb_rows.specs.Row as in_memory
-use Rattle.pb_limits.specs.declared.TheConstants.{MAX_VERTICES}
+use Rattle.pb_fixpoint_trees.specs.Tree.{Tree}
+use Rattle.pb_fixpoint_trees.specs.Equations.{Signature, total}
+use Rattle.pb_fixpoint_trees.specs.Rows.{Row, IsReached}
+use Rattle.pb_fixpoint_trees.specs.Game.{Vertex, vertex_of, priority_from, row_vertices, false_sink, true_sink, game_vertices}
+use Rattle.pb_fixpoint_trees.specs.Laws.{GameIsTotal}
+use Rattle.pb_fixpoint_trees.proofs.Calls.{tree_weaker}
+use Rattle.pb_fixpoint_rows.specs.Row as in_memory
+use Rattle.pb_base_limits.specs.declared.TheConstants.{MAX_VERTICES}
 use Rattle.pb_game_of_trees.specs.Held.{held}
 use Rattle.pb_game_of_trees.specs.declared.levels.Level.{Level}
 use Rattle.pb_game_of_trees.specs.Draft.{MakeGame}

@@ -6,9 +6,9 @@ use Rattle.std.proofs.lemmas.Bool.{lt-ltb, le-ltb}
 use Rattle.std.specs.Prelude.{nat_lt}
 use Rattle.pb_fixpoint.specs.declared.Sign.{Sign}
 use Rattle.pb_fixpoint.specs.declared.Sign.TheVariants.{Mu, Nu}
-use Rattle.pb_trees.specs.Equations as equations
-use Rattle.pb_trees.specs.Equations.{total}
-use Rattle.pb_trees.specs.Game.{last_priority, priority_before, first_priority, priority_from}
+use Rattle.pb_fixpoint_trees.specs.Equations as equations
+use Rattle.pb_fixpoint_trees.specs.Equations.{total}
+use Rattle.pb_fixpoint_trees.specs.Game.{last_priority, priority_before, first_priority, priority_from}
 use Rattle.pb_game_of_trees.specs.declared.signature.Signature.{Signature}
 use Rattle.pb_game_of_trees.specs.Equations.{plain}
 use Rattle.pb_game_of_trees.specs.declared.levels.Level.{Level}

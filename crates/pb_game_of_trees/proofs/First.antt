@@ -2,12 +2,12 @@
 use Rattle.std.proofs.Common.{◌≡◌, ℕ, zero, suc, ◌<◌, ◌≤◌, List, [], ◌∷◌, ◌++◌, length, get_or, drop, Option, Some, None, refl, sym, ap, ◌∙◌, subst, append_assoc, arith}
 use Rattle.std.specs.Prelude.{slice_get}
 use Rattle.std.proofs.Math.Seq.{drop-length}
-use Rattle.pb_trees.specs.declared.Token.{Token}
-use Rattle.pb_trees.specs.declared.Token.TheVariants as token
-use Rattle.pb_trees.specs.Tree.{Connective, Conjunction, Disjunction, Leaf, Yes, No, Cut, Call, Operands, End, LeafThen, BracketThen, Tree, Single, Root, OperandsCall, TreeCalls}
-use Rattle.pb_trees.specs.Tokens.{opening, leaf_token, operands_tokens, tree_tokens}
-use Rattle.pb_trees.specs.Game.{inner}
-use Rattle.pb_trees.proofs.OneTree.{Role, AtLeaf, Opens, Closes, role, role-leaf, role-opening}
+use Rattle.pb_fixpoint_trees.specs.declared.Token.{Token}
+use Rattle.pb_fixpoint_trees.specs.declared.Token.TheVariants as token
+use Rattle.pb_fixpoint_trees.specs.Tree.{Connective, Conjunction, Disjunction, Leaf, Yes, No, Cut, Call, Operands, End, LeafThen, BracketThen, Tree, Single, Root, OperandsCall, TreeCalls}
+use Rattle.pb_fixpoint_trees.specs.Tokens.{opening, leaf_token, operands_tokens, tree_tokens}
+use Rattle.pb_fixpoint_trees.specs.Game.{inner}
+use Rattle.pb_fixpoint_trees.proofs.OneTree.{Role, AtLeaf, Opens, Closes, role, role-leaf, role-opening}
 use Rattle.pb_game_of_trees.specs.Builder.{behind_first, first_token, rest_tokens, rest_at, opened, rest_brackets, CallsBelow}
 
 -- ---- which operands a token begins

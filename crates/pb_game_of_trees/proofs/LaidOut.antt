@@ -1,8 +1,8 @@
 -- What is said of vertices that are laid out, where it is known whether they are.
 use Rattle.std.proofs.Common.{◌≡◌, ◌≤◌, ◌<◌, List, Option, None, Some, sym, ap, ◌∙◌, subst}
 use Rattle.std.specs.Prelude.{MatchOption, IfSome}
-use Rattle.pb_trees.specs.Rows.{Row}
-use Rattle.pb_limits.specs.declared.TheConstants.{MAX_VERTICES}
+use Rattle.pb_fixpoint_trees.specs.Rows.{Row}
+use Rattle.pb_base_limits.specs.declared.TheConstants.{MAX_VERTICES}
 use Rattle.pb_game_of_trees.specs.Places.{vertex_behind, vertices_from}
 use Rattle.pb_game_of_trees.specs.declared.places.Laid as made
 

@@ -2,10 +2,10 @@
 use Rattle.std.proofs.Common.{◌≡◌, ℕ, zero, suc, ◌+◌, ◌<◌, ◌≤◌, List, [], ◌∷◌, ◌++◌, length, Some, inl, inr, subst, arith}
 use Rattle.std.specs.Prelude.{slice_get, nat_lt}
 use Rattle.std.proofs.lemmas.Bool.{cases_Bool, cond-true, cond-false}
-use Rattle.pb_trees.specs.Tree.{Operands, End, LeafThen, BracketThen, Tree, Single, Root}
-use Rattle.pb_trees.specs.Equations.{Signature}
-use Rattle.pb_trees.specs.Rows.{Row}
-use Rattle.pb_trees.specs.Game.{Vertex, first_priority, priority_from, brackets, inner, inner_vertices, tree_vertices, row_vertices, game_vertices, vertex_of}
+use Rattle.pb_fixpoint_trees.specs.Tree.{Operands, End, LeafThen, BracketThen, Tree, Single, Root}
+use Rattle.pb_fixpoint_trees.specs.Equations.{Signature}
+use Rattle.pb_fixpoint_trees.specs.Rows.{Row}
+use Rattle.pb_fixpoint_trees.specs.Game.{Vertex, first_priority, priority_from, brackets, inner, inner_vertices, tree_vertices, row_vertices, game_vertices, vertex_of}
 use Rattle.pb_game_of_trees.proofs.EquationLevels.{priority_before-le, last_priority-le}
 
 -- a fact of each vertex of a list

@@ -3,11 +3,11 @@ use Rattle.std.proofs.Common.{◌≡◌, ℕ, zero, suc, ◌<◌, List, [], ◌�
 use Rattle.std.specs.Prelude.{slice_get}
 use Rattle.std.proofs.lemmas.List.{get_or-map, length-map}
 use Rattle.std.proofs.lemmas.Option.{get_or_from_slice_get}
-use Rattle.pb_trees.specs.Tree.{Tree}
-use Rattle.pb_trees.specs.Equations.{Signature}
-use Rattle.pb_trees.specs.Rows.{Row, IsReached}
-use Rattle.pb_trees.specs.Game.{game_vertices, vertex_of}
-use Rattle.pb_trees.specs.Laws.{RowsHaveVertices}
+use Rattle.pb_fixpoint_trees.specs.Tree.{Tree}
+use Rattle.pb_fixpoint_trees.specs.Equations.{Signature}
+use Rattle.pb_fixpoint_trees.specs.Rows.{Row, IsReached}
+use Rattle.pb_fixpoint_trees.specs.Game.{game_vertices, vertex_of}
+use Rattle.pb_fixpoint_trees.specs.Laws.{RowsHaveVertices}
 use Rattle.pb_game.specs.Games.{vertex_count}
 use Rattle.pb_game_of_trees.specs.declared.tree_game.TreeGame.{TreeGame}
 use Rattle.pb_game_of_trees.specs.TreeGame.{IsTreeGame}

@@ -2,13 +2,13 @@
 use Rattle.std.proofs.Common.{◌≡◌, ℕ, suc, ◌<◌, List, [], ◌∷◌, All, Contains, length, get_or, refl, sym, ap, ◌∙◌, subst, arith}
 use Rattle.std.specs.List.Sorted.{IsStrictlyIncreasing}
 use Rattle.std.proofs.lemmas.List.{get_or-map, length-map}
-use Rattle.pb_trees.specs.declared.Token.{Token}
-use Rattle.pb_trees.specs.Tree.{Tree}
-use Rattle.pb_trees.specs.Tokens.{tree_tokens}
-use Rattle.pb_trees.specs.Equations.{Signature}
-use Rattle.pb_trees.specs.Rows as plain
-use Rattle.pb_rows.specs.Row.{TokenRow, nothing}
-use Rattle.pb_rows.specs.Reached.{numbers_of, row_of, rows_of, AreRowsOf}
+use Rattle.pb_fixpoint_trees.specs.declared.Token.{Token}
+use Rattle.pb_fixpoint_trees.specs.Tree.{Tree}
+use Rattle.pb_fixpoint_trees.specs.Tokens.{tree_tokens}
+use Rattle.pb_fixpoint_trees.specs.Equations.{Signature}
+use Rattle.pb_fixpoint_trees.specs.Rows as plain
+use Rattle.pb_fixpoint_rows.specs.Row.{TokenRow, nothing}
+use Rattle.pb_fixpoint_rows.specs.Reached.{numbers_of, row_of, rows_of, AreRowsOf}
 use Rattle.pb_game_of_trees.specs.Held.{held, Hold}
 use Rattle.pb_game_of_trees.specs.Places.{numbers}
 

@@ -1,11 +1,11 @@
 -- What reading a token comes to, by what comes first of what is open.
 use Rattle.std.proofs.Common.{◌≡◌, ℕ, suc, ◌-◌, ◌<◌, ◌≤◌, List, [], ◌∷◌, length, get_or, Some, Result, Ok, Err, refl, sym, ap, ◌∙◌, subst, arith}
 use Rattle.std.specs.Prelude.{OnOk, slice_get}
-use Rattle.pb_trees.specs.declared.Token.{Token}
-use Rattle.pb_trees.specs.declared.Token.TheVariants as token
-use Rattle.pb_trees.specs.Tree.{Connective, Leaf, Operands, End, LeafThen, BracketThen, Tree, Single, Root}
-use Rattle.pb_trees.specs.Tokens.{opening, leaf_token, tree_tokens}
-use Rattle.pb_trees.specs.Game.{Vertex, target, inner}
+use Rattle.pb_fixpoint_trees.specs.declared.Token.{Token}
+use Rattle.pb_fixpoint_trees.specs.declared.Token.TheVariants as token
+use Rattle.pb_fixpoint_trees.specs.Tree.{Connective, Leaf, Operands, End, LeafThen, BracketThen, Tree, Single, Root}
+use Rattle.pb_fixpoint_trees.specs.Tokens.{opening, leaf_token, tree_tokens}
+use Rattle.pb_fixpoint_trees.specs.Game.{Vertex, target, inner}
 use Rattle.pb_game_of_trees.specs.declared.builder.Builder.{Builder}
 use Rattle.pb_game_of_trees.specs.Builder.{IsAt, IsBefore, IsBeforeFirst, HasTree, opened, first_token, behind_first, rest_at, rest_tokens}
 use Rattle.pb_game_of_trees.proofs.First.{closes, leaf_first, bracket_first, root_first, single_first, first_at, rest_at-all, rest_brackets-at, opened-brackets, length-tree_tokens, token_behind}

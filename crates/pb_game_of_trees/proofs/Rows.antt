@@ -1,11 +1,11 @@
 -- The rows that the program holds, one after the other.
 use Rattle.std.proofs.Common.{◌≡◌, ℕ, zero, suc, ◌+◌, ◌-◌, ◌<◌, ◌≤◌, List, [], ◌∷◌, ◌++◌, length, get_or, take, drop, count_by, Contains, map, refl, sym, ap, ◌∙◌, subst, arith}
 use Rattle.std.proofs.lemmas.List.{get_or-map}
-use Rattle.pb_trees.specs.Rows.{Row}
-use Rattle.pb_trees.specs.Tree.{Tree}
-use Rattle.pb_trees.specs.Tokens.{tree_tokens}
-use Rattle.pb_trees.specs.Game.{inner}
-use Rattle.pb_rows.specs.Row as in_memory
+use Rattle.pb_fixpoint_trees.specs.Rows.{Row}
+use Rattle.pb_fixpoint_trees.specs.Tree.{Tree}
+use Rattle.pb_fixpoint_trees.specs.Tokens.{tree_tokens}
+use Rattle.pb_fixpoint_trees.specs.Game.{inner}
+use Rattle.pb_fixpoint_rows.specs.Row as in_memory
 use Rattle.pb_game_of_trees.specs.Held.{held, Hold}
 use Rattle.pb_game_of_trees.specs.Places.{vertex_behind, vertices_from, numbers, is_closing}
 use Rattle.pb_game_of_trees.proofs.Closing.{closing_tree}

@@ -1,7 +1,7 @@
 -- How many instances the equations of a module have.
 use Rattle.std.proofs.Common.{◌≡◌, ℕ, zero, suc, ◌<◌, List, [], ◌∷◌, length, get_or, map, Some, sym, ap, arith}
 use Rattle.std.specs.Prelude.{slice_get}
-use Rattle.pb_carriers.specs.Carrier.{tuple_count}
+use Rattle.pb_base_values.specs.Carrier.{tuple_count}
 use Rattle.pb_sorts.specs.Carrier.{values_of}
 use Rattle.pb_sorts.specs.Instance.{size_of}
 use Rattle.pb_sorts.specs.Layout.{carriers_of}

@@ -1,6 +1,6 @@
 -- The numbers of edges from each vertex on.
 use Rattle.std.proofs.Common.{◌≡◌, ℕ, zero, suc, ◌+◌, ◌<◌, ◌≤◌, List, [], ◌∷◌, ◌++◌, length, get_or, length-append, arith}
-use Rattle.pb_trees.specs.Game.{Vertex}
+use Rattle.pb_fixpoint_trees.specs.Game.{Vertex}
 use Rattle.pb_game_of_trees.specs.Draft.{successors, edge_sums}
 
 pub edge_sums-le : (vs : List Vertex) (k d : ℕ) → k < length (edge_sums vs) → get_or (edge_sums vs) k d ≤ length (successors vs)

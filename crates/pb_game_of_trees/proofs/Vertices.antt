@@ -5,11 +5,11 @@ use Rattle.std.specs.List.Sorted.{IsStrictlyIncreasing}
 use Rattle.std.proofs.lemmas.Bool.{cases_Bool, eqb-true, eqb-false, cond-true, cond-false}
 use Rattle.std.proofs.lemmas.List.{get_or-map, length-map, get_or_default, same_lists}
 use Rattle.pb_game.proofs.Rising.{rising_lt}
-use Rattle.pb_trees.specs.declared.player.Player.TheVariants.{Even}
-use Rattle.pb_trees.specs.Tree.{Connective, Leaf, Yes, No, Cut, Call, Operands, End, LeafThen, BracketThen, Tree, Single, Root, LeafCalls, OperandsCall, TreeCalls}
-use Rattle.pb_trees.specs.Rows.{Row, IsReached}
-use Rattle.pb_trees.specs.Game.{Vertex, brackets, inner, vertex_from, vertex_of, target, targets, rising_or, sink_of, owner_of, bracket_vertex, inner_vertices, tree_vertices, row_vertices}
-use Rattle.pb_trees.proofs.Lengths.{length-tree_vertices}
+use Rattle.pb_fixpoint_trees.specs.declared.player.Player.TheVariants.{Even}
+use Rattle.pb_fixpoint_trees.specs.Tree.{Connective, Leaf, Yes, No, Cut, Call, Operands, End, LeafThen, BracketThen, Tree, Single, Root, LeafCalls, OperandsCall, TreeCalls}
+use Rattle.pb_fixpoint_trees.specs.Rows.{Row, IsReached}
+use Rattle.pb_fixpoint_trees.specs.Game.{Vertex, brackets, inner, vertex_from, vertex_of, target, targets, rising_or, sink_of, owner_of, bracket_vertex, inner_vertices, tree_vertices, row_vertices}
+use Rattle.pb_fixpoint_trees.proofs.Lengths.{length-tree_vertices}
 use Rattle.pb_game_of_trees.specs.Places.{vertex_behind, vertices_from, numbers}
 
 -- ---- vertices of numbers

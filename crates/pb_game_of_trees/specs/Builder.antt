@@ -1,12 +1,12 @@
 -- What a builder has read of a tree: the operands that stand behind the tokens not yet read.
 use Rattle.std.specs.Prelude.{◌≡◌, ℕ, zero, suc, ◌+◌, ◌<◌, List, [], ◌∷◌, ◌++◌, length, reverse}
 use Rattle.std.specs.Prelude.{Option, None, Some, slice_get}
-use Rattle.pb_trees.specs.declared.Token.{Token}
-use Rattle.pb_trees.specs.declared.Token.TheVariants as token
-use Rattle.pb_trees.specs.Tree.{Connective, Conjunction, Disjunction, Operands, End, LeafThen}
-use Rattle.pb_trees.specs.Tree.{BracketThen, Tree, Single, Root}
-use Rattle.pb_trees.specs.Tokens.{opening, leaf_token, operands_tokens, tree_tokens}
-use Rattle.pb_trees.specs.Game.{Vertex, brackets, targets, inner, inner_vertices, tree_vertices}
+use Rattle.pb_fixpoint_trees.specs.declared.Token.{Token}
+use Rattle.pb_fixpoint_trees.specs.declared.Token.TheVariants as token
+use Rattle.pb_fixpoint_trees.specs.Tree.{Connective, Conjunction, Disjunction, Operands, End, LeafThen}
+use Rattle.pb_fixpoint_trees.specs.Tree.{BracketThen, Tree, Single, Root}
+use Rattle.pb_fixpoint_trees.specs.Tokens.{opening, leaf_token, operands_tokens, tree_tokens}
+use Rattle.pb_fixpoint_trees.specs.Game.{Vertex, brackets, targets, inner, inner_vertices, tree_vertices}
 use Rattle.pb_game_of_trees.specs.declared.bracket.Bracket.{Bracket}
 use Rattle.pb_game_of_trees.specs.declared.bracket.Bracket.TheVariants.{And, Or}
 use Rattle.pb_game_of_trees.specs.declared.builder.Builder.{Builder}

@@ -2,10 +2,10 @@
 use Rattle.std.specs.Prelude.{◌≡◌, ℕ, ◌-◌, ◌<◌, ◌≤◌, List, [], ◌∷◌, length, map, reverse, slice_get}
 use Rattle.std.specs.Prelude.{Some}
 use Rattle.std.specs.List.{flat_map}
-use Rattle.pb_trees.specs.Game.{Vertex}
-use Rattle.pb_trees.specs.Laws.{IsGameVertex}
-use Rattle.pb_trees.specs.declared.player.Player.{Player}
-use Rattle.pb_limits.specs.declared.TheConstants.{MAX_VERTICES, MAX_PRIORITIES}
+use Rattle.pb_fixpoint_trees.specs.Game.{Vertex}
+use Rattle.pb_fixpoint_trees.specs.Laws.{IsGameVertex}
+use Rattle.pb_fixpoint_trees.specs.declared.player.Player.{Player}
+use Rattle.pb_base_limits.specs.declared.TheConstants.{MAX_VERTICES, MAX_PRIORITIES}
 use Rattle.pb_game.specs.declared.parts.Parts.{Parts}
 use Rattle.pb_game_of_trees.specs.declared.draft.Draft.{Draft}
 

@@ -2,12 +2,12 @@
 use Rattle.std.specs.Prelude.{◌≡◌, ℕ, suc, ◌+◌, ◌<◌, Bool, true, false, List, [], ◌∷◌, map}
 use Rattle.std.specs.Prelude.{Contains, slice_index, ◌==◌}
 use Rattle.std.specs.List.{position_or_len}
-use Rattle.pb_trees.specs.declared.Token.{Token}
-use Rattle.pb_trees.specs.declared.Token.TheVariants.{Close}
-use Rattle.pb_trees.specs.Tree.{TreeCalls}
-use Rattle.pb_trees.specs.Rows.{Row}
-use Rattle.pb_trees.specs.Game.{inner}
-use Rattle.pb_rows.specs.Row as in_memory
+use Rattle.pb_fixpoint_trees.specs.declared.Token.{Token}
+use Rattle.pb_fixpoint_trees.specs.declared.Token.TheVariants.{Close}
+use Rattle.pb_fixpoint_trees.specs.Tree.{TreeCalls}
+use Rattle.pb_fixpoint_trees.specs.Rows.{Row}
+use Rattle.pb_fixpoint_trees.specs.Game.{inner}
+use Rattle.pb_fixpoint_rows.specs.Row as in_memory
 use Rattle.pb_game_of_trees.specs.Held.{Hold}
 
 -- the vertex behind those of the rows, which begin at next

@@ -1,6 +1,6 @@
 //! What a bracket of a tree is in the game: whose vertex, and which sink where it is empty.
 ghost use Rattle.std.specs.Prelude.{◌≡◌};
-ghost use Rattle.pb_trees.specs.Game.{owner_of, sink_of};
+ghost use Rattle.pb_fixpoint_trees.specs.Game.{owner_of, sink_of};
 ghost use Rattle.pb_game_of_trees.specs.Builder.{connective};
 
 use pb_game::Player;

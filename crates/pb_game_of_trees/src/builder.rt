@@ -3,10 +3,10 @@
 //! its vertex goes before those of the brackets inside it.
 ghost use Rattle.std.specs.Prelude.{◌≡◌, ◌∷◌, ◌<◌, ◌≤◌, ℕ, OnOk, List, [], length};
 ghost use Rattle.std.specs.Prelude.{slice_index};
-ghost use Rattle.pb_trees.specs.Tree.{Operands, End, LeafThen, BracketThen, Leaf, Root, Single};
-ghost use Rattle.pb_trees.specs.Tree.{Tree, TreeCalls};
-ghost use Rattle.pb_trees.specs.Tokens.{tree_tokens};
-ghost use Rattle.pb_trees.specs.Game.{Vertex, rising_or, owner_of, sink_of, target, inner};
+ghost use Rattle.pb_fixpoint_trees.specs.Tree.{Operands, End, LeafThen, BracketThen, Leaf, Root, Single};
+ghost use Rattle.pb_fixpoint_trees.specs.Tree.{Tree, TreeCalls};
+ghost use Rattle.pb_fixpoint_trees.specs.Tokens.{tree_tokens};
+ghost use Rattle.pb_fixpoint_trees.specs.Game.{Vertex, rising_or, owner_of, sink_of, target, inner};
 ghost use Rattle.pb_game_of_trees.specs.Draft.{IsDraft};
 ghost use Rattle.pb_game_of_trees.specs.Numbering.{table_of};
 ghost use Rattle.pb_game_of_trees.specs.Builder.{CallsBelow, IsAt, IsBefore, IsBeforeFirst};
@@ -15,9 +15,9 @@ ghost use Rattle.pb_game_of_trees.specs.Builder.{HasFrame, HasFinished, HasTree,
 use crate::bracket::{Bracket, owner, sink};
 use crate::draft::Draft;
 use crate::numbering::Numbering;
+use pb_fixpoint_rows::IndexedRows;
+use pb_fixpoint_trees::Token;
 use pb_game::Player;
-use pb_rows::IndexedRows;
-use pb_trees::Token;
 use std::alloc::AllocError;
 
 /// How many rows are looked at before the first of them is built.

@@ -1,6 +1,6 @@
 //! Lists of numbers in order, each once.
 ghost use Rattle.std.specs.Prelude.{◌≡◌, ◌++◌, OnOk, reverse, IsTrue, ◌↔◌};
-ghost use Rattle.pb_trees.specs.Game.{rising};
+ghost use Rattle.pb_fixpoint_trees.specs.Game.{rising};
 ghost use Rattle.pb_game_of_trees.specs.Falling.{IsFalling};
 
 use std::alloc::AllocError;

@@ -1,6 +1,6 @@
 //! The game of flat lists.
 ghost use Rattle.std.specs.Prelude.{IfOk, List};
-ghost use Rattle.pb_trees.specs.Game.{Vertex};
+ghost use Rattle.pb_fixpoint_trees.specs.Game.{Vertex};
 ghost use Rattle.pb_strategy.specs.Vertices.{HasVertices};
 ghost use Rattle.pb_game_of_trees.specs.Draft.{ArePartsOf, MakeGame};
 

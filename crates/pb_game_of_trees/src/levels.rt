@@ -1,7 +1,7 @@
 //! The priorities of equations.
 ghost use Rattle.std.specs.Prelude.{◌≡◌, ◌+◌, ◌^◌, ◌<◌, ◌≤◌, IfOk, length, map, slice_index};
-ghost use Rattle.pb_trees.specs.Equations.{total};
-ghost use Rattle.pb_trees.specs.Game.{last_priority, priority_before};
+ghost use Rattle.pb_fixpoint_trees.specs.Equations.{total};
+ghost use Rattle.pb_fixpoint_trees.specs.Game.{last_priority, priority_before};
 ghost use Rattle.pb_game_of_trees.specs.Levels.{levels_from, priority_in, ends, AreOrdered};
 ghost use Rattle.pb_game_of_trees.specs.Levels.{EndBefore};
 ghost use Rattle.pb_game_of_trees.specs.Equations.{plain};

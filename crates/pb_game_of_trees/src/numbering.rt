@@ -1,14 +1,14 @@
 //! The vertices of instances by their numbers.
 ghost use Rattle.std.specs.Prelude.{◌≡◌, ◌<◌, ℕ, IfOk, List, length, slice_index};
 ghost use Rattle.std.specs.List.Sorted.{IsStrictlyIncreasing};
-ghost use Rattle.pb_trees.specs.Rows.{Row as plain_row};
+ghost use Rattle.pb_fixpoint_trees.specs.Rows.{Row as plain_row};
 ghost use Rattle.pb_game_of_trees.specs.Held.{Hold};
 ghost use Rattle.pb_game_of_trees.specs.Numbering.{table_of};
 ghost use Rattle.pb_game_of_trees.specs.Places.{numbers};
 
 use crate::sorted_vertices::{SortedVertices, numbers_of_rows};
+use pb_fixpoint_rows::IndexedRows;
 use pb_game::Game;
-use pb_rows::IndexedRows;
 use std::alloc::{AllocError, Global};
 
 /// A table of all numbers is made where at least one of so many has a row. It takes a word for each

@@ -1,13 +1,13 @@
 //! Where the vertices of rows stand, and how many there are, by one look at each row.
 ghost use Rattle.std.specs.Prelude.{◌≡◌, ◌≤◌, ◌<◌, IfOk, IfSome, MatchOption, List};
-ghost use Rattle.pb_trees.specs.Rows.{Row as plain_row};
+ghost use Rattle.pb_fixpoint_trees.specs.Rows.{Row as plain_row};
 ghost use Rattle.pb_game_of_trees.specs.Held.{Hold};
 ghost use Rattle.pb_game_of_trees.specs.Places.{vertex_behind, vertices_from};
-ghost use Rattle.pb_limits.specs.declared.TheConstants.{MAX_VERTICES};
+ghost use Rattle.pb_base_limits.specs.declared.TheConstants.{MAX_VERTICES};
 
 use crate::size::{Size, inner_brackets};
-use pb_limits::MAX_VERTICES;
-use pb_rows::IndexedRows;
+use pb_base_limits::MAX_VERTICES;
+use pb_fixpoint_rows::IndexedRows;
 use std::alloc::{AllocError, Global};
 
 /// The vertex of each row, and the size of the game.

@@ -1,21 +1,21 @@
 //! The vertices of all rows, from the last row to the first.
 ghost use Rattle.std.specs.Prelude.{◌≡◌, ◌∷◌, ◌≤◌, ◌<◌, IfOk, List, length, slice_index};
-ghost use Rattle.pb_trees.specs.Rows.{Row as plain_row};
-ghost use Rattle.pb_trees.specs.Game.{row_vertices, false_sink, true_sink};
+ghost use Rattle.pb_fixpoint_trees.specs.Rows.{Row as plain_row};
+ghost use Rattle.pb_fixpoint_trees.specs.Game.{row_vertices, false_sink, true_sink};
 ghost use Rattle.pb_game_of_trees.specs.Held.{Hold};
 ghost use Rattle.pb_game_of_trees.specs.Draft.{IsDraft};
 ghost use Rattle.pb_game_of_trees.specs.Levels.{priority_in, AreOrdered};
 ghost use Rattle.pb_game_of_trees.specs.Numbering.{table_of};
 ghost use Rattle.pb_game_of_trees.specs.Places.{vertex_behind, CallBelow};
-ghost use Rattle.pb_limits.specs.declared.TheConstants.{MAX_VERTICES};
+ghost use Rattle.pb_base_limits.specs.declared.TheConstants.{MAX_VERTICES};
 
 use crate::builder::Builder;
 use crate::draft::Draft;
 use crate::levels::{Level, priority_at};
 use crate::numbering::Numbering;
 use crate::size::Size;
+use pb_fixpoint_rows::IndexedRows;
 use pb_game::{Game, Player};
-use pb_rows::IndexedRows;
 use std::alloc::{AllocError, Global};
 
 /// The vertices of a game of this size. `vertices` has the vertex of each instance by its number.

@@ -1,11 +1,11 @@
 //! The equations of a module as a game needs them.
 ghost use Rattle.std.specs.Prelude.{◌≡◌, ◌≤◌, IfOk, length, map};
-ghost use Rattle.pb_trees.specs.Equations.{total};
+ghost use Rattle.pb_fixpoint_trees.specs.Equations.{total};
 ghost use Rattle.pb_bytecode.specs.Meaning.{signature_of};
 ghost use Rattle.pb_game_of_trees.specs.Equations.{equations_of};
 
 use crate::Signature;
-use pb_limits::{MAX_EQUATIONS, MAX_INSTANCES};
+use pb_base_limits::{MAX_EQUATIONS, MAX_INSTANCES};
 use pb_verifier::Verified;
 use std::alloc::{AllocError, Global};
 

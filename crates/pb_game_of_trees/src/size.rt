@@ -1,17 +1,17 @@
 //! The size of a game, before it is built.
 ghost use Rattle.std.specs.Prelude.{◌≡◌, ◌≤◌, ◌<◌, count_by, length, IfSome, MatchOption, List};
-ghost use Rattle.pb_trees.specs.Rows.{Row as plain_row};
-ghost use Rattle.pb_trees.specs.Tree.{Tree};
-ghost use Rattle.pb_trees.specs.Tokens.{tree_tokens};
-ghost use Rattle.pb_trees.specs.Game.{inner};
+ghost use Rattle.pb_fixpoint_trees.specs.Rows.{Row as plain_row};
+ghost use Rattle.pb_fixpoint_trees.specs.Tree.{Tree};
+ghost use Rattle.pb_fixpoint_trees.specs.Tokens.{tree_tokens};
+ghost use Rattle.pb_fixpoint_trees.specs.Game.{inner};
 ghost use Rattle.pb_game_of_trees.specs.Held.{Hold};
 ghost use Rattle.pb_game_of_trees.specs.Places.{vertex_behind, is_closing};
-ghost use Rattle.pb_limits.specs.declared.TheConstants.{MAX_VERTICES};
+ghost use Rattle.pb_base_limits.specs.declared.TheConstants.{MAX_VERTICES};
 
+use pb_base_limits::MAX_VERTICES;
+use pb_fixpoint_rows::IndexedRows;
+use pb_fixpoint_trees::Token;
 use pb_game::Game;
-use pb_limits::MAX_VERTICES;
-use pb_rows::IndexedRows;
-use pb_trees::Token;
 
 /// How many vertices a game has, and about how many edges.
 #[derive(Clone, Copy)]

@@ -1,16 +1,16 @@
 //! Trees of a bracket around one leaf, which the instances of a chain have: their vertices have one
 //! successor, and need no lists of operands.
 ghost use Rattle.std.specs.Prelude.{◌≡◌, ◌<◌, ℕ, OnOk, List, [], length, slice_index};
-ghost use Rattle.pb_trees.specs.Tree.{Connective, Leaf, End, LeafThen, Root, Tree, TreeCalls};
-ghost use Rattle.pb_trees.specs.Tokens.{opening, leaf_token, tree_tokens};
-ghost use Rattle.pb_trees.specs.Game.{Vertex, target};
+ghost use Rattle.pb_fixpoint_trees.specs.Tree.{Connective, Leaf, End, LeafThen, Root, Tree, TreeCalls};
+ghost use Rattle.pb_fixpoint_trees.specs.Tokens.{opening, leaf_token, tree_tokens};
+ghost use Rattle.pb_fixpoint_trees.specs.Game.{Vertex, target};
 ghost use Rattle.pb_game_of_trees.specs.Numbering.{table_of};
 ghost use Rattle.pb_game_of_trees.specs.Builder.{CallsBelow, IsAt, HasTree, connective};
 
 use crate::bracket::{Bracket, owner};
 use crate::builder::Builder;
 use crate::numbering::Numbering;
-use pb_trees::Token;
+use pb_fixpoint_trees::Token;
 use std::alloc::AllocError;
 
 /// Where a leaf leads.

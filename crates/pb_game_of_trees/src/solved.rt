@@ -15,12 +15,12 @@ pub struct Solved {
 
 impl Solved {
     ghost use Rattle.std.specs.Prelude.{◌≡◌, ◌<◌, ◌↔◌, ℕ, IsTrue, List, Some, length, slice_get};
-    ghost use Rattle.pb_trees.specs.Tree.{Tree};
-    ghost use Rattle.pb_trees.specs.Equations.{Signature, solved};
-    ghost use Rattle.pb_trees.specs.Rows.{Row, IsReached};
+    ghost use Rattle.pb_fixpoint_trees.specs.Tree.{Tree};
+    ghost use Rattle.pb_fixpoint_trees.specs.Equations.{Signature, solved};
+    ghost use Rattle.pb_fixpoint_trees.specs.Rows.{Row, IsReached};
     ghost use Rattle.pb_game.specs.Games.{vertex_count};
     ghost use Rattle.pb_game.specs.Solutions.{winner_of};
-    ghost use Rattle.pb_trees.specs.declared.player.Player.TheVariants.{Even};
+    ghost use Rattle.pb_fixpoint_trees.specs.declared.player.Player.TheVariants.{Even};
     ghost use Rattle.pb_strategy.specs.Meaning.{IsSolvedAt};
     ghost use Rattle.pb_game_of_trees.specs.TreeGame.{IsTreeGame};
 
@@ -70,7 +70,7 @@ impl Solved {
             (initial : ℕ) (row : Row) → IsTreeGame signatures trees reached initial self.now.built
             → slice_get reached k ≡ Some row → result ≡ solved signatures trees row.number }
     {
-        pb_trees::games_of_rows_are_total();
+        pb_fixpoint_trees::games_of_rows_are_total();
         self.truth_at(self.built.vertices[k])
     }
 }

@@ -1,6 +1,6 @@
 //! The game of a system's reached instances.
 ghost use Rattle.std.specs.Prelude.{◌≡◌, ◌≤◌, ◌<◌, vec_len};
-ghost use Rattle.pb_limits.specs.declared.TheConstants.{MAX_VERTICES};
+ghost use Rattle.pb_base_limits.specs.declared.TheConstants.{MAX_VERTICES};
 ghost use Rattle.pb_game.specs.Games.{vertex_count};
 
 use crate::finished::game_of;
@@ -10,9 +10,9 @@ use crate::places::{Laid, lay_rows};
 use crate::row_loop::draft_of;
 use crate::signature::Signature;
 use crate::size::size_of;
-use pb_errors::{Fault, OrMemory};
+use pb_base_errors::{Fault, OrMemory};
+use pb_fixpoint_rows::IndexedRows;
 use pb_game::Game;
-use pb_rows::IndexedRows;
 use std::alloc::{AllocError, Global};
 use std::fmt;
 
@@ -49,7 +49,7 @@ pub struct TreeGame {
 
 impl TreeGame {
     ghost use Rattle.std.specs.Prelude.{◌^◌, IfOk, length};
-    ghost use Rattle.pb_trees.specs.Equations.{total};
+    ghost use Rattle.pb_fixpoint_trees.specs.Equations.{total};
     ghost use Rattle.pb_game_of_trees.specs.Equations.{equations_of};
     ghost use Rattle.pb_game_of_trees.specs.TreeGame.{RowsHaveTrees, IsGameOf, IsRefusedExactly};
     ghost use Rattle.pb_game_of_trees.specs.Places.{IsSizeOf, ArePlacesOf};
@@ -105,7 +105,7 @@ impl TreeGame {
         let draft = draft_of(alloc, &levels, rows, &numbering, size)?;
         let start = numbering.vertex(initial);
         drop(numbering);
-        pb_trees::games_of_rows_are_total();
+        pb_fixpoint_trees::games_of_rows_are_total();
         let game = game_of(alloc, draft.into_parts())?;
         Ok(TreeGame {
             game,

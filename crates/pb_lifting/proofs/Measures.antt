@@ -6,9 +6,9 @@ use Rattle.std.proofs.lemmas.List.{get_or_past, get_or-replicate, get_or_default
 use Rattle.std.proofs.lemmas.Bool.{cases_lt}
 use mathlib.Core.Logic.{dite}
 use native.Mathlib.Decide.{ℕ_discrete}
-use Rattle.pb_trees.proofs.Players.{cases_player, same_yes, same_no}
-use Rattle.pb_trees.specs.Players.{parity_of, is_same}
-use Rattle.pb_trees.specs.declared.player.Player.{Player}
+use Rattle.pb_fixpoint_trees.proofs.Players.{cases_player, same_yes, same_no}
+use Rattle.pb_fixpoint_trees.specs.Players.{parity_of, is_same}
+use Rattle.pb_fixpoint_trees.specs.declared.player.Player.{Player}
 use Rattle.pb_game.specs.declared.Game.{Game}
 use Rattle.pb_game.specs.Games.{vertex_count, owner_of, priority_of, successors_of, priority_count}
 use Rattle.pb_game.proofs.Laws.{is_game}

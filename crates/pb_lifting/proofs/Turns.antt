@@ -1,8 +1,8 @@
 -- The tables of both players, in turn.
 use Rattle.std.proofs.Common.{◌≡◌, ◌∙◌, refl, ap, sym, subst}
-use Rattle.pb_trees.specs.Players.{opponent_of}
-use Rattle.pb_trees.specs.declared.player.Player.{Player}
-use Rattle.pb_trees.specs.declared.player.Player.TheVariants.{Even, Odd}
+use Rattle.pb_fixpoint_trees.specs.Players.{opponent_of}
+use Rattle.pb_fixpoint_trees.specs.declared.player.Player.{Player}
+use Rattle.pb_fixpoint_trees.specs.declared.player.Player.TheVariants.{Even, Odd}
 use Rattle.pb_game.specs.declared.Game.{Game}
 use Rattle.pb_lifting.specs.declared.lifting.InTurn.{InTurn}
 use Rattle.pb_lifting.specs.Turns.{IsOpenFor, AreInTurn}

@@ -7,10 +7,10 @@ use Rattle.std.proofs.lemmas.Bool.{cases_lt}
 use mathlib.Core.Logic.{dite}
 use native.Mathlib.Decide.{ℕ_discrete}
 use Rattle.std.specs.Prelude.{slice_index}
-use Rattle.pb_trees.proofs.Players.{even_or_odd, even_not_odd}
-use Rattle.pb_trees.specs.Players.{opponent_of}
-use Rattle.pb_trees.specs.declared.player.Player.{Player}
-use Rattle.pb_trees.specs.declared.player.Player.TheVariants.{Even, Odd}
+use Rattle.pb_fixpoint_trees.proofs.Players.{even_or_odd, even_not_odd}
+use Rattle.pb_fixpoint_trees.specs.Players.{opponent_of}
+use Rattle.pb_fixpoint_trees.specs.declared.player.Player.{Player}
+use Rattle.pb_fixpoint_trees.specs.declared.player.Player.TheVariants.{Even, Odd}
 use Rattle.pb_game.specs.declared.Game.{Game}
 use Rattle.pb_game.specs.Games.{vertex_count, owner_of, priority_of, priority_count, HasEdge}
 use Rattle.pb_game.proofs.Laws.{is_game}

@@ -2,9 +2,9 @@
 -- successors.
 use Rattle.std.specs.Prelude.{◌≡◌, ◌≢◌, ◌⊎◌, ℕ, zero, suc, ◌+◌, ◌%◌, ◌<◌, ◌≤◌, ◌==◌, if◌then◌else◌}
 use Rattle.std.specs.Prelude.{List, length, slice_index}
-use Rattle.pb_trees.specs.Players.{parity_of, is_same}
-use Rattle.pb_trees.specs.declared.player.Player.TheVariants.{Even, Odd}
-use Rattle.pb_trees.specs.declared.player.Player.{Player}
+use Rattle.pb_fixpoint_trees.specs.Players.{parity_of, is_same}
+use Rattle.pb_fixpoint_trees.specs.declared.player.Player.TheVariants.{Even, Odd}
+use Rattle.pb_fixpoint_trees.specs.declared.player.Player.{Player}
 use Rattle.pb_game.specs.declared.Game.{Game}
 use Rattle.pb_game.specs.Games.{vertex_count, owner_of, priority_of, successors_of, priority_count}
 use Rattle.pb_game.specs.Games.{HasEdge}

@@ -1,11 +1,11 @@
 -- What contracts say of a table and its seats.
 use Rattle.std.specs.Prelude.{◌≡◌, ℕ, ◌+◌, ◌≤◌, List, length, Option, Some, slice_get, slice_index}
 use Rattle.atomic_table.specs.Seated.{TableId}
-use Rattle.pb_trees.specs.declared.player.Player.{Player}
+use Rattle.pb_fixpoint_trees.specs.declared.player.Player.{Player}
 use Rattle.pb_game.specs.declared.Game.{Game}
 use Rattle.pb_game.specs.Games.{successors_of}
-use Rattle.pb_shared_words.specs.declared.seat.Seat.{Seat}
-use Rattle.pb_shared_words.specs.Seats as seats
+use Rattle.pb_exploration_words.specs.declared.seat.Seat.{Seat}
+use Rattle.pb_exploration_words.specs.Seats as seats
 use Rattle.pb_lifting.specs.declared.view.Key.{Key}
 use Rattle.pb_lifting.specs.declared.view.View.{View}
 use Rattle.pb_lifting.specs.declared.ranks.Ranks.{Ranks}

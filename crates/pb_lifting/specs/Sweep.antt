@@ -1,7 +1,7 @@
 -- What lifting by one thread does to plain words.
 use Rattle.std.specs.Prelude.{◌≡◌, ℕ, ◌+◌, ◌-◌, ◌<◌, ◌≤◌, Bool, MatchBool, List, [], ◌∷◌, length}
 use Rattle.std.specs.Prelude.{slice_index}
-use Rattle.pb_trees.specs.declared.player.Player.{Player}
+use Rattle.pb_fixpoint_trees.specs.declared.player.Player.{Player}
 use Rattle.pb_game.specs.declared.Game.{Game}
 use Rattle.pb_game.specs.Games.{vertex_count}
 use Rattle.pb_lifting.specs.Measures.{IsBelowAll, least_rank, top_of}

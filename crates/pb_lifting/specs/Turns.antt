@@ -1,6 +1,6 @@
 -- The tables of both players, which are lifted in turn.
-use Rattle.pb_trees.specs.Players.{opponent_of}
-use Rattle.pb_trees.specs.declared.player.Player.{Player}
+use Rattle.pb_fixpoint_trees.specs.Players.{opponent_of}
+use Rattle.pb_fixpoint_trees.specs.declared.player.Player.{Player}
 use Rattle.pb_game.specs.declared.Game.{Game}
 use Rattle.pb_lifting.specs.declared.measured.Measured.{Measured}
 use Rattle.pb_lifting.specs.declared.open_table.OpenTable.{OpenTable}
@@ -9,7 +9,7 @@ use Rattle.pb_lifting.specs.declared.lifting.Measures.{Measures}
 use Rattle.pb_lifting.specs.Measures.{IsMeasure, IsLeastMeasure}
 use Rattle.pb_lifting.specs.Seats.{IsTableOf, AreSeatsOf}
 use Rattle.pb_lifting.specs.Solutions.{AreMeasured}
-use Rattle.pb_trees.specs.declared.player.Player.TheVariants.{Even, Odd}
+use Rattle.pb_fixpoint_trees.specs.declared.player.Player.TheVariants.{Even, Odd}
 
 -- the table is laid for this game and this player, and these are its seats
 pub record IsOpenFor (g : Game) (player : Player) (t : OpenTable) : Type 0 where

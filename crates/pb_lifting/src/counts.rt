@@ -5,8 +5,8 @@
 
 ghost use Rattle.pb_lifting.specs.Scales.{AreCountsOf};
 
+use pb_base_limits::MAX_PRIORITIES;
 use pb_game::Game;
-use pb_limits::MAX_PRIORITIES;
 
 /// How many vertices have each priority.
 #[derive(Drop)]

@@ -6,7 +6,7 @@
 //! for both. So a player who loses much by ranks that rise one by one doesn't have to lift them.
 
 ghost use Rattle.std.specs.Prelude.{◌≡◌, ◌<◌, ◌↔◌, IfOk};
-ghost use Rattle.pb_trees.specs.Players.{opponent_of};
+ghost use Rattle.pb_fixpoint_trees.specs.Players.{opponent_of};
 ghost use Rattle.pb_lifting.specs.Scales.{AreScalesOf};
 ghost use Rattle.pb_lifting.specs.Measures.{SomeHasTooManyRanks};
 ghost use Rattle.pb_lifting.specs.Errors.{IsTooMany};

@@ -3,16 +3,16 @@
 ghost use Rattle.std.specs.Prelude.{◌≡◌, ℕ, ◌+◌, ◌*◌, ◌<◌, ◌≤◌, ◌==◌, if◌then◌else◌, ◌%◌};
 ghost use Rattle.std.specs.Prelude.{slice_index, MatchOption};
 ghost use Rattle.pb_game.specs.Games.{vertex_count, priority_count};
-ghost use Rattle.pb_trees.specs.Players.{parity_of};
+ghost use Rattle.pb_fixpoint_trees.specs.Players.{parity_of};
 ghost use Rattle.pb_lifting.specs.Radix.{step_up, better};
 ghost use Rattle.pb_lifting.specs.Measures.{top_of, asked, counts_of};
 ghost use Rattle.pb_lifting.specs.Measures.{HasTooManyRanks, SomeHasTooManyRanks};
 ghost use Rattle.pb_lifting.specs.Scales.{AreCountsOf, IsScaleOf, AreScalesOf};
-ghost use Rattle.pb_limits.specs.declared.TheConstants.{MAX_PRIORITIES};
+ghost use Rattle.pb_base_limits.specs.declared.TheConstants.{MAX_PRIORITIES};
 
 use crate::counts::PriorityCounts;
+use pb_base_limits::MAX_PRIORITIES;
 use pb_game::{Game, Player};
-use pb_limits::MAX_PRIORITIES;
 
 /// For each priority what one more of its count adds to a rank, and behind the greatest one the
 /// top rank.

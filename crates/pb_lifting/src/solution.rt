@@ -3,7 +3,7 @@
 ghost use Rattle.std.specs.Prelude.{◌≡◌, ◌<◌, ◌↔◌, IsTrue, IfOk, OnOk};
 ghost use Rattle.std.specs.Prelude.{Some, ◌==◌, if◌then◌else◌};
 ghost use Rattle.pb_game.specs.Games.{vertex_count, priority_count};
-ghost use Rattle.pb_trees.specs.declared.player.Player.TheVariants.{Even, Odd};
+ghost use Rattle.pb_fixpoint_trees.specs.declared.player.Player.TheVariants.{Even, Odd};
 ghost use Rattle.pb_lifting.specs.Scales.{IsScaleOf};
 ghost use Rattle.pb_lifting.specs.Solutions.{Meets, IsMeeting, IsLeastSuccessor, IsChoice};
 ghost use Rattle.pb_lifting.specs.Solutions.{winner_by, count_by_rank, lesser_of, AddsRow};

@@ -2,7 +2,7 @@
 -- values in front.
 use Rattle.std.proofs.Common.{◌≡◌, ℕ, zero, suc, ◌+◌, ◌*◌, ◌<◌, List, [], ◌∷◌, map, length, Some, refl, sym, ◌∙◌, ap, subst, arith}
 use Rattle.std.specs.List.{slice_get}
-use Rattle.pb_carriers.specs.Carrier.{Value, Tuple, tuples}
+use Rattle.pb_base_values.specs.Carrier.{Value, Tuple, tuples}
 use Rattle.pb_sorts.specs.declared.carrier.Carrier.{Carrier}
 use Rattle.pb_sorts.specs.Carrier.{values_of}
 use Rattle.pb_sorts.proofs.Reading.{count}

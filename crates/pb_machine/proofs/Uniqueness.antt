@@ -6,11 +6,11 @@ use Rattle.std.proofs.lemmas.Option.{slice_get-get_or}
 use Rattle.pb_fixpoint.specs.Solution.{Environment, assign, empty, solution, value_of}
 use Rattle.pb_fixpoint.specs.Transfer.{AreSame}
 use Rattle.pb_fixpoint.proofs.Transfer.{solution-matches}
-use Rattle.pb_trees.specs.declared.Token.{Token}
-use Rattle.pb_trees.specs.Tree.{Connective, Leaf, Yes, No, Cut, Call, Operands, End, LeafThen, BracketThen, Tree, Single, Root, LeafCalls, OperandsCall, TreeCalls, joined, leaf_truth, operands_truth, tree_truth}
-use Rattle.pb_trees.specs.Equations.{Signature, equation, numbered, solved, total}
-use Rattle.pb_trees.specs.Laws.{TokensAreOneTree}
-use Rattle.pb_trees.proofs.Calls.{tree_weaker}
+use Rattle.pb_fixpoint_trees.specs.declared.Token.{Token}
+use Rattle.pb_fixpoint_trees.specs.Tree.{Connective, Leaf, Yes, No, Cut, Call, Operands, End, LeafThen, BracketThen, Tree, Single, Root, LeafCalls, OperandsCall, TreeCalls, joined, leaf_truth, operands_truth, tree_truth}
+use Rattle.pb_fixpoint_trees.specs.Equations.{Signature, equation, numbered, solved, total}
+use Rattle.pb_fixpoint_trees.specs.Laws.{TokensAreOneTree}
+use Rattle.pb_fixpoint_trees.proofs.Calls.{tree_weaker}
 use Rattle.pb_sorts.specs.Instance.{Instance, instances}
 use Rattle.pb_sorts.specs.Layout.{carriers_of, count_of}
 use Rattle.pb_sorts.proofs.Numbers.{number-is_instance, number_of-slice_get}

@@ -1,9 +1,9 @@
 -- What the tokens of instances' trees, and the trees of a module, obey.
 use Rattle.std.specs.Prelude.{◌≡◌, ℕ, ◌<◌, ◌↔◌, Bool, true, List, Contains}
-use Rattle.pb_trees.specs.declared.Token.{Token}
-use Rattle.pb_trees.specs.declared.Token.TheVariants as token
-use Rattle.pb_trees.specs.Tree.{Tree, TreeCalls}
-use Rattle.pb_trees.specs.Tokens.{tree_tokens}
+use Rattle.pb_fixpoint_trees.specs.declared.Token.{Token}
+use Rattle.pb_fixpoint_trees.specs.declared.Token.TheVariants as token
+use Rattle.pb_fixpoint_trees.specs.Tree.{Tree, TreeCalls}
+use Rattle.pb_fixpoint_trees.specs.Tokens.{tree_tokens}
 use Rattle.pb_sorts.specs.Layout.{count_of}
 use Rattle.pb_bytecode.specs.Contents.{Contents}
 use Rattle.pb_bytecode.specs.Meaning.{AreTrees, answer, parameters}

@@ -2,7 +2,7 @@
 ghost use Rattle.std.specs.Prelude.{◌≡◌, ◌<◌, ◌≤◌, ◌++◌, IfOk, List, Some, ℤ, map, slice_get, take};
 ghost use Rattle.std.specs.Prelude.{true, vec_len};
 ghost use Rattle.arrayvec.specs.ArrayVec.{array_vec_len};
-ghost use Rattle.pb_carriers.specs.Carrier.{tuples, tuple_count};
+ghost use Rattle.pb_base_values.specs.Carrier.{tuples, tuple_count};
 ghost use Rattle.pb_sorts.specs.Carrier.{values_of};
 ghost use Rattle.pb_bytecode_program.specs.Machine.{Program, start};
 ghost use Rattle.pb_bytecode_program.specs.Safety.{AreArguments, arguments as tagged_arguments};
@@ -17,8 +17,8 @@ use crate::machine::Machine;
 use crate::registers::Registers;
 use crate::results::{Bounds, truth};
 use arrayvec::ArrayVec;
+use pb_base_limits::{MAX_INSTANCES, MAX_OPERANDS};
 use pb_bytecode_program::Op;
-use pb_limits::{MAX_INSTANCES, MAX_OPERANDS};
 use pb_sorts::{Carrier, Layout};
 use std::alloc::AllocError;
 

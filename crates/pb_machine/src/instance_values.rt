@@ -1,6 +1,6 @@
 //! The values of an instance from its place among those of its equation: the last one runs fastest.
 ghost use Rattle.std.specs.Prelude.{◌≡◌, ◌<◌, ◌+◌, ◌*◌, length, map, Some, slice_get};
-ghost use Rattle.pb_carriers.specs.Carrier.{tuples, tuple_count};
+ghost use Rattle.pb_base_values.specs.Carrier.{tuples, tuple_count};
 ghost use Rattle.pb_sorts.specs.Carrier.{values_of};
 
 use pb_sorts::Carrier;

@@ -18,7 +18,7 @@ pub fn meaning_is_unique()
     ensures trees { TreesAreUnique }
     ensures answer { AnswerIsUnique }
 {
-    pb_trees::tokens_determine_tree();
+    pb_fixpoint_trees::tokens_determine_tree();
 }
 
 /// The calls of a tree are the numbers in the list of its calls.

@@ -1,8 +1,8 @@
 -- The sets of fixpoints are the least and the greatest ones, where formulas are positive.
 use Rattle.std.proofs.Common.{◌≡◌, ℕ, zero, suc, Bool, true, false, true≢false, ◌&&◌, [], refl, sym, ◌∙◌, inl}
 use Rattle.std.proofs.lemmas.Bool.{and_parts, and_from}
-use Rattle.pb_carriers.specs.Carrier.{tuples}
-use Rattle.pb_carriers.proofs.Tuples.{in_contains, in_tuples, length-tuples}
+use Rattle.pb_base_values.specs.Carrier.{tuples}
+use Rattle.pb_base_values.proofs.Tuples.{in_contains, in_tuples, length-tuples}
 use Rattle.pb_fixpoint.specs.declared.Sign.{Sign}
 use Rattle.pb_fixpoint.specs.declared.Sign.TheVariants.{Mu, Nu}
 use Rattle.pb_fixpoint.specs.Solution.{Equation, assign, iterate, empty, start, operator, value_of}

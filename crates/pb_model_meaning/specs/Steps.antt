@@ -2,7 +2,7 @@
 -- (Groote and Mousavi 2014).
 use Rattle.std.specs.Prelude.{ℕ, Bool, true, not, ◌||◌, if◌then◌else◌, List, [], ◌∷◌, map, filter}
 use Rattle.std.specs.Prelude.{flat_map, Option, Some, None}
-use Rattle.pb_carriers.specs.Carrier.{Value, Carrier, Tuple, is_within, tuple_count, tuples}
+use Rattle.pb_base_values.specs.Carrier.{Value, Carrier, Tuple, is_within, tuple_count, tuples}
 use Rattle.pb_text_meaning.specs.Syntax.{Name, same_name, Variable, Term, NoTerms, Spec}
 use Rattle.pb_text_meaning.specs.Value.{is_true, value, values}
 use Rattle.pb_text_meaning.specs.Value as data_value

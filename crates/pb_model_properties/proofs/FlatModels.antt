@@ -3,9 +3,9 @@ use Rattle.std.proofs.Common.{◌≡◌, ◌∙◌, Bool, false, ℕ, List, [], 
 use Rattle.std.specs.Prelude.{All, Contains, length, string_bytes}
 use Rattle.std.specs.List.{slice_get}
 use Rattle.std.proofs.lemmas.List.Elements.{All-cons, All-contains, All-nil}
-use Rattle.pb_errors.specs.OrMemory.{IfFault, raised}
-use Rattle.pb_errors.specs.declared.or_memory.OrMemory.{OrMemory}
-use Rattle.pb_errors.specs.declared.or_memory.OrMemory.TheVariants.{Refused, Memory}
+use Rattle.pb_base_errors.specs.OrMemory.{IfFault, raised}
+use Rattle.pb_base_errors.specs.declared.or_memory.OrMemory.{OrMemory}
+use Rattle.pb_base_errors.specs.declared.or_memory.OrMemory.TheVariants.{Refused, Memory}
 use Rattle.pb_text_tree.specs.declared.place.Place.{Place}
 use Rattle.pb_text_tree.specs.Form.{Named}
 use Rattle.pb_text_printer.specs.Sayable.{Each}
@@ -21,26 +21,26 @@ use Rattle.pb_model_places.specs.Apart.{lines_from}
 use Rattle.pb_model_places.specs.Apart.{formula_places}
 use Rattle.pb_model_runs.specs.Exact as model_places
 use Rattle.pb_model_words.specs.Vocabulary.{told_vocabulary}
-use Rattle.pb_folding.specs.FoldedModels.{folded_property}
+use Rattle.pb_protocol_folding.specs.FoldedModels.{folded_property}
 use Rattle.pb_protocol_tree.specs.Form as protocol_form
 use Rattle.pb_protocol_tree.specs.Form.{ProtocolForm}
 use Rattle.pb_protocol_meaning.specs.Syntax.{Formula, Property}
 use Rattle.pb_protocol_meaning.specs.Erase.{erase}
 use Rattle.pb_protocol_typing.specs.Faults.{protocol_faults}
-use Rattle.pb_unfolding.specs.Unfolding.{unfolded, unfolded_property}
-use Rattle.pb_unfolding.specs.ModelLaws.{flat_formula, flat_model}
-use Rattle.pb_unfolder_steps.specs.Steps.{places_from, step_place}
-use Rattle.pb_unfolder.specs.declared.fault.UnfoldingFault.{UnfoldingFault}
-use Rattle.pb_unfolder.specs.declared.fault.UnfoldingRule.{UnfoldingRule}
-use Rattle.pb_unfolder.specs.declared.fault.UnfoldingRule.TheVariants as unfolding_rule
-use Rattle.pb_unfolder.specs.declared.protocol.Unfolded.{Unfolded}
-use Rattle.pb_unfolder.specs.Faults.{IsUnfoldingFault}
-use Rattle.pb_unfolder.specs.Origins.{origin_name}
-use Rattle.pb_unfolder.specs.Plain.{is_plain}
-use Rattle.pb_unfolder.specs.Places as unfolded_places
-use Rattle.pb_unfolder.specs.Unfolded.{flat_name, property_name}
+use Rattle.pb_protocol_unfolding.specs.Unfolding.{unfolded, unfolded_property}
+use Rattle.pb_protocol_unfolding.specs.ModelLaws.{flat_formula, flat_model}
+use Rattle.pb_protocol_unfolder_steps.specs.Steps.{places_from, step_place}
+use Rattle.pb_protocol_unfolder.specs.declared.fault.UnfoldingFault.{UnfoldingFault}
+use Rattle.pb_protocol_unfolder.specs.declared.fault.UnfoldingRule.{UnfoldingRule}
+use Rattle.pb_protocol_unfolder.specs.declared.fault.UnfoldingRule.TheVariants as unfolding_rule
+use Rattle.pb_protocol_unfolder.specs.declared.protocol.Unfolded.{Unfolded}
+use Rattle.pb_protocol_unfolder.specs.Faults.{IsUnfoldingFault}
+use Rattle.pb_protocol_unfolder.specs.Origins.{origin_name}
+use Rattle.pb_protocol_unfolder.specs.Plain.{is_plain}
+use Rattle.pb_protocol_unfolder.specs.Places as unfolded_places
+use Rattle.pb_protocol_unfolder.specs.Unfolded.{flat_name, property_name}
 use Rattle.pb_protocol_tree.specs.declared.protocol.Property.{Property as DeclaredProperty}
-use Rattle.pb_solved_model.specs.Laws.{UnfoldedModelsAreSolved, model_property_names, property_names}
+use Rattle.pb_protocol_solved.specs.Laws.{UnfoldedModelsAreSolved, model_property_names, property_names}
 use Rattle.pb_model_properties.specs.declared.error.ModelFault.{ModelFault}
 use Rattle.pb_model_properties.specs.declared.error.ModelFault.TheVariants as model_fault
 use Rattle.pb_model_properties.specs.declared.solved.ToldNames.{ToldNames}

@@ -3,10 +3,10 @@ use Rattle.std.proofs.Common.{◌≡◌, ◌∙◌, Bool, true, false, ℕ, zero
 use Rattle.std.specs.Prelude.{nat_lt, Contains, Result, Ok, Err, IfOk}
 use Rattle.std.specs.List.{slice_get}
 use Rattle.std.proofs.lemmas.List.{length-map}
-use Rattle.pb_limits.specs.declared.TheConstants.{MAX_PARAMETERS}
-use Rattle.pb_errors.specs.OrMemory.{IfFault, IfRefused, raised}
-use Rattle.pb_errors.specs.declared.or_memory.OrMemory.{OrMemory}
-use Rattle.pb_errors.specs.declared.or_memory.OrMemory.TheVariants.{Refused, Memory}
+use Rattle.pb_base_limits.specs.declared.TheConstants.{MAX_PARAMETERS}
+use Rattle.pb_base_errors.specs.OrMemory.{IfFault, IfRefused, raised}
+use Rattle.pb_base_errors.specs.declared.or_memory.OrMemory.{OrMemory}
+use Rattle.pb_base_errors.specs.declared.or_memory.OrMemory.TheVariants.{Refused, Memory}
 use Rattle.pb_text_tree.specs.declared.place.Place.{Place}
 use Rattle.pb_text.specs.declared.error.TextFault.{TextFault}
 use Rattle.pb_typing_declarations.specs.declared.fault.TypingFault.{TypingFault}
@@ -17,13 +17,13 @@ use Rattle.pb_model_typing.specs.Texts.{IsModelFault, IsTypedModel}
 use Rattle.pb_protocol_tree.specs.Form as protocol_form
 use Rattle.pb_protocol_tree.specs.Form.{ProtocolForm}
 use Rattle.pb_protocol_meaning.specs.Erase.{erase}
-use Rattle.pb_unfolding.specs.Plain.{plain, IsPlain}
-use Rattle.pb_unfolder.specs.Plain.{is_plain, plain_form, plain_formula, plain_property, plain_variable}
+use Rattle.pb_protocol_unfolding.specs.Plain.{plain, IsPlain}
+use Rattle.pb_protocol_unfolder.specs.Plain.{is_plain, plain_form, plain_formula, plain_property, plain_variable}
 use Rattle.pb_model_spelling.specs.Protocols.{ProtocolWritable}
 use Rattle.pb_model_places.specs.Apart.{KeptPlacesStandApart}
 use Rattle.pb_model_places.specs.Apart as places
 use Rattle.pb_model_text.specs.Parsing.{IsFirstModelFault, NoModelReading}
-use Rattle.pb_solved_model.specs.Laws.{PlainModelsAreSolved, model_property_names, property_names}
+use Rattle.pb_protocol_solved.specs.Laws.{PlainModelsAreSolved, model_property_names, property_names}
 use Rattle.pb_model_properties.specs.declared.error.ModelFault.{ModelFault}
 use Rattle.pb_model_properties.specs.declared.error.ModelFault.TheVariants as model_fault
 use Rattle.pb_model_properties.specs.Made.{has_many_variables}

@@ -3,9 +3,9 @@ use Rattle.std.proofs.Common.{◌≡◌, ◌∙◌, ℕ, zero, suc, true, not, �
 use Rattle.std.specs.Prelude.{Contains, Result, Ok, Err, IfOk}
 use Rattle.std.specs.List.{list_all, slice_get}
 use Rattle.std.proofs.lemmas.List.Elements.{Contains-append_left, Contains-append_right, Contains-push}
-use Rattle.pb_errors.specs.OrMemory.{IfRefused}
-use Rattle.pb_errors.specs.declared.or_memory.OrMemory.{OrMemory}
-use Rattle.pb_errors.specs.declared.or_memory.OrMemory.TheVariants.{Refused, Memory}
+use Rattle.pb_base_errors.specs.OrMemory.{IfRefused}
+use Rattle.pb_base_errors.specs.declared.or_memory.OrMemory.{OrMemory}
+use Rattle.pb_base_errors.specs.declared.or_memory.OrMemory.TheVariants.{Refused, Memory}
 use Rattle.pb_text_tree.specs.declared.place.Place.{Place}
 use Rattle.pb_text_tree.specs.declared.operator.Connective.TheVariants as connective
 use Rattle.pb_text_printer.specs.Sayable.{Each}
@@ -15,7 +15,7 @@ use Rattle.pb_model_spelling.specs.Protocols.{FormulaWritable, PropertyWritable,
 use Rattle.pb_model_places.specs.Apart.{formula_places, stand_apart, step_places}
 use Rattle.pb_protocol_tree.specs.Form.{FormulaForm, PropertyForm, ProtocolForm}
 use Rattle.pb_protocol_meaning.specs.Erase.{erase, erased_formula, erased_property}
-use Rattle.pb_negation.specs.Negated.{negated, negated_property, negated_protocol}
+use Rattle.pb_protocol_negation.specs.Negated.{negated, negated_property, negated_protocol}
 use Rattle.pb_model_properties.specs.declared.error.ModelFault.{ModelFault}
 use Rattle.pb_model_properties.specs.declared.solved.SolvedModel.{SolvedModel}
 use Rattle.pb_model_properties.specs.Negations.{IsNegatedModelOf, IsRefusedNegation}

@@ -3,7 +3,7 @@ use Rattle.std.proofs.Common.{◌≡◌, ◌∙◌, ℕ, Bool, true, false, true
 use Rattle.std.specs.Prelude.{codes, if◌then◌else◌}
 use Rattle.pb_fixpoint.specs.declared.Sign.TheVariants.{Nu}
 use Rattle.std.proofs.lemmas.Slice.Eq.{bytes_eq-Decides}
-use Rattle.pb_carriers.specs.Carrier.{Tuple, is_within}
+use Rattle.pb_base_values.specs.Carrier.{Tuple, is_within}
 use Rattle.pb_text_meaning.specs.Syntax.{Name, same_name, Variable, Terms, Equation, Spec}
 use Rattle.pb_text_meaning.specs.Value.{Assignment, values}
 use Rattle.pb_text_meaning.specs.Formula.{carriers_of, equation_named, fits, is_instance}
@@ -22,8 +22,8 @@ use Rattle.pb_model_translation.specs.Translation.{equation, right_side, transla
 use Rattle.pb_model_typing.specs.Faults.{texts, new_faults, known_faults, assigned_names, step_faults, step_names, property_names, property_faults, names_faults, model_faults}
 use Rattle.pb_model_typing.specs.Texts.{every_step, IsTypedModel}
 use Rattle.pb_model_typing.specs.Laws.{NamesAreApart}
-use Rattle.pb_folding.specs.Names.{IsNot, AreDistinct, AssignOnce, names_of}
-use Rattle.pb_unfolding.specs.Plain.{AreAsMany, IsPlain}
+use Rattle.pb_protocol_folding.specs.Names.{IsNot, AreDistinct, AssignOnce, names_of}
+use Rattle.pb_protocol_unfolding.specs.Plain.{AreAsMany, IsPlain}
 
 -- ---- names of variables
 

@@ -8,8 +8,8 @@ use Rattle.pb_model_tree.specs.Form as flat
 use Rattle.pb_model_meaning.specs.Syntax as model
 use Rattle.pb_model_meaning.specs.Erase as model_text
 use Rattle.pb_model_runs.specs.Exact as model_places
-use Rattle.pb_unfolding.specs.Plain as plain
-use Rattle.pb_unfolder.specs.Plain as form
+use Rattle.pb_protocol_unfolding.specs.Plain as plain
+use Rattle.pb_protocol_unfolder.specs.Plain as form
 use Rattle.pb_model_spelling.specs.Writable as flat_words
 use Rattle.pb_model_spelling.specs.Protocols as words
 use Rattle.pb_model_places.specs.Apart.{formula_places, step_places}

@@ -3,9 +3,9 @@
 use Rattle.std.proofs.Common.{◌≡◌, ◌∙◌, true, false, List, [], Option, Some, None, refl, sym, ap, ap₂, subst, inl, inr}
 use Rattle.std.specs.Prelude.{All, Result, Ok, Err, IfOk}
 use Rattle.std.proofs.lemmas.List.Elements.{All-contains}
-use Rattle.pb_errors.specs.OrMemory.{IfFault, IfRefused, raised}
-use Rattle.pb_errors.specs.declared.or_memory.OrMemory.{OrMemory}
-use Rattle.pb_errors.specs.declared.or_memory.OrMemory.TheVariants.{Refused, Memory}
+use Rattle.pb_base_errors.specs.OrMemory.{IfFault, IfRefused, raised}
+use Rattle.pb_base_errors.specs.declared.or_memory.OrMemory.{OrMemory}
+use Rattle.pb_base_errors.specs.declared.or_memory.OrMemory.TheVariants.{Refused, Memory}
 use Rattle.pb_text_tree.specs.declared.place.Place.{Place}
 use Rattle.pb_text_printer.specs.Sayable.{Each}
 use Rattle.pb_typing_declarations.specs.declared.fault.TypingFault.{TypingFault}
@@ -19,16 +19,16 @@ use Rattle.pb_model_spelling.specs.Writable.{ModelWritable}
 use Rattle.pb_model_typing.specs.declared.typed.TypedModel.{TypedModel}
 use Rattle.pb_model_typing.specs.Texts.{IsModelFault, IsTypedModel}
 use Rattle.pb_model_words.specs.Vocabulary.{packed_vocabulary}
-use Rattle.pb_packing.specs.Groups.{groups_of, packed}
-use Rattle.pb_packing.specs.Packable.{IsPackable}
-use Rattle.pb_packer.specs.Groups.{groups_in}
-use Rattle.pb_model_packer.specs.Checks.{IsPackingFault}
-use Rattle.pb_model_packer.specs.Places.{named_properties, property_places}
-use Rattle.pb_model_packer.specs.Sizes.{size_faults}
+use Rattle.pb_protocol_packing.specs.Groups.{groups_of, packed}
+use Rattle.pb_protocol_packing.specs.Packable.{IsPackable}
+use Rattle.pb_protocol_packer.specs.Groups.{groups_in}
+use Rattle.pb_protocol_groups.specs.Checks.{IsPackingFault}
+use Rattle.pb_protocol_groups.specs.Places.{named_properties, property_places}
+use Rattle.pb_protocol_groups.specs.Sizes.{size_faults}
 use Rattle.pb_protocol_spelling.specs.FewValues.{HasFewValues}
 use Rattle.pb_protocol_spelling.specs.Laws.{GroupsHaveFewValues, PackedFormulasAreWritable, PackedModelsAreWritable}
 use Rattle.pb_protocol_tree.specs.Form.{ProtocolForm}
-use Rattle.pb_solved_model.specs.Laws.{PackedModelsAreSolved}
+use Rattle.pb_protocol_solved.specs.Laws.{PackedModelsAreSolved}
 use Rattle.pb_model_properties.specs.declared.error.ModelFault.{ModelFault}
 use Rattle.pb_model_properties.specs.declared.error.ModelFault.TheVariants as model_fault
 use Rattle.pb_model_properties.specs.declared.solved.SolvedModel.{SolvedModel}

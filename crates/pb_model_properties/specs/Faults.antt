@@ -3,9 +3,9 @@ use Rattle.pb_text.specs.declared.error.TextRule.TheVariants.{LimitExceeded}
 use Rattle.pb_text_tree.specs.declared.place.Place.{Place}
 use Rattle.pb_typing_declarations.specs.declared.fault.TypingRule.{TypingRule}
 use Rattle.pb_typing_declarations.specs.declared.fault.TypingRule.TheVariants as rule
-use Rattle.pb_unfolder.specs.declared.fault.UnfoldingFault.{UnfoldingFault}
-use Rattle.pb_unfolder.specs.declared.fault.UnfoldingRule.{UnfoldingRule}
-use Rattle.pb_unfolder.specs.declared.fault.UnfoldingRule.TheVariants as unfolding_rule
+use Rattle.pb_protocol_unfolder.specs.declared.fault.UnfoldingFault.{UnfoldingFault}
+use Rattle.pb_protocol_unfolder.specs.declared.fault.UnfoldingRule.{UnfoldingRule}
+use Rattle.pb_protocol_unfolder.specs.declared.fault.UnfoldingRule.TheVariants as unfolding_rule
 use Rattle.pb_model_properties.specs.declared.error.ModelFault.{ModelFault}
 use Rattle.pb_model_properties.specs.declared.error.ModelFault.TheVariants as model_fault
 

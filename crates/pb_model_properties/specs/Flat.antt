@@ -8,17 +8,17 @@ use Rattle.pb_model_runs.specs.Exact.{stand_apart}
 use Rattle.pb_model_spelling.specs.Writable.{ModalWritable, ModelWritable}
 use Rattle.pb_protocol_tree.specs.Form.{ProtocolForm}
 use Rattle.pb_protocol_meaning.specs.Erase.{erase}
-use Rattle.pb_unfolding.specs.Hygiene.{HidesNothing}
-use Rattle.pb_unfolding.specs.ModelLaws.{flat_model}
-use Rattle.pb_unfolder_steps.specs.Steps.{places_from, step_place}
-use Rattle.pb_unfolder.specs.declared.origin.StepOrigin.{StepOrigin}
-use Rattle.pb_unfolder.specs.declared.protocol.Unfolded.{Unfolded}
-use Rattle.pb_unfolder.specs.Told as told
-use Rattle.pb_unfolder.specs.Origins.{origin_name}
-use Rattle.pb_unfolder.specs.Places.{HavePlacesOf}
-use Rattle.pb_unfolder.specs.Unfolded.{flat_name}
-use Rattle.pb_solved_model.specs.Laws.{property_names}
-use Rattle.pb_solved_model.specs.Solved.{itself, IsSolvedFor}
+use Rattle.pb_protocol_unfolding.specs.Hygiene.{HidesNothing}
+use Rattle.pb_protocol_unfolding.specs.ModelLaws.{flat_model}
+use Rattle.pb_protocol_unfolder_steps.specs.Steps.{places_from, step_place}
+use Rattle.pb_protocol_unfolder.specs.declared.origin.StepOrigin.{StepOrigin}
+use Rattle.pb_protocol_unfolder.specs.declared.protocol.Unfolded.{Unfolded}
+use Rattle.pb_protocol_unfolder.specs.Told as told
+use Rattle.pb_protocol_unfolder.specs.Origins.{origin_name}
+use Rattle.pb_protocol_unfolder.specs.Places.{HavePlacesOf}
+use Rattle.pb_protocol_unfolder.specs.Unfolded.{flat_name}
+use Rattle.pb_protocol_solved.specs.Laws.{property_names}
+use Rattle.pb_protocol_solved.specs.Solved.{itself, IsSolvedFor}
 use Rattle.pb_model_properties.specs.Made.{IsFlatOf}
 
 -- where a step's name stands in the protocol

@@ -1,17 +1,17 @@
 -- Which model is solved in a protocol's place.
 use Rattle.std.specs.Prelude.{◌≡◌, ◌⊎◌, nat_lt, Bool, true, false, length}
-use Rattle.pb_limits.specs.declared.TheConstants.{MAX_PARAMETERS}
+use Rattle.pb_base_limits.specs.declared.TheConstants.{MAX_PARAMETERS}
 use Rattle.pb_model_tree.specs.Form.{ModelForm}
 use Rattle.pb_model_meaning.specs.Erase as model_text
 use Rattle.pb_model_meaning.specs.Steps.{State}
 use Rattle.pb_protocol_tree.specs.Form.{ProtocolForm}
 use Rattle.pb_protocol_meaning.specs.Erase.{erase}
-use Rattle.pb_unfolding.specs.ModelLaws.{flat_model}
-use Rattle.pb_packing.specs.Groups.{groups_of, packed}
-use Rattle.pb_packing.specs.Packable.{IsPackable}
-use Rattle.pb_packing.specs.Unpacked.{unpacked}
-use Rattle.pb_unfolder.specs.Plain.{plain_form}
-use Rattle.pb_solved_model.specs.Solved.{itself}
+use Rattle.pb_protocol_unfolding.specs.ModelLaws.{flat_model}
+use Rattle.pb_protocol_packing.specs.Groups.{groups_of, packed}
+use Rattle.pb_protocol_packing.specs.Packable.{IsPackable}
+use Rattle.pb_protocol_packing.specs.Unpacked.{unpacked}
+use Rattle.pb_protocol_unfolder.specs.Plain.{plain_form}
+use Rattle.pb_protocol_solved.specs.Solved.{itself}
 
 -- the protocol's own model, where it is plain, with all places; or the unfolded one
 abbrev pub IsFlatOf : ProtocolForm → ModelForm → Type 0

@@ -1,7 +1,7 @@
 -- The model that is solved in the place of the protocol in which each property is negated.
 use Rattle.std.specs.Prelude.{◌⊎◌, ℕ, List}
 use Rattle.pb_protocol_tree.specs.Form.{ProtocolForm}
-use Rattle.pb_negation.specs.Negated.{negated_protocol}
+use Rattle.pb_protocol_negation.specs.Negated.{negated_protocol}
 use Rattle.pb_model_properties.specs.declared.error.ModelFault.{ModelFault}
 use Rattle.pb_model_properties.specs.declared.solved.SolvedModel.{SolvedModel}
 use Rattle.pb_model_properties.specs.Refusals.{IsRefusedProtocol, IsUnread}

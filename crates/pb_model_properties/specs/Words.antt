@@ -7,11 +7,11 @@ use Rattle.pb_model_meaning.specs.Erase as model_text
 use Rattle.pb_protocol_tree.specs.Form.{ProtocolForm}
 use Rattle.pb_protocol_meaning.specs.Syntax.{Protocol}
 use Rattle.pb_protocol_meaning.specs.Erase.{erase}
-use Rattle.pb_unfolder.specs.Plain.{is_plain}
-use Rattle.pb_unfolder.specs.Told as told
-use Rattle.pb_unfolder.specs.Told.{told_steps, told_variables}
-use Rattle.pb_packing.specs.Groups.{groups_of}
-use Rattle.pb_packer.specs.Groups.{groups_in}
+use Rattle.pb_protocol_unfolder.specs.Plain.{is_plain}
+use Rattle.pb_protocol_unfolder.specs.Told as told
+use Rattle.pb_protocol_unfolder.specs.Told.{told_steps, told_variables}
+use Rattle.pb_protocol_packing.specs.Groups.{groups_of}
+use Rattle.pb_protocol_packer.specs.Groups.{groups_in}
 use Rattle.pb_model_words.specs.Vocabulary.{Vocabulary, packed_vocabulary, plain_vocabulary}
 use Rattle.pb_model_words.specs.Vocabulary.{told_vocabulary}
 use Rattle.pb_model_properties.specs.declared.solved.ToldNames.{ToldNames}

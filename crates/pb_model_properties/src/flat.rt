@@ -2,7 +2,7 @@
 //! a text has parameters.
 
 ghost use Rattle.std.specs.Prelude.{◌≡◌, true, false, IfOk};
-ghost use Rattle.pb_errors.specs.OrMemory.{IfRefused};
+ghost use Rattle.pb_base_errors.specs.OrMemory.{IfRefused};
 ghost use Rattle.pb_model_tree.specs.Form.{model_form};
 ghost use Rattle.pb_model_properties.specs.Made.{has_many_variables};
 ghost use Rattle.pb_model_properties.specs.Refusals.{IsRefusedFlat};
@@ -12,14 +12,14 @@ use crate::count::is_flat_state_large;
 use crate::error::ModelError;
 use crate::solved::{SolvedModel, ToldNames, UnpackedModel};
 use crate::told::told_error;
-use pb_model_packer::pack_checked;
 use pb_model_spelling::translations_can_be_said;
 use pb_model_tree::Model;
 use pb_model_typing::check_model;
+use pb_protocol_groups::pack_checked;
+use pb_protocol_solved::packed_models_are_solved;
 use pb_protocol_spelling::{
     packed_formulas_are_writable, packed_groups_have_few_values, packed_models_are_writable,
 };
-use pb_solved_model::packed_models_are_solved;
 use std::alloc::Global;
 
 /// A flat model as it is, checked.

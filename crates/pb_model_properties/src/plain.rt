@@ -1,11 +1,11 @@
 //! The model of a plain protocol.
 
 ghost use Rattle.std.specs.Prelude.{◌≡◌, nat_lt, true, false, length, IfOk};
-ghost use Rattle.pb_limits.specs.declared.TheConstants.{MAX_PARAMETERS};
-ghost use Rattle.pb_errors.specs.OrMemory.{IfRefused};
+ghost use Rattle.pb_base_limits.specs.declared.TheConstants.{MAX_PARAMETERS};
+ghost use Rattle.pb_base_errors.specs.OrMemory.{IfRefused};
 ghost use Rattle.pb_model_tree.specs.Form.{model_form};
 ghost use Rattle.pb_protocol_tree.specs.Form.{protocol_form};
-ghost use Rattle.pb_unfolder.specs.Plain.{is_plain};
+ghost use Rattle.pb_protocol_unfolder.specs.Plain.{is_plain};
 ghost use Rattle.pb_model_properties.specs.Refusals.{IsRefusedProtocol};
 ghost use Rattle.pb_model_properties.specs.Solvable.{CanBeSolved};
 ghost use Rattle.pb_model_properties.specs.Words.{IsToldModel};
@@ -18,10 +18,10 @@ use pb_model_places::read_protocols_stand_apart;
 use pb_model_spelling::translations_can_be_said;
 use pb_model_typing::{check_model, names_are_apart};
 use pb_protocol_laws::plain_protocols_are_plain;
+use pb_protocol_solved::flat_models_are_solved;
 use pb_protocol_tree::Protocol;
 use pb_protocol_typing::check_protocol;
-use pb_solved_model::flat_models_are_solved;
-use pb_unfolder::plain_model;
+use pb_protocol_unfolder::plain_model;
 use std::alloc::Global;
 
 /// A plain protocol's own model. What its check accepts keeps the rules of plain models.

@@ -8,7 +8,7 @@ ghost use Rattle.pb_model_properties.specs.Words.{impossible_in, words_in, words
 use pb_model_tree::Model;
 use pb_model_typing::TypedModel;
 use pb_model_words::{Vocabulary, plain_vocabulary, told_vocabulary};
-use pb_packer::Group;
+use pb_protocol_packer::Group;
 use pb_text_tree::Place;
 use std::alloc::{AllocError, Global};
 

@@ -1,9 +1,9 @@
 //! The model to which a protocol is unfolded.
 
 ghost use Rattle.std.specs.Prelude.{◌≡◌, false, IfOk};
-ghost use Rattle.pb_errors.specs.OrMemory.{IfRefused};
+ghost use Rattle.pb_base_errors.specs.OrMemory.{IfRefused};
 ghost use Rattle.pb_protocol_tree.specs.Form.{protocol_form};
-ghost use Rattle.pb_unfolder.specs.Plain.{is_plain};
+ghost use Rattle.pb_protocol_unfolder.specs.Plain.{is_plain};
 ghost use Rattle.pb_model_properties.specs.Flat.{IsUnfoldedTo};
 ghost use Rattle.pb_model_properties.specs.Refusals.{IsRefusedProtocol};
 ghost use Rattle.pb_model_properties.specs.Solvable.{CanBeSolved};
@@ -14,11 +14,11 @@ use crate::flat::flat_solved;
 use crate::solved::{SolvedModel, ToldNames};
 use crate::told::{names_of, places_of};
 use pb_protocol_laws::enumerators_are_apart;
+use pb_protocol_solved::flat_models_are_solved;
 use pb_protocol_spelling::{flat_formulas_are_writable, flat_models_are_writable};
 use pb_protocol_tree::Protocol;
 use pb_protocol_typing::check_protocol;
-use pb_solved_model::flat_models_are_solved;
-use pb_unfolder::{Unfolded, unfold};
+use pb_protocol_unfolder::{Unfolded, unfold};
 use std::alloc::Global;
 
 /// The flat model of a protocol that keeps the rules.

@@ -4,7 +4,7 @@ use Rattle.std.specs.Prelude.{Contains, filter}
 use Rattle.std.specs.List.{list_all}
 use Rattle.std.proofs.lemmas.Bool.{and_parts}
 use Rattle.std.proofs.lemmas.Slice.Eq.{bytes_eq-Decides}
-use Rattle.pb_carriers.specs.Carrier.{tuples}
+use Rattle.pb_base_values.specs.Carrier.{tuples}
 use Rattle.pb_fixpoint.specs.declared.Sign.TheVariants.{Nu}
 use Rattle.pb_fixpoint.specs.Solution.{iterate, start}
 use Rattle.pb_text_meaning.specs.Syntax.{Name, same_name}

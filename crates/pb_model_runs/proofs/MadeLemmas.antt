@@ -5,7 +5,7 @@ use Rattle.std.proofs.lemmas.Grind.{flat_map-append}
 use Rattle.std.proofs.lemmas.List.{append-nil, map-append, map-id}
 use Rattle.std.proofs.lemmas.List.Folds.{flat_map-map}
 use Rattle.std.proofs.lemmas.Simd.{map-map}
-use Rattle.pb_carriers.specs.Carrier.{Value, Tuple, of_bool, tuples}
+use Rattle.pb_base_values.specs.Carrier.{Value, Tuple, of_bool, tuples}
 use Rattle.pb_text_tree.specs.declared.place.Place.{Place}
 use Rattle.pb_text_tree.specs.declared.operator.Connective.TheVariants.{And, Or, Implies}
 use Rattle.pb_text_tree.specs.Form.{TermForm}
@@ -20,9 +20,9 @@ use Rattle.pb_text_meaning.specs.Meaning.{assigned}
 use Rattle.pb_model_tree.specs.declared.formula.Modality.{Modality}
 use Rattle.pb_model_tree.specs.declared.formula.Modality.TheVariants.{Box, Diamond}
 use Rattle.pb_model_translation.specs.Placed.{guarding, behind_form}
-use Rattle.pb_call_places.specs.Calls.{decides}
-use Rattle.pb_call_places.specs.MadeCalls.{MadeCall, has_no_call, with_value, for_values, made_calls}
-use Rattle.pb_call_places.specs.declared.side.Side.TheVariants.{Left}
+use Rattle.pb_evidence_calls.specs.Calls.{decides}
+use Rattle.pb_evidence_calls.specs.MadeCalls.{MadeCall, has_no_call, with_value, for_values, made_calls}
+use Rattle.pb_evidence_calls.specs.declared.side.Side.TheVariants.{Left}
 
 -- ---- lists
 

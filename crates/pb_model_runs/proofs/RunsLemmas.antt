@@ -2,7 +2,7 @@
 use Rattle.std.proofs.Common.{◌≡◌, ℕ, zero, suc, ◌≤◌, ◌<◌, arith, List, [], ◌∷◌, ◌++◌, length, refl, sym, ◌∙◌, subst}
 use Rattle.std.specs.Prelude.{⊤, Contains}
 use Rattle.std.proofs.lemmas.List.{length-append}
-use Rattle.pb_carriers.specs.Carrier.{tuples}
+use Rattle.pb_base_values.specs.Carrier.{tuples}
 use Rattle.pb_text_meaning.specs.Formula.{carriers_of}
 use Rattle.pb_model_meaning.specs.Syntax.{Model}
 use Rattle.pb_model_meaning.specs.Steps.{State, data_of, is_enabled, next_state, successors_by}

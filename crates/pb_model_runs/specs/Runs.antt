@@ -1,6 +1,6 @@
 -- Runs of a model: one step after another, each taken where it can be.
 use Rattle.std.specs.Prelude.{◌≡◌, ℕ, zero, suc, true, ⊤, List, [], ◌∷◌, ◌++◌, Contains}
-use Rattle.pb_carriers.specs.Carrier.{Tuple, tuples}
+use Rattle.pb_base_values.specs.Carrier.{Tuple, tuples}
 use Rattle.pb_text_meaning.specs.Syntax.{Name}
 use Rattle.pb_text_meaning.specs.Formula.{carriers_of}
 use Rattle.pb_model_meaning.specs.Syntax.{Step, Model}

@@ -1,6 +1,6 @@
 -- A guard that is cut into its conjuncts says what the guard says.
 use Rattle.std.proofs.Common.{◌≡◌, Bool, true, false, not, ◌&&◌, ◌||◌, refl, ap, ◌∙◌}
-use Rattle.pb_carriers.specs.Carrier.{of_bool}
+use Rattle.pb_base_values.specs.Carrier.{of_bool}
 use Rattle.pb_fixpoint.specs.Solution.{Environment}
 use Rattle.pb_text_tree.specs.declared.operator.Quantifier.{Quantifier}
 use Rattle.pb_text_tree.specs.declared.operator.Quantifier.TheVariants.{Forall, Exists}

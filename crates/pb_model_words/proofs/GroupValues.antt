@@ -2,12 +2,12 @@
 use Rattle.std.proofs.Common.{◌≡◌, ℕ, zero, suc, ◌<◌, ◌≤◌, min, pos, List, [], ◌∷◌, ◌++◌, length, get_or, drop, refl, sym, ap, ◌∙◌, arith}
 use Rattle.std.proofs.Math.Seq.{drop-nil}
 use Rattle.std.proofs.lemmas.List.{append-nil}
-use Rattle.pb_carriers.specs.Carrier.{Value, Tuple}
-use Rattle.pb_packing.specs.Packing as packing
-use Rattle.pb_packing.specs.Packing.{capacity}
-use Rattle.pb_packing.specs.Unpacked.{unpacked}
-use Rattle.pb_packer.specs.declared.group.Group.{Group}
-use Rattle.pb_packer.specs.Groups.{group_of, groups_in}
+use Rattle.pb_base_values.specs.Carrier.{Value, Tuple}
+use Rattle.pb_protocol_packing.specs.Packing as packing
+use Rattle.pb_protocol_packing.specs.Packing.{capacity}
+use Rattle.pb_protocol_packing.specs.Unpacked.{unpacked}
+use Rattle.pb_protocol_packer.specs.declared.group.Group.{Group}
+use Rattle.pb_protocol_packer.specs.Groups.{group_of, groups_in}
 use Rattle.pb_model_words.specs.States.{number_after, numbers_after}
 
 unpacked-more : (g : packing.Group) (gs : List packing.Group) (v : Value) (t : Tuple) → unpacked (g ∷ gs) (v ∷ t) ≡ unpacked (g ∷ []) (v ∷ []) ++ unpacked gs t

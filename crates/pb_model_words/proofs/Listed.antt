@@ -6,7 +6,7 @@ use Rattle.std.proofs.lemmas.List.{append-nil}
 use Rattle.std.proofs.lemmas.Bool.Decides.{Decides-int_eq}
 use Rattle.std.specs.Ordering.{int_eq}
 use Rattle.std.specs.Prelude.{codes, if◌then◌else◌, OnOk, is_ok}
-use Rattle.pb_carriers.specs.Carrier.{Tuple}
+use Rattle.pb_base_values.specs.Carrier.{Tuple}
 use Rattle.pb_text_tree.specs.Form.{VariableForm}
 use Rattle.pb_text_meaning.specs.Syntax.{SortDeclaration}
 use Rattle.pb_model_words.specs.declared.variables.Variable as declared_variable

@@ -2,18 +2,18 @@
 use Rattle.std.proofs.Common.{◌≡◌, ℕ, ◌<◌, pos, Bool, true, false, true≢false, if◌then◌else◌, List, [], ◌∷◌, map, refl, sym, ap, ◌∙◌, arith}
 use Rattle.std.proofs.lemmas.Int.{ints}
 use Rattle.std.proofs.lemmas.Bool.{and_parts, and_from, le-leb, lt-ltb}
-use Rattle.pb_carriers.specs.Carrier.{Carrier, Value, Tuple, numbers_from, contains, is_within}
+use Rattle.pb_base_values.specs.Carrier.{Carrier, Value, Tuple, numbers_from, contains, is_within}
 use Rattle.pb_text_meaning.specs.Sorts.{carrier_of}
 use Rattle.pb_text_meaning.specs.Formula.{carriers_of}
 use Rattle.pb_model_meaning.specs.Syntax.{Model}
 use Rattle.pb_model_meaning.specs.Steps.{State, data_of, is_state}
-use Rattle.pb_packing.specs.Packing.{Group, Alone, Joined, capacity, variable_of, packed_by}
-use Rattle.pb_packing.specs.Unpacked.{unpacked}
-use Rattle.pb_packing.specs.Groups.{groups_of}
-use Rattle.pb_packing.specs.Apart.{Each, IsPacking}
-use Rattle.pb_packing.proofs.Digits.{contained}
-use Rattle.pb_packing.proofs.Sorts.{IsPackedSort, packed-sorts}
-use Rattle.pb_packing.proofs.Packable.{is-packing}
+use Rattle.pb_protocol_packing.specs.Packing.{Group, Alone, Joined, capacity, variable_of, packed_by}
+use Rattle.pb_protocol_packing.specs.Unpacked.{unpacked}
+use Rattle.pb_protocol_packing.specs.Groups.{groups_of}
+use Rattle.pb_protocol_packing.specs.Apart.{Each, IsPacking}
+use Rattle.pb_protocol_packing.proofs.Digits.{contained}
+use Rattle.pb_protocol_packing.proofs.Sorts.{IsPackedSort, packed-sorts}
+use Rattle.pb_protocol_packing.proofs.Packable.{is-packing}
 use Rattle.pb_model_words.specs.States.{is_below, numbers_after}
 use Rattle.pb_model_words.specs.Laws.{StatesSayTheirValues}
 

@@ -3,11 +3,11 @@
 use Rattle.std.proofs.Common.{◌≡◌, ℕ, zero, suc, ◌+◌, ◌<◌, ◌≤◌, min, List, [], ◌∷◌, ◌++◌, ◌-◌, length, get_or, take, drop, map, refl, sym, ap, ◌∙◌, append_assoc, arith}
 use Rattle.std.proofs.lemmas.List.{drop-map, drop_min, take_all, length-drop}
 use Rattle.pb_text_tree.specs.Form.{VariableForm}
-use Rattle.pb_packing.specs.Packing.{capacity}
-use Rattle.pb_packer.specs.declared.member.Member as declared_member
-use Rattle.pb_packer.specs.declared.group.Group as declared_group
-use Rattle.pb_packer.specs.Groups.{group_of, groups_in}
-use Rattle.pb_packer.specs.Members.{members_of}
+use Rattle.pb_protocol_packing.specs.Packing.{capacity}
+use Rattle.pb_protocol_packer.specs.declared.member.Member as declared_member
+use Rattle.pb_protocol_packer.specs.declared.group.Group as declared_group
+use Rattle.pb_protocol_packer.specs.Groups.{group_of, groups_in}
+use Rattle.pb_protocol_packer.specs.Members.{members_of}
 use Rattle.pb_model_words.specs.declared.variables.Variable as declared_variable
 use Rattle.pb_model_words.specs.GroupLines.{counted_text, times_text, summands, line_of, variable_count, lines_of}
 use Rattle.pb_model_words.specs.View.{variable_said}

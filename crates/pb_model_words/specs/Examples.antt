@@ -5,8 +5,8 @@ use Rattle.pb_text_tree.specs.Form.{Named, VariableForm, TermForm, no_arguments,
 use Rattle.pb_text_tree.specs.Form.{SortForm, struct, alias, SortDeclarationForm}
 use Rattle.pb_model_tree.specs.Form.{StepForm, ModelForm}
 use Rattle.pb_text_meaning.specs.Syntax.{Variable}
-use Rattle.pb_packing.specs.Numbers.{Kind}
-use Rattle.pb_packing.specs.Packing.{Group}
+use Rattle.pb_protocol_packing.specs.Numbers.{Kind}
+use Rattle.pb_protocol_packing.specs.Packing.{Group}
 use Rattle.pb_model_words.specs.Vocabulary.{Vocabulary, plain_vocabulary, told_vocabulary}
 use Rattle.pb_model_words.specs.Vocabulary.{packed_vocabulary}
 

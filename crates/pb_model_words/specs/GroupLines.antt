@@ -5,7 +5,7 @@ use Rattle.std.specs.Fmt.{decimal}
 use Rattle.std.specs.Ordering.{int_eq}
 use Rattle.pb_text_tree.specs.Form.{VariableForm}
 use Rattle.pb_text_meaning.specs.Syntax.{Variable}
-use Rattle.pb_packing.specs.Packing.{Member, Group, Alone, Joined, capacity}
+use Rattle.pb_protocol_packing.specs.Packing.{Member, Group, Alone, Joined, capacity}
 use Rattle.pb_model_words.specs.Vocabulary.{Vocabulary}
 use Rattle.pb_model_words.specs.Words.{marked}
 

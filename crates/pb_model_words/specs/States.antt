@@ -2,9 +2,9 @@
 -- group of them, and says the values that make the number.
 use Rattle.std.specs.Prelude.{ℕ, pos, int_le, int_lt, Bool, true, ◌&&◌, if◌then◌else◌}
 use Rattle.std.specs.Prelude.{List, [], ◌∷◌, Option, Some, None}
-use Rattle.pb_carriers.specs.Carrier.{Value, Tuple}
-use Rattle.pb_packing.specs.Packing.{Group, Alone, Joined, capacity}
-use Rattle.pb_packing.specs.Unpacked.{unpacked}
+use Rattle.pb_base_values.specs.Carrier.{Value, Tuple}
+use Rattle.pb_protocol_packing.specs.Packing.{Group, Alone, Joined, capacity}
+use Rattle.pb_protocol_packing.specs.Unpacked.{unpacked}
 use Rattle.pb_model_words.specs.Vocabulary.{Vocabulary}
 
 -- the whole numbers below n

@@ -2,7 +2,7 @@
 use Rattle.std.specs.Prelude.{ℕ, List, map, Option, Some, None}
 use Rattle.std.specs.Fmt.{signed_decimal}
 use Rattle.std.specs.Borrow.{Bor}
-use Rattle.pb_carriers.specs.Carrier.{Value}
+use Rattle.pb_base_values.specs.Carrier.{Value}
 use Rattle.pb_text_tree.specs.declared.name.Name as declared_name
 use Rattle.pb_text_tree.specs.declared.sort.Sort as declared_sort
 use Rattle.pb_text_tree.specs.declared.sort.SortDeclaration as declared_declaration
@@ -11,9 +11,9 @@ use Rattle.pb_text_tree.specs.Form.{VariableForm, named, enumerator_form, sort_f
 use Rattle.pb_text_tree.specs.Form.{sort_declaration_form, variable_forms}
 use Rattle.pb_text_meaning.specs.Syntax.{Enumerator, Sort, SortDeclaration}
 use Rattle.pb_text_meaning.specs.Erase.{erased_enumerator, erased_sort, erased_declaration}
-use Rattle.pb_packing.specs.Packing.{Group}
-use Rattle.pb_packer.specs.declared.group.Group as declared_group
-use Rattle.pb_packer.specs.Groups.{groups_in}
+use Rattle.pb_protocol_packing.specs.Packing.{Group}
+use Rattle.pb_protocol_packer.specs.declared.group.Group as declared_group
+use Rattle.pb_protocol_packer.specs.Groups.{groups_in}
 use Rattle.pb_model_words.specs.declared.variables.Variable as declared_variable
 use Rattle.pb_model_words.specs.declared.writing.Writing as declared_writing
 use Rattle.pb_model_words.specs.declared.writing.Writing.TheVariants as writing

@@ -2,7 +2,7 @@
 use Rattle.std.specs.Prelude.{ℕ, List, [], ◌∷◌, map, Option, Some, None}
 use Rattle.pb_text_tree.specs.Form.{Named, VariableForm, SortDeclarationForm}
 use Rattle.pb_model_tree.specs.Form.{StepForm, ModelForm}
-use Rattle.pb_packing.specs.Packing.{Group}
+use Rattle.pb_protocol_packing.specs.Packing.{Group}
 
 -- a step by what it is called, the place of its name, and its own variables
 pub record ToldStep : Type 0 where

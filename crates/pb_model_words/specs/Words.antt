@@ -5,7 +5,7 @@ use Rattle.std.specs.Prelude.{codes}
 use Rattle.std.specs.Fmt.{signed_decimal}
 use Rattle.std.specs.List.{find, slice_get}
 use Rattle.std.specs.Ordering.{int_eq}
-use Rattle.pb_carriers.specs.Carrier.{Value, Tuple, of_bool}
+use Rattle.pb_base_values.specs.Carrier.{Value, Tuple, of_bool}
 use Rattle.pb_text_tree.specs.declared.place.Place.{Place}
 use Rattle.pb_text_tree.specs.Form.{VariableForm}
 use Rattle.pb_text_meaning.specs.Syntax.{Name, same_name, Enumerator, Sort, Struct, Alias}

@@ -2,9 +2,9 @@
 //! the text of a packed model.
 
 ghost use Rattle.std.specs.Prelude.{◌≡◌, ◌++◌, OnOk, string_bytes, [], ◌∷◌, codes, map, drop, true};
-ghost use Rattle.pb_packing.specs.Packing as packing;
-ghost use Rattle.pb_packer.specs.Groups.{group_of, groups_in};
-ghost use Rattle.pb_packer.specs.Members.{are_weighted, members_of, variable_of};
+ghost use Rattle.pb_protocol_packing.specs.Packing as packing;
+ghost use Rattle.pb_protocol_packer.specs.Groups.{group_of, groups_in};
+ghost use Rattle.pb_protocol_packer.specs.Members.{are_weighted, members_of, variable_of};
 ghost use Rattle.pb_model_words.specs.GroupLines.{counted_text, group_line, group_lines, line_of};
 ghost use Rattle.pb_model_words.specs.GroupLines.{lines_of, summands, times_text, variable_count};
 ghost use Rattle.pb_model_words.specs.Words.{marked};
@@ -13,7 +13,7 @@ ghost use Rattle.pb_model_words.specs.View.{variable_said, vocabulary_of};
 use crate::values::push_mark;
 use crate::variables::Variable;
 use crate::vocabulary::Vocabulary;
-use pb_packer::{Group, Joined, Member};
+use pb_protocol_packer::{Group, Joined, Member};
 use std::alloc::AllocError;
 
 /// A variable whose values are counted from the lowest one.

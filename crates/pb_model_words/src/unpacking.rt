@@ -2,13 +2,13 @@
 
 ghost use Rattle.std.specs.Prelude.{◌≡◌, ◌++◌, ◌^◌, ◌<ℤ◌, pos, [], ◌∷◌, IfOk, OnOk};
 ghost use Rattle.std.specs.Prelude.{slice_index_or};
-ghost use Rattle.pb_packing.specs.Packing as packing;
-ghost use Rattle.pb_packing.specs.Unpacked.{unpacked};
-ghost use Rattle.pb_packer.specs.Groups.{group_of, groups_in};
-ghost use Rattle.pb_packer.specs.Members.{members_of, variable_of};
+ghost use Rattle.pb_protocol_packing.specs.Packing as packing;
+ghost use Rattle.pb_protocol_packing.specs.Unpacked.{unpacked};
+ghost use Rattle.pb_protocol_packer.specs.Groups.{group_of, groups_in};
+ghost use Rattle.pb_protocol_packer.specs.Members.{members_of, variable_of};
 ghost use Rattle.pb_model_words.specs.States.{is_below, number_after, numbers_after};
 
-use pb_packer::{Group, Joined, unpack};
+use pb_protocol_packer::{Group, Joined, unpack};
 use std::alloc::{AllocError, Global};
 
 fn is_below(count: u32, value: i64) -> bool

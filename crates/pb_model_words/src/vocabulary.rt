@@ -2,13 +2,13 @@
 
 ghost use Rattle.std.specs.Prelude.{◌≡◌, IfOk, map, string_bytes};
 ghost use Rattle.pb_model_tree.specs.Form.{model_form, step_form};
-ghost use Rattle.pb_packer.specs.Groups.{groups_in};
+ghost use Rattle.pb_protocol_packer.specs.Groups.{groups_in};
 ghost use Rattle.pb_model_words.specs.Vocabulary as words;
 ghost use Rattle.pb_model_words.specs.View.{told_step_said, variable_said, vocabulary_of};
 
 use crate::variables::{Variable, variables_of};
 use pb_model_tree::{Model, Step};
-use pb_packer::Group;
+use pb_protocol_packer::Group;
 use pb_text_tree::{Place, SortDeclaration, Variables};
 use std::alloc::{AllocError, Global};
 

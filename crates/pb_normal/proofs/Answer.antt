@@ -4,7 +4,7 @@ use Rattle.std.proofs.lemmas.Option.{slice_get-get_or, unwrap_or-slice_get}
 use Rattle.std.proofs.lemmas.Bool.{and_parts}
 use Rattle.pb_fixpoint.specs.Solution as fixpoint
 use Rattle.pb_fixpoint.specs.Solution.{Environment, solution, empty}
-use Rattle.pb_carriers.specs.Carrier.{Tuple, is_within, contains}
+use Rattle.pb_base_values.specs.Carrier.{Tuple, is_within, contains}
 use Rattle.pb_text_meaning.specs.Syntax.{same_name, Variable, Equation, Spec}
 use Rattle.pb_text_meaning.specs.Value.{values}
 use Rattle.pb_text_meaning.specs.Formula.{Instance, carriers_of, call_truth}

@@ -4,8 +4,8 @@ use Rattle.std.specs.Prelude.{nat_lt, nat_le}
 use Rattle.std.specs.List.{All}
 use Rattle.std.proofs.lemmas.Int.{ints}
 use Rattle.std.proofs.lemmas.Bool.{and_from, and_parts, le-leb, lt-ltb}
-use Rattle.pb_intervals.specs.Interval.{is_included, singleton, literals}
-use Rattle.pb_intervals.proofs.Ends.{le_true}
+use Rattle.pb_base_intervals.specs.Interval.{is_included, singleton, literals}
+use Rattle.pb_base_intervals.proofs.Ends.{le_true}
 use Rattle.pb_text_tree.specs.declared.operator.Quantifier.{Quantifier}
 use Rattle.pb_text_meaning.specs.Syntax as syntax
 use Rattle.pb_text_meaning.specs.Syntax.{Name, same_name, Variable, Operator, Terms, Equation, Spec}
@@ -29,9 +29,9 @@ use Rattle.pb_normal.specs.Plain.{AreFree}
 use Rattle.pb_normal.specs.Structs.{has_enumerator, struct_counts}
 use Rattle.pb_normal.specs.Bounds.{FormulaBounds, is_bounded, are_bounded, is_bounded_formula, bounds_with, HasBounds}
 use Rattle.pb_typing.proofs.LoopCount.{length-loops}
-use Rattle.pb_typed_tree.proofs.Parameters.{free-parameters}
+use Rattle.pb_typing_tree.proofs.Parameters.{free-parameters}
 use Rattle.pb_normal.proofs.Structs.{enumerator_known, recogniser_known, position-there}
-use Rattle.pb_typed_tree.proofs.Truth.{more-free, free-with}
+use Rattle.pb_typing_tree.proofs.Truth.{more-free, free-with}
 
 -- a literal is at most 2^62
 literal-bounded : (n : ℕ) → is_included (singleton (pos n)) literals ≡ true → nat_le n (2 ^ 62) ≡ true

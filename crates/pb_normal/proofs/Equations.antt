@@ -13,11 +13,11 @@ use Rattle.pb_normal.specs.Normalisation.{unslotted, with_slots}
 use Rattle.pb_normal.specs.Answer.{normal_equations}
 use Rattle.pb_normal.specs.Equations.{normal_equation, HaveTruth, NormalFormKeepsTruth}
 use Rattle.pb_normal.specs.Normal.{Formula}
-use Rattle.pb_typed_tree.proofs.Expanded.{expanded-truth}
+use Rattle.pb_typing_tree.proofs.Expanded.{expanded-truth}
 use Rattle.pb_normal.proofs.Truth.{normal-truth}
 use Rattle.pb_normal.proofs.Positive.{expanded-positive}
-use Rattle.pb_typed_tree.proofs.Plain.{expanded-plain}
-use Rattle.pb_typed_tree.proofs.Parameters.{agree-parameters, free-parameters}
+use Rattle.pb_typing_tree.proofs.Plain.{expanded-plain}
+use Rattle.pb_typing_tree.proofs.Parameters.{agree-parameters, free-parameters}
 
 keeps-truth : (spec : Spec) (X : Equation) → IsProper spec true (parameter_scope spec X) X.right → IsPositive true X.right → NormalFormKeepsTruth spec X
 keeps-truth spec X proper positive t slots i count hold =

@@ -2,7 +2,7 @@
 use Rattle.std.proofs.Common.{◌≡◌, ℕ, zero, suc, ◌+◌, Bool, true, false, not, ◌||◌, if◌then◌else◌, List, [], ◌∷◌, length, Option, Some, None, sym, subst, arith}
 use Rattle.std.specs.List.{All}
 use Rattle.std.proofs.lemmas.Bool.{and_parts}
-use Rattle.pb_carriers.specs.Carrier.{Value, Carrier, is_within, contains}
+use Rattle.pb_base_values.specs.Carrier.{Value, Carrier, is_within, contains}
 use Rattle.pb_text_tree.specs.declared.operator.Quantifier.{Quantifier}
 use Rattle.pb_text_meaning.specs.Syntax as syntax
 use Rattle.pb_text_meaning.specs.Syntax.{same_name, Variable, Operator, Terms, Equation, Spec}
@@ -25,10 +25,10 @@ use Rattle.pb_normal.specs.Normal.{Term, Argument, Formula, Slots, set, value}
 use Rattle.pb_normal.specs.Normalisation.{Slotting, unslotted, with_slot, with_slots, slotted, width, signed_test, signed_quantifier, each, arguments, place_of, call, normal}
 use Rattle.pb_normal.specs.Plain.{AreFree, Agree}
 use Rattle.pb_normal.specs.Kept.{ArgumentsFit, KeepsShapes}
-use Rattle.pb_typed_tree.proofs.Slotted.{slotted-value}
-use Rattle.pb_typed_tree.proofs.Truth.{more-free, free-with, agree-with}
-use Rattle.pb_typed_tree.proofs.Plain.{typed-plain}
-use Rattle.pb_typed_tree.proofs.Parameters.{agree-parameters, free-parameters}
+use Rattle.pb_typing_tree.proofs.Slotted.{slotted-value}
+use Rattle.pb_typing_tree.proofs.Truth.{more-free, free-with, agree-with}
+use Rattle.pb_typing_tree.proofs.Plain.{typed-plain}
+use Rattle.pb_typing_tree.proofs.Parameters.{agree-parameters, free-parameters}
 use Rattle.pb_normal.proofs.Answer.{within-count}
 
 -- ---- quantifiers

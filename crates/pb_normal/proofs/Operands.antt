@@ -8,10 +8,10 @@ use Rattle.pb_text_tree.specs.declared.operator.Connective.{Connective}
 use Rattle.pb_text_tree.specs.declared.operator.Quantifier.{Quantifier}
 use Rattle.pb_typing_declarations.specs.Entries.{shape_of}
 use Rattle.pb_typing_rules.specs.Faults.{left_parity, operand_parity}
-use Rattle.pb_typed_tree.specs.Tree as tree
-use Rattle.pb_typed_tree.specs.Tree.{Connected}
-use Rattle.pb_typed_tree.specs.View as typed
-use Rattle.pb_typed_tree.specs.declared.formula.Formula as declared
+use Rattle.pb_typing_tree.specs.Tree as tree
+use Rattle.pb_typing_tree.specs.Tree.{Connected}
+use Rattle.pb_typing_tree.specs.View as typed
+use Rattle.pb_typing_tree.specs.declared.formula.Formula as declared
 use Rattle.pb_normal.specs.declared.formula.Formula as code
 use Rattle.pb_normal.specs.declared.formula.Junction.{Junction}
 use Rattle.pb_normal.specs.Chains.{joins}

@@ -10,10 +10,10 @@ use Rattle.pb_typing_declarations.specs.Shapes.{Shape}
 use Rattle.pb_typing_declarations.specs.Entries.{shapes_of}
 use Rattle.pb_typing_rules.specs.WellTyped.{parameter_scope, IsWellTyped}
 use Rattle.pb_typing_rules.proofs.Fitting.{spec_positive}
-use Rattle.pb_typed_tree.specs.declared.formula.Equation as tree
-use Rattle.pb_typed_tree.specs.Elaboration.{unslotted, with_slots, elaborated_equations}
-use Rattle.pb_typed_tree.specs.Expansion.{expanded}
-use Rattle.pb_typed_tree.specs.View as typed
+use Rattle.pb_typing_tree.specs.declared.formula.Equation as tree
+use Rattle.pb_typing_tree.specs.Elaboration.{unslotted, with_slots, elaborated_equations}
+use Rattle.pb_typing_tree.specs.Expansion.{expanded}
+use Rattle.pb_typing_tree.specs.View as typed
 use Rattle.pb_normal.specs.declared.normal.Equation as declared
 use Rattle.pb_normal.specs.Answer.{normal_equations}
 use Rattle.pb_normal.specs.Equations.{normal_equation}

@@ -6,8 +6,8 @@ use Rattle.pb_text_meaning.specs.Syntax.{Variable, Spec}
 use Rattle.pb_text_meaning.specs.Positive.{IsPositive}
 use Rattle.pb_typing_declarations.specs.Shapes.{sort_shape}
 use Rattle.pb_typing_rules.specs.Scope.{Scope, bound}
-use Rattle.pb_typed_tree.specs.Tree as typed
-use Rattle.pb_typed_tree.specs.Elaboration as made
+use Rattle.pb_typing_tree.specs.Tree as typed
+use Rattle.pb_typing_tree.specs.Elaboration as made
 use Rattle.pb_normal.specs.declared.formula.Junction.TheVariants.{And, Or}
 use Rattle.pb_normal.specs.Normal.{Argument, Formula, Join, Each}
 use Rattle.pb_normal.specs.Normalisation as normalisation

@@ -18,7 +18,7 @@ use Rattle.pb_normal.specs.Normalisation as made
 use Rattle.pb_normal.specs.Normalisation.{Slotting, unslotted, with_slot, with_slots, applied_to_one, applied_to_two, applied_to_three, applied, slotted, slotted_all, width, signed_test, signed_quantifier, each, arguments, place_of, call, normal}
 use Rattle.pb_normal.specs.Equations.{normal_equation}
 use Rattle.pb_normal.specs.SlotOrder.{quantified_slots, reads_only, IsClosed}
-use Rattle.pb_typed_tree.proofs.Parameters.{free-parameters}
+use Rattle.pb_typing_tree.proofs.Parameters.{free-parameters}
 
 -- ---- the slots of quantifiers
 

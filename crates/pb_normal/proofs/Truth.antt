@@ -4,7 +4,7 @@ use Rattle.pb_fixpoint.specs.Solution.{Environment}
 use Rattle.pb_text_tree.specs.declared.operator.Connective.TheVariants as connective
 use Rattle.pb_text_tree.specs.declared.operator.Quantifier.{Quantifier}
 use Rattle.pb_text_tree.specs.declared.operator.Quantifier.TheVariants.{Forall, Exists}
-use Rattle.pb_carriers.specs.Carrier.{Value, Carrier}
+use Rattle.pb_base_values.specs.Carrier.{Value, Carrier}
 use Rattle.pb_text_meaning.specs.Syntax as syntax
 use Rattle.pb_text_meaning.specs.Syntax.{Name, Variable, Spec}
 use Rattle.pb_text_meaning.specs.Sorts.{carrier_of}
@@ -16,11 +16,11 @@ use Rattle.pb_text_meaning.proofs.Truths.{is_true-of_bool}
 use Rattle.pb_typing_declarations.specs.Shapes.{shape_carrier, sort_shape}
 use Rattle.pb_typing_rules.specs.Faults.{left_parity}
 use Rattle.pb_typing_rules.specs.Scope.{Scope, bound}
-use Rattle.pb_typed_tree.specs.Tree as typed
-use Rattle.pb_typed_tree.specs.Meaning as tree
-use Rattle.pb_typed_tree.specs.Elaboration as made
-use Rattle.pb_typed_tree.proofs.Expanded.{same-of-values}
-use Rattle.pb_typed_tree.proofs.Truth.{elaborated-truth}
+use Rattle.pb_typing_tree.specs.Tree as typed
+use Rattle.pb_typing_tree.specs.Meaning as tree
+use Rattle.pb_typing_tree.specs.Elaboration as made
+use Rattle.pb_typing_tree.proofs.Expanded.{same-of-values}
+use Rattle.pb_typing_tree.proofs.Truth.{elaborated-truth}
 use Rattle.pb_normal.specs.declared.formula.Junction.TheVariants.{And, Or}
 use Rattle.pb_normal.specs.Normal.{Term, Argument, Slots, set, joined, truth, value}
 use Rattle.pb_normal.specs.Normalisation as normalisation

@@ -4,7 +4,7 @@ use Rattle.std.specs.Prelude.{pos, Bool, List, [], ◌∷◌, map, unwrap_or}
 use Rattle.std.specs.List.{slice_get}
 use Rattle.pb_fixpoint.specs.Solution as fixpoint
 use Rattle.pb_fixpoint.specs.Solution.{solution, empty}
-use Rattle.pb_carriers.specs.Carrier.{Tuple}
+use Rattle.pb_base_values.specs.Carrier.{Tuple}
 use Rattle.pb_text_meaning.specs.Syntax.{Equation, Spec}
 use Rattle.pb_text_meaning.specs.Value.{values}
 use Rattle.pb_text_meaning.specs.Formula.{Instance, call_truth}

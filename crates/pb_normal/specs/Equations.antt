@@ -5,7 +5,7 @@ use Rattle.pb_text_meaning.specs.Syntax.{Equation, Spec}
 use Rattle.pb_text_meaning.specs.Formula.{Instance}
 use Rattle.pb_text_meaning.specs.Meaning.{equation_of}
 use Rattle.pb_typing_rules.specs.WellTyped.{parameter_scope}
-pub use Rattle.pb_typed_tree.specs.Equations.{Hold}
+pub use Rattle.pb_typing_tree.specs.Equations.{Hold}
 use Rattle.pb_normal.specs.Expansion.{expanded}
 use Rattle.pb_normal.specs.Normal.{Formula, Slots, truth}
 use Rattle.pb_normal.specs.Normalisation.{normal, unslotted, with_slots}

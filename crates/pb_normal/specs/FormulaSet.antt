@@ -5,8 +5,8 @@ use Rattle.std.proofs.Props.{props}
 use Rattle.pb_text_tree.specs.declared.operator.Quantifier.{Quantifier}
 use Rattle.pb_text_tree.specs.declared.operator.Quantifier.TheVariants.{Forall, Exists}
 use Rattle.pb_typing_declarations.specs.Shapes.{Shape}
-pub use Rattle.pb_typed_tree.specs.FormulaSet.{shapes-prop}
-use Rattle.pb_typed_tree.specs.FormulaSet.{Code, Mark, Pair, none, node, shape_code, shape_at, term_code, term_at, arguments_code, arguments_at, from-codes, shape-back, term-back, arguments-back}
+pub use Rattle.pb_typing_tree.specs.FormulaSet.{shapes-prop}
+use Rattle.pb_typing_tree.specs.FormulaSet.{Code, Mark, Pair, none, node, shape_code, shape_at, term_code, term_at, arguments_code, arguments_at, from-codes, shape-back, term-back, arguments-back}
 use Rattle.pb_normal.specs.declared.formula.Junction.{Junction}
 use Rattle.pb_normal.specs.declared.formula.Junction.TheVariants.{And, Or}
 use Rattle.pb_normal.specs.Normal.{Term, Number, Argument, Formula, Test, Join, Each, Call}

@@ -1,7 +1,7 @@
 -- What the shapes that are kept with arguments promise.
 use Rattle.std.specs.Prelude.{◌≡◌, true, ⊤}
 use Rattle.std.specs.List.{All}
-use Rattle.pb_carriers.specs.Carrier.{Value, contains}
+use Rattle.pb_base_values.specs.Carrier.{Value, contains}
 use Rattle.pb_text_meaning.specs.Syntax.{Equation, Spec}
 use Rattle.pb_text_meaning.specs.Formula.{Instance}
 use Rattle.pb_text_meaning.specs.Meaning.{equation_of}

@@ -1,3 +1,3 @@
 -- The slots that the quantifiers of a formula take.
-pub use Rattle.pb_typed_tree.specs.Loops.{variable_shapes, loops, equation_loops, all_loops}
-pub use Rattle.pb_typed_tree.specs.Loops.{AreShaped, IsShaped}
+pub use Rattle.pb_typing_tree.specs.Loops.{variable_shapes, loops, equation_loops, all_loops}
+pub use Rattle.pb_typing_tree.specs.Loops.{AreShaped, IsShaped}

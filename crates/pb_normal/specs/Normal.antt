@@ -7,10 +7,10 @@ use Rattle.pb_text_meaning.specs.Syntax.{Spec}
 use Rattle.pb_text_meaning.specs.Value.{is_true, of_values}
 use Rattle.pb_text_meaning.specs.Formula.{Instance, call_truth}
 use Rattle.pb_typing_declarations.specs.Shapes.{Shape, shape_carrier}
-pub use Rattle.pb_typed_tree.specs.Tree.{Term, Number, Slot, Negative, Absolute, Successor}
-pub use Rattle.pb_typed_tree.specs.Tree.{Predecessor, Binary, Maximum, Minimum, Choice, Recognised}
-pub use Rattle.pb_typed_tree.specs.Tree.{Argument}
-pub use Rattle.pb_typed_tree.specs.Meaning.{Slots, set, value, name_of, called}
+pub use Rattle.pb_typing_tree.specs.Tree.{Term, Number, Slot, Negative, Absolute, Successor}
+pub use Rattle.pb_typing_tree.specs.Tree.{Predecessor, Binary, Maximum, Minimum, Choice, Recognised}
+pub use Rattle.pb_typing_tree.specs.Tree.{Argument}
+pub use Rattle.pb_typing_tree.specs.Meaning.{Slots, set, value, name_of, called}
 use Rattle.pb_normal.specs.declared.formula.Junction.{Junction}
 use Rattle.pb_normal.specs.declared.formula.Junction.TheVariants.{And, Or}
 

@@ -10,11 +10,11 @@ use Rattle.pb_typing_rules.specs.Scope.{Scope, bound}
 use Rattle.pb_normal.specs.declared.formula.Junction.{Junction}
 use Rattle.pb_normal.specs.declared.formula.Junction.TheVariants.{And, Or}
 use Rattle.pb_normal.specs.Normal.{Term, Argument, Formula, Test, Join, Each, Call}
-pub use Rattle.pb_typed_tree.specs.Elaboration.{Slotting, unslotted, with_slot, with_slots}
-pub use Rattle.pb_typed_tree.specs.Elaboration.{enumerator, named, recognised, named_to_one}
-pub use Rattle.pb_typed_tree.specs.Elaboration.{named_to_two, named_to_three, applied_to_one}
-pub use Rattle.pb_typed_tree.specs.Elaboration.{applied_to_two, applied_to_three, applied, slotted}
-pub use Rattle.pb_typed_tree.specs.Elaboration.{slotted_all, width, arguments, place_of}
+pub use Rattle.pb_typing_tree.specs.Elaboration.{Slotting, unslotted, with_slot, with_slots}
+pub use Rattle.pb_typing_tree.specs.Elaboration.{enumerator, named, recognised, named_to_one}
+pub use Rattle.pb_typing_tree.specs.Elaboration.{named_to_two, named_to_three, applied_to_one}
+pub use Rattle.pb_typing_tree.specs.Elaboration.{applied_to_two, applied_to_three, applied, slotted}
+pub use Rattle.pb_typing_tree.specs.Elaboration.{slotted_all, width, arguments, place_of}
 
 -- a test, negated where the negations around it are odd in number
 abbrev pub signed_test : Bool → Term → Formula

@@ -2,7 +2,7 @@
 use Rattle.std.specs.Prelude.{Bool, not, List, [], ◌∷◌, length}
 use Rattle.pb_text_tree.specs.declared.operator.Connective.{Connective}
 use Rattle.pb_typing_rules.specs.Faults.{left_parity, operand_parity}
-use Rattle.pb_typed_tree.specs.Tree as typed
+use Rattle.pb_typing_tree.specs.Tree as typed
 use Rattle.pb_normal.specs.Chains.{joins}
 use Rattle.pb_normal.specs.Normal.{Formula, Join, Each, Call}
 use Rattle.pb_normal.specs.Normalisation.{signed_test, signed_quantifier}

@@ -7,8 +7,8 @@ use Rattle.pb_typing_declarations.specs.Shapes.{Shape}
 use Rattle.pb_typing_declarations.specs.Entries.{shape_of}
 use Rattle.pb_typing.specs.View.{is_positive}
 pub use Rattle.pb_typing_declarations.specs.Entries.{shapes_of}
-pub use Rattle.pb_typed_tree.specs.View.{chained, calculated, term_view, term_views}
-pub use Rattle.pb_typed_tree.specs.View.{link_views, argument_view}
+pub use Rattle.pb_typing_tree.specs.View.{chained, calculated, term_view, term_views}
+pub use Rattle.pb_typing_tree.specs.View.{link_views, argument_view}
 use Rattle.pb_normal.specs.Normal as normal
 use Rattle.pb_normal.specs.Normal.{Each, Join, Call}
 use Rattle.pb_normal.specs.Normalisation.{signed_test}

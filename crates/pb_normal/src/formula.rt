@@ -5,8 +5,8 @@ ghost use Rattle.pb_normal.specs.Normalisation.{dual};
 
 use pb_sorts::Carrier;
 use pb_text_tree::Quantifier;
-use pb_typed_tree::{Argument, Term};
 use pb_typing::Polarity;
+use pb_typing_tree::{Argument, Term};
 
 /// What joins operands: a conjunction, or a disjunction.
 #[derive(Clone, Copy, Debug, PartialEq, Eq)]

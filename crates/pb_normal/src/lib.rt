@@ -11,4 +11,4 @@ mod signed;
 
 pub use formula::{Formula, Junction};
 pub use normal::{Equation, Normal, normalise};
-pub use pb_typed_tree::{Argument, Enumerator, Link, Term};
+pub use pb_typing_tree::{Argument, Enumerator, Link, Term};

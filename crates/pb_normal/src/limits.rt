@@ -7,7 +7,7 @@ ghost use Rattle.pb_text_meaning.specs.Erase.{erase};
 ghost use Rattle.pb_text_meaning.specs.Syntax.{Equation, Spec};
 ghost use Rattle.pb_typing_rules.specs.WellTyped.{IsWellTyped};
 ghost use Rattle.pb_typing.specs.Typed.{is_faultless};
-ghost use Rattle.pb_typed_tree.specs.InitialPlace.{HasInitial};
+ghost use Rattle.pb_typing_tree.specs.InitialPlace.{HasInitial};
 ghost use Rattle.pb_normal.specs.Bounds.{AreBounded, AreSmall};
 ghost use Rattle.pb_normal.specs.Calls.{HaveCalls};
 ghost use Rattle.pb_normal.specs.Equations.{normal_equation};

@@ -2,7 +2,7 @@
 
 ghost use Rattle.std.specs.Prelude.{◌≡◌, true, IfOk};
 ghost use Rattle.pb_text_meaning.specs.Meaning.{answer};
-ghost use Rattle.pb_typed_tree.specs.View as tree;
+ghost use Rattle.pb_typing_tree.specs.View as tree;
 ghost use Rattle.pb_normal.specs.Answer.{answer_by, normal_equations};
 ghost use Rattle.pb_normal.specs.Equations.{HaveTruth};
 ghost use Rattle.pb_normal.specs.FormulaSet.{formulas-prop, shapes-prop};
@@ -73,7 +73,7 @@ pub fn normalise(alloc: Global, typed: &Typed) -> Result<Normal<'_>, AllocError>
 /// The normal form of an equation's right side.
 fn normal_equation(
     alloc: Global,
-    equation: &pb_typed_tree::Equation,
+    equation: &pb_typing_tree::Equation,
 ) -> Result<Equation<'_>, AllocError>
     ensures right { IfOk result (λ X. formula_view X.right
         ≡ signed_form true (tree.formula_view equation.now.right)) }

@@ -1,9 +1,9 @@
 //! The normal form of typed formulas: negations are driven down to data (De Morgan).
 
 ghost use Rattle.std.specs.Prelude.{◌≡◌, IfOk};
-ghost use Rattle.pb_typed_tree.specs.Tree.{Connected};
-ghost use Rattle.pb_typed_tree.specs.View as tree;
-ghost use Rattle.pb_typed_tree.specs.View.{chained};
+ghost use Rattle.pb_typing_tree.specs.Tree.{Connected};
+ghost use Rattle.pb_typing_tree.specs.View as tree;
+ghost use Rattle.pb_typing_tree.specs.View.{chained};
 ghost use Rattle.pb_typing.specs.View.{is_positive};
 ghost use Rattle.pb_normal.specs.SignedForm.{signed_form, signed_operands};
 ghost use Rattle.pb_normal.specs.View.{formula_view, formula_views};
@@ -22,22 +22,22 @@ use std::alloc::{AllocError, Global};
 pub(crate) fn signed_form(
     alloc: Global,
     polarity: Polarity,
-    formula: &pb_typed_tree::Formula,
+    formula: &pb_typing_tree::Formula,
 ) -> Result<Formula<'_>, AllocError>
     ensures { IfOk result (λ f. formula_view f
         ≡ signed_form (is_positive polarity) (tree.formula_view formula.now)) }
 {
     match formula {
-        pb_typed_tree::Formula::Test(term) => Ok(Formula::Test { polarity, term }),
-        pb_typed_tree::Formula::Negation(operand) => {
+        pb_typing_tree::Formula::Test(term) => Ok(Formula::Test { polarity, term }),
+        pb_typing_tree::Formula::Negation(operand) => {
             signed_form(alloc, polarity.opposite(), operand)
         }
-        pb_typed_tree::Formula::Chain {
+        pb_typing_tree::Formula::Chain {
             connective,
             first,
             links,
         } => signed_chain(alloc, polarity, *connective, first, links),
-        pb_typed_tree::Formula::Quantified {
+        pb_typing_tree::Formula::Quantified {
             quantifier,
             slot,
             carriers,
@@ -51,7 +51,7 @@ pub(crate) fn signed_form(
                 body: Box::new(alloc, body)?,
             })
         }
-        pb_typed_tree::Formula::Call {
+        pb_typing_tree::Formula::Call {
             equation,
             arguments,
             ..
@@ -68,8 +68,8 @@ fn signed_chain<'t>(
     alloc: Global,
     polarity: Polarity,
     connective: Connective,
-    first: &'t pb_typed_tree::Formula,
-    links: &'t [pb_typed_tree::Formula],
+    first: &'t pb_typing_tree::Formula,
+    links: &'t [pb_typing_tree::Formula],
 ) -> Result<Formula<'t>, AllocError>
     ensures { IfOk result (λ f. formula_view f ≡ signed_form (is_positive polarity)
         (chained (Connected connective) (tree.formula_view first.now)
@@ -92,7 +92,7 @@ fn signed_links(
     alloc: Global,
     polarity: Polarity,
     connective: Connective,
-    links: &[pb_typed_tree::Formula],
+    links: &[pb_typing_tree::Formula],
 ) -> Result<Vec<Formula<'_>>, AllocError>
     ensures { IfOk result (λ all. formula_views all.items ≡ signed_operands connective
         (is_positive polarity) (tree.formula_views links.now)) }

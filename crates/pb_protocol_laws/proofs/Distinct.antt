@@ -7,7 +7,7 @@ use Rattle.pb_text_meaning.specs.Syntax.{Name, same_name}
 use Rattle.pb_typing_declarations.specs.declared.fault.TypingRule.TheVariants.{NameTwice}
 use Rattle.pb_typing_declarations.specs.Faults.{unless, is_among, repeated, repeated_after}
 use Rattle.pb_typing_declarations.proofs.Parts.{no_parts, holds_unless}
-use Rattle.pb_folding.specs.Names.{IsNot, AreDistinct}
+use Rattle.pb_protocol_folding.specs.Names.{IsNot, AreDistinct}
 
 abbrev pub texts : List Named → List Name
 texts xs = map (λ (x : Named). x.text) xs

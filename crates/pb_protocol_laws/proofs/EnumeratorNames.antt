@@ -9,7 +9,7 @@ use Rattle.pb_typing_declarations.proofs.Parts.{no_parts}
 use Rattle.pb_typing_declarations.proofs.ReadParts as part
 use Rattle.pb_protocol_tree.specs.Form.{ProtocolForm}
 use Rattle.pb_protocol_meaning.specs.Erase.{erase}
-use Rattle.pb_folding.specs.Names.{IsNot, AreDistinct, names_in, enumerators_in}
+use Rattle.pb_protocol_folding.specs.Names.{IsNot, AreDistinct, names_in, enumerators_in}
 use Rattle.pb_protocol_typing.specs.Faults.{data_form, protocol_faults}
 use Rattle.pb_protocol_laws.proofs.Kept.{declared}
 use Rattle.pb_protocol_laws.proofs.Distinct.{texts, distinct}

@@ -12,8 +12,8 @@ use Rattle.pb_model_meaning.specs.Syntax as flat
 use Rattle.pb_protocol_tree.specs.Form.{StateVariableForm, AssignmentForm, StepForm, ProtocolForm}
 use Rattle.pb_protocol_meaning.specs.Syntax.{StateVariable, Assignment, Step, Protocol}
 use Rattle.pb_protocol_meaning.specs.Erase.{erase, erased_state_variable, erased_assignment, erased_step}
-use Rattle.pb_folding.specs.Names.{IsNot, AreDistinct, names_of, AssignOnce}
-use Rattle.pb_unfolding.specs.Plain.{plain, plain_variable, plain_assignment, plain_step, AreAsMany, IsPlain}
+use Rattle.pb_protocol_folding.specs.Names.{IsNot, AreDistinct, names_of, AssignOnce}
+use Rattle.pb_protocol_unfolding.specs.Plain.{plain, plain_variable, plain_assignment, plain_step, AreAsMany, IsPlain}
 use Rattle.pb_protocol_typing.specs.Fault.{fault_unless, first_fault}
 use Rattle.pb_protocol_typing.specs.Scopes.{Scope, inside, variables}
 use Rattle.pb_protocol_typing.specs.Terms.{condition_fault}

@@ -11,8 +11,8 @@ use Rattle.pb_text_meaning.specs.Erase as texts
 use Rattle.pb_protocol_tree.specs.Form.{FormulaForm, PropertyForm, ProtocolForm}
 use Rattle.pb_protocol_meaning.specs.Syntax.{StepSet, Formula, Property}
 use Rattle.pb_protocol_meaning.specs.Erase.{erase, erased_formula, erased_property, erased_steps, joined, modal}
-use Rattle.pb_unfolding.specs.Positive.{HasPositiveCalls}
-use Rattle.pb_unfolding.specs.Positive as protocol
+use Rattle.pb_protocol_unfolding.specs.Positive.{HasPositiveCalls}
+use Rattle.pb_protocol_unfolding.specs.Positive as protocol
 use Rattle.pb_protocol_typing.specs.Fault.{fault_unless, or_else, first_fault}
 use Rattle.pb_protocol_typing.specs.Scopes.{Scope, variables, fixpoint, inside, is_fixpoint}
 use Rattle.pb_protocol_typing.specs.Sets.{StepShapes, set_fault}

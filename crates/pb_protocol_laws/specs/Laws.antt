@@ -4,9 +4,9 @@ use Rattle.pb_model_meaning.specs.Syntax.{Model}
 use Rattle.pb_protocol_tree.specs.Form.{ProtocolForm}
 use Rattle.pb_protocol_meaning.specs.Syntax.{StateVariable, Property}
 use Rattle.pb_protocol_meaning.specs.Erase.{erase}
-use Rattle.pb_folding.specs.Names.{AreDistinct, enumerators_in}
-use Rattle.pb_unfolding.specs.Plain.{plain, IsPlain}
-use Rattle.pb_unfolding.specs.Positive.{HasPositiveCalls}
+use Rattle.pb_protocol_folding.specs.Names.{AreDistinct, enumerators_in}
+use Rattle.pb_protocol_unfolding.specs.Plain.{plain, IsPlain}
+use Rattle.pb_protocol_unfolding.specs.Positive.{HasPositiveCalls}
 use Rattle.pb_protocol_typing.specs.Faults.{protocol_faults}
 
 -- no two enumerators have one name

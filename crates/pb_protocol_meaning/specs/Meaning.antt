@@ -3,7 +3,7 @@
 use Rattle.std.specs.Prelude.{pos, neg_ℤ, Bool, true, false, not, ◌&&◌, if◌then◌else◌}
 use Rattle.std.specs.Prelude.{List, [], ◌∷◌, Option, Some, None}
 use Rattle.std.specs.Ordering.{int_eq}
-use Rattle.pb_carriers.specs.Carrier.{Value, Carrier, Tuple, of_bool}
+use Rattle.pb_base_values.specs.Carrier.{Value, Carrier, Tuple, of_bool}
 use Rattle.pb_text_meaning.specs.Syntax.{Name, same_name, Variable, Term, Terms, Spec}
 use Rattle.pb_text_meaning.specs.Value.{Assignment, looked_up, is_true, binary, function_value}
 use Rattle.pb_text_meaning.specs.Value.{named_value, quantified}

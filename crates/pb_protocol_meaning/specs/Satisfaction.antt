@@ -2,7 +2,7 @@
 use Rattle.std.specs.Prelude.{ℕ, Bool, false, not, ◌&&◌, ◌||◌, if◌then◌else◌, []}
 use Rattle.std.specs.List.{list_any, list_all}
 use Rattle.pb_fixpoint.specs.Solution.{iterate, start}
-use Rattle.pb_carriers.specs.Carrier.{tuple_count}
+use Rattle.pb_base_values.specs.Carrier.{tuple_count}
 use Rattle.pb_text_meaning.specs.Value.{Assignment, quantified, is_true}
 use Rattle.pb_model_meaning.specs.Steps.{State}
 use Rattle.pb_model_meaning.specs.Satisfaction.{States, Valuation, with_set, no_sets}

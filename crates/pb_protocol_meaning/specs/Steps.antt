@@ -2,7 +2,7 @@
 use Rattle.std.specs.Prelude.{Bool, true, false, not, ◌&&◌, ◌||◌, if◌then◌else◌, List, [], ◌∷◌}
 use Rattle.std.specs.Prelude.{◌++◌, map, filter, flat_map, length, drop, Option, Some, None}
 use Rattle.std.specs.Ordering.{int_eq}
-use Rattle.pb_carriers.specs.Carrier.{Value, Carrier, Tuple, is_within, tuples}
+use Rattle.pb_base_values.specs.Carrier.{Value, Carrier, Tuple, is_within, tuples}
 use Rattle.pb_text_meaning.specs.Syntax.{Name, same_name, Term, Terms, Spec}
 use Rattle.pb_text_meaning.specs.Sorts.{carrier_of}
 use Rattle.pb_text_meaning.specs.Value.{is_true}

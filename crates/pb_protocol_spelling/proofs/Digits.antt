@@ -3,15 +3,15 @@ use Rattle.std.proofs.Common.{◌≡◌, ℕ, zero, suc, ◌+◌, ◌≤◌, Boo
 use Rattle.std.specs.Prelude.{ℤ, pos, negsuc, ◌+ℤ◌, ◌-ℤ◌, ◌≤ℤ◌, Option, Some, None, codes, nat_eq, nat_lt, ◌^◌}
 use Rattle.std.proofs.lemmas.Bool.Decides.{nat_tests}
 use Rattle.std.proofs.lemmas.Int.{ints}
-use Rattle.pb_carriers.specs.Carrier.{of_bool}
+use Rattle.pb_base_values.specs.Carrier.{of_bool}
 use Rattle.pb_text_lexer.specs.Lexing.{largest_number}
 use Rattle.pb_text_meaning.specs.Syntax.{Name, same_name, Variable, Operator, Term, Terms}
 use Rattle.pb_text_printer.specs.Sayable.{Each}
 use Rattle.pb_model_meaning.specs.Syntax.{Formula}
 use Rattle.pb_model_spelling.specs.Writable.{IsWord, TermWritable, AllWritable, ModalWritable}
-use Rattle.pb_packing.specs.Numbers.{Kind, Boolean, Enumeration, Whole, number, times, divided, rest, raised, lowered, either, enumerator_at, place_of, from_number, place_among, place_or, place_number, computed_number, constant_number, number_or, to_number, is_one_of, test_of}
-use Rattle.pb_packing.specs.Said.{Digit, Scope, digit_for, term_for, hidden, compared_place, by_place, compared, digit_in, said, all_said}
-use Rattle.pb_packing.specs.Packing.{formula_said}
+use Rattle.pb_protocol_packing.specs.Numbers.{Kind, Boolean, Enumeration, Whole, number, times, divided, rest, raised, lowered, either, enumerator_at, place_of, from_number, place_among, place_or, place_number, computed_number, constant_number, number_or, to_number, is_one_of, test_of}
+use Rattle.pb_protocol_packing.specs.Said.{Digit, Scope, digit_for, term_for, hidden, compared_place, by_place, compared, digit_in, said, all_said}
+use Rattle.pb_protocol_packing.specs.Packing.{formula_said}
 use Rattle.pb_protocol_spelling.proofs.Spelled.{IsWritableNumber}
 use Rattle.pb_protocol_spelling.proofs.Unfolded.{if-word}
 

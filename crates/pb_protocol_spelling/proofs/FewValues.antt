@@ -4,16 +4,16 @@ use Rattle.std.specs.Prelude.{nat_le, nat_lt}
 use Rattle.std.specs.List.{list_all}
 use Rattle.std.proofs.lemmas.Bool.{and_parts}
 use Rattle.std.proofs.lemmas.Bool.Decides.{nat_tests}
-use Rattle.pb_limits.specs.declared.TheConstants.{MAX_INSTANCES}
+use Rattle.pb_base_limits.specs.declared.TheConstants.{MAX_INSTANCES}
 use Rattle.pb_text_tree.specs.declared.place.Place.{Place}
 use Rattle.pb_text_printer.specs.Sayable.{Each}
 use Rattle.pb_typing_declarations.specs.declared.fault.TypingRule.TheVariants.{Limit}
 use Rattle.pb_typing_declarations.specs.Faults.{unless}
 use Rattle.pb_model_tree.specs.Form.{ModelForm}
 use Rattle.pb_model_meaning.specs.Erase.{erase}
-use Rattle.pb_packing.specs.Packing.{Group, Alone, Joined, capacity}
-use Rattle.pb_packing.specs.Groups.{groups_of}
-use Rattle.pb_model_packer.specs.Sizes.{is_few, has_few, size_faults}
+use Rattle.pb_protocol_packing.specs.Packing.{Group, Alone, Joined, capacity}
+use Rattle.pb_protocol_packing.specs.Groups.{groups_of}
+use Rattle.pb_protocol_groups.specs.Sizes.{is_few, has_few, size_faults}
 use Rattle.pb_protocol_spelling.specs.FewValues.{HasFewValues}
 
 within-range : (n : ℕ) → is_few n ≡ true → (1 ≤ n) × (n ≤ 2 ^ 31)

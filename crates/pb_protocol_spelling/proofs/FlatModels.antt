@@ -1,8 +1,8 @@
 -- The flat model of a protocol that has words has words, and so have its formulas.
 use Rattle.std.specs.Prelude.{false, []}
 use Rattle.pb_model_meaning.specs.Steps.{data_of}
-use Rattle.pb_folding.specs.FoldedModels.{is_left}
-use Rattle.pb_unfolding.specs.Unfolding.{unfolded, unfolded_formula}
+use Rattle.pb_protocol_folding.specs.FoldedModels.{is_left}
+use Rattle.pb_protocol_unfolding.specs.Unfolding.{unfolded, unfolded_formula}
 use Rattle.pb_protocol_spelling.specs.Laws.{FlatModelsAreWritable, FlatFormulasAreWritable}
 use Rattle.pb_protocol_spelling.proofs.Folded.{arguments-writable, steps-writable, formula-writable}
 use Rattle.pb_protocol_spelling.proofs.Unfolded.{unfolded-writable, formula-unfolded}

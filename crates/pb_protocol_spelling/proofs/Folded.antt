@@ -5,8 +5,8 @@ use Rattle.std.proofs.lemmas.Bool.{and_parts}
 use Rattle.std.proofs.lemmas.Int.{ints, clamps}
 use Rattle.std.proofs.lemmas.Nat.{mul-le}
 use Rattle.std.proofs.Math.Nat.{mod-lt, div-le_self}
-use Rattle.pb_carriers.specs.Carrier.{Value, of_bool}
-use Rattle.pb_carriers.specs.Division.{quotient, remainder}
+use Rattle.pb_base_values.specs.Carrier.{Value, of_bool}
+use Rattle.pb_base_values.specs.Division.{quotient, remainder}
 use Rattle.pb_text_meaning.specs.Syntax.{Name, same_name, Operator, Term, Terms, Spec}
 use Rattle.pb_text_meaning.specs.declared.function.NamedFunction.{NamedFunction}
 use Rattle.pb_text_meaning.specs.declared.function.NamedFunction.TheVariants.{If, Succ, Pred, Abs, Max, Min, Pos2Nat, Pos2Int, Nat2Int}
@@ -17,8 +17,8 @@ use Rattle.pb_text_printer.specs.Sayable.{Each}
 use Rattle.pb_model_meaning.specs.Syntax as flat
 use Rattle.pb_model_spelling.specs.Writable.{IsWord, TermWritable, AllWritable, SomeWritable, ModalWritable, AssignmentWritable, StepWritable}
 use Rattle.pb_model_translation.specs.Positive.{is_constant}
-use Rattle.pb_folding.specs.Folding.{number, is_small, small_value, place_value, written_value, truth_value, is_comparison, is_test, settled, and_of, or_of, implies_of, not_of, negative_of, computed, operation_of, folded_operation, recogniser_of, function_of_one, function_of_two, function_of_three, folded_application, is_if, folded, folded_arguments}
-use Rattle.pb_folding.specs.FoldedModels.{folded_assignment, is_change, folded_step, folded_steps, is_possible, decided, unless_constant, and_formula, or_formula, implies_formula, not_formula, folded_formula}
+use Rattle.pb_protocol_folding.specs.Folding.{number, is_small, small_value, place_value, written_value, truth_value, is_comparison, is_test, settled, and_of, or_of, implies_of, not_of, negative_of, computed, operation_of, folded_operation, recogniser_of, function_of_one, function_of_two, function_of_three, folded_application, is_if, folded, folded_arguments}
+use Rattle.pb_protocol_folding.specs.FoldedModels.{folded_assignment, is_change, folded_step, folded_steps, is_possible, decided, unless_constant, and_formula, or_formula, implies_formula, not_formula, folded_formula}
 use Rattle.pb_protocol_spelling.proofs.Spelled.{IsWritableNumber, number-writable}
 
 -- ---- small values

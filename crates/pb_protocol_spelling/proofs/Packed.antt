@@ -5,7 +5,7 @@ use Rattle.std.specs.List.{list_any, list_all}
 use Rattle.std.proofs.lemmas.Int.{ints}
 use Rattle.std.proofs.lemmas.List.{take-append-drop}
 use Rattle.std.proofs.lemmas.Nat.{mul-le}
-use Rattle.pb_carriers.specs.Carrier.{Carrier, numbers_from, at_least_none}
+use Rattle.pb_base_values.specs.Carrier.{Carrier, numbers_from, at_least_none}
 use Rattle.pb_text_lexer.specs.Bytes.{is_name_byte, word_kind}
 use Rattle.pb_text_lexer.specs.Lexing.{largest_number}
 use Rattle.pb_text_meaning.specs.Syntax.{Name, same_name, Variable, Term, Terms, Enumerator, Sort, Struct, Alias, SortDeclaration, Range}
@@ -16,12 +16,12 @@ use Rattle.pb_model_meaning.specs.Steps.{data_of, assigned_term}
 use Rattle.pb_model_translation.specs.Names.{primes, longest}
 use Rattle.pb_model_translation.specs.Translation.{term_or_name}
 use Rattle.pb_model_spelling.specs.Writable.{IsWord, VariableWritable, TermWritable, AllWritable, EnumeratorWritable, DeclarationWritable, RangeWritable, AssignmentWritable, StepWritable, ModelWritable}
-use Rattle.pb_packing.specs.Apart.{is_among}
-use Rattle.pb_packing.specs.Numbers.{Kind, Boolean, Enumeration, Whole, divided, rest, is_surely_within, test_of}
-use Rattle.pb_packing.specs.Said.{Scope, hidden}
-use Rattle.pb_packing.specs.Packing.{Member, Group, Alone, Joined, capacity, variable_of, digit_at, with_members, with_group, with_groups, number_after, number_of, tests_of, all_tests, where_all, joined_term, group_term, with_assignment, assignments_of, option_said, said_by, packed_step, initial_assignments, begins_with, initial_term, initial_terms, with_sorts, with_ranges}
-use Rattle.pb_packing.specs.Groups.{name_of, kind_by, kind_within, kind_of, lowest, member_for, names_in, group_sizes, cut, unused_name, named_groups, groups_of, packed}
-use Rattle.pb_packing.specs.Groups as groups
+use Rattle.pb_protocol_packing.specs.Apart.{is_among}
+use Rattle.pb_protocol_packing.specs.Numbers.{Kind, Boolean, Enumeration, Whole, divided, rest, is_surely_within, test_of}
+use Rattle.pb_protocol_packing.specs.Said.{Scope, hidden}
+use Rattle.pb_protocol_packing.specs.Packing.{Member, Group, Alone, Joined, capacity, variable_of, digit_at, with_members, with_group, with_groups, number_after, number_of, tests_of, all_tests, where_all, joined_term, group_term, with_assignment, assignments_of, option_said, said_by, packed_step, initial_assignments, begins_with, initial_term, initial_terms, with_sorts, with_ranges}
+use Rattle.pb_protocol_packing.specs.Groups.{name_of, kind_by, kind_within, kind_of, lowest, member_for, names_in, group_sizes, cut, unused_name, named_groups, groups_of, packed}
+use Rattle.pb_protocol_packing.specs.Groups as groups
 use Rattle.pb_protocol_spelling.specs.FewValues.{HasFewValues}
 use Rattle.pb_protocol_spelling.specs.Laws.{PackedModelsAreWritable, PackedFormulasAreWritable}
 use Rattle.pb_protocol_spelling.proofs.Words.{primed_word, spelled_word}

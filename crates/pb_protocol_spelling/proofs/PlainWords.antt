@@ -3,7 +3,7 @@ use Rattle.std.proofs.Common.{List, [], ◌∷◌, map}
 use Rattle.pb_text_meaning.specs.Syntax.{Variable}
 use Rattle.pb_text_printer.specs.Sayable.{Each}
 use Rattle.pb_model_meaning.specs.Syntax as flat
-use Rattle.pb_unfolding.specs.Plain.{plain_variable, plain_assignment, plain_step, plain_formula, plain}
+use Rattle.pb_protocol_unfolding.specs.Plain.{plain_variable, plain_assignment, plain_step, plain_formula, plain}
 use Rattle.pb_model_spelling.specs.Writable.{VariableWritable, ModalWritable, ModelWritable}
 use Rattle.pb_model_spelling.specs.Writable as model
 use Rattle.pb_model_spelling.specs.Protocols.{StateVariableWritable, AssignmentWritable, StepWritable, FormulaWritable, ProtocolWritable}

@@ -5,7 +5,7 @@ use Rattle.std.specs.Char.{is_ascii_digit}
 use Rattle.std.specs.List.{list_all}
 use Rattle.std.proofs.lemmas.Bool.{and_from, and_parts}
 use Rattle.std.proofs.lemmas.Int.{ints}
-use Rattle.pb_carriers.specs.Carrier.{numbers_from, at_least_none, interval}
+use Rattle.pb_base_values.specs.Carrier.{numbers_from, at_least_none, interval}
 use Rattle.pb_text_lexer.specs.Bytes.{is_name_byte}
 use Rattle.pb_text_meaning.specs.Syntax.{Name, same_name, Term, Enumerator, Sort, Struct, Alias, SortDeclaration, Range, Spec}
 use Rattle.pb_text_meaning.specs.Sorts.{declared, range_of}
@@ -13,9 +13,9 @@ use Rattle.pb_text_printer.specs.Sayable.{Each, IsBound}
 use Rattle.pb_model_spelling.specs.Writable.{IsWord, TermWritable, EnumeratorWritable, SortWritable, DeclarationWritable, RangeWritable}
 use Rattle.pb_model_translation.proofs.NumberedNames.{decimal-is-name}
 use Rattle.pb_protocol_spelling.proofs.Words.{primed_word, word_spelled}
-use Rattle.pb_names.specs.Names.{is_letter}
-use Rattle.pb_folding.specs.Folding.{number}
-use Rattle.pb_unfolding.specs.Written.{written_by, written_within, written_values, spelled, element, element_of}
+use Rattle.pb_base_names.specs.Names.{is_letter}
+use Rattle.pb_protocol_folding.specs.Folding.{number}
+use Rattle.pb_protocol_unfolding.specs.Written.{written_by, written_within, written_values, spelled, element, element_of}
 
 -- ---- numbers
 

@@ -17,10 +17,10 @@ use Rattle.pb_protocol_meaning.specs.Steps.{data_of}
 use Rattle.pb_model_spelling.specs.Writable.{IsWord, VariableWritable, TermWritable, AllWritable, SomeWritable, ModalWritable, ModelWritable}
 use Rattle.pb_model_spelling.specs.Writable as model
 use Rattle.pb_model_spelling.specs.Protocols.{FormulaWritable, StateVariableWritable, DefinitionWritable, AssignmentWritable, StepWritable, ProtocolWritable}
-use Rattle.pb_unfolding.specs.Written.{written_values, written_tuples, same_negative, same_written, is_written, spelled, element}
-use Rattle.pb_folding.proofs.FoldedModels.{same-names}
-use Rattle.pb_unfolding.specs.PutIn.{TermScope, term_of, standing, Forms, no_forms, joined, copies, enumerator_term, named_term, given_arguments, applied_term, put_in, all_put_in, choice, choices, chosen, are_as_many, read, reads, with_definition, with_definitions}
-use Rattle.pb_unfolding.specs.Unfolding.{Element, name_of, variable_of, elements_of, all_elements, forms_of, unfolded_term, terms_of, written, is_index, term_after, unfolded_assignment, Instance, instances_of, instances, unfolded_step, joined_formulas, unfolded_formula, unfolded_initial, unfolded}
+use Rattle.pb_protocol_unfolding.specs.Written.{written_values, written_tuples, same_negative, same_written, is_written, spelled, element}
+use Rattle.pb_protocol_folding.proofs.FoldedModels.{same-names}
+use Rattle.pb_protocol_unfolding.specs.PutIn.{TermScope, term_of, standing, Forms, no_forms, joined, copies, enumerator_term, named_term, given_arguments, applied_term, put_in, all_put_in, choice, choices, chosen, are_as_many, read, reads, with_definition, with_definitions}
+use Rattle.pb_protocol_unfolding.specs.Unfolding.{Element, name_of, variable_of, elements_of, all_elements, forms_of, unfolded_term, terms_of, written, is_index, term_after, unfolded_assignment, Instance, instances_of, instances, unfolded_step, joined_formulas, unfolded_formula, unfolded_initial, unfolded}
 use Rattle.pb_protocol_spelling.proofs.Words.{spelled_word}
 use Rattle.pb_protocol_spelling.proofs.Spelled.{IsSpelled, SortsWritable, values-spelled, element-word, element_of-word}
 

@@ -1,6 +1,6 @@
 -- Groups of variables whose numbers are numbers of a range line.
 use Rattle.std.specs.Prelude.{◌≤◌, ◌^◌}
-use Rattle.pb_packing.specs.Packing.{Group, Alone, Joined, capacity}
+use Rattle.pb_protocol_packing.specs.Packing.{Group, Alone, Joined, capacity}
 
 -- so few values, one at least, that the group's range has bounds of 32 bits with a sign
 abbrev pub HasFewValues : Group → Type 0

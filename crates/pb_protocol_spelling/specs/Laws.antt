@@ -5,10 +5,10 @@ use Rattle.pb_model_tree.specs.Form.{ModelForm}
 use Rattle.pb_model_meaning.specs.Erase.{erase}
 use Rattle.pb_model_meaning.specs.Syntax as flat
 use Rattle.pb_protocol_meaning.specs.Syntax.{Formula, Protocol}
-use Rattle.pb_unfolding.specs.ModelLaws.{flat_model, flat_formula}
-use Rattle.pb_unfolding.specs.Plain.{plain, plain_formula}
-use Rattle.pb_packing.specs.Groups.{groups_of, packed, said_formula}
-use Rattle.pb_model_packer.specs.Sizes.{size_faults}
+use Rattle.pb_protocol_unfolding.specs.ModelLaws.{flat_model, flat_formula}
+use Rattle.pb_protocol_unfolding.specs.Plain.{plain, plain_formula}
+use Rattle.pb_protocol_packing.specs.Groups.{groups_of, packed, said_formula}
+use Rattle.pb_protocol_groups.specs.Sizes.{size_faults}
 use Rattle.pb_model_spelling.specs.Writable.{ModelWritable, ModalWritable}
 use Rattle.pb_model_spelling.specs.Protocols.{ProtocolWritable, FormulaWritable}
 use Rattle.pb_protocol_spelling.specs.FewValues.{HasFewValues}

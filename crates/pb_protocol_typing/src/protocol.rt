@@ -1,7 +1,7 @@
 //! The rules of whole protocols.
 
 ghost use Rattle.std.specs.Prelude.{◌≡◌, None, Some, [], map, Contains, IfOk, MatchResult, OnOk};
-ghost use Rattle.pb_errors.specs.OrMemory.{IfFault, IfRefused, OnRefused};
+ghost use Rattle.pb_base_errors.specs.OrMemory.{IfFault, IfRefused, OnRefused};
 ghost use Rattle.pb_text_tree.specs.Form.{spec_form};
 ghost use Rattle.pb_typing_declarations.specs.Faults.{IsAmong};
 ghost use Rattle.pb_typing_declarations.specs.View.{spec_of};

@@ -2,8 +2,8 @@
 use Rattle.std.proofs.Common.{◌≡◌, ℕ, suc, ◌<◌, Bool, true, false, not, List, [], ◌∷◌, length, get_or, map, inl, inr, refl, sym, ap, ◌∙◌, arith}
 use Rattle.std.proofs.lemmas.Bool.{false≢true}
 use Rattle.pb_fixpoint.specs.Solution.{Environment}
-use Rattle.pb_trees.specs.Tree.{Tree, tree_truth}
-use Rattle.pb_trees.specs.Equations.{Signature}
+use Rattle.pb_fixpoint_trees.specs.Tree.{Tree, tree_truth}
+use Rattle.pb_fixpoint_trees.specs.Equations.{Signature}
 use Rattle.pb_evidence.specs.AssumedGraphs.{leaf_tree, IsAssumed, AreAssumed}
 use Rattle.pb_evidence.specs.Evidence.{graph_of}
 use Rattle.pb_evidence.specs.Assumed.{AssumedIsShown}

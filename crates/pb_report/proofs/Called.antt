@@ -3,11 +3,11 @@ use Rattle.std.proofs.Common.{◌≡◌, ℕ, zero, suc, ◌<◌, Bool, true, fa
 use Rattle.std.specs.Prelude.{Contains}
 use Rattle.std.proofs.lemmas.List.{get_or-map, length-map}
 use Rattle.std.proofs.lemmas.List.Elements.{Contains-append_cases}
-use Rattle.pb_trees.specs.Tree.{Connective, Conjunction, Disjunction, Leaf, Yes, No, Cut, Call, Operands, End, LeafThen, BracketThen, Tree, Single, Root, LeafCalls, OperandsCall, TreeCalls}
-use Rattle.pb_trees.specs.Equations.{Signature}
-use Rattle.pb_trees.specs.Rows as plain
-use Rattle.pb_rows.specs.Row.{TokenRow, nothing}
-use Rattle.pb_rows.specs.Reached.{numbers_of, row_of, rows_of}
+use Rattle.pb_fixpoint_trees.specs.Tree.{Connective, Conjunction, Disjunction, Leaf, Yes, No, Cut, Call, Operands, End, LeafThen, BracketThen, Tree, Single, Root, LeafCalls, OperandsCall, TreeCalls}
+use Rattle.pb_fixpoint_trees.specs.Equations.{Signature}
+use Rattle.pb_fixpoint_trees.specs.Rows as plain
+use Rattle.pb_fixpoint_rows.specs.Row.{TokenRow, nothing}
+use Rattle.pb_fixpoint_rows.specs.Reached.{numbers_of, row_of, rows_of}
 use Rattle.pb_game_of_trees.specs.TreeGame.{AreRowsFrom}
 use Rattle.pb_game_of_trees.proofs.Reached.{found_row}
 use Rattle.pb_evidence.specs.ProofGraphs.{RestsOn, RestsThrough}

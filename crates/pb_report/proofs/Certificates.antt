@@ -1,8 +1,8 @@
 -- The lines of a certificate, one after the other.
 use Rattle.std.proofs.Common.{◌≡◌, ℕ, suc, ◌+◌, ◌-◌, ◌<◌, ◌++◌, Some, None, sym, ap, ◌∙◌, arith}
 use Rattle.std.proofs.lemmas.Bool.{cond-true, cond-false}
-use Rattle.pb_trees.proofs.Players.{same_yes, same_no}
-use Rattle.pb_trees.specs.Players.{is_same}
+use Rattle.pb_fixpoint_trees.proofs.Players.{same_yes, same_no}
+use Rattle.pb_fixpoint_trees.specs.Players.{is_same}
 use Rattle.pb_game.specs.declared.Game.{Game}
 use Rattle.pb_game.specs.Games.{owner_of}
 use Rattle.pb_game.specs.declared.certificate.Solution.{Solution}

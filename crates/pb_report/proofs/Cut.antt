@@ -4,9 +4,9 @@ use Rattle.std.specs.Prelude.{◌||◌}
 use Rattle.std.specs.List.{list_any}
 use Rattle.std.proofs.Math.Bool.{or-false}
 use Rattle.std.proofs.lemmas.List.Folds.{list_any-append}
-use Rattle.pb_trees.specs.declared.Token.TheVariants as token
-use Rattle.pb_trees.specs.Tree.{Conjunction, Disjunction, Leaf, Yes, No, Cut, Call, Operands, End, LeafThen, BracketThen, Tree, Single, Root}
-use Rattle.pb_trees.specs.Tokens.{leaf_token, operands_tokens, tree_tokens}
+use Rattle.pb_fixpoint_trees.specs.declared.Token.TheVariants as token
+use Rattle.pb_fixpoint_trees.specs.Tree.{Conjunction, Disjunction, Leaf, Yes, No, Cut, Call, Operands, End, LeafThen, BracketThen, Tree, Single, Root}
+use Rattle.pb_fixpoint_trees.specs.Tokens.{leaf_token, operands_tokens, tree_tokens}
 use Rattle.pb_report.specs.CutCalls.{is_cut_leaf, operands_have_cut, has_cut, is_cut_token}
 
 leaf_cut : (l : Leaf) → is_cut_token (leaf_token l) ≡ is_cut_leaf l

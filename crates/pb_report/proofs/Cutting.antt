@@ -8,12 +8,12 @@ use Rattle.std.specs.List.Sorted.{IsPermutation}
 use Rattle.std.proofs.lemmas.List.Sorted.{list_any-IsPermutation}
 use Rattle.pb_fixpoint.specs.Solution.{Environment}
 use Rattle.pb_game.specs.Adjacency.{row}
-use Rattle.pb_trees.specs.declared.Token.{Token}
-use Rattle.pb_trees.specs.Tree.{Connective, Conjunction, Disjunction, Leaf, Yes, No, Cut, Call, Operands, End, LeafThen, BracketThen, Tree, Single, Root, joined, leaf_truth, operands_truth, tree_truth}
-use Rattle.pb_trees.specs.Tokens.{tree_tokens}
-use Rattle.pb_trees.specs.Equations.{Signature}
-use Rattle.pb_rows.specs.Row.{TokenRow, nothing}
-use Rattle.pb_rows.specs.Reached.{numbers_of}
+use Rattle.pb_fixpoint_trees.specs.declared.Token.{Token}
+use Rattle.pb_fixpoint_trees.specs.Tree.{Connective, Conjunction, Disjunction, Leaf, Yes, No, Cut, Call, Operands, End, LeafThen, BracketThen, Tree, Single, Root, joined, leaf_truth, operands_truth, tree_truth}
+use Rattle.pb_fixpoint_trees.specs.Tokens.{tree_tokens}
+use Rattle.pb_fixpoint_trees.specs.Equations.{Signature}
+use Rattle.pb_fixpoint_rows.specs.Row.{TokenRow, nothing}
+use Rattle.pb_fixpoint_rows.specs.Reached.{numbers_of}
 use Rattle.pb_game_of_trees.specs.TreeGame.{AreRowsFrom}
 use Rattle.pb_evidence.specs.ProofGraphs.{exactly}
 use Rattle.pb_evidence.specs.declared.Evidence.{Evidence}

@@ -6,8 +6,8 @@ use Rattle.std.proofs.lemmas.List.{drop-drop, drop_more, get_or-drop, get_or-map
 use Rattle.pb_text_tree.specs.declared.place.Place.{Place}
 use Rattle.pb_report.specs.InstanceName.{instance_name}
 use Rattle.pb_game.specs.Adjacency.{row}
-use Rattle.pb_trees.specs.Tree.{Tree}
-use Rattle.pb_trees.specs.Equations.{total}
+use Rattle.pb_fixpoint_trees.specs.Tree.{Tree}
+use Rattle.pb_fixpoint_trees.specs.Equations.{total}
 use Rattle.pb_sorts.specs.Layout.{count_of}
 use Rattle.pb_bytecode.specs.Contents.{Contents}
 use Rattle.pb_bytecode.specs.Meaning.{AreTrees, parameters, signature_of}

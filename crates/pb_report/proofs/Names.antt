@@ -5,7 +5,7 @@ use Rattle.std.specs.List.{slice_get}
 use Rattle.std.proofs.lemmas.List.{length-map}
 use Rattle.std.proofs.lemmas.Option.{same_Some, slice_get_within}
 use Rattle.std.proofs.lemmas.Bool.{and_parts}
-use Rattle.pb_carriers.specs.Carrier.{Tuple, is_within}
+use Rattle.pb_base_values.specs.Carrier.{Tuple, is_within}
 use Rattle.pb_sorts.specs.declared.carrier.Carrier.{Carrier}
 use Rattle.pb_sorts.specs.Carrier.{values_of}
 use Rattle.pb_sorts.specs.Instance.{Instance, instances, is_tuple_of}

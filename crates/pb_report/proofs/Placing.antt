@@ -1,12 +1,12 @@
 -- The marks at the vertices of a module's rows are those of its instances.
 use Rattle.std.proofs.Common.{◌≡◌, ℕ, ◌<◌, Bool, List, length, get_or, refl, sym, ap, ◌∙◌, subst, arith}
 use Rattle.std.proofs.lemmas.List.{get_or-map, get_or_default, length-map}
-use Rattle.pb_trees.specs.Tree.{Tree, No, Single}
-use Rattle.pb_trees.specs.Equations.{Signature}
-use Rattle.pb_trees.specs.Rows as plain
-use Rattle.pb_trees.specs.Game.{vertex_of}
-use Rattle.pb_trees.specs.Laws.{RowsHaveVertices}
-use Rattle.pb_rows.specs.Row.{TokenRow, nothing}
+use Rattle.pb_fixpoint_trees.specs.Tree.{Tree, No, Single}
+use Rattle.pb_fixpoint_trees.specs.Equations.{Signature}
+use Rattle.pb_fixpoint_trees.specs.Rows as plain
+use Rattle.pb_fixpoint_trees.specs.Game.{vertex_of}
+use Rattle.pb_fixpoint_trees.specs.Laws.{RowsHaveVertices}
+use Rattle.pb_fixpoint_rows.specs.Row.{TokenRow, nothing}
 use Rattle.pb_game.specs.Games.{vertex_count}
 use Rattle.pb_game_of_trees.specs.Held.{held}
 use Rattle.pb_game_of_trees.specs.declared.tree_game.TreeGame.{TreeGame}

@@ -3,13 +3,13 @@ use Rattle.std.proofs.Common.{◌≡◌, ℕ, zero, suc, ◌+◌, ◌-◌, ◌<�
 use Rattle.std.specs.Prelude.{◌==◌, codes, IfSome, slice_get, if◌then◌else◌}
 use Rattle.std.proofs.lemmas.Bool.{cases_Bool, cond-true, cond-false}
 use Rattle.std.proofs.lemmas.List.{length-map}
-use Rattle.pb_trees.specs.declared.player.Player.{Player}
-use Rattle.pb_trees.specs.Tree.{Tree}
-use Rattle.pb_trees.specs.Equations.{total}
-use Rattle.pb_trees.specs.Rows.{Row}
-use Rattle.pb_trees.specs.Game.{Vertex, inner, game_vertices}
-use Rattle.pb_trees.specs.Laws.{GameIsTotal}
-use Rattle.pb_rows.specs.Row as in_memory
+use Rattle.pb_fixpoint_trees.specs.declared.player.Player.{Player}
+use Rattle.pb_fixpoint_trees.specs.Tree.{Tree}
+use Rattle.pb_fixpoint_trees.specs.Equations.{total}
+use Rattle.pb_fixpoint_trees.specs.Rows.{Row}
+use Rattle.pb_fixpoint_trees.specs.Game.{Vertex, inner, game_vertices}
+use Rattle.pb_fixpoint_trees.specs.Laws.{GameIsTotal}
+use Rattle.pb_fixpoint_rows.specs.Row as in_memory
 use Rattle.pb_game_of_trees.specs.Held.{held}
 use Rattle.pb_game.specs.declared.Game.{Game}
 use Rattle.pb_game.specs.Games.{vertex_count, priority_of, successors_of}

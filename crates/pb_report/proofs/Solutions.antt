@@ -2,10 +2,10 @@
 use Rattle.std.proofs.Common.{◌≡◌, ℕ, zero, suc, ◌+◌, ◌<◌, Bool, List, [], ◌∷◌, ◌++◌, length, drop, get_or, map, Some, sym, ap, ◌∙◌, arith}
 use Rattle.std.specs.Prelude.{slice_get}
 use Rattle.std.proofs.lemmas.List.{length-map}
-use Rattle.pb_trees.specs.Tree.{Tree}
-use Rattle.pb_trees.specs.Equations.{total}
-use Rattle.pb_trees.specs.Rows.{Row}
-use Rattle.pb_rows.specs.Row as in_memory
+use Rattle.pb_fixpoint_trees.specs.Tree.{Tree}
+use Rattle.pb_fixpoint_trees.specs.Equations.{total}
+use Rattle.pb_fixpoint_trees.specs.Rows.{Row}
+use Rattle.pb_fixpoint_rows.specs.Row as in_memory
 use Rattle.pb_game_of_trees.specs.Held.{held, Hold}
 use Rattle.pb_game_of_trees.proofs.Reached.{AreReached}
 use Rattle.pb_game_of_trees.proofs.Rows.{IsNext, next_row, contained}

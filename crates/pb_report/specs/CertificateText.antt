@@ -3,7 +3,7 @@
 -- moves.
 use Rattle.std.specs.Prelude.{ℕ, zero, suc, ◌-◌, List, [], ◌++◌, Option, None, Some, codes}
 use Rattle.std.specs.Prelude.{decimal, if◌then◌else◌}
-use Rattle.pb_trees.specs.Players.{parity_of, is_same}
+use Rattle.pb_fixpoint_trees.specs.Players.{parity_of, is_same}
 use Rattle.pb_game.specs.declared.Game.{Game}
 use Rattle.pb_game.specs.Games.{vertex_count, owner_of}
 use Rattle.pb_game.specs.declared.certificate.Solution.{Solution}

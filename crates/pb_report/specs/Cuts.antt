@@ -3,8 +3,8 @@
 -- the carrier were wide enough.
 use Rattle.std.specs.Prelude.{ℕ, Bool, not, List, map}
 use Rattle.std.specs.Bool.{beq}
-use Rattle.pb_trees.specs.Tree.{Leaf, Yes, No, Cut, Call, Operands, End, LeafThen, BracketThen}
-use Rattle.pb_trees.specs.Tree.{Tree, Single, Root, tree_truth}
+use Rattle.pb_fixpoint_trees.specs.Tree.{Leaf, Yes, No, Cut, Call, Operands, End, LeafThen, BracketThen}
+use Rattle.pb_fixpoint_trees.specs.Tree.{Tree, Single, Root, tree_truth}
 use Rattle.pb_evidence.specs.ProofGraphs.{exactly}
 use Rattle.pb_evidence.specs.declared.Evidence.{Evidence}
 use Rattle.pb_evidence.specs.Evidence.{graph_of}

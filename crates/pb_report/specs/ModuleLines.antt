@@ -1,7 +1,7 @@
 -- The lines of a module's evidence, by their places.
 use Rattle.std.specs.Prelude.{ℕ, List, Option, slice_index}
 use Rattle.pb_text_tree.specs.declared.place.Place.{Place}
-use Rattle.pb_trees.specs.Tree.{Tree}
+use Rattle.pb_fixpoint_trees.specs.Tree.{Tree}
 use Rattle.pb_bytecode.specs.Contents.{Contents}
 use Rattle.pb_evidence.specs.declared.Evidence.{Evidence}
 use Rattle.pb_evidence.specs.Evidence.{graph_of}

@@ -1,10 +1,10 @@
 -- What is printed about a module: functions of its rows and of the trees that its instances have.
 use Rattle.std.specs.Prelude.{ℕ, List, length, map}
-use Rattle.pb_trees.specs.Tree.{Tree}
-use Rattle.pb_trees.specs.Equations.{solved}
-use Rattle.pb_trees.specs.Game.{Vertex, game_vertices}
-use Rattle.pb_rows.specs.Row.{TokenRow}
-use Rattle.pb_rows.specs.Reached.{rows_of}
+use Rattle.pb_fixpoint_trees.specs.Tree.{Tree}
+use Rattle.pb_fixpoint_trees.specs.Equations.{solved}
+use Rattle.pb_fixpoint_trees.specs.Game.{Vertex, game_vertices}
+use Rattle.pb_fixpoint_rows.specs.Row.{TokenRow}
+use Rattle.pb_fixpoint_rows.specs.Reached.{rows_of}
 use Rattle.pb_game.specs.declared.Game.{Game}
 use Rattle.pb_game.specs.declared.certificate.Solution.{Solution}
 use Rattle.pb_game.specs.Certificates.{IsCertificate}

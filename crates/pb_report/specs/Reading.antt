@@ -1,8 +1,8 @@
 -- The truth that a tree is read to, token by token, with its cut calls true.
 use Rattle.std.specs.Prelude.{ℕ, Bool, true, false, ◌&&◌, ◌||◌, List, [], ◌∷◌, reverse}
 use Rattle.pb_fixpoint.specs.Solution.{Environment}
-use Rattle.pb_trees.specs.declared.Token.{Token}
-use Rattle.pb_trees.specs.declared.Token.TheVariants as token
+use Rattle.pb_fixpoint_trees.specs.declared.Token.{Token}
+use Rattle.pb_fixpoint_trees.specs.declared.Token.TheVariants as token
 use Rattle.pb_report.specs.declared.tree_truth.Bracket.{Bracket}
 use Rattle.pb_report.specs.declared.tree_truth.Bracket.TheVariants.{All, Any}
 use Rattle.pb_report.specs.declared.tree_truth.Reading.{Reading}

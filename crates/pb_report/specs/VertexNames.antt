@@ -1,9 +1,9 @@
 -- The names of the vertices of a game of reached instances: the sinks and the instances have one.
 use Rattle.std.specs.Prelude.{ℕ, zero, suc, ◌+◌, ◌-◌, ◌<◌, ◌≤◌, ◌==◌, List, [], ◌∷◌, ◌++◌, Option}
 use Rattle.std.specs.Prelude.{Some, None, codes, decimal, length, slice_index, if◌then◌else◌}
-use Rattle.pb_trees.specs.Rows.{Row}
-use Rattle.pb_trees.specs.Game.{inner}
-use Rattle.pb_rows.specs.Row as in_memory
+use Rattle.pb_fixpoint_trees.specs.Rows.{Row}
+use Rattle.pb_fixpoint_trees.specs.Game.{inner}
+use Rattle.pb_fixpoint_rows.specs.Row as in_memory
 use Rattle.pb_game.specs.declared.Game.{Game}
 use Rattle.pb_game.specs.Games.{vertex_count}
 use Rattle.pb_bytecode.specs.Contents.{Contents}

@@ -1,14 +1,14 @@
 //! How many trees have a Cut.
 ghost use Rattle.std.specs.Prelude.{◌≡◌, ◌≤◌, ◌<◌, ◌^◌, List, length};
 ghost use Rattle.std.specs.List.{list_any};
-ghost use Rattle.pb_trees.specs.Tree.{Tree};
-ghost use Rattle.pb_trees.specs.Tokens.{tree_tokens};
-ghost use Rattle.pb_trees.specs.Rows.{Row as plain_row};
+ghost use Rattle.pb_fixpoint_trees.specs.Tree.{Tree};
+ghost use Rattle.pb_fixpoint_trees.specs.Tokens.{tree_tokens};
+ghost use Rattle.pb_fixpoint_trees.specs.Rows.{Row as plain_row};
 ghost use Rattle.pb_game_of_trees.specs.Held.{Hold};
 ghost use Rattle.pb_report.specs.CutCalls.{is_cut_token, has_cut, one_if, cut_count};
 
-use pb_rows::IndexedRows;
-use pb_trees::Token;
+use pb_fixpoint_rows::IndexedRows;
+use pb_fixpoint_trees::Token;
 
 fn is_cut_token(token: Token) -> bool
     ensures { result ≡ is_cut_token token }

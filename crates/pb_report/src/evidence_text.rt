@@ -4,7 +4,7 @@ ghost use Rattle.std.specs.Prelude.{◌≡◌, ◌<◌, ℕ, Option, None, drop,
 ghost use Rattle.std.specs.Prelude.{slice_index_or};
 ghost use Rattle.pb_text_tree.specs.declared.place.Place.{Place};
 ghost use Rattle.pb_sorts.specs.Layout.{count_of};
-ghost use Rattle.pb_trees.specs.Tree.{Tree};
+ghost use Rattle.pb_fixpoint_trees.specs.Tree.{Tree};
 ghost use Rattle.pb_bytecode.specs.Meaning.{AreTrees, parameters};
 ghost use Rattle.pb_game_of_trees.specs.Explored.{ModuleHasTrees};
 ghost use Rattle.pb_report.specs.InstanceName.{instance_name};

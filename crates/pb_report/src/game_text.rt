@@ -16,9 +16,9 @@ ghost use Rattle.pb_report.specs.VertexNames.{lines_text, first_line, memory_tex
 use crate::buffer::{TextBuffer, TextWriter, WriteError};
 use crate::instance_name::write_instance_name;
 use crate::vertex_line::{write_name, write_vertex};
+use pb_fixpoint_rows::IndexedRows;
 use pb_game::Game;
 use pb_game_of_trees::TreeGame;
-use pb_rows::IndexedRows;
 use pb_sorts::{E02, Sink};
 use pb_verifier::Verified;
 use std::alloc::Global;
@@ -211,7 +211,7 @@ pub fn game_text<S: Sink>(
         (ForTrees verified.now (λ trees. module_game_text verified.now trees rows.now)) result
         S.taken S.has_failed sink.old sink.new }
 {
-    pb_trees::games_of_rows_are_total();
+    pb_fixpoint_trees::games_of_rows_are_total();
     let placed = PlacedRows {
         rows,
         vertices: &built.vertices,

@@ -1,9 +1,9 @@
 //! Evidence for the truth of a module's initial instance.
 
 ghost use Rattle.std.specs.Prelude.{ℕ, List, IfOk};
-ghost use Rattle.pb_trees.specs.Tree.{Tree};
-ghost use Rattle.pb_trees.specs.Equations.{Signature};
-ghost use Rattle.pb_rows.specs.Reached.{rows_of};
+ghost use Rattle.pb_fixpoint_trees.specs.Tree.{Tree};
+ghost use Rattle.pb_fixpoint_trees.specs.Equations.{Signature};
+ghost use Rattle.pb_fixpoint_rows.specs.Reached.{rows_of};
 ghost use Rattle.pb_bytecode.specs.Contents.{Contents};
 ghost use Rattle.pb_game_of_trees.specs.TreeGame.{AreRowsFrom, IsTreeGame};
 ghost use Rattle.pb_game_of_trees.specs.Explored.{ModuleHasTrees, AreModuleRows, IsModuleGame};
@@ -12,8 +12,8 @@ ghost use Rattle.pb_report.specs.ModuleEvidence.{Explains, IsExplanation};
 use crate::cuts::cuts_of;
 use crate::instance_marks::InstanceMarks;
 use pb_evidence::{Evidence, explain};
+use pb_fixpoint_rows::IndexedRows;
 use pb_game_of_trees::Solved;
-use pb_rows::IndexedRows;
 use std::alloc::{AllocError, Global};
 
 /// Evidence for the truth value of an instance, and of each of its instances in turn whether its
@@ -43,7 +43,7 @@ pub fn evidence_of_rows(
         → IsTreeGame signatures trees (rows_of trees rows.now) initial solved.now.built
         → Explains signatures trees initial x) }
 {
-    pb_trees::games_of_rows_are_total();
+    pb_fixpoint_trees::games_of_rows_are_total();
     let built = &solved.built;
     let InstanceMarks { marks, numbers } = InstanceMarks::new(
         alloc,

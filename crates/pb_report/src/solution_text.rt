@@ -1,6 +1,6 @@
 //! The solution at the reached instances, as a text.
 ghost use Rattle.std.specs.Prelude.{◌<◌, ℕ};
-ghost use Rattle.pb_trees.specs.Tree.{Tree};
+ghost use Rattle.pb_fixpoint_trees.specs.Tree.{Tree};
 ghost use Rattle.pb_sorts.specs.Layout.{count_of};
 ghost use Rattle.pb_bytecode.specs.Meaning.{parameters, AreTrees};
 ghost use Rattle.pb_game_of_trees.specs.Explored.{ModuleHasTrees, AreModuleRows, IsModuleGame};
@@ -12,8 +12,8 @@ ghost use Rattle.pb_report.specs.ModuleTexts.{module_solution_text, ForTrees};
 
 use crate::buffer::{TextBuffer, TextWriter, WriteError};
 use crate::instance_name::write_instance_name;
+use pb_fixpoint_rows::IndexedRows;
 use pb_game_of_trees::Solved;
-use pb_rows::IndexedRows;
 use pb_sorts::{E02, Sink};
 use pb_verifier::Verified;
 use std::alloc::Global;

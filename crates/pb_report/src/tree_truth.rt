@@ -4,16 +4,16 @@
 ghost use Rattle.std.specs.Prelude.{◌≡◌, ◌++◌, ◌∷◌, [], List, ℕ, IfOk, OnOk};
 ghost use Rattle.std.specs.List.Sorted.{IsPermutation};
 ghost use Rattle.pb_fixpoint.specs.Solution.{Environment};
-ghost use Rattle.pb_trees.specs.declared.Token.{Token};
-ghost use Rattle.pb_trees.specs.declared.Token.TheVariants.{Close};
-ghost use Rattle.pb_trees.specs.Tree.{Tree, tree_truth};
-ghost use Rattle.pb_trees.specs.Tokens.{tree_tokens};
+ghost use Rattle.pb_fixpoint_trees.specs.declared.Token.{Token};
+ghost use Rattle.pb_fixpoint_trees.specs.declared.Token.TheVariants.{Close};
+ghost use Rattle.pb_fixpoint_trees.specs.Tree.{Tree, tree_truth};
+ghost use Rattle.pb_fixpoint_trees.specs.Tokens.{tree_tokens};
 ghost use Rattle.pb_evidence.specs.ProofGraphs.{exactly};
 ghost use Rattle.pb_report.specs.Cuts.{uncut};
 ghost use Rattle.pb_report.specs.Rising.{IsRising};
 ghost use Rattle.pb_report.specs.Reading.{bracket_truth, with_operand, read_on};
 
-use pb_trees::Token;
+use pb_fixpoint_trees::Token;
 use std::alloc::{AllocError, Global};
 
 /// An open bracket, with the truth of its operands so far: of all of them, or of any.

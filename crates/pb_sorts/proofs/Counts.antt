@@ -1,7 +1,7 @@
 -- How many tuples the carriers of a loop have: those that it has passed times those that are left.
 use Rattle.std.proofs.Common.{◌≡◌, ℕ, zero, suc, ◌+◌, ◌*◌, ◌<◌, ◌≤◌, List, [], ◌∷◌, map, length, drop, get_or, ap, arith, pos, ◌+ℤ◌, ◌-ℤ◌}
 use Rattle.std.proofs.lemmas.Int.{ints}
-use Rattle.pb_carriers.specs.Carrier.{tuple_count, at_least_none}
+use Rattle.pb_base_values.specs.Carrier.{tuple_count, at_least_none}
 use Rattle.pb_sorts.specs.declared.carrier.Carrier.{Carrier}
 use Rattle.pb_sorts.specs.declared.carrier.Carrier.TheVariants as variants
 use Rattle.pb_sorts.specs.Carrier.{values_of}

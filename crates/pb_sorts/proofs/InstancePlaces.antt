@@ -2,8 +2,8 @@
 use Rattle.std.proofs.Common.{◌≡◌, ℕ, zero, suc, ◌+◌, List, [], ◌∷◌, map, length, take, Some, refl, sym, ◌∙◌, ap, arith, inl, inr, length-append}
 use Rattle.std.specs.List.{slice_get}
 use Rattle.std.proofs.lemmas.Option.{none-some, same_Some}
-use Rattle.pb_carriers.specs.Carrier.{Carrier, Tuple, tuples, tuple_count}
-use Rattle.pb_carriers.proofs.Tuples.{length-tuples}
+use Rattle.pb_base_values.specs.Carrier.{Carrier, Tuple, tuples, tuple_count}
+use Rattle.pb_base_values.proofs.Tuples.{length-tuples}
 use Rattle.pb_sorts.specs.Instance.{Instance, instances_from}
 use Rattle.pb_sorts.proofs.Places.{slice_get-append_left, slice_get-append_right, append_cases, slice_get-mapped, IsImage, map_cases, map_length}
 

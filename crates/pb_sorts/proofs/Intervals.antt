@@ -6,7 +6,7 @@ use lib.Signed.{le_z}
 use Rattle.std.specs.Bool.{Decides}
 use Rattle.std.proofs.lemmas.Bool.Decides.{Decides-int_eq, same_from_decides}
 use Rattle.std.proofs.lemmas.Bool.{or_cases, or_left, or_right}
-use Rattle.pb_carriers.specs.Carrier.{Carrier, Value, contains, numbers_from, at_least_none, interval}
+use Rattle.pb_base_values.specs.Carrier.{Carrier, Value, contains, numbers_from, at_least_none, interval}
 
 pub length-numbers_from : (low : ℤ) (n : ℕ) → length (numbers_from low n) ≡ n
 length-numbers_from low zero = refl

@@ -5,9 +5,9 @@ use Rattle.std.proofs.lemmas.Int.{ints}
 use Rattle.std.proofs.lemmas.Bool.Decides.{Decides-int_eq}
 use Rattle.std.proofs.lemmas.Bool.{cases_lt}
 use Rattle.std.proofs.lemmas.Option.{none-some, same_Some, slice_get_within, slice_get_read, get_or_from_slice_get}
-use Rattle.pb_carriers.specs.Carrier as carriers
-use Rattle.pb_carriers.specs.Carrier.{Value, Tuple, is_within, tuples, tuple_count, numbers_from, interval, at_least_none}
-use Rattle.pb_carriers.proofs.Tuples.{length-tuples}
+use Rattle.pb_base_values.specs.Carrier as carriers
+use Rattle.pb_base_values.specs.Carrier.{Value, Tuple, is_within, tuples, tuple_count, numbers_from, interval, at_least_none}
+use Rattle.pb_base_values.proofs.Tuples.{length-tuples}
 use Rattle.pb_sorts.specs.declared.carrier.Carrier.{Carrier}
 use Rattle.pb_sorts.specs.declared.carrier.Carrier.TheVariants as variants
 use Rattle.pb_sorts.specs.Carrier.{values_of}

@@ -3,7 +3,7 @@ use Rattle.std.proofs.Common.{◌≡◌, ℕ, suc, ◌+◌, ◌*◌, ◌<◌, �
 use Rattle.std.specs.List.{slice_get}
 use Rattle.std.proofs.lemmas.Option.{slice_get_within}
 use Rattle.std.proofs.Math.Nat.{mul-le-mul_right}
-use Rattle.pb_carriers.specs.Carrier.{Value, Tuple, contains, is_within, tuples, tuple_count}
+use Rattle.pb_base_values.specs.Carrier.{Value, Tuple, contains, is_within, tuples, tuple_count}
 use Rattle.pb_sorts.specs.declared.carrier.Carrier.{Carrier}
 use Rattle.pb_sorts.specs.Carrier.{values_of}
 use Rattle.pb_sorts.proofs.Counts.{some_tuples, le_times}

@@ -4,8 +4,8 @@ use Rattle.std.specs.List.{slice_get}
 use Rattle.std.proofs.lemmas.Bool.Decides.{Decides-int_eq}
 use Rattle.std.proofs.lemmas.Option.{none-some, same_Some}
 use Rattle.std.proofs.lemmas.Bool.{and_from, and_parts, or_cases, or_right}
-use Rattle.pb_carriers.specs.Carrier.{Carrier, Value, Tuple, contains, is_within, tuples, tuple_count}
-use Rattle.pb_carriers.proofs.Tuples.{length-tuples}
+use Rattle.pb_base_values.specs.Carrier.{Carrier, Value, Tuple, contains, is_within, tuples, tuple_count}
+use Rattle.pb_base_values.proofs.Tuples.{length-tuples}
 use Rattle.pb_sorts.specs.Instance.{carrier_place, mixed_radix}
 use Rattle.pb_sorts.proofs.Places.{IsFront, fronts_cases, slice_get-fronts}
 

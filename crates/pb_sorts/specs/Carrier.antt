@@ -1,8 +1,8 @@
 -- Which values a carrier has, as the list of its values (Groote and Willemse 2005, section 2: data
 -- domains).
 use Rattle.std.specs.Prelude.{◌≡◌, ℤ, pos, negsuc, ◌≤ℤ◌, true, false, [], ◌∷◌}
-use Rattle.pb_carriers.specs.Carrier as carriers
-use Rattle.pb_carriers.specs.Carrier.{of_bool, numbers_from, interval}
+use Rattle.pb_base_values.specs.Carrier as carriers
+use Rattle.pb_base_values.specs.Carrier.{of_bool, numbers_from, interval}
 use Rattle.pb_sorts.specs.declared.carrier.Carrier.{Carrier}
 use Rattle.pb_sorts.specs.declared.carrier.Carrier.TheVariants.{Bool, Enum, Range}
 

@@ -4,7 +4,7 @@ use Rattle.std.specs.Prelude.{ℕ, suc, ◌+◌, ◌*◌, ◌==◌, nat_le, nat_
 use Rattle.std.specs.Ordering.{int_eq}
 use Rattle.std.specs.List.{slice_get, position_or_len}
 use Rattle.pb_sorts.specs.declared.instance as program
-use Rattle.pb_carriers.specs.Carrier.{Carrier, Value, Tuple, is_within, tuple_count, tuples}
+use Rattle.pb_base_values.specs.Carrier.{Carrier, Value, Tuple, is_within, tuple_count, tuples}
 
 -- an equation, by its place in the sequence of equations, and a value of each of its parameters
 pub record Instance : Type 0 where

@@ -52,7 +52,7 @@ impl Carrier {
     ghost use Rattle.std.specs.Prelude.{◌↔◌, ◌≤◌, length, IsOk, IfOk, IsTrue, MatchOption, Some};
     ghost use Rattle.std.specs.Prelude.{false, pos, negsuc};
     ghost use Rattle.std.specs.List.{slice_get};
-    ghost use Rattle.pb_carriers.specs.Carrier.{contains, interval};
+    ghost use Rattle.pb_base_values.specs.Carrier.{contains, interval};
     ghost use Rattle.pb_sorts.specs.Carrier.{values_of, IsRange, FitsRange};
 
     /// The carrier of the whole numbers from `low` to `high`.

@@ -2,7 +2,7 @@
 //! instances: the laws by which equations over tuples and equations over numbers are one.
 ghost use Rattle.std.specs.Prelude.{◌≡◌, ◌<◌, ◌+◌, ◌↔◌, ℕ, suc, List, Some, true, length, Contains};
 ghost use Rattle.std.specs.List.{slice_get};
-ghost use Rattle.pb_carriers.specs.Carrier as carriers;
+ghost use Rattle.pb_base_values.specs.Carrier as carriers;
 ghost use Rattle.pb_sorts.specs.declared.carrier.Carrier.{Carrier};
 ghost use Rattle.pb_sorts.specs.Instance.{Instance, instances, is_instance, first_of, size_of};
 ghost use Rattle.pb_sorts.specs.Instance.{owns_number, owns_instance, number_of};

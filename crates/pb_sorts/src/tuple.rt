@@ -1,12 +1,12 @@
 //! The place of a tuple among all tuples of its carriers, the last value running fastest, and back.
 ghost use Rattle.std.specs.Prelude.{◌≡◌, ◌≤◌, ◌<◌, ◌↔◌, length, map, Some, IsSome, IfSome, IsTrue};
 ghost use Rattle.std.specs.List.{slice_get};
-ghost use Rattle.pb_carriers.specs.Carrier.{is_within, tuples, tuple_count};
+ghost use Rattle.pb_base_values.specs.Carrier.{is_within, tuples, tuple_count};
 ghost use Rattle.pb_sorts.specs.Carrier.{values_of};
 
 use crate::carrier::Carrier;
 use crate::instance::Tuple;
-use pb_limits::{MAX_INSTANCES, MAX_PARAMETERS};
+use pb_base_limits::{MAX_INSTANCES, MAX_PARAMETERS};
 use std::alloc::Global;
 
 /// How many tuples carriers have; none where these are more than a layout may have.

@@ -2,12 +2,12 @@
 -- and, where an equation's sign is the other player's, by induction on that player's counts.
 use Rattle.std.proofs.Common.{◌≡◌, ◌≢◌, ℕ, zero, suc, ◌+◌, ◌%◌, ◌<◌, ◌≤◌, Bool, not, List, [], ◌∷◌, length, inl, inr, refl, sym, ap, ◌∙◌, subst, arith}
 use Rattle.std.proofs.lemmas.Bool.{cases_lt}
-use Rattle.pb_trees.specs.Players.{parity_of}
+use Rattle.pb_fixpoint_trees.specs.Players.{parity_of}
 use Rattle.pb_fixpoint.specs.Solution.{Environment, Equation, assign, iterate, start, solution, operator, value_of}
-use Rattle.pb_trees.specs.Tree.{Tree, tree_truth}
-use Rattle.pb_trees.specs.Equations.{Signature, total, equation, numbered}
-use Rattle.pb_trees.specs.Game.{first_priority, priority_from}
-use Rattle.pb_trees.proofs.Numbers.{equations_are_solved}
+use Rattle.pb_fixpoint_trees.specs.Tree.{Tree, tree_truth}
+use Rattle.pb_fixpoint_trees.specs.Equations.{Signature, total, equation, numbered}
+use Rattle.pb_fixpoint_trees.specs.Game.{first_priority, priority_from}
+use Rattle.pb_fixpoint_trees.proofs.Numbers.{equations_are_solved}
 use Rattle.pb_strategy.proofs.Players.{player, begins, start-begins, value_cases}
 use Rattle.pb_strategy.proofs.Priorities.{first_is_losers, first_falls, priority_here, priority_later}
 use Rattle.pb_strategy.proofs.Assigned.{owns, assign_before, assign_within}

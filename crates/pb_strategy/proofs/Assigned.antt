@@ -4,8 +4,8 @@ use Rattle.std.proofs.lemmas.Bool.{and_from, le-leb, lt-ltb}
 use Rattle.std.proofs.lemmas.Bool.Decides.{nat_tests}
 use Rattle.std.specs.Prelude.{nat_le, nat_lt}
 use Rattle.pb_fixpoint.specs.Solution.{Environment, assign}
-use Rattle.pb_trees.specs.Tree.{Tree}
-use Rattle.pb_trees.specs.Equations.{Signature, equation}
+use Rattle.pb_fixpoint_trees.specs.Tree.{Tree}
+use Rattle.pb_fixpoint_trees.specs.Equations.{Signature, equation}
 
 module _ (first : ℕ) (s : Signature) (trees : ℕ → Tree) where
   pub owns : (n : ℕ) → first ≤ n → n < first + s.size → (equation first s trees).owns n ≡ true

@@ -3,17 +3,17 @@ use Rattle.std.proofs.Common.{◌≡◌, ◌≢◌, ℕ, suc, ◌+◌, ◌%◌, 
 use Rattle.std.specs.Prelude.{Contains, slice_get}
 use Rattle.std.proofs.lemmas.Option.{get_or_from_slice_get}
 use Rattle.pb_fixpoint.specs.Solution.{Environment, empty}
-use Rattle.pb_trees.specs.Tree.{Tree, Single, Root, TreeCalls, tree_truth}
-use Rattle.pb_trees.specs.Equations.{Signature, solved}
-use Rattle.pb_trees.specs.Game.{Vertex, inner, target, vertex_of, priority_from, tree_vertices, row_vertices, game_vertices, false_sink, true_sink}
-use Rattle.pb_trees.specs.Rows.{Row, IsReached, AreRows}
-use Rattle.pb_trees.specs.declared.player.Player.TheVariants.{Even, Odd}
-use Rattle.pb_trees.specs.Players.{parity_of}
-use Rattle.pb_trees.proofs.Players.{even_not_odd}
-use Rattle.pb_trees.specs.declared.player.Player.{Player}
+use Rattle.pb_fixpoint_trees.specs.Tree.{Tree, Single, Root, TreeCalls, tree_truth}
+use Rattle.pb_fixpoint_trees.specs.Equations.{Signature, solved}
+use Rattle.pb_fixpoint_trees.specs.Game.{Vertex, inner, target, vertex_of, priority_from, tree_vertices, row_vertices, game_vertices, false_sink, true_sink}
+use Rattle.pb_fixpoint_trees.specs.Rows.{Row, IsReached, AreRows}
+use Rattle.pb_fixpoint_trees.specs.declared.player.Player.TheVariants.{Even, Odd}
+use Rattle.pb_fixpoint_trees.specs.Players.{parity_of}
+use Rattle.pb_fixpoint_trees.proofs.Players.{even_not_odd}
+use Rattle.pb_fixpoint_trees.specs.declared.player.Player.{Player}
 use Rattle.pb_game.specs.Certificates.{IsProgress}
 use Rattle.pb_strategy.proofs.Players.{player}
-use Rattle.pb_trees.proofs.Members.{among_of_contains, contains_of_among}
+use Rattle.pb_fixpoint_trees.proofs.Members.{among_of_contains, contains_of_among}
 use Rattle.pb_strategy.proofs.Lexicographic.{IsLess, IsAtMost}
 use Rattle.pb_strategy.proofs.Counts.{losing_counts, length-losing_counts, progress-at_most, progress-less, no_loop}
 use Rattle.pb_strategy.proofs.Standing.{StandAt, stand_all, RowStands, row_stands}

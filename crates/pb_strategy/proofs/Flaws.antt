@@ -1,6 +1,6 @@
 -- A vertex that meets the rules has no flaw, and the other way round.
 use Rattle.std.proofs.Common.{ℕ, inl, inr, arith}
-use Rattle.pb_trees.specs.declared.player.Player.{Player}
+use Rattle.pb_fixpoint_trees.specs.declared.player.Player.{Player}
 use Rattle.pb_game.specs.declared.Game.{Game}
 use Rattle.pb_game.specs.declared.certificate.Solution.{Solution}
 use Rattle.pb_game.specs.declared.certificate.CertificateRule.{CertificateRule}

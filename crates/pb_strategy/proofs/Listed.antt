@@ -1,15 +1,15 @@
 -- Lists that pass the test are a certificate of each game with these vertices.
 use Rattle.std.proofs.Common.{◌≡◌, ℕ, zero, suc, ◌+◌, ◌*◌, ◌<◌, Bool, true, List, [], ◌∷◌, length, Some, refl, sym, ap, ap₂, ◌∙◌, subst, arith}
 use Rattle.std.specs.Prelude.{Contains, slice_get, slice_index, slice_index_or}
-use Rattle.pb_trees.specs.declared.player.Player.TheVariants.{Even}
-use Rattle.pb_trees.specs.declared.player.Player.{Player}
+use Rattle.pb_fixpoint_trees.specs.declared.player.Player.TheVariants.{Even}
+use Rattle.pb_fixpoint_trees.specs.declared.player.Player.{Player}
 use Rattle.pb_game.specs.declared.Game.{Game}
 use Rattle.pb_game.specs.Adjacency.{greatest_of}
 use Rattle.pb_game.specs.Games.{vertex_count, priority_of, greatest_priority, priority_count}
 use Rattle.pb_game.specs.declared.certificate.Solution.{Solution}
 use Rattle.pb_game.specs.Solutions.{winner_of, choice_of, count_of}
 use Rattle.pb_game.specs.Certificates.{IsCertifiedAt, IsKept, IsProgress}
-use Rattle.pb_trees.specs.Game.{Vertex}
+use Rattle.pb_fixpoint_trees.specs.Game.{Vertex}
 use Rattle.pb_strategy.specs.Vertices.{HasVertices, IsVertex}
 use Rattle.pb_strategy.specs.Examples.{Lists, HasLists, Certify}
 use Rattle.pb_strategy.proofs.Tested.{vertices_pass, Meets, vertices_of_test}

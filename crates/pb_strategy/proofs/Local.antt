@@ -2,12 +2,12 @@
 use Rattle.std.proofs.Common.{◌≡◌, ℕ, suc, ◌+◌, ◌<◌, ◌≤◌, Bool, true, false, not, List, Some, refl, sym, ap, ◌∙◌, subst, inl, inr, arith}
 use Rattle.std.specs.Prelude.{Contains, slice_get}
 use Rattle.std.proofs.Math.Bool.{not-not}
-use Rattle.pb_trees.specs.declared.player.Player.{Player}
+use Rattle.pb_fixpoint_trees.specs.declared.player.Player.{Player}
 use Rattle.pb_fixpoint.specs.Solution.{Environment}
-use Rattle.pb_trees.specs.Tree.{Connective, Conjunction, Disjunction, Leaf, Yes, No, Cut, Call, Operands, End, LeafThen, BracketThen, LeafCalls, OperandsCall, of_none, leaf_truth, operands_truth}
-use Rattle.pb_trees.specs.Game.{Vertex, brackets, target, targets, owner_of, bracket_successors, bracket_vertex, inner_vertices}
+use Rattle.pb_fixpoint_trees.specs.Tree.{Connective, Conjunction, Disjunction, Leaf, Yes, No, Cut, Call, Operands, End, LeafThen, BracketThen, LeafCalls, OperandsCall, of_none, leaf_truth, operands_truth}
+use Rattle.pb_fixpoint_trees.specs.Game.{Vertex, brackets, target, targets, owner_of, bracket_successors, bracket_vertex, inner_vertices}
 use Rattle.pb_strategy.proofs.Players.{player, choosing, connective_cases, owner-choosing, owner-other, of_none-choosing, joined_left, joined_right, joined_both}
-use Rattle.pb_trees.proofs.Members.{Among, among_of_contains, contains_of_among, among_rising, among_from_rising}
+use Rattle.pb_fixpoint_trees.proofs.Members.{Among, among_of_contains, contains_of_among, among_rising, among_from_rising}
 use Rattle.pb_strategy.proofs.Standing.{StandAt, BracketStands, bracket_stands}
 
 -- an edge that stays in a play by the winner's choices

@@ -2,14 +2,14 @@
 -- disjunctions; Odd wants false, and has the conjunctions.
 use Rattle.std.proofs.Common.{◌≡◌, ◌≢◌, ℕ, Bool, true, false, not, ◌&&◌, ◌||◌, ◌⊎◌, inl, inr, refl, sym, ap}
 use Rattle.std.proofs.lemmas.Bool.{true≢false}
-use Rattle.pb_trees.specs.Players.{parity_of}
-use Rattle.pb_trees.specs.declared.player.Player.TheVariants.{Even, Odd}
-use Rattle.pb_trees.specs.declared.player.Player.{Player}
+use Rattle.pb_fixpoint_trees.specs.Players.{parity_of}
+use Rattle.pb_fixpoint_trees.specs.declared.player.Player.TheVariants.{Even, Odd}
+use Rattle.pb_fixpoint_trees.specs.declared.player.Player.{Player}
 use Rattle.pb_fixpoint.specs.declared.Sign.{Sign}
 use Rattle.pb_fixpoint.specs.declared.Sign.TheVariants.{Mu, Nu}
 use Rattle.pb_fixpoint.specs.Solution.{start}
-use Rattle.pb_trees.specs.Tree.{Connective, Conjunction, Disjunction, joined, of_none}
-use Rattle.pb_trees.specs.Game.{owner_of}
+use Rattle.pb_fixpoint_trees.specs.Tree.{Connective, Conjunction, Disjunction, joined, of_none}
+use Rattle.pb_fixpoint_trees.specs.Game.{owner_of}
 
 -- the player who wants b
 abbrev pub player : Bool → Player

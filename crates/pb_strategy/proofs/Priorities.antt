@@ -1,11 +1,11 @@
 -- Priorities of equations: they don't rise from one equation to the next, and have the parity of the sign.
 use Rattle.std.proofs.Common.{◌≡◌, ◌≢◌, ℕ, suc, ◌+◌, ◌%◌, ◌<◌, ◌≤◌, Bool, not, List, [], ◌∷◌, refl, sym, ap, ◌∙◌, arith}
 use Rattle.std.proofs.lemmas.Bool.{lt-ltb, le-ltb}
-use Rattle.pb_trees.specs.Players.{parity_of}
+use Rattle.pb_fixpoint_trees.specs.Players.{parity_of}
 use Rattle.pb_fixpoint.specs.declared.Sign.{Sign}
 use Rattle.pb_fixpoint.specs.declared.Sign.TheVariants.{Mu, Nu}
-use Rattle.pb_trees.specs.Equations.{Signature}
-use Rattle.pb_trees.specs.Game.{last_priority, priority_before, first_priority, priority_from}
+use Rattle.pb_fixpoint_trees.specs.Equations.{Signature}
+use Rattle.pb_fixpoint_trees.specs.Game.{last_priority, priority_before, first_priority, priority_from}
 use Rattle.pb_strategy.proofs.Players.{player, begins, player-other}
 
 parity_last : (s : Sign) → last_priority s % 2 ≡ parity_of (player (begins s))

@@ -4,11 +4,11 @@ use Rattle.std.specs.Prelude.{slice_get, ◌==◌}
 use Rattle.std.proofs.Math.Seq.{get_or-append_seam}
 use Rattle.std.proofs.lemmas.Option.{slice_get-get_or}
 use Rattle.std.proofs.lemmas.Bool.{cases_Bool, eqb-true, eqb-false, cond-true, cond-false}
-use Rattle.pb_trees.specs.Tree.{Connective, Operands, BracketThen}
-use Rattle.pb_trees.specs.Game.{Vertex, brackets, inner, vertex_from, bracket_vertex, inner_vertices, tree_vertices, row_vertices}
-use Rattle.pb_trees.specs.Rows.{Row}
-use Rattle.pb_trees.proofs.Lengths.{length-inner_vertices, length-tree_vertices}
-use Rattle.pb_trees.proofs.Members.{Among}
+use Rattle.pb_fixpoint_trees.specs.Tree.{Connective, Operands, BracketThen}
+use Rattle.pb_fixpoint_trees.specs.Game.{Vertex, brackets, inner, vertex_from, bracket_vertex, inner_vertices, tree_vertices, row_vertices}
+use Rattle.pb_fixpoint_trees.specs.Rows.{Row}
+use Rattle.pb_fixpoint_trees.proofs.Lengths.{length-inner_vertices, length-tree_vertices}
+use Rattle.pb_fixpoint_trees.proofs.Members.{Among}
 
 -- the vertices stand in the list at this place
 abbrev pub StandAt : List Vertex → ℕ → List Vertex → Type 0

@@ -2,17 +2,17 @@
 use Rattle.std.proofs.Common.{◌≡◌, ℕ, zero, suc, ◌+◌, ◌*◌, ◌<◌, Bool, true, ◌&&◌, List, [], ◌∷◌, length, refl, sym, ap, ◌∙◌, subst, inl, inr, arith}
 use Rattle.std.specs.Prelude.{Contains, nat_lt, slice_index_or, false, ◌==◌}
 use Rattle.std.proofs.lemmas.Bool.{and_parts, ltb-true, true≢false}
-use Rattle.pb_trees.specs.Tree.{Leaf, Yes, No, Cut, Call, Operands, End, LeafThen, BracketThen, Tree, Single, Root, LeafCalls, OperandsCall, TreeCalls}
-use Rattle.pb_trees.specs.Equations.{Signature, total}
-use Rattle.pb_trees.specs.declared.player.Player.TheVariants.{Even}
-use Rattle.pb_trees.specs.Players.{is_even}
-use Rattle.pb_trees.specs.declared.player.Player.{Player}
+use Rattle.pb_fixpoint_trees.specs.Tree.{Leaf, Yes, No, Cut, Call, Operands, End, LeafThen, BracketThen, Tree, Single, Root, LeafCalls, OperandsCall, TreeCalls}
+use Rattle.pb_fixpoint_trees.specs.Equations.{Signature, total}
+use Rattle.pb_fixpoint_trees.specs.declared.player.Player.TheVariants.{Even}
+use Rattle.pb_fixpoint_trees.specs.Players.{is_even}
+use Rattle.pb_fixpoint_trees.specs.declared.player.Player.{Player}
 use Rattle.pb_game.specs.Solutions.{winner_of}
-use Rattle.pb_trees.specs.Examples.{mu, tree_at}
-use Rattle.pb_trees.specs.Game.{Vertex, game_vertices, false_sink, true_sink}
-use Rattle.pb_trees.specs.Rows.{Row, IsReached, AreRows}
+use Rattle.pb_fixpoint_trees.specs.Examples.{mu, tree_at}
+use Rattle.pb_fixpoint_trees.specs.Game.{Vertex, game_vertices, false_sink, true_sink}
+use Rattle.pb_fixpoint_trees.specs.Rows.{Row, IsReached, AreRows}
 use Rattle.pb_strategy.specs.Examples.{rows_from, values_from, Lists, IsWorked, GreatestOfItself, LeastOfItself, LeastFirst, GreatestFirst, EachOther, AlternatingInstances, NestedBracket, TrueOperand, WrongWinner}
-use Rattle.pb_trees.proofs.Members.{Among, among_of_contains, contains_of_among}
+use Rattle.pb_fixpoint_trees.proofs.Members.{Among, among_of_contains, contains_of_among}
 use Rattle.pb_strategy.proofs.Winners.{winners_are_solved}
 use Rattle.pb_strategy.proofs.Listed.{width, passes, certify}
 

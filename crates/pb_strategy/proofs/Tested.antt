@@ -2,12 +2,12 @@
 use Rattle.std.proofs.Common.{◌≡◌, ◌≢◌, ℕ, zero, suc, ◌+◌, ◌%◌, ◌≤◌, Bool, true, false, not, ◌&&◌, ◌||◌, List, [], ◌∷◌, Some, inl, inr, sym, ◌∙◌, subst, arith}
 use Rattle.std.specs.Prelude.{Contains, slice_get, nat_lt, ◌==◌, if◌then◌else◌}
 use Rattle.std.proofs.lemmas.Bool.{false≢true, and_parts, or_cases, cases_Bool, cases_lt, lt-ltb, le-ltb, ltb-true, eqb-true, eqb-false, eq-eqb, cond-true}
-use Rattle.pb_trees.specs.Game.{Vertex}
-use Rattle.pb_trees.proofs.Players.{same_is, same_yes}
-use Rattle.pb_trees.specs.Players.{parity_of, is_same}
-use Rattle.pb_trees.specs.declared.player.Player.{Player}
+use Rattle.pb_fixpoint_trees.specs.Game.{Vertex}
+use Rattle.pb_fixpoint_trees.proofs.Players.{same_is, same_yes}
+use Rattle.pb_fixpoint_trees.specs.Players.{parity_of, is_same}
+use Rattle.pb_fixpoint_trees.specs.declared.player.Player.{Player}
 use Rattle.pb_game.specs.Certificates.{Decreases, IsSame, IsProgress}
-use Rattle.pb_trees.proofs.Members.{Among, among_of_contains, contains_of_among}
+use Rattle.pb_fixpoint_trees.proofs.Members.{Among, among_of_contains, contains_of_among}
 use Rattle.pb_strategy.proofs.Counts.{losing_counts}
 
 -- ---- lists of counts

@@ -4,16 +4,16 @@ use Rattle.std.specs.Prelude.{Bool, true, false, IsTrue, ◌↔◌, Contains, sl
 use Rattle.std.proofs.Math.Bool.{Bool-set}
 use Rattle.std.proofs.Math.Logic.{∥∥₁_elim}
 use Rattle.std.proofs.lemmas.Option.{slice_get_within}
-use Rattle.pb_trees.specs.declared.player.Player.TheVariants.{Even, Odd}
-use Rattle.pb_trees.specs.Players.{is_even}
-use Rattle.pb_trees.specs.declared.player.Player.{Player}
+use Rattle.pb_fixpoint_trees.specs.declared.player.Player.TheVariants.{Even, Odd}
+use Rattle.pb_fixpoint_trees.specs.Players.{is_even}
+use Rattle.pb_fixpoint_trees.specs.declared.player.Player.{Player}
 use Rattle.pb_game.specs.declared.Game.{Game}
 use Rattle.pb_game.specs.Games.{priority_count}
 use Rattle.pb_game.specs.declared.certificate.Solution.{Solution}
 use Rattle.pb_game.specs.Solutions.{winner_of, choice_of, count_of}
 use Rattle.pb_game.specs.Certificates.{IsCertificate, IsCertifiedAt, IsKept, IsProgress}
-use Rattle.pb_trees.specs.Equations.{solved}
-use Rattle.pb_trees.specs.Game.{Vertex, game_vertices}
+use Rattle.pb_fixpoint_trees.specs.Equations.{solved}
+use Rattle.pb_fixpoint_trees.specs.Game.{Vertex, game_vertices}
 use Rattle.pb_strategy.specs.Vertices.{HasVertices}
 use Rattle.pb_strategy.specs.Meaning.{IsSolvedAt, WinnersAreSolved}
 use Rattle.pb_strategy.proofs.Players.{player}

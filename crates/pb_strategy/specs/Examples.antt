@@ -1,16 +1,16 @@
 -- Small systems by hand: the game of each, the lists of a certificate, and the values of its
 -- instances.
 use Rattle.std.specs.Prelude.{◌≡◌, ℕ, zero, suc, Bool, true, false, List, [], ◌∷◌}
-use Rattle.pb_trees.specs.declared.player.Player.TheVariants.{Even, Odd}
-use Rattle.pb_trees.specs.declared.player.Player.{Player}
+use Rattle.pb_fixpoint_trees.specs.declared.player.Player.TheVariants.{Even, Odd}
+use Rattle.pb_fixpoint_trees.specs.declared.player.Player.{Player}
 use Rattle.pb_game.specs.declared.Game.{Game}
 use Rattle.pb_game.specs.declared.certificate.Solution.{Solution}
 use Rattle.pb_game.specs.Certificates.{IsCertificate}
-use Rattle.pb_trees.specs.Tree.{Conjunction, Disjunction, Yes, Call, End, LeafThen, BracketThen, Tree, Single, Root}
-use Rattle.pb_trees.specs.Equations.{Signature, solved}
-use Rattle.pb_trees.specs.Examples.{mu, nu, tree_at}
-use Rattle.pb_trees.specs.Game.{Vertex, game_vertices, false_sink, true_sink}
-use Rattle.pb_trees.specs.Rows.{Row, AreRows}
+use Rattle.pb_fixpoint_trees.specs.Tree.{Conjunction, Disjunction, Yes, Call, End, LeafThen, BracketThen, Tree, Single, Root}
+use Rattle.pb_fixpoint_trees.specs.Equations.{Signature, solved}
+use Rattle.pb_fixpoint_trees.specs.Examples.{mu, nu, tree_at}
+use Rattle.pb_fixpoint_trees.specs.Game.{Vertex, game_vertices, false_sink, true_sink}
+use Rattle.pb_fixpoint_trees.specs.Rows.{Row, AreRows}
 use Rattle.pb_strategy.specs.Vertices.{HasVertices}
 
 -- the rows of all instances from n on, with these trees

@@ -6,15 +6,15 @@
 -- of each certificate; `proofs/Winners` has `merely_solved`, the same for a certificate in a ghost
 -- field.
 use Rattle.std.specs.Prelude.{◌≡◌, ℕ, Bool, List, Contains}
-use Rattle.pb_trees.specs.Players.{is_even}
+use Rattle.pb_fixpoint_trees.specs.Players.{is_even}
 use Rattle.pb_game.specs.declared.Game.{Game}
 use Rattle.pb_game.specs.declared.certificate.Solution.{Solution}
 use Rattle.pb_game.specs.Solutions.{winner_of}
 use Rattle.pb_game.specs.Certificates.{IsCertificate}
-use Rattle.pb_trees.specs.Tree.{Tree}
-use Rattle.pb_trees.specs.Equations.{Signature, solved}
-use Rattle.pb_trees.specs.Game.{game_vertices, vertex_of}
-use Rattle.pb_trees.specs.Rows.{Row, AreRows}
+use Rattle.pb_fixpoint_trees.specs.Tree.{Tree}
+use Rattle.pb_fixpoint_trees.specs.Equations.{Signature, solved}
+use Rattle.pb_fixpoint_trees.specs.Game.{game_vertices, vertex_of}
+use Rattle.pb_fixpoint_trees.specs.Rows.{Row, AreRows}
 use Rattle.pb_strategy.specs.Vertices.{HasVertices}
 
 -- the game is that of these rows, which are the reached instances of the system with their trees

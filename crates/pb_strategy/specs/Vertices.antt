@@ -3,7 +3,7 @@
 use Rattle.std.specs.Prelude.{◌≡◌, ℕ, List, length, slice_get, Some}
 use Rattle.pb_game.specs.declared.Game.{Game}
 use Rattle.pb_game.specs.Games.{vertex_count, owner_of, priority_of, successors_of}
-use Rattle.pb_trees.specs.Game.{Vertex}
+use Rattle.pb_fixpoint_trees.specs.Game.{Vertex}
 
 -- v is such a vertex
 pub record IsVertex (g : Game) (v : ℕ) (x : Vertex) : Type 0 where

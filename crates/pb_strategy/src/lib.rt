@@ -32,7 +32,7 @@ pub struct Checked<'a> {
 }
 
 impl Checked<'_> {
-    ghost use Rattle.pb_trees.specs.declared.player.Player.TheVariants.{Even};
+    ghost use Rattle.pb_fixpoint_trees.specs.declared.player.Player.TheVariants.{Even};
     ghost use Rattle.pb_strategy.specs.Meaning.{IsSolvedAt};
 
     /// The game.

@@ -7,8 +7,8 @@ ghost use Rattle.pb_text_lexer.specs.Steps.{Gives, GivesExactly};
 ghost use Rattle.pb_text.specs.Parsing.{depth_limit};
 ghost use Rattle.pb_text.specs.Reading as reading;
 
+use pb_base_limits::MAX_DEPTH;
 use pb_fixpoint::Sign;
-use pb_limits::MAX_DEPTH;
 use pb_text_formulas::formula::formula;
 use pb_text_formulas::next::unless;
 use pb_text_formulas::sort::sort_parts;

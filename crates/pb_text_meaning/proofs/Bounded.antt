@@ -1,7 +1,7 @@
 -- What fits is within the bound.
 use Rattle.std.proofs.Common.{Bool, true, false, arith}
 use Rattle.std.proofs.lemmas.Int.{ints}
-use Rattle.pb_carriers.specs.Carrier.{of_bool}
+use Rattle.pb_base_values.specs.Carrier.{of_bool}
 use Rattle.pb_text_meaning.specs.Syntax.{Term, Spec}
 use Rattle.pb_text_meaning.specs.Value.{Assignment, value}
 use Rattle.pb_text_meaning.specs.Fits.{IsBounded, Fits}

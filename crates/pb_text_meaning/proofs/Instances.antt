@@ -3,8 +3,8 @@ use Rattle.std.proofs.Common.{◌≡◌, List, [], ◌∷◌, map, Contains, sub
 use Rattle.std.specs.Cmp.Lexicographic.{same_text}
 use Rattle.std.proofs.lemmas.Bool.{and_parts}
 use Rattle.std.proofs.lemmas.List.{length-map}
-use Rattle.pb_carriers.specs.Carrier.{Tuple, is_within, tuples}
-use Rattle.pb_carriers.proofs.Tuples.{In, in_map, in_contains, in_tuples, length-tuples}
+use Rattle.pb_base_values.specs.Carrier.{Tuple, is_within, tuples}
+use Rattle.pb_base_values.proofs.Tuples.{In, in_map, in_contains, in_tuples, length-tuples}
 use Rattle.pb_fixpoint.specs.Solution.{Environment}
 use Rattle.pb_fixpoint.specs.Fixpoint.{AreInstances, AreMonotone, IsSolved}
 use Rattle.pb_fixpoint.proofs.Solved.{value_of-solved}

@@ -4,7 +4,7 @@ use Rattle.pb_fixpoint.specs.Solution.{Environment}
 use Rattle.pb_text_tree.specs.declared.operator.Quantifier.{Quantifier}
 use Rattle.pb_text_tree.specs.declared.operator.Quantifier.TheVariants.{Forall, Exists}
 use Rattle.pb_text_meaning.specs.Syntax.{Variable, Formula, Equation, Spec}
-use Rattle.pb_carriers.specs.Carrier.{Value, Carrier}
+use Rattle.pb_base_values.specs.Carrier.{Value, Carrier}
 use Rattle.pb_text_meaning.specs.Sorts.{carrier_of}
 use Rattle.pb_text_meaning.specs.Value.{Assignment, of_values, quantified, values}
 use Rattle.pb_text_meaning.specs.Formula.{Instance, is_instance, truth}

@@ -1,7 +1,7 @@
 -- Terms and formulas that fit: under an assignment each value on the way is within 2^62, and each
 -- divisor at least 1.
 use Rattle.std.specs.Prelude.{◌≡◌, ◌^◌, pos, neg_ℤ, ◌≤ℤ◌, true, ⊤, All, List, [], ◌∷◌}
-use Rattle.pb_carriers.specs.Carrier.{Value, Tuple, contains, is_within}
+use Rattle.pb_base_values.specs.Carrier.{Value, Tuple, contains, is_within}
 use Rattle.pb_text_meaning.specs.Syntax.{Variable, Operator, Term, Terms, Formula, Equation, Spec}
 use Rattle.pb_text_meaning.specs.Sorts.{carrier_of}
 use Rattle.pb_text_meaning.specs.Value.{Assignment, value}

@@ -3,7 +3,7 @@ use Rattle.std.specs.Prelude.{Bool, false, not, ◌&&◌, ◌||◌, List, map, O
 use Rattle.std.specs.List.{find}
 use Rattle.pb_fixpoint.specs.Solution.{Environment}
 use Rattle.pb_text_meaning.specs.Syntax.{Name, same_name, Variable, Formula, Equation, Spec}
-use Rattle.pb_carriers.specs.Carrier.{Carrier, Tuple, is_within}
+use Rattle.pb_base_values.specs.Carrier.{Carrier, Tuple, is_within}
 use Rattle.pb_text_meaning.specs.Sorts.{carrier_of}
 use Rattle.pb_text_meaning.specs.Value.{Assignment, quantified, is_true, value, values}
 

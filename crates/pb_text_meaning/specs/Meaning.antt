@@ -3,7 +3,7 @@ use Rattle.std.specs.Prelude.{Bool, ◌&&◌, List, [], ◌∷◌, map}
 use Rattle.pb_fixpoint.specs.Solution as fixpoint
 use Rattle.pb_fixpoint.specs.Solution.{Environment, solution, empty}
 use Rattle.pb_text_meaning.specs.Syntax.{same_name, Variable, Formula, Equation, Spec}
-use Rattle.pb_carriers.specs.Carrier.{Tuple, is_within, tuple_count}
+use Rattle.pb_base_values.specs.Carrier.{Tuple, is_within, tuple_count}
 use Rattle.pb_text_meaning.specs.Value.{Assignment}
 use Rattle.pb_text_meaning.specs.Formula.{Instance, carriers_of, truth}
 

@@ -1,7 +1,7 @@
 -- The carrier of a sort that a specification names, and the place of an enumerator.
 use Rattle.std.specs.Prelude.{ℕ, zero, suc, pos, Bool, true, false, if◌then◌else◌, List, [], ◌∷◌, length, Option, Some, None, codes}
 use Rattle.std.specs.List.{find}
-use Rattle.pb_carriers.specs.Carrier.{Carrier, of_bool, numbers_from, interval}
+use Rattle.pb_base_values.specs.Carrier.{Carrier, of_bool, numbers_from, interval}
 use Rattle.pb_text_meaning.specs.Syntax.{Name, same_name, Enumerator, Sort, Struct, Alias, SortDeclaration, Range, Spec}
 
 abbrev pub declared : List SortDeclaration → Name → Option Sort

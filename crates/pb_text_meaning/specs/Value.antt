@@ -9,8 +9,8 @@ use Rattle.pb_text_meaning.specs.Syntax.{Name, same_name, Variable, Operator, Te
 use Rattle.pb_text_meaning.specs.declared.function.NamedFunction.{NamedFunction}
 use Rattle.pb_text_meaning.specs.declared.function.NamedFunction.TheVariants.{If, Succ, Pred, Abs, Max, Min, Pos2Nat, Pos2Int, Nat2Int}
 use Rattle.pb_text_meaning.specs.Functions.{named_function}
-use Rattle.pb_carriers.specs.Carrier.{Value, Tuple, Carrier, of_bool}
-use Rattle.pb_carriers.specs.Division.{quotient, remainder}
+use Rattle.pb_base_values.specs.Carrier.{Value, Tuple, Carrier, of_bool}
+use Rattle.pb_base_values.specs.Division.{quotient, remainder}
 use Rattle.pb_text_meaning.specs.Sorts.{carrier_of, is_recogniser, place_in}
 
 -- what the variables in scope stand for, the innermost first; so an inner variable hides an outer

@@ -13,11 +13,11 @@ use Rattle.pb_typing_declarations.specs.Shapes.{Shape, sort_shape}
 use Rattle.pb_typing_declarations.specs.Entries.{carrier_shape}
 use Rattle.pb_typing_rules.specs.Scope.{Scope}
 use Rattle.pb_typing.specs.FormulaLinks.{elaborated_links}
-use Rattle.pb_typed_tree.specs.Expansion.{expanded}
-use Rattle.pb_typed_tree.specs.Tree.{Formula, Connected, Quantified}
-use Rattle.pb_typed_tree.specs.Elaboration.{Slotting, with_slot, with_slots, each, elaborated, width}
-use Rattle.pb_typed_tree.specs.Loops.{variable_shapes}
-use Rattle.pb_typed_tree.specs.View.{chained, nested}
+use Rattle.pb_typing_tree.specs.Expansion.{expanded}
+use Rattle.pb_typing_tree.specs.Tree.{Formula, Connected, Quantified}
+use Rattle.pb_typing_tree.specs.Elaboration.{Slotting, with_slot, with_slots, each, elaborated, width}
+use Rattle.pb_typing_tree.specs.Loops.{variable_shapes}
+use Rattle.pb_typing_tree.specs.View.{chained, nested}
 use Rattle.pb_typing_declarations.specs.Entries.{shapes_of}
 
 -- ---- formulas

@@ -14,12 +14,12 @@ use Rattle.pb_text_meaning.specs.Erase.{erased_equation, erased_variables}
 use Rattle.pb_typing_declarations.specs.Entries.{shapes_of}
 use Rattle.pb_typing_declarations.specs.Shapes.{Shape, variable_shapes}
 use Rattle.pb_typing_rules.specs.Faults.{right_faults}
-use Rattle.pb_typed_tree.specs.declared.formula.Equation as declared
-use Rattle.pb_typed_tree.specs.Calls.{call_places, calls_in, tree_calls}
-use Rattle.pb_typed_tree.specs.Elaboration.{elaborated_equation}
-use Rattle.pb_typed_tree.specs.Loops.{equation_loops}
-use Rattle.pb_typed_tree.specs.Tree.{Formula}
-use Rattle.pb_typed_tree.specs.View.{formula_view}
+use Rattle.pb_typing_tree.specs.declared.formula.Equation as declared
+use Rattle.pb_typing_tree.specs.Calls.{call_places, calls_in, tree_calls}
+use Rattle.pb_typing_tree.specs.Elaboration.{elaborated_equation}
+use Rattle.pb_typing_tree.specs.Loops.{equation_loops}
+use Rattle.pb_typing_tree.specs.Tree.{Formula}
+use Rattle.pb_typing_tree.specs.View.{formula_view}
 use Rattle.pb_typing.specs.Rights.{AreRights, IsRight, own_faults}
 use Rattle.pb_typing.specs.Typed.{IsLayout}
 

@@ -13,16 +13,16 @@ use Rattle.pb_text_tree.specs.Form.{FormulaForm, formula_form, instance_form, te
 use Rattle.pb_text_meaning.specs.Syntax as syntax
 use Rattle.pb_text_meaning.specs.Syntax.{Spec}
 use Rattle.pb_text_meaning.specs.Erase.{erased_variables}
-use Rattle.pb_errors.specs.declared.or_memory.OrMemory.{OrMemory}
+use Rattle.pb_base_errors.specs.declared.or_memory.OrMemory.{OrMemory}
 use Rattle.pb_typing_declarations.specs.declared.fault.TypingFault.{TypingFault}
 use Rattle.pb_typing_declarations.specs.Declarations.{variables_faults}
 use Rattle.pb_typing_declarations.specs.Entries.{shapes_of}
 use Rattle.pb_typing_rules.specs.Faults.{formula_faults}
 use Rattle.pb_typing_rules.specs.Scope.{Scope, bound}
-use Rattle.pb_typed_tree.specs.declared.formula.Formula as code
-use Rattle.pb_typed_tree.specs.Calls.{call_places, calls_in}
-use Rattle.pb_typed_tree.specs.Elaboration.{Slotting}
-use Rattle.pb_typed_tree.specs.Loops.{loops}
+use Rattle.pb_typing_tree.specs.declared.formula.Formula as code
+use Rattle.pb_typing_tree.specs.Calls.{call_places, calls_in}
+use Rattle.pb_typing_tree.specs.Elaboration.{Slotting}
+use Rattle.pb_typing_tree.specs.Loops.{loops}
 use Rattle.pb_typing.specs.Elaborated.{ChecksFormulaIn, ChecksTruthIn}
 use Rattle.pb_typing.specs.Tree.{formula_of, value_of}
 use Rattle.pb_typing.proofs.ValueNodes.{on_ok}

@@ -23,23 +23,23 @@ use Rattle.pb_typing_declarations.specs.Agreement.{equation_place}
 use Rattle.pb_typing_declarations.specs.Shapes.{Shape}
 use Rattle.pb_typing_rules.specs.Scope.{Scope}
 use Rattle.pb_typing_rules.specs.Term.{shape}
-use Rattle.pb_typed_tree.specs.declared.formula.Argument as declared
-use Rattle.pb_typed_tree.specs.declared.formula.Formula as code
-use Rattle.pb_typed_tree.specs.Expansion.{expanded}
-use Rattle.pb_typed_tree.specs.Calls.{call_places, calls, calls_in, places_of}
-use Rattle.pb_typed_tree.proofs.Calls.{data-calls, no_places}
-use Rattle.pb_typed_tree.specs.Loops.{loops}
-use Rattle.pb_typed_tree.specs.Tree as model
-use Rattle.pb_typed_tree.specs.Tree.{Formula, Connected}
-use Rattle.pb_typed_tree.specs.Elaboration.{Slotting, arguments, elaborated, place_of, slotted}
+use Rattle.pb_typing_tree.specs.declared.formula.Argument as declared
+use Rattle.pb_typing_tree.specs.declared.formula.Formula as code
+use Rattle.pb_typing_tree.specs.Expansion.{expanded}
+use Rattle.pb_typing_tree.specs.Calls.{call_places, calls, calls_in, places_of}
+use Rattle.pb_typing_tree.proofs.Calls.{data-calls, no_places}
+use Rattle.pb_typing_tree.specs.Loops.{loops}
+use Rattle.pb_typing_tree.specs.Tree as model
+use Rattle.pb_typing_tree.specs.Tree.{Formula, Connected}
+use Rattle.pb_typing_tree.specs.Elaboration.{Slotting, arguments, elaborated, place_of, slotted}
 use Rattle.pb_typing.specs.Tree.{formula_of, value_of}
-use Rattle.pb_typed_tree.specs.View.{argument_view, chained, shape_view, term_view, formula_view, formula_views}
+use Rattle.pb_typing_tree.specs.View.{argument_view, chained, shape_view, term_view, formula_view, formula_views}
 use Rattle.pb_typing_declarations.specs.Entries.{shapes_of}
 use Rattle.pb_typing.specs.FormulaLinks.{elaborated_links, link_faults, link_width, links_calls, links_loops}
 use Rattle.pb_typing.proofs.ElaboratedChains.{chained-elaborated}
 use Rattle.pb_typing.specs.Arguments.{faults_against, own_faults}
 use Rattle.pb_typing.specs.Elaborated.{ElaboratesFormula}
-use Rattle.pb_errors.specs.declared.or_memory.OrMemory.{OrMemory}
+use Rattle.pb_base_errors.specs.declared.or_memory.OrMemory.{OrMemory}
 use Rattle.pb_typing_declarations.specs.declared.fault.TypingFault.{TypingFault}
 use Rattle.pb_typing_declarations.specs.Entries.{shape_of}
 use Rattle.pb_typing.proofs.ValueLemmas.{grown, joined-loops}

@@ -4,8 +4,8 @@ use Rattle.std.specs.Prelude.{Result, Ok, Err, MatchResult, nat_lt}
 use Rattle.std.specs.List.{slice_get}
 use Rattle.std.proofs.lemmas.Option.{cond_some}
 use Rattle.std.proofs.lemmas.Bool.{ltb-true}
-use Rattle.pb_carriers.specs.Carrier as carriers
-use Rattle.pb_carriers.specs.Carrier.{Value, contains}
+use Rattle.pb_base_values.specs.Carrier as carriers
+use Rattle.pb_base_values.specs.Carrier.{Value, contains}
 use Rattle.pb_sorts.specs.declared.carrier.Carrier.{Carrier}
 use Rattle.pb_sorts.specs.Carrier.{values_of}
 use Rattle.pb_sorts.proofs.Equations.{slice_get-carriers_of}
@@ -18,18 +18,18 @@ use Rattle.pb_text_meaning.specs.Value.{value}
 use Rattle.pb_text_meaning.specs.Formula.{carriers_of, equation_named}
 use Rattle.pb_text_tree.specs.Form.{SpecForm}
 use Rattle.pb_text_meaning.specs.Erase.{erase}
-use Rattle.pb_limits.specs.declared.TheConstants.{MAX_EQUATIONS}
+use Rattle.pb_base_limits.specs.declared.TheConstants.{MAX_EQUATIONS}
 use Rattle.pb_typing_declarations.specs.Declarations.{declaration_faults}
 use Rattle.pb_typing_declarations.proofs.DeclaredLaw.{declared}
 use Rattle.pb_typing_rules.specs.Formula.{count, IsCalled}
-use Rattle.pb_typed_tree.specs.InitialPlace.{initial_place}
+use Rattle.pb_typing_tree.specs.InitialPlace.{initial_place}
 use Rattle.std.proofs.lemmas.List.{length-map}
 use Rattle.pb_text_meaning.specs.Erase.{erased_arguments, erased_term}
 use Rattle.pb_text_meaning.specs.Fits.{AllFit}
 use Rattle.pb_typing_declarations.specs.declared.fault.TypingFault.{TypingFault}
-use Rattle.pb_errors.specs.declared.or_memory.OrMemory.TheVariants.{Refused, Memory}
+use Rattle.pb_base_errors.specs.declared.or_memory.OrMemory.TheVariants.{Refused, Memory}
 use Rattle.pb_typing_declarations.specs.declared.fault.TypingRule.TheVariants.{OutsideCarrier}
-use Rattle.pb_errors.specs.declared.or_memory.OrMemory.{OrMemory}
+use Rattle.pb_base_errors.specs.declared.or_memory.OrMemory.{OrMemory}
 use Rattle.pb_typing_declarations.specs.Faults.{unless, IsAmong}
 use Rattle.pb_typing_declarations.specs.Agreement.{equation_place}
 use Rattle.pb_typing_declarations.specs.WellDeclared.{HaveEnds}

@@ -4,8 +4,8 @@ use Rattle.std.proofs.lemmas.List.{length-append}
 use Rattle.pb_text_meaning.specs.Syntax as syntax
 use Rattle.pb_text_meaning.specs.Syntax.{Spec}
 use Rattle.pb_typing_declarations.specs.Shapes.{Shape}
-use Rattle.pb_typed_tree.specs.Loops.{loops, variable_shapes}
-use Rattle.pb_typed_tree.specs.Elaboration.{width}
+use Rattle.pb_typing_tree.specs.Loops.{loops, variable_shapes}
+use Rattle.pb_typing_tree.specs.Elaboration.{width}
 use Rattle.pb_typing_nodes.proofs.SlotLemmas.{length-variables}
 
 join-length : (ss ts : List Shape) (v w : ℕ) → length ss ≡ v → length ts ≡ w → length (ss ++ ts) ≡ v + w

@@ -6,10 +6,10 @@ use Rattle.pb_text_meaning.specs.Syntax as syntax
 use Rattle.pb_text_meaning.specs.Syntax.{Spec}
 use Rattle.pb_text_meaning.specs.Erase.{of_connective, joined as formula_joined}
 use Rattle.pb_typing_rules.specs.Scope.{Scope}
-use Rattle.pb_typed_tree.specs.Tree.{Term, Binary, Formula, Test, Connected}
-use Rattle.pb_typed_tree.specs.Elaboration.{Slotting, slotted, elaborated, width}
-use Rattle.pb_typed_tree.specs.Expansion.{has_quantifier, expanded_term}
-use Rattle.pb_typed_tree.specs.View.{chained}
+use Rattle.pb_typing_tree.specs.Tree.{Term, Binary, Formula, Test, Connected}
+use Rattle.pb_typing_tree.specs.Elaboration.{Slotting, slotted, elaborated, width}
+use Rattle.pb_typing_tree.specs.Expansion.{has_quantifier, expanded_term}
+use Rattle.pb_typing_tree.specs.View.{chained}
 use Rattle.pb_typing.specs.Value.{Whole, as_formula, joined, chosen, value_of, values_of}
 
 abbrev pub chain : Connective → syntax.Term → List syntax.Term → syntax.Term
@@ -27,7 +27,7 @@ plain-expanded (syntax.Term.Number n) h = refl
 plain-expanded (syntax.Term.Named y) h = refl
 plain-expanded (syntax.Term.Not x) h = ap (λ (b : Bool). cond b (syntax.Formula.Not (expanded_term x)) (syntax.Formula.Val (syntax.Term.Not x))) h
 plain-expanded (syntax.Term.Negative x) h = refl
-plain-expanded (syntax.Term.Binary o x y) h = ap (λ (b : Bool). cond b (Rattle.pb_typed_tree.specs.Expansion.connected o (expanded_term x) (expanded_term y) (syntax.Formula.Val (syntax.Term.Binary o x y))) (syntax.Formula.Val (syntax.Term.Binary o x y))) h
+plain-expanded (syntax.Term.Binary o x y) h = ap (λ (b : Bool). cond b (Rattle.pb_typing_tree.specs.Expansion.connected o (expanded_term x) (expanded_term y) (syntax.Formula.Val (syntax.Term.Binary o x y))) (syntax.Formula.Val (syntax.Term.Binary o x y))) h
 plain-expanded (syntax.Term.Apply f xs) h = refl
 plain-expanded (syntax.Term.Quantified q xs x) h = absurd (Rattle.std.proofs.Common.true≢false h)
 

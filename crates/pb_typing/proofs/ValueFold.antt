@@ -2,8 +2,8 @@
 use Rattle.std.proofs.Common.{◌≡◌, List, [], ◌∷◌, ◌++◌, map, refl, sym, ◌∙◌, ap}
 use Rattle.pb_text_tree.specs.declared.operator.Connective.{Connective}
 use Rattle.pb_text_meaning.specs.Erase.{of_connective}
-use Rattle.pb_typed_tree.specs.Tree.{Term, Binary, Formula, Test, Connected}
-use Rattle.pb_typed_tree.specs.View.{chained}
+use Rattle.pb_typing_tree.specs.Tree.{Term, Binary, Formula, Test, Connected}
+use Rattle.pb_typing_tree.specs.View.{chained}
 use Rattle.pb_typing.specs.Value.{Value, Data, Whole, as_formula, joined, folded, tail}
 
 -- operands in front of a value

@@ -16,10 +16,10 @@ use Rattle.pb_typing_declarations.specs.Shapes.{Shape}
 use Rattle.pb_typing_declarations.proofs.Parts.{no_parts}
 use Rattle.pb_typing_rules.specs.Faults.{term_faults, terms_faults}
 use Rattle.pb_typing_rules.specs.Scope.{Scope}
-use Rattle.pb_typed_tree.specs.Expansion.{has_quantifier, have_quantifier, expanded_term}
-use Rattle.pb_typed_tree.specs.Loops.{loops}
-use Rattle.pb_typed_tree.specs.Elaboration.{Slotting, width}
-use Rattle.pb_typed_tree.specs.View.{chained}
+use Rattle.pb_typing_tree.specs.Expansion.{has_quantifier, have_quantifier, expanded_term}
+use Rattle.pb_typing_tree.specs.Loops.{loops}
+use Rattle.pb_typing_tree.specs.Elaboration.{Slotting, width}
+use Rattle.pb_typing_tree.specs.View.{chained}
 use Rattle.pb_typing.specs.Tree.{operand_terms}
 use Rattle.pb_typing.specs.Value.{value_of, values_of}
 use Rattle.pb_typing.specs.Value as values

@@ -4,12 +4,12 @@ use Rattle.std.specs.Prelude.{box_value, slice_index_or}
 use Rattle.std.proofs.lemmas.List.{append-nil, append_assoc, map-append}
 use Rattle.pb_text_tree.specs.declared.operator.Connective.{Connective}
 use Rattle.pb_text_meaning.specs.Erase.{of_connective}
-use Rattle.pb_typed_tree.specs.Tree as tree
-use Rattle.pb_typed_tree.specs.Tree.{Binary, Test, Connected}
-use Rattle.pb_typed_tree.specs.View.{chained, term_view, term_views, formula_view, formula_views}
-use Rattle.pb_typed_tree.specs.declared.term.Term as term
-use Rattle.pb_typed_tree.specs.declared.formula.Formula as formula
-use Rattle.pb_typed_tree.proofs.Views.{term-chain, formula-chain as formula-chain-view}
+use Rattle.pb_typing_tree.specs.Tree as tree
+use Rattle.pb_typing_tree.specs.Tree.{Binary, Test, Connected}
+use Rattle.pb_typing_tree.specs.View.{chained, term_view, term_views, formula_view, formula_views}
+use Rattle.pb_typing_tree.specs.declared.term.Term as term
+use Rattle.pb_typing_tree.specs.declared.formula.Formula as formula
+use Rattle.pb_typing_tree.proofs.Views.{term-chain, formula-chain as formula-chain-view}
 use Rattle.pb_typing.specs.declared.joined.Joined.{Joined}
 use Rattle.pb_typing.specs.declared.joined.Joined.TheVariants as state
 use Rattle.pb_typing.specs.Value.{Value, Data, Whole, folded, tail}

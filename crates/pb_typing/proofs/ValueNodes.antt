@@ -21,7 +21,7 @@ use Rattle.pb_text_meaning.specs.Syntax.{Variable, Spec}
 use Rattle.pb_text_meaning.specs.Erase.{erased_term, erased_variables}
 use Rattle.pb_typing_declarations.specs.declared.fault.TypingRule.TheVariants as rule
 use Rattle.pb_typing_declarations.specs.declared.fault.TypingFault.{TypingFault}
-use Rattle.pb_errors.specs.declared.or_memory.OrMemory.{OrMemory}
+use Rattle.pb_base_errors.specs.declared.or_memory.OrMemory.{OrMemory}
 use Rattle.pb_typing_declarations.specs.Declarations.{variables_faults}
 use Rattle.pb_typing_declarations.specs.Entries.{shapes_of}
 use Rattle.pb_typing_declarations.specs.Faults.{unless, IsAmong}
@@ -31,14 +31,14 @@ use Rattle.pb_typing_rules.specs.Faults.{term_faults}
 use Rattle.pb_typing_rules.specs.Scope.{Scope, bound}
 use Rattle.pb_typing_rules.specs.Shapes.{may_be_truth}
 use Rattle.pb_typing_rules.specs.Term.{shape}
-use Rattle.pb_typed_tree.specs.declared.formula.Argument.{Argument}
-use Rattle.pb_typed_tree.specs.declared.formula.Formula as code
-use Rattle.pb_typed_tree.specs.Elaboration.{Slotting, elaborated, slotted, with_slots}
-use Rattle.pb_typed_tree.specs.Expansion.{has_quantifier, expanded_term}
-use Rattle.pb_typed_tree.specs.Loops.{loops, variable_shapes}
-use Rattle.pb_typed_tree.specs.Tree as tree
-use Rattle.pb_typed_tree.specs.View as view
-use Rattle.pb_typed_tree.specs.View.{nested, formula_view, term_view}
+use Rattle.pb_typing_tree.specs.declared.formula.Argument.{Argument}
+use Rattle.pb_typing_tree.specs.declared.formula.Formula as code
+use Rattle.pb_typing_tree.specs.Elaboration.{Slotting, elaborated, slotted, with_slots}
+use Rattle.pb_typing_tree.specs.Expansion.{has_quantifier, expanded_term}
+use Rattle.pb_typing_tree.specs.Loops.{loops, variable_shapes}
+use Rattle.pb_typing_tree.specs.Tree as tree
+use Rattle.pb_typing_tree.specs.View as view
+use Rattle.pb_typing_tree.specs.View.{nested, formula_view, term_view}
 use Rattle.pb_typing.specs.declared.joined.Value.{Value}
 use Rattle.pb_typing.specs.declared.joined.Value.TheVariants as declared
 use Rattle.pb_typing_terms.specs.Chains.{link_faults, operand_shape}

@@ -2,11 +2,11 @@
 use Rattle.std.specs.Prelude.{◌≡◌}
 use Rattle.pb_text_tree.specs.Form.{SpecForm}
 use Rattle.pb_text_meaning.specs.Erase.{erase}
-use Rattle.pb_typed_tree.specs.Calls.{text_calls, tree_calls}
-use Rattle.pb_typed_tree.specs.Elaboration.{elaborated_equations}
-use Rattle.pb_typed_tree.specs.InitialPlace.{IsInitial}
-use Rattle.pb_typed_tree.specs.Loops.{all_loops}
-use Rattle.pb_typed_tree.specs.View.{loop_shapes, right_views}
+use Rattle.pb_typing_tree.specs.Calls.{text_calls, tree_calls}
+use Rattle.pb_typing_tree.specs.Elaboration.{elaborated_equations}
+use Rattle.pb_typing_tree.specs.InitialPlace.{IsInitial}
+use Rattle.pb_typing_tree.specs.Loops.{all_loops}
+use Rattle.pb_typing_tree.specs.View.{loop_shapes, right_views}
 use Rattle.pb_typing.specs.declared.spec.Checked.{Checked}
 use Rattle.pb_typing.specs.Typed.{IsLayout}
 

@@ -4,11 +4,11 @@ use Rattle.pb_sorts.specs.declared.carrier.Carrier.{Carrier}
 use Rattle.pb_text_tree.specs.declared.place.Place.{Place}
 use Rattle.pb_text_tree.specs.Form.{FormulaForm, TermForm}
 use Rattle.pb_text_meaning.specs.Syntax as syntax
-use Rattle.pb_errors.specs.declared.or_memory.OrMemory.{OrMemory}
+use Rattle.pb_base_errors.specs.declared.or_memory.OrMemory.{OrMemory}
 use Rattle.pb_typing_declarations.specs.declared.fault.TypingFault.{TypingFault}
 use Rattle.pb_typing_declarations.specs.Entries.{shapes_of}
-use Rattle.pb_typed_tree.specs.declared.formula.Formula.{Formula}
-use Rattle.pb_typed_tree.specs.Loops.{loops}
+use Rattle.pb_typing_tree.specs.declared.formula.Formula.{Formula}
+use Rattle.pb_typing_tree.specs.Loops.{loops}
 use Rattle.pb_typing_nodes.specs.declared.context.Context.{Context}
 use Rattle.pb_typing.specs.declared.joined.Value.{Value}
 use Rattle.pb_typing.specs.Elaborated.{ChecksFormulaIn, ChecksTruthIn, ChecksValueIn}

@@ -7,18 +7,18 @@ use Rattle.pb_text_meaning.specs.Syntax.{Spec}
 use Rattle.pb_text_meaning.specs.Erase.{erased_arguments, erased_formula, erased_term}
 use Rattle.pb_typing_declarations.specs.declared.fault.TypingRule.TheVariants.{WrongKind}
 use Rattle.pb_typing_declarations.specs.declared.fault.TypingFault.{TypingFault}
-use Rattle.pb_errors.specs.declared.or_memory.OrMemory.{OrMemory}
+use Rattle.pb_base_errors.specs.declared.or_memory.OrMemory.{OrMemory}
 use Rattle.pb_typing_declarations.specs.Faults.{IsAmong, unless}
 use Rattle.pb_typing_declarations.specs.Shapes.{Shape}
 use Rattle.pb_typing_rules.specs.Faults.{formula_faults, term_faults}
 use Rattle.pb_typing_rules.specs.Scope.{Scope}
 use Rattle.pb_typing_rules.specs.Shapes.{may_be_truth}
 use Rattle.pb_typing_rules.specs.Term.{shape}
-use Rattle.pb_typed_tree.specs.declared.formula.Formula as code
-use Rattle.pb_typed_tree.specs.Elaboration.{Slotting, arguments, elaborated, place_of}
-use Rattle.pb_typed_tree.specs.Expansion.{expanded, expanded_term}
-use Rattle.pb_typed_tree.specs.Tree.{Formula}
-use Rattle.pb_typed_tree.specs.View.{argument_view, formula_view}
+use Rattle.pb_typing_tree.specs.declared.formula.Formula as code
+use Rattle.pb_typing_tree.specs.Elaboration.{Slotting, arguments, elaborated, place_of}
+use Rattle.pb_typing_tree.specs.Expansion.{expanded, expanded_term}
+use Rattle.pb_typing_tree.specs.Tree.{Formula}
+use Rattle.pb_typing_tree.specs.View.{argument_view, formula_view}
 use Rattle.pb_typing.specs.declared.instance.Call.{Call}
 use Rattle.pb_typing.specs.declared.joined.Value as program
 use Rattle.pb_typing.specs.Value.{Value, value_of}

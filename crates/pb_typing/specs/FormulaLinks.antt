@@ -10,10 +10,10 @@ use Rattle.pb_typing_declarations.specs.Shapes.{Shape}
 use Rattle.pb_typing_declarations.specs.declared.fault.TypingFault.{TypingFault}
 use Rattle.pb_typing_rules.specs.Faults.{formula_faults, operand_parity}
 use Rattle.pb_typing_rules.specs.Scope.{Scope}
-use Rattle.pb_typed_tree.specs.Calls.{calls_in}
-use Rattle.pb_typed_tree.specs.Loops.{loops}
-use Rattle.pb_typed_tree.specs.Tree.{Formula}
-use Rattle.pb_typed_tree.specs.Elaboration.{Slotting, elaborated, width}
+use Rattle.pb_typing_tree.specs.Calls.{calls_in}
+use Rattle.pb_typing_tree.specs.Loops.{loops}
+use Rattle.pb_typing_tree.specs.Tree.{Formula}
+use Rattle.pb_typing_tree.specs.Elaboration.{Slotting, elaborated, width}
 use Rattle.pb_typing.specs.Tree.{formula_of}
 
 abbrev pub link_width : Link → ℕ

@@ -8,12 +8,12 @@ use Rattle.pb_typing_declarations.specs.declared.fault.TypingFault.{TypingFault}
 use Rattle.pb_typing_declarations.specs.Entries.{shapes_of}
 use Rattle.pb_typing_rules.specs.Faults.{formula_faults}
 use Rattle.pb_typing_rules.specs.Scope.{Scope, bound, outermost}
-use Rattle.pb_typed_tree.specs.declared.formula.Equation.{Equation}
-use Rattle.pb_typed_tree.specs.Calls.{call_places, calls_in, text_calls, tree_calls}
-use Rattle.pb_typed_tree.specs.Elaboration.{Slotting, elaborated, elaborated_equation}
-use Rattle.pb_typed_tree.specs.Elaboration.{elaborated_equations}
-use Rattle.pb_typed_tree.specs.Loops.{equation_loops, loops}
-use Rattle.pb_typed_tree.specs.View.{formula_view, loop_shapes, right_views}
+use Rattle.pb_typing_tree.specs.declared.formula.Equation.{Equation}
+use Rattle.pb_typing_tree.specs.Calls.{call_places, calls_in, text_calls, tree_calls}
+use Rattle.pb_typing_tree.specs.Elaboration.{Slotting, elaborated, elaborated_equation}
+use Rattle.pb_typing_tree.specs.Elaboration.{elaborated_equations}
+use Rattle.pb_typing_tree.specs.Loops.{equation_loops, loops}
+use Rattle.pb_typing_tree.specs.View.{formula_view, loop_shapes, right_views}
 use Rattle.pb_typing.specs.Tree.{formula_of}
 
 -- the faults of a right side, under its equation's parameters

@@ -7,7 +7,7 @@ use Rattle.pb_text_tree.specs.declared.formula.Formula as predicate
 use Rattle.pb_text_tree.specs.Form.{TermForm, chained, formula_form, term_form, term_links}
 use Rattle.pb_text_meaning.specs.Syntax.{Term, Formula}
 use Rattle.pb_text_meaning.specs.Erase.{erased_formula, erased_term}
-use Rattle.pb_typed_tree.specs.Expansion.{expanded, expanded_term}
+use Rattle.pb_typing_tree.specs.Expansion.{expanded, expanded_term}
 
 -- a data term of kind Bool
 abbrev pub value_of : ast.Term → Formula

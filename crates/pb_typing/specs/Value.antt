@@ -6,10 +6,10 @@ use Rattle.pb_text_meaning.specs.Erase.{of_connective}
 use Rattle.pb_text_meaning.specs.Syntax as syntax
 use Rattle.pb_text_meaning.specs.Syntax.{Spec}
 use Rattle.pb_typing_rules.specs.Scope.{Scope}
-use Rattle.pb_typed_tree.specs.Tree.{Term, Binary, Formula, Test, Connected, Negation}
-use Rattle.pb_typed_tree.specs.Elaboration.{Slotting, slotted, elaborated, width}
-use Rattle.pb_typed_tree.specs.Expansion.{has_quantifier, expanded_term}
-use Rattle.pb_typed_tree.specs.View.{chained}
+use Rattle.pb_typing_tree.specs.Tree.{Term, Binary, Formula, Test, Connected, Negation}
+use Rattle.pb_typing_tree.specs.Elaboration.{Slotting, slotted, elaborated, width}
+use Rattle.pb_typing_tree.specs.Expansion.{has_quantifier, expanded_term}
+use Rattle.pb_typing_tree.specs.View.{chained}
 
 pub data Value : Type 0 where
   Data : Term → Value

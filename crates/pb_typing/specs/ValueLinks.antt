@@ -4,7 +4,7 @@ use Rattle.pb_text_tree.specs.declared.term.TermLink.{TermLink}
 use Rattle.pb_text_meaning.specs.Syntax as syntax
 use Rattle.pb_text_meaning.specs.Syntax.{Spec}
 use Rattle.pb_typing_declarations.specs.Shapes.{Shape}
-use Rattle.pb_typed_tree.specs.Loops.{loops}
+use Rattle.pb_typing_tree.specs.Loops.{loops}
 use Rattle.pb_typing.specs.Tree.{value_of}
 
 abbrev pub operand : TermLink → syntax.Formula

@@ -1,8 +1,8 @@
 -- The program's values, as the definitions name them.
 use Rattle.std.specs.Prelude.{List, ◌∷◌, ◌++◌, map}
 use Rattle.pb_typing_declarations.specs.Shapes.{Shape, Truths}
-use Rattle.pb_typed_tree.specs.View.{term_view, term_views, formula_view, formula_views}
-use Rattle.pb_typed_tree.specs.View.{shape_view}
+use Rattle.pb_typing_tree.specs.View.{term_view, term_views, formula_view, formula_views}
+use Rattle.pb_typing_tree.specs.View.{shape_view}
 use Rattle.pb_typing.specs.Value as values
 use Rattle.pb_typing.specs.Value.{Data, Whole}
 use Rattle.pb_typing.specs.declared.joined.Value.{Value}

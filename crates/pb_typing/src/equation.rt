@@ -7,7 +7,7 @@ ghost use Rattle.pb_typing_declarations.specs.Entries.{shapes_of};
 ghost use Rattle.pb_typing_declarations.specs.Faults.{IsAmong};
 ghost use Rattle.pb_typing_declarations.specs.View.{spec_of, text_of};
 ghost use Rattle.pb_typing_rules.specs.Faults.{formula_faults, right_faults};
-ghost use Rattle.pb_typed_tree.specs.Loops.{variable_shapes};
+ghost use Rattle.pb_typing_tree.specs.Loops.{variable_shapes};
 ghost use Rattle.pb_typing_nodes.specs.Contexts.{scope_in, slots_in, text_in};
 ghost use Rattle.pb_typing.specs.Rights.{AreRights, IsRight, IsRightIn, own_faults};
 ghost use Rattle.pb_typing.specs.Typed.{IsLayout};
@@ -16,11 +16,11 @@ use crate::formula::check_formula;
 use crate::polarity::Polarity;
 use pb_sorts::{Carrier, Layout};
 use pb_text_tree::{Formula, Spec};
-use pb_typed_tree::Equation;
 use pb_typing_declarations::{Declarations, TypeError};
 use pb_typing_nodes::context::Context;
 use pb_typing_nodes::scope::Scope;
 use pb_typing_nodes::variables::{carriers_from, declare_variables};
+use pb_typing_tree::Equation;
 use std::alloc::Global;
 
 /// Checks the right side of each equation, in order.

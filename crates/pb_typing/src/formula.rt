@@ -4,8 +4,8 @@ ghost use Rattle.std.specs.Prelude.{◌≡◌, ◌++◌, ◌∷◌, [], length, 
 ghost use Rattle.pb_text_tree.specs.Form.{FormulaForm, formula_form, instance_form};
 ghost use Rattle.pb_typing_declarations.specs.Entries.{shapes_of};
 ghost use Rattle.pb_typing_declarations.specs.Faults.{IsAmong};
-ghost use Rattle.pb_typed_tree.specs.Calls.{call_places, calls_in, places_of};
-ghost use Rattle.pb_typed_tree.specs.View.{formula_views};
+ghost use Rattle.pb_typing_tree.specs.Calls.{call_places, calls_in, places_of};
+ghost use Rattle.pb_typing_tree.specs.View.{formula_views};
 ghost use Rattle.pb_typing.specs.Contexts.{AddsLoops, ChecksFormula};
 ghost use Rattle.pb_typing_nodes.specs.Contexts.{scope_in, slots_in, text_in};
 ghost use Rattle.pb_typing.specs.Elaborated.{ChecksFormulaIn};
@@ -21,12 +21,12 @@ use crate::polarity::{Polarity, operand_polarity};
 use crate::value::check_truth;
 use pb_sorts::Carrier;
 use pb_text_tree::{Connective, Instance, Link};
-use pb_typed_tree::{Formula, Term};
 use pb_typing_declarations::TypeError;
 use pb_typing_nodes::context::Context;
 use pb_typing_nodes::operands::paired;
 use pb_typing_nodes::scope::{Scope, Variable};
 use pb_typing_nodes::variables::{bind_variables, quantified};
+use pb_typing_tree::{Formula, Term};
 use std::collections::HashMap;
 
 /// Checks a formula of a polarity. The carriers are those of the slots so far, to which it adds

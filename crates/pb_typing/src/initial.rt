@@ -12,22 +12,22 @@ ghost use Rattle.pb_typing_declarations.specs.Faults.{IsAmong};
 ghost use Rattle.pb_typing_declarations.specs.View.{spec_of, text_of};
 ghost use Rattle.pb_typing_rules.specs.Faults.{initial_faults, value_faults};
 ghost use Rattle.pb_typing_rules.specs.Scope.{outermost};
-ghost use Rattle.pb_typed_tree.specs.Elaboration as elaboration;
-ghost use Rattle.pb_typed_tree.specs.Elaboration.{unslotted};
-ghost use Rattle.pb_typed_tree.specs.Expansion.{have_quantifier};
-ghost use Rattle.pb_typed_tree.specs.InitialPlace.{IsInitial};
-ghost use Rattle.pb_typed_tree.specs.View.{argument_view};
+ghost use Rattle.pb_typing_tree.specs.Elaboration as elaboration;
+ghost use Rattle.pb_typing_tree.specs.Elaboration.{unslotted};
+ghost use Rattle.pb_typing_tree.specs.Expansion.{have_quantifier};
+ghost use Rattle.pb_typing_tree.specs.InitialPlace.{IsInitial};
+ghost use Rattle.pb_typing_tree.specs.View.{argument_view};
 ghost use Rattle.pb_typing.specs.Typed.{IsLayout};
 
 use crate::instance::check_instance;
 use crate::polarity::Polarity;
-use pb_evaluation::value;
 use pb_sorts::{Carrier, Layout};
 use pb_text_tree::{Argument, Spec};
-use pb_typed_tree::Initial;
 use pb_typing_declarations::{Declarations, TypeError, TypingRule, require};
 use pb_typing_nodes::context::Context;
 use pb_typing_nodes::scope::Scope;
+use pb_typing_tree::Initial;
+use pb_typing_values::value;
 use std::alloc::Global;
 
 /// Checks the initial instance, and hands it out: it is well typed, and each argument's value is in
@@ -75,7 +75,7 @@ fn check_values(
     declarations: &Declarations<'_>,
     carriers: &[Carrier],
     arguments: &[Argument],
-    typed: &[pb_typed_tree::Argument],
+    typed: &[pb_typing_tree::Argument],
     values: &mut Vec<i64>,
 ) -> Result<(), TypeError>
     requires fit { AllFit (spec_of declarations.now) []

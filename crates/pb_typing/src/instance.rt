@@ -8,8 +8,8 @@ ghost use Rattle.pb_typing_rules.specs.Shapes.{may_be_alike};
 ghost use Rattle.pb_typing_rules.specs.Term.{shape};
 ghost use Rattle.pb_typing_declarations.specs.Entries.{shape_of, shapes_of};
 ghost use Rattle.pb_typing_declarations.specs.Faults.{IsAmong, unless};
-ghost use Rattle.pb_typed_tree.specs.Elaboration as elaboration;
-ghost use Rattle.pb_typed_tree.specs.View.{argument_view};
+ghost use Rattle.pb_typing_tree.specs.Elaboration as elaboration;
+ghost use Rattle.pb_typing_tree.specs.View.{argument_view};
 ghost use Rattle.pb_typing.specs.Arguments.{faults_against};
 ghost use Rattle.pb_typing_nodes.specs.Contexts.{scope_in, slots_in, text_in};
 ghost use Rattle.pb_typing_nodes.specs.Elaborated.{Elaborates};
@@ -21,13 +21,13 @@ ghost use Rattle.pb_typing.specs.View.{is_positive};
 use crate::polarity::Polarity;
 use pb_sorts::Carrier;
 use pb_text_tree::Instance;
-use pb_typed_tree::Argument;
 use pb_typing_declarations::{TypeError, TypingRule, require};
 use pb_typing_nodes::context::Context;
 use pb_typing_nodes::operands::accepted;
 use pb_typing_nodes::operation::fault;
 use pb_typing_nodes::shape::{are_alike, carrier_shape};
 use pb_typing_terms::term::check_term;
+use pb_typing_tree::Argument;
 
 /// An instance of an equation, by its place, with these arguments.
 #[derive(Drop)]

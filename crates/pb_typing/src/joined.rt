@@ -4,16 +4,16 @@
 ghost use Rattle.std.specs.Prelude.{◌≡◌, ◌++◌, ◌∷◌, [], List, IfOk, map};
 ghost use Rattle.pb_text_tree.specs.declared.operator.Connective as connectives;
 ghost use Rattle.pb_typing_declarations.specs.Shapes as model;
-ghost use Rattle.pb_typed_tree.specs.Tree.{Test};
-ghost use Rattle.pb_typed_tree.specs.View.{chained, formula_view, formula_views, shape_view};
-ghost use Rattle.pb_typed_tree.specs.View.{term_views};
+ghost use Rattle.pb_typing_tree.specs.Tree.{Test};
+ghost use Rattle.pb_typing_tree.specs.View.{chained, formula_view, formula_views, shape_view};
+ghost use Rattle.pb_typing_tree.specs.View.{term_views};
 ghost use Rattle.pb_typing.specs.Value as values;
 ghost use Rattle.pb_typing.specs.Value.{as_formula, folded, joined};
 ghost use Rattle.pb_typing.specs.ValueView.{pieces, value_shape, value_view, value_views};
 
 use pb_text_tree::Connective;
-use pb_typed_tree::{Argument as TypedTerm, Formula, Shape, Term};
 use pb_typing_nodes::operands::{paired, with_last};
+use pb_typing_tree::{Argument as TypedTerm, Formula, Shape, Term};
 use std::alloc::{AllocError, Global};
 
 /// What stands below `val`: data without quantifiers, or the formula as which data is read.

@@ -1,7 +1,7 @@
 //! The check of a whole text.
 
 ghost use Rattle.std.specs.Prelude.{◌≡◌, ◌++◌, [], MatchResult, OnOk, IfErr};
-ghost use Rattle.pb_errors.specs.OrMemory.{IfFault};
+ghost use Rattle.pb_base_errors.specs.OrMemory.{IfFault};
 ghost use Rattle.pb_text_tree.specs.Form.{spec_form};
 ghost use Rattle.pb_text_meaning.specs.Erase.{erase};
 ghost use Rattle.pb_typing_declarations.specs.Faults.{IsAmong};
@@ -15,8 +15,8 @@ use crate::initial::check_initial;
 use crate::typed::Typed;
 use pb_sorts::Layout;
 use pb_text_tree::Spec;
-use pb_typed_tree::{Equation, Initial};
 use pb_typing_declarations::{Declarations, TypeError};
+use pb_typing_tree::{Equation, Initial};
 use std::alloc::Global;
 
 /// Accepts a text exactly where it is well typed and positive within the limits (Groote and Mousavi

@@ -3,17 +3,17 @@
 ghost use Rattle.std.specs.Prelude.{◌≡◌, true};
 ghost use Rattle.pb_text_tree.specs.Form.{spec_form};
 ghost use Rattle.pb_text_meaning.specs.Erase.{erase};
-ghost use Rattle.pb_typed_tree.specs.Calls.{text_calls, tree_calls};
-ghost use Rattle.pb_typed_tree.specs.Elaboration.{elaborated_equations};
-ghost use Rattle.pb_typed_tree.specs.FormulaSet.{formulas-prop, shapes-prop};
-ghost use Rattle.pb_typed_tree.specs.InitialPlace.{IsInitial};
-ghost use Rattle.pb_typed_tree.specs.Loops.{all_loops};
-ghost use Rattle.pb_typed_tree.specs.View.{loop_shapes, right_views};
+ghost use Rattle.pb_typing_tree.specs.Calls.{text_calls, tree_calls};
+ghost use Rattle.pb_typing_tree.specs.Elaboration.{elaborated_equations};
+ghost use Rattle.pb_typing_tree.specs.FormulaSet.{formulas-prop, shapes-prop};
+ghost use Rattle.pb_typing_tree.specs.InitialPlace.{IsInitial};
+ghost use Rattle.pb_typing_tree.specs.Loops.{all_loops};
+ghost use Rattle.pb_typing_tree.specs.View.{loop_shapes, right_views};
 ghost use Rattle.pb_typing.specs.Typed.{is_faultless, IsLayout};
 
 use pb_sorts::Layout;
 use pb_text_tree::Spec;
-use pb_typed_tree::{Equation, Initial};
+use pb_typing_tree::{Equation, Initial};
 
 /// A text that is well typed and positive, within the limits, with the layout of its equations'
 /// instances, the typed trees of its equations, and the instance that it asks for.

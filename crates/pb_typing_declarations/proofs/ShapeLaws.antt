@@ -2,7 +2,7 @@
 use Rattle.std.proofs.Common.{◌≡◌, ◌≢◌, true≢false, ℕ, zero, suc, Bool, true, false, cond, List, [], ◌∷◌, length, refl, sym, ◌∙◌, ap}
 use Rattle.std.specs.Prelude.{Option, Some, None, codes, MatchOption}
 use Rattle.std.specs.Option.{option_map}
-use Rattle.pb_carriers.specs.Carrier.{Carrier}
+use Rattle.pb_base_values.specs.Carrier.{Carrier}
 use Rattle.pb_sorts.specs.declared.carrier.Carrier as program
 use Rattle.pb_sorts.specs.declared.carrier.Carrier.TheVariants as carrier
 use Rattle.pb_sorts.specs.Carrier.{values_of}

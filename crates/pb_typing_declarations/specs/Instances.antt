@@ -1,6 +1,6 @@
 -- How many instances predicate variables have.
 use Rattle.std.specs.Prelude.{ℕ, ◌+◌, List, [], ◌∷◌}
-use Rattle.pb_carriers.specs.Carrier.{tuple_count}
+use Rattle.pb_base_values.specs.Carrier.{tuple_count}
 use Rattle.pb_text_meaning.specs.Syntax.{Equation, Spec}
 use Rattle.pb_text_meaning.specs.Formula.{carriers_of}
 

@@ -1,7 +1,7 @@
 -- What values a sort has: its kind, and for whole numbers their interval.
 use Rattle.std.specs.Prelude.{ℕ, zero, suc, ℤ, pos, Bool, true, false, if◌then◌else◌, ◌||◌, List}
 use Rattle.std.specs.Prelude.{[], ◌∷◌, length, map, Option, Some, None, codes, is_some}
-use Rattle.pb_carriers.specs.Carrier.{Carrier, of_bool, numbers_from, interval}
+use Rattle.pb_base_values.specs.Carrier.{Carrier, of_bool, numbers_from, interval}
 use Rattle.pb_text_meaning.specs.Syntax.{Name, same_name, Variable, Sort, Struct, Alias}
 use Rattle.pb_text_meaning.specs.Syntax.{SortDeclaration, Range, Spec}
 use Rattle.pb_typing_declarations.specs.declared.sorts.Integers.{Integers}

@@ -2,7 +2,7 @@
 
 ghost use Rattle.std.specs.Prelude.{◌≡◌, ◌+◌, ◌≤◌, nat_le, [], None, map, flat_map, Contains};
 ghost use Rattle.std.specs.Prelude.{MatchResult, IfOk};
-ghost use Rattle.pb_carriers.specs.Carrier.{tuple_count};
+ghost use Rattle.pb_base_values.specs.Carrier.{tuple_count};
 ghost use Rattle.pb_sorts.specs.Carrier.{values_of};
 ghost use Rattle.pb_sorts.specs.Layout.{lists_of};
 ghost use Rattle.pb_text_tree.specs.Form.{spec_form, sort_declaration_form, range_form};
@@ -36,7 +36,7 @@ use crate::fault::{TypeError, TypingFault, TypingRule, require};
 use crate::range::range_table;
 use crate::table::table;
 use crate::variables::variable_entries;
-use pb_limits::{MAX_EQUATIONS, MAX_INSTANCES, MAX_PARAMETERS};
+use pb_base_limits::{MAX_EQUATIONS, MAX_INSTANCES, MAX_PARAMETERS};
 use pb_sorts::{Carrier, Range, count_tuples};
 use pb_text_tree::{Equation, Name, Place, Sort, SortDeclaration, Spec};
 use std::alloc::{AllocError, Global};

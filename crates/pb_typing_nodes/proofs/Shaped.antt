@@ -8,8 +8,8 @@ use Rattle.pb_typing_rules.specs.Shapes.{kind_of}
 use Rattle.pb_typing_rules.specs.Scope.{Scope, bound}
 use Rattle.pb_typing_rules.specs.Term.{passes, IsTyped}
 use Rattle.pb_typing_rules.specs.Formula.{IsProper}
-use Rattle.pb_typed_tree.specs.Expansion.{has_quantifier, connected, expanded_term, expanded}
-use Rattle.pb_typed_tree.specs.Loops.{AreShaped, IsShaped}
+use Rattle.pb_typing_tree.specs.Expansion.{has_quantifier, connected, expanded_term, expanded}
+use Rattle.pb_typing_tree.specs.Loops.{AreShaped, IsShaped}
 
 pub variables-shaped : (spec : Spec) (xs : List Variable) → All (λ (x : Variable). has_shape (end_of spec x.sort) ≡ true) xs → AreShaped spec xs
 variables-shaped spec [] all = tt

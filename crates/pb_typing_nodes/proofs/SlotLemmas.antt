@@ -18,9 +18,9 @@ use Rattle.pb_typing_declarations.specs.Shapes.{Shape, sort_shape}
 use Rattle.pb_typing_declarations.specs.Entries.{shape_of}
 use Rattle.pb_typing_declarations.specs.Tables.{Table, looked_up}
 use Rattle.pb_typing_declarations.proofs.Filling.{none_in}
-use Rattle.pb_typed_tree.specs.Loops.{variable_shapes}
-use Rattle.pb_typed_tree.specs.Elaboration.{Slotting, unslotted, with_slot, with_slots}
-use Rattle.pb_typed_tree.specs.View.{shape_view}
+use Rattle.pb_typing_tree.specs.Loops.{variable_shapes}
+use Rattle.pb_typing_tree.specs.Elaboration.{Slotting, unslotted, with_slot, with_slots}
+use Rattle.pb_typing_tree.specs.View.{shape_view}
 use Rattle.pb_typing_nodes.specs.declared.scope.Variable as program
 use Rattle.pb_typing_nodes.specs.Scopes.{inner_slots, inner_view, named_shapes, named_slots, table_slots, table_view, with_entry}
 use Rattle.pb_typing_declarations.specs.Entries.{shapes_of}

@@ -5,8 +5,8 @@ use Rattle.pb_text_meaning.specs.Syntax as syntax
 use Rattle.pb_text_meaning.specs.Syntax.{Spec}
 use Rattle.pb_typing_declarations.specs.Entries.{shapes_of}
 use Rattle.pb_typing_rules.specs.Scope.{bound, outermost}
-use Rattle.pb_typed_tree.specs.Elaboration.{unslotted, with_slots}
-use Rattle.pb_typed_tree.specs.Loops.{variable_shapes}
+use Rattle.pb_typing_tree.specs.Elaboration.{unslotted, with_slots}
+use Rattle.pb_typing_tree.specs.Loops.{variable_shapes}
 use Rattle.pb_typing_nodes.specs.declared.variables.Bound.{Bound}
 use Rattle.pb_typing_nodes.specs.Scopes.{table_slots, table_view}
 

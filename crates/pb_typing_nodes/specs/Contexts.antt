@@ -2,7 +2,7 @@
 use Rattle.pb_text_meaning.specs.Syntax.{Spec}
 use Rattle.pb_typing_declarations.specs.View.{spec_of}
 use Rattle.pb_typing_rules.specs.Scope.{Scope}
-use Rattle.pb_typed_tree.specs.Elaboration.{Slotting}
+use Rattle.pb_typing_tree.specs.Elaboration.{Slotting}
 use Rattle.pb_typing_nodes.specs.declared.context.Context.{Context}
 use Rattle.pb_typing_nodes.specs.Scopes.{scope_view, slotting}
 

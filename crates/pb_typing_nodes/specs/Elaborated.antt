@@ -1,12 +1,12 @@
 -- The typed tree of a part, or which rule fails.
 use Rattle.std.specs.Prelude.{◌≡◌, [], List, Result, Contains, MatchResult}
-use Rattle.pb_errors.specs.declared.or_memory.OrMemory.{OrMemory}
+use Rattle.pb_base_errors.specs.declared.or_memory.OrMemory.{OrMemory}
 use Rattle.pb_typing_declarations.specs.declared.fault.TypingFault.{TypingFault}
 use Rattle.pb_typing_declarations.specs.Faults.{IsAmong}
 use Rattle.pb_typing_declarations.specs.Shapes.{Shape}
-use Rattle.pb_typed_tree.specs.declared.formula.Argument as typed
-use Rattle.pb_typed_tree.specs.Tree.{Term}
-use Rattle.pb_typed_tree.specs.View.{shape_view, term_view}
+use Rattle.pb_typing_tree.specs.declared.formula.Argument as typed
+use Rattle.pb_typing_tree.specs.Tree.{Term}
+use Rattle.pb_typing_tree.specs.View.{shape_view, term_view}
 
 -- this shape and this typed tree
 abbrev pub IsTypedAs : Shape → Term → typed.Argument → Type 0

@@ -1,11 +1,11 @@
 -- What is found of a term's shape.
 use Rattle.std.specs.Prelude.{◌≡◌, [], List, Result, Contains, MatchResult}
 use Rattle.pb_typing_declarations.specs.declared.fault.TypingFault.{TypingFault}
-use Rattle.pb_errors.specs.declared.or_memory.OrMemory.{OrMemory}
+use Rattle.pb_base_errors.specs.declared.or_memory.OrMemory.{OrMemory}
 use Rattle.pb_typing_declarations.specs.Faults.{IsAmong}
 use Rattle.pb_typing_declarations.specs.Shapes as model
-use Rattle.pb_typed_tree.specs.declared.shape.Shape.{Shape}
-use Rattle.pb_typed_tree.specs.View.{shape_view}
+use Rattle.pb_typing_tree.specs.declared.shape.Shape.{Shape}
+use Rattle.pb_typing_tree.specs.View.{shape_view}
 
 -- there is no fault and this is the shape, or a fault is answered
 abbrev pub Judges : List TypingFault → model.Shape → Result Shape (OrMemory TypingFault) → Type 0

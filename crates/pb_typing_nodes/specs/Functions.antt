@@ -1,14 +1,14 @@
 -- The program's functions of data, as the definitions name them.
 use Rattle.std.specs.Prelude.{◌≡◌, ℕ, Some}
-use Rattle.pb_intervals.specs.Operation as operations
+use Rattle.pb_base_intervals.specs.Operation as operations
 use Rattle.pb_text_meaning.specs.Functions.{named_function}
 use Rattle.pb_text_meaning.specs.Syntax.{Name, Spec}
 use Rattle.pb_typing_declarations.specs.Enumerators.{position_shape}
 use Rattle.pb_typing_rules.specs.Functions as functions
 use Rattle.pb_typing_rules.specs.Functions.{function_named}
-use Rattle.pb_typed_tree.specs.Tree.{Term, Negative, Absolute, Successor, Predecessor, Maximum}
-use Rattle.pb_typed_tree.specs.Tree.{Minimum, Choice, Recognised}
-use Rattle.pb_typed_tree.specs.Elaboration.{applied_to_one, applied_to_two, applied_to_three}
+use Rattle.pb_typing_tree.specs.Tree.{Term, Negative, Absolute, Successor, Predecessor, Maximum}
+use Rattle.pb_typing_tree.specs.Tree.{Minimum, Choice, Recognised}
+use Rattle.pb_typing_tree.specs.Elaboration.{applied_to_one, applied_to_two, applied_to_three}
 use Rattle.pb_typing_nodes.specs.declared.function.Function.{Function}
 use Rattle.pb_typing_nodes.specs.declared.function.Function.TheVariants as function
 use Rattle.pb_typing_nodes.specs.declared.function.FunctionOfOne.{FunctionOfOne}

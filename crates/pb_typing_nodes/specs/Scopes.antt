@@ -8,8 +8,8 @@ use Rattle.pb_text_meaning.specs.Syntax.{same_name}
 use Rattle.pb_typing_declarations.specs.Shapes.{Shape}
 use Rattle.pb_typing_declarations.specs.Tables.{Table, looked_up}
 use Rattle.pb_typing_rules.specs.Scope.{Scope, declare, outermost, or_else}
-use Rattle.pb_typed_tree.specs.Elaboration.{Slotting, unslotted, with_slot}
-use Rattle.pb_typed_tree.specs.View.{shape_view}
+use Rattle.pb_typing_tree.specs.Elaboration.{Slotting, unslotted, with_slot}
+use Rattle.pb_typing_tree.specs.View.{shape_view}
 use Rattle.pb_typing_nodes.specs.declared.scope.Variable.{Variable}
 use Rattle.pb_typing_nodes.specs.declared.scope.Scope as program
 use Rattle.pb_typing_nodes.specs.declared.scope.Scope.TheVariants.{Outermost, Inner'}

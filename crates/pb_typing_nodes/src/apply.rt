@@ -9,8 +9,8 @@ ghost use Rattle.pb_typing_rules.specs.Shapes.{unary_shape};
 ghost use Rattle.pb_typing_declarations.specs.Enumerators.{position_shape};
 ghost use Rattle.pb_typing_declarations.specs.Faults.{unless};
 ghost use Rattle.pb_typing_declarations.specs.Shapes as model;
-ghost use Rattle.pb_typed_tree.specs.Tree as tree;
-ghost use Rattle.pb_typed_tree.specs.View.{shape_view, term_view};
+ghost use Rattle.pb_typing_tree.specs.Tree as tree;
+ghost use Rattle.pb_typing_tree.specs.View.{shape_view, term_view};
 ghost use Rattle.pb_typing_nodes.specs.Elaborated.{Elaborates};
 ghost use Rattle.pb_typing_nodes.specs.Found.{Finds};
 ghost use Rattle.pb_typing_nodes.specs.Functions.{extreme_operation, extreme_term, operated};
@@ -23,8 +23,8 @@ use crate::operation::{BinaryOperation, UnaryOperation, fault};
 use crate::operator::compare;
 use crate::shape::{are_alike, hull, is_truth, is_whole};
 use pb_text_tree::{Comparison, Place};
-use pb_typed_tree::{Argument as TypedTerm, Shape, Term};
 use pb_typing_declarations::{Enumerator, TypeError, TypingFault, TypingRule, require};
+use pb_typing_tree::{Argument as TypedTerm, Shape, Term};
 use std::alloc::Global;
 
 /// A negation.
@@ -167,7 +167,7 @@ fn recognise(
     let operand = Box::new(alloc, operand)?;
     Ok(TypedTerm {
         term: Term::Recognised {
-            enumerator: pb_typed_tree::Enumerator {
+            enumerator: pb_typing_tree::Enumerator {
                 sort: enumerator.sort,
                 place: enumerator.place,
             },

@@ -8,8 +8,8 @@ ghost use Rattle.pb_typing_rules.specs.Shapes.{is_limited};
 ghost use Rattle.pb_typing_rules.specs.Term.{shape_or_unknown};
 ghost use Rattle.pb_typing_declarations.specs.Faults.{unless};
 ghost use Rattle.pb_typing_declarations.specs.View.{spec_of};
-ghost use Rattle.pb_typed_tree.specs.Elaboration as elaboration;
-ghost use Rattle.pb_typed_tree.specs.View.{shape_view};
+ghost use Rattle.pb_typing_tree.specs.Elaboration as elaboration;
+ghost use Rattle.pb_typing_tree.specs.View.{shape_view};
 ghost use Rattle.pb_typing_nodes.specs.Contexts.{scope_in, slots_in, text_in};
 ghost use Rattle.pb_typing_nodes.specs.Elaborated.{Resolves};
 ghost use Rattle.pb_typing_nodes.specs.Found.{Finds};
@@ -19,8 +19,8 @@ use crate::operation::fault;
 use crate::scope::find_variable;
 use crate::shape::is_limited;
 use pb_text_tree::{Name, Place};
-use pb_typed_tree::{Argument as TypedTerm, Enumerator, Shape, Term};
 use pb_typing_declarations::{Declarations, TypingFault, TypingRule, require};
+use pb_typing_tree::{Argument as TypedTerm, Enumerator, Shape, Term};
 
 /// A variable in scope, else an enumerator.
 ///

@@ -5,15 +5,15 @@ ghost use Rattle.pb_text_meaning.specs.Erase.{of_comparison};
 ghost use Rattle.pb_typing_rules.specs.Faults.{operator_faults};
 ghost use Rattle.pb_typing_rules.specs.Shapes.{Computed, binary_shape, kind_of};
 ghost use Rattle.pb_typing_declarations.specs.Shapes as model;
-ghost use Rattle.pb_typed_tree.specs.View.{shape_view};
+ghost use Rattle.pb_typing_tree.specs.View.{shape_view};
 ghost use Rattle.pb_typing_nodes.specs.Found.{Finds, Judges};
 ghost use Rattle.pb_typing_nodes.specs.View.{binary_operation, operation_of};
 
 use crate::operation::BinaryOperation;
 use crate::shape::{are_alike, is_whole};
 use pb_text_tree::{Arithmetic, Comparison, Place};
-use pb_typed_tree::Shape;
 use pb_typing_declarations::{TypeError, TypingFault, TypingRule, require};
+use pb_typing_tree::Shape;
 
 /// A comparison of two values, of one kind, or numbers where an order is asked for (T04).
 pub(crate) fn compare(

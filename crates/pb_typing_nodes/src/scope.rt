@@ -2,10 +2,10 @@
 
 ghost use Rattle.std.specs.Prelude.{◌≡◌};
 ghost use Rattle.std.specs.Option.{option_map};
-ghost use Rattle.pb_typed_tree.specs.View.{shape_view};
+ghost use Rattle.pb_typing_tree.specs.View.{shape_view};
 ghost use Rattle.pb_typing_nodes.specs.Scopes.{scope_view, slotting};
 
-use pb_typed_tree::Shape;
+use pb_typing_tree::Shape;
 use std::collections::HashMap;
 
 /// A variable: its slot, and what is known of its values.

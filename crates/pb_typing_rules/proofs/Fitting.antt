@@ -2,7 +2,7 @@
 use Rattle.std.proofs.Common.{◌≡◌, zero, suc, Bool, true, not, List, [], ◌∷◌, sym, arith, true≢false}
 use Rattle.std.specs.Prelude.{All}
 use Rattle.std.proofs.lemmas.Bool.{and_parts}
-use Rattle.pb_carriers.specs.Carrier.{Tuple, is_within, contains}
+use Rattle.pb_base_values.specs.Carrier.{Tuple, is_within, contains}
 use Rattle.pb_text_meaning.specs.Syntax.{Variable, Formula, Equation, Spec}
 use Rattle.pb_text_meaning.specs.Sorts.{carrier_of}
 use Rattle.pb_text_meaning.specs.Value.{Assignment}

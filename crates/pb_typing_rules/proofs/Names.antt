@@ -7,7 +7,7 @@ use Rattle.pb_text_meaning.specs.Syntax.{Name, same_name, Enumerator, Sort, Stru
 use Rattle.pb_text_meaning.specs.Sorts.{place_from, place_within, place_in, carrier_of}
 use Rattle.pb_text_meaning.specs.Sorts as sorts
 use Rattle.pb_text_meaning.specs.Value.{Assignment, looked_up, named_value}
-use Rattle.pb_carriers.specs.Carrier.{contains}
+use Rattle.pb_base_values.specs.Carrier.{contains}
 use Rattle.pb_text_meaning.specs.Fits.{FitsFor}
 use Rattle.pb_typing_declarations.specs.Shapes.{Shape, Places, first, number_behind, sort_shape}
 use Rattle.pb_typing_declarations.specs.Enumerators.{Position, positioned, enumerators_from, enumerators_in, all_enumerators, enumerator_of, position_shape, enumerator_shape}

@@ -4,7 +4,7 @@ use Rattle.std.specs.Prelude.{⊤, All, ℤ, pos, ◌≤ℤ◌, ◌+ℤ◌, ◌-
 use Rattle.std.specs.Option.{IfSome}
 use Rattle.std.proofs.lemmas.Int.{ints}
 use Rattle.std.proofs.lemmas.List.Elements.{All-head, All-tail}
-use Rattle.pb_carriers.specs.Carrier.{at_least_none, interval, numbers_from}
+use Rattle.pb_base_values.specs.Carrier.{at_least_none, interval, numbers_from}
 use Rattle.pb_sorts.proofs.Intervals.{length-numbers_from, count-interval}
 use Rattle.pb_text_meaning.specs.Syntax.{Name, same_name, Sort, Struct, Alias, SortDeclaration, Range, Spec}
 use Rattle.pb_text_meaning.specs.Sorts.{carrier_of}

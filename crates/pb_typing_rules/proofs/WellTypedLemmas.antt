@@ -6,16 +6,16 @@ use Rattle.std.specs.Option.{IfSome}
 use Rattle.std.proofs.lemmas.Bool.{and_parts}
 use Rattle.std.proofs.lemmas.List.Elements.{All-head, All-tail}
 use Rattle.pb_text_tree.specs.Form.{ArgumentForms, no_arguments, argument, EquationForm, SpecForm}
-use Rattle.pb_carriers.specs.Carrier.{Carrier, Value, is_within, contains}
+use Rattle.pb_base_values.specs.Carrier.{Carrier, Value, is_within, contains}
 use Rattle.pb_text_meaning.specs.Syntax.{Name, same_name, Variable, Equation, Spec}
 use Rattle.pb_text_meaning.specs.Sorts.{carrier_of}
 use Rattle.pb_text_meaning.specs.Value.{value, values}
 use Rattle.pb_text_meaning.specs.Formula.{carriers_of, equation_named, fits}
 use Rattle.pb_text_meaning.specs.Erase.{erase, erased_equation, erased_term, erased_arguments, erased_variables}
 use Rattle.pb_typing_declarations.specs.declared.fault.TypingFault.{TypingFault}
-use Rattle.pb_errors.specs.OrMemory.{IfFault}
-use Rattle.pb_errors.specs.declared.or_memory.OrMemory.{OrMemory}
-use Rattle.pb_errors.specs.declared.or_memory.OrMemory.TheVariants.{Refused, Memory}
+use Rattle.pb_base_errors.specs.OrMemory.{IfFault}
+use Rattle.pb_base_errors.specs.declared.or_memory.OrMemory.{OrMemory}
+use Rattle.pb_base_errors.specs.declared.or_memory.OrMemory.TheVariants.{Refused, Memory}
 use Rattle.pb_typing_declarations.specs.Faults.{IsAmong}
 use Rattle.pb_typing_declarations.specs.Declarations.{declaration_faults}
 use Rattle.pb_typing_declarations.specs.WellDeclared.{HaveEnds, IsDeclared}

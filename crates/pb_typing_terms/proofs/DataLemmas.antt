@@ -10,12 +10,12 @@ use Rattle.pb_text_tree.specs.Form as form
 use Rattle.pb_text_tree.specs.Form.{TermForm, arithmetic_links, term_form, term_links}
 use Rattle.pb_text_meaning.specs.Syntax.{Spec}
 use Rattle.pb_text_meaning.specs.Erase.{erased_term, of_connective}
-use Rattle.pb_typed_tree.specs.declared.term.Link as code
-use Rattle.pb_typed_tree.specs.declared.term.Term as made
-use Rattle.pb_typed_tree.specs.Tree as tree
-use Rattle.pb_typed_tree.specs.Tree.{Binary}
-use Rattle.pb_typed_tree.specs.Elaboration.{Slotting, slotted}
-use Rattle.pb_typed_tree.specs.View.{chained, calculated, link_view, link_views, term_view, term_views}
+use Rattle.pb_typing_tree.specs.declared.term.Link as code
+use Rattle.pb_typing_tree.specs.declared.term.Term as made
+use Rattle.pb_typing_tree.specs.Tree as tree
+use Rattle.pb_typing_tree.specs.Tree.{Binary}
+use Rattle.pb_typing_tree.specs.Elaboration.{Slotting, slotted}
+use Rattle.pb_typing_tree.specs.View.{chained, calculated, link_view, link_views, term_view, term_views}
 use Rattle.pb_typing_terms.specs.Slots.{over_slots, link_terms, arithmetic_terms}
 
 pub chained-slotted : (S : Spec) (c : Slotting) (o : Connective) (first : TermForm) (links : List TermLink)

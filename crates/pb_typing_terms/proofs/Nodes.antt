@@ -10,10 +10,10 @@ use Rattle.pb_text_tree.specs.declared.term.TermLink.{TermLink}
 use Rattle.pb_text_tree.specs.Form.{TermForm, chained, term_form, term_links}
 use Rattle.pb_text_meaning.specs.Syntax.{Spec}
 use Rattle.pb_text_meaning.specs.Erase.{erased_term, of_comparison}
-use Rattle.pb_intervals.specs.Operation as operations
+use Rattle.pb_base_intervals.specs.Operation as operations
 use Rattle.pb_typing_declarations.specs.declared.fault.TypingRule.TheVariants as rule
 use Rattle.pb_typing_declarations.specs.declared.fault.TypingFault.{TypingFault}
-use Rattle.pb_errors.specs.declared.or_memory.OrMemory.{OrMemory}
+use Rattle.pb_base_errors.specs.declared.or_memory.OrMemory.{OrMemory}
 use Rattle.pb_typing_declarations.specs.Faults.{unless, IsAmong}
 use Rattle.pb_typing_declarations.specs.Shapes.{Shape, Truths}
 use Rattle.pb_typing_rules.specs.Shapes.{may_be_truth, kind_of, outcome, unary_shape}
@@ -22,10 +22,10 @@ use Rattle.pb_typing_rules.specs.Scope.{Scope}
 use Rattle.pb_typing_rules.specs.Term.{shape}
 use Rattle.pb_typing_rules.specs.Faults.{kind_faults, operator_faults, term_faults}
 use Rattle.pb_typing_declarations.proofs.Parts.{among_left, among_right, first_clear}
-use Rattle.pb_typed_tree.specs.declared.formula.Argument.{Argument}
-use Rattle.pb_typed_tree.specs.Elaboration.{Slotting, slotted}
-use Rattle.pb_typed_tree.specs.Tree.{Term, Binary, Negative}
-use Rattle.pb_typed_tree.specs.View.{shape_view, term_view}
+use Rattle.pb_typing_tree.specs.declared.formula.Argument.{Argument}
+use Rattle.pb_typing_tree.specs.Elaboration.{Slotting, slotted}
+use Rattle.pb_typing_tree.specs.Tree.{Term, Binary, Negative}
+use Rattle.pb_typing_tree.specs.View.{shape_view, term_view}
 use Rattle.pb_typing_terms.specs.Terms.{ChecksTermIn}
 use Rattle.pb_typing_nodes.specs.Elaborated.{Elaborates, IsTypedAs}
 use Rattle.pb_typing_terms.proofs.Links.{no_links}

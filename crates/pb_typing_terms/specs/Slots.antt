@@ -7,8 +7,8 @@ use Rattle.pb_text_tree.specs.declared.term.ArithmeticLink.{ArithmeticLink}
 use Rattle.pb_text_tree.specs.Form.{term_form}
 use Rattle.pb_text_meaning.specs.Erase.{erased_term}
 use Rattle.pb_text_meaning.specs.Syntax.{Spec}
-use Rattle.pb_typed_tree.specs.Tree.{Term}
-use Rattle.pb_typed_tree.specs.Elaboration.{Slotting, slotted}
+use Rattle.pb_typing_tree.specs.Tree.{Term}
+use Rattle.pb_typing_tree.specs.Elaboration.{Slotting, slotted}
 
 abbrev pub over_slots : Spec → Slotting → ast.Term → Term
 over_slots S c x = slotted S c (erased_term (term_form x))

@@ -1,6 +1,6 @@
 -- Typed trees of terms where no quantifier may stand.
 use Rattle.std.specs.Prelude.{false, Result}
-use Rattle.pb_errors.specs.declared.or_memory.OrMemory.{OrMemory}
+use Rattle.pb_base_errors.specs.declared.or_memory.OrMemory.{OrMemory}
 use Rattle.pb_text_tree.specs.Form.{TermForm}
 use Rattle.pb_text_meaning.specs.Erase.{erased_term}
 use Rattle.pb_text_meaning.specs.Syntax.{Spec}
@@ -8,8 +8,8 @@ use Rattle.pb_typing_declarations.specs.declared.fault.TypingFault.{TypingFault}
 use Rattle.pb_typing_rules.specs.Faults.{term_faults}
 use Rattle.pb_typing_rules.specs.Scope.{Scope}
 use Rattle.pb_typing_rules.specs.Term.{shape}
-use Rattle.pb_typed_tree.specs.declared.formula.Argument as typed
-use Rattle.pb_typed_tree.specs.Elaboration.{Slotting, slotted}
+use Rattle.pb_typing_tree.specs.declared.formula.Argument as typed
+use Rattle.pb_typing_tree.specs.Elaboration.{Slotting, slotted}
 use Rattle.pb_typing_nodes.specs.declared.context.Context.{Context}
 use Rattle.pb_typing_nodes.specs.Contexts.{scope_in, slots_in, text_in}
 use Rattle.pb_typing_nodes.specs.Elaborated.{Elaborates}

@@ -3,11 +3,11 @@
 ghost use Rattle.std.specs.Prelude.{◌≡◌, [], false, length, pos, MatchResult};
 ghost use Rattle.pb_text_tree.specs.Form.{TermForm, argument_forms, arithmetic_links, calculated};
 ghost use Rattle.pb_text_tree.specs.Form.{chained, named, term_form, term_links};
-ghost use Rattle.pb_intervals.specs.Interval.{is_included, literals, singleton};
+ghost use Rattle.pb_base_intervals.specs.Interval.{is_included, literals, singleton};
 ghost use Rattle.pb_typing_rules.specs.Shapes.{literal_shape};
 ghost use Rattle.pb_typing_declarations.specs.Faults.{IsAmong, unless};
-ghost use Rattle.pb_typed_tree.specs.Tree as tree;
-ghost use Rattle.pb_typed_tree.specs.View.{link_views, shape_view, term_views};
+ghost use Rattle.pb_typing_tree.specs.Tree as tree;
+ghost use Rattle.pb_typing_tree.specs.View.{link_views, shape_view, term_views};
 ghost use Rattle.pb_typing_terms.specs.Chains.{arithmetic_faults, calculated_shape, link_faults};
 ghost use Rattle.pb_typing_terms.specs.Chains.{operand_shape, own_faults};
 ghost use Rattle.pb_typing_terms.specs.Terms.{ChecksTerm};
@@ -17,7 +17,6 @@ ghost use Rattle.pb_typing_nodes.specs.Functions.{IsChoice, IsOfOne, IsOfTwo};
 ghost use Rattle.pb_typing_terms.specs.Slots.{arithmetic_terms, link_terms, over_slots};
 
 use pb_text_tree::{Argument, ArithmeticLink, Connective, Name, Place, TermLink};
-use pb_typed_tree::{Argument as TypedTerm, Link, Shape, Term};
 use pb_typing_declarations::{TypeError, TypingFault, TypingRule, require};
 use pb_typing_nodes::apply::{apply_one, apply_two, choose, compared, negated, operated};
 use pb_typing_nodes::context::Context;
@@ -27,6 +26,7 @@ use pb_typing_nodes::operands::{accepted, paired};
 use pb_typing_nodes::operation::{UnaryOperation, fault};
 use pb_typing_nodes::operator::compute;
 use pb_typing_nodes::shape::{is_truth, literal_interval};
+use pb_typing_tree::{Argument as TypedTerm, Link, Shape, Term};
 
 /// A literal, within 2^62 (T10).
 fn literal(number: u64, place: Place) -> Result<TypedTerm, TypingFault>

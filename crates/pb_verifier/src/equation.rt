@@ -5,14 +5,14 @@ ghost use Rattle.pb_bytecode_program.specs.Machine.{Program};
 ghost use Rattle.pb_verifier_structure.specs.Structure.{IsStructured};
 ghost use Rattle.pb_verifier_structure.specs.Views.{IsProgramOf};
 ghost use Rattle.pb_verifier.specs.Acceptance.{HasTable, StatesCounts};
-ghost use Rattle.pb_errors.specs.OrMemory.{OnRefused};
+ghost use Rattle.pb_base_errors.specs.OrMemory.{OnRefused};
 ghost use Rattle.pb_verifier.specs.Programs.{program_in};
 ghost use Rattle.pb_verifier_structure.specs.Structure.{IsProgramWithinLimits};
 
 use crate::pass::pass;
+use pb_base_errors::OrMemory;
+use pb_base_limits::{MAX_STEPS, MAX_TOKENS};
 use pb_bytecode::Equation;
-use pb_errors::OrMemory;
-use pb_limits::{MAX_STEPS, MAX_TOKENS};
 use pb_sorts::Carrier;
 use pb_verifier_states::AcceptanceRule;
 use pb_verifier_structure::{EquationCode, PositionFault, check_structure, static_counts};

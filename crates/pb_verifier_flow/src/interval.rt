@@ -5,8 +5,8 @@ ghost use Rattle.pb_bytecode_program.specs.Abstract.{absolute_interval, interval
 ghost use Rattle.pb_bytecode_program.specs.Values.{divides};
 ghost use Rattle.pb_verifier_flow.specs.Edges.{fitting};
 
+use pb_base_intervals::Interval;
 use pb_bytecode_program::Arithmetic;
-use pb_intervals::Interval;
 
 /// The results for a first operand in `a` and a second one in `b`, or `None` where an end lies
 /// outside 64 bits. A divisor is at least 1.

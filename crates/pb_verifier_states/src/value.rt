@@ -8,8 +8,8 @@ ghost use Rattle.pb_verifier_states.specs.Inhabited.{HasOrderedEnds};
 ghost use Rattle.pb_verifier_states.specs.Join.{hull_of};
 ghost use Rattle.pb_bytecode_program.specs.declared.domain.AbstractValue.TheVariants as abstract;
 
+use pb_base_intervals::Interval;
 use pb_bytecode_program::AbstractValue;
-use pb_intervals::Interval;
 use pb_sorts::Carrier;
 
 /// What is known of a value of the carrier.

@@ -11,8 +11,8 @@ ghost use Rattle.pb_verifier_structure.specs.Views.{IsProgramOf};
 
 use crate::equation_code::EquationCode;
 use arrayvec::ArrayVec;
+use pb_base_limits::{MAX_LOOPS, MAX_STEPS};
 use pb_bytecode_program::Op;
-use pb_limits::{MAX_LOOPS, MAX_STEPS};
 
 /// The count at which counting stops. It is above the limits of stated counts, `MAX_STEPS` and
 /// `MAX_TOKENS`, so that a comparison with a count within these is exact.

@@ -1,10 +1,10 @@
 -- What a fault says of a model that is checked or explained, whichever layer finds it.
 use Rattle.std.proofs.Common.{◌≡◌, ℕ, false, List, sym, subst, inl, inr}
-use Rattle.pb_errors.specs.OrMemory.{IfFault, raised}
-use Rattle.pb_errors.specs.declared.or_memory.OrMemory.{OrMemory}
-use Rattle.pb_errors.specs.declared.or_memory.OrMemory.TheVariants as or_memory
+use Rattle.pb_base_errors.specs.OrMemory.{IfFault, raised}
+use Rattle.pb_base_errors.specs.declared.or_memory.OrMemory.{OrMemory}
+use Rattle.pb_base_errors.specs.declared.or_memory.OrMemory.TheVariants as or_memory
 use Rattle.pb_model_tree.specs.Form.{ModelForm}
-use Rattle.pb_negation.specs.Negated.{negated_protocol}
+use Rattle.pb_protocol_negation.specs.Negated.{negated_protocol}
 use Rattle.pb_protocol_tree.specs.Form.{ProtocolForm}
 use Rattle.pb_model_properties.specs.declared.error.ModelFault.{ModelFault}
 use Rattle.pb_model_properties.specs.declared.error.ModelFault.TheVariants as model_fault
@@ -12,9 +12,9 @@ use Rattle.pb_model_properties.specs.Asked.{have_properties}
 use Rattle.pb_model_properties.specs.Negations.{IsRefusedNegation}
 use Rattle.pb_model_properties.specs.Refusals.{IsRefusedModel}
 use Rattle.pb_model_properties.specs.Said.{IsModelFor, IsModelOf, IsTheReading}
-use Rattle.pb_faults.specs.Errors.{fault_of_model}
-use Rattle.pb_faults.specs.declared.solve_fault.SolveFault.{SolveFault}
-use Rattle.pb_faults.specs.declared.solve_fault.SolveFault.TheVariants as solve_fault
+use Rattle.pb_command_faults.specs.Errors.{fault_of_model}
+use Rattle.pb_command_faults.specs.declared.solve_fault.SolveFault.{SolveFault}
+use Rattle.pb_command_faults.specs.declared.solve_fault.SolveFault.TheVariants as solve_fault
 use Rattle.pbsolve.specs.Models.{IsUnchecked, IsUnexplained, IsUnnegated, IsUntold}
 use Rattle.pbsolve.specs.Outcomes.{IsUntyped}
 use Rattle.pbsolve.specs.ReachedSteps.{IsUntypedStep}

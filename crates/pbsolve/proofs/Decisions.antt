@@ -10,13 +10,13 @@ use Rattle.pb_protocol_tree.specs.Form.{ProtocolForm}
 use Rattle.pb_protocol_meaning.specs.Erase.{erase, erased_formula}
 use Rattle.pb_protocol_meaning.specs.Satisfaction as protocol_meaning
 use Rattle.pb_protocol_meaning.specs.Syntax.{Protocol}
-use Rattle.pb_negation.specs.Negated.{negated, negated_property, negated_protocol}
-use Rattle.pb_negation.specs.Laws.{NegationsErase, SatisfactionIsKept}
-use Rattle.pb_solved_model.specs.Solved.{AreSameProperties, IsSameProperty}
+use Rattle.pb_protocol_negation.specs.Negated.{negated, negated_property, negated_protocol}
+use Rattle.pb_protocol_negation.specs.Laws.{NegationsErase, SatisfactionIsKept}
+use Rattle.pb_protocol_solved.specs.Solved.{AreSameProperties, IsSameProperty}
 use Rattle.pb_report.specs.declared.answer.Answer.{Answer}
-use Rattle.pb_faults.specs.declared.property_fault.PropertyExcess.{PropertyExcess}
-use Rattle.pb_module_solver.specs.declared.early.Early.{Early}
-use Rattle.pb_module_solver.specs.declared.early.Early.TheVariants as early
+use Rattle.pb_command_faults.specs.declared.property_fault.PropertyExcess.{PropertyExcess}
+use Rattle.pb_command_solver.specs.declared.early.Early.{Early}
+use Rattle.pb_command_solver.specs.declared.early.Early.TheVariants as early
 use Rattle.pb_model_properties.specs.declared.verdicts.Verdict.{Verdict}
 use Rattle.pb_model_properties.specs.declared.verdicts.Verdict.TheVariants.{True, False, Unknown}
 use Rattle.pb_model_properties.specs.declared.solved.SolvedModel.{SolvedModel}
@@ -31,8 +31,8 @@ use Rattle.pbsolve.specs.declared.outcome.Outcome.{Outcome}
 use Rattle.pbsolve.specs.declared.outcome.Outcome.TheVariants as outcome
 use Rattle.pbsolve.specs.declared.property_module.AskedModule.{AskedModule}
 use Rattle.pbsolve.specs.declared.property_module.PropertyModule.{PropertyModule}
-use Rattle.pb_faults.specs.declared.solve_fault.SolveFault.{SolveFault}
-use Rattle.pb_faults.specs.declared.solve_fault.SolveFault.TheVariants as solve_fault
+use Rattle.pb_command_faults.specs.declared.solve_fault.SolveFault.{SolveFault}
+use Rattle.pb_command_faults.specs.declared.solve_fault.SolveFault.TheVariants as solve_fault
 use Rattle.pbsolve.specs.Models.{IsFinding, IsFound, IsPropertyAnswer, IsShown, IsTooLargeNegation, IsTooLargeProperty, IsUnexplained}
 use Rattle.pbsolve.specs.Outcomes.{IsDecision, IsDeniedAt, IsEarlyAt, IsNegationAt, IsOutcome, IsOutcomeAt, IsPropertyModule, IsShownAt, verdict_in}
 use Rattle.pbsolve.specs.Why.{IsVerdict}

@@ -2,7 +2,7 @@
 use Rattle.std.proofs.Common.{◌≡◌, true, List, [], ◌∷◌, ◌++◌, ℕ, Option, Some, filter, refl, sym, ap, subst}
 use Rattle.std.specs.Prelude.{Contains, MatchOption}
 use Rattle.pb_sorts.specs.Instance.{Instance}
-use Rattle.pb_call_places.specs.MadeCalls.{MadeCall, calls_at}
+use Rattle.pb_evidence_calls.specs.MadeCalls.{MadeCall, calls_at}
 use Rattle.pb_model_tree.specs.Form.{ModelForm, PropertyForm, StepForm}
 use Rattle.pb_model_meaning.specs.Erase.{erase, erased_step}
 use Rattle.pb_model_meaning.specs.Syntax as model
@@ -11,7 +11,7 @@ use Rattle.pb_model_runs.specs.Exact.{step_at}
 use Rattle.pb_model_runs.specs.Runs.{Leads, StepsLeadToSuccessors}
 use Rattle.pb_model_runs.proofs.Elements.{of-some}
 use Rattle.pb_protocol_meaning.specs.Erase as protocol_text
-use Rattle.pb_solved_model.specs.Laws.{MovesAreTheProtocols}
+use Rattle.pb_protocol_solved.specs.Laws.{MovesAreTheProtocols}
 use Rattle.pb_model_properties.specs.Said.{IsModelOf}
 use Rattle.pbsolve.specs.Why.{CallsAreMoves, CallsAreSteps, state_said}
 

@@ -9,11 +9,11 @@ use Rattle.pb_model_properties.specs.declared.error.ModelFault.{ModelFault}
 use Rattle.pb_model_properties.specs.declared.error.ModelFault.TheVariants as model_fault
 use Rattle.pb_model_properties.specs.declared.solved.SolvedModel.{SolvedModel}
 use Rattle.pb_model_properties.specs.Refusals.{IsRefusedText, told_places}
-use Rattle.pb_errors.specs.OrMemory.{IfFault, IfRefused}
-use Rattle.pb_errors.specs.declared.or_memory.OrMemory.{OrMemory}
-use Rattle.pb_errors.specs.declared.or_memory.OrMemory.TheVariants as or_memory
-use Rattle.pb_faults.specs.Errors.{fault_of_model}
-use Rattle.pb_faults.specs.declared.solve_fault.SolveFault.{SolveFault}
+use Rattle.pb_base_errors.specs.OrMemory.{IfFault, IfRefused}
+use Rattle.pb_base_errors.specs.declared.or_memory.OrMemory.{OrMemory}
+use Rattle.pb_base_errors.specs.declared.or_memory.OrMemory.TheVariants as or_memory
+use Rattle.pb_command_faults.specs.Errors.{fault_of_model}
+use Rattle.pb_command_faults.specs.declared.solve_fault.SolveFault.{SolveFault}
 use Rattle.pbsolve.proofs.PropertyVerdicts.{contains_at}
 use Rattle.pbsolve.specs.Models.{IsOverTextLimit}
 use Rattle.pbsolve.specs.Outcomes.{IsFault, IsPropertyText, IsTextAt, IsUntyped, is_limit, is_limit_rule}

@@ -10,7 +10,7 @@ use Rattle.pb_model_words.specs.Vocabulary.{Vocabulary}
 use Rattle.pb_protocol_tree.specs.Form.{ProtocolForm}
 use Rattle.pb_protocol_meaning.specs.Syntax.{Protocol}
 use Rattle.pb_protocol_meaning.specs.Erase as protocol_text
-use Rattle.pb_unfolder.specs.Plain.{is_plain}
+use Rattle.pb_protocol_unfolder.specs.Plain.{is_plain}
 use Rattle.pb_model_properties.specs.Made.{IsPackedWhere, said_where}
 use Rattle.pb_model_properties.specs.Said.{IsModelOf}
 use Rattle.pb_model_properties.specs.Words.{flat_words, packed_where, words_where}

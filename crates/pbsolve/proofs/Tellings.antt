@@ -6,7 +6,7 @@ use Rattle.std.proofs.lemmas.List.{length-map}
 use Rattle.std.specs.List.{slice_get}
 use Rattle.std.proofs.lemmas.List.{take_more}
 use Rattle.std.proofs.lemmas.Option.{slice_get_within, get_or_from_slice_get}
-use Rattle.pb_trees.specs.Tree.{Tree}
+use Rattle.pb_fixpoint_trees.specs.Tree.{Tree}
 use Rattle.pb_text_tree.specs.Form.{spec_form}
 use Rattle.pb_bytecode.specs.Meaning.{AreTrees}
 use Rattle.pb_model_tree.specs.Form.{ModelForm, PropertyForm}
@@ -14,18 +14,18 @@ use Rattle.pb_protocol_tree.specs.Form as protocol_form
 use Rattle.pb_protocol_tree.specs.Form.{ProtocolForm}
 use Rattle.pb_model_properties.specs.Said.{satisfies, IsModelFor}
 use Rattle.pb_model_properties.specs.declared.verdicts.Verdict.{Verdict}
-use Rattle.pb_errors.specs.OrMemory.{IfFault, IfRefused}
-use Rattle.pb_errors.specs.declared.or_memory.OrMemory.{OrMemory}
-use Rattle.pb_errors.specs.declared.or_memory.OrMemory.TheVariants as or_memory
+use Rattle.pb_base_errors.specs.OrMemory.{IfFault, IfRefused}
+use Rattle.pb_base_errors.specs.declared.or_memory.OrMemory.{OrMemory}
+use Rattle.pb_base_errors.specs.declared.or_memory.OrMemory.TheVariants as or_memory
 use Rattle.pb_model_properties.specs.Asked.{IsAskedAt}
 use Rattle.pb_model_properties.specs.Refusals.{IsRefusedModel}
 use Rattle.pb_model_properties.specs.declared.error.ModelFault.{ModelFault}
 use Rattle.pb_model_properties.specs.declared.error.ModelFault.TheVariants as model_fault
-use Rattle.pb_faults.specs.Errors.{fault_of_model, joins_into}
-use Rattle.pb_faults.specs.declared.solve_error.SolveError.{SolveError}
-use Rattle.pb_faults.specs.declared.solve_error.SolveError.TheVariants as solve_error
-use Rattle.pb_faults.specs.declared.solve_fault.SolveFault.{SolveFault}
-use Rattle.pb_faults.specs.declared.solve_fault.SolveFault.TheVariants as solve_fault
+use Rattle.pb_command_faults.specs.Errors.{fault_of_model, joins_into}
+use Rattle.pb_command_faults.specs.declared.solve_error.SolveError.{SolveError}
+use Rattle.pb_command_faults.specs.declared.solve_error.SolveError.TheVariants as solve_error
+use Rattle.pb_command_faults.specs.declared.solve_fault.SolveFault.{SolveFault}
+use Rattle.pb_command_faults.specs.declared.solve_fault.SolveFault.TheVariants as solve_fault
 use Rattle.pb_model_words.specs.Vocabulary.{Vocabulary}
 use Rattle.pbsolve.specs.declared.explained.ExplainedText.{ExplainedText}
 use Rattle.pbsolve.specs.Models.{IsUnexplained}

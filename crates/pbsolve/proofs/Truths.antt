@@ -4,9 +4,9 @@ use Rattle.std.specs.Prelude.{Result, Ok, Err, IfOk, IfSome}
 use Rattle.pb_bytecode.specs.Contents.{Contents}
 use Rattle.pb_model_tree.specs.Form.{ModelForm, PropertyForm}
 use Rattle.pb_model_properties.specs.Said.{satisfies}
-use Rattle.pb_module_solver.specs.declared.early.Early.{Early}
-use Rattle.pb_module_solver.specs.declared.early.Early.TheVariants as early
-use Rattle.pb_module_solver.specs.Answers.{IsEarly, IsTruthOf, truth_in}
+use Rattle.pb_command_solver.specs.declared.early.Early.{Early}
+use Rattle.pb_command_solver.specs.declared.early.Early.TheVariants as early
+use Rattle.pb_command_solver.specs.Answers.{IsEarly, IsTruthOf, truth_in}
 use Rattle.pbsolve.specs.declared.property_module.PropertyModule.{PropertyModule}
 use Rattle.pbsolve.specs.declared.property_module.PropertyModule.TheVariants as property_module
 use Rattle.pbsolve.specs.Outcomes.{IsEarlyOf, IsPropertyModule}

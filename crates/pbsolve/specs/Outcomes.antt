@@ -4,7 +4,7 @@ use Rattle.std.specs.Prelude.{Result, Ok, Err}
 use Rattle.std.specs.List.{slice_get}
 use Rattle.pb_text_tree.specs.Form.{SpecForm, spec_form}
 use Rattle.pb_model_tree.specs.Form.{ModelForm, PropertyForm}
-use Rattle.pb_negation.specs.Negated.{negated, negated_protocol}
+use Rattle.pb_protocol_negation.specs.Negated.{negated, negated_protocol}
 use Rattle.pb_protocol_tree.specs.Form as protocol_form
 use Rattle.pb_protocol_tree.specs.Form.{ProtocolForm}
 use Rattle.pb_model_properties.specs.declared.solved.SolvedModel.{SolvedModel}
@@ -15,18 +15,18 @@ use Rattle.pb_model_properties.specs.Said.{protocol_satisfies, satisfies, IsMode
 use Rattle.pb_model_properties.specs.Said.{IsTextOf, IsTheReading}
 use Rattle.pb_report.specs.declared.answer.Answer.{Answer}
 use Rattle.pb_report.specs.ModuleEvidence.{IsExplanation}
-use Rattle.pb_module_solver.specs.declared.early.Early.{Early}
-use Rattle.pb_module_solver.specs.declared.early.Early.TheVariants as early
-use Rattle.pb_errors.specs.declared.or_memory.OrMemory.{OrMemory}
-use Rattle.pb_errors.specs.declared.or_memory.OrMemory.TheVariants as or_memory
+use Rattle.pb_command_solver.specs.declared.early.Early.{Early}
+use Rattle.pb_command_solver.specs.declared.early.Early.TheVariants as early
+use Rattle.pb_base_errors.specs.declared.or_memory.OrMemory.{OrMemory}
+use Rattle.pb_base_errors.specs.declared.or_memory.OrMemory.TheVariants as or_memory
 use Rattle.pb_typing_declarations.specs.declared.fault.TypingRule.{TypingRule}
 use Rattle.pb_typing_declarations.specs.declared.fault.TypingRule.TheVariants as rule
 use Rattle.pb_model_properties.specs.declared.error.ModelFault.{ModelFault}
 use Rattle.pb_model_properties.specs.declared.error.ModelFault.TheVariants as model_fault
-use Rattle.pb_faults.specs.declared.property_fault.PropertyExcess.{PropertyExcess}
-use Rattle.pb_faults.specs.declared.property_fault.PropertyExcess.TheVariants.{Code}
-use Rattle.pb_faults.specs.declared.solve_fault.SolveFault.{SolveFault}
-use Rattle.pb_faults.specs.declared.solve_fault.SolveFault.TheVariants as solve_fault
+use Rattle.pb_command_faults.specs.declared.property_fault.PropertyExcess.{PropertyExcess}
+use Rattle.pb_command_faults.specs.declared.property_fault.PropertyExcess.TheVariants.{Code}
+use Rattle.pb_command_faults.specs.declared.solve_fault.SolveFault.{SolveFault}
+use Rattle.pb_command_faults.specs.declared.solve_fault.SolveFault.TheVariants as solve_fault
 use Rattle.pbsolve.specs.declared.finding.Finding.{Finding}
 use Rattle.pbsolve.specs.declared.finding.Finding.TheVariants.{Decided, Refused, Shown}
 use Rattle.pbsolve.specs.declared.explained.ExplainedText.{ExplainedText}

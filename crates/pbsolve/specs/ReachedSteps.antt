@@ -7,9 +7,9 @@ use Rattle.pb_model_words.specs.Vocabulary.{Vocabulary}
 use Rattle.pb_model_properties.specs.Reached.{name_of_step, reached_property}
 use Rattle.pb_model_properties.specs.Said.{satisfies}
 use Rattle.pb_model_properties.specs.Verdicts.{refused_line, unreached_line}
-use Rattle.pb_faults.specs.Lines.{property_rule}
-use Rattle.pb_faults.specs.declared.solve_fault.SolveFault.{SolveFault}
-use Rattle.pb_faults.specs.declared.solve_fault.SolveFault.TheVariants as solve_fault
+use Rattle.pb_command_faults.specs.Lines.{property_rule}
+use Rattle.pb_command_faults.specs.declared.solve_fault.SolveFault.{SolveFault}
+use Rattle.pb_command_faults.specs.declared.solve_fault.SolveFault.TheVariants as solve_fault
 use Rattle.pbsolve.specs.declared.finding.Found.{Found}
 use Rattle.pbsolve.specs.declared.status.Status.{Status}
 use Rattle.pbsolve.specs.declared.status.Status.TheVariants as status

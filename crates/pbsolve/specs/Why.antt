@@ -4,24 +4,24 @@ use Rattle.std.specs.Prelude.{if◌then◌else◌, Contains, MatchOption, Option
 use Rattle.std.specs.List.{slice_get}
 use Rattle.pb_text_tree.specs.Form.{SpecForm}
 use Rattle.pb_sorts.specs.Instance.{Instance}
-use Rattle.pb_trees.specs.Tree.{Tree}
+use Rattle.pb_fixpoint_trees.specs.Tree.{Tree}
 use Rattle.pb_bytecode.specs.Contents.{Contents}
 use Rattle.pb_bytecode.specs.Meaning.{AreTrees, parameters}
 use Rattle.pb_model_tree.specs.Form.{ModelForm, PropertyForm, StepForm}
 use Rattle.pb_model_meaning.specs.Erase.{erase, erased_step}
 use Rattle.pb_model_meaning.specs.Steps.{State, is_state}
-use Rattle.pb_negation.specs.Negated.{negated}
+use Rattle.pb_protocol_negation.specs.Negated.{negated}
 use Rattle.pb_protocol_tree.specs.Form as protocol_form
 use Rattle.pb_protocol_tree.specs.Form.{ProtocolForm}
 use Rattle.pb_protocol_meaning.specs.Syntax.{StepSet}
 use Rattle.pb_protocol_meaning.specs.Steps.{successors}
 use Rattle.pb_protocol_meaning.specs.Erase as protocol_text
-use Rattle.pb_solved_model.specs.Solved.{StandsFor}
+use Rattle.pb_protocol_solved.specs.Solved.{StandsFor}
 use Rattle.pb_model_runs.specs.Runs.{Leads}
 use Rattle.pb_model_runs.specs.Exact.{step_at}
 use Rattle.pb_model_words.specs.States.{says}
 use Rattle.pb_model_words.specs.Vocabulary.{Vocabulary}
-use Rattle.pb_call_places.specs.MadeCalls.{MadeCall, calls_at}
+use Rattle.pb_evidence_calls.specs.MadeCalls.{MadeCall, calls_at}
 use Rattle.pb_model_translation.specs.Placed.{placed, every_step_form}
 use Rattle.pb_model_properties.specs.Asked.{IsAskedAt}
 use Rattle.pb_model_properties.specs.Made.{said_where}
@@ -35,10 +35,10 @@ use Rattle.pb_evidence.specs.declared.Evidence.{Evidence}
 use Rattle.pb_evidence.specs.Evidence.{graph_of}
 use Rattle.pb_report.specs.declared.answer.Answer.{Answer}
 use Rattle.pb_report.specs.Cuts.{cuts_of}
-use Rattle.pb_why.specs.InstanceLines.{instance_lines}
-use Rattle.pb_why.specs.WhyText.{Told, why_lines}
-use Rattle.pb_faults.specs.declared.solve_fault.SolveFault.{SolveFault}
-use Rattle.pb_faults.specs.declared.solve_fault.SolveFault.TheVariants as solve_fault
+use Rattle.pb_evidence_words.specs.InstanceLines.{instance_lines}
+use Rattle.pb_evidence_words.specs.WhyText.{Told, why_lines}
+use Rattle.pb_command_faults.specs.declared.solve_fault.SolveFault.{SolveFault}
+use Rattle.pb_command_faults.specs.declared.solve_fault.SolveFault.TheVariants as solve_fault
 use Rattle.pbsolve.specs.Answers.{IsModuleOfForm}
 use Rattle.pb_report.specs.ModuleEvidence.{IsModuleEvidence}
 use Rattle.pbsolve.specs.Models.{IsPropertyAnswer, IsUnexplained}

@@ -1,7 +1,7 @@
 //! What is found of properties, by what becomes of their texts and of those of their negations.
 ghost use Rattle.std.specs.Prelude.{◌≡◌, ◌≤◌, ◌<◌, Bool, length, map, true, IfOk};
 ghost use Rattle.std.specs.List.{All};
-ghost use Rattle.pb_errors.specs.OrMemory.{IfRefused};
+ghost use Rattle.pb_base_errors.specs.OrMemory.{IfRefused};
 ghost use Rattle.pb_model_tree.specs.Form.{ModelForm, PropertyForm};
 ghost use Rattle.pb_model_properties.specs.Said.{IsModelOf};
 ghost use Rattle.pbsolve.specs.Models.{IsFound, IsUnnegated};
@@ -13,13 +13,13 @@ use crate::negation::negation_module;
 use crate::outcome::{AskedOutcome, Outcome, early_of, early_truth, outcome_of};
 use crate::property_module::{AskedModule, PropertyModule, asked_module};
 use crate::property_text::AskedText;
-use pb_errors::OrMemory;
+use pb_base_errors::OrMemory;
+use pb_base_limits::MAX_INPUT_BYTES;
+use pb_command_faults::SolveFault;
+use pb_command_solver::{Context, Early, SolveOptions};
 use pb_exploration::Gate;
-use pb_faults::SolveFault;
-use pb_limits::MAX_INPUT_BYTES;
 use pb_model_properties::{SolvedModel, Verdict};
-use pb_module_solver::{Context, Early, SolveOptions};
-use pb_negation::negations_erase;
+use pb_protocol_negation::negations_erase;
 use pb_report::Answer;
 use std::alloc::AllocError;
 use std::thread::Threads;

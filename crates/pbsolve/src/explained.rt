@@ -1,6 +1,6 @@
 //! Texts, explained, and those of properties.
 ghost use Rattle.std.specs.Prelude.{◌≡◌, ◌<◌, ◌≤◌, ℕ, List, IfOk, length};
-ghost use Rattle.pb_errors.specs.OrMemory.{IfRefused};
+ghost use Rattle.pb_base_errors.specs.OrMemory.{IfRefused};
 ghost use Rattle.pb_text_tree.specs.Form.{spec_form};
 ghost use Rattle.pb_text_meaning.specs.Erase.{erase};
 ghost use Rattle.pb_typing_rules.specs.WellTyped.{IsWellTyped};
@@ -13,12 +13,12 @@ ghost use Rattle.pbsolve.specs.Refusals.{IsUnexplainedForm};
 use crate::compile::verified;
 use crate::options::WhyOptions;
 use crate::property_faults::{error_of_property, name_place};
-use pb_errors::OrMemory;
+use pb_base_errors::OrMemory;
+use pb_command_faults::SolveFault;
+use pb_command_modules::explained;
+use pb_command_solver::Context;
 use pb_exploration::Gate;
-use pb_faults::SolveFault;
 use pb_model_properties::{SolvedModel, text_at};
-use pb_module_commands::explained;
-use pb_module_solver::Context;
 use pb_report::Explanation;
 use pb_typing::Typed;
 use pb_verifier::Verified;

@@ -1,6 +1,6 @@
 //! What is found of properties.
 
-use pb_faults::PropertyExcess;
+use pb_command_faults::PropertyExcess;
 use pb_model_properties::Verdict;
 use pb_report::Answer;
 

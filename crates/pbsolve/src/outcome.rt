@@ -5,11 +5,11 @@ ghost use Rattle.pb_model_properties.specs.Said.{satisfies};
 ghost use Rattle.pbsolve.specs.Outcomes.{IsEarlyOf, IsOutcome, IsPropertyModule};
 
 use crate::property_module::PropertyModule;
-use pb_errors::OrMemory;
+use pb_base_errors::OrMemory;
+use pb_command_faults::PropertyExcess;
+use pb_command_solver::{Context, Early, SolveOptions, answer_early, answer_module};
 use pb_exploration::Gate;
-use pb_faults::PropertyExcess;
 use pb_machine::instances_have_trees;
-use pb_module_solver::{Context, Early, SolveOptions, answer_early, answer_module};
 use pb_report::Answer;
 use pb_verifier::Verified;
 use std::alloc::AllocError;

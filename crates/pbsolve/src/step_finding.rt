@@ -2,7 +2,7 @@
 ghost use Rattle.std.specs.Prelude.{◌≡◌};
 ghost use Rattle.pbsolve.specs.ReachedSteps.{by_truth, refuses_step};
 
-use pb_faults::PropertyExcess;
+use pb_command_faults::PropertyExcess;
 
 /// What is found of a step.
 #[derive(Clone, Copy, Debug)]

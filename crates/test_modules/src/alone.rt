@@ -7,8 +7,8 @@ ghost use Rattle.pb_instances.specs.Seats.{words_of};
 
 use crate::steps::close;
 use pb_exploration::{Crew, Hints, Limit, NoGate, Site, Worker, work};
+use pb_fixpoint_rows::Rows;
 use pb_instances::{Statuses, Table};
-use pb_rows::Rows;
 use pb_verifier::Verified;
 use std::alloc::{AllocError, Global};
 use std::marker::Brand;

@@ -2,8 +2,8 @@
 
 use pb_bytecode::decode::decode;
 use pb_bytecode::encode::encode;
+use pb_fixpoint_trees::Token;
 use pb_machine::{Machine, Tree, instances_have_trees, run};
-use pb_trees::Token;
 use pb_verifier::{Verified, VerifyError, verify};
 use std::alloc::{AllocError, Global};
 use std::process::Abort;

@@ -14,9 +14,9 @@ use crate::equation::Equation;
 use crate::fault::{FieldFault, ModuleRule, ReadError};
 use crate::initial::Initial;
 use crate::instances::has_few_instances;
+use pb_base_limits::{MAX_EQUATIONS, MAX_LOOP_SLOTS, MAX_PARAMETERS};
 use pb_bytecode_program::Version;
 use pb_fixpoint::Sign;
-use pb_limits::{MAX_EQUATIONS, MAX_LOOP_SLOTS, MAX_PARAMETERS};
 use pb_sorts::Carrier;
 use std::alloc::Global;
 

@@ -12,8 +12,8 @@ ghost use Rattle.pb_bytecode_program.specs.declared.domain.AbstractValue.TheVari
 use crate::rule::AcceptanceRule;
 use crate::state::AbstractState;
 use crate::value::numbers;
+use pb_base_intervals::Interval;
 use pb_bytecode_program::AbstractValue;
-use pb_intervals::Interval;
 
 impl AbstractState {
     /// What is known of a slot, if it is one of a loop around or of a parameter.

@@ -34,7 +34,7 @@ fn plain_line(alloc: Global, text: &str) -> Option<&'static [u8]> {
     let Ok(typed) = pb_typing::check(alloc, spec) else {
         return None;
     };
-    match pb_plain::solve(alloc, &typed) {
+    match pb_typing_plain_solver::solve(alloc, &typed) {
         Ok(true) => Some(b"answer true\n"),
         Ok(false) => Some(b"answer false\n"),
         Err(_) => None,

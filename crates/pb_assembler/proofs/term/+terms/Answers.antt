@@ -10,7 +10,7 @@ use Rattle.pb_assembler.specs.Emitted.{Emits, connected_behind, nowhere}
 use Rattle.pb_normal.specs.Small.{is_small}
 use Rattle.pb_assembler.proofs.Chains.{one_more, chain_step, chain_all, small_link, small_head, small_operand}
 use Rattle.pb_assembler_measures.proofs.Views.{calculated_more, chain_from, chain_is, arithmetic_is}
-use Rattle.pb_typed_tree.proofs.Weight.{weight, terms_weight, links_weight, weight-chain, weight-arithmetic, term_lighter, link_lighter}
+use Rattle.pb_typing_tree.proofs.Weight.{weight, terms_weight, links_weight, weight-chain, weight-arithmetic, term_lighter, link_lighter}
 use Rattle.pb_assembler.proofs.Emitting.{emits_then, choice_emitted, on_ok}
 use Rattle.pb_assembler.proofs.term.+terms.Goals as goal
 

@@ -3,7 +3,7 @@ use Rattle.pb_normal.specs.View.{calculated, link_views, term_view}
 use Rattle.pb_assembler_scheme.specs.Scheme.{data_piece}
 use Rattle.pb_assembler.specs.Emitted.{Emits, nowhere}
 use Rattle.pb_assembler_measures.proofs.Views.{chain_from}
-use Rattle.pb_typed_tree.proofs.Weight.{weight, terms_weight, links_weight}
+use Rattle.pb_typing_tree.proofs.Weight.{weight, terms_weight, links_weight}
 use Rattle.pb_assembler.proofs.term.+terms.Given as goal
 
 abbrev pub decreases-emit_term : goal.decreases-emit_term

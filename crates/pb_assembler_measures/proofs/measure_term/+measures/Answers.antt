@@ -2,7 +2,7 @@ use Rattle.std.proofs.Common.{◌-◌, ◌<◌, sym, ap, ◌∙◌, arith, add-o
 use Rattle.pb_normal.specs.View.{calculated, link_views, term_view}
 use Rattle.pb_assembler_measures.specs.MeasureTerms.{capped_load, followed, term_load}
 use Rattle.pb_assembler_measures.proofs.Views.{calculated_more, chain_is, arithmetic_is}
-use Rattle.pb_typed_tree.proofs.Weight.{weight, terms_weight, links_weight, weight-chain, weight-arithmetic, term_lighter, link_lighter}
+use Rattle.pb_typing_tree.proofs.Weight.{weight, terms_weight, links_weight, weight-chain, weight-arithmetic, term_lighter, link_lighter}
 use Rattle.pb_assembler_measures.proofs.MeasureLoads.{arithmetic_capped}
 use Rattle.pb_assembler_measures.proofs.measure_term.+measures.Goals as goal
 

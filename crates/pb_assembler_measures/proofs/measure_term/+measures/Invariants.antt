@@ -2,7 +2,7 @@ use Rattle.std.proofs.Common.{◌≡◌, ◌+◌, ◌<◌, length, drop, take}
 use Rattle.pb_normal.specs.View.{calculated, link_views, term_view}
 use Rattle.pb_assembler_measures.specs.MeasureTerms.{capped_load, term_load}
 use Rattle.pb_assembler_measures.proofs.Views.{chain_from}
-use Rattle.pb_typed_tree.proofs.Weight.{weight, terms_weight, links_weight}
+use Rattle.pb_typing_tree.proofs.Weight.{weight, terms_weight, links_weight}
 use Rattle.pb_assembler_measures.proofs.measure_term.+measures.Given as goal
 
 abbrev pub decreases-measure_term : goal.decreases-measure_term

@@ -1,5 +1,5 @@
 use Rattle.std.proofs.Common.{map}
-use Rattle.pb_trees.proofs.Numbers.{equations_are_solved}
+use Rattle.pb_fixpoint_trees.proofs.Numbers.{equations_are_solved}
 use Rattle.pb_bytecode.specs.Meaning.{signature_of}
 use Rattle.pb_bytecode.proofs.laws.sets_of_modules_are_extreme_fixpoints.Goals as goal
 

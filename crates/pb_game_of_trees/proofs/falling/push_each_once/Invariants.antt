@@ -1,5 +1,5 @@
 use Rattle.std.proofs.Common.{◌≡◌, ◌++◌, ◌<◌, ◌-◌, reverse, take, get_or}
-use Rattle.pb_trees.specs.Game.{rising}
+use Rattle.pb_fixpoint_trees.specs.Game.{rising}
 use Rattle.pb_game_of_trees.proofs.Rising.{Leads}
 use Rattle.pb_game_of_trees.proofs.falling.push_each_once.Given as goal
 

@@ -1,6 +1,6 @@
 use Rattle.std.proofs.Common.{◌≡◌, ◌++◌, OnOk, reverse, ℕ, List, ap, ◌∙◌, subst}
 use Rattle.std.proofs.lemmas.List.Sorted.{IsPermutation-trans}
-use Rattle.pb_trees.specs.Game.{rising}
+use Rattle.pb_fixpoint_trees.specs.Game.{rising}
 use Rattle.pb_game_of_trees.proofs.Rising.{rising-turned}
 use Rattle.pb_game_of_trees.proofs.falling.push_falling.Goals as goal
 use Rattle.pb_game_of_trees.proofs.falling.push_falling.Goals.{then-not-is_falling, else-not-is_falling}

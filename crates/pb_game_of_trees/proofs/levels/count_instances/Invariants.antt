@@ -1,5 +1,5 @@
 use Rattle.std.proofs.Common.{◌≡◌, ◌+◌, map, drop}
-use Rattle.pb_trees.specs.Equations.{total}
+use Rattle.pb_fixpoint_trees.specs.Equations.{total}
 use Rattle.pb_game_of_trees.specs.Equations.{plain}
 use Rattle.pb_game_of_trees.proofs.levels.count_instances.Given as goal
 

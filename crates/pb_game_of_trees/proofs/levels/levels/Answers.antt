@@ -1,8 +1,8 @@
 use Rattle.std.proofs.Common.{◌≡◌, ℕ, ◌+◌, ◌-◌, ◌≤◌, List, ◌∷◌, ◌++◌, [], length, get_or, drop, map, reverse, refl, sym, ap, ◌∙◌, arith}
 use Rattle.pb_fixpoint.specs.declared.Sign.TheVariants.{Mu}
-use Rattle.pb_trees.specs.Equations as equations
-use Rattle.pb_trees.specs.Equations.{total}
-use Rattle.pb_trees.specs.Game.{first_priority, priority_before}
+use Rattle.pb_fixpoint_trees.specs.Equations as equations
+use Rattle.pb_fixpoint_trees.specs.Equations.{total}
+use Rattle.pb_fixpoint_trees.specs.Game.{first_priority, priority_before}
 use Rattle.pb_game_of_trees.specs.declared.signature.Signature.{Signature}
 use Rattle.pb_game_of_trees.specs.declared.levels.Level.{Level}
 use Rattle.pb_game_of_trees.specs.Equations.{plain}

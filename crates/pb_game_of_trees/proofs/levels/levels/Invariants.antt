@@ -1,6 +1,6 @@
 use Rattle.std.proofs.Common.{◌≡◌, ◌≤◌, ◌+◌, map, drop, length, reverse}
-use Rattle.pb_trees.specs.Equations.{total}
-use Rattle.pb_trees.specs.Game.{first_priority}
+use Rattle.pb_fixpoint_trees.specs.Equations.{total}
+use Rattle.pb_fixpoint_trees.specs.Game.{first_priority}
 use Rattle.pb_game_of_trees.specs.Equations.{plain}
 use Rattle.pb_game_of_trees.specs.Levels.{levels_from}
 use Rattle.pb_game_of_trees.proofs.levels.levels.Given as goal

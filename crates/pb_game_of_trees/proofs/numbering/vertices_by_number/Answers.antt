@@ -4,7 +4,7 @@ use Rattle.std.proofs.lemmas.List.{get_or-set_same, get_or-set_other, length-map
 use Rattle.std.specs.List.Sorted.{IsStrictlyIncreasing}
 use Rattle.pb_game.proofs.Rising.{rising_lt}
 use Rattle.pb_game_of_trees.specs.Held.{held}
-use Rattle.pb_rows.specs.Row.{nothing}
+use Rattle.pb_fixpoint_rows.specs.Row.{nothing}
 use Rattle.pb_game_of_trees.specs.Places.{numbers}
 use Rattle.pb_game_of_trees.proofs.Rows.{number, numbers_of, number_at}
 use Rattle.pb_game_of_trees.proofs.numbering.vertices_by_number.Goals as goal

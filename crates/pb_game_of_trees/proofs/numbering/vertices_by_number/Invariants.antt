@@ -1,5 +1,5 @@
 use Rattle.std.proofs.Common.{◌≡◌, ◌<◌, ℕ, List, length, slice_index}
-use Rattle.pb_trees.specs.Rows.{Row}
+use Rattle.pb_fixpoint_trees.specs.Rows.{Row}
 use Rattle.pb_game_of_trees.specs.Held.{Hold}
 use Rattle.pb_game_of_trees.specs.Places.{numbers}
 use Rattle.pb_game_of_trees.proofs.numbering.vertices_by_number.Given as goal

@@ -1,5 +1,5 @@
 use Rattle.std.proofs.Common.{ℕ, ◌+◌, List, ◌∷◌, [], ◌++◌, drop, ap, ◌∙◌, sym, append_assoc, get_or, arith}
-use Rattle.pb_rows.specs.Row.{nothing}
+use Rattle.pb_fixpoint_rows.specs.Row.{nothing}
 use Rattle.pb_game_of_trees.specs.Places.{vertices_from}
 use Rattle.pb_game_of_trees.proofs.Rows.{next_row, vertex_behind-more, vertices_from-more, next_fits}
 use Rattle.pb_game_of_trees.proofs.places.lay_rows.Goals as goal

@@ -1,8 +1,8 @@
 use Rattle.std.proofs.Common.{◌≡◌, ℕ, suc, ◌+◌, ◌-◌, List, [], ◌++◌, length, take, drop, sym, ap, ◌∙◌, subst, slice_index, get_or, arith}
 use Rattle.std.proofs.lemmas.List.{take_all, drop_all, length-map}
-use Rattle.pb_trees.specs.Rows.{Row}
-use Rattle.pb_rows.specs.Row.{nothing}
-use Rattle.pb_trees.specs.Game.{inner, row_vertices, tree_vertices}
+use Rattle.pb_fixpoint_trees.specs.Rows.{Row}
+use Rattle.pb_fixpoint_rows.specs.Row.{nothing}
+use Rattle.pb_fixpoint_trees.specs.Game.{inner, row_vertices, tree_vertices}
 use Rattle.pb_game_of_trees.specs.Held.{held}
 use Rattle.pb_game_of_trees.specs.Draft.{IsDraft}
 use Rattle.pb_game_of_trees.specs.Levels.{priority_in}

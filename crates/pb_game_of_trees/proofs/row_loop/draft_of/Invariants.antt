@@ -1,6 +1,6 @@
 use Rattle.std.proofs.Common.{◌≡◌, ◌≤◌, List, [], length, take, drop, slice_index}
-use Rattle.pb_trees.specs.Rows.{Row}
-use Rattle.pb_trees.specs.Game.{row_vertices}
+use Rattle.pb_fixpoint_trees.specs.Rows.{Row}
+use Rattle.pb_fixpoint_trees.specs.Game.{row_vertices}
 use Rattle.pb_game_of_trees.specs.Held.{Hold}
 use Rattle.pb_game_of_trees.specs.Builder.{IsAt}
 use Rattle.pb_game_of_trees.specs.Levels.{priority_in}

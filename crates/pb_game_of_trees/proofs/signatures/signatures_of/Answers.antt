@@ -5,7 +5,7 @@ use Rattle.std.proofs.lemmas.Bool.{and_parts, ltb-true}
 use Rattle.pb_bytecode.specs.Limits.{fits, fits_sort, fits_equation, is_between}
 use Rattle.std.proofs.lemmas.List.{take_all, take_more, get_or-map, length-map, map_push}
 use Rattle.std.proofs.lemmas.Option.{get_or_from_slice_get}
-use Rattle.pb_trees.specs.Equations.{Signature, total}
+use Rattle.pb_fixpoint_trees.specs.Equations.{Signature, total}
 use Rattle.pb_sorts.specs.Layout.{count_of, carriers_of}
 use Rattle.pb_sorts.specs.Instance.{size_of}
 use Rattle.pb_bytecode.specs.Contents.{EquationContents, Contents, counts}

@@ -1,5 +1,5 @@
 use Rattle.std.proofs.Common.{ℕ, ◌-◌, List, count_by, length, sym, ap, ◌∙◌, arith}
-use Rattle.pb_trees.specs.declared.Token.{Token}
+use Rattle.pb_fixpoint_trees.specs.declared.Token.{Token}
 use Rattle.pb_game_of_trees.specs.Places.{is_closing}
 use Rattle.pb_game_of_trees.proofs.Closing.{closing_tree, short_tree}
 use Rattle.pb_game_of_trees.proofs.size.inner_brackets.Goals as goal

@@ -1,5 +1,5 @@
 use Rattle.std.proofs.Common.{◌∙◌, sym, get_or, arith}
-use Rattle.pb_rows.specs.Row.{nothing}
+use Rattle.pb_fixpoint_rows.specs.Row.{nothing}
 use Rattle.pb_game_of_trees.proofs.Rows.{next_row, vertex_behind-more, next_fits}
 use Rattle.pb_game_of_trees.proofs.size.size_of.Goals as goal
 

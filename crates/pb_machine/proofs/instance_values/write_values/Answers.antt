@@ -2,7 +2,7 @@ use Rattle.std.proofs.Common.{◌≡◌, ◌∙◌, ◌+◌, ◌-◌, ◌<◌, �
 use Rattle.std.proofs.lemmas.Int.{to_z-of_z}
 use Rattle.std.proofs.lemmas.List.{drop_all}
 use Rattle.std.proofs.lemmas.Grind.{drop-set_at}
-use Rattle.pb_carriers.specs.Carrier.{Value}
+use Rattle.pb_base_values.specs.Carrier.{Value}
 use Rattle.pb_sorts.proofs.Places.{drop-at}
 use Rattle.pb_machine.proofs.Digits.{IsEnd, nothing_written, one_more, all_written}
 use Rattle.pb_machine.proofs.instance_values.write_values.Goals as goal

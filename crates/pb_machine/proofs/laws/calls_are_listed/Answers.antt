@@ -1,5 +1,5 @@
 use Rattle.std.proofs.Common.{◌≡◌, true}
-use Rattle.pb_trees.proofs.Members.{among_of_contains, contains_of_among}
+use Rattle.pb_fixpoint_trees.proofs.Members.{among_of_contains, contains_of_among}
 use Rattle.pb_machine.specs.Reachable.{tree_calls}
 use Rattle.pb_machine.proofs.TreeCalls.{each_tree, tree_each}
 use Rattle.pb_machine.proofs.laws.calls_are_listed.Goals as goal

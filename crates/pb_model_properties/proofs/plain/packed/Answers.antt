@@ -6,7 +6,7 @@ use Rattle.pb_model_meaning.specs.Erase as model_text
 use Rattle.pb_protocol_tree.specs.Form.{ProtocolForm, protocol_form}
 use Rattle.pb_protocol_laws.specs.Laws.{PlainProtocolsArePlain}
 use Rattle.pb_protocol_typing.specs.Faults.{protocol_faults}
-use Rattle.pb_solved_model.specs.Laws.{PlainModelsAreSolved}
+use Rattle.pb_protocol_solved.specs.Laws.{PlainModelsAreSolved}
 use Rattle.pb_model_properties.specs.Flat.{IsFlatModelFor}
 use Rattle.pb_model_properties.proofs.FlatModels.{rules_broken}
 use Rattle.pb_model_properties.proofs.Made.{IsPlainFor, plain_is_flat, plain_names_of}

@@ -1,5 +1,5 @@
 use Rattle.std.proofs.Common.{◌≡◌, ◌++◌, drop, map, string_bytes}
-use Rattle.pb_unfolder.specs.Origins.{origin_name}
+use Rattle.pb_protocol_unfolder.specs.Origins.{origin_name}
 use Rattle.pb_model_properties.proofs.told.names_of.Given as goal
 
 -- the names so far, and those that are left

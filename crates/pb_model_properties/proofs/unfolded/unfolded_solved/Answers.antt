@@ -2,8 +2,8 @@
 use Rattle.std.proofs.Common.{◌∙◌, List, map, refl, ap, Some}
 use Rattle.pb_model_tree.specs.Form.{model_form}
 use Rattle.pb_protocol_tree.specs.Form.{protocol_form}
-use Rattle.pb_unfolder.specs.declared.origin.StepOrigin.{StepOrigin}
-use Rattle.pb_unfolder.specs.Origins.{origin_name}
+use Rattle.pb_protocol_unfolder.specs.declared.origin.StepOrigin.{StepOrigin}
+use Rattle.pb_protocol_unfolder.specs.Origins.{origin_name}
 use Rattle.pb_model_properties.specs.declared.solved.ToldNames.{ToldNames}
 use Rattle.pb_model_properties.proofs.FlatModels.{unfolded_is_flat, unfolded_names}
 use Rattle.pb_model_properties.proofs.SolvedModels.{refused_for, solved_for}

@@ -1,5 +1,5 @@
 use Rattle.std.proofs.Common.{◌≡◌, length, min, arith}
-use Rattle.pb_packer.specs.Groups.{group_of}
+use Rattle.pb_protocol_packer.specs.Groups.{group_of}
 use Rattle.pb_model_words.specs.GroupLines.{variable_count}
 use Rattle.pb_model_words.proofs.Summands.{said-behind}
 use Rattle.pb_model_words.proofs.group_lines.behind.Goals as goal

@@ -1,5 +1,5 @@
 use Rattle.std.proofs.Common.{◌≡◌, ◌++◌, map, drop, string_bytes}
-use Rattle.pb_packer.specs.Groups.{groups_in}
+use Rattle.pb_protocol_packer.specs.Groups.{groups_in}
 use Rattle.pb_model_words.specs.GroupLines.{lines_of}
 use Rattle.pb_model_words.specs.View.{variable_said}
 use Rattle.pb_model_words.proofs.group_lines.push_lines.Given as goal

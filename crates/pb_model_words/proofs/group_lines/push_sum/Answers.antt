@@ -1,7 +1,7 @@
 use Rattle.std.proofs.Common.{◌+◌, [], map, drop, codes, string_bytes, arith}
 use Rattle.std.specs.Prelude.{if◌then◌else◌}
-use Rattle.pb_packer.specs.Members.{members_of}
-use Rattle.pb_packer.proofs.Weights.{weighted-at}
+use Rattle.pb_protocol_packer.specs.Members.{members_of}
+use Rattle.pb_protocol_packer.proofs.Weights.{weighted-at}
 use Rattle.pb_model_words.specs.GroupLines.{counted_text, times_text, summands}
 use Rattle.pb_model_words.specs.View.{variable_said}
 use Rattle.pb_model_words.proofs.Listed.{went-on, ended}

@@ -1,6 +1,6 @@
 use Rattle.std.proofs.Common.{◌≡◌, ◌++◌, [], map, drop, codes, string_bytes, true}
 use Rattle.std.specs.Prelude.{if◌then◌else◌}
-use Rattle.pb_packer.specs.Members.{are_weighted, members_of}
+use Rattle.pb_protocol_packer.specs.Members.{are_weighted, members_of}
 use Rattle.pb_model_words.specs.GroupLines.{summands}
 use Rattle.pb_model_words.specs.View.{variable_said}
 use Rattle.pb_model_words.specs.Words.{marked}

@@ -1,7 +1,7 @@
 use Rattle.std.proofs.Common.{◌≡◌, ◌∙◌, ℕ, suc, ◌+◌, ◌++◌, pos, drop, get_or, sym, ap, append_assoc, arith, SFits, w64, to_z, of_z, to_z-of_z}
 use Rattle.std.proofs.lemmas.List.{append-nil}
-use Rattle.pb_carriers.specs.Carrier.{Value, Tuple}
-use Rattle.pb_packer.specs.declared.group.Group.{Group}
+use Rattle.pb_base_values.specs.Carrier.{Value, Tuple}
+use Rattle.pb_protocol_packer.specs.declared.group.Group.{Group}
 use Rattle.pb_model_words.proofs.GroupValues.{values_after, group_after, values-at, values-end}
 use Rattle.pb_model_words.proofs.unpacking.unpacked_after.Goals as goal
 

@@ -1,6 +1,6 @@
 use Rattle.std.proofs.Common.{◌∙◌, ap}
 use Rattle.pb_text_tree.specs.Form.{spec_form}
-use Rattle.pb_typed_tree.specs.View as typed
+use Rattle.pb_typing_tree.specs.View as typed
 use Rattle.pb_typing.proofs.Accepted.{accepted-well-typed}
 use Rattle.pb_normal.specs.Answer.{answer_by}
 use Rattle.pb_normal.specs.Text.{said}

@@ -1,14 +1,14 @@
 use Rattle.std.proofs.Common.{◌≡◌, Bool, ◌∙◌, ap, subst, arith, IfOk}
 use Rattle.std.specs.Prelude.{box_value}
-use Rattle.pb_typed_tree.specs.Tree as tree
-use Rattle.pb_typed_tree.specs.View as typed
+use Rattle.pb_typing_tree.specs.Tree as tree
+use Rattle.pb_typing_tree.specs.View as typed
 use Rattle.pb_typing.specs.View.{is_positive}
 use Rattle.pb_normal.specs.declared.formula.Formula as code
 use Rattle.pb_normal.specs.SignedForm.{signed_form}
 use Rattle.pb_normal.specs.View.{nested, formula_view, formula_views}
 use Rattle.pb_normal.proofs.Operands.{chain-signed, quantified-signed, signed_next, signed_ended}
 use Rattle.pb_normal.proofs.Views.{formula-join}
-use Rattle.pb_typed_tree.proofs.FormulaWeight.{weight, links_weight, weight-chain, operand_lighter, chain_is}
+use Rattle.pb_typing_tree.proofs.FormulaWeight.{weight, links_weight, weight-chain, operand_lighter, chain_is}
 use Rattle.pb_normal.proofs.signed.+formulas.Goals as goal
 
 -- ---- chains

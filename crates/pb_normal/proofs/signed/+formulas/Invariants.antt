@@ -1,7 +1,7 @@
 use Rattle.std.proofs.Common.{◌+◌}
 use Rattle.pb_typing.specs.View.{is_positive}
 use Rattle.pb_normal.proofs.Operands.{AreSigned}
-use Rattle.pb_typed_tree.proofs.FormulaWeight.{weight, links_weight}
+use Rattle.pb_typing_tree.proofs.FormulaWeight.{weight, links_weight}
 use Rattle.pb_normal.proofs.signed.+formulas.Given as goal
 
 abbrev pub decreases-signed_form : goal.decreases-signed_form

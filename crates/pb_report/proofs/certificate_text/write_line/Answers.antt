@@ -1,5 +1,5 @@
 use Rattle.std.proofs.Common.{◌≡◌, ℕ, ◌++◌, Option, decimal, ap, ◌∙◌}
-use Rattle.pb_trees.specs.Players.{parity_of}
+use Rattle.pb_fixpoint_trees.specs.Players.{parity_of}
 use Rattle.pb_game.specs.Solutions.{winner_of}
 use Rattle.pb_report.specs.GameText.{field}
 use Rattle.pb_report.specs.CertificateText.{strategy_at, strategy_part, winner_line}

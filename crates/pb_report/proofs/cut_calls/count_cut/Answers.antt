@@ -1,7 +1,7 @@
 use Rattle.std.proofs.Common.{get_or, ap, ◌∙◌, arith}
 use Rattle.std.proofs.lemmas.List.{drop_all}
 use Rattle.pb_game_of_trees.proofs.Rows.{next_row, tokens_of}
-use Rattle.pb_rows.specs.Row.{nothing}
+use Rattle.pb_fixpoint_rows.specs.Row.{nothing}
 use Rattle.pb_report.specs.CutCalls.{cut_count}
 use Rattle.pb_report.proofs.Solutions.{count_held}
 use Rattle.pb_report.proofs.cut_calls.count_cut.Goals as goal

@@ -1,5 +1,5 @@
 use Rattle.std.proofs.Common.{◌≡◌, ◌≤◌, ◌+◌, List, drop}
-use Rattle.pb_trees.specs.Rows.{Row}
+use Rattle.pb_fixpoint_trees.specs.Rows.{Row}
 use Rattle.pb_game_of_trees.specs.Held.{Hold}
 use Rattle.pb_report.specs.CutCalls.{cut_count}
 use Rattle.pb_report.proofs.cut_calls.count_cut.Given as goal

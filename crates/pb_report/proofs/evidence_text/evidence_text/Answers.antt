@@ -1,5 +1,5 @@
 use Rattle.std.proofs.Common.{◌≡◌, ℕ, List, Ok, ◌∙◌, refl, subst, rules}
-use Rattle.pb_trees.specs.Tree.{Tree}
+use Rattle.pb_fixpoint_trees.specs.Tree.{Tree}
 use Rattle.pb_report.specs.ModuleEvidence.{module_evidence_text}
 use Rattle.pb_report.specs.ModuleTexts.{ForTrees}
 use Rattle.pb_report.specs.Delivery.{Delivers, is_failed}

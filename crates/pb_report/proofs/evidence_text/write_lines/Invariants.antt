@@ -1,6 +1,6 @@
 use Rattle.std.proofs.Common.{ℕ, Option, drop}
 use Rattle.pb_text_tree.specs.declared.place.Place.{Place}
-use Rattle.pb_trees.specs.Tree.{Tree}
+use Rattle.pb_fixpoint_trees.specs.Tree.{Tree}
 use Rattle.pb_bytecode.specs.Meaning.{AreTrees}
 use Rattle.pb_report.proofs.Underway.{IsUnderway}
 use Rattle.pb_report.specs.CallPlaces.{AreCallPlaces}

@@ -1,5 +1,5 @@
 use Rattle.std.proofs.Common.{Some, sym, ap, ◌∙◌, arith}
-use Rattle.pb_rows.specs.Row.{nothing}
+use Rattle.pb_fixpoint_rows.specs.Row.{nothing}
 use Rattle.pb_report.proofs.VertexLines.{number_some, number_none, passed}
 use Rattle.pb_report.proofs.game_text.row_number.Goals as goal
 use Rattle.pb_report.proofs.game_text.row_number.Goals.{else-k-vertices-via-then-k-vertices+else-vertices-k, else-k-vertices-via-else-k-vertices}

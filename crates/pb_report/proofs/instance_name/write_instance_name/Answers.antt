@@ -5,7 +5,7 @@ use Rattle.pb_sorts.specs.Layout.{carriers_of}
 use Rattle.pb_sorts.specs.declared.carrier.Carrier.{Carrier}
 use Rattle.pb_bytecode.specs.Views.{sort_contents, text_of}
 use Rattle.pb_bytecode.specs.declared.sort.Sort.{Sort}
-use Rattle.pb_carriers.specs.Carrier.{Tuple}
+use Rattle.pb_base_values.specs.Carrier.{Tuple}
 use Rattle.pb_report.specs.InstanceName.{arguments}
 use Rattle.pb_report.proofs.Sending.{sends_then, sends_err, sends_as}
 use Rattle.pb_report.proofs.Names.{there, lengths, name_is}

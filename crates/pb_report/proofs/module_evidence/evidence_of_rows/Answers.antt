@@ -1,5 +1,5 @@
 use Rattle.std.proofs.Common.{ℕ, List, length, get_or, sym, ap, ◌∙◌, subst, arith}
-use Rattle.pb_rows.specs.Reached.{rows_of}
+use Rattle.pb_fixpoint_rows.specs.Reached.{rows_of}
 use Rattle.pb_game.specs.declared.Game.{Game}
 use Rattle.pb_game.specs.Games.{vertex_count}
 use Rattle.pb_strategy.specs.Meaning.{IsGameOfRows}

@@ -1,8 +1,8 @@
 use Rattle.std.proofs.Common.{◌+◌, ◌++◌, ℕ, drop, get_or, map, sym, ap, ◌∙◌, arith}
 use Rattle.std.proofs.lemmas.List.{drop_all}
-use Rattle.pb_trees.specs.Equations.{solved}
-use Rattle.pb_rows.specs.Row.{nothing}
-use Rattle.pb_rows.specs.Reached.{rows_of}
+use Rattle.pb_fixpoint_trees.specs.Equations.{solved}
+use Rattle.pb_fixpoint_rows.specs.Row.{nothing}
+use Rattle.pb_fixpoint_rows.specs.Reached.{rows_of}
 use Rattle.pb_bytecode.specs.Meaning.{signature_of, initial_of}
 use Rattle.pb_game_of_trees.proofs.Rows.{next_row}
 use Rattle.pb_game_of_trees.proofs.Reached.{reached_of}

@@ -1,5 +1,5 @@
 use Rattle.std.proofs.Common.{◌≡◌, ℕ, List, ◌++◌, ap, ◌∙◌}
-use Rattle.pb_trees.specs.Players.{parity_of}
+use Rattle.pb_fixpoint_trees.specs.Players.{parity_of}
 use Rattle.pb_game.specs.Games.{owner_of, priority_of}
 use Rattle.pb_report.specs.GameText.{head, numbers_text, vertex_at, vertex_text}
 use Rattle.pb_report.proofs.Sending.{sends_then, sends_err, sends_as}

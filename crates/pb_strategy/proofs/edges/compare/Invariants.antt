@@ -1,5 +1,5 @@
 use Rattle.std.proofs.Common.{◌≡◌, ◌≢◌, ℕ, ◌<◌, ◌%◌}
-use Rattle.pb_trees.specs.Players.{parity_of}
+use Rattle.pb_fixpoint_trees.specs.Players.{parity_of}
 use Rattle.pb_game.specs.Games.{priority_count}
 use Rattle.pb_game.specs.Solutions.{winner_of, count_of}
 use Rattle.pb_strategy.proofs.edges.compare.Given as goal

@@ -1,5 +1,5 @@
 use Rattle.std.proofs.Common.{◌≡◌, ℕ, ◌%◌, ◌<◌, inl, inr, refl, sym, ap, subst, arith, rules}
-use Rattle.pb_trees.specs.Players.{parity_of}
+use Rattle.pb_fixpoint_trees.specs.Players.{parity_of}
 use Rattle.pb_game.specs.declared.Game.{Game}
 use Rattle.pb_game.specs.Games.{owner_of, priority_of, HasEdge}
 use Rattle.pb_game.specs.declared.certificate.Solution.{Solution}

@@ -8,16 +8,16 @@ use Rattle.pb_text_tree.specs.declared.spec.Equation as declared
 use Rattle.pb_text_tree.specs.Form.{equation_form, formula_form, variable_forms}
 use Rattle.pb_text_meaning.specs.Erase.{erased_variable}
 use Rattle.pb_text_meaning.specs.Syntax.{Spec}
-use Rattle.pb_errors.specs.declared.or_memory.OrMemory.{OrMemory}
+use Rattle.pb_base_errors.specs.declared.or_memory.OrMemory.{OrMemory}
 use Rattle.pb_typing_declarations.specs.declared.fault.TypingFault.{TypingFault}
 use Rattle.pb_typing_declarations.specs.Entries.{shapes_of}
 use Rattle.pb_typing_declarations.specs.Faults.{IsAmong}
 use Rattle.pb_typing_declarations.specs.View.{spec_of}
 use Rattle.pb_typing_rules.specs.Faults.{formula_faults}
 use Rattle.pb_typing_rules.specs.Scope.{Scope, bound, outermost}
-use Rattle.pb_typed_tree.specs.declared.formula.Equation.{Equation}
-use Rattle.pb_typed_tree.specs.Elaboration.{Slotting, unslotted, with_slots}
-use Rattle.pb_typed_tree.specs.Loops.{variable_shapes}
+use Rattle.pb_typing_tree.specs.declared.formula.Equation.{Equation}
+use Rattle.pb_typing_tree.specs.Elaboration.{Slotting, unslotted, with_slots}
+use Rattle.pb_typing_tree.specs.Loops.{variable_shapes}
 use Rattle.pb_typing.specs.Rights.{IsRight, IsRightIn, own_faults}
 use Rattle.pb_typing_nodes.specs.Scopes.{inner_slots}
 use Rattle.pb_typing_nodes.proofs.SlotLemmas.{inner_scope, inner_slotting, length-shapes, length-variables, variables_of}

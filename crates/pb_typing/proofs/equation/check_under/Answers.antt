@@ -1,6 +1,6 @@
 use Rattle.std.proofs.Common.{◌≡◌, ◌∙◌, ℕ, sym, ap, drop, length, List}
 use Rattle.pb_sorts.specs.declared.carrier.Carrier.{Carrier}
-use Rattle.pb_typed_tree.specs.Elaboration.{elaborated}
+use Rattle.pb_typing_tree.specs.Elaboration.{elaborated}
 use Rattle.pb_typing_nodes.specs.Contexts.{scope_in, slots_in, text_in}
 use Rattle.pb_typing_nodes.proofs.SlotLemmas.{shapes_behind}
 use Rattle.pb_typing.specs.Tree.{formula_of}

@@ -9,21 +9,21 @@ use Rattle.pb_text_meaning.specs.Syntax.{Spec}
 use Rattle.pb_text_meaning.specs.Erase.{erased_formula}
 use Rattle.pb_typing_rules.specs.Faults.{formula_faults}
 use Rattle.pb_typing_rules.specs.Scope.{Scope}
-use Rattle.pb_errors.specs.declared.or_memory.OrMemory.{OrMemory}
+use Rattle.pb_base_errors.specs.declared.or_memory.OrMemory.{OrMemory}
 use Rattle.pb_typing_declarations.specs.declared.fault.TypingFault.{TypingFault}
 use Rattle.pb_typing_declarations.specs.Declarations.{variables_faults}
 use Rattle.pb_typing_declarations.specs.Entries.{shapes_of}
 use Rattle.pb_typing_declarations.specs.Faults.{IsAmong}
 use Rattle.pb_typing_declarations.proofs.Parts.{among_first, first_clear}
-use Rattle.pb_typed_tree.specs.declared.formula.Formula.{Formula}
-use Rattle.pb_typed_tree.specs.Calls.{call_places, calls_in, places_of}
-use Rattle.pb_typed_tree.specs.Elaboration.{Slotting, elaborated}
-use Rattle.pb_typed_tree.specs.Expansion.{expanded}
-use Rattle.pb_typed_tree.specs.Loops.{loops}
-use Rattle.pb_typed_tree.specs.Tree.{Negation}
-use Rattle.pb_typed_tree.specs.View.{formula_view, formula_views}
-use Rattle.pb_typed_tree.proofs.Calls.{chain-places}
-use Rattle.pb_typed_tree.proofs.Views.{formula-chain}
+use Rattle.pb_typing_tree.specs.declared.formula.Formula.{Formula}
+use Rattle.pb_typing_tree.specs.Calls.{call_places, calls_in, places_of}
+use Rattle.pb_typing_tree.specs.Elaboration.{Slotting, elaborated}
+use Rattle.pb_typing_tree.specs.Expansion.{expanded}
+use Rattle.pb_typing_tree.specs.Loops.{loops}
+use Rattle.pb_typing_tree.specs.Tree.{Negation}
+use Rattle.pb_typing_tree.specs.View.{formula_view, formula_views}
+use Rattle.pb_typing_tree.proofs.Calls.{chain-places}
+use Rattle.pb_typing_tree.proofs.Views.{formula-chain}
 use Rattle.pb_typing_nodes.specs.Contexts.{scope_in, slots_in, text_in}
 use Rattle.pb_typing.specs.FormulaLinks.{elaborated_links, link_faults, links_calls, links_loops}
 use Rattle.pb_typing_nodes.specs.Scopes.{inner_slots}

@@ -3,8 +3,8 @@ use Rattle.pb_text_tree.specs.Form.{instance_form}
 use Rattle.pb_text_meaning.specs.Erase.{erased_arguments}
 use Rattle.pb_typing_declarations.specs.Faults.{IsAmong}
 use Rattle.pb_typing_rules.specs.Faults.{instance_faults}
-use Rattle.pb_typed_tree.specs.Elaboration.{arguments, call}
-use Rattle.pb_typed_tree.specs.Tree as tree
+use Rattle.pb_typing_tree.specs.Elaboration.{arguments, call}
+use Rattle.pb_typing_tree.specs.Tree as tree
 use Rattle.pb_typing_nodes.specs.Contexts.{scope_in, slots_in, text_in}
 use Rattle.pb_typing.specs.View.{is_positive}
 use Rattle.pb_typing.proofs.formula.check_call.Goals as goal

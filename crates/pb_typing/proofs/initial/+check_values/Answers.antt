@@ -7,19 +7,19 @@ use Rattle.pb_text_meaning.specs.Syntax.{Term, Terms, Spec}
 use Rattle.pb_text_meaning.specs.Value.{value, values}
 use Rattle.pb_text_meaning.specs.Fits as text
 use Rattle.pb_text_meaning.specs.Fits.{AllFit}
-use Rattle.pb_typed_tree.specs.declared.formula.Argument as declared
-use Rattle.pb_typed_tree.specs.Tree as tree
-use Rattle.pb_typed_tree.specs.Meaning as typed
-use Rattle.pb_typed_tree.specs.Elaboration.{arguments, slotted, unslotted}
-use Rattle.pb_typed_tree.specs.Expansion.{has_quantifier, have_quantifier}
-use Rattle.pb_typed_tree.specs.Fits.{Fits}
-use Rattle.pb_typed_tree.specs.View.{argument_view, term_view}
-use Rattle.pb_typed_tree.proofs.Fits.{slotted-fits}
-use Rattle.pb_typed_tree.proofs.Slotted.{slotted-value, neither-left}
-use Rattle.pb_evaluation.specs.Slots.{slots_of}
-use Rattle.pb_errors.specs.declared.or_memory.OrMemory.{OrMemory}
+use Rattle.pb_typing_tree.specs.declared.formula.Argument as declared
+use Rattle.pb_typing_tree.specs.Tree as tree
+use Rattle.pb_typing_tree.specs.Meaning as typed
+use Rattle.pb_typing_tree.specs.Elaboration.{arguments, slotted, unslotted}
+use Rattle.pb_typing_tree.specs.Expansion.{has_quantifier, have_quantifier}
+use Rattle.pb_typing_tree.specs.Fits.{Fits}
+use Rattle.pb_typing_tree.specs.View.{argument_view, term_view}
+use Rattle.pb_typing_tree.proofs.Fits.{slotted-fits}
+use Rattle.pb_typing_tree.proofs.Slotted.{slotted-value, neither-left}
+use Rattle.pb_typing_values.specs.Slots.{slots_of}
+use Rattle.pb_base_errors.specs.declared.or_memory.OrMemory.{OrMemory}
 use Rattle.pb_typing_declarations.specs.declared.fault.TypingFault.{TypingFault}
-use Rattle.pb_errors.specs.declared.or_memory.OrMemory.TheVariants.{Refused}
+use Rattle.pb_base_errors.specs.declared.or_memory.OrMemory.TheVariants.{Refused}
 use Rattle.pb_typing_declarations.specs.Faults.{IsAmong}
 use Rattle.pb_typing_declarations.specs.View.{spec_of}
 use Rattle.pb_typing_rules.specs.Faults.{value_faults}

@@ -20,8 +20,8 @@ use Rattle.pb_typing_rules.specs.Scope.{outermost}
 use Rattle.pb_typing_rules.specs.Term.{AreTyped}
 use Rattle.pb_typing_rules.proofs.Contained.{called_typed}
 use Rattle.pb_typing_rules.proofs.Exact.{instance_proper}
-use Rattle.pb_typed_tree.specs.Expansion.{have_quantifier}
-use Rattle.pb_typed_tree.proofs.Plain.{typed-plain}
+use Rattle.pb_typing_tree.specs.Expansion.{have_quantifier}
+use Rattle.pb_typing_tree.proofs.Plain.{typed-plain}
 use Rattle.pb_typing.specs.Typed.{IsLayout}
 use Rattle.pb_typing.proofs.Calls.{length-erased}
 use Rattle.pb_typing_nodes.proofs.Unknown.{some_position}

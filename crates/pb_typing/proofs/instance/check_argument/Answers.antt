@@ -2,7 +2,7 @@ use Rattle.std.proofs.Common.{◌∙◌, ap, refl, sym, subst, rules, Bool, fals
 use Rattle.pb_text_meaning.specs.Erase.{erased_term}
 use Rattle.pb_text_tree.specs.Form.{term_form}
 use Rattle.pb_typing_declarations.specs.declared.fault.TypingRule.TheVariants as rule
-use Rattle.pb_errors.specs.declared.or_memory.OrMemory.TheVariants.{Refused}
+use Rattle.pb_base_errors.specs.declared.or_memory.OrMemory.TheVariants.{Refused}
 use Rattle.pb_typing_declarations.specs.Entries.{shape_of}
 use Rattle.pb_typing_declarations.specs.Faults.{unless, IsAmong}
 use Rattle.pb_typing_declarations.specs.Shapes.{Shape}
@@ -10,7 +10,7 @@ use Rattle.pb_typing_declarations.proofs.Parts.{among_left, among_right, first_c
 use Rattle.pb_typing_rules.specs.Faults.{term_faults}
 use Rattle.pb_typing_rules.specs.Shapes.{may_be_alike}
 use Rattle.pb_typing_rules.specs.Term.{shape}
-use Rattle.pb_typed_tree.specs.View.{shape_view}
+use Rattle.pb_typing_tree.specs.View.{shape_view}
 use Rattle.pb_typing.specs.Arguments.{own_faults}
 use Rattle.pb_typing_nodes.specs.Contexts.{scope_in, slots_in, text_in}
 use Rattle.pb_typing_nodes.specs.Elaborated.{IsTypedAs}

@@ -1,6 +1,6 @@
 use Rattle.std.proofs.Common.{rules}
 use Rattle.std.specs.Vec.Iter.{into_iter_items}
-use Rattle.pb_typed_tree.specs.View.{formula_views}
+use Rattle.pb_typing_tree.specs.View.{formula_views}
 use Rattle.pb_typing.proofs.ValueMade.{tests-ended}
 use Rattle.pb_typing.proofs.joined.add_tests.Goals as goal
 

@@ -1,7 +1,7 @@
 use Rattle.std.proofs.Common.{◌≡◌, ◌++◌, map}
 use Rattle.std.specs.Vec.Iter.{into_iter_items}
-use Rattle.pb_typed_tree.specs.Tree.{Test}
-use Rattle.pb_typed_tree.specs.View.{term_views, formula_views}
+use Rattle.pb_typing_tree.specs.Tree.{Test}
+use Rattle.pb_typing_tree.specs.View.{term_views, formula_views}
 use Rattle.pb_typing.proofs.joined.add_tests.Given as goal
 
 abbrev pub invariant-loop-term : goal.invariant-loop-term

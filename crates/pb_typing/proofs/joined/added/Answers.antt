@@ -1,10 +1,10 @@
 use Rattle.std.proofs.Common.{◌≡◌, ◌∙◌, ◌++◌, ◌∷◌, [], map, ap, sym, subst, Result, Vec, Global}
 use Rattle.std.specs.Prelude.{IfOk}
 use Rattle.std.specs.declared.alloc.AllocError.{AllocError}
-use Rattle.pb_typed_tree.specs.declared.formula.Formula.{Formula}
-use Rattle.pb_typed_tree.specs.declared.term.Term.{Term}
-use Rattle.pb_typed_tree.specs.Tree.{Test}
-use Rattle.pb_typed_tree.specs.View.{formula_views, term_views}
+use Rattle.pb_typing_tree.specs.declared.formula.Formula.{Formula}
+use Rattle.pb_typing_tree.specs.declared.term.Term.{Term}
+use Rattle.pb_typing_tree.specs.Tree.{Test}
+use Rattle.pb_typing_tree.specs.View.{formula_views, term_views}
 use Rattle.pb_typing.specs.declared.joined.Joined.TheVariants as state
 use Rattle.pb_typing.proofs.ValueMade.{added-terms, added-formulas}
 use Rattle.pb_typing.proofs.joined.added.Goals as goal

@@ -1,8 +1,8 @@
 use Rattle.std.proofs.Common.{◌≡◌, ◌∙◌, ◌++◌, subst, Result, Vec, Global}
 use Rattle.std.specs.Prelude.{IfOk}
 use Rattle.std.specs.declared.alloc.AllocError.{AllocError}
-use Rattle.pb_typed_tree.specs.declared.formula.Formula.{Formula}
-use Rattle.pb_typed_tree.specs.View.{formula_views, term_views}
+use Rattle.pb_typing_tree.specs.declared.formula.Formula.{Formula}
+use Rattle.pb_typing_tree.specs.View.{formula_views, term_views}
 use Rattle.pb_typing.specs.Value.{tail}
 use Rattle.pb_typing.proofs.ValueMade.{terms-made, formulas-made}
 use Rattle.pb_typing.proofs.joined.finished.Goals as goal

@@ -1,9 +1,9 @@
 use Rattle.std.proofs.Common.{◌≡◌, ◌++◌, map, subst, Result, Vec, Global}
 use Rattle.std.specs.Prelude.{IfOk}
 use Rattle.std.specs.declared.alloc.AllocError.{AllocError}
-use Rattle.pb_typed_tree.specs.declared.formula.Formula.{Formula}
-use Rattle.pb_typed_tree.specs.Tree.{Test}
-use Rattle.pb_typed_tree.specs.View.{formula_views, term_views}
+use Rattle.pb_typing_tree.specs.declared.formula.Formula.{Formula}
+use Rattle.pb_typing_tree.specs.Tree.{Test}
+use Rattle.pb_typing_tree.specs.View.{formula_views, term_views}
 use Rattle.pb_typing.proofs.ValueMade.{with-last}
 use Rattle.pb_typing.proofs.joined.with_tests.Goals as goal
 

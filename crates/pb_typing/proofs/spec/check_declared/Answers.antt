@@ -1,12 +1,12 @@
 use Rattle.std.proofs.Common.{◌≡◌, ◌∙◌, ◌++◌, ap, sym, subst, rules}
 use Rattle.pb_text_tree.specs.Form.{SpecForm, spec_form}
 use Rattle.pb_text_meaning.specs.Erase.{erase}
-use Rattle.pb_errors.specs.declared.or_memory.OrMemory.{OrMemory}
+use Rattle.pb_base_errors.specs.declared.or_memory.OrMemory.{OrMemory}
 use Rattle.pb_typing_declarations.specs.declared.fault.TypingFault.{TypingFault}
 use Rattle.pb_typing_declarations.specs.Faults.{IsAmong}
 use Rattle.pb_typing_rules.specs.Faults.{initial_faults, right_faults}
 use Rattle.pb_typing_declarations.proofs.Parts.{among_left, among_right, no_whole}
-use Rattle.pb_typed_tree.specs.InitialPlace.{IsInitial}
+use Rattle.pb_typing_tree.specs.InitialPlace.{IsInitial}
 use Rattle.pb_typing.specs.Rights.{AreRights}
 use Rattle.pb_typing.specs.Typed.{IsLayout}
 use Rattle.pb_typing.proofs.spec.check_declared.Goals as goal

@@ -12,17 +12,17 @@ use Rattle.pb_typing_rules.specs.Shapes.{may_be_truth}
 use Rattle.pb_typing_rules.specs.Term.{shape}
 use Rattle.pb_typing_declarations.specs.declared.fault.TypingRule.TheVariants as rule
 use Rattle.pb_typing_declarations.specs.declared.fault.TypingFault.{TypingFault}
-use Rattle.pb_errors.specs.declared.or_memory.OrMemory.{OrMemory}
-use Rattle.pb_errors.specs.declared.or_memory.OrMemory.TheVariants.{Refused}
+use Rattle.pb_base_errors.specs.declared.or_memory.OrMemory.{OrMemory}
+use Rattle.pb_base_errors.specs.declared.or_memory.OrMemory.TheVariants.{Refused}
 use Rattle.pb_typing_declarations.specs.Declarations.{variables_faults}
 use Rattle.pb_typing_declarations.specs.Entries.{shapes_of}
 use Rattle.pb_typing_declarations.specs.Faults.{unless, IsAmong}
 use Rattle.pb_typing_declarations.specs.Shapes as model
 use Rattle.pb_typing_declarations.proofs.Parts.{among_left, among_right, among_first, first_clear}
-use Rattle.pb_typed_tree.specs.Elaboration.{Slotting, elaborated}
-use Rattle.pb_typed_tree.specs.Expansion.{expanded_term}
-use Rattle.pb_typed_tree.specs.Loops.{loops}
-use Rattle.pb_typed_tree.specs.View.{shape_view}
+use Rattle.pb_typing_tree.specs.Elaboration.{Slotting, elaborated}
+use Rattle.pb_typing_tree.specs.Expansion.{expanded_term}
+use Rattle.pb_typing_tree.specs.Loops.{loops}
+use Rattle.pb_typing_tree.specs.View.{shape_view}
 use Rattle.pb_typing_terms.specs.Chains.{link_faults, own_faults}
 use Rattle.pb_typing_nodes.specs.Contexts.{scope_in, slots_in, text_in}
 use Rattle.pb_typing.specs.Elaborated.{truth_faults}

@@ -1,6 +1,6 @@
 use Rattle.std.proofs.Common.{◌+◌, ◌*◌}
 use Rattle.pb_typing_declarations.specs.View.{spec_of}
-use Rattle.pb_typed_tree.specs.View.{shape_view}
+use Rattle.pb_typing_tree.specs.View.{shape_view}
 use Rattle.pb_typing_nodes.specs.Scopes.{scope_view, slotting}
 use Rattle.pb_typing.proofs.ValueNodes.{AreDone}
 use Rattle.pb_typing_terms.proofs.Weight.{weight, links_weight}

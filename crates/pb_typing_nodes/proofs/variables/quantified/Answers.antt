@@ -1,7 +1,7 @@
 use Rattle.std.proofs.Common.{ap}
-use Rattle.pb_typed_tree.specs.declared.formula.Formula.{Formula}
-use Rattle.pb_typed_tree.specs.Calls.{call_places}
-use Rattle.pb_typed_tree.specs.View.{formula_view, nested}
+use Rattle.pb_typing_tree.specs.declared.formula.Formula.{Formula}
+use Rattle.pb_typing_tree.specs.Calls.{call_places}
+use Rattle.pb_typing_tree.specs.View.{formula_view, nested}
 use Rattle.pb_typing_nodes.proofs.variables.quantified.Goals as goal
 
 pub returns-clause-view : goal.returns-clause-view

@@ -17,20 +17,20 @@ use Rattle.pb_typing_rules.specs.Shapes.{Computed, binary_shape, may_be_truth}
 use Rattle.pb_typing_rules.specs.Term.{shapes}
 use Rattle.pb_typing_declarations.specs.declared.fault.TypingRule.TheVariants as rule
 use Rattle.pb_typing_declarations.specs.declared.fault.TypingFault.{TypingFault}
-use Rattle.pb_errors.specs.declared.or_memory.OrMemory.{OrMemory}
-use Rattle.pb_errors.specs.declared.or_memory.OrMemory.TheVariants.{Refused}
+use Rattle.pb_base_errors.specs.declared.or_memory.OrMemory.{OrMemory}
+use Rattle.pb_base_errors.specs.declared.or_memory.OrMemory.TheVariants.{Refused}
 use Rattle.pb_typing_declarations.specs.Faults.{unless, IsAmong}
 use Rattle.pb_typing_declarations.specs.Shapes as model
 use Rattle.pb_typing_declarations.proofs.Parts.{among_left, among_right, among_first, first_clear, holds_unless}
-use Rattle.pb_typed_tree.specs.declared.shape.Shape.{Shape}
-use Rattle.pb_typed_tree.specs.declared.term.Link as made_link
-use Rattle.pb_typed_tree.specs.declared.term.Term as made_term
-use Rattle.pb_typed_tree.specs.Elaboration.{Slotting}
-use Rattle.pb_typed_tree.specs.Tree as tree
-use Rattle.pb_typed_tree.specs.Tree.{Binary}
-use Rattle.pb_typed_tree.specs.View as view
-use Rattle.pb_typed_tree.specs.View.{shape_view, term_view, term_views, link_views}
-use Rattle.pb_typed_tree.proofs.Views as made
+use Rattle.pb_typing_tree.specs.declared.shape.Shape.{Shape}
+use Rattle.pb_typing_tree.specs.declared.term.Link as made_link
+use Rattle.pb_typing_tree.specs.declared.term.Term as made_term
+use Rattle.pb_typing_tree.specs.Elaboration.{Slotting}
+use Rattle.pb_typing_tree.specs.Tree as tree
+use Rattle.pb_typing_tree.specs.Tree.{Binary}
+use Rattle.pb_typing_tree.specs.View as view
+use Rattle.pb_typing_tree.specs.View.{shape_view, term_view, term_views, link_views}
+use Rattle.pb_typing_tree.proofs.Views as made
 use Rattle.pb_typing_terms.specs.Chains.{arithmetic_faults, calculated_shape, link_faults, own_faults}
 use Rattle.pb_typing_nodes.specs.Contexts.{scope_in, slots_in, text_in}
 use Rattle.pb_typing_terms.specs.Terms.{ChecksTermIn}

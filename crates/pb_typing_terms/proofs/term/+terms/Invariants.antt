@@ -1,6 +1,6 @@
 use Rattle.std.proofs.Common.{◌≡◌, ◌+◌, ◌*◌, ◌++◌, drop, false}
 use Rattle.pb_typing_declarations.specs.View.{spec_of}
-use Rattle.pb_typed_tree.specs.View.{shape_view, term_views, link_views}
+use Rattle.pb_typing_tree.specs.View.{shape_view, term_views, link_views}
 use Rattle.pb_typing_terms.specs.Chains.{arithmetic_faults, calculated_shape, link_faults}
 use Rattle.pb_typing_nodes.specs.Scopes.{scope_view, slotting}
 use Rattle.pb_typing_terms.specs.Slots.{link_terms, arithmetic_terms}

@@ -1,7 +1,7 @@
 -- What is told is written.
 use Rattle.std.proofs.Common.{◌≡◌, ◌∙◌, ℕ, List, IfOk, map, sym, string_bytes}
-use Rattle.pb_faults.proofs.HandedUp.{handed_up}
-use Rattle.pb_module_commands.proofs.Deliveries.{nothing_written}
+use Rattle.pb_command_faults.proofs.HandedUp.{handed_up}
+use Rattle.pb_command_modules.proofs.Deliveries.{nothing_written}
 use Rattle.pbsolve.specs.declared.status.Status.{Status}
 use Rattle.pbsolve.specs.Models.{IsUnchecked}
 use Rattle.pbsolve.specs.Outputs.{OutputsVerdicts}

@@ -1,7 +1,7 @@
 -- The module is that of what was read.
 use Rattle.pb_text_tree.specs.Form.{spec_form}
 use Rattle.pb_bytecode.specs.Decoded.{module_contents}
-use Rattle.pb_faults.proofs.HandedUp.{handed_on}
+use Rattle.pb_command_faults.proofs.HandedUp.{handed_on}
 use Rattle.pbsolve.specs.Refusals.{IsUncompiled, IsUncompiledForm}
 use Rattle.pbsolve.proofs.Refusals.{form_uncompiled}
 use Rattle.pbsolve.proofs.Texts.{of_bytes}

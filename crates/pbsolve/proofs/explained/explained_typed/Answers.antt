@@ -1,7 +1,7 @@
 -- The module of the text is explained, or the text isn't.
 use Rattle.pb_text_tree.specs.Form.{spec_form}
-use Rattle.pb_faults.proofs.HandedUp.{handed_on}
-use Rattle.pb_module_commands.specs.Refusals.{IsRefusedModule}
+use Rattle.pb_command_faults.proofs.HandedUp.{handed_on}
+use Rattle.pb_command_modules.specs.Refusals.{IsRefusedModule}
 use Rattle.pbsolve.specs.Refusals.{IsUncompiledForm, IsUnexplainedForm}
 use Rattle.pbsolve.proofs.Refusals.{form_unexplained, module_unexplained}
 use Rattle.pbsolve.proofs.explained.explained_typed.Goals as goal

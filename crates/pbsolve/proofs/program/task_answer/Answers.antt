@@ -1,8 +1,8 @@
 -- What `why` tells is what is asked for.
 use Rattle.std.proofs.Common.{List, ℕ, Option, sym, subst}
 use Rattle.pb_command_line.specs.declared.request.Task.{Task}
-use Rattle.pb_faults.specs.Errors.{IfInputRefused}
-use Rattle.pb_module_commands.specs.Delivery.{Delivers}
+use Rattle.pb_command_faults.specs.Errors.{IfInputRefused}
+use Rattle.pb_command_modules.specs.Delivery.{Delivers}
 use Rattle.pbsolve.specs.Models.{IsUntranslated}
 use Rattle.pbsolve.specs.Outputs.{IsRefusedFor, OutputsFor}
 use Rattle.pbsolve.specs.Why.{IsUnshown, OutputsWhy}

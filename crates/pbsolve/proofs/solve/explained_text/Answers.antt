@@ -2,7 +2,7 @@
 use Rattle.std.proofs.Common.{sym, subst}
 use Rattle.pb_text_tree.specs.Form.{spec_form}
 use Rattle.pb_typing.specs.declared.typed.Typed.{Typed}
-use Rattle.pb_faults.proofs.HandedUp.{handed_on}
+use Rattle.pb_command_faults.proofs.HandedUp.{handed_on}
 use Rattle.pbsolve.specs.Answers.{IsTheReading}
 use Rattle.pbsolve.specs.Refusals.{IsRefused, IsUncompiled, IsUnexplainedForm}
 use Rattle.pbsolve.proofs.Refusals.{uncompiled, unexplained}

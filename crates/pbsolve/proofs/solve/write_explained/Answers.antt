@@ -8,11 +8,11 @@ use Rattle.pb_report.specs.ModuleEvidence.{ForEvidenceText}
 use Rattle.pb_evidence_places.specs.CallPlaces.{told_place}
 use Rattle.pbsolve.specs.Outputs.{OutputsEvidence}
 use Rattle.pbsolve.specs.Refusals.{IsRefused}
-use Rattle.pb_module_commands.specs.Refusals.{IsRefusedModule}
-use Rattle.pb_module_commands.proofs.Deliveries.{less_delivered, nothing_in_want}
+use Rattle.pb_command_modules.specs.Refusals.{IsRefusedModule}
+use Rattle.pb_command_modules.proofs.Deliveries.{less_delivered, nothing_in_want}
 use Rattle.pbsolve.proofs.Evidence.{text_evidence}
 use Rattle.pbsolve.proofs.Refusals.{module_of_text_refused}
-use Rattle.pb_faults.proofs.HandedUp.{if_input_refused, wanting_up}
+use Rattle.pb_command_faults.proofs.HandedUp.{if_input_refused, wanting_up}
 use Rattle.pbsolve.proofs.Texts.{of_bytes}
 use Rattle.pbsolve.proofs.solve.write_explained.Goals as goal
 

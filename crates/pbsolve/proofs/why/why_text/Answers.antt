@@ -4,12 +4,12 @@ use Rattle.std.specs.Prelude.{option_copied}
 use Rattle.pb_model_tree.specs.Form.{model_form}
 use Rattle.pb_model_words.specs.Vocabulary.{Vocabulary}
 use Rattle.pbsolve.specs.Why.{IsUnshown, OutputsWhy, TellAsked}
-use Rattle.pb_module_commands.proofs.Deliveries.{less_delivered, nothing_written, only_write}
+use Rattle.pb_command_modules.proofs.Deliveries.{less_delivered, nothing_written, only_write}
 use Rattle.pbsolve.proofs.Checked.{model_untold, untold_unexplained}
 use Rattle.pbsolve.proofs.Tellings.{missed, no_name, never_missed_model, unshown}
-use Rattle.pb_faults.proofs.HandedUp.{handed_up, refused_up}
+use Rattle.pb_command_faults.proofs.HandedUp.{handed_up, refused_up}
 use Rattle.pb_model_properties.specs.Refusals.{IsRefusedModel}
-use Rattle.pb_faults.specs.Errors.{fault_of_model}
+use Rattle.pb_command_faults.specs.Errors.{fault_of_model}
 use Rattle.pbsolve.proofs.why.why_text.Goals as goal
 
 pub returns-in_err-lines-clause-refused : goal.returns-in_err-lines-clause-refused

@@ -1,5 +1,5 @@
 use Rattle.std.proofs.Common.{◌≡◌, ℕ, suc, ◌+◌, List, [], ◌∷◌, ◌++◌, ◌∙◌, ap, subst, arith}
-use Rattle.pb_trees.specs.Game.{brackets, targets}
+use Rattle.pb_fixpoint_trees.specs.Game.{brackets, targets}
 use Rattle.pb_game_of_trees.specs.Draft.{IsDraft}
 use Rattle.pb_game_of_trees.specs.Builder.{connective, rest_targets, rest_starts, rest_vertices}
 use Rattle.pb_game_of_trees.proofs.Opened.{targets_opened, starts_opened, vertices_opened}

@@ -1,5 +1,5 @@
 use Rattle.std.proofs.Common.{◌≡◌, ℕ, suc, List, [], ◌∷◌, ◌++◌, ◌∙◌, ap, subst, arith, append-nil}
-use Rattle.pb_trees.specs.Game.{Vertex, targets, bracket_vertex, inner_vertices}
+use Rattle.pb_fixpoint_trees.specs.Game.{Vertex, targets, bracket_vertex, inner_vertices}
 use Rattle.pb_game_of_trees.specs.Draft.{IsDraft}
 use Rattle.pb_game_of_trees.specs.Builder.{connective, rest_vertices}
 use Rattle.pb_game_of_trees.proofs.builder.Builder.open_root.Goals as goal

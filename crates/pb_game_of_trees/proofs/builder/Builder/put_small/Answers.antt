@@ -1,6 +1,6 @@
 use Rattle.std.proofs.Common.{◌<◌, length, slice_index, sym, ap, ◌∙◌, subst}
-use Rattle.pb_trees.specs.declared.Token.TheVariants as token
-use Rattle.pb_trees.specs.Tree.{Connective, End, LeafThen, Root, Tree, TreeCalls}
+use Rattle.pb_fixpoint_trees.specs.declared.Token.TheVariants as token
+use Rattle.pb_fixpoint_trees.specs.Tree.{Connective, End, LeafThen, Root, Tree, TreeCalls}
 use Rattle.pb_game_of_trees.specs.Numbering.{table_of}
 use Rattle.pb_game_of_trees.specs.Builder.{CallsBelow, HasTree}
 use Rattle.pb_game_of_trees.proofs.AroundLeaf.{small_tree, leaf_calls}

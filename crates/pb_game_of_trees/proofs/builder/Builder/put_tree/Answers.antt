@@ -1,6 +1,6 @@
 use Rattle.std.proofs.Common.{◌-◌, List, length, get_or, sym, ap, subst, slice_index, arith}
-use Rattle.pb_trees.specs.declared.Token.TheVariants as token
-use Rattle.pb_trees.specs.Tree.{Operands}
+use Rattle.pb_fixpoint_trees.specs.declared.Token.TheVariants as token
+use Rattle.pb_fixpoint_trees.specs.Tree.{Operands}
 use Rattle.pb_game_of_trees.specs.Builder.{rest_at, opened, IsAt}
 use Rattle.pb_game_of_trees.proofs.First.{token_calls, first_token_calls, length-tree_tokens}
 use Rattle.pb_game_of_trees.proofs.Reading.{rest_none, rest_step, rest_first, first_behind, first_is, some_next, read_tree}

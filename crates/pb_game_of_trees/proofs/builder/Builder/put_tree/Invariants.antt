@@ -1,7 +1,7 @@
 use Rattle.std.proofs.Common.{◌≡◌, ℕ, ◌-◌, ◌<◌, ◌≤◌, List, [], length, slice_index}
-use Rattle.pb_trees.specs.Tree.{Tree}
-use Rattle.pb_trees.specs.Tokens.{tree_tokens}
-use Rattle.pb_trees.specs.Game.{Vertex}
+use Rattle.pb_fixpoint_trees.specs.Tree.{Tree}
+use Rattle.pb_fixpoint_trees.specs.Tokens.{tree_tokens}
+use Rattle.pb_fixpoint_trees.specs.Game.{Vertex}
 use Rattle.pb_game_of_trees.specs.Builder.{rest_at, opened, IsAt}
 use Rattle.pb_game_of_trees.specs.Numbering.{table_of}
 use Rattle.pb_game_of_trees.proofs.builder.Builder.put_tree.Given as goal

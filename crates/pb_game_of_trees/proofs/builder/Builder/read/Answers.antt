@@ -1,5 +1,5 @@
 use Rattle.std.proofs.Common.{refl, slice_index}
-use Rattle.pb_trees.specs.Tree.{Conjunction, Disjunction, Yes, No, Cut, Call}
+use Rattle.pb_fixpoint_trees.specs.Tree.{Conjunction, Disjunction, Yes, No, Cut, Call}
 use Rattle.pb_game_of_trees.proofs.Reading.{read_close, read_leaf, read_bracket}
 use Rattle.pb_game_of_trees.specs.Numbering.{table_of}
 use Rattle.pb_game_of_trees.proofs.builder.Builder.read.Goals as goal

@@ -1,8 +1,8 @@
 use Rattle.std.proofs.Common.{get_or, sym, ◌∙◌, arith}
 use Rattle.std.proofs.lemmas.List.{get_or_read}
 use Rattle.std.proofs.lemmas.Option.{slice_get-get_or}
-use Rattle.pb_trees.specs.Rows.{Row}
-use Rattle.pb_trees.specs.Tree.{No, Single}
+use Rattle.pb_fixpoint_trees.specs.Rows.{Row}
+use Rattle.pb_fixpoint_trees.specs.Tree.{No, Single}
 use Rattle.pb_game_of_trees.proofs.Placed.{row_within, row_vertex, count_rows, within_rows, contained}
 use Rattle.pb_game_of_trees.proofs.solved.Solved.row_truth.Goals as goal
 

@@ -1,6 +1,6 @@
 use Rattle.std.proofs.Common.{refl, arith}
 use Rattle.std.proofs.lemmas.Result.{err_from_is_err_and}
-use Rattle.pb_rows.specs.Reached.{rows_of}
+use Rattle.pb_fixpoint_rows.specs.Reached.{rows_of}
 use Rattle.pb_game_of_trees.proofs.Reached.{reached_of}
 use Rattle.pb_game_of_trees.proofs.Built.{size_is}
 use Rattle.pb_game_of_trees.proofs.LaidOut.{none_found, size_found, small_found}

@@ -1,7 +1,7 @@
 use Rattle.std.proofs.Common.{ℕ, List, length, slice_index, ◌≡◌, sym, ap, ◌∙◌, subst, arith}
 use Rattle.std.proofs.lemmas.List.{length-map}
-use Rattle.pb_trees.specs.Game.{game_vertices}
-use Rattle.pb_rows.specs.Reached.{rows_of}
+use Rattle.pb_fixpoint_trees.specs.Game.{game_vertices}
+use Rattle.pb_fixpoint_rows.specs.Reached.{rows_of}
 use Rattle.pb_game_of_trees.specs.Draft.{IsDraft}
 use Rattle.pb_game_of_trees.specs.Levels.{AreOrdered}
 use Rattle.pb_game_of_trees.specs.Numbering.{table_of}

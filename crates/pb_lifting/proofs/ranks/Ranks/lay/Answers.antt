@@ -1,5 +1,5 @@
 use Rattle.std.proofs.Common.{◌≡◌, ◌-◌, sym, ap, ◌∙◌, subst, arith}
-use Rattle.pb_shared_words.specs.Views.{dealt, MayDeal}
+use Rattle.pb_exploration_words.specs.Views.{dealt, MayDeal}
 use Rattle.pb_lifting.specs.declared.view.Key.{Key}
 use Rattle.pb_lifting.specs.declared.view.View.{View}
 use Rattle.pb_lifting.specs.Rule.{first_view, rest_view, kept_view, given_view}

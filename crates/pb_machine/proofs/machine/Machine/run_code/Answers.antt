@@ -1,6 +1,6 @@
 use Rattle.std.proofs.Common.{◌≡◌, suc, ◌-◌, true, false, length, refl, ap, subst, arith, rules, Fits, w64}
 use Rattle.std.proofs.lemmas.Option.{slice_get_within}
-use Rattle.pb_trees.specs.Tokens.{tree_tokens}
+use Rattle.pb_fixpoint_trees.specs.Tokens.{tree_tokens}
 use Rattle.pb_bytecode_program.specs.Machine.{execute}
 use Rattle.pb_bytecode_program.specs.declared.instruction.Op.{Op}
 use Rattle.pb_machine.specs.Mirror.{IsNoFault, WritesAtMost}

@@ -1,7 +1,7 @@
 use Rattle.std.proofs.Common.{◌≡◌, ◌+◌, ◌<◌, Bool, true, false, true≢false, IsTrue, Option, None, Some, IsSome, map, refl, sym, ◌∙◌, ap, subst, arith, ℕ}
 use Rattle.std.specs.List.{slice_get}
 use Rattle.std.proofs.lemmas.Option.{none-some}
-use Rattle.pb_carriers.specs.Carrier.{Tuple, is_within}
+use Rattle.pb_base_values.specs.Carrier.{Tuple, is_within}
 use Rattle.pb_sorts.specs.Carrier.{values_of}
 use Rattle.pb_sorts.specs.Instance.{first_of, instances}
 use Rattle.pb_sorts.specs.Layout.{carriers_of}

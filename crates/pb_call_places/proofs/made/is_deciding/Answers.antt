@@ -1,4 +1,0 @@
-use Rattle.pb_call_places.proofs.made.is_deciding.Goals as goal
-
-pub formula_truth-holds-requires : goal.formula_truth-holds-requires
-formula_truth-holds-requires c = c.requires

@@ -1,0 +1,56 @@
+-- What is refused by one command of a module is refused by those that do more.
+use Rattle.std.proofs.Common.{◌≡◌, ℕ, List, sym, subst}
+use Rattle.std.specs.Prelude.{Result}
+use Rattle.std.specs.Result.{IsErrAnd}
+use Rattle.pb_base_errors.specs.OrMemory.{IfFault}
+use Rattle.pb_base_errors.specs.declared.or_memory.OrMemory.{OrMemory}
+use Rattle.pb_command_faults.specs.declared.solve_error.SolveError.{SolveError}
+use Rattle.pb_command_faults.specs.declared.solve_fault.SolveFault.{SolveFault}
+use Rattle.pb_command_faults.specs.declared.solve_fault.SolveFault.TheVariants as solve_fault
+use Rattle.pb_command_faults.specs.Errors.{IfInputRefused, joins_into}
+use Rattle.pb_command_faults.proofs.HandedUp.{refused_up}
+use Rattle.pb_bytecode.specs.Contents.{Contents}
+use Rattle.pb_game_of_trees.specs.declared.tree_game.TooManyVertices.{TooManyVertices}
+use Rattle.pb_command_solver.specs.Answers.{IsTooLarge}
+use Rattle.pb_command_modules.specs.Answers.{IsModuleOfCode}
+use Rattle.pb_command_modules.specs.Refusals.{IsRefusedModule, IsUnlisted, IsUnverified, IsRefusedBytes}
+
+-- ---- from a command to those that do more
+
+pub unlisted : (bytes : List ℕ) (f : SolveFault) → IsUnlisted bytes f → IsUnverified bytes f
+unlisted bytes (solve_fault.Acceptance fault) h = absurd h
+unlisted bytes solve_fault.TooManyVertices h = h
+unlisted bytes solve_fault.NoProperty h = h
+unlisted bytes (solve_fault.Property fault) h = h
+unlisted bytes (solve_fault.Text fault) h = h
+unlisted bytes (solve_fault.Typing fault) h = h
+unlisted bytes (solve_fault.Limit excess) h = h
+unlisted bytes (solve_fault.Module fault) h = h
+
+pub unverified : (bytes : List ℕ) (f : SolveFault) → IsUnverified bytes f → IsRefusedBytes bytes f
+unverified bytes solve_fault.TooManyVertices h = absurd h
+unverified bytes solve_fault.NoProperty h = h
+unverified bytes (solve_fault.Property fault) h = h
+unverified bytes (solve_fault.Text fault) h = h
+unverified bytes (solve_fault.Typing fault) h = h
+unverified bytes (solve_fault.Limit excess) h = h
+unverified bytes (solve_fault.Module fault) h = h
+unverified bytes (solve_fault.Acceptance fault) h = h
+
+-- ---- what is refused of a module is refused of the bytes that spell it
+
+pub module_of_code_refused : (bytes : List ℕ) (m : Contents) → IsModuleOfCode bytes m → (f : SolveFault) → IsRefusedModule m f → IsRefusedBytes bytes f
+module_of_code_refused bytes m of_code solve_fault.TooManyVertices h = (m, of_code, h)
+module_of_code_refused bytes m of_code solve_fault.NoProperty h = absurd h
+module_of_code_refused bytes m of_code (solve_fault.Property fault) h = absurd h
+module_of_code_refused bytes m of_code (solve_fault.Text fault) h = absurd h
+module_of_code_refused bytes m of_code (solve_fault.Typing fault) h = absurd h
+module_of_code_refused bytes m of_code (solve_fault.Limit excess) h = absurd h
+module_of_code_refused bytes m of_code (solve_fault.Module fault) h = absurd h
+module_of_code_refused bytes m of_code (solve_fault.Acceptance fault) h = absurd h
+
+-- where `?` hands up a module's refusal
+pub too_large_up : {T : Type 0} (m : Contents) (e : OrMemory TooManyVertices) (r : Result T SolveError) → IfFault e (λ _. IsTooLarge m)
+    → IsErrAnd r (joins_into (λ _ above. above ≡ solve_fault.TooManyVertices) e) → IfInputRefused r (IsRefusedModule m)
+too_large_up m e r large made =
+    refused_up (λ _ above. above ≡ solve_fault.TooManyVertices) (λ _. IsTooLarge m) (IsRefusedModule m) (λ f above same h. subst (IsRefusedModule m) (sym same) h) e r large made

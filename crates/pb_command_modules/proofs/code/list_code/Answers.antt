@@ -1,0 +1,39 @@
+-- What was written is the listing of the module that was read.
+use Rattle.std.proofs.Common.{◌∙◌, ℕ, List, subst}
+use Rattle.pb_bytecode.specs.Decoded.{module_contents}
+use Rattle.pb_command_modules.specs.Outputs.{OutputsListing}
+use Rattle.pb_command_modules.specs.Refusals.{IsUnlisted}
+use Rattle.pb_command_modules.proofs.Deliveries.{less_delivered, nothing_in_want, nothing_written, only_write}
+use Rattle.pb_command_faults.proofs.HandedUp.{handed_up, wanting_up}
+use Rattle.pb_command_modules.proofs.code.list_code.Goals as goal
+
+pub returns-in_err-module-clause-listed : goal.returns-in_err-module-clause-listed
+returns-in_err-module-clause-listed g c =
+    nothing_written g.S.Sink.taken g.S.Sink.has_failed _ (OutputsListing c.args.bytes.now) c.args.writer.now
+    c.in_err-module.field-0.0 c.from_residual.result c.from_residual.ensures.1
+
+pub returns-in_err-module-clause-refused : goal.returns-in_err-module-clause-refused
+returns-in_err-module-clause-refused g c =
+    let P = IsUnlisted c.args.bytes.now in
+    handed_up P P (λ f h. h) c.in_err-module.field-0.0 c.from_residual.result c.in_err-module.ensures.refused c.from_residual.ensures.1
+
+pub returns-in_err-listing-clause-listed : goal.returns-in_err-listing-clause-listed
+returns-in_err-listing-clause-listed g c =
+    nothing_in_want g.S.Sink.taken g.S.Sink.has_failed (OutputsListing c.args.bytes.now) c.args.writer.now
+    c.from_residual-in_err-listing.result c.from_residual-in_err-listing.ensures.1
+
+pub returns-clause-listed : goal.returns-clause-listed
+returns-clause-listed g c =
+    less_delivered g.S.Sink.taken g.S.Sink.has_failed (λ (P : List ℕ → Type 0). P c.as_slice.result.now) (OutputsListing c.args.bytes.now)
+    (λ (P : List ℕ → Type 0) h. (
+      module_contents c.in_ok-module.module,
+      c.in_ok-module.ensures.«module»,
+      subst P (c.as_slice.ensures.value ∙ c.in_ok-listing.ensures) h,
+    )) c.args.writer.now c.deliver.new.writer c.deliver.result c.deliver.ensures.text
+
+pub returns-clause-refused : goal.returns-clause-refused
+returns-clause-refused g c = only_write (IsUnlisted c.args.bytes.now) c.deliver.result c.deliver.ensures.failed
+
+pub returns-in_err-listing-clause-refused : goal.returns-in_err-listing-clause-refused
+returns-in_err-listing-clause-refused g c =
+    wanting_up (IsUnlisted c.args.bytes.now) c.from_residual-in_err-listing.result c.from_residual-in_err-listing.ensures.1

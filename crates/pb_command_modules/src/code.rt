@@ -1,0 +1,104 @@
+//! Modules that bytes spell: whether they are accepted, what they say, and their answers.
+ghost use Rattle.std.specs.Prelude.{IfOk};
+ghost use Rattle.pb_base_errors.specs.OrMemory.{IfRefused};
+ghost use Rattle.pb_command_faults.specs.Errors.{IfInputRefused};
+ghost use Rattle.std.specs.Io.KnownBytes.{Appends};
+ghost use Rattle.pb_report.specs.Report.{report_text};
+ghost use Rattle.pb_bytecode.specs.Decoded.{module_contents};
+ghost use Rattle.pb_command_modules.specs.Answers.{IsAnswerOfCode, IsModuleOfCode, Spell};
+ghost use Rattle.pb_command_modules.specs.Delivery.{Delivers};
+ghost use Rattle.pb_command_modules.specs.Refusals.{IsRefusedBytes, IsUnlisted, IsUnverified};
+ghost use Rattle.pb_command_modules.specs.Outputs.{OutputsAcceptance, OutputsAnswer};
+ghost use Rattle.pb_command_modules.specs.Outputs.{OutputsListing};
+
+use crate::delivery::deliver;
+use crate::module::write_report;
+use pb_base_errors::OrMemory;
+use pb_bytecode::Module;
+use pb_bytecode::decode::decode;
+use pb_bytecode::list::list;
+use pb_command_faults::{SolveError, SolveFault};
+use pb_command_solver::{Context, SolveOptions};
+use pb_exploration::Gate;
+use pb_report::Answer;
+use pb_sorts::Sink;
+use pb_verifier::{Verified, verify};
+use std::alloc::Global;
+use std::thread::Threads;
+
+// The module that bytes spell.
+fn decoded(alloc: Global, bytes: &[u8]) -> Result<Module, OrMemory<SolveFault>>
+    ensures module { IfOk result (λ m. Spell bytes.now (module_contents m)) }
+    ensures refused { IfRefused result (IsUnlisted bytes.now) }
+{
+    match decode(alloc, bytes) {
+        Ok(module) => Ok(module),
+        Err(error) => Err(error.raise()),
+    }
+}
+
+// The module that bytes spell, verified.
+fn verified_code(alloc: Global, bytes: &[u8]) -> Result<Verified, OrMemory<SolveFault>>
+    ensures module { IfOk result (IsModuleOfCode bytes.now) }
+    ensures refused { IfRefused result (IsUnverified bytes.now) }
+{
+    let module = decoded(alloc, bytes)?;
+    match verify(alloc, module) {
+        Ok(verified) => Ok(verified),
+        Err((_module, error)) => Err(error.raise()),
+    }
+}
+
+/// Answers a module, given by its bytes, and writes the report: the truth of its initial instance
+/// in the nested fixpoint solution of its equations, whose right sides are the trees with which the
+/// runs of its code end.
+///
+/// # Errors
+/// `Module` says what is wrong with the bytes and where, `Acceptance` which rule the code breaks
+/// and where. Others are as with `write_report`.
+pub fn solve_code<R: Threads + Sync, G: Gate + Sync, S: Sink>(
+    context: &Context<'_, R, G>,
+    bytes: &[u8],
+    options: SolveOptions,
+    writer: &mut S,
+) -> Result<Answer, SolveError>
+    ensures answer { IfOk result (IsAnswerOfCode bytes.now) }
+    ensures report { IfOk result
+        (λ answer. Appends (S.taken writer.old) (S.taken writer.new) (report_text answer)) }
+    ensures written { Delivers (OutputsAnswer bytes.now) result
+        S.taken S.has_failed writer.old writer.new }
+    ensures refused { IfInputRefused result (IsRefusedBytes bytes.now) }
+{
+    let verified = verified_code(context.alloc, bytes)?;
+    write_report(context, &verified, options, writer)
+}
+
+/// Verifies a module, given by its bytes, and writes `accepted` and a line feed.
+///
+/// # Errors
+/// `Module` says what is wrong with the bytes and where, `Acceptance` which rule the code breaks
+/// and where; `Memory` comes where a request for memory was refused, and `Write` where the text
+/// could not be written whole.
+pub fn verify_code<S: Sink>(alloc: Global, bytes: &[u8], writer: &mut S) -> Result<(), SolveError>
+    ensures accepted { Delivers (OutputsAcceptance bytes.now) result
+        S.taken S.has_failed writer.old writer.new }
+    ensures refused { IfInputRefused result (IsUnverified bytes.now) }
+{
+    let _verified = verified_code(alloc, bytes)?;
+    deliver(b"accepted\n", writer)
+}
+
+/// Lists a module, given by its bytes, whose code need not be accepted.
+///
+/// # Errors
+/// `Module` says what is wrong with the bytes and where; `Memory` comes where a request for memory
+/// was refused, and `Write` where the listing could not be written whole.
+pub fn list_code<S: Sink>(alloc: Global, bytes: &[u8], writer: &mut S) -> Result<(), SolveError>
+    ensures listed { Delivers (OutputsListing bytes.now) result
+        S.taken S.has_failed writer.old writer.new }
+    ensures refused { IfInputRefused result (IsUnlisted bytes.now) }
+{
+    let module = decoded(alloc, bytes)?;
+    let listing = list(alloc, &module)?;
+    deliver(listing.as_slice(), writer)
+}

@@ -1,0 +1,156 @@
+//! The texts of a verified module: its report, its game, its solution, a certificate and its
+//! evidence.
+ghost use Rattle.std.specs.Prelude.{◌≤◌, ◌<◌, ℕ, Option, IfOk};
+ghost use Rattle.pb_base_errors.specs.OrMemory.{IfRefused};
+ghost use Rattle.pb_command_faults.specs.Errors.{IfInputRefused};
+ghost use Rattle.std.specs.Io.KnownBytes.{Appends};
+ghost use Rattle.pb_text_tree.specs.declared.place.Place.{Place};
+ghost use Rattle.pb_report.specs.Report.{report_text};
+ghost use Rattle.pb_report.specs.CallPlaces.{AreCallPlaces};
+ghost use Rattle.pb_report.specs.ModuleEvidence.{ForEvidenceText, IsExplanation};
+ghost use Rattle.pb_command_solver.specs.Answers.{IsAnswerOf};
+ghost use Rattle.pb_command_solver.specs.Texts.{ForCertificateText, ForGameText, ForSolutionText};
+ghost use Rattle.pb_command_modules.specs.Delivery.{Delivers};
+ghost use Rattle.pb_command_modules.specs.Refusals.{IsRefusedModule};
+ghost use Rattle.pb_command_modules.specs.Outputs.{ForReport};
+
+use pb_base_errors::OrMemory;
+use pb_command_faults::{SolveError, SolveFault};
+use pb_command_solver::{
+    Context, SolveOptions, answer_module, build_module, explain_module, solve_module,
+    write_explanation,
+};
+use pb_exploration::Gate;
+use pb_game::Solver;
+use pb_report::{Answer, Explanation, PlacedExplanation, report};
+use pb_sorts::Sink;
+use pb_verifier::Verified;
+use std::alloc::Global;
+use std::thread::Threads;
+
+/// Answers a module, and writes the report of the answer once it is known.
+///
+/// # Errors
+/// `TooManyVertices` comes where the game would have more than 2^24 vertices, `Memory` where a
+/// request for memory was refused, and `Write` where the text could not be written whole.
+pub fn write_report<R: Threads + Sync, G: Gate + Sync, S: Sink>(
+    context: &Context<'_, R, G>,
+    verified: &Verified,
+    options: SolveOptions,
+    writer: &mut S,
+) -> Result<Answer, SolveError>
+    ensures answer { IfOk result (IsAnswerOf verified.now) }
+    ensures report { IfOk result
+        (λ answer. Appends (S.taken writer.old) (S.taken writer.new) (report_text answer)) }
+    ensures written { Delivers (ForReport verified.now) result
+        S.taken S.has_failed writer.old writer.new }
+    ensures refused { IfInputRefused result (IsRefusedModule verified.now) }
+{
+    let answer = answer_module(context, verified, options)?;
+    report(context.alloc, &answer, writer)?;
+    Ok(answer)
+}
+
+/// Writes the parity game of the reached instances. Nobody solves it.
+///
+/// # Errors
+/// As with `write_report`.
+pub fn write_game<R: Threads + Sync, G: Gate + Sync, S: Sink>(
+    context: &Context<'_, R, G>,
+    verified: &Verified,
+    workers: u32,
+    writer: &mut S,
+) -> Result<(), SolveError>
+    requires { (0 < workers) × (workers ≤ 16) }
+    ensures game { Delivers (ForGameText verified.now) result
+        S.taken S.has_failed writer.old writer.new }
+    ensures refused { IfInputRefused result (IsRefusedModule verified.now) }
+{
+    let built = build_module(context, verified, workers)?;
+    built.write_game(context.alloc, verified, writer)?;
+    Ok(())
+}
+
+/// Writes the truth of each reached instance.
+///
+/// # Errors
+/// As with `write_report`.
+pub fn write_solution<R: Threads + Sync, G: Gate + Sync, S: Sink>(
+    context: &Context<'_, R, G>,
+    verified: &Verified,
+    options: SolveOptions,
+    writer: &mut S,
+) -> Result<(), SolveError>
+    ensures solution { Delivers (ForSolutionText verified.now) result
+        S.taken S.has_failed writer.old writer.new }
+    ensures refused { IfInputRefused result (IsRefusedModule verified.now) }
+{
+    let solved = solve_module(context, verified, options)?;
+    solved.write_solution(context.alloc, verified, writer)?;
+    Ok(())
+}
+
+/// Writes a certificate of the game that `write_game` writes: the winner of each vertex, and the
+/// winner's choices.
+///
+/// # Errors
+/// As with `write_report`.
+pub fn write_certificate<R: Threads + Sync, G: Gate + Sync, S: Sink>(
+    context: &Context<'_, R, G>,
+    verified: &Verified,
+    options: SolveOptions,
+    writer: &mut S,
+) -> Result<(), SolveError>
+    ensures certificate { Delivers (ForCertificateText verified.now) result
+        S.taken S.has_failed writer.old writer.new }
+    ensures refused { IfInputRefused result (IsRefusedModule verified.now) }
+{
+    let solved = solve_module(context, verified, options)?;
+    solved.write_certificate(context.alloc, verified, writer)?;
+    Ok(())
+}
+
+/// Why the initial instance of a module has its truth value.
+///
+/// # Errors
+/// `TooManyVertices` comes where the game would have more than 2^24 vertices; memory was refused.
+pub fn explained<R: Threads + Sync, G: Gate + Sync>(
+    context: &Context<'_, R, G>,
+    verified: &Verified,
+    workers: u32,
+) -> Result<Explanation, OrMemory<SolveFault>>
+    requires { (0 < workers) × (workers ≤ 16) }
+    ensures explanation { IfOk result (IsExplanation verified.now) }
+    ensures refused { IfRefused result (IsRefusedModule verified.now) }
+{
+    let solver = Solver::Zielonka;
+    let options = SolveOptions { workers, solver };
+    match explain_module(context, verified, options) {
+        Ok(explanation) => Ok(explanation),
+        Err(error) => Err(error.raise()),
+    }
+}
+
+/// Writes the evidence of a module, with the places that are given of its calls.
+///
+/// # Errors
+/// `Memory` comes where a request for memory was refused, and `Write` where the text could not be
+/// written whole.
+pub fn write_evidence<S: Sink>(
+    alloc: Global,
+    verified: &Verified,
+    placed: &PlacedExplanation<'_>,
+    writer: &mut S,
+) -> Result<(), SolveError>
+    requires explanation { IsExplanation verified.now placed.now.explanation.now }
+    requires places { (place : ℕ → ℕ → Option Place)
+        × AreCallPlaces place placed.now.explanation.now.evidence placed.now.call_places.now }
+    ensures evidence { (place : ℕ → ℕ → Option Place)
+        → AreCallPlaces place placed.now.explanation.now.evidence placed.now.call_places.now
+        → Delivers (ForEvidenceText verified.now place) result
+        S.taken S.has_failed writer.old writer.new }
+    ensures refused { IfInputRefused result (IsRefusedModule verified.now) }
+{
+    write_explanation(alloc, verified, placed, writer)?;
+    Ok(())
+}

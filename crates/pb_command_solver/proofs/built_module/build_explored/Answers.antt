@@ -1,0 +1,10 @@
+use Rattle.pb_base_errors.proofs.Faults.{if_fault}
+use Rattle.pb_command_solver.proofs.Rows.{module_rows, too_large}
+use Rattle.pb_command_solver.proofs.built_module.build_explored.Goals as goal
+
+pub build-requires-clause-rows : goal.build-requires-clause-rows
+build-requires-clause-rows c = module_rows _ _ _ c.rows.ensures c.requires
+
+pub returns-in-Err-clause-too_many : goal.returns-in-Err-clause-too_many
+returns-in-Err-clause-too_many c =
+    if_fault c.in-Err.error (λ _ large. too_large _ _ _ c.rows.ensures c.requires large) c.in-Err.ensures.too_many

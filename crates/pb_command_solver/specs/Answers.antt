@@ -1,0 +1,64 @@
+-- What the answer to a module is. The trees that its instances have are determined by the module,
+-- and there are such trees (`meaning_is_unique` and `instances_have_trees` of pb_machine); a fact
+-- about them is said of whichever trees they have.
+use Rattle.std.specs.Prelude.{◌≡◌, ⊤, ℕ, Bool, ◌<◌, ◌≤◌, List, Option, Some, None}
+use Rattle.pb_fixpoint_trees.specs.Tree.{Tree}
+use Rattle.pb_fixpoint_rows.specs.Row.{TokenRow}
+use Rattle.pb_bytecode.specs.Contents.{Contents}
+use Rattle.pb_bytecode.specs.Meaning.{AreTrees, answer}
+use Rattle.pb_exploration.specs.Rows.{AreReached, AreExploredRows}
+use Rattle.pb_game_of_trees.specs.Explored.{IsModuleGame}
+use Rattle.pb_report.specs.declared.answer.Answer.{Answer}
+use Rattle.pb_report.specs.ModuleTexts.{answer_for}
+use Rattle.pb_command_solver.specs.declared.built_module.BuiltModule.{BuiltModule}
+use Rattle.pb_command_solver.specs.declared.early.Early.{Early}
+use Rattle.pb_command_solver.specs.declared.early.Early.TheVariants.{Unknown, Shown, Whole}
+use Rattle.pb_command_solver.specs.declared.solved_module.SolvedModule.{SolvedModule}
+use Rattle.pb_base_limits.specs.declared.TheConstants.{MAX_VERTICES}
+
+-- the truth of the initial instance in the solution of the module's equations
+abbrev pub IsTruthOf : Contents → Bool → Type 0
+IsTruthOf m truth = (trees : ℕ → Tree) → AreTrees m trees → truth ≡ answer m trees
+
+-- The truth of the initial instance in the solution of the module's equations, and the counts of
+-- its reached instances, of those whose tree has a Cut, and of their game's vertices, which are at
+-- most 2^24.
+pub record IsAnswerUnder (m : Contents) (trees : ℕ → Tree) (a : Answer) : Type 0 where
+  pub rows : List TokenRow
+  pub reached : AreReached m trees rows
+  pub exact : a ≡ answer_for m trees rows
+  pub few : a.vertices ≤ MAX_VERTICES
+
+abbrev pub IsAnswerOf : Contents → Answer → Type 0
+IsAnswerOf m a = (trees : ℕ → Tree) → AreTrees m trees → IsAnswerUnder m trees a
+
+-- what is told by the nearest instances: nothing, that truth, or the answer
+abbrev pub IsEarly : Contents → Early → Type 0
+IsEarly m Unknown = ⊤
+IsEarly m (Shown truth) = IsTruthOf m truth
+IsEarly m (Whole answer) = IsAnswerOf m answer
+
+-- the truth of the initial instance, where it is told
+abbrev pub truth_in : Early → Option Bool
+truth_in Unknown = None
+truth_in (Shown truth) = Some truth
+truth_in (Whole answer) = Some answer.truth
+
+-- the game of the reached instances has more than 2^24 vertices
+pub record IsTooLargeUnder (m : Contents) (trees : ℕ → Tree) : Type 0 where
+  pub rows : List TokenRow
+  pub reached : AreReached m trees rows
+  pub large : MAX_VERTICES < (answer_for m trees rows).vertices
+
+abbrev pub IsTooLarge : Contents → Type 0
+IsTooLarge m = (trees : ℕ → Tree) → AreTrees m trees → IsTooLargeUnder m trees
+
+-- the rows are the module's reached instances, and the game is that of these
+pub record IsBuiltModule (m : Contents) (b : BuiltModule) : Type 0 where
+  pub explored : AreExploredRows m b.explored
+  pub game : IsModuleGame m b.explored b.built
+
+-- the same, where the game is solved
+pub record IsSolutionOf (m : Contents) (s : SolvedModule) : Type 0 where
+  pub explored : AreExploredRows m s.explored
+  pub game : IsModuleGame m s.explored s.solved.built

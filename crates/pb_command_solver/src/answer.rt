@@ -1,0 +1,47 @@
+//! Answers of modules, where nothing else is asked for.
+ghost use Rattle.std.specs.Prelude.{IfOk};
+ghost use Rattle.pb_base_errors.specs.OrMemory.{OnRefused};
+ghost use Rattle.pb_command_solver.specs.Answers.{IsAnswerOf, IsTooLarge};
+
+use crate::built_module::{BuiltModule, build_module, solve_game};
+use crate::context::Context;
+use crate::options::SolveOptions;
+use pb_exploration::Gate;
+use pb_game_of_trees::BuildError;
+use pb_machine::instances_have_trees;
+use pb_report::Answer;
+use pb_report::cut_calls::count_cut;
+use pb_verifier::Verified;
+use std::thread::Threads;
+
+/// Answers a verified module, which is solved as by `solve_module`: the truth of the initial
+/// instance in the nested solution of the module's equations (Groote and Willemse 2005), how many
+/// instances were reached, how many of these meet a cut, and how many vertices the game has. The
+/// trees of the instances go before their game is solved, so that this takes less memory.
+///
+/// # Errors
+/// As with `solve_module`.
+pub fn answer_module<R: Threads + Sync, G: Gate + Sync>(
+    context: &Context<'_, R, G>,
+    verified: &Verified,
+    options: SolveOptions,
+) -> Result<Answer, BuildError>
+    ensures answer { IfOk result (IsAnswerOf verified.now) }
+    ensures too_many { OnRefused result (IsTooLarge verified.now) }
+{
+    instances_have_trees(verified);
+    match build_module(context, verified, options.workers) {
+        Ok(BuiltModule { explored, built }) => {
+            let cut = count_cut(explored.rows());
+            drop(explored);
+            let solved = solve_game(context, built, options)?;
+            Ok(Answer {
+                truth: solved.truth(),
+                instances: solved.built.instances(),
+                cut,
+                vertices: solved.built.game.len(),
+            })
+        }
+        Err(error) => Err(error),
+    }
+}

@@ -1,0 +1,106 @@
+//! Modules whose game is built: what is solved, whether its rows are kept behind it or not, and
+//! what can be written of it before anybody solves it.
+ghost use Rattle.std.specs.Prelude.{◌≡◌, ◌<◌, ◌≤◌, IfOk};
+ghost use Rattle.pb_base_errors.specs.OrMemory.{OnRefused};
+ghost use Rattle.pb_exploration.specs.Rows.{AreExploredRows};
+ghost use Rattle.pb_game.specs.Certificates.{IsCertificate};
+ghost use Rattle.pb_command_solver.specs.Lifting.{IsLiftedOrNone};
+ghost use Rattle.pb_report.specs.Delivery.{Delivers, is_failed};
+ghost use Rattle.pb_game.specs.declared.solver.Solver.TheVariants.{Lift};
+ghost use Rattle.pb_command_solver.specs.Answers.{IsBuiltModule, IsTooLarge};
+ghost use Rattle.pb_command_solver.specs.Texts.{ForGameText};
+
+use crate::context::Context;
+use crate::options::SolveOptions;
+use crate::solve;
+use pb_exploration::{Explored, Gate, explore};
+use pb_game_of_trees::{BuildError, Solved, TreeGame, build};
+use pb_machine::instances_have_trees;
+use pb_report::WriteError;
+use pb_report::game_text::game_text;
+use pb_sorts::Sink;
+use pb_verifier::Verified;
+use std::alloc::{AllocError, Global};
+use std::thread::Threads;
+
+/// The reached instances of a module, with their game.
+#[derive(Drop)]
+pub struct BuiltModule {
+    pub explored: Explored,
+    pub built: TreeGame,
+}
+
+/// Explores the reached instances of a verified module, by so many workers, and builds their game.
+/// The gate sees each attempt of a worker to take an instance. Nothing is solved.
+///
+/// # Errors
+/// `TooManyVertices` where the game would have more than 2^24 vertices; else `Memory`.
+pub fn build_module<R: Threads + Sync, G: Gate + Sync>(
+    context: &Context<'_, R, G>,
+    verified: &Verified,
+    workers: u32,
+) -> Result<BuiltModule, BuildError>
+    requires { (0 < workers) × (workers ≤ 16) }
+    ensures built { IfOk result (IsBuiltModule verified.now) }
+    ensures too_many { OnRefused result (IsTooLarge verified.now) }
+{
+    let explored = explore(context.rt, context.alloc, verified, workers, context.gate)?;
+    build_explored(context.alloc, verified, explored)
+}
+
+/// Builds the game of a module's reached instances, however they were explored: by `explore`, or by
+/// a caller's own workers, whose words `Explored::gather` reads.
+///
+/// # Errors
+/// As with `build_module`.
+pub fn build_explored(
+    alloc: Global,
+    verified: &Verified,
+    explored: Explored,
+) -> Result<BuiltModule, BuildError>
+    requires { AreExploredRows verified.now explored }
+    ensures built { IfOk result (IsBuiltModule verified.now) }
+    ensures too_many { OnRefused result (IsTooLarge verified.now) }
+{
+    instances_have_trees(verified);
+    match build(alloc, verified, explored.rows()) {
+        Ok(built) => Ok(BuiltModule { explored, built }),
+        Err(error) => Err(error),
+    }
+}
+
+impl BuiltModule {
+    /// Appends the game of the reached instances, in the form that PGSolver reads.
+    ///
+    /// # Errors
+    /// `Memory` before the first byte. After `Failed` a part that begins the text, and not the
+    /// whole of it, went out.
+    pub fn write_game<S: Sink>(
+        &self,
+        alloc: Global,
+        verified: &Verified,
+        sink: &mut S,
+    ) -> Result<(), WriteError>
+        requires { IsBuiltModule verified.now self.now }
+        ensures { Delivers is_failed (ForGameText verified.now) result
+            S.taken S.has_failed sink.old sink.new }
+    {
+        instances_have_trees(verified);
+        game_text(alloc, verified, &self.built, self.explored.rows(), sink)
+    }
+}
+
+/// Solves a game by the solver that is asked for. The checker has certified the winners.
+pub(crate) fn solve_game<R: Threads + Sync, G: Gate + Sync>(
+    context: &Context<'_, R, G>,
+    built: TreeGame,
+    options: SolveOptions,
+) -> Result<Solved, AllocError>
+    ensures built { IfOk result (λ s. s.built ≡ built) }
+    ensures certificate { IfOk result (λ s. IsCertificate s.built.game s.certified) }
+    ensures lifted { options.solver ≡ Lift → IfOk result
+        (λ s. IsLiftedOrNone s.built.game s.certified) }
+{
+    let certified = solve(context, &built.game, options.solver, options.workers)?;
+    Ok(Solved::new(built, certified))
+}

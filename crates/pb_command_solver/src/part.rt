@@ -1,0 +1,168 @@
+//! Parts of a module's instances, those nearest to the initial one, whose game tells whether this
+//! is true. Evidence names few instances, and holds whatever trees the others have; so parts are
+//! tried first, each larger than the one before, and everything is explored only where none of
+//! them is enough.
+ghost use Rattle.std.specs.Prelude.{◌≡◌, IfOk, IfSome, true};
+ghost use Rattle.pb_bytecode.specs.Contents.{Contents};
+ghost use Rattle.pb_report.specs.ModuleEvidence.{IsExplanation};
+ghost use Rattle.pb_evidence_nearby.specs.Nearby.{IsNearby};
+ghost use Rattle.pb_command_solver.specs.Answers.{IsAnswerOf};
+ghost use Rattle.pb_command_solver.specs.Parts.{IsPart, IsSolvedPart};
+
+use crate::built_module::solve_game;
+use crate::context::Context;
+use crate::options::SolveOptions;
+use pb_evidence_nearby::Nearby;
+use pb_exploration::Gate;
+use pb_fixpoint::Sign;
+use pb_fixpoint_rows::IndexedRows;
+use pb_game_of_trees::{BuildError, Solved, build_rows};
+use pb_machine::instances_have_trees;
+use pb_report::cut_calls::count_cut;
+use pb_report::{Answer, Explanation, evidence_of_rows};
+use pb_verifier::Verified;
+use std::alloc::{AllocError, Global};
+use std::thread::Threads;
+
+/// A round ends when about so many instances are found in all. What the rounds cost is lost where
+/// none of them is enough: one thread explores 2^16 instances, and solves games of twice 2^10,
+/// twice 2^12, twice 2^14 and once 2^16. That is less than a run over 2^17 takes, and a tenth of
+/// one over a million. Rounds up to 2^18 would show deeper faults, and cost those runs a third.
+const ROUNDS: [usize; 4] = [1 << 10, 1 << 12, 1 << 14, LAST_ROUND];
+
+/// In the last round one game is tried, of the value that a part of the instances more often shows
+/// (`shows_truth`), since a second one would cost as much as all before.
+const LAST_ROUND: usize = 1 << 16;
+
+/// Rows of a part of the instances, from whose game a truth value may be shown.
+#[derive(Drop)]
+struct Part {
+    rows: IndexedRows,
+    truth: bool,
+    /// Whether these are all reached instances, so that either value is shown.
+    is_whole: bool,
+}
+
+/// A part of the instances with its solved game, from which the initial one has the part's truth
+/// value whichever trees the others have, or where there are no others.
+#[derive(Drop)]
+pub(crate) struct SolvedPart {
+    part: Part,
+    solved: Solved,
+}
+
+/// The instances nearby, from which this truth value may be shown.
+fn part_of(alloc: Global, nearby: &Nearby, truth: bool) -> Result<Part, AllocError>
+    requires { (m : Contents) × IsNearby m nearby.now }
+    ensures { IfOk result (λ part. (m : Contents) → IsNearby m nearby.now → IsPart m part) }
+{
+    let rows = nearby.around(alloc, truth)?;
+    let is_whole = nearby.is_whole();
+    Ok(Part {
+        rows,
+        truth,
+        is_whole,
+    })
+}
+
+/// The part with its solved game, where that is enough.
+fn solve_part<R: Threads + Sync, G: Gate + Sync>(
+    context: &Context<'_, R, G>,
+    verified: &Verified,
+    options: SolveOptions,
+    part: Part,
+) -> Result<Option<SolvedPart>, AllocError>
+    requires { IsPart verified.now part }
+    ensures { IfOk result (λ found. IfSome found (IsSolvedPart verified.now)) }
+{
+    instances_have_trees(verified);
+    let built = match build_rows(context.alloc, verified, &part.rows) {
+        Ok(built) => built,
+        Err(BuildError::Refused(_)) => return Ok(None),
+        Err(BuildError::Memory) => return Err(AllocError),
+    };
+    let solved = solve_game(context, built, options)?;
+    if solved.truth() != part.truth && !part.is_whole {
+        return Ok(None);
+    }
+    Ok(Some(SolvedPart { part, solved }))
+}
+
+/// Whether a part of the instances more often shows that the initial one is true. A least fixpoint
+/// is true by one run to what is sought, and false by all runs; a greatest one is false by one run
+/// to what fails, and true by all.
+fn shows_truth(verified: &Verified) -> bool {
+    let layout = verified.layout();
+    let instance = layout.instance(verified.initial());
+    let equation = &verified.module().equations[instance.equation as usize];
+    equation.sign == Sign::Mu
+}
+
+/// The first part that is enough, if any. The instances nearest to the initial one are explored
+/// breadth first on the calling thread, so that what is found is the same whatever the workers do.
+/// A round whose last instance calls too many is left out.
+pub(crate) fn first_part<R: Threads + Sync, G: Gate + Sync>(
+    context: &Context<'_, R, G>,
+    verified: &Verified,
+    options: SolveOptions,
+) -> Result<Option<SolvedPart>, AllocError>
+    ensures { IfOk result (λ found. IfSome found (IsSolvedPart verified.now)) }
+{
+    let shows_truth = shows_truth(verified);
+    let mut nearby = Nearby::new(context.alloc, verified)?;
+    for &most in &ROUNDS {
+        nearby.grow(verified, most)?;
+        if nearby.len() / 2 > most {
+            continue;
+        }
+        for truth in [false, true] {
+            if most == LAST_ROUND && truth != shows_truth {
+                continue;
+            }
+            let part = part_of(context.alloc, &nearby, truth)?;
+            if let Some(found) = solve_part(context, verified, options, part)? {
+                return Ok(Some(found));
+            }
+        }
+    }
+    Ok(None)
+}
+
+impl SolvedPart {
+    /// Whether these are all reached instances.
+    pub(crate) fn is_whole(&self) -> bool
+        ensures { result ≡ self.now.part.is_whole }
+    {
+        self.part.is_whole
+    }
+
+    /// Why the initial instance has its truth value.
+    pub(crate) fn explanation(
+        &self,
+        alloc: Global,
+        verified: &Verified,
+    ) -> Result<Explanation, AllocError>
+        requires { IsSolvedPart verified.now self.now }
+        ensures { IfOk result (IsExplanation verified.now) }
+    {
+        instances_have_trees(verified);
+        pb_evidence::assumed_is_shown();
+        evidence_of_rows(alloc, &self.solved, &self.part.rows)
+    }
+
+    /// The answer to the module, where these are all reached instances.
+    pub(crate) fn answer(&self, verified: &Verified) -> Answer
+        requires solved { IsSolvedPart verified.now self.now }
+        requires whole { self.now.part.is_whole ≡ true }
+        ensures { IsAnswerOf verified.now result }
+    {
+        instances_have_trees(verified);
+        let cut = count_cut(&self.part.rows);
+        Answer {
+            truth: self.solved.truth(),
+            instances: self.solved.built.instances(),
+            cut,
+            vertices: self.solved.built.game.len(),
+        }
+    }
+}

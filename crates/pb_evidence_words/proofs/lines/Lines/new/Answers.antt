@@ -1,0 +1,25 @@
+use Rattle.std.proofs.Common.{◌≡◌, ℕ, ◌<◌, List, length, ap, ◌∙◌, subst, arith}
+use Rattle.std.specs.Prelude.{slice_index}
+use Rattle.pb_evidence.specs.Evidence.{graph_of}
+use Rattle.pb_evidence_words.specs.Lines.{ArePlaces}
+use Rattle.pb_evidence_words.specs.Order.{parent_at, run_start}
+use Rattle.pb_evidence_words.proofs.Runs.{same_runs}
+use Rattle.pb_evidence_words.proofs.lines.Lines.new.Goals as goal
+
+pub returns : goal.returns
+returns c =
+    let e = c.args.evidence.now in
+    let ps = c.in_ok-parents.parents.items in
+    let count : length ps ≡ length e.instances.items = c.in_ok-parents.ensures.sized in
+    let read : c.deref-2.result.now ≡ ps = c.deref-2.ensures.value in
+    record {
+      places = subst (λ (ns : List ℕ). ArePlaces ns c.in_ok-places.places) c.deref.ensures.value c.in_ok-places.ensures;
+      parents_sized = count;
+      parents = c.in_ok-parents.ensures.parents;
+      starts_sized = c.in_ok-starts.ensures.sized ∙ (ap length read ∙ count);
+      starts = λ k within.
+          let here : k < length c.deref-2.result.now = omega (arith, count, ap length read) in
+          c.in_ok-starts.ensures.starts k here
+          ∙ (ap (λ (qs : List ℕ). run_start (slice_index qs) k) read
+          ∙ same_runs (slice_index ps) (parent_at (graph_of e)) (length e.instances.items) c.in_ok-parents.ensures.parents k within);
+    }

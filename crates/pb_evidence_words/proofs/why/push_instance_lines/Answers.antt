@@ -1,0 +1,14 @@
+use Rattle.std.proofs.Common.{◌≡◌, ◌++◌, string_bytes, subst}
+use Rattle.std.specs.Prelude.{OnOk}
+use Rattle.pb_evidence_words.specs.declared.shown.Shown.{Shown}
+use Rattle.pb_evidence_words.specs.Ready.{told_of}
+use Rattle.pb_evidence_words.specs.InstanceLines.{instance_lines}
+use Rattle.pb_evidence_words.proofs.Told.{told-for}
+use Rattle.pb_evidence_words.proofs.why.push_instance_lines.Goals as goal
+
+pub returns : goal.returns
+returns c =
+    let s0 = string_bytes c.args.text.now in
+    let s1 = string_bytes c.push_instance_lines.new.text in
+    told-for instance_lines c.push_instance_lines.result c.args.shown.now c.requires.explanation s0 s1
+    (subst (λ (x : Shown). OnOk c.push_instance_lines.result (s1 ≡ s0 ++ instance_lines (told_of x))) c.in_ok-telling.ensures.shown c.push_instance_lines.ensures)

@@ -1,0 +1,46 @@
+-- The same evidence as lines of instances, for programs that read it: each line with the instances
+-- that it rests on, and with each the step that leads to it.
+--
+--     line     = instance ( " true:" | " false:" ) { " " instance [ mark ] } [ " cut" ] NEWLINE
+--     instance = FORMULA [ "(" VALUE { "," VALUE } ")" ]
+--     mark     = "@" STEP [ "(" VALUE { "," VALUE } ")" ]
+use Rattle.std.specs.Prelude.{ℕ, List, [], ◌++◌, codes, flat_map, length, Option, Some, None}
+use Rattle.std.specs.List.{find, range_with_len}
+use Rattle.pb_sorts.specs.Instance.{Instance}
+use Rattle.pb_model_words.specs.Vocabulary.{Vocabulary}
+use Rattle.pb_model_words.specs.Words.{values_text, mark_text}
+use Rattle.pb_evidence_calls.specs.MadeCalls.{MadeCall, calls_at}
+use Rattle.pb_report.specs.EvidenceText.{line_tail}
+use Rattle.pb_evidence_words.specs.WhyText.{Told, dependencies_at, formula_text, instance_at, is_call_of}
+use Rattle.pb_evidence_words.specs.WhyText.{is_cut_at, line_instance}
+
+-- an equation's name with the values of a state
+abbrev pub instance_text : Told → Instance → List ℕ
+instance_text t i = formula_text t i ++ values_text t.vocabulary i.values
+
+-- the step of a call, where one is made and it stands at a step's name
+abbrev pub call_mark : Vocabulary → Option MadeCall → List ℕ
+call_mark m None = []
+call_mark m (Some c) = mark_text m c.place c.own
+
+-- that of the first of these calls that names an instance
+abbrev pub mark_among : Vocabulary → List MadeCall → Instance → List ℕ
+mark_among m calls j = call_mark m (find (is_call_of j) calls)
+
+-- the instance n, come to from another one
+abbrev pub dependency_text : Told → Instance → ℕ → List ℕ
+dependency_text t i n =
+    codes " " ++ (instance_text t (instance_at t n)
+    ++ mark_among t.vocabulary (calls_at t.text i) (instance_at t n))
+
+-- what the line at k rests on
+abbrev pub dependencies_text : Told → ℕ → List ℕ
+dependencies_text t k = flat_map (dependency_text t (line_instance t k)) (dependencies_at t k)
+
+abbrev pub instance_line : Told → ℕ → List ℕ
+instance_line t k =
+    instance_text t (line_instance t k)
+    ++ line_tail t.truth (dependencies_text t k) (is_cut_at t k)
+
+abbrev pub instance_lines : Told → List ℕ
+instance_lines t = flat_map (instance_line t) (range_with_len 0 (length t.graph.instances))

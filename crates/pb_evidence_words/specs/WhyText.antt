@@ -1,0 +1,169 @@
+-- Why a property has its truth value, as a text: the lines of evidence, each with the move that
+-- leads to it, in the words of the model.
+--
+--     why   = { line { edge } { cut } [ here ] }
+--     first = "1 " FORMULA ": " state NEWLINE
+--     line  = NUMBER " " FORMULA " " [ "from " NUMBER " " ] move NEWLINE
+--     edge  = "  " move ( ", back to line " NUMBER ", for ever" | ", to line " NUMBER ) NEWLINE
+--     cut   = "  " move ", outside the ranges" NEWLINE
+--     here  = "  here" [ reason ] ": " state NEWLINE
+use Rattle.std.specs.Prelude.{ℕ, suc, ◌+◌, ◌==◌, Bool, true, false, ◌&&◌, if◌then◌else◌}
+use Rattle.std.specs.Prelude.{List, [], ◌∷◌, ◌++◌, length, flat_map, slice_index, slice_index_or}
+use Rattle.std.specs.Prelude.{codes, decimal, Option, Some, None, unwrap_or}
+use Rattle.std.specs.List.{find, range_with_len, slice_get}
+use Rattle.std.specs.Cmp.Lexicographic.{pointwise}
+use Rattle.std.specs.Ordering.{int_eq}
+use Rattle.pb_text_tree.specs.Form.{EquationForm, SpecForm}
+use Rattle.pb_sorts.specs.declared.carrier.Carrier.{Carrier}
+use Rattle.pb_sorts.specs.Instance.{Instance, is_instance}
+use Rattle.pb_sorts.specs.Layout.{carriers_of}
+use Rattle.pb_model_words.specs.Vocabulary.{Vocabulary}
+use Rattle.pb_model_words.specs.Words.{state_text, move_text, changes_text}
+use Rattle.pb_evidence_calls.specs.MadeCalls.{MadeCall, calls_at}
+use Rattle.pb_evidence.specs.ProofGraphs.{Graph}
+use Rattle.pb_evidence_places.specs.CallPlaces.{instance_numbered}
+use Rattle.pb_evidence_words.specs.Order.{place_of, parent_at, leads_back, has_edge}
+
+-- What is told: the words of the model, the text of its property and the one of its every step, the
+-- layout of the property's instances, and evidence for a truth value, with which of its lines rest
+-- on a cut call.
+pub record Told : Type 0 where
+  pub vocabulary : Vocabulary
+  pub text : SpecForm
+  pub steps : SpecForm
+  pub layout : List (List Carrier)
+  pub truth : Bool
+  pub graph : Graph
+  pub cuts : List Bool
+
+-- the same with these lines resting on a cut call
+abbrev pub with_cuts : List Bool → Told → Told
+with_cuts cuts t = record t { cuts = cuts }
+
+-- the instance with a number, else an equation without values
+abbrev pub instance_at : Told → ℕ → Instance
+instance_at t n =
+    unwrap_or (instance_numbered t.layout n) (record { equation = 0; values = [] })
+
+-- the instance that a line is of
+abbrev pub line_instance : Told → ℕ → Instance
+line_instance t k = instance_at t (slice_index t.graph.instances k)
+
+abbrev pub equation_name : Option EquationForm → List ℕ
+equation_name None = []
+equation_name (Some X) = X.name.text
+
+abbrev pub formula_text : Told → Instance → List ℕ
+formula_text t i = equation_name (slice_get t.text.equations i.equation)
+
+abbrev pub is_empty : {A : Type 0} → List A → Bool
+is_empty [] = true
+is_empty (x ∷ xs) = false
+
+-- ---- moves
+
+abbrev pub is_same : Instance → Instance → Bool
+is_same i j = (i.equation == j.equation) && pointwise int_eq i.values j.values
+
+abbrev pub is_call_of : Instance → MadeCall → Bool
+is_call_of j c = is_same c.instance j
+
+-- by a call; where none is made, which is so where data is tested behind it, by no step
+abbrev pub move_by : Vocabulary → Instance → Instance → Option MadeCall → List ℕ
+move_by m i j None = codes "by no step" ++ changes_text m i.values j.values
+move_by m i j (Some c) = move_text m c.place c.own i.values c.instance.values
+
+-- the move of the first of these calls that names an instance
+abbrev pub move_among : Vocabulary → List MadeCall → Instance → Instance → List ℕ
+move_among m calls i j = move_by m i j (find (is_call_of j) calls)
+
+-- the move by which an instance goes over to another
+abbrev pub move_between : Told → Instance → Instance → List ℕ
+move_between t i j = move_among t.vocabulary (calls_at t.text i) i j
+
+-- ---- lines
+
+-- the line that the one at k comes from, where it isn't the one before
+abbrev pub from_text : Told → ℕ → List ℕ
+from_text t k =
+    let parent = parent_at t.graph k in
+    if suc parent == k then [] else codes "from " ++ (decimal (parent + 1) ++ codes " ")
+
+-- how the line at k is come to
+abbrev pub arrival_text : Told → ℕ → List ℕ
+arrival_text t k =
+    if k == 0 then codes ": " ++ state_text t.vocabulary (line_instance t 0).values
+    else codes " " ++ (from_text t k
+    ++ move_between t (line_instance t (parent_at t.graph k)) (line_instance t k))
+
+abbrev pub line_text : Told → ℕ → List ℕ
+line_text t k =
+    decimal (k + 1) ++ (codes " " ++ (formula_text t (line_instance t k)
+    ++ (arrival_text t k ++ codes "\n")))
+
+-- ---- what stands below the line at k
+
+-- to the line at j: back, where that makes a cycle
+abbrev pub target_text : Told → ℕ → ℕ → List ℕ
+target_text t k j =
+    if leads_back t.graph k j
+    then codes ", back to line " ++ (decimal (j + 1) ++ codes ", for ever\n")
+    else codes ", to line " ++ (decimal (j + 1) ++ codes "\n")
+
+-- to the line of the instance n
+abbrev pub to_text : Told → ℕ → ℕ → List ℕ
+to_text t k n =
+    codes "  " ++ (move_between t (line_instance t k) (instance_at t n)
+    ++ target_text t k (place_of t.graph n))
+
+-- the same, where that line isn't shown to come from here
+abbrev pub edge_text : Told → ℕ → ℕ → List ℕ
+edge_text t k n = if has_edge t.graph k n then to_text t k n else []
+
+-- a call that leaves the ranges
+abbrev pub cut_text : Told → Instance → MadeCall → List ℕ
+cut_text t i c =
+    if is_instance (carriers_of t.layout) c.instance then []
+    else codes "  " ++ (move_text t.vocabulary c.place c.own i.values c.instance.values
+    ++ codes ", outside the ranges\n")
+
+abbrev pub is_cut_at : Told → ℕ → Bool
+is_cut_at t k = slice_index_or t.cuts k false
+
+abbrev pub cuts_text : Told → ℕ → List ℕ
+cuts_text t k =
+    let i = line_instance t k in
+    if is_cut_at t k then flat_map (cut_text t i) (calls_at t.text i) else []
+
+-- no step leads away from a state
+abbrev pub is_stuck : Told → Instance → Bool
+is_stuck t i = is_empty (calls_at t.steps (record { equation = 0; values = i.values }))
+
+-- why a line rests on no other
+abbrev pub reason_text : Told → ℕ → List ℕ
+reason_text t k =
+    if is_cut_at t k then [] else
+    (if is_stuck t (line_instance t k) then codes " no step can be taken" else
+    (if t.truth then codes " the test holds" else codes " the test fails"))
+
+abbrev pub here_text : Told → ℕ → List ℕ
+here_text t k =
+    codes "  here" ++ (reason_text t k ++ (codes ": "
+    ++ (state_text t.vocabulary (line_instance t k).values ++ codes "\n")))
+
+abbrev pub dependencies_at : Told → ℕ → List ℕ
+dependencies_at t k = t.graph.dependencies (slice_index t.graph.instances k)
+
+abbrev pub end_text : Told → ℕ → List ℕ
+end_text t k = if is_empty (dependencies_at t k) then here_text t k else []
+
+abbrev pub below_text : Told → ℕ → List ℕ
+below_text t k =
+    flat_map (edge_text t k) (dependencies_at t k) ++ (cuts_text t k ++ end_text t k)
+
+-- ---- all lines
+
+abbrev pub why_lines : Told → List ℕ
+why_lines t =
+    flat_map (λ k. line_text t k ++ below_text t k)
+    (range_with_len 0 (length t.graph.instances))

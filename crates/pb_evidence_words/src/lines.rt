@@ -1,0 +1,134 @@
+//! The lines of evidence: where an instance's line stands, and which line each comes from. Both are
+//! looked up in tables, so that writing all lines takes time linear in what they say.
+
+ghost use Rattle.std.specs.Prelude.{◌≡◌, ◌≢◌, ◌<◌, ℕ, IfOk, length, nat_eq, slice_index, unwrap_or};
+ghost use Rattle.std.specs.Prelude.{if◌then◌else◌};
+ghost use Rattle.std.specs.HashMap.{get};
+ghost use Rattle.pb_game.specs.Adjacency.{is_among, row};
+ghost use Rattle.pb_evidence.specs.Evidence.{graph_of};
+ghost use Rattle.pb_evidence_words.specs.Lines.{AreLinesOf, ArePlaces, HasLines};
+ghost use Rattle.pb_evidence_words.specs.Order.{parent_at, run_start};
+
+use pb_evidence::Evidence;
+use std::alloc::{AllocError, Global};
+use std::collections::HashMap;
+
+/// For each instance the place of its line, and for each line the first line that rests on its
+/// instance, and where the longest run of lines that ends with it begins.
+#[derive(Drop)]
+pub(crate) struct Lines {
+    pub places: HashMap<u32, usize>,
+    pub parents: Vec<usize>,
+    pub starts: Vec<usize>,
+}
+
+/// The place of each number.
+fn places_of(alloc: Global, numbers: &[u32]) -> Result<HashMap<u32, usize>, AllocError>
+    requires { (i j : ℕ) → i < j → j < length numbers.now
+        → slice_index numbers.now i ≢ slice_index numbers.now j }
+    ensures { IfOk result (λ places. ArePlaces numbers.now places) }
+{
+    let mut places = HashMap::new(alloc);
+    for k in 0..numbers.len() {
+        places.insert(numbers[k], k)?;
+    }
+    Ok(places)
+}
+
+/// The place of a number, or 0 of one that has none.
+pub(crate) fn place_in(places: &HashMap<u32, usize>, number: u32) -> usize
+    ensures { result ≡ unwrap_or (get nat_eq places.now number) 0 }
+{
+    places.get(&number).copied().unwrap_or(0)
+}
+
+/// Lets the lines of all instances that a line rests on come from that line.
+fn take_children(
+    evidence: &Evidence,
+    places: &HashMap<u32, usize>,
+    line: usize,
+    parents: &mut [usize],
+)
+    requires lines { HasLines evidence.now }
+    requires places { ArePlaces evidence.now.instances.items places.now }
+    requires line { line < length evidence.now.instances.items }
+    requires sized { length parents.old ≡ length evidence.now.instances.items }
+    ensures { (k : ℕ) → k < length evidence.now.instances.items → slice_index parents.new k
+        ≡ (if is_among (row evidence.now.places.items evidence.now.dependencies.items line)
+        (slice_index evidence.now.instances.items k) then line else slice_index parents.old k) }
+{
+    for child in evidence.dependencies(line) {
+        let place = place_in(places, *child);
+        parents[place] = line;
+    }
+}
+
+/// The line that each line comes from. The lines are gone through from the last to the first, so
+/// that the first one that rests on an instance is left as the one that its line comes from.
+fn parents_of(
+    alloc: Global,
+    evidence: &Evidence,
+    places: &HashMap<u32, usize>,
+) -> Result<Vec<usize>, AllocError>
+    requires lines { HasLines evidence.now }
+    requires places { ArePlaces evidence.now.instances.items places.now }
+    ensures sized { IfOk result (λ parents. length parents.items
+        ≡ length evidence.now.instances.items) }
+    ensures parents { IfOk result (λ parents. (k : ℕ) → k < length evidence.now.instances.items
+        → slice_index parents.items k ≡ parent_at (graph_of evidence.now) k) }
+{
+    let count = evidence.instances.len();
+    let mut parents = vec![in alloc; count; count]?;
+    let mut line = count;
+    while line > 0 {
+        line -= 1;
+        take_children(evidence, places, line, &mut parents);
+    }
+    Ok(parents)
+}
+
+/// Where the longest run that ends with a line begins, those of the lines before being known.
+fn start_of(parents: &[usize], starts: &[usize], line: usize) -> usize
+    requires line { line < length parents.now }
+    requires known { length starts.now ≡ line }
+    requires starts { (k : ℕ) → k < line
+        → slice_index starts.now k ≡ run_start (slice_index parents.now) k }
+    ensures { result ≡ run_start (slice_index parents.now) line }
+{
+    if line > 0 && parents[line] == line - 1 {
+        starts[line - 1]
+    } else {
+        line
+    }
+}
+
+/// Where the longest run that ends with each line begins.
+fn starts_of(alloc: Global, parents: &[usize]) -> Result<Vec<usize>, AllocError>
+    ensures sized { IfOk result (λ starts. length starts.items ≡ length parents.now) }
+    ensures starts { IfOk result (λ starts. (k : ℕ) → k < length parents.now
+        → slice_index starts.items k ≡ run_start (slice_index parents.now) k) }
+{
+    let mut starts = Vec::with_capacity(alloc, parents.len())?;
+    for line in 0..parents.len() {
+        let start = start_of(parents, &starts, line);
+        starts.push(start)?;
+    }
+    Ok(starts)
+}
+
+impl Lines {
+    /// The lines of evidence.
+    pub(crate) fn new(alloc: Global, evidence: &Evidence) -> Result<Lines, AllocError>
+        requires { HasLines evidence.now }
+        ensures { IfOk result (λ lines. AreLinesOf (graph_of evidence.now) lines) }
+    {
+        let places = places_of(alloc, &evidence.instances)?;
+        let parents = parents_of(alloc, evidence, &places)?;
+        let starts = starts_of(alloc, &parents)?;
+        Ok(Lines {
+            places,
+            parents,
+            starts,
+        })
+    }
+}

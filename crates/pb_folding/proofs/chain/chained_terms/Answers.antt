@@ -1,5 +1,0 @@
-use Rattle.pb_folding.proofs.Chains.{chained-term}
-use Rattle.pb_folding.proofs.chain.chained_terms.Goals as goal
-
-pub returns : goal.returns
-returns c = chained-term c.args.connective c.args.place c.in_ok-first.first c.in_ok-links.links c.args.left c.args.right c.in_ok-first.ensures.ok c.in_ok-links.ensures

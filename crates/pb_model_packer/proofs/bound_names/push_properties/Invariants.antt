@@ -1,8 +1,0 @@
-use Rattle.std.proofs.Common.{◌≡◌, ◌++◌, drop, flat_map}
-use Rattle.pb_packer.specs.Properties.{properties_in}
-use Rattle.pb_model_packer.specs.Bound.{property_bound_names}
-use Rattle.pb_packer.specs.Initial.{names_by}
-use Rattle.pb_model_packer.proofs.bound_names.push_properties.Given as goal
-
-abbrev pub invariant-loop-property : goal.invariant-loop-property
-invariant-loop-property l = names_by l.names.items ++ flat_map property_bound_names (properties_in (drop l.property-index l.properties)) ≡ names_by l.initial.names.items ++ flat_map property_bound_names (properties_in l.properties)

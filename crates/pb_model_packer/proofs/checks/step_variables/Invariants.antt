@@ -1,8 +1,0 @@
-use Rattle.std.proofs.Common.{◌≡◌, ◌++◌, drop, flat_map}
-use Rattle.pb_packer.specs.Properties.{steps_in}
-use Rattle.pb_packer.specs.Initial.{names_by}
-use Rattle.pb_model_packer.specs.Checks.{own_names}
-use Rattle.pb_model_packer.proofs.checks.step_variables.Given as goal
-
-abbrev pub invariant-loop-step : goal.invariant-loop-step
-invariant-loop-step l = names_by l.names.items ++ flat_map own_names (steps_in (drop l.step-index l.steps)) ≡ flat_map own_names (steps_in l.steps)

@@ -1,7 +1,0 @@
-use Rattle.std.proofs.Common.{◌≡◌, ◌++◌, drop}
-use Rattle.pb_packer.specs.View.{texts_of}
-use Rattle.pb_model_packer.specs.Names.{enumerator_names}
-use Rattle.pb_model_packer.proofs.end.copy_enumerators.Given as goal
-
-abbrev pub invariant-loop-enumerator : goal.invariant-loop-enumerator
-invariant-loop-enumerator l = texts_of l.names.items ++ enumerator_names (drop l.enumerator-index l.enumerators) ≡ enumerator_names l.enumerators

@@ -1,8 +1,0 @@
-use Rattle.std.proofs.Common.{◌≡◌, ◌++◌, drop, flat_map}
-use Rattle.pb_packer.specs.Steps.{assignments_in}
-use Rattle.pb_model_packer.specs.Names.{assignment_names}
-use Rattle.pb_packer.specs.Initial.{names_by}
-use Rattle.pb_model_packer.proofs.model_names.push_assignments.Given as goal
-
-abbrev pub invariant-loop-assignment : goal.invariant-loop-assignment
-invariant-loop-assignment l = names_by l.names.items ++ flat_map assignment_names (assignments_in (drop l.assignment-index l.assignments)) ≡ names_by l.initial.names.items ++ flat_map assignment_names (assignments_in l.assignments)

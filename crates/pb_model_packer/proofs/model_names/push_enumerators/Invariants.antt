@@ -1,7 +1,0 @@
-use Rattle.std.proofs.Common.{◌≡◌, ◌++◌, drop}
-use Rattle.pb_model_packer.specs.Names.{enumerator_names}
-use Rattle.pb_packer.specs.Initial.{names_by}
-use Rattle.pb_model_packer.proofs.model_names.push_enumerators.Given as goal
-
-abbrev pub invariant-loop-enumerator : goal.invariant-loop-enumerator
-invariant-loop-enumerator l = names_by l.names.items ++ enumerator_names (drop l.enumerator-index l.enumerators) ≡ names_by l.initial.names.items ++ enumerator_names l.enumerators

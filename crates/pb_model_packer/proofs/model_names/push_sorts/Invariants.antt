@@ -1,8 +1,0 @@
-use Rattle.std.proofs.Common.{◌≡◌, ◌++◌, drop, flat_map}
-use Rattle.pb_packing.specs.Groups.{sort_names}
-use Rattle.pb_packer.specs.Declarations.{declarations_in}
-use Rattle.pb_packer.specs.Initial.{names_by}
-use Rattle.pb_model_packer.proofs.model_names.push_sorts.Given as goal
-
-abbrev pub invariant-loop-declaration : goal.invariant-loop-declaration
-invariant-loop-declaration l = names_by l.names.items ++ flat_map sort_names (declarations_in (drop l.declaration-index l.sorts)) ≡ names_by l.initial.names.items ++ flat_map sort_names (declarations_in l.sorts)

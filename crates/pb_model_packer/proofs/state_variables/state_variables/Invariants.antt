@@ -1,7 +1,0 @@
-use Rattle.std.proofs.Common.{◌≡◌, ◌++◌, drop}
-use Rattle.pb_packer.specs.View.{variables_in}
-use Rattle.pb_model_packer.specs.Variables.{variables_of}
-use Rattle.pb_model_packer.proofs.state_variables.state_variables.Given as goal
-
-abbrev pub invariant-loop-group : goal.invariant-loop-group
-invariant-loop-group l = variables_in l.groups ≡ variables_of l.variables.items ++ variables_in (drop l.group-index l.groups)

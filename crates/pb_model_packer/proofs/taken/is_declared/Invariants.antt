@@ -1,7 +1,0 @@
-use Rattle.std.proofs.Common.{◌≡◌, drop}
-use Rattle.pb_packing.specs.Apart.{is_among}
-use Rattle.pb_packer.specs.Initial.{names_by}
-use Rattle.pb_model_packer.proofs.taken.is_declared.Given as goal
-
-abbrev pub invariant-loop-other : goal.invariant-loop-other
-invariant-loop-other l = is_among (names_by (drop l.other-index l.declared)) l.name ≡ is_among (names_by l.declared) l.name

@@ -1,8 +1,0 @@
-use Rattle.std.proofs.Common.{◌≡◌, ◌++◌, suc}
-use Rattle.std.specs.Prelude.{string_bytes}
-use Rattle.pb_model_translation.specs.Names.{primes}
-use Rattle.pb_packer.specs.View.{text_of}
-use Rattle.pb_model_packer.proofs.taken.primed.Given as goal
-
-abbrev pub invariant-loop : goal.invariant-loop
-invariant-loop l = string_bytes l.text ≡ text_of l.name ++ primes (suc l.counter)

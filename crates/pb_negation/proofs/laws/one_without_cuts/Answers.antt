@@ -1,5 +1,0 @@
-use Rattle.pb_negation.proofs.OneWithoutCuts.{one_without_cuts}
-use Rattle.pb_negation.proofs.laws.one_without_cuts.Goals as goal
-
-pub returns : goal.returns
-returns c = one_without_cuts

@@ -1,5 +1,0 @@
-use Rattle.pb_packer.proofs.Nodes.{application-says}
-use Rattle.pb_packer.proofs.node.application.Goals as goal
-
-pub returns : goal.returns
-returns c = application-says c.args.function c.args.arguments

@@ -1,5 +1,0 @@
-use Rattle.pb_packing.proofs.Answer.{packed_models_satisfy_the_same}
-use Rattle.pb_packing.proofs.packed_models_satisfy_the_same.Goals as goal
-
-pub returns : goal.returns
-returns c = packed_models_satisfy_the_same

@@ -1,0 +1,138 @@
+-- Lists that are cut into parts, one after another.
+use Rattle.std.proofs.Common.{◌≡◌, ℕ, zero, suc, ◌+◌, ◌-◌, ◌<◌, ◌≤◌, Bool, true, false, List, [], ◌∷◌, ◌++◌, map, take, drop, length, refl, sym, ap, subst, ◌∙◌, append_assoc, arith}
+use Rattle.std.specs.Prelude.{min, ◌&&◌}
+use Rattle.std.specs.List.{list_all}
+use Rattle.std.proofs.lemmas.List.{take-map, take_min, drop_min, drop-drop, length-drop}
+use Rattle.std.specs.Prelude.{codes}
+use Rattle.std.proofs.lemmas.Bool.{and_from, lt-ltb, le-leb}
+use Rattle.std.proofs.lemmas.List.{length-map, map-append}
+use Rattle.std.proofs.lemmas.List.Elements.{Contains-push}
+use Rattle.pb_base_limits.specs.declared.TheConstants.{MAX_INSTANCES}
+use Rattle.pb_base_errors.specs.declared.or_memory.OrMemory.{OrMemory}
+use Rattle.pb_base_errors.specs.declared.or_memory.OrMemory.TheVariants.{Refused, Memory}
+use Rattle.pb_text_tree.specs.declared.place.Place.{Place}
+use Rattle.pb_typing_declarations.specs.declared.fault.TypingRule.TheVariants.{Limit}
+use Rattle.pb_typing_declarations.specs.declared.fault.TypingFault.{TypingFault}
+use Rattle.pb_typing_declarations.specs.Faults.{unless, IsAmong}
+use Rattle.pb_text_meaning.specs.Syntax.{Name, Variable}
+use Rattle.pb_model_meaning.specs.Syntax.{Model}
+use Rattle.pb_protocol_packing.specs.Packing.{Member, Group, Joined, capacity}
+use Rattle.pb_protocol_packer.specs.declared.group.Group as declared_group
+use Rattle.pb_protocol_packer.specs.Groups.{group_of, groups_in}
+use Rattle.pb_protocol_packing.specs.Groups.{cut, named_groups, member_for, groups_of, group_sizes, names_in, all_members_for, unused_name}
+use Rattle.pb_protocol_groups.specs.declared.grouping.Grouping.{Grouping}
+use Rattle.pb_protocol_groups.specs.Groups.{behind, named_variable}
+use Rattle.pb_protocol_groups.specs.declared.state_variables.StateVariable.{StateVariable}
+use Rattle.pb_protocol_groups.specs.Sizes.{is_few, are_few, has_few, makes_few}
+use Rattle.pb_protocol_groups.specs.Variables.{as_member, members_for, variable_of, variables_of}
+use Rattle.pb_protocol_groups.specs.Taken.{taken_of}
+
+drop-map : {A : Type 0} (f : A → Member) (k : ℕ) (xs : List A) → drop k (map f xs) ≡ map f (drop k xs)
+drop-map f zero xs = refl
+drop-map f (suc k) [] = refl
+drop-map f (suc k) (x ∷ xs) = drop-map f k xs
+
+-- the first part, and what is left
+pub cut-step : (m : Model) (xs : List StateVariable) (k first end : ℕ) (ks : List ℕ) → first ≤ length xs → end ≡ first + min (length xs - first) k
+    → cut (k ∷ ks) (members_for m (drop first xs)) ≡ members_for m (take (end - first) (drop first xs)) ∷ cut ks (members_for m (drop end xs))
+cut-step m xs k first end ks within is =
+    let f = as_member m in
+    let d = drop first xs in
+    let n : end - first ≡ min k (length d) = omega (arith, is, length-drop first xs) in
+    let e : first + min k (length d) ≡ end = omega (arith, is, length-drop first xs) in
+    let front : take k (map f d) ≡ map f (take (end - first) d) = take-map f k d ∙ ap (map f) (sym (take_min k d) ∙ ap (λ (i : ℕ). take i d) (sym n)) in
+    let back : drop k (map f d) ≡ map f (drop end xs) =
+    drop-map f k d ∙ ap (map f) (sym (drop_min k d) ∙ drop-drop (min k (length d)) first xs ∙ ap (λ (i : ℕ). drop i xs) e) in
+    ap (λ (ps : List Member). ps ∷ cut ks (drop k (map f d))) front ∙ ap (λ (ps : List Member). map f (take (end - first) d) ∷ cut ks ps) back
+
+pub few-named : (cs : List (List Member)) (taken : List Name) → list_all has_few (named_groups taken cs) ≡ list_all makes_few cs
+few-named [] taken = refl
+few-named ([] ∷ cs) taken = few-named cs taken
+few-named ((p ∷ []) ∷ cs) taken = few-named cs taken
+few-named ((p ∷ r ∷ ps) ∷ cs) taken = ap (λ (b : Bool). are_few (p ∷ r ∷ ps) && b) (few-named cs _)
+
+pub members-all : (m : Model) (xs : List StateVariable) → members_for m xs ≡ map (member_for m) (variables_of xs)
+members-all m [] = refl
+members-all m (x ∷ xs) = ap (λ (ps : List Member). as_member m x ∷ ps) (members-all m xs)
+
+-- ---- the groups so far, and those of the variables from one on
+
+pub record AreBehind (m : Model) (g : Grouping) (xs : List StateVariable) (sizes : List ℕ) (first : ℕ) : Type 0 where
+  pub within : first ≤ length xs
+  pub groups : behind g (cut sizes (members_for m (drop first xs))) ≡ groups_of m
+  pub few : list_all makes_few (cut sizes (members_for m (drop first xs))) ≡ list_all has_few (groups_of m)
+
+pub start : (m : Model) (g : Grouping) (xs : List StateVariable) (sizes : List ℕ) → taken_of g.names ≡ names_in m → groups_in g.groups.items ≡ [] → variables_of xs ≡ m.variables
+    → sizes ≡ group_sizes (length xs) → AreBehind m g xs sizes 0
+start m g xs sizes taken none vars is =
+    let all : members_for m xs ≡ all_members_for m = members-all m xs ∙ ap (λ (ys : List Variable). map (member_for m) ys) vars in
+    let count : length xs ≡ length m.variables = sym (length-map xs variable_of) ∙ ap (λ (ys : List Variable). length ys) vars in
+    let cuts : cut sizes (members_for m xs) ≡ cut (group_sizes (length m.variables)) (all_members_for m) =
+    ap (λ (ks : List ℕ). cut ks (members_for m xs)) (is ∙ ap group_sizes count) ∙ ap (λ (ps : List Member). cut (group_sizes (length m.variables)) ps) all in
+    record {
+      within = omega arith;
+      groups = ap (λ (gs : List Group). gs ++ named_groups (taken_of g.names) (cut sizes (members_for m xs))) none
+          ∙ ap (λ (ns : List Name). named_groups ns (cut sizes (members_for m xs))) taken ∙ ap (named_groups (names_in m)) cuts;
+      few = ap (list_all makes_few) cuts ∙ sym (few-named (cut (group_sizes (length m.variables)) (all_members_for m)) (names_in m));
+    }
+
+pub step : (m : Model) (g h : Grouping) (xs part : List StateVariable) (k : ℕ) (sizes : List ℕ) (first end : ℕ) → AreBehind m g xs (k ∷ sizes) first → end ≡ first + min (length xs - first) k
+    → part ≡ take (end - first) (drop first xs) → ((others : List (List Member)) → behind h others ≡ behind g (members_for m part ∷ others)) → makes_few (members_for m part) ≡ true
+    → AreBehind m h xs sizes end
+step m g h xs part k sizes first end was is parts made few =
+    let rest = cut sizes (members_for m (drop end xs)) in
+    let cuts : cut (k ∷ sizes) (members_for m (drop first xs)) ≡ members_for m part ∷ rest =
+    cut-step m xs k first end sizes was.within is ∙ ap (λ (ys : List StateVariable). members_for m ys ∷ rest) (sym parts) in
+    record {
+      within = omega (arith, is, was.within);
+      groups = made rest ∙ ap (behind g) (sym cuts) ∙ was.groups;
+      few = sym (ap (λ (b : Bool). b && list_all makes_few rest) few) ∙ sym (ap (list_all makes_few) cuts) ∙ was.few;
+    }
+
+-- ---- faults
+
+pub clear : (b : Bool) (p : Place) → unless b Limit p ≡ [] → b ≡ true
+clear true p h = refl
+clear false p h = absurd (cc h)
+
+pub refused : (p : Place) → IsAmong (unless false Limit p) (Refused (record { rule = Limit; place = p }))
+refused p = Contains-push [] (record { rule = Limit; place = p })
+
+one-of-all : (b rest : Bool) (p : Place) (e : OrMemory TypingFault) → IsAmong (unless b Limit p) e → IsAmong (unless (b && rest) Limit p) e
+one-of-all true rest p (Refused f) h = absurd (omega (arith, h.1))
+one-of-all true rest p Memory h = tt
+one-of-all false rest p e h = h
+
+pub refuses : (m : Model) (g : Grouping) (xs part : List StateVariable) (k : ℕ) (sizes : List ℕ) (first end : ℕ) (p : Place) (e : OrMemory TypingFault) → AreBehind m g xs (k ∷ sizes) first
+    → end ≡ first + min (length xs - first) k → part ≡ take (end - first) (drop first xs) → IsAmong (unless (makes_few (members_for m part)) Limit p) e
+    → IsAmong (unless (list_all has_few (groups_of m)) Limit p) e
+refuses m g xs part k sizes first end p e was is parts h =
+    let rest = cut sizes (members_for m (drop end xs)) in
+    let cuts : cut (k ∷ sizes) (members_for m (drop first xs)) ≡ members_for m part ∷ rest =
+    cut-step m xs k first end sizes was.within is ∙ ap (λ (ys : List StateVariable). members_for m ys ∷ rest) (sym parts) in
+    subst (λ (b : Bool). IsAmong (unless b Limit p) e) (sym (ap (list_all makes_few) cuts) ∙ was.few) (one-of-all (makes_few (members_for m part)) (list_all makes_few rest) p e h)
+
+-- ---- one group more
+
+pub makes-several : (m : Model) (xs : List StateVariable) (x : StateVariable) (ys : List StateVariable) → xs ≡ x ∷ ys → (length ys ≡ 0 → ⊥) → makes_few (members_for m xs) ≡ are_few (members_for m xs)
+makes-several m xs x [] is some = absurd (some refl)
+makes-several m xs x (y ∷ ys) is some = ap (λ (zs : List StateVariable). makes_few (members_for m zs)) is ∙ sym (ap (λ (zs : List StateVariable). are_few (members_for m zs)) is)
+
+pub are-few : (ps qs : List Member) (n : ℕ) → qs ≡ ps → n ≡ capacity qs → 0 < n → n ≤ MAX_INSTANCES → are_few ps ≡ true
+are-few ps qs n same counted some few =
+    ap is_few (sym (ap capacity same) ∙ sym counted) ∙ and_from _ _ (lt-ltb 0 n some) (le-leb n MAX_INSTANCES few)
+
+pub several : (m : Model) (taken new : List Name) (old made : List declared_group.Group) (e : declared_group.Group) (x : Name) (xs ys : List StateVariable) (first : StateVariable)
+    → made ≡ old ++ (e ∷ []) → group_of e ≡ Joined (named_variable x) (members_for m xs) → new ≡ x ∷ taken → x ≡ unused_name taken ((variable_of first).name ++ codes "'")
+    → xs ≡ first ∷ ys → (length ys ≡ 0 → ⊥) → (cs : List (List Member)) → groups_in made ++ named_groups new cs ≡ groups_in old ++ named_groups taken (members_for m xs ∷ cs)
+several m taken new old made e x xs [] first push is names fresh parts some cs = absurd (some refl)
+several m taken new old made e x xs (y ∷ ys) first push is names fresh parts some cs =
+    let all = members_for m (first ∷ y ∷ ys) in
+    let with = ap (λ (zs : List StateVariable). members_for m zs) parts in
+    ap (λ (gs : List declared_group.Group). groups_in gs ++ named_groups new cs) push
+    ∙ ap (λ (gs : List Group). gs ++ named_groups new cs) (map-append group_of old (e ∷ []))
+    ∙ append_assoc (groups_in old) (group_of e ∷ []) (named_groups new cs)
+    ∙ ap (λ (h : Group). groups_in old ++ (h ∷ named_groups new cs)) (is ∙ ap (λ (ps : List Member). Joined (named_variable x) ps) with)
+    ∙ ap (λ (ns : List Name). groups_in old ++ (Joined (named_variable x) all ∷ named_groups ns cs)) names
+    ∙ ap (λ (n : Name). groups_in old ++ (Joined (named_variable n) all ∷ named_groups (n ∷ taken) cs)) fresh
+    ∙ sym (ap (λ (ps : List Member). groups_in old ++ named_groups taken (ps ∷ cs)) with)

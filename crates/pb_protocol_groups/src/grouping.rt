@@ -1,0 +1,137 @@
+//! The groups of a model's state variables.
+
+ghost use Rattle.std.specs.Prelude.{◌≡◌, ◌∷◌, ◌++◌, [], codes, IfOk, OnOk, MatchResult, List};
+ghost use Rattle.pb_model_tree.specs.Form.{model_form};
+ghost use Rattle.pb_model_meaning.specs.Erase.{model_of};
+ghost use Rattle.pb_typing_declarations.specs.Faults.{unless, IsAmong};
+ghost use Rattle.pb_typing_declarations.specs.declared.fault.TypingRule.TheVariants.{Limit};
+ghost use Rattle.pb_protocol_packing.specs.Groups as packing;
+ghost use Rattle.pb_protocol_packing.specs.Groups.{named_groups};
+ghost use Rattle.pb_protocol_packing.specs.Packing.{Member};
+ghost use Rattle.pb_protocol_packer.specs.Groups.{groups_in};
+ghost use Rattle.pb_protocol_packer.specs.Members as members;
+ghost use Rattle.pb_protocol_groups.specs.Sizes.{makes_few, size_faults};
+ghost use Rattle.pb_protocol_groups.specs.Taken.{taken_of};
+ghost use Rattle.pb_protocol_groups.specs.Groups.{named_variable};
+ghost use Rattle.pb_protocol_groups.specs.Variables.{members_for, variable_of};
+
+use crate::members::few_members;
+use crate::model_names::names_in;
+use crate::state_variables::{StateVariable, state_variables};
+use crate::taken::Taken;
+use pb_model_tree::Model;
+use pb_protocol_packer::{Group, Joined, Variable};
+use pb_text_copies::copy_name;
+use pb_typing_declarations::{TypeError, TypingFault, TypingRule};
+use std::alloc::{AllocError, Global};
+
+/// How many groups there are at most.
+const GROUPS: usize = 8;
+
+/// How many variables each group has: their numbers differ by one at most.
+#[tactic(auto, using(std::proofs::lemmas::List::replicate_more, std::proofs::lemmas::List::append_assoc))]
+fn group_sizes(alloc: Global, count: usize) -> Result<Vec<usize>, AllocError>
+    ensures { IfOk result (λ v. v.items ≡ packing.group_sizes count) }
+{
+    let mut sizes = Vec::new(alloc);
+    for _ in 0..count % GROUPS {
+        sizes.push(count / GROUPS + 1)?;
+    }
+    for _ in 0..GROUPS - count % GROUPS {
+        sizes.push(count / GROUPS)?;
+    }
+    Ok(sizes)
+}
+
+/// The variable that a group of several becomes.
+fn group_variable(
+    alloc: Global,
+    names: &mut Taken<'_>,
+    first: &StateVariable<'_>,
+) -> Result<Variable, AllocError>
+    ensures variable { IfOk result (λ x. members.variable_of x ≡ named_variable
+        (packing.unused_name (taken_of names.old) ((variable_of first.now).name ++ codes "'"))) }
+    ensures taken { OnOk result (taken_of names.new ≡ packing.unused_name
+        (taken_of names.old) ((variable_of first.now).name ++ codes "'") ∷ taken_of names.old) }
+{
+    let name = names.unused(alloc, first.name)?;
+    names.take(alloc, &name)?;
+    let sort = copy_name(alloc, &name)?;
+    Ok(Variable { name, sort })
+}
+
+/// The groups so far, and the names that are taken.
+#[derive(Drop)]
+struct Grouping<'a> {
+    names: Taken<'a>,
+    groups: Vec<Group>,
+}
+
+impl Grouping<'_> {
+    ghost use Rattle.pb_protocol_groups.specs.Groups.{behind};
+
+    /// Adds the group of these variables, if there are any.
+    fn push(
+        &mut self,
+        alloc: Global,
+        model: &Model,
+        variables: &[StateVariable<'_>],
+    ) -> Result<(), TypeError>
+        ensures made { OnOk result ((others : List (List Member)) → behind self.new others
+            ≡ behind self.old (members_for (model_of model.now) variables.now ∷ others)) }
+        ensures few { MatchResult result
+            (λ _. unless (makes_few (members_for (model_of model.now) variables.now)) Limit
+            model.now.initial.place ≡ [])
+            (IsAmong (unless (makes_few (members_for (model_of model.now) variables.now)) Limit
+            model.now.initial.place)) }
+    {
+        let Some((first, others)) = variables.split_first() else {
+            return Ok(());
+        };
+        if others.is_empty() {
+            let name = copy_name(alloc, first.name)?;
+            let sort = copy_name(alloc, first.sort)?;
+            self.groups.push(Group::Alone(Variable { name, sort }))?;
+            return Ok(());
+        }
+        let Some(members) = few_members(alloc, model, variables)? else {
+            return Err(TypeError::Refused(TypingFault {
+                rule: TypingRule::Limit,
+                place: model.initial.place,
+            }));
+        };
+        let variable = group_variable(alloc, &mut self.names, first)?;
+        self.groups.push(Group::Joined(Joined {
+            variable,
+            members: members.items,
+            capacity: members.capacity,
+        }))?;
+        Ok(())
+    }
+}
+
+/// The groups of a model's state variables: at most eight, of consecutive variables.
+///
+/// # Errors
+/// A group has no values, or too many: T12, at `init`. Or memory was refused.
+pub(crate) fn groups_of(alloc: Global, model: &Model) -> Result<Vec<Group>, TypeError>
+    ensures groups { IfOk result
+        (λ v. groups_in v.items ≡ packing.groups_of (model_of model.now)) }
+    ensures few { MatchResult result (λ _. size_faults (model_form model.now) ≡ [])
+        (IsAmong (size_faults (model_form model.now))) }
+{
+    let declared = names_in(alloc, model)?;
+    let given = Vec::new(alloc);
+    let names = Taken { given, declared };
+    let groups = Vec::new(alloc);
+    let mut grouping = Grouping { names, groups };
+    let variables = state_variables(alloc, &model.state)?;
+    let sizes = group_sizes(alloc, variables.len())?;
+    let mut first = 0;
+    for size in &sizes {
+        let end = first + (variables.len() - first).min(*size);
+        grouping.push(alloc, model, &variables[first..end])?;
+        first = end;
+    }
+    Ok(grouping.groups)
+}

@@ -1,0 +1,26 @@
+//! Groups of state variables, each with the variable that it becomes.
+
+ghost use Rattle.std.specs.Prelude.{◌≡◌, ◌≤◌, true};
+ghost use Rattle.pb_base_limits.specs.declared.TheConstants.{MAX_INSTANCES};
+ghost use Rattle.pb_protocol_packing.specs.Packing as packing;
+ghost use Rattle.pb_protocol_packer.specs.Members.{are_weighted, members_of};
+
+use crate::member::{Member, Variable};
+
+/// The variable that several become, with these. Its values are the numbers below `capacity`.
+#[derive(Debug, Drop)]
+pub struct Joined {
+    pub variable: Variable,
+    pub members: Vec<Member>,
+    pub capacity: u32,
+    ghost weighted: { are_weighted members.items ≡ true },
+    ghost few: { capacity ≤ MAX_INSTANCES },
+    ghost counted: { capacity ≡ packing.capacity (members_of members.items) },
+}
+
+/// A variable that stays as it is, or several with the variable that they become.
+#[derive(Debug, Drop)]
+pub enum Group {
+    Alone(Variable),
+    Joined(Joined),
+}

@@ -1,0 +1,53 @@
+//! The initial values of the variables of groups.
+
+ghost use Rattle.std.specs.Prelude.{◌≡◌, [], IfOk};
+ghost use Rattle.pb_model_meaning.specs.Steps.{assigned_term};
+ghost use Rattle.pb_protocol_packing.specs.Packing as packing;
+ghost use Rattle.pb_protocol_packer.specs.View.{term_of, terms_of};
+ghost use Rattle.pb_protocol_packer.specs.Groups.{group_of, groups_in};
+ghost use Rattle.pb_protocol_packer.specs.Given.{given_in};
+
+use crate::builder::Builder;
+use crate::given::{Given, given_for};
+use crate::group::Group;
+use crate::group_number::joined_term;
+use pb_text_copies::copy_term;
+use pb_text_tree::{Argument, Term};
+use std::alloc::AllocError;
+
+/// The term with which the variable of a group begins.
+fn initial_term(builder: Builder, given: &[Given<'_>], group: &Group) -> Result<Term, AllocError>
+    ensures { IfOk result (λ t. term_of t
+        ≡ packing.initial_term (assigned_term (given_in given.now)) (group_of group.now)) }
+{
+    match group {
+        Group::Alone(variable) => match given_for(given, &variable.name.text) {
+            Some(term) => copy_term(builder.alloc, term),
+            None => builder.name(&variable.name),
+        },
+        Group::Joined(joined) => {
+            let none = builder.number(0);
+            joined_term(builder, given, none, joined)
+        }
+    }
+}
+
+/// The terms with which the variables of groups begin, in order.
+pub(crate) fn initial_terms(
+    builder: Builder,
+    given: &[Given<'_>],
+    groups: &[Group],
+) -> Result<Vec<Argument>, AllocError>
+    ensures { IfOk result (λ v. terms_of v.items
+        ≡ packing.initial_terms (assigned_term (given_in given.now)) (groups_in groups.now)) }
+{
+    let mut values = Vec::with_capacity(builder.alloc, groups.len())?;
+    for group in groups {
+        let term = initial_term(builder, given, group)?;
+        values.push(Argument {
+            place: builder.place,
+            term,
+        })?;
+    }
+    Ok(values)
+}

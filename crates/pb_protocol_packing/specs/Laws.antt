@@ -1,0 +1,50 @@
+-- A packed model satisfies what the model does.
+use Rattle.std.specs.Prelude.{◌≡◌, ◌≤◌, true, List, length, Contains}
+use Rattle.pb_text_meaning.specs.Meaning.{answer}
+use Rattle.pb_model_meaning.specs.Syntax.{StepSet, Formula, Property, Model}
+use Rattle.pb_model_meaning.specs.Steps.{State, is_state, initial_state, successors}
+use Rattle.pb_model_meaning.specs.Satisfaction.{satisfies}
+use Rattle.pb_model_translation.specs.Names.{translation}
+use Rattle.pb_model_translation.specs.Apart.{HasNamesApart}
+use Rattle.pb_protocol_packing.specs.Packing.{Group, packed_by, packed_formula}
+use Rattle.pb_protocol_packing.specs.Apart.{IsPacking, is_apart_formula}
+use Rattle.pb_protocol_packing.specs.Groups.{groups_of, packed, said_formula}
+use Rattle.pb_protocol_packing.specs.Unpacked.{unpacked, StandsFor, AllStandFor}
+use Rattle.pb_protocol_packing.specs.Packable.{IsPackable}
+
+-- the packed model satisfies the packed formula exactly where the model satisfies the formula
+abbrev pub PackedModelsSatisfyTheSame : Type 0
+PackedModelsSatisfyTheSame =
+    (m : Model) (gs : List Group) (f : Formula) →
+    IsPacking m gs → is_apart_formula gs f ≡ true →
+    satisfies (packed_by gs m) (packed_formula gs f) ≡ satisfies m f
+
+-- so does the model over at most eight variables, of a property of the model
+abbrev pub PropertiesStay : Type 0
+PropertiesStay =
+    (m : Model) (p : Property) → IsPackable m → Contains m.properties p →
+    satisfies (packed m) (said_formula m p.formula) ≡ satisfies m p.formula
+
+-- and the text of its translation has the answer
+abbrev pub PackedTranslationsHaveTheAnswer : Type 0
+PackedTranslationsHaveTheAnswer =
+    (m : Model) (p : Property) → IsPackable m → Contains m.properties p →
+    answer (translation (packed m) (said_formula m p.formula)) ≡ satisfies m p.formula
+
+-- the names of its variables are apart, as those of the model
+abbrev pub PackedNamesAreApart : Type 0
+PackedNamesAreApart = (m : Model) → IsPackable m → HasNamesApart (packed m)
+
+-- and they are at most eight
+abbrev pub HaveFewVariables : Type 0
+HaveFewVariables = (m : Model) → length (packed m).variables ≤ 8
+
+-- its initial state stands for the model's, and where it goes from any of its states stands for
+-- where the model goes from what the state says
+abbrev pub StatesStandForStates : Type 0
+StatesStandForStates =
+    (m : Model) → IsPackable m →
+    StandsFor m (packed m) (unpacked (groups_of m)) (initial_state m) (initial_state (packed m)) ×
+    ((A : StepSet) (t : State) → is_state (packed m) t ≡ true →
+    AllStandFor m (packed m) (unpacked (groups_of m))
+    (successors m A (unpacked (groups_of m) t)) (successors (packed m) A t))

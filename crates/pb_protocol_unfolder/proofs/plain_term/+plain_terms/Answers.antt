@@ -1,0 +1,42 @@
+use Rattle.std.proofs.Common.{◌∙◌, sym, map, refl}
+use Rattle.std.specs.List.{list_all}
+use Rattle.pb_text_tree.specs.Form.{term_form}
+use Rattle.pb_protocol_unfolder.specs.Plain.{is_plain_term}
+use Rattle.pb_protocol_unfolder.specs.View.{operand_form, operation_form}
+use Rattle.pb_protocol_unfolder.proofs.PlainChains.{at-false, at-true, term-chained, term-calculated, term-applied}
+use Rattle.pb_protocol_unfolder.proofs.plain_term.+plain_terms.Goals as goal
+
+pub is_plain_term-returns-then-not-is_plain_term : goal.is_plain_term-returns-then-not-is_plain_term
+is_plain_term-returns-then-not-is_plain_term t c =
+    let x = c.deref-in-Chain.result.now in
+    let whole = term-chained c.in-Chain.connective x c.in-Chain.first c.in-Chain.links c.in-Chain.links.items c.args.term.now c.in-Chain.is c.deref-in-Chain.ensures refl in
+    at-false (is_plain_term (term_form x)) (list_all is_plain_term (map operand_form c.in-Chain.links.items)) (is_plain_term (term_form c.args.term.now)) whole
+    (sym c.is_plain_term-in-Chain.ensures ∙ c.if-not-is_plain_term.true)
+
+pub is_plain_term-returns-else-not-is_plain_term : goal.is_plain_term-returns-else-not-is_plain_term
+is_plain_term-returns-else-not-is_plain_term t c =
+    let x = c.deref-in-Chain.result.now in
+    let links = c.deref-in-Chain-2.result.now in
+    let whole = term-chained c.in-Chain.connective x c.in-Chain.first c.in-Chain.links links c.args.term.now c.in-Chain.is c.deref-in-Chain.ensures c.deref-in-Chain-2.ensures.value in
+    c.are_plain_links.ensures ∙ at-true (is_plain_term (term_form x)) (list_all is_plain_term (map operand_form links)) (is_plain_term (term_form c.args.term.now)) whole
+    (sym c.is_plain_term-in-Chain.ensures ∙ c.if-not-is_plain_term.false)
+
+pub is_plain_term-returns-then-not-is_plain_term-3 : goal.is_plain_term-returns-then-not-is_plain_term-3
+is_plain_term-returns-then-not-is_plain_term-3 t c =
+    let x = c.deref-in-Arithmetic.result.now in
+    let whole = term-calculated x c.in-Arithmetic.first c.in-Arithmetic.links c.in-Arithmetic.links.items c.args.term.now c.in-Arithmetic.is c.deref-in-Arithmetic.ensures refl in
+    at-false (is_plain_term (term_form x)) (list_all is_plain_term (map operation_form c.in-Arithmetic.links.items)) (is_plain_term (term_form c.args.term.now)) whole
+    (sym c.is_plain_term-in-Arithmetic.ensures ∙ c.if-not-is_plain_term-3.true)
+
+pub is_plain_term-returns-else-not-is_plain_term-3 : goal.is_plain_term-returns-else-not-is_plain_term-3
+is_plain_term-returns-else-not-is_plain_term-3 t c =
+    let x = c.deref-in-Arithmetic.result.now in
+    let links = c.deref-in-Arithmetic-2.result.now in
+    let whole = term-calculated x c.in-Arithmetic.first c.in-Arithmetic.links links c.args.term.now c.in-Arithmetic.is c.deref-in-Arithmetic.ensures c.deref-in-Arithmetic-2.ensures.value in
+    c.are_plain_operations.ensures ∙ at-true (is_plain_term (term_form x)) (list_all is_plain_term (map operation_form links)) (is_plain_term (term_form c.args.term.now)) whole
+    (sym c.is_plain_term-in-Arithmetic.ensures ∙ c.if-not-is_plain_term-3.false)
+
+pub is_plain_term-returns-in-Application : goal.is_plain_term-returns-in-Application
+is_plain_term-returns-in-Application t c =
+    c.are_plain_arguments.ensures
+    ∙ sym (term-applied c.in-Application.function c.in-Application.arguments c.deref-in-Application.result.now c.args.term.now c.in-Application.is c.deref-in-Application.ensures.value)

@@ -1,0 +1,65 @@
+use Rattle.std.proofs.Common.{◌≡◌, ◌<◌, ◌∙◌, inl, inr, sym, ap, subst, arith, List, map, length}
+use Rattle.std.specs.Prelude.{Contains}
+use Rattle.std.proofs.lemmas.List.{length-map}
+use Rattle.pb_protocol_tree.specs.Form.{step_set_form}
+use Rattle.pb_protocol_unfolding.specs.Unfolding.{Instance, instances, named_steps}
+use Rattle.pb_protocol_unfolder_steps.specs.Elements.{instance_said}
+use Rattle.pb_protocol_unfolder_steps.specs.Steps.{is_kept}
+use Rattle.pb_protocol_unfolder_steps.specs.Unfolder.{protocol_in, scope_in}
+use Rattle.pb_protocol_unfolder.specs.Apart.{name_bytes}
+use Rattle.pb_protocol_unfolder.specs.Faults.{IsFaultOfSteps}
+use Rattle.pb_protocol_unfolder.specs.Left.{left_set, member_names}
+use Rattle.pb_protocol_unfolder.specs.Operators.{name_count}
+use Rattle.pb_protocol_unfolder.specs.Parts.{IsFaultOfModality}
+use Rattle.pb_protocol_unfolder.proofs.FaultLemmas.{kept-in, of-many-by, of-value-by}
+use Rattle.pb_protocol_unfolder.proofs.LeftLemmas.{each-left, named-left}
+use Rattle.pb_protocol_unfolder.proofs.OperatorLemmas.{names-counted, same-left, same-over}
+use Rattle.pb_protocol_unfolder.proofs.step_set.unfold_set.Goals as goal
+
+pub returns-clause-set : goal.returns-clause-set
+returns-clause-set c =
+    c.in_ok-named_steps.ensures ∙ ap named_steps c.in_ok-names.ensures.names
+    ∙ named-left c.args.formulas.now.unfolder.now c.args.scope.now c.args.formulas.now.left.now (step_set_form c.args.set.now) c.requires.formulas (sym c.in_default.ensures)
+
+pub returns-in-Some-clause-room : goal.returns-in-Some-clause-room
+returns-in-Some-clause-room c =
+    let u = c.args.formulas.now.unfolder.now in
+    let A = step_set_form c.args.set.now in
+    let none : 0 ≡ name_count (left_set u c.args.scope.now A) = ap name_count (each-left u c.args.scope.now A (sym c.in-Some.ensures)) in
+    omega (arith, none)
+
+pub returns-clause-room : goal.returns-clause-room
+returns-clause-room c =
+    let u = c.args.formulas.now.unfolder.now in
+    let s = c.args.scope.now in
+    let A = step_set_form c.args.set.now in
+    let named = named-left u s c.args.formulas.now.left.now A c.requires.formulas (sym c.in_default.ensures) in
+    let names = member_names u s A (map instance_said c.args.formulas.now.left.now) in
+    let many : length c.in_ok-names.names.items ≡ name_count (left_set u s A) =
+    sym (length-map c.in_ok-names.names.items name_bytes) ∙ ap length c.in_ok-names.ensures.names ∙ sym (names-counted names) ∙ ap name_count named in
+    same-left _ _ _ _ c.in_ok-take.ensures.taken (omega (arith, c.len.ensures, c.in_ok-names.names.ok.0, many))
+
+pub returns-in_err-names-clause-refused : goal.returns-in_err-names-clause-refused
+returns-in_err-names-clause-refused c =
+    let u = c.args.formulas.now.unfolder.now in
+    let m = protocol_in u in
+    let ρ = scope_in u c.args.scope.now in
+    let left = map instance_said c.args.formulas.now.left.now in
+    let A = step_set_form c.args.set.now in
+    let Many = c.args.room.now.operators < name_count (left_set u c.args.scope.now A) in
+    of-value-by c.from_residual.result c.in_err-names.field-0.0 (IsFaultOfSteps m ρ left A) (IsFaultOfModality m Many ρ c.args.place A) c.from_residual.ensures.1
+    (λ f o. inr (o.0, (o.1.0, kept-in (is_kept m) (instances m) o.1.0 (subst (λ (v : List Instance). Contains v o.1.0) c.requires.formulas.steps o.1.1), o.1.2))) c.in_err-names.ensures.refused
+
+pub returns-in_err-take-clause-refused : goal.returns-in_err-take-clause-refused
+returns-in_err-take-clause-refused c =
+    let u = c.args.formulas.now.unfolder.now in
+    let m = protocol_in u in
+    let s = c.args.scope.now in
+    let A = step_set_form c.args.set.now in
+    let named = named-left u s c.args.formulas.now.left.now A c.requires.formulas (sym c.in_default.ensures) in
+    let names = member_names u s A (map instance_said c.args.formulas.now.left.now) in
+    let many : length c.in_ok-names.names.items ≡ name_count (left_set u s A) =
+    sym (length-map c.in_ok-names.names.items name_bytes) ∙ ap length c.in_ok-names.ensures.names ∙ sym (names-counted names) ∙ ap name_count named in
+    of-many-by c.from_residual-in_err-take.result c.in_err-take.field-0.0 (c.args.room.now.operators < c.len.result) c.args.place
+    (IsFaultOfModality m (c.args.room.now.operators < name_count (left_set u s A)) (scope_in u s) c.args.place A) c.from_residual-in_err-take.ensures.1
+    (λ f o. inl (same-over _ _ _ (omega (arith, c.len.ensures, c.in_ok-names.names.ok.0, many)) o.0, o.1)) c.in_err-take.ensures.refused

@@ -1,0 +1,61 @@
+//! The steps with their values that are left.
+
+ghost use Rattle.std.specs.Prelude.{◌≡◌, ◌++◌, map, IfOk, OnOk};
+ghost use Rattle.pb_protocol_unfolder_steps.specs.Elements.{instance_said};
+ghost use Rattle.pb_protocol_unfolder.specs.Unfolded.{chosen, chosen_one};
+
+use pb_protocol_unfolder_steps::Instance;
+use pb_protocol_unfolder_terms::Written;
+use std::alloc::{AllocError, Global};
+
+/// The same values.
+fn copy_values<'a>(alloc: Global, values: &[Written<'a>]) -> Result<Vec<Written<'a>>, AllocError>
+    ensures { IfOk result (λ v. v.items ≡ values.now) }
+{
+    let mut copies = Vec::new(alloc);
+    for value in values {
+        copies.push(*value)?;
+    }
+    Ok(copies)
+}
+
+/// The same step with the same values.
+fn copy_instance<'a>(alloc: Global, instance: &Instance<'a>) -> Result<Instance<'a>, AllocError>
+    ensures { IfOk result (λ i. instance_said i ≡ instance_said instance.now) }
+{
+    let step = instance.step;
+    let own = copy_values(alloc, &instance.own)?;
+    Ok(Instance { step, own })
+}
+
+/// Adds a step with its values, if it is kept.
+fn push_kept<'a>(
+    alloc: Global,
+    left: &mut Vec<Instance<'a>>,
+    instance: &Instance<'a>,
+    is_kept: bool,
+) -> Result<(), AllocError>
+    ensures { OnOk result (map instance_said left.new.items ≡ map instance_said left.old.items
+        ++ chosen_one (instance_said instance.now) is_kept) }
+{
+    if is_kept {
+        left.push(copy_instance(alloc, instance)?)?;
+    }
+    Ok(())
+}
+
+/// Those of the steps with their values that are kept.
+pub(crate) fn left_instances<'a>(
+    alloc: Global,
+    instances: &[Instance<'a>],
+    kept: &[bool],
+) -> Result<Vec<Instance<'a>>, AllocError>
+    ensures { IfOk result (λ v. map instance_said v.items
+        ≡ chosen (map instance_said instances.now) kept.now) }
+{
+    let mut left = Vec::new(alloc);
+    for place in 0..instances.len().min(kept.len()) {
+        push_kept(alloc, &mut left, &instances[place], kept[place])?;
+    }
+    Ok(left)
+}

@@ -1,0 +1,86 @@
+//! The values that are named in sets of steps.
+
+ghost use Rattle.std.specs.Prelude.{◌≡◌, [], Some, IfOk};
+ghost use Rattle.pb_base_errors.specs.OrMemory.{IfRefused};
+ghost use Rattle.pb_text_meaning.specs.Value.{value};
+ghost use Rattle.pb_protocol_folding.specs.Folding as folding;
+ghost use Rattle.pb_protocol_folding.specs.View.{term_of};
+ghost use Rattle.pb_protocol_meaning.specs.Steps.{data_of};
+ghost use Rattle.pb_protocol_unfolder_terms.specs.Values.{written_term};
+ghost use Rattle.pb_protocol_unfolder_steps.specs.Unfolder.{protocol_in, scope_in};
+ghost use Rattle.pb_protocol_unfolder.specs.Faults.{HasNoValue, meant};
+ghost use Rattle.pb_protocol_unfolder.specs.Parts.{HasValues, IsAt, IsFaultIn};
+ghost use Rattle.pb_protocol_unfolder.specs.Values.{named_value};
+
+use crate::bound::bound_value;
+use crate::fault::{UnfoldingError, UnfoldingRule, refused};
+use pb_protocol_folding::written_value;
+use pb_protocol_unfolder_steps::Unfolder;
+use pb_protocol_unfolder_terms::{TermScope, Written};
+use pb_text_tree::{Place, Term};
+
+/// The value of a term that is written as one; another is refused at the place.
+fn plain_value(unfolder: &Unfolder<'_>, place: Place, term: &Term) -> Result<i32, UnfoldingError>
+    ensures value { IfOk result (λ v. folding.written_value (data_of (protocol_in unfolder.now))
+        (term_of term.now) ≡ Some v) }
+    ensures refused { IfRefused result (IsFaultIn (IsAt place
+        (HasNoValue (protocol_in unfolder.now) (term_of term.now)))) }
+{
+    written_value(&unfolder.protocol.sorts, term).ok_or(refused(UnfoldingRule::Value, place))
+}
+
+/// The value of a value as it is written; one that isn't a number of 32 bits is refused at the
+/// place.
+pub(crate) fn value_of_written(
+    unfolder: &Unfolder<'_>,
+    place: Place,
+    written: Written<'_>,
+) -> Result<i32, UnfoldingError>
+    ensures value { IfOk result
+        (λ v. v ≡ value (data_of (protocol_in unfolder.now)) [] (written_term written.entry)) }
+    ensures refused { IfRefused result (IsFaultIn (IsAt place
+        (HasNoValue (protocol_in unfolder.now) (written_term written.entry)))) }
+{
+    let term = written.term(unfolder.alloc, place)?;
+    plain_value(unfolder, place, &term)
+}
+
+/// The value of a term in a set of steps: a name of a quantifier's variable or of an enumerator, a
+/// number or a truth value. Another term is refused at the place.
+pub(crate) fn value_in_set(
+    unfolder: &Unfolder<'_>,
+    scope: &TermScope<'_>,
+    place: Place,
+    term: &Term,
+) -> Result<i32, UnfoldingError>
+    requires { HasValues scope.now }
+    ensures value { IfOk result (λ v. v ≡ named_value unfolder.now scope.now (term_of term.now)) }
+    ensures refused { IfRefused result (IsFaultIn (IsAt place (HasNoValue (protocol_in unfolder.now)
+        (meant (scope_in unfolder.now scope.now) (term_of term.now))))) }
+{
+    match term {
+        Term::Name(name) => match bound_value(scope, name.text.as_str()) {
+            Some(written) => value_of_written(unfolder, place, written),
+            None => plain_value(unfolder, place, term),
+        },
+        Term::Chain { first, links, .. } => {
+            if links.is_empty() {
+                return value_in_set(unfolder, scope, place, first);
+            }
+            plain_value(unfolder, place, term)
+        }
+        Term::Arithmetic { first, links } => {
+            if links.is_empty() {
+                return value_in_set(unfolder, scope, place, first);
+            }
+            plain_value(unfolder, place, term)
+        }
+        Term::Constant { .. }
+        | Term::Number { .. }
+        | Term::Not { .. }
+        | Term::Negative { .. }
+        | Term::Comparison { .. }
+        | Term::Application { .. }
+        | Term::Quantified { .. } => plain_value(unfolder, place, term),
+    }
+}

@@ -1,0 +1,25 @@
+use Rattle.std.proofs.Common.{◌∙◌, ap, subst, List}
+use Rattle.pb_base_errors.specs.OrMemory.{IfRefused}
+use Rattle.pb_text_tree.specs.declared.place.Place.{Place}
+use Rattle.pb_protocol_unfolder_terms.specs.View.{spec_of}
+use Rattle.pb_protocol_unfolder_steps.specs.Elements.{elements_of_state}
+use Rattle.pb_protocol_unfolder_steps.specs.Refusals.{IsPassedIn, places_of_state}
+use Rattle.pb_protocol_unfolder_steps.proofs.StateLemmas.{element-places-said, elements-said}
+use Rattle.pb_protocol_unfolder_steps.proofs.OkLemmas.{if-ok}
+use Rattle.pb_protocol_unfolder_steps.proofs.element.elements.Goals as goal
+
+pub returns-clause-elements : goal.returns-clause-elements
+returns-clause-elements c =
+    let spec = spec_of c.sorts_of.result in
+    if-ok c.elements_of.result (λ v same. same ∙ ap (elements_of_state spec) c.deref.ensures.value ∙ elements-said spec c.args.protocol.now c.sorts_of.ensures) c.elements_of.ensures.elements
+
+pub returns-clause-places : goal.returns-clause-places
+returns-clause-places c =
+    let spec = spec_of c.sorts_of.result in
+    if-ok c.elements_of.result (λ v same. same ∙ ap (places_of_state spec) c.deref.ensures.value ∙ element-places-said spec c.args.protocol.now c.sorts_of.ensures) c.elements_of.ensures.places
+
+pub returns-clause-refused : goal.returns-clause-refused
+returns-clause-refused c =
+    let spec = spec_of c.sorts_of.result in
+    subst (λ (v : List Place). IfRefused c.elements_of.result (IsPassedIn 64 v))
+    (ap (places_of_state spec) c.deref.ensures.value ∙ element-places-said spec c.args.protocol.now c.sorts_of.ensures) c.elements_of.ensures.refused

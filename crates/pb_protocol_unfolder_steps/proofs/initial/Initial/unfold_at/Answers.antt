@@ -1,0 +1,20 @@
+use Rattle.pb_protocol_meaning.specs.Erase.{protocol_of}
+use Rattle.pb_protocol_unfolder_terms.specs.Contexts.{without_state}
+use Rattle.std.proofs.Common.{map}
+use Rattle.pb_text_tree.specs.Form.{term_form}
+use Rattle.pb_protocol_tree.specs.Form.{protocol_form}
+use Rattle.pb_protocol_unfolder_terms.specs.TermFaults.{surroundings_at_start}
+use Rattle.pb_protocol_unfolder_terms.specs.Values.{written_term}
+use Rattle.pb_protocol_unfolder_terms.specs.View.{variable_of}
+use Rattle.pb_protocol_unfolder_steps.specs.StepFaults.{IsFaultAtValues}
+use Rattle.pb_protocol_unfolder_steps.proofs.StepFaultLemmas.{term-told}
+use Rattle.pb_protocol_unfolder_steps.proofs.initial.Initial.unfold_at.Goals as goal
+
+pub returns-in-Ok-clause-term : goal.returns-in-Ok-clause-term
+returns-in-Ok-clause-term c = (c.in-Ok.ensures.term (without_state (protocol_of c.args.self.now.protocol.now)) c.requires.initial.context).term
+
+pub returns-in-Err-clause-faults : goal.returns-in-Err-clause-faults
+returns-in-Err-clause-faults c =
+    let F = protocol_form c.args.self.now.protocol.now in
+    term-told (IsFaultAtValues F (map variable_of c.args.indices.now) (term_form c.args.term.now) (map written_term c.args.values.now)) c.in-Err.error c.of_term.result c.of_term.ensures.error
+    (c.in-Err.ensures.faults (surroundings_at_start F) c.requires.initial.surroundings tt)

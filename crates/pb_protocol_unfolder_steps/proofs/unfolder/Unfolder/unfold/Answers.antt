@@ -1,0 +1,15 @@
+use Rattle.pb_text_tree.specs.Form.{term_form}
+use Rattle.pb_protocol_unfolder_terms.specs.TermFaults.{IsFaultInTerm, surroundings_of}
+use Rattle.pb_protocol_unfolder_steps.specs.Unfolder.{form_in, protocol_in, scope_in}
+use Rattle.pb_protocol_unfolder_steps.proofs.StepFaultLemmas.{term-told}
+use Rattle.pb_protocol_unfolder_steps.proofs.unfolder.Unfolder.unfold.Goals as goal
+
+pub returns-in-Ok-clause-term : goal.returns-in-Ok-clause-term
+returns-in-Ok-clause-term c = (c.in-Ok.ensures.term (protocol_in c.args.self.now) c.requires.unfolder.context).term
+
+pub returns-in-Err-clause-faults : goal.returns-in-Err-clause-faults
+returns-in-Err-clause-faults c =
+    let u = c.args.self.now in
+    let M = surroundings_of (form_in u) in
+    λ v. term-told (IsFaultInTerm M (scope_in u c.args.scope.now) (term_form c.args.term.now)) c.in-Err.error c.of_term.result c.of_term.ensures.error
+    (c.in-Err.ensures.faults M c.requires.unfolder.surroundings v)

@@ -1,0 +1,126 @@
+-- What the fault of a term says: in the steps of a protocol with their values, and in the values at
+-- the start.
+use Rattle.std.specs.Prelude.{◌≡◌, ◌⊎◌, ℕ, List, [], ◌∷◌, map, flat_map, Contains, Some}
+use Rattle.std.specs.List.{slice_get}
+use Rattle.pb_base_errors.specs.declared.or_memory.OrMemory.{OrMemory}
+use Rattle.pb_base_errors.specs.declared.or_memory.OrMemory.TheVariants.{Refused, Memory}
+use Rattle.pb_text_tree.specs.declared.place.Place.{Place}
+use Rattle.pb_text_tree.specs.declared.term.Argument as declared_argument
+use Rattle.pb_text_tree.specs.Form.{ArgumentForms, TermForm, argument, no_arguments, term_form}
+use Rattle.pb_text_meaning.specs.Syntax.{Term, Spec, Variable}
+use Rattle.pb_text_meaning.specs.Erase.{erased_variables}
+use Rattle.pb_protocol_tree.specs.declared.step.Step as declared_step
+use Rattle.pb_protocol_tree.specs.Form.{AssignmentForm, ProtocolForm, StateVariableForm, StepForm}
+use Rattle.pb_protocol_tree.specs.Form.{step_form}
+use Rattle.pb_protocol_meaning.specs.Erase.{erase}
+use Rattle.pb_protocol_meaning.specs.Steps.{data_of}
+use Rattle.pb_protocol_unfolding.specs.PutIn.{TermScope}
+use Rattle.pb_protocol_unfolding.specs.Unfolding.{Element, all_elements, written}
+use Rattle.pb_protocol_unfolding.specs.Written.{written_tuples}
+use Rattle.pb_protocol_unfolder_terms.specs.declared.fault.UnfoldFault.{UnfoldFault}
+use Rattle.pb_protocol_unfolder_terms.specs.declared.fault.UnfoldRule.{UnfoldRule}
+use Rattle.pb_protocol_unfolder_terms.specs.TermFaults.{IsFaultAt, IsFaultInElement, IsFaultInTerm}
+use Rattle.pb_protocol_unfolder_terms.specs.TermFaults.{surroundings_at_start, surroundings_of}
+use Rattle.pb_protocol_unfolder_terms.specs.Values.{tuple_of}
+use Rattle.pb_protocol_unfolder_steps.specs.declared.fault.StepsFault.{StepsFault}
+use Rattle.pb_protocol_unfolder_steps.specs.declared.fault.StepsFault.TheVariants as fault
+use Rattle.pb_protocol_unfolder_steps.specs.declared.instance.Instance as declared_instance
+
+-- ---- steps with their values, and their places
+
+pub record PlacedInstance : Type 0 where
+  pub step : StepForm
+  pub own : List Term
+
+abbrev pub placed_at : StepForm → List Term → PlacedInstance
+placed_at a own = record { step = a; own = own }
+
+abbrev pub placed_instances_of : Spec → StepForm → List PlacedInstance
+placed_instances_of spec a =
+    map (placed_at a) (written_tuples spec (erased_variables a.variables))
+
+abbrev pub placed_instances : ProtocolForm → List PlacedInstance
+placed_instances m = flat_map (placed_instances_of (data_of (erase m))) m.steps
+
+-- ---- of the trees
+
+abbrev pub instance_form : declared_instance.Instance → PlacedInstance
+instance_form i = placed_at (step_form i.step.now) (tuple_of i.own)
+
+abbrev pub forms_of_step : Spec → declared_step.Step → List PlacedInstance
+forms_of_step spec a = placed_instances_of spec (step_form a)
+
+abbrev pub forms_of_steps : Spec → List declared_step.Step → List PlacedInstance
+forms_of_steps spec steps = flat_map (forms_of_step spec) steps
+
+-- ---- faults
+
+-- where it is unfolded what one of these elements is after assignments
+abbrev pub IsFaultInElements :
+    ProtocolForm → TermScope → List AssignmentForm → List Element → UnfoldRule → Place → Type 0
+IsFaultInElements m ρ assignments elements r p =
+    (e : Element) × Contains elements e
+    × IsFaultInElement (surroundings_of m) ρ assignments e r p
+
+-- in the guard or in the assignments, where the step's own variables stand for the values
+abbrev pub IsFaultInStep : ProtocolForm → PlacedInstance → UnfoldRule → Place → Type 0
+IsFaultInStep m i r p =
+    let ρ = written (erased_variables i.step.variables) i.own in
+    IsFaultInTerm (surroundings_of m) ρ i.step.guard r p
+    ⊎ IsFaultInElements m ρ i.step.assignments (all_elements (erase m)) r p
+
+abbrev pub IsFaultInSteps : ProtocolForm → List PlacedInstance → UnfoldRule → Place → Type 0
+IsFaultInSteps m instances r p =
+    (i : PlacedInstance) × Contains instances i × IsFaultInStep m i r p
+
+-- ---- values at the start
+
+abbrev pub indices_at : StateVariableForm → List Variable
+indices_at y = erased_variables y.indices
+
+abbrev pub value_terms : ArgumentForms → List TermForm
+value_terms no_arguments = []
+value_terms (argument p x xs) = x ∷ value_terms xs
+
+abbrev pub value_form : declared_argument.Argument → TermForm
+value_form a = term_form a.term
+
+-- in the value of a state variable, where its indices stand for these values
+abbrev pub IsFaultAtValues :
+    ProtocolForm → List Variable → TermForm → List Term → UnfoldRule → Place → Type 0
+IsFaultAtValues m indices x ks =
+    IsFaultInTerm (surroundings_at_start m) (written indices ks) x
+
+-- for one of these tuples of values
+abbrev pub IsFaultAtSome :
+    ProtocolForm → List Variable → TermForm → List (List Term) → UnfoldRule → Place → Type 0
+IsFaultAtSome m indices x tuples r p =
+    (ks : List Term) × Contains tuples ks × IsFaultAtValues m indices x ks r p
+
+abbrev pub IsFaultInValue :
+    ProtocolForm → List Variable → TermForm → UnfoldRule → Place → Type 0
+IsFaultInValue m indices x =
+    IsFaultAtSome m indices x (written_tuples (data_of (erase m)) indices)
+
+-- of one of these variables, by their indices
+abbrev pub IsFaultInValues :
+    ProtocolForm → List (List Variable) → List TermForm → UnfoldRule → Place → Type 0
+IsFaultInValues m variables values r p =
+    (k : ℕ) × (indices : List Variable) × (x : TermForm)
+    × (slice_get variables k ≡ Some indices) × (slice_get values k ≡ Some x)
+    × IsFaultInValue m indices x r p
+
+abbrev pub IsFaultAtStart : ProtocolForm → UnfoldRule → Place → Type 0
+IsFaultAtStart m = IsFaultInValues m (map indices_at m.variables) (value_terms m.initial.values)
+
+-- ---- what a fault says
+
+-- of a term's fault P holds, of the rule and the place
+abbrev pub OnTerm : (UnfoldRule → Place → Type 0) → StepsFault → Type 0
+OnTerm P (fault.Limit place) = Unit {0}
+OnTerm P (fault.Term f) = IsFaultAt P f
+
+-- the error of a term, as one of steps
+abbrev pub term_error : OrMemory UnfoldFault → OrMemory StepsFault
+term_error (Refused f) = Refused (fault.Term f)
+term_error Memory = Memory

@@ -1,0 +1,99 @@
+//! What elements get in a step with its values: those that keep their value are left out.
+
+ghost use Rattle.std.specs.Prelude.{◌≡◌, ◌++◌, map, IfOk, OnOk, string_bytes};
+ghost use Rattle.pb_base_errors.specs.OrMemory.{IfRefused};
+ghost use Rattle.pb_protocol_folding.specs.View.{term_of};
+ghost use Rattle.pb_protocol_tree.specs.Form.{assignment_form};
+ghost use Rattle.pb_protocol_unfolder_terms.specs.TermFaults.{HasValues, IsFaultInElement, surroundings_of};
+ghost use Rattle.pb_protocol_unfolder_steps.specs.Elements.{element_said};
+ghost use Rattle.pb_protocol_unfolder_steps.specs.StepFaults.{IsFaultInElements, OnTerm};
+ghost use Rattle.pb_protocol_unfolder_steps.specs.Refusals.{IsTermOr};
+ghost use Rattle.pb_protocol_unfolder_steps.specs.Steps.{assignment_said, assignments_said, change_of};
+ghost use Rattle.pb_protocol_unfolder_steps.specs.Steps.{changed, changes};
+ghost use Rattle.pb_protocol_unfolder_steps.specs.Unfolder.{IsUnfolder, form_in, protocol_in};
+ghost use Rattle.pb_protocol_unfolder_steps.specs.Unfolder.{scope_in};
+
+use crate::element::Element;
+use crate::fault::StepsError;
+use crate::unfolder::Unfolder;
+use pb_model_tree as flat;
+use pb_protocol_folding::is_itself;
+use pb_protocol_tree::Assignment;
+use pb_protocol_unfolder_terms::{TermScope, element_name};
+use pb_text_tree::{Argument, Name, Place, Term};
+use std::alloc::AllocError;
+
+/// What a step assigns, where names stand for its values, and where that stands.
+#[derive(Clone, Copy)]
+pub(crate) struct Assigning<'a> {
+    pub scope: &'a TermScope<'a>,
+    pub assignments: &'a [Assignment],
+    pub place: Place,
+}
+
+/// Adds what a variable gets, unless that is itself.
+fn push_change(
+    assignments: &mut Vec<flat::Assignment>,
+    variable: Name,
+    place: Place,
+    term: Term,
+) -> Result<(), AllocError>
+    ensures { OnOk result (map assignment_said assignments.new.items
+        ≡ map assignment_said assignments.old.items
+        ++ change_of (string_bytes variable.text) (term_of term)) }
+{
+    if is_itself(variable.text.as_str(), &term) {
+        return Ok(());
+    }
+    let value = Argument { place, term };
+    assignments.push(flat::Assignment { variable, value })?;
+    Ok(())
+}
+
+/// Adds what an element gets, unless it keeps its value.
+fn push_assignment(
+    assignments: &mut Vec<flat::Assignment>,
+    unfolder: &Unfolder<'_>,
+    assigning: &Assigning<'_>,
+    element: &Element<'_>,
+) -> Result<(), StepsError>
+    requires unfolder { IsUnfolder unfolder.now }
+    ensures assignments { OnOk result (map assignment_said assignments.new.items
+        ≡ map assignment_said assignments.old.items
+        ++ changed (protocol_in unfolder.now)
+        (scope_in unfolder.now assigning.now.scope.now)
+        (assignments_said assigning.now.assignments.now) (element_said element.now)) }
+    ensures refused { IfRefused result (IsTermOr ⊥) }
+    ensures faults { HasValues assigning.now.scope.now → IfRefused result (OnTerm
+        (IsFaultInElement (surroundings_of (form_in unfolder.now))
+        (scope_in unfolder.now assigning.now.scope.now)
+        (map assignment_form assigning.now.assignments.now) (element_said element.now))) }
+{
+    let variable = element_name(unfolder.alloc, element.name, &element.index)?;
+    let term = unfolder.unfold_assigned(assigning.scope, assigning.assignments, element)?;
+    push_change(assignments, variable, assigning.place, term)?;
+    Ok(())
+}
+
+/// What elements get, without those that keep their value.
+pub(crate) fn unfold_assignments(
+    unfolder: &Unfolder<'_>,
+    assigning: &Assigning<'_>,
+    elements: &[Element<'_>],
+) -> Result<Vec<flat::Assignment>, StepsError>
+    requires unfolder { IsUnfolder unfolder.now }
+    ensures assignments { IfOk result (λ v. map assignment_said v.items
+        ≡ changes (protocol_in unfolder.now)
+        (scope_in unfolder.now assigning.now.scope.now)
+        (assignments_said assigning.now.assignments.now) (map element_said elements.now)) }
+    ensures refused { IfRefused result (IsTermOr ⊥) }
+    ensures faults { HasValues assigning.now.scope.now → IfRefused result (OnTerm
+        (IsFaultInElements (form_in unfolder.now) (scope_in unfolder.now assigning.now.scope.now)
+        (map assignment_form assigning.now.assignments.now) (map element_said elements.now))) }
+{
+    let mut assignments = Vec::new(unfolder.alloc);
+    for element in elements {
+        push_assignment(&mut assignments, unfolder, assigning, element)?;
+    }
+    Ok(assignments)
+}

@@ -1,0 +1,135 @@
+//! The steps of a protocol with written values for their own variables.
+
+ghost use Rattle.std.specs.Prelude.{◌≡◌, ◌≤◌, ◌+◌, ◌++◌, length, map, IfOk, OnOk};
+ghost use Rattle.std.specs.Prelude.{string_bytes};
+ghost use Rattle.pb_base_errors.specs.OrMemory.{IfRefused};
+ghost use Rattle.pb_protocol_tree.specs.Form.{protocol_form, step_form};
+ghost use Rattle.pb_protocol_meaning.specs.Erase.{protocol_of};
+ghost use Rattle.pb_protocol_unfolding.specs.Unfolding as definitions;
+ghost use Rattle.pb_protocol_unfolder_terms.specs.View.{spec_of};
+ghost use Rattle.pb_protocol_unfolder_terms.specs.Values.{tuple_of};
+ghost use Rattle.pb_protocol_unfolder_steps.specs.Elements.{instance_at, instance_said};
+ghost use Rattle.pb_protocol_unfolder_steps.specs.Elements.{instances_of_step, instances_of_steps};
+ghost use Rattle.pb_protocol_unfolder_steps.specs.StepFaults.{forms_of_step, forms_of_steps, instance_form};
+ghost use Rattle.pb_protocol_unfolder_steps.specs.StepFaults.{placed_at, placed_instances};
+ghost use Rattle.pb_protocol_unfolder_steps.specs.Refusals.{IsPassed, IsPassedIn, instance_place};
+ghost use Rattle.pb_protocol_unfolder_steps.specs.Refusals.{instance_places, placed, places_of_step};
+ghost use Rattle.pb_protocol_unfolder_steps.specs.Refusals.{places_of_steps};
+
+use crate::fault::StepsError;
+use crate::limits::{MAX_WRITTEN_STEPS, check_limit};
+use crate::sorts::sorts_of;
+use crate::tuples::all_tuples;
+use pb_protocol_tree::{Protocol, Step};
+use pb_protocol_unfolder_terms::{Sorts, Written, element_name};
+use pb_text_tree::Name;
+use std::alloc::{AllocError, Global};
+
+/// A step with a written value for each of its own variables.
+#[derive(Drop)]
+pub struct Instance<'a> {
+    pub step: &'a Step,
+    pub own: Vec<Written<'a>>,
+}
+
+/// Adds a step with each of these tuples of values.
+fn push_with<'a>(
+    instances: &mut Vec<Instance<'a>>,
+    step: &'a Step,
+    tuples: Vec<Vec<Written<'a>>>,
+) -> Result<(), AllocError>
+    ensures instances { OnOk result (map instance_said instances.new.items
+        ≡ map instance_said instances.old.items
+        ++ map (instance_at step.now) (map tuple_of tuples.entry.items)) }
+    ensures places { OnOk result (map instance_place instances.new.items
+        ≡ map instance_place instances.old.items
+        ++ placed step.now.name.place tuples.entry.items) }
+    ensures forms { OnOk result (map instance_form instances.new.items
+        ≡ map instance_form instances.old.items
+        ++ map (placed_at (step_form step.now)) (map tuple_of tuples.entry.items)) }
+{
+    for own in tuples {
+        instances.push(Instance { step, own })?;
+    }
+    Ok(())
+}
+
+/// Adds a step with all values of its own variables.
+fn push_instances<'a>(
+    alloc: Global,
+    instances: &mut Vec<Instance<'a>>,
+    sorts: Sorts<'a>,
+    step: &'a Step,
+) -> Result<(), StepsError>
+    ensures instances { OnOk result (map instance_said instances.new.items
+        ≡ map instance_said instances.old.items
+        ++ instances_of_step (spec_of sorts.entry) step.now) }
+    ensures places { OnOk result (map instance_place instances.new.items
+        ≡ map instance_place instances.old.items
+        ++ places_of_step (spec_of sorts.entry) step.now) }
+    ensures forms { OnOk result (map instance_form instances.new.items
+        ≡ map instance_form instances.old.items
+        ++ forms_of_step (spec_of sorts.entry) step.now) }
+    ensures few { OnOk result (length instances.new.items ≤ MAX_WRITTEN_STEPS) }
+    ensures refused { IfRefused result (IsPassed MAX_WRITTEN_STEPS (length instances.old.items
+        + length (instances_of_step (spec_of sorts.entry) step.now)) step.now.name.place) }
+{
+    let place = step.name.place;
+    let tuples = all_tuples(alloc, sorts, &step.variables, place)?;
+    push_with(instances, step, tuples)?;
+    Ok(check_limit(instances.len(), MAX_WRITTEN_STEPS, place)?)
+}
+
+/// All of these steps with the values of their own variables, in order.
+fn instances_of<'a>(
+    alloc: Global,
+    sorts: Sorts<'a>,
+    steps: &'a [Step],
+) -> Result<Vec<Instance<'a>>, StepsError>
+    ensures instances { IfOk result
+        (λ v. map instance_said v.items ≡ instances_of_steps (spec_of sorts.entry) steps.now) }
+    ensures places { IfOk result
+        (λ v. map instance_place v.items ≡ places_of_steps (spec_of sorts.entry) steps.now) }
+    ensures forms { IfOk result
+        (λ v. map instance_form v.items ≡ forms_of_steps (spec_of sorts.entry) steps.now) }
+    ensures few { IfOk result (λ v. length v.items ≤ MAX_WRITTEN_STEPS) }
+    ensures refused { IfRefused result
+        (IsPassedIn MAX_WRITTEN_STEPS (places_of_steps (spec_of sorts.entry) steps.now)) }
+{
+    let mut instances = Vec::new(alloc);
+    for step in steps {
+        push_instances(alloc, &mut instances, sorts, step)?;
+    }
+    Ok(instances)
+}
+
+/// All steps of a protocol with the values of their own variables, in order.
+///
+/// # Errors
+/// There are more than 1,024 (T12, at the name of the step that passes the limit), or memory was
+/// refused.
+pub fn instances<'a>(alloc: Global, protocol: &'a Protocol) -> Result<Vec<Instance<'a>>, StepsError>
+    ensures instances { IfOk result (λ v. map instance_said v.items
+        ≡ definitions.instances (protocol_of protocol.now)) }
+    ensures places { IfOk result
+        (λ v. map instance_place v.items ≡ instance_places (protocol_form protocol.now)) }
+    ensures forms { IfOk result
+        (λ v. map instance_form v.items ≡ placed_instances (protocol_form protocol.now)) }
+    ensures few { IfOk result (λ v. length v.items ≤ MAX_WRITTEN_STEPS) }
+    ensures refused { IfRefused result
+        (IsPassedIn MAX_WRITTEN_STEPS (instance_places (protocol_form protocol.now))) }
+{
+    instances_of(alloc, sorts_of(protocol), &protocol.steps)
+}
+
+/// The name of a step with its values, as the flat model has it: `a'k'l`, where the step's name
+/// stands.
+///
+/// # Errors
+/// Memory was refused.
+pub fn instance_name(alloc: Global, instance: &Instance<'_>) -> Result<Name, AllocError>
+    ensures { IfOk result (λ n. string_bytes n.text
+        ≡ definitions.instance_name (instance_said instance.now)) }
+{
+    element_name(alloc, &instance.step.name, &instance.own)
+}

@@ -1,0 +1,180 @@
+//! The steps of a flat model: those of a protocol with their values put in, folded, without those
+//! that no state can take.
+
+ghost use Rattle.std.specs.Prelude.{◌≡◌, ◌≤◌, ◌<◌, ◌++◌, suc, [], ◌∷◌, length, map, IfOk, OnOk};
+ghost use Rattle.std.specs.Prelude.{IfSome, is_some, string_bytes};
+ghost use Rattle.pb_base_errors.specs.OrMemory.{IfRefused};
+ghost use Rattle.pb_protocol_folding.specs.FoldedModels.{folded_steps};
+ghost use Rattle.pb_protocol_meaning.specs.Steps.{data_of};
+ghost use Rattle.pb_protocol_unfolding.specs.Unfolding as definitions;
+ghost use Rattle.pb_protocol_unfolder_steps.specs.Elements.{element_said, instance_said};
+ghost use Rattle.pb_protocol_unfolder_terms.specs.TermFaults.{HasValues};
+ghost use Rattle.pb_protocol_unfolder_steps.specs.StepFaults.{IsFaultInStep, IsFaultInSteps, OnTerm};
+ghost use Rattle.pb_protocol_unfolder_steps.specs.StepFaults.{instance_form};
+ghost use Rattle.pb_protocol_unfolder_steps.specs.Refusals.{IsTermOr};
+ghost use Rattle.pb_protocol_unfolder_steps.specs.Steps.{is_kept, kept_step, own_scope, place_of_step};
+ghost use Rattle.pb_protocol_unfolder_steps.specs.Steps.{places_from};
+ghost use Rattle.pb_protocol_unfolder_steps.specs.Steps.{step_found, step_place, step_said};
+ghost use Rattle.pb_protocol_unfolder_steps.specs.Unfolder.{IsUnfolder, form_in, protocol_in};
+ghost use Rattle.pb_protocol_unfolder_steps.specs.Unfolder.{scope_in};
+
+use crate::assignment::{Assigning, unfold_assignments};
+use crate::element::Element;
+use crate::fault::StepsError;
+use crate::instance::{Instance, instance_name};
+use crate::limits::MAX_WRITTEN_STEPS;
+use crate::unfolder::Unfolder;
+use pb_model_tree as flat;
+use pb_protocol_folding::is_possible;
+use pb_protocol_unfolder_terms::{TermScope, variables_of};
+use pb_text_tree::{Name, Place};
+use std::alloc::{AllocError, Global};
+
+/// The steps of a flat model.
+#[derive(Drop)]
+pub struct UnfoldedSteps {
+    /// Those that may be taken. The name of the k-th stands in line k and column 0, where no token
+    /// does, so that each has a place of its own.
+    pub steps: Vec<flat::Step>,
+    /// For each step with its values whether it is among them.
+    pub kept: Vec<bool>,
+}
+
+/// The name of a step with its values, at a place.
+fn name_at(alloc: Global, instance: &Instance<'_>, place: Place) -> Result<Name, AllocError>
+    ensures text { IfOk result (λ n. string_bytes n.text
+        ≡ definitions.instance_name (instance_said instance.now)) }
+    ensures place { IfOk result (λ n. n.place ≡ place) }
+{
+    let name = instance_name(alloc, instance)?;
+    let text = name.text;
+    Ok(Name { place, text })
+}
+
+/// A step with its values, where it may be taken; its name stands at the place.
+fn unfold_in_scope(
+    unfolder: &Unfolder<'_>,
+    elements: &[Element<'_>],
+    instance: &Instance<'_>,
+    scope: &TermScope<'_>,
+    place: Place,
+) -> Result<Option<flat::Step>, StepsError>
+    requires unfolder { IsUnfolder unfolder.now }
+    requires elements { map element_said elements.now
+        ≡ definitions.all_elements (protocol_in unfolder.now) }
+    requires scope { scope_in unfolder.now scope.now
+        ≡ own_scope (instance_said instance.now) }
+    ensures step { IfOk result (λ found. step_found found
+        ≡ kept_step (protocol_in unfolder.now) (instance_said instance.now)) }
+    ensures place { IfOk result (λ found. IfSome found (λ a. step_place a ≡ place)) }
+    ensures refused { IfRefused result (IsTermOr ⊥) }
+    ensures faults { HasValues scope.now → IfRefused result (OnTerm
+        (IsFaultInStep (form_in unfolder.now) (instance_form instance.now))) }
+{
+    let step = instance.step;
+    let guard = unfolder.unfold(scope, true, &step.guard)?;
+    if !is_possible(&guard) {
+        return Ok(None);
+    }
+    let assigning = Assigning {
+        scope,
+        assignments: &step.assignments,
+        place: step.name.place,
+    };
+    let assignments = unfold_assignments(unfolder, &assigning, elements)?;
+    let name = name_at(unfolder.alloc, instance, place)?;
+    Ok(Some(flat::Step {
+        name,
+        variables: Vec::new(unfolder.alloc),
+        guard,
+        assignments,
+    }))
+}
+
+/// A step with its values, where it may be taken; its name stands at the place.
+fn unfold_step(
+    unfolder: &Unfolder<'_>,
+    elements: &[Element<'_>],
+    instance: &Instance<'_>,
+    place: Place,
+) -> Result<Option<flat::Step>, StepsError>
+    requires unfolder { IsUnfolder unfolder.now }
+    requires elements { map element_said elements.now
+        ≡ definitions.all_elements (protocol_in unfolder.now) }
+    ensures step { IfOk result (λ found. step_found found
+        ≡ kept_step (protocol_in unfolder.now) (instance_said instance.now)) }
+    ensures place { IfOk result (λ found. IfSome found (λ a. step_place a ≡ place)) }
+    ensures refused { IfRefused result (IsTermOr ⊥) }
+    ensures faults { IfRefused result (OnTerm
+        (IsFaultInStep (form_in unfolder.now) (instance_form instance.now))) }
+{
+    let variables = variables_of(unfolder.alloc, &instance.step.variables)?;
+    let scope = TermScope::Values {
+        variables: &variables,
+        values: &instance.own,
+        outer: &TermScope::Empty,
+    };
+    unfold_in_scope(unfolder, elements, instance, &scope, place)
+}
+
+impl UnfoldedSteps {
+    /// Adds what was found of a step with its values, at the next place.
+    fn push(&mut self, found: Option<flat::Step>) -> Result<(), AllocError>
+        ensures steps { OnOk result (map step_said self.new.steps.items
+            ≡ map step_said self.old.steps.items ++ step_found found) }
+        ensures kept { OnOk result (self.new.kept.items
+            ≡ self.old.kept.items ++ is_some found ∷ []) }
+        ensures count { OnOk result
+            (length self.new.steps.items ≤ suc (length self.old.steps.items)) }
+        ensures places { map step_place self.old.steps.items
+            ≡ places_from 0 (length self.old.steps.items)
+            → IfSome found (λ a. step_place a ≡ place_of_step (length self.old.steps.items))
+            → OnOk result (map step_place self.new.steps.items
+            ≡ places_from 0 (length self.new.steps.items)) }
+    {
+        self.kept.push(found.is_some())?;
+        if let Some(step) = found {
+            self.steps.push(step)?;
+        }
+        Ok(())
+    }
+}
+
+/// The steps with their values, folded: those that may be taken, each at a place of its own.
+///
+/// # Errors
+/// A term isn't unfolded (`StepsFault::Term`), or memory was refused.
+pub fn unfold_steps(
+    unfolder: &Unfolder<'_>,
+    elements: &[Element<'_>],
+    instances: &[Instance<'_>],
+) -> Result<UnfoldedSteps, StepsError>
+    requires unfolder { IsUnfolder unfolder.now }
+    requires elements { map element_said elements.now
+        ≡ definitions.all_elements (protocol_in unfolder.now) }
+    requires few { length instances.now ≤ MAX_WRITTEN_STEPS }
+    ensures steps { IfOk result (λ u. map step_said u.steps.items
+        ≡ folded_steps (data_of (protocol_in unfolder.now))
+        (map (definitions.unfolded_step (protocol_in unfolder.now))
+        (map instance_said instances.now))) }
+    ensures kept { IfOk result (λ u. u.kept.items
+        ≡ map (is_kept (protocol_in unfolder.now)) (map instance_said instances.now)) }
+    ensures places { IfOk result (λ u. map step_place u.steps.items
+        ≡ places_from 0 (length u.steps.items)) }
+    ensures refused { IfRefused result (IsTermOr ⊥) }
+    ensures faults { IfRefused result (OnTerm
+        (IsFaultInSteps (form_in unfolder.now) (map instance_form instances.now))) }
+{
+    let mut unfolded = UnfoldedSteps {
+        steps: Vec::new(unfolder.alloc),
+        kept: Vec::new(unfolder.alloc),
+    };
+    for instance in instances {
+        let place = Place {
+            line: unfolded.steps.len() as u32,
+            column: 0,
+        };
+        unfolded.push(unfold_step(unfolder, elements, instance, place)?)?;
+    }
+    Ok(unfolded)
+}

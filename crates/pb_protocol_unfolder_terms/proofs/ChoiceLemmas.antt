@@ -1,0 +1,120 @@
+-- A choice of two terms, folded.
+use Rattle.std.proofs.Common.{◌≡◌, ◌≤◌, ◌+◌, ℕ, suc, Bool, true, false, if◌then◌else◌, Option, Some, None, refl, sym, ◌∙◌, ap, arith}
+use Rattle.pb_text_meaning.specs.Syntax.{Name, Term, Terms, Spec}
+use Rattle.pb_text_meaning.specs.Functions.{named_function}
+use Rattle.pb_text_meaning.specs.declared.function.NamedFunction.{NamedFunction}
+use Rattle.pb_text_meaning.specs.declared.function.NamedFunction.TheVariants.{If, Succ, Pred, Abs, Max, Min, Pos2Nat, Pos2Int, Nat2Int}
+use Rattle.std.specs.Prelude.{codes}
+use Rattle.pb_text_tree.specs.declared.term.Term as declared_term
+use Rattle.pb_protocol_folding.specs.Folding.{folded, folded_application, function_of_three, is_if, truth_value}
+use Rattle.pb_protocol_folding.specs.View as tree
+use Rattle.pb_protocol_unfolder_terms.specs.Puts.{choice_of}
+use Rattle.pb_base_errors.specs.declared.or_memory.OrMemory.{OrMemory}
+use Rattle.pb_protocol_unfolder_terms.specs.declared.fault.UnfoldFault.{UnfoldFault}
+use Rattle.pb_protocol_unfolder_terms.specs.Unfolding.{IsRefusal, operator_count}
+use Rattle.pb_protocol_unfolder_terms.proofs.ChainLemmas.{refusal-weaker}
+
+chooses : (o : Option NamedFunction) (b : Bool) (x y whole : Term) → is_if o ≡ true → function_of_three o (Some b) x y whole ≡ (if b then x else y)
+chooses (Some If) true x y whole e = refl
+chooses (Some If) false x y whole e = refl
+chooses (Some Succ) b x y whole e = absurd (no e)
+  where
+    no : false ≡ true → ⊥
+    no h = cc
+chooses (Some Pred) b x y whole e = absurd (no e)
+  where
+    no : false ≡ true → ⊥
+    no h = cc
+chooses (Some Abs) b x y whole e = absurd (no e)
+  where
+    no : false ≡ true → ⊥
+    no h = cc
+chooses (Some Max) b x y whole e = absurd (no e)
+  where
+    no : false ≡ true → ⊥
+    no h = cc
+chooses (Some Min) b x y whole e = absurd (no e)
+  where
+    no : false ≡ true → ⊥
+    no h = cc
+chooses (Some Pos2Nat) b x y whole e = absurd (no e)
+  where
+    no : false ≡ true → ⊥
+    no h = cc
+chooses (Some Pos2Int) b x y whole e = absurd (no e)
+  where
+    no : false ≡ true → ⊥
+    no h = cc
+chooses (Some Nat2Int) b x y whole e = absurd (no e)
+  where
+    no : false ≡ true → ⊥
+    no h = cc
+chooses None b x y whole e = absurd (no e)
+  where
+    no : false ≡ true → ⊥
+    no h = cc
+
+abbrev three : Term → Term → Term → Terms
+three c x y = Terms.Then c (Terms.Then x (Terms.Then y Terms.NoTerms))
+
+-- of a choice the truth of the condition counts
+pub folded-choice : (S : Spec) (f : Name) (c x y : Term) (truth : Bool) → is_if (named_function f) ≡ true → folded_application S f (three (folded S true c) (folded S false x) (folded S false y)) ≡ folded S truth (choice_of f c x y)
+folded-choice S f c x y truth e = ap (λ b. folded_application S f (three (folded S b c) (folded S false x) (folded S false y))) (sym e)
+
+pub chosen-term : (S : Spec) (f : Name) (c x y : Term) (b truth : Bool) → is_if (named_function f) ≡ true → folded S true c ≡ Term.Truth b → folded S false (if b then x else y) ≡ folded S truth (choice_of f c x y)
+chosen-term S f c x y true truth e holds =
+    sym (chooses (named_function f) true (folded S false x) (folded S false y) (Term.Apply f (three (Term.Truth true) (folded S false x) (folded S false y))) e)
+    ∙ ap (λ z. folded_application S f (three z (folded S false x) (folded S false y))) (sym holds) ∙ folded-choice S f c x y truth e
+chosen-term S f c x y false truth e holds =
+    sym (chooses (named_function f) false (folded S false x) (folded S false y) (Term.Apply f (three (Term.Truth false) (folded S false x) (folded S false y))) e)
+    ∙ ap (λ z. folded_application S f (three z (folded S false x) (folded S false y))) (sym holds) ∙ folded-choice S f c x y truth e
+
+pub chosen-room : (n m left : ℕ) (c x y : Term) (b : Bool) → n ≤ left + operator_count (if b then x else y) → m ≤ n + suc (operator_count c) → m ≤ left + suc (operator_count c + (operator_count x + (operator_count y + 0)))
+chosen-room n m left c x y true within size = omega (arith, within, size)
+chosen-room n m left c x y false within size = omega (arith, within, size)
+
+-- ---- what is refused
+
+pub sum-of : (f : Name) (c x y : Term) → operator_count (choice_of f c x y) ≡ suc (operator_count c + (operator_count x + operator_count y))
+sum-of f c x y = omega arith
+
+-- the condition
+pub condition-refused : (n m : ℕ) (f : Name) (c x y : Term) (e : OrMemory UnfoldFault) → n ≡ suc m → IsRefusal m c e → IsRefusal n (choice_of f c x y) e
+condition-refused n m f c x y e one r =
+    let size = sum-of f c x y in refusal-weaker n m c (choice_of f c x y) e (λ h. omega (arith, one, size, h)) r
+
+-- the one that is chosen
+pub chosen-refused : (n m : ℕ) (f : Name) (c x y : Term) (b : Bool) (e : OrMemory UnfoldFault) → n ≤ m + suc (operator_count c) → IsRefusal m (if b then x else y) e → IsRefusal n (choice_of f c x y) e
+chosen-refused n m f c x y true e within r =
+    let size = sum-of f c x y in refusal-weaker n m x (choice_of f c x y) e (λ h. omega (arith, within, size, h)) r
+chosen-refused n m f c x y false e within r =
+    let size = sum-of f c x y in refusal-weaker n m y (choice_of f c x y) e (λ h. omega (arith, within, size, h)) r
+
+-- the right one behind the left one
+pub right-refused : (n m k : ℕ) (f : Name) (c x y : Term) (e : OrMemory UnfoldFault) → n ≤ m + suc (operator_count c) → m ≤ k + operator_count x → IsRefusal k y e → IsRefusal n (choice_of f c x y) e
+right-refused n m k f c x y e within left r =
+    let size = sum-of f c x y in refusal-weaker n k y (choice_of f c x y) e (λ h. omega (arith, within, left, size, h)) r
+
+pub if-named : is_if (named_function (codes "if")) ≡ true
+unfolding named_function
+if-named = refl
+
+not-some : (b : Bool) → Some b ≡ None → ⊥
+not-some b e = cc
+
+-- a term that is written as a truth value is that one
+of-value : (x : Term) (b : Bool) → Some b ≡ truth_value x → x ≡ Term.Truth b
+of-value (Term.Truth d) b e = ap Term.Truth (same e)
+  where
+    same : Some b ≡ Some d → d ≡ b
+    same h = cc
+of-value (Term.Number n) b e = absurd (not-some b e)
+of-value (Term.Named x) b e = absurd (not-some b e)
+of-value (Term.Not x) b e = absurd (not-some b e)
+of-value (Term.Negative x) b e = absurd (not-some b e)
+of-value (Term.Binary o x y) b e = absurd (not-some b e)
+of-value (Term.Apply f xs) b e = absurd (not-some b e)
+of-value (Term.Quantified q xs x) b e = absurd (not-some b e)
+
+pub truth-said : (t : declared_term.Term) (b : Bool) → Some b ≡ truth_value (tree.term_of t) → tree.term_of t ≡ Term.Truth b
+truth-said t b e = of-value (tree.term_of t) b e

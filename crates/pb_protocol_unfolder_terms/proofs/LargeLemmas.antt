@@ -1,0 +1,138 @@
+-- What is too large is told at a token of what is met.
+use Rattle.std.proofs.Common.{◌≡◌, ◌<◌, ℕ, zero, suc, Bool, inl, inr, refl, sym, ap, subst, arith, List, [], ◌∷◌, take, length, get_or, map, Some}
+use Rattle.std.specs.List.{slice_get}
+use Rattle.std.specs.Prelude.{Contains, IfErr, IsErrAnd, Result, Ok, Err}
+use Rattle.pb_base_errors.specs.declared.or_memory.OrMemory.{OrMemory}
+use Rattle.pb_base_errors.specs.declared.or_memory.OrMemory.TheVariants.{Refused, Memory}
+use Rattle.pb_text_tree.specs.declared.place.Place.{Place}
+use Rattle.pb_text_tree.specs.declared.operator.Connective.{Connective}
+use Rattle.pb_text_tree.specs.declared.term.Argument.{Argument}
+use Rattle.pb_text_tree.specs.declared.term.ArithmeticLink.{ArithmeticLink}
+use Rattle.pb_text_tree.specs.declared.term.TermLink.{TermLink}
+use Rattle.pb_protocol_tree.specs.declared.step.Assignment.{Assignment}
+use Rattle.pb_protocol_tree.specs.Form.{assignment_form}
+use Rattle.pb_text_tree.specs.Form.{TermForm, argument_forms, arithmetic_links, calculated, chained, named, term_form, term_links}
+use Rattle.pb_text_meaning.specs.Syntax.{Spec, Term}
+use Rattle.pb_protocol_unfolding.specs.PutIn.{TermScope}
+use Rattle.pb_protocol_unfolding.specs.Written.{written_values}
+use Rattle.pb_protocol_unfolder_terms.specs.declared.context.Context.{Context}
+use Rattle.pb_protocol_unfolder_terms.specs.declared.fault.UnfoldFault.{UnfoldFault}
+use Rattle.pb_protocol_unfolder_terms.specs.declared.fault.UnfoldRule.{UnfoldRule}
+use Rattle.pb_protocol_unfolder_terms.specs.declared.fault.UnfoldRule.TheVariants as rule
+use Rattle.pb_protocol_unfolder_terms.specs.declared.sorts.Variable.{Variable}
+use Rattle.pb_protocol_unfolder_terms.specs.declared.unfolded.Unfolded.{Unfolded}
+use Rattle.pb_protocol_unfolder_terms.specs.Deep.{IsDepthFault}
+use Rattle.pb_protocol_unfolder_terms.specs.Large.{HasManyValues, IsConnectiveAt, IsOperatorAt, IsTokenMet, IsValuesFault}
+use Rattle.pb_protocol_unfolder_terms.specs.Met.{Itself, Occurrence, Surroundings, at}
+use Rattle.pb_protocol_unfolder_terms.specs.Tells.{AreMetAt, IsFaultOf, IsMetAt, IsTokenAt}
+use Rattle.pb_protocol_unfolder_terms.specs.TermFaults.{Breaks, IfFaultAt, IsFaultInAssignment, IsFaultInAssignments, WithMany}
+use Rattle.pb_protocol_unfolder_terms.specs.Unfolding.{OnOperators, Unfolds, operator_count}
+use Rattle.pb_protocol_unfolder_terms.specs.Values.{IsTooLong}
+use Rattle.pb_protocol_unfolder_terms.specs.View.{variable_of}
+use Rattle.pb_protocol_unfolder_terms.proofs.MetLemmas.{err-told, first-in, mapped-in, taken-at, taken-length}
+use Rattle.pb_protocol_unfolder_terms.proofs.ProtocolLemmas.{mapped-length}
+use Rattle.pb_protocol_unfolder_terms.proofs.ReadLemmas.{not-none, some-is}
+
+-- ---- faults
+
+-- it nests too deep
+pub depth-told : (m : Surroundings) (whole : Occurrence) (p : Place) (e : OrMemory UnfoldFault) → e ≡ Refused (record { rule = rule.Depth; place = p }) → IsDepthFault m whole p → IsFaultOf m whole e
+depth-told m whole p e is deep = subst (IsFaultOf m whole) (sym is) deep
+
+-- there is no room at a token
+pub room-told : {A : Type 0} (m : Surroundings) (whole : Occurrence) (p : Place) (r : Result A (OrMemory UnfoldFault)) (e : OrMemory UnfoldFault) → IsErrAnd r (λ d. d ≡ e)
+    → e ≡ Refused (record { rule = rule.Operators; place = p }) → IsTokenMet m whole p → IfErr r (IsFaultOf m whole)
+room-told m whole p r e same is token = err-told r e (IsFaultOf m whole) same (subst (IsFaultOf m whole) (sym is) token)
+
+-- there are too many values
+pub values-told : {A B : Type 0} (m : Surroundings) (whole : Occurrence) (xs : List A) (p : Place) (r : Result B (OrMemory UnfoldFault)) (e : OrMemory UnfoldFault) → IsErrAnd r (λ d. d ≡ e)
+    → IsTooLong xs p e → (8192 < length xs → IsValuesFault m whole p) → IfErr r (IsFaultOf m whole)
+values-told {A = A} m whole xs p r e same is many = err-told r e (IsFaultOf m whole) same (by e is)
+  where
+    by : (d : OrMemory UnfoldFault) → IsTooLong xs p d → IsFaultOf m whole d
+    by Memory h = tt
+    by (Refused f) h = subst (λ (g : UnfoldFault). IsFaultOf m whole (Refused g)) (sym h.0) (many h.1)
+
+-- by the rule of operators there are as many as that
+pub with-many : (S : Spec) (b : Bool) (n : ℕ) (t : Term) (P : UnfoldRule → Place → Type 0) (r : Result Unfolded (OrMemory UnfoldFault)) → Unfolds S b n t r → IfErr r (IfFaultAt P)
+    → IfErr r (IfFaultAt (WithMany (n < operator_count t) P))
+with-many S b n t P (Ok u) h is = tt
+with-many S b n t P (Err Memory) h is = tt
+with-many S b n t P (Err (Refused f)) h is = by f.rule h is
+  where
+    by : (r : UnfoldRule) → OnOperators r (n < operator_count t) → P r f.place → WithMany (n < operator_count t) P r f.place
+    by rule.Operators many is = (many, is)
+    by rule.Depth many is = is
+    by rule.Values many is = is
+    by rule.Index many is = is
+
+-- an index with too many values
+pub first-many : (S : Spec) (is : List Variable) (i : Variable) → Some i ≡ slice_get is 0 → 8192 < length (written_values S i.sort.now) → HasManyValues S (map variable_of is)
+first-many S [] i there many = absurd (not-none i there)
+first-many S (j ∷ js) i there many =
+    (variable_of j, first-in (variable_of j) (map variable_of js), subst (λ (v : Variable). 8192 < length (written_values S v.sort.now)) (some-is i j there) many)
+
+-- ---- tokens
+
+module _ (c : Context) (l n : ℕ) (ρ : TermScope) (whole : Occurrence) where
+  connective-at : (k : Connective) (x : TermForm) (ls : List TermLink) (i : ℕ) (d : TermLink) → i < length ls → d ≡ get_or ls i d
+      → IsConnectiveAt (chained (TermForm.connected k) x (term_links ls)) d.place
+  connective-at k x [] i d within is = absurd (omega (arith, within))
+  connective-at k x (m ∷ ls) zero d within is = inl (ap (λ (b : TermLink). b.place) is)
+  connective-at k x (m ∷ ls) (suc i) d within is = inr (connective-at k (term_form m.operand) ls i d (omega (arith, within)) is)
+
+  -- a connective of a chain
+  pub chain-token : (k : Connective) (x : TermForm) (ls : List TermLink) (i : ℕ) (d : TermLink) → i < length ls → d ≡ get_or ls i d
+      → IsMetAt c l n ρ (chained (TermForm.connected k) x (term_links ls)) whole → IsTokenAt c d.place whole
+  chain-token k x ls i d within is h = (at l n ρ (chained (TermForm.connected k) x (term_links ls)), h, inr (inl (connective-at k x ls i d within is)))
+
+  operator-within : (x : TermForm) (ls : List ArithmeticLink) (p : Place) → IsOperatorAt x p → IsOperatorAt (calculated x (arithmetic_links ls)) p
+  operator-within x [] p h = h
+  operator-within x (m ∷ ls) p h = operator-within (TermForm.computed m.operator m.place x (term_form m.operand)) ls p (inr h)
+
+  operator-at : (x : TermForm) (ls : List ArithmeticLink) (i : ℕ) (d : ArithmeticLink) → i < length ls → d ≡ get_or ls i d → IsOperatorAt (calculated x (arithmetic_links ls)) d.place
+  operator-at x [] i d within is = absurd (omega (arith, within))
+  operator-at x (m ∷ ls) zero d within is = operator-within (TermForm.computed m.operator m.place x (term_form m.operand)) ls d.place (inl (ap (λ (b : ArithmeticLink). b.place) is))
+  operator-at x (m ∷ ls) (suc i) d within is = operator-at (TermForm.computed m.operator m.place x (term_form m.operand)) ls i d (omega (arith, within)) is
+
+  -- the operator before an operand
+  pub arithmetic-token : (x : TermForm) (ls : List ArithmeticLink) (i : ℕ) (d : ArithmeticLink) → i < length ls → d ≡ get_or ls i d
+      → IsMetAt c l n ρ (calculated x (arithmetic_links ls)) whole → IsTokenAt c d.place whole
+  arithmetic-token x ls i d within is h = (at l n ρ (calculated x (arithmetic_links ls)), h, inr (inr (operator-at x ls i d within is)))
+
+  -- the first of the arguments
+  pub first-argument : (given : List Argument) (a : Argument) → Some a ≡ slice_get given 0 → AreMetAt c l n ρ given whole → IsMetAt c l n ρ (term_form a.term) whole
+  first-argument [] a there h = absurd (not-none a there)
+  first-argument (b ∷ given) a there h = h a (subst (Contains (b ∷ given)) (sym (some-is a b there)) (first-in b given))
+
+-- ---- assignments
+
+-- a fault in one of the assignments, with all levels
+pub assigned-in : (m : Surroundings) (l n : ℕ) (ρ : TermScope) (bs : List Assignment) (a : Assignment) (r : UnfoldRule) (p : Place) → Contains bs a
+    → IsFaultInAssignment m l n ρ (assignment_form a) r p → IsFaultInAssignments m l n ρ (map assignment_form bs) r p
+assigned-in m l n ρ bs a r p there h =
+    let placed = mapped-in assignment_form bs a there in
+    (assignment_form a, placed, l, omega (arith, placed.1), h)
+
+-- one in those before a place, which have a level less
+pub assigned-before : (m : Surroundings) (l n : ℕ) (ρ : TermScope) (k : ℕ) (bs : List Assignment) (r : UnfoldRule) (p : Place) → k < length bs
+    → IsFaultInAssignments m l n ρ (map assignment_form (take k bs)) r p → IsFaultInAssignments m (suc l) n ρ (map assignment_form bs) r p
+assigned-before m l n ρ k bs r p within (a, there, j, less, h) =
+    let before = taken-at assignment_form k bs a there in
+    (a, before.0, j, omega (arith, less, before.1, before.2, mapped-length assignment_form (take k bs), mapped-length assignment_form bs, taken-length k bs, within), h)
+
+-- a fault at the token of what is assigned to
+pub assigned-room : (m : Surroundings) (l n : ℕ) (ρ : TermScope) (bs : List Assignment) (a : Assignment) (r : UnfoldRule) (e : OrMemory UnfoldFault) → e ≡ Refused (record { rule = r; place = a.variable.place })
+    → Contains bs a → ((w : Occurrence) → IsTokenMet m w a.variable.place → Breaks m w r a.variable.place)
+    → IfFaultAt (IsFaultInAssignments m l n ρ (map assignment_form bs)) e
+assigned-room m l n ρ bs a r e is there breaks =
+    let w = at (suc l) n ρ (TermForm.application (named a.variable) (argument_forms a.index.items)) in
+    subst (IfFaultAt (IsFaultInAssignments m l n ρ (map assignment_form bs))) (sym is)
+    (assigned-in m l n ρ bs a r a.variable.place there (inl (breaks w (w, Itself, inl refl))))
+
+-- no level is left to choose it
+pub assigned-deep : (m : Surroundings) (l n : ℕ) (ρ : TermScope) (bs : List Assignment) (a : Assignment) (e : OrMemory UnfoldFault) → e ≡ Refused (record { rule = rule.Depth; place = a.variable.place })
+    → Contains bs a → l ≡ 0 → IfFaultAt (IsFaultInAssignments m l n ρ (map assignment_form bs)) e
+assigned-deep m l n ρ bs a e is there none =
+    subst (IfFaultAt (IsFaultInAssignments m l n ρ (map assignment_form bs))) (sym is)
+    (assigned-in m l n ρ bs a rule.Depth a.variable.place there (inr (inr (none, refl, refl))))

@@ -1,0 +1,20 @@
+use Rattle.std.proofs.Common.{◌∙◌, ap, map}
+use Rattle.pb_text_tree.specs.Form.{sort_declaration_form}
+use Rattle.pb_text_meaning.specs.Erase.{erased_declaration}
+use Rattle.pb_protocol_unfolder_terms.specs.View.{ranges_said}
+use Rattle.pb_protocol_unfolder_terms.specs.Contexts.{state_variable_of, definition_of}
+use Rattle.pb_protocol_unfolder_terms.proofs.ContextLemmas.{declared-sorts}
+use Rattle.pb_protocol_tree.specs.Form.{protocol_form}
+use Rattle.pb_protocol_unfolder_terms.proofs.ProtocolLemmas.{same-at-start}
+use Rattle.pb_protocol_unfolder_terms.proofs.context.Context.of_initial.Goals as goal
+
+pub returns-clause-context : goal.returns-clause-context
+returns-clause-context c = record {
+  sorts = declared-sorts c.deref.result.now ∙ ap (λ ds. map erased_declaration (map sort_declaration_form ds)) c.deref.ensures.value;
+  ranges = ap ranges_said c.deref-2.ensures.value;
+  variables = ap (map state_variable_of) c.new.ensures.items;
+  definitions = ap (map definition_of) c.new-2.ensures.items;
+}
+
+pub returns-clause-surroundings : goal.returns-clause-surroundings
+returns-clause-surroundings c = same-at-start (protocol_form c.args.protocol.now) _ (returns-clause-context c) c.new-2.ensures.items

@@ -1,0 +1,389 @@
+//! Unfolds what an element of an array gets by assignments.
+
+ghost use Rattle.std.specs.Prelude.{◌≡◌, ◌≤◌, ◌↔◌, ◌+◌, suc, false, true, length, drop, map, IfOk, IsTrue};
+ghost use Rattle.std.specs.Prelude.{IfErr, string_bytes};
+ghost use Rattle.pb_protocol_tree.specs.Form.{assignment_form};
+ghost use Rattle.std.specs.Prelude.{MatchResult};
+ghost use Rattle.pb_protocol_folding.specs.Folding.{folded};
+ghost use Rattle.pb_protocol_folding.specs.View.{term_of};
+ghost use Rattle.pb_text_meaning.specs.Syntax as syntax;
+ghost use Rattle.pb_protocol_meaning.specs.Syntax as protocol;
+ghost use Rattle.pb_protocol_meaning.specs.Steps.{data_of};
+ghost use Rattle.pb_protocol_unfolding.specs.Unfolding as spec;
+ghost use Rattle.pb_protocol_unfolder_terms.specs.Assigned.{after_by, assignments_said, compared_by};
+ghost use Rattle.pb_protocol_unfolder_terms.specs.Assigned.{IsLatest, element_said};
+ghost use Rattle.pb_protocol_unfolder_terms.specs.Behind.{IsBehind};
+ghost use Rattle.pb_protocol_unfolder_terms.specs.Contexts.{IsContext, IsSeenInside, folding_in};
+ghost use Rattle.pb_protocol_unfolder_terms.specs.Contexts.{scope_in};
+ghost use Rattle.pb_protocol_unfolder_terms.specs.Met.{Surroundings};
+ghost use Rattle.pb_protocol_unfolder_terms.specs.TermFaults.{HasValues, IfFaultAt, IsFaultInAssignments};
+ghost use Rattle.pb_protocol_unfolder_terms.specs.TermFaults.{IsFaultInElement, scope_by};
+ghost use Rattle.pb_protocol_unfolder_terms.specs.Tells.{AreIndices, AreIndicesMet, Tells, scope_said};
+ghost use Rattle.pb_protocol_unfolder_terms.specs.Tells.{surroundings_in};
+ghost use Rattle.pb_protocol_unfolder_terms.specs.Unfolding.{IsRefusal, IsUnfolded, Unfolds};
+ghost use Rattle.pb_protocol_unfolder_terms.specs.Unfolding.{operator_count};
+
+use crate::array::{choice, choosing, chosen, equality};
+use crate::bounds::is_within;
+use crate::context::{Context, variable_at};
+use crate::element::element_name;
+use crate::fault::{UnfoldError, UnfoldRule};
+use crate::form::Form;
+use crate::level::{Level, behind_all, behind_one, refused};
+use crate::operands::{Connected, connected_term, decides};
+use crate::scope::TermScope;
+use crate::sorts::Variable;
+use crate::term::MAX_LEVELS;
+use crate::unfold::unfold;
+use crate::unfolded::Unfolded;
+use crate::written::Written;
+use pb_base_limits::MAX_OPERATORS;
+use pb_protocol_folding::truth_value;
+use pb_protocol_tree::Assignment;
+use pb_text_tree::{Argument, Connective, Name, Place, Term};
+use std::alloc::{AllocError, Global};
+
+/// An element of an array, or a plain state variable: its name, and a written value for each index.
+#[derive(Clone, Copy)]
+pub struct Element<'a> {
+    pub array: &'a Name,
+    pub index: &'a [Written<'a>],
+}
+
+/// Arguments of an array, which are compared with written values, and the array's indices as far as
+/// they are known. The place is that of the array.
+#[derive(Clone, Copy)]
+pub(crate) struct Compared<'a> {
+    pub place: Place,
+    pub arguments: &'a [Argument],
+    pub index: &'a [Written<'a>],
+    pub indices: &'a [Variable<'a>],
+}
+
+/// What an element gets by the last of the assignments that isn't seen to be to another one.
+#[derive(Drop)]
+pub(crate) enum Latest {
+    /// There is none, and this is what the element is.
+    Unassigned(Unfolded),
+    /// The one at this place, where its index is the element's, and else what those before it give.
+    Assigned {
+        place: usize,
+        /// Whether its index is the element's.
+        condition: Unfolded,
+    },
+}
+
+/// A truth value.
+fn truth(place: Place, value: bool, room: u32) -> Unfolded
+    ensures { (folding : syntax.Spec) (truth : _) →
+        IsUnfolded folding truth room (syntax.Term.Truth value) result }
+{
+    Unfolded {
+        term: Term::Constant { place, value },
+        form: Form::Truth(value),
+        room,
+    }
+}
+
+/// Whether an unfolded index is seen to stay inside the sort of an array's first index.
+fn stays_inside(context: &Context<'_>, indices: &[Variable<'_>], index: &Term) -> bool
+    ensures { IsTrue result ↔ IsSeenInside context.now indices.now (term_of index.now) }
+{
+    match indices.first() {
+        Some(variable) => is_within(context, index, variable.sort),
+        None => true,
+    }
+}
+
+/// A comparison and what is compared behind it, both true.
+fn both(alloc: Global, place: Place, equal: Term, others: Unfolded) -> Result<Unfolded, AllocError>
+    ensures { (folding : syntax.Spec) (n m : _) (x y : syntax.Term) →
+        term_of equal ≡ folded folding true x
+        → IsUnfolded folding true n y others
+        → m ≤ n + suc (operator_count x)
+        → IfOk result (IsUnfolded folding true m (syntax.Term.Binary syntax.Operator.And x y)) }
+{
+    let connected = Connected {
+        connective: Connective::And,
+        truth: true,
+    };
+    let term = connected_term(alloc, connected, place, equal, others.term)?;
+    Ok(Unfolded {
+        term,
+        form: Form::Other,
+        room: others.room,
+    })
+}
+
+/// What a comparison that is `false` gives with what is compared behind it.
+fn none_equal(place: Place, room: u32) -> Unfolded
+    ensures { (folding : syntax.Spec) (n : _) (x y : syntax.Term) →
+        folded folding true x ≡ syntax.Term.Truth false
+        → n ≤ room + suc (operator_count x)
+        → IsUnfolded folding true n (syntax.Term.Binary syntax.Operator.And x y) result }
+{
+    Unfolded {
+        term: Term::Constant {
+            place,
+            value: false,
+        },
+        form: Form::Other,
+        room,
+    }
+}
+
+/// An element that is not assigned.
+fn itself(alloc: Global, element: Element<'_>, room: u32) -> Result<Unfolded, AllocError>
+    ensures { (folding : syntax.Spec) (sort : syntax.Name) (truth : _) → IfOk result
+        (IsUnfolded folding truth room
+        (syntax.Term.Named (spec.name_of (element_said element.entry sort)))) }
+{
+    let name = element_name(alloc, element.array, element.index)?;
+    Ok(Unfolded {
+        term: Term::Name(name),
+        form: Form::Name,
+        room,
+    })
+}
+
+/// The indices of the state variable of a name with so many, if there is one.
+fn indices_of<'a>(context: &'a Context<'a>, array: &str, count: usize) -> &'a [Variable<'a>]
+    ensures { AreIndices context.now array.now result.now }
+{
+    match variable_at(&context.variables, array, count) {
+        Some(variable) => variable.indices.as_slice(),
+        None => &[],
+    }
+}
+
+/// The arguments of an assignment to an element's array, with the element's values.
+fn compared_with<'a>(
+    context: &'a Context<'a>,
+    assignment: &'a Assignment,
+    element: Element<'a>,
+) -> Compared<'a>
+    ensures arguments { result.arguments.now ≡ assignment.now.index.items }
+    ensures index { result.index.now ≡ element.entry.index.now }
+    ensures indices { AreIndices context.now (string_bytes element.entry.array.now.text)
+        result.indices.now }
+    ensures place { result.place ≡ assignment.now.variable.place }
+{
+    Compared {
+        place: assignment.variable.place,
+        arguments: &assignment.index,
+        index: element.index,
+        indices: indices_of(context, element.array.text.as_str(), element.index.len()),
+    }
+}
+
+/// The array's indices behind the first.
+fn behind_first<'a>(indices: &'a [Variable<'a>]) -> &'a [Variable<'a>]
+    ensures { result.now ≡ drop 1 indices.now }
+{
+    if indices.is_empty() {
+        return indices;
+    }
+    &indices[1..]
+}
+
+/// Whether the arguments are the written values, where its truth alone counts.
+fn unfold_compared<'a>(
+    context: &'a Context<'a>,
+    scope: &'a TermScope<'a>,
+    level: Level,
+    compared: Compared<'a>,
+) -> Result<Unfolded, UnfoldError>
+    ensures term { Unfolds (folding_in context.now) true level.room
+        (compared_by context.now level.definitions scope.now compared.entry) result }
+    ensures faults { Tells context.now result (AreIndicesMet context.now level.depth
+        level.definitions scope.now compared.entry.place compared.entry.arguments.now
+        compared.entry.indices.now) }
+{
+    let place = compared.place;
+    let Some(argument) = compared.arguments.first() else {
+        return Ok(truth(place, compared.index.is_empty(), level.room));
+    };
+    let Some(value) = compared.index.first() else {
+        return Ok(truth(place, false, level.room));
+    };
+    let inner = Level {
+        truth: false,
+        room: behind_all(level.room, 2, place)?,
+        ..level
+    };
+    let index = unfold(context, scope, inner, &argument.term)?;
+    if !stays_inside(context, compared.indices, &index.term) {
+        return Err(refused(UnfoldRule::Index, argument.place));
+    }
+    let equal = equality(&context.folding(), &index.term, *value, place)?;
+    if decides(Connective::And, &equal) {
+        return Ok(none_equal(place, index.room));
+    }
+    let others = Compared {
+        place,
+        arguments: &compared.arguments[1..],
+        index: &compared.index[1..],
+        indices: behind_first(compared.indices),
+    };
+    let inner = Level {
+        room: index.room,
+        ..inner
+    };
+    let others = unfold_compared(context, scope, inner, others)?;
+    Ok(both(context.alloc, place, equal, others)?)
+}
+
+/// What an element is behind assignments that are seen to be to another one, if there are any.
+fn passed_over(passed: bool, unfolded: Unfolded) -> Unfolded
+    ensures { (folding : syntax.Spec) (n left : _) (whole rest : syntax.Term) →
+        IsBehind folding n whole rest passed left
+        → IsUnfolded folding false left rest unfolded
+        → IsUnfolded folding false n whole result }
+{
+    if passed {
+        return Unfolded {
+            form: Form::Other,
+            ..unfolded
+        };
+    }
+    unfolded
+}
+
+/// How many more operators there may be behind a term that is done with.
+fn room_behind(unfolded: Unfolded) -> u32
+    ensures { result ≡ unfolded.room }
+{
+    unfolded.room
+}
+
+/// The last of the assignments that isn't seen to be to another element.
+fn last_assignment<'a>(
+    context: &'a Context<'a>,
+    scope: &'a TermScope<'a>,
+    level: Level,
+    assignments: &'a [Assignment],
+    element: Element<'a>,
+) -> Result<Latest, UnfoldError>
+    ensures latest { (sort : syntax.Name) → MatchResult result
+        (IsLatest context.now level.definitions level.room scope.now assignments.now
+        (element_said element.entry sort))
+        (IsRefusal level.room (after_by context.now level.definitions scope.now assignments.now
+        (element_said element.entry sort))) }
+    ensures faults { HasValues scope.now → IfErr result
+        (IfFaultAt (IsFaultInAssignments (surroundings_in context.now) level.depth
+        level.definitions (scope_said context.now scope.now)
+        (map assignment_form assignments.now))) }
+{
+    let mut room = level.room;
+    let mut passed = false;
+    for place in (0..assignments.len()).rev() {
+        let assignment = &assignments[place];
+        if assignment.variable.text.as_str() != element.array.text.as_str() {
+            continue;
+        }
+        let inner = Level {
+            room: behind_one(room, assignment.variable.place)?,
+            ..level
+        };
+        let compared = compared_with(context, assignment, element);
+        let condition = unfold_compared(context, scope, inner, compared)?;
+        if !decides(Connective::And, &condition.term) {
+            return Ok(Latest::Assigned { place, condition });
+        }
+        room = room_behind(condition);
+        passed = true;
+    }
+    let unfolded = itself(context.alloc, element, room)?;
+    Ok(Latest::Unassigned(passed_over(passed, unfolded)))
+}
+
+/// What an element is after assignments, of which the last to it counts.
+fn unfold_after<'a>(
+    context: &'a Context<'a>,
+    scope: &'a TermScope<'a>,
+    level: Level,
+    assignments: &'a [Assignment],
+    element: Element<'a>,
+) -> Result<Unfolded, UnfoldError>
+    ensures term { (sort : syntax.Name) → Unfolds (folding_in context.now) false level.room
+        (after_by context.now level.definitions scope.now assignments.now
+        (element_said element.entry sort)) result }
+    ensures faults { HasValues scope.now → IfErr result
+        (IfFaultAt (IsFaultInAssignments (surroundings_in context.now) level.depth
+        level.definitions (scope_said context.now scope.now)
+        (map assignment_form assignments.now))) }
+{
+    let latest = last_assignment(context, scope, level, assignments, element)?;
+    match latest {
+        Latest::Unassigned(unfolded) => Ok(unfolded),
+        Latest::Assigned { place, condition } => {
+            let assignment = &assignments[place];
+            let inner = Level {
+                truth: false,
+                room: condition.room,
+                ..level
+            };
+            if let Some(true) = truth_value(&condition.term) {
+                return Ok(chosen(unfold(context, scope, inner, &assignment.value.term)?));
+            }
+            let name = choosing(context.alloc, assignment.variable.place)?;
+            let Some(depth) = level.depth.checked_sub(1) else {
+                return Err(refused(UnfoldRule::Depth, assignment.variable.place));
+            };
+            let left = unfold(context, scope, inner, &assignment.value.term)?;
+            let inner = Level {
+                room: left.room,
+                depth,
+                ..inner
+            };
+            let right = unfold_after(context, scope, inner, &assignments[..place], element)?;
+            Ok(choice(&context.folding(), name, condition.term, left, right)?)
+        }
+    }
+}
+
+/// What an element gets, by what the code has of a protocol.
+fn unfold_assigned_by<'a>(
+    context: &'a Context<'a>,
+    scope: &'a TermScope<'a>,
+    assignments: &'a [Assignment],
+    element: Element<'a>,
+) -> Result<Unfolded, UnfoldError>
+    ensures term { (sort : syntax.Name) → Unfolds (folding_in context.now) false MAX_OPERATORS
+        (after_by context.now (length context.now.definitions.items) scope.now assignments.now
+        (element_said element.entry sort)) result }
+    ensures faults { HasValues scope.now → IfErr result
+        (IfFaultAt (IsFaultInAssignments (surroundings_in context.now) MAX_LEVELS
+        (length context.now.definitions.items) (scope_said context.now scope.now)
+        (map assignment_form assignments.now))) }
+{
+    let level = Level {
+        truth: false,
+        definitions: context.definitions.len(),
+        room: MAX_OPERATORS as u32,
+        depth: MAX_LEVELS,
+    };
+    unfold_after(context, scope, level, assignments, element)
+}
+
+/// What an element of an array gets by assignments, folded. Of several to it the last counts, and
+/// without one it stays what it is.
+///
+/// # Errors
+/// There would be more than 8,192 operators, terms nest too deep, more than 8,192 values are
+/// written out, an index isn't seen to stay inside its sort, or memory was refused.
+pub fn unfold_assigned<'a>(
+    context: &'a Context<'a>,
+    scope: &'a TermScope<'a>,
+    assignments: &'a [Assignment],
+    element: &'a Element<'a>,
+) -> Result<Unfolded, UnfoldError>
+    ensures term { (m : protocol.Protocol) (sort : syntax.Name) → IsContext m context.now
+        → Unfolds (data_of m) false MAX_OPERATORS (spec.unfolded_assignment m (scope_in m scope.now)
+        (assignments_said assignments.now) (element_said element.now sort)).term result }
+    ensures faults { (m : Surroundings) (sort : syntax.Name) → surroundings_in context.now ≡ m
+        → HasValues scope.now → IfErr result (IfFaultAt (IsFaultInElement m (scope_by m scope.now)
+        (map assignment_form assignments.now) (element_said element.now sort))) }
+{
+    unfold_assigned_by(context, scope, assignments, *element)
+}

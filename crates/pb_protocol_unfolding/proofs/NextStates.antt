@@ -1,0 +1,109 @@
+-- Where a step of the flat model leads.
+use Rattle.std.proofs.Common.{◌≡◌, if◌then◌else◌, List, [], ◌∷◌, map, refl, ap, ◌∙◌}
+use Rattle.std.specs.Prelude.{Some}
+use Rattle.pb_base_values.specs.Carrier.{Value}
+use Rattle.pb_text_meaning.specs.Syntax.{Name, Term}
+use Rattle.pb_text_meaning.specs.Value as data_value
+use Rattle.pb_text_meaning.specs.Value.{is_true, value}
+use Rattle.pb_model_meaning.specs.Syntax as flat
+use Rattle.pb_model_meaning.specs.Steps.{State, assigned_term}
+use Rattle.pb_model_meaning.specs.Steps as flat_steps
+use Rattle.pb_protocol_folding.specs.Names.{IsNot, AreDistinct}
+use Rattle.pb_protocol_meaning.specs.Syntax.{Protocol}
+use Rattle.pb_protocol_meaning.specs.Meaning.{meaning, meanings}
+use Rattle.pb_protocol_meaning.specs.Steps.{Position, data_of, functions_at, value_at, values_at, value_after, state_after, own_values, is_enabled, next_state}
+use Rattle.pb_protocol_unfolding.specs.PutIn.{TermScope}
+use Rattle.pb_protocol_unfolding.specs.Unfolding.{Element, name_of, variable_of, all_elements, forms_of, term_after, Instance, unfolded_step, unfolded, written, values_of, valued}
+use Rattle.pb_protocol_unfolding.specs.Hygiene.{HidesNothing}
+use Rattle.pb_protocol_unfolding.specs.TermLaws.{elements_at}
+use Rattle.pb_protocol_folding.proofs.FoldedModels.{same-self}
+use Rattle.pb_protocol_unfolding.proofs.Reading.{Finds}
+use Rattle.pb_protocol_unfolding.proofs.Assigned.{term_after-value}
+use Rattle.pb_protocol_unfolding.proofs.States.{same-not, AreSettled, ScopeIsSettled, settled-values, scope-values, standing-settled, written-scope, means-here, put_in-here, found-here, position_of, positions-are}
+
+-- ---- what is assigned
+
+-- the assignments of a term to each element
+abbrev made : (Element → Term) → List Element → List flat.Assignment
+made t es = map (λ (e : Element). record { variable = name_of e; term = t e }) es
+
+-- of these elements each has its own term
+abbrev AllFound : (Element → Term) → List flat.Assignment → List Element → Type 0
+AllFound t assignments [] = Unit {0}
+AllFound t assignments (e ∷ es) = (assigned_term assignments (name_of e) ≡ Some (t e)) × AllFound t assignments es
+
+all-in-front : (x : Name) (u : Term) (t : Element → Term) (assignments : List flat.Assignment) (es : List Element) → IsNot x (map name_of es) →
+    AllFound t assignments es → AllFound t (record { variable = x; term = u } ∷ assignments) es
+all-in-front x u t assignments [] new h = tt
+all-in-front x u t assignments (e ∷ es) new h = (
+  ap (λ b. if b then Some u else assigned_term assignments (name_of e)) (same-not (name_of e) x new.0) ∙ h.0,
+  all-in-front x u t assignments es new.1 h.1,
+)
+
+all-found : (t : Element → Term) (es : List Element) → AreDistinct (map name_of es) → AllFound t (made t es) es
+all-found t [] apart = tt
+all-found t (e ∷ es) apart = (
+  ap (λ b. if b then Some (t e) else assigned_term (made t es) (name_of e)) (same-self (name_of e)),
+  all-in-front (name_of e) (t e) t (made t es) es apart.0 (all-found t es apart.1),
+)
+
+-- ---- the next state
+
+abbrev term_of_own : (m : Protocol) → Instance → Element → Term
+term_of_own m i e = term_after (data_of m) (forms_of m) (written i.step.variables i.own) i.step.assignments e (Term.Named (name_of e))
+
+-- the indices of elements are settled
+abbrev pub IndicesAreSettled : Protocol → List Element → Type 0
+IndicesAreSettled m [] = Unit {0}
+IndicesAreSettled m (e ∷ es) = AreSettled m e.index × IndicesAreSettled m es
+
+module _ (m : Protocol) (hides : HidesNothing m) (s : State) (i : Instance) (own : AreSettled m i.own) where
+  abbrev ρ : TermScope
+  ρ = written i.step.variables i.own
+
+  scope : ScopeIsSettled m ρ
+  scope = standing-settled m i.step.variables i.own [] own tt
+
+  abbrev evaluated : Term → Value
+  evaluated = value (data_of m) (elements_at m s)
+
+  -- what is in scope at a step
+  abbrev here : data_value.Assignment
+  here = own_values i.step (values_of m i.own)
+
+  scope-is : valued (data_of m) (elements_at m s) ρ ≡ here
+  scope-is = scope-values m ρ scope s ∙ written-scope m i.step.variables i.own
+
+  element-after : (e : Element) (v : Value) → AreSettled m e.index → evaluated (Term.Named (name_of e)) ≡ v →
+      evaluated (term_of_own m i e)
+      ≡ value_after (value_at m s here) (values_at m s here) i.step.assignments e.array (values_of m e.index) v
+  element-after e v settled before =
+      term_after-value (data_of m) (elements_at m s) (forms_of m) (functions_at m s) (means-here m hides s) ρ i.step.assignments e (Term.Named (name_of e)) ∙
+      (ap (λ d. value_after (meaning (data_of m) (functions_at m s) d) (meanings (data_of m) (functions_at m s) d) i.step.assignments e.array (map evaluated e.index) (evaluated (Term.Named (name_of e)))) scope-is ∙
+      (ap (λ vs. value_after (value_at m s here) (values_at m s here) i.step.assignments e.array vs (evaluated (Term.Named (name_of e)))) (settled-values m e.index settled s) ∙
+      ap (value_after (value_at m s here) (values_at m s here) i.step.assignments e.array (values_of m e.index)) before))
+
+  states-after : (es : List Element) (vs : State) → IndicesAreSettled m es → Finds (data_of m) (elements_at m s) (map name_of es) vs → (assignments : List flat.Assignment) →
+      AllFound (term_of_own m i) assignments es →
+      flat_steps.state_after evaluated assignments (map variable_of es) vs
+      ≡ state_after (value_at m s here) (values_at m s here) i.step.assignments (map (position_of m hides) es) vs
+  states-after [] [] settled finds assignments found = refl
+  states-after [] (v ∷ vs) settled finds assignments found = refl
+  states-after (e ∷ es) [] settled finds assignments found = refl
+  states-after (e ∷ es) (v ∷ vs) settled finds assignments found =
+      let first = value_after (value_at m s here) (values_at m s here) i.step.assignments e.array (values_of m e.index) v in
+      ap (λ o. flat_steps.value_after evaluated o v ∷ flat_steps.state_after evaluated assignments (map variable_of es) vs) found.0 ∙
+      (ap (λ u. u ∷ flat_steps.state_after evaluated assignments (map variable_of es) vs)
+      (element-after e v settled.0 finds.0) ∙
+      ap (λ us. first ∷ us) (states-after es vs settled.1 finds.1 assignments found.1))
+
+  pub next-here : IndicesAreSettled m (all_elements m) →
+      flat_steps.next_state (unfolded m) s (unfolded_step m i) [] ≡ next_state m s i.step (values_of m i.own)
+  next-here settled =
+      states-after (all_elements m) s settled (found-here m hides s) (made (term_of_own m i) (all_elements m)) (all-found (term_of_own m i) (all_elements m) hides.elements) ∙
+      ap (λ (ps : List Position). state_after (value_at m s here) (values_at m s here) i.step.assignments ps s) (positions-are m hides)
+
+  pub enabled-here : flat_steps.is_enabled (unfolded m) s (unfolded_step m i) [] ≡ is_enabled m s i.step (values_of m i.own)
+  enabled-here =
+      ap is_true (put_in-here m hides s ρ scope i.step.guard) ∙
+      ap (λ c. is_true (value_at m s c i.step.guard)) (written-scope m i.step.variables i.own)

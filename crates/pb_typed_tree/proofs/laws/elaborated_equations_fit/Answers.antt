@@ -1,5 +1,0 @@
-use Rattle.pb_typed_tree.proofs.EquationsFit.{equations-fit}
-use Rattle.pb_typed_tree.proofs.laws.elaborated_equations_fit.Goals as goal
-
-pub returns : goal.returns
-returns c = equations-fit

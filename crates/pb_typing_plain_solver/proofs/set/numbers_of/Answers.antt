@@ -1,0 +1,18 @@
+use Rattle.std.proofs.Common.{arith, length}
+use Rattle.pb_sorts.specs.Layout.{carriers_of}
+use Rattle.pb_sorts.proofs.Equations.{length-carriers_of}
+use Rattle.pb_sorts.proofs.Numbers.{first_of-before, first_of-last}
+use Rattle.pb_typing_plain_solver.proofs.set.numbers_of.Goals as goal
+
+pub prove-unreachable-requires : goal.prove-unreachable-requires
+prove-unreachable-requires c =
+    let css = carriers_of c.args.layout.now in
+    omega (
+      arith,
+      first_of-before css c.args.equation (length css) (omega (arith, length-carriers_of c.args.layout.now, c.requires)) (omega arith),
+      first_of-last css,
+      c.first-start.ensures,
+      c.size.ensures,
+      c.count.ensures.count,
+      c.if-prove.true,
+    )

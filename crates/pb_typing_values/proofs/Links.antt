@@ -1,0 +1,113 @@
+-- The value of chains, operand by operand, and why the operands fit.
+use Rattle.std.proofs.Common.{◌≡◌, ℕ, zero, suc, ◌+◌, ◌<◌, Bool, List, [], ◌∷◌, length, get_or, drop, refl, sym, ◌∙◌, ap, arith, subst}
+use Rattle.std.specs.Prelude.{⊤}
+use Rattle.pb_sorts.proofs.Places.{drop-at}
+use Rattle.pb_text_tree.specs.declared.operator.Connective.{Connective}
+use Rattle.pb_text_tree.specs.declared.operator.Connective.TheVariants.{And, Or, Implies}
+use Rattle.pb_base_values.specs.Carrier.{Value, of_bool}
+use Rattle.pb_text_meaning.specs.Value.{binary, is_true}
+use Rattle.pb_text_meaning.specs.Erase.{of_connective, of_arithmetic}
+use Rattle.pb_text_meaning.specs.Fits.{IsBounded, DivisorFits}
+use Rattle.pb_text_meaning.proofs.Truths.{is_true-of_bool}
+use Rattle.pb_typing_tree.specs.declared.term.Term.{Term}
+use Rattle.pb_typing_tree.specs.declared.term.Link.{Link}
+use Rattle.pb_typing_tree.specs.Tree as tree
+use Rattle.pb_typing_tree.specs.Tree.{Binary}
+use Rattle.pb_typing_tree.specs.View.{calculated, chained, link_views, term_view, term_views}
+use Rattle.pb_typing_tree.specs.Meaning.{Slots, value, connected_truth}
+use Rattle.pb_typing_tree.specs.Fits.{Fits}
+
+-- ---- chains of one connective
+
+-- the value of a chain whose first operand has this value
+abbrev pub chain_value : Slots → Connective → Value → List Term → Value
+chain_value a c v [] = v
+chain_value a c v (x ∷ xs) = binary (of_connective c) v (chain_value a c (value a (term_view x)) xs)
+
+abbrev pub OperandsFit : ℕ → Slots → List Term → Type 0
+OperandsFit n a [] = ⊤
+OperandsFit n a (x ∷ xs) = Fits n a (term_view x) × OperandsFit n a xs
+
+pub value-chained : (a : Slots) (c : Connective) (first : tree.Term) (xs : List Term) → value a (chained (Binary (of_connective c)) first (term_views xs)) ≡ chain_value a c (value a first) xs
+value-chained a c first [] = refl
+value-chained a c first (x ∷ xs) = ap (binary (of_connective c) (value a first)) (value-chained a c (term_view x) xs)
+
+-- a chain that fits has operands that do
+pub fits-chained : (n : ℕ) (a : Slots) (c : Connective) (first : tree.Term) (xs : List Term) → Fits n a (chained (Binary (of_connective c)) first (term_views xs)) → Fits n a first × OperandsFit n a xs
+fits-chained n a c first [] f = (f, tt)
+fits-chained n a c first (x ∷ xs) f = (f.0, fits-chained n a c (term_view x) xs f.1)
+
+pub operand_fits : (n : ℕ) (a : Slots) (xs : List Term) (k : ℕ) (x : Term) → OperandsFit n a xs → k < length xs → x ≡ get_or xs k x → Fits n a (term_view x)
+operand_fits n a [] k x f lt at = absurd (omega arith)
+operand_fits n a (y ∷ xs) zero x f lt at = subst (λ (z : Term). Fits n a (term_view z)) (sym at) f.0
+operand_fits n a (y ∷ xs) (suc k) x f lt at = operand_fits n a xs k x f.1 (omega arith) at
+
+-- a binary node of a connective
+binary-connected : (c : Connective) (v w : Value) → binary (of_connective c) v w ≡ of_bool (connected_truth c (is_true v) (is_true w))
+binary-connected And v w = refl
+binary-connected Or v w = refl
+binary-connected Implies v w = refl
+
+-- a chain's value, as a truth
+truth-chain : (a : Slots) (c : Connective) (v : Value) (xs : List Term) → chain_value a c (of_bool (is_true v)) xs ≡ of_bool (is_true (chain_value a c v xs))
+truth-chain a c v [] = refl
+truth-chain a c v (x ∷ xs) =
+    let rest = chain_value a c (value a (term_view x)) xs in
+    binary-connected c (of_bool (is_true v)) rest
+    ∙ (ap (λ b. of_bool (connected_truth c b (is_true rest))) (is_true-of_bool (is_true v))
+    ∙ (sym (ap of_bool (is_true-of_bool (connected_truth c (is_true v) (is_true rest))))
+    ∙ ap (λ w. of_bool (is_true w)) (sym (binary-connected c v rest))))
+
+-- an operand that decides
+pub chain_decided : (a : Slots) (c : Connective) (v : Value) (xs : List Term) (k : ℕ) (x : Term) (t b : Bool) → k < length xs → x ≡ get_or xs k x
+    → t ≡ is_true v → ((right : Bool) → connected_truth c t right ≡ b) → chain_value a c v (drop k xs) ≡ of_bool b
+chain_decided a c v xs k x t b lt at tests decides =
+    let rest = chain_value a c (value a (term_view x)) (drop (k + 1) xs) in
+    ap (chain_value a c v) (drop-at xs k x lt at)
+    ∙ (binary-connected c v rest ∙ ap of_bool (ap (λ u. connected_truth c u (is_true rest)) (sym tests) ∙ decides (is_true rest)))
+
+-- an operand that doesn't
+pub chain_next : (a : Slots) (c : Connective) (v w : Value) (xs : List Term) (k : ℕ) (x : Term) (t : Bool) → k < length xs → x ≡ get_or xs k x
+    → t ≡ is_true v → ((right : Bool) → connected_truth c t right ≡ right) → w ≡ of_bool (is_true (value a (term_view x)))
+    → chain_value a c w (drop (k + 1) xs) ≡ chain_value a c v (drop k xs)
+chain_next a c v w xs k x t lt at tests stays is =
+    let u = value a (term_view x) in
+    let rest = chain_value a c u (drop (k + 1) xs) in
+    ap (λ z. chain_value a c z (drop (k + 1) xs)) is
+    ∙ (truth-chain a c u (drop (k + 1) xs)
+    ∙ (sym (ap of_bool (ap (λ z. connected_truth c z (is_true rest)) (sym tests) ∙ stays (is_true rest)))
+    ∙ (sym (binary-connected c v rest) ∙ ap (chain_value a c v) (sym (drop-at xs k x lt at)))))
+
+-- ---- chains of arithmetic
+
+-- the value of a chain whose operands so far have this value
+abbrev pub arithmetic_value : Slots → Value → List Link → Value
+arithmetic_value a v [] = v
+arithmetic_value a v (link ∷ links) = arithmetic_value a (binary (of_arithmetic link.operator) v (value a (term_view link.operand))) links
+
+-- each operand fits, and each value on the way
+abbrev pub ArithmeticFits : ℕ → Slots → Value → List Link → Type 0
+ArithmeticFits n a v [] = ⊤
+ArithmeticFits n a v (link ∷ links) =
+    let x = value a (term_view link.operand) in
+    let w = binary (of_arithmetic link.operator) v x in
+    Fits n a (term_view link.operand) × DivisorFits (of_arithmetic link.operator) x × IsBounded w × ArithmeticFits n a w links
+
+pub value-calculated : (a : Slots) (first : tree.Term) (links : List Link) → value a (calculated first (link_views links)) ≡ arithmetic_value a (value a first) links
+value-calculated a first [] = refl
+value-calculated a first (link ∷ links) = value-calculated a (Binary (of_arithmetic link.operator) first (term_view link.operand)) links
+
+pub fits-calculated : (n : ℕ) (a : Slots) (first : tree.Term) (links : List Link) → Fits n a (calculated first (link_views links)) → Fits n a first × ArithmeticFits n a (value a first) links
+fits-calculated n a first [] f = (f, tt)
+fits-calculated n a first (link ∷ links) f =
+    let rest = fits-calculated n a (Binary (of_arithmetic link.operator) first (term_view link.operand)) links f in
+    (rest.0.0, (rest.0.1, rest.0.2, rest.0.3, rest.1))
+
+-- the next operand fits, and so do those behind it
+pub arithmetic_next : (n : ℕ) (a : Slots) (v : Value) (links : List Link) (k : ℕ) (link : Link) → k < length links → link ≡ get_or links k link → ArithmeticFits n a v (drop k links)
+    → ArithmeticFits n a v (link ∷ drop (k + 1) links)
+arithmetic_next n a v links k link lt at f = subst (ArithmeticFits n a v) (drop-at links k link lt at) f
+
+pub arithmetic_value-next : (a : Slots) (v : Value) (links : List Link) (k : ℕ) (link : Link) → k < length links → link ≡ get_or links k link
+    → arithmetic_value a v (drop k links) ≡ arithmetic_value a (binary (of_arithmetic link.operator) v (value a (term_view link.operand))) (drop (k + 1) links)
+arithmetic_value-next a v links k link lt at = ap (arithmetic_value a v) (drop-at links k link lt at)

@@ -1,8 +1,0 @@
-use Rattle.std.proofs.Common.{map, take}
-use Rattle.pb_folding.specs.Names.{AreDistinct}
-use Rattle.pb_unfolder.specs.Apart.{name_bytes}
-use Rattle.pb_unfolder.proofs.apart.first_repeated.Given as goal
-
--- those in front are apart
-abbrev pub invariant-loop-index : goal.invariant-loop-index
-invariant-loop-index l = AreDistinct (map name_bytes (take l.index l.names))

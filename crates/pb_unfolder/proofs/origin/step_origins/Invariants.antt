@@ -1,8 +1,0 @@
-use Rattle.std.proofs.Common.{◌≡◌, map, take}
-use Rattle.pb_unfolder_steps.specs.Elements.{instance_said}
-use Rattle.pb_unfolder.specs.Origins.{origin_name}
-use Rattle.pb_unfolder.specs.Told.{told_instance}
-use Rattle.pb_unfolder.proofs.origin.step_origins.Given as goal
-
-abbrev pub invariant-loop-instance : goal.invariant-loop-instance
-invariant-loop-instance l = map origin_name l.origins.items ≡ map told_instance (map instance_said (take l.instance-index l.instances))

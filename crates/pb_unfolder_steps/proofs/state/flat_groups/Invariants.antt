@@ -1,9 +1,0 @@
-use Rattle.std.proofs.Common.{◌≡◌, ◌++◌, map, drop}
-use Rattle.pb_unfolding.specs.Unfolding as definitions
-use Rattle.pb_unfolder_steps.specs.Elements.{element_said}
-use Rattle.pb_unfolder_steps.specs.Groups.{groups_said}
-use Rattle.pb_unfolder_steps.proofs.state.flat_groups.Given as goal
-
--- what is still to be added stands behind what is added
-abbrev pub invariant-loop-element : goal.invariant-loop-element
-invariant-loop-element l = groups_said l.groups.items ++ map definitions.variable_of (map element_said (drop l.element-index l.elements)) ≡ map definitions.variable_of (map element_said l.elements)

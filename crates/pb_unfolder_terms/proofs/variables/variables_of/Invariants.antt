@@ -1,9 +1,0 @@
-use Rattle.std.proofs.Common.{◌≡◌, ◌++◌, map, drop}
-use Rattle.pb_text_tree.specs.Form.{variable_forms}
-use Rattle.pb_text_meaning.specs.Erase.{erased_variables}
-use Rattle.pb_unfolder_terms.specs.View.{variable_of}
-use Rattle.pb_unfolder_terms.proofs.variables.variables_of.Given as goal
-
-abbrev pub invariant-loop-group : goal.invariant-loop-group
-invariant-loop-group l =
-    map variable_of l.variables.items ++ erased_variables (variable_forms (drop l.group-index l.groups)) ≡ erased_variables (variable_forms l.groups)

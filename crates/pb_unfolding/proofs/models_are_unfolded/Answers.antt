@@ -1,5 +1,0 @@
-use Rattle.pb_unfolding.proofs.Models.{models_are_unfolded}
-use Rattle.pb_unfolding.proofs.models_are_unfolded.Goals as goal
-
-pub returns : goal.returns
-returns c = models_are_unfolded

@@ -1,5 +1,0 @@
-use Rattle.pb_unfolding.proofs.PlainModels.{plain_models_keep_their_meaning}
-use Rattle.pb_unfolding.proofs.plain_models_keep_their_meaning.Goals as goal
-
-pub returns : goal.returns
-returns c = plain_models_keep_their_meaning

@@ -1,5 +1,0 @@
-use Rattle.pb_unfolding.proofs.WrittenLaws.{written_values_are_kept}
-use Rattle.pb_unfolding.proofs.written_values_are_kept.Goals as goal
-
-pub returns : goal.returns
-returns c = written_values_are_kept

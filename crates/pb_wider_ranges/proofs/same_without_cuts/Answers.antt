@@ -1,5 +1,0 @@
-use Rattle.pb_wider_ranges.proofs.WithoutCuts.{same-verdict}
-use Rattle.pb_wider_ranges.proofs.same_without_cuts.Goals as goal
-
-pub returns : goal.returns
-returns c = same-verdict

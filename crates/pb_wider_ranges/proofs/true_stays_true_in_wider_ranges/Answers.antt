@@ -1,5 +1,0 @@
-use Rattle.pb_wider_ranges.proofs.StaysTrue.{stays-true}
-use Rattle.pb_wider_ranges.proofs.true_stays_true_in_wider_ranges.Goals as goal
-
-pub returns : goal.returns
-returns c = stays-true
