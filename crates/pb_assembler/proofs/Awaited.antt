@@ -37,7 +37,8 @@ ended_long : (x : Piece) (l : ℕ) (d d' : Draft) → Ends x l d d' → length d
 ended_long x l d d' h =
     let M : Places = label_place d'.places in
     let f = flat (length d.ops) 0 x in
-    sym (length-map d'.ops (resolved_op M)) ∙ ap length (h.code M (λ i q e. e)) ∙ length-append (resolved M d.ops) f ∙ ap (λ n. n + length f) (length-map d.ops (resolved_op M)) ∙ sym (long (length d.ops) 0 x)
+    sym (length-map d'.ops (resolved_op M)) ∙ ap length (h.code M (λ i q e. e)) ∙ length-append (resolved M d.ops) f
+    ∙ ap (λ n. n + length f) (length-map d.ops (resolved_op M)) ∙ sym (long (length d.ops) 0 x)
 
 -- ---- the parts of such code
 
@@ -84,7 +85,9 @@ ends_unless on x l d d1 d2 w a h =
     }
 
 -- a test's label, the test, the first part, the jump to the end, the label's place, and the second part up to the end
-pub ends_choose : (on : Bool) (x y : Piece) (d d0 d1 d2 d3 d4 d5 : Draft) (other l : ℕ) → IsOpen l d → Makes d d0 other → Adds d0 d1 (instruction.Jump (jump.If on) other) → Emits x nowhere d1 d2 → Adds d2 d3 (instruction.Jump jump.Always l) → Sets d3 d4 other → Ends y l d4 d5
+pub ends_choose : (on : Bool) (x y : Piece) (d d0 d1 d2 d3 d4 d5 : Draft) (other l : ℕ) → IsOpen l d → Makes d d0 other
+    → Adds d0 d1 (instruction.Jump (jump.If on) other) → Emits x nowhere d1 d2
+    → Adds d2 d3 (instruction.Jump jump.Always l) → Sets d3 d4 other → Ends y l d4 d5
     → IsOpen l d4 → Follows d d4 → Ends (Choose on x y) l d d5
 ends_choose on x y d d0 d1 d2 d3 d4 d5 other l w m a1 hx a3 s4 hy w4 f4 =
     let o1 : Instruction = (instruction.Jump (jump.If on) other) in
@@ -144,7 +147,8 @@ awaits_then whole x y l d0 d d1 a h =
       completed = λ d' k. a.completed d' (ends_then x y l d d1 d' a.is_open h k);
     }
 
-pub awaits_unless : (whole : Piece) (on : Bool) (x : Piece) (l : ℕ) (d0 d d1 : Draft) → Awaits whole (Unless on x) l d0 d → d1 ≡ record d { ops = d.ops ++ (instruction.Jump (jump.If on) l) ∷ [] } → Awaits whole x l d0 d1
+pub awaits_unless : (whole : Piece) (on : Bool) (x : Piece) (l : ℕ) (d0 d d1 : Draft)
+    → Awaits whole (Unless on x) l d0 d → d1 ≡ record d { ops = d.ops ++ (instruction.Jump (jump.If on) l) ∷ [] } → Awaits whole x l d0 d1
 awaits_unless whole on x l d0 d d1 a e =
     let s = adds_from d d1 (instruction.Jump (jump.If on) l) e in
     let f = adds_follows d d1 (instruction.Jump (jump.If on) l) s in record {
@@ -161,7 +165,9 @@ awaits_choose whole on x y l other d0 d d1 d2 d3 d4 d5 a n e1 e2 hx e4 e5 =
     let a2 = adds_from d1 d2 (instruction.Jump (jump.If on) other) e2 in
     let a4 = adds_from d3 d4 (instruction.Jump jump.Always l) e4 in
     let long1 = m.long in
-    let f14 = then_follows d1 d3 d4 (then_follows d1 d2 d3 (adds_follows d1 d2 (instruction.Jump (jump.If on) other) a2) (emits_follows x nowhere d2 d3 hx)) (adds_follows d3 d4 (instruction.Jump jump.Always l) a4) in
+    let f14 = then_follows d1 d3 d4
+    (then_follows d1 d2 d3 (adds_follows d1 d2 (instruction.Jump (jump.If on) other) a2)
+    (emits_follows x nowhere d2 d3 hx)) (adds_follows d3 d4 (instruction.Jump jump.Always l) a4) in
     let g14 = f14.grown in
     let s5 = sets_from d4 d5 other (unplaced d4.places other (omega arith) (f14.kept other (omega arith) ∙ new_place d d1 other n e1)) e5 in
     let f5 = set_follows d d4 d5 other (omega arith) (then_follows d d1 d4 (makes_follows d d1 other m) f14) s5 in
@@ -171,7 +177,8 @@ awaits_choose whole on x y l other d0 d d1 d2 d3 d4 d5 a n e1 e2 hx e4 e5 =
       completed = λ d' k. a.completed d' (ends_choose on x y d d1 d2 d3 d4 d5 d' other l a.is_open m a2 hx a4 s5 k w5 f5);
     }
 
-pub awaits_no_more : (whole x : Piece) (l : ℕ) (d0 d d1 d2 : Draft) → Awaits whole x l d0 d → Emits x nowhere d d1 → d2 ≡ record d1 { places = slice_set d1.places l (Some (length d1.ops)) } → Emits whole nowhere d0 d2
+pub awaits_no_more : (whole x : Piece) (l : ℕ) (d0 d d1 d2 : Draft) → Awaits whole x l d0 d → Emits x nowhere d d1
+    → d2 ≡ record d1 { places = slice_set d1.places l (Some (length d1.ops)) } → Emits whole nowhere d0 d2
 awaits_no_more whole x l d0 d d1 d2 a h e =
     let w = still_open l d d1 a.is_open (emits_follows x nowhere d d1 h) in
     a.completed d2 (ends_last x l d d1 d2 h (sets_from d1 d2 l (unplaced d1.places l w.there w.open_yet) e))

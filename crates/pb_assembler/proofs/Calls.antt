@@ -29,7 +29,8 @@ argument_alone equation l Cs Xs X xs d d1 d2 none one hx hs =
     (emits_then x rest (block_end l) d d1 d2 (emits_anywhere x (data_stays (term_view X.term)) nowhere (block_end l) d d1 hx) hs))
 
 -- an argument with its parameter
-pub argument_first : (equation : ℕ) (l : Option ℕ) (Cs : List Carrier) (Xs : List Argument) (C : Carrier) (cs : List Carrier) (X : Argument) (xs : List Argument) (r : Option (ℤ × ℤ)) (later : Bool) (d d1 d2 : Draft)
+pub argument_first : (equation : ℕ) (l : Option ℕ) (Cs : List Carrier) (Xs : List Argument) (C : Carrier)
+    (cs : List Carrier) (X : Argument) (xs : List Argument) (r : Option (ℤ × ℤ)) (later : Bool) (d d1 d2 : Draft)
     → Cs ≡ C ∷ cs → Xs ≡ X ∷ xs → r ≡ tested_range C (shape_view X.shape) → later ≡ any_tested cs (map argument_view xs)
     → Emits (data_piece (term_view X.term)) nowhere d d1 → Emits (guarded r later (arguments_piece cs (map argument_view xs) (called_piece equation l))) (block_end l) d1 d2
     → Emits (arguments_piece Cs (map argument_view Xs) (called_piece equation l)) (block_end l) d d2

@@ -21,13 +21,15 @@ one_more connective.And x y = refl
 one_more connective.Or x y = refl
 one_more connective.Implies x y = refl
 
-pub chain_step : (o : Connective) (xs : List Term) (i : ℕ) (x : Term) → suc i < length xs → x ≡ get_or xs i x → chain_from o (drop i xs) ≡ Binary (of_connective o) (term_view x) (chain_from o (drop (suc i) xs))
+pub chain_step : (o : Connective) (xs : List Term) (i : ℕ) (x : Term) → suc i < length xs → x ≡ get_or xs i x
+    → chain_from o (drop i xs) ≡ Binary (of_connective o) (term_view x) (chain_from o (drop (suc i) xs))
 chain_step o [] i x l e = absurd (omega arith)
 chain_step o (y ∷ []) i x l e = absurd (omega arith)
 chain_step o (y ∷ z ∷ zs) zero x l e = ap (λ (t : Term). Binary (of_connective o) (term_view t) (chain_from o (z ∷ zs))) (sym e)
 chain_step o (y ∷ z ∷ zs) (suc i) x l e = chain_step o (z ∷ zs) i x (omega arith) e
 
-pub chain_all : (o : Connective) (first : normal.Term) (xs : List Term) (k : ℕ) → k ≡ 0 → 0 < length xs → chained (Binary (of_connective o)) first (term_views xs) ≡ Binary (of_connective o) first (chain_from o (drop k xs))
+pub chain_all : (o : Connective) (first : normal.Term) (xs : List Term) (k : ℕ) → k ≡ 0 → 0 < length xs
+    → chained (Binary (of_connective o)) first (term_views xs) ≡ Binary (of_connective o) first (chain_from o (drop k xs))
 chain_all o first [] k z l = absurd (omega arith)
 chain_all o first (x ∷ xs) zero z l = refl
 chain_all o first (x ∷ xs) (suc k) z l = absurd (omega arith)
@@ -36,7 +38,8 @@ pub small_first : (o : Connective) (first : normal.Term) (xs : List Term) → is
 small_first o first [] h = h
 small_first o first (x ∷ xs) h = (and_parts (is_small first) (is_small (chained (Binary (of_connective o)) (term_view x) (term_views xs))) h).0
 
-pub small_link : (o : Connective) (first : normal.Term) (xs : List Term) (k : ℕ) (x : Term) → k < length xs → x ≡ get_or xs k x → is_small (chained (Binary (of_connective o)) first (term_views xs)) ≡ true → is_small (term_view x) ≡ true
+pub small_link : (o : Connective) (first : normal.Term) (xs : List Term) (k : ℕ) (x : Term) → k < length xs
+    → x ≡ get_or xs k x → is_small (chained (Binary (of_connective o)) first (term_views xs)) ≡ true → is_small (term_view x) ≡ true
 small_link o first [] k x l e h = absurd (omega arith)
 small_link o first (y ∷ ys) zero x l e h =
     let rest = (and_parts (is_small first) (is_small (chained (Binary (of_connective o)) (term_view y) (term_views ys))) h).1 in
@@ -50,8 +53,11 @@ pub small_head : (first : normal.Term) (ls : List Link) → is_small (calculated
 small_head first [] h = h
 small_head first (l ∷ ls) h = (and_parts (is_small first) (is_small (term_view l.operand)) (small_head (Binary (of_arithmetic l.operator) first (term_view l.operand)) ls h)).0
 
-pub small_operand : (first : normal.Term) (ls : List Link) (k : ℕ) (l : Link) → k < length ls → l ≡ get_or ls k l → is_small (calculated first (link_views ls)) ≡ true → is_small (term_view l.operand) ≡ true
+pub small_operand : (first : normal.Term) (ls : List Link) (k : ℕ) (l : Link) → k < length ls → l ≡ get_or ls k l
+    → is_small (calculated first (link_views ls)) ≡ true → is_small (term_view l.operand) ≡ true
 small_operand first [] k l b e h = absurd (omega arith)
 small_operand first (m ∷ ls) zero l b e h =
-    subst (λ (n : Link). is_small (term_view n.operand) ≡ true) (sym e) (and_parts (is_small first) (is_small (term_view m.operand)) (small_head (Binary (of_arithmetic m.operator) first (term_view m.operand)) ls h)).1
+    subst (λ (n : Link). is_small (term_view n.operand) ≡ true) (sym e)
+    (and_parts (is_small first) (is_small (term_view m.operand))
+    (small_head (Binary (of_arithmetic m.operator) first (term_view m.operand)) ls h)).1
 small_operand first (m ∷ ls) (suc k) l b e h = small_operand (Binary (of_arithmetic m.operator) first (term_view m.operand)) ls k l (omega arith) e h

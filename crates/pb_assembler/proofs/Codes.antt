@@ -27,6 +27,8 @@ equation_emitted callees f m k d0 d1 d2 d3 d4 is kind new opened inner closed en
     subst (λ (d : Draft). Emits (equation_piece callees f) nowhere d d4) new
     (subst (λ (h : Junction). Emits (Then (bracketed h (formula_piece callees h f)) (Plain op.End)) nowhere d0 d4) is whole)
 
-pub code_short : (callees : List (List Carrier)) (f : Formula) (d : Draft) → length (equation_code callees f) ≤ MAX_INSTRUCTIONS → Emits (equation_piece callees f) nowhere empty d → length d.ops ≤ MAX_INSTRUCTIONS
+pub code_short : (callees : List (List Carrier)) (f : Formula) (d : Draft)
+    → length (equation_code callees f) ≤ MAX_INSTRUCTIONS → Emits (equation_piece callees f) nowhere empty d
+    → length d.ops ≤ MAX_INSTRUCTIONS
 code_short callees f d few h =
     omega (arith, emitted_long (equation_piece callees f) nowhere empty d (label_place d.places) h (λ l q at. at), long 0 0 (equation_piece callees f), few)

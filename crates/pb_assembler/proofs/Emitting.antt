@@ -84,7 +84,8 @@ set_follows d e f l new a s = record {
 pub emitted_long : (x : Piece) (e : Places → ℕ) (d d' : Draft) (M : Places) → Emits x e d d' → Keeps d' M → length d'.ops ≡ end (length d.ops) x
 emitted_long x e d d' M h k =
     let f = flat (length d.ops) (e M) x in
-    sym (length-map d'.ops (resolved_op M)) ∙ ap length (h.code M k) ∙ length-append (resolved M d.ops) f ∙ ap (λ n. n + length f) (length-map d.ops (resolved_op M)) ∙ sym (long (length d.ops) (e M) x)
+    sym (length-map d'.ops (resolved_op M)) ∙ ap length (h.code M k) ∙ length-append (resolved M d.ops) f
+    ∙ ap (λ n. n + length f) (length-map d.ops (resolved_op M)) ∙ sym (long (length d.ops) (e M) x)
 
 pub added_long : (d d' : Draft) (o : Instruction) → Adds d d' o → length d'.ops ≡ length d.ops + 1
 added_long d d' o a = ap length a.ops ∙ length-append d.ops (o ∷ [])
@@ -112,7 +113,8 @@ pub place_at : (M : Places) (l q : ℕ) → M l ≡ Some q → unwrap_or (M l) 0
 place_at M l q e = ap (λ (o : Option ℕ). unwrap_or o 0) e
 
 -- a label, a test, the part, the label's place
-pub emits_unless : (on : Bool) (x : Piece) (e : Places → ℕ) (d d1 d2 d3 d4 : Draft) (l : ℕ) → Makes d d1 l → Adds d1 d2 (instruction.Jump (jump.If on) l) → Emits x e d2 d3 → Sets d3 d4 l → Emits (Unless on x) e d d4
+pub emits_unless : (on : Bool) (x : Piece) (e : Places → ℕ) (d d1 d2 d3 d4 : Draft) (l : ℕ) → Makes d d1 l
+    → Adds d1 d2 (instruction.Jump (jump.If on) l) → Emits x e d2 d3 → Sets d3 d4 l → Emits (Unless on x) e d d4
 emits_unless on x e d d1 d2 d3 d4 l m a h s =
     let o : Instruction = (instruction.Jump (jump.If on) l) in
     let new = m.number in
@@ -135,14 +137,19 @@ emits_unless on x e d d1 d2 d3 d4 l m a h s =
 
 -- two labels, a test, the first part, a jump, the first label's place, the second part, the second label's place
 pub emits_choose : (on : Bool) (x y : Piece) (e : Places → ℕ) (d d0 d1 d2 d3 d4 d5 d6 d7 : Draft) (other last : ℕ)
-    → Makes d d0 other → Makes d0 d1 last → Adds d1 d2 (instruction.Jump (jump.If on) other) → Emits x e d2 d3 → Adds d3 d4 (instruction.Jump jump.Always last) → Sets d4 d5 other → Emits y e d5 d6 → Sets d6 d7 last → Emits (Choose on x y) e d d7
+    → Makes d d0 other → Makes d0 d1 last → Adds d1 d2 (instruction.Jump (jump.If on) other) → Emits x e d2 d3
+    → Adds d3 d4 (instruction.Jump jump.Always last) → Sets d4 d5 other → Emits y e d5 d6 → Sets d6 d7 last
+    → Emits (Choose on x y) e d d7
 emits_choose on x y e d d0 d1 d2 d3 d4 d5 d6 d7 other last m0 m1 a2 hx a4 s5 hy s7 =
     let o2 : Instruction = (instruction.Jump (jump.If on) other) in
     let o4 : Instruction = (instruction.Jump jump.Always last) in
     let new0 = m0.number in
     let new1 = m1.number in
     let long0 = m0.long in
-    let f4 = then_follows d d3 d4 (then_follows d d2 d3 (then_follows d d1 d2 (then_follows d d0 d1 (makes_follows d d0 other m0) (makes_follows d0 d1 last m1)) (adds_follows d1 d2 o2 a2)) (emits_follows x e d2 d3 hx)) (adds_follows d3 d4 o4 a4) in
+    let f4 = then_follows d d3 d4
+    (then_follows d d2 d3
+    (then_follows d d1 d2 (then_follows d d0 d1 (makes_follows d d0 other m0) (makes_follows d0 d1 last m1))
+    (adds_follows d1 d2 o2 a2)) (emits_follows x e d2 d3 hx)) (adds_follows d3 d4 o4 a4) in
     let f5 = set_follows d d4 d5 other (omega arith) f4 s5 in
     let f7 = set_follows d d6 d7 last (omega arith) (then_follows d d5 d6 f5 (emits_follows y e d5 d6 hy)) s7 in record {
       grown = f7.grown;
@@ -175,7 +182,8 @@ emits_choose on x y e d d0 d1 d2 d3 d4 d5 d6 d7 other last m0 m1 a2 hx a4 s5 hy 
     }
 
 -- the loop, its body, and its end
-pub emits_repeat : (s : ℕ) (x : Piece) (e : Places → ℕ) (d d1 d2 d3 : Draft) → Adds d d1 (instruction.Plain (op.Loop s)) → Emits x e d1 d2 → Adds d2 d3 (instruction.Plain op.Next) → Emits (Repeat s x) e d d3
+pub emits_repeat : (s : ℕ) (x : Piece) (e : Places → ℕ) (d d1 d2 d3 : Draft) → Adds d d1 (instruction.Plain (op.Loop s))
+    → Emits x e d1 d2 → Adds d2 d3 (instruction.Plain op.Next) → Emits (Repeat s x) e d d3
 emits_repeat s x e d d1 d2 d3 a h b =
     let f = then_follows d d2 d3 (then_follows d d1 d2 (adds_follows d d1 (instruction.Plain (op.Loop s)) a) (emits_follows x e d1 d2 h)) (adds_follows d2 d3 (instruction.Plain op.Next) b) in record {
       grown = f.grown;
@@ -185,7 +193,10 @@ emits_repeat s x e d d1 d2 d3 a h b =
           let k2 = earlier d2 d3 M (adds_follows d2 d3 (instruction.Plain op.Next) b) k3 in
           let n1 = added_long d d1 (instruction.Plain (op.Loop s)) a in
           added_code d2 d3 (instruction.Plain op.Next) M b
-          ∙ ap (λ (is : List Op). is ++ op.Next ∷ []) (h.code M k2 ∙ ap (λ (is : List Op). is ++ flat (length d1.ops) (e M) x) (added_code d d1 (instruction.Plain (op.Loop s)) M a) ∙ ap (λ k. (resolved M d.ops ++ op.Loop s ∷ []) ++ flat k (e M) x) n1)
+          ∙ ap (λ (is : List Op). is ++ op.Next ∷ [])
+          (h.code M k2
+          ∙ ap (λ (is : List Op). is ++ flat (length d1.ops) (e M) x)
+          (added_code d d1 (instruction.Plain (op.Loop s)) M a) ∙ ap (λ k. (resolved M d.ops ++ op.Loop s ∷ []) ++ flat k (e M) x) n1)
           ∙ simp append_assoc;
     }
 
@@ -203,11 +214,15 @@ emits_block x e d d1 d2 d3 l m h s =
           let n1 : length d1.ops ≡ length d.ops = ap length m.ops in
           let n2 : length d2.ops ≡ end (length d.ops) x = emitted_long x at_end d1 d2 M h k2 ∙ ap (λ k. end k x) n1 in
           let at : unwrap_or (M l) 0 ≡ end (length d.ops) x = place_at M l (length d2.ops) (k3 l (length d2.ops) s.placed) ∙ n2 in
-          ap (resolved M) s.ops ∙ h.code M k2 ∙ ap (λ (is : List Instruction). resolved M is ++ flat (length is) (unwrap_or (M l) 0) x) m.ops ∙ ap (λ k. resolved M d.ops ++ flat (length d.ops) k x) at;
+          ap (resolved M) s.ops ∙ h.code M k2
+          ∙ ap (λ (is : List Instruction). resolved M is ++ flat (length is) (unwrap_or (M l) 0) x) m.ops
+          ∙ ap (λ k. resolved M d.ops ++ flat (length d.ops) k x) at;
     }
 
 -- a label, the range's test, the part, the label's place, POP
-pub emits_guard : (low high : ℤ) (x : Piece) (e : Places → ℕ) (d d1 d2 d3 d4 d5 : Draft) (l : ℕ) → Makes d d1 l → Adds d1 d2 (instruction.Jump (jump.InRange low high) l) → Emits x e d2 d3 → Sets d3 d4 l → Adds d4 d5 (instruction.Plain op.Pop) → Emits (Guard low high x) e d d5
+pub emits_guard : (low high : ℤ) (x : Piece) (e : Places → ℕ) (d d1 d2 d3 d4 d5 : Draft) (l : ℕ) → Makes d d1 l
+    → Adds d1 d2 (instruction.Jump (jump.InRange low high) l) → Emits x e d2 d3 → Sets d3 d4 l
+    → Adds d4 d5 (instruction.Plain op.Pop) → Emits (Guard low high x) e d d5
 emits_guard low high x e d d1 d2 d3 d4 d5 l m a h s b =
     let o : Instruction = (instruction.Jump (jump.InRange low high) l) in
     let new = m.number in
@@ -334,7 +349,9 @@ choice_emitted on x y e d0 d1 d2 d3 d4 d5 d6 d7 d8 other last n0 e1 n1 e2 e3 hx 
     let a5 = adds_from d4 d5 (instruction.Jump jump.Always last) e5 in
     let l0 = m0.long in
     let l1 = m1.long in
-    let f25 = then_follows d2 d4 d5 (then_follows d2 d3 d4 (adds_follows d2 d3 (instruction.Jump (jump.If on) other) a3) (emits_follows x e d3 d4 hx)) (adds_follows d4 d5 (instruction.Jump jump.Always last) a5) in
+    let f25 = then_follows d2 d4 d5
+    (then_follows d2 d3 d4 (adds_follows d2 d3 (instruction.Jump (jump.If on) other) a3)
+    (emits_follows x e d3 d4 hx)) (adds_follows d4 d5 (instruction.Jump jump.Always last) a5) in
     let f15 = then_follows d1 d2 d5 (makes_follows d1 d2 last m1) f25 in
     let g15 = f15.grown in
     let g25 = f25.grown in
@@ -399,4 +416,11 @@ flat_stays (Guard low high a) h q e f = ap (λ (is : List Op). op.InRange low hi
 
 -- so it is emitted in any block
 pub emits_anywhere : (x : Piece) → HasNoLeave x → (e f : Places → ℕ) (d d' : Draft) → Emits x e d d' → Emits x f d d'
-emits_anywhere x h e f d d' s = record { grown = s.grown; kept = s.kept; settled = s.settled; code = λ M k. s.code M k ∙ ap (λ (is : List Op). resolved M d.ops ++ is) (flat_stays x h (length d.ops) (e M) (f M)) }
+emits_anywhere x h e f d d' s =
+    record {
+      grown = s.grown;
+      kept = s.kept;
+      settled = s.settled;
+      code =
+          λ M k. s.code M k ∙ ap (λ (is : List Op). resolved M d.ops ++ is) (flat_stays x h (length d.ops) (e M) (f M));
+    }

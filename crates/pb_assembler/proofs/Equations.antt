@@ -58,7 +58,8 @@ pub record AreMade (callees : List (List Carrier)) (texts : List tree.Equation) 
       ≡ all_compiled callees callees (map equation_form texts) normals
 
 -- where equations are left, there are parameters and a text for the next
-parameters_left : (all : List (List Carrier)) (cs : List (List Carrier)) (ts : List tree.Equation) (X : Equation) (E : List Equation) → AreReady all cs (map equation_form ts) (X ∷ E) → (0 < length cs) × (0 < length ts)
+parameters_left : (all : List (List Carrier)) (cs : List (List Carrier)) (ts : List tree.Equation) (X : Equation)
+    (E : List Equation) → AreReady all cs (map equation_form ts) (X ∷ E) → (0 < length cs) × (0 < length ts)
 parameters_left all [] [] X E r = absurd r
 parameters_left all [] (t ∷ ts) X E r = absurd r
 parameters_left all (c ∷ cs) [] X E r = absurd r
@@ -70,7 +71,8 @@ dropped [] (suc k) l = absurd (omega arith)
 dropped (x ∷ xs) zero l = omega arith
 dropped (x ∷ xs) (suc k) l = let h = dropped xs k l in omega arith
 
-module _ (callees : List (List Carrier)) (texts : List tree.Equation) (normals : List Equation) (k : ℕ) (X : Equation) (below : k < length normals) (at : X ≡ get_or normals k X) (done : List bytecode.Equation)
+module _ (callees : List (List Carrier)) (texts : List tree.Equation) (normals : List Equation) (k : ℕ) (X : Equation)
+    (below : k < length normals) (at : X ≡ get_or normals k X) (done : List bytecode.Equation)
     (h : AreMade callees texts normals k done) where
   here : AreReady callees (drop k callees) (map equation_form (drop k texts)) (X ∷ drop (k + 1) normals)
   here = subst (λ (E : List Equation). AreReady callees (drop k callees) (map equation_form (drop k texts)) E) (drop-at normals k X below at) h.ready
@@ -107,13 +109,18 @@ module _ (callees : List (List Carrier)) (texts : List tree.Equation) (normals :
               ∙ ap (λ (es : List EquationContents). es ++ rest) (map_push equation_contents done e)
               ∙ append_assoc (map equation_contents done) (equation_contents e ∷ []) rest
               ∙ ap (λ (c : EquationContents). map equation_contents done ++ c ∷ rest) is
-              ∙ ap (λ (vs : List (List Carrier)). map equation_contents done ++ all_compiled callees vs (equation_form t ∷ map equation_form (drop (k + 1) texts)) (X ∷ drop (k + 1) normals)) (sym split)
-              ∙ ap (λ (ts : List tree.Equation). map equation_contents done ++ all_compiled callees (drop k callees) (map equation_form ts) (X ∷ drop (k + 1) normals)) (sym (drop-at texts k t text_there t_at))
+              ∙ ap (λ (vs : List (List Carrier)). map equation_contents done
+              ++ all_compiled callees vs (equation_form t ∷ map equation_form (drop (k + 1) texts))
+              (X ∷ drop (k + 1) normals)) (sym split)
+              ∙ ap (λ (ts : List tree.Equation). map equation_contents done
+              ++ all_compiled callees (drop k callees) (map equation_form ts) (X ∷ drop (k + 1) normals))
+              (sym (drop-at texts k t text_there t_at))
               ∙ ap (λ (E : List Equation). map equation_contents done ++ all_compiled callees (drop k callees) (map equation_form (drop k texts)) E) (sym (drop-at normals k X below at))
               ∙ h.made;
         }
 
-pub made_equations : (callees : List (List Carrier)) (texts : List tree.Equation) (normals : List Equation) (k : ℕ) (done : List bytecode.Equation) → length normals ≤ k → AreMade callees texts normals k done
+pub made_equations : (callees : List (List Carrier)) (texts : List tree.Equation) (normals : List Equation) (k : ℕ)
+    (done : List bytecode.Equation) → length normals ≤ k → AreMade callees texts normals k done
     → map equation_contents done ≡ all_compiled callees callees (map equation_form texts) normals
 made_equations callees texts normals k done end h =
     sym (append-nil (map equation_contents done))

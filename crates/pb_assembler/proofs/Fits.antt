@@ -49,7 +49,8 @@ between low end n l h = and_from _ _ (le-leb low n l) (lt-ltb n end h)
 abbrev Few : List ℕ → Type 0
 Few ns = All (λ (n : ℕ). (0 < n) × (n ≤ MAX_ENUMERATORS)) ns
 
-pub names_fit : (es : List Enumerator) → (0 < length es) × (length es ≤ MAX_ENUMERATORS) → list_all (λ (e : Enumerator). is_module_name e.name) es ≡ true → fits_sort (map (λ (e : Enumerator). e.name) es) ≡ true
+pub names_fit : (es : List Enumerator) → (0 < length es) × (length es ≤ MAX_ENUMERATORS)
+    → list_all (λ (e : Enumerator). is_module_name e.name) es ≡ true → fits_sort (map (λ (e : Enumerator). e.name) es) ≡ true
 names_fit es few named =
     let count = length-map es (λ (e : Enumerator). e.name) in
     let some = few.0 in
@@ -72,7 +73,8 @@ carrier_fits sizes carrier.Bool h f = refl
 carrier_fits sizes (carrier.Enum e) h f = let n = ap (λ o. unwrap_or o 0) h.0 in and_from _ _ f (eq-eqb e.count (enumerator_count sizes e.sort) (sym n))
 carrier_fits sizes (carrier.Range r) h f = and_from _ _ f (from_le r.low r.high h)
 
-carriers_fit : (sizes : List ℕ) (cs : List Carrier) (ss : List Shape) → shapes_of cs ≡ ss → All (IsDeclaredShape sizes) ss → list_all has_fitting_fields cs ≡ true → list_all (fits_carrier sizes) cs ≡ true
+carriers_fit : (sizes : List ℕ) (cs : List Carrier) (ss : List Shape) → shapes_of cs ≡ ss
+    → All (IsDeclaredShape sizes) ss → list_all has_fitting_fields cs ≡ true → list_all (fits_carrier sizes) cs ≡ true
 carriers_fit sizes [] ss e all f = refl
 carriers_fit sizes (c ∷ cs) [] e all f = cc
 carriers_fit sizes (c ∷ cs) (s ∷ ss) e all f =
@@ -94,11 +96,13 @@ module _ (spec : Spec) where
   later X E h = record { shapes = λ i Y b. h.shapes (suc i) Y (omega arith); bounds = λ i Y b. h.bounds (suc i) Y (omega arith); parameters = λ i Y b. h.parameters (suc i) Y (omega arith) }
 
 module _ (spec : Spec) (sizes : List ℕ) (same : struct_counts spec.sorts ≡ sizes) (few : AreFew sizes) (callees : List (List Carrier)) where
-  parameters_fit : (X : syntax.Equation) (cs : List Carrier) → HasDeclaredShapes spec X → shapes_of cs ≡ variable_shapes spec X.parameters → list_all has_fitting_fields cs ≡ true → list_all (fits_carrier sizes) cs ≡ true
+  parameters_fit : (X : syntax.Equation) (cs : List Carrier) → HasDeclaredShapes spec X
+      → shapes_of cs ≡ variable_shapes spec X.parameters → list_all has_fitting_fields cs ≡ true → list_all (fits_carrier sizes) cs ≡ true
   parameters_fit X cs h e f = carriers_fit sizes cs (variable_shapes spec X.parameters) e (subst (λ (ns : List ℕ). All (IsDeclaredShape ns) (variable_shapes spec X.parameters)) same h.parameters) f
 
   -- the carriers of all parameters
-  pub callees_fit : (E : List EquationForm) (css : List (List Carrier)) (es : List Equation) → AreFormsOf spec (map erased_equation E) css es → AreReady callees css E es → AreKnown spec (map erased_equation E)
+  pub callees_fit : (E : List EquationForm) (css : List (List Carrier)) (es : List Equation)
+      → AreFormsOf spec (map erased_equation E) css es → AreReady callees css E es → AreKnown spec (map erased_equation E)
       → list_all has_fitting_carriers (all_compiled callees css E es) ≡ true → (k : ℕ) (ds : List Carrier) → slice_get css k ≡ Some ds → list_all (fits_carrier sizes) ds ≡ true
   callees_fit E [] es f r known fields k ds at = cc
   callees_fit [] (cs ∷ css) es f r known fields k ds at = let a = f.parameters in cc
@@ -118,8 +122,10 @@ module _ (spec : Spec) (sizes : List ℕ) (same : struct_counts spec.sorts ≡ s
       callees_fit E css es (record { rights = cc; loops = cc; parameters = cc }) r.1 (later spec (erased_equation t) (map erased_equation E) known) two.1 k ds at
 
   module _ (callees_are : (k : ℕ) (ds : List Carrier) → slice_get callees k ≡ Some ds → list_all (fits_carrier sizes) ds ≡ true) where
-    equation_fits : (t : EquationForm) (cs : List Carrier) (e : Equation) → formula_view e.right ≡ normal_equation spec (erased_equation t) → shapes_of e.loops.now ≡ equation_loops spec (erased_equation t)
-        → shapes_of cs ≡ variable_shapes spec (erased_equation t).parameters → IsReadyToCompile callees cs t e → HasDeclaredShapes spec (erased_equation t) → HasBounds spec (erased_equation t) → length (erased_equation t).parameters ≤ 8
+    equation_fits : (t : EquationForm) (cs : List Carrier) (e : Equation)
+        → formula_view e.right ≡ normal_equation spec (erased_equation t) → shapes_of e.loops.now ≡ equation_loops spec (erased_equation t)
+        → shapes_of cs ≡ variable_shapes spec (erased_equation t).parameters → IsReadyToCompile callees cs t e
+        → HasDeclaredShapes spec (erased_equation t) → HasBounds spec (erased_equation t) → length (erased_equation t).parameters ≤ 8
         → has_fitting_carriers (compiled_contents callees cs t e) ≡ true → fits_equation version.One sizes (compiled_contents callees cs t e) ≡ true
     equation_fits t cs e right loops parameters r shapes bounds eight fields =
         let X = erased_equation t in
@@ -136,12 +142,19 @@ module _ (spec : Spec) (sizes : List ℕ) (same : struct_counts spec.sorts ≡ s
         let bounded = subst (λ (g : Formula). is_bounded_formula (bounds_of spec X) g ≡ true) (sym right) bounds in
         and_from _ _ r.named
         (and_from _ _ (and_from _ _ (between 0 (MAX_PARAMETERS + 1) (length cs) (omega arith) (omega arith)) (parameters_fit X cs shapes parameters both.0))
-        (and_from _ _ (and_from _ _ (between 0 (MAX_LOOP_SLOTS + 1) (length e.loops.now) (omega arith) (omega arith)) (carriers_fit sizes e.loops.now (equation_loops spec X) loops (subst (λ (ns : List ℕ). All (IsDeclaredShape ns) (equation_loops spec X)) same shapes.loops) both.1))
+        (and_from _ _
+        (and_from _ _ (between 0 (MAX_LOOP_SLOTS + 1) (length e.loops.now) (omega arith) (omega arith))
+        (carriers_fit sizes e.loops.now (equation_loops spec X) loops
+        (subst (λ (ns : List ℕ). All (IsDeclaredShape ns) (equation_loops spec X)) same shapes.loops) both.1))
         (and_from _ _ (lt-ltb (static_steps (bare_program callees cs e)) (2 ^ 32) (omega (arith, steps)))
         (and_from _ _ (lt-ltb (static_tokens (bare_program callees cs e)) (2 ^ 32) (omega (arith, tokens)))
-        (and_from _ _ (between 1 (MAX_INSTRUCTIONS + 1) (length (equation_code callees f)) (code_some sizes few (bounds_of spec X) same callees callees_are f) (omega (arith, code))) (code_fits sizes few (bounds_of spec X) same callees callees_are f r.small bounded code))))))
+        (and_from _ _
+        (between 1 (MAX_INSTRUCTIONS + 1) (length (equation_code callees f))
+        (code_some sizes few (bounds_of spec X) same callees callees_are f) (omega (arith, code)))
+        (code_fits sizes few (bounds_of spec X) same callees callees_are f r.small bounded code))))))
 
-    pub equations_fit : (E : List EquationForm) (css : List (List Carrier)) (es : List Equation) → AreFormsOf spec (map erased_equation E) css es → AreReady callees css E es → AreKnown spec (map erased_equation E)
+    pub equations_fit : (E : List EquationForm) (css : List (List Carrier)) (es : List Equation)
+        → AreFormsOf spec (map erased_equation E) css es → AreReady callees css E es → AreKnown spec (map erased_equation E)
         → list_all has_fitting_carriers (all_compiled callees css E es) ≡ true → list_all (fits_equation version.One sizes) (all_compiled callees css E es) ≡ true
     equations_fit [] [] es f r known fields = refl
     equations_fit [] (cs ∷ css) es f r known fields = refl
@@ -171,7 +184,9 @@ module _ (spec : Spec) (callees : List (List Carrier)) where
   compiled_long (t ∷ E) (cs ∷ css) [] r = absurd r
   compiled_long (t ∷ E) (cs ∷ css) (e ∷ es) r = ap suc (compiled_long E css es r.1)
 
-  pub instances_same : (E : List EquationForm) (css : List (List Carrier)) (es : List Equation) → map shapes_of css ≡ map (λ (X : syntax.Equation). variable_shapes spec X.parameters) (map erased_equation E) → AreReady callees css E es
+  pub instances_same : (E : List EquationForm) (css : List (List Carrier)) (es : List Equation)
+      → map shapes_of css ≡ map (λ (X : syntax.Equation). variable_shapes spec X.parameters) (map erased_equation E)
+      → AreReady callees css E es
       → instance_count (all_compiled callees css E es) ≡ all_instances spec (map erased_equation E)
   instances_same [] [] es d r = refl
   instances_same [] (cs ∷ css) es d r = cc
@@ -185,8 +200,12 @@ module _ (spec : Spec) (callees : List (List Carrier)) where
       cc
 
   -- the equation at a place, with its carriers
-  pub compiled_at : (E : List EquationForm) (css : List (List Carrier)) (es : List Equation) → map shapes_of css ≡ map (λ (X : syntax.Equation). variable_shapes spec X.parameters) (map erased_equation E) → AreReady callees css E es
-      → (k : ℕ) (X : syntax.Equation) → slice_get (map erased_equation E) k ≡ Some X → (e : EquationContents) × (slice_get (all_compiled callees css E es) k ≡ Some e) × (map values_of e.parameters ≡ carriers_of spec X.parameters)
+  pub compiled_at : (E : List EquationForm) (css : List (List Carrier)) (es : List Equation)
+      → map shapes_of css ≡ map (λ (X : syntax.Equation). variable_shapes spec X.parameters) (map erased_equation E)
+      → AreReady callees css E es
+      → (k : ℕ) (X : syntax.Equation) → slice_get (map erased_equation E) k ≡ Some X
+      → (e : EquationContents) × (slice_get (all_compiled callees css E es) k ≡ Some e)
+      × (map values_of e.parameters ≡ carriers_of spec X.parameters)
   compiled_at [] css es d r k X at = cc
   compiled_at (t ∷ E) [] es d r k X at = cc
   compiled_at (t ∷ E) (cs ∷ css) [] d r k X at = absurd r

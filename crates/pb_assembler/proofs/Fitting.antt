@@ -180,10 +180,15 @@ module _ (sizes : List ℕ) where
           let r = and_parts (fits_carrier sizes c) (list_all (fits_carrier sizes) cs) f in
           (term_fits x.term p.0 q.0, guarded_fits (tested_range c x.shape) (any_tested cs xs) (arguments_piece cs xs last) (range_fits c x.shape r.0) (arguments_fit cs xs last r.1 p.1 q.1 l))
 
-      call_fits : (equation : ℕ) (cs : List Carrier) (xs : List Argument) → is_byte equation ≡ true → CarriersFit cs → are_small xs ≡ true → are_bounded b xs ≡ true → FitsPiece (call_piece equation cs xs)
+      call_fits : (equation : ℕ) (cs : List Carrier) (xs : List Argument) → is_byte equation ≡ true → CarriersFit cs
+          → are_small xs ≡ true → are_bounded b xs ≡ true → FitsPiece (call_piece equation cs xs)
       call_fits equation cs xs e f h k = by (any_tested cs xs)
         where
-          by : (c : Bool) → FitsPiece (if c then Block (Then (arguments_piece cs xs (Then (Plain (op.Call equation)) Leave)) (Plain (op.Emit leaf.Cut))) else arguments_piece cs xs (Plain (op.Call equation)))
+          by : (c : Bool)
+              → FitsPiece
+              (if c then Block
+              (Then (arguments_piece cs xs (Then (Plain (op.Call equation)) Leave)) (Plain (op.Emit leaf.Cut))) else
+              arguments_piece cs xs (Plain (op.Call equation)))
           by true = (arguments_fit cs xs (Then (Plain (op.Call equation)) Leave) f h k (e, tt), refl)
           by false = arguments_fit cs xs (Plain (op.Call equation)) f h k e
 
@@ -211,7 +216,8 @@ module _ (sizes : List ℕ) where
       under_fits And Or x h = (refl, (h, refl))
       under_fits Or And x h = (refl, (h, refl))
 
-      join_fits : (m around : Junction) (u v : Option Term) (fa ga fo go : Piece) → TestFits u → TestFits v → FitsPiece fa → FitsPiece ga → FitsPiece fo → FitsPiece go → FitsPiece (join_piece m around u v fa ga fo go)
+      join_fits : (m around : Junction) (u v : Option Term) (fa ga fo go : Piece) → TestFits u → TestFits v
+          → FitsPiece fa → FitsPiece ga → FitsPiece fo → FitsPiece go → FitsPiece (join_piece m around u v fa ga fo go)
       join_fits m around (Some t) v fa ga fo go h k a c d e = tested_fits m around t ga h c
       join_fits m around None (Some t) fa ga fo go h k a c d e = tested_fits m around t fa k a
       join_fits m around None None fa ga fo go h k a c d e = under_fits m around (Then fo go) (d, e)
@@ -242,7 +248,8 @@ module _ (sizes : List ℕ) where
             call_fits equation (parameters (slice_get callees equation)) xs p.0 (callee_fits equation) p.1 q.1
 
         -- an equation's code, where it keeps the machine's limit
-        pub code_fits : (f : Formula) → is_small_formula f ≡ true → is_bounded_formula b f ≡ true → length (equation_code callees f) ≤ MAX_INSTRUCTIONS → list_all (fits_op version.One sizes) (equation_code callees f) ≡ true
+        pub code_fits : (f : Formula) → is_small_formula f ≡ true → is_bounded_formula b f ≡ true
+            → length (equation_code callees f) ≤ MAX_INSTRUCTIONS → list_all (fits_op version.One sizes) (equation_code callees f) ≡ true
         code_fits f h k short =
             flat_fits (equation_piece callees f) 0 0 ((refl, (formula_fits f (head f) h k, refl)), refl)
             (let l = long 0 0 (equation_piece callees f) in omega (arith, short)) (omega arith)

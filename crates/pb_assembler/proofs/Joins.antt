@@ -100,7 +100,8 @@ small_parts m f (g ∷ gs) h =
     let both = and_parts (is_small_formula f) (is_small_formula (chained (Join m) g gs)) h in
     by (test_of f) (test_of g) refl refl gs both.0 both.1
   where
-    by : (u v : Option Term) → u ≡ test_of f → v ≡ test_of g → (gs : List normal.Formula) → is_small_formula f ≡ true → is_small_formula (chained (Join m) g gs) ≡ true → IfSome (guarded_by u v f g gs) (AreSmall m)
+    by : (u v : Option Term) → u ≡ test_of f → v ≡ test_of g → (gs : List normal.Formula) → is_small_formula f ≡ true
+        → is_small_formula (chained (Join m) g gs) ≡ true → IfSome (guarded_by u v f g gs) (AreSmall m)
     by (Some t) v e k gs h i = (subst (λ o. IfSome o (λ t. is_small t ≡ true)) (sym e) (small_test f h), i)
     by None (Some t) e k [] h i = (subst (λ o. IfSome o (λ t. is_small t ≡ true)) (sym k) (small_test g i), h)
     by None (Some t) e k (x ∷ xs) h i = tt
@@ -109,7 +110,8 @@ small_parts m f (g ∷ gs) h =
 pub small_rest : (m : Junction) (f g : normal.Formula) (gs : List normal.Formula) → is_small_formula (chained (Join m) f (g ∷ gs)) ≡ true → is_small_formula (chained (Join m) g gs) ≡ true
 small_rest m f g gs h = (and_parts (is_small_formula f) (is_small_formula (chained (Join m) g gs)) h).1
 
-pub left_weighs : (first : Formula) (rest : List Formula) (f : Formula) (gs : List Formula) → IsLeft first rest f gs → (length gs < length rest) × (weight f + formulas_weight gs < weight first + formulas_weight rest)
+pub left_weighs : (first : Formula) (rest : List Formula) (f : Formula) (gs : List Formula) → IsLeft first rest f gs
+    → (length gs < length rest) × (weight f + formulas_weight gs < weight first + formulas_weight rest)
 left_weighs first rest f gs (inl e) =
     let p = positive first in (omega (arith, ap (λ (zs : List Formula). length zs) e), omega (arith, p, ap formulas_weight e))
 left_weighs first rest f gs (inr (same, none, some)) =
@@ -121,7 +123,8 @@ left_weighs first rest f gs (inr (same, none, some)) =
 
 -- ---- one step along a chain, in the code's words
 
-pub test_step : (callees : List (List Carrier)) (m a : Junction) (f : normal.Formula) (gs : List normal.Formula) (o : Option Guarded) (r : Guarded) → o ≡ Some r → o ≡ early_test f gs → IsDecided callees m a (chained (Join m) f gs) r
+pub test_step : (callees : List (List Carrier)) (m a : Junction) (f : normal.Formula) (gs : List normal.Formula)
+    (o : Option Guarded) (r : Guarded) → o ≡ Some r → o ≡ early_test f gs → IsDecided callees m a (chained (Join m) f gs) r
 test_step callees m a f gs o r is told = subst (λ q. IfSome q (IsDecided callees m a (chained (Join m) f gs))) (sym told ∙ is) (decided callees m a f gs)
 
 pub test_small : (m : Junction) (f : normal.Formula) (gs : List normal.Formula) (o : Option Guarded) (r : Guarded) → o ≡ Some r → o ≡ early_test f gs → is_small_formula (chained (Join m) f gs) ≡ true
@@ -129,7 +132,8 @@ pub test_small : (m : Junction) (f : normal.Formula) (gs : List normal.Formula) 
 test_small m f gs o r is told h = subst (λ q. IfSome q (AreSmall m)) (sym told ∙ is) (small_parts m f gs h)
 
 pub next_own : (callees : List (List Carrier)) (m : Junction) (f : Formula) (gs : List Formula) (g : Formula) (hs : List Formula) → gs ≡ g ∷ hs → early_test (formula_view f) (formula_views gs) ≡ None
-    → formula_piece callees m (chained (Join m) (formula_view f) (formula_views gs)) ≡ Then (formula_piece callees m (formula_view f)) (formula_piece callees m (chained (Join m) (formula_view g) (formula_views hs)))
+    → formula_piece callees m (chained (Join m) (formula_view f) (formula_views gs))
+    ≡ Then (formula_piece callees m (formula_view f)) (formula_piece callees m (chained (Join m) (formula_view g) (formula_views hs)))
 next_own callees m f gs g hs e n =
     ap (λ (zs : List Formula). formula_piece callees m (chained (Join m) (formula_view f) (formula_views zs))) e
     ∙ undecided callees m m (formula_view f) (formula_view g) (formula_views hs) (sym (ap (λ (zs : List Formula). early_test (formula_view f) (formula_views zs)) e) ∙ n)
@@ -201,10 +205,14 @@ Begins s k d0 d = (y : Piece) (d1 d2 : Draft) → Emits y nowhere d d1 → Close
 pub begins_more : (s k : ℕ) (d0 d d' : Draft) → Begins s k d0 d → d' ≡ plus d (instruction.Plain (op.Loop (s + k))) → Begins s (suc k) d0 d'
 begins_more s k d0 d d' b e = λ y d1 d2 h c.
     b (Repeat (s + k) y) (plus d1 (instruction.Plain op.Next)) d2
-    (emits_repeat (s + k) y nowhere d d' d1 (plus d1 (instruction.Plain op.Next)) (adds_from d d' (instruction.Plain (op.Loop (s + k))) e) h (adds_from d1 (plus d1 (instruction.Plain op.Next)) (instruction.Plain op.Next) refl)) c
+    (emits_repeat (s + k) y nowhere d d' d1 (plus d1 (instruction.Plain op.Next))
+    (adds_from d d' (instruction.Plain (op.Loop (s + k))) e) h
+    (adds_from d1 (plus d1 (instruction.Plain op.Next)) (instruction.Plain op.Next) refl)) c
 
 -- an opened bracket, its content, and its end
-pub bracket_emitted : (m : Junction) (x : Piece) (d d1 d2 d3 : Draft) → Emits (Plain (op.Open (connective_of m))) nowhere d d1 → Emits x nowhere d1 d2 → Emits (Plain op.Close) nowhere d2 d3 → Emits (bracketed m x) nowhere d d3
+pub bracket_emitted : (m : Junction) (x : Piece) (d d1 d2 d3 : Draft)
+    → Emits (Plain (op.Open (connective_of m))) nowhere d d1 → Emits x nowhere d1 d2
+    → Emits (Plain op.Close) nowhere d2 d3 → Emits (bracketed m x) nowhere d d3
 bracket_emitted m x d d1 d2 d3 h hx k =
     emits_then (Plain (op.Open (connective_of m))) (Then x (Plain op.Close)) nowhere d d1 d3 h (emits_then x (Plain op.Close) nowhere d1 d2 d3 hx k)
 

@@ -29,7 +29,9 @@ has_enumerator_names d = list_all (λ (e : Enumerator). is_module_name e.name) (
 abbrev pub has_names : Spec → Bool
 has_names spec = list_all has_enumerator_names spec.sorts && list_all (λ (X : Equation). is_module_name X.name) spec.equations
 
-pub enumerators_named : (es : List tree.Enumerator) → list_all (λ (e : Enumerator). is_module_name e.name) (map erased_enumerator (map enumerator_form es)) ≡ list_all (λ (e : tree.Enumerator). is_module_name (string_bytes e.name.text)) es
+pub enumerators_named : (es : List tree.Enumerator)
+    → list_all (λ (e : Enumerator). is_module_name e.name) (map erased_enumerator (map enumerator_form es))
+    ≡ list_all (λ (e : tree.Enumerator). is_module_name (string_bytes e.name.text)) es
 enumerators_named es =
     list_all-map (λ (e : Enumerator). is_module_name e.name) erased_enumerator (map enumerator_form es)
     ∙ list_all-map (λ (e : EnumeratorForm). is_module_name e.name.text) enumerator_form es

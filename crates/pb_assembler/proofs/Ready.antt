@@ -69,7 +69,8 @@ module _ (spec : Spec) (callees : List (List Carrier)) (calls : map shapes_of ca
         }) in
         subst (λ (f : Formula). KeepsLimits (coded f) f) (sym right) here
 
-  pub ready : (E : List EquationForm) (css : List (List Carrier)) (es : List Equation) → AreFormsOf spec (map erased_equation E) css es → AreSound spec (map erased_equation E) → AreReady callees css E es
+  pub ready : (E : List EquationForm) (css : List (List Carrier)) (es : List Equation)
+      → AreFormsOf spec (map erased_equation E) css es → AreSound spec (map erased_equation E) → AreReady callees css E es
   ready [] [] [] f s = tt
   ready [] (cs ∷ css) es f s = let a = f.parameters in cc
   ready [] [] (e ∷ es) f s = let a = f.rights in cc
@@ -99,7 +100,8 @@ module _ (spec : Spec) (callees : List (List Carrier)) (calls : map shapes_of ca
 
   -- ---- what is compiled
 
-  pub compiled_parameters : (E : List EquationForm) (css : List (List Carrier)) (es : List Equation) → AreReady callees css E es → map (λ (e : EquationContents). e.parameters) (all_compiled callees css E es) ≡ css
+  pub compiled_parameters : (E : List EquationForm) (css : List (List Carrier)) (es : List Equation)
+      → AreReady callees css E es → map (λ (e : EquationContents). e.parameters) (all_compiled callees css E es) ≡ css
   compiled_parameters [] [] [] r = refl
   compiled_parameters [] (cs ∷ css) [] r = absurd r
   compiled_parameters [] (cs ∷ css) (e ∷ es) r = absurd r

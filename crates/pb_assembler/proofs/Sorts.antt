@@ -40,12 +40,15 @@ module _ (all : List SortDeclaration) (k : ℕ) (d : SortDeclaration) (below : k
   fits_next done h = (subst (λ (ds : List SortDeclaration). AreSorts (erased_all ds)) split h.fit).0
 
   -- a struct's enumerators have names, and are few
-  pub struct_fits : (done : List bytecode.Sort) (es : List tree.Enumerator) → IsSort (syntax.Sort.Struct (map erased_enumerator (map enumerator_form es))) → (length es ≤ MAX_ENUMERATORS) × (list_all (λ (e : tree.Enumerator). is_module_name (string_bytes e.name.text)) es ≡ true)
+  pub struct_fits : (done : List bytecode.Sort) (es : List tree.Enumerator)
+      → IsSort (syntax.Sort.Struct (map erased_enumerator (map enumerator_form es)))
+      → (length es ≤ MAX_ENUMERATORS) × (list_all (λ (e : tree.Enumerator). is_module_name (string_bytes e.name.text)) es ≡ true)
   struct_fits done es h =
       let few = h.0 in
       (omega (arith, few, length-map (map enumerator_form es) erased_enumerator, length-map es enumerator_form), sym (enumerators_named es) ∙ h.1)
 
-  pub struct_next : (done more : List bytecode.Sort) (es : List tree.Enumerator) (s : bytecode.Sort) → erased_sort (sort_form d.sort) ≡ syntax.Sort.Struct (map erased_enumerator (map enumerator_form es))
+  pub struct_next : (done more : List bytecode.Sort) (es : List tree.Enumerator) (s : bytecode.Sort)
+      → erased_sort (sort_form d.sort) ≡ syntax.Sort.Struct (map erased_enumerator (map enumerator_form es))
       → sort_contents s ≡ map (λ (e : tree.Enumerator). string_bytes e.name.text) es → more ≡ done ++ s ∷ [] → AreMade all (drop k all) done → AreMade all (drop (k + 1) all) more
   struct_next done more es s is names pushed h =
       let rest = struct_names (erased_all (drop (k + 1) all)) in record {

@@ -66,7 +66,9 @@ module _ (text : SpecForm) (faultless : is_faultless text ≡ true) (callees : L
     whole = record { version = version.One; sorts = S; equations = Q; initial = I }
 
     pub parameters_are : parameters whole ≡ callees
-    parameters_are = ap (λ (cs : List EquationContents). map (λ (e : EquationContents). e.parameters) cs) equations ∙ compiled_parameters (erase text) callees declared text.equations callees es all_ready
+    parameters_are =
+        ap (λ (cs : List EquationContents). map (λ (e : EquationContents). e.parameters) cs) equations
+        ∙ compiled_parameters (erase text) callees declared text.equations callees es all_ready
 
     pub compiled : IsCompiledModule (erase text) whole
     compiled = record {
@@ -83,7 +85,9 @@ module _ (text : SpecForm) (faultless : is_faultless text ≡ true) (callees : L
     keeps = module_keeps (erase text) whole compiled kept
 
     module _ (fields : list_all has_fitting_carriers Q ≡ true) (byte : is_byte I.equation ≡ true) (words : list_all is_i64 I.values ≡ true)
-        (few : AreFew (struct_counts (erase text).sorts)) (shapes : All (HasDeclaredShapes (erase text)) (erase text).equations) (bounds : All (HasBounds (erase text)) (erase text).equations) (there : HasInitial (erase text)) where
+        (few : AreFew (struct_counts (erase text).sorts))
+        (shapes : All (HasDeclaredShapes (erase text)) (erase text).equations)
+        (bounds : All (HasBounds (erase text)) (erase text).equations) (there : HasInitial (erase text)) where
       counted : struct_counts (erase text).sorts ≡ counts S
       counted = sym (ap counts sorts ∙ counted_structs (erase text).sorts)
 
@@ -115,7 +119,9 @@ module _ (text : SpecForm) (faultless : is_faultless text ≡ true) (callees : L
       initial_within : fits_initial Q I ≡ true
       initial_within =
           let at = compiled_at (erase text) callees text.equations callees es declared all_ready (initial_place (erase text)) there.equation there.there in
-          let here : slice_get Q I.equation ≡ Some at.0 = ap (λ (cs : List EquationContents). slice_get cs I.equation) equations ∙ ap (slice_get (all_compiled callees callees text.equations es)) place ∙ at.1 in
+          let here : slice_get Q I.equation ≡ Some at.0 =
+          ap (λ (cs : List EquationContents). slice_get cs I.equation) equations
+          ∙ ap (slice_get (all_compiled callees callees text.equations es)) place ∙ at.1 in
           let inside : is_within (map values_of at.0.parameters) I.values ≡ true =
           ap (λ (vs : List carriers.Carrier). is_within vs I.values) at.2 ∙ ap (is_within (carriers_of (erase text) there.equation.parameters)) values ∙ there.within in
           and_from _ _ byte (ap (λ (o : Option EquationContents). is_tuple (parameters_if_any o) I.values) here ∙ and_from _ _ words inside)

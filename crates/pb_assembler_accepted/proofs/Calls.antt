@@ -124,7 +124,8 @@ module _ (p : Program) (k : AbstractState) (s : Settled k) (rest : List Abstract
   all_taken rs os e t = subst (λ (cs : List Carrier). Takes cs os rest) e t
 
   -- no further argument is tested
-  plainly : (cs : List Carrier) (xs : List Argument) (rs : List Carrier) (os : List AbstractValue) (k' : AbstractState) → any_tested cs xs ≡ false → reverse cs ++ rs ≡ total → Takes rs os rest → CoversEach os os
+  plainly : (cs : List Carrier) (xs : List Argument) (rs : List Carrier) (os : List AbstractValue) (k' : AbstractState)
+      → any_tested cs xs ≡ false → reverse cs ++ rs ≡ total → Takes rs os rest → CoversEach os os
       → TypedArguments p.sorts k.loops k.parameters cs xs → argument_operands xs + (length os + k.operands_below) ≤ 32 → Lasts k' → Flows p (arguments_piece cs xs last) out (on os) k'
   plainly [] [] rs os k' none e t co ty least lasts = lasts os (all_taken rs os e t) co
   plainly [] (x ∷ xs) rs os k' none e t co ty least lasts = absurd ty
@@ -134,7 +135,8 @@ module _ (p : Program) (k : AbstractState) (s : Settled k) (rest : List Abstract
       let cv = solid p.sorts k.loops k.parameters s.self.loops s.self.parameters x.term v ty.0 in (
         on (v ∷ os),
         yields p k s.self x.term v ty.0 out os v co (omega arith) cv,
-        by (tested_range c x.shape) (any_tested cs xs) none (answered c x.shape ty.1 ty.2) (λ f a. plainly cs xs (c ∷ rs) (v ∷ os) k' f (next_total c cs rs e) (a, t) (cv, co) ty.3 (omega arith) lasts),
+        by (tested_range c x.shape) (any_tested cs xs) none (answered c x.shape ty.1 ty.2)
+            (λ f a. plainly cs xs (c ∷ rs) (v ∷ os) k' f (next_total c cs rs e) (a, t) (cv, co) ty.3 (omega arith) lasts),
       )
     where
       by : (o : Option (ℤ × ℤ)) (later : Bool) → (is_some o || later) ≡ false → Answers c (known_of x.shape) o
@@ -188,7 +190,8 @@ module _ (p : Program) (k : AbstractState) (s : Settled k) (rest : List Abstract
             )
         by false e = tt
 
-    tested : (cs : List Carrier) (xs : List Argument) (rs : List Carrier) (os es : List AbstractValue) → any_tested cs xs ≡ true → reverse cs ++ rs ≡ total → Takes rs os rest → CoversEach os os → CoversEach os es
+    tested : (cs : List Carrier) (xs : List Argument) (rs : List Carrier) (os es : List AbstractValue)
+        → any_tested cs xs ≡ true → reverse cs ++ rs ≡ total → Takes rs os rest → CoversEach os os → CoversEach os es
         → TypedArguments p.sorts k.loops k.parameters cs xs → argument_operands xs + (length os + k.operands_below) ≤ 32 → Flows p (arguments_piece cs xs last) out (on os) (on es)
     tested [] xs rs os es some e t co ce ty least = absurd (true≢false (sym some))
     tested (c ∷ cs) [] rs os es some e t co ce ty least = absurd ty
@@ -232,7 +235,8 @@ module _ (p : Program) (equation : ℕ) (cs : List Carrier) (at : slice_get p.ca
     covered = s.self;
   }
 
-  settled_call : (xs : List Argument) (out : AbstractState) (b : Bool) → any_tested cs xs ≡ b → TypedArguments p.sorts k.loops k.parameters cs xs → argument_operands xs + (length k.operands + k.operands_below) ≤ 32
+  settled_call : (xs : List Argument) (out : AbstractState) (b : Bool) → any_tested cs xs ≡ b
+      → TypedArguments p.sorts k.loops k.parameters cs xs → argument_operands xs + (length k.operands + k.operands_below) ≤ 32
       → Flows p (cond b (Block (Then (arguments_piece cs xs (Then (Plain (op.Call equation)) Leave)) (Plain (op.Emit leaf.Cut)))) (arguments_piece cs xs (Plain (op.Call equation)))) out k k
   settled_call xs out false e ty least =
       plainly p k s k.operands (reverse cs) (Plain (op.Call equation)) out cs xs [] k.operands k e (append-nil (reverse cs)) refl s.self.operands ty least (λ os t co. call_flows out os t)

@@ -192,11 +192,15 @@ module _ (p : Program) where
 
   abbrev pub CallsFlow : Type 0
   CallsFlow =
-      (equation : ℕ) (xs : List Argument) (out k : AbstractState) → Settled k → TypedCall p.sorts k.loops k.parameters (slice_get p.callees equation) xs → argument_operands xs + (length k.operands + k.operands_below) ≤ 32
+      (equation : ℕ) (xs : List Argument) (out k : AbstractState) → Settled k
+      → TypedCall p.sorts k.loops k.parameters (slice_get p.callees equation) xs
+      → argument_operands xs + (length k.operands + k.operands_below) ≤ 32
       → Flows p (call_piece equation (parameters (slice_get p.callees equation)) xs) out k k
 
   module _ (calls : CallsFlow) where
-    pub formula_flows : (f : Formula) (around : Junction) (out k : AbstractState) → TypedFormula p k.loops k.parameters f → formula_operands f + (length k.operands + k.operands_below) ≤ 32 → length k.loops + formula_loops f ≤ 8
+    pub formula_flows : (f : Formula) (around : Junction) (out k : AbstractState)
+        → TypedFormula p k.loops k.parameters f → formula_operands f + (length k.operands + k.operands_below) ≤ 32
+        → length k.loops + formula_loops f ≤ 8
         → Holds (formula_piece p.callees around f) out k (formula_brackets around f)
     formula_flows (Test t) around out k ty ops loops b s low = test_flows t out (bracketed_by k b) s ty ops around
     formula_flows (Join m f g) around out k ty ops loops b s low =

@@ -221,7 +221,9 @@ module _ (p : Program) where
   placed (Block a) ls sc q e h ar short m =
       placed a ls sc q (end q a) h ar short (inr (record { after = omega arith; inside = short; one_body = around_end p [] a (straight ls a sc) q (end q a) h }))
   placed Leave ls sc q e h ar short m =
-      ⊎_elim (λ n. absurd n) (λ (b : IsBehind q e Leave). let after = b.after in placed_one q (op.Jump e) h (record { target = leads q e (omega arith) b.inside b.one_body; names = tt; closes = λ e. cc })) m
+      ⊎_elim (λ n. absurd n)
+      (λ (b : IsBehind q e Leave). let after = b.after in
+      placed_one q (op.Jump e) h (record { target = leads q e (omega arith) b.inside b.one_body; names = tt; closes = λ e. cc })) m
   placed (Guard low high a) ls sc q e h ar short m =
       let mid = end (q + 1) a in
       let more = grows a (q + 1) in

@@ -160,7 +160,9 @@ module _ (p : Program) (ps : List AbstractValue) (long : length ps ≡ length p.
     TestScope None = Unit {0}
     TestScope (Some t) = IsInScope p ls (data_piece t)
 
-    join_scope : (m around : Junction) (s t : Option Term) (fa ga fo go : Piece) → TestScope s → TestScope t → IsInScope p ls fa → IsInScope p ls ga → IsInScope p ls fo → IsInScope p ls go → IsInScope p ls (join_piece m around s t fa ga fo go)
+    join_scope : (m around : Junction) (s t : Option Term) (fa ga fo go : Piece) → TestScope s → TestScope t
+        → IsInScope p ls fa → IsInScope p ls ga → IsInScope p ls fo → IsInScope p ls go
+        → IsInScope p ls (join_piece m around s t fa ga fo go)
     join_scope m around (Some s) t fa ga fo go ds dt a b c d = tested_scope m around s ga ds b
     join_scope m around None (Some t) fa ga fo go ds dt a b c d = tested_scope m around t fa dt a
     join_scope m around None None fa ga fo go ds dt a b c d = under_scope m around (Then fo go) (c, d)
@@ -183,14 +185,19 @@ module _ (p : Program) (ps : List AbstractValue) (long : length ps ≡ length p.
     arguments_scope [] [] last ty h = h
     arguments_scope (c ∷ cs) [] last ty h = absurd ty
 
-    call_scope : (equation : ℕ) (xs : List Argument) (o : Option (List Carrier)) → slice_get p.callees equation ≡ o → TypedCall p.sorts ls ps o xs → IsInScope p ls (call_piece equation (parameters o) xs)
+    call_scope : (equation : ℕ) (xs : List Argument) (o : Option (List Carrier)) → slice_get p.callees equation ≡ o
+        → TypedCall p.sorts ls ps o xs → IsInScope p ls (call_piece equation (parameters o) xs)
     call_scope equation xs None e ty = absurd ty
     call_scope equation xs (Some cs) e ty = by (any_tested cs xs)
       where
         there : equation < length p.callees
         there = slice_get_within p.callees equation cs e
 
-        by : (b : Bool) → IsInScope p ls (cond b (Block (Then (arguments_piece cs xs (Then (Plain (op.Call equation)) Leave)) (Plain (op.Emit leaf.Cut)))) (arguments_piece cs xs (Plain (op.Call equation))))
+        by : (b : Bool)
+            → IsInScope p ls
+            (cond b (Block
+            (Then (arguments_piece cs xs (Then (Plain (op.Call equation)) Leave)) (Plain (op.Emit leaf.Cut))))
+            (arguments_piece cs xs (Plain (op.Call equation))))
         by true = (arguments_scope cs xs (Then (Plain (op.Call equation)) Leave) ty (there, tt), tt)
         by false = arguments_scope cs xs (Plain (op.Call equation)) ty there
 
@@ -203,6 +210,13 @@ module _ (p : Program) (ps : List AbstractValue) (long : length ps ≡ length p.
       join_scope ls m around (test_of f) (test_of g) _ _ _ _ (test_scope ls f ty.0) (test_scope ls g ty.1)
       (formula_scope f ls around ty.0 (omega arith)) (formula_scope g ls around ty.1 (omega arith)) (formula_scope f ls m ty.0 (omega arith)) (formula_scope g ls m ty.1 (omega arith))
   formula_scope (Each q s shape f) ls around ty low =
-      under_scope ls (junction_of q) around _
-      (abstraction_of ty.0, some_carrier (carrier_of p s) ty.0 ty.1, ty.2, omega arith, formula_stays p.callees f (junction_of q), formula_scope f ((s, abstraction_of ty.0) ∷ ls) (junction_of q) ty.4 (omega arith))
+      under_scope ls (junction_of q) around _ (
+        abstraction_of ty.0,
+        some_carrier (carrier_of p s) ty.0 ty.1,
+        ty.2,
+        omega arith,
+        formula_stays p.callees f
+            (junction_of q),
+        formula_scope f ((s, abstraction_of ty.0) ∷ ls) (junction_of q) ty.4 (omega arith),
+      )
   formula_scope (Call equation xs) ls around ty low = call_scope ls equation xs (slice_get p.callees equation) refl ty

@@ -20,7 +20,17 @@ use Rattle.pb_assembler_scheme.specs.Pieces.{Piece, Empty, Plain, Then, Unless, 
 
 module _ (p : Program) where
   abbrev pub inside : AbstractState → ℕ → Carrier → AbstractState
-  inside k s c = record { operands = []; operands_below = length k.operands + k.operands_below; parameters = k.parameters; loops = (s, abstraction_of c) ∷ k.loops; brackets = k.brackets; brackets_below = k.brackets; roots = k.roots }
+  inside k s c =
+      record {
+        operands = [];
+        operands_below = length k.operands + k.operands_below;
+        parameters = k.parameters;
+        loops =
+            (s, abstraction_of c) ∷ k.loops;
+        brackets = k.brackets;
+        brackets_below = k.brackets;
+        roots = k.roots;
+      }
 
   -- a body that ends as it began
   pub record Turns (k : AbstractState) (s : ℕ) (Body : AbstractState → AbstractState → Type 0) : Type 0 where
@@ -137,7 +147,8 @@ module _ (p : Program) where
   abbrev inner : (low high : ℤ) (a : Piece) (out k k' : AbstractState) → Flows (Guard low high a) out k k' → Table
   inner low high a out k k' g = reached_notes g.meets (cut k g.least g.greatest low high g.others) g.failed (λ b l. Flows a out b l) (λ b l x. states a out b l x) (dead a) g.body
 
-  long_reached : (a : Piece) (Body : AbstractState → AbstractState → Type 0) (f : (m l : AbstractState) → Body m l → Table) (q : ℕ) → ((m l : AbstractState) (x : Body m l) → end q a ≡ q + length (f m l x))
+  long_reached : (a : Piece) (Body : AbstractState → AbstractState → Type 0)
+      (f : (m l : AbstractState) → Body m l → Table) (q : ℕ) → ((m l : AbstractState) (x : Body m l) → end q a ≡ q + length (f m l x))
       → (b : Bool) (k k' : AbstractState) (r : Reached b k k' Body) → end q a ≡ q + length (reached_notes b k k' Body f (dead a) r)
   long_reached a Body f q h true k k' r = h r.0 k' r.2
   long_reached a Body f q h false k k' r = long_dead a q
@@ -156,7 +167,12 @@ module _ (p : Program) where
   long (Block a) out k k' g q = long a k' k k' g q
   long Leave out k k' g q = omega arith
   long (Guard low high a) out k k' g q =
-      omega (arith, long_reached a (λ b l. Flows a out b l) (λ b l x. states a out b l x) (q + 1) (λ m l x. long a out m l x (q + 1)) g.meets (cut k g.least g.greatest low high g.others) g.failed g.body, length-append (inner low high a out k k' g) (Some g.failed ∷ []))
+      omega (
+        arith,
+        long_reached a (λ b l. Flows a out b l) (λ b l x. states a out b l x) (q + 1)
+            (λ m l x. long a out m l x (q + 1)) g.meets (cut k g.least g.greatest low high g.others) g.failed g.body,
+        length-append (inner low high a out k k' g) (Some g.failed ∷ []),
+      )
 
   module _ (table : Table) where
     abbrev pub HasStates : ℕ → Table → Type 0
@@ -202,9 +218,11 @@ module _ (p : Program) where
 
     -- each place from low up to high with a note keeps its instruction's rule
     abbrev pub EachIn : ℕ → ℕ → Type 0
-    EachIn low high = (q : ℕ) (i : Op) (k : AbstractState) → low ≤ q → q < high → slice_get p.code q ≡ Some i → state_at table q ≡ Some k → FlowIsCovered table (transfer p (state_at_loop table (loops_around p.code q)) q i k)
+    EachIn low high = (q : ℕ) (i : Op) (k : AbstractState) → low ≤ q → q < high → slice_get p.code q ≡ Some i
+        → state_at table q ≡ Some k → FlowIsCovered table (transfer p (state_at_loop table (loops_around p.code q)) q i k)
 
-    pub each_one : (q : ℕ) (o : Op) (k : AbstractState) → slice_get p.code q ≡ Some o → state_at table q ≡ Some k → FlowIsCovered table (transfer p (state_at_loop table (loops_around p.code q)) q o k) → EachIn q (q + 1)
+    pub each_one : (q : ℕ) (o : Op) (k : AbstractState) → slice_get p.code q ≡ Some o → state_at table q ≡ Some k
+        → FlowIsCovered table (transfer p (state_at_loop table (loops_around p.code q)) q o k) → EachIn q (q + 1)
     each_one q o k h n fine r i m low high at known =
         let e : q ≡ r = omega arith in
         let f : slice_get p.code q ≡ slice_get p.code r = ap (slice_get p.code) e in
@@ -224,14 +242,30 @@ module _ (p : Program) where
     pub leads : (to : ℕ) (k m : AbstractState) → state_at table to ≡ Some m → IsCovered k m → Leads table (record { to = to; state = k })
     leads to k m n c = record { known = m; there = n; covered = c }
 
-    tests_fine : (k : AbstractState) (os : List AbstractValue) (q to : ℕ) → k.operands ≡ abstract.Bool ∷ os → Leads table (record { to = q + 1; state = record k { operands = os } }) → Leads table (record { to = to; state = record k { operands = os } })
-        → FlowIsCovered table (Transfer.abstract_pop_bool k.operands (λ ss. Some (record { to = q + 1; state = record k { operands = ss } } ∷ record { to = to; state = record k { operands = ss } } ∷ [])))
-    tests_fine k os q to e a b = subst (λ (l : List AbstractValue). FlowIsCovered table (Transfer.abstract_pop_bool l (λ ss. Some (record { to = q + 1; state = record k { operands = ss } } ∷ record { to = to; state = record k { operands = ss } } ∷ [])))) (sym e) (a, (b, tt))
+    tests_fine : (k : AbstractState) (os : List AbstractValue) (q to : ℕ) → k.operands ≡ abstract.Bool ∷ os
+        → Leads table (record { to = q + 1; state = record k { operands = os } })
+        → Leads table (record { to = to; state = record k { operands = os } })
+        → FlowIsCovered table
+        (Transfer.abstract_pop_bool k.operands
+        (λ ss. Some
+        (record { to = q + 1; state = record k { operands = ss } } ∷ record { to = to; state = record k { operands = ss } } ∷ [])))
+    tests_fine k os q to e a b =
+        subst (λ (l : List AbstractValue). FlowIsCovered table
+        (Transfer.abstract_pop_bool l
+        (λ ss. Some
+        (record { to = q + 1; state = record k { operands = ss } } ∷ record
+        { to = to; state = record k { operands = ss } } ∷ [])))) (sym e) (a, (b, tt))
 
-    loop_fine : (k : AbstractState) (s q : ℕ) (c : Carrier) (o : Option Carrier) → o ≡ Some c → (nat_lt (length k.loops) 8 && not (among k.loops s) && is_inhabited c) ≡ true → Leads table (record { to = q + 1; state = inside k s c }) → FlowIsCovered table (abstract_loop q k s o)
-    loop_fine k s q c o e n l = subst (λ (x : Option Carrier). FlowIsCovered table (abstract_loop q k s x)) (sym e) (subst (λ b. FlowIsCovered table (cond b (to_next_place q (inside k s c)) None)) (sym n) (l, tt))
+    loop_fine : (k : AbstractState) (s q : ℕ) (c : Carrier) (o : Option Carrier) → o ≡ Some c
+        → (nat_lt (length k.loops) 8 && not (among k.loops s) && is_inhabited c) ≡ true
+        → Leads table (record { to = q + 1; state = inside k s c }) → FlowIsCovered table (abstract_loop q k s o)
+    loop_fine k s q c o e n l =
+        subst (λ (x : Option Carrier). FlowIsCovered table (abstract_loop q k s x)) (sym e)
+        (subst (λ b. FlowIsCovered table (cond b (to_next_place q (inside k s c)) None)) (sym n) (l, tt))
 
-    next_fine : (q : ℕ) (l k : AbstractState) (home : Option AbstractState) → home ≡ Some k → l.operands ≡ [] → l.brackets ≡ k.brackets → l.roots ≡ k.roots → Leads table (record { to = q + 1; state = k }) → FlowIsCovered table (abstract_next q l l.operands home)
+    next_fine : (q : ℕ) (l k : AbstractState) (home : Option AbstractState) → home ≡ Some k → l.operands ≡ []
+        → l.brackets ≡ k.brackets → l.roots ≡ k.roots → Leads table (record { to = q + 1; state = k })
+        → FlowIsCovered table (abstract_next q l l.operands home)
     next_fine q l k home e none b r lead =
         subst (λ (h : Option AbstractState). FlowIsCovered table (abstract_next q l l.operands h)) (sym e)
         (subst (λ (ss : List AbstractValue). FlowIsCovered table (abstract_next q l ss (Some k))) (sym none)
@@ -255,14 +289,17 @@ module _ (p : Program) where
     each_dead : (x : Piece) (q : ℕ) → HasStates q (dead x) → EachIn q (end q x)
     each_dead Empty q n = each_none q
     each_dead (Plain o) q n = each_unreached q n.0
-    each_dead (Then a b) q n = each_both q (end q a) (end (end q a) b) (each_dead a q (noted_front q (dead a) (dead b) n)) (each_dead b (end q a) (noted_back q (end q a) (dead a) (dead b) (long_dead a q) n))
+    each_dead (Then a b) q n =
+        each_both q (end q a) (end (end q a) b) (each_dead a q (noted_front q (dead a) (dead b) n))
+        (each_dead b (end q a) (noted_back q (end q a) (dead a) (dead b) (long_dead a q) n))
     each_dead (Unless on a) q n = each_both q (q + 1) (end (q + 1) a) (each_unreached q n.0) (each_dead a (q + 1) n.1)
     each_dead (Choose on a b) q n =
         let mid = end (q + 1) a in
         let nb = dead b in
         let back = noted_back (q + 1) mid (dead a) (None ∷ nb) (long_dead a (q + 1)) n.1 in
         each_both q (q + 1) (end (mid + 1) b) (each_unreached q n.0)
-        (each_both (q + 1) mid (end (mid + 1) b) (each_dead a (q + 1) (noted_front (q + 1) (dead a) (None ∷ nb) n.1)) (each_both mid (mid + 1) (end (mid + 1) b) (each_unreached mid back.0) (each_dead b (mid + 1) back.1)))
+        (each_both (q + 1) mid (end (mid + 1) b) (each_dead a (q + 1) (noted_front (q + 1) (dead a) (None ∷ nb) n.1))
+        (each_both mid (mid + 1) (end (mid + 1) b) (each_unreached mid back.0) (each_dead b (mid + 1) back.1)))
     each_dead (Repeat s a) q n = dead_body a q n.0 n.1 (each_dead a (q + 1))
     each_dead (Block a) q n = each_dead a q n
     each_dead Leave q n = each_unreached q n.0
@@ -270,17 +307,30 @@ module _ (p : Program) where
 
     split_fine : (k0 k1 : AbstractState) (q to : ℕ) (b c : Bool) → (b ≡ true → Leads table (record { to = q + 1; state = k0 })) → c ≡ false → Leads table (record { to = to; state = k1 })
         → AllLead table (Transfer.when b (record { to = q + 1; state = k0 }) ++ Transfer.when (not c) (record { to = to; state = k1 }))
-    split_fine k0 k1 q to true c i e o = subst (λ d. AllLead table (Transfer.when true (record { to = q + 1; state = k0 }) ++ Transfer.when (not d) (record { to = to; state = k1 }))) (sym e) (i refl, (o, tt))
+    split_fine k0 k1 q to true c i e o =
+        subst (λ d. AllLead table
+        (Transfer.when true (record { to = q + 1; state = k0 })
+        ++ Transfer.when (not d) (record { to = to; state = k1 }))) (sym e) (i refl, (o, tt))
     split_fine k0 k1 q to false c i e o = subst (λ d. AllLead table (Transfer.when (not d) (record { to = to; state = k1 }))) (sym e) (o, tt)
 
-    guard_fine : (k : AbstractState) (os : List AbstractValue) (q to : ℕ) (l h low high : ℤ) (meets : Bool) → k.operands ≡ abstract.Int l h ∷ os → (int_le low l && int_le h high) ≡ false → (int_le l high && int_le low h) ≡ meets
+    guard_fine : (k : AbstractState) (os : List AbstractValue) (q to : ℕ) (l h low high : ℤ) (meets : Bool)
+        → k.operands ≡ abstract.Int l h ∷ os → (int_le low l && int_le h high) ≡ false → (int_le l high && int_le low h) ≡ meets
         → (meets ≡ true → Leads table (record { to = q + 1; state = cut k l h low high os })) → Leads table (record { to = to; state = record k { operands = abstract.Int l h ∷ os } })
-        → FlowIsCovered table (Transfer.abstract_pop_int k.operands (λ l h ss. Transfer.range_edges q to l h low high (record k { operands = abstract.Int (int_max l low) (int_min h high) ∷ ss }) (record k { operands = abstract.Int l h ∷ ss })))
+        → FlowIsCovered table
+        (Transfer.abstract_pop_int k.operands
+        (λ l h ss. Transfer.range_edges q to l h low high
+        (record k { operands = abstract.Int (int_max l low) (int_min h high) ∷ ss }) (record k { operands = abstract.Int l h ∷ ss })))
     guard_fine k os q to l h low high meets e lv m i o =
-        subst (λ (x : List AbstractValue). FlowIsCovered table (Transfer.abstract_pop_int x (λ l h ss. Transfer.range_edges q to l h low high (record k { operands = abstract.Int (int_max l low) (int_min h high) ∷ ss }) (record k { operands = abstract.Int l h ∷ ss })))) (sym e)
+        subst (λ (x : List AbstractValue). FlowIsCovered table
+        (Transfer.abstract_pop_int x
+        (λ l h ss. Transfer.range_edges q to l h low high
+        (record k { operands = abstract.Int (int_max l low) (int_min h high) ∷ ss })
+        (record k { operands = abstract.Int l h ∷ ss })))) (sym e)
         (split_fine (cut k l h low high os) (record k { operands = abstract.Int l h ∷ os }) q to (int_le l high && int_le low h) (int_le low l && int_le h high) (λ t. i (sym m ∙ t)) lv o)
 
-    pop_fine : (k : AbstractState) (q : ℕ) (s : AbstractValue) (ss : List AbstractValue) → k.operands ≡ s ∷ ss → Leads table (record { to = q + 1; state = record k { operands = ss } }) → FlowIsCovered table (Transfer.abstract_pop k.operands (λ s ss. to_next_place q (record k { operands = ss })))
+    pop_fine : (k : AbstractState) (q : ℕ) (s : AbstractValue) (ss : List AbstractValue) → k.operands ≡ s ∷ ss
+        → Leads table (record { to = q + 1; state = record k { operands = ss } })
+        → FlowIsCovered table (Transfer.abstract_pop k.operands (λ s ss. to_next_place q (record k { operands = ss })))
     pop_fine k q s ss e l = subst (λ (x : List AbstractValue). FlowIsCovered table (Transfer.abstract_pop x (λ s ss. to_next_place q (record k { operands = ss })))) (sym e) (l, tt)
 
     -- the body of a guard: where it is entered its first place covers, and each of its places keeps its rule
@@ -292,7 +342,9 @@ module _ (p : Program) where
     within a out q e h failed true k r n f g = ((λ t. leads q k r.0 (f r.0 r.2 n) r.1), g r.0 r.2 n)
     within a out q e h failed false k r n f g = ((λ t. absurd (true≢false (sym t))), each_dead a q n)
 
-    pub each_in : (x : Piece) (out k k' : AbstractState) (g : Flows x out k k') → IsStraight x → (q e : ℕ) → HasPieceAt p.code q e x → state_at table e ≡ Some out → HasStates q (states x out k k' g) → state_at table (end q x) ≡ Some k' → EachIn q (end q x)
+    pub each_in : (x : Piece) (out k k' : AbstractState) (g : Flows x out k k') → IsStraight x → (q e : ℕ)
+        → HasPieceAt p.code q e x → state_at table e ≡ Some out → HasStates q (states x out k k' g)
+        → state_at table (end q x) ≡ Some k' → EachIn q (end q x)
     each_in Empty out k k' g st q e h leaves n after = each_none q
     each_in (Plain o) out k k' g st q e h leaves n after =
         each_one q o k h n.0 (subst (FlowIsCovered table) (sym (g.way (state_at_loop table (loops_around p.code q)) q)) (leads (q + 1) g.next k' after g.covered, tt))
@@ -346,7 +398,10 @@ module _ (p : Program) where
         let mid = end (q + 1) a in
         let na = inner low high a out k k' g in
         let front = noted_front (q + 1) na (Some g.failed ∷ []) n.1 in
-        let back = noted_back (q + 1) mid na (Some g.failed ∷ []) (long_reached a (λ b l. Flows a out b l) (λ b l x. states a out b l x) (q + 1) (λ m l x. long a out m l x (q + 1)) g.meets (cut k g.least g.greatest low high g.others) g.failed g.body) n.1 in
+        let back =
+        noted_back (q + 1) mid na (Some g.failed ∷ [])
+        (long_reached a (λ b l. Flows a out b l) (λ b l x. states a out b l x) (q + 1)
+        (λ m l x. long a out m l x (q + 1)) g.meets (cut k g.least g.greatest low high g.others) g.failed g.body) n.1 in
         let w = within a out (q + 1) e h.1 g.failed g.meets (cut k g.least g.greatest low high g.others) g.body front
         (λ m x nn. first a out m g.failed x (q + 1) nn back.0) (λ m x nn. each_in a out m g.failed x st (q + 1) e h.1 leaves nn back.0) in
         each_both q (q + 1) (mid + 1)

@@ -57,7 +57,8 @@ module _ (spec : Spec) (declared : IsDeclared spec) (p : Program) (same : p.sort
     abbrev HaveFrom : ℕ → List Carrier → Type 0
     HaveFrom n cs = (i : ℕ) → slice_get ps (n + i) ≡ slice_get (map abstraction_of cs) i
 
-    parameters_agree : (xs : List Variable) (cs : List Carrier) (n m : ℕ) (scope : Scope) (c : Slotting) → m ≡ n + length xs → shapes_of cs ≡ variable_shapes spec xs → AreShaped spec xs → HaveFrom n cs → InSlots n scope c
+    parameters_agree : (xs : List Variable) (cs : List Carrier) (n m : ℕ) (scope : Scope) (c : Slotting)
+        → m ≡ n + length xs → shapes_of cs ≡ variable_shapes spec xs → AreShaped spec xs → HaveFrom n cs → InSlots n scope c
         → InSlots m (bound spec xs scope) (with_slots xs n c)
     parameters_agree [] cs n m scope c l e shaped have slots = let at : n ≡ m = omega arith in subst (λ k. InSlots k scope c) at slots
     parameters_agree (x ∷ xs) [] n m scope c l e shaped have slots = cc
@@ -77,18 +78,23 @@ module _ (spec : Spec) (declared : IsDeclared spec) (p : Program) (same : p.sort
         by y s at known false = more_slots p.sorts [] ps n (suc n) (c y) (scope y) (omega arith) (slots y)
 
 module _ (spec : Spec) (typed : IsWellTyped spec) where
-  equation_accepted : (X : Equation) → IsProper spec true (parameter_scope spec X) X.right → AreVariables spec X.parameters → (p : Program) → IsMadeOf spec X p → KeepsLimits p (normal_equation spec X) → (table : Table) × Accepted p table
+  equation_accepted : (X : Equation) → IsProper spec true (parameter_scope spec X) X.right
+      → AreVariables spec X.parameters → (p : Program) → IsMadeOf spec X p → KeepsLimits p (normal_equation spec X)
+      → (table : Table) × Accepted p table
   equation_accepted X proper variables p m limits =
       let some = inhabited spec typed.declarations p m.sorts X.parameters p.parameters m.parameters variables.shaped in
       let ps = map abstraction_of p.parameters in
       let slots = parameters_agree spec typed.declarations p m.sorts ps X.parameters p.parameters 0 (length X.parameters) outermost unslotted (omega arith) m.parameters variables.shaped
       (λ i. let at : 0 + i ≡ i = omega arith in ap (slice_get ps) at) (λ x. tt) in
       has_table p (normal_equation spec X) m.compiled
-      (formula_types spec typed.declarations p m.sorts ps (parameters_solid p p.parameters some) m.callees true (parameter_scope spec X) X.right proper [] (with_slots X.parameters 0 unslotted) (length X.parameters)
+      (formula_types spec typed.declarations p m.sorts ps (parameters_solid p p.parameters some) m.callees true
+      (parameter_scope spec X) X.right proper [] (with_slots X.parameters 0 unslotted) (length X.parameters)
       (record { slots = slots; fresh = λ i l. refl; solid = tt }) (program-slots p (normal_equation spec X) m.compiled.slots))
       some limits
 
-  rights_accepted : (E : List Equation) → AreProper spec E → All (λ (X : Equation). AreVariables spec X.parameters) E → All (λ (X : Equation). (p : Program) → IsMadeOf spec X p → KeepsLimits p (normal_equation spec X) → (table : Table) × Accepted p table) E
+  rights_accepted : (E : List Equation) → AreProper spec E → All (λ (X : Equation). AreVariables spec X.parameters) E
+      → All (λ (X : Equation). (p : Program) → IsMadeOf spec X p → KeepsLimits p (normal_equation spec X)
+      → (table : Table) × Accepted p table) E
   rights_accepted [] proper variables k d below = absurd (omega arith)
   rights_accepted (X ∷ E) proper variables zero d below = equation_accepted X proper.0 (variables 0 X (omega arith))
   rights_accepted (X ∷ E) proper variables (suc k) d below = rights_accepted E proper.1 (λ i Y l. variables (suc i) Y (omega arith)) k d (omega arith)
@@ -113,7 +119,9 @@ all_values spec (d ∷ cs) (x ∷ xs) e =
     let rest = all_values spec cs xs (cc) in
     cc
 
-callee_values : (spec : Spec) (ds : List (List Carrier)) (E : List Equation) → map shapes_of ds ≡ parameter_shapes spec E → map (λ (cs : List Carrier). map values_of cs) ds ≡ map (λ (X : Equation). carriers_of spec X.parameters) E
+callee_values : (spec : Spec) (ds : List (List Carrier)) (E : List Equation)
+    → map shapes_of ds ≡ parameter_shapes spec E
+    → map (λ (cs : List Carrier). map values_of cs) ds ≡ map (λ (X : Equation). carriers_of spec X.parameters) E
 callee_values spec [] [] e = refl
 callee_values spec [] (X ∷ E) e = cc
 callee_values spec (d ∷ ds) [] e = cc

@@ -75,7 +75,8 @@ more_slots counts ls ps n m (Some i) (Some s) le h = (let l = h.0 in omega arith
 more_slots counts ls ps n m None (Some s) le h = absurd h
 more_slots counts ls ps n m (Some i) None le h = absurd h
 
-pub variable_known : (spec : Spec) → IsDeclared spec → (p : Program) → p.sorts ≡ struct_counts spec.sorts → (x : Variable) → has_shape (end_of spec x.sort) ≡ true → IsDeclaredShape p.sorts (sort_shape spec x.sort)
+pub variable_known : (spec : Spec) → IsDeclared spec → (p : Program) → p.sorts ≡ struct_counts spec.sorts
+    → (x : Variable) → has_shape (end_of spec x.sort) ≡ true → IsDeclaredShape p.sorts (sort_shape spec x.sort)
 variable_known spec declared p same x e = subst (λ (k : List ℕ). IsDeclaredShape k (sort_shape spec x.sort)) (sym same) (sort_known spec declared x.sort e)
 
 module _ (spec : Spec) (declared : IsDeclared spec) (p : Program) (same : p.sorts ≡ struct_counts spec.sorts) (ps : List AbstractValue) (cp : CoversEach ps ps) where
@@ -117,7 +118,9 @@ module _ (spec : Spec) (declared : IsDeclared spec) (p : Program) (same : p.sort
   abbrev FormulaTypes : Scope → syntax.Formula → Type 0
   FormulaTypes scope f = (even : Bool) → Types scope (λ c n. normal spec even c scope n f)
 
-  each_types : (m : Quantifier) (xs : List Variable) (scope : Scope) (body : Slotting → ℕ → Formula) → All (λ (x : Variable). has_shape (end_of spec x.sort) ≡ true) xs → Types (bound spec xs scope) body → Types scope (λ c n. each spec m xs c n body)
+  each_types : (m : Quantifier) (xs : List Variable) (scope : Scope) (body : Slotting → ℕ → Formula)
+      → All (λ (x : Variable). has_shape (end_of spec x.sort) ≡ true) xs → Types (bound spec xs scope) body
+      → Types scope (λ c n. each spec m xs c n body)
   each_types m [] scope body shaped t ls c n a h = t ls c n a h
   each_types m (x ∷ xs) scope body shaped t ls c n a h =
       let shape = sort_shape spec x.sort in
@@ -162,10 +165,14 @@ module _ (spec : Spec) (declared : IsDeclared spec) (p : Program) (same : p.sort
   text_types stands scope (syntax.Term.Number m) h e = data_types stands scope (syntax.Term.Number m) h e
   text_types stands scope (syntax.Term.Named x) h e = data_types stands scope (syntax.Term.Named x) h e
   text_types stands scope (syntax.Term.Not x) h e =
-      choose_types scope (has_quantifier x) (syntax.Formula.Not (expanded_term x)) (syntax.Formula.Val (syntax.Term.Not x)) (λ even. text_types stands scope x h.0 h.1 (not even)) (data_types stands scope (syntax.Term.Not x) h e)
+      choose_types scope (has_quantifier x) (syntax.Formula.Not (expanded_term x))
+      (syntax.Formula.Val (syntax.Term.Not x)) (λ even. text_types stands scope x h.0 h.1 (not even))
+      (data_types stands scope (syntax.Term.Not x) h e)
   text_types stands scope (syntax.Term.Negative x) h e = data_types stands scope (syntax.Term.Negative x) h e
   text_types stands scope (syntax.Term.Binary o x y) h e =
-      choose_types scope (has_quantifier x || has_quantifier y) (connected o (expanded_term x) (expanded_term y) (syntax.Formula.Val (syntax.Term.Binary o x y))) (syntax.Formula.Val (syntax.Term.Binary o x y))
+      choose_types scope (has_quantifier x || has_quantifier y)
+      (connected o (expanded_term x) (expanded_term y) (syntax.Formula.Val (syntax.Term.Binary o x y)))
+      (syntax.Formula.Val (syntax.Term.Binary o x y))
       (connected_types scope o (expanded_term x) (expanded_term y) x y (data_types stands scope (syntax.Term.Binary o x y) h e)
       (λ w. let two = and_parts (may_be_truth (shape spec scope x)) (may_be_truth (shape spec scope y)) w in
       (text_types (passes (kind_of o) stands) scope x h.0 two.0, text_types (passes (kind_of o) stands) scope y h.1 two.1)) h.2)

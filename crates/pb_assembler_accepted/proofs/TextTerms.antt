@@ -64,19 +64,23 @@ limited_shape : (i : IntegerInterval) → is_included i literals ≡ true → of
 limited_shape i e = ap (λ b. of_interval (cond b (Some i) None)) e
 
 -- a fact of the numbers of an interval within the limits
-limited : (counts : List ℕ) (T : AbstractValue → Type 0) (i : IntegerInterval) → is_included i literals ≡ true → T (abstract.Int i.low i.high) → T (known_of (of_interval (within literals i))) × IsKnown counts (of_interval (within literals i))
+limited : (counts : List ℕ) (T : AbstractValue → Type 0) (i : IntegerInterval) → is_included i literals ≡ true
+    → T (abstract.Int i.low i.high) → T (known_of (of_interval (within literals i))) × IsKnown counts (of_interval (within literals i))
 limited counts T i e t = subst (λ (s : Shape). T (known_of s) × IsKnown counts s) (sym (limited_shape i e)) (t, tt)
 
 no_divisor : (d : Bool) (m : ℤ) → (not d || int_le (pos 1) m) ≡ true → (d && int_lt m (pos 1)) ≡ false
 no_divisor true m e = from_below m (le_true (pos 1) m e)
 no_divisor false m e = refl
 
-pub computed : (counts : List ℕ) (c : Arithmetic) (s t : Shape) → IsKnown counts s → IsKnown counts t → (may_be_whole s && may_be_whole t) ≡ true → may_divide (operation_of c) t ≡ true → binary_is_limited (operation_of c) s t ≡ true
+pub computed : (counts : List ℕ) (c : Arithmetic) (s t : Shape) → IsKnown counts s → IsKnown counts t
+    → (may_be_whole s && may_be_whole t) ≡ true → may_divide (operation_of c) t ≡ true → binary_is_limited (operation_of c) s t ≡ true
     → Computes c (known_of s) (known_of t) (known_of (binary_shape (operation_of c) s t)) × IsKnown counts (binary_shape (operation_of c) s t)
 computed counts c (Wholes l h) (Wholes m k) a b w d e =
     let i = binary_interval (operation_of c) (interval l h) (interval m k) in
     let fits : is_included i literals ≡ true = not_or (may_divide (operation_of c) (Wholes m k)) (is_included i literals) d e in
-    subst (λ z. Computes c (abstract.Int l h) (abstract.Int m k) (known_of (cond z (of_interval (within literals i)) Unknown)) × IsKnown counts (cond z (of_interval (within literals i)) Unknown)) (sym d)
+    subst (λ z. Computes c (abstract.Int l h) (abstract.Int m k)
+    (known_of (cond z (of_interval (within literals i)) Unknown))
+    × IsKnown counts (cond z (of_interval (within literals i)) Unknown)) (sym d)
     (limited counts (λ v. Computes c (abstract.Int l h) (abstract.Int m k) v) i fits (no_divisor (divides c) m d, fits_words i fits, refl))
 computed counts c Unknown t a b w d e = absurd a
 computed counts c Truths t a b w d e = absurd (true≢false (sym w))
@@ -239,7 +243,9 @@ module _ (counts : List ℕ) (ls : List (ℕ × AbstractValue)) (ps : List Abstr
   truths Truths (Wholes l h) a b w = absurd (true≢false (sym w))
   truths Truths (Places s n) a b w = absurd (true≢false (sym w))
 
-  arithmetic_fits : (o : Operator) (c : Arithmetic) (x y : Term) (s t : Shape) → ((v : AbstractValue) → Computes c (known_of s) (known_of t) v → Makes (instruction_of o) (known_of s) (known_of t) v) → Fits x s → Fits y t
+  arithmetic_fits : (o : Operator) (c : Arithmetic) (x y : Term) (s t : Shape)
+      → ((v : AbstractValue) → Computes c (known_of s) (known_of t) v
+      → Makes (instruction_of o) (known_of s) (known_of t) v) → Fits x s → Fits y t
       → (may_be_whole s && may_be_whole t) ≡ true → may_divide (operation_of c) t ≡ true → binary_is_limited (operation_of c) s t ≡ true → Fits (Binary o x y) (binary_shape (operation_of c) s t)
   arithmetic_fits o c x y s t is fx fy w d e =
       let r = computed counts c s t fx.1 fy.1 w d e in ((known_of s, known_of t, fx.0, fy.0, is _ r.0), r.1)
@@ -260,8 +266,12 @@ module _ (counts : List ℕ) (ls : List (ℕ × AbstractValue)) (ps : List Abstr
   binary Operator.Div x y s t fx fy h = arithmetic_fits Operator.Div arithmetic.Div x y s t (λ v m. m) fx fy h.0 h.1 h.2
   binary Operator.Mod x y s t fx fy h = arithmetic_fits Operator.Mod arithmetic.Mod x y s t (λ v m. m) fx fy h.0 h.1 h.2
 
-  extreme : (c : Arithmetic) (u : Term) (x y : Term) (s t : Shape) → ((v : AbstractValue) → ((a : AbstractValue) × (b : AbstractValue) × Typed counts ls ps x a × Typed counts ls ps y b × Computes c a b v) → Typed counts ls ps u v)
-      → Fits x s → Fits y t → (may_be_whole s && may_be_whole t) ≡ true → may_divide (operation_of c) t ≡ true → binary_is_limited (operation_of c) s t ≡ true → Fits u (binary_shape (operation_of c) s t)
+  extreme : (c : Arithmetic) (u : Term) (x y : Term) (s t : Shape)
+      → ((v : AbstractValue)
+      → ((a : AbstractValue) × (b : AbstractValue) × Typed counts ls ps x a × Typed counts ls ps y b × Computes c a b v)
+      → Typed counts ls ps u v)
+      → Fits x s → Fits y t → (may_be_whole s && may_be_whole t) ≡ true → may_divide (operation_of c) t ≡ true
+      → binary_is_limited (operation_of c) s t ≡ true → Fits u (binary_shape (operation_of c) s t)
   extreme c u x y s t is fx fy w d e = let r = computed counts c s t fx.1 fy.1 w d e in (is _ (known_of s, known_of t, fx.0, fy.0, r.0), r.1)
 
   -- ---- functions
@@ -278,11 +288,13 @@ module _ (counts : List ℕ) (ls : List (ℕ × AbstractValue)) (ps : List Abstr
   abbrev shape_there : Option Position → Option Shape
   shape_there o = option_map position_shape o
 
-  recognised_applied : (o : Option Position) (x : Term) (s : Shape) → Positioned o → Fits x s → IsApplied (recogniser (shape_there o)) (s ∷ []) → Fits (made.recognised o x) (applied_shape (recogniser (shape_there o)) (s ∷ []))
+  recognised_applied : (o : Option Position) (x : Term) (s : Shape) → Positioned o → Fits x s
+      → IsApplied (recogniser (shape_there o)) (s ∷ []) → Fits (made.recognised o x) (applied_shape (recogniser (shape_there o)) (s ∷ []))
   recognised_applied None x s known f h = absurd h
   recognised_applied (Some p) x s known f h = recognised p (known p refl) x s f h.1
 
-  one_applied : (spec : Spec) (name : Name) (g : Option NamedFunction) (x : Term) (s : Shape) → Positioned (recogniser_of spec name) → Fits x s → IsApplied (known_function g (recogniser_shape spec name)) (s ∷ [])
+  one_applied : (spec : Spec) (name : Name) (g : Option NamedFunction) (x : Term) (s : Shape)
+      → Positioned (recogniser_of spec name) → Fits x s → IsApplied (known_function g (recogniser_shape spec name)) (s ∷ [])
       → Fits (applied_to_one spec name g x) (applied_shape (known_function g (recogniser_shape spec name)) (s ∷ []))
   one_applied spec name (Some If) x s known f h = absurd (omega (arith, h.0))
   one_applied spec name (Some Succ) x s known f h = successor x s f h.1 h.2
@@ -332,7 +344,8 @@ module _ (counts : List ℕ) (ls : List (ℕ × AbstractValue)) (ps : List Abstr
   takes_some (Some (OfTwo o)) ss h = (omega (arith, h.0), omega (arith, h.0))
   takes_some (Some (Recogniser r)) ss h = (omega (arith, h.0), omega (arith, h.0))
 
-  applied_fits : (spec : Spec) → counts ≡ struct_counts spec.sorts → (f : Name) (ts : List Term) (ss : List Shape) → AllFit ts ss → IsApplied (function_named spec f) ss → Fits (applied spec f ts) (applied_shape (function_named spec f) ss)
+  applied_fits : (spec : Spec) → counts ≡ struct_counts spec.sorts → (f : Name) (ts : List Term) (ss : List Shape)
+      → AllFit ts ss → IsApplied (function_named spec f) ss → Fits (applied spec f ts) (applied_shape (function_named spec f) ss)
   applied_fits spec same f [] [] fit h = absurd (omega (arith, (takes_some (function_named spec f) [] h).0))
   applied_fits spec same f (x ∷ []) (s ∷ []) fit h =
       one_applied spec f (named_function f) x s (λ p e. subst (λ (c : List ℕ). IsPosition 0 c p) (sym same) (recogniser_known spec f p e)) fit.0 h
@@ -355,7 +368,8 @@ module _ (counts : List ℕ) (ls : List (ℕ × AbstractValue)) (ps : List Abstr
   named_by (Some i) e = Slot i
   named_by None e = made.enumerator e
 
-  named_fits : (spec : Spec) → counts ≡ struct_counts spec.sorts → (x : Name) (n : ℕ) (o : Option ℕ) (s : Option Shape) → InSlot counts ls ps n o s → (e : Option Position) → enumerator_of spec x ≡ e → IsNamed (or_else s (option_map position_shape e))
+  named_fits : (spec : Spec) → counts ≡ struct_counts spec.sorts → (x : Name) (n : ℕ) (o : Option ℕ) (s : Option Shape)
+      → InSlot counts ls ps n o s → (e : Option Position) → enumerator_of spec x ≡ e → IsNamed (or_else s (option_map position_shape e))
       → Fits (named_by o e) (shape_or_unknown (or_else s (option_map position_shape e)))
   named_fits spec same x n (Some i) (Some s) slot e is h = (slot.1, slot.2)
   named_fits spec same x n None None slot (Some p) is h =
@@ -381,7 +395,9 @@ module _ (counts : List ℕ) (ls : List (ℕ × AbstractValue)) (ps : List Abstr
           (named_fits spec same x n (c x) (scope x) (agree x) (enumerator_of spec x) refl h)
       term_fits stands (syntax.Term.Not x) h = ((fits_truth (slotted spec c x) (shape spec scope x) (term_fits stands x h.0) h.1, refl), tt)
       term_fits stands (syntax.Term.Negative x) h = negative (slotted spec c x) (shape spec scope x) (term_fits false x h.0) h.1 h.2
-      term_fits stands (syntax.Term.Binary o x y) h = binary o (slotted spec c x) (slotted spec c y) (shape spec scope x) (shape spec scope y) (term_fits (passes (kind_of o) stands) x h.0) (term_fits (passes (kind_of o) stands) y h.1) h.2
+      term_fits stands (syntax.Term.Binary o x y) h =
+          binary o (slotted spec c x) (slotted spec c y) (shape spec scope x) (shape spec scope y)
+          (term_fits (passes (kind_of o) stands) x h.0) (term_fits (passes (kind_of o) stands) y h.1) h.2
       term_fits stands (syntax.Term.Apply f xs) h = applied_fits spec same f (slotted_all spec c xs) (shapes spec scope xs) (terms_fit xs h.0) h.1
       term_fits stands (syntax.Term.Quantified q xs x) h = (refl, tt)
 

@@ -238,7 +238,9 @@ module _ (p : Program) (k : AbstractState) (self : IsCovered k k) where
   abbrev pub Yields : Piece → AbstractValue → ℕ → Type 0
   Yields x v n = (out : AbstractState) (os : List AbstractValue) (v' : AbstractValue) → CoversEach os os → n + height os ≤ 32 → Covers v v' → Flows p x out (topped os) (topped (v' ∷ os))
 
-  made : (i : Op) (a b v : AbstractValue) → Makes i a b v → (os : List AbstractValue) (home : Option AbstractState) (q : ℕ) → transfer p home q i (topped (b ∷ a ∷ os)) ≡ abstract_push q (topped (b ∷ a ∷ os)) os v
+  made : (i : Op) (a b v : AbstractValue) → Makes i a b v
+      → (os : List AbstractValue) (home : Option AbstractState) (q : ℕ)
+      → transfer p home q i (topped (b ∷ a ∷ os)) ≡ abstract_push q (topped (b ∷ a ∷ os)) os v
   made (op.Arithmetic c) (abstract.Int l h) (abstract.Int m n) v t os home q =
       let from = abstract.Int m n ∷ abstract.Int l h ∷ os in
       ap (λ b. cond b None (abstract_push_int q (topped from) os (interval_of c l h m n))) t.0
@@ -269,17 +271,21 @@ module _ (p : Program) (k : AbstractState) (self : IsCovered k k) where
   )
 
   one_yields : (i : Op) (x : Piece) (a v : AbstractValue) (n : ℕ) → loop_effect i ≡ Straight → 1 ≤ n → Covers a a
-      → ((os : List AbstractValue) (home : Option AbstractState) (q : ℕ) → transfer p home q i (topped (a ∷ os)) ≡ abstract_push q (topped (a ∷ os)) os v) → Yields x a n → Yields (Then x (Plain i)) v n
+      → ((os : List AbstractValue) (home : Option AbstractState) (q : ℕ)
+      → transfer p home q i (topped (a ∷ os)) ≡ abstract_push q (topped (a ∷ os)) os v) → Yields x a n → Yields (Then x (Plain i)) v n
   one_yields i x a v n s some ca way hx out os v' co low c = (
     topped (a ∷ os),
     hx out os a co low ca,
     gives i (a ∷ os) os v v' s co c (omega arith) (λ home q. way os home q),
   )
 
-  pushed : (i : Op) (v : AbstractValue) → loop_effect i ≡ Straight → ((os : List AbstractValue) (home : Option AbstractState) (q : ℕ) → transfer p home q i (topped os) ≡ abstract_push q (topped os) os v) → Yields (Plain i) v 1
+  pushed : (i : Op) (v : AbstractValue) → loop_effect i ≡ Straight
+      → ((os : List AbstractValue) (home : Option AbstractState) (q : ℕ)
+      → transfer p home q i (topped os) ≡ abstract_push q (topped os) os v) → Yields (Plain i) v 1
   pushed i v s way out os v' co low c = gives i os os v v' s co c (omega arith) (λ home q. way os home q)
 
-  choice_yields : (c x y : Piece) (a b v : AbstractValue) (l m n : ℕ) → Covers a v → Covers b v → Yields c abstract.Bool l → Yields x a m → Yields y b n → Yields (Then c (Choose false x y)) v (max l (max m n))
+  choice_yields : (c x y : Piece) (a b v : AbstractValue) (l m n : ℕ) → Covers a v → Covers b v
+      → Yields c abstract.Bool l → Yields x a m → Yields y b n → Yields (Then c (Choose false x y)) v (max l (max m n))
   choice_yields c x y a b v l m n ca cb hc hx hy out os v' co low cv =
       let up : Covers v' v' = covered_solid v v' cv in (
         topped (abstract.Bool ∷ os),
@@ -338,7 +344,8 @@ module _ (p : Program) (k : AbstractState) (self : IsCovered k k) where
   connected_yield o x y (abstract.Int l h) b v m n t hx hy = absurd t
   connected_yield o x y (abstract.Enum l h) b v m n t hx hy = absurd t
 
-  implied_yield : (x y : Piece) (a b v : AbstractValue) (m n : ℕ) → 1 ≤ m → Connects a b v → Yields x a m → Yields y b n → Yields (swapped (op.Logic connective.Or) (Then x (Plain op.Not)) y) v (one_kept n m)
+  implied_yield : (x y : Piece) (a b v : AbstractValue) (m n : ℕ) → 1 ≤ m → Connects a b v → Yields x a m → Yields y b n
+      → Yields (swapped (op.Logic connective.Or) (Then x (Plain op.Not)) y) v (one_kept n m)
   implied_yield x y abstract.Bool abstract.Bool v m n some t hx hy =
       connected_yield connective.Or (Then x (Plain op.Not)) y abstract.Bool abstract.Bool v m n t (negated_yields x abstract.Bool m some refl hx) hy
   implied_yield x y abstract.Bool (abstract.Int l h) v m n some t hx hy = absurd t
@@ -379,12 +386,22 @@ module _ (p : Program) (k : AbstractState) (self : IsCovered k k) where
   yields (Absolute x) v t =
       one_yields op.Absolute (data_piece x) (abstract.Int t.l t.h) v (term_operands x) refl (some_operands x) (here_solid x _ t.operand)
       (λ os home q. given_int q (abstract.Int t.l t.h ∷ os) os (absolute_interval t.l t.h) t.fits ∙ ap (abstract_push q (topped (abstract.Int t.l t.h ∷ os)) os) (sym t.result)) (yields x _ t.operand)
-  yields (Successor x) v t = both_yield (op.Arithmetic arithmetic.Add) (data_piece x) (Plain (op.PushInt (pos 1))) t.0 one v (term_operands x) 1 (here_solid x t.0 t.1) one_solid t.2 (yields x t.0 t.1) one_pushed
-  yields (Predecessor x) v t = both_yield (op.Arithmetic arithmetic.Sub) (data_piece x) (Plain (op.PushInt (pos 1))) t.0 one v (term_operands x) 1 (here_solid x t.0 t.1) one_solid t.2 (yields x t.0 t.1) one_pushed
+  yields (Successor x) v t =
+      both_yield (op.Arithmetic arithmetic.Add) (data_piece x) (Plain (op.PushInt (pos 1))) t.0 one v (term_operands x)
+      1 (here_solid x t.0 t.1) one_solid t.2 (yields x t.0 t.1) one_pushed
+  yields (Predecessor x) v t =
+      both_yield (op.Arithmetic arithmetic.Sub) (data_piece x) (Plain (op.PushInt (pos 1))) t.0 one v (term_operands x)
+      1 (here_solid x t.0 t.1) one_solid t.2 (yields x t.0 t.1) one_pushed
   yields (Binary o x y) v t = binary_yields o x y t.0 t.1 v (here_solid x t.0 t.2) (here_solid y t.1 t.3) t.4 (yields x t.0 t.2) (yields y t.1 t.3)
-  yields (Maximum x y) v t = both_yield (op.Arithmetic arithmetic.Max) (data_piece x) (data_piece y) t.0 t.1 v (term_operands x) (term_operands y) (here_solid x t.0 t.2) (here_solid y t.1 t.3) t.4 (yields x t.0 t.2) (yields y t.1 t.3)
-  yields (Minimum x y) v t = both_yield (op.Arithmetic arithmetic.Min) (data_piece x) (data_piece y) t.0 t.1 v (term_operands x) (term_operands y) (here_solid x t.0 t.2) (here_solid y t.1 t.3) t.4 (yields x t.0 t.2) (yields y t.1 t.3)
+  yields (Maximum x y) v t =
+      both_yield (op.Arithmetic arithmetic.Max) (data_piece x) (data_piece y) t.0 t.1 v (term_operands x)
+      (term_operands y) (here_solid x t.0 t.2) (here_solid y t.1 t.3) t.4 (yields x t.0 t.2) (yields y t.1 t.3)
+  yields (Minimum x y) v t =
+      both_yield (op.Arithmetic arithmetic.Min) (data_piece x) (data_piece y) t.0 t.1 v (term_operands x)
+      (term_operands y) (here_solid x t.0 t.2) (here_solid y t.1 t.3) t.4 (yields x t.0 t.2) (yields y t.1 t.3)
   yields (Choice c x y) v t =
-      choice_yields (data_piece c) (data_piece x) (data_piece y) t.1.0 t.2.0 v (term_operands c) (term_operands x) (term_operands y) t.1.2 t.2.2 (yields c abstract.Bool t.0) (yields x t.1.0 t.1.1) (yields y t.2.0 t.2.1)
+      choice_yields (data_piece c) (data_piece x) (data_piece y) t.1.0 t.2.0 v (term_operands c) (term_operands x)
+      (term_operands y) t.1.2 t.2.2 (yields c abstract.Bool t.0) (yields x t.1.0 t.1.1) (yields y t.2.0 t.2.1)
   yields (Recognised s i x) v t =
-      both_yield (op.Equality equality.Equal) (data_piece x) (Plain (op.PushEnum s i)) t.0 (abstract.Enum s t.1.count) v (term_operands x) 1 (here_solid x t.0 t.2) (refl, omega arith) (t.3, t.4) (yields x t.0 t.2) (enumerator_pushed s i t.1)
+      both_yield (op.Equality equality.Equal) (data_piece x) (Plain (op.PushEnum s i)) t.0 (abstract.Enum s t.1.count) v
+      (term_operands x) 1 (here_solid x t.0 t.2) (refl, omega arith) (t.3, t.4) (yields x t.0 t.2) (enumerator_pushed s i t.1)

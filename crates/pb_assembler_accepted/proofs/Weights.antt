@@ -37,9 +37,12 @@ module _ (p : Program) (cost : Op → ℕ) (jump : ℕ) where
   counted bl (Plain o) q e rest ws st = one_straight o rest ws st
   counted bl (Then a b) q e rest ws st =
       more (multiplier ws) (weight p cost jump a) (weight p cost jump b) (cost_of p cost rest ws) _ _
-      (ap (λ (is : List Op). cost_of p cost is ws) (append_assoc (flat q e a) (flat (end q a) e b) rest) ∙ counted bl a q e (flat (end q a) e b ++ rest) ws st.0) (counted bl b (end q a) e rest ws st.1)
+      (ap (λ (is : List Op). cost_of p cost is ws) (append_assoc (flat q e a) (flat (end q a) e b) rest)
+      ∙ counted bl a q e (flat (end q a) e b ++ rest) ws st.0) (counted bl b (end q a) e rest ws st.1)
   counted bl (Unless on a) q e rest ws st =
-      more (multiplier ws) jump (weight p cost jump a) (cost_of p cost rest ws) _ _ (ap (λ n. multiplier ws * n + cost_of p cost (flat (q + 1) e a ++ rest) ws) (bl.where_true on _)) (counted bl a (q + 1) e rest ws st)
+      more (multiplier ws) jump (weight p cost jump a) (cost_of p cost rest ws) _ _
+      (ap (λ n. multiplier ws * n + cost_of p cost (flat (q + 1) e a ++ rest) ws) (bl.where_true on _))
+      (counted bl a (q + 1) e rest ws st)
   counted bl (Choose on a b) q e rest ws st =
       let mid = end (q + 1) a + 1 in
       let fb = flat mid e b in
@@ -112,7 +115,8 @@ module _ (p : Program) where
   tested_straight And Or t x h = (data_straight t, h)
   tested_straight Or And t x h = (data_straight t, h)
 
-  join_straight : (m around : Junction) (s t : Option Term) (fa ga fo go : Piece) → IsStraight p fa → IsStraight p ga → IsStraight p fo → IsStraight p go → IsStraight p (join_piece m around s t fa ga fo go)
+  join_straight : (m around : Junction) (s t : Option Term) (fa ga fo go : Piece) → IsStraight p fa → IsStraight p ga
+      → IsStraight p fo → IsStraight p go → IsStraight p (join_piece m around s t fa ga fo go)
   join_straight m around (Some s) t fa ga fo go a b c d = tested_straight m around s ga b
   join_straight m around None (Some t) fa ga fo go a b c d = tested_straight m around t fa a
   join_straight m around None None fa ga fo go a b c d = under_straight m around (Then fo go) (c, d)
@@ -131,7 +135,11 @@ module _ (p : Program) where
   call_straight : (equation : ℕ) (cs : List Carrier) (xs : List Argument) → IsStraight p (call_piece equation cs xs)
   call_straight equation cs xs = by (any_tested cs xs)
     where
-      by : (b : Bool) → IsStraight p (cond b (Block (Then (arguments_piece cs xs (Then (Plain (op.Call equation)) Leave)) (Plain (op.Emit leaf.Cut)))) (arguments_piece cs xs (Plain (op.Call equation))))
+      by : (b : Bool)
+          → IsStraight p
+          (cond b (Block
+          (Then (arguments_piece cs xs (Then (Plain (op.Call equation)) Leave)) (Plain (op.Emit leaf.Cut))))
+          (arguments_piece cs xs (Plain (op.Call equation))))
       by true = (arguments_straight cs xs (Then (Plain (op.Call equation)) Leave) (refl, tt), refl)
       by false = arguments_straight cs xs (Plain (op.Call equation)) refl
 

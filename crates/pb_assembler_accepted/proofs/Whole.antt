@@ -66,7 +66,8 @@ module _ (p : Program) (f : Formula) (compiled : IsCompiled p f) (typed : TypedF
     record { straight = refl; next = opened; way = λ home q. refl; covered = solid 1 1 },
     (
       opened,
-      formula_flows p (calls_flow p) f (head f) (entry p) opened typed (let l = limits.operands in omega arith) (let l = limits.nesting in omega arith) 1 settled (let l = limits.brackets in omega arith),
+      formula_flows p (calls_flow p) f (head f) (entry p) opened typed (let l = limits.operands in omega arith)
+          (let l = limits.nesting in omega arith) 1 settled (let l = limits.brackets in omega arith),
       record { straight = refl; next = last; way = λ home q. refl; covered = solid 0 1 },
     ),
   )

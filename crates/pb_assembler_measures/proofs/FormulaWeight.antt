@@ -68,7 +68,8 @@ formula_lighter (g ∷ fs) zero f lt at = omega (arith, ap weight at)
 formula_lighter (g ∷ fs) (suc k) f lt at = omega (arith, formula_lighter fs k f (omega arith) at)
 
 -- a chain of one operand, and one of several
-pub alone : (t x : Formula) (c : Junction) (first : Box Formula Global) (v : Vec Formula Global) → t ≡ formula.Join c first v → x ≡ box_value first → length v.items ≡ 0 → formula_view x ≡ formula_view t
+pub alone : (t x : Formula) (c : Junction) (first : Box Formula Global) (v : Vec Formula Global)
+    → t ≡ formula.Join c first v → x ≡ box_value first → length v.items ≡ 0 → formula_view x ≡ formula_view t
 alone t x c first v is same none = join_is t x c first v [] is same (sym (nil_from_length v.items none))
 
 pub several : (t : Formula) (c : Junction) (first : Box Formula Global) (v : Vec Formula Global) → t ≡ formula.Join c first v → 0 < length v.items → None ≡ test_of (formula_view t)

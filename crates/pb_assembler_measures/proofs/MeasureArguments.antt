@@ -17,10 +17,14 @@ untested_step (y ∷ ys) (suc k) x l e = untested_step ys k x (omega arith) e
 
 pub argument_step : (cs : List Carrier) (xs : List Argument) (k : ℕ) (x : Argument) → k < length xs → x ≡ get_or xs k x
     → arguments_load (drop k cs) (map argument_view (drop k xs))
-    ≡ argument_load (is_tested (slice_get cs k) (argument_view x).shape) (any_tested (drop (suc k) cs) (map argument_view (drop (suc k) xs))) (term_load (term_view x.term)) (arguments_load (drop (suc k) cs) (map argument_view (drop (suc k) xs)))
+    ≡ argument_load (is_tested (slice_get cs k) (argument_view x).shape)
+    (any_tested (drop (suc k) cs) (map argument_view (drop (suc k) xs))) (term_load (term_view x.term))
+    (arguments_load (drop (suc k) cs) (map argument_view (drop (suc k) xs)))
 argument_step cs [] k x l e = absurd (omega arith)
 argument_step [] (y ∷ ys) zero x l e = ap (λ (z : Argument). argument_load false false (term_load (term_view z.term)) (arguments_load [] (map argument_view ys))) (sym e)
-argument_step (c ∷ cs) (y ∷ ys) zero x l e = ap (λ (z : Argument). argument_load (is_some (tested_range c (argument_view z).shape)) (any_tested cs (map argument_view ys)) (term_load (term_view z.term)) (arguments_load cs (map argument_view ys))) (sym e)
+argument_step (c ∷ cs) (y ∷ ys) zero x l e =
+    ap (λ (z : Argument). argument_load (is_some (tested_range c (argument_view z).shape))
+    (any_tested cs (map argument_view ys)) (term_load (term_view z.term)) (arguments_load cs (map argument_view ys))) (sym e)
 argument_step [] (y ∷ ys) (suc k) x l e = untested_step ys k x (omega arith) e
 argument_step (c ∷ cs) (y ∷ ys) (suc k) x l e = argument_step cs ys k x (omega arith) e
 

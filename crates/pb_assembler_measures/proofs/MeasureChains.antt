@@ -80,7 +80,8 @@ le_none k = by (nat_le (suc k) 0) refl
     by false e = refl
     by true e = let l = leb-true (suc k) 0 e in absurd (omega (arith, l))
 
-pub kind_step : (m kind : Junction) (fs : List Formula) (k : ℕ) (f : Formula) → k < length fs → f ≡ get_or fs k f → kind_at m kind (leading_tests fs) (suc k) ≡ kind_by (test_of (formula_view f)) m (kind_at m kind (leading_tests fs) k)
+pub kind_step : (m kind : Junction) (fs : List Formula) (k : ℕ) (f : Formula) → k < length fs → f ≡ get_or fs k f
+    → kind_at m kind (leading_tests fs) (suc k) ≡ kind_by (test_of (formula_view f)) m (kind_at m kind (leading_tests fs) k)
 kind_step m kind [] k f l e = absurd (omega arith)
 kind_step m kind (g ∷ gs) zero f l e = by (test_of (formula_view g)) ∙ ap (λ (y : Formula). kind_by (test_of (formula_view y)) m (kind_at m kind (leading_tests (g ∷ gs)) 0)) (sym e)
   where
@@ -96,7 +97,11 @@ kind_step m kind (g ∷ gs) (suc k) f l e = by (test_of (formula_view g)) (kind_
     own (Some t) = refl
     own None = refl
 
-    by : (o : Option normal.Term) → kind_at m kind (leading_tests gs) (suc k) ≡ kind_by (test_of (formula_view f)) m (kind_at m kind (leading_tests gs) k) → kind_at m kind (more_tests o (leading_tests gs)) (suc (suc k)) ≡ kind_by (test_of (formula_view f)) m (kind_at m kind (more_tests o (leading_tests gs)) (suc k))
+    by : (o : Option normal.Term)
+        → kind_at m kind (leading_tests gs) (suc k)
+        ≡ kind_by (test_of (formula_view f)) m (kind_at m kind (leading_tests gs) k)
+        → kind_at m kind (more_tests o (leading_tests gs)) (suc (suc k))
+        ≡ kind_by (test_of (formula_view f)) m (kind_at m kind (more_tests o (leading_tests gs)) (suc k))
     by (Some t) rest = same (suc k) (leading_tests gs) ∙ rest ∙ ap (kind_by (test_of (formula_view f)) m) (sym (same k (leading_tests gs)))
     by None rest = ap (λ b. cond b kind m) (le_none (suc k)) ∙ own (test_of (formula_view f)) ∙ ap (λ b. kind_by (test_of (formula_view f)) m (cond b kind m)) (sym (le_none k))
 
@@ -132,20 +137,28 @@ none_load (Some t) e = cc
 none_load None e = refl
 
 module _ (callees : List (List Carrier)) (m around : Junction) (f g : normal.Formula) where
-  joined_by : (o p : Option normal.Term) → test_of f ≡ o → test_of g ≡ p → formula_tally callees around (Join m f g) ≡ join_tally m around o p (formula_tally callees around f) (formula_tally callees around g) (formula_tally callees m f) (formula_tally callees m g)
+  joined_by : (o p : Option normal.Term) → test_of f ≡ o → test_of g ≡ p
+      → formula_tally callees around (Join m f g)
+      ≡ join_tally m around o p (formula_tally callees around f) (formula_tally callees around g)
+      (formula_tally callees m f) (formula_tally callees m g)
   joined_by o p e h =
       ap (λ o. join_tally m around o (test_of g) (formula_tally callees around f) (formula_tally callees around g) (formula_tally callees m f) (formula_tally callees m g)) e
       ∙ ap (λ p. join_tally m around o p (formula_tally callees around f) (formula_tally callees around g) (formula_tally callees m f) (formula_tally callees m g)) h
 
-  pub second_test : (load : Load) (own : Tally) → None ≡ load_by (test_of f) → Some load ≡ load_by (test_of g) → own ≡ capped_tally (formula_tally callees around f) → capped_tally (tested_tally m around load own) ≡ capped_tally (formula_tally callees around (Join m f g))
+  pub second_test : (load : Load) (own : Tally) → None ≡ load_by (test_of f) → Some load ≡ load_by (test_of g)
+      → own ≡ capped_tally (formula_tally callees around f)
+      → capped_tally (tested_tally m around load own) ≡ capped_tally (formula_tally callees around (Join m f g))
   second_test load own n e h =
       let s = some_load (test_of g) load e in
       tested_by m around load (term_load s.0) own (formula_tally callees around f) s.1.1 h
       ∙ sym (ap capped_tally (joined_by None (Some s.0) (none_load (test_of f) n) s.1.0))
 
-  pub no_test : (own rest : Tally) → None ≡ load_by (test_of f) → None ≡ load_by (test_of g) → own ≡ capped_tally (formula_tally callees m f) → rest ≡ capped_tally (formula_tally callees (kind_by (test_of f) m around) g)
+  pub no_test : (own rest : Tally) → None ≡ load_by (test_of f) → None ≡ load_by (test_of g)
+      → own ≡ capped_tally (formula_tally callees m f) → rest ≡ capped_tally (formula_tally callees (kind_by (test_of f) m around) g)
       → capped_tally (under_tally m around (capped_tally (after own rest))) ≡ capped_tally (formula_tally callees around (Join m f g))
   no_test own rest n k e h =
       let none = none_load (test_of f) n in
-      under_by m around (capped_tally (after own rest)) (after (formula_tally callees m f) (formula_tally callees m g)) (after_by own rest (formula_tally callees m f) (formula_tally callees m g) e (h ∙ ap (λ o. capped_tally (formula_tally callees (kind_by o m around) g)) none))
+      under_by m around (capped_tally (after own rest)) (after (formula_tally callees m f) (formula_tally callees m g))
+      (after_by own rest (formula_tally callees m f) (formula_tally callees m g) e
+      (h ∙ ap (λ o. capped_tally (formula_tally callees (kind_by o m around) g)) none))
       ∙ sym (ap capped_tally (joined_by None None none (none_load (test_of g) k)))

@@ -201,14 +201,16 @@ module _ (p : Program) where
   after_costs : (a b : Piece) (x y : Tally) → Tallied a x → Tallied b y → Tallied (Then a b) (after x y)
   after_costs a b x y h i = then_costs a b x.instructions x.steps x.tokens y.instructions y.steps y.tokens _ _ _ h i refl refl refl
 
-  join_costs : (m around : Junction) (s t : Option Term) (fa ga fo go : Piece) (x y z w : Tally) → Tallied fa x → Tallied ga y → Tallied fo z → Tallied go w → Tallied (join_piece m around s t fa ga fo go) (join_tally m around s t x y z w)
+  join_costs : (m around : Junction) (s t : Option Term) (fa ga fo go : Piece) (x y z w : Tally) → Tallied fa x
+      → Tallied ga y → Tallied fo z → Tallied go w → Tallied (join_piece m around s t fa ga fo go) (join_tally m around s t x y z w)
   join_costs m around (Some s) t fa ga fo go x y z w a b c d = tested_costs m around s ga y b
   join_costs m around None (Some t) fa ga fo go x y z w a b c d = tested_costs m around t fa x a
   join_costs m around None None fa ga fo go x y z w a b c d = under_costs m around (Then fo go) (after z w) (after_costs fo go z w c d)
 
   -- ---- calls
 
-  guarded_costs : (o : Option (ℤ × ℤ)) (later : Bool) (x : Piece) (n s k : ℕ) → Costs p x n s k → Costs p (guarded o later x) (guard_length (is_some o) later + n) (guard_length (is_some o) later + s) k
+  guarded_costs : (o : Option (ℤ × ℤ)) (later : Bool) (x : Piece) (n s k : ℕ) → Costs p x n s k
+      → Costs p (guarded o later x) (guard_length (is_some o) later + n) (guard_length (is_some o) later + s) k
   guarded_costs (Some r) later x n s k h = guard_costs r.0 r.1 x n s k h
   guarded_costs None true x n s k h = then_costs x (Plain op.Pop) n s k 1 1 0 (1 + n) (1 + s) k h (plain_costs op.Pop 0 refl) (omega arith) (omega arith) (omega arith)
   guarded_costs None false x n s k h = costs_as x n s k (0 + n) (0 + s) k (omega arith) (omega arith) refl h
@@ -226,7 +228,8 @@ module _ (p : Program) where
   arguments_costs [] (x ∷ xs) last n s k h =
       let own = term_length x.term in
       let rest = (arguments_load [] xs).instructions in
-      then_costs (data_piece x.term) (arguments_piece [] xs last) own own 0 (rest + n) (rest + s) k _ _ _ (data_costs x.term) (arguments_costs [] xs last n s k h) (omega arith) (omega arith) (omega arith)
+      then_costs (data_piece x.term) (arguments_piece [] xs last) own own 0 (rest + n) (rest + s) k _ _ _
+      (data_costs x.term) (arguments_costs [] xs last n s k h) (omega arith) (omega arith) (omega arith)
   arguments_costs [] [] last n s k h = costs_as last n s k (0 + n) (0 + s) k (omega arith) (omega arith) refl h
   arguments_costs (c ∷ cs) [] last n s k h = costs_as last n s k (0 + n) (0 + s) k (omega arith) (omega arith) refl h
 
@@ -239,7 +242,10 @@ module _ (p : Program) where
       left : Costs p (Then (Plain (op.Call equation)) Leave) 2 2 1
       left = then_costs (Plain (op.Call equation)) Leave 1 1 1 1 1 0 2 2 1 (plain_costs _ 1 refl) leave_costs refl refl refl
 
-      by : (b : Bool) → Tallied (cond b (Block (Then (arguments_piece cs xs (Then (Plain (op.Call equation)) Leave)) (Plain (op.Emit leaf.Cut)))) (arguments_piece cs xs (Plain (op.Call equation)))) (ended_call b (arguments_load cs xs))
+      by : (b : Bool)
+          → Tallied (cond b
+          (Block (Then (arguments_piece cs xs (Then (Plain (op.Call equation)) Leave)) (Plain (op.Emit leaf.Cut))))
+          (arguments_piece cs xs (Plain (op.Call equation)))) (ended_call b (arguments_load cs xs))
       by true =
           let n = (arguments_load cs xs).instructions in
           block_costs _ _ _ _
@@ -261,7 +267,9 @@ module _ (p : Program) where
       join_costs m around (test_of f) (test_of g) _ _ _ _ _ _ _ _
       (formula_costs callees f around slots.0) (formula_costs callees g around slots.1) (formula_costs callees f m slots.0) (formula_costs callees g m slots.1)
   formula_costs callees (Each q s shape f) around slots =
-      under_costs (junction_of q) around _ _ (each_costs s shape (formula_piece callees (junction_of q) f) (formula_tally callees (junction_of q) f) slots.0 (formula_costs callees f (junction_of q) slots.1))
+      under_costs (junction_of q) around _ _
+      (each_costs s shape (formula_piece callees (junction_of q) f) (formula_tally callees (junction_of q) f)
+      slots.0 (formula_costs callees f (junction_of q) slots.1))
   formula_costs callees (Call equation xs) around slots = call_costs equation (parameters (slice_get callees equation)) xs
 
   -- an equation's, in its outermost bracket and with END behind it

@@ -84,7 +84,10 @@ formula_counts callees (Join m f g) around =
     join_counts m around (test_of f) (test_of g) _ _ _ _ (formula_operands f) (formula_loops f) (formula_operands g) (formula_loops g) _ _ _ _ (test_counts f) (test_counts g)
     (formula_counts callees f around) (formula_counts callees g around) (formula_counts callees f m) (formula_counts callees g m)
 formula_counts callees (Each q s shape f) around =
-    under_counts (junction_of q) around (looped (shape_size shape) (formula_tally callees (junction_of q) f)) (formula_operands f) (formula_brackets (junction_of q) f) (suc (formula_loops f)) (looped_counts (shape_size shape) (formula_tally callees (junction_of q) f) (formula_operands f) (formula_brackets (junction_of q) f) (formula_loops f) (formula_counts callees f (junction_of q)))
+    under_counts (junction_of q) around (looped (shape_size shape) (formula_tally callees (junction_of q) f))
+    (formula_operands f) (formula_brackets (junction_of q) f) (suc (formula_loops f))
+    (looped_counts (shape_size shape) (formula_tally callees (junction_of q) f) (formula_operands f)
+    (formula_brackets (junction_of q) f) (formula_loops f) (formula_counts callees f (junction_of q)))
 formula_counts callees (Call equation xs) around =
     let cs = parameters (slice_get callees equation) in
     ended_counts (any_tested cs xs) (arguments_load cs xs) (argument_operands xs) (arguments_counts cs xs)

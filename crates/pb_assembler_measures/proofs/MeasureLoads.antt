@@ -18,7 +18,9 @@ followed_capped l = load_of _ _ _ _ (omega arith) (omega arith)
 
 -- ---- loads of operands, in the words of their measures
 
-pub arithmetic_capped : (o : Arithmetic) (x y : Term) (r s : Load) → r ≡ capped_load (term_load x) → s ≡ capped_load (term_load y) → capped_load (followed (capped_load (both r s))) ≡ capped_load (term_load (Binary (of_arithmetic o) x y))
+pub arithmetic_capped : (o : Arithmetic) (x y : Term) (r s : Load) → r ≡ capped_load (term_load x)
+    → s ≡ capped_load (term_load y)
+    → capped_load (followed (capped_load (both r s))) ≡ capped_load (term_load (Binary (of_arithmetic o) x y))
 arithmetic_capped o x y r s e f = followed_capped (both r s) ∙ ap (λ (k : Load). capped_load (followed k)) (ap (λ (k : Load). both k s) e ∙ ap (both (capped_load (term_load x))) f) ∙ by o
   where
     by : (o : Arithmetic) → capped_load (followed (both (capped_load (term_load x)) (capped_load (term_load y)))) ≡ capped_load (term_load (Binary (of_arithmetic o) x y))

@@ -100,7 +100,8 @@ module _ (spec : Spec) where
     abbrev pub program : Program
     program = stated bare
 
-    pub program_made : map shapes_of callees ≡ parameter_shapes spec spec.equations → shapes_of parameters ≡ variable_shapes spec X.parameters → shapes_of loops ≡ equation_loops spec X → IsMadeOf spec X program
+    pub program_made : map shapes_of callees ≡ parameter_shapes spec spec.equations
+        → shapes_of parameters ≡ variable_shapes spec X.parameters → shapes_of loops ≡ equation_loops spec X → IsMadeOf spec X program
     program_made calls mine each =
         let long : length X.parameters ≡ length parameters =
         sym (length-map X.parameters (λ (x : Variable). sort_shape spec x.sort)) ∙ sym (ap length mine) ∙ length-map parameters (λ (c : Carrier). carrier_shape (Some c)) in
@@ -113,7 +114,8 @@ module _ (spec : Spec) where
 
   -- ---- all programs that are made of an equation
 
-  pub made_is_program : (cs : List (List Carrier)) (X : syntax.Equation) (e : Equation) (p : Program) → map shapes_of cs ≡ parameter_shapes spec spec.equations → IsNormalForm spec X e → IsMadeOf spec X p → IsProgram cs e p
+  pub made_is_program : (cs : List (List Carrier)) (X : syntax.Equation) (e : Equation) (p : Program)
+      → map shapes_of cs ≡ parameter_shapes spec spec.equations → IsNormalForm spec X e → IsMadeOf spec X p → IsProgram cs e p
   made_is_program cs X e p calls form made = record {
     compiled = subst (λ (f : Formula). IsCompiled p f) (sym form.right) made.compiled;
     loops =

@@ -63,7 +63,8 @@ parameters_same (c ∷ cs) [] k e = cc
 parameters_same (c ∷ cs) (d ∷ ds) zero e = cc
 parameters_same (c ∷ cs) (d ∷ ds) (suc k) e = let rest : map shapes_of cs ≡ map shapes_of ds = cc in parameters_same cs ds k rest
 
-join_same : (m around : Junction) (f g : Formula) (a b c d p q r s : Tally) → a ≡ p → b ≡ q → c ≡ r → d ≡ s → join_tally m around (test_of f) (test_of g) a b c d ≡ join_tally m around (test_of f) (test_of g) p q r s
+join_same : (m around : Junction) (f g : Formula) (a b c d p q r s : Tally) → a ≡ p → b ≡ q → c ≡ r → d ≡ s
+    → join_tally m around (test_of f) (test_of g) a b c d ≡ join_tally m around (test_of f) (test_of g) p q r s
 join_same m around f g a b c d p q r s e h i j =
     ap (λ (x : Tally). join_tally m around (test_of f) (test_of g) x b c d) e
     ∙ ap (λ (x : Tally). join_tally m around (test_of f) (test_of g) p x c d) h

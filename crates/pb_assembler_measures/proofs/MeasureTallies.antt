@@ -36,7 +36,8 @@ tally i o b n s t = record { instructions = i; operands = o; brackets = b; nesti
 
 tally_of : (i o b n s t i' o' b' n' s' t' : ℕ) → i ≡ i' → o ≡ o' → b ≡ b' → n ≡ n' → s ≡ s' → t ≡ t' → tally i o b n s t ≡ tally i' o' b' n' s' t'
 tally_of i o b n s t i' o' b' n' s' t' ei eo eb en es et =
-    ap (λ k. tally k o b n s t) ei ∙ ap (λ k. tally i' k b n s t) eo ∙ ap (λ k. tally i' o' k n s t) eb ∙ ap (λ k. tally i' o' b' k s t) en ∙ ap (λ k. tally i' o' b' n' k t) es ∙ ap (tally i' o' b' n' s') et
+    ap (λ k. tally k o b n s t) ei ∙ ap (λ k. tally i' k b n s t) eo ∙ ap (λ k. tally i' o' k n s t) eb
+    ∙ ap (λ k. tally i' o' b' k s t) en ∙ ap (λ k. tally i' o' b' n' k t) es ∙ ap (tally i' o' b' n' s') et
 
 deciding_capped : (l : Load) (x : Tally) → capped_tally (deciding_tally (capped_load l) (capped_tally x)) ≡ capped_tally (deciding_tally l x)
 deciding_capped l x = tally_of _ _ _ _ _ _ _ _ _ _ _ _ (omega arith) (omega arith) (omega arith) (omega arith) (omega arith) (omega arith)
@@ -84,7 +85,9 @@ pub test_by : (r l : Load) → r ≡ capped_load l → capped_tally (test_tally 
 test_by r l e = ap (λ (k : Load). capped_tally (test_tally k)) e ∙ test_capped l
 
 pub tested_by : (m around : Junction) (r l : Load) (y x : Tally) → r ≡ capped_load l → y ≡ capped_tally x → capped_tally (tested_tally m around r y) ≡ capped_tally (tested_tally m around l x)
-tested_by m around r l y x e f = ap (λ (k : Load). capped_tally (tested_tally m around k y)) e ∙ ap (λ (k : Tally). capped_tally (tested_tally m around (capped_load l) k)) f ∙ tested_capped m around l x
+tested_by m around r l y x e f =
+    ap (λ (k : Load). capped_tally (tested_tally m around k y)) e
+    ∙ ap (λ (k : Tally). capped_tally (tested_tally m around (capped_load l) k)) f ∙ tested_capped m around l x
 
 pub under_by : (m around : Junction) (y x : Tally) → y ≡ capped_tally x → capped_tally (under_tally m around y) ≡ capped_tally (under_tally m around x)
 under_by m around y x e = ap (λ (k : Tally). capped_tally (under_tally m around k)) e ∙ under_capped m around x

@@ -41,7 +41,8 @@ counted (d ∷ ds) = by d.sort (counted ds)
     by (Struct es) e = ap (λ n. n ∷ counts (struct_names ds)) (length-map es (λ (x : Enumerator). x.name)) ∙ ap (λ (ns : List ℕ). length es ∷ ns) e
     by (Alias t) e = e
 
-callees : (spec : Spec) (m : Contents) (E : List Equation) (es : List EquationContents) → AreEquationsOf spec m E es → map shapes_of (map (λ (e : EquationContents). e.parameters) es) ≡ parameter_shapes spec E
+callees : (spec : Spec) (m : Contents) (E : List Equation) (es : List EquationContents) → AreEquationsOf spec m E es
+    → map shapes_of (map (λ (e : EquationContents). e.parameters) es) ≡ parameter_shapes spec E
 callees spec m [] [] h = refl
 callees spec m [] (e ∷ es) h = absurd h
 callees spec m (X ∷ E) [] h = absurd h
@@ -99,7 +100,9 @@ module _ (spec : Spec) (m : Contents) (h : IsCompiledModule spec m) where
     same_signatures (X ∷ E) (e ∷ es) q =
         let size = ap tuple_count (programs_made X (program_of m e) (made X e q.0)).parameters in
         let sign = q.0.sign in
-        let first : signature_of e ≡ scheme.signature_of spec X = ap (λ s. record { sign = s; size = tuple_count (map values_of e.parameters) }) sign ∙ ap (λ n. record { sign = X.sign; size = n }) size in
+        let first : signature_of e ≡ scheme.signature_of spec X =
+        ap (λ s. record { sign = s; size = tuple_count (map values_of e.parameters) }) sign
+        ∙ ap (λ n. record { sign = X.sign; size = n }) size in
         let rest = same_signatures E es q.1 in
         cc
 
@@ -119,7 +122,8 @@ module _ (spec : Spec) (m : Contents) (h : IsCompiledModule spec m) where
         subst (λ (b : Program). EndsWith b tuple (trees (number_of (all_carriers spec) (record { equation = k; values = tuple })))) q.2
         (subst (λ cs. EndsWith (program_of m q.0) tuple (trees (number_of cs (record { equation = k; values = tuple })))) all_values end)
 
-    has_equation_of : (E : List Equation) (es : List EquationContents) → AreEquationsOf spec m E es → (k : ℕ) (X : Equation) (e : EquationContents) → slice_get E k ≡ Some X → slice_get es k ≡ Some e → IsEquationOf spec m X e
+    has_equation_of : (E : List Equation) (es : List EquationContents) → AreEquationsOf spec m E es
+        → (k : ℕ) (X : Equation) (e : EquationContents) → slice_get E k ≡ Some X → slice_get es k ≡ Some e → IsEquationOf spec m X e
     has_equation_of [] [] q k X e a b = cc
     has_equation_of [] (d ∷ es) q k X e a b = absurd q
     has_equation_of (Y ∷ E) [] q k X e a b = absurd q
@@ -134,7 +138,9 @@ module _ (spec : Spec) (m : Contents) (h : IsCompiledModule spec m) where
         let q = has_equation_of spec.equations m.equations h.equations k X e at_text at in
         let p = programs_made X (program_of m e) (made X e q) in
         let here = get_or_from_slice_get spec.equations k X X at_text in
-        let law : DecidesEquation spec X (program_of m e) = subst (λ (Y : Equation). (q : Program) → IsProgramOf spec Y q → DecidesEquation spec Y q) here (decides k X (slice_get_within spec.equations k X at_text)) (program_of m e) p in
+        let law : DecidesEquation spec X (program_of m e) =
+        subst (λ (Y : Equation). (q : Program) → IsProgramOf spec Y q → DecidesEquation spec Y q) here
+        (decides k X (slice_get_within spec.equations k X at_text)) (program_of m e) p in
         law values (trees (number_at m k values)) fit (ends k e values at fit) numbers t matches
 
     signatures : map signature_of m.equations ≡ map (scheme.signature_of spec) spec.equations

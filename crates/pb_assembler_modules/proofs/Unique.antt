@@ -20,7 +20,9 @@ use Rattle.pb_assembler_modules.proofs.StatedCounts.{cost_same}
 abbrev pub contents : Sign → List ℕ → (parameters loops : List Carrier) → (steps tokens : ℕ) → List Op → EquationContents
 contents sign name parameters loops steps tokens code = record { sign = sign; name = name; parameters = parameters; loops = loops; steps = steps; tokens = tokens; code = code }
 
-pub same_contents : (s s' : Sign) (n n' : List ℕ) (ps ps' ls ls' : List Carrier) (st st' to to' : ℕ) (co co' : List Op) → s ≡ s' → n ≡ n' → ps ≡ ps' → ls ≡ ls' → st ≡ st' → to ≡ to' → co ≡ co' → contents s n ps ls st to co ≡ contents s' n' ps' ls' st' to' co'
+pub same_contents : (s s' : Sign) (n n' : List ℕ) (ps ps' ls ls' : List Carrier) (st st' to to' : ℕ) (co co' : List Op)
+    → s ≡ s' → n ≡ n' → ps ≡ ps' → ls ≡ ls' → st ≡ st' → to ≡ to' → co ≡ co'
+    → contents s n ps ls st to co ≡ contents s' n' ps' ls' st' to' co'
 same_contents s s' n n' ps ps' ls ls' st st' to to' co co' z a b c d e f =
     ap (λ x. contents x n ps ls st to co) z ∙ ap (λ x. contents s' x ps ls st to co) a ∙ ap (λ x. contents s' n' x ls st to co) b ∙ ap (λ x. contents s' n' ps' x st to co) c
     ∙ ap (λ x. contents s' n' ps' ls' x to co) d ∙ ap (λ x. contents s' n' ps' ls' st' x co) e ∙ ap (λ x. contents s' n' ps' ls' st' to' x) f
@@ -28,7 +30,8 @@ same_contents s s' n n' ps ps' ls ls' st st' to to' co co' z a b c d e f =
 abbrev whole : Version → List SortContents → List EquationContents → ℕ → Tuple → Contents
 whole version sorts equations equation values = record { version = version; sorts = sorts; equations = equations; initial = record { equation = equation; values = values } }
 
-same_whole : (v v' : Version) (s s' : List SortContents) (es es' : List EquationContents) (k k' : ℕ) (vs vs' : Tuple) → v ≡ v' → s ≡ s' → es ≡ es' → k ≡ k' → vs ≡ vs' → whole v s es k vs ≡ whole v' s' es' k' vs'
+same_whole : (v v' : Version) (s s' : List SortContents) (es es' : List EquationContents) (k k' : ℕ) (vs vs' : Tuple)
+    → v ≡ v' → s ≡ s' → es ≡ es' → k ≡ k' → vs ≡ vs' → whole v s es k vs ≡ whole v' s' es' k' vs'
 same_whole v v' s s' es es' k k' vs vs' a b c d e =
     ap (λ x. whole x s es k vs) a ∙ ap (λ x. whole v' x es k vs) b ∙ ap (λ x. whole v' s' x k vs) c ∙ ap (λ x. whole v' s' es' x vs) d ∙ ap (λ x. whole v' s' es' k' x) e
 

@@ -250,7 +250,8 @@ test_has_none (Join m f g) = tt
 test_has_none (Each q s shape f) = tt
 test_has_none (Call equation xs) = tt
 
-join_loops : (m around : Junction) (s t : Option Term) (fa ga fo go : Piece) (a b : ℕ) → HasNoLoop s a → HasNoLoop t b → piece_loops fa ≡ a → piece_loops ga ≡ b → piece_loops fo ≡ a → piece_loops go ≡ b
+join_loops : (m around : Junction) (s t : Option Term) (fa ga fo go : Piece) (a b : ℕ) → HasNoLoop s a → HasNoLoop t b
+    → piece_loops fa ≡ a → piece_loops ga ≡ b → piece_loops fo ≡ a → piece_loops go ≡ b
     → piece_loops (join_piece m around s t fa ga fo go) ≡ max a b
 join_loops m around (Some s) t fa ga fo go a b n k e f g h = let x = tested_loops m around s ga in omega (arith, x, n, f)
 join_loops m around None (Some t) fa ga fo go a b n k e f g h = let x = tested_loops m around t fa in omega (arith, x, k, e)
@@ -274,7 +275,11 @@ arguments_loops (c ∷ cs) [] last h = h
 call_loops : (equation : ℕ) (cs : List Carrier) (xs : List Argument) → piece_loops (call_piece equation cs xs) ≡ 0
 call_loops equation cs xs = by (any_tested cs xs)
   where
-    by : (b : Bool) → piece_loops (cond b (Block (Then (arguments_piece cs xs (Then (Plain (op.Call equation)) Leave)) (Plain (op.Emit leaf.Cut)))) (arguments_piece cs xs (Plain (op.Call equation)))) ≡ 0
+    by : (b : Bool)
+        → piece_loops
+        (cond b (Block
+        (Then (arguments_piece cs xs (Then (Plain (op.Call equation)) Leave)) (Plain (op.Emit leaf.Cut))))
+        (arguments_piece cs xs (Plain (op.Call equation)))) ≡ 0
     by true = let e = arguments_loops cs xs (Then (Plain (op.Call equation)) Leave) refl in omega (arith, e)
     by false = arguments_loops cs xs (Plain (op.Call equation)) refl
 

@@ -245,8 +245,10 @@ module _ (p : Program) where
 
   join_passes : (m around : Junction) (s t : Option Term) (fa ga fo go : Piece) (o u a b c d : ℕ) → IsTestOf s o → IsTestOf t u
       → Passes fa o a → Passes ga u b → Passes fo o c → Passes go u d → Passes (join_piece m around s t fa ga fo go) (max o u) (join_brackets m around s t a b c d)
-  join_passes m around (Some s) t fa ga fo go o u a b c d x y f g h i = passes_as (tested_piece m around s ga) (max (term_operands s) u) (max o u) b (omega (arith, x)) (tested_passes m around s ga u b g)
-  join_passes m around None (Some t) fa ga fo go o u a b c d x y f g h i = passes_as (tested_piece m around t fa) (max (term_operands t) o) (max o u) a (omega (arith, y)) (tested_passes m around t fa o a f)
+  join_passes m around (Some s) t fa ga fo go o u a b c d x y f g h i =
+      passes_as (tested_piece m around s ga) (max (term_operands s) u) (max o u) b (omega (arith, x)) (tested_passes m around s ga u b g)
+  join_passes m around None (Some t) fa ga fo go o u a b c d x y f g h i =
+      passes_as (tested_piece m around t fa) (max (term_operands t) o) (max o u) a (omega (arith, y)) (tested_passes m around t fa o a f)
   join_passes m around None None fa ga fo go o u a b c d x y f g h i = under_passes m around (Then fo go) (max o u) (max c d) (both_pass fo go o c u d h i)
 
   repeat_passes : (s : ℕ) (x : Piece) (o k : ℕ) → Passes x o k → Passes (Repeat s x) o k
@@ -264,7 +266,8 @@ module _ (p : Program) where
     pub at : At place m b
     pub ends : tested ≡ false → end q whole ≡ end place last
 
-  guarded_comes : (o : Option (ℤ × ℤ)) (later : Bool) (x : Piece) (q e n b : ℕ) → HasPieceAt p.code q e (guarded o later x) → At q (n + 1) b → Comes (guarded o later x) x q e (n + 1) b (is_some o || later)
+  guarded_comes : (o : Option (ℤ × ℤ)) (later : Bool) (x : Piece) (q e n b : ℕ)
+      → HasPieceAt p.code q e (guarded o later x) → At q (n + 1) b → Comes (guarded o later x) x q e (n + 1) b (is_some o || later)
   guarded_comes (Some r) later x q e n b s h = record {
     place = q + 1;
     stands = s.1;
@@ -320,23 +323,35 @@ module _ (p : Program) where
   called equation xs q b f s h =
       step (op.Call equation) q (0 + length xs) b (q + 1) 0 b 0 s refl (ap (λ n. 0 + n) (full_length (slice_get p.callees equation) xs f)) refl refl h
 
-  call_passes : (equation : ℕ) (xs : List Argument) → IsFullCall (slice_get p.callees equation) xs → Passes (call_piece equation (parameters (slice_get p.callees equation)) xs) (argument_operands xs) 0
+  call_passes : (equation : ℕ) (xs : List Argument) → IsFullCall (slice_get p.callees equation) xs
+      → Passes (call_piece equation (parameters (slice_get p.callees equation)) xs) (argument_operands xs) 0
   call_passes equation xs f = by (any_tested cs xs) refl
     where
       cs : List Carrier
       cs = parameters (slice_get p.callees equation)
 
-      by : (t : Bool) → any_tested cs xs ≡ t → Passes (cond t (Block (Then (arguments_piece cs xs (Then (Plain (op.Call equation)) Leave)) (Plain (op.Emit leaf.Cut)))) (arguments_piece cs xs (Plain (op.Call equation)))) (argument_operands xs) 0
+      by : (t : Bool) → any_tested cs xs ≡ t
+          → Passes (cond t
+          (Block (Then (arguments_piece cs xs (Then (Plain (op.Call equation)) Leave)) (Plain (op.Emit leaf.Cut))))
+          (arguments_piece cs xs (Plain (op.Call equation)))) (argument_operands xs) 0
       by true d q e b s h =
           let after = end q (arguments_piece cs xs (Then (Plain (op.Call equation)) Leave)) + 1 in
           let k = arguments_come cs xs (Then (Plain (op.Call equation)) Leave) q after 0 b s.0 h in
           let r = k.0.place in
-          let behind = called equation xs r b f k.0.stands.0 k.0.at in
-          (step (op.Jump after) (r + 1) 0 b after 0 b 0 k.0.stands.1 refl refl refl refl behind, operands_as (0 + argument_operands xs) (argument_operands xs) (omega arith) k.1, brackets_here q 0 b (b + 0) h (omega arith))
+          let behind = called equation xs r b f k.0.stands.0 k.0.at in (
+            step (op.Jump after) (r + 1) 0 b after 0 b 0 k.0.stands.1 refl refl refl refl behind,
+            operands_as
+                (0 + argument_operands xs) (argument_operands xs) (omega arith) k.1,
+            brackets_here q 0 b (b + 0) h (omega arith),
+          )
       by false d q e b s h =
           let k = arguments_come cs xs (Plain (op.Call equation)) q e 0 b s h in
-          let r = k.0.place in
-          (subst (λ n. At n 0 b) (sym (k.0.ends d)) (called equation xs r b f k.0.stands k.0.at), operands_as (0 + argument_operands xs) (argument_operands xs) (omega arith) k.1, brackets_here q 0 b (b + 0) h (omega arith))
+          let r = k.0.place in (
+            subst (λ n. At n 0 b) (sym (k.0.ends d)) (called equation xs r b f k.0.stands k.0.at),
+            operands_as
+                (0 + argument_operands xs) (argument_operands xs) (omega arith) k.1,
+            brackets_here q 0 b (b + 0) h (omega arith),
+          )
 
   -- ---- formulas
 
@@ -348,7 +363,10 @@ module _ (p : Program) where
       (formula_operands f) (formula_operands g) (formula_brackets around f) (formula_brackets around g) (formula_brackets m f) (formula_brackets m g) (test_counts f) (test_counts g)
       (formula_passes f around full.0) (formula_passes g around full.1) (formula_passes f m full.0) (formula_passes g m full.1)
   formula_passes (Each q s shape f) around full =
-      under_passes (junction_of q) around (Repeat s (formula_piece p.callees (junction_of q) f)) (formula_operands f) (formula_brackets (junction_of q) f) (repeat_passes s (formula_piece p.callees (junction_of q) f) (formula_operands f) (formula_brackets (junction_of q) f) (formula_passes f (junction_of q) full))
+      under_passes (junction_of q) around (Repeat s (formula_piece p.callees (junction_of q) f)) (formula_operands f)
+      (formula_brackets (junction_of q) f)
+      (repeat_passes s (formula_piece p.callees (junction_of q) f) (formula_operands f)
+      (formula_brackets (junction_of q) f) (formula_passes f (junction_of q) full))
   formula_passes (Call equation xs) around full = call_passes equation xs full
 
 -- ---- equations
@@ -358,9 +376,12 @@ module _ (p : Program) (f : Formula) (compiled : IsCompiled p f) (full : HasFull
   start = (0, (refl, refl, refl))
 
   pub operands_reached : HoldsOperands p (formula_operands f)
-  operands_reached = (bracketed_passes p (head f) (formula_piece p.callees (head f) f) (formula_operands f) (formula_brackets (head f) f) (formula_passes p f (head f) full) 0 0 0 (equation_stands p f compiled).0 start).1
+  operands_reached =
+      (bracketed_passes p (head f) (formula_piece p.callees (head f) f) (formula_operands f)
+      (formula_brackets (head f) f) (formula_passes p f (head f) full) 0 0 0 (equation_stands p f compiled).0 start).1
 
   pub brackets_reached : HoldsBrackets p (suc (formula_brackets (head f) f))
   brackets_reached =
       brackets_as p (0 + suc (formula_brackets (head f) f)) (suc (formula_brackets (head f) f)) (omega arith)
-      (bracketed_passes p (head f) (formula_piece p.callees (head f) f) (formula_operands f) (formula_brackets (head f) f) (formula_passes p f (head f) full) 0 0 0 (equation_stands p f compiled).0 start).2
+      (bracketed_passes p (head f) (formula_piece p.callees (head f) f) (formula_operands f)
+      (formula_brackets (head f) f) (formula_passes p f (head f) full) 0 0 0 (equation_stands p f compiled).0 start).2

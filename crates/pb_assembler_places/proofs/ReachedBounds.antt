@@ -190,7 +190,8 @@ module _ (p : Program) where
     -- behind a test, where it goes on and where it jumps
     both_ways : (on : Bool) (q n b to : ℕ) → slice_get p.code q ≡ Some (op.JumpIf on to) → n + 1 ≤ most_operands → b ≤ most_brackets → Safe (q + 1) n b → Safe to n b → Safe q (n + 1) b
     both_ways on q n b to s few shallow h i =
-        step (op.JumpIf on to) q (n + 1) b n b n s refl (omega arith) refl few shallow (λ r. ⊎_elim (λ (e : r ≡ q + 1). subst (λ x. Safe x n b) (sym e) h) (λ (e : r ≡ to). subst (λ x. Safe x n b) (sym e) i))
+        step (op.JumpIf on to) q (n + 1) b n b n s refl (omega arith) refl few shallow
+        (λ r. ⊎_elim (λ (e : r ≡ q + 1). subst (λ x. Safe x n b) (sym e) h) (λ (e : r ≡ to). subst (λ x. Safe x n b) (sym e) i))
 
     jumping : (q n b to : ℕ) → slice_get p.code q ≡ Some (op.Jump to) → n ≤ most_operands → b ≤ most_brackets → Safe to n b → Safe q n b
     jumping q n b to s few shallow h = step (op.Jump to) q n b n b n s (omega arith) (omega arith) refl few shallow (λ r e. subst (λ x. Safe x n b) (sym e) h)
@@ -216,7 +217,9 @@ module _ (p : Program) where
     term_pushed (Binary o x y) = binary_pushed o (data_piece x) (data_piece y) (term_operands x) (term_operands y) (positive x) (positive y) (term_pushed x) (term_pushed y)
     term_pushed (Maximum x y) = two_pushed _ (data_piece x) (data_piece y) (term_operands x) (term_operands y) (positive y) (arithmetic _) (term_pushed x) (term_pushed y)
     term_pushed (Minimum x y) = two_pushed _ (data_piece x) (data_piece y) (term_operands x) (term_operands y) (positive y) (arithmetic _) (term_pushed x) (term_pushed y)
-    term_pushed (Choice c x y) = chosen_pushed (data_piece c) (data_piece x) (data_piece y) (term_operands c) (term_operands x) (term_operands y) (positive c) (positive x) (term_pushed c) (term_pushed x) (term_pushed y)
+    term_pushed (Choice c x y) =
+        chosen_pushed (data_piece c) (data_piece x) (data_piece y) (term_operands c) (term_operands x) (term_operands y)
+        (positive c) (positive x) (term_pushed c) (term_pushed x) (term_pushed y)
     term_pushed (Recognised s i x) = two_pushed _ (data_piece x) (Plain (op.PushEnum s i)) (term_operands x) 1 (omega arith) (equality _) (term_pushed x) (pushes_one _ (enumerator s i))
 
     -- ---- tests and brackets
@@ -228,7 +231,8 @@ module _ (p : Program) where
     written l = record { goes = λ q r e. e; takes = refl; gives = refl; opens = refl; closes = refl }
 
     -- a test, and what stands behind it both ways
-    tested_by : (on : Bool) (t : Term) (q e b to : ℕ) → HasPieceAt p.code q e (data_piece t) → slice_get p.code (end q (data_piece t)) ≡ Some (op.JumpIf on to) → term_operands t ≤ most_operands → b ≤ most_brackets
+    tested_by : (on : Bool) (t : Term) (q e b to : ℕ) → HasPieceAt p.code q e (data_piece t)
+        → slice_get p.code (end q (data_piece t)) ≡ Some (op.JumpIf on to) → term_operands t ≤ most_operands → b ≤ most_brackets
         → Safe (end q (data_piece t) + 1) 0 b → Safe to 0 b → Safe q 0 b
     tested_by on t q e b to s there few shallow h i =
         let some = positive t in
@@ -263,7 +267,9 @@ module _ (p : Program) where
 
     bracketed_passes : (m : Junction) (x : Piece) (o k : ℕ) → Passes x o k → Passes (bracketed m x) o (suc k)
     bracketed_passes m x o k f q e b s few shallow h =
-        let close_one : Safe (end (q + 1) x) 0 (b + 1) = step op.Close (end (q + 1) x) 0 (b + 1) 0 b 0 s.1.1 refl refl (omega arith) (omega arith) (omega arith) (λ r to. subst (λ y. Safe y 0 b) (sym to) h) in
+        let close_one : Safe (end (q + 1) x) 0 (b + 1) =
+        step op.Close (end (q + 1) x) 0 (b + 1) 0 b 0 s.1.1 refl refl (omega arith) (omega arith) (omega arith)
+        (λ r to. subst (λ y. Safe y 0 b) (sym to) h) in
         let inner : Safe (q + 1) 0 (b + 1) = f (q + 1) e (b + 1) s.1.0 few (omega arith) close_one in
         step _ q 0 b 0 (b + 1) 0 s.0 refl refl (omega arith) (omega arith) (omega arith) (λ r to. subst (λ y. Safe y 0 (b + 1)) (sym to) inner)
 
@@ -293,14 +299,18 @@ module _ (p : Program) where
 
     join_passes : (m around : Junction) (s t : Option Term) (fa ga fo go : Piece) (o u a b c d : ℕ) → IsTestOf s o → IsTestOf t u
         → Passes fa o a → Passes ga u b → Passes fo o c → Passes go u d → Passes (join_piece m around s t fa ga fo go) (max o u) (join_brackets m around s t a b c d)
-    join_passes m around (Some s) t fa ga fo go o u a b c d x y f g h i = passes_as (tested_piece m around s ga) (max (term_operands s) u) (max o u) b (omega (arith, x)) (tested_passes m around s ga u b g)
-    join_passes m around None (Some t) fa ga fo go o u a b c d x y f g h i = passes_as (tested_piece m around t fa) (max (term_operands t) o) (max o u) a (omega (arith, y)) (tested_passes m around t fa o a f)
+    join_passes m around (Some s) t fa ga fo go o u a b c d x y f g h i =
+        passes_as (tested_piece m around s ga) (max (term_operands s) u) (max o u) b (omega (arith, x)) (tested_passes m around s ga u b g)
+    join_passes m around None (Some t) fa ga fo go o u a b c d x y f g h i =
+        passes_as (tested_piece m around t fa) (max (term_operands t) o) (max o u) a (omega (arith, y)) (tested_passes m around t fa o a f)
     join_passes m around None None fa ga fo go o u a b c d x y f g h i = under_passes m around (Then fo go) (max o u) (max c d) (both_pass fo go o c u d h i)
 
     repeat_passes : (s : ℕ) (x : Piece) (o k : ℕ) → Passes x o k → Passes (Repeat s x) o k
     repeat_passes s x o k f q e b st few shallow h =
         let low : b ≤ most_brackets = omega arith in
-        let next : Safe (end (q + 1) x) 0 b = going op.Next 0 0 (end (q + 1) x) 0 0 b 0 (record { goes = λ r z d. d; takes = refl; gives = refl; opens = refl; closes = refl }) refl refl (omega arith) low st.2 h in
+        let next : Safe (end (q + 1) x) 0 b =
+        going op.Next 0 0 (end (q + 1) x) 0 0 b 0
+        (record { goes = λ r z d. d; takes = refl; gives = refl; opens = refl; closes = refl }) refl refl (omega arith) low st.2 h in
         going (op.Loop s) 0 0 q 0 0 b 0 (record { goes = λ r z d. d; takes = refl; gives = refl; opens = refl; closes = refl }) refl refl (omega arith) low st.0 (f (q + 1) e b st.1 few shallow next)
 
     -- ---- calls
@@ -316,13 +326,16 @@ module _ (p : Program) where
     guarded_safe (Some r) later x q e n b s few shallow done inner =
         let pop : Safe (end (q + 1) x) (n + 1) b = going op.Pop 1 0 (end (q + 1) x) (n + 1) n b n popping refl (omega arith) few shallow s.2 (done refl) in
         let rest : Safe (q + 1) (n + 1) b = inner (q + 1) s.1 (λ l. pop) (λ d. absurd (true≢false d)) in
-        step (op.InRange r.0 r.1 (end (q + 1) x)) q (n + 1) b (n + 1) b n s.0 refl refl refl few shallow (λ z. ⊎_elim (λ (d : z ≡ q + 1). subst (λ y. Safe y (n + 1) b) (sym d) rest) (λ (d : z ≡ end (q + 1) x). subst (λ y. Safe y (n + 1) b) (sym d) pop))
+        step (op.InRange r.0 r.1 (end (q + 1) x)) q (n + 1) b (n + 1) b n s.0 refl refl refl few shallow
+        (λ z. ⊎_elim (λ (d : z ≡ q + 1). subst (λ y. Safe y (n + 1) b) (sym d) rest)
+        (λ (d : z ≡ end (q + 1) x). subst (λ y. Safe y (n + 1) b) (sym d) pop))
     guarded_safe None true x q e n b s few shallow done inner =
         let pop : Safe (end q x) (n + 1) b = going op.Pop 1 0 (end q x) (n + 1) n b n popping refl (omega arith) few shallow s.1 (done refl) in
         inner q s.0 (λ l. pop) (λ d. absurd (true≢false d))
     guarded_safe None false x q e n b s few shallow done inner = inner q s (λ l. absurd (true≢false (sym l))) (λ d. refl)
 
-    arguments_safe : (cs : List Carrier) (xs : List Argument) (last : Piece) (q e n b : ℕ) → HasPieceAt p.code q e (arguments_piece cs xs last) → n + argument_operands xs ≤ most_operands → b ≤ most_brackets
+    arguments_safe : (cs : List Carrier) (xs : List Argument) (last : Piece) (q e n b : ℕ)
+        → HasPieceAt p.code q e (arguments_piece cs xs last) → n + argument_operands xs ≤ most_operands → b ≤ most_brackets
         → (any_tested cs xs ≡ true → Safe (end q (arguments_piece cs xs last)) n b)
         → ((r : ℕ) → HasPieceAt p.code r e last → (any_tested cs xs ≡ false → end q (arguments_piece cs xs last) ≡ end r last) → Safe r (n + length xs) b)
         → Safe q n b
@@ -350,7 +363,9 @@ module _ (p : Program) where
         let none : n + 0 ≡ n = omega arith in
         subst (λ m. Safe q m b) none (behind q s (λ d. refl))
 
-    called : (equation : ℕ) (xs : List Argument) (q b : ℕ) → IsFullCall (slice_get p.callees equation) xs → slice_get p.code q ≡ Some (op.Call equation) → 0 + length xs ≤ most_operands → b ≤ most_brackets → Safe (q + 1) 0 b → Safe q (0 + length xs) b
+    called : (equation : ℕ) (xs : List Argument) (q b : ℕ) → IsFullCall (slice_get p.callees equation) xs
+        → slice_get p.code q ≡ Some (op.Call equation) → 0 + length xs ≤ most_operands → b ≤ most_brackets
+        → Safe (q + 1) 0 b → Safe q (0 + length xs) b
     called equation xs q b f s few shallow h =
         step (op.Call equation) q (0 + length xs) b 0 b 0 s (ap (λ n. 0 + n) (full_length (slice_get p.callees equation) xs f)) refl refl few shallow (λ r e. subst (λ y. Safe y 0 b) (sym e) h)
 
@@ -358,13 +373,17 @@ module _ (p : Program) where
     enough [] = omega arith
     enough (x ∷ xs) = let h = enough xs in omega (arith, h)
 
-    call_passes : (equation : ℕ) (xs : List Argument) → IsFullCall (slice_get p.callees equation) xs → Passes (call_piece equation (parameters (slice_get p.callees equation)) xs) (argument_operands xs) 0
+    call_passes : (equation : ℕ) (xs : List Argument) → IsFullCall (slice_get p.callees equation) xs
+        → Passes (call_piece equation (parameters (slice_get p.callees equation)) xs) (argument_operands xs) 0
     call_passes equation xs f = by (any_tested cs xs) refl
       where
         cs : List Carrier
         cs = parameters (slice_get p.callees equation)
 
-        by : (t : Bool) → any_tested cs xs ≡ t → Passes (cond t (Block (Then (arguments_piece cs xs (Then (Plain (op.Call equation)) Leave)) (Plain (op.Emit leaf.Cut)))) (arguments_piece cs xs (Plain (op.Call equation)))) (argument_operands xs) 0
+        by : (t : Bool) → any_tested cs xs ≡ t
+            → Passes (cond t
+            (Block (Then (arguments_piece cs xs (Then (Plain (op.Call equation)) Leave)) (Plain (op.Emit leaf.Cut))))
+            (arguments_piece cs xs (Plain (op.Call equation)))) (argument_operands xs) 0
         by true d q e b s few shallow h =
             let last = Then (Plain (op.Call equation)) Leave in
             let cut = end q (arguments_piece cs xs last) in
@@ -389,7 +408,10 @@ module _ (p : Program) where
         (formula_operands f) (formula_operands g) (formula_brackets around f) (formula_brackets around g) (formula_brackets m f) (formula_brackets m g) (test_counts f) (test_counts g)
         (formula_passes f around h.0) (formula_passes g around h.1) (formula_passes f m h.0) (formula_passes g m h.1)
     formula_passes (Each q s shape f) around h =
-        under_passes (junction_of q) around (Repeat s (formula_piece p.callees (junction_of q) f)) (formula_operands f) (formula_brackets (junction_of q) f) (repeat_passes s (formula_piece p.callees (junction_of q) f) (formula_operands f) (formula_brackets (junction_of q) f) (formula_passes f (junction_of q) h))
+        under_passes (junction_of q) around (Repeat s (formula_piece p.callees (junction_of q) f)) (formula_operands f)
+        (formula_brackets (junction_of q) f)
+        (repeat_passes s (formula_piece p.callees (junction_of q) f) (formula_operands f)
+        (formula_brackets (junction_of q) f) (formula_passes f (junction_of q) h))
     formula_passes (Call equation xs) around h = call_passes equation xs h
 
 -- ---- equations
@@ -401,11 +423,13 @@ module _ (p : Program) (f : Formula) (compiled : IsCompiled p f) (calls : HasFul
   -- END is the last instruction
   ended : Safe p (formula_operands f) most (end 0 (bracketed (head f) (formula_piece p.callees (head f) f))) 0 0
   ended =
-      step p (formula_operands f) most op.End (end 0 (bracketed (head f) (formula_piece p.callees (head f) f))) 0 0 0 0 0 (equation_stands p f compiled).1 refl refl refl (omega arith) (omega arith) (λ r to. absurd to)
+      step p (formula_operands f) most op.End (end 0 (bracketed (head f) (formula_piece p.callees (head f) f))) 0 0 0 0
+      0 (equation_stands p f compiled).1 refl refl refl (omega arith) (omega arith) (λ r to. absurd to)
 
   from_start : Safe p (formula_operands f) most 0 0 0
   from_start =
-      bracketed_passes p (formula_operands f) most (head f) (formula_piece p.callees (head f) f) (formula_operands f) (formula_brackets (head f) f) (formula_passes p (formula_operands f) most f (head f) calls)
+      bracketed_passes p (formula_operands f) most (head f) (formula_piece p.callees (head f) f) (formula_operands f)
+      (formula_brackets (head f) f) (formula_passes p (formula_operands f) most f (head f) calls)
       0 0 0 (equation_stands p f compiled).0 (omega arith) (omega arith) ended
 
   pub operands_bounded : (h : Height) → IsReached p h → h.operands ≤ formula_operands f

@@ -111,7 +111,9 @@ module _ (p : Program) (Q : List Token → Type 0) where
   module _ (last : Piece) (e : ℕ) (a : Slots) where
     -- where the last piece stands, behind all arguments
     abbrev Hits : State → ℕ → List Carrier → List Argument → Type 0
-    Hits st r cs xs = (q : ℕ) (vs : List TaggedValue) → HasPieceAt p.code q e last → map untagged vs ≡ argument_values a xs → (any_tested cs xs ≡ false → end q last ≡ r) → Wins p Q (put p Q st q (onto vs st.operands))
+    Hits st r cs xs = (q : ℕ) (vs : List TaggedValue) → HasPieceAt p.code q e last
+        → map untagged vs ≡ argument_values a xs → (any_tested cs xs ≡ false → end q last ≡ r)
+        → Wins p Q (put p Q st q (onto vs st.operands))
 
     -- where a test failed, and all arguments were taken off
     abbrev Misses : State → ℕ → List Carrier → List Argument → Type 0
@@ -125,7 +127,8 @@ module _ (p : Program) (Q : List Token → Type 0) where
     Runs cs xs = (st : State) → length xs ≡ length cs → HasPieceAt p.code st.place e (arguments_piece cs xs last) → Agrees st a
         → Hits st (end st.place (arguments_piece cs xs last)) cs xs → Misses st (end st.place (arguments_piece cs xs last)) cs xs → Wins p Q st
 
-    behind : (c : Carrier) (cs : List Carrier) (x : Argument) (xs : List Argument) → Runs cs xs → length xs ≡ length cs → (st : State) (q : ℕ) → Agrees st a → (v : TaggedValue) → untagged v ≡ value a x.term
+    behind : (c : Carrier) (cs : List Carrier) (x : Argument) (xs : List Argument) → Runs cs xs → length xs ≡ length cs
+        → (st : State) (q : ℕ) → Agrees st a → (v : TaggedValue) → untagged v ≡ value a x.term
         → (o : Option (ℤ × ℤ)) → tested_range c x.shape ≡ o → (later : Bool) → any_tested cs xs ≡ later
         → HasPieceAt p.code q e (guarded o later (arguments_piece cs xs last))
         → Hits st (end q (guarded o later (arguments_piece cs xs last))) (c ∷ cs) (x ∷ xs) → Misses st (end q (guarded o later (arguments_piece cs xs last))) (c ∷ cs) (x ∷ xs)
@@ -178,13 +181,20 @@ module _ (p : Program) (Q : List Token → Type 0) where
         one p Q (put p Q st q (onto vs st.operands)) (op.Call eq) h (called st q eq n vs (slice_get p.callees eq)
         (sym (length_untagged vs) ∙ ap length ev ∙ length_values a xs ∙ full_length (slice_get p.callees eq) xs full) br
         (λ w. go (token.Call (Machine.number p eq vs) ∷ []) (joins_same k _ _ _
-        (λ env. ap (λ (zs : List ℤ). env (call_number p eq zs)) ev ∙ ap (λ b. b && env (call_number p eq (argument_values a xs))) (sym (ap (within cs) (sym ev) ∙ w))) (joins_call k (Machine.number p eq vs)))))
+        (λ env. ap (λ (zs : List ℤ). env (call_number p eq zs)) ev
+        ∙ ap (λ b. b && env (call_number p eq (argument_values a xs))) (sym (ap (within cs) (sym ev) ∙ w)))
+        (joins_call k (Machine.number p eq vs)))))
 
-    by : (t : Bool) → any_tested cs xs ≡ t → Compiles p Q k (cond t (Block (Then (arguments_piece cs xs (Then (Plain (op.Call eq)) Leave)) (Plain (op.Emit leaf.Cut)))) (arguments_piece cs xs (Plain (op.Call eq)))) φ
+    by : (t : Bool) → any_tested cs xs ≡ t
+        → Compiles p Q k
+        (cond t (Block (Then (arguments_piece cs xs (Then (Plain (op.Call eq)) Leave)) (Plain (op.Emit leaf.Cut))))
+        (arguments_piece cs xs (Plain (op.Call eq)))) φ
     by true et st e a n h ag br go =
         runs (Then (Plain (op.Call eq)) Leave) _ a cs xs st (full_length (slice_get p.callees eq) xs full) h.0 ag
         (λ q vs there ev m. writes_call st q n a vs there.0 ev br (λ ts j. one p Q (record st { place = q + 1; output = st.output ++ ts }) (op.Jump _) there.1 (go ts j)))
-        (λ t w. at_emit p Q leaf.Cut (put p Q st _ st.operands) n h.1 br (go (token.Cut ∷ []) (joins_same k _ _ _ (λ env. ap (λ b. b && env (call_number p eq (argument_values a xs))) (sym w)) (joins_leaf k leaf.Cut))))
+        (λ t w. at_emit p Q leaf.Cut (put p Q st _ st.operands) n h.1 br
+        (go (token.Cut ∷ [])
+        (joins_same k _ _ _ (λ env. ap (λ b. b && env (call_number p eq (argument_values a xs))) (sym w)) (joins_leaf k leaf.Cut))))
     by false et st e a n h ag br go =
         runs (Plain (op.Call eq)) e a cs xs st (full_length (slice_get p.callees eq) xs full) h ag
         (λ q vs there ev m. writes_call st q n a vs there ev br (λ ts j. subst (λ r. Wins p Q (record st { place = r; output = st.output ++ ts })) (sym (m et)) (go ts j)))

@@ -39,7 +39,8 @@ module _ (p : Program) (Q : List Token → Type 0) where
   pub writes_none : (k : Junction) (st : State) (q : ℕ) (φ : Environment ℕ → Bool) → ((t : Environment ℕ) → neutral k ≡ φ t) → Writes k st q φ → Wins p Q (record st { place = q })
   writes_none k st q φ e go = subst (λ (o : List Token). Wins p Q (record st { place = q; output = o })) (append-nil st.output) (go [] (joins_same k [] _ _ e (joins_none k)))
 
-  pub at_emit : (l : Leaf) (st : State) (n : ℕ) → slice_get p.code st.place ≡ Some (op.Emit l) → st.brackets ≡ suc n → Wins p Q (record st { place = st.place + 1; output = st.output ++ Machine.leaf l ∷ [] }) → Wins p Q st
+  pub at_emit : (l : Leaf) (st : State) (n : ℕ) → slice_get p.code st.place ≡ Some (op.Emit l) → st.brackets ≡ suc n
+      → Wins p Q (record st { place = st.place + 1; output = st.output ++ Machine.leaf l ∷ [] }) → Wins p Q st
   at_emit l st n h b k = one p Q st (op.Emit l) h (rooted p Q st.brackets st.roots n _ b k)
 
   -- ---- tests
@@ -80,19 +81,36 @@ module _ (p : Program) (Q : List Token → Type 0) where
   closed b n go e h = subst (λ (m : ℕ). After p Q (Machine.close_bracket m go)) (sym e) h
 
   -- from behind the opening on
-  pub enclosed : (m : Junction) (x : Piece) (φ : Meaning) → Compiles m x φ → (st : State) (e : ℕ) (a : Slots) (n : ℕ) (o : List Token) → HasPieceAt p.code st.place e (Then x (Plain op.Close)) → Agrees st a → st.brackets ≡ suc n → st.output ≡ o ++ Machine.opening_token (connective_of m) ∷ []
-      → ((xs : List Token) → Joins m xs (φ a) → Wins p Q (record st { place = end st.place x + 1; brackets = n; output = o ++ Machine.opening_token (connective_of m) ∷ (xs ++ token.Close ∷ []) })) → Wins p Q st
+  pub enclosed : (m : Junction) (x : Piece) (φ : Meaning) → Compiles m x φ
+      → (st : State) (e : ℕ) (a : Slots) (n : ℕ) (o : List Token)
+      → HasPieceAt p.code st.place e (Then x (Plain op.Close)) → Agrees st a → st.brackets ≡ suc n
+      → st.output ≡ o ++ Machine.opening_token (connective_of m) ∷ []
+      → ((xs : List Token) → Joins m xs (φ a)
+      → Wins p Q
+      (record st {
+        place = end st.place x + 1;
+        brackets = n;
+        output =
+            o ++ Machine.opening_token (connective_of m) ∷ (xs ++ token.Close ∷ []);
+      })) → Wins p Q st
   enclosed m x φ hx st e a n o h ag br eo go =
       hx st e a n h.0 ag br (λ xs j.
       one p Q (record st { place = end st.place x; output = st.output ++ xs }) op.Close h.1 (closed st.brackets n _ br
       (subst (λ (l : List Token). Wins p Q (record st { place = end st.place x + 1; brackets = n; output = l }))
-      (sym (append_assoc o (Machine.opening_token (connective_of m) ∷ []) (xs ++ token.Close ∷ [])) ∙ ap (λ (l : List Token). l ++ (xs ++ token.Close ∷ [])) (sym eo) ∙ sym (append_assoc st.output xs (token.Close ∷ [])))
+      (sym (append_assoc o (Machine.opening_token (connective_of m) ∷ []) (xs ++ token.Close ∷ []))
+      ∙ ap (λ (l : List Token). l ++ (xs ++ token.Close ∷ [])) (sym eo) ∙ sym (append_assoc st.output xs (token.Close ∷ [])))
       (go xs j))))
 
   bracketed_runs : (k m : Junction) (x : Piece) (φ : Meaning) → Compiles m x φ → Compiles k (bracketed m x) φ
   bracketed_runs k m x φ hx st e a n h ag br go =
       one p Q st (op.Open (connective_of m)) h.0 (passes_test p Q (nat_lt st.brackets 32) _ _ (rooted p Q st.brackets st.roots n _ br
-      (enclosed m x φ hx (record st { place = st.place + 1; brackets = st.brackets + 1; output = st.output ++ Machine.opening_token (connective_of m) ∷ [] }) e a st.brackets st.output h.1 ag (add-one st.brackets) refl
+      (enclosed m x φ hx
+      (record st {
+        place = st.place + 1;
+        brackets = st.brackets + 1;
+        output =
+            st.output ++ Machine.opening_token (connective_of m) ∷ [];
+      }) e a st.brackets st.output h.1 ag (add-one st.brackets) refl
       (λ xs j. go (Machine.opening_token (connective_of m) ∷ (xs ++ token.Close ∷ [])) (joins_bracket k m xs (φ a) j)))))
 
   under_runs : (m k : Junction) (x : Piece) (φ : Meaning) → Compiles m x φ → Compiles k (under m k x) φ
@@ -119,11 +137,14 @@ module _ (p : Program) (Q : List Token → Type 0) where
       by true h = let e : f.value ≡ v = cc in ap untagged (sym e)
       by false h = ag i v h
 
-  module _ (m : Junction) (x : Piece) (φ : Meaning) (hx : Compiles m x φ) (s : ℕ) (st : State) (e : ℕ) (a : Slots) (n : ℕ) (h : HasPieceAt p.code st.place e (Repeat s x)) (ag : Agrees st a) (br : st.brackets ≡ suc n) where
+  module _ (m : Junction) (x : Piece) (φ : Meaning) (hx : Compiles m x φ) (s : ℕ) (st : State) (e : ℕ) (a : Slots)
+      (n : ℕ) (h : HasPieceAt p.code st.place e (Repeat s x)) (ag : Agrees st a) (br : st.brackets ≡ suc n) where
     abbrev turning : TaggedValue → List TaggedValue → List Token → State
     turning v left o = record st { place = st.place + 1; loops = record { loop_place = st.place; slot = s; value = v; remaining = left } ∷ st.loops; output = o }
 
-    turns : (left : List TaggedValue) (v : TaggedValue) (o : List Token) → ((xs : List Token) → Joins m xs (over m φ a s (untagged v ∷ map untagged left)) → Wins p Q (record st { place = end st.place (Repeat s x); output = o ++ xs })) → Wins p Q (turning v left o)
+    turns : (left : List TaggedValue) (v : TaggedValue) (o : List Token)
+        → ((xs : List Token) → Joins m xs (over m φ a s (untagged v ∷ map untagged left))
+        → Wins p Q (record st { place = end st.place (Repeat s x); output = o ++ xs })) → Wins p Q (turning v left o)
     turns [] v o go =
         hx (turning v [] o) e (set a s (untagged v)) n h.1 (agrees_in st a (record { loop_place = st.place; slot = s; value = v; remaining = [] }) ag) br (λ xs j.
         one p Q (record (turning v [] o) { place = end (st.place + 1) x; output = o ++ xs }) op.Next h.2 (go xs (joins_same m xs _ _ (λ env. sym (joined_unit m _)) j)))
@@ -158,15 +179,23 @@ module _ (p : Program) (Q : List Token → Type 0) where
   abbrev pub of : Formula → Meaning
   of f a env = numbered_truth p a env f
 
-  join_runs : (m k : Junction) (f g : Formula) (s t : Option Term) (fk gk fm gm : Piece) → test_of f ≡ s → test_of g ≡ t → Compiles k fk (of f) → Compiles k gk (of g) → Compiles m fm (of f) → Compiles m gm (of g) → Compiles k (join_piece m k s t fk gk fm gm) (of (Join m f g))
-  join_runs m k f g (Some s) t fk gk fm gm es et hfk hgk hfm hgm = same_meaning k (tested_piece m k s gk) _ _ (λ a env. ap (λ c. joined m c (numbered_truth p a env g)) (sym (is_test f s es env a))) (tested_runs m k s gk (of g) hgk)
+  join_runs : (m k : Junction) (f g : Formula) (s t : Option Term) (fk gk fm gm : Piece) → test_of f ≡ s → test_of g ≡ t
+      → Compiles k fk (of f) → Compiles k gk (of g) → Compiles m fm (of f) → Compiles m gm (of g)
+      → Compiles k (join_piece m k s t fk gk fm gm) (of (Join m f g))
+  join_runs m k f g (Some s) t fk gk fm gm es et hfk hgk hfm hgm =
+      same_meaning k (tested_piece m k s gk) _ _
+      (λ a env. ap (λ c. joined m c (numbered_truth p a env g)) (sym (is_test f s es env a))) (tested_runs m k s gk (of g) hgk)
   join_runs m k f g None (Some t) fk gk fm gm es et hfk hgk hfm hgm =
-      same_meaning k (tested_piece m k t fk) _ _ (λ a env. joined_comm m (is_true (value a t)) (numbered_truth p a env f) ∙ ap (joined m (numbered_truth p a env f)) (sym (is_test g t et env a))) (tested_runs m k t fk (of f) hfk)
+      same_meaning k (tested_piece m k t fk) _ _
+      (λ a env. joined_comm m (is_true (value a t)) (numbered_truth p a env f)
+      ∙ ap (joined m (numbered_truth p a env f)) (sym (is_test g t et env a))) (tested_runs m k t fk (of f) hfk)
   join_runs m k f g None None fk gk fm gm es et hfk hgk hfm hgm = under_runs m k (Then fm gm) _ (then_runs m fm gm (of f) (of g) hfm hgm)
 
   module _ (call : (k : Junction) (eq : ℕ) (xs : List Argument) → IsFullCall (slice_get p.callees eq) xs → Compiles k (call_piece eq (parameters (slice_get p.callees eq)) xs) (of (Call eq xs))) where
     pub formula_runs : (f : Formula) (k : Junction) → HasFullCalls p.callees f → Compiles k (formula_piece p.callees k f) (of f)
     formula_runs (Test t) k full = test_runs k t
-    formula_runs (Join m f g) k full = join_runs m k f g (test_of f) (test_of g) _ _ _ _ refl refl (formula_runs f k full.0) (formula_runs g k full.1) (formula_runs f m full.0) (formula_runs g m full.1)
+    formula_runs (Join m f g) k full =
+        join_runs m k f g (test_of f) (test_of g) _ _ _ _ refl refl (formula_runs f k full.0) (formula_runs g k full.1)
+        (formula_runs f m full.0) (formula_runs g m full.1)
     formula_runs (Each q s shape f) k full = under_runs (junction_of q) k _ _ (repeat_runs (junction_of q) s (formula_piece p.callees (junction_of q) f) (of f) (formula_runs f (junction_of q) full))
     formula_runs (Call eq xs) k full = call k eq xs full

@@ -63,7 +63,9 @@ module _ (spec : Spec) (callees : List (List Carrier)) (same : layout.carriers_o
       choose-full (has_quantifier x) (syntax.Formula.Not (expanded_term x)) (syntax.Formula.Val (syntax.Term.Not x)) (λ even. term-full x (not even)) (data-full (syntax.Term.Not x))
   term-full (syntax.Term.Negative x) = data-full (syntax.Term.Negative x)
   term-full (syntax.Term.Binary o x y) =
-      choose-full (has_quantifier x || has_quantifier y) (connected o (expanded_term x) (expanded_term y) (syntax.Formula.Val (syntax.Term.Binary o x y))) (syntax.Formula.Val (syntax.Term.Binary o x y))
+      choose-full (has_quantifier x || has_quantifier y)
+      (connected o (expanded_term x) (expanded_term y) (syntax.Formula.Val (syntax.Term.Binary o x y)))
+      (syntax.Formula.Val (syntax.Term.Binary o x y))
       (connected-full o (expanded_term x) (expanded_term y) (syntax.Term.Binary o x y) (term-full x) (term-full y)) (data-full (syntax.Term.Binary o x y))
   term-full (syntax.Term.Apply f xs) = data-full (syntax.Term.Apply f xs)
   term-full (syntax.Term.Quantified q xs x) = λ even scope c n.

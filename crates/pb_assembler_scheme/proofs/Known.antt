@@ -56,7 +56,9 @@ known-instance spec i e = by (equation_named spec.equations i.name) refl e
 
 -- ---- numbers
 
-module _ (spec : Spec) (apart : AreApart (map (λ (X : Equation). X.name) spec.equations)) (callees : List (List program.Carrier)) (same : layout.carriers_of callees ≡ all_carriers spec) (i : Instance) (known : IsKnown spec i) where
+module _ (spec : Spec) (apart : AreApart (map (λ (X : Equation). X.name) spec.equations))
+    (callees : List (List program.Carrier)) (same : layout.carriers_of callees ≡ all_carriers spec) (i : Instance)
+    (known : IsKnown spec i) where
   -- the instance with its equation's place in place of a name
   abbrev placed : numbered.Instance
   placed = record { equation = place_in spec i; values = i.values }
@@ -72,7 +74,8 @@ module _ (spec : Spec) (apart : AreApart (map (λ (X : Equation). X.name) spec.e
       let with_callees : numbered.is_instance (layout.carriers_of callees) placed ≡ true = ap (λ (css : List (List Carrier)). numbered.is_instance css placed) same ∙ is-placed in
       let h = number-is_instance (layout.carriers_of callees) placed with_callees in
       let n = number_of-slice_get callees h.number placed h.at in
-      let at : slice_get (instances (layout.carriers_of callees)) (number_of (layout.carriers_of callees) placed) ≡ Some placed = ap (slice_get (instances (layout.carriers_of callees))) (sym n) ∙ h.at in
+      let at : slice_get (instances (layout.carriers_of callees)) (number_of (layout.carriers_of callees) placed)
+      ≡ Some placed = ap (slice_get (instances (layout.carriers_of callees))) (sym n) ∙ h.at in
       subst (λ (css : List (List Carrier)). slice_get (instances css) (number_of css placed) ≡ Some placed) same at
 
   long : length (all_carriers spec) ≡ length spec.equations

@@ -65,7 +65,9 @@ module _ (spec : Spec) (typed : IsWellTyped spec)
   all-alike k d below = holds-alike (get_or spec.equations k d) k (slice_get-get_or spec.equations k d below)
 
   -- an instance's tree is true where its equation holds
-  tree-holds : (numbers : Environment ℕ) (t : Environment Instance) → Matches (is_instance spec) (number_in spec) numbers t → (i : Instance) → IsKnown spec i → holds_of (equation_named spec.equations i.name) i t ≡ tree_truth numbers (trees (number_in spec i))
+  tree-holds : (numbers : Environment ℕ) (t : Environment Instance)
+      → Matches (is_instance spec) (number_in spec) numbers t → (i : Instance) → IsKnown spec i
+      → holds_of (equation_named spec.equations i.name) i t ≡ tree_truth numbers (trees (number_in spec i))
   tree-holds numbers t matches i known =
       let X = known.equation in
       let k = place_in spec i in
@@ -73,7 +75,9 @@ module _ (spec : Spec) (typed : IsWellTyped spec)
       let p = h.program in
       let fit = subst (λ (cs : List Carrier). is_within cs i.values ≡ true) (sym h.of_equation.parameters) known.within in
       let here = get_or_from_slice_get spec.equations k X X known.at in
-      let law : DecidesEquation spec X p = subst (λ (Y : Equation). (q : Program) → IsProgramOf spec Y q → DecidesEquation spec Y q) here (decides k X (slice_get_within spec.equations k X known.at)) p h.of_equation in
+      let law : DecidesEquation spec X p =
+      subst (λ (Y : Equation). (q : Program) → IsProgramOf spec Y q → DecidesEquation spec Y q) here
+      (decides k X (slice_get_within spec.equations k X known.at)) p h.of_equation in
       ap (λ (o : Option Equation). holds_of o i t) known.found
       ∙ ap (λ x. (equation_of spec X).holds (record { name = x; values = i.values }) t) (sym known.named)
       ∙ sym (law i.values (trees (number_in spec i)) fit (ends k p i.values h.at fit) numbers t matches)
@@ -109,7 +113,9 @@ module _ (spec : Spec) (typed : IsWellTyped spec)
       let below = slice_get_within spec.equations k X at in
       let count = long spec.equations in
       let next : first + tuple_count (carriers_of spec X.parameters) ≡ first_of (all_carriers spec) (suc k) =
-      ap (λ (m : ℕ). m + tuple_count (carriers_of spec X.parameters)) begins ∙ ap (λ (m : ℕ). first_of (all_carriers spec) k + m) (sym (size-at k X at)) ∙ sym (first_of-next (all_carriers spec) k (omega (arith, count))) in (
+      ap (λ (m : ℕ). m + tuple_count (carriers_of spec X.parameters)) begins
+      ∙ ap (λ (m : ℕ). first_of (all_carriers spec) k + m) (sym (size-at k X at))
+      ∙ sym (first_of-next (all_carriers spec) k (omega (arith, count))) in (
         is-same k first X at begins,
         are-same E (suc k) (first + tuple_count (carriers_of spec X.parameters)) next (λ b. let move : suc k + b ≡ k + suc b = omega arith in ap (slice_get spec.equations) move ∙ behind (suc b)),
       )

@@ -36,11 +36,16 @@ module _ (p : Program) (Q : List Token → Type 0) where
   abbrev pub Gives : State → ℕ → ℤ → Type 0
   Gives st q z = (v : TaggedValue) → untagged v ≡ z → Wins p Q (record st { place = q; operands = v ∷ st.operands })
 
-  slot : (o : Option TaggedValue) (st : State) → ((v : TaggedValue) → o ≡ Some v → Wins p Q (record st { place = st.place + 1; operands = v ∷ st.operands })) → After p Q (Machine.with_slot o (λ v. Machine.push st st.operands v))
+  slot : (o : Option TaggedValue) (st : State)
+      → ((v : TaggedValue) → o ≡ Some v → Wins p Q (record st { place = st.place + 1; operands = v ∷ st.operands }))
+      → After p Q (Machine.with_slot o (λ v. Machine.push st st.operands v))
   slot None st h = tt
   slot (Some v) st h = pushed p Q st st.operands v (h v refl)
 
-  same : (st : State) (vs : List TaggedValue) (wanted : Equality) (x y : TaggedValue) → ((b : Bool) → b ≡ answers wanted (int_eq (untagged x) (untagged y)) → Wins p Q (record st { place = st.place + 1; operands = BoolValue b ∷ vs })) → After p Q (Machine.push_equality st vs wanted (equals x y))
+  same : (st : State) (vs : List TaggedValue) (wanted : Equality) (x y : TaggedValue)
+      → ((b : Bool) → b ≡ answers wanted (int_eq (untagged x) (untagged y))
+      → Wins p Q (record st { place = st.place + 1; operands = BoolValue b ∷ vs }))
+      → After p Q (Machine.push_equality st vs wanted (equals x y))
   same st vs w (BoolValue a) (BoolValue b) h = pushed p Q st vs _ (h _ (ap (answers w) (same_bools a b)))
   same st vs w (IntValue a) (IntValue b) h = pushed p Q st vs _ (h _ (ap (answers w) (same_numbers a b)))
   same st vs w (EnumValue s i) (EnumValue t j) h = by (s == t)
@@ -77,28 +82,55 @@ module _ (p : Program) (Q : List Token → Type 0) where
   abbrev pub put : State → ℕ → List TaggedValue → State
   put st q vs = record st { place = q; operands = vs }
 
-  at_negate : (st : State) (q : ℕ) (v : TaggedValue) (vs : List TaggedValue) → slice_get p.code q ≡ Some op.Negate → Wins p Q (put st (q + 1) (IntValue (neg_ℤ (untagged v)) ∷ vs)) → Wins p Q (put st q (v ∷ vs))
+  at_negate : (st : State) (q : ℕ) (v : TaggedValue) (vs : List TaggedValue) → slice_get p.code q ≡ Some op.Negate
+      → Wins p Q (put st (q + 1) (IntValue (neg_ℤ (untagged v)) ∷ vs)) → Wins p Q (put st q (v ∷ vs))
   at_negate st q v vs h k = one p Q (put st q (v ∷ vs)) op.Negate h (popped_int p Q v vs _ (pushed_int p Q (put st q (v ∷ vs)) vs _ k))
 
-  at_absolute : (st : State) (q : ℕ) (v : TaggedValue) (vs : List TaggedValue) → slice_get p.code q ≡ Some op.Absolute → Wins p Q (put st (q + 1) (IntValue (absolute (untagged v)) ∷ vs)) → Wins p Q (put st q (v ∷ vs))
+  at_absolute : (st : State) (q : ℕ) (v : TaggedValue) (vs : List TaggedValue) → slice_get p.code q ≡ Some op.Absolute
+      → Wins p Q (put st (q + 1) (IntValue (absolute (untagged v)) ∷ vs)) → Wins p Q (put st q (v ∷ vs))
   at_absolute st q v vs h k = one p Q (put st q (v ∷ vs)) op.Absolute h (popped_int p Q v vs _ (pushed_int p Q (put st q (v ∷ vs)) vs _ k))
 
-  at_not : (st : State) (q : ℕ) (v : TaggedValue) (vs : List TaggedValue) → slice_get p.code q ≡ Some op.Not → Wins p Q (put st (q + 1) (BoolValue (not (is_true (untagged v))) ∷ vs)) → Wins p Q (put st q (v ∷ vs))
-  at_not st q v vs h k = one p Q (put st q (v ∷ vs)) op.Not h (popped_bool p Q v vs _ (λ b e. pushed p Q (put st q (v ∷ vs)) vs _ (subst (λ c. Wins p Q (put st (q + 1) (BoolValue (not c) ∷ vs))) (ap is_true (sym e) ∙ is_true-of_bool b) k)))
+  at_not : (st : State) (q : ℕ) (v : TaggedValue) (vs : List TaggedValue) → slice_get p.code q ≡ Some op.Not
+      → Wins p Q (put st (q + 1) (BoolValue (not (is_true (untagged v))) ∷ vs)) → Wins p Q (put st q (v ∷ vs))
+  at_not st q v vs h k =
+      one p Q (put st q (v ∷ vs)) op.Not h
+      (popped_bool p Q v vs _
+      (λ b e. pushed p Q (put st q (v ∷ vs)) vs _
+      (subst (λ c. Wins p Q (put st (q + 1) (BoolValue (not c) ∷ vs))) (ap is_true (sym e) ∙ is_true-of_bool b) k)))
 
-  at_arithmetic : (c : Arithmetic) (st : State) (q : ℕ) (v w : TaggedValue) (vs : List TaggedValue) → slice_get p.code q ≡ Some (op.Arithmetic c) → Wins p Q (put st (q + 1) (IntValue (arithmetic c (untagged v) (untagged w)) ∷ vs)) → Wins p Q (put st q (w ∷ v ∷ vs))
-  at_arithmetic c st q v w vs h k = one p Q (put st q (w ∷ v ∷ vs)) (op.Arithmetic c) h (popped_int p Q w (v ∷ vs) _ (popped_int p Q v vs _ (avoids_fault p Q (divides c && int_lt (untagged w) (pos 1)) _ _ (pushed_int p Q (put st q (w ∷ v ∷ vs)) vs _ k))))
+  at_arithmetic : (c : Arithmetic) (st : State) (q : ℕ) (v w : TaggedValue) (vs : List TaggedValue)
+      → slice_get p.code q ≡ Some (op.Arithmetic c)
+      → Wins p Q (put st (q + 1) (IntValue (arithmetic c (untagged v) (untagged w)) ∷ vs)) → Wins p Q (put st q (w ∷ v ∷ vs))
+  at_arithmetic c st q v w vs h k =
+      one p Q (put st q (w ∷ v ∷ vs)) (op.Arithmetic c) h
+      (popped_int p Q w (v ∷ vs) _
+      (popped_int p Q v vs _
+      (avoids_fault p Q (divides c && int_lt (untagged w) (pos 1)) _ _ (pushed_int p Q (put st q (w ∷ v ∷ vs)) vs _ k))))
 
-  at_compare : (o : Comparison) (st : State) (q : ℕ) (v w : TaggedValue) (vs : List TaggedValue) → slice_get p.code q ≡ Some (op.Compare o) → Wins p Q (put st (q + 1) (BoolValue (compares o (untagged v) (untagged w)) ∷ vs)) → Wins p Q (put st q (w ∷ v ∷ vs))
+  at_compare : (o : Comparison) (st : State) (q : ℕ) (v w : TaggedValue) (vs : List TaggedValue)
+      → slice_get p.code q ≡ Some (op.Compare o)
+      → Wins p Q (put st (q + 1) (BoolValue (compares o (untagged v) (untagged w)) ∷ vs)) → Wins p Q (put st q (w ∷ v ∷ vs))
   at_compare o st q v w vs h k = one p Q (put st q (w ∷ v ∷ vs)) (op.Compare o) h (popped_int p Q w (v ∷ vs) _ (popped_int p Q v vs _ (pushed p Q (put st q (w ∷ v ∷ vs)) vs _ k)))
 
-  at_equality : (wanted : Equality) (st : State) (q : ℕ) (v w : TaggedValue) (vs : List TaggedValue) → slice_get p.code q ≡ Some (op.Equality wanted) → Wins p Q (put st (q + 1) (BoolValue (answers wanted (int_eq (untagged v) (untagged w))) ∷ vs)) → Wins p Q (put st q (w ∷ v ∷ vs))
-  at_equality wanted st q v w vs h k = one p Q (put st q (w ∷ v ∷ vs)) (op.Equality wanted) h (same (put st q (w ∷ v ∷ vs)) vs wanted v w (λ b e. subst (λ c. Wins p Q (put st (q + 1) (BoolValue c ∷ vs))) (sym e) k))
+  at_equality : (wanted : Equality) (st : State) (q : ℕ) (v w : TaggedValue) (vs : List TaggedValue)
+      → slice_get p.code q ≡ Some (op.Equality wanted)
+      → Wins p Q (put st (q + 1) (BoolValue (answers wanted (int_eq (untagged v) (untagged w))) ∷ vs)) → Wins p Q (put st q (w ∷ v ∷ vs))
+  at_equality wanted st q v w vs h k =
+      one p Q (put st q (w ∷ v ∷ vs)) (op.Equality wanted) h
+      (same (put st q (w ∷ v ∷ vs)) vs wanted v w (λ b e. subst (λ c. Wins p Q (put st (q + 1) (BoolValue c ∷ vs))) (sym e) k))
 
-  at_logic : (c : Connective) (st : State) (q : ℕ) (v w : TaggedValue) (vs : List TaggedValue) → slice_get p.code q ≡ Some (op.Logic c) → Wins p Q (put st (q + 1) (BoolValue (connects c (is_true (untagged v)) (is_true (untagged w))) ∷ vs)) → Wins p Q (put st q (w ∷ v ∷ vs))
+  at_logic : (c : Connective) (st : State) (q : ℕ) (v w : TaggedValue) (vs : List TaggedValue)
+      → slice_get p.code q ≡ Some (op.Logic c)
+      → Wins p Q (put st (q + 1) (BoolValue (connects c (is_true (untagged v)) (is_true (untagged w))) ∷ vs))
+      → Wins p Q (put st q (w ∷ v ∷ vs))
   at_logic c st q v w vs h k =
-      one p Q (put st q (w ∷ v ∷ vs)) (op.Logic c) h (popped_bool p Q w (v ∷ vs) (λ b us. Machine.pop_bool us (λ a ws. Machine.push (put st q (w ∷ v ∷ vs)) ws (BoolValue (connects c a b)))) (λ b e. popped_bool p Q v vs _ (λ a f. pushed p Q (put st q (w ∷ v ∷ vs)) vs _
-      (subst (λ d. Wins p Q (put st (q + 1) (BoolValue (connects c d b) ∷ vs))) (ap is_true (sym f) ∙ is_true-of_bool a) (subst (λ d. Wins p Q (put st (q + 1) (BoolValue (connects c (is_true (untagged v)) d) ∷ vs))) (ap is_true (sym e) ∙ is_true-of_bool b) k)))))
+      one p Q (put st q (w ∷ v ∷ vs)) (op.Logic c) h
+      (popped_bool p Q w (v ∷ vs)
+      (λ b us. Machine.pop_bool us (λ a ws. Machine.push (put st q (w ∷ v ∷ vs)) ws (BoolValue (connects c a b))))
+      (λ b e. popped_bool p Q v vs _ (λ a f. pushed p Q (put st q (w ∷ v ∷ vs)) vs _
+      (subst (λ d. Wins p Q (put st (q + 1) (BoolValue (connects c d b) ∷ vs))) (ap is_true (sym f) ∙ is_true-of_bool a)
+      (subst (λ d. Wins p Q (put st (q + 1) (BoolValue (connects c (is_true (untagged v)) d) ∷ vs)))
+      (ap is_true (sym e) ∙ is_true-of_bool b) k)))))
 
   pub at_jump : (st : State) (q to : ℕ) (vs : List TaggedValue) → slice_get p.code q ≡ Some (op.Jump to) → Wins p Q (put st to vs) → Wins p Q (put st q vs)
   at_jump st q to vs h k = one p Q (put st q vs) (op.Jump to) h k
@@ -150,11 +182,18 @@ module _ (p : Program) (Q : List Token → Type 0) where
 
   binary_gives : (o : Operator) (x y : Term) → GivesValue (data_piece x) (of x) → GivesValue (data_piece y) (of y) → GivesValue (data_piece (Binary o x y)) (of (Binary o x y))
   binary_gives Operator.And x y hx hy =
-      same_value (data_piece (Binary Operator.And x y)) _ _ (λ a. ap of_bool (and_comm (is_true (value a y)) (is_true (value a x)))) (connected (data_piece x) (data_piece y) (of x) (of y) hx hy connective.And)
+      same_value (data_piece (Binary Operator.And x y)) _ _
+      (λ a. ap of_bool (and_comm (is_true (value a y)) (is_true (value a x))))
+      (connected (data_piece x) (data_piece y) (of x) (of y) hx hy connective.And)
   binary_gives Operator.Or x y hx hy =
-      same_value (data_piece (Binary Operator.Or x y)) _ _ (λ a. ap of_bool (or_comm (is_true (value a y)) (is_true (value a x)))) (connected (data_piece x) (data_piece y) (of x) (of y) hx hy connective.Or)
+      same_value (data_piece (Binary Operator.Or x y)) _ _
+      (λ a. ap of_bool (or_comm (is_true (value a y)) (is_true (value a x))))
+      (connected (data_piece x) (data_piece y) (of x) (of y) hx hy connective.Or)
   binary_gives Operator.Implies x y hx hy =
-      same_value (data_piece (Binary Operator.Implies x y)) _ _ (λ a. ap of_bool (or_comm (is_true (value a y)) (is_true (of_bool (not (is_true (value a x))))) ∙ ap (λ b. b || is_true (value a y)) (is_true-of_bool (not (is_true (value a x))))))
+      same_value (data_piece (Binary Operator.Implies x y)) _ _
+      (λ a. ap of_bool
+      (or_comm (is_true (value a y)) (is_true (of_bool (not (is_true (value a x)))))
+      ∙ ap (λ b. b || is_true (value a y)) (is_true-of_bool (not (is_true (value a x))))))
       (connected (Then (data_piece x) (Plain op.Not)) (data_piece y) _ (of y) (negated (data_piece x) (of x) hx) hy connective.Or)
   binary_gives Operator.Equal x y hx hy = equated (data_piece x) (data_piece y) (of x) (of y) hx hy equality.Equal
   binary_gives Operator.NotEqual x y hx hy = equated (data_piece x) (data_piece y) (of x) (of y) hx hy equality.NotEqual

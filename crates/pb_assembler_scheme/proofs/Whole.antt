@@ -68,8 +68,10 @@ longer-fault p (suc m) k st g e =
     by (Ends out) h e = e
     by (Faults f) h e = e
 
-module _ (spec : Spec) (p : Program) (f : Formula) (tuple : Tuple) (compiled : IsCompiled p f) (full : HasFullCalls p.callees f) (declares : Declares spec p.callees) (fit : AreArguments p.parameters tuple) where
-  decided : (n : ℕ) (x : Outcome) → run p n (start (arguments p.parameters tuple)) ≡ x → EndsIn (IsDecided p f (arguments p.parameters tuple) (slots_of tuple)) x → IsFaultless p tuple → Decides spec p f tuple
+module _ (spec : Spec) (p : Program) (f : Formula) (tuple : Tuple) (compiled : IsCompiled p f)
+    (full : HasFullCalls p.callees f) (declares : Declares spec p.callees) (fit : AreArguments p.parameters tuple) where
+  decided : (n : ℕ) (x : Outcome) → run p n (start (arguments p.parameters tuple)) ≡ x
+      → EndsIn (IsDecided p f (arguments p.parameters tuple) (slots_of tuple)) x → IsFaultless p tuple → Decides spec p f tuple
   decided n (Continues st) e h ok = absurd h
   decided n (Faults g) e h ok = absurd (ok n g e)
   decided n (Ends out) e h ok = record {

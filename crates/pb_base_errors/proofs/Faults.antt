@@ -13,7 +13,9 @@ if_refused (Ok answer) f h = h
 if_refused (Err error) f h = if_fault error f h
 
 -- of the fault above
-pub if_raised : {F G : Type 0} {P : F → Type 0} {Q : G → Type 0} {gives : F → G → Type 0} → (error : OrMemory F) (above : OrMemory G) → raised gives error above → ((fault : F) (other : G) → gives fault other → P fault → Q other) → IfFault error P → IfFault above Q
+pub if_raised : {F G : Type 0} {P : F → Type 0} {Q : G → Type 0} {gives : F → G → Type 0}
+    → (error : OrMemory F) (above : OrMemory G) → raised gives error above
+    → ((fault : F) (other : G) → gives fault other → P fault → Q other) → IfFault error P → IfFault above Q
 if_raised (Refused fault) (Refused other) made f h = f fault other made h
 if_raised (Refused fault) Memory made f h = absurd made
 if_raised Memory (Refused other) made f h = absurd made

@@ -88,7 +88,9 @@ quotient_rises_below x (pos (suc b)) (pos (suc d)) z h = let q = div-le_right x 
 
 pub quotient_between_right : (x b m k : ℤ) → pos 1 ≤ℤ m → m ≤ℤ b → b ≤ℤ k → Between (quotient x m) (quotient x b) (quotient x k)
 quotient_between_right (pos x) b m k z p q = between_falling (quotient (pos x) m) (quotient (pos x) b) (quotient (pos x) k) (quotient_falls x b k (omega (arith, ints)) q) (quotient_falls x m b z p)
-quotient_between_right (negsuc x) b m k z p q = between_rising (quotient (negsuc x) m) (quotient (negsuc x) b) (quotient (negsuc x) k) (quotient_rises_below x m b z p) (quotient_rises_below x b k (omega (arith, ints)) q)
+quotient_between_right (negsuc x) b m k z p q =
+    between_rising (quotient (negsuc x) m) (quotient (negsuc x) b) (quotient (negsuc x) k)
+    (quotient_rises_below x m b z p) (quotient_rises_below x b k (omega (arith, ints)) q)
 
 -- ---- remainders
 

@@ -89,7 +89,10 @@ high_included i k n p = let x = p.0 in let y = p.1 in (omega (arith, ints), y)
 
 module _ (i j k l : IntegerInterval) (n : IsNonEmpty i) (m : IsNonEmpty j) (p : IsWithin i k) (q : IsWithin j l) where
   -- an operation's values at the ends are those of larger operands
-  at_ends_monotone : (o : BinaryOperation) → IsDefined o l → IsWithin (span_of_four (binary_value o i.low j.low) (binary_value o i.low j.high) (binary_value o i.high j.low) (binary_value o i.high j.high)) (binary_interval o k l)
+  at_ends_monotone : (o : BinaryOperation) → IsDefined o l
+      → IsWithin
+      (span_of_four (binary_value o i.low j.low) (binary_value o i.low j.high) (binary_value o i.high j.low)
+      (binary_value o i.high j.high)) (binary_interval o k l)
   at_ends_monotone o d =
       four_within _ _ _ _ (binary_interval o k l)
       (binary_sound o k l i.low j.low d (low_included i k n p) (low_included j l m q))

@@ -59,7 +59,8 @@ binary_sound BinaryOperation.Product i j a b d p q =
 binary_sound BinaryOperation.Quotient i j a b d p q =
     let least = d refl in
     let from = q.0 in
-    at_ends_includes quotient i j a b (quotient_between_left a b i.low i.high (omega (arith, ints)) p.0 p.1) (quotient_between_right i.low b j.low j.high least q.0 q.1) (quotient_between_right i.high b j.low j.high least q.0 q.1)
+    at_ends_includes quotient i j a b (quotient_between_left a b i.low i.high (omega (arith, ints)) p.0 p.1)
+    (quotient_between_right i.low b j.low j.high least q.0 q.1) (quotient_between_right i.high b j.low j.high least q.0 q.1)
 binary_sound BinaryOperation.Remainder i j a b d p q = remainder_included i j a b (d refl) p q
 binary_sound BinaryOperation.Maximum i j a b d p q = let x = p.0 in let y = p.1 in let z = q.0 in let w = q.1 in (omega (arith, ints, clamps), omega (arith, ints, clamps))
 binary_sound BinaryOperation.Minimum i j a b d p q = let x = p.0 in let y = p.1 in let z = q.0 in let w = q.1 in (omega (arith, ints, clamps), omega (arith, ints, clamps))

@@ -29,7 +29,8 @@ pub enum_again : (e : Enumeration) (b : Bool) (h : nat_lt 0 e.count ≡ b) → e
 enum_again e true h = ap (λ (p : 0 < e.count). Some (carrier.Enum (record { sort = e.sort; count = e.count; not_empty = p }))) (lt_is_prop 0 e.count _ e.not_empty)
 enum_again e false h = absurd (let t = lt-ltb 0 e.count e.not_empty in cc)
 
-pub ranges : (c : Carrier) (low high : ℤ) (bytes second rest : List ℕ) → IsRange c low high → signed_at w32 bytes ≡ Ok (low, second) → signed_at w32 second ≡ Ok (high, rest) → range_at bytes ≡ Ok (c, rest)
+pub ranges : (c : Carrier) (low high : ℤ) (bytes second rest : List ℕ) → IsRange c low high
+    → signed_at w32 bytes ≡ Ok (low, second) → signed_at w32 second ≡ Ok (high, rest) → range_at bytes ≡ Ok (c, rest)
 unfolding range_at
 ranges carrier.Bool low high bytes second rest r p q = absurd r
 ranges (carrier.Enum e) low high bytes second rest r p q = absurd r
@@ -43,7 +44,8 @@ unfolding enum_at
 enum_read e sizes bytes rest p q = rw (p, q, enum_again e (nat_lt 0 e.count) refl) refl
 
 -- no such sort
-pub enum_none : (sizes bytes : List ℕ) (s : ℕ) (rest : List ℕ) → byte_at bytes ≡ Ok (s, rest) → enumerator_count sizes s ≡ 0 → enum_at sizes bytes ≡ Err (record { rule = rule.Limit; left = length bytes })
+pub enum_none : (sizes bytes : List ℕ) (s : ℕ) (rest : List ℕ) → byte_at bytes ≡ Ok (s, rest)
+    → enumerator_count sizes s ≡ 0 → enum_at sizes bytes ≡ Err (record { rule = rule.Limit; left = length bytes })
 unfolding enum_at
 enum_none sizes bytes s rest p q = rw (p, q) refl
 

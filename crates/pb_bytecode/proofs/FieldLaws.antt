@@ -91,9 +91,16 @@ number_reads w limit wide = record {
   takes = λ bytes x fits e.
       let g = guard_ok (ltb (length bytes) (byte_len w)) truncated (from_le_bytes w (take (byte_len w) bytes), drop (byte_len w) bytes) x e in
       let long : byte_len w ≤ length bytes = ltb-false _ _ g.0 in
-      let front : to_le_bytes w (from_le_bytes w (take (byte_len w) bytes)) ≡ take (byte_len w) bytes = wide.back (take (byte_len w) bytes) (omega (arith, length-take (byte_len w) bytes)) (IsBytes-take (byte_len w) bytes fits) in
+      let front : to_le_bytes w (from_le_bytes w (take (byte_len w) bytes)) ≡ take (byte_len w) bytes =
+      wide.back (take (byte_len w) bytes) (omega (arith, length-take (byte_len w) bytes)) (IsBytes-take (byte_len w) bytes fits) in
       subst (λ (y : ℕ × List ℕ). Took (to_le_bytes w y.0) (nat_lt y.0 limit) bytes y.1) g.1
-      (record { parts = rw front (sym (take-append-drop (byte_len w) bytes)); left = IsBytes-drop (byte_len w) bytes fits; fits = lt-ltb _ _ (wide.below (take (byte_len w) bytes) (IsBytes-take (byte_len w) bytes fits)) });
+      (record {
+        parts = rw front (sym (take-append-drop (byte_len w) bytes));
+        left =
+            IsBytes-drop (byte_len w) bytes fits;
+        fits =
+            lt-ltb _ _ (wide.below (take (byte_len w) bytes) (IsBytes-take (byte_len w) bytes fits));
+      });
   again = λ n rest h.
       let len = wide.len n in
       let long : ltb (length (to_le_bytes w n ++ rest)) (byte_len w) ≡ false = le-ltb _ _ (omega (arith, length-append (to_le_bytes w n) rest)) in
@@ -129,13 +136,19 @@ i64_parts z h = let two = and_parts _ _ h in let a = le_true (negsuc 92233720368
 pub i32_reads : Reads (signed_at w32) Spelling.i32 is_i32
 i32_reads = signed_reads w32 (2 ^ 32) is_i32 wide32
     (λ n lt. of_z-to_z w32 n lt)
-    (λ n lt. let f : FitsSigned w32 (cast_signed w32 n) = sfits_to_z {w = w32} {n = n} (Fits-of_lt {w = w32} {n = n} lt) in and_from _ _ (from_le (negsuc 2147483647) (cast_signed w32 n) (omega (arith, ints))) (from_le (cast_signed w32 n) (pos 2147483647) (omega (arith, ints))))
+    (λ n lt. let f : FitsSigned w32 (cast_signed w32 n) =
+    sfits_to_z {w = w32} {n = n} (Fits-of_lt {w = w32} {n = n} lt) in
+    and_from _ _ (from_le (negsuc 2147483647) (cast_signed w32 n) (omega (arith, ints)))
+    (from_le (cast_signed w32 n) (pos 2147483647) (omega (arith, ints))))
     (λ z h. to_z-of_z w32 z (i32_parts z h))
     (λ z h. let f = i32_parts z h in omega (arith, ints))
 
 pub i64_reads : Reads (signed_at w64) Spelling.i64 is_i64
 i64_reads = signed_reads w64 (2 ^ 64) is_i64 wide64
     (λ n lt. of_z-to_z w64 n lt)
-    (λ n lt. let f : FitsSigned w64 (cast_signed w64 n) = sfits_to_z {w = w64} {n = n} (Fits-of_lt {w = w64} {n = n} lt) in and_from _ _ (from_le (negsuc 9223372036854775807) (cast_signed w64 n) (omega (arith, ints))) (from_le (cast_signed w64 n) (pos 9223372036854775807) (omega (arith, ints))))
+    (λ n lt. let f : FitsSigned w64 (cast_signed w64 n) =
+    sfits_to_z {w = w64} {n = n} (Fits-of_lt {w = w64} {n = n} lt) in
+    and_from _ _ (from_le (negsuc 9223372036854775807) (cast_signed w64 n) (omega (arith, ints)))
+    (from_le (cast_signed w64 n) (pos 9223372036854775807) (omega (arith, ints))))
     (λ z h. to_z-of_z w64 z (i64_parts z h))
     (λ z h. let f = i64_parts z h in omega (arith, ints))

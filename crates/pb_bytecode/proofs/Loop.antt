@@ -20,7 +20,9 @@ module _ {A : Type 0} (item : List ℕ → Field A) where
       → with_front front (items_at item (count - i) bytes) ≡ total → with_front (front ++ a ∷ []) (items_at item (count - (i + 1)) after) ≡ total
   goes_on front count i bytes a after total lt h so_far =
       let k : count - i ≡ suc (count - (i + 1)) = omega arith in
-      let one : with_front front (items_at item (count - i) bytes) ≡ with_front (front ++ a ∷ []) (items_at item (count - (i + 1)) after) = rw (k, h) (regroup front a (items_at item (count - (i + 1)) after)) in
+      let one : with_front front (items_at item (count - i) bytes)
+      ≡ with_front (front ++ a ∷ []) (items_at item (count - (i + 1)) after) =
+      rw (k, h) (regroup front a (items_at item (count - (i + 1)) after)) in
       sym one ∙ so_far
 
   pub stops : (f : FieldFault) (front : List A) (count i : ℕ) (bytes : List ℕ) (total : Field (List A)) → i < count → item bytes ≡ Err f

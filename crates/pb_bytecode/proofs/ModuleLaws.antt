@@ -85,7 +85,9 @@ version_small version.Two = refl
 
 version_reads : Reads version_at Spelling.version_bytes (λ v. true)
 unfolding version_at
-version_reads = reshaped version_at (λ v. Spelling.byte (version_number v)) Spelling.version_bytes (λ v. is_byte (version_number v) && true) (λ v. true) version_byte (λ v h. refl) (λ v h. version_small v)
+version_reads =
+    reshaped version_at (λ v. Spelling.byte (version_number v)) Spelling.version_bytes
+    (λ v. is_byte (version_number v) && true) (λ v. true) version_byte (λ v h. refl) (λ v h. version_small v)
     (check byte_at Spelling.byte is_byte version_of rule.Version version_number (λ v. true) version_known version_found byte_reads)
 
 -- ---- equations
@@ -102,18 +104,35 @@ equation_reads v sizes =
     same_test (equation_at v sizes) Spelling.equation_bytes (λ e. true && fits_equation v sizes e) (λ e. fits_equation v sizes e) (λ e h. h) (λ e h. h)
     (close _ _ _ (then (λ c. sign_at) (λ c. Spelling.sign_bytes) (λ c s. true) _ (λ e. tt) (λ e. e.sign) _ _ (λ c. sign_reads)
     (then (λ (c : Unit {0} × Sign). name_at) (λ c. Spelling.name_bytes) (λ c. is_module_name) _ (λ e. (tt, e.sign)) (λ e. e.name) _ _ (λ c. name_reads)
-    (then (λ (c : (Unit {0} × Sign) × Text). counted_at 0 (MAX_PARAMETERS + 1) (carrier_at sizes)) (λ c. Spelling.counted Spelling.carrier_bytes) (λ c. carrier_list_fits (MAX_PARAMETERS + 1) sizes) _ (λ e. ((tt, e.sign), e.name)) (λ e. e.parameters) _ _ (λ c. counted_reads 0 (MAX_PARAMETERS + 1) (carrier_at sizes) Spelling.carrier_bytes (fits_carrier sizes) (omega arith) (carrier_reads sizes))
-    (then (λ (c : ((Unit {0} × Sign) × Text) × List Carrier). counted_at 0 (MAX_LOOP_SLOTS + 1) (carrier_at sizes)) (λ c. Spelling.counted Spelling.carrier_bytes) (λ c. carrier_list_fits (MAX_LOOP_SLOTS + 1) sizes) _ (λ e. (((tt, e.sign), e.name), e.parameters)) (λ e. e.loops) _ _ (λ c. counted_reads 0 (MAX_LOOP_SLOTS + 1) (carrier_at sizes) Spelling.carrier_bytes (fits_carrier sizes) (omega arith) (carrier_reads sizes))
-    (then (λ (c : (((Unit {0} × Sign) × Text) × List Carrier) × List Carrier). number_at w32) (λ c. Spelling.u32) (λ c. is_u32) _ (λ e. ((((tt, e.sign), e.name), e.parameters), e.loops)) (λ e. e.steps) _ _ (λ c. u32_reads)
-    (then (λ (c : ((((Unit {0} × Sign) × Text) × List Carrier) × List Carrier) × ℕ). number_at w32) (λ c. Spelling.u32) (λ c. is_u32) _ (λ e. (((((tt, e.sign), e.name), e.parameters), e.loops), e.steps)) (λ e. e.tokens) _ _ (λ c. u32_reads)
-    (last (λ (c : (((((Unit {0} × Sign) × Text) × List Carrier) × List Carrier) × ℕ) × ℕ). code_at v sizes) (λ c code. Spelling.u16 (length code) ++ flat_map Spelling.op_bytes code) (λ c code. is_between 1 (MAX_INSTRUCTIONS + 1) (length code) && list_all (fits_op v sizes) code)
+    (then (λ (c : (Unit {0} × Sign) × Text). counted_at 0 (MAX_PARAMETERS + 1) (carrier_at sizes))
+    (λ c. Spelling.counted Spelling.carrier_bytes) (λ c. carrier_list_fits (MAX_PARAMETERS + 1) sizes) _
+    (λ e. ((tt, e.sign), e.name)) (λ e. e.parameters) _ _
+    (λ c. counted_reads 0 (MAX_PARAMETERS + 1) (carrier_at sizes) Spelling.carrier_bytes (fits_carrier sizes)
+    (omega arith) (carrier_reads sizes))
+    (then (λ (c : ((Unit {0} × Sign) × Text) × List Carrier). counted_at 0 (MAX_LOOP_SLOTS + 1) (carrier_at sizes))
+    (λ c. Spelling.counted Spelling.carrier_bytes) (λ c. carrier_list_fits (MAX_LOOP_SLOTS + 1) sizes) _
+    (λ e. (((tt, e.sign), e.name), e.parameters)) (λ e. e.loops) _ _
+    (λ c. counted_reads 0 (MAX_LOOP_SLOTS + 1) (carrier_at sizes) Spelling.carrier_bytes (fits_carrier sizes)
+    (omega arith) (carrier_reads sizes))
+    (then (λ (c : (((Unit {0} × Sign) × Text) × List Carrier) × List Carrier). number_at w32) (λ c. Spelling.u32)
+    (λ c. is_u32) _ (λ e. ((((tt, e.sign), e.name), e.parameters), e.loops)) (λ e. e.steps) _ _ (λ c. u32_reads)
+    (then (λ (c : ((((Unit {0} × Sign) × Text) × List Carrier) × List Carrier) × ℕ). number_at w32) (λ c. Spelling.u32)
+    (λ c. is_u32) _ (λ e. (((((tt, e.sign), e.name), e.parameters), e.loops), e.steps)) (λ e. e.tokens) _ _ (λ c. u32_reads)
+    (last (λ (c : (((((Unit {0} × Sign) × Text) × List Carrier) × List Carrier) × ℕ) × ℕ). code_at v sizes)
+    (λ c code. Spelling.u16 (length code) ++ flat_map Spelling.op_bytes code)
+    (λ c code. is_between 1 (MAX_INSTRUCTIONS + 1) (length code) && list_all (fits_op v sizes) code)
     (λ c. record { sign = c.0.0.0.0.0.0.1; name = c.0.0.0.0.0.1; parameters = c.0.0.0.0.1; loops = c.0.0.0.1; steps = c.0.0.1; tokens = c.0.1; code = c.1 })
     (λ e. ((((((tt, e.sign), e.name), e.parameters), e.loops), e.steps), e.tokens)) (λ e. e.code) (λ e. refl) (λ c. refl) (λ c. code_reads v sizes)))))))))
 
-equations_reads : (v : Version) (sizes : List ℕ) → Reads (equations_at v sizes) (Spelling.counted Spelling.equation_bytes) (λ es. (is_between 1 (MAX_EQUATIONS + 1) (length es) && list_all (fits_equation v sizes) es) && nat_le (instance_count es) MAX_INSTANCES)
+equations_reads : (v : Version) (sizes : List ℕ)
+    → Reads (equations_at v sizes) (Spelling.counted Spelling.equation_bytes)
+    (λ es. (is_between 1 (MAX_EQUATIONS + 1) (length es) && list_all (fits_equation v sizes) es) && nat_le
+    (instance_count es) MAX_INSTANCES)
 unfolding equations_at
 equations_reads v sizes =
-    after (counted_at 1 (MAX_EQUATIONS + 1) (equation_at v sizes)) (Spelling.counted Spelling.equation_bytes) (λ es. is_between 1 (MAX_EQUATIONS + 1) (length es) && list_all (fits_equation v sizes) es) (λ es. nat_le (instance_count es) MAX_INSTANCES) rule.Limit
+    after (counted_at 1 (MAX_EQUATIONS + 1) (equation_at v sizes)) (Spelling.counted Spelling.equation_bytes)
+    (λ es. is_between 1 (MAX_EQUATIONS + 1) (length es) && list_all (fits_equation v sizes) es)
+    (λ es. nat_le (instance_count es) MAX_INSTANCES) rule.Limit
     (counted_reads 1 (MAX_EQUATIONS + 1) (equation_at v sizes) Spelling.equation_bytes (fits_equation v sizes) (omega arith) (equation_reads v sizes))
 
 -- ---- the mark
@@ -123,7 +142,9 @@ expect_takes [] bytes x h = ap (λ (y : Unit {0} × List ℕ). y.1) (ok_is (tt, 
 expect_takes (m ∷ ms) [] x h = absurd cc
 expect_takes (m ∷ ms) (b ∷ bytes) x h = by (b == m) refl h (λ g. expect_takes ms bytes x g)
   where
-    by : (t : Bool) → (b == m) ≡ t → cond t (expect ms bytes) (Err (record { rule = rule.Mark; left = length (b ∷ bytes) })) ≡ Ok x → (expect ms bytes ≡ Ok x → bytes ≡ ms ++ x.1) → b ∷ bytes ≡ m ∷ (ms ++ x.1)
+    by : (t : Bool) → (b == m) ≡ t
+        → cond t (expect ms bytes) (Err (record { rule = rule.Mark; left = length (b ∷ bytes) })) ≡ Ok x
+        → (expect ms bytes ≡ Ok x → bytes ≡ ms ++ x.1) → b ∷ bytes ≡ m ∷ (ms ++ x.1)
     by true e g k = ap (λ (n : ℕ). n ∷ bytes) (eqb-true _ _ e) ∙ ap (λ (r : List ℕ). m ∷ r) (k g)
     by false e g k = absurd cc
 
@@ -184,13 +205,17 @@ values_parts c cs z zs h =
     (and_from _ _ b.0 d.0, and_from _ _ b.1 d.1)
 
 values_take : (cs : List Carrier) (bytes : List ℕ) (x : List ℤ × List ℕ) → IsBytes bytes → values_at cs bytes ≡ Ok x → Took (flat_map Spelling.i64 x.0) (fits_values cs x.0) bytes x.1
-values_take [] bytes x fits h = subst (λ (y : List ℤ × List ℕ). Took (flat_map Spelling.i64 y.0) (fits_values [] y.0) bytes y.1) (ok_is ([], bytes) x h) (record { parts = refl; left = fits; fits = refl })
+values_take [] bytes x fits h =
+    subst (λ (y : List ℤ × List ℕ). Took (flat_map Spelling.i64 y.0) (fits_values [] y.0) bytes y.1)
+    (ok_is ([], bytes) x h) (record { parts = refl; left = fits; fits = refl })
 values_take (c ∷ cs) bytes x fits h =
     let a = bind_ok (value_at c bytes) (λ z. values_at cs z.1 >>= λ zs. Ok (z.0 ∷ zs.0, zs.1)) x h in
     let b = bind_ok (values_at cs a.0.1) (λ zs. Ok (a.0.0 ∷ zs.0, zs.1)) x a.2 in
     let t = (value_reads c).takes bytes a.0 fits a.1 in
     let u = values_take cs a.0.1 b.0 t.left b.1 in
-    let whole : bytes ≡ (Spelling.i64 a.0.0 ++ flat_map Spelling.i64 b.0.0) ++ b.0.1 = t.parts ∙ ap (λ (r : List ℕ). Spelling.i64 a.0.0 ++ r) u.parts ∙ sym (append_assoc (Spelling.i64 a.0.0) (flat_map Spelling.i64 b.0.0) b.0.1) in
+    let whole : bytes ≡ (Spelling.i64 a.0.0 ++ flat_map Spelling.i64 b.0.0) ++ b.0.1 =
+    t.parts ∙ ap (λ (r : List ℕ). Spelling.i64 a.0.0 ++ r) u.parts
+    ∙ sym (append_assoc (Spelling.i64 a.0.0) (flat_map Spelling.i64 b.0.0) b.0.1) in
     subst (λ (y : List ℤ × List ℕ). Took (flat_map Spelling.i64 y.0) (fits_values (c ∷ cs) y.0) bytes y.1) (ok_is (a.0.0 ∷ b.0.0, b.0.1) x b.2)
     (record { parts = whole ∙ ap (λ (r : List ℕ). r ++ b.0.1) (sym (flat_map-cons Spelling.i64 a.0.0 b.0.0)); left = u.left; fits = values_both c cs a.0.0 b.0.0 t.fits u.fits })
 
@@ -200,7 +225,8 @@ values_again [] (z ∷ zs) rest h = let a = and_parts (list_all is_i64 (z ∷ zs
 values_again (c ∷ cs) [] rest h = let a = and_parts (list_all is_i64 []) false h in absurd (let f = a.1 in cc)
 values_again (c ∷ cs) (z ∷ zs) rest h =
     let two = values_parts c cs z zs h in
-    let regrouped : flat_map Spelling.i64 (z ∷ zs) ++ rest ≡ Spelling.i64 z ++ (flat_map Spelling.i64 zs ++ rest) = ap (λ (r : List ℕ). r ++ rest) (flat_map-cons Spelling.i64 z zs) ∙ append_assoc (Spelling.i64 z) (flat_map Spelling.i64 zs) rest in
+    let regrouped : flat_map Spelling.i64 (z ∷ zs) ++ rest ≡ Spelling.i64 z ++ (flat_map Spelling.i64 zs ++ rest) =
+    ap (λ (r : List ℕ). r ++ rest) (flat_map-cons Spelling.i64 z zs) ∙ append_assoc (Spelling.i64 z) (flat_map Spelling.i64 zs) rest in
     ap (values_at (c ∷ cs)) regrouped ∙ rw ((value_reads c).again z (flat_map Spelling.i64 zs ++ rest) two.0, values_again cs zs rest two.1) refl
 
 values_within : (cs : List Carrier) (bytes : List ℕ) (e : FieldFault) → IsBytes bytes → values_at cs bytes ≡ Err e → e.left ≤ length bytes
@@ -238,8 +264,13 @@ initial_reads es =
     let a = and_parts (is_byte i.equation) (is_tuple (parameters_if_any (slice_get es i.equation)) i.values) h in
     let w = tuple_from es i.equation i.values a.1 in
     and_from _ _ (and_from _ _ a.0 w.0) w.1)
-    (close _ _ _ (then (λ c. checked byte_at (kept (λ e. nat_lt e (length es))) rule.Initial) (λ c. Spelling.byte) (λ c e. is_byte e && nat_lt e (length es)) _ (λ i. tt) (λ i. i.equation) _ _ (λ c. keep byte_at Spelling.byte is_byte (λ e. nat_lt e (length es)) rule.Initial byte_reads)
-    (last (λ (c : Unit {0} × ℕ). values_at (parameters_at es c.1)) (λ c. flat_map Spelling.i64) (λ c. fits_values (parameters_at es c.1)) (λ c. record { equation = c.0.1; values = c.1 }) (λ i. (tt, i.equation)) (λ i. i.values) (λ i. refl) (λ c. refl) (λ c. values_reads (parameters_at es c.1)))))
+    (close _ _ _
+    (then (λ c. checked byte_at (kept (λ e. nat_lt e (length es))) rule.Initial) (λ c. Spelling.byte)
+    (λ c e. is_byte e && nat_lt e (length es)) _ (λ i. tt) (λ i. i.equation) _ _
+    (λ c. keep byte_at Spelling.byte is_byte (λ e. nat_lt e (length es)) rule.Initial byte_reads)
+    (last (λ (c : Unit {0} × ℕ). values_at (parameters_at es c.1)) (λ c. flat_map Spelling.i64)
+    (λ c. fits_values (parameters_at es c.1)) (λ c. record { equation = c.0.1; values = c.1 })
+    (λ i. (tt, i.equation)) (λ i. i.values) (λ i. refl) (λ c. refl) (λ c. values_reads (parameters_at es c.1)))))
 
 -- ---- whole modules
 
@@ -256,19 +287,30 @@ contents_reads =
     (λ m h.
     let a = and_parts (sorts_fit m.sorts) (equations_fit m.version (counts m.sorts) m.equations && fits_initial m.equations m.initial) h in
     let b = and_parts (equations_fit m.version (counts m.sorts) m.equations) (fits_initial m.equations m.initial) a.1 in
-    let d = and_parts (is_between 1 (MAX_EQUATIONS + 1) (length m.equations) && list_all (fits_equation m.version (counts m.sorts)) m.equations) (nat_le (instance_count m.equations) MAX_INSTANCES) b.0 in
+    let d = and_parts
+    (is_between 1 (MAX_EQUATIONS + 1) (length m.equations) && list_all (fits_equation m.version (counts m.sorts))
+    m.equations) (nat_le (instance_count m.equations) MAX_INSTANCES) b.0 in
     and_from _ _ a.0 (and_from _ _ d.0 (and_from _ _ d.1 b.1)))
     (λ m h.
-    let a = and_parts (sorts_fit m.sorts) ((is_between 1 (MAX_EQUATIONS + 1) (length m.equations) && list_all (fits_equation m.version (counts m.sorts)) m.equations) && (nat_le (instance_count m.equations) MAX_INSTANCES && fits_initial m.equations m.initial)) h in
-    let b = and_parts (is_between 1 (MAX_EQUATIONS + 1) (length m.equations) && list_all (fits_equation m.version (counts m.sorts)) m.equations) (nat_le (instance_count m.equations) MAX_INSTANCES && fits_initial m.equations m.initial) a.1 in
+    let a = and_parts (sorts_fit m.sorts)
+    ((is_between 1 (MAX_EQUATIONS + 1) (length m.equations) && list_all (fits_equation m.version (counts m.sorts))
+    m.equations) && (nat_le (instance_count m.equations) MAX_INSTANCES && fits_initial m.equations m.initial)) h in
+    let b = and_parts
+    (is_between 1 (MAX_EQUATIONS + 1) (length m.equations) && list_all (fits_equation m.version (counts m.sorts))
+    m.equations) (nat_le (instance_count m.equations) MAX_INSTANCES && fits_initial m.equations m.initial) a.1 in
     let d = and_parts (nat_le (instance_count m.equations) MAX_INSTANCES) (fits_initial m.equations m.initial) b.1 in
     and_from _ _ a.0 (and_from _ _ (and_from _ _ b.0 d.0) d.1))
     (close _ _ _ (then (λ c. mark_at) (λ c u. Spelling.mark) (λ c u. true) _ (λ m. tt) (λ m. tt) _ _ (λ c. mark_reads)
     (then (λ (c : Unit {0} × Unit {0}). version_at) (λ c. Spelling.version_bytes) (λ c v. true) _ (λ m. (tt, tt)) (λ m. m.version) _ _ (λ c. version_reads)
-    (then (λ (c : (Unit {0} × Unit {0}) × Version). counted_at 0 (MAX_STRUCTS + 1) sort_at) (λ c. Spelling.counted Spelling.sort_bytes) (λ c. sorts_fit) _ (λ m. ((tt, tt), m.version)) (λ m. m.sorts) _ _ (λ c. counted_reads 0 (MAX_STRUCTS + 1) sort_at Spelling.sort_bytes fits_sort (omega arith) sort_reads)
-    (then (λ (c : ((Unit {0} × Unit {0}) × Version) × List SortContents). equations_at c.0.1 (counts c.1)) (λ c. Spelling.counted Spelling.equation_bytes) (λ c. equations_fit c.0.1 (counts c.1)) _ (λ m. (((tt, tt), m.version), m.sorts)) (λ m. m.equations) _ _ (λ c. equations_reads c.0.1 (counts c.1))
+    (then (λ (c : (Unit {0} × Unit {0}) × Version). counted_at 0 (MAX_STRUCTS + 1) sort_at)
+    (λ c. Spelling.counted Spelling.sort_bytes) (λ c. sorts_fit) _ (λ m. ((tt, tt), m.version)) (λ m. m.sorts) _ _
+    (λ c. counted_reads 0 (MAX_STRUCTS + 1) sort_at Spelling.sort_bytes fits_sort (omega arith) sort_reads)
+    (then (λ (c : ((Unit {0} × Unit {0}) × Version) × List SortContents). equations_at c.0.1 (counts c.1))
+    (λ c. Spelling.counted Spelling.equation_bytes) (λ c. equations_fit c.0.1 (counts c.1)) _
+    (λ m. (((tt, tt), m.version), m.sorts)) (λ m. m.equations) _ _ (λ c. equations_reads c.0.1 (counts c.1))
     (last (λ (c : (((Unit {0} × Unit {0}) × Version) × List SortContents) × List EquationContents). initial_at c.1) (λ c. Spelling.initial_bytes) (λ c. fits_initial c.1)
-    (λ c. record { version = c.0.0.0.1; sorts = c.0.0.1; equations = c.0.1; initial = c.1 }) (λ m. ((((tt, tt), m.version), m.sorts), m.equations)) (λ m. m.initial) (λ m. refl) (λ c. refl) (λ c. initial_reads c.1)))))))
+    (λ c. record { version = c.0.0.0.1; sorts = c.0.0.1; equations = c.0.1; initial = c.1 })
+    (λ m. ((((tt, tt), m.version), m.sorts), m.equations)) (λ m. m.initial) (λ m. refl) (λ c. refl) (λ c. initial_reads c.1)))))))
 
 -- all of the bytes
 abbrev ended : Bool → Contents × List ℕ → Result Contents FieldFault

@@ -29,23 +29,31 @@ unfolding between_at
 between_reads low end = keep byte_at Spelling.byte is_byte (is_between low end) rule.Limit byte_reads
 
 -- items behind the number that counts them
-in_pair : {A : Type 0} (item : List ℕ → Field A) (spell : A → List ℕ) (test : A → Bool) → ReadsIn (items_at item) (λ xs. length xs) (flat_map spell) (list_all test) → ReadsIn (λ (c : Unit {0} × ℕ) bytes. items_at item c.1 bytes) (λ xs. (tt, length xs)) (flat_map spell) (list_all test)
+in_pair : {A : Type 0} (item : List ℕ → Field A) (spell : A → List ℕ) (test : A → Bool)
+    → ReadsIn (items_at item) (λ xs. length xs) (flat_map spell) (list_all test)
+    → ReadsIn (λ (c : Unit {0} × ℕ) bytes. items_at item c.1 bytes) (λ xs. (tt, length xs)) (flat_map spell) (list_all test)
 in_pair item spell test r = record {
   takes = λ c bytes x fits e. let t = r.takes c.1 bytes x fits e in (ap (λ (n : ℕ). (tt, n)) t.0, t.1);
   again = r.again;
   within = λ c bytes e fits h. r.within c.1 bytes e fits h;
 }
 
-pub behind : {A : Type 0} (count : List ℕ → Field ℕ) (spell_count : ℕ → List ℕ) (test_count : ℕ → Bool) (item : List ℕ → Field A) (spell : A → List ℕ) (test : A → Bool) → Reads count spell_count test_count → Reads item spell test
+pub behind : {A : Type 0} (count : List ℕ → Field ℕ) (spell_count : ℕ → List ℕ) (test_count : ℕ → Bool)
+    (item : List ℕ → Field A) (spell : A → List ℕ) (test : A → Bool) → Reads count spell_count test_count → Reads item spell test
     → Reads (λ bytes. count bytes >>= λ n. items_at item n.0 n.1) (λ xs. spell_count (length xs) ++ flat_map spell xs) (λ xs. test_count (length xs) && list_all test xs)
 behind count spell_count test_count item spell test counts reads =
-    close _ _ _ (then (λ c. count) (λ c. spell_count) (λ c. test_count) (λ c bytes. items_at item c.1 bytes) (λ xs. tt) (λ xs. length xs) (flat_map spell) (list_all test) (λ c. counts) (in_pair item spell test (items item spell test reads)))
+    close _ _ _
+    (then (λ c. count) (λ c. spell_count) (λ c. test_count) (λ c bytes. items_at item c.1 bytes) (λ xs. tt)
+    (λ xs. length xs) (flat_map spell) (list_all test) (λ c. counts) (in_pair item spell test (items item spell test reads)))
 
-pub counted_reads : {A : Type 0} (low end : ℕ) (item : List ℕ → Field A) (spell : A → List ℕ) (test : A → Bool) → end ≤ 256 → Reads item spell test → Reads (counted_at low end item) (Spelling.counted spell) (λ xs. is_between low end (length xs) && list_all test xs)
+pub counted_reads : {A : Type 0} (low end : ℕ) (item : List ℕ → Field A) (spell : A → List ℕ) (test : A → Bool)
+    → end ≤ 256 → Reads item spell test
+    → Reads (counted_at low end item) (Spelling.counted spell) (λ xs. is_between low end (length xs) && list_all test xs)
 unfolding counted_at
 counted_reads low end item spell test small reads =
     same_test (counted_at low end item) (Spelling.counted spell) (λ xs. (is_byte (length xs) && is_between low end (length xs)) && list_all test xs) _
-    (λ xs h. let a = and_parts (is_byte (length xs) && is_between low end (length xs)) (list_all test xs) h in and_from _ _ (and_parts (is_byte (length xs)) (is_between low end (length xs)) a.0).1 a.1)
+    (λ xs h. let a = and_parts (is_byte (length xs) && is_between low end (length xs)) (list_all test xs) h in
+    and_from _ _ (and_parts (is_byte (length xs)) (is_between low end (length xs)) a.0).1 a.1)
     (λ xs h.
     let a = and_parts (is_between low end (length xs)) (list_all test xs) h in
     let b = ltb-true _ _ (and_parts (nat_le low (length xs)) (nat_lt (length xs) end) a.0).1 in
@@ -61,7 +69,9 @@ text_at field n bytes = cond (ltb (length bytes) n) (Err truncated) (known (kept
 text_ok : (field bytes : List ℕ) (n : ℕ) (x : List ℕ × List ℕ) → text_at field n bytes ≡ Ok x → (n ≤ length bytes) × (x ≡ (take n bytes, drop n bytes)) × (is_module_name (take n bytes) ≡ true)
 text_ok field bytes n x e = by (ltb (length bytes) n) (is_module_name (take n bytes)) refl refl e
   where
-    by : (a b : Bool) → ltb (length bytes) n ≡ a → is_module_name (take n bytes) ≡ b → cond a (Err truncated) (known (cond b (Some (take n bytes)) None) rule.Limit field (drop n bytes)) ≡ Ok x → (n ≤ length bytes) × (x ≡ (take n bytes, drop n bytes)) × (is_module_name (take n bytes) ≡ true)
+    by : (a b : Bool) → ltb (length bytes) n ≡ a → is_module_name (take n bytes) ≡ b
+        → cond a (Err truncated) (known (cond b (Some (take n bytes)) None) rule.Limit field (drop n bytes)) ≡ Ok x
+        → (n ≤ length bytes) × (x ≡ (take n bytes, drop n bytes)) × (is_module_name (take n bytes) ≡ true)
     by true b p q h = absurd cc
     by false false p q h = absurd cc
     by false true p q h = (ltb-false _ _ p, sym (ok_is (take n bytes, drop n bytes) x h), q)
@@ -108,7 +118,9 @@ bounds_reads =
     (λ b h. let p = and_parts (is_i32 b.0) (is_i32 b.1 && int_le b.0 b.1) h in let q = and_parts (is_i32 b.1) (int_le b.0 b.1) p.1 in and_from _ _ (and_from _ _ p.0 q.0) q.1)
     (λ b h. let p = and_parts (is_i32 b.0 && is_i32 b.1) (int_le b.0 b.1) h in let q = and_parts (is_i32 b.0) (is_i32 b.1) p.0 in and_from _ _ q.0 (and_from _ _ q.1 p.1))
     (close _ _ _ (then (λ c. signed_at w32) (λ c. Spelling.i32) (λ c. is_i32) _ (λ b. tt) (λ b. b.0) _ _ (λ c. i32_reads)
-    (last (λ (c : Unit {0} × ℤ). checked (signed_at w32) (kept (λ high. int_le c.1 high)) rule.Limit) (λ c. Spelling.i32) (λ c high. is_i32 high && int_le c.1 high) (λ c. (c.0.1, c.1)) (λ b. (tt, b.0)) (λ b. b.1) (λ b. refl) (λ c. refl)
+    (last (λ (c : Unit {0} × ℤ). checked (signed_at w32) (kept (λ high. int_le c.1 high)) rule.Limit)
+    (λ c. Spelling.i32) (λ c high. is_i32 high && int_le c.1 high) (λ c. (c.0.1, c.1)) (λ b. (tt, b.0)) (λ b. b.1)
+    (λ b. refl) (λ c. refl)
     (λ c. keep (signed_at w32) Spelling.i32 is_i32 (λ high. int_le c.1 high) rule.Limit i32_reads))))
 
 -- ---- carriers
@@ -122,16 +134,27 @@ range_parts low high true h c e = (_, sym (same_Some _ c e), refl, refl)
 range_parts low high false h c e = absurd cc
 
 -- the sort of an enumeration, and the bounds of a range
-enum_reads : (sizes : List ℕ) (bytes : List ℕ) (x : Carrier × List ℕ) → IsBytes bytes → enum_at sizes bytes ≡ Ok x → (e : Enumeration) × (x.0 ≡ carrier.Enum e) × Took (Spelling.byte e.sort) (fits_carrier sizes (carrier.Enum e)) bytes x.1
+enum_reads : (sizes : List ℕ) (bytes : List ℕ) (x : Carrier × List ℕ) → IsBytes bytes → enum_at sizes bytes ≡ Ok x
+    → (e : Enumeration) × (x.0 ≡ carrier.Enum e) × Took (Spelling.byte e.sort) (fits_carrier sizes (carrier.Enum e)) bytes x.1
 unfolding enum_at
 enum_reads sizes bytes x fits h =
     let a = bind_ok (byte_at bytes) (λ s. known (enum_from s.0 (enumerator_count sizes s.0) (nat_lt 0 (enumerator_count sizes s.0)) refl) rule.Limit bytes s.1) x h in
     let k = known_ok _ rule.Limit bytes a.0.1 x a.2 in
     let p = enum_parts a.0.0 (enumerator_count sizes a.0.0) _ refl x.0 k.0 in
-    let t = byte_reads.takes bytes a.0 fits a.1 in
-    (p.0, p.1, record { parts = t.parts ∙ ap (λ (s : ℕ). s ∷ a.0.1) (sym p.2) ∙ ap (λ (r : List ℕ). p.0.sort ∷ r) (sym k.1); left = subst IsBytes (sym k.1) t.left; fits = and_from _ _ (ap is_byte p.2 ∙ t.fits) (eq-eqb _ _ (p.3 ∙ ap (enumerator_count sizes) (sym p.2))) })
+    let t = byte_reads.takes bytes a.0 fits a.1 in (
+      p.0,
+      p.1,
+      record {
+        parts = t.parts ∙ ap (λ (s : ℕ). s ∷ a.0.1) (sym p.2) ∙ ap (λ (r : List ℕ). p.0.sort ∷ r) (sym k.1);
+        left =
+            subst IsBytes (sym k.1) t.left;
+        fits =
+            and_from _ _ (ap is_byte p.2 ∙ t.fits) (eq-eqb _ _ (p.3 ∙ ap (enumerator_count sizes) (sym p.2)));
+      },
+    )
 
-range_reads : (bytes : List ℕ) (x : Carrier × List ℕ) → IsBytes bytes → range_at bytes ≡ Ok x → (r : Range) × (x.0 ≡ carrier.Range r) × Took (Spelling.bounds r.low r.high) (are_bounds r.low r.high) bytes x.1
+range_reads : (bytes : List ℕ) (x : Carrier × List ℕ) → IsBytes bytes → range_at bytes ≡ Ok x
+    → (r : Range) × (x.0 ≡ carrier.Range r) × Took (Spelling.bounds r.low r.high) (are_bounds r.low r.high) bytes x.1
 unfolding range_at
 range_reads bytes x fits h =
     let a = bind_ok (signed_at w32 bytes) (λ low. checked (signed_at w32) (λ high. range_from low.0 high (int_le low.0 high) refl) rule.Limit low.1) x h in
@@ -142,7 +165,10 @@ range_reads bytes x fits h =
     let u = i32_reads.takes a.0.1 b.0 t.left b.1 in
     let order : int_le p.0.low p.0.high ≡ true = from_le p.0.low p.0.high p.0.not_empty in
     let whole : bytes ≡ Spelling.bounds a.0.0 b.0.0 ++ b.0.1 = t.parts ∙ ap (λ (r : List ℕ). Spelling.i32 a.0.0 ++ r) u.parts ∙ sym (append_assoc (Spelling.i32 a.0.0) (Spelling.i32 b.0.0) b.0.1) in
-    let whole' : bytes ≡ Spelling.bounds p.0.low p.0.high ++ x.1 = whole ∙ ap (λ (z : ℤ). Spelling.bounds z b.0.0 ++ b.0.1) (sym p.2) ∙ ap (λ (z : ℤ). Spelling.bounds p.0.low z ++ b.0.1) (sym p.3) ∙ ap (λ (r : List ℕ). Spelling.bounds p.0.low p.0.high ++ r) (sym k.1) in
+    let whole' : bytes ≡ Spelling.bounds p.0.low p.0.high ++ x.1 =
+    whole ∙ ap (λ (z : ℤ). Spelling.bounds z b.0.0 ++ b.0.1) (sym p.2)
+    ∙ ap (λ (z : ℤ). Spelling.bounds p.0.low z ++ b.0.1) (sym p.3)
+    ∙ ap (λ (r : List ℕ). Spelling.bounds p.0.low p.0.high ++ r) (sym k.1) in
     (p.0, p.1, record { parts = whole'; left = subst IsBytes (sym k.1) u.left; fits = and_from _ _ (and_from _ _ (ap is_i32 p.2 ∙ t.fits) (ap is_i32 p.3 ∙ u.fits)) order })
 
 enum_within : (sizes bytes : List ℕ) (e : FieldFault) → IsBytes bytes → enum_at sizes bytes ≡ Err e → e.left ≤ length bytes
@@ -157,15 +183,18 @@ range_within bytes e fits h =
     let s = shorter _ _ bytes x.1 t in
     bind_err (signed_at w32 x.1) _ e _ f (λ g. let z = i32_reads.within x.1 e t.left g in omega arith) (λ y ok' g. let z = known_err _ rule.Limit x.1 y.1 e g in omega arith))
 
-carrier_takes : (sizes : List ℕ) (tag : ℕ) (bytes : List ℕ) (x : Carrier × List ℕ) → tag < 3 → IsBytes bytes → tagged_at sizes tag bytes ≡ Ok x → Took (Spelling.carrier_bytes x.0) (fits_carrier sizes x.0) (tag ∷ bytes) x.1
+carrier_takes : (sizes : List ℕ) (tag : ℕ) (bytes : List ℕ) (x : Carrier × List ℕ) → tag < 3 → IsBytes bytes
+    → tagged_at sizes tag bytes ≡ Ok x → Took (Spelling.carrier_bytes x.0) (fits_carrier sizes x.0) (tag ∷ bytes) x.1
 carrier_takes sizes zero bytes x lt fits h =
     subst (λ (y : Carrier × List ℕ). Took (Spelling.carrier_bytes y.0) (fits_carrier sizes y.0) (0 ∷ bytes) y.1) (ok_is (carrier.Bool, bytes) x h) (record { parts = refl; left = fits; fits = refl })
 carrier_takes sizes (suc zero) bytes x lt fits h =
     let t = enum_reads sizes bytes x fits h in
-    subst (λ (c : Carrier). Took (Spelling.carrier_bytes c) (fits_carrier sizes c) (1 ∷ bytes) x.1) (sym t.1) (record { parts = ap (λ (r : List ℕ). 1 ∷ r) t.2.parts; left = t.2.left; fits = t.2.fits })
+    subst (λ (c : Carrier). Took (Spelling.carrier_bytes c) (fits_carrier sizes c) (1 ∷ bytes) x.1) (sym t.1)
+    (record { parts = ap (λ (r : List ℕ). 1 ∷ r) t.2.parts; left = t.2.left; fits = t.2.fits })
 carrier_takes sizes (suc (suc zero)) bytes x lt fits h =
     let t = range_reads bytes x fits h in
-    subst (λ (c : Carrier). Took (Spelling.carrier_bytes c) (fits_carrier sizes c) (2 ∷ bytes) x.1) (sym t.1) (record { parts = ap (λ (r : List ℕ). 2 ∷ r) t.2.parts; left = t.2.left; fits = t.2.fits })
+    subst (λ (c : Carrier). Took (Spelling.carrier_bytes c) (fits_carrier sizes c) (2 ∷ bytes) x.1) (sym t.1)
+    (record { parts = ap (λ (r : List ℕ). 2 ∷ r) t.2.parts; left = t.2.left; fits = t.2.fits })
 carrier_takes sizes (suc (suc (suc n))) bytes x lt fits h = absurd (omega arith)
 
 enum_at_again : (sizes : List ℕ) (e : Enumeration) (rest : List ℕ) → fits_carrier sizes (carrier.Enum e) ≡ true → enum_at sizes (e.sort ∷ rest) ≡ Ok (carrier.Enum e, rest)
@@ -184,7 +213,8 @@ carrier_again sizes carrier.Bool rest h = let e : between_at 0 3 (0 ∷ rest) �
 carrier_again sizes (carrier.Enum e) rest h =
     let t : between_at 0 3 (1 ∷ (e.sort ∷ rest)) ≡ Ok (1, e.sort ∷ rest) = (between_reads 0 3).again 1 (e.sort ∷ rest) refl in rw t (enum_at_again sizes e rest h)
 carrier_again sizes (carrier.Range r) rest h =
-    let t : between_at 0 3 (2 ∷ (Spelling.bounds r.low r.high ++ rest)) ≡ Ok (2, Spelling.bounds r.low r.high ++ rest) = (between_reads 0 3).again 2 (Spelling.bounds r.low r.high ++ rest) refl in rw t (range_at_again r rest h)
+    let t : between_at 0 3 (2 ∷ (Spelling.bounds r.low r.high ++ rest)) ≡ Ok (2, Spelling.bounds r.low r.high ++ rest) =
+    (between_reads 0 3).again 2 (Spelling.bounds r.low r.high ++ rest) refl in rw t (range_at_again r rest h)
 
 tagged_within : (sizes : List ℕ) (tag : ℕ) (bytes : List ℕ) (e : FieldFault) → IsBytes bytes → tagged_at sizes tag bytes ≡ Err e → e.left ≤ length bytes
 tagged_within sizes zero bytes e fits h = absurd cc

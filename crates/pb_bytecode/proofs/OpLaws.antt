@@ -178,11 +178,15 @@ format_found version.Two format.SlotInRange h = refl
 
 -- ---- operands
 
-enumerator_reads : (sizes : List ℕ) → Reads (enumerator_at sizes) (λ e. Spelling.byte e.0 ++ Spelling.byte e.1) (λ e. (is_byte e.0 && is_between 0 (length sizes) e.0) && (is_byte e.1 && is_between 0 (enumerator_count sizes e.0) e.1))
+enumerator_reads : (sizes : List ℕ)
+    → Reads (enumerator_at sizes) (λ e. Spelling.byte e.0 ++ Spelling.byte e.1)
+    (λ e. (is_byte e.0 && is_between 0 (length sizes) e.0) && (is_byte e.1 && is_between 0 (enumerator_count sizes e.0) e.1))
 unfolding enumerator_at
 enumerator_reads sizes =
     close _ _ _ (then (λ c. between_at 0 (length sizes)) (λ c. Spelling.byte) (λ c s. is_byte s && is_between 0 (length sizes) s) _ (λ e. tt) (λ e. e.0) _ _ (λ c. between_reads 0 (length sizes))
-    (last (λ (c : Unit {0} × ℕ). between_at 0 (enumerator_count sizes c.1)) (λ c. Spelling.byte) (λ c i. is_byte i && is_between 0 (enumerator_count sizes c.1) i) (λ c. (c.0.1, c.1)) (λ e. (tt, e.0)) (λ e. e.1) (λ e. refl) (λ c. refl) (λ c. between_reads 0 (enumerator_count sizes c.1))))
+    (last (λ (c : Unit {0} × ℕ). between_at 0 (enumerator_count sizes c.1)) (λ c. Spelling.byte)
+    (λ c i. is_byte i && is_between 0 (enumerator_count sizes c.1) i) (λ c. (c.0.1, c.1)) (λ e. (tt, e.0))
+    (λ e. e.1) (λ e. refl) (λ c. refl) (λ c. between_reads 0 (enumerator_count sizes c.1))))
 
 u16_reads : Reads (number_at w16) Spelling.u16 is_u16
 u16_reads = number_reads w16 (2 ^ 16) wide16
@@ -197,7 +201,9 @@ slot_test_reads : Reads slot_test_at (λ t. Spelling.byte t.0 ++ (Spelling.bound
 unfolding slot_test_at
 slot_test_reads =
     close _ _ _ (then (λ c. byte_at) (λ c. Spelling.byte) (λ c. is_byte) _ (λ t. tt) (λ t. t.0) _ _ (λ c. byte_reads)
-    (last (λ (c : Unit {0} × ℕ). test_at) (λ c t. Spelling.bounds t.0.0 t.0.1 ++ Spelling.u16 t.1) (λ c t. are_bounds t.0.0 t.0.1 && is_u16 t.1) (λ c. (c.0.1, c.1)) (λ t. (tt, t.0)) (λ t. t.1) (λ t. refl) (λ c. refl) (λ c. test_reads)))
+    (last (λ (c : Unit {0} × ℕ). test_at) (λ c t. Spelling.bounds t.0.0 t.0.1 ++ Spelling.u16 t.1)
+    (λ c t. are_bounds t.0.0 t.0.1 && is_u16 t.1) (λ c. (c.0.1, c.1)) (λ t. (tt, t.0)) (λ t. t.1) (λ t. refl)
+    (λ c. refl) (λ c. test_reads)))
 
 -- what an instruction's operands are
 record Operands (v : Version) (sizes : List ℕ) (f : Format) (bytes : List ℕ) (x : Op × List ℕ) : Type 0 where
@@ -214,22 +220,30 @@ made_takes {A} v sizes f mk read spell test reads for_mk spelled bytes x fits h 
     subst (λ (y : Op × List ℕ). Operands v sizes f bytes y) (ok_is (mk a.0.0, a.0.1) x a.2)
     (record { format = for_mk a.0.0; took = record { parts = t.parts ∙ ap (λ (z : List ℕ). z ++ a.0.1) s.0; left = t.left; fits = s.1 } })
 
-made_within : {A : Type 0} (mk : A → Op) (read : List ℕ → Field A) (spell : A → List ℕ) (test : A → Bool) → Reads read spell test → (bytes : List ℕ) (e : FieldFault) → IsBytes bytes → made mk (read bytes) ≡ Err e → e.left ≤ length bytes
+made_within : {A : Type 0} (mk : A → Op) (read : List ℕ → Field A) (spell : A → List ℕ) (test : A → Bool)
+    → Reads read spell test → (bytes : List ℕ) (e : FieldFault) → IsBytes bytes → made mk (read bytes) ≡ Err e → e.left ≤ length bytes
 made_within mk read spell test reads bytes e fits h = bind_err (read bytes) (λ y. Ok (mk y.0, y.1)) e _ h (λ f. reads.within bytes e fits f) (λ x ok f. absurd cc)
 
 truth_spelled : (b : ℕ) → (is_byte b && is_between 0 2 b) ≡ true → Spelling.byte b ≡ Spelling.truth_byte (b == 1)
 truth_spelled zero h = refl
 truth_spelled (suc zero) h = refl
-truth_spelled (suc (suc b)) h = let lt = ltb-true (suc (suc b)) 2 (and_parts (nat_le 0 (suc (suc b))) (nat_lt (suc (suc b)) 2) (and_parts (is_byte (suc (suc b))) (is_between 0 2 (suc (suc b))) h).1).1 in absurd (omega arith)
+truth_spelled (suc (suc b)) h = let lt =
+    ltb-true (suc (suc b)) 2
+    (and_parts (nat_le 0 (suc (suc b))) (nat_lt (suc (suc b)) 2)
+    (and_parts (is_byte (suc (suc b))) (is_between 0 2 (suc (suc b))) h).1).1 in absurd (omega arith)
 
-enumerator_fits : (sizes : List ℕ) (s i : ℕ) → ((is_byte s && is_between 0 (length sizes) s) && (is_byte i && is_between 0 (enumerator_count sizes s) i)) ≡ true → (is_sort sizes s && (is_byte i && nat_lt i (enumerator_count sizes s))) ≡ true
+enumerator_fits : (sizes : List ℕ) (s i : ℕ)
+    → ((is_byte s && is_between 0 (length sizes) s) && (is_byte i && is_between 0 (enumerator_count sizes s) i)) ≡ true
+    → (is_sort sizes s && (is_byte i && nat_lt i (enumerator_count sizes s))) ≡ true
 enumerator_fits sizes s i h =
     let a = and_parts (is_byte s && is_between 0 (length sizes) s) (is_byte i && is_between 0 (enumerator_count sizes s) i) h in
     let b = and_parts (is_byte s) (is_between 0 (length sizes) s) a.0 in
     let c = and_parts (is_byte i) (is_between 0 (enumerator_count sizes s) i) a.1 in
     and_from _ _ (and_from _ _ b.0 (and_parts (nat_le 0 s) (nat_lt s (length sizes)) b.1).1) (and_from _ _ c.0 (and_parts (nat_le 0 i) (nat_lt i (enumerator_count sizes s)) c.1).1)
 
-enumerator_back : (sizes : List ℕ) (s i : ℕ) → (is_sort sizes s && (is_byte i && nat_lt i (enumerator_count sizes s))) ≡ true → ((is_byte s && is_between 0 (length sizes) s) && (is_byte i && is_between 0 (enumerator_count sizes s) i)) ≡ true
+enumerator_back : (sizes : List ℕ) (s i : ℕ)
+    → (is_sort sizes s && (is_byte i && nat_lt i (enumerator_count sizes s))) ≡ true
+    → ((is_byte s && is_between 0 (length sizes) s) && (is_byte i && is_between 0 (enumerator_count sizes s) i)) ≡ true
 enumerator_back sizes s i h =
     let a = and_parts (is_sort sizes s) (is_byte i && nat_lt i (enumerator_count sizes s)) h in
     let b = and_parts (is_byte s) (nat_lt s (length sizes)) a.0 in
@@ -264,17 +278,26 @@ plain_is v sizes (op.Call equation) h = absurd cc
 operands_take : (v : Version) (sizes : List ℕ) (f : Format) (bytes : List ℕ) (x : Op × List ℕ) → is_format v f ≡ true → IsBytes bytes → operands_at sizes f bytes ≡ Ok x → Operands v sizes f bytes x
 operands_take v sizes (format.Plain i) bytes x g fits h =
     let p = plain_is v sizes i g in
-    subst (λ (y : Op × List ℕ). Operands v sizes (format.Plain i) bytes y) (ok_is (i, bytes) x h) (record { format = p.0; took = record { parts = ap (λ (z : List ℕ). z ++ bytes) (sym p.1); left = fits; fits = p.2 } })
+    subst (λ (y : Op × List ℕ). Operands v sizes (format.Plain i) bytes y) (ok_is (i, bytes) x h)
+    (record { format = p.0; took = record { parts = ap (λ (z : List ℕ). z ++ bytes) (sym p.1); left = fits; fits = p.2 } })
 operands_take v sizes format.Int bytes x g fits h = made_takes v sizes format.Int (λ k. op.PushInt k) (signed_at w64) Spelling.i64 is_i64 i64_reads (λ a. refl) (λ a t. (refl, t)) bytes x fits h
-operands_take v sizes format.Bool bytes x g fits h = made_takes v sizes format.Bool (λ b. op.PushBool (b == 1)) (between_at 0 2) Spelling.byte _ (between_reads 0 2) (λ a. refl) (λ a t. (truth_spelled a t, refl)) bytes x fits h
-operands_take v sizes format.Enumerator bytes x g fits h = made_takes v sizes format.Enumerator (λ e. op.PushEnum e.0 e.1) (enumerator_at sizes) _ _ (enumerator_reads sizes) (λ a. refl) (λ a t. (refl, enumerator_fits sizes a.0 a.1 t)) bytes x fits h
+operands_take v sizes format.Bool bytes x g fits h =
+    made_takes v sizes format.Bool (λ b. op.PushBool (b == 1)) (between_at 0 2) Spelling.byte _ (between_reads 0 2)
+    (λ a. refl) (λ a t. (truth_spelled a t, refl)) bytes x fits h
+operands_take v sizes format.Enumerator bytes x g fits h =
+    made_takes v sizes format.Enumerator (λ e. op.PushEnum e.0 e.1) (enumerator_at sizes) _ _ (enumerator_reads sizes)
+    (λ a. refl) (λ a t. (refl, enumerator_fits sizes a.0 a.1 t)) bytes x fits h
 operands_take v sizes format.Get bytes x g fits h = made_takes v sizes format.Get (λ slot. op.Get slot) byte_at Spelling.byte is_byte byte_reads (λ a. refl) (λ a t. (refl, t)) bytes x fits h
 operands_take v sizes format.Jump bytes x g fits h = made_takes v sizes format.Jump (λ to. op.Jump to) (number_at w16) Spelling.u16 is_u16 u16_reads (λ a. refl) (λ a t. (refl, t)) bytes x fits h
-operands_take v sizes (format.JumpIf on) bytes x g fits h = made_takes v sizes (format.JumpIf on) (λ to. op.JumpIf on to) (number_at w16) Spelling.u16 is_u16 u16_reads (λ a. refl) (λ a t. (refl, t)) bytes x fits h
+operands_take v sizes (format.JumpIf on) bytes x g fits h =
+    made_takes v sizes (format.JumpIf on) (λ to. op.JumpIf on to) (number_at w16) Spelling.u16 is_u16 u16_reads
+    (λ a. refl) (λ a t. (refl, t)) bytes x fits h
 operands_take v sizes format.InRange bytes x g fits h = made_takes v sizes format.InRange (λ t. op.InRange t.0.0 t.0.1 t.1) test_at _ _ test_reads (λ a. refl) (λ a t. (refl, t)) bytes x fits h
 operands_take v sizes format.Loop bytes x g fits h = made_takes v sizes format.Loop (λ slot. op.Loop slot) byte_at Spelling.byte is_byte byte_reads (λ a. refl) (λ a t. (refl, t)) bytes x fits h
 operands_take v sizes format.Call bytes x g fits h = made_takes v sizes format.Call (λ e. op.Call e) byte_at Spelling.byte is_byte byte_reads (λ a. refl) (λ a t. (refl, t)) bytes x fits h
-operands_take v sizes format.SlotInRange bytes x g fits h = made_takes v sizes format.SlotInRange (λ t. op.SlotInRange t.0 t.1.0.0 t.1.0.1 t.1.1) slot_test_at _ _ slot_test_reads (λ a. refl) (λ a t. (refl, and_from _ _ g t)) bytes x fits h
+operands_take v sizes format.SlotInRange bytes x g fits h =
+    made_takes v sizes format.SlotInRange (λ t. op.SlotInRange t.0 t.1.0.0 t.1.0.1 t.1.1) slot_test_at _ _
+    slot_test_reads (λ a. refl) (λ a t. (refl, and_from _ _ g t)) bytes x fits h
 
 operands_within : (sizes : List ℕ) (f : Format) (bytes : List ℕ) (e : FieldFault) → IsBytes bytes → operands_at sizes f bytes ≡ Err e → e.left ≤ length bytes
 operands_within sizes (format.Plain i) bytes e fits h = absurd cc
@@ -294,7 +317,8 @@ operands_again v sizes op.End rest h = refl
 operands_again v sizes (op.PushInt k) rest h = rw (i64_reads.again k rest h) refl
 operands_again v sizes (op.PushBool true) rest h = let t : between_at 0 2 (1 ∷ rest) ≡ Ok (1, rest) = (between_reads 0 2).again 1 rest refl in rw t refl
 operands_again v sizes (op.PushBool false) rest h = let t : between_at 0 2 (0 ∷ rest) ≡ Ok (0, rest) = (between_reads 0 2).again 0 rest refl in rw t refl
-operands_again v sizes (op.PushEnum s i) rest h = let t : enumerator_at sizes (s ∷ (i ∷ rest)) ≡ Ok ((s, i), rest) = (enumerator_reads sizes).again (s, i) rest (enumerator_back sizes s i h) in rw t refl
+operands_again v sizes (op.PushEnum s i) rest h = let t : enumerator_at sizes (s ∷ (i ∷ rest)) ≡ Ok ((s, i), rest) =
+    (enumerator_reads sizes).again (s, i) rest (enumerator_back sizes s i h) in rw t refl
 operands_again v sizes (op.Get slot) rest h = refl
 operands_again v sizes op.Pop rest h = refl
 operands_again v sizes (op.Arithmetic a) rest h = refl
@@ -309,7 +333,8 @@ operands_again v sizes (op.JumpIf on to) rest h = rw (u16_reads.again to rest h)
 operands_again v sizes (op.InRange low high to) rest h = rw (test_reads.again ((low, high), to) rest h) refl
 operands_again v sizes (op.SlotInRange slot low high to) rest h =
     let two = and_parts (is_second v) (is_byte slot && (are_bounds low high && is_u16 to)) h in
-    let t : slot_test_at (Spelling.op_operands (op.SlotInRange slot low high to) ++ rest) ≡ Ok ((slot, ((low, high), to)), rest) = slot_test_reads.again (slot, ((low, high), to)) rest two.1 in rw t refl
+    let t : slot_test_at (Spelling.op_operands (op.SlotInRange slot low high to) ++ rest)
+    ≡ Ok ((slot, ((low, high), to)), rest) = slot_test_reads.again (slot, ((low, high), to)) rest two.1 in rw t refl
 operands_again v sizes (op.Loop slot) rest h = refl
 operands_again v sizes op.Next rest h = refl
 operands_again v sizes (op.Open c) rest h = refl
@@ -391,7 +416,8 @@ op_reads v sizes = record {
       rw g (operands_again v sizes i rest h);
   within = λ bytes e fits h.
       bind_err (byte_at bytes >>= λ code. known (format_of v code.0) rule.UnknownOp bytes code.1) (λ f. operands_at sizes f.0 f.1) e _ h
-      (λ f. bind_err (byte_at bytes) (λ code. known (format_of v code.0) rule.UnknownOp bytes code.1) e _ f (λ g. byte_reads.within bytes e fits g) (λ x ok g. let z = known_err _ rule.UnknownOp bytes x.1 e g in omega arith))
+      (λ f. bind_err (byte_at bytes) (λ code. known (format_of v code.0) rule.UnknownOp bytes code.1) e _ f
+      (λ g. byte_reads.within bytes e fits g) (λ x ok g. let z = known_err _ rule.UnknownOp bytes x.1 e g in omega arith))
       (λ x ok f.
       let b = bind_ok (byte_at bytes) (λ code. known (format_of v code.0) rule.UnknownOp bytes code.1) x ok in
       let k = known_ok _ rule.UnknownOp bytes b.0.1 x b.2 in
@@ -401,7 +427,9 @@ op_reads v sizes = record {
       omega (arith, ap length k.1));
 }
 
-pub code_reads : (v : Version) (sizes : List ℕ) → Reads (code_at v sizes) (λ code. Spelling.u16 (length code) ++ flat_map Spelling.op_bytes code) (λ code. is_between 1 (MAX_INSTRUCTIONS + 1) (length code) && list_all (fits_op v sizes) code)
+pub code_reads : (v : Version) (sizes : List ℕ)
+    → Reads (code_at v sizes) (λ code. Spelling.u16 (length code) ++ flat_map Spelling.op_bytes code)
+    (λ code. is_between 1 (MAX_INSTRUCTIONS + 1) (length code) && list_all (fits_op v sizes) code)
 unfolding code_at
 code_reads v sizes =
     same_test (code_at v sizes) (λ code. Spelling.u16 (length code) ++ flat_map Spelling.op_bytes code) (λ code. (is_u16 (length code) && nat_le 1 (length code)) && list_all (fits_op v sizes) code) _

@@ -61,7 +61,8 @@ finish {B} {C} make part back forth = record {
 }
 
 -- one field, and then the rest
-pub then : {A B C : Type 0} (read : C → List ℕ → Field A) (spell : C → A → List ℕ) (test : C → A → Bool) (next : C × A → List ℕ → Field B) (part : B → C) (field : B → A) (spell' : B → List ℕ) (test' : B → Bool)
+pub then : {A B C : Type 0} (read : C → List ℕ → Field A) (spell : C → A → List ℕ) (test : C → A → Bool)
+    (next : C × A → List ℕ → Field B) (part : B → C) (field : B → A) (spell' : B → List ℕ) (test' : B → Bool)
     → ((c : C) → Reads (read c) (spell c) (test c)) → ReadsIn next (λ b. (part b, field b)) spell' test'
     → ReadsIn (λ c bytes. read c bytes >>= λ x. next (c, x.0) x.1) part (λ b. spell (part b) (field b) ++ spell' b) (λ b. test (part b) (field b) && test' b)
 then {A} {B} {C} read spell test next part field spell' test' first second = record {
@@ -98,7 +99,9 @@ close read spell test r = record {
 }
 
 -- the same, where two tests agree
-pub same_test : {A : Type 0} (read : List ℕ → Field A) (spell : A → List ℕ) (test test' : A → Bool) → ((a : A) → test a ≡ true → test' a ≡ true) → ((a : A) → test' a ≡ true → test a ≡ true) → Reads read spell test → Reads read spell test'
+pub same_test : {A : Type 0} (read : List ℕ → Field A) (spell : A → List ℕ) (test test' : A → Bool)
+    → ((a : A) → test a ≡ true → test' a ≡ true) → ((a : A) → test' a ≡ true → test a ≡ true) → Reads read spell test
+    → Reads read spell test'
 same_test read spell test test' to from r = record {
   takes = λ bytes x fits e. let t = r.takes bytes x fits e in record { parts = t.parts; left = t.left; fits = to x.0 t.fits };
   again = λ a rest h. r.again a rest (from a h);
@@ -145,7 +148,8 @@ kept_ok {A} test a b e = by (test a) refl e
     by false t h = absurd cc
 
 -- a field whose value has to pass a test
-pub keep : {A : Type 0} (read : List ℕ → Field A) (spell : A → List ℕ) (test : A → Bool) (f : A → Bool) (r : ModuleRule) → Reads read spell test → Reads (checked read (kept f) r) spell (λ a. test a && f a)
+pub keep : {A : Type 0} (read : List ℕ → Field A) (spell : A → List ℕ) (test : A → Bool) (f : A → Bool) (r : ModuleRule)
+    → Reads read spell test → Reads (checked read (kept f) r) spell (λ a. test a && f a)
 keep read spell test f r reads = check read spell test (kept f) r (λ a. a) f (kept_ok f) (λ a h. rw h refl) reads
 
 -- as many items as are known
@@ -160,7 +164,8 @@ items {A} item spell test reads = record { takes = item_takes; again = item_agai
         let b = bind_ok (items_at item n a.0.1) (λ others. Ok (a.0.0 ∷ others.0, others.1)) x a.2 in
         let t = reads.takes bytes a.0 fits a.1 in
         let u = item_takes n a.0.1 b.0 t.left b.1 in
-        let whole : bytes ≡ (spell a.0.0 ++ flat_map spell b.0.0) ++ b.0.1 = t.parts ∙ ap (λ (r : List ℕ). spell a.0.0 ++ r) u.1.parts ∙ sym (append_assoc (spell a.0.0) (flat_map spell b.0.0) b.0.1) in
+        let whole : bytes ≡ (spell a.0.0 ++ flat_map spell b.0.0) ++ b.0.1 =
+        t.parts ∙ ap (λ (r : List ℕ). spell a.0.0 ++ r) u.1.parts ∙ sym (append_assoc (spell a.0.0) (flat_map spell b.0.0) b.0.1) in
         subst (λ (y : List A × List ℕ). (length y.0 ≡ suc n) × Took (flat_map spell y.0) (list_all test y.0) bytes y.1) (ok_is (a.0.0 ∷ b.0.0, b.0.1) x b.2)
         (ap suc u.0, record { parts = rw flat_map-cons whole; left = u.1.left; fits = and_from _ _ t.fits u.1.fits })
 
@@ -168,7 +173,8 @@ items {A} item spell test reads = record { takes = item_takes; again = item_agai
     item_again [] rest h = refl
     item_again (x ∷ xs) rest h =
         let two = and_parts (test x) (list_all test xs) h in
-        let regrouped : flat_map spell (x ∷ xs) ++ rest ≡ spell x ++ (flat_map spell xs ++ rest) = ap (λ (r : List ℕ). r ++ rest) (flat_map-cons spell x xs) ∙ append_assoc (spell x) (flat_map spell xs) rest in
+        let regrouped : flat_map spell (x ∷ xs) ++ rest ≡ spell x ++ (flat_map spell xs ++ rest) =
+        ap (λ (r : List ℕ). r ++ rest) (flat_map-cons spell x xs) ∙ append_assoc (spell x) (flat_map spell xs) rest in
         ap (items_at item (suc (length xs))) regrouped ∙ rw (reads.again x (flat_map spell xs ++ rest) two.0, item_again xs rest two.1) refl
 
     item_within : (n : ℕ) (bytes : List ℕ) (e : FieldFault) → IsBytes bytes → items_at item n bytes ≡ Err e → e.left ≤ length bytes
@@ -199,7 +205,9 @@ last {A} {B} {C} read spell test make part field back forth first =
     }
 
 -- the same reader, where spellings and tests agree
-pub reshaped : {A : Type 0} (read : List ℕ → Field A) (spell spell' : A → List ℕ) (test test' : A → Bool) → ((a : A) → spell a ≡ spell' a) → ((a : A) → test a ≡ true → test' a ≡ true) → ((a : A) → test' a ≡ true → test a ≡ true) → Reads read spell test → Reads read spell' test'
+pub reshaped : {A : Type 0} (read : List ℕ → Field A) (spell spell' : A → List ℕ) (test test' : A → Bool)
+    → ((a : A) → spell a ≡ spell' a) → ((a : A) → test a ≡ true → test' a ≡ true)
+    → ((a : A) → test' a ≡ true → test a ≡ true) → Reads read spell test → Reads read spell' test'
 reshaped read spell spell' test test' same to from r = record {
   takes = λ bytes x fits e. let t = r.takes bytes x fits e in record { parts = t.parts ∙ ap (λ (z : List ℕ). z ++ x.1) (same x.0); left = t.left; fits = to x.0 t.fits };
   again = λ a rest h. ap (λ (z : List ℕ). read (z ++ rest)) (sym (same a)) ∙ r.again a rest (from a h);
@@ -207,7 +215,8 @@ reshaped read spell spell' test test' same to from r = record {
 }
 
 -- a test of what was read, whose fault stands behind it
-pub after : {A : Type 0} (read : List ℕ → Field A) (spell : A → List ℕ) (test : A → Bool) (f : A → Bool) (r : ModuleRule) → Reads read spell test → Reads (λ bytes. read bytes >>= λ x. known (kept f x.0) r x.1 x.1) spell (λ a. test a && f a)
+pub after : {A : Type 0} (read : List ℕ → Field A) (spell : A → List ℕ) (test : A → Bool) (f : A → Bool)
+    (r : ModuleRule) → Reads read spell test → Reads (λ bytes. read bytes >>= λ x. known (kept f x.0) r x.1 x.1) spell (λ a. test a && f a)
 after {A} read spell test f r reads = record {
   takes = λ bytes y fits e.
       let a = bind_ok (read bytes) (λ x. known (kept f x.0) r x.1 x.1) y e in

@@ -52,7 +52,9 @@ untagged_contained (IntValue z) (carrier.Range range) e = by (int_le range.low z
     by false t f = cc
 untagged_contained (EnumValue s i) (carrier.Enum enum) e = by (s == enum.sort) (nat_lt i enum.count) refl e
   where
-    by : (a b : Bool) → nat_lt i enum.count ≡ b → (if a then (if b then None else Some Machine.Argument) else Some Machine.WrongKind) ≡ None → carriers.contains (values_of (carrier.Enum enum)) (pos i) ≡ true
+    by : (a b : Bool) → nat_lt i enum.count ≡ b
+        → (if a then (if b then None else Some Machine.Argument) else Some Machine.WrongKind) ≡ None
+        → carriers.contains (values_of (carrier.Enum enum)) (pos i) ≡ true
     by true true t f = let less = ltb-true i enum.count t in (contains-numbers_from (pos 0) enum.count (pos i)).1 (omega (arith, ints), omega (arith, ints))
     by true false t f = cc
     by false b t f = cc

@@ -98,13 +98,15 @@ param_fits (v ∷ vs) [] i f = absurd f
 param_fits (v ∷ vs) (s ∷ ss) zero f = f.0
 param_fits (v ∷ vs) (s ∷ ss) (suc i) f = param_fits vs ss i f.1
 
-pub slot_fits : (fs : List Frame) (ls : List (ℕ × AbstractValue)) (vs : List TaggedValue) (ss : List AbstractValue) (i : ℕ) → FitLoops fs ls → FitParameters vs ss → SlotFits (Machine.value_at fs vs i) (Transfer.abstract_slot ls ss i)
+pub slot_fits : (fs : List Frame) (ls : List (ℕ × AbstractValue)) (vs : List TaggedValue) (ss : List AbstractValue)
+    (i : ℕ) → FitLoops fs ls → FitParameters vs ss → SlotFits (Machine.value_at fs vs i) (Transfer.abstract_slot ls ss i)
 slot_fits [] [] vs ss i f g = param_fits vs ss i g
 slot_fits [] (l ∷ ls) vs ss i f g = absurd f
 slot_fits (x ∷ fs) [] vs ss i f g = absurd f
 slot_fits (x ∷ fs) (l ∷ ls) vs ss i f g = rw (f.0) (pick (i == l.0) (slot_fits fs ls vs ss i f.2 g))
   where
-    pick : (b : Bool) → SlotFits (Machine.value_at fs vs i) (Transfer.abstract_slot ls ss i) → SlotFits (cond b (Some x.value) (Machine.value_at fs vs i)) (cond b (Some l.1) (Transfer.abstract_slot ls ss i))
+    pick : (b : Bool) → SlotFits (Machine.value_at fs vs i) (Transfer.abstract_slot ls ss i)
+        → SlotFits (cond b (Some x.value) (Machine.value_at fs vs i)) (cond b (Some l.1) (Transfer.abstract_slot ls ss i))
     pick true h = f.1
     pick false h = h
 
@@ -121,14 +123,16 @@ loops_length (x ∷ fs) [] f = absurd f
 loops_length (x ∷ fs) (l ∷ ls) f = ap suc (loops_length fs ls f.2)
 
 -- a slot's shape, cut to what its value meets
-pub set_parameters : (vs : List TaggedValue) (ss : List AbstractValue) (i : ℕ) (s : AbstractValue) → FitParameters vs ss → ((v : TaggedValue) → slice_get vs i ≡ Some v → IsAbstractedBy v s) → FitParameters vs (Transfer.set_param ss i s)
+pub set_parameters : (vs : List TaggedValue) (ss : List AbstractValue) (i : ℕ) (s : AbstractValue) → FitParameters vs ss
+    → ((v : TaggedValue) → slice_get vs i ≡ Some v → IsAbstractedBy v s) → FitParameters vs (Transfer.set_param ss i s)
 set_parameters [] [] i s f h = tt
 set_parameters [] (t ∷ ss) i s f h = absurd f
 set_parameters (v ∷ vs) [] i s f h = absurd f
 set_parameters (v ∷ vs) (t ∷ ss) zero s f h = (h v refl, f.1)
 set_parameters (v ∷ vs) (t ∷ ss) (suc i) s f h = (f.0, set_parameters vs ss i s f.1 h)
 
-pub set_loops : (fs : List Frame) (ls : List (ℕ × AbstractValue)) (vs : List TaggedValue) (i : ℕ) (s : AbstractValue) → FitLoops fs ls → ((v : TaggedValue) → Machine.value_at fs vs i ≡ Some v → IsAbstractedBy v s) → FitLoops fs (Transfer.set_loop ls i s)
+pub set_loops : (fs : List Frame) (ls : List (ℕ × AbstractValue)) (vs : List TaggedValue) (i : ℕ) (s : AbstractValue)
+    → FitLoops fs ls → ((v : TaggedValue) → Machine.value_at fs vs i ≡ Some v → IsAbstractedBy v s) → FitLoops fs (Transfer.set_loop ls i s)
 set_loops [] [] vs i s f h = tt
 set_loops [] (l ∷ ls) vs i s f h = absurd f
 set_loops (x ∷ fs) [] vs i s f h = absurd f

@@ -15,7 +15,9 @@ use Rattle.pb_bytecode_program.specs.declared.instruction.Arithmetic.{Arithmetic
 abbrev pub Inside : ℤ → ℤ → ℤ → ℤ → Type 0
 Inside l h m k = (m ≤ℤ l) × (l ≤ℤ h) × (h ≤ℤ k)
 
-pub interval_less : (c : Arithmetic) (l h m k l' h' m' k' : ℤ) → Inside l h l' h' → Inside m k m' k' → (divides c ≡ true → pos 1 ≤ℤ m') → Inside (interval_of c l h m k).0 (interval_of c l h m k).1 (interval_of c l' h' m' k').0 (interval_of c l' h' m' k').1
+pub interval_less : (c : Arithmetic) (l h m k l' h' m' k' : ℤ) → Inside l h l' h' → Inside m k m' k'
+    → (divides c ≡ true → pos 1 ≤ℤ m')
+    → Inside (interval_of c l h m k).0 (interval_of c l h m k).1 (interval_of c l' h' m' k').0 (interval_of c l' h' m' k').1
 interval_less c l h m k l' h' m' k' p q d =
     let within = binary_monotone (between l h) (between m k) (between l' h') (between m' k') p.1 q.1 (p.0, p.2) (q.0, q.2) (operation_of c) d in
     let narrower = q.0 in

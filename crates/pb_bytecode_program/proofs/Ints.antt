@@ -17,7 +17,8 @@ from_below m e = grind (arith, ints)
 
 -- ---- the rules
 
-pub calc_within : (c : Arithmetic) (a b l h m k : ℤ) → l ≤ℤ a → a ≤ℤ h → m ≤ℤ b → b ≤ℤ k → (divides c ≡ true → pos 1 ≤ℤ m) → ((interval_of c l h m k).0 ≤ℤ arithmetic c a b) × (arithmetic c a b ≤ℤ (interval_of c l h m k).1)
+pub calc_within : (c : Arithmetic) (a b l h m k : ℤ) → l ≤ℤ a → a ≤ℤ h → m ≤ℤ b → b ≤ℤ k
+    → (divides c ≡ true → pos 1 ≤ℤ m) → ((interval_of c l h m k).0 ≤ℤ arithmetic c a b) × (arithmetic c a b ≤ℤ (interval_of c l h m k).1)
 calc_within c a b l h m k p q r s d = binary_sound (operation_of c) (between l h) (between m k) a b d (p, q) (r, s)
 
 pub negated_within : (a l h : ℤ) → l ≤ℤ a → a ≤ℤ h → (neg_ℤ h ≤ℤ neg_ℤ a) × (neg_ℤ a ≤ℤ neg_ℤ l)

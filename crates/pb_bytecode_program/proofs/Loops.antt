@@ -25,12 +25,42 @@ module _ (p : Program) (table : Table) (ok : Accepted p table) where
   pub sim_loop : (st : State) (k : AbstractState) (j : ℕ) → state_at table st.place ≡ Some k → Straightly p table ok st (op.Loop j) k
   sim_loop st k j there at cov ar home pl fine = by (Machine.carrier_of p j) refl fine
     where
-      enter : (c : Carrier) (vs : List TaggedValue) → Machine.carrier_of p j ≡ Some c → tagged_values c ≡ vs → HasFirst vs → AllWithin vs (abstraction_of c) → FlowIsCovered table (Transfer.to_next_place st.place (record { operands = []; operands_below = length k.operands + k.operands_below; parameters = k.parameters; loops = (j, abstraction_of c) ∷ k.loops; brackets = k.brackets; brackets_below = k.brackets; roots = k.roots })) → IsSafeStep p table st (op.Loop j) (Machine.enter_loop st j vs)
+      enter : (c : Carrier) (vs : List TaggedValue) → Machine.carrier_of p j ≡ Some c → tagged_values c ≡ vs
+          → HasFirst vs → AllWithin vs (abstraction_of c)
+          → FlowIsCovered table
+          (Transfer.to_next_place st.place
+          (record {
+            operands = [];
+            operands_below = length k.operands + k.operands_below;
+            parameters =
+                k.parameters;
+            loops = (j, abstraction_of c) ∷ k.loops;
+            brackets = k.brackets;
+            brackets_below =
+                k.brackets;
+            roots = k.roots;
+          })) → IsSafeStep p table st (op.Loop j) (Machine.enter_loop st j vs)
       enter c [] e f first w fl = absurd first
       enter c (v ∷ left) e f first w fl =
           let a : loops_around p.code (st.place + 1) ≡ st.place ∷ places st.loops = around_next p.code st.place (op.Loop j) at ∙ ap (λ qs. st.place ∷ qs) ar in
           let size : Counts.carrier_size (Machine.carrier_of p j) ≡ suc (length left) = ap Counts.carrier_size e ∙ ap length f in
-          let c' : Covered p table (record st { place = st.place + 1; loops = record { loop_place = st.place; slot = j; value = v; remaining = left } ∷ st.loops }) (record { operands = []; operands_below = length k.operands + k.operands_below; parameters = k.parameters; loops = (j, abstraction_of c) ∷ k.loops; brackets = k.brackets; brackets_below = k.brackets; roots = k.roots }) = record {
+          let c' : Covered p table
+          (record st {
+            place = st.place + 1;
+            loops =
+                record { loop_place = st.place; slot = j; value = v; remaining = left } ∷ st.loops;
+          })
+          (record {
+            operands = [];
+            operands_below = length k.operands + k.operands_below;
+            parameters =
+                k.parameters;
+            loops = (j, abstraction_of c) ∷ k.loops;
+            brackets = k.brackets;
+            brackets_below =
+                k.brackets;
+            roots = k.roots;
+          }) = record {
             rest = st.operands;
             operands = refl;
             deep = fits_length st.operands k.operands cov.rest cov.operands ∙ ap (λ m. length k.operands + m) cov.deep;
@@ -38,7 +68,23 @@ module _ (p : Program) (table : Table) (ok : Accepted p table) where
             fit_loops = (refl, w.0, cov.fit_loops);
             brackets = cov.brackets;
             roots = cov.roots;
-            under = record { loop = at; carrier = c; of_slot = e; remaining = w.1; around_it = ar; home = k; there = there; operands_below = cov.rest; operands = cov.operands; deep = cov.deep; fit_parameters = cov.fit_parameters; fit_loops = cov.fit_loops; outer = cov.under };
+            under = record {
+              loop = at;
+              carrier = c;
+              of_slot = e;
+              remaining = w.1;
+              around_it = ar;
+              home = k;
+              there =
+                  there;
+              operands_below = cov.rest;
+              operands = cov.operands;
+              deep = cov.deep;
+              fit_parameters =
+                  cov.fit_parameters;
+              fit_loops = cov.fit_loops;
+              outer = cov.under;
+            };
           } in
           record {
             covered = arrive p table ok st (op.Loop j) k at cov ar _ _ (st.place + 1) fl.0 c' refl a;
@@ -55,10 +101,16 @@ module _ (p : Program) (table : Table) (ok : Accepted p table) where
           rw test (enter c (tagged_values c) e refl (first_of_carrier c two.1) (values_within c) t.1)
 
   -- NEXT
-  pub sim_next : (st : State) (k : AbstractState) (at : slice_get p.code st.place ≡ Some op.Next) (cov : Covered p table st k) (ar : loops_around p.code st.place ≡ places st.loops) → FlowIsCovered table (Transfer.transfer p (state_at_loop table (loops_around p.code st.place)) st.place op.Next k) → IsSafeStep p table st op.Next (Machine.execute p op.Next st)
+  pub sim_next : (st : State) (k : AbstractState) (at : slice_get p.code st.place ≡ Some op.Next)
+      (cov : Covered p table st k) (ar : loops_around p.code st.place ≡ places st.loops)
+      → FlowIsCovered table
+      (Transfer.transfer p (state_at_loop table (loops_around p.code st.place)) st.place op.Next k)
+      → IsSafeStep p table st op.Next (Machine.execute p op.Next st)
   sim_next st k at cov ar fine = by st.loops refl cov.under
     where
-      inv : (home : AbstractState) × (k.operands ≡ []) × (state_at_loop table (loops_around p.code st.place) ≡ Some home) × (k.brackets ≡ home.brackets) × (k.roots ≡ home.roots) × FlowIsCovered table (Transfer.to_next_place st.place home)
+      inv : (home : AbstractState) × (k.operands ≡ [])
+          × (state_at_loop table (loops_around p.code st.place) ≡ Some home) × (k.brackets ≡ home.brackets)
+          × (k.roots ≡ home.roots) × FlowIsCovered table (Transfer.to_next_place st.place home)
       inv = next_inverted table st.place k k.operands (state_at_loop table (loops_around p.code st.place)) fine
 
       bare : st.operands ≡ cov.rest
@@ -74,7 +126,9 @@ module _ (p : Program) (table : Table) (ok : Accepted p table) where
           let b = u.there in
           cc
 
-      out : (f : Frame) (fs : List Frame) → st.loops ≡ f ∷ fs → (u : AtLoop p table st.parameters f fs cov.rest (Under p table st.parameters fs)) → u.home ≡ inv.0 → IsSafeStep p table st op.Next (Continues (record st { place = st.place + 1; loops = fs }))
+      out : (f : Frame) (fs : List Frame) → st.loops ≡ f ∷ fs
+          → (u : AtLoop p table st.parameters f fs cov.rest (Under p table st.parameters fs)) → u.home ≡ inv.0
+          → IsSafeStep p table st op.Next (Continues (record st { place = st.place + 1; loops = fs }))
       out f fs e u same =
           let c : Covered p table (record st { place = st.place + 1; loops = fs }) u.home = record {
             rest = u.operands_below;
@@ -94,16 +148,52 @@ module _ (p : Program) (table : Table) (ok : Accepted p table) where
             written = omega arith;
           }
 
-      back : (f : Frame) (fs : List Frame) (v : TaggedValue) (left : List TaggedValue) → st.loops ≡ f ∷ fs → f.remaining ≡ v ∷ left → (u : AtLoop p table st.parameters f fs cov.rest (Under p table st.parameters fs)) → u.home ≡ inv.0 → IsSafeStep p table st op.Next (Continues (record st { place = f.loop_place + 1; loops = record { loop_place = f.loop_place; slot = f.slot; value = v; remaining = left } ∷ fs }))
+      back : (f : Frame) (fs : List Frame) (v : TaggedValue) (left : List TaggedValue) → st.loops ≡ f ∷ fs
+          → f.remaining ≡ v ∷ left → (u : AtLoop p table st.parameters f fs cov.rest (Under p table st.parameters fs))
+          → u.home ≡ inv.0
+          → IsSafeStep p table st op.Next
+          (Continues
+          (record st
+          { place = f.loop_place + 1; loops = record { loop_place = f.loop_place; slot = f.slot; value = v; remaining = left } ∷ fs }))
       back f fs v left e l u same =
           let w : AllWithin (v ∷ left) (abstraction_of u.carrier) = subst (λ vs. AllWithin vs (abstraction_of u.carrier)) l u.remaining in
           let each = ok.each f.loop_place (op.Loop f.slot) u.home u.loop u.there in
-          let fine' : FlowIsCovered table (Transfer.abstract_loop f.loop_place u.home f.slot (Some u.carrier)) = subst (λ o. FlowIsCovered table (Transfer.abstract_loop f.loop_place u.home f.slot o)) u.of_slot each in
+          let fine' : FlowIsCovered table (Transfer.abstract_loop f.loop_place u.home f.slot (Some u.carrier)) =
+          subst (λ o. FlowIsCovered table (Transfer.abstract_loop f.loop_place u.home f.slot o)) u.of_slot each in
           let t = tested table (nat_lt (length u.home.loops) 8 && not (Transfer.among u.home.loops f.slot) && is_inhabited u.carrier) _ fine' in
           let g : Frame = record { loop_place = f.loop_place; slot = f.slot; value = v; remaining = left } in
           let a : loops_around p.code (f.loop_place + 1) ≡ f.loop_place ∷ places fs = around_next p.code f.loop_place (op.Loop f.slot) u.loop ∙ ap (λ qs. f.loop_place ∷ qs) u.around_it in
-          let at_under : AtLoop p table st.parameters g fs st.operands (Under p table st.parameters fs) = record { loop = u.loop; carrier = u.carrier; of_slot = u.of_slot; remaining = w.1; around_it = u.around_it; home = u.home; there = u.there; operands_below = u.operands_below; operands = subst (λ vs. Fits vs u.home.operands u.operands_below) (sym bare) u.operands; deep = u.deep; fit_parameters = u.fit_parameters; fit_loops = u.fit_loops; outer = u.outer } in
-          let c : Covered p table (record st { place = f.loop_place + 1; loops = g ∷ fs }) (record { operands = []; operands_below = length u.home.operands + u.home.operands_below; parameters = u.home.parameters; loops = (f.slot, abstraction_of u.carrier) ∷ u.home.loops; brackets = u.home.brackets; brackets_below = u.home.brackets; roots = u.home.roots }) = record {
+          let at_under : AtLoop p table st.parameters g fs st.operands (Under p table st.parameters fs) =
+          record {
+            loop = u.loop;
+            carrier = u.carrier;
+            of_slot = u.of_slot;
+            remaining = w.1;
+            around_it =
+                u.around_it;
+            home = u.home;
+            there = u.there;
+            operands_below = u.operands_below;
+            operands =
+                subst (λ vs. Fits vs u.home.operands u.operands_below) (sym bare) u.operands;
+            deep =
+                u.deep;
+            fit_parameters = u.fit_parameters;
+            fit_loops = u.fit_loops;
+            outer = u.outer;
+          } in
+          let c : Covered p table (record st { place = f.loop_place + 1; loops = g ∷ fs })
+          (record {
+            operands = [];
+            operands_below = length u.home.operands + u.home.operands_below;
+            parameters =
+                u.home.parameters;
+            loops = (f.slot, abstraction_of u.carrier) ∷ u.home.loops;
+            brackets =
+                u.home.brackets;
+            brackets_below = u.home.brackets;
+            roots = u.home.roots;
+          }) = record {
             rest = st.operands;
             operands = refl;
             deep = ap length bare ∙ fits_length cov.rest u.home.operands u.operands_below u.operands ∙ ap (λ m. length u.home.operands + m) u.deep;
@@ -124,7 +214,9 @@ module _ (p : Program) (table : Table) (ok : Accepted p table) where
             written = omega arith;
           }
 
-      choose : (f : Frame) (fs : List Frame) (left : List TaggedValue) → st.loops ≡ f ∷ fs → f.remaining ≡ left → (u : AtLoop p table st.parameters f fs cov.rest (Under p table st.parameters fs)) → IsSafeStep p table st op.Next (Machine.next_turn st f fs left)
+      choose : (f : Frame) (fs : List Frame) (left : List TaggedValue) → st.loops ≡ f ∷ fs → f.remaining ≡ left
+          → (u : AtLoop p table st.parameters f fs cov.rest (Under p table st.parameters fs))
+          → IsSafeStep p table st op.Next (Machine.next_turn st f fs left)
       choose f fs [] e l u = out f fs e u (same_home f fs e u)
       choose f fs (v ∷ left) e l u = back f fs v left e l u (same_home f fs e u)
 

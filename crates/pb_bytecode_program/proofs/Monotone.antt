@@ -104,11 +104,33 @@ set_loop_covers (l ∷ ls) (m ∷ ms) i s t c d = pick (i == l.0) (i == m.0) (ap
 slot_shape_covers : (k m : AbstractState) (i : ℕ) (s t : AbstractValue) → IsCovered k m → Covers s t → IsCovered (set_slot k i s) (set_slot m i t)
 slot_shape_covers k m i s t c d = pick (among k.loops i) (among m.loops i) (among_same k.loops m.loops i c.loops)
   where
-    pick : (b a : Bool) → b ≡ a → IsCovered (cond b (record k { loops = set_loop k.loops i s }) (record k { parameters = set_param k.parameters i s })) (cond a (record m { loops = set_loop m.loops i t }) (record m { parameters = set_param m.parameters i t }))
-    pick true true e = record { operands = c.operands; operands_below = c.operands_below; parameters = c.parameters; loops = set_loop_covers k.loops m.loops i s t c.loops d; brackets = c.brackets; brackets_below = c.brackets_below; roots = c.roots }
+    pick : (b a : Bool) → b ≡ a
+        → IsCovered (cond b (record k { loops = set_loop k.loops i s }) (record k { parameters = set_param k.parameters i s }))
+        (cond a (record m { loops = set_loop m.loops i t }) (record m { parameters = set_param m.parameters i t }))
+    pick true true e =
+        record {
+          operands = c.operands;
+          operands_below = c.operands_below;
+          parameters = c.parameters;
+          loops = set_loop_covers k.loops m.loops i s t c.loops d;
+          brackets =
+              c.brackets;
+          brackets_below = c.brackets_below;
+          roots = c.roots;
+        }
     pick true false e = cc
     pick false true e = cc
-    pick false false e = record { operands = c.operands; operands_below = c.operands_below; parameters = set_covers k.parameters m.parameters i s t c.parameters d; loops = c.loops; brackets = c.brackets; brackets_below = c.brackets_below; roots = c.roots }
+    pick false false e =
+        record {
+          operands = c.operands;
+          operands_below = c.operands_below;
+          parameters = set_covers k.parameters m.parameters i s t c.parameters d;
+          loops = c.loops;
+          brackets =
+              c.brackets;
+          brackets_below = c.brackets_below;
+          roots = c.roots;
+        }
 
 accepts_less : (s t : AbstractValue) (c : Carrier) → Covers s t → accepts t c ≡ true → accepts s c ≡ true
 accepts_less abstract.Bool abstract.Bool c d e = e
@@ -173,13 +195,15 @@ same_kind_less (abstract.Enum u1 n1) (abstract.Enum u2 n2) (abstract.Enum u3 n3)
 -- ---- each rule
 
 module _ (P Q : ℕ → AbstractState → Type 0) (down : (to : ℕ) (k m : AbstractState) → IsCovered k m → P to m → Q to k) where
-  less_any : (ss ts : List AbstractValue) (f g : AbstractValue → List AbstractValue → Flow) → CoversEach ss ts → ((s t : AbstractValue) (us vs : List AbstractValue) → Covers s t → CoversEach us vs → Holds P (g t vs) → Holds Q (f s us)) → Holds P (abstract_pop ts g) → Holds Q (abstract_pop ss f)
+  less_any : (ss ts : List AbstractValue) (f g : AbstractValue → List AbstractValue → Flow) → CoversEach ss ts
+      → ((s t : AbstractValue) (us vs : List AbstractValue) → Covers s t → CoversEach us vs → Holds P (g t vs) → Holds Q (f s us)) → Holds P (abstract_pop ts g) → Holds Q (abstract_pop ss f)
   less_any [] [] f g c k h = absurd h
   less_any [] (t ∷ ts) f g c k h = absurd c
   less_any (s ∷ ss) [] f g c k h = absurd c
   less_any (s ∷ ss) (t ∷ ts) f g c k h = k s t ss ts c.0 c.1 h
 
-  less_int : (ss ts : List AbstractValue) (f g : ℤ → ℤ → List AbstractValue → Flow) → CoversEach ss ts → ((l h m n : ℤ) (us vs : List AbstractValue) → Inside l h m n → CoversEach us vs → Holds P (g m n vs) → Holds Q (f l h us)) → Holds P (abstract_pop_int ts g) → Holds Q (abstract_pop_int ss f)
+  less_int : (ss ts : List AbstractValue) (f g : ℤ → ℤ → List AbstractValue → Flow) → CoversEach ss ts
+      → ((l h m n : ℤ) (us vs : List AbstractValue) → Inside l h m n → CoversEach us vs → Holds P (g m n vs) → Holds Q (f l h us)) → Holds P (abstract_pop_int ts g) → Holds Q (abstract_pop_int ss f)
   less_int ss [] f g c k h = absurd h
   less_int ss (abstract.Bool ∷ ts) f g c k h = absurd h
   less_int ss (abstract.Enum u n ∷ ts) f g c k h = absurd h
@@ -188,7 +212,8 @@ module _ (P Q : ℕ → AbstractState → Type 0) (down : (to : ℕ) (k m : Abst
   less_int (abstract.Enum u v ∷ ss) (abstract.Int m n ∷ ts) f g c k h = absurd c.0
   less_int (abstract.Int l o ∷ ss) (abstract.Int m n ∷ ts) f g c k h = k l o m n ss ts c.0 c.1 h
 
-  less_bool : (ss ts : List AbstractValue) (f g : List AbstractValue → Flow) → CoversEach ss ts → ((us vs : List AbstractValue) → CoversEach us vs → Holds P (g vs) → Holds Q (f us)) → Holds P (abstract_pop_bool ts g) → Holds Q (abstract_pop_bool ss f)
+  less_bool : (ss ts : List AbstractValue) (f g : List AbstractValue → Flow) → CoversEach ss ts
+      → ((us vs : List AbstractValue) → CoversEach us vs → Holds P (g vs) → Holds Q (f us)) → Holds P (abstract_pop_bool ts g) → Holds Q (abstract_pop_bool ss f)
   less_bool ss [] f g c k h = absurd h
   less_bool ss (abstract.Int l u ∷ ts) f g c k h = absurd h
   less_bool ss (abstract.Enum u n ∷ ts) f g c k h = absurd h
@@ -205,14 +230,16 @@ module _ (P Q : ℕ → AbstractState → Type 0) (down : (to : ℕ) (k m : Abst
   less_unless false a F H e k h = rw (e refl) (k refl h)
   less_unless true a F H e k h = absurd h
 
-  less_args : (cs : List Carrier) (ss ts : List AbstractValue) (f g : List AbstractValue → Flow) → CoversEach ss ts → ((us vs : List AbstractValue) → CoversEach us vs → Holds P (g vs) → Holds Q (f us)) → Holds P (abstract_pop_args cs ts g) → Holds Q (abstract_pop_args cs ss f)
+  less_args : (cs : List Carrier) (ss ts : List AbstractValue) (f g : List AbstractValue → Flow) → CoversEach ss ts
+      → ((us vs : List AbstractValue) → CoversEach us vs → Holds P (g vs) → Holds Q (f us)) → Holds P (abstract_pop_args cs ts g) → Holds Q (abstract_pop_args cs ss f)
   less_args [] ss ts f g c k h = k ss ts c h
   less_args (d ∷ cs) ss [] f g c k h = absurd h
   less_args (d ∷ cs) [] (t ∷ ts) f g c k h = absurd c
   less_args (d ∷ cs) (s ∷ ss) (t ∷ ts) f g c k h =
       by (accepts t d) (accepts s d) (accepts_less s t d c.0) (less_args cs ss ts f g c.1 k) h
     where
-      by : (b a : Bool) → (b ≡ true → a ≡ true) → (Holds P (abstract_pop_args cs ts g) → Holds Q (abstract_pop_args cs ss f)) → Holds P (cond b (abstract_pop_args cs ts g) None) → Holds Q (cond a (abstract_pop_args cs ss f) None)
+      by : (b a : Bool) → (b ≡ true → a ≡ true) → (Holds P (abstract_pop_args cs ts g) → Holds Q (abstract_pop_args cs ss f)) → Holds P (cond b (abstract_pop_args cs ts g) None)
+          → Holds Q (cond a (abstract_pop_args cs ss f) None)
       by true a e r h = rw (e refl) (r h)
       by false a e r h = absurd h
 
@@ -221,13 +248,15 @@ module _ (P Q : ℕ → AbstractState → Type 0) (down : (to : ℕ) (k m : Abst
   less_root n r zero zero f g e d k h = rw (e, d) (k 1 h)
   less_root n r zero (suc s) f g e d k h = absurd h
 
-  less_when : (b a : Bool) (to : ℕ) (k m : AbstractState) (es fs : List Edge) → (a ≡ true → (b ≡ true) × IsCovered k m) → (AllEdges P fs → AllEdges Q es) → AllEdges P (when b (record { to = to; state = m }) ++ fs) → AllEdges Q (when a (record { to = to; state = k }) ++ es)
+  less_when : (b a : Bool) (to : ℕ) (k m : AbstractState) (es fs : List Edge) → (a ≡ true → (b ≡ true) × IsCovered k m) → (AllEdges P fs → AllEdges Q es)
+      → AllEdges P (when b (record { to = to; state = m }) ++ fs) → AllEdges Q (when a (record { to = to; state = k }) ++ es)
   less_when true true to k m es fs c r h = (down to k m (c refl).1 h.0, r h.1)
   less_when true false to k m es fs c r h = r h.1
   less_when false true to k m es fs c r h = let x = (c refl).0 in cc
   less_when false false to k m es fs c r h = r h
 
-  less_last : (b a : Bool) (to : ℕ) (k m : AbstractState) → (a ≡ true → (b ≡ true) × IsCovered k m) → AllEdges P (when b (record { to = to; state = m })) → AllEdges Q (when a (record { to = to; state = k }))
+  less_last : (b a : Bool) (to : ℕ) (k m : AbstractState) → (a ≡ true → (b ≡ true) × IsCovered k m) → AllEdges P (when b (record { to = to; state = m }))
+      → AllEdges Q (when a (record { to = to; state = k }))
   less_last true true to k m c h = (down to k m (c refl).1 h.0, tt)
   less_last true false to k m c h = tt
   less_last false true to k m c h = let x = (c refl).0 in cc
@@ -236,7 +265,8 @@ module _ (P Q : ℕ → AbstractState → Type 0) (down : (to : ℕ) (k m : Abst
   module _ (k m : AbstractState) (c : IsCovered k m) where
     -- other operands
     operands_less : (ss ts : List AbstractValue) → CoversEach ss ts → IsCovered (record k { operands = ss }) (record m { operands = ts })
-    operands_less ss ts d = record { operands = d; operands_below = c.operands_below; parameters = c.parameters; loops = c.loops; brackets = c.brackets; brackets_below = c.brackets_below; roots = c.roots }
+    operands_less ss ts d =
+        record { operands = d; operands_below = c.operands_below; parameters = c.parameters; loops = c.loops; brackets = c.brackets; brackets_below = c.brackets_below; roots = c.roots }
 
     less_give : (q : ℕ) (ss ts : List AbstractValue) (s t : AbstractValue) → CoversEach ss ts → Covers s t → Holds P (abstract_push q m ts t) → Holds Q (abstract_push q k ss s)
     less_give q ss ts s t d e h =
@@ -248,7 +278,8 @@ module _ (P Q : ℕ → AbstractState → Type 0) (down : (to : ℕ) (k m : Abst
     less_give_int q ss ts l h l' h' d e x =
         less_if (fits64 l' h') (fits64 l h) _ _ (fits_less l h l' h' e) (λ y z. less_give q ss ts (abstract.Int l h) (abstract.Int l' h') d e z) x
 
-    less_split : (q to : ℕ) (l h l' h' low high : ℤ) (k1 m1 k2 m2 : AbstractState) → Inside l h l' h' → (int_le l high && int_le low h ≡ true → IsCovered k1 m1) → IsCovered k2 m2 → Holds P (range_edges q to l' h' low high m1 m2) → Holds Q (range_edges q to l h low high k1 k2)
+    less_split : (q to : ℕ) (l h l' h' low high : ℤ) (k1 m1 k2 m2 : AbstractState) → Inside l h l' h' → (int_le l high && int_le low h ≡ true → IsCovered k1 m1) → IsCovered k2 m2
+        → Holds P (range_edges q to l' h' low high m1 m2) → Holds Q (range_edges q to l h low high k1 k2)
     less_split q to l h l' h' low high k1 m1 k2 m2 i c1 c2 x =
         less_when (int_le l' high && int_le low h') (int_le l high && int_le low h) (q + 1) k1 m1 _ _
         (λ e.
@@ -282,12 +313,15 @@ module _ (P Q : ℕ → AbstractState → Type 0) (down : (to : ℕ) (k m : Abst
         let d = i.2 in
         (omega (arith, ints, clamps), omega (arith, ints, clamps), omega (arith, ints, clamps))
 
-    less_get : (q : ℕ) (s t : Option AbstractValue) → SlotCovers s t → Holds P (with_abstract_slot t (λ u. abstract_push q m m.operands u)) → Holds Q (with_abstract_slot s (λ u. abstract_push q k k.operands u))
+    less_get : (q : ℕ) (s t : Option AbstractValue) → SlotCovers s t → Holds P (with_abstract_slot t (λ u. abstract_push q m m.operands u))
+        → Holds Q (with_abstract_slot s (λ u. abstract_push q k k.operands u))
     less_get q s None d h = absurd h
     less_get q None (Some t) d h = absurd d
     less_get q (Some s) (Some t) d h = less_give q k.operands m.operands s t c.operands d h
 
-    less_slot_range : (q j to : ℕ) (low high : ℤ) (s t : Option AbstractValue) → low ≤ℤ high → SlotCovers s t → Holds P (with_abstract_slot t (λ u. with_interval u (λ l h. range_edges q to l h low high (set_slot m j (abstract.Int (int_max l low) (int_min h high))) m))) → Holds Q (with_abstract_slot s (λ u. with_interval u (λ l h. range_edges q to l h low high (set_slot k j (abstract.Int (int_max l low) (int_min h high))) k)))
+    less_slot_range : (q j to : ℕ) (low high : ℤ) (s t : Option AbstractValue) → low ≤ℤ high → SlotCovers s t
+        → Holds P (with_abstract_slot t (λ u. with_interval u (λ l h. range_edges q to l h low high (set_slot m j (abstract.Int (int_max l low) (int_min h high))) m)))
+        → Holds Q (with_abstract_slot s (λ u. with_interval u (λ l h. range_edges q to l h low high (set_slot k j (abstract.Int (int_max l low) (int_min h high))) k)))
     less_slot_range q j to low high s None o d h = absurd h
     less_slot_range q j to low high s (Some abstract.Bool) o d h = absurd h
     less_slot_range q j to low high s (Some (abstract.Enum u n)) o d h = absurd h
@@ -297,13 +331,27 @@ module _ (P Q : ℕ → AbstractState → Type 0) (down : (to : ℕ) (k m : Abst
     less_slot_range q j to low high (Some (abstract.Int l h)) (Some (abstract.Int l' h')) o d x =
         less_split q to l h l' h' low high _ _ k m d (λ e. slot_shape_covers k m j _ _ c (cut_less l h l' h' low high d o e)) c x
 
-    less_close : (q n n' f f' : ℕ) → n ≡ n' → f ≡ f' → Holds P (abstract_close f' n' (λ u. to_next_place q (record m { brackets = u }))) → Holds Q (abstract_close f n (λ u. to_next_place q (record k { brackets = u })))
+    less_close : (q n n' f f' : ℕ) → n ≡ n' → f ≡ f' → Holds P (abstract_close f' n' (λ u. to_next_place q (record m { brackets = u })))
+        → Holds Q (abstract_close f n (λ u. to_next_place q (record k { brackets = u })))
     less_close q n zero f f' e d h = absurd h
     less_close q zero (suc n') f f' e d h = absurd (omega arith)
     less_close q (suc n) (suc n') f f' e d h =
         let same : n ≡ n' = omega arith in
         less_if (nat_le f' n') (nat_le f n) _ _ (λ x. ap (λ a. nat_le a n) d ∙ ap (nat_le f') same ∙ x)
-        (λ x h'. (down (q + 1) _ _ (record { operands = c.operands; operands_below = c.operands_below; parameters = c.parameters; loops = c.loops; brackets = same; brackets_below = c.brackets_below; roots = c.roots }) h'.0, tt)) h
+        (λ x h'. (
+          down (q + 1) _ _
+              (record {
+                operands = c.operands;
+                operands_below = c.operands_below;
+                parameters = c.parameters;
+                loops = c.loops;
+                brackets = same;
+                brackets_below =
+                    c.brackets_below;
+                roots = c.roots;
+              }) h'.0,
+          tt,
+        )) h
 
     less_end : (ls ms : List (ℕ × AbstractValue)) (n n' r r' : ℕ) → CoversLoops ls ms → n ≡ n' → r ≡ r' → Holds P (abstract_end ms n' r') → Holds Q (abstract_end ls n r)
     less_end [] [] n zero r zero d e f h = absurd h
@@ -318,7 +366,22 @@ module _ (P Q : ℕ → AbstractState → Type 0) (down : (to : ℕ) (k m : Abst
     less_loop q j (Some b) h =
         less_if (nat_lt (length m.loops) 8 && not (among m.loops j) && is_inhabited b) (nat_lt (length k.loops) 8 && not (among k.loops j) && is_inhabited b) _ _
         (λ x. rw (loops_same_length k.loops m.loops c.loops, among_same k.loops m.loops j c.loops) x)
-        (λ x h'. (down (q + 1) _ _ (record { operands = tt; operands_below = ap (λ n. n + k.operands_below) (each_length k.operands m.operands c.operands) ∙ ap (λ n. length m.operands + n) c.operands_below; parameters = c.parameters; loops = (refl, self_covers b (and_parts (nat_lt (length m.loops) 8 && not (among m.loops j)) (is_inhabited b) x).1, c.loops); brackets = c.brackets; brackets_below = c.brackets; roots = c.roots }) h'.0, tt)) h
+        (λ x h'. (
+          down (q + 1) _ _
+              (record {
+                operands = tt;
+                operands_below =
+                    ap (λ n. n + k.operands_below) (each_length k.operands m.operands c.operands) ∙ ap (λ n. length m.operands + n) c.operands_below;
+                parameters = c.parameters;
+                loops =
+                    (refl, self_covers b (and_parts (nat_lt (length m.loops) 8 && not (among m.loops j)) (is_inhabited b) x).1, c.loops);
+                brackets = c.brackets;
+                brackets_below =
+                    c.brackets;
+                roots = c.roots;
+              }) h'.0,
+          tt,
+        )) h
 
     less_next : (q : ℕ) (ss ts : List AbstractValue) (g h : Option AbstractState) → CoversEach ss ts → IsCoveredAtLoop g h → Holds P (abstract_next q m ts h) → Holds Q (abstract_next q k ss g)
     less_next q ss ts g None d e x = absurd x
@@ -335,7 +398,20 @@ module _ (P Q : ℕ → AbstractState → Type 0) (down : (to : ℕ) (k m : Abst
     less_call q (Some cs) h =
         less_args (reverse cs) k.operands m.operands _ _ c.operands
         (λ us vs d h'. less_root k.brackets k.roots m.brackets m.roots _ _ c.brackets c.roots
-        (λ r h''. (down (q + 1) _ _ (record { operands = d; operands_below = c.operands_below; parameters = c.parameters; loops = c.loops; brackets = c.brackets; brackets_below = c.brackets_below; roots = refl }) h''.0, tt)) h') h
+        (λ r h''. (
+          down (q + 1) _ _
+              (record {
+                operands = d;
+                operands_below = c.operands_below;
+                parameters = c.parameters;
+                loops = c.loops;
+                brackets = c.brackets;
+                brackets_below =
+                    c.brackets_below;
+                roots = refl;
+              }) h''.0,
+          tt,
+        )) h') h
 
     pub transfer-covers : (p : Program) (g h : Option AbstractState) (q : ℕ) (i : Op) → HasOrderedRange i → IsCoveredAtLoop g h → Holds P (transfer p h q i m) → Holds Q (transfer p g q i k)
     transfer-covers p g h q op.End w e x = less_end k.loops m.loops k.brackets m.brackets k.roots m.roots c.loops c.brackets c.roots x
@@ -344,7 +420,8 @@ module _ (P Q : ℕ → AbstractState → Type 0) (down : (to : ℕ) (k m : Abst
     transfer-covers p g h q (op.PushEnum s j) w e x =
         less_if (enum_fits (slice_get p.sorts s) j) (enum_fits (slice_get p.sorts s) j) _ _ (λ y. y)
         (λ y z. less_give q k.operands m.operands (abstract.Enum s (count_or_zero (slice_get p.sorts s))) (abstract.Enum s (count_or_zero (slice_get p.sorts s))) c.operands (refl, omega arith) z) x
-    transfer-covers p g h q (op.Get j) w e x = less_get q (abstract_slot k.loops k.parameters j) (abstract_slot m.loops m.parameters j) (slot_covers k.loops m.loops k.parameters m.parameters j c.loops c.parameters) x
+    transfer-covers p g h q (op.Get j) w e x =
+        less_get q (abstract_slot k.loops k.parameters j) (abstract_slot m.loops m.parameters j) (slot_covers k.loops m.loops k.parameters m.parameters j c.loops c.parameters) x
     transfer-covers p g h q op.Pop w e x =
         less_any k.operands m.operands _ _ c.operands (λ s t us vs d f y. (down (q + 1) _ _ (operands_less us vs f) y.0, tt)) x
     transfer-covers p g h q (op.Arithmetic a) w e x =
@@ -353,7 +430,10 @@ module _ (P Q : ℕ → AbstractState → Type 0) (down : (to : ℕ) (k m : Abst
         (λ l1 h1 l2 h2 us' vs' j f' y'. less_unless (divides a && int_lt m2 (pos 1)) (divides a && int_lt m1 (pos 1)) _ _
         (λ z. no_divisor (divides a) m2 m1 z i.0)
         (λ z z'. less_give_int q us' vs' _ _ _ _ f' (interval_less a l1 h1 m1 n1 l2 h2 m2 n2 j i (λ d. divisor (divides a) m2 z d)) z') y') y) x
-    transfer-covers p g h q op.Negate w e x = less_int k.operands m.operands _ _ c.operands (λ l h m' n us vs i f y. less_give_int q us vs (neg_ℤ h) (neg_ℤ l) (neg_ℤ n) (neg_ℤ m') f (let a = i.0 in let b = i.1 in let d = i.2 in (omega (arith, ints), omega (arith, ints), omega (arith, ints))) y) x
+    transfer-covers p g h q op.Negate w e x =
+        less_int k.operands m.operands _ _ c.operands
+        (λ l h m' n us vs i f y. less_give_int q us vs (neg_ℤ h) (neg_ℤ l) (neg_ℤ n) (neg_ℤ m') f
+        (let a = i.0 in let b = i.1 in let d = i.2 in (omega (arith, ints), omega (arith, ints), omega (arith, ints))) y) x
     transfer-covers p g h q op.Absolute w e x = less_int k.operands m.operands _ _ c.operands (λ l h m' n us vs i f y. less_give_int q us vs _ _ _ _ f (absolute_less l h m' n i) y) x
     transfer-covers p g h q (op.Compare o) w e x =
         less_int k.operands m.operands _ _ c.operands (λ m1 n1 m2 n2 us vs i f y. less_int us vs _ _ f (λ l1 h1 l2 h2 us' vs' j f' y'. less_give q us' vs' abstract.Bool abstract.Bool f' tt y') y) x
@@ -361,24 +441,54 @@ module _ (P Q : ℕ → AbstractState → Type 0) (down : (to : ℕ) (k m : Abst
         less_any k.operands m.operands _ _ c.operands (λ s t us vs d f y. less_any us vs _ _ f
         (λ s' t' us' vs' d' f' y'. less_if (same_kind t' t) (same_kind s' s) _ _ (same_kind_less s' s t' t d' d) (λ z z'. less_give q us' vs' abstract.Bool abstract.Bool f' tt z') y') y) x
     transfer-covers p g h q op.Not w e x = less_bool k.operands m.operands _ _ c.operands (λ us vs f y. less_give q us vs abstract.Bool abstract.Bool f tt y) x
-    transfer-covers p g h q (op.Logic b) w e x = less_bool k.operands m.operands _ _ c.operands (λ us vs f y. less_bool us vs _ _ f (λ us' vs' f' y'. less_give q us' vs' abstract.Bool abstract.Bool f' tt y') y) x
+    transfer-covers p g h q (op.Logic b) w e x =
+        less_bool k.operands m.operands _ _ c.operands (λ us vs f y. less_bool us vs _ _ f (λ us' vs' f' y'. less_give q us' vs' abstract.Bool abstract.Bool f' tt y') y) x
     transfer-covers p g h q (op.Jump to) w e x = (down to k m c x.0, tt)
-    transfer-covers p g h q (op.JumpIf b to) w e x = less_bool k.operands m.operands _ _ c.operands (λ us vs f y. (down (q + 1) _ _ (operands_less us vs f) y.0, (down to _ _ (operands_less us vs f) y.1.0, tt))) x
+    transfer-covers p g h q (op.JumpIf b to) w e x =
+        less_bool k.operands m.operands _ _ c.operands (λ us vs f y. (down (q + 1) _ _ (operands_less us vs f) y.0, (down to _ _ (operands_less us vs f) y.1.0, tt))) x
     transfer-covers p g h q (op.InRange low high to) w e x =
         less_int k.operands m.operands _ _ c.operands (λ l h' m' n us vs i f y. less_split q to l h' m' n low high _ _ _ _ i
         (λ t. operands_less (abstract.Int (int_max l low) (int_min h' high) ∷ us) (abstract.Int (int_max m' low) (int_min n high) ∷ vs) (cut_less l h' m' n low high i w t, f))
         (operands_less (abstract.Int l h' ∷ us) (abstract.Int m' n ∷ vs) (i, f)) y) x
-    transfer-covers p g h q (op.SlotInRange j low high to) w e x = less_slot_range q j to low high (abstract_slot k.loops k.parameters j) (abstract_slot m.loops m.parameters j) w (slot_covers k.loops m.loops k.parameters m.parameters j c.loops c.parameters) x
+    transfer-covers p g h q (op.SlotInRange j low high to) w e x =
+        less_slot_range q j to low high (abstract_slot k.loops k.parameters j) (abstract_slot m.loops m.parameters j) w
+        (slot_covers k.loops m.loops k.parameters m.parameters j c.loops c.parameters) x
     transfer-covers p g h q (op.Loop j) w e x = less_loop q j (carrier_of p j) x
     transfer-covers p g h q op.Next w e x = less_next q k.operands m.operands g h c.operands e x
     transfer-covers p g h q (op.Open b) w e x =
         less_if (nat_lt m.brackets 32) (nat_lt k.brackets 32) _ _ (λ y. ap (λ n. nat_lt n 32) c.brackets ∙ y)
         (λ y z. less_root k.brackets k.roots m.brackets m.roots _ _ c.brackets c.roots
-        (λ r z'. (down (q + 1) _ _ (record { operands = c.operands; operands_below = c.operands_below; parameters = c.parameters; loops = c.loops; brackets = ap (λ n. n + 1) c.brackets; brackets_below = c.brackets_below; roots = refl }) z'.0, tt)) z) x
+        (λ r z'. (
+          down (q + 1) _ _
+              (record {
+                operands = c.operands;
+                operands_below = c.operands_below;
+                parameters = c.parameters;
+                loops = c.loops;
+                brackets =
+                    ap (λ n. n + 1) c.brackets;
+                brackets_below = c.brackets_below;
+                roots = refl;
+              }) z'.0,
+          tt,
+        )) z) x
     transfer-covers p g h q op.Close w e x = less_close q k.brackets m.brackets k.brackets_below m.brackets_below c.brackets c.brackets_below x
     transfer-covers p g h q (op.Emit l) w e x =
         less_root k.brackets k.roots m.brackets m.roots _ _ c.brackets c.roots
-        (λ r z. (down (q + 1) _ _ (record { operands = c.operands; operands_below = c.operands_below; parameters = c.parameters; loops = c.loops; brackets = c.brackets; brackets_below = c.brackets_below; roots = refl }) z.0, tt)) x
+        (λ r z. (
+          down (q + 1) _ _
+              (record {
+                operands = c.operands;
+                operands_below = c.operands_below;
+                parameters = c.parameters;
+                loops = c.loops;
+                brackets = c.brackets;
+                brackets_below =
+                    c.brackets_below;
+                roots = refl;
+              }) z.0,
+          tt,
+        )) x
     transfer-covers p g h q (op.Call eq) w e x = less_call q (slice_get p.callees eq) x
 
 -- ---- the law

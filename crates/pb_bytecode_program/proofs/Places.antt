@@ -122,7 +122,10 @@ Closes is q st = (m : ℕ) (i : Op) → slice_get is m ≡ Some i → loop_effec
 
 -- where the loops around are the same again, what is between pairs
 module _ (base : List ℕ) (k : ℕ) (all : AllBelow k base) where
-  paired_turn : (t : LoopEffect) (is : List Op) (q : ℕ) (ex : List ℕ) (n : ℕ) → k ≤ q → (t ≡ Leaves → 0 < length (ex ++ base)) → loops_open_after is (q + 1) (loops_after t q (ex ++ base)) n ≡ base → ((ex' : List ℕ) → ex' ++ base ≡ loops_after t q (ex ++ base) → loops_open_after is (q + 1) (ex' ++ base) n ≡ base → Paired is n (length ex')) → PairedBy t n (length ex) (Paired is n)
+  paired_turn : (t : LoopEffect) (is : List Op) (q : ℕ) (ex : List ℕ) (n : ℕ) → k ≤ q
+      → (t ≡ Leaves → 0 < length (ex ++ base)) → loops_open_after is (q + 1) (loops_after t q (ex ++ base)) n ≡ base
+      → ((ex' : List ℕ) → ex' ++ base ≡ loops_after t q (ex ++ base)
+      → loops_open_after is (q + 1) (ex' ++ base) n ≡ base → Paired is n (length ex')) → PairedBy t n (length ex) (Paired is n)
   paired_turn (Enters i) is q ex n h c e f = f (q ∷ ex) refl e
   paired_turn Leaves is q (x ∷ ex) n h c e f = f ex refl e
   paired_turn Leaves is q [] n h c e f = lost base all (c refl) refl e
@@ -138,13 +141,18 @@ module _ (base : List ℕ) (k : ℕ) (all : AllBelow k base) where
   paired_from [] q ex n h c e = omega (arith, ap length e, length-append ex base)
   paired_from (i ∷ is) q ex zero h c e = omega (arith, ap length e, length-append ex base)
   paired_from (i ∷ is) q ex (suc n) h c e =
-      paired_turn (loop_effect i) is q ex n h (λ w. c 0 i refl w) e (λ ex' s e'. paired_from is (q + 1) ex' n (omega arith) (λ m j at w. subst (λ st. 0 < length (loops_open_after is (q + 1) st m)) (sym s) (c (suc m) j at w)) e')
+      paired_turn (loop_effect i) is q ex n h (λ w. c 0 i refl w) e
+      (λ ex' s e'. paired_from is (q + 1) ex' n (omega arith)
+      (λ m j at w. subst (λ st. 0 < length (loops_open_after is (q + 1) st m)) (sym s) (c (suc m) j at w)) e')
 
 -- a later place with the same loops around it
-pub paired : (code : List Op) (q n : ℕ) → ((m : ℕ) (i : Op) → slice_get code m ≡ Some i → loop_effect i ≡ Leaves → 0 < length (loops_around code m)) → loops_around code (q + n) ≡ loops_around code q → Paired (drop q code) n 0
+pub paired : (code : List Op) (q n : ℕ)
+    → ((m : ℕ) (i : Op) → slice_get code m ≡ Some i → loop_effect i ≡ Leaves → 0 < length (loops_around code m))
+    → loops_around code (q + n) ≡ loops_around code q → Paired (drop q code) n 0
 paired code q n c e =
     let z : 0 + q ≡ q = omega arith in
-    let range_edges : (m : ℕ) → loops_around code (q + m) ≡ loops_open_after (drop q code) q (loops_around code q) m = λ m. open_split code 0 [] q m ∙ ap (λ r. loops_open_after (drop q code) r (loops_around code q) m) z in
+    let range_edges : (m : ℕ) → loops_around code (q + m) ≡ loops_open_after (drop q code) q (loops_around code q) m =
+    λ m. open_split code 0 [] q m ∙ ap (λ r. loops_open_after (drop q code) r (loops_around code q) m) z in
     paired_from (loops_around code q) q (around_below code q) (drop q code) q [] n (omega arith)
     (λ m i at w. subst (λ st. 0 < length st) (range_edges m) (c (q + m) i (sym (get_drop code q m) ∙ at) w))
     (sym (range_edges n) ∙ e)
@@ -152,7 +160,9 @@ paired code q n c e =
 -- ---- counts
 
 module _ (p : Program) (cost : Op → ℕ) where
-  dropped_turn : (t : LoopEffect) (c n : ℕ) (is : List Op) (ws : List ℕ) → PairedBy t n (length ws) (Paired is n) → ((us : List ℕ) → Paired is n (length us) → cost_of p cost (drop n is) [] ≤ cost_of p cost is us) → cost_of p cost (drop n is) [] ≤ cost_by p t c ws (cost_of p cost is)
+  dropped_turn : (t : LoopEffect) (c n : ℕ) (is : List Op) (ws : List ℕ) → PairedBy t n (length ws) (Paired is n)
+      → ((us : List ℕ) → Paired is n (length us) → cost_of p cost (drop n is) [] ≤ cost_of p cost is us)
+      → cost_of p cost (drop n is) [] ≤ cost_by p t c ws (cost_of p cost is)
   dropped_turn (Enters i) c n is ws h f = omega (arith, f (multiplier ws * carrier_size (carrier_of p i) ∷ ws) h)
   dropped_turn Leaves c n is [] h f = absurd h
   dropped_turn Leaves c n is (w ∷ ws) h f = omega (arith, f ws h)
@@ -178,7 +188,11 @@ module _ (p : Program) (cost : Op → ℕ) where
   ring n t c x y = rw (mul-add n (t * c) x, mul_assoc n t c) (omega arith)
 
   -- a body that runs n times, and what follows it
-  scale_turn : (t : LoopEffect) (c n : ℕ) (is : List Op) (ws : List ℕ) → ((us : List ℕ) → cost_of p cost is (scaled n us) ≡ n * cost_of p cost is us + cost_of p cost (after_body is (length us)) []) → cost_by p t c (scaled n ws) (cost_of p cost is) ≡ n * cost_by p t c ws (cost_of p cost is) + cost_of p cost (after_by t (length ws) is (after_body is)) []
+  scale_turn : (t : LoopEffect) (c n : ℕ) (is : List Op) (ws : List ℕ)
+      → ((us : List ℕ)
+      → cost_of p cost is (scaled n us) ≡ n * cost_of p cost is us + cost_of p cost (after_body is (length us)) [])
+      → cost_by p t c (scaled n ws) (cost_of p cost is)
+      ≡ n * cost_by p t c ws (cost_of p cost is) + cost_of p cost (after_by t (length ws) is (after_body is)) []
   scale_turn (Enters i) c n is ws f =
       let e : n * multiplier ws * carrier_size (carrier_of p i) ≡ n * (multiplier ws * carrier_size (carrier_of p i)) = mul_assoc n (multiplier ws) (carrier_size (carrier_of p i)) in
       rw (times_scaled n ws, e, f (multiplier ws * carrier_size (carrier_of p i) ∷ ws)) (ring n (multiplier ws) c _ _)
@@ -204,7 +218,8 @@ after_dropped [] (suc n) d h = refl
 after_dropped (i ∷ is) zero d h = ap (after_body (i ∷ is)) (sym h)
 after_dropped (i ∷ is) (suc n) d h = dropped_by (loop_effect i) is _ n d h (after_dropped is n)
 
-twice_by : (t : LoopEffect) (is : List Op) (d : ℕ) → ((e : ℕ) → after_body (after_body is e) 0 ≡ after_body is (suc e)) → after_body (after_by t d is (after_body is)) 0 ≡ after_by t (suc d) is (after_body is)
+twice_by : (t : LoopEffect) (is : List Op) (d : ℕ) → ((e : ℕ) → after_body (after_body is e) 0 ≡ after_body is (suc e))
+    → after_body (after_by t d is (after_body is)) 0 ≡ after_by t (suc d) is (after_body is)
 twice_by (Enters s) is d f = f (suc d)
 twice_by Leaves is zero f = refl
 twice_by Leaves is (suc d) f = f d
@@ -233,7 +248,8 @@ module _ (p : Program) (cost : Op → ℕ) where
   pub spent_on : (q : ℕ) (i : Op) (fs : List Frame) → slice_get p.code q ≡ Some i → loop_effect i ≡ Straight → left_at (q + 1) fs + cost i ≤ left_at q fs
   spent_on q i fs h s =
       rw (drop-slice_get p.code q i h) (less_from (i ∷ drop (q + 1) p.code) (drop (q + 1) p.code) fs (cost i)
-      (let e : cost_of p cost (i ∷ drop (q + 1) p.code) [] ≡ 1 * cost i + cost_of p cost (drop (q + 1) p.code) [] = ap (λ t. cost_by p t (cost i) [] (cost_of p cost (drop (q + 1) p.code))) s in omega arith)
+      (let e : cost_of p cost (i ∷ drop (q + 1) p.code) [] ≡ 1 * cost i + cost_of p cost (drop (q + 1) p.code) [] =
+      ap (λ t. cost_by p t (cost i) [] (cost_of p cost (drop (q + 1) p.code))) s in omega arith)
       (sym (ap (λ t. after_by t 0 (drop (q + 1) p.code) (after_body (drop (q + 1) p.code))) s)))
 
   pub spent_to : (q n : ℕ) (i : Op) (fs : List Frame) → slice_get p.code q ≡ Some i → loop_effect i ≡ Straight → Paired (drop q p.code) (suc n) 0 → left_at (q + suc n) fs + cost i ≤ left_at q fs
@@ -247,17 +263,25 @@ module _ (p : Program) (cost : Op → ℕ) where
       let less' = subst (λ js. left_from js fs + 0 ≤ left_from is fs) d less in
       omega arith
 
-  entered_from : (is js : List Op) (c n : ℕ) (fs : List Frame) → cost_of p cost js [] ≡ c + (n * cost_of p cost is [] + cost_of p cost is [] + cost_of p cost (after_body is 0) []) → after_body js 0 ≡ after_body (after_body is 0) 0 → cost_of p cost is [] + n * cost_of p cost is [] + left_from (after_body is 0) fs + c ≤ left_from js fs
+  entered_from : (is js : List Op) (c n : ℕ) (fs : List Frame)
+      → cost_of p cost js []
+      ≡ c + (n * cost_of p cost is [] + cost_of p cost is [] + cost_of p cost (after_body is 0) [])
+      → after_body js 0 ≡ after_body (after_body is 0) 0
+      → cost_of p cost is [] + n * cost_of p cost is [] + left_from (after_body is 0) fs + c ≤ left_from js fs
   entered_from is js c n [] e a = omega arith
   entered_from is js c n (f ∷ fs) e a = rw (a, e) (omega arith)
 
   -- LOOP
-  pub spent_in : (q i : ℕ) (o : Op) (f : Frame) (fs : List Frame) → slice_get p.code q ≡ Some o → loop_effect o ≡ Enters i → f.loop_place ≡ q → carrier_size (carrier_of p i) ≡ suc (length f.remaining) → left_at (q + 1) (f ∷ fs) + cost o ≤ left_at q fs
+  pub spent_in : (q i : ℕ) (o : Op) (f : Frame) (fs : List Frame) → slice_get p.code q ≡ Some o
+      → loop_effect o ≡ Enters i → f.loop_place ≡ q → carrier_size (carrier_of p i) ≡ suc (length f.remaining)
+      → left_at (q + 1) (f ∷ fs) + cost o ≤ left_at q fs
   spent_in q i o f fs h s a e =
       let is = drop (q + 1) p.code in
       let one : cost_of p cost (o ∷ is) [] ≡ 1 * cost o + cost_of p cost is (1 * carrier_size (carrier_of p i) ∷ []) = ap (λ t. cost_by p t (cost o) [] (cost_of p cost is)) s in
       let w : 1 * carrier_size (carrier_of p i) ≡ suc (length f.remaining) = omega arith in
-      let two : cost_of p cost is (1 * carrier_size (carrier_of p i) ∷ []) ≡ suc (length f.remaining) * cost_of p cost is [] + cost_of p cost (after_body is 0) [] = ap (λ m. cost_of p cost is (m ∷ [])) w ∙ scale p cost is (suc (length f.remaining)) [] in
+      let two : cost_of p cost is (1 * carrier_size (carrier_of p i) ∷ [])
+      ≡ suc (length f.remaining) * cost_of p cost is [] + cost_of p cost (after_body is 0) [] =
+      ap (λ m. cost_of p cost is (m ∷ [])) w ∙ scale p cost is (suc (length f.remaining)) [] in
       let three : suc (length f.remaining) * cost_of p cost is [] ≡ length f.remaining * cost_of p cost is [] + cost_of p cost is [] = suc-mul (length f.remaining) (cost_of p cost is []) in
       let all : cost_of p cost (o ∷ is) [] ≡ cost o + (length f.remaining * cost_of p cost is [] + cost_of p cost is [] + cost_of p cost (after_body is 0) []) = omega arith in
       let end : after_body (o ∷ is) 0 ≡ after_body (after_body is 0) 0 = ap (λ t. after_by t 0 is (after_body is)) s ∙ sym (after_twice is 0) in
@@ -272,7 +296,10 @@ module _ (p : Program) (cost : Op → ℕ) where
       rw (drop-slice_get p.code q o h, one, two) (omega arith)
 
   -- NEXT, when a value remains
-  pub spent_again : (q n : ℕ) (o : Op) (f g : Frame) (fs : List Frame) → slice_get p.code q ≡ Some o → loop_effect o ≡ Leaves → g.loop_place ≡ f.loop_place → length f.remaining ≡ suc (length g.remaining) → q ≡ f.loop_place + 1 + n → Paired (drop (f.loop_place + 1) p.code) n 0 → left_at (f.loop_place + 1) (g ∷ fs) + cost o ≤ left_at q (f ∷ fs)
+  pub spent_again : (q n : ℕ) (o : Op) (f g : Frame) (fs : List Frame) → slice_get p.code q ≡ Some o
+      → loop_effect o ≡ Leaves → g.loop_place ≡ f.loop_place → length f.remaining ≡ suc (length g.remaining)
+      → q ≡ f.loop_place + 1 + n → Paired (drop (f.loop_place + 1) p.code) n 0
+      → left_at (f.loop_place + 1) (g ∷ fs) + cost o ≤ left_at q (f ∷ fs)
   spent_again q n o f g fs h s a l e pr =
       let is = drop (q + 1) p.code in
       let body = drop (f.loop_place + 1) p.code in
@@ -280,5 +307,7 @@ module _ (p : Program) (cost : Op → ℕ) where
       let here : drop n body ≡ drop q p.code = drop-drop n (f.loop_place + 1) p.code ∙ ap (λ m. drop m p.code) (sym e) in
       let end : after_body body 0 ≡ after_body (drop q p.code) 0 = sym (after_dropped body n 0 pr) ∙ ap (λ js. after_body js 0) here in
       let now : cost_of p cost (drop q p.code) [] ≡ cost o = ap (λ js. cost_of p cost js []) (drop-slice_get p.code q o h) ∙ one in
-      let more : length f.remaining * cost_of p cost body [] ≡ length g.remaining * cost_of p cost body [] + cost_of p cost body [] = ap (λ m. m * cost_of p cost body []) l ∙ suc-mul (length g.remaining) (cost_of p cost body []) in
+      let more : length f.remaining * cost_of p cost body []
+      ≡ length g.remaining * cost_of p cost body [] + cost_of p cost body [] =
+      ap (λ m. m * cost_of p cost body []) l ∙ suc-mul (length g.remaining) (cost_of p cost body []) in
       rw (a, end, now, more) (omega arith)

@@ -80,14 +80,18 @@ pub when_rest : (table : Table) (b : Bool) (e : Edge) (es : List Edge) → AllLe
 when_rest table true e es h = h.1
 when_rest table false e es h = h
 
-pub split_in : (table : Table) (q to : ℕ) (l h low high z : ℤ) (k m : AbstractState) → FlowIsCovered table (Transfer.range_edges q to l h low high k m) → l ≤ℤ z → z ≤ℤ h → (int_le low z && int_le z high) ≡ true → Leads table (record { to = q + 1; state = k })
+pub split_in : (table : Table) (q to : ℕ) (l h low high z : ℤ) (k m : AbstractState)
+    → FlowIsCovered table (Transfer.range_edges q to l h low high k m) → l ≤ℤ z → z ≤ℤ h
+    → (int_le low z && int_le z high) ≡ true → Leads table (record { to = q + 1; state = k })
 split_in table q to l h low high z k m fine a b e =
     let two = and_parts (int_le low z) (int_le z high) e in
     let x = le_true low z two.0 in
     let y = le_true z high two.1 in
     when_lead table _ _ _ fine (and_from (int_le l high) (int_le low h) (from_le l high (omega (arith, ints))) (from_le low h (omega (arith, ints))))
 
-pub split_out : (table : Table) (q to : ℕ) (l h low high z : ℤ) (k m : AbstractState) → FlowIsCovered table (Transfer.range_edges q to l h low high k m) → l ≤ℤ z → z ≤ℤ h → (int_le low z && int_le z high) ≡ false → Leads table (record { to = to; state = m })
+pub split_out : (table : Table) (q to : ℕ) (l h low high z : ℤ) (k m : AbstractState)
+    → FlowIsCovered table (Transfer.range_edges q to l h low high k m) → l ≤ℤ z → z ≤ℤ h
+    → (int_le low z && int_le z high) ≡ false → Leads table (record { to = to; state = m })
 split_out table q to l h low high z k m fine a b e =
     when_lead table _ _ [] (subst (AllLead table) (sym (append-nil _)) (when_rest table _ _ _ fine))
     (not_from_false _ (false_from_ne_true _ (λ t.
@@ -130,9 +134,12 @@ fits_length (v ∷ vs) (s ∷ ss) rest f = let i = fits_length vs ss rest f.1 in
 pub fit_within : (l h z : ℤ) → fits64 l h ≡ true → l ≤ℤ z → z ≤ℤ h → fits64 z z ≡ true
 fit_within l h z e p q =
     let two = and_parts (int_le least64 l) (int_le h greatest64) e in
-    and_from (int_le least64 z) (int_le z greatest64) (from_le least64 z (let w = le_true least64 l two.0 in omega (arith, ints))) (from_le z greatest64 (let w = le_true h greatest64 two.1 in omega (arith, ints)))
+    and_from (int_le least64 z) (int_le z greatest64)
+    (from_le least64 z (let w = le_true least64 l two.0 in omega (arith, ints)))
+    (from_le z greatest64 (let w = le_true h greatest64 two.1 in omega (arith, ints)))
 
-pub ended_ok : (table : Table) (fs : List Frame) (ls : List (ℕ × AbstractValue)) (n m r s : ℕ) (out : List Token) → FitLoops fs ls → n ≡ m → r ≡ s → FlowIsCovered table (Transfer.abstract_end ls m s) → Machine.end_run fs n r out ≡ Ends out
+pub ended_ok : (table : Table) (fs : List Frame) (ls : List (ℕ × AbstractValue)) (n m r s : ℕ) (out : List Token)
+    → FitLoops fs ls → n ≡ m → r ≡ s → FlowIsCovered table (Transfer.abstract_end ls m s) → Machine.end_run fs n r out ≡ Ends out
 ended_ok table [] [] n zero r zero out f e g fine = absurd fine
 ended_ok table [] [] n (suc m) r s out f e g fine = absurd fine
 ended_ok table fs (l ∷ ls) n m r s out f e g fine = absurd fine
@@ -150,7 +157,10 @@ cut_within low high z l h p1 p2 e =
 pub one_more : (out : List Token) (t : Token) → length (out ++ t ∷ []) ≤ length out + 1
 one_more out t = omega (arith, length-append out (t ∷ []))
 
-pub next_inverted : (table : Table) (q : ℕ) (k : AbstractState) (ss : List AbstractValue) (o : Option AbstractState) → FlowIsCovered table (Transfer.abstract_next q k ss o) → (home : AbstractState) × (ss ≡ []) × (o ≡ Some home) × (k.brackets ≡ home.brackets) × (k.roots ≡ home.roots) × FlowIsCovered table (Transfer.to_next_place q home)
+pub next_inverted : (table : Table) (q : ℕ) (k : AbstractState) (ss : List AbstractValue) (o : Option AbstractState)
+    → FlowIsCovered table (Transfer.abstract_next q k ss o)
+    → (home : AbstractState) × (ss ≡ []) × (o ≡ Some home) × (k.brackets ≡ home.brackets) × (k.roots ≡ home.roots)
+    × FlowIsCovered table (Transfer.to_next_place q home)
 next_inverted table q k ss None fine = absurd fine
 next_inverted table q k (s ∷ ss) (Some home) fine = absurd fine
 next_inverted table q k [] (Some home) fine =

@@ -27,7 +27,11 @@ use Rattle.pb_bytecode_program.proofs.Loops.{sim_loop, sim_next}
 
 module _ (p : Program) (table : Table) (ok : Accepted p table) where
   -- any instruction
-  pub sim_act : (st : State) (i : Op) (k : AbstractState) → state_at table st.place ≡ Some k → (at : slice_get p.code st.place ≡ Some i) (cov : Covered p table st k) (ar : loops_around p.code st.place ≡ places st.loops) → HasValidTarget p st.place i → FlowIsCovered table (Transfer.transfer p (state_at_loop table (loops_around p.code st.place)) st.place i k) → IsSafeStep p table st i (Machine.execute p i st)
+  pub sim_act : (st : State) (i : Op) (k : AbstractState) → state_at table st.place ≡ Some k
+      → (at : slice_get p.code st.place ≡ Some i) (cov : Covered p table st k)
+      (ar : loops_around p.code st.place ≡ places st.loops) → HasValidTarget p st.place i
+      → FlowIsCovered table (Transfer.transfer p (state_at_loop table (loops_around p.code st.place)) st.place i k)
+      → IsSafeStep p table st i (Machine.execute p i st)
   sim_act st op.End k there at cov ar pl fine = sim_end p table ok st k at cov ar (state_at_loop table (loops_around p.code st.place)) pl fine
   sim_act st (op.PushInt z) k there at cov ar pl fine = sim_values p table ok st k z at cov ar (state_at_loop table (loops_around p.code st.place)) pl fine
   sim_act st (op.PushBool b) k there at cov ar pl fine = sim_truth p table ok st k b at cov ar (state_at_loop table (loops_around p.code st.place)) pl fine
@@ -90,7 +94,9 @@ module _ (p : Program) (table : Table) (ok : Accepted p table) where
       let r = by (Machine.execute p g.0 st) g.0 g.2 (λ st' c' h'. ends n st' c' h') in
       (r.0, run_from st g.0 n g.1 ∙ r.1, r.2)
     where
-      by : (x : Outcome) (i : Op) → IsSafeStep p table st i x → ((st' : State) → IsCoveredState p table st' → left_at p one_step st'.place st'.loops ≤ n → EndsWithin n st' (Machine.run p n st')) → EndsWithin n st (Machine.and_then x (Machine.run p n))
+      by : (x : Outcome) (i : Op) → IsSafeStep p table st i x
+          → ((st' : State) → IsCoveredState p table st' → left_at p one_step st'.place st'.loops ≤ n
+          → EndsWithin n st' (Machine.run p n st')) → EndsWithin n st (Machine.and_then x (Machine.run p n))
       by (Continues st') i g go =
           let w = g.spent one_step in
           let r = go st' g.covered (omega arith) in
@@ -111,7 +117,18 @@ module _ (p : Program) (table : Table) (ok : Accepted p table) where
   starts tuple a =
       let b = ok.begins in
       let st = Machine.start (arguments p.parameters tuple) in
-      let c : Covered p table st (Accepted.entry p) = record { rest = []; operands = refl; deep = refl; fit_parameters = args_fit p.parameters tuple a; fit_loops = tt; brackets = refl; roots = refl; under = refl } in
+      let c : Covered p table st (Accepted.entry p) =
+      record {
+        rest = [];
+        operands = refl;
+        deep = refl;
+        fit_parameters = args_fit p.parameters tuple a;
+        fit_loops =
+            tt;
+        brackets = refl;
+        roots = refl;
+        under = refl;
+      } in
       record {
         known = b.known;
         there = b.there;

@@ -48,7 +48,8 @@ IsSafeStep p table st i (Faults f) = ⊥
 
 module _ (p : Program) (table : Table) (ok : Accepted p table) where
   -- a jump's target and what is left there
-  pub to_target : (q to : ℕ) (i : Op) (fs : List Frame) → slice_get p.code q ≡ Some i → loop_effect i ≡ Straight → IsTarget p.code q to → (cost : Op → ℕ) → left_at p cost to fs + cost i ≤ left_at p cost q fs
+  pub to_target : (q to : ℕ) (i : Op) (fs : List Frame) → slice_get p.code q ≡ Some i → loop_effect i ≡ Straight
+      → IsTarget p.code q to → (cost : Op → ℕ) → left_at p cost to fs + cost i ≤ left_at p cost q fs
   to_target q to i fs at straight t cost =
       let later = t.later in
       let e : q + suc (to - q - 1) ≡ to = omega arith in
@@ -56,7 +57,8 @@ module _ (p : Program) (table : Table) (ok : Accepted p table) where
       subst (λ m. left_at p cost m fs + cost i ≤ left_at p cost q fs) e (spent_to p cost q (to - q - 1) i fs at straight pr)
 
   module _ (st : State) (i : Op) (k : AbstractState) (at : slice_get p.code st.place ≡ Some i) (cov : Covered p table st k) (ar : loops_around p.code st.place ≡ places st.loops) where
-    pub arrive : (st' : State) (k' : AbstractState) (to : ℕ) → Leads table (record { to = to; state = k' }) → Covered p table st' k' → st'.place ≡ to → loops_around p.code to ≡ places st'.loops → IsCoveredState p table st'
+    pub arrive : (st' : State) (k' : AbstractState) (to : ℕ) → Leads table (record { to = to; state = k' })
+        → Covered p table st' k' → st'.place ≡ to → loops_around p.code to ≡ places st'.loops → IsCoveredState p table st'
     arrive st' k' to l c e a = record {
       known = l.known;
       there = ap (state_at table) e ∙ l.there;
@@ -65,16 +67,22 @@ module _ (p : Program) (table : Table) (ok : Accepted p table) where
     }
 
     module _ (straight : loop_effect i ≡ Straight) where
-      pub go_on : (st' : State) (k' : AbstractState) → st'.place ≡ st.place + 1 → st'.loops ≡ st.loops → length st'.output ≤ length st.output + tokens_of i → Covered p table st' k' → FlowIsCovered table (Transfer.to_next_place st.place k') → Moved p table st i st'
+      pub go_on : (st' : State) (k' : AbstractState) → st'.place ≡ st.place + 1 → st'.loops ≡ st.loops
+          → length st'.output ≤ length st.output + tokens_of i → Covered p table st' k'
+          → FlowIsCovered table (Transfer.to_next_place st.place k') → Moved p table st i st'
       go_on st' k' e f w c fine =
-          let a : loops_around p.code (st.place + 1) ≡ places st'.loops = around_next p.code st.place i at ∙ ap (λ t. Counts.loops_after t st.place (loops_around p.code st.place)) straight ∙ ar ∙ ap places (sym f) in
+          let a : loops_around p.code (st.place + 1) ≡ places st'.loops =
+          around_next p.code st.place i at
+          ∙ ap (λ t. Counts.loops_after t st.place (loops_around p.code st.place)) straight ∙ ar ∙ ap places (sym f) in
           record {
             covered = arrive st' k' (st.place + 1) fine.0 c e a;
             spent = λ cost. rw (e, f) (spent_on p cost st.place i st.loops at straight);
             written = w;
           }
 
-      pub go_to : (to : ℕ) (st' : State) (k' : AbstractState) → IsTarget p.code st.place to → st'.place ≡ to → st'.loops ≡ st.loops → length st'.output ≤ length st.output + tokens_of i → Covered p table st' k' → Leads table (record { to = to; state = k' }) → Moved p table st i st'
+      pub go_to : (to : ℕ) (st' : State) (k' : AbstractState) → IsTarget p.code st.place to → st'.place ≡ to
+          → st'.loops ≡ st.loops → length st'.output ≤ length st.output + tokens_of i → Covered p table st' k'
+          → Leads table (record { to = to; state = k' }) → Moved p table st i st'
       go_to to st' k' t e f w c l = record {
         covered = arrive st' k' to l c e (t.one_body ∙ ar ∙ ap places (sym f));
         spent = λ cost. rw (e, f) (to_target st.place to i st.loops at straight t cost);
@@ -83,41 +91,87 @@ module _ (p : Program) (table : Table) (ok : Accepted p table) where
 
       -- other operands
       pub with_operands : (to : ℕ) (vs : List TaggedValue) (ss : List AbstractValue) → Fits vs ss cov.rest → Covered p table (record st { place = to; operands = vs }) (record k { operands = ss })
-      with_operands to vs ss f = record { rest = cov.rest; operands = f; deep = cov.deep; fit_parameters = cov.fit_parameters; fit_loops = cov.fit_loops; brackets = cov.brackets; roots = cov.roots; under = cov.under }
+      with_operands to vs ss f =
+          record {
+            rest = cov.rest;
+            operands = f;
+            deep = cov.deep;
+            fit_parameters = cov.fit_parameters;
+            fit_loops =
+                cov.fit_loops;
+            brackets = cov.brackets;
+            roots = cov.roots;
+            under = cov.under;
+          }
 
       -- other operands, brackets, roots and output
-      pub renewed : (vs : List TaggedValue) (ss : List AbstractValue) (n r : ℕ) (out : List Token) → Fits vs ss cov.rest → Covered p table (record st { place = st.place + 1; operands = vs; brackets = n; roots = r; output = out }) (record k { operands = ss; brackets = n; roots = r })
-      renewed vs ss n r out f = record { rest = cov.rest; operands = f; deep = cov.deep; fit_parameters = cov.fit_parameters; fit_loops = cov.fit_loops; brackets = refl; roots = refl; under = cov.under }
+      pub renewed : (vs : List TaggedValue) (ss : List AbstractValue) (n r : ℕ) (out : List Token) → Fits vs ss cov.rest
+          → Covered p table (record st { place = st.place + 1; operands = vs; brackets = n; roots = r; output = out })
+          (record k { operands = ss; brackets = n; roots = r })
+      renewed vs ss n r out f =
+          record {
+            rest = cov.rest;
+            operands = f;
+            deep = cov.deep;
+            fit_parameters = cov.fit_parameters;
+            fit_loops =
+                cov.fit_loops;
+            brackets = refl;
+            roots = refl;
+            under = cov.under;
+          }
 
-      pub sim_push : (vs : List TaggedValue) (ss : List AbstractValue) (v : TaggedValue) (s : AbstractValue) → IsAbstractedBy v s → Fits vs ss cov.rest → FlowIsCovered table (Transfer.abstract_push st.place k ss s) → IsSafeStep p table st i (Machine.push st vs v)
+      pub sim_push : (vs : List TaggedValue) (ss : List AbstractValue) (v : TaggedValue) (s : AbstractValue)
+          → IsAbstractedBy v s → Fits vs ss cov.rest → FlowIsCovered table (Transfer.abstract_push st.place k ss s)
+          → IsSafeStep p table st i (Machine.push st vs v)
       sim_push vs ss v s w f fine =
           let t = tested table (nat_lt (length ss + k.operands_below) 32) _ fine in
           let e : length vs ≡ length ss + k.operands_below = fits_length vs ss cov.rest f ∙ ap (λ m. length ss + m) cov.deep in
           rw (ap (λ m. nat_lt m 32) e ∙ t.0) (go_on _ _ refl refl (omega arith) (with_operands _ _ (s ∷ ss) (w, f)) t.1)
 
-      pub sim_push_int : (vs : List TaggedValue) (ss : List AbstractValue) (z l h : ℤ) → l ≤ℤ z → z ≤ℤ h → Fits vs ss cov.rest → FlowIsCovered table (Transfer.abstract_push_int st.place k ss (l, h)) → IsSafeStep p table st i (Machine.push_int st vs z)
+      pub sim_push_int : (vs : List TaggedValue) (ss : List AbstractValue) (z l h : ℤ) → l ≤ℤ z → z ≤ℤ h
+          → Fits vs ss cov.rest → FlowIsCovered table (Transfer.abstract_push_int st.place k ss (l, h))
+          → IsSafeStep p table st i (Machine.push_int st vs z)
       sim_push_int vs ss z l h a b f fine =
           let t = tested table (fits64 l h) _ fine in
           rw (fit_within l h z t.0 a b) (sim_push vs ss (IntValue z) (abstract.Int l h) (a, b) f t.1)
 
-      pub sim_give : (v : Option TaggedValue) (s : Option AbstractValue) → SlotFits v s → FlowIsCovered table (Transfer.with_abstract_slot s (λ t. Transfer.abstract_push st.place k k.operands t)) → IsSafeStep p table st i (Machine.with_slot v (λ w. Machine.push st st.operands w))
+      pub sim_give : (v : Option TaggedValue) (s : Option AbstractValue) → SlotFits v s
+          → FlowIsCovered table (Transfer.with_abstract_slot s (λ t. Transfer.abstract_push st.place k k.operands t))
+          → IsSafeStep p table st i (Machine.with_slot v (λ w. Machine.push st st.operands w))
       sim_give v None f fine = absurd fine
       sim_give None (Some s) f fine = absurd f
       sim_give (Some v) (Some s) f fine = sim_push st.operands k.operands v s f cov.operands fine
 
-      pub sim_same : (vs : List TaggedValue) (ss : List AbstractValue) (wanted : Equality) (a b : TaggedValue) (s t : AbstractValue) → IsAbstractedBy a s → IsAbstractedBy b t → Fits vs ss cov.rest → FlowIsCovered table (if same_kind s t then Transfer.abstract_push st.place k ss abstract.Bool else None) → IsSafeStep p table st i (Machine.push_equality st vs wanted (equals a b))
+      pub sim_same : (vs : List TaggedValue) (ss : List AbstractValue) (wanted : Equality) (a b : TaggedValue)
+          (s t : AbstractValue) → IsAbstractedBy a s → IsAbstractedBy b t → Fits vs ss cov.rest
+          → FlowIsCovered table (if same_kind s t then Transfer.abstract_push st.place k ss abstract.Bool else None)
+          → IsSafeStep p table st i (Machine.push_equality st vs wanted (equals a b))
       sim_same vs ss wanted a b s t w x f fine =
           let u = tested table (same_kind s t) _ fine in
           let e = equal_kinds a b s t w x u.0 in
           rw (e.1) (sim_push vs ss (BoolValue (answers wanted e.0)) abstract.Bool tt f u.1)
 
-      pub sim_calc : (c : Arithmetic) (vs : List TaggedValue) (ss : List AbstractValue) (a b l h m n : ℤ) → l ≤ℤ a → a ≤ℤ h → m ≤ℤ b → b ≤ℤ n → Fits vs ss cov.rest → FlowIsCovered table (if divides c && int_lt m (pos 1) then None else Transfer.abstract_push_int st.place k ss (interval_of c l h m n)) → IsSafeStep p table st i (if divides c && int_lt b (pos 1) then Faults Machine.Divisor else Machine.push_int st vs (arithmetic c a b))
+      pub sim_calc : (c : Arithmetic) (vs : List TaggedValue) (ss : List AbstractValue) (a b l h m n : ℤ) → l ≤ℤ a
+          → a ≤ℤ h → m ≤ℤ b → b ≤ℤ n → Fits vs ss cov.rest
+          → FlowIsCovered table
+          (if divides c && int_lt m (pos 1) then None else Transfer.abstract_push_int st.place k ss
+          (interval_of c l h m n))
+          → IsSafeStep p table st i
+          (if divides c && int_lt b (pos 1) then Faults Machine.Divisor else Machine.push_int st vs (arithmetic c a b))
       sim_calc c vs ss a b l h m n p1 p2 p3 p4 f fine =
           let t = allowed table (divides c && int_lt m (pos 1)) _ fine in
           let w = calc_within c a b l h m n p1 p2 p3 p4 (λ d. divisor (divides c) m t.0 d) in
           rw (no_divisor (divides c) m b t.0 p3) (sim_push_int vs ss (arithmetic c a b) (interval_of c l h m n).0 (interval_of c l h m n).1 w.0 w.1 f t.1)
 
-      pub sim_range : (to : ℕ) (low high z l h : ℤ) (vs : List TaggedValue) (k1 k2 : AbstractState) → IsTarget p.code st.place to → l ≤ℤ z → z ≤ℤ h → ((int_le low z && int_le z high) ≡ true → Covered p table (record st { place = st.place + 1; operands = vs }) k1) → Covered p table (record st { place = to; operands = vs }) k2 → FlowIsCovered table (Transfer.range_edges st.place to l h low high k1 k2) → IsSafeStep p table st i (if int_le low z && int_le z high then Machine.jump_to st (st.place + 1) vs else Machine.jump_to st to vs)
+      pub sim_range : (to : ℕ) (low high z l h : ℤ) (vs : List TaggedValue) (k1 k2 : AbstractState)
+          → IsTarget p.code st.place to → l ≤ℤ z → z ≤ℤ h
+          → ((int_le low z && int_le z high) ≡ true
+          → Covered p table (record st { place = st.place + 1; operands = vs }) k1)
+          → Covered p table (record st { place = to; operands = vs }) k2
+          → FlowIsCovered table (Transfer.range_edges st.place to l h low high k1 k2)
+          → IsSafeStep p table st i
+          (if int_le low z && int_le z high then Machine.jump_to st (st.place + 1) vs else Machine.jump_to st to vs)
       sim_range to low high z l h vs k1 k2 tg a b c1 c2 fine =
           cond_both (int_le low z && int_le z high) _ _ (IsSafeStep p table st i)
           (λ e. go_on _ k1 refl refl (omega arith) (c1 e) (split_in table st.place to l h low high z k1 k2 fine a b e, tt))
@@ -125,7 +179,10 @@ module _ (p : Program) (table : Table) (ok : Accepted p table) where
 
   -- any instruction but LOOP and NEXT
   abbrev pub Straightly : State → Op → AbstractState → Type 0
-  Straightly st i k = (at : slice_get p.code st.place ≡ Some i) (cov : Covered p table st k) (ar : loops_around p.code st.place ≡ places st.loops) (home : Option AbstractState) → HasValidTarget p st.place i → FlowIsCovered table (Transfer.transfer p home st.place i k) → IsSafeStep p table st i (Machine.execute p i st)
+  Straightly st i k =
+      (at : slice_get p.code st.place ≡ Some i) (cov : Covered p table st k)
+      (ar : loops_around p.code st.place ≡ places st.loops) (home : Option AbstractState) → HasValidTarget p st.place i
+      → FlowIsCovered table (Transfer.transfer p home st.place i k) → IsSafeStep p table st i (Machine.execute p i st)
 
   pub sim_end : (st : State) (k : AbstractState) → Straightly st op.End k
   sim_end st k at cov ar home pl fine =
@@ -141,10 +198,14 @@ module _ (p : Program) (table : Table) (ok : Accepted p table) where
   pub sim_enum : (st : State) (k : AbstractState) (s j : ℕ) → Straightly st (op.PushEnum s j) k
   sim_enum st k s j at cov ar home pl fine =
       let t = tested table (Transfer.enum_fits (slice_get p.sorts s) j) _ fine in
-      sim_push st (op.PushEnum s j) k at cov ar refl st.operands k.operands (EnumValue s j) (abstract.Enum s (Transfer.count_or_zero (slice_get p.sorts s))) (refl, enum_below (slice_get p.sorts s) j t.0) cov.operands t.1
+      sim_push st (op.PushEnum s j) k at cov ar refl st.operands k.operands (EnumValue s j)
+      (abstract.Enum s (Transfer.count_or_zero (slice_get p.sorts s))) (refl, enum_below (slice_get p.sorts s) j t.0) cov.operands t.1
 
   pub sim_get : (st : State) (k : AbstractState) (j : ℕ) → Straightly st (op.Get j) k
-  sim_get st k j at cov ar home pl fine = sim_give st (op.Get j) k at cov ar refl (Machine.value_at st.loops st.parameters j) (Transfer.abstract_slot k.loops k.parameters j) (slot_fits st.loops k.loops st.parameters k.parameters j cov.fit_loops cov.fit_parameters) fine
+  sim_get st k j at cov ar home pl fine =
+      sim_give st (op.Get j) k at cov ar refl (Machine.value_at st.loops st.parameters j)
+      (Transfer.abstract_slot k.loops k.parameters j)
+      (slot_fits st.loops k.loops st.parameters k.parameters j cov.fit_loops cov.fit_parameters) fine
 
   pub sim_pop : (st : State) (k : AbstractState) → Straightly st op.Pop k
   sim_pop st k at cov ar home pl fine =
@@ -166,7 +227,9 @@ module _ (p : Program) (table : Table) (ok : Accepted p table) where
   pub sim_abs : (st : State) (k : AbstractState) → Straightly st op.Absolute k
   sim_abs st k at cov ar home pl fine =
       sim_int table (IsSafeStep p table st op.Absolute) cov.rest st.operands k.operands _ _ cov.operands
-      (λ a l h ws ts p1 p2 f fl. let w = absolute_within a l h p1 p2 in sim_push_int st op.Absolute k at cov ar refl ws ts (absolute a) (absolute_interval l h).0 (absolute_interval l h).1 w.0 w.1 f fl) fine
+      (λ a l h ws ts p1 p2 f fl. let w = absolute_within a l h p1 p2 in
+      sim_push_int st op.Absolute k at cov ar refl ws ts (absolute a) (absolute_interval l h).0
+      (absolute_interval l h).1 w.0 w.1 f fl) fine
 
   pub sim_compare : (st : State) (k : AbstractState) (o : Comparison) → Straightly st (op.Compare o) k
   sim_compare st k o at cov ar home pl fine =
@@ -216,17 +279,57 @@ module _ (p : Program) (table : Table) (ok : Accepted p table) where
 
   pub sim_slot_range : (st : State) (k : AbstractState) (j : ℕ) (low high : ℤ) (to : ℕ) → Straightly st (op.SlotInRange j low high to) k
   sim_slot_range st k j low high to at cov ar home pl fine =
-      by (Machine.value_at st.loops st.parameters j) (Transfer.abstract_slot k.loops k.parameters j) refl (slot_fits st.loops k.loops st.parameters k.parameters j cov.fit_loops cov.fit_parameters) fine
+      by (Machine.value_at st.loops st.parameters j) (Transfer.abstract_slot k.loops k.parameters j) refl
+      (slot_fits st.loops k.loops st.parameters k.parameters j cov.fit_loops cov.fit_parameters) fine
     where
-      cut : (z l h : ℤ) → Machine.value_at st.loops st.parameters j ≡ Some (IntValue z) → l ≤ℤ z → z ≤ℤ h → (int_le low z && int_le z high) ≡ true → Covered p table (record st { place = st.place + 1 }) (Transfer.set_slot k j (abstract.Int (int_max l low) (int_min h high)))
+      cut : (z l h : ℤ) → Machine.value_at st.loops st.parameters j ≡ Some (IntValue z) → l ≤ℤ z → z ≤ℤ h
+          → (int_le low z && int_le z high) ≡ true
+          → Covered p table (record st { place = st.place + 1 }) (Transfer.set_slot k j (abstract.Int (int_max l low) (int_min h high)))
       cut z l h e p1 p2 t =
           let w = cut_within low high z l h p1 p2 t in
-          let is_z : (v : TaggedValue) → Some v ≡ Some (IntValue z) → IsAbstractedBy v (abstract.Int (int_max l low) (int_min h high)) = λ v g. let same : IntValue z ≡ v = cc in subst (λ x. IsAbstractedBy x (abstract.Int (int_max l low) (int_min h high))) same w in
+          let is_z : (v : TaggedValue) → Some v ≡ Some (IntValue z)
+          → IsAbstractedBy v (abstract.Int (int_max l low) (int_min h high)) = λ v g. let same : IntValue z ≡ v =
+          cc in subst (λ x. IsAbstractedBy x (abstract.Int (int_max l low) (int_min h high))) same w in
           cond_both (Transfer.among k.loops j) _ _ (Covered p table (record st { place = st.place + 1 }))
-          (λ a. record { rest = cov.rest; operands = cov.operands; deep = cov.deep; fit_parameters = cov.fit_parameters; fit_loops = set_loops st.loops k.loops st.parameters j _ cov.fit_loops (λ v g. is_z v (sym g ∙ e)); brackets = cov.brackets; roots = cov.roots; under = cov.under })
-          (λ a. record { rest = cov.rest; operands = cov.operands; deep = cov.deep; fit_parameters = set_parameters st.parameters k.parameters j _ cov.fit_parameters (λ v g. is_z v (sym g ∙ sym (no_loop st.loops st.parameters j (runs_among st.loops k.loops j cov.fit_loops ∙ a)) ∙ e)); fit_loops = cov.fit_loops; brackets = cov.brackets; roots = cov.roots; under = cov.under })
+          (λ a. record {
+            rest = cov.rest;
+            operands = cov.operands;
+            deep = cov.deep;
+            fit_parameters =
+                cov.fit_parameters;
+            fit_loops =
+                set_loops st.loops k.loops st.parameters j _ cov.fit_loops (λ v g. is_z v (sym g ∙ e));
+            brackets =
+                cov.brackets;
+            roots = cov.roots;
+            under = cov.under;
+          })
+          (λ a. record {
+            rest = cov.rest;
+            operands = cov.operands;
+            deep = cov.deep;
+            fit_parameters =
+                set_parameters st.parameters k.parameters j _ cov.fit_parameters
+                (λ v g. is_z v
+                (sym g ∙ sym (no_loop st.loops st.parameters j (runs_among st.loops k.loops j cov.fit_loops ∙ a)) ∙ e));
+            fit_loops = cov.fit_loops;
+            brackets = cov.brackets;
+            roots = cov.roots;
+            under = cov.under;
+          })
 
-      by : (v : Option TaggedValue) (s : Option AbstractValue) → Machine.value_at st.loops st.parameters j ≡ v → SlotFits v s → FlowIsCovered table (Transfer.with_abstract_slot s (λ u. Transfer.with_interval u (λ l h. Transfer.range_edges st.place to l h low high (Transfer.set_slot k j (abstract.Int (int_max l low) (int_min h high))) k))) → IsSafeStep p table st (op.SlotInRange j low high to) (Machine.with_slot v (λ w. Machine.with_int w (λ z. if int_le low z && int_le z high then Machine.jump_to st (st.place + 1) st.operands else Machine.jump_to st to st.operands)))
+      by : (v : Option TaggedValue) (s : Option AbstractValue) → Machine.value_at st.loops st.parameters j ≡ v
+          → SlotFits v s
+          → FlowIsCovered table
+          (Transfer.with_abstract_slot s
+          (λ u. Transfer.with_interval u
+          (λ l h. Transfer.range_edges st.place to l h low high
+          (Transfer.set_slot k j (abstract.Int (int_max l low) (int_min h high))) k)))
+          → IsSafeStep p table st (op.SlotInRange j low high to)
+          (Machine.with_slot v
+          (λ w. Machine.with_int w
+          (λ z. if int_le low z && int_le z high then Machine.jump_to st (st.place + 1) st.operands else Machine.jump_to
+          st to st.operands)))
       by v None e f fl = absurd fl
       by None (Some s) e f fl = absurd f
       by (Some v) (Some abstract.Bool) e f fl = absurd fl
@@ -249,18 +352,45 @@ module _ (p : Program) (table : Table) (ok : Accepted p table) where
   sim_tip st k leaf at cov ar home pl fine =
       sim_roots table (IsSafeStep p table st (op.Emit leaf)) cov.rest st.brackets k.brackets st.roots k.roots _ _ cov.brackets cov.roots
       (λ r fl. go_on st (op.Emit leaf) k at cov ar refl _ _ refl refl (one_more st.output (Machine.leaf leaf))
-      (record { rest = cov.rest; operands = cov.operands; deep = cov.deep; fit_parameters = cov.fit_parameters; fit_loops = cov.fit_loops; brackets = cov.brackets; roots = refl; under = cov.under }) fl) fine
+      (record {
+        rest = cov.rest;
+        operands = cov.operands;
+        deep = cov.deep;
+        fit_parameters =
+            cov.fit_parameters;
+        fit_loops = cov.fit_loops;
+        brackets = cov.brackets;
+        roots = refl;
+        under = cov.under;
+      }) fl) fine
 
   pub sim_close : (st : State) (k : AbstractState) → Straightly st op.Close k
   sim_close st k at cov ar home pl fine = by st.brackets k.brackets cov.brackets fine
     where
-      by : (n m : ℕ) → n ≡ m → FlowIsCovered table (Transfer.abstract_close k.brackets_below m (λ u. Transfer.to_next_place st.place (record k { brackets = u }))) → IsSafeStep p table st op.Close (Machine.close_bracket n (λ u. Continues (record st { place = st.place + 1; brackets = u; output = st.output ++ token.Close ∷ [] })))
+      by : (n m : ℕ) → n ≡ m
+          → FlowIsCovered table
+          (Transfer.abstract_close k.brackets_below m
+          (λ u. Transfer.to_next_place st.place (record k { brackets = u })))
+          → IsSafeStep p table st op.Close
+          (Machine.close_bracket n
+          (λ u. Continues (record st { place = st.place + 1; brackets = u; output = st.output ++ token.Close ∷ [] })))
       by n zero e fl = absurd fl
       by zero (suc m) e fl = absurd (omega arith)
       by (suc n) (suc m) e fl =
           let t = tested table (nat_le k.brackets_below m) _ fl in
           let f : n ≡ m = omega arith in
-          rw f (go_on st op.Close k at cov ar refl _ _ refl refl (one_more st.output token.Close) (record { rest = cov.rest; operands = cov.operands; deep = cov.deep; fit_parameters = cov.fit_parameters; fit_loops = cov.fit_loops; brackets = refl; roots = cov.roots; under = cov.under }) t.1)
+          rw f (go_on st op.Close k at cov ar refl _ _ refl refl (one_more st.output token.Close)
+          (record {
+            rest = cov.rest;
+            operands = cov.operands;
+            deep = cov.deep;
+            fit_parameters =
+                cov.fit_parameters;
+            fit_loops = cov.fit_loops;
+            brackets = refl;
+            roots = cov.roots;
+            under = cov.under;
+          }) t.1)
 
   pub sim_call : (st : State) (k : AbstractState) (eq : ℕ) → Straightly st (op.Call eq) k
   sim_call st k eq at cov ar home pl fine = by (slice_get p.callees eq) fine
@@ -271,4 +401,14 @@ module _ (p : Program) (table : Table) (ok : Accepted p table) where
           sim_args table (IsSafeStep p table st (op.Call eq)) cov.rest (reverse cs) st.operands k.operands [] _ _ cov.operands
           (λ us ws ts f fl'. sim_roots table (IsSafeStep p table st (op.Call eq)) cov.rest st.brackets k.brackets st.roots k.roots _ _ cov.brackets cov.roots
           (λ r fl''. go_on st (op.Call eq) k at cov ar refl _ _ refl refl (one_more st.output (token.Call (Machine.number p eq us)))
-          (record { rest = cov.rest; operands = f; deep = cov.deep; fit_parameters = cov.fit_parameters; fit_loops = cov.fit_loops; brackets = cov.brackets; roots = refl; under = cov.under }) fl'') fl') fl
+          (record {
+            rest = cov.rest;
+            operands = f;
+            deep = cov.deep;
+            fit_parameters = cov.fit_parameters;
+            fit_loops =
+                cov.fit_loops;
+            brackets = cov.brackets;
+            roots = refl;
+            under = cov.under;
+          }) fl'') fl') fl

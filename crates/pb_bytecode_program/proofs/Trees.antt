@@ -47,7 +47,9 @@ pub reverse_more : {X : Type 0} (x : X) (xs ys : List X) → reverse (x ∷ xs) 
 reverse_more x xs ys = ap (λ es. es ++ ys) (reverse-append (x ∷ []) xs) ∙ append_assoc (reverse xs) (x ∷ []) ys
 
 -- values of a callee's carriers are an instance
-callee-instance : (callees : List (List Carrier)) (eq : ℕ) (cs : List Carrier) (values : List ℤ) → slice_get callees eq ≡ Some cs → carriers.is_within (map values_of cs) values ≡ true → is_instance (carriers_of callees) (record { equation = eq; values = values }) ≡ true
+callee-instance : (callees : List (List Carrier)) (eq : ℕ) (cs : List Carrier) (values : List ℤ)
+    → slice_get callees eq ≡ Some cs → carriers.is_within (map values_of cs) values ≡ true
+    → is_instance (carriers_of callees) (record { equation = eq; values = values }) ≡ true
 callee-instance [] eq cs values e w = cc
 callee-instance (d ∷ ds) zero cs values e w = let same : d ≡ cs = cc in rw same w
 callee-instance (d ∷ ds) (suc eq) cs values e w = callee-instance ds eq cs values e w
@@ -78,12 +80,19 @@ module _ (p : Program) where
   writes_bool (IntValue z ∷ vs) go k = tt
   writes_bool (EnumValue s i ∷ vs) go k = tt
 
-  writes_args : (cs ds : List Carrier) (args vs : List TaggedValue) (go : List TaggedValue → List TaggedValue → Outcome) → AreOf ds args → ((us ws : List TaggedValue) → AreOf (reverse cs ++ ds) us → Writes (go us ws)) → Writes (Machine.pop_args cs args vs go)
+  writes_args : (cs ds : List Carrier) (args vs : List TaggedValue) (go : List TaggedValue → List TaggedValue → Outcome)
+      → AreOf ds args → ((us ws : List TaggedValue) → AreOf (reverse cs ++ ds) us → Writes (go us ws))
+      → Writes (Machine.pop_args cs args vs go)
   writes_args [] ds args vs go a k = k args vs a
   writes_args (c ∷ cs) ds args [] go a k = tt
-  writes_args (c ∷ cs) ds args (v ∷ vs) go a k = by (Machine.argument_fault v c) refl (λ e. writes_args cs (c ∷ ds) (v ∷ args) vs go (and_from _ _ (untagged_contained v c e) a) (λ us ws w. k us ws (subst (λ es. AreOf es us) (sym (reverse_more c cs ds)) w)))
+  writes_args (c ∷ cs) ds args (v ∷ vs) go a k =
+      by (Machine.argument_fault v c) refl
+      (λ e. writes_args cs (c ∷ ds) (v ∷ args) vs go (and_from _ _ (untagged_contained v c e) a)
+      (λ us ws w. k us ws (subst (λ es. AreOf es us) (sym (reverse_more c cs ds)) w)))
     where
-      by : (o : Option Machine.MachineFault) → Machine.argument_fault v c ≡ o → (Machine.argument_fault v c ≡ None → Writes (Machine.pop_args cs (v ∷ args) vs go)) → Writes (Machine.fault_or o (Machine.pop_args cs (v ∷ args) vs go))
+      by : (o : Option Machine.MachineFault) → Machine.argument_fault v c ≡ o
+          → (Machine.argument_fault v c ≡ None → Writes (Machine.pop_args cs (v ∷ args) vs go))
+          → Writes (Machine.fault_or o (Machine.pop_args cs (v ∷ args) vs go))
       by None e k' = k' e
       by (Some f) e k' = tt
 
@@ -108,22 +117,61 @@ module _ (p : Program) where
     writes_with_int (EnumValue s i) go k = tt
 
     -- a leaf
-    writes_leaf : (l : trees.Leaf) (place : ℕ) (vs : List TaggedValue) (loops : List Frame) → trees.LeafCalls IsCall l → Writes (Machine.with_root st.brackets st.roots (λ r. Continues (record { place = place; operands = vs; parameters = st.parameters; loops = loops; brackets = st.brackets; roots = r; output = st.output ++ tokens.leaf_token l ∷ [] })))
+    writes_leaf : (l : trees.Leaf) (place : ℕ) (vs : List TaggedValue) (loops : List Frame) → trees.LeafCalls IsCall l
+        → Writes (Machine.with_root st.brackets st.roots
+        (λ r. Continues
+        (record {
+          place = place;
+          operands = vs;
+          parameters = st.parameters;
+          loops = loops;
+          brackets =
+              st.brackets;
+          roots = r;
+          output = st.output ++ tokens.leaf_token l ∷ [];
+        })))
     writes_leaf l place vs loops c = by st.brackets st.roots w
       where
-        by : (n r : ℕ) → Written IsCall n r st.output → Writes (Machine.with_root n r (λ s. Continues (record { place = place; operands = vs; parameters = st.parameters; loops = loops; brackets = n; roots = s; output = st.output ++ tokens.leaf_token l ∷ [] })))
+        by : (n r : ℕ) → Written IsCall n r st.output
+            → Writes (Machine.with_root n r
+            (λ s. Continues
+            (record {
+              place = place;
+              operands = vs;
+              parameters = st.parameters;
+              loops = loops;
+              brackets = n;
+              roots =
+                  s;
+              output = st.output ++ tokens.leaf_token l ∷ [];
+            })))
         by zero zero e = single_written IsCall l st.output c e
         by zero (suc r) e = tt
         by (suc n) zero e = absurd e
         by (suc n) (suc r) e = leaf_written IsCall l n r st.output c e
 
-    writes_open : (c : trees.Connective) → Writes (Machine.with_root st.brackets st.roots (λ r. Continues (record st { place = st.place + 1; brackets = st.brackets + 1; roots = r; output = st.output ++ tokens.opening c ∷ [] })))
+    writes_open : (c : trees.Connective)
+        → Writes (Machine.with_root st.brackets st.roots
+        (λ r. Continues
+        (record st { place = st.place + 1; brackets = st.brackets + 1; roots = r; output = st.output ++ tokens.opening c ∷ [] })))
     writes_open c = by st.brackets st.roots w
       where
         next : (n : ℕ) → n + 1 ≡ suc n
         next n = omega arith
 
-        by : (n r : ℕ) → Written IsCall n r st.output → Writes (Machine.with_root n r (λ s. Continues (record { place = st.place + 1; operands = st.operands; parameters = st.parameters; loops = st.loops; brackets = n + 1; roots = s; output = st.output ++ tokens.opening c ∷ [] })))
+        by : (n r : ℕ) → Written IsCall n r st.output
+            → Writes (Machine.with_root n r
+            (λ s. Continues
+            (record {
+              place = st.place + 1;
+              operands = st.operands;
+              parameters = st.parameters;
+              loops =
+                  st.loops;
+              brackets = n + 1;
+              roots = s;
+              output = st.output ++ tokens.opening c ∷ [];
+            })))
         by zero zero e = root_opened IsCall c st.output e
         by zero (suc r) e = tt
         by (suc n) zero e = absurd e
@@ -132,7 +180,19 @@ module _ (p : Program) where
     writes_close : Writes (Machine.execute p op.Close st)
     writes_close = by st.brackets st.roots w
       where
-        by : (n r : ℕ) → Written IsCall n r st.output → Writes (Machine.close_bracket n (λ m. Continues (record { place = st.place + 1; operands = st.operands; parameters = st.parameters; loops = st.loops; brackets = m; roots = r; output = st.output ++ token.Close ∷ [] })))
+        by : (n r : ℕ) → Written IsCall n r st.output
+            → Writes (Machine.close_bracket n
+            (λ m. Continues
+            (record {
+              place = st.place + 1;
+              operands = st.operands;
+              parameters = st.parameters;
+              loops =
+                  st.loops;
+              brackets = m;
+              roots = r;
+              output = st.output ++ token.Close ∷ [];
+            })))
         by zero r e = tt
         by (suc n) zero e = absurd e
         by (suc zero) (suc r) e = root_closed IsCall st.output e
@@ -166,7 +226,13 @@ module _ (p : Program) where
     writes_call eq (Some cs) e =
         writes_args (reverse cs) [] [] st.operands _ refl (λ us ws a.
         writes_leaf (trees.Call (Machine.number p eq us)) (st.place + 1) ws st.loops
-        (record { instance = record { equation = eq; values = map untagged us }; declared = callee-instance p.callees eq cs (map untagged us) e (subst (λ es. AreOf es us) (append-nil (reverse (reverse cs)) ∙ reverse-reverse cs) a); numbered = refl }))
+        (record {
+          instance = record { equation = eq; values = map untagged us };
+          declared =
+              callee-instance p.callees eq cs (map untagged us) e
+              (subst (λ es. AreOf es us) (append-nil (reverse (reverse cs)) ∙ reverse-reverse cs) a);
+          numbered = refl;
+        }))
 
     pub writes_act : (i : Op) → Writes (Machine.execute p i st)
     writes_act op.End = writes_end st.loops st.brackets st.roots w
@@ -175,7 +241,11 @@ module _ (p : Program) where
     writes_act (op.PushEnum s i) = writes_push st.operands (EnumValue s i)
     writes_act (op.Get i) = writes_slot (Machine.value_at st.loops st.parameters i) _ (λ v. writes_push st.operands v)
     writes_act op.Pop = writes_any st.operands _ (λ v ws. w)
-    writes_act (op.Arithmetic c) = writes_int st.operands _ (λ b vs. writes_int vs _ (λ a ws. cond_both (divides c && int_lt b (pos 1)) (Faults Machine.Divisor) _ Writes (λ e. tt) (λ e. writes_push_int ws (arithmetic c a b))))
+    writes_act (op.Arithmetic c) =
+        writes_int st.operands _
+        (λ b vs. writes_int vs _
+        (λ a ws. cond_both (divides c && int_lt b (pos 1)) (Faults Machine.Divisor) _ Writes (λ e. tt)
+        (λ e. writes_push_int ws (arithmetic c a b))))
     writes_act op.Negate = writes_int st.operands _ (λ a vs. writes_push_int vs (neg_ℤ a))
     writes_act op.Absolute = writes_int st.operands _ (λ a vs. writes_push_int vs (absolute a))
     writes_act (op.Compare o) = writes_int st.operands _ (λ b vs. writes_int vs _ (λ a ws. writes_push ws _))
@@ -185,7 +255,9 @@ module _ (p : Program) where
     writes_act (op.Jump to) = w
     writes_act (op.JumpIf on to) = writes_bool st.operands _ (λ b vs. cond_both (if on then b else not b) _ _ Writes (λ e. w) (λ e. w))
     writes_act (op.InRange low high to) = writes_int st.operands _ (λ z vs. cond_both (int_le low z && int_le z high) _ _ Writes (λ e. w) (λ e. w))
-    writes_act (op.SlotInRange i low high to) = writes_slot (Machine.value_at st.loops st.parameters i) _ (λ v. writes_with_int v _ (λ z. cond_both (int_le low z && int_le z high) _ _ Writes (λ e. w) (λ e. w)))
+    writes_act (op.SlotInRange i low high to) =
+        writes_slot (Machine.value_at st.loops st.parameters i) _
+        (λ v. writes_with_int v _ (λ z. cond_both (int_le low z && int_le z high) _ _ Writes (λ e. w) (λ e. w)))
     writes_act (op.Loop i) = writes_begin i (Machine.carrier_of p i)
     writes_act op.Next = writes_next st.loops
     writes_act (op.Open c) = cond_both (nat_lt st.brackets 32) _ _ Writes (λ e. rw (sym (opening-token c)) (writes_open (tree_connective c))) (λ e. tt)
@@ -216,7 +288,8 @@ module _ (p : Program) where
       let z : suc m + k ≡ suc (m + k) = omega arith in
       rw z (by (Machine.step p st) (λ st' e'. longer m k st' out e') e)
     where
-      by : (x : Outcome) → ((st' : State) → Machine.run p m st' ≡ Ends out → Machine.run p (m + k) st' ≡ Ends out) → Machine.and_then x (Machine.run p m) ≡ Ends out → Machine.and_then x (Machine.run p (m + k)) ≡ Ends out
+      by : (x : Outcome) → ((st' : State) → Machine.run p m st' ≡ Ends out → Machine.run p (m + k) st' ≡ Ends out)
+          → Machine.and_then x (Machine.run p m) ≡ Ends out → Machine.and_then x (Machine.run p (m + k)) ≡ Ends out
       by (Continues st') f e = f st' e
       by (Ends out') f e = e
       by (Faults g) f e = e

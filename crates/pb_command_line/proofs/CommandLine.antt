@@ -137,7 +137,14 @@ plain_read command.Verify alone = tt
 plain_read command.List alone = tt
 plain_read command.SolveCode alone = plain_solved [] refl refl
 plain_read command.Translate alone = refl
-plain_read command.Check alone = record { solving = plain_solved (unset (codes "status") ∷ unset (codes "counts") ∷ []) refl refl; properties = refl; status = not_set _ not_told; counts = not_set _ not_told }
+plain_read command.Check alone =
+    record {
+      solving = plain_solved (unset (codes "status") ∷ unset (codes "counts") ∷ []) refl refl;
+      properties =
+          refl;
+      status = not_set _ not_told;
+      counts = not_set _ not_told;
+    }
 plain_read command.Why alone = record { workers = refl; property = refl; lines = not_set _ not_told }
 plain_read command.Rule alone = absurd alone
 

@@ -14,6 +14,7 @@ winners_of g (Ok s) certified = λ t h v within. same_winner g s t certified h v
 winners_of g (Err e) certified = certified
 
 -- where the checker refuses the lifted solution, any other one may stand
-pub lifting_has_none : {E : Type 0} (g : Game) (lifted : Solution) (r : Result Solution E) → IsLiftedSolution g lifted → ¬ IsCertificate g lifted → IfOk r (λ s. IsCertificate g s) → IfOk r (IsLiftedOrNone g)
+pub lifting_has_none : {E : Type 0} (g : Game) (lifted : Solution) (r : Result Solution E) → IsLiftedSolution g lifted
+    → ¬ IsCertificate g lifted → IfOk r (λ s. IsCertificate g s) → IfOk r (IsLiftedOrNone g)
 lifting_has_none g lifted (Ok s) least refused certified = inr (inr (lifted, least, refused))
 lifting_has_none g lifted (Err e) least refused certified = certified

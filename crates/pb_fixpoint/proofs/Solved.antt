@@ -16,7 +16,8 @@ cond_within false x y x' y' p q h = q h
 pub assign-within : {I : Type 0} (X : Equation I) (s t F G : Environment I) → Within s t → Within F G → Within (assign s X F) (assign t X G)
 assign-within X s t F G st FG i = cond_within (X.owns i) (F i) (s i) (G i) (t i) (FG i) (st i)
 
-pub iterate-within : {I : Type 0} (g g' : Environment I → Environment I) → ((F G : Environment I) → Within F G → Within (g F) (g' G)) → (n : ℕ) (F : Environment I) → Within (iterate n g F) (iterate n g' F)
+pub iterate-within : {I : Type 0} (g g' : Environment I → Environment I)
+    → ((F G : Environment I) → Within F G → Within (g F) (g' G)) → (n : ℕ) (F : Environment I) → Within (iterate n g F) (iterate n g' F)
 iterate-within g g' h zero F = λ i e. e
 iterate-within g g' h (suc n) F = h (iterate n g F) (iterate n g' F) (iterate-within g g' h n F)
 
@@ -97,7 +98,8 @@ stands_still g m xs reads Nu =
       rests = λ n a. at_agree _ _ (ap outside (reads _ _ (agree_outside _ _ xs a))) xs;
     }))
 
-fixpoint_of : {I : Type 0} (X : Equation I) (E : List (Equation I)) → IsMonotone X → AreMonotone E → (t : Environment I) (xs : List I) → AreInstances X xs → IsFixpoint X (operator X E t) (value_of X E t)
+fixpoint_of : {I : Type 0} (X : Equation I) (E : List (Equation I)) → IsMonotone X → AreMonotone E
+    → (t : Environment I) (xs : List I) → AreInstances X xs → IsFixpoint X (operator X E t) (value_of X E t)
 fixpoint_of X E m me t xs a =
     let g = operator X E t in
     let still : Agree (iterate (length xs) g (start X.sign)) (g (iterate (length xs) g (start X.sign))) xs =
@@ -120,17 +122,20 @@ operator-within_at : {I : Type 0} (X : Equation I) (E : List (Equation I)) → I
 operator-within_at X E m me t F G FG i =
     m.keeps _ _ (solution-within E me _ _ (assign-within_at X t F G FG)) i
 
-least_step : {I : Type 0} (X : Equation I) (E : List (Equation I)) → IsMonotone X → AreMonotone E → (t F : Environment I) → WithinAt X (operator X E t F) F → (n : ℕ) → WithinAt X (iterate n (operator X E t) (start Mu)) F
+least_step : {I : Type 0} (X : Equation I) (E : List (Equation I)) → IsMonotone X → AreMonotone E
+    → (t F : Environment I) → WithinAt X (operator X E t F) F → (n : ℕ) → WithinAt X (iterate n (operator X E t) (start Mu)) F
 least_step X E m me t F pre zero = λ i own e. false_true e
 least_step X E m me t F pre (suc n) =
     λ i own e. pre i own (operator-within_at X E m me t _ F (least_step X E m me t F pre n) i e)
 
-greatest_step : {I : Type 0} (X : Equation I) (E : List (Equation I)) → IsMonotone X → AreMonotone E → (t F : Environment I) → WithinAt X F (operator X E t F) → (n : ℕ) → WithinAt X F (iterate n (operator X E t) (start Nu))
+greatest_step : {I : Type 0} (X : Equation I) (E : List (Equation I)) → IsMonotone X → AreMonotone E
+    → (t F : Environment I) → WithinAt X F (operator X E t F) → (n : ℕ) → WithinAt X F (iterate n (operator X E t) (start Nu))
 greatest_step X E m me t F post zero = λ i own e. refl
 greatest_step X E m me t F post (suc n) =
     λ i own e. operator-within_at X E m me t F _ (greatest_step X E m me t F post n) i (post i own e)
 
-extreme_of : {I : Type 0} (X : Equation I) (E : List (Equation I)) → IsMonotone X → AreMonotone E → (t : Environment I) (sign : Sign) → IsExtreme sign X (operator X E t) (iterate X.size (operator X E t) (start sign))
+extreme_of : {I : Type 0} (X : Equation I) (E : List (Equation I)) → IsMonotone X → AreMonotone E
+    → (t : Environment I) (sign : Sign) → IsExtreme sign X (operator X E t) (iterate X.size (operator X E t) (start sign))
 extreme_of X E m me t Mu = record { below = λ F pre. least_step X E m me t F pre X.size }
 extreme_of X E m me t Nu = record { above = λ F post. greatest_step X E m me t F post X.size }
 

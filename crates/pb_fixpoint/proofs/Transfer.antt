@@ -34,7 +34,8 @@ module _ (I J : Type 0) (known : J → Bool) (named : J → I) where
       (λ F G FG j k. same.holds _ _ (below _ _ (assign-matches X Y same t F u G tu FG)) j k)
       X.size (start X.sign) (start X.sign) (start-matches X.sign)))
 
-  pub solution-matches : (E : List (Equation I)) (D : List (Equation J)) → transfer.AreSame known named E D → (t : Environment I) (u : Environment J) → Matches t u → Matches (solution E t) (solution D u)
+  pub solution-matches : (E : List (Equation I)) (D : List (Equation J)) → transfer.AreSame known named E D
+      → (t : Environment I) (u : Environment J) → Matches t u → Matches (solution E t) (solution D u)
   solution-matches [] [] same t u tu = tu
   solution-matches [] (Y ∷ D) same t u tu = absurd same
   solution-matches (X ∷ E) [] same t u tu = absurd same

@@ -108,7 +108,8 @@ module _ (g : Game) (player : Player) where
   unfolding top_of
   top_is p t e h = h ∙ ap (unit (base_of g player)) e
 
-  pub asked_is : (v rank place top more : ℕ) → place ≡ unit (base_of g player) (priority_of g v) → top ≡ top_of g player → more ≡ more_of player (priority_of g v) → step_up place top more rank ≡ asked g player v rank
+  pub asked_is : (v rank place top more : ℕ) → place ≡ unit (base_of g player) (priority_of g v) → top ≡ top_of g player
+      → more ≡ more_of player (priority_of g v) → step_up place top more rank ≡ asked g player v rank
   unfolding asked
   asked_is v rank place top more a b c i = step_up (a i) (b i) (c i) rank
 
@@ -121,7 +122,9 @@ module _ (g : Game) (player : Player) where
   asked_below v m = step_below (unit (base_of g player) (priority_of g v)) (top_of g player) (more_of player (priority_of g v)) m
 
   pub least_grows : (known more : List ℕ) → ((v : ℕ) → slice_index known v ≤ slice_index more v) → (v : ℕ) → least_rank g player known v ≤ least_rank g player more v
-  least_grows known more h v = best_grows (is_same (owner_of g v) player) (top_of g player) (asked_by g player known v) (asked_by g player more v) (length (successors_of g v)) (λ j _. asked_grows v _ _ (h _))
+  least_grows known more h v =
+      best_grows (is_same (owner_of g v) player) (top_of g player) (asked_by g player known v)
+      (asked_by g player more v) (length (successors_of g v)) (λ j _. asked_grows v _ _ (h _))
 
   pub least_below : (known : List ℕ) (v : ℕ) → least_rank g player known v ≤ top_of g player
   least_below known v = best_below (is_same (owner_of g v) player) (top_of g player) (asked_by g player known v) (length (successors_of g v)) (λ j _. asked_below v _)
@@ -177,11 +180,16 @@ module _ (g : Game) (player : Player) where
       let a = falls_asks m v e.0 h low.0 e.2 in
       let l = least_at (top_of g player) (asked_by g player m v) (length (successors_of g v)) j.0 j.1 in
       let f : asked_by g player m v j.0 ≡ asked g player v (slice_index m e.0) = ap (λ x. asked g player v (slice_index m x)) j.2 in
-      let t : least_rank g player m v ≡ best true (top_of g player) (asked_by g player m v) (length (successors_of g v)) = ap (λ b. best b (top_of g player) (asked_by g player m v) (length (successors_of g v))) (same_yes (owner_of g v) player mine) in
+      let t : least_rank g player m v
+      ≡ best true (top_of g player) (asked_by g player m v) (length (successors_of g v)) =
+      ap (λ b. best b (top_of g player) (asked_by g player m v) (length (successors_of g v))) (same_yes (owner_of g v) player mine) in
       omega arith)
       (λ (ne : owner_of g v ≢ player).
-      let t : least_rank g player m v ≡ best false (top_of g player) (asked_by g player m v) (length (successors_of g v)) = ap (λ b. best b (top_of g player) (asked_by g player m v) (length (successors_of g v))) (same_no (owner_of g v) player ne) in
-      let l = greatest_below (top_of g player) (slice_index m v) (asked_by g player m v) (length (successors_of g v)) (λ j b. falls_asks m v _ h low.0 (low.1.other ne _ (element_in (successors_of g v) j _ b refl))) in
+      let t : least_rank g player m v
+      ≡ best false (top_of g player) (asked_by g player m v) (length (successors_of g v)) =
+      ap (λ b. best b (top_of g player) (asked_by g player m v) (length (successors_of g v))) (same_no (owner_of g v) player ne) in
+      let l = greatest_below (top_of g player) (slice_index m v) (asked_by g player m v) (length (successors_of g v))
+      (λ j b. falls_asks m v _ h low.0 (low.1.other ne _ (element_in (successors_of g v) j _ b refl))) in
       omega arith) (cases_player (owner_of g v) player))
       (is.ranked v h)
 
@@ -192,7 +200,10 @@ module _ (g : Game) (player : Player) where
   -- the ranks that are all top are a measure, so words below all measures are at most top
   falls_to : (m : List ℕ) (v u : ℕ) → v < vertex_count g → slice_index m v < top_of g player → asked g player v (slice_index m u) ≤ slice_index m v → FallsTo g player m v u
   falls_to m v u h l a =
-      let low : slice_index m u < top_of g player = ⊎_elim (λ (x : slice_index m u < top_of g player). x) (λ (x : top_of g player ≤ slice_index m u). let t = asked_top v (slice_index m u) (inside v h) x in absurd (omega arith)) (cases_lt (slice_index m u) (top_of g player)) in
+      let low : slice_index m u < top_of g player =
+      ⊎_elim (λ (x : slice_index m u < top_of g player). x)
+      (λ (x : top_of g player ≤ slice_index m u). let t = asked_top v (slice_index m u) (inside v h) x in
+      absurd (omega arith)) (cases_lt (slice_index m u) (top_of g player)) in
       (low, meets v (slice_index m v) (slice_index m u) (inside v h) l low a)
 
   -- ranks that no lift raises are a measure
@@ -205,13 +216,19 @@ module _ (g : Game) (player : Player) where
           l,
           record {
             own = λ mine.
-                let t : least_rank g player m v ≡ best true (top_of g player) (asked_by g player m v) (length (successors_of g v)) = ap (λ b. best b (top_of g player) (asked_by g player m v) (length (successors_of g v))) (same_yes (owner_of g v) player mine) in
+                let t : least_rank g player m v
+                ≡ best true (top_of g player) (asked_by g player m v) (length (successors_of g v)) =
+                ap (λ b. best b (top_of g player) (asked_by g player m v) (length (successors_of g v)))
+                (same_yes (owner_of g v) player mine) in
                 let f = fixed v h in
                 let j = least_from (top_of g player) (asked_by g player m v) (length (successors_of g v)) (omega arith) in
                 let a = j.2 in
                 (slice_index (successors_of g v) j.0, element_in (successors_of g v) j.0 _ j.1 refl, falls_to m v _ h l (omega arith));
             other = λ ne' u edge.
-                let t : least_rank g player m v ≡ best false (top_of g player) (asked_by g player m v) (length (successors_of g v)) = ap (λ b. best b (top_of g player) (asked_by g player m v) (length (successors_of g v))) (same_no (owner_of g v) player ne') in
+                let t : least_rank g player m v
+                ≡ best false (top_of g player) (asked_by g player m v) (length (successors_of g v)) =
+                ap (λ b. best b (top_of g player) (asked_by g player m v) (length (successors_of g v)))
+                (same_no (owner_of g v) player ne') in
                 let f = fixed v h in
                 let j = place_of (successors_of g v) u edge in
                 let a = greatest_at (top_of g player) (asked_by g player m v) (length (successors_of g v)) j.0 j.1 in
@@ -226,7 +243,9 @@ module _ (g : Game) (player : Player) where
   raised_words words v h a = record {
     sized = length-set words v (least_rank g player words v) ∙ a.sized;
     below = λ m is u. let sized = a.sized in dite (ℕ_discrete u v)
-        (λ e. let same : slice_index (set words v (least_rank g player words v)) u ≡ least_rank g player words v = ap (slice_index (set words v (least_rank g player words v))) e ∙ get_or-set_same words v (least_rank g player words v) 0 (omega arith) in
+        (λ e. let same : slice_index (set words v (least_rank g player words v)) u ≡ least_rank g player words v =
+        ap (slice_index (set words v (least_rank g player words v))) e
+        ∙ get_or-set_same words v (least_rank g player words v) 0 (omega arith) in
         let same_m : slice_index m u ≡ slice_index m v = ap (slice_index m) e in
         let r = raise_within words m is (a.below m is) v h in omega arith)
         (λ ne. let c = get_or-set_other words v u (least_rank g player words v) 0 ne in let b = a.below m is u in omega arith);

@@ -137,7 +137,11 @@ module _ (base : ℕ → ℕ) (player : Player) (width : ℕ) (positive : (q : �
     pub is_progress : more ≡ (if p % 2 == parity_of player then 0 else 1) → IsProgress (count_in base r) (count_in base s) player p width → s / unit base p + more ≤ r / unit base p
     is_progress is (inl down) = let m : more ≤ 1 = grind (arith, is) in dite (ℕ_discrete (s / unit base p) (r / unit base p))
         (λ same. absurd (not_same _ _ _ _ _ down (same_counts s r sl rl gap.0 p gap.1 (sym same))))
-        (λ ne. ⊎_elim (λ (l : s / unit base p < r / unit base p). omega arith) (λ (l : r / unit base p < s / unit base p). absurd (one_way _ _ _ _ _ down (lower_counts s r sl rl gap.0 p gap.1 l))) (apart (s / unit base p) (r / unit base p) ne))
+        (λ ne. ⊎_elim (λ (l : s / unit base p < r / unit base p). omega arith)
+        (λ (l : r / unit base p < s / unit base p). absurd
+        (one_way _ _ _ _ _ down (lower_counts s r sl rl gap.0 p gap.1 l))) (apart (s / unit base p) (r / unit base p) ne))
     is_progress is (inr same) = let m : more ≡ 0 = grind (arith, is, same.0) in dite (ℕ_discrete (s / unit base p) (r / unit base p))
         (λ e. omega arith)
-        (λ ne. ⊎_elim (λ (l : s / unit base p < r / unit base p). omega arith) (λ (l : r / unit base p < s / unit base p). absurd (not_same _ _ _ _ _ (lower_counts s r sl rl gap.0 p gap.1 l) same.1)) (apart (s / unit base p) (r / unit base p) ne))
+        (λ ne. ⊎_elim (λ (l : s / unit base p < r / unit base p). omega arith)
+        (λ (l : r / unit base p < s / unit base p). absurd
+        (not_same _ _ _ _ _ (lower_counts s r sl rl gap.0 p gap.1 l) same.1)) (apart (s / unit base p) (r / unit base p) ne))

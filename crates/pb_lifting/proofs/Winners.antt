@@ -114,7 +114,8 @@ module _ (even odd : ℕ → ℕ → ℕ) (v u : ℕ) where
   falls p limit (inr d) (inr e) = let x = d.0 in let y = e.0 in absurd (omega arith)
 
 module _ (g : Game) (s t : Solution) (first : IsCertificate g s) (second : IsCertificate g t) where
-  along : (v u : ℕ) → Disputed g s t v → IsKept g s v u → IsKept g t v u → (u : ℕ) × Disputed g s t u × Falls (both (count_of g s) (count_of g t) v) (both (count_of g s) (count_of g t) u) (priority_count g)
+  along : (v u : ℕ) → Disputed g s t v → IsKept g s v u → IsKept g t v u
+      → (u : ℕ) × Disputed g s t u × Falls (both (count_of g s) (count_of g t) v) (both (count_of g s) (count_of g t) u) (priority_count g)
   along v u d a b =
       let x = first.vertices v d.vertex in let y = second.vertices v d.vertex in (
         u,
@@ -187,7 +188,8 @@ module _ (g : Game) (e o : List ℕ) (of_even : IsMeasure g Even e) (of_odd : Is
   never_low v d = no_descent (both even_counts odd_counts) (priority_count g) (IsLowForBoth g e o) low_step v d
 
 -- where a measure of the opponent isn't top, every measure of the player is
-pub opponents_within : (g : Game) (player : Player) (words : List ℕ) → IsMeasure g (opponent_of player) words → (v : ℕ) → v < vertex_count g → slice_index words v < top_of g (opponent_of player) → IsWithinAll g player v (top_of g player)
+pub opponents_within : (g : Game) (player : Player) (words : List ℕ) → IsMeasure g (opponent_of player) words → (v : ℕ)
+    → v < vertex_count g → slice_index words v < top_of g (opponent_of player) → IsWithinAll g player v (top_of g player)
 opponents_within g Even words is v h low m measure = ⊎_elim
     (λ (l : slice_index m v < top_of g Even). absurd (never_low g m words measure is v (record { vertex = h; even = l; odd = low })))
     (λ (top : top_of g Even ≤ slice_index m v). top)

@@ -15,7 +15,9 @@ pub record IsEnd (place rest : ℕ) (ds : List Carrier) (vs : Tuple) : Type 0 wh
   pub at : slice_get (tuples (map values_of ds)) low ≡ Some vs
 
 pub nothing_written : (place : ℕ) (ds : List Carrier) (vs : Tuple) → ds ≡ [] → vs ≡ [] → IsEnd place place ds vs
-nothing_written place ds vs none empty = subst (λ (es : List Carrier). IsEnd place place es vs) (sym none) (subst (λ (us : Tuple). IsEnd place place [] us) (sym empty) (record { low = 0; whole = omega arith; at = refl }))
+nothing_written place ds vs none empty =
+    subst (λ (es : List Carrier). IsEnd place place es vs) (sym none)
+    (subst (λ (us : Tuple). IsEnd place place [] us) (sym empty) (record { low = 0; whole = omega arith; at = refl }))
 
 pub one_more : (place rest before last size : ℕ) (c : Carrier) (ds es : List Carrier) (v : Value) (vs us : Tuple)
     → IsEnd place rest ds vs → rest ≡ before * size + last → size ≡ length (values_of c) → slice_get (values_of c) last ≡ Some v → es ≡ c ∷ ds → us ≡ v ∷ vs
@@ -23,7 +25,10 @@ pub one_more : (place rest before last size : ℕ) (c : Carrier) (ds es : List C
 one_more place rest before last size c ds es v vs us end rest_is size_is at es_is us_is =
     subst (λ (fs : List Carrier). IsEnd place before fs us) (sym es_is) (subst (λ (xs : Tuple). IsEnd place before (c ∷ ds) xs) (sym us_is) (record {
       low = last * count ds + end.low;
-      whole = end.whole ∙ (ap (λ (r : ℕ). r * count ds + end.low) rest_is ∙ (ap (λ (s : ℕ). (before * s + last) * count ds + end.low) size_is ∙ sym (sum before (length (values_of c)) last (count ds) end.low)));
+      whole = end.whole
+          ∙ (ap (λ (r : ℕ). r * count ds + end.low) rest_is
+          ∙ (ap (λ (s : ℕ). (before * s + last) * count ds + end.low) size_is
+          ∙ sym (sum before (length (values_of c)) last (count ds) end.low)));
       at = slice_get-tuples (values_of c) (map values_of ds) last end.low (last * count ds + end.low) v vs at end.at refl;
     }))
   where

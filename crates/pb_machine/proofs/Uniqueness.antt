@@ -37,7 +37,9 @@ module _ (u v : Environment ℕ) where
   operands_alike : (c : Connective) (o : Operands) → OperandsCall Alike o → operands_truth u c o ≡ operands_truth v c o
   operands_alike c End h = refl
   operands_alike c (LeafThen leaf after) h = ap (λ b. joined c b (operands_truth u c after)) (leaf_alike leaf h.0) ∙ ap (joined c (leaf_truth v leaf)) (operands_alike c after h.1)
-  operands_alike c (BracketThen d inside after) h = ap (λ b. joined c b (operands_truth u c after)) (operands_alike d inside h.0) ∙ ap (joined c (operands_truth v d inside)) (operands_alike c after h.1)
+  operands_alike c (BracketThen d inside after) h =
+      ap (λ b. joined c b (operands_truth u c after)) (operands_alike d inside h.0)
+      ∙ ap (joined c (operands_truth v d inside)) (operands_alike c after h.1)
 
   tree_alike : (t : Tree) → TreeCalls Alike t → tree_truth u t ≡ tree_truth v t
   tree_alike (Single leaf) h = leaf_alike leaf h
@@ -114,7 +116,9 @@ module _ (one_tree : TokensAreOneTree) (m : Contents) (s t : ℕ → Tree) (firs
   solved_alike : (n : ℕ) → solved (map signature_of m.equations) s n ≡ solved (map signature_of m.equations) t n
   solved_alike n = ⊎_elim
       (λ (inside : n < count_of (parameters m)).
-      sym (solution-matches ℕ ℕ known (λ j. j) (numbered 0 (map signature_of m.equations) s) (numbered 0 (map signature_of m.equations) t) (same_from 0 (map signature_of m.equations)) empty empty (λ j k. refl) n (lt-ltb n (count_of (parameters m)) inside)))
+      sym (solution-matches ℕ ℕ known (λ j. j) (numbered 0 (map signature_of m.equations) s)
+      (numbered 0 (map signature_of m.equations) t) (same_from 0 (map signature_of m.equations)) empty empty
+      (λ j k. refl) n (lt-ltb n (count_of (parameters m)) inside)))
       (λ (past : count_of (parameters m) ≤ n).
       let outside : 0 + total (map signature_of m.equations) ≤ n = omega (arith, past, count_is_total m) in
       untouched 0 (map signature_of m.equations) s empty n outside ∙ sym (untouched 0 (map signature_of m.equations) t empty n outside))

@@ -13,7 +13,8 @@ use Rattle.pb_model_translation.specs.Placed.{joining, joined_forms}
 use Rattle.pb_model_tree.specs.declared.formula.Modality.{Modality}
 
 -- a chain of the first link's operand and the links behind it
-pub joined-links : (k : Modality) (here : Place) (c : Connective) (ls : List Link) (l : Link) (p : common.Box Formula Global) (v : Vec Link Global) → c ≡ joining k → ls ≡ l ∷ v.items → box_value p ≡ l.operand
+pub joined-links : (k : Modality) (here : Place) (c : Connective) (ls : List Link) (l : Link)
+    (p : common.Box Formula Global) (v : Vec Link Global) → c ≡ joining k → ls ≡ l ∷ v.items → box_value p ≡ l.operand
     → formula_form (formula.Chain c p v) ≡ joined_forms k here (link_forms ls)
 joined-links k here c ls l p v by are first =
     formula-chain c p v ∙ ap (λ (x : Formula). chained (FormulaForm.connected c) (formula_form x) (link_forms v.items)) first

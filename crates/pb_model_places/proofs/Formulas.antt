@@ -55,7 +55,8 @@ mutual
   skips-set : (depth : ℕ) → Skips (IsSet depth)
   skips-set zero = keeps-first [] no_places (SetBegun Nothing Nothing (IsInstance zero)) (skips-set-begun Nothing Nothing zero (keeps-nothing [] no_places) (keeps-nothing [] no_places))
   skips-set (suc depth) =
-      keeps-first [] no_places (SetBegun (IsSet depth) (IsStepSet depth) (IsInstance (suc depth))) (skips-set-begun (IsSet depth) (IsStepSet depth) (suc depth) (skips-set depth) (skips-step-set depth))
+      keeps-first [] no_places (SetBegun (IsSet depth) (IsStepSet depth) (IsInstance (suc depth)))
+      (skips-set-begun (IsSet depth) (IsStepSet depth) (suc depth) (skips-set depth) (skips-step-set depth))
 
   skips-step-set : (depth : ℕ) → Skips (IsStepSet depth)
   skips-step-set zero =
@@ -63,7 +64,8 @@ mutual
       (keeps-first [] no_places (SetBegun Nothing Nothing (IsInstance zero)) (skips-set-begun Nothing Nothing zero (keeps-nothing [] no_places) (keeps-nothing [] no_places)))
   skips-step-set (suc depth) =
       skips-union (First (SetBegun (IsSet depth) (IsStepSet depth) (IsInstance (suc depth))))
-      (keeps-first [] no_places (SetBegun (IsSet depth) (IsStepSet depth) (IsInstance (suc depth))) (skips-set-begun (IsSet depth) (IsStepSet depth) (suc depth) (skips-set depth) (skips-step-set depth)))
+      (keeps-first [] no_places (SetBegun (IsSet depth) (IsStepSet depth) (IsInstance (suc depth)))
+      (skips-set-begun (IsSet depth) (IsStepSet depth) (suc depth) (skips-set depth) (skips-step-set depth)))
 
 -- ---- formulas
 
@@ -133,7 +135,8 @@ module _ (Formula : Reads FormulaForm) (formula : Keeps [] formula_places Formul
   keeps-quantified-by k.Exists = skip _ _ [] formula_places (skips-one k.Exists) (λ word. keeps-quantifier Exists word.place)
   keeps-quantified-by _ = keeps-nothing [] formula_places
 
-keeps-binder : (Body : List ℕ → Reads FormulaForm) (Formula : Reads FormulaForm) → ((x : List ℕ) → Keeps [] formula_places (Body x)) → Keeps [] formula_places Formula → Keeps [] formula_places (Binder Body Formula)
+keeps-binder : (Body : List ℕ → Reads FormulaForm) (Formula : Reads FormulaForm)
+    → ((x : List ℕ) → Keeps [] formula_places (Body x)) → Keeps [] formula_places Formula → Keeps [] formula_places (Binder Body Formula)
 keeps-binder Body Formula body formula =
     keeps-either [] formula_places (Fixpoint Body) (Quantified FormulaForm.quantified Formula)
     (keeps-first [] formula_places (FixpointBy Body) (keeps-fixpoint-by Body body)) (keeps-first [] formula_places (QuantifiedBy FormulaForm.quantified Formula) (keeps-quantified-by Formula formula))
@@ -261,7 +264,8 @@ skips-processes (suc depth) =
     skip _ _ [] no_places (skips-others most_others (IsStepSet depth) (skips-step-set depth)) (λ others. skip _ _ [] no_places (skips-one k.Close) (λ close_bracket.
     skip _ _ [] no_places (skips-of (Word fairly_of) (λ word. word.1 ∷ []) (keeps-word fairly_of)) (λ word. skips-is _)))))
 
-keeps-fair : (Sets : Reads (StepSetForm × List StepSetForm)) (Operand : Reads FormulaForm) → Skips Sets → Keeps [] formula_places Operand → (q : Place) → Keeps (q ∷ []) formula_places (Fair Sets Operand q)
+keeps-fair : (Sets : Reads (StepSetForm × List StepSetForm)) (Operand : Reads FormulaForm) → Skips Sets
+    → Keeps [] formula_places Operand → (q : Place) → Keeps (q ∷ []) formula_places (Fair Sets Operand q)
 keeps-fair Sets Operand sets operand q =
     skip _ _ (q ∷ []) formula_places sets (λ found. keeps-bind Operand _ (q ∷ []) formula_places formula_places operand (λ f.
     keeps-is (formula_places f ++ q ∷ []) formula_places (fair q found.0 found.1 f) (λ p e. fair-places q f p found.0 found.1 e)))
@@ -308,7 +312,8 @@ mutual
   keeps-plain scope (suc depth) =
       keeps-first [] formula_places _
       (keeps-begun scope (Worded scope (IsFair scope depth) (IsPlain scope depth)) (IsFormula scope depth) (IsUnary (suc depth)) (IsStepSet depth)
-      (keeps-worded scope (IsFair scope depth) (keeps-behind-fair scope depth) (IsPlain scope depth) (keeps-plain scope depth)) (keeps-formula scope depth) (keeps-unary (suc depth)) (skips-step-set depth))
+      (keeps-worded scope (IsFair scope depth) (keeps-behind-fair scope depth) (IsPlain scope depth)
+      (keeps-plain scope depth)) (keeps-formula scope depth) (keeps-unary (suc depth)) (skips-step-set depth))
 
   keeps-behind-fair : (scope : FixpointNames) (depth : ℕ) (q : Place) → Keeps (q ∷ []) formula_places (IsFair scope depth q)
   keeps-behind-fair scope zero q = keeps-nothing (q ∷ []) formula_places
@@ -328,5 +333,6 @@ mutual
       (keeps-fair (IsProcesses (suc depth)) (Wordless (IsPlain (within_fair scope) depth)) (skips-processes (suc depth))
       (keeps-wordless (IsPlain (within_fair scope) depth) (keeps-plain (within_fair scope) depth))) _ (keeps-first [] formula_places _
       (keeps-begun scope (Worded scope (IsFair scope depth) (IsPlain scope depth)) (IsFormula scope depth) (IsUnary (suc depth)) (IsStepSet depth)
-      (keeps-worded scope (IsFair scope depth) (keeps-behind-fair scope depth) (IsPlain scope depth) (keeps-plain scope depth)) (keeps-formula scope depth) (keeps-unary (suc depth)) (skips-step-set depth)))))
+      (keeps-worded scope (IsFair scope depth) (keeps-behind-fair scope depth) (IsPlain scope depth)
+      (keeps-plain scope depth)) (keeps-formula scope depth) (keeps-unary (suc depth)) (skips-step-set depth)))))
       (keeps-binder (λ name. IsFormula (within scope name) depth) (IsFormula scope depth) (λ name. keeps-formula (within scope name) depth) (keeps-formula scope depth))

@@ -80,7 +80,9 @@ skips-defined-by : (depth : ℕ) (kind : Kind) → Skips (DefinedBy depth kind)
 skips-defined-by depth k.Step = skip _ _ [] no_places (skips-one k.Step) (λ step. skips-is _)
 skips-defined-by depth k.Define =
     skip _ _ [] no_places (skips-one k.Define) (λ define.
-    skip _ _ [] no_places (skips-series (CountedApart (IsDefinition depth)) (Is {X = Unit {0}} tt) _ _ (keeps-counted no_places (IsDefinition depth) (skips-definition depth)) (skips-is tt)) (λ definitions.
+    skip _ _ [] no_places
+    (skips-series (CountedApart (IsDefinition depth)) (Is {X = Unit {0}} tt) _ _
+    (keeps-counted no_places (IsDefinition depth) (skips-definition depth)) (skips-is tt)) (λ definitions.
     skip _ _ [] no_places (skips-one k.Step) (λ step. skips-is _)))
 skips-defined-by depth _ = keeps-nothing [] no_places
 

@@ -53,7 +53,8 @@ find-none (b ∷ steps) q p none here =
     first true y e = refl
     first false y e = absurd (true≢false (sym e))
 
-    by : (t : Bool) → same_place b.name.place p ≡ t → find (λ (x : StepForm). same_place x.name.place p) steps ≡ None → cond t (Some b) (find (λ (x : StepForm). same_place x.name.place p) steps) ≡ None
+    by : (t : Bool) → same_place b.name.place p ≡ t → find (λ (x : StepForm). same_place x.name.place p) steps ≡ None
+        → cond t (Some b) (find (λ (x : StepForm). same_place x.name.place p) steps) ≡ None
     by true e found = absurd (none (first (same_place b.name.place q) (is_among (step_places steps) q) (same-both b.name.place q p e here)))
     by false e found = found
 

@@ -87,7 +87,10 @@ module _ (m : ModelForm) (names : ℕ → Name) (here : Place) (whole : FormulaF
   all-of-whole : AllOfFormulas (all_equation_forms m names here whole)
   all-of-whole = by (is_fixpoint (erased_formula whole))
     where
-      by : (b : Bool) → AllOfFormulas (if b then equation_forms m names here [] Nu 0 whole [] else (equation_at m names here Nu 0 (right_form m names [] 1 whole) ∷ equation_forms m names here [] Nu 1 whole []))
+      by : (b : Bool)
+          → AllOfFormulas
+          (if b then equation_forms m names here [] Nu 0 whole [] else
+          (equation_at m names here Nu 0 (right_form m names [] 1 whole) ∷ equation_forms m names here [] Nu 1 whole []))
       by true = all-of [] Nu 0 whole [] (record { places = λ q e. e; steps = λ x e. e }) tt
       by false = (one Nu 0 1 [] whole (record { places = λ q e. e; steps = λ x e. e }), all-of [] Nu 1 whole [] (record { places = λ q e. e; steps = λ x e. e }) tt)
 
@@ -138,7 +141,9 @@ every-step-is-called m here p s apart within =
     let f = every_step_form p in
     let names = names_of (erased_formula f) in
     let text = placed m here f in
-    ap (λ (steps : List StepForm). map (λ (c : MadeCall). c.instance.values) (made_calls (text_erase.erase text) (assigned (erase m).variables s []) (joined_forms Box p (map (placed_step m names Box (Numbered 0)) steps))))
+    ap (λ (steps : List StepForm). map (λ (c : MadeCall). c.instance.values)
+    (made_calls (text_erase.erase text) (assigned (erase m).variables s [])
+    (joined_forms Box p (map (placed_step m names Box (Numbered 0)) steps))))
     (filter-all m.steps)
     ∙ every-step m names (map erased_equation text.equations) (names 0) (erased_arguments m.initial.values) apart Box p 0 s within
     ∙ ap (flat_map (successors_by (erase m) s)) (sym (filter-all (map erased_step m.steps)))

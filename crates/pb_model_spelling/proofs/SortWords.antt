@@ -40,7 +40,9 @@ SortHasWords s = SortWritable (erased_sort s)
 
 sort_given : (kind : Kind) → Gives SortHasWords (SortBy kind)
 sort_given k.Struct =
-    gives_behind k.Struct SortHasWords _ (λ w. gives_then (EachOf EnumeratorHasWords) SortHasWords _ _ (gives_listed EnumeratorHasWords Enumerator (One k.Bar) enumerator_given (gives_one k.Bar)) (λ es h.
+    gives_behind k.Struct SortHasWords _
+    (λ w. gives_then (EachOf EnumeratorHasWords) SortHasWords _ _
+    (gives_listed EnumeratorHasWords Enumerator (One k.Bar) enumerator_given (gives_one k.Bar)) (λ es h.
     gives_behind k.Semicolon SortHasWords _ (λ s. gives_is SortHasWords _ (enumerators_kept es h))))
 sort_given k.Name = gives_then _ SortHasWords _ _ gives_name (λ n h. gives_behind k.Semicolon SortHasWords _ (λ s. gives_is SortHasWords _ h))
 sort_given _ = gives_nothing SortHasWords

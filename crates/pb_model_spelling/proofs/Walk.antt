@@ -129,7 +129,8 @@ mutual
 beginning_given : {X : Type 0} (P : X → Type 0) (kind : Kind) (R : Reads X) → Gives P R → Gives P (Beginning kind R)
 beginning_given P kind R gives s x z r h = gives s x z r.1 h
 
-atom_given : (made : Place → TermForm → FormulaForm) (Unary : Reads TermForm) → ((p : Place) (x : TermForm) → HasData x → HasWords (made p x)) → Gives HasData (Equated Unary) → Gives HasWords (Atom made Unary)
+atom_given : (made : Place → TermForm → FormulaForm) (Unary : Reads TermForm) → ((p : Place) (x : TermForm) → HasData x → HasWords (made p x)) → Gives HasData (Equated Unary)
+    → Gives HasWords (Atom made Unary)
 atom_given made Unary words equated =
     gives_then _ HasWords _ _ (gives_placed HasData (Equated Unary) equated) (λ found h. gives_is HasWords _ (words found.0 found.1 h))
 
@@ -303,7 +304,8 @@ mutual
   plain_given scope zero = first_formula scope Nothing Nothing (IsUnary zero) Nothing (gives_nothing HasWords) (gives_nothing HasWords) (unary_given zero) (equated_given zero) (gives_nothing Any)
   plain_given scope (suc depth) =
       first_formula scope (Worded scope (IsFair scope depth) (IsPlain scope depth)) (IsFormula scope depth) (IsUnary (suc depth)) (IsStepSet depth)
-      (worded_given scope (IsFair scope depth) (behind_fair_given scope depth) (IsPlain scope depth) (plain_given scope depth)) (formula_given scope depth) (unary_given (suc depth)) (equated_given (suc depth)) (steps_given depth)
+      (worded_given scope (IsFair scope depth) (behind_fair_given scope depth) (IsPlain scope depth) (plain_given scope depth)) (formula_given scope depth)
+      (unary_given (suc depth)) (equated_given (suc depth)) (steps_given depth)
 
   behind_fair_given : (scope : FixpointNames) (depth : ℕ) (p : Place) → Gives HasWords (IsFair scope depth p)
   behind_fair_given scope zero p = gives_nothing HasWords
@@ -325,7 +327,8 @@ mutual
       (fair_given (IsProcesses (suc depth)) (Wordless (IsPlain (within_fair scope) depth)) (processes_given (suc depth))
       (wordless_given (IsPlain (within_fair scope) depth) (plain_given (within_fair scope) depth))) _
       (first_formula scope (Worded scope (IsFair scope depth) (IsPlain scope depth)) (IsFormula scope depth) (IsUnary (suc depth)) (IsStepSet depth)
-      (worded_given scope (IsFair scope depth) (behind_fair_given scope depth) (IsPlain scope depth) (plain_given scope depth)) (formula_given scope depth) (unary_given (suc depth)) (equated_given (suc depth)) (steps_given depth))))
+      (worded_given scope (IsFair scope depth) (behind_fair_given scope depth) (IsPlain scope depth) (plain_given scope depth)) (formula_given scope depth)
+      (unary_given (suc depth)) (equated_given (suc depth)) (steps_given depth))))
       (binder_given (λ name. IsFormula (within scope name) depth) (IsFormula scope depth) (λ name. formula_given (within scope name) depth) (formula_given scope depth))
 
 -- ---- steps, the initial state, properties
@@ -391,7 +394,8 @@ defined_by : (depth : ℕ) (kind : Kind) → Gives DefinitionsHaveWords (Defined
 defined_by depth k.Step = gives_behind k.Step DefinitionsHaveWords _ (λ s. gives_is DefinitionsHaveWords [] tt)
 defined_by depth k.Define =
     gives_behind k.Define DefinitionsHaveWords _ (λ d.
-    gives_then (EachOf DefinitionHasWords) DefinitionsHaveWords _ _ (gives_listed DefinitionHasWords _ (Is {X = Unit {0}} tt) (gives_own DefinitionHasWords (IsDefinition depth) (definition_given depth)) (gives_is Any tt tt)) (λ ds h.
+    gives_then (EachOf DefinitionHasWords) DefinitionsHaveWords _ _
+    (gives_listed DefinitionHasWords _ (Is {X = Unit {0}} tt) (gives_own DefinitionHasWords (IsDefinition depth) (definition_given depth)) (gives_is Any tt tt)) (λ ds h.
     gives_behind k.Step DefinitionsHaveWords _ (λ s. gives_is DefinitionsHaveWords ds (each_kept erased_definition DefinitionWritable ds (each-of DefinitionHasWords ds h)))))
 defined_by depth _ = gives_nothing DefinitionsHaveWords
 
@@ -439,7 +443,8 @@ InitialHasWords i = AllWritable (erased_arguments i.values)
 initial_given : (depth : ℕ) → Gives InitialHasWords (IsInitialState depth)
 initial_given depth =
     gives_behind k.Init InitialHasWords _ (λ w.
-    gives_then _ InitialHasWords _ _ (gives_listed (λ (a : Place × TermForm). HasData a.1) (Placed (IsTerm depth)) (One k.Comma) (gives_placed HasData (IsTerm depth) (term_given depth)) (gives_one k.Comma)) (λ vs h.
+    gives_then _ InitialHasWords _ _
+    (gives_listed (λ (a : Place × TermForm). HasData a.1) (Placed (IsTerm depth)) (One k.Comma) (gives_placed HasData (IsTerm depth) (term_given depth)) (gives_one k.Comma)) (λ vs h.
     gives_behind k.Semicolon InitialHasWords _ (λ s. gives_is InitialHasWords _ (arguments_writable vs (each-of (λ (a : Place × TermForm). HasData a.1) vs h)))))
 
 abbrev PropertyHasWords : PropertyForm → Type 0
@@ -455,7 +460,8 @@ properties_given depth = gives_listed PropertyHasWords _ (Is {X = Unit {0}} tt) 
 
 -- ---- whole protocols
 
-model_words : (ranges : List RangeForm) (depth : ℕ) (s z : State) (model : ProtocolForm) → Each RangeSayable ranges → IsModel ranges depth s model z → AreLexical s.tokens → ProtocolWritable (erase model)
+model_words : (ranges : List RangeForm) (depth : ℕ) (s z : State) (model : ProtocolForm) → Each RangeSayable ranges → IsModel ranges depth s model z → AreLexical s.tokens
+    → ProtocolWritable (erase model)
 model_words ranges depth s z model bounds (sorts, a, r, (w, b, q, (state, c, t, (vs, d, v, (semicolon, e, p, (defined, f, o, (steps, g, n, (initial, i, m, (properties, j, l, is))))))))) h =
     let one = sorts_given s sorts a r h in
     let two = gives_one k.Model a w b q one.1 in

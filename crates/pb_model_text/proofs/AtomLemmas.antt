@@ -45,7 +45,8 @@ module _ (scope : FixpointNames) (depth : ℕ) (s : State) (is : kind s ≡ k.Na
 
 -- ---- what is data
 
-pub unbound-data : (scope : FixpointNames) (p : Place) (n : Named) (arguments : ArgumentForms) → is_bound scope n.text ≡ false → FormulaForm.«data» p (applied n arguments) ≡ atom_of scope p (applied n arguments)
+pub unbound-data : (scope : FixpointNames) (p : Place) (n : Named) (arguments : ArgumentForms)
+    → is_bound scope n.text ≡ false → FormulaForm.«data» p (applied n arguments) ≡ atom_of scope p (applied n arguments)
 unbound-data scope p n no_arguments other = rw other refl
 unbound-data scope p n (argument q x rest) other = refl
 

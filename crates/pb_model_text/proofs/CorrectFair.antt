@@ -116,8 +116,10 @@ module _ (depth : ℕ) where
 
   closing-correct : {X : Type 0} (x : X) → Correct Always (step.◌>>=◌ (expect k.Close) (λ close_bracket. step.◌>>=◌ (take_word fairly_of) (λ word. pure x))) (closing x) never (suc depth)
   closing-correct x =
-      then-plain (λ d. One k.Close) (λ close_bracket d. grammar.◌>>=◌ (Word fairly_of) (λ word. Is x)) never (suc depth) Always (expect k.Close) _ (expect-correct k.Close (suc depth) refl) (λ close_bracket.
-      then-plain (λ d. Word fairly_of) (λ word d. Is x) never (suc depth) Always (take_word fairly_of) (λ word. pure x) (word-correct fairly_of fairly-word (suc depth)) (λ word. is-correct x (suc depth)))
+      then-plain (λ d. One k.Close) (λ close_bracket d. grammar.◌>>=◌ (Word fairly_of) (λ word. Is x)) never (suc depth)
+      Always (expect k.Close) _ (expect-correct k.Close (suc depth) refl) (λ close_bracket.
+      then-plain (λ d. Word fairly_of) (λ word d. Is x) never (suc depth) Always (take_word fairly_of) (λ word. pure x)
+      (word-correct fairly_of fairly-word (suc depth)) (λ word. is-correct x (suc depth)))
 
   closed-stops : {X : Type 0} (x : X) (d : ℕ) (m : State) (y : X) (z : State) → closing x d m y z → Stops sets_on m.tokens
   closed-stops x d m y z r = stops-at-kind sets_on k.Close sets-close m.tokens r.1.tokens r.0 r.2.0 r.2.1

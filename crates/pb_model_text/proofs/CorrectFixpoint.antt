@@ -103,9 +103,13 @@ module _ (fam : List ℕ → Family FormulaForm) (g : Kind → Bool) where
 
   at-last : ((name : List ℕ) → Readable (fam name) 0) → (p : List ℕ → Step FormulaForm) (kind : Kind)
       → Answering (HeadIs kind) (fixpoint_by (refuse Limit) p (sign_of kind)) (λ d. kinds d kind) g 0 ⊎ Nowhere (fixpoint_by (refuse Limit) p (sign_of kind)) (λ d. kinds d kind)
-  at-last some p k.Mu = inl (λ s end h. refused-here (λ d. kinds d k.Mu) g 0 s Limit end (λ q. head-limited k.Mu s.tokens h refl) (λ d n t tail y w head within r over. no-level-mu d (st (t ∷ tail) n) y w within.0 r)
+  at-last some p k.Mu =
+      inl (λ s end h. refused-here (λ d. kinds d k.Mu) g 0 s Limit end (λ q. head-limited k.Mu s.tokens h refl)
+      (λ d n t tail y w head within r over. no-level-mu d (st (t ∷ tail) n) y w within.0 r)
       (λ t is. goes-free (λ d. kinds d k.Mu) 1 (suc s.operators) (t ∷ []) (free-mu some t (is ∙ head-kind-is k.Mu s.tokens h))))
-  at-last some p k.Nu = inl (λ s end h. refused-here (λ d. kinds d k.Nu) g 0 s Limit end (λ q. head-limited k.Nu s.tokens h refl) (λ d n t tail y w head within r over. no-level-nu d (st (t ∷ tail) n) y w within.0 r)
+  at-last some p k.Nu =
+      inl (λ s end h. refused-here (λ d. kinds d k.Nu) g 0 s Limit end (λ q. head-limited k.Nu s.tokens h refl)
+      (λ d n t tail y w head within r over. no-level-nu d (st (t ∷ tail) n) y w within.0 r)
       (λ t is. goes-free (λ d. kinds d k.Nu) 1 (suc s.operators) (t ∷ []) (free-nu some t (is ∙ head-kind-is k.Nu s.tokens h))))
   at-last some p kind = inr nothing-correct
 

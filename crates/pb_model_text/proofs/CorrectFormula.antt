@@ -88,7 +88,8 @@ free-name level t is =
     free-then (λ d. Instance (deeper IsTerm d)) (λ found d. Is (applied found.name found.arguments)) level (t ∷ [])
     (free-to (λ d. grammar.◌>>=◌ Name (λ name. Is (record { name = name; arguments = no_arguments }))) (λ d. Instance (deeper IsTerm d)) (λ x. x) level level (λ s x z r. inl r) (t ∷ [])
     (free-then (λ d. Name) (λ name d. Is (record { name = name; arguments = no_arguments })) level (t ∷ [])
-    (free-then (λ d. One k.Name) (λ token d. Is (record { place = token.place; text = token.text })) level (t ∷ []) (free-one k.Name level t is) (λ token. readable-is (record { place = token.place; text = token.text }) level))
+    (free-then (λ d. One k.Name) (λ token d. Is (record { place = token.place; text = token.text })) level (t ∷ []) (free-one k.Name level t is)
+    (λ token. readable-is (record { place = token.place; text = token.text }) level))
     (λ name. readable-is (record { name = name; arguments = no_arguments }) level)))
     (λ found. readable-is (applied found.name found.arguments) level))
 
@@ -149,7 +150,8 @@ value-answers : (depth : ℕ)
     → Answering (HeadIs k.Val) (unless_next goes_on (step.◌>>=◌ take_token (λ word. step.◌>>=◌ (data_operand depth) (λ x. pure (FormulaForm.«data» word.place x))))) values node_goes depth
 unfolding data_operand
 value-answers depth =
-    going-alike-answers (HeadIs k.Val) _ values (going unary_goes goes_on) node_goes depth (λ kind. once-more (is_open kind) (is_times kind || is_division kind) (is_additive kind) (is_order kind) (is_equality kind))
+    going-alike-answers (HeadIs k.Val) _ values (going unary_goes goes_on) node_goes depth
+    (λ kind. once-more (is_open kind) (is_times kind || is_division kind) (is_additive kind) (is_order kind) (is_equality kind))
     (unless_next-answers values unary_goes goes_on depth (HeadIs k.Val) _
     (then-plain (λ d. One k.Val) (λ word d. grammar.◌>>=◌ (IsUnary d) (λ x. Is (FormulaForm.«data» word.place x))) unary_goes depth (HeadIs k.Val) take_token
     (λ word. step.◌>>=◌ (unary depth) (λ x. pure (FormulaForm.«data» word.place x))) (take-correct k.Val depth refl)
@@ -232,7 +234,8 @@ module _ (scope : FixpointNames) where
   readable-without level = record {
     tail = some-token k.True ∷ [];
     value = FormulaForm.constant start true;
-    reads = λ n after. (no-word-first after, to-plain level (st (some-token k.True ∷ after) n) (FormulaForm.constant start true) (st after n) (some-token k.True, st after n, (refl, refl, refl), (refl, refl)));
+    reads = λ n after.
+        (no-word-first after, to-plain level (st (some-token k.True ∷ after) n) (FormulaForm.constant start true) (st after n) (some-token k.True, st after n, (refl, refl, refl), (refl, refl)));
   }
 
   readable-operand : (level : ℕ) → Readable (λ d. Wordless (IsPlain (within_fair scope) d)) level
@@ -299,7 +302,8 @@ module _ (scope : FixpointNames) where
 
       tested : (b : Bool) → is_open (kind s) ≡ b
           → Answers (λ d. IsFair scope d place) node_goes 0 s
-          (and_then (cond b (step.◌>>=◌ (refuse {A = Tok} Limit) (λ open_bracket. processes_behind (refuse Limit))) (refuse Unexpected) s) (λ found. step.◌>>=◌ (refuse {A = FormulaForm} Limit) (λ x. pure (fair place found.0 found.1 x))))
+          (and_then (cond b (step.◌>>=◌ (refuse {A = Tok} Limit) (λ open_bracket. processes_behind (refuse Limit))) (refuse Unexpected) s)
+          (λ found. step.◌>>=◌ (refuse {A = FormulaForm} Limit) (λ x. pure (fair place found.0 found.1 x))))
       tested true on =
           refused-here (λ d. IsFair scope d place) node_goes 0 s Limit end (λ q. ap is_limited (opens on)) (λ d n t tail y w head within r over. none-below d (st (t ∷ tail) n) y w within.0 r)
           (λ t is. goes-free (λ d. IsFair scope d place) 1 (suc s.operators) (t ∷ []) (free-fair 0 place t (is ∙ opens on)))
@@ -343,7 +347,8 @@ module _ (scope : FixpointNames) where
 
   free-bracket : (t : Tok) → t.kind ≡ k.Open → Free (λ d. kinds d k.Open) 1 (t ∷ [])
   free-bracket t is =
-      free-then (λ d. One k.Open) (λ open_bracket d. grammar.◌>>=◌ (deeper (IsFormula scope) d) (λ inner. grammar.◌>>=◌ (One k.Close) (λ close_bracket. Is inner))) 1 (t ∷ []) (free-one k.Open 1 t is) (λ open_bracket.
+      free-then (λ d. One k.Open) (λ open_bracket d. grammar.◌>>=◌ (deeper (IsFormula scope) d) (λ inner. grammar.◌>>=◌ (One k.Close) (λ close_bracket. Is inner))) 1 (t ∷ [])
+      (free-one k.Open 1 t is) (λ open_bracket.
       free-then (deeper (IsFormula scope)) (λ inner d. grammar.◌>>=◌ (One k.Close) (λ close_bracket. Is inner)) 1 [] (readable-deeper (IsFormula scope) 0 (readable-formula 0)) (λ inner.
       free-then (λ d. One k.Close) (λ close_bracket d. Is inner) 1 [] (readable-one k.Close 1) (λ close_bracket. readable-is inner 1)))
 
@@ -353,9 +358,11 @@ module _ (scope : FixpointNames) where
   free-modal : (opening closing : Kind) (modality : Modality) (t : Tok) → t.kind ≡ opening → Free (λ d. grammar.◌>>=◌ (One opening) (λ open_bracket. modals modality closing open_bracket d)) 1 (t ∷ [])
   free-modal opening closing modality t is =
       free-then (λ d. One opening) (λ open_bracket d. modals modality closing open_bracket d) 1 (t ∷ []) (free-one opening 1 t is) (λ open_bracket.
-      free-then (deeper IsStepSet) (λ steps d. grammar.◌>>=◌ (One closing) (λ close_bracket. grammar.◌>>=◌ (deeper (IsNode scope) d) (λ operand. Is (FormulaForm.modal modality open_bracket.place steps operand)))) 1 []
+      free-then (deeper IsStepSet)
+      (λ steps d. grammar.◌>>=◌ (One closing) (λ close_bracket. grammar.◌>>=◌ (deeper (IsNode scope) d) (λ operand. Is (FormulaForm.modal modality open_bracket.place steps operand)))) 1 []
       (readable-deeper IsStepSet 0 (readable-sets 0)) (λ steps.
-      free-then (λ d. One closing) (λ close_bracket d. grammar.◌>>=◌ (deeper (IsNode scope) d) (λ operand. Is (FormulaForm.modal modality open_bracket.place steps operand))) 1 [] (readable-one closing 1) (λ close_bracket.
+      free-then (λ d. One closing) (λ close_bracket d. grammar.◌>>=◌ (deeper (IsNode scope) d) (λ operand. Is (FormulaForm.modal modality open_bracket.place steps operand))) 1 []
+      (readable-one closing 1) (λ close_bracket.
       free-then (deeper (IsNode scope)) (λ operand d. Is (FormulaForm.modal modality open_bracket.place steps operand)) 1 [] (readable-deeper (IsNode scope) 0 (readable-node 0))
       (λ operand. readable-is (FormulaForm.modal modality open_bracket.place steps operand) 1))))
 
@@ -363,13 +370,21 @@ module _ (scope : FixpointNames) where
   begun-last = begun scope (refuse Limit) (refuse Limit) (refuse Limit) (data_operand 0) (refuse Limit)
 
   at-last : (kind : Kind) → Answering (HeadIs kind) (begun-last kind) (λ d. kinds d kind) node_goes 0 ⊎ Nowhere (begun-last kind) (λ d. kinds d kind)
-  at-last k.Not = inl (λ s end h. refused-here (λ d. kinds d k.Not) node_goes 0 s Limit end (λ q. head-limited k.Not s.tokens h refl) (λ d n t tail y w head within r over. no-level-not d (st (t ∷ tail) n) y w within.0 r)
+  at-last k.Not =
+      inl (λ s end h. refused-here (λ d. kinds d k.Not) node_goes 0 s Limit end (λ q. head-limited k.Not s.tokens h refl)
+      (λ d n t tail y w head within r over. no-level-not d (st (t ∷ tail) n) y w within.0 r)
       (λ t is. goes-free (λ d. kinds d k.Not) 1 (suc s.operators) (t ∷ []) (free-not t (is ∙ head-kind-is k.Not s.tokens h))))
-  at-last k.Open = inl (λ s end h. refused-here (λ d. kinds d k.Open) node_goes 0 s Limit end (λ q. head-limited k.Open s.tokens h refl) (λ d n t tail y w head within r over. no-level-open d (st (t ∷ tail) n) y w within.0 r)
+  at-last k.Open =
+      inl (λ s end h. refused-here (λ d. kinds d k.Open) node_goes 0 s Limit end (λ q. head-limited k.Open s.tokens h refl)
+      (λ d n t tail y w head within r over. no-level-open d (st (t ∷ tail) n) y w within.0 r)
       (λ t is. goes-free (λ d. kinds d k.Open) 1 (suc s.operators) (t ∷ []) (free-bracket t (is ∙ head-kind-is k.Open s.tokens h))))
-  at-last k.OpenSquare = inl (λ s end h. refused-here (λ d. kinds d k.OpenSquare) node_goes 0 s Limit end (λ q. head-limited k.OpenSquare s.tokens h refl) (λ d n t tail y w head within r over. no-level-square d (st (t ∷ tail) n) y w within.0 r)
+  at-last k.OpenSquare =
+      inl (λ s end h. refused-here (λ d. kinds d k.OpenSquare) node_goes 0 s Limit end (λ q. head-limited k.OpenSquare s.tokens h refl)
+      (λ d n t tail y w head within r over. no-level-square d (st (t ∷ tail) n) y w within.0 r)
       (λ t is. goes-free (λ d. kinds d k.OpenSquare) 1 (suc s.operators) (t ∷ []) (free-modal k.OpenSquare k.CloseSquare modality.Box t (is ∙ head-kind-is k.OpenSquare s.tokens h))))
-  at-last k.Less = inl (λ s end h. refused-here (λ d. kinds d k.Less) node_goes 0 s Limit end (λ q. head-limited k.Less s.tokens h refl) (λ d n t tail y w head within r over. no-level-angle d (st (t ∷ tail) n) y w within.0 r)
+  at-last k.Less =
+      inl (λ s end h. refused-here (λ d. kinds d k.Less) node_goes 0 s Limit end (λ q. head-limited k.Less s.tokens h refl)
+      (λ d n t tail y w head within r over. no-level-angle d (st (t ∷ tail) n) y w within.0 r)
       (λ t is. goes-free (λ d. kinds d k.Less) 1 (suc s.operators) (t ∷ []) (free-modal k.Less k.Greater modality.Diamond t (is ∙ head-kind-is k.Less s.tokens h))))
   at-last k.True = inl (leaf k.True (λ t. FormulaForm.constant t.place true) 0 refl).answers
   at-last k.False = inl (leaf k.False (λ t. FormulaForm.constant t.place false) 0 refl).answers
@@ -407,15 +422,19 @@ module _ (scope : FixpointNames) where
         (λ close_bracket. is-correct inner (suc depth))))))
 
     modal-correct : (opening closing : Kind) (modality : Modality) → is_last opening ≡ false → is_last closing ≡ false → sets_go closing ≡ false
-        → Correct (HeadIs opening) (modal modality closing take_token (node scope depth) (step_set depth)) (λ d. grammar.◌>>=◌ (One opening) (λ open_bracket. modals modality closing open_bracket d)) node_goes (suc depth)
+        → Correct (HeadIs opening) (modal modality closing take_token (node scope depth) (step_set depth))
+        (λ d. grammar.◌>>=◌ (One opening) (λ open_bracket. modals modality closing open_bracket d)) node_goes (suc depth)
     modal-correct opening closing modality ne ce closes =
-        then-plain (λ d. One opening) (λ open_bracket d. modals modality closing open_bracket d) node_goes (suc depth) (HeadIs opening) take_token _ (take-correct opening (suc depth) ne) (λ open_bracket.
-        then-correct (deeper IsStepSet) (λ steps d. grammar.◌>>=◌ (One closing) (λ close_bracket. grammar.◌>>=◌ (deeper (IsNode scope) d) (λ operand. Is (FormulaForm.modal modality open_bracket.place steps operand))))
+        then-plain (λ d. One opening) (λ open_bracket d. modals modality closing open_bracket d) node_goes (suc depth) (HeadIs opening) take_token _
+        (take-correct opening (suc depth) ne) (λ open_bracket.
+        then-correct (deeper IsStepSet)
+        (λ steps d. grammar.◌>>=◌ (One closing) (λ close_bracket. grammar.◌>>=◌ (deeper (IsNode scope) d) (λ operand. Is (FormulaForm.modal modality open_bracket.place steps operand))))
         sets_go node_goes (suc depth) (λ d x m y z r over. stops-at-kind sets_go closing closes m.tokens r.1.tokens r.0 r.2.0 r.2.1) Always (step_set depth) _
         (deeper-correct Always (step_set depth) IsStepSet sets_go depth (step_set-correct depth)) (λ steps.
         anywhere (Stops sets_go) _ _ node_goes (suc depth)
         (then-plain (λ d. One closing) (λ close_bracket d. grammar.◌>>=◌ (deeper (IsNode scope) d) (λ operand. Is (FormulaForm.modal modality open_bracket.place steps operand))) node_goes (suc depth)
-        Always (expect closing) (λ close_bracket. step.◌>>=◌ (node scope depth) (λ operand. pure (FormulaForm.modal modality open_bracket.place steps operand))) (expect-correct closing (suc depth) ce) (λ close_bracket.
+        Always (expect closing) (λ close_bracket. step.◌>>=◌ (node scope depth) (λ operand. pure (FormulaForm.modal modality open_bracket.place steps operand)))
+        (expect-correct closing (suc depth) ce) (λ close_bracket.
         said-correct (deeper (IsNode scope)) (λ operand. FormulaForm.modal modality open_bracket.place steps operand) node_goes (suc depth) Always (node scope depth) inner-node))))
 
     at-each : (kind : Kind) → Answering (HeadIs kind) (begun-over kind) (λ d. kinds d kind) node_goes (suc depth) ⊎ Nowhere (begun-over kind) (λ d. kinds d kind)
@@ -512,7 +531,8 @@ module _ (scope : FixpointNames) where
     without-correct = wordless-correct (IsPlain scope) node_goes depth plain-some (readable-without depth) (readable-without (suc depth)) (plain scope depth) right.answers
 
     module _ (right-fair : AnswersFair depth) where
-      led-by-answers : (word : Leading) (place : Place) → Answering Always (led_by (behind_fair scope depth) (wordless (plain scope depth)) word place) (λ d. LedBy (IsFair scope d) (withouts d) word place) node_goes depth
+      led-by-answers : (word : Leading) (place : Place)
+          → Answering Always (led_by (behind_fair scope depth) (wordless (plain scope depth)) word place) (λ d. LedBy (IsFair scope d) (withouts d) word place) node_goes depth
       led-by-answers leading.NoDeadlock place =
           (closed-correct Always (pure (no_deadlock place)) (λ d. Is (no_deadlock place)) depth (is-correct (no_deadlock place) depth)).answers
       led-by-answers leading.Fair place = right-fair place
@@ -565,13 +585,15 @@ module _ (scope : FixpointNames) where
       → Correct Always (connected (connected_by FormulaForm.connected) is_binder n q) (IsFormula scope) formula_goes depth
   connections-correct depth n q right-n right-q =
       alike-correct Always (connected (connected_by FormulaForm.connected) is_binder n q) connecteds (IsFormula scope) formula_goes depth to-formula from-formula
-      (connected-correct (connected_by FormulaForm.connected) items bound item_goes is_binder depth below-item item-starts (binder-starts (λ name. IsFormula (within scope name)) (IsFormula scope) formula_goes) n q right-n right-q)
+      (connected-correct (connected_by FormulaForm.connected) items bound item_goes is_binder depth below-item item-starts
+      (binder-starts (λ name. IsFormula (within scope name)) (IsFormula scope) formula_goes) n q right-n right-q)
 
 formulas-last : (scope : FixpointNames) → Correct Always (formula scope 0) (IsFormula scope) formula_goes 0
 unfolding plain behind_fair formula
 formulas-last scope =
     connections-correct scope 0 (item scope 0) (binder_over (refuse Limit) (λ name. refuse Limit) (refuse Limit)) (item-correct scope 0 (plain-last scope) (fair-last scope))
-    (binder-last (λ name. IsFormula (within scope name)) (IsFormula scope) formula_goes (λ name. readable-formula (within scope name) 0) (readable-formula scope 0) (λ name. refuse Limit) (refuse Limit))
+    (binder-last (λ name. IsFormula (within scope name)) (IsFormula scope) formula_goes (λ name. readable-formula (within scope name) 0) (readable-formula scope 0)
+    (λ name. refuse Limit) (refuse Limit))
 
 formulas-over : (scope : FixpointNames) (depth : ℕ) → Correct Always (plain scope (suc depth)) (IsPlain scope) node_goes (suc depth) → AnswersFair scope (suc depth)
     → Correct Always (formula scope depth) (IsFormula scope) formula_goes depth

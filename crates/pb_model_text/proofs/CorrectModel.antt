@@ -73,10 +73,13 @@ assignment-correct : (depth : ℕ) → Correct Always (assignment depth) IsAssig
 unfolding assignment
 assignment-correct depth =
     then-correct IsInstance _ unary_goes term_goes depth
-    (λ d x m y z r over. stops-at-kind unary_goes k.Assign assign-stops m.tokens r.1.tokens r.0 r.2.0 r.2.1) Always (instance depth) _ (instance-correct depth) (λ target. anywhere (Stops unary_goes) _ _ term_goes depth (
+    (λ d x m y z r over. stops-at-kind unary_goes k.Assign assign-stops m.tokens r.1.tokens r.0 r.2.0 r.2.1) Always
+    (instance depth) _ (instance-correct depth) (λ target. anywhere (Stops unary_goes) _ _ term_goes depth (
     then-plain (λ d. One k.Assign) _ term_goes depth
     Always (expect k.Assign) _ (expect-correct k.Assign depth refl) (λ assign.
-    said-correct (λ d. Placed (IsTerm d)) (λ value. record { variable = target.name; index = target.arguments; place = value.0; value = value.1 }) term_goes depth Always (placed (term depth)) (placed_term-correct depth))))
+    said-correct (λ d. Placed (IsTerm d))
+    (λ value. record { variable = target.name; index = target.arguments; place = value.0; value = value.1 })
+    term_goes depth Always (placed (term depth)) (placed_term-correct depth))))
 
 assignments-correct : (depth : ℕ) → Correct Always (assignments depth) (λ d. Listed (IsAssignment d) (One k.Comma)) list_goes depth
 assignments-correct depth = listed-correct IsAssignment term_goes depth comma-apart (assignment depth) (assignment-correct depth)
@@ -137,11 +140,13 @@ step_parts-correct depth =
     then-plain (λ d. Name) _ never depth
     Always name _ (name-correct depth) (λ found.
     then-correct parameters_of _ (going never is_open) never depth
-    (λ d x m y z r over. stops-at-kind (going never is_open) k.Colon colon-stops m.tokens r.1.tokens r.0 r.2.0 r.2.1) Always (parameters depth) _ (parameters-correct depth) (λ own. anywhere (Stops (going never is_open)) _ _ never depth (
+    (λ d x m y z r over. stops-at-kind (going never is_open) k.Colon colon-stops m.tokens r.1.tokens r.0 r.2.0 r.2.1)
+    Always (parameters depth) _ (parameters-correct depth) (λ own. anywhere (Stops (going never is_open)) _ _ never depth (
     then-plain (λ d. One k.Colon) _ never depth
     Always (expect k.Colon) _ (expect-correct k.Colon depth refl) (λ colon.
     then-correct IsTerm _ term_goes never depth
-    (λ d x m y z r over. stops-at-kind term_goes k.Arrow arrow-stops m.tokens r.1.tokens r.0 r.2.0 r.2.1) Always (term depth) _ (term-correct depth) (λ guard. anywhere (Stops term_goes) _ _ never depth (
+    (λ d x m y z r over. stops-at-kind term_goes k.Arrow arrow-stops m.tokens r.1.tokens r.0 r.2.0 r.2.1) Always
+    (term depth) _ (term-correct depth) (λ guard. anywhere (Stops term_goes) _ _ never depth (
     then-plain (λ d. One k.Arrow) _ never depth
     Always (expect k.Arrow) _ (expect-correct k.Arrow depth refl) (λ arrow.
     said-correct Assigned (λ assigned. record { name = found; variables = own; guard = guard; assignments = assigned }) never depth Always (assigned depth) (assigned-correct depth))))))))
@@ -236,22 +241,36 @@ module _ (ranges : List RangeForm) (depth : ℕ) where
   unfolding model
   model-correct =
       then-correct (λ d. SortParts) _ parts_go properties_go depth
-      (λ d x m y z r over. stops-at-kind parts_go k.Model model-stops m.tokens r.1.tokens r.0 r.2.0 r.2.1) Always sort_parts _ (sort_parts-correct depth) (λ sorts. anywhere (Stops parts_go) _ _ properties_go depth (
+      (λ d x m y z r over. stops-at-kind parts_go k.Model model-stops m.tokens r.1.tokens r.0 r.2.0 r.2.1) Always
+      sort_parts _ (sort_parts-correct depth) (λ sorts. anywhere (Stops parts_go) _ _ properties_go depth (
       then-plain (λ d. One k.Model) _ properties_go depth
       Always (expect k.Model) _ (expect-correct k.Model depth refl) (λ word.
       then-plain (λ d. One k.State) _ properties_go depth
       Always (expect k.State) _ (expect-correct k.State depth refl) (λ state.
       then-correct StateVariables _ commas properties_go depth
-      (λ d x m y z r over. stops-at-kind commas k.Semicolon state-stops m.tokens r.1.tokens r.0 r.2.0 r.2.1) Always (state_variables depth) _ (state_variables-correct depth) (λ own. anywhere (Stops commas) _ _ properties_go depth (
+      (λ d x m y z r over. stops-at-kind commas k.Semicolon state-stops m.tokens r.1.tokens r.0 r.2.0 r.2.1) Always
+      (state_variables depth) _ (state_variables-correct depth) (λ own. anywhere (Stops commas) _ _ properties_go depth (
       then-plain (λ d. One k.Semicolon) _ properties_go depth
       Always (expect k.Semicolon) _ (expect-correct k.Semicolon depth refl) (λ semicolon.
       then-plain Definitions _ properties_go depth
       Always (definitions depth) _ (definitions-correct depth) (λ defined.
       then-correct Steps _ steps_go properties_go depth
-      (λ d x m y z r over. let q = r.2.1 in stops-at-kind steps_go k.Init init-stops m.tokens q.1.tokens q.0 q.2.0 q.2.1) Always (steps depth) _ (steps-correct depth) (λ found. anywhere (Stops steps_go) _ _ properties_go depth (
+      (λ d x m y z r over. let q = r.2.1 in
+      stops-at-kind steps_go k.Init init-stops m.tokens q.1.tokens q.0 q.2.0 q.2.1) Always (steps depth) _
+      (steps-correct depth) (λ found. anywhere (Stops steps_go) _ _ properties_go depth (
       then-plain (λ d. CountedApart (IsInitialState d)) _ properties_go depth
       Always (initial depth) _ (initial-correct depth) (λ start.
-      said-correct Properties (λ asked. record { sorts = sorts; ranges = ranges; variables = own; definitions = defined; steps = found; initial = start; properties = asked }) properties_go depth Always (properties depth) (properties-correct depth))))))))))))
+      said-correct Properties
+      (λ asked. record {
+        sorts = sorts;
+        ranges = ranges;
+        variables = own;
+        definitions = defined;
+        steps = found;
+        initial =
+            start;
+        properties = asked;
+      }) properties_go depth Always (properties depth) (properties-correct depth))))))))))))
 
 -- A refusal is the same whatever the range lines are.
 abbrev pub Reading : List RangeForm → ℕ → State → Outcome ProtocolForm → Type 0
@@ -268,8 +287,37 @@ other-ranges rs us d s y z r =
     let c = n.3 in
     let b = c.3 in
     let a = b.3 in
-    let v = a.3 in
-    (r.0, r.1, r.2, (p.0, p.1, p.2, (e.0, e.1, e.2, (i.0, i.1, i.2, (n.0, n.1, n.2, (c.0, c.1, c.2, (b.0, b.1, b.2, (a.0, a.1, a.2, (v.0, v.1, v.2, (ap (λ (w : ProtocolForm). record w { ranges = rs }) v.3.0, v.3.1))))))))))
+    let v = a.3 in (
+      r.0,
+      r.1,
+      r.2,
+      (
+        p.0,
+        p.1,
+        p.2,
+        (
+          e.0,
+          e.1,
+          e.2,
+          (
+            i.0,
+            i.1,
+            i.2,
+            (
+              n.0,
+              n.1,
+              n.2,
+              (
+                c.0,
+                c.1,
+                c.2,
+                (b.0, b.1, b.2, (a.0, a.1, a.2, (v.0, v.1, v.2, (ap (λ (w : ProtocolForm). record w { ranges = rs }) v.3.0, v.3.1)))),
+              ),
+            ),
+          ),
+        ),
+      ),
+    )
 
 -- its ranges are those
 ranges-are : (rs : List RangeForm) (d : ℕ) (s : State) (y : ProtocolForm) (z : State) → IsModel rs d s y z → y ≡ record y { ranges = rs }
@@ -312,7 +360,13 @@ whole-reads ranges depth s ended = at-model (model ranges depth s) ((model-corre
       end = t;
       cut = a.tokens ∙ ap (λ v. a.front ++ v) is;
       end_is = end;
-      reads = (z.operators, t, move (IsModel ranges depth) (a.front ++ t ∷ []) s.tokens s.operators s.operators x (st (t ∷ []) z.operators) (sym (a.tokens ∙ ap (λ v. a.front ++ v) is)) refl (a.reads (t ∷ [])), end);
+      reads = (
+        z.operators,
+        t,
+        move (IsModel ranges depth) (a.front ++ t ∷ []) s.tokens s.operators s.operators x
+            (st (t ∷ []) z.operators) (sym (a.tokens ∙ ap (λ v. a.front ++ v) is)) refl (a.reads (t ∷ [])),
+        end,
+      );
       only = λ d n y r.
           (a.only d n (t ∷ []) y (st (r.1 ∷ []) r.0) (end-stops t end)
           (move (IsModel ranges d) s.tokens (a.front ++ t ∷ []) n n y (st (r.1 ∷ []) r.0) (a.tokens ∙ ap (λ v. a.front ++ v) is) refl r.2) (end-stops r.1 r.3)).0;

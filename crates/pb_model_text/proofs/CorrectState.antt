@@ -76,7 +76,8 @@ unfolding definition_parts
 definition_parts-correct depth =
     then-plain (λ d. Name) _ never depth Always name _ (name-correct depth) (λ found.
     then-correct parameters_of _ indexed_goes never depth
-    (λ d x m y z r over. stops-at-kind indexed_goes k.Is is-stops m.tokens r.1.tokens r.0 r.2.0 r.2.1) Always (parameters depth) _ (parameters-correct depth) (λ own. anywhere (Stops indexed_goes) _ _ never depth (
+    (λ d x m y z r over. stops-at-kind indexed_goes k.Is is-stops m.tokens r.1.tokens r.0 r.2.0 r.2.1) Always
+    (parameters depth) _ (parameters-correct depth) (λ own. anywhere (Stops indexed_goes) _ _ never depth (
     then-plain (λ d. One k.Is) _ never depth
     Always (expect k.Is) _ (expect-correct k.Is depth refl) (λ is.
     then-correct IsTerm _ term_goes never depth
@@ -121,7 +122,9 @@ module _ (depth : ℕ) where
   some-defined : Correct (HeadIs k.Define) (defined_by depth k.Define) (λ d. kinds d k.Define) never depth
   unfolding defined_by
   some-defined =
-      then-plain (λ d. One k.Define) (λ define d. grammar.◌>>=◌ (lists d) (λ found. grammar.◌>>=◌ (One k.Step) (λ step. Is found))) never depth (HeadIs k.Define) take_token _ (take-correct k.Define depth refl) (λ define.
+      then-plain (λ d. One k.Define)
+      (λ define d. grammar.◌>>=◌ (lists d) (λ found. grammar.◌>>=◌ (One k.Step) (λ step. Is found))) never depth
+      (HeadIs k.Define) take_token _ (take-correct k.Define depth refl) (λ define.
       then-correct lists (λ found d. grammar.◌>>=◌ (One k.Step) (λ step. Is found)) definitions_go never depth
       (λ d x m y z r over. stops-at-kind definitions_go k.Step step-stops m.tokens r.1.tokens r.0 r.2.0 r.2.1) Always (definition_list depth) _ (definition_list-correct depth)
       (λ found. anywhere (Stops definitions_go) _ _ never depth (token-correct k.Step depth found refl)))

@@ -93,11 +93,14 @@ no-level-open (suc d) s y w le r = omega arith
 free-not : (t : Tok) → t.kind ≡ k.Not → Free (λ d. kinds d k.Not) 1 (t ∷ [])
 free-not t is =
     free-then (λ d. One k.Not) (λ sign d. grammar.◌>>=◌ (deeper IsSet d) (λ operand. Is (StepSetForm.complement sign.place operand))) 1 (t ∷ []) (free-one k.Not 1 t is)
-    (λ sign. free-then (deeper IsSet) (λ operand d. Is (StepSetForm.complement sign.place operand)) 1 [] (readable-deeper IsSet 0 (readable-set 0)) (λ operand. readable-is (StepSetForm.complement sign.place operand) 1))
+    (λ sign. free-then (deeper IsSet) (λ operand d. Is (StepSetForm.complement sign.place operand)) 1 []
+    (readable-deeper IsSet 0 (readable-set 0)) (λ operand. readable-is (StepSetForm.complement sign.place operand) 1))
 
 free-bracket : (t : Tok) → t.kind ≡ k.Open → Free (λ d. kinds d k.Open) 1 (t ∷ [])
 free-bracket t is =
-    free-then (λ d. One k.Open) (λ open_bracket d. grammar.◌>>=◌ (deeper IsStepSet d) (λ inner. grammar.◌>>=◌ (One k.Close) (λ close_bracket. Is inner))) 1 (t ∷ []) (free-one k.Open 1 t is) (λ open_bracket.
+    free-then (λ d. One k.Open)
+    (λ open_bracket d. grammar.◌>>=◌ (deeper IsStepSet d)
+    (λ inner. grammar.◌>>=◌ (One k.Close) (λ close_bracket. Is inner))) 1 (t ∷ []) (free-one k.Open 1 t is) (λ open_bracket.
     free-then (deeper IsStepSet) (λ inner d. grammar.◌>>=◌ (One k.Close) (λ close_bracket. Is inner)) 1 [] (readable-deeper IsStepSet 0 (readable-sets 0)) (λ inner.
     free-then (λ d. One k.Close) (λ close_bracket d. Is inner) 1 [] (readable-one k.Close 1) (λ close_bracket. readable-is inner 1)))
 
@@ -108,7 +111,9 @@ closed-correct : (P : List Tok → Type 0) (p : Step StepSetForm) (fam : Family 
 closed-correct P p fam depth a = unless_next-correct fam never is_open depth P p a
 
 all-steps : (depth : ℕ) → Correct (HeadIs k.True) (unless_next is_open (step.◌>>=◌ take_token (λ t. pure (StepSetForm.all t.place)))) (λ d. kinds d k.True) set_goes depth
-all-steps depth = closed-correct (HeadIs k.True) (step.◌>>=◌ take_token (λ t. pure (StepSetForm.all t.place))) (λ d. kinds d k.True) depth (leaf-correct k.True (λ t. StepSetForm.all t.place) depth refl)
+all-steps depth =
+    closed-correct (HeadIs k.True) (step.◌>>=◌ take_token (λ t. pure (StepSetForm.all t.place))) (λ d. kinds d k.True)
+    depth (leaf-correct k.True (λ t. StepSetForm.all t.place) depth refl)
 
 names : (depth : ℕ) → Correct (HeadIs k.Name) (step.◌>>=◌ (instance depth) (λ found. pure (set_of found))) (λ d. kinds d k.Name) set_goes depth
 names depth =
@@ -121,9 +126,13 @@ begun-last = set_begun (refuse Limit) (refuse Limit) (refuse Limit) (instance 0)
 at-last : (kind : Kind) → Answering (HeadIs kind) (begun-last kind) (λ d. kinds d kind) set_goes 0 ⊎ Nowhere (begun-last kind) (λ d. kinds d kind)
 at-last k.True = inl (all-steps 0).answers
 at-last k.Name = inl (names 0).answers
-at-last k.Not = inl (λ s end h. refused-here (λ d. kinds d k.Not) set_goes 0 s Limit end (λ q. head-limited k.Not s.tokens h refl) (λ d n t tail y w head within r over. no-level-not d (st (t ∷ tail) n) y w within.0 r)
+at-last k.Not =
+    inl (λ s end h. refused-here (λ d. kinds d k.Not) set_goes 0 s Limit end (λ q. head-limited k.Not s.tokens h refl)
+    (λ d n t tail y w head within r over. no-level-not d (st (t ∷ tail) n) y w within.0 r)
     (λ t is. goes-free (λ d. kinds d k.Not) 1 (suc s.operators) (t ∷ []) (free-not t (is ∙ head-kind-is k.Not s.tokens h))))
-at-last k.Open = inl (λ s end h. refused-here (λ d. kinds d k.Open) set_goes 0 s Limit end (λ q. head-limited k.Open s.tokens h refl) (λ d n t tail y w head within r over. no-level-open d (st (t ∷ tail) n) y w within.0 r)
+at-last k.Open =
+    inl (λ s end h. refused-here (λ d. kinds d k.Open) set_goes 0 s Limit end (λ q. head-limited k.Open s.tokens h refl)
+    (λ d n t tail y w head within r over. no-level-open d (st (t ∷ tail) n) y w within.0 r)
     (λ t is. goes-free (λ d. kinds d k.Open) 1 (suc s.operators) (t ∷ []) (free-bracket t (is ∙ head-kind-is k.Open s.tokens h))))
 at-last kind = inr nothing-correct
 
@@ -145,15 +154,19 @@ module _ (depth : ℕ) (right-set : Correct Always (set depth) IsSet set_goes de
   complemented =
       then-plain (λ d. One k.Not) (λ sign d. grammar.◌>>=◌ (deeper IsSet d) (λ operand. Is (StepSetForm.complement sign.place operand))) set_goes (suc depth) (HeadIs k.Not) take_token
       (λ sign. step.◌>>=◌ (set depth) (λ operand. pure (StepSetForm.complement sign.place operand))) (take-correct k.Not (suc depth) refl)
-      (λ sign. said-correct (deeper IsSet) (λ operand. StepSetForm.complement sign.place operand) set_goes (suc depth) Always (set depth) (deeper-correct Always (set depth) IsSet set_goes depth right-set))
+      (λ sign. said-correct (deeper IsSet) (λ operand. StepSetForm.complement sign.place operand) set_goes (suc depth)
+      Always (set depth) (deeper-correct Always (set depth) IsSet set_goes depth right-set))
 
   bracketed : Correct (HeadIs k.Open) (begun-over k.Open) (λ d. kinds d k.Open) set_goes (suc depth)
   bracketed =
       closed-correct (HeadIs k.Open) _ (λ d. kinds d k.Open) (suc depth)
       (then-plain (λ d. One k.Open) (λ open_bracket d. grammar.◌>>=◌ (deeper IsStepSet d) (λ inner. grammar.◌>>=◌ (One k.Close) (λ close_bracket. Is inner))) never (suc depth)
-      (HeadIs k.Open) take_token (λ open_bracket. step.◌>>=◌ (step_set depth) (λ inner. step.◌>>=◌ (expect k.Close) (λ close_bracket. pure inner))) (take-correct k.Open (suc depth) refl) (λ open_bracket.
+      (HeadIs k.Open) take_token
+      (λ open_bracket. step.◌>>=◌ (step_set depth)
+      (λ inner. step.◌>>=◌ (expect k.Close) (λ close_bracket. pure inner))) (take-correct k.Open (suc depth) refl) (λ open_bracket.
       then-correct (deeper IsStepSet) (λ inner d. grammar.◌>>=◌ (One k.Close) (λ close_bracket. Is inner)) sets_go never (suc depth)
-      (λ d x m y z r over. stops-at-kind sets_go k.Close sets-close m.tokens r.1.tokens r.0 r.2.0 r.2.1) Always (step_set depth) _ (deeper-correct Always (step_set depth) IsStepSet sets_go depth right-sets) (λ inner.
+      (λ d x m y z r over. stops-at-kind sets_go k.Close sets-close m.tokens r.1.tokens r.0 r.2.0 r.2.1) Always
+      (step_set depth) _ (deeper-correct Always (step_set depth) IsStepSet sets_go depth right-sets) (λ inner.
       anywhere (Stops sets_go) _ (λ d. grammar.◌>>=◌ (One k.Close) (λ close_bracket. Is inner)) never (suc depth) (
       then-plain (λ d. One k.Close) (λ close_bracket d. Is inner) never (suc depth) Always (expect k.Close) (λ close_bracket. pure inner) (expect-correct k.Close (suc depth) refl)
       (λ close_bracket. is-correct inner (suc depth))))))

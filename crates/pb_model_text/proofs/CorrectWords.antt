@@ -42,7 +42,8 @@ module _ {W : Type 0} (of : List ℕ → Option W) (one : HasWord of) where
         reads = λ n after. (t, (refl, refl, refl), one.tells, refl);
       }
 
-  only-one : (t : Tok) (w : W) (n : ℕ) (after : List Tok) (y : W × Place) (z : State) → of t.text ≡ Some w → Word of (st (t ∷ after) n) y z → (y ≡ (w, t.place)) × (z.tokens ≡ after) × (n ≡ 0 + z.operators)
+  only-one : (t : Tok) (w : W) (n : ℕ) (after : List Tok) (y : W × Place) (z : State) → of t.text ≡ Some w
+      → Word of (st (t ∷ after) n) y z → (y ≡ (w, t.place)) × (z.tokens ≡ after) × (n ≡ 0 + z.operators)
   only-one t w n after y z tells r =
       let e = r.1.0 in let p : t ≡ r.0 = cc in let q : after ≡ z.tokens = cc in let c = r.1.2 in
       let some : Some y.0 ≡ Some w = sym r.2 ∙ ap (λ (v : Tok). of v.text) (sym p) ∙ tells in
@@ -68,7 +69,8 @@ module _ {W : Type 0} (of : List ℕ → Option W) (one : HasWord of) where
       at t ts n true (Some w) e name tells whole =
           let is : t.kind ≡ k.Name = kind-same t.kind k.Name name in
           subst (λ (v : ℕ). Took words never depth (st (t ∷ ts) v) (w, t.place) (st ts n)) (zero-add n)
-          (one-took words depth t ts 0 n (w, t.place) (ends-behind (t ∷ ts) e (ap is_last is)) (λ d m after. (t, (refl, is, sym (zero-add m)), tells, refl)) (λ d m after y z r. only-one t w m after y z tells r))
+          (one-took words depth t ts 0 n (w, t.place) (ends-behind (t ∷ ts) e (ap is_last is))
+          (λ d m after. (t, (refl, is, sym (zero-add m)), tells, refl)) (λ d m after y z r. only-one t w m after y z tells r))
       at t ts n false (Some w) e name tells whole = cc
       at t ts n b None e name tells whole = record {
         front = [];

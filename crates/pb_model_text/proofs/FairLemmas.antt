@@ -103,7 +103,8 @@ bracket-missing (suc depth) s other = rw other refl
 pub bracket-fails : (depth : ℕ) (s : State) → is_open (kind s) ≡ true → (bad : Refusal) → enter depth s ≡ Err bad → processes depth s ≡ Err bad
 bracket-fails depth s on bad fails = opened-is depth s on ∙ rw fails refl
 
-pub bracket-opened : (depth : ℕ) (s : State) → is_open (kind s) ≡ true → (t : Tok) (s1 : State) → enter depth s ≡ Ok (t, s1) → 0 < depth → processes depth s ≡ processes_behind (step_set (depth - 1)) s1
+pub bracket-opened : (depth : ℕ) (s : State) → is_open (kind s) ≡ true → (t : Tok) (s1 : State)
+    → enter depth s ≡ Ok (t, s1) → 0 < depth → processes depth s ≡ processes_behind (step_set (depth - 1)) s1
 bracket-opened depth s on t s1 entered some =
     opened-is depth s on ∙ rw entered (ap (λ p. p s1) (below-is (λ d. processes_behind (step_set d)) depth some))
 

@@ -59,7 +59,8 @@ begun-other scope enter below inner term sets k.Number a b c d e f g h i j = abs
 begun-other scope enter below inner term sets k.Minus a b c d e f g h i j = absurd (j refl)
 begun-other scope enter below inner term sets _ a b c d e f g h i j = refl
 
-pub plain-other : (scope : FixpointNames) (depth : ℕ) (s : State) → kind s ≢ k.Not → kind s ≢ k.Open → kind s ≢ k.OpenSquare → kind s ≢ k.Less → kind s ≢ k.True → kind s ≢ k.False → kind s ≢ k.Val → kind s ≢ k.Name
+pub plain-other : (scope : FixpointNames) (depth : ℕ) (s : State) → kind s ≢ k.Not → kind s ≢ k.Open
+    → kind s ≢ k.OpenSquare → kind s ≢ k.Less → kind s ≢ k.True → kind s ≢ k.False → kind s ≢ k.Val → kind s ≢ k.Name
     → kind s ≢ k.Number → kind s ≢ k.Minus → plain scope depth s ≡ Err (refusal Unexpected s.tokens)
 unfolding plain
 plain-other scope zero s a b c d e f g h i j =
@@ -122,7 +123,8 @@ plain-enter-fails scope depth s k.OpenSquare e is bad fails = plain-at scope dep
 plain-enter-fails scope depth s k.Less e is bad fails = plain-at scope depth s k.Less is ∙ rw fails refl
 plain-enter-fails scope depth s _ e is bad fails = cc
 
-plain-modal : (scope : FixpointNames) (depth : ℕ) (s : State) (m : Modality) → kind s ≡ opening_kind m → plain scope depth s ≡ modal m (closing m) (enter depth) (below (node scope) depth) (below step_set depth) s
+plain-modal : (scope : FixpointNames) (depth : ℕ) (s : State) (m : Modality) → kind s ≡ opening_kind m
+    → plain scope depth s ≡ modal m (closing m) (enter depth) (below (node scope) depth) (below step_set depth) s
 plain-modal scope depth s modality.Box is = plain-at scope depth s k.OpenSquare is
 plain-modal scope depth s modality.Diamond is = plain-at scope depth s k.Less is
 
@@ -211,7 +213,8 @@ module _ (scope : FixpointNames) (depth : ℕ) (s s1 : State) (word : Tok) (ente
       modal-read x z reads = modal-at ∙ rw steps (rw (node-below s2, reads) refl)
 
 -- data behind `val` with which more would go on
-pub value-again : (scope : FixpointNames) (depth : ℕ) (s s1 s2 : State) (t : Tok) (x : TermForm) → kind s ≡ k.Val → take_token s ≡ Ok (t, s1) → data_operand depth s1 ≡ Ok (x, s2) → goes_on (kind s2) ≡ true
+pub value-again : (scope : FixpointNames) (depth : ℕ) (s s1 s2 : State) (t : Tok) (x : TermForm) → kind s ≡ k.Val
+    → take_token s ≡ Ok (t, s1) → data_operand depth s1 ≡ Ok (x, s2) → goes_on (kind s2) ≡ true
     → plain scope depth s ≡ Err (refusal Unexpected s2.tokens)
 value-again scope depth s s1 s2 t x is taken reads again = plain-at scope depth s k.Val is ∙ rw taken (rw reads (rw again refl))
 
@@ -288,7 +291,8 @@ pub primary-fails : (scope : FixpointNames) (depth : ℕ) (s : State) (bad : Ref
 primary-fails scope depth s bad fails = conjunction-fails scope depth s bad (level-fails And scope depth s bad fails)
 
 -- an operand behind which the connective doesn't stand
-pub level-alone-or-fails : (c : Connective) (scope : FixpointNames) (depth : ℕ) (s z : State) (r : Result Formula (OrMemory Refusal)) → Gives formula_form (operand c scope depth s) r z → same_kind (kind z) (symbol c) ≡ false
+pub level-alone-or-fails : (c : Connective) (scope : FixpointNames) (depth : ℕ) (s z : State)
+    (r : Result Formula (OrMemory Refusal)) → Gives formula_form (operand c scope depth s) r z → same_kind (kind z) (symbol c) ≡ false
     → Gives formula_form (level c scope depth s) r z
 level-alone-or-fails c scope depth s z r reads other =
     subst (λ (o : Outcome FormulaForm). Gives formula_form o r z) (sym (level-chain c scope depth s))

@@ -46,12 +46,16 @@ of-cut bytes d n y h =
     let same = same-cut language.Model bytes h.tokens h.ranges h.cut in
     subst (λ (v : List Tok). IsModelText d n v (all_ranges bytes) y) same.tokens (subst (λ (v : List RangeForm). IsModelText d n h.tokens v y) same.ranges_too h.says)
 
-pub only-reading : (bytes : List ℕ) (x : ProtocolForm) → IsRead depth_limit operator_limit (all_tokens bytes) (all_ranges bytes) x → (d n : ℕ) (y : ProtocolForm) → IsModelReadingWithin d n bytes y → y ≡ x
+pub only-reading : (bytes : List ℕ) (x : ProtocolForm)
+    → IsRead depth_limit operator_limit (all_tokens bytes) (all_ranges bytes) x → (d n : ℕ) (y : ProtocolForm)
+    → IsModelReadingWithin d n bytes y → y ≡ x
 only-reading bytes x r d n y h = r.only d n y (of-cut bytes d n y h)
 
 -- where some reading is within the limits, reading the tokens gives it, and there is no other
 pub at_most_one : AtMostOneModelReading
-at_most_one bytes d n e m x y hx hy = by (whole_model (all_ranges bytes) d (st (all_tokens bytes) n)) (whole-reads (all_ranges bytes) d (st (all_tokens bytes) n) (tokens-end language.Model start bytes))
+at_most_one bytes d n e m x y hx hy =
+    by (whole_model (all_ranges bytes) d (st (all_tokens bytes) n))
+    (whole-reads (all_ranges bytes) d (st (all_tokens bytes) n) (tokens-end language.Model start bytes))
   where
     within-these : (rule : ReadingRule) (d n : ℕ) → WithinLimits rule d n d n
     within-these Unexpected d n = tt
@@ -65,7 +69,9 @@ at_most_one bytes d n e m x y hx hy = by (whole_model (all_ranges bytes) d (st (
 
 pub no-reading : (bytes : List ℕ) (bad : Refusal) → IsFault depth_limit operator_limit (all_tokens bytes) bad → (y : ProtocolForm) → IsModelReading bytes y → ⊥
 no-reading bytes bad f y h =
-    f.none depth_limit operator_limit f.more (all_ranges bytes) y (within-self bad.rule) (subst (λ (v : List Tok). IsModelText depth_limit operator_limit v (all_ranges bytes) y) f.cut (of-cut bytes depth_limit operator_limit y h))
+    f.none depth_limit operator_limit f.more (all_ranges bytes) y (within-self bad.rule)
+    (subst (λ (v : List Tok). IsModelText depth_limit operator_limit v (all_ranges bytes) y) f.cut
+    (of-cut bytes depth_limit operator_limit y h))
   where
     within-self : (rule : ReadingRule) → WithinLimits rule depth_limit operator_limit depth_limit operator_limit
     within-self Unexpected = tt
@@ -128,11 +134,13 @@ IsFaultOf bytes bad = IsFault depth_limit operator_limit (all_tokens bytes) bad
 abbrev pub Answered : List ℕ → Result Protocol (OrMemory Refusal) → Type 0
 Answered bytes result = Answers (IsSaid bytes) (IsFaultOf bytes) result
 
-answered-by : (bytes : List ℕ) (o : Outcome ProtocolForm) (result : Result Protocol (OrMemory Refusal)) (z : State) → Gives protocol_form o result z → Reading [] depth_limit (st (all_tokens bytes) operator_limit) o → Answered bytes result
+answered-by : (bytes : List ℕ) (o : Outcome ProtocolForm) (result : Result Protocol (OrMemory Refusal)) (z : State)
+    → Gives protocol_form o result z → Reading [] depth_limit (st (all_tokens bytes) operator_limit) o → Answered bytes result
 answered-by bytes o (Ok s) z is h = subst (λ (v : Outcome ProtocolForm). Reading [] depth_limit (st (all_tokens bytes) operator_limit) v) is h
 answered-by bytes o (Err error) z is h = if_fault error (λ bad is. subst (λ (v : Outcome ProtocolForm). Reading [] depth_limit (st (all_tokens bytes) operator_limit) v) is h) is
 
-pub answered : (bytes : List ℕ) (s : State) (result : Result Protocol (OrMemory Refusal)) (z : State) → s ≡ st (all_tokens bytes) operator_limit → Gives protocol_form (whole_model [] depth_limit s) result z → Answered bytes result
+pub answered : (bytes : List ℕ) (s : State) (result : Result Protocol (OrMemory Refusal)) (z : State)
+    → s ≡ st (all_tokens bytes) operator_limit → Gives protocol_form (whole_model [] depth_limit s) result z → Answered bytes result
 answered bytes s result z is h =
     answered-by bytes (whole_model [] depth_limit (st (all_tokens bytes) operator_limit)) result z
     (subst (λ (v : State). Gives protocol_form (whole_model [] depth_limit v) result z) is h)
@@ -143,7 +151,8 @@ pub ranged : (bytes : List ℕ) (s t : Protocol) → IsSaid bytes s → protocol
     → map range_form t.ranges.items ≡ all_ranges bytes → IsRead depth_limit operator_limit (all_tokens bytes) (all_ranges bytes) (protocol_form t)
 ranged bytes s t a is same =
     let e : record (protocol_form s) { ranges = all_ranges bytes } ≡ protocol_form t = ap (λ (v : List RangeForm). record (protocol_form s) { ranges = v }) (sym same) ∙ sym is in
-    subst (λ (v : ProtocolForm). IsRead depth_limit operator_limit (all_tokens bytes) (all_ranges bytes) v) e (with-ranges (all_ranges bytes) depth_limit operator_limit (all_tokens bytes) (protocol_form s) a)
+    subst (λ (v : ProtocolForm). IsRead depth_limit operator_limit (all_tokens bytes) (all_ranges bytes) v) e
+    (with-ranges (all_ranges bytes) depth_limit operator_limit (all_tokens bytes) (protocol_form s) a)
 
 -- of a tree that is read, and of a fault, where the error is that of the layer above
 module _ (bytes : List ℕ) (below : Result Protocol (OrMemory Refusal)) (h : Answered bytes below) where

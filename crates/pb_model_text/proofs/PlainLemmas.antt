@@ -89,7 +89,12 @@ some-listed {X} {T} item test between (suc n) s xs z h = at (item s) h
     tested x s1 true h = behind x (between s1) h
     tested x s1 false h = subst IsSome (ap (value_or (x ∷ [])) h) tt
 
-    at : (o : Outcome X) → and_then o (λ x. peek >>= (λ kind. cond (test kind) (between >>= (λ t. series item test between (λ x. x ∷ []) (λ x t xs. x ∷ xs) n >>= (λ y. pure (x ∷ y)))) (pure (x ∷ [])))) ≡ Ok (xs, z)
+    at : (o : Outcome X)
+        → and_then o
+        (λ x. peek >>=
+        (λ kind. cond (test kind)
+        (between >>= (λ t. series item test between (λ x. x ∷ []) (λ x t xs. x ∷ xs) n >>= (λ y. pure (x ∷ y))))
+        (pure (x ∷ [])))) ≡ Ok (xs, z)
         → IsSome xs
     at (Ok r) h = tested r.0 r.1 (test (kind r.1)) h
     at (Err bad) h = cc

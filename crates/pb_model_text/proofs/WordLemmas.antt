@@ -87,7 +87,8 @@ module _ (place : Place) (text : List ℕ) (s1 : State) where
     pub wordless-fails : is_word text ≡ true → wordless (plain scope depth) first ≡ Err unexpected
     wordless-fails on = rw (word-first, on) refl
 
-    pub node-led : (word : Leading) → is_word text ≡ true → leading_within scope text ≡ Some word → node scope depth first ≡ led_by (behind_fair scope depth) (wordless (plain scope depth)) word place s1
+    pub node-led : (word : Leading) → is_word text ≡ true → leading_within scope text ≡ Some word
+        → node scope depth first ≡ led_by (behind_fair scope depth) (wordless (plain scope depth)) word place s1
     unfolding take_token
     node-led word on tells = rw (word-first, on) (rw (taking (leading_within scope), tells) refl)
 
@@ -158,7 +159,8 @@ named-state s is bad fails = at s.tokens s.operators is fails
     at : (ts : List Tok) (n : ℕ) → same_kind (kind (record { tokens = ts; operators = n })) k.Name ≡ true
         → cond (same_kind (kind (record { tokens = ts; operators = n })) k.Name) (take_from ts n) (refuse Unexpected (record { tokens = ts; operators = n })) ≡ Err bad → ⊥
     at [] n is fails = no-name-at-end is
-    at (t ∷ ts) n is fails = let e : Ok (t, record { tokens = ts; operators = n }) ≡ Err bad = sym (ap (λ b. cond b (take_from (t ∷ ts) n) (refuse Unexpected (record { tokens = t ∷ ts; operators = n }))) is) ∙ fails in cc
+    at (t ∷ ts) n is fails = let e : Ok (t, record { tokens = ts; operators = n }) ≡ Err bad =
+        sym (ap (λ b. cond b (take_from (t ∷ ts) n) (refuse Unexpected (record { tokens = t ∷ ts; operators = n }))) is) ∙ fails in cc
 
 module _ (s s1 : State) (place : Place) (text : List ℕ) (taken : expect k.Name s ≡ Ok (token_at place k.Name text, s1)) where
   stands : s ≡ Before (token_at place k.Name text) s1
@@ -180,8 +182,12 @@ module _ (s s1 : State) (place : Place) (text : List ℕ) (taken : expect k.Name
     pub wordless-fails-at : is_word text ≡ true → wordless (plain scope depth) s ≡ Err (unexpected place text s1)
     wordless-fails-at on = subst (λ (v : State). wordless (plain scope depth) v ≡ Err (unexpected place text s1)) (sym stands) (wordless-fails place text s1 scope depth on)
 
-    pub node-led-at : (word : Leading) → is_word text ≡ true → leading_within scope text ≡ Some word → node scope depth s ≡ led_by (behind_fair scope depth) (wordless (plain scope depth)) word place s1
-    node-led-at word on tells = subst (λ (v : State). node scope depth v ≡ led_by (behind_fair scope depth) (wordless (plain scope depth)) word place s1) (sym stands) (node-led place text s1 scope depth word on tells)
+    pub node-led-at : (word : Leading) → is_word text ≡ true → leading_within scope text ≡ Some word
+        → node scope depth s ≡ led_by (behind_fair scope depth) (wordless (plain scope depth)) word place s1
+    node-led-at word on tells =
+        subst (λ (v : State). node scope depth v
+        ≡ led_by (behind_fair scope depth) (wordless (plain scope depth)) word place s1) (sym stands)
+        (node-led place text s1 scope depth word on tells)
 
     pub node-fails-at : is_word text ≡ true → leading_within scope text ≡ None → node scope depth s ≡ Err (unexpected place text s1)
     node-fails-at on tells = subst (λ (v : State). node scope depth v ≡ Err (unexpected place text s1)) (sym stands) (node-fails place text s1 scope depth on tells)
@@ -200,13 +206,19 @@ module _ (s s1 : State) (place : Place) (text : List ℕ) (taken : expect k.Name
 
     module _ (word : Infix) (tells : infix_of text ≡ Some word) where
       pub joined-operand-fails-at : (bad : Refusal) → operand s1 ≡ Err bad → unless_next is_name_kind (joined_by operand x) s ≡ Err bad
-      joined-operand-fails-at bad fails = subst (λ (v : State). unless_next is_name_kind (joined_by operand x) v ≡ Err bad) (sym stands) (joined-operand-fails place text s1 operand x word tells bad fails)
+      joined-operand-fails-at bad fails =
+          subst (λ (v : State). unless_next is_name_kind (joined_by operand x) v ≡ Err bad) (sym stands)
+          (joined-operand-fails place text s1 operand x word tells bad fails)
 
       pub joined-again-at : (y : FormulaForm) (z : State) → operand s1 ≡ Ok (y, z) → is_name_kind (kind z) ≡ true → unless_next is_name_kind (joined_by operand x) s ≡ Err (refusal Unexpected z.tokens)
-      joined-again-at y z reads again = subst (λ (v : State). unless_next is_name_kind (joined_by operand x) v ≡ Err (refusal Unexpected z.tokens)) (sym stands) (joined-again place text s1 operand x word tells y z reads again)
+      joined-again-at y z reads again =
+          subst (λ (v : State). unless_next is_name_kind (joined_by operand x) v ≡ Err (refusal Unexpected z.tokens))
+          (sym stands) (joined-again place text s1 operand x word tells y z reads again)
 
       pub joined-read-at : (y : FormulaForm) (z : State) → operand s1 ≡ Ok (y, z) → is_name_kind (kind z) ≡ false → unless_next is_name_kind (joined_by operand x) s ≡ Ok (infixed word place x y, z)
-      joined-read-at y z reads other = subst (λ (v : State). unless_next is_name_kind (joined_by operand x) v ≡ Ok (infixed word place x y, z)) (sym stands) (joined-read place text s1 operand x word tells y z reads other)
+      joined-read-at y z reads other =
+          subst (λ (v : State). unless_next is_name_kind (joined_by operand x) v ≡ Ok (infixed word place x y, z))
+          (sym stands) (joined-read place text s1 operand x word tells y z reads other)
 
 -- its text is owned
 pub name-owned : (s s1 : State) (place : Place) (text owned : List ℕ) → expect k.Name s ≡ Ok (token_at place k.Name text, s1) → owned ≡ text → name s ≡ Ok (record { place = place; text = owned }, s1)

@@ -158,7 +158,9 @@ module _ (m : ModelForm) (names : ℕ → Name) where
           behind-said (guarding k) a.name.place false a.guard (call_form m names a.name.place c a.assignments)
           ∙ ap (behind (text_erase.joined (guarding k)) false (erased_term a.guard)) (call-said a.name.place c a.assignments)
 
-      by : (k : Modality) → over (quantifier_of k) (erased_variables a.variables) (text_erase.erased_formula (behind_form (guarding k) a.name.place false a.guard (call_form m names a.name.place c a.assignments)))
+      by : (k : Modality)
+          → over (quantifier_of k) (erased_variables a.variables)
+          (text_erase.erased_formula (behind_form (guarding k) a.name.place false a.guard (call_form m names a.name.place c a.assignments)))
           ≡ after_step k c (erased_step a)
       by Box = ap (over (quantifier_of Box) (erased_variables a.variables)) (said Box)
       by Diamond = ap (over (quantifier_of Diamond) (erased_variables a.variables)) (said Diamond)

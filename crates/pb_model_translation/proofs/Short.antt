@@ -57,7 +57,9 @@ numbers-apart x j k less small = by (same_name (numbered x k) (numbered x j)) re
     by : (b : Bool) → same_name (numbered x k) (numbered x j) ≡ b → b ≡ false
     by false e = refl
     by true e =
-        let same : k ≡ j = decimal_injective k j small (omega (arith, less, small)) (ap (drop 1) (append_cancel_left x (39 ∷ decimal k) (39 ∷ decimal j) ((bytes_eq-Decides (numbered x k) (numbered x j)).0 e))) in
+        let same : k ≡ j =
+        decimal_injective k j small (omega (arith, less, small))
+        (ap (drop 1) (append_cancel_left x (39 ∷ decimal k) (39 ∷ decimal j) ((bytes_eq-Decides (numbered x k) (numbered x j)).0 e))) in
         absurd (omega (arith, less, same))
 
 -- so many numbers from k on are taken
@@ -163,11 +165,17 @@ wanted-short around (Formula.Data x) s h = tt
 wanted-short around (Formula.Named X) s h = tt
 wanted-short around (Formula.Not f) s h = wanted-short around f s h
 wanted-short around (Formula.And f g) s h =
-    both-want (wanted_names around f) (wanted_names around g) (wanted-short around f s (first-short (variables_of f) (variables_of g) h)) (wanted-short around g s (last-short (variables_of f) (variables_of g) h))
+    both-want (wanted_names around f) (wanted_names around g)
+    (wanted-short around f s (first-short (variables_of f) (variables_of g) h))
+    (wanted-short around g s (last-short (variables_of f) (variables_of g) h))
 wanted-short around (Formula.Or f g) s h =
-    both-want (wanted_names around f) (wanted_names around g) (wanted-short around f s (first-short (variables_of f) (variables_of g) h)) (wanted-short around g s (last-short (variables_of f) (variables_of g) h))
+    both-want (wanted_names around f) (wanted_names around g)
+    (wanted-short around f s (first-short (variables_of f) (variables_of g) h))
+    (wanted-short around g s (last-short (variables_of f) (variables_of g) h))
 wanted-short around (Formula.Implies f g) s h =
-    both-want (wanted_names around f) (wanted_names around g) (wanted-short around f s (first-short (variables_of f) (variables_of g) h)) (wanted-short around g s (last-short (variables_of f) (variables_of g) h))
+    both-want (wanted_names around f) (wanted_names around g)
+    (wanted-short around f s (first-short (variables_of f) (variables_of g) h))
+    (wanted-short around g s (last-short (variables_of f) (variables_of g) h))
 wanted-short around (Formula.Box A f) s h = one-wants (has_equation f) (operand_named around) (wanted_names around f) s (wanted-short around f s h)
 wanted-short around (Formula.Diamond A f) s h = one-wants (has_equation f) (operand_named around) (wanted_names around f) s (wanted-short around f s h)
 wanted-short around (Formula.Fixpoint sign X f) s h = (h.0, wanted-short X f h.0 h.1)
@@ -210,4 +218,5 @@ names_are_short f few h k =
     let counted : length ws ≡ total_count f = length-with own (operand_named (codes "X")) (wanted_names (codes "X") f) ∙ ap (next_if own) (length-wanted (codes "X") f) in
     let fixpoints : length (variables_of f) ≤ total_count f = at_most-if own (length (variables_of f)) (equation_count f) (fixpoints-counted f) in
     at-short (given_names (variables_of f) [] ws) k
-    (given-short (variables_of f) [] ws (omega (arith, few, counted, fixpoints)) (one-wants own (operand_named (codes "X")) (wanted_names (codes "X") f) outer (wanted-short (codes "X") f outer variables)))
+    (given-short (variables_of f) [] ws (omega (arith, few, counted, fixpoints))
+    (one-wants own (operand_named (codes "X")) (wanted_names (codes "X") f) outer (wanted-short (codes "X") f outer variables)))

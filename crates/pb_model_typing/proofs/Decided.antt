@@ -101,7 +101,8 @@ pub step-at : (steps : List declared_step.Step) (i : ℕ) (x : declared_step.Ste
 step-at steps i x a below at is = form-at step_form steps i x a below at is
 
 -- its text has the answer
-pub reached-decided : (model : declared_model.Model) (here : Place) (a : StepForm) (t : SpecForm) → ∥ IsTypedModel (model_form model) ∥₁ → t ≡ placed (model_form model) here (reached_form here a.name.text)
+pub reached-decided : (model : declared_model.Model) (here : Place) (a : StepForm) (t : SpecForm)
+    → ∥ IsTypedModel (model_form model) ∥₁ → t ≡ placed (model_form model) here (reached_form here a.name.text)
     → answer (text.erase t) ≡ satisfies (model_of model) (reached a.name.text)
 reached-decided model here a t typed says =
     ap answer (text-said (model_form model) here (reached_form here a.name.text) t says)

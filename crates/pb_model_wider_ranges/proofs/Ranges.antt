@@ -78,7 +78,9 @@ module _ (m : Model) (ranges : List Range) where
   by-same : (s : State) (a : Step) → IsStepUnchanged d e a → successors_by w s a ≡ successors_by m s a
   by-same s a u =
       ap (λ cs. map (next_state w s a) (filter (is_enabled w s a) (tuples cs))) (carriers-same d e a.variables u.variables)
-      ∙ ap (map (next_state w s a)) (filter-alike (is_enabled w s a) (is_enabled m s a) (λ own. ap is_true (value-same d e refl a.guard u.guard (in_scope m s a own))) (tuples (carriers_of d a.variables)))
+      ∙ ap (map (next_state w s a))
+      (filter-alike (is_enabled w s a) (is_enabled m s a)
+      (λ own. ap is_true (value-same d e refl a.guard u.guard (in_scope m s a own))) (tuples (carriers_of d a.variables)))
       ∙ map-alike (next_state w s a) (next_state m s a)
       (λ own. state-after-same d e (value e (in_scope w s a own)) (value d (in_scope m s a own)) (λ x h. value-same d e refl x h (in_scope m s a own)) a.assignments u.assignments m.variables s)
       (filter (is_enabled m s a) (tuples (carriers_of d a.variables)))

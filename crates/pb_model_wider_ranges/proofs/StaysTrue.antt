@@ -105,12 +105,14 @@ module _ (m w : Model) (contained : (s : State) → is_state m s ≡ true → is
       let below = holds-below f ρ τ (ordered true f p.1 t ρ τ h) in
       λ s e x. ap (list_all (holds_at w f (satisfying w τ f))) (moves A s e) ∙ all-below _ _ below (successors m A s) x
   ordered false (Formula.Box A f) p t ρ τ h =
-      λ s e x. all-below (holds_at w f (satisfying w τ f)) (holds_at m f (satisfying m ρ f)) (constant-below m w ρ τ f p.0) (successors m A s) (sym (ap (list_all (holds_at w f (satisfying w τ f))) (moves A s e)) ∙ x)
+      λ s e x. all-below (holds_at w f (satisfying w τ f)) (holds_at m f (satisfying m ρ f))
+      (constant-below m w ρ τ f p.0) (successors m A s) (sym (ap (list_all (holds_at w f (satisfying w τ f))) (moves A s e)) ∙ x)
   ordered true (Formula.Diamond A f) p t ρ τ h =
       let below = holds-below f ρ τ (ordered true f p.1 t ρ τ h) in
       λ s e x. ap (list_any (holds_at w f (satisfying w τ f))) (moves A s e) ∙ any-below _ _ below (successors m A s) x
   ordered false (Formula.Diamond A f) p t ρ τ h =
-      λ s e x. any-below (holds_at w f (satisfying w τ f)) (holds_at m f (satisfying m ρ f)) (constant-below m w ρ τ f p.0) (successors m A s) (sym (ap (list_any (holds_at w f (satisfying w τ f))) (moves A s e)) ∙ x)
+      λ s e x. any-below (holds_at w f (satisfying w τ f)) (holds_at m f (satisfying m ρ f))
+      (constant-below m w ρ τ f p.0) (successors m A s) (sym (ap (list_any (holds_at w f (satisfying w τ f))) (moves A s e)) ∙ x)
   ordered true (Formula.Fixpoint sign X f) p t ρ τ h =
       fixpoint-within ρ τ X f p.1 (λ S T ST. ordered true f p.1 t (with_set ρ X S) (with_set τ X T) (with_set-within ρ τ h X S T ST)) sign
   ordered false (Formula.Fixpoint sign X f) p t ρ τ h = absurd (true≢false (sym p.0))

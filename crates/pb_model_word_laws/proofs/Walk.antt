@@ -346,9 +346,14 @@ connections_given Node Bound node bound =
     let open_end = says_either HasNoWord Node Bound node bound in
     let conjunction = says_chained HasNoWord k.And (join k.And) Node Node (λ x t y h i. connected_words connective.And t.place x y h i) node node in
     let conjunction_end = says_chained HasNoWord k.And (join k.And) Node Open (λ x t y h i. connected_words connective.And t.place x y h i) node open_end in
-    let disjunction = says_chained HasNoWord k.Or (join k.Or) (Conjunction join Node Node) (Conjunction join Node Node) (λ x t y h i. connected_words connective.Or t.place x y h i) conjunction conjunction in
-    let disjunction_end = says_chained HasNoWord k.Or (join k.Or) (Conjunction join Node Node) (Conjunction join Node Open) (λ x t y h i. connected_words connective.Or t.place x y h i) conjunction conjunction_end in
-    says_chained HasNoWord k.Implies (join k.Implies) (Disjunction join Node Node) (Disjunction join Node Open) (λ x t y h i. connected_words connective.Implies t.place x y h i) disjunction disjunction_end
+    let disjunction =
+    says_chained HasNoWord k.Or (join k.Or) (Conjunction join Node Node) (Conjunction join Node Node)
+    (λ x t y h i. connected_words connective.Or t.place x y h i) conjunction conjunction in
+    let disjunction_end =
+    says_chained HasNoWord k.Or (join k.Or) (Conjunction join Node Node) (Conjunction join Node Open)
+    (λ x t y h i. connected_words connective.Or t.place x y h i) conjunction conjunction_end in
+    says_chained HasNoWord k.Implies (join k.Implies) (Disjunction join Node Node) (Disjunction join Node Open)
+    (λ x t y h i. connected_words connective.Implies t.place x y h i) disjunction disjunction_end
 
 mutual
   plain_given : (scope : FixpointNames) (depth : ℕ) → SaysWordless HasNoWord (IsPlain scope depth)

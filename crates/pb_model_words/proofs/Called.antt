@@ -8,7 +8,8 @@ use Rattle.pb_model_words.specs.declared.variables.Variable as declared_variable
 use Rattle.pb_model_words.specs.Vocabulary.{called_variables, called_steps}
 use Rattle.pb_model_words.specs.View.{variable_said}
 
-pub variables-end : (ns : List (String Global)) (xs : List declared_variable.Variable) (k : ℕ) → min (length ns) (length xs) ≤ k → called_variables (map string_bytes (drop k ns)) (map variable_said (drop k xs)) ≡ []
+pub variables-end : (ns : List (String Global)) (xs : List declared_variable.Variable) (k : ℕ)
+    → min (length ns) (length xs) ≤ k → called_variables (map string_bytes (drop k ns)) (map variable_said (drop k xs)) ≡ []
 variables-end [] xs zero h = refl
 variables-end [] xs (suc k) h = refl
 variables-end (n ∷ ns) [] zero h = refl

@@ -56,7 +56,9 @@ changes-same sorts (x ∷ xs) vs ws k v w h h' h'' e' e'' same =
 
 pub changes-other : (sorts : List SortDeclaration) (xs : List declared_variable.Variable) (vs ws : Tuple) (k : ℕ) (x : declared_variable.Variable) (v w : ℤ)
     → k < length xs → k < length vs → k < length ws → x ≡ get_or xs k x → v ≡ get_or vs k (pos 0) → w ≡ get_or ws k (pos 0) → (v ≡ w → ⊥)
-    → changes sorts (map variable_said (drop k xs)) (drop k vs) (drop k ws) ≡ binding_text sorts (variable_said x) (codes " := ") w ∷ changes sorts (map variable_said (drop (k + 1) xs)) (drop (k + 1) vs) (drop (k + 1) ws)
+    → changes sorts (map variable_said (drop k xs)) (drop k vs) (drop k ws)
+    ≡ binding_text sorts (variable_said x) (codes " := ") w ∷ changes sorts (map variable_said (drop (k + 1) xs))
+    (drop (k + 1) vs) (drop (k + 1) ws)
 changes-other sorts xs vs ws k x v w h h' h'' e e' e'' differs =
     let rest = changes sorts (map variable_said (drop (k + 1) xs)) (drop (k + 1) vs) (drop (k + 1) ws) in
     changes-at sorts xs vs ws k x v w h h' h'' e e' e''

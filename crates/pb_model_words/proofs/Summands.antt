@@ -22,7 +22,8 @@ summands-at xs ps k x p weight h h' e e' w =
     ∙ ap (λ (qs : List declared_member.Member). summands (map variable_said (x ∷ drop (k + 1) xs)) (members_of qs)) (drop-at ps k p p h' e')
     ∙ ap (λ (n : ℕ). times_text (counted_text (variable_said x).name.text p.low) n ∷ summands (map variable_said (drop (k + 1) xs)) (members_of (drop (k + 1) ps))) (sym w)
 
-pub summands-end : (xs : List declared_variable.Variable) (ps : List declared_member.Member) (k : ℕ) → min (length xs) (length ps) ≤ k → summands (map variable_said (drop k xs)) (members_of (drop k ps)) ≡ []
+pub summands-end : (xs : List declared_variable.Variable) (ps : List declared_member.Member) (k : ℕ)
+    → min (length xs) (length ps) ≤ k → summands (map variable_said (drop k xs)) (members_of (drop k ps)) ≡ []
 summands-end [] ps zero h = refl
 summands-end [] ps (suc k) h = refl
 summands-end (x ∷ xs) [] zero h = refl

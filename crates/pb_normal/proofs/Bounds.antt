@@ -196,13 +196,17 @@ module _ (spec : Spec) (slots : ℕ) where
       (λ even. term-fits stands typed x h.0 (not even)) (data-fits stands typed (syntax.Term.Not x) h)
   term-fits stands typed (syntax.Term.Negative x) h = data-fits stands typed (syntax.Term.Negative x) h
   term-fits stands typed (syntax.Term.Binary o x y) h =
-      choose-fitting (has_quantifier x || has_quantifier y) (connected o (expanded_term x) (expanded_term y) (syntax.Formula.Val (syntax.Term.Binary o x y))) (syntax.Formula.Val (syntax.Term.Binary o x y))
+      choose-fitting (has_quantifier x || has_quantifier y)
+      (connected o (expanded_term x) (expanded_term y) (syntax.Formula.Val (syntax.Term.Binary o x y)))
+      (syntax.Formula.Val (syntax.Term.Binary o x y))
       (connected-fits o (expanded_term x) (expanded_term y) (syntax.Term.Binary o x y)
       (term-fits (passes (kind_of o) stands) typed x h.0) (term-fits (passes (kind_of o) stands) typed y h.1) (data-fits stands typed (syntax.Term.Binary o x y) h))
       (data-fits stands typed (syntax.Term.Binary o x y) h)
   term-fits stands typed (syntax.Term.Apply f xs) h = data-fits stands typed (syntax.Term.Apply f xs) h
   term-fits stands typed (syntax.Term.Quantified q xs x) h = λ even scope.
-      each-fits (signed_quantifier q even) xs (width (expanded_term x)) (λ d m. normal spec even d (bound spec xs scope) m (expanded_term x)) (term-fits stands (bound spec xs typed) x h.2 even (bound spec xs scope))
+      each-fits (signed_quantifier q even) xs (width (expanded_term x))
+      (λ d m. normal spec even d (bound spec xs scope) m (expanded_term x))
+      (term-fits stands (bound spec xs typed) x h.2 even (bound spec xs scope))
 
   -- ---- calls
 
@@ -213,7 +217,9 @@ module _ (spec : Spec) (slots : ℕ) where
 
   call-fits : (x : Name) (o : Option ℕ) (es : List Argument) → place_of 0 spec.equations x ≡ o → are_bounded bounds es ≡ true → FormulaFits (call o es)
   call-fits x None es e h = refl
-  call-fits x (Some k) es e h = and_from (nat_lt k (length spec.equations)) (are_bounded bounds es) (lt-ltb k (length spec.equations) (let l = place-below 0 spec.equations x k e in omega (arith, l))) h
+  call-fits x (Some k) es e h =
+      and_from (nat_lt k (length spec.equations)) (are_bounded bounds es)
+      (lt-ltb k (length spec.equations) (let l = place-below 0 spec.equations x k e in omega (arith, l))) h
 
   -- ---- formulas
 

@@ -65,7 +65,8 @@ module _ (spec : Spec) where
   choose-full scope true f g h k = h
   choose-full scope false f g h k = k
 
-  connected-full : (scope : Scope) (o : Operator) (f g : syntax.Formula) (x : syntax.Term) → IsFullFormula scope f → IsFullFormula scope g → IsFullFormula scope (connected o f g (syntax.Formula.Val x))
+  connected-full : (scope : Scope) (o : Operator) (f g : syntax.Formula) (x : syntax.Term) → IsFullFormula scope f
+      → IsFullFormula scope g → IsFullFormula scope (connected o f g (syntax.Formula.Val x))
   connected-full scope Operator.And f g x h k even c n = (h even c n, k even c (n + width f))
   connected-full scope Operator.Or f g x h k even c n = (h even c n, k even c (n + width f))
   connected-full scope Operator.Implies f g x h k even c n = (h (not even) c n, k even c (n + width f))
@@ -79,13 +80,16 @@ module _ (spec : Spec) where
       choose-full scope (has_quantifier x) (syntax.Formula.Not (expanded_term x)) (syntax.Formula.Val (syntax.Term.Not x)) (λ even. term-full scope x (not even)) (data-full scope (syntax.Term.Not x))
   term-full scope (syntax.Term.Negative x) = data-full scope (syntax.Term.Negative x)
   term-full scope (syntax.Term.Binary o x y) =
-      choose-full scope (has_quantifier x || has_quantifier y) (connected o (expanded_term x) (expanded_term y) (syntax.Formula.Val (syntax.Term.Binary o x y))) (syntax.Formula.Val (syntax.Term.Binary o x y))
+      choose-full scope (has_quantifier x || has_quantifier y)
+      (connected o (expanded_term x) (expanded_term y) (syntax.Formula.Val (syntax.Term.Binary o x y)))
+      (syntax.Formula.Val (syntax.Term.Binary o x y))
       (connected-full scope o (expanded_term x) (expanded_term y) (syntax.Term.Binary o x y) (term-full scope x) (term-full scope y)) (data-full scope (syntax.Term.Binary o x y))
   term-full scope (syntax.Term.Apply f xs) = data-full scope (syntax.Term.Apply f xs)
   term-full scope (syntax.Term.Quantified q xs x) = λ even.
       each-full (signed_quantifier q even) xs (λ d m. normal spec even d (bound spec xs scope) m (expanded_term x)) (term-full (bound spec xs scope) x even)
 
-  call-full : (c : Slotting) (scope : Scope) (es : Terms) (x : Name) (o : Option ℕ) → IsAt spec.equations x 0 o → IsCalled spec scope es (equation_named spec.equations x) → HasCalls spec (call o (arguments spec c scope es))
+  call-full : (c : Slotting) (scope : Scope) (es : Terms) (x : Name) (o : Option ℕ) → IsAt spec.equations x 0 o
+      → IsCalled spec scope es (equation_named spec.equations x) → HasCalls spec (call o (arguments spec c scope es))
   call-full c scope es x None h called = tt
   call-full c scope es x (Some k) h called =
       let p = h.1 in

@@ -62,7 +62,8 @@ choose-fits spec scope false f g h k = k
 data-fits : (spec : Spec) (scope : Scope) (x : syntax.Term) → FormulaFits spec scope (syntax.Formula.Val x)
 data-fits spec scope x even c n a g free agree within = test-fits a even (slotted spec c x)
 
-connected-fits : (spec : Spec) (scope : Scope) (o : Operator) (f g : syntax.Formula) (x : syntax.Term) → FormulaFits spec scope f → FormulaFits spec scope g → FormulaFits spec scope (connected o f g (syntax.Formula.Val x))
+connected-fits : (spec : Spec) (scope : Scope) (o : Operator) (f g : syntax.Formula) (x : syntax.Term)
+    → FormulaFits spec scope f → FormulaFits spec scope g → FormulaFits spec scope (connected o f g (syntax.Formula.Val x))
 connected-fits spec scope Operator.And f h x p q even c n a g free agree within =
     (p even c n a g free agree within, q even c (n + width f) a g (more-free c n (n + width f) (omega arith) free) agree within)
 connected-fits spec scope Operator.Or f h x p q even c n a g free agree within =
@@ -80,7 +81,9 @@ term-fits spec scope (syntax.Term.Not x) =
     (λ even. term-fits spec scope x (not even)) (data-fits spec scope (syntax.Term.Not x))
 term-fits spec scope (syntax.Term.Negative x) = data-fits spec scope (syntax.Term.Negative x)
 term-fits spec scope (syntax.Term.Binary o x y) =
-    choose-fits spec scope (has_quantifier x || has_quantifier y) (connected o (expanded_term x) (expanded_term y) (syntax.Formula.Val (syntax.Term.Binary o x y))) (syntax.Formula.Val (syntax.Term.Binary o x y))
+    choose-fits spec scope (has_quantifier x || has_quantifier y)
+    (connected o (expanded_term x) (expanded_term y) (syntax.Formula.Val (syntax.Term.Binary o x y)))
+    (syntax.Formula.Val (syntax.Term.Binary o x y))
     (connected-fits spec scope o (expanded_term x) (expanded_term y) (syntax.Term.Binary o x y) (term-fits spec scope x) (term-fits spec scope y))
     (data-fits spec scope (syntax.Term.Binary o x y))
 term-fits spec scope (syntax.Term.Apply f xs) = data-fits spec scope (syntax.Term.Apply f xs)

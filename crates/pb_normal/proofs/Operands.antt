@@ -27,12 +27,15 @@ chained-signed o even first [] = refl
 chained-signed o even first (f ∷ fs) = ap (Join (joins o even) (signed_form (left_parity o even) first)) (chained-signed o even f fs)
 
 -- one quantifier for each carrier
-pub nested-signed : (q : Quantifier) (even : Bool) (s : ℕ) (cs : List Carrier) (f : tree.Formula) → signed_form even (typed.nested q s cs f) ≡ nested (signed_quantifier q even) s cs (signed_form even f)
+pub nested-signed : (q : Quantifier) (even : Bool) (s : ℕ) (cs : List Carrier) (f : tree.Formula)
+    → signed_form even (typed.nested q s cs f) ≡ nested (signed_quantifier q even) s cs (signed_form even f)
 nested-signed q even s [] f = refl
 nested-signed q even s (c ∷ cs) f = ap (Each (signed_quantifier q even) s (shape_of c)) (nested-signed q even (suc s) cs f)
 
-pub quantified-signed : (even : Bool) (m : Quantifier) (t x : declared.Formula) (q : Quantifier) (slot : ℕ) (v : Vec Carrier Global) (body : Box declared.Formula Global) (cs : List Carrier) (f : Formula)
-    → t ≡ declared.Quantified q slot v body → x ≡ box_value body → cs ≡ v.items → m ≡ signed_quantifier q even → f ≡ signed_form even (typed.formula_view x) → nested m slot cs f ≡ signed_form even (typed.formula_view t)
+pub quantified-signed : (even : Bool) (m : Quantifier) (t x : declared.Formula) (q : Quantifier) (slot : ℕ)
+    (v : Vec Carrier Global) (body : Box declared.Formula Global) (cs : List Carrier) (f : Formula)
+    → t ≡ declared.Quantified q slot v body → x ≡ box_value body → cs ≡ v.items → m ≡ signed_quantifier q even
+    → f ≡ signed_form even (typed.formula_view x) → nested m slot cs f ≡ signed_form even (typed.formula_view t)
 quantified-signed even m t x q slot v body cs f is same are sign form =
     ap (λ (r : Quantifier). nested r slot cs f) sign
     ∙ (ap (nested (signed_quantifier q even) slot cs) form
@@ -65,13 +68,15 @@ signed_next o even p links k link f done more below at parity pushed form h =
     ∙ (sym (append_assoc (formula_views done) (formula_view f ∷ []) rest)
     ∙ (ap (λ (fs : List Formula). fs ++ rest) (sym (map-append formula_view done (f ∷ []))) ∙ ap (λ (fs : List code.Formula). formula_views fs ++ rest) (sym pushed)))))))
 
-pub signed_ended : (o : Connective) (even : Bool) (links : List declared.Formula) (k : ℕ) (done : List code.Formula) → length links ≤ k → AreSigned o even links k done → formula_views done ≡ signed_links o even links
+pub signed_ended : (o : Connective) (even : Bool) (links : List declared.Formula) (k : ℕ) (done : List code.Formula)
+    → length links ≤ k → AreSigned o even links k done → formula_views done ≡ signed_links o even links
 signed_ended o even links k done end h =
     sym (h ∙ (ap (λ (ls : List declared.Formula). formula_views done ++ signed_links o even ls) (drop_all k links end) ∙ append-nil (formula_views done)))
 
 -- the first operand, and those behind it
 pub chain-signed : (o : Connective) (even : Bool) (m : Junction) (first : tree.Formula) (links : List declared.Formula) (f : Formula) (fs : List Formula)
-    → m ≡ joins o even → f ≡ signed_form (operand_parity o even (length links)) first → fs ≡ signed_links o even links → chained (Join m) f fs ≡ signed_form even (chained (Connected o) first (typed.formula_views links))
+    → m ≡ joins o even → f ≡ signed_form (operand_parity o even (length links)) first → fs ≡ signed_links o even links
+    → chained (Join m) f fs ≡ signed_form even (chained (Connected o) first (typed.formula_views links))
 chain-signed o even m first links f fs joined head behind =
     let others = typed.formula_views links in
     ap (λ (n : Junction). chained (Join n) f fs) joined

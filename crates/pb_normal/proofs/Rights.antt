@@ -51,13 +51,17 @@ done_next xs k X Y done more below at pushed right loops h =
           ∙ (ap (λ (ys : List tree.Equation). right_views done ++ signed_rights ys) left
           ∙ (ap (λ (f : Formula). right_views done ++ f ∷ rest) (sym right)
           ∙ (sym (append_assoc (right_views done) (formula_view Y.right ∷ []) rest)
-          ∙ (ap (λ (fs : List Formula). fs ++ rest) (sym (map-append (λ (Z : declared.Equation). formula_view Z.right) done (Y ∷ []))) ∙ ap (λ (d : List declared.Equation). right_views d ++ rest) (sym pushed)))));
+          ∙ (ap (λ (fs : List Formula). fs ++ rest)
+          (sym (map-append (λ (Z : declared.Equation). formula_view Z.right) done (Y ∷ [])))
+          ∙ ap (λ (d : List declared.Equation). right_views d ++ rest) (sym pushed)))));
       loops =
           h.loops
           ∙ (ap (λ (ys : List tree.Equation). loop_shapes done ++ typed.loop_shapes ys) left
           ∙ (ap (λ (cs : List Carrier). loop_shapes done ++ shapes_of cs ∷ others) (sym loops)
           ∙ (sym (append_assoc (loop_shapes done) (shapes_of Y.loops.now ∷ []) others)
-          ∙ (ap (λ (ss : List (List Shape)). ss ++ others) (sym (map-append (λ (Z : declared.Equation). shapes_of Z.loops.now) done (Y ∷ []))) ∙ ap (λ (d : List declared.Equation). loop_shapes d ++ others) (sym pushed)))));
+          ∙ (ap (λ (ss : List (List Shape)). ss ++ others)
+          (sym (map-append (λ (Z : declared.Equation). shapes_of Z.loops.now) done (Y ∷ [])))
+          ∙ ap (λ (d : List declared.Equation). loop_shapes d ++ others) (sym pushed)))));
     }
 
 -- ---- all equations of a well-typed specification
@@ -69,7 +73,8 @@ signed-normal spec (X ∷ E) h =
     (sym (normal-signed spec (expanded X.right) true (parameter_scope spec X) (with_slots X.parameters 0 unslotted) (length X.parameters) (expanded-positive true X.right h.0)))
     ∙ ap (λ (fs : List Formula). normal_equation spec X ∷ fs) (signed-normal spec E h.1)
 
-pub rights_ended : (spec : Spec) (xs : List tree.Equation) (k : ℕ) (done : List declared.Equation) → IsWellTyped spec → typed.right_views xs ≡ elaborated_equations spec spec.equations → length xs ≤ k → AreDone xs k done
+pub rights_ended : (spec : Spec) (xs : List tree.Equation) (k : ℕ) (done : List declared.Equation) → IsWellTyped spec
+    → typed.right_views xs ≡ elaborated_equations spec spec.equations → length xs ≤ k → AreDone xs k done
     → right_views done ≡ normal_equations spec
 rights_ended spec xs k done well_typed rights end h =
     sym (h.rights ∙ (ap (λ (ys : List tree.Equation). right_views done ++ signed_rights ys) (drop_all k xs end) ∙ append-nil (right_views done)))

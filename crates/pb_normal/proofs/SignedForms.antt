@@ -19,7 +19,9 @@ each-signed : (spec : Spec) (q : Quantifier) (even : Bool) (xs : List Variable) 
 each-signed spec q even [] body c n = refl
 each-signed spec q even (x ∷ xs) body c n = ap (Each (signed_quantifier q even) n (sort_shape spec x.sort)) (each-signed spec q even xs body (with_slot x.name n c) (suc n))
 
-same-each : (spec : Spec) (m : Quantifier) (xs : List Variable) (f g : Slotting → ℕ → Formula) → ((c : Slotting) (n : ℕ) → f c n ≡ g c n) → (c : Slotting) (n : ℕ) → normalisation.each spec m xs c n f ≡ normalisation.each spec m xs c n g
+same-each : (spec : Spec) (m : Quantifier) (xs : List Variable) (f g : Slotting → ℕ → Formula)
+    → ((c : Slotting) (n : ℕ) → f c n ≡ g c n) → (c : Slotting) (n : ℕ)
+    → normalisation.each spec m xs c n f ≡ normalisation.each spec m xs c n g
 same-each spec m [] f g h c n = h c n
 same-each spec m (x ∷ xs) f g h c n = ap (Each m n (sort_shape spec x.sort)) (same-each spec m xs f g h (with_slot x.name n c) (suc n))
 

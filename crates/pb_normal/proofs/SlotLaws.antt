@@ -119,7 +119,8 @@ two-reads known (Some Pos2Int) x y h k = refl
 two-reads known (Some Nat2Int) x y h k = refl
 two-reads known None x y h k = refl
 
-three-reads : (known : ℕ → Bool) (g : Option NamedFunction) (x y z : Term) → reads_only known x ≡ true → reads_only known y ≡ true → reads_only known z ≡ true → reads_only known (applied_to_three g x y z) ≡ true
+three-reads : (known : ℕ → Bool) (g : Option NamedFunction) (x y z : Term) → reads_only known x ≡ true
+    → reads_only known y ≡ true → reads_only known z ≡ true → reads_only known (applied_to_three g x y z) ≡ true
 three-reads known (Some If) x y z h k l = and_from (reads_only known x && reads_only known y) (reads_only known z) (and_from (reads_only known x) (reads_only known y) h k) l
 three-reads known (Some Succ) x y z h k l = refl
 three-reads known (Some Pred) x y z h k l = refl

@@ -69,7 +69,8 @@ enumerators_known n count place counts (e ∷ es) l = (here n count counts place
 recognisers_known : (n count place : ℕ) (counts : List ℕ) (es : List Enumerator) → place + length es ≡ count → Each (IsPosition n (count ∷ counts)) (recognisers_from n count place es)
 recognisers_known n count place counts [] l = tt
 recognisers_known n count place counts (e ∷ es) l =
-    each_append (IsPosition n (count ∷ counts)) (recogniser_entry e.recogniser (positioned n count place)) (recognisers_from n count (suc place) es) (by e.recogniser) (recognisers_known n count (suc place) counts es (omega arith))
+    each_append (IsPosition n (count ∷ counts)) (recogniser_entry e.recogniser (positioned n count place))
+    (recognisers_from n count (suc place) es) (by e.recogniser) (recognisers_known n count (suc place) counts es (omega arith))
   where
     by : (o : Option Name) → Each (IsPosition n (count ∷ counts)) (recogniser_entry o (positioned n count place))
     by None = tt
@@ -119,7 +120,8 @@ sort_defined : (spec : Spec) (n : ℕ) (x : Name) (s : Sort) (counts : List ℕ)
 sort_defined spec n x (Struct es) counts h = (record { index = 0; numbered = omega arith; counted = refl }, h.0)
 sort_defined spec n x (Alias t) counts h = tt
 
-definitions_known : (spec : Spec) (n : ℕ) (ds : List SortDeclaration) → All (λ (d : SortDeclaration). IsDefined spec d.name d.sort) ds → Each (IsDefinition n (struct_counts ds)) (definitions_from n ds)
+definitions_known : (spec : Spec) (n : ℕ) (ds : List SortDeclaration)
+    → All (λ (d : SortDeclaration). IsDefined spec d.name d.sort) ds → Each (IsDefinition n (struct_counts ds)) (definitions_from n ds)
 definitions_known spec n [] all = tt
 definitions_known spec n (d ∷ ds) all =
     let counts = struct_counts ds in (
@@ -148,7 +150,8 @@ module _ (spec : Spec) (declared : IsDeclared spec) where
   abbrev counts : List ℕ
   counts = struct_counts spec.sorts
 
-  by_known : (o : Option Bounds) (b : Bool) (d : Option Definition) (other : End) (next : Name → End) → ((v : Bounds) → o ≡ Some v → v.0 ≤ℤ v.1) → ((v : Definition) → d ≡ Some v → IsDefinition 0 counts v)
+  by_known : (o : Option Bounds) (b : Bool) (d : Option Definition) (other : End) (next : Name → End)
+      → ((v : Bounds) → o ≡ Some v → v.0 ≤ℤ v.1) → ((v : Definition) → d ≡ Some v → IsDefinition 0 counts v)
       → DeclaredEnd counts other → ((s : Name) → DeclaredEnd counts (next s)) → DeclaredEnd counts (end_by o b d other next)
   by_known (Some v) b d other next ho hd ot nx = ho v refl
   by_known None true d other next ho hd ot nx = tt
@@ -159,7 +162,8 @@ module _ (spec : Spec) (declared : IsDeclared spec) where
   within_known : (n : ℕ) (s : Name) → DeclaredEnd counts (end_within n (first (range_bounds spec.ranges)) (first (definitions spec)) s)
   within_known zero s = tt
   within_known (suc n) s =
-      by_known (first (range_bounds spec.ranges) s) (same_name s (codes "Bool")) (first (definitions spec) s) (built_in_integers s) (end_within n (first (range_bounds spec.ranges)) (first (definitions spec)))
+      by_known (first (range_bounds spec.ranges) s) (same_name s (codes "Bool")) (first (definitions spec) s)
+      (built_in_integers s) (end_within n (first (range_bounds spec.ranges)) (first (definitions spec)))
       (λ v e. first_each (λ (b : Bounds). b.0 ≤ℤ b.1) (range_bounds spec.ranges) s v (ranges_known spec spec.ranges declared.ranged) e)
       (λ v e. first_each (IsDefinition 0 counts) (definitions spec) s v (definitions_known spec 0 spec.sorts declared.defined) e)
       (built_in_known counts (same_name s (codes "Pos")) (same_name s (codes "Nat")) (same_name s (codes "Int")) _ _ _)
@@ -227,7 +231,9 @@ structs-counted : (n : ℕ) (ds : List SortDeclaration) → structs_behind n ds 
 structs-counted n [] = omega arith
 structs-counted n (d ∷ ds) = by d.sort (structs-counted n ds) (structs-counted (suc n) ds)
   where
-    by : (s : Sort) → structs_behind n ds ≡ n + length (struct_counts ds) → structs_behind (suc n) ds ≡ suc n + length (struct_counts ds) → structs_behind (number_behind n s) ds ≡ n + length (with_count s (struct_counts ds))
+    by : (s : Sort) → structs_behind n ds ≡ n + length (struct_counts ds)
+        → structs_behind (suc n) ds ≡ suc n + length (struct_counts ds)
+        → structs_behind (number_behind n s) ds ≡ n + length (with_count s (struct_counts ds))
     by (Struct es) e f = omega (arith, f)
     by (Alias t) e f = e
 

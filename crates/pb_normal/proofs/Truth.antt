@@ -73,7 +73,9 @@ IsPositiveTree even (typed.Connected c f g) = IsPositiveTree (left_parity c even
 IsPositiveTree even (typed.Quantified q s shape f) = IsPositiveTree even f
 IsPositiveTree even (typed.Call X es) = even ≡ true
 
-each-positive : (spec : Spec) (even : Bool) (q : Quantifier) (xs : List Variable) (body : Slotting → ℕ → typed.Formula) → ((c : Slotting) (n : ℕ) → IsPositiveTree even (body c n)) → (c : Slotting) (n : ℕ) → IsPositiveTree even (made.each spec q xs c n body)
+each-positive : (spec : Spec) (even : Bool) (q : Quantifier) (xs : List Variable) (body : Slotting → ℕ → typed.Formula)
+    → ((c : Slotting) (n : ℕ) → IsPositiveTree even (body c n)) → (c : Slotting) (n : ℕ)
+    → IsPositiveTree even (made.each spec q xs c n body)
 each-positive spec even q [] body h c n = h c n
 each-positive spec even q (x ∷ xs) body h c n = each-positive spec even q xs body h (with_slot x.name n c) (suc n)
 
@@ -95,7 +97,8 @@ tree-positive spec (syntax.Formula.Call X es) even scope c n h = call-positive e
 -- ---- formulas
 
 -- the normal form of a typed tree has the tree's truth, and under an odd number of negations the opposite one
-signed-truth : (spec : Spec) (t : Environment Instance) (f : typed.Formula) (even : Bool) (a : Slots) → IsPositiveTree even f → truth spec a t (signed_form even f) ≡ signed even (tree.truth spec a t f)
+signed-truth : (spec : Spec) (t : Environment Instance) (f : typed.Formula) (even : Bool) (a : Slots)
+    → IsPositiveTree even f → truth spec a t (signed_form even f) ≡ signed even (tree.truth spec a t f)
 signed-truth spec t (typed.Test x) even a h = signed-test spec a t even x
 signed-truth spec t (typed.Negation f) even a h = signed-truth spec t f (not even) a h ∙ signed-not even (tree.truth spec a t f)
 signed-truth spec t (typed.Connected connective.And f g) even a h =
@@ -111,7 +114,8 @@ signed-truth spec t (typed.Connected connective.Implies f g) even a h =
     ∙ ap (joined (signed_junction Or even) (signed (not even) (tree.truth spec a t f))) (signed-truth spec t g even a h.1)
     ∙ joined-implies even (tree.truth spec a t f) (tree.truth spec a t g)
 signed-truth spec t (typed.Quantified q s shape f) even a h =
-    same-of-values (signed_quantifier q even) (λ v. truth spec (set a s v) t (signed_form even f)) (λ v. signed even (tree.truth spec (set a s v) t f)) (λ v. signed-truth spec t f even (set a s v) h) (shape_carrier shape)
+    same-of-values (signed_quantifier q even) (λ v. truth spec (set a s v) t (signed_form even f))
+    (λ v. signed even (tree.truth spec (set a s v) t f)) (λ v. signed-truth spec t f even (set a s v) h) (shape_carrier shape)
     ∙ signed-values q even (λ v. tree.truth spec (set a s v) t f) (shape_carrier shape)
 signed-truth spec t (typed.Call X es) even a h = ap (λ b. signed b (tree.truth spec a t (typed.Call X es))) (sym h)
 

@@ -16,7 +16,8 @@ abbrev formula_row_in : Formula → (n : Count) × Row_of-Formula n
 formula_row_in (formula.Join' c p first shape row) = (_, row)
 formula_row_in _ = (_, end_of-Formula)
 
-pub formula-join : (m : Junction) (first : Box Formula Global) (v : Vec Formula Global) → formula_view (formula.Join m first v) ≡ chained (Join m) (formula_view (box_value first)) (formula_views v.items)
+pub formula-join : (m : Junction) (first : Box Formula Global) (v : Vec Formula Global)
+    → formula_view (formula.Join m first v) ≡ chained (Join m) (formula_view (box_value first)) (formula_views v.items)
 formula-join m first v =
     let row = formula_row_in (formula.Join m first v) in
     ap (chained (Join m) (formula_view (box_value first))) (formulas-items row.0 row.1 ∙ ap formula_views (items_hidden-the_row-Formula-0 v))

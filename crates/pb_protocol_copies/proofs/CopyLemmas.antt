@@ -24,7 +24,8 @@ set_row_in (step_set.Union' p first shape row) = (_, row)
 set_row_in _ = (_, end_of-StepSetLink)
 
 -- sets with `||` between them say the first and the links
-pub set-union : (first : Box StepSet Global) (v : Vec StepSetLink Global) → step_set_form (step_set.Union first v) ≡ chained StepSetForm.union (step_set_form (box_value first)) (step_set_links v.items)
+pub set-union : (first : Box StepSet Global) (v : Vec StepSetLink Global)
+    → step_set_form (step_set.Union first v) ≡ chained StepSetForm.union (step_set_form (box_value first)) (step_set_links v.items)
 set-union first v =
     let row = set_row_in (step_set.Union first v) in
     ap (chained StepSetForm.union (step_set_form (box_value first))) (set-links-items row.0 row.1 ∙ ap step_set_links (items_hidden-the_row-StepSetLink-0 v))
@@ -46,7 +47,8 @@ row_in (formula.Chain' c p first shape row) = (_, row)
 row_in _ = (_, end_of-Link)
 
 -- a chain says its first operand and its links
-pub formula-chain : (c : Connective) (first : Box Formula Global) (v : Vec Link Global) → formula_form (formula.Chain c first v) ≡ chained (FormulaForm.connected c) (formula_form (box_value first)) (link_forms v.items)
+pub formula-chain : (c : Connective) (first : Box Formula Global) (v : Vec Link Global)
+    → formula_form (formula.Chain c first v) ≡ chained (FormulaForm.connected c) (formula_form (box_value first)) (link_forms v.items)
 formula-chain c first v =
     let row = row_in (formula.Chain c first v) in
     ap (chained (FormulaForm.connected c) (formula_form (box_value first))) (links-items row.0 row.1 ∙ ap link_forms (items_hidden-the_row-Link-0 v))

@@ -31,7 +31,8 @@ inserted (y ∷ xs) x = refl
 
 -- ---- terms
 
-pub longer-term : (c inner : Connective) (p : Place) (first : Box Term Global) (v : Vec TermLink Global) (ls : List TermLink) (operand t : Term) → t ≡ term.Chain inner first v → inner ≡ c → operand ≡ box_value first →
+pub longer-term : (c inner : Connective) (p : Place) (first : Box Term Global) (v : Vec TermLink Global)
+    (ls : List TermLink) (operand t : Term) → t ≡ term.Chain inner first v → inner ≡ c → operand ≡ box_value first →
     ls ≡ record { place = p; operand = operand } ∷ v.items → (x : TermForm) → chained (TermForm.connected c) x (term_links ls) ≡ TermForm.connected c p x (term_form t)
 longer-term c inner p first v ls operand t is same at here x =
     ap (λ ks. chained (TermForm.connected c) x (term_links ks)) here
@@ -64,12 +65,14 @@ row_in (formula.Chain' c p first shape row) = (_, row)
 row_in _ = (_, end_of-Link)
 
 -- a chain says its first operand and its links
-pub formula-chain : (c : Connective) (first : Box Formula Global) (v : Vec Link Global) → formula_form (formula.Chain c first v) ≡ chained (FormulaForm.connected c) (formula_form (box_value first)) (link_forms v.items)
+pub formula-chain : (c : Connective) (first : Box Formula Global) (v : Vec Link Global)
+    → formula_form (formula.Chain c first v) ≡ chained (FormulaForm.connected c) (formula_form (box_value first)) (link_forms v.items)
 formula-chain c first v =
     let row = row_in (formula.Chain c first v) in
     ap (chained (FormulaForm.connected c) (formula_form (box_value first))) (links-items row.0 row.1 ∙ ap link_forms (items_hidden-the_row-Link-0 v))
 
-pub longer-formula : (c inner : Connective) (p : Place) (first : Box Formula Global) (v : Vec Link Global) (ls : List Link) (operand f : Formula) → f ≡ formula.Chain inner first v → inner ≡ c → operand ≡ box_value first →
+pub longer-formula : (c inner : Connective) (p : Place) (first : Box Formula Global) (v : Vec Link Global)
+    (ls : List Link) (operand f : Formula) → f ≡ formula.Chain inner first v → inner ≡ c → operand ≡ box_value first →
     ls ≡ record { place = p; operand = operand } ∷ v.items → (x : FormulaForm) → chained (FormulaForm.connected c) x (link_forms ls) ≡ FormulaForm.connected c p x (formula_form f)
 longer-formula c inner p first v ls operand f is same at here x =
     ap (λ ks. chained (FormulaForm.connected c) x (link_forms ks)) here

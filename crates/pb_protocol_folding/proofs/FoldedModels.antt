@@ -370,7 +370,10 @@ module _ (m : Model) (hides : HidesNoNames m) where
             (filter (λ (a : Step). has_step A a.name) (filter is_possible (map (folded_step (data_of m)) steps))))
             ≡ flat_map (successors_by m s) (cond b (a ∷ filter (λ (a : Step). has_step A a.name) steps) (filter (λ (a : Step). has_step A a.name) steps))
         by true e =
-            ap (λ l. l ++ flat_map (successors_by (folded_model m) s) (filter (λ (a : Step). has_step A a.name) (filter is_possible (map (folded_step (data_of m)) steps)))) (by-folded a new.0 apart.0 once.0) ∙
+            ap (λ l. l
+            ++ flat_map (successors_by (folded_model m) s)
+            (filter (λ (a : Step). has_step A a.name) (filter is_possible (map (folded_step (data_of m)) steps))))
+            (by-folded a new.0 apart.0 once.0) ∙
             ap (λ l. successors_by m s a ++ l) e
         by false e = e
 
@@ -384,7 +387,9 @@ module _ (m : Model) (hides : HidesNoNames m) where
             flat_map (successors_by (folded_model m) s) (filter (λ (a : Step). has_step A a.name) (filter is_possible (map (folded_step (data_of m)) steps)))
             ≡ flat_map (successors_by m s) (filter (λ (a : Step). has_step A a.name) steps) →
             flat_map (successors_by (folded_model m) s)
-            (filter (λ (a : Step). has_step A a.name) (cond (not b) (folded_step (data_of m) a ∷ filter is_possible (map (folded_step (data_of m)) steps)) (filter is_possible (map (folded_step (data_of m)) steps))))
+            (filter (λ (a : Step). has_step A a.name)
+            (cond (not b) (folded_step (data_of m) a ∷ filter is_possible (map (folded_step (data_of m)) steps))
+            (filter is_possible (map (folded_step (data_of m)) steps))))
             ≡ flat_map (successors_by m s) (cond (has_step A a.name) (a ∷ filter (λ (a : Step). has_step A a.name) steps) (filter (λ (a : Step). has_step A a.name) steps))
         possibly false h e = by (has_step A a.name) e
         possibly true h e = e ∙ nowhere (has_step A a.name) (leads-nowhere a new.0 h)

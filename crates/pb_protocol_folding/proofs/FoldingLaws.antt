@@ -192,7 +192,8 @@ module _ (spec : Spec) (a : Assignment) (hides : HidesNoEnumerator spec a) where
   application-value f (Terms.Then x (Terms.Then y (Terms.Then z (Terms.Then w xs)))) = refl
 
   -- of `if` only the truth of the first argument counts
-  if-values : (f : Name) (v w : Value) (vs : List Value) (g : Option NamedFunction) → named_function f ≡ g → is_if g ≡ true → is_true v ≡ is_true w → function_value spec f (v ∷ vs) ≡ function_value spec f (w ∷ vs)
+  if-values : (f : Name) (v w : Value) (vs : List Value) (g : Option NamedFunction) → named_function f ≡ g
+      → is_if g ≡ true → is_true v ≡ is_true w → function_value spec f (v ∷ vs) ≡ function_value spec f (w ∷ vs)
   if-values f v w [] (Some named.If) e t h = ap (λ g. meaning.function_of_one spec f g v) e ∙ sym (ap (λ g. meaning.function_of_one spec f g w) e)
   if-values f v w (x ∷ []) (Some named.If) e t h = ap (λ g. meaning.function_of_two g v x) e ∙ sym (ap (λ g. meaning.function_of_two g w x) e)
   if-values f v w (x ∷ y ∷ []) (Some named.If) e t h =

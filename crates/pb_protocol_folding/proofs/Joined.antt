@@ -88,8 +88,10 @@ counts-mapped f truth (x ∷ xs) = refl
 
 -- ---- as the code meets them
 
-pub step-joined : (q : Quantifier) (truth : Bool) (xs ys : List declared_term.Term) (x t u : declared_term.Term) (c : Connective) (counts : Bool) → xs ≡ ys ++ (x ∷ []) → c ≡ joining q → counts ≡ truth_counts truth ys →
-    term_of u ≡ folded_connective c counts (term_of x) (term_of t) → (whole : Term) → behind (joining q) truth (map term_of xs) (term_of t) ≡ whole → behind (joining q) truth (map term_of ys) (term_of u) ≡ whole
+pub step-joined : (q : Quantifier) (truth : Bool) (xs ys : List declared_term.Term) (x t u : declared_term.Term)
+    (c : Connective) (counts : Bool) → xs ≡ ys ++ (x ∷ []) → c ≡ joining q → counts ≡ truth_counts truth ys →
+    term_of u ≡ folded_connective c counts (term_of x) (term_of t) → (whole : Term)
+    → behind (joining q) truth (map term_of xs) (term_of t) ≡ whole → behind (joining q) truth (map term_of ys) (term_of u) ≡ whole
 step-joined q truth xs ys x t u c counts split same true-counts said whole before =
     ap (behind (joining q) truth (map term_of ys)) said
     ∙ (ap (λ d. behind (joining q) truth (map term_of ys) (folded_connective d counts (term_of x) (term_of t))) same

@@ -42,12 +42,16 @@ no-links f h (l ∷ ls) e = absurd (omega arith)
 
 -- ---- chains of a connective
 
-pub chain-alone : (k : Connective) (first : Box Term Global) (v : Vec TermLink Global) (x y : Term) (b : Bool) → x ≡ term.Chain k first v → b ≡ (vec_len v == 0) → b ≡ true → y ≡ box_value first → term_of y ≡ term_of x
+pub chain-alone : (k : Connective) (first : Box Term Global) (v : Vec TermLink Global) (x y : Term) (b : Bool)
+    → x ≡ term.Chain k first v → b ≡ (vec_len v == 0) → b ≡ true → y ≡ box_value first → term_of y ≡ term_of x
 chain-alone k first v x y b is e h at =
     ap term_of at
-    ∙ sym (ap term_of is ∙ ap erased_term (term-chain k first v) ∙ ap (λ ls. erased_term (chained (TermForm.connected k) (term_form (box_value first)) ls)) (no-links term_links refl v.items (none-there v b e h)))
+    ∙ sym (ap term_of is ∙ ap erased_term (term-chain k first v)
+    ∙ ap (λ ls. erased_term (chained (TermForm.connected k) (term_form (box_value first)) ls))
+    (no-links term_links refl v.items (none-there v b e h)))
 
-connected-links : {A : Type 0} (g : syntax.Term → A) (a : A) (k : Connective) → ((l r : syntax.Term) → g (syntax.Term.Binary (of_connective k) l r) ≡ a) → (x : TermForm) (ls : List TermLink) → (length ls ≡ 0 → ⊥) →
+connected-links : {A : Type 0} (g : syntax.Term → A) (a : A) (k : Connective)
+    → ((l r : syntax.Term) → g (syntax.Term.Binary (of_connective k) l r) ≡ a) → (x : TermForm) (ls : List TermLink) → (length ls ≡ 0 → ⊥) →
     g (erased_term (chained (TermForm.connected k) x (term_links ls))) ≡ a
 connected-links g a k h x [] some = absurd (some refl)
 connected-links g a k h x (l ∷ ls) some = h (erased_term x) (erased_term (chained (TermForm.connected k) (term_form l.operand) (term_links ls)))
@@ -60,20 +64,29 @@ chain-many g a k h first v x b is e f =
 
 -- ---- chains of arithmetic
 
-pub arithmetic-alone : (first : Box Term Global) (v : Vec ArithmeticLink Global) (x y : Term) (b : Bool) → x ≡ term.Arithmetic first v → b ≡ (vec_len v == 0) → b ≡ true → y ≡ box_value first → term_of y ≡ term_of x
+pub arithmetic-alone : (first : Box Term Global) (v : Vec ArithmeticLink Global) (x y : Term) (b : Bool)
+    → x ≡ term.Arithmetic first v → b ≡ (vec_len v == 0) → b ≡ true → y ≡ box_value first → term_of y ≡ term_of x
 arithmetic-alone first v x y b is e h at =
     ap term_of at
-    ∙ sym (ap term_of is ∙ ap erased_term (term-arithmetic first v) ∙ ap (λ ls. erased_term (calculated (term_form (box_value first)) ls)) (no-links arithmetic_links refl v.items (none-there v b e h)))
+    ∙ sym (ap term_of is ∙ ap erased_term (term-arithmetic first v)
+    ∙ ap (λ ls. erased_term (calculated (term_form (box_value first)) ls))
+    (no-links arithmetic_links refl v.items (none-there v b e h)))
 
-calculated-links : {A : Type 0} (g : syntax.Term → A) (a : A) → ((o : Arithmetic) (l r : syntax.Term) → g (syntax.Term.Binary (of_arithmetic o) l r) ≡ a) → (x : TermForm) (ls : List (Arithmetic × Place × TermForm)) → g (erased_term x) ≡ a →
+calculated-links : {A : Type 0} (g : syntax.Term → A) (a : A)
+    → ((o : Arithmetic) (l r : syntax.Term) → g (syntax.Term.Binary (of_arithmetic o) l r) ≡ a)
+    → (x : TermForm) (ls : List (Arithmetic × Place × TermForm)) → g (erased_term x) ≡ a →
     g (erased_term (calculated x ls)) ≡ a
 calculated-links g a h x [] e = e
 calculated-links g a h x ((o, p, y) ∷ ls) e = calculated-links g a h (TermForm.computed o p x y) ls (h o (erased_term x) (erased_term y))
 
-operated-links : {A : Type 0} (g : syntax.Term → A) (a : A) → ((o : Arithmetic) (l r : syntax.Term) → g (syntax.Term.Binary (of_arithmetic o) l r) ≡ a) → (x : TermForm) (ls : List ArithmeticLink) → (length ls ≡ 0 → ⊥) →
+operated-links : {A : Type 0} (g : syntax.Term → A) (a : A)
+    → ((o : Arithmetic) (l r : syntax.Term) → g (syntax.Term.Binary (of_arithmetic o) l r) ≡ a)
+    → (x : TermForm) (ls : List ArithmeticLink) → (length ls ≡ 0 → ⊥) →
     g (erased_term (calculated x (arithmetic_links ls))) ≡ a
 operated-links g a h x [] some = absurd (some refl)
-operated-links g a h x (l ∷ ls) some = calculated-links g a h (TermForm.computed l.operator l.place x (term_form l.operand)) (arithmetic_links ls) (h l.operator (erased_term x) (erased_term (term_form l.operand)))
+operated-links g a h x (l ∷ ls) some =
+    calculated-links g a h (TermForm.computed l.operator l.place x (term_form l.operand)) (arithmetic_links ls)
+    (h l.operator (erased_term x) (erased_term (term_form l.operand)))
 
 pub arithmetic-many : {A : Type 0} (g : syntax.Term → A) (a : A) → ((o : Arithmetic) (l r : syntax.Term) → g (syntax.Term.Binary (of_arithmetic o) l r) ≡ a) →
     (first : Box Term Global) (v : Vec ArithmeticLink Global) (x : Term) (b : Bool) → x ≡ term.Arithmetic first v → b ≡ (vec_len v == 0) → b ≡ false → a ≡ g (term_of x)
@@ -82,10 +95,13 @@ arithmetic-many g a h first v x b is e f =
 
 -- ---- chains of formulas and unions of sets
 
-pub formula-alone : (k : Connective) (first : Box Formula Global) (v : Vec Link Global) (x y : Formula) (b : Bool) → x ≡ formula.Chain k first v → b ≡ (vec_len v == 0) → b ≡ true → y ≡ box_value first → formula_of y ≡ formula_of x
+pub formula-alone : (k : Connective) (first : Box Formula Global) (v : Vec Link Global) (x y : Formula) (b : Bool)
+    → x ≡ formula.Chain k first v → b ≡ (vec_len v == 0) → b ≡ true → y ≡ box_value first → formula_of y ≡ formula_of x
 formula-alone k first v x y b is e h at =
     ap formula_of at
-    ∙ sym (ap formula_of is ∙ ap erased_formula (formula-chain k first v) ∙ ap (λ ls. erased_formula (chained (FormulaForm.connected k) (formula_form (box_value first)) ls)) (no-links link_forms refl v.items (none-there v b e h)))
+    ∙ sym (ap formula_of is ∙ ap erased_formula (formula-chain k first v)
+    ∙ ap (λ ls. erased_formula (chained (FormulaForm.connected k) (formula_form (box_value first)) ls))
+    (no-links link_forms refl v.items (none-there v b e h)))
 
 formula-links : {A : Type 0} (g : model.Formula → A) (a : A) (k : Connective) → ((l r : model.Formula) → g (joined k l r) ≡ a) → (x : FormulaForm) (ls : List Link) → (length ls ≡ 0 → ⊥) →
     g (erased_formula (chained (FormulaForm.connected k) x (link_forms ls))) ≡ a
@@ -97,10 +113,13 @@ pub formula-many : {A : Type 0} (g : model.Formula → A) (a : A) (k : Connectiv
 formula-many g a k h first v x b is e f =
     sym (ap (λ y. g (formula_of y)) is ∙ ap (λ y. g (erased_formula y)) (formula-chain k first v) ∙ formula-links g a k h (formula_form (box_value first)) v.items (some-there v b e f))
 
-pub set-alone : (first : Box StepSet Global) (v : Vec StepSetLink Global) (x y : StepSet) (b : Bool) → x ≡ step_set.Union first v → b ≡ (vec_len v == 0) → b ≡ true → y ≡ box_value first → set_of y ≡ set_of x
+pub set-alone : (first : Box StepSet Global) (v : Vec StepSetLink Global) (x y : StepSet) (b : Bool)
+    → x ≡ step_set.Union first v → b ≡ (vec_len v == 0) → b ≡ true → y ≡ box_value first → set_of y ≡ set_of x
 set-alone first v x y b is e h at =
     ap set_of at
-    ∙ sym (ap set_of is ∙ ap erased_steps (set-union first v) ∙ ap (λ ls. erased_steps (chained StepSetForm.union (step_set_form (box_value first)) ls)) (no-links set_links refl v.items (none-there v b e h)))
+    ∙ sym (ap set_of is ∙ ap erased_steps (set-union first v)
+    ∙ ap (λ ls. erased_steps (chained StepSetForm.union (step_set_form (box_value first)) ls))
+    (no-links set_links refl v.items (none-there v b e h)))
 
 union-links : {A : Type 0} (g : model.StepSet → A) (a : A) → ((l r : model.StepSet) → g (model.StepSet.Union l r) ≡ a) → (x : StepSetForm) (ls : List StepSetLink) → (length ls ≡ 0 → ⊥) →
     g (erased_steps (chained StepSetForm.union x (set_links ls))) ≡ a

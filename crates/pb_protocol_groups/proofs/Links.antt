@@ -33,7 +33,10 @@ kind-link model k s n j e h =
     ∙ sym (h (kind_within j m))
 
 pub carrier-link : (model : tree.Model) (k : Link) (s : Name) (n j : ℕ) → n ≡ suc j
-    → ((target : Name → Carrier) → carrier_behind k target ≡ carrier_by (range_of (ranges_in model.ranges.items) s) (same_name s (codes "Bool")) (declared (declarations_in model.sorts.items) s) target)
+    → ((target : Name → Carrier)
+    → carrier_behind k target
+    ≡ carrier_by (range_of (ranges_in model.ranges.items) s) (same_name s (codes "Bool"))
+    (declared (declarations_in model.sorts.items) s) target)
     → carrier_within n (data_of (model_of model)) s ≡ carrier_behind k (carrier_within j (data_of (model_of model)))
 carrier-link model k s n j e h =
     let m = model_of model in

@@ -79,7 +79,8 @@ refused-at m xs k i x made n next less is h many =
     ∙ ap (λ (j : ℕ). are_few (members_for m (x ∷ drop j xs))) next
     ∙ ap (λ (q : ℕ). is_few ((as_member m x).size * q)) (sym h.counted) ∙ many)
 
-pub next-member : (m : Model) (xs : List StateVariable) (k i : ℕ) (x : StateVariable) → k + 1 ≡ i → k < length xs → x ≡ get_or xs k x → as_member m x ∷ members_for m (drop i xs) ≡ members_for m (drop k xs)
+pub next-member : (m : Model) (xs : List StateVariable) (k i : ℕ) (x : StateVariable) → k + 1 ≡ i → k < length xs
+    → x ≡ get_or xs k x → as_member m x ∷ members_for m (drop i xs) ≡ members_for m (drop k xs)
 next-member m xs k i x next less is =
     sym (at_drop_more (λ (ys : List StateVariable). members_for m ys) xs k x less
     ∙ ap (λ (y : StateVariable). members_for m (y ∷ drop (k + 1) xs)) (sym is)

@@ -42,8 +42,11 @@ unseen : (x : Name) (before : List Name) (xs : List Named) → is_among before x
 unseen x before [] among e = tt
 unseen x before (y ∷ ys) among e =
     let new = unless (not (is_among before y.text)) NameTwice y.place in
-    let parts = no_parts new (repeated_after (y.text ∷ before) ys) e in
-    (other x y.text before among (holds_unless (not (is_among before y.text)) NameTwice y.place parts.0), unseen x (y.text ∷ before) ys (or_true (same_name y.text x) (is_among before x) among) parts.1)
+    let parts = no_parts new (repeated_after (y.text ∷ before) ys) e in (
+      other x y.text before among (holds_unless (not (is_among before y.text)) NameTwice y.place parts.0),
+      unseen x
+          (y.text ∷ before) ys (or_true (same_name y.text x) (is_among before x) among) parts.1,
+    )
 
 distinct-after : (before : List Name) (xs : List Named) → repeated_after before xs ≡ [] → AreDistinct (texts xs)
 distinct-after before [] e = tt

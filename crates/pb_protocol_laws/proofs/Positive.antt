@@ -76,7 +76,8 @@ positive-formula steps s even (FormulaForm.fixpoint sign p x f) e =
 positive-formula steps s even (FormulaForm.quantified q p xs f) e =
     positive-formula steps (inside (variables xs) s) even f (no_either (variables_fault s xs) (formula_fault steps (inside (variables xs) s) even f) e).1
 
-positive-each : (steps : StepShapes) (s : Scope) (ps : List PropertyForm) → first_fault (property_fault steps s) ps ≡ None → All (λ (p : Property). HasPositiveCalls true p.formula) (map erased_property ps)
+positive-each : (steps : StepShapes) (s : Scope) (ps : List PropertyForm)
+    → first_fault (property_fault steps s) ps ≡ None → All (λ (p : Property). HasPositiveCalls true p.formula) (map erased_property ps)
 positive-each steps s [] e k d below = absurd (omega arith)
 positive-each steps s (p ∷ ps) e zero d below = positive-formula steps s true p.formula (no_either (property_fault steps s p) (first_fault (property_fault steps s) ps) e).0
 positive-each steps s (p ∷ ps) e (suc k) d below = positive-each steps s ps (no_either (property_fault steps s p) (first_fault (property_fault steps s) ps) e).1 k d (omega arith)

@@ -22,12 +22,14 @@ abbrev row_in : Formula → (n : Count) × Row_of-Link n
 row_in (formula.Chain' c p first shape row) = (_, row)
 row_in _ = (_, end_of-Link)
 
-pub chain-form : (c : Connective) (first : Box Formula Global) (v : Vec Link Global) → formula_form (formula.Chain c first v) ≡ chained (FormulaForm.connected c) (formula_form (box_value first)) (map link_form v.items)
+pub chain-form : (c : Connective) (first : Box Formula Global) (v : Vec Link Global)
+    → formula_form (formula.Chain c first v) ≡ chained (FormulaForm.connected c) (formula_form (box_value first)) (map link_form v.items)
 chain-form c first v =
     let row = row_in (formula.Chain c first v) in
     ap (chained (FormulaForm.connected c) (formula_form (box_value first))) (links-items row.0 row.1 ∙ ap (map link_form) (items_hidden-the_row-Link-0 v))
 
-negated-chained : (c : Connective) (f : FormulaForm) (ls : List (Place × FormulaForm)) → negated (chained (FormulaForm.connected c) f ls) ≡ chained (negated_connection c) (negated f) (map negated_link ls)
+negated-chained : (c : Connective) (f : FormulaForm) (ls : List (Place × FormulaForm))
+    → negated (chained (FormulaForm.connected c) f ls) ≡ chained (negated_connection c) (negated f) (map negated_link ls)
 negated-chained c f [] = refl
 negated-chained c f (l ∷ ls) = ap (negated_connection c l.0 (negated f)) (negated-chained c l.1 ls)
 
@@ -44,11 +46,21 @@ same-joined : (j k : Place → FormulaForm → FormulaForm → FormulaForm) → 
 same-joined j k same f [] = refl
 same-joined j k same f (l ∷ ls) = same l.0 f (chained j l.1 ls) ∙ ap (k l.0 f) (same-joined j k same l.1 ls)
 
-pub chain-and : (x : Box Formula Global) (v : Vec Link Global) → formula_form (formula.Chain connective.Or x v) ≡ chained (negated_connection connective.And) (formula_form (box_value x)) (map link_form v.items)
-chain-and x v = chain-form connective.Or x v ∙ same-joined (FormulaForm.connected connective.Or) (negated_connection connective.And) (λ p f g. refl) (formula_form (box_value x)) (map link_form v.items)
+pub chain-and : (x : Box Formula Global) (v : Vec Link Global)
+    → formula_form (formula.Chain connective.Or x v)
+    ≡ chained (negated_connection connective.And) (formula_form (box_value x)) (map link_form v.items)
+chain-and x v =
+    chain-form connective.Or x v
+    ∙ same-joined (FormulaForm.connected connective.Or) (negated_connection connective.And) (λ p f g. refl)
+    (formula_form (box_value x)) (map link_form v.items)
 
-pub chain-or : (x : Box Formula Global) (v : Vec Link Global) → formula_form (formula.Chain connective.And x v) ≡ chained (negated_connection connective.Or) (formula_form (box_value x)) (map link_form v.items)
-chain-or x v = chain-form connective.And x v ∙ same-joined (FormulaForm.connected connective.And) (negated_connection connective.Or) (λ p f g. refl) (formula_form (box_value x)) (map link_form v.items)
+pub chain-or : (x : Box Formula Global) (v : Vec Link Global)
+    → formula_form (formula.Chain connective.And x v)
+    ≡ chained (negated_connection connective.Or) (formula_form (box_value x)) (map link_form v.items)
+chain-or x v =
+    chain-form connective.And x v
+    ∙ same-joined (FormulaForm.connected connective.And) (negated_connection connective.Or) (λ p f g. refl)
+    (formula_form (box_value x)) (map link_form v.items)
 
 -- ---- implications
 
@@ -82,7 +94,8 @@ begun-next f xs ys l n implication done pushed whole popped push place operand e
     ∙ ap (λ (ks : List Link). begun f (map link_form ks) implication (map link_form (reverse done))) (sym popped) ∙ e
 
 -- where no link is left the chain is whole
-pub begun-all : (f : FormulaForm) (x : Box Formula Global) (v : Vec Link Global) (ys : List Link) (implication : Option Place) (done : List Link) (whole : FormulaForm) → ys ≡ [] → v.items ≡ reverse done →
+pub begun-all : (f : FormulaForm) (x : Box Formula Global) (v : Vec Link Global) (ys : List Link)
+    (implication : Option Place) (done : List Link) (whole : FormulaForm) → ys ≡ [] → v.items ≡ reverse done →
     formula_form (box_value x) ≡ antecedent implication f → begun f (map link_form ys) implication (map link_form (reverse done)) ≡ whole → formula_form (formula.Chain connective.And x v) ≡ whole
 begun-all f x v ys implication done whole none reversed first e =
     chain-form connective.And x v ∙ ap (λ g. chained (FormulaForm.connected connective.And) g (map link_form v.items)) first

@@ -131,9 +131,11 @@ module _ (m : Protocol) (S : States) (invariant : IsInvariant m S) where
   contrary (Formula.Named X) bound p V W h c s e = h X p s e
   contrary (Formula.Not f) bound p V W h c s e = ap not (contrary f bound p V W h c s e)
   contrary (Formula.And f g) bound p V W h c s e =
-      contrary-and (satisfying m V c f s) (satisfying m V c g s) (satisfying m W c (negation f) s) (satisfying m W c (negation g) s) (contrary f bound p.0 V W h c s e) (contrary g bound p.1 V W h c s e)
+      contrary-and (satisfying m V c f s) (satisfying m V c g s) (satisfying m W c (negation f) s)
+      (satisfying m W c (negation g) s) (contrary f bound p.0 V W h c s e) (contrary g bound p.1 V W h c s e)
   contrary (Formula.Or f g) bound p V W h c s e =
-      contrary-or (satisfying m V c f s) (satisfying m V c g s) (satisfying m W c (negation f) s) (satisfying m W c (negation g) s) (contrary f bound p.0 V W h c s e) (contrary g bound p.1 V W h c s e)
+      contrary-or (satisfying m V c f s) (satisfying m V c g s) (satisfying m W c (negation f) s)
+      (satisfying m W c (negation g) s) (contrary f bound p.0 V W h c s e) (contrary g bound p.1 V W h c s e)
   contrary (Formula.Implies f g) bound p V W h c s e =
       contrary-or (not (satisfying m V c f s)) (satisfying m V c g s) (not (satisfying m W c (negation f) s)) (satisfying m W c (negation g) s)
       (ap not (contrary f bound p.0 V W h c s e)) (contrary g bound p.1 V W h c s e)

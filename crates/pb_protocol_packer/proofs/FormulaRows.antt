@@ -27,7 +27,8 @@ abbrev row_in : tree.Formula → (n : Count) × Row_of-Link n
 row_in (tree.Chain' c p first shape row) = (_, row)
 row_in _ = (_, end_of-Link)
 
-chain-form : (c : Connective) (first : Box tree.Formula Global) (v : Vec Link Global) → formula_form (tree.Chain c first v) ≡ chained (FormulaForm.connected c) (formula_form (box_value first)) (map link_form v.items)
+chain-form : (c : Connective) (first : Box tree.Formula Global) (v : Vec Link Global)
+    → formula_form (tree.Chain c first v) ≡ chained (FormulaForm.connected c) (formula_form (box_value first)) (map link_form v.items)
 chain-form c first v =
     let row = row_in (tree.Chain c first v) in
     ap (chained (FormulaForm.connected c) (formula_form (box_value first))) (links-items row.0 row.1 ∙ ap (map link_form) (items_hidden-the_row-Link-0 v))
@@ -44,11 +45,14 @@ erased-chained c x (l ∷ ls) = ap (joined c (erased_formula x)) (erased-chained
 chain-says : (c : Connective) (first : Box tree.Formula Global) (v : Vec Link Global) → formula_of (tree.Chain c first v) ≡ all_joined c (formula_of (box_value first)) (operands_of v.items)
 chain-says c first v = ap erased_formula (chain-form c first v) ∙ erased-chained c (formula_form (box_value first)) v.items
 
-bare-chained : (c : Connective) (x : FormulaForm) (ls : List Link) → without_data (chained (FormulaForm.connected c) x (map link_form ls)) ≡ chained (FormulaForm.connected c) (without_data x) (link_shapes ls)
+bare-chained : (c : Connective) (x : FormulaForm) (ls : List Link)
+    → without_data (chained (FormulaForm.connected c) x (map link_form ls))
+    ≡ chained (FormulaForm.connected c) (without_data x) (link_shapes ls)
 bare-chained c x [] = refl
 bare-chained c x (l ∷ ls) = ap (FormulaForm.connected c l.place (without_data x)) (bare-chained c (formula_form l.operand) ls)
 
-chain-shape : (c : Connective) (first : Box tree.Formula Global) (v : Vec Link Global) → shape_of (tree.Chain c first v) ≡ chained (FormulaForm.connected c) (shape_of (box_value first)) (link_shapes v.items)
+chain-shape : (c : Connective) (first : Box tree.Formula Global) (v : Vec Link Global)
+    → shape_of (tree.Chain c first v) ≡ chained (FormulaForm.connected c) (shape_of (box_value first)) (link_shapes v.items)
 chain-shape c first v = ap without_data (chain-form c first v) ∙ bare-chained c (formula_form (box_value first)) v.items
 
 -- as the code meets it

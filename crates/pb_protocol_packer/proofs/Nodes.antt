@@ -48,7 +48,8 @@ at-arithmetic x p v ls t is at same =
     ap term_of is ∙ arithmetic-says p v ∙ ap (λ (y : tree.Term). calculated_terms (term_of y) (operations_of v.items)) (sym at)
     ∙ ap (λ (ms : List ArithmeticLink). calculated_terms (term_of x) (operations_of ms)) (sym same)
 
-pub at-application : (f : declared_name.Name) (v : Vec Argument Global) (xs : List Argument) (t : tree.Term) → t ≡ tree.Application f v → xs ≡ v.items → term_of t ≡ Term.Apply (text_of f) (terms_of xs)
+pub at-application : (f : declared_name.Name) (v : Vec Argument Global) (xs : List Argument) (t : tree.Term)
+    → t ≡ tree.Application f v → xs ≡ v.items → term_of t ≡ Term.Apply (text_of f) (terms_of xs)
 at-application f v xs t is same = ap term_of is ∙ application-says f v ∙ ap (λ (ys : List Argument). Term.Apply (text_of f) (terms_of ys)) (sym same)
 
 -- one more operand of arithmetic

@@ -120,7 +120,9 @@ place-choice es f (a ∷ b ∷ d ∷ []) h three =
 place-choice es f (a ∷ b ∷ d ∷ e ∷ xs) h three = absurd (omega (arith, three))
 
 -- and otherwise it is found by tests
-pub place-no-choice : (es : List Name) (f : Name) (xs : List Argument) → (same_name f (codes "if") ≡ false) ⊎ (length xs ≡ 3 → ⊥) → place_of 0 es (Term.Apply f (terms_of xs)) ≡ place_number es (Term.Apply f (terms_of xs))
+pub place-no-choice : (es : List Name) (f : Name) (xs : List Argument)
+    → (same_name f (codes "if") ≡ false) ⊎ (length xs ≡ 3 → ⊥)
+    → place_of 0 es (Term.Apply f (terms_of xs)) ≡ place_number es (Term.Apply f (terms_of xs))
 place-no-choice es f [] h = refl
 place-no-choice es f (a ∷ []) h = refl
 place-no-choice es f (a ∷ b ∷ []) h = refl

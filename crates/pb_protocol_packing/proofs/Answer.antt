@@ -72,7 +72,8 @@ given-apart all (y ∷ xs) Terms.NoTerms e x t h = none-is t h
 given-apart all (y ∷ xs) (Terms.Then u ts) e x t h =
     let parts = and_parts (is_apart all u) (all_apart all ts) e in by (given-apart all xs ts parts.1 x t) parts.0 (same_name y.name x) h
   where
-    by : (assigned_term (initial_assignments xs ts) x ≡ Some t → is_apart all t ≡ true) → is_apart all u ≡ true → (c : Bool) → (if c then Some u else assigned_term (initial_assignments xs ts) x) ≡ Some t → is_apart all t ≡ true
+    by : (assigned_term (initial_assignments xs ts) x ≡ Some t → is_apart all t ≡ true) → is_apart all u ≡ true
+        → (c : Bool) → (if c then Some u else assigned_term (initial_assignments xs ts) x) ≡ Some t → is_apart all t ≡ true
     by next here true h = subst (λ (w : Term). is_apart all w ≡ true) (some-is u t h) here
     by next here false h = next h
 
@@ -120,7 +121,9 @@ module _ (m : Model) (all : List Group) (packing : IsPacking m all) where
   data-same : DataIsSame m n (unpacked all) all
   data-same x t apart e =
       let b = assigned (map variable_of all) t [] in
-      ap is_true (value-said m all (Fixed all b) (sorts-same m all packing) (fixed-stays all b) x (with_groups all []) (assigned m.variables (unpacked all t) []) b apart (sees m all packing t e) (λ r h. refl))
+      ap is_true
+      (value-said m all (Fixed all b) (sorts-same m all packing) (fixed-stays all b) x (with_groups all [])
+      (assigned m.variables (unpacked all t) []) b apart (sees m all packing t e) (λ r h. refl))
 
   count : state_count n ≡ state_count m
   count = count-same m all (sorts-same m all packing) all (packed-sorts m all packing) packing.places ∙ ap (λ (xs : List Variable). tuple_count (carriers_of D xs)) (sym packing.variables)

@@ -85,7 +85,8 @@ module _ (N : Spec) (b : Assignment) (new : Name → Option Term) where
       by same true = same
       by same false = refl
 
-  test-place : (p : Member) (o : Option Term) (q : ℕ) → KindAt N b p.kind p.low p.size → q < p.size → holds (tests_of o p) ≡ contains (numbers_from p.low p.size) (value_after (value N b) o (p.low +ℤ pos q))
+  test-place : (p : Member) (o : Option Term) (q : ℕ) → KindAt N b p.kind p.low p.size → q < p.size
+      → holds (tests_of o p) ≡ contains (numbers_from p.low p.size) (value_after (value N b) o (p.low +ℤ pos q))
   test-place p None q kind below = sym (contains-at p.low p.size q below)
   test-place p (Some x) q kind below = by (is_surely_within p.kind p.low p.size x) refl
     where
@@ -99,7 +100,8 @@ module _ (N : Spec) (b : Assignment) (new : Name → Option Term) where
       let q = k / capacity ps in
       holds-append (tests_of (new p.variable.name) p) (all_tests new ps)
       ∙ (ap (λ c. c && holds (all_tests new ps)) (test-place p (new p.variable.name) q kinds.0 (quotient-below k p.size (capacity ps) below))
-      ∙ ap (λ c. contains (numbers_from p.low p.size) (value_after (value N b) (new p.variable.name) (p.low +ℤ pos q)) && c) (all-tests ps (k % capacity ps) (rest-below k p.size (capacity ps) below) kinds.1))
+      ∙ ap (λ c. contains (numbers_from p.low p.size) (value_after (value N b) (new p.variable.name) (p.low +ℤ pos q))
+      && c) (all-tests ps (k % capacity ps) (rest-below k p.size (capacity ps) below) kinds.1))
 
   -- ---- the group
 
@@ -138,7 +140,8 @@ module _ (N : Spec) (b : Assignment) (new : Name → Option Term) where
       SaysAfter ps k (value_after (value N b) (group_term new (Joined x ps)) (pos k))
   says-after x ps k kinds h below = by (list_any (λ (p : Member). is_some (new p.variable.name)) ps) refl
     where
-      by : (c : Bool) → list_any (λ (p : Member). is_some (new p.variable.name)) ps ≡ c → SaysAfter ps k (value_after (value N b) (if c then Some (joined_term new (Term.Named x.name) ps) else None) (pos k))
+      by : (c : Bool) → list_any (λ (p : Member). is_some (new p.variable.name)) ps ≡ c
+          → SaysAfter ps k (value_after (value N b) (if c then Some (joined_term new (Term.Named x.name) ps) else None) (pos k))
       by true e = touched ps (Term.Named x.name) k kinds h below
       by false e =
           let same = after-none ps k e in

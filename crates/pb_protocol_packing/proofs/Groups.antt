@@ -120,7 +120,8 @@ each-variables : (P : Variable → Type 0) (c d : List Member) → Each P (varia
 each-variables P [] d h = h
 each-variables P (p ∷ c) d h = each-variables P c d h.1
 
-pub is-new : (taken : List Name) (cs : List (List Member)) (y : Name) → IsNew y (variables_of (flat cs)) → is_among (new_names (named_groups taken cs)) y ≡ false → IsNew y (map variable_of (named_groups taken cs))
+pub is-new : (taken : List Name) (cs : List (List Member)) (y : Name) → IsNew y (variables_of (flat cs))
+    → is_among (new_names (named_groups taken cs)) y ≡ false → IsNew y (map variable_of (named_groups taken cs))
 is-new taken [] y new e = tt
 is-new taken ([] ∷ cs) y new e = is-new taken cs y new e
 is-new taken ((p ∷ []) ∷ cs) y new e = (new.0, is-new taken cs y new.1 e)
@@ -147,7 +148,9 @@ after-apart taken ((p ∷ []) ∷ cs) apart h = (is-new taken cs p.variable.name
 after-apart taken ((p ∷ r ∷ ps) ∷ cs) apart h =
     let x = unused_name taken (p.variable.name ++ codes "'") in
     let others = each-variables (λ (z : Variable). is_among taken z.name ≡ true) (p ∷ r ∷ ps) (flat cs) h in (
-      is-new (x ∷ taken) cs x (untaken-new taken x (variables_of (flat cs)) (new-untaken taken (p.variable.name ++ codes "'")) others) (new-apart (x ∷ taken) cs x (ap (λ b. b || is_among taken x) (same-itself x))),
+      is-new (x ∷ taken) cs x
+          (untaken-new taken x (variables_of (flat cs)) (new-untaken taken (p.variable.name ++ codes "'")) others)
+          (new-apart (x ∷ taken) cs x (ap (λ b. b || is_among taken x) (same-itself x))),
       after-apart (x ∷ taken) cs (apart-rest (p ∷ r ∷ ps) (flat cs) apart) (taken-more taken x (variables_of (flat cs)) others),
     )
 

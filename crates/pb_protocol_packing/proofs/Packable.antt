@@ -94,7 +94,8 @@ module _ (gs : List Group) where
       (term-apart a.guard (each-front IsOld (term_names a.guard) _ names) (each-front HidesNone (bound_in a.guard) _ bound)))
       (assigned-apart a.assignments (each-rest IsOld (term_names a.guard) _ names) (each-rest HidesNone (bound_in a.guard) _ bound))
 
-  steps-apart : (steps : List Step) → Each (λ (a : Step). Each IsOld (step_names a)) steps → Each (λ (a : Step). Each HidesNone (bound_in_step a)) steps → Each (λ (a : Step). is_apart_step gs a ≡ true) steps
+  steps-apart : (steps : List Step) → Each (λ (a : Step). Each IsOld (step_names a)) steps
+      → Each (λ (a : Step). Each HidesNone (bound_in_step a)) steps → Each (λ (a : Step). is_apart_step gs a ≡ true) steps
   steps-apart [] old hides = tt
   steps-apart (a ∷ steps) old hides = (step-apart a old.0 hides.0, steps-apart steps old.1 hides.1)
 
@@ -156,9 +157,13 @@ module _ (m : Model) (able : IsPackable m) where
       let new = new-apart (names_in m) chunks y among in (new, ap (λ (xs : List Name). is_among xs y) (sorts-are-names (names_in m) chunks) ∙ new)) (each-among (names_in m))
 
   used : Each (λ (e : Name). is_among (all_enumerators m) e ≡ true) (used_enumerators gs)
-  used = flat (all_members gs) (in-groups (λ (p : Member). Each (λ (e : Name). is_among (all_enumerators m) e ≡ true) (enumerators_of p.kind)) (each-map _ (member_for m) m.variables (place-enumerators m able.enumerators)))
+  used = flat (all_members gs)
+      (in-groups (λ (p : Member). Each (λ (e : Name). is_among (all_enumerators m) e ≡ true) (enumerators_of p.kind))
+      (each-map _ (member_for m) m.variables (place-enumerators m able.enumerators)))
     where
-      flat : (ps : List Member) → Each (λ (p : Member). Each (λ (e : Name). is_among (all_enumerators m) e ≡ true) (enumerators_of p.kind)) ps → Each (λ (e : Name). is_among (all_enumerators m) e ≡ true) (flat_map (λ (p : Member). enumerators_of p.kind) ps)
+      flat : (ps : List Member)
+          → Each (λ (p : Member). Each (λ (e : Name). is_among (all_enumerators m) e ≡ true) (enumerators_of p.kind)) ps
+          → Each (λ (e : Name). is_among (all_enumerators m) e ≡ true) (flat_map (λ (p : Member). enumerators_of p.kind) ps)
       flat [] h = tt
       flat (p ∷ ps) h = each-join _ (enumerators_of p.kind) _ h.0 (flat ps h.1)
 
@@ -192,7 +197,11 @@ module _ (m : Model) (able : IsPackable m) where
   taken-variables = variables-among m.variables (λ y. is_among (names_in m) y ≡ true) (each-front _ (variable_names m.variables) _ (each-among (names_in m)))
 
   enumerators-new : Each (λ (e : Name). IsNew e (map variable_of gs)) (used_enumerators gs)
-  enumerators-new = each-same _ _ (used_enumerators gs) (λ e among. is-new (names_in m) chunks e (subst (λ (xs : List Variable). IsNew e xs) (sym variables-cut) (apart m.variables e among (each-front _ m.variables _ able.variables))) (new e among)) used
+  enumerators-new =
+      each-same _ _ (used_enumerators gs)
+      (λ e among. is-new (names_in m) chunks e
+      (subst (λ (xs : List Variable). IsNew e xs) (sym variables-cut)
+      (apart m.variables e among (each-front _ m.variables _ able.variables))) (new e among)) used
     where
       apart : (xs : List Variable) (e : Name) → is_among (all_enumerators m) e ≡ true → Each (λ (x : Variable). is_among (all_enumerators m) x.name ≡ false) xs → IsNew e xs
       apart [] e among h = tt
@@ -207,37 +216,62 @@ module _ (m : Model) (able : IsPackable m) where
         where
           enumerators-old : (ds : List SortDeclaration) → Each (IsOld gs) (flat_map sort_names ds) → Each (IsOld gs) (flat_map (λ (d : SortDeclaration). enumerators_in d.sort) ds)
           enumerators-old [] h = tt
-          enumerators-old (d ∷ ds) h = each-join (IsOld gs) (enumerators_in d.sort) _ (each-front (IsOld gs) (enumerators_in d.sort) (targets_in d.sort) (each-front (IsOld gs) (sort_names d) _ h).1) (enumerators-old ds (each-rest (IsOld gs) (sort_names d) _ h))
+          enumerators-old (d ∷ ds) h =
+              each-join (IsOld gs) (enumerators_in d.sort) _
+              (each-front (IsOld gs) (enumerators_in d.sort) (targets_in d.sort)
+              (each-front (IsOld gs) (sort_names d) _ h).1) (enumerators-old ds (each-rest (IsOld gs) (sort_names d) _ h))
 
   pub is-packing : IsPacking m gs
   is-packing = record {
     variables = variables-are;
     places = in-groups (IsMember m) (each-map (IsMember m) (member_for m) m.variables (place-is m able.enumerators));
     before = able.names.variables;
-    after = after-apart (names_in m) chunks (subst AreApart (sym variables-cut) able.names.variables) (subst (Each (λ (x : Variable). is_among (names_in m) x.name ≡ true)) (sym variables-cut) taken-variables);
+    after = after-apart (names_in m) chunks (subst AreApart (sym variables-cut) able.names.variables)
+        (subst (Each (λ (x : Variable). is_among (names_in m) x.name ≡ true)) (sym variables-cut) taken-variables);
     enumerators = enumerators-new;
     sorts = subst AreAllApart (sym (sorts-are-names (names_in m) chunks)) (new-all-apart (names_in m) chunks);
     old_sorts = old-sorts gs gs (subst (λ (xs : List Variable). Each (IsOld gs) (variable_names xs)) variables-are old_variables);
     old_targets = each-same _ _ m.sorts (old-target gs) (each-flat (IsOld gs) sort_names m.sorts old_sorts);
     chains = able.chains;
-    steps = steps-apart gs m.steps (each-flat (IsOld gs) step_names m.steps (each-front (IsOld gs) (flat_map step_names m.steps) _ old_terms)) (each-flat (HidesNone gs) bound_in_step m.steps (each-front (HidesNone gs) (flat_map bound_in_step m.steps) _ hides_terms));
-    initial = terms-apart gs m.initial (each-front (IsOld gs) (all_term_names m.initial) _ (each-rest (IsOld gs) (flat_map step_names m.steps) _ old_terms)) (each-front (HidesNone gs) (all_bound_in m.initial) _ (each-rest (HidesNone gs) (flat_map bound_in_step m.steps) _ hides_terms));
+    steps = steps-apart gs m.steps
+        (each-flat (IsOld gs) step_names m.steps (each-front (IsOld gs) (flat_map step_names m.steps) _ old_terms))
+        (each-flat (HidesNone gs) bound_in_step m.steps (each-front (HidesNone gs) (flat_map bound_in_step m.steps) _ hides_terms));
+    initial = terms-apart gs m.initial
+        (each-front (IsOld gs) (all_term_names m.initial) _
+        (each-rest (IsOld gs) (flat_map step_names m.steps) _ old_terms))
+        (each-front (HidesNone gs) (all_bound_in m.initial) _ (each-rest (HidesNone gs) (flat_map bound_in_step m.steps) _ hides_terms));
     count = able.count;
   }
 
   pub property-apart : (p : Property) → Contains m.properties p → is_apart_formula gs p.formula ≡ true
   property-apart p h =
       formula-apart gs p.formula
-      (each-contains _ m.properties p h (each-flat (IsOld gs) (λ (p : Property). formula_names p.formula) m.properties (each-rest (IsOld gs) (all_term_names m.initial) _ (each-rest (IsOld gs) (flat_map step_names m.steps) _ old_terms))))
-      (each-contains _ m.properties p h (each-flat (HidesNone gs) (λ (p : Property). bound_in_formula p.formula) m.properties (each-rest (HidesNone gs) (all_bound_in m.initial) _ (each-rest (HidesNone gs) (flat_map bound_in_step m.steps) _ hides_terms))))
+      (each-contains _ m.properties p h
+      (each-flat (IsOld gs) (λ (p : Property). formula_names p.formula) m.properties
+      (each-rest (IsOld gs) (all_term_names m.initial) _ (each-rest (IsOld gs) (flat_map step_names m.steps) _ old_terms))))
+      (each-contains _ m.properties p h
+      (each-flat (HidesNone gs) (λ (p : Property). bound_in_formula p.formula) m.properties
+      (each-rest (HidesNone gs) (all_bound_in m.initial) _ (each-rest (HidesNone gs) (flat_map bound_in_step m.steps) _ hides_terms))))
 
   pub names-apart : HasNamesApart (packed m)
-  names-apart = record { variables = is-packing.after; steps = all-new m.steps able.names.steps (each-flat _ step_names m.steps (each-front _ (flat_map step_names m.steps) _ (each-rest _ (flat_map sort_names m.sorts) _ (each-rest _ (variable_names m.variables) _ (each-among (names_in m)))))) }
+  names-apart =
+      record {
+        variables = is-packing.after;
+        steps =
+            all-new m.steps able.names.steps
+            (each-flat _ step_names m.steps
+            (each-front _ (flat_map step_names m.steps) _
+            (each-rest _ (flat_map sort_names m.sorts) _ (each-rest _ (variable_names m.variables) _ (each-among (names_in m))))));
+      }
     where
-      all-new : (steps : List Step) → StepsAreNew m.variables steps → Each (λ (a : Step). Each (λ (y : Name). is_among (names_in m) y ≡ true) (step_names a)) steps → StepsAreNew (map variable_of gs) (map (packed_step gs) steps)
+      all-new : (steps : List Step) → StepsAreNew m.variables steps
+          → Each (λ (a : Step). Each (λ (y : Name). is_among (names_in m) y ≡ true) (step_names a)) steps
+          → StepsAreNew (map variable_of gs) (map (packed_step gs) steps)
       all-new [] new among = tt
       all-new (a ∷ steps) new among = (
-        after-new (names_in m) chunks a.variables (subst (λ (xs : List Variable). AreNew xs a.variables) (sym variables-cut) new.0) (variables-among a.variables (λ y. is_among (names_in m) y ≡ true) (each-front _ (variable_names a.variables) _ among.0)),
+        after-new (names_in m) chunks a.variables
+            (subst (λ (xs : List Variable). AreNew xs a.variables) (sym variables-cut) new.0)
+            (variables-among a.variables (λ y. is_among (names_in m) y ≡ true) (each-front _ (variable_names a.variables) _ among.0)),
         all-new steps new.1 among.1,
       )
 

@@ -91,7 +91,8 @@ placed-first E d ds is n (y ∷ ys) placed = (
   placed-first E d ds is (suc n) ys placed.1,
 )
 
-placed-later : (d : SortDeclaration) (ds : List SortDeclaration) (n : ℕ) (ys : List Name) → Each (λ (y : Name). is_among (enumerators_in d.sort) y ≡ false) ys → PlacedIn ds n ys → PlacedIn (d ∷ ds) n ys
+placed-later : (d : SortDeclaration) (ds : List SortDeclaration) (n : ℕ) (ys : List Name)
+    → Each (λ (y : Name). is_among (enumerators_in d.sort) y ≡ false) ys → PlacedIn ds n ys → PlacedIn (d ∷ ds) n ys
 placed-later d ds n [] new placed = tt
 placed-later d ds n (y ∷ ys) new placed =
     (ap (λ o. or_else o (place_in (λ (e : Enumerator). same_name e.name y) ds)) (within-none d.sort y new.0) ∙ placed.0, placed-later d ds (suc n) ys new.1 placed.1)
@@ -122,7 +123,10 @@ struct-is (d ∷ ds) s E apart e =
         let is = some-is d.sort (Struct E) h in
         let own : enumerators_in d.sort ≡ map name_of E = ap enumerators_in is in (
           placed-first E d ds is 0 (map name_of E) (placed-own E 0 (subst AreAllApart own (apart-front (enumerators_in d.sort) _ apart))),
-          each-same _ _ (map name_of E) (λ y among. among-front (enumerators_in d.sort) (flat_map (λ (d : SortDeclaration). enumerators_in d.sort) ds) y (ap (λ xs. is_among xs y) own ∙ among)) (each-among (map name_of E)),
+          each-same _ _ (map name_of E)
+              (λ y among. among-front (enumerators_in d.sort)
+              (flat_map (λ (d : SortDeclaration). enumerators_in d.sort) ds) y (ap (λ xs. is_among xs y) own ∙ among))
+              (each-among (map name_of E)),
         )
     by next false h =
         let rest = next h in (
@@ -131,8 +135,13 @@ struct-is (d ∷ ds) s E apart e =
         )
       where
         among-all : (ys : List Name) → Each (λ (y : Name). is_among (flat_map (λ (d : SortDeclaration). enumerators_in d.sort) ds) y ≡ true) ys →
-            Each (λ (y : Name). is_among (enumerators_in d.sort) y ≡ false) (flat_map (λ (d : SortDeclaration). enumerators_in d.sort) ds) → Each (λ (y : Name). is_among (enumerators_in d.sort) y ≡ false) ys
-        among-all ys among new = each-same _ _ ys (λ y a. each-at (λ (z : Name). is_among (enumerators_in d.sort) z ≡ false) (flat_map (λ (d : SortDeclaration). enumerators_in d.sort) ds) y a new) among
+            Each (λ (y : Name). is_among (enumerators_in d.sort) y ≡ false)
+            (flat_map (λ (d : SortDeclaration). enumerators_in d.sort) ds)
+            → Each (λ (y : Name). is_among (enumerators_in d.sort) y ≡ false) ys
+        among-all ys among new =
+            each-same _ _ ys
+            (λ y a. each-at (λ (z : Name). is_among (enumerators_in d.sort) z ≡ false)
+            (flat_map (λ (d : SortDeclaration). enumerators_in d.sort) ds) y a new) among
 
 -- ---- carriers
 

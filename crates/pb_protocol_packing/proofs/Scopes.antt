@@ -73,7 +73,9 @@ module _ (m : Model) (all : List Group) (b : Assignment) where
   pub kind-at : NotHidden → (c : Assignment) → Fixed all b c → (p : Member) → IsSaid m all p → KindAt (data_of (packed_by all m)) c p.kind p.low p.size
   kind-at free c fixed p said = by p.kind said.0.kind said.1
     where
-      by : (k : Kind) → IsKind m k p → Each (λ (e : Name). (is_among (used_enumerators all) e ≡ true) × IsNew e (map variable_of all)) (enumerators_of k) → KindAt (data_of (packed_by all m)) c k p.low p.size
+      by : (k : Kind) → IsKind m k p
+          → Each (λ (e : Name). (is_among (used_enumerators all) e ≡ true) × IsNew e (map variable_of all))
+          (enumerators_of k) → KindAt (data_of (packed_by all m)) c k p.low p.size
       by Boolean kind among = kind
       by (Enumeration es) kind among = (kind.0, kind.1, placed-at free c fixed 0 es kind.2 among)
       by Whole kind among = tt
@@ -107,7 +109,9 @@ module _ (m : Model) (all : List Group) (b : Assignment) where
   group-number x v k among at is c fixed =
       ap (λ o. named_value (data_of (packed_by all m)) o x) (fixed x (ap (λ e. e || is_among (used_enumerators all) x) among) ∙ at) ∙ is
 
-module _ (m : Model) (all : List Group) (sorts : (s : Name) → is_among (new_sorts all) s ≡ false → carrier_of (data_of (packed_by all m)) s ≡ carrier_of (data_of m) s) (b : Assignment) (free : NotHidden m all b) where
+module _ (m : Model) (all : List Group)
+    (sorts : (s : Name) → is_among (new_sorts all) s ≡ false
+    → carrier_of (data_of (packed_by all m)) s ≡ carrier_of (data_of m) s) (b : Assignment) (free : NotHidden m all b) where
   pub sees-groups : (gs : List Group) (t : State) (σ : Scope) (a d : Assignment) → Each (IsPackedSort m all) gs → Each (IsSaid m all) (all_members gs) →
       Each (λ (x : Name). is_among (new_names all) x ≡ true) (new_names gs) → Assigns b (map variable_of gs) t →
       is_within (carriers_of (data_of (packed_by all m)) (map variable_of gs)) t ≡ true → Sees m all (Fixed all b) σ a d →
@@ -123,7 +127,8 @@ module _ (m : Model) (all : List Group) (sorts : (s : Name) → is_among (new_so
       let k = at_least_none v in
       subst (λ (f : Assignment). Sees m all (Fixed all b) (with_groups gs (with_members (Term.Named x.name) ps σ)) f (assigned (map variable_of gs) t ((x.name, v) ∷ d)))
       (sym (assigned-group ps (digits ps k) (flat_map group_variables gs) (unpacked gs t) a (digits-fill ps k)))
-      (sees-groups gs t (with_members (Term.Named x.name) ps σ) (assigned (variables_of ps) (digits ps k) a) ((x.name, v) ∷ d) packed.1 (each-rest (IsSaid m all) ps (all_members gs) said) among.1 at.1 parts.1
+      (sees-groups gs t (with_members (Term.Named x.name) ps σ) (assigned (variables_of ps) (digits ps k) a)
+      ((x.name, v) ∷ d) packed.1 (each-rest (IsSaid m all) ps (all_members gs) said) among.1 at.1 parts.1
       (sees-places m all b free ps (Term.Named x.name) k σ a ((x.name, v) ∷ d) (group-number m all b x.name v k among.0 at.0 number.0) number.1 (each-front (IsSaid m all) ps (all_members gs) said)
       (sees-new m all (Fixed all b) x.name v σ a d among.0 sees)))
 

@@ -90,7 +90,9 @@ module _ (m : Model) (all : List Group) (packing : IsPacking m all) where
     pub after-same : (xs : List Variable) (vs : Tuple) → after N c new xs vs ≡ state_after (value D a) L xs vs
     after-same [] vs = refl
     after-same (x ∷ xs) [] = refl
-    after-same (x ∷ xs) (v ∷ vs) = ap (λ (u : Value). u ∷ after N c new xs vs) (one (assigned_term L x.name) (apart x.name)) ∙ ap (λ (us : Tuple). value_after (value D a) (assigned_term L x.name) v ∷ us) (after-same xs vs)
+    after-same (x ∷ xs) (v ∷ vs) =
+        ap (λ (u : Value). u ∷ after N c new xs vs) (one (assigned_term L x.name) (apart x.name))
+        ∙ ap (λ (us : Tuple). value_after (value D a) (assigned_term L x.name) v ∷ us) (after-same xs vs)
       where
         one : (o : Option Term) → ((t : Term) → o ≡ Some t → is_apart all t ≡ true) → value_after (value N c) (option_said σ o) v ≡ value_after (value D a) o v
         one None h = refl
@@ -138,14 +140,16 @@ module _ (m : Model) (all : List Group) (packing : IsPacking m all) where
         (sees-groups m all (sorts-same m all packing) b (not-hidden m all t) all t [] [] [] (packed-sorts m all packing) (all-said m all packing) (each-among (new_names all)) at e (λ y new. refl))
 
     pub state : is_state m s ≡ true
-    state = subst (λ (xs : List Variable). is_within (carriers_of D xs) s ≡ true) (sym packing.variables) (unpacked-within m all (sorts-same m all packing) all t (packed-sorts m all packing) packing.places e)
+    state = subst (λ (xs : List Variable). is_within (carriers_of D xs) s ≡ true) (sym packing.variables)
+        (unpacked-within m all (sorts-same m all packing) all t (packed-sorts m all packing) packing.places e)
 
     module _ (step : Step) (apart : is_apart_step all step ≡ true) (own : Tuple) (within : is_within (carriers_of D step.variables) own ≡ true) where
       abbrev σ : Scope
       σ = hidden step.variables (with_groups all [])
 
       parts : (list_all (may_bind all) step.variables ≡ true) × (is_apart all step.guard ≡ true) × (list_all (λ (d : Assignment). is_apart all d.term) step.assignments ≡ true)
-      parts = let outer = and_parts (list_all (may_bind all) step.variables && is_apart all step.guard) _ apart in let inner = and_parts (list_all (may_bind all) step.variables) (is_apart all step.guard) outer.0 in (inner.0, inner.1, outer.1)
+      parts = let outer = and_parts (list_all (may_bind all) step.variables && is_apart all step.guard) _ apart in
+          let inner = and_parts (list_all (may_bind all) step.variables) (is_apart all step.guard) outer.0 in (inner.0, inner.1, outer.1)
 
       under : Sees m all (Fixed all b) σ (assigned step.variables own a) (assigned step.variables own b) × Fixed all b (assigned step.variables own b)
       under = sees-own m all (sorts-same m all packing) b (not-hidden m all t) step.variables own (with_groups all []) a b parts.0 within sees (λ r h. refl)
@@ -164,10 +168,21 @@ module _ (m : Model) (all : List Group) (packing : IsPacking m all) where
           let found = (λ (x : Name) (u : Term). apart-assigned all L x u parts.2) in
           let says = says-step b c free under.1 (said_by all step) (assignments_of (said_by all step) all) all t (packed-sorts m all packing) (all-said m all packing) (each-among (new_names all)) at e
           (finds-own (said_by all step) all packing.after) in
-          let agrees = says-agrees m all (sorts-same m all packing) c (said_by all step) all t (state_after (value N c) (assignments_of (said_by all step) all) (map variable_of all) t) (packed-sorts m all packing) packing.places says in
+          let agrees =
+          says-agrees m all (sorts-same m all packing) c (said_by all step) all t
+          (state_after (value N c) (assignments_of (said_by all step) all) (map variable_of all) t)
+          (packed-sorts m all packing) packing.places says in
           let same = (λ (xs : List Variable). after-same σ (assigned step.variables own a) c value-same L found xs s) in
-          subst (λ (xs : List Variable). (is_state n (next_state n t (packed_step all step) own) ≡ is_within (carriers_of D m.variables) (state_after (value D (assigned step.variables own a)) L xs s)) ×
-          (is_state n (next_state n t (packed_step all step) own) ≡ true → unpacked all (next_state n t (packed_step all step) own) ≡ state_after (value D (assigned step.variables own a)) L xs s)) (sym packing.variables) (
-            agrees.0 ∙ (ap (λ (vs : Tuple). is_within (carriers_of D (flat_map group_variables all)) vs) (same (flat_map group_variables all)) ∙ ap (λ (xs : List Variable). is_within (carriers_of D xs) (state_after (value D (assigned step.variables own a)) L (flat_map group_variables all) s)) (sym packing.variables)),
+          subst (λ (xs : List Variable).
+          (is_state n (next_state n t (packed_step all step) own)
+          ≡ is_within (carriers_of D m.variables) (state_after (value D (assigned step.variables own a)) L xs s)) ×
+          (is_state n (next_state n t (packed_step all step) own) ≡ true
+          → unpacked all (next_state n t (packed_step all step) own)
+          ≡ state_after (value D (assigned step.variables own a)) L xs s)) (sym packing.variables) (
+            agrees.0 ∙
+                (ap (λ (vs : Tuple). is_within (carriers_of D (flat_map group_variables all)) vs)
+                (same (flat_map group_variables all))
+                ∙ ap (λ (xs : List Variable). is_within (carriers_of D xs)
+                (state_after (value D (assigned step.variables own a)) L (flat_map group_variables all) s)) (sym packing.variables)),
             (λ h. agrees.1 h ∙ same (flat_map group_variables all)),
           )

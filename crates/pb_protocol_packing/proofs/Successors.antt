@@ -33,7 +33,8 @@ module _ (m n : Model) (decode : State → State) where
       subst (λ (b : Bool). AllStandFor m n decode (map f (cond (p x) (x ∷ filter p xs) (filter p xs))) (map g (cond b (x ∷ filter q xs) (filter q xs)))) (sym h.0.0)
       (by (p x) (mapped f g p q xs h.1))
     where
-      by : (b : Bool) → AllStandFor m n decode (map f (filter p xs)) (map g (filter q xs)) → AllStandFor m n decode (map f (cond b (x ∷ filter p xs) (filter p xs))) (map g (cond b (x ∷ filter q xs) (filter q xs)))
+      by : (b : Bool) → AllStandFor m n decode (map f (filter p xs)) (map g (filter q xs))
+          → AllStandFor m n decode (map f (cond b (x ∷ filter p xs) (filter p xs))) (map g (cond b (x ∷ filter q xs) (filter q xs)))
       by true rest = (h.0.1, rest)
       by false rest = rest
 
@@ -68,10 +69,14 @@ module _ (m : Model) (all : List Group) (packing : IsPacking m all) where
     by-steps A (a ∷ steps) apart = by (has_step A a.name) (by-step a apart.0) (by-steps A steps apart.1)
       where
         by : (b : Bool) → AllStandFor m (packed_by all m) (unpacked all) (successors_by m (unpacked all t) a) (successors_by (packed_by all m) t (packed_step all a)) →
-            AllStandFor m (packed_by all m) (unpacked all) (flat_map (successors_by m (unpacked all t)) (filter (λ (a : Step). has_step A a.name) steps)) (flat_map (successors_by (packed_by all m) t) (filter (λ (a : Step). has_step A a.name) (map (packed_step all) steps))) →
+            AllStandFor m (packed_by all m) (unpacked all)
+            (flat_map (successors_by m (unpacked all t)) (filter (λ (a : Step). has_step A a.name) steps))
+            (flat_map (successors_by (packed_by all m) t) (filter (λ (a : Step). has_step A a.name) (map (packed_step all) steps))) →
             AllStandFor m (packed_by all m) (unpacked all)
             (flat_map (successors_by m (unpacked all t)) (cond b (a ∷ filter (λ (a : Step). has_step A a.name) steps) (filter (λ (a : Step). has_step A a.name) steps)))
-            (flat_map (successors_by (packed_by all m) t) (cond b (packed_step all a ∷ filter (λ (a : Step). has_step A a.name) (map (packed_step all) steps)) (filter (λ (a : Step). has_step A a.name) (map (packed_step all) steps))))
+            (flat_map (successors_by (packed_by all m) t)
+            (cond b (packed_step all a ∷ filter (λ (a : Step). has_step A a.name) (map (packed_step all) steps))
+            (filter (λ (a : Step). has_step A a.name) (map (packed_step all) steps))))
         by true first rest = all-append m (packed_by all m) (unpacked all) (successors_by m (unpacked all t) a) _ (successors_by (packed_by all m) t (packed_step all a)) _ first rest
         by false first rest = rest
 

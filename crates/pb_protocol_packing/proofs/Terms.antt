@@ -92,7 +92,8 @@ module _ (N : Spec) (c : Assignment) where
       value-if true (Term.Binary Operator.Equal x (Term.Number n)) (Term.Named e) (enumerator_at (suc n) (f ∷ es) x) (ap of_bool (equal (value N c x) (pos n) (h ∙ omega (arith, ints))))
       ∙ (placed.0 ∙ omega (arith, ints))
   value-enumerator_at n (e ∷ f ∷ es) x (suc d) placed below h =
-      value-if false (Term.Binary Operator.Equal x (Term.Number n)) (Term.Named e) (enumerator_at (suc n) (f ∷ es) x) (ap of_bool (differ (value N c x) (pos n) (λ same. omega (arith, ints, sym h ∙ same))))
+      value-if false (Term.Binary Operator.Equal x (Term.Number n)) (Term.Named e) (enumerator_at (suc n) (f ∷ es) x)
+      (ap of_bool (differ (value N c x) (pos n) (λ same. omega (arith, ints, sym h ∙ same))))
       ∙ (value-enumerator_at (suc n) (f ∷ es) x d placed.1 (omega arith) (h ∙ omega (arith, ints)) ∙ omega (arith, ints))
 
   value-place_of : (n : ℕ) (es : List Name) (x : Term) (d : ℕ) → Placed n es → d < length es → value N c x ≡ pos (n + d) → value N c (place_of n es x) ≡ pos (n + d)
@@ -100,7 +101,8 @@ module _ (N : Spec) (c : Assignment) where
   value-place_of n (e ∷ []) x zero placed below h = omega (arith, ints)
   value-place_of n (e ∷ []) x (suc d) placed below h = absurd (omega (arith, below))
   value-place_of n (e ∷ f ∷ es) x zero placed below h =
-      value-if true (Term.Binary Operator.Equal x (Term.Named e)) (Term.Number n) (place_of (suc n) (f ∷ es) x) (ap of_bool (equal (value N c x) (value N c (Term.Named e)) (h ∙ (omega (arith, ints) ∙ sym placed.0))))
+      value-if true (Term.Binary Operator.Equal x (Term.Named e)) (Term.Number n) (place_of (suc n) (f ∷ es) x)
+      (ap of_bool (equal (value N c x) (value N c (Term.Named e)) (h ∙ (omega (arith, ints) ∙ sym placed.0))))
       ∙ omega (arith, ints)
   value-place_of n (e ∷ f ∷ es) x (suc d) placed below h =
       value-if false (Term.Binary Operator.Equal x (Term.Named e)) (Term.Number n) (place_of (suc n) (f ∷ es) x)
@@ -133,11 +135,13 @@ module _ (N : Spec) (c : Assignment) where
   among-is n [] y i placed e = none-is i e
   among-is n (x ∷ es) y i placed e = by (same_name x y) refl e (among-is (suc n) es y i placed.1)
     where
-      by : (b : Bool) → same_name x y ≡ b → (if b then Some n else place_among (suc n) es y) ≡ Some i → (place_among (suc n) es y ≡ Some i → value N c (Term.Named y) ≡ pos i) → value N c (Term.Named y) ≡ pos i
+      by : (b : Bool) → same_name x y ≡ b → (if b then Some n else place_among (suc n) es y) ≡ Some i
+          → (place_among (suc n) es y ≡ Some i → value N c (Term.Named y) ≡ pos i) → value N c (Term.Named y) ≡ pos i
       by true same h next = ap (λ z. value N c (Term.Named z)) (sym (same_text x y (sym same))) ∙ (placed.0 ∙ ap pos (some-is n i h))
       by false same h next = next h
 
-  value-place_or : (es : List Name) (y : Name) (d : ℕ) → Placed 0 es → d < length es → value N c (Term.Named y) ≡ pos d → value N c (place_or (place_among 0 es y) (place_of 0 es (Term.Named y))) ≡ pos d
+  value-place_or : (es : List Name) (y : Name) (d : ℕ) → Placed 0 es → d < length es → value N c (Term.Named y) ≡ pos d
+      → value N c (place_or (place_among 0 es y) (place_of 0 es (Term.Named y))) ≡ pos d
   value-place_or es y d placed below h = by (place_among 0 es y) refl
     where
       by : (o : Option ℕ) → place_among 0 es y ≡ o → value N c (place_or o (place_of 0 es (Term.Named y))) ≡ pos d

@@ -57,7 +57,10 @@ module _ (m : Model) (gs : List Group) (F : Assignment → Type 0) where
       by false e = sees y new
 
   pub sees-digit : (z : Name) (v : Value) (d : Digit) (σ : Scope) (a b : Assignment) →
-      ((c : Assignment) → F c → (value N c (from_number d.kind d.low d.term) ≡ v) × EnumerationIs N c d.kind d.term (from_number d.kind d.low d.term)) → Sees m gs F σ a b → Sees m gs F ((z, Some d) ∷ σ) ((z, v) ∷ a) b
+      ((c : Assignment) → F c
+      → (value N c (from_number d.kind d.low d.term) ≡ v)
+      × EnumerationIs N c d.kind d.term (from_number d.kind d.low d.term)) → Sees m gs F σ a b
+      → Sees m gs F ((z, Some d) ∷ σ) ((z, v) ∷ a) b
   sees-digit z v d σ a b has sees y new = by (same_name z y)
     where
       by : (e : Bool) → Stands N F (if e then Some d else digit_for σ y) (if e then Some v else looked_up a y) (looked_up b y)

@@ -42,7 +42,9 @@ unfolded_models_are_solved same goes protocol m hides made named =
     record {
       properties = are_same protocol m (flat_formula (erase protocol))
           (λ f. subst (λ (x : model.Model). model_satisfaction.satisfies x (flat_formula (erase protocol) f) ≡ satisfies (erase protocol) f) (sym made) (same (erase protocol) hides f))
-          protocol.properties m.properties named (ap (λ (x : model.Model). x.properties) made ∙ twice (unfolded_property (erase protocol)) (folded_property (unfolded (erase protocol))) (erase protocol).properties);
+          protocol.properties m.properties named
+          (ap (λ (x : model.Model). x.properties) made
+          ∙ twice (unfolded_property (erase protocol)) (folded_property (unfolded (erase protocol))) (erase protocol).properties);
       runs = subst (λ (x : model.Model). GoesAlong (erase protocol) x itself) (sym made)
           (goes_along (erase protocol) (flat_model (erase protocol)) along.1 along.0 (λ s is. along.2 s));
     }

@@ -33,7 +33,9 @@ formula_row _ = (_, end_of-Link)
 module _ (steps : StepShapes) (s : Scope) where
   -- ---- sets of steps
 
-  row-set : (A : StepSetForm) (n : _) (row : Row_of-StepSetLink n) → set_fault steps s (chained StepSetForm.union A (step_set_links_in row)) ≡ or_else (set_fault steps s A) (sets_fault steps s (items-the_row-StepSetLink n row))
+  row-set : (A : StepSetForm) (n : _) (row : Row_of-StepSetLink n)
+      → set_fault steps s (chained StepSetForm.union A (step_set_links_in row))
+      ≡ or_else (set_fault steps s A) (sets_fault steps s (items-the_row-StepSetLink n row))
   row-set A n end_of-StepSetLink = sym (or_else-none (set_fault steps s A))
   row-set A n (more_of-StepSetLink place operand row) = ap (or_else (set_fault steps s A)) (row-set (step_set_form operand) _ row)
 
@@ -67,7 +69,8 @@ module _ (steps : StepShapes) (s : Scope) where
       ∙ (ap (λ (q : Bool). or_else (formula_fault steps s q first) (operands_fault steps s c even ls)) (ap (operand_parity c even) (sym are) ∙ sym parity)
       ∙ ap (λ (g : Formula). or_else (formula_fault steps s b (formula_form g)) (operands_fault steps s c even ls)) (sym at))))
 
-  pub operand-next : (c : Connective) (even : Bool) (links : List Link) (k n : ℕ) (link : Link) (b : Bool) → k < length links → link ≡ get_or links k link → n ≡ length links - k - 1 → b ≡ operand_parity c even n
+  pub operand-next : (c : Connective) (even : Bool) (links : List Link) (k n : ℕ) (link : Link) (b : Bool)
+      → k < length links → link ≡ get_or links k link → n ≡ length links - k - 1 → b ≡ operand_parity c even n
       → operands_fault steps s c even (drop k links) ≡ or_else (formula_fault steps s b (formula_form link.operand)) (operands_fault steps s c even (drop (k + 1) links))
   operand-next c even links k n link b below at are parity =
       let rest = operands_fault steps s c even (drop (k + 1) links) in
@@ -81,7 +84,8 @@ abbrev constant_chain : Bool → List Link → Bool
 constant_chain b [] = b
 constant_chain b (link ∷ links) = false
 
-row-constant : (c : Connective) (f : FormulaForm) (n : _) (row : Row_of-Link n) → is_constant (chained (FormulaForm.connected c) f (links_in row)) ≡ constant_chain (is_constant f) (items-the_row-Link n row)
+row-constant : (c : Connective) (f : FormulaForm) (n : _) (row : Row_of-Link n)
+    → is_constant (chained (FormulaForm.connected c) f (links_in row)) ≡ constant_chain (is_constant f) (items-the_row-Link n row)
 row-constant c f n end_of-Link = refl
 row-constant c f n (more_of-Link place operand row) = refl
 

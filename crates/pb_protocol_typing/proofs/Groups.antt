@@ -55,7 +55,9 @@ group-shapes spec sort (n ∷ ns) = ap (λ hs. sort_shape spec sort.text ∷ hs)
 pub first-names : (fault : Named → Option TypingFault) (sort : Named) (ns : List declared_name.Name) (ys : List VariableForm)
     → first_fault fault (variable_names (map (λ n. record { name = named n; sort = sort }) ns ++ ys)) ≡ or_else (first_fault fault (map named ns)) (first_fault fault (variable_names ys))
 first-names fault sort [] ys = refl
-first-names fault sort (n ∷ ns) ys = ap (or_else (fault (named n))) (first-names fault sort ns ys) ∙ sym (or_else-assoc (fault (named n)) (first_fault fault (map named ns)) (first_fault fault (variable_names ys)))
+first-names fault sort (n ∷ ns) ys =
+    ap (or_else (fault (named n))) (first-names fault sort ns ys)
+    ∙ sym (or_else-assoc (fault (named n)) (first_fault fault (map named ns)) (first_fault fault (variable_names ys)))
 
 pub group-fault : (s : Scope) (gs : List Variables) (k : ℕ) (g : Variables) → k < length gs → g ≡ get_or gs k g
     → variables_fault s (variable_forms (drop k gs)) ≡ or_else (first_fault (hidden_fault s) (map named g.names.items)) (variables_fault s (variable_forms (drop (k + 1) gs)))

@@ -55,7 +55,8 @@ argument-next es k e below at = ap (λ (xs : List Argument). arguments_lists (ar
 
 -- ---- formulas
 
-row-lists : (c : Connective) (f : FormulaForm) (n : _) (row : Row_of-Link n) → formula_lists (chained (FormulaForm.connected c) f (links_in row)) ≡ formula_lists f ++ operands_lists (items-the_row-Link n row)
+row-lists : (c : Connective) (f : FormulaForm) (n : _) (row : Row_of-Link n)
+    → formula_lists (chained (FormulaForm.connected c) f (links_in row)) ≡ formula_lists f ++ operands_lists (items-the_row-Link n row)
 row-lists c f n end_of-Link = sym (append-nil (formula_lists f))
 row-lists c f n (more_of-Link place operand row) = ap (λ (xs : Lists). formula_lists f ++ xs) (row-lists c (formula_form operand) _ row)
 

@@ -136,7 +136,9 @@ module _ (s : Scope) where
 
   pub argument-next : (hs : List Shape) (es : List Argument) (k : ℕ) (e : Argument) → k < length es → e ≡ get_or es k e
       → arguments_fault s k hs (argument_forms (drop k es))
-      ≡ or_else (term_fault s (term_form e.term)) (or_else (fault_unless (agree (kind s (term_form e.term)) (kind_at hs k)) WrongKind e.place) (arguments_fault s (k + 1) hs (argument_forms (drop (k + 1) es))))
+      ≡ or_else (term_fault s (term_form e.term))
+      (or_else (fault_unless (agree (kind s (term_form e.term)) (kind_at hs k)) WrongKind e.place)
+      (arguments_fault s (k + 1) hs (argument_forms (drop (k + 1) es))))
   argument-next hs es k e below at = ap (λ (xs : List Argument). arguments_fault s k hs (argument_forms xs)) (drop-at es k e below at)
 
   pub kinds-next : (es : List Argument) (k : ℕ) (e : Argument) → k < length es → e ≡ get_or es k e

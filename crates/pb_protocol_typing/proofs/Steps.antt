@@ -33,5 +33,7 @@ count_length [] = refl
 count_length (e ∷ es) = let h : count (argument_forms es) ≡ length es = count_length es in omega (arith, h)
 
 pub element-next : (spec : Spec) (ys : List StateVariableForm) (es : List Argument) (k : ℕ) (e : Argument) → k < length es → e ≡ get_or es k e
-    → elements_fault spec k ys (argument_forms (drop k es)) ≡ or_else (element_value_fault spec (slice_get ys k) e.place (term_form e.term)) (elements_fault spec (k + 1) ys (argument_forms (drop (k + 1) es)))
+    → elements_fault spec k ys (argument_forms (drop k es))
+    ≡ or_else (element_value_fault spec (slice_get ys k) e.place (term_form e.term))
+    (elements_fault spec (k + 1) ys (argument_forms (drop (k + 1) es)))
 element-next spec ys es k e below at = ap (λ (xs : List Argument). elements_fault spec k ys (argument_forms xs)) (drop-at es k e below at)

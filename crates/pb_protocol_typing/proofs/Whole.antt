@@ -40,7 +40,9 @@ pub last_checks : (all names ds lists : List TypingFault) (o : Option TypingFaul
     → names ≡ [] → ds ≡ [] → lists ≡ [] → MatchResult r (λ _. o ≡ None) (λ e. IfFault e (λ fault. o ≡ Some fault))
     → MatchResult r (λ _. all ≡ []) (IsAmong all)
 last_checks all names ds lists o r is a b c h =
-    let same : all ≡ listed o = is ∙ (ap (λ (zs : List TypingFault). zs ++ (ds ++ (lists ++ listed o))) a ∙ (ap (λ (zs : List TypingFault). zs ++ (lists ++ listed o)) b ∙ ap (λ (zs : List TypingFault). zs ++ listed o) c)) in
+    let same : all ≡ listed o =
+    is ∙ (ap (λ (zs : List TypingFault). zs ++ (ds ++ (lists ++ listed o))) a
+    ∙ (ap (λ (zs : List TypingFault). zs ++ (lists ++ listed o)) b ∙ ap (λ (zs : List TypingFault). zs ++ listed o) c)) in
     subst (λ (us : List TypingFault). MatchResult r (λ _. us ≡ []) (IsAmong us)) (sym same) (listed_checks o r h)
 
 -- ---- sorts and ranges, and the rest

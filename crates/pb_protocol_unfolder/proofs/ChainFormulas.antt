@@ -58,7 +58,8 @@ spec_with sorts ranges = record {
 }
 
 -- the sorts of a tree are those of its protocol
-pub spec-said : (p : declared_protocol.Protocol) (ds : List SortDeclaration) (rs : List Range) → ds ≡ p.sorts.items → rs ≡ p.ranges.items → spec_with (declarations ds) (ranges_said rs) ≡ data_of (protocol_of p)
+pub spec-said : (p : declared_protocol.Protocol) (ds : List SortDeclaration) (rs : List Range) → ds ≡ p.sorts.items
+    → rs ≡ p.ranges.items → spec_with (declarations ds) (ranges_said rs) ≡ data_of (protocol_of p)
 spec-said p ds rs sorts ranges =
     ap (λ (v : List SortDeclaration). spec_with (declarations v) (ranges_said rs)) sorts
     ∙ ap (λ (v : List syntax.SortDeclaration). spec_with v (ranges_said rs)) (sorts-said p.sorts.items)
@@ -74,11 +75,14 @@ links-both : (xs ys : List flat_link.Link) → map linked_formula (xs ++ ys) ≡
 links-both [] ys = refl
 links-both (x ∷ xs) ys = ap (λ v. linked_formula x ∷ v) (links-both xs ys)
 
-pub chain-begun : (c : Connective) (f : Formula) (ls left : List flat_link.Link) (last : flat_link.Link) → ls ≡ left ++ last ∷ [] → folded_chain c f (map linked_formula left ++ linked_formula last ∷ []) ≡ folded_chain c f (map linked_formula ls)
+pub chain-begun : (c : Connective) (f : Formula) (ls left : List flat_link.Link) (last : flat_link.Link)
+    → ls ≡ left ++ last ∷ []
+    → folded_chain c f (map linked_formula left ++ linked_formula last ∷ []) ≡ folded_chain c f (map linked_formula ls)
 chain-begun c f ls left last are =
     ap (folded_chain c f) (sym (links-both left (last ∷ [])) ∙ ap (map linked_formula) (sym are))
 
-pub chain-goes : (c : Connective) (f g : Formula) (ls left : List flat_link.Link) (before last : flat_link.Link) → ls ≡ left ++ before ∷ [] → g ≡ folded_connected c (linked_formula before) (linked_formula last)
+pub chain-goes : (c : Connective) (f g : Formula) (ls left : List flat_link.Link) (before last : flat_link.Link)
+    → ls ≡ left ++ before ∷ [] → g ≡ folded_connected c (linked_formula before) (linked_formula last)
     → folded_chain c f (map linked_formula left ++ g ∷ []) ≡ folded_chain c f (map linked_formula ls ++ linked_formula last ∷ [])
 chain-goes c f g ls left before last are is =
     ap (λ (h : Formula). folded_chain c f (map linked_formula left ++ h ∷ [])) is
@@ -103,13 +107,16 @@ module _ (u : Unfolder) (scope : declared_scope.TermScope) where
   left-connected connective.Or p F G = refl
   left-connected connective.Implies p F G = refl
 
-  left-links : (c : Connective) (F : FormulaForm) (ls : List Link) → folded_chain c (left_formula u scope F) (map (left_operand u scope) ls) ≡ left_formula u scope (chained (FormulaForm.connected c) F (map link_form ls))
+  left-links : (c : Connective) (F : FormulaForm) (ls : List Link)
+      → folded_chain c (left_formula u scope F) (map (left_operand u scope) ls)
+      ≡ left_formula u scope (chained (FormulaForm.connected c) F (map link_form ls))
   left-links c F [] = refl
   left-links c F (l ∷ ls) =
       ap (folded_connected c (left_formula u scope F)) (left-links c (formula_form l.operand) ls)
       ∙ left-connected c l.place F (chained (FormulaForm.connected c) (formula_form l.operand) (map link_form ls))
 
-  pub left-chain : (c : Connective) (x : formula.Formula) (p : Box formula.Formula Global) (v : Vec Link Global) (ls : List Link) (f : formula.Formula) → f ≡ formula.Chain c p v → x ≡ box_value p → ls ≡ v.items
+  pub left-chain : (c : Connective) (x : formula.Formula) (p : Box formula.Formula Global) (v : Vec Link Global)
+      (ls : List Link) (f : formula.Formula) → f ≡ formula.Chain c p v → x ≡ box_value p → ls ≡ v.items
       → folded_chain c (left_formula u scope (formula_form x)) (map (left_operand u scope) ls) ≡ left_formula u scope (formula_form f)
   left-chain c x p v ls f is at same =
       ap (λ (y : formula.Formula). folded_chain c (left_formula u scope (formula_form y)) (map (left_operand u scope) ls)) at
@@ -126,7 +133,9 @@ module _ (u : Unfolder) (scope : declared_scope.TermScope) where
   map-twice f g (x ∷ xs) = ap (λ v. f (g x) ∷ v) (map-twice f g xs)
 
   pub left-quantified : (q : Quantifier) (p : Place) (xs : List VariableForm) (F : FormulaForm)
-      → folded_joined_formula q (map (λ (ks : List Term). folded_formula (data_of (protocol_in u)) (is_left (unfolded (protocol_in u))) (unfolded_formula (protocol_in u) (standing (erased_variables xs) (terms_of ks) (scope_in u scope)) (erased_formula F)))
+      → folded_joined_formula q
+      (map (λ (ks : List Term). folded_formula (data_of (protocol_in u)) (is_left (unfolded (protocol_in u)))
+      (unfolded_formula (protocol_in u) (standing (erased_variables xs) (terms_of ks) (scope_in u scope)) (erased_formula F)))
       (written_tuples (data_of (protocol_in u)) (erased_variables xs)))
       ≡ left_formula u scope (FormulaForm.quantified q p xs F)
   left-quantified q p xs F =
@@ -140,10 +149,15 @@ module _ (u : Unfolder) (scope : declared_scope.TermScope) where
       ∙ sym (folded-joined (data_of m) left q (copies (data_of m) ys f (scope_in u scope)))
 
   -- the copies that the code makes
-  pub copies-made : (made : Copies) (f : formula.Formula) (ts : List (Vec Written Global)) (xs : List syntax.Variable) (tuples : List (List Term)) → map variable_of made.variables.now ≡ xs → made.outer.now ≡ scope → map tuple_of ts ≡ tuples
-      → map (copy_of u made f) ts ≡ map (λ (ks : List Term). folded_formula (data_of (protocol_in u)) (is_left (unfolded (protocol_in u))) (unfolded_formula (protocol_in u) (standing xs (terms_of ks) (scope_in u scope)) (erased_formula (formula_form f)))) tuples
+  pub copies-made : (made : Copies) (f : formula.Formula) (ts : List (Vec Written Global)) (xs : List syntax.Variable)
+      (tuples : List (List Term)) → map variable_of made.variables.now ≡ xs → made.outer.now ≡ scope → map tuple_of ts ≡ tuples
+      → map (copy_of u made f) ts
+      ≡ map (λ (ks : List Term). folded_formula (data_of (protocol_in u)) (is_left (unfolded (protocol_in u)))
+      (unfolded_formula (protocol_in u) (standing xs (terms_of ks) (scope_in u scope)) (erased_formula (formula_form f)))) tuples
   copies-made made f ts xs tuples variables outer are =
-      let at : List syntax.Variable → declared_scope.TermScope → List Term → Formula = λ ys s ks. folded_formula (data_of (protocol_in u)) (is_left (unfolded (protocol_in u))) (unfolded_formula (protocol_in u) (standing ys (terms_of ks) (scope_in u s)) (erased_formula (formula_form f))) in
+      let at : List syntax.Variable → declared_scope.TermScope → List Term → Formula =
+      λ ys s ks. folded_formula (data_of (protocol_in u)) (is_left (unfolded (protocol_in u)))
+      (unfolded_formula (protocol_in u) (standing ys (terms_of ks) (scope_in u s)) (erased_formula (formula_form f))) in
       sym (map-twice (at (map variable_of made.variables.now) made.outer.now) tuple_of ts)
       ∙ ap (map (at (map variable_of made.variables.now) made.outer.now)) are
       ∙ ap (λ (ys : List syntax.Variable). map (at ys made.outer.now) tuples) variables

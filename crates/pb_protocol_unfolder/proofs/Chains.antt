@@ -31,7 +31,8 @@ abbrev row_in : Formula → (n : Count) × Row_of-Link n
 row_in (formula.Chain' c p first shape row) = (_, row)
 row_in _ = (_, end_of-Link)
 
-pub chain-form : (c : Connective) (first : Box Formula Global) (v : Vec Link Global) → formula_form (formula.Chain c first v) ≡ chained (FormulaForm.connected c) (formula_form (box_value first)) (map link_form v.items)
+pub chain-form : (c : Connective) (first : Box Formula Global) (v : Vec Link Global)
+    → formula_form (formula.Chain c first v) ≡ chained (FormulaForm.connected c) (formula_form (box_value first)) (map link_form v.items)
 chain-form c first v =
     let row = row_in (formula.Chain c first v) in
     ap (chained (FormulaForm.connected c) (formula_form (box_value first))) (links-items row.0 row.1 ∙ ap (map link_form) (items_hidden-the_row-Link-0 v))
@@ -59,7 +60,10 @@ abbrev flat_row_in : flat_formula_tree.Formula → (n : Count) × flat_formula_t
 flat_row_in (flat_formula_tree.Chain' c p first shape row) = (_, row)
 flat_row_in _ = (_, flat_formula_tree.end_of-Link)
 
-pub flat-chain-form : (c : Connective) (first : Box flat_formula_tree.Formula Global) (v : Vec flat_formula_link.Link Global) → flat.formula_form (flat_formula_tree.Chain c first v) ≡ chained (flat.FormulaForm.connected c) (flat.formula_form (box_value first)) (map flat_link v.items)
+pub flat-chain-form : (c : Connective) (first : Box flat_formula_tree.Formula Global)
+    (v : Vec flat_formula_link.Link Global)
+    → flat.formula_form (flat_formula_tree.Chain c first v)
+    ≡ chained (flat.FormulaForm.connected c) (flat.formula_form (box_value first)) (map flat_link v.items)
 flat-chain-form c first v =
     let row = flat_row_in (flat_formula_tree.Chain c first v) in
     ap (chained (flat.FormulaForm.connected c) (flat.formula_form (box_value first))) (flat-links-items row.0 row.1 ∙ ap (map flat_link) (flat_formula_tree.items_hidden-the_row-Link-0 v))
@@ -72,18 +76,22 @@ abbrev flat_set_row_in : flat_set_tree.StepSet → (n : Count) × flat_set_tree.
 flat_set_row_in (flat_set_tree.Union' p first shape row) = (_, row)
 flat_set_row_in _ = (_, flat_set_tree.end_of-StepSetLink)
 
-pub flat-union-form : (first : Box flat_set_tree.StepSet Global) (v : Vec flat_step_set_link.StepSetLink Global) → flat.step_set_form (flat_set_tree.Union first v) ≡ chained flat.StepSetForm.union (flat.step_set_form (box_value first)) (map flat_set_link v.items)
+pub flat-union-form : (first : Box flat_set_tree.StepSet Global) (v : Vec flat_step_set_link.StepSetLink Global)
+    → flat.step_set_form (flat_set_tree.Union first v)
+    ≡ chained flat.StepSetForm.union (flat.step_set_form (box_value first)) (map flat_set_link v.items)
 flat-union-form first v =
     let row = flat_set_row_in (flat_set_tree.Union first v) in
     ap (chained flat.StepSetForm.union (flat.step_set_form (box_value first))) (flat-set-links-items row.0 row.1 ∙ ap (map flat_set_link) (flat_set_tree.items_hidden-the_row-StepSetLink-0 v))
 
 -- ---- what stays of chains
 
-flat-chained : (c : Connective) (f : FormulaForm) (ls : List (Place × FormulaForm)) → flat_formula (chained (FormulaForm.connected c) f ls) ≡ chained (flat.FormulaForm.connected c) (flat_formula f) (map linked ls)
+flat-chained : (c : Connective) (f : FormulaForm) (ls : List (Place × FormulaForm))
+    → flat_formula (chained (FormulaForm.connected c) f ls) ≡ chained (flat.FormulaForm.connected c) (flat_formula f) (map linked ls)
 flat-chained c f [] = refl
 flat-chained c f (l ∷ ls) = ap (flat.FormulaForm.connected c l.0 (flat_formula f)) (flat-chained c l.1 ls)
 
-pub chain-flat : (c : Connective) (x : Box flat_formula_tree.Formula Global) (xs : Vec flat_formula_link.Link Global) (y : Box Formula Global) (ys : Vec Link Global) → flat.formula_form (box_value x) ≡ flat_formula (formula_form (box_value y))
+pub chain-flat : (c : Connective) (x : Box flat_formula_tree.Formula Global) (xs : Vec flat_formula_link.Link Global)
+    (y : Box Formula Global) (ys : Vec Link Global) → flat.formula_form (box_value x) ≡ flat_formula (formula_form (box_value y))
     → map flat_link xs.items ≡ map linked (map link_form ys.items) → flat.formula_form (flat_formula_tree.Chain c x xs) ≡ flat_formula (formula_form (formula.Chain c y ys))
 chain-flat c x xs y ys first links =
     flat-chain-form c x xs ∙ ap (λ v. chained (flat.FormulaForm.connected c) v (map flat_link xs.items)) first
@@ -94,7 +102,8 @@ flat-united : (A : StepSetForm) (ls : List (Place × StepSetForm)) → flat_set 
 flat-united A [] = refl
 flat-united A (l ∷ ls) = ap (flat.StepSetForm.union l.0 (flat_set A)) (flat-united l.1 ls)
 
-pub union-flat : (x : Box flat_set_tree.StepSet Global) (xs : Vec flat_step_set_link.StepSetLink Global) (y : Box StepSet Global) (ys : Vec StepSetLink Global) → flat.step_set_form (box_value x) ≡ flat_set (step_set_form (box_value y))
+pub union-flat : (x : Box flat_set_tree.StepSet Global) (xs : Vec flat_step_set_link.StepSetLink Global)
+    (y : Box StepSet Global) (ys : Vec StepSetLink Global) → flat.step_set_form (box_value x) ≡ flat_set (step_set_form (box_value y))
     → map flat_set_link xs.items ≡ map set_linked (map set_link_form ys.items) → flat.step_set_form (flat_set_tree.Union x xs) ≡ flat_set (step_set_form (set.Union y ys))
 union-flat x xs y ys first links =
     flat-union-form x xs ∙ ap (λ v. chained flat.StepSetForm.union v (map flat_set_link xs.items)) first

@@ -73,7 +73,8 @@ refused-so P Q (Err (Refused f)) to p = to f p
 refused-so P Q (Err Memory) to p = tt
 
 -- the fault of a call is that of its caller
-pub refused : {A : Type 0} (r : Result A (OrMemory UnfoldingFault)) (e : OrMemory UnfoldingFault) (P Q : UnfoldingFault → Type 0) → IsErrAnd r (λ d. d ≡ e) → ((f : UnfoldingFault) → P f → Q f) → IfFault e P → IfRefused r Q
+pub refused : {A : Type 0} (r : Result A (OrMemory UnfoldingFault)) (e : OrMemory UnfoldingFault)
+    (P Q : UnfoldingFault → Type 0) → IsErrAnd r (λ d. d ≡ e) → ((f : UnfoldingFault) → P f → Q f) → IfFault e P → IfRefused r Q
 refused (Ok a) e P Q h to p = tt
 refused (Err d) e P Q h to p = subst (λ (x : OrMemory UnfoldingFault). IfFault x Q) (sym h) (both e p)
   where
@@ -81,7 +82,8 @@ refused (Err d) e P Q h to p = subst (λ (x : OrMemory UnfoldingFault). IfFault 
     both (Refused f) p = to f p
     both Memory p = tt
 
-pub part : {A : Type 0} (r : Result A (OrMemory UnfoldingFault)) (e : OrMemory UnfoldingFault) (P Q : Place → Type 0) → IsErrAnd r (λ d. d ≡ e) → ((p : Place) → P p → Q p) → IfFault e (IsFaultIn P) → IfRefused r (IsFaultIn Q)
+pub part : {A : Type 0} (r : Result A (OrMemory UnfoldingFault)) (e : OrMemory UnfoldingFault) (P Q : Place → Type 0)
+    → IsErrAnd r (λ d. d ≡ e) → ((p : Place) → P p → Q p) → IfFault e (IsFaultIn P) → IfRefused r (IsFaultIn Q)
 part r e P Q h to is = refused r e (IsFaultIn P) (IsFaultIn Q) h (fault-in P Q to) is
 
 pub part-so : {A : Type 0} (P Q : Place → Type 0) (r : Result A (OrMemory UnfoldingFault)) → ((p : Place) → P p → Q p) → IfRefused r (IsFaultIn P) → IfRefused r (IsFaultIn Q)
@@ -99,13 +101,17 @@ by-rule P Q to rule.Operators is = to is
 pub fault-by : (P Q : UnfoldingFault → Type 0) → ((f : UnfoldingFault) → P f → Q f) → (f : UnfoldingFault) → IsFaultBy P f → IsFaultBy Q f
 fault-by P Q to f is = by-rule (P f) (Q f) (to f) f.rule is
 
-pub part-by : {A : Type 0} (r : Result A (OrMemory UnfoldingFault)) (e : OrMemory UnfoldingFault) (P Q : UnfoldingFault → Type 0) → IsErrAnd r (λ d. d ≡ e) → ((f : UnfoldingFault) → P f → Q f) → IfFault e (IsFaultBy P) → IfRefused r (IsFaultBy Q)
+pub part-by : {A : Type 0} (r : Result A (OrMemory UnfoldingFault)) (e : OrMemory UnfoldingFault)
+    (P Q : UnfoldingFault → Type 0) → IsErrAnd r (λ d. d ≡ e) → ((f : UnfoldingFault) → P f → Q f)
+    → IfFault e (IsFaultBy P) → IfRefused r (IsFaultBy Q)
 part-by r e P Q h to is = refused r e (IsFaultBy P) (IsFaultBy Q) h (fault-by P Q to) is
 
 pub part-by-so : {A : Type 0} (P Q : UnfoldingFault → Type 0) (r : Result A (OrMemory UnfoldingFault)) → ((f : UnfoldingFault) → P f → Q f) → IfRefused r (IsFaultBy P) → IfRefused r (IsFaultBy Q)
 part-by-so P Q r to is = refused-so (IsFaultBy P) (IsFaultBy Q) r (fault-by P Q to) is
 
-pub part-of : {A : Type 0} (r : Result A (OrMemory UnfoldingFault)) (e : OrMemory UnfoldingFault) (P Q : UnfoldingFault → Type 0) → IsErrAnd r (λ d. d ≡ e) → IfFault e (IsFaultBy P) → ((f : UnfoldingFault) → P f → Q f) → IfRefused r (IsFaultBy Q)
+pub part-of : {A : Type 0} (r : Result A (OrMemory UnfoldingFault)) (e : OrMemory UnfoldingFault)
+    (P Q : UnfoldingFault → Type 0) → IsErrAnd r (λ d. d ≡ e) → IfFault e (IsFaultBy P)
+    → ((f : UnfoldingFault) → P f → Q f) → IfRefused r (IsFaultBy Q)
 part-of r e P Q h is to = refused r e (IsFaultBy P) (IsFaultBy Q) h (fault-by P Q to) is
 
 -- one of a token, by its rule
@@ -129,7 +135,9 @@ value-by P Q to f is = by f.rule refl is
     by rule.Count e is = is
     by rule.Operators e is = absurd is
 
-pub of-value-by : {A : Type 0} (r : Result A (OrMemory UnfoldingFault)) (e : OrMemory UnfoldingFault) (P : Place → Type 0) (Q : UnfoldingFault → Type 0) → IsErrAnd r (λ d. d ≡ e) → ((f : UnfoldingFault) → OfValue P f → Q f) → IfFault e (IsFaultIn P) → IfRefused r (IsFaultBy Q)
+pub of-value-by : {A : Type 0} (r : Result A (OrMemory UnfoldingFault)) (e : OrMemory UnfoldingFault)
+    (P : Place → Type 0) (Q : UnfoldingFault → Type 0) → IsErrAnd r (λ d. d ≡ e)
+    → ((f : UnfoldingFault) → OfValue P f → Q f) → IfFault e (IsFaultIn P) → IfRefused r (IsFaultBy Q)
 of-value-by r e P Q h to is = refused r e (IsFaultIn P) (IsFaultBy Q) h (value-by P Q to) is
 
 -- ---- what it says of the protocol

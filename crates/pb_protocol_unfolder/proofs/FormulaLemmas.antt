@@ -44,6 +44,7 @@ folded-disjunction : (spec : Spec) (left : Name → Bool) (fs : List Formula) �
 folded-disjunction spec left [] = refl
 folded-disjunction spec left (f ∷ fs) = ap (folded_or_formula (folded_formula spec left f)) (folded-disjunction spec left fs)
 
-pub folded-joined : (spec : Spec) (left : Name → Bool) (q : Quantifier) (fs : List Formula) → folded_formula spec left (joined_formulas q fs) ≡ folded_joined_formula q (map (folded_formula spec left) fs)
+pub folded-joined : (spec : Spec) (left : Name → Bool) (q : Quantifier) (fs : List Formula)
+    → folded_formula spec left (joined_formulas q fs) ≡ folded_joined_formula q (map (folded_formula spec left) fs)
 folded-joined spec left Forall fs = folded-conjunction spec left fs
 folded-joined spec left Exists fs = folded-disjunction spec left fs

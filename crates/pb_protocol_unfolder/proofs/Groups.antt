@@ -18,5 +18,6 @@ variables-sorted : (sort : Name) (ys : List StateVariable) → map flat_variable
 variables-sorted sort [] = refl
 variables-sorted sort (y ∷ ys) = ap (λ v. sorted (named sort) (variable_name y) ∷ v) (variables-sorted sort ys)
 
-pub variables-flat : (sort : Name) (ns : List Name) (ys : List StateVariable) → map named ns ≡ map variable_name ys → map (λ (n : Name). sorted (named sort) (named n)) ns ≡ map flat_variable (map (state_variable_form sort) ys)
+pub variables-flat : (sort : Name) (ns : List Name) (ys : List StateVariable) → map named ns ≡ map variable_name ys
+    → map (λ (n : Name). sorted (named sort) (named n)) ns ≡ map flat_variable (map (state_variable_form sort) ys)
 variables-flat sort ns ys same = names-sorted (named sort) ns ∙ ap (map (sorted (named sort))) same ∙ sym (variables-sorted sort ys)

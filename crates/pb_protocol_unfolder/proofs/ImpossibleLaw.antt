@@ -31,7 +31,8 @@ apart-left : (xs ys : List Name) → AreDistinct (xs ++ ys) → AreDistinct xs
 apart-left [] ys apart = tt
 apart-left (x ∷ xs) ys apart = (not-left x xs ys apart.0, apart-left xs ys apart.1)
 
-own-apart : (spec : Spec) (steps : List Step) (a : Step) → Contains steps a → AreDistinct (map instance_name (flat_map (instances_of spec) steps)) → AreDistinct (map instance_name (instances_of spec a))
+own-apart : (spec : Spec) (steps : List Step) (a : Step) → Contains steps a
+    → AreDistinct (map instance_name (flat_map (instances_of spec) steps)) → AreDistinct (map instance_name (instances_of spec a))
 own-apart spec [] a among apart = absurd (omega (arith, among.1))
 own-apart spec (b ∷ steps) a (zero, low, is) apart =
     subst (λ (c : Step). AreDistinct (map instance_name (instances_of spec c))) is

@@ -73,7 +73,9 @@ module _ (m : Protocol) where
   name-unless a others = by (list_any (may_be_taken m) (own_instances a))
     where
       by : (b : Bool) → (if b then [] else string_bytes a.name.text ∷ []) ++ names_of others
-          ≡ map (λ (c : Step). c.name) (if not b then erased_step (step_form a) ∷ filter (is_impossible m) (map erased_step (map step_form others)) else filter (is_impossible m) (map erased_step (map step_form others)))
+          ≡ map (λ (c : Step). c.name)
+          (if not b then erased_step (step_form a) ∷ filter (is_impossible m)
+          (map erased_step (map step_form others)) else filter (is_impossible m) (map erased_step (map step_form others)))
       by true = refl
       by false = refl
 

@@ -39,7 +39,8 @@ each-with : (A : StepSetForm) (ls : List StepSetLink) → (length ls ≡ 0 → �
 each-with A [] some = absurd (some refl)
 each-with A (l ∷ ls) some = refl
 
-pub each-alone : (A x : StepSet) (p : Box StepSet Global) (v : Vec StepSetLink Global) → A ≡ set.Union p v → x ≡ box_value p → length v.items ≡ 0 → is_each (step_set_form x) ≡ is_each (step_set_form A)
+pub each-alone : (A x : StepSet) (p : Box StepSet Global) (v : Vec StepSetLink Global) → A ≡ set.Union p v
+    → x ≡ box_value p → length v.items ≡ 0 → is_each (step_set_form x) ≡ is_each (step_set_form A)
 each-alone A x p v is at none =
     ap (λ (B : StepSet). is_each (step_set_form B)) at ∙ sym (each-without (step_set_form (box_value p)) v.items none)
     ∙ sym (ap (λ (B : StepSet). is_each (step_set_form B)) is ∙ ap is_each (union-form p v))
@@ -75,7 +76,10 @@ module _ (m : Protocol) where
   left-first : (i : Instance) (is : List Instance) (x : Name) → left_in (i ∷ is) x ≡ ((is_kept m i && same_name (instance_name i) x) || left_in is x)
   left-first i is x = by (is_kept m i)
     where
-      by : (b : Bool) → list_any (λ (a : flat.Step). same_name a.name x) (if b then folded_step (data_of m) (unfolded_step m i) ∷ possible is else possible is) ≡ ((b && same_name (instance_name i) x) || left_in is x)
+      by : (b : Bool)
+          → list_any (λ (a : flat.Step). same_name a.name x)
+          (if b then folded_step (data_of m) (unfolded_step m i) ∷ possible is else possible is)
+          ≡ ((b && same_name (instance_name i) x) || left_in is x)
       by true = refl
       by false = refl
 
@@ -109,11 +113,14 @@ module _ (m : Protocol) where
   last-kept false a r e h = h
 
   -- of names apart those are left whose steps are
-  kept-names : (p : Instance → Bool) (is : List Instance) → AreDistinct (map instance_name is) → filter (left_in is) (map instance_name (filter p is)) ≡ map instance_name (filter p (filter (is_kept m) is))
+  kept-names : (p : Instance → Bool) (is : List Instance) → AreDistinct (map instance_name is)
+      → filter (left_in is) (map instance_name (filter p is)) ≡ map instance_name (filter p (filter (is_kept m) is))
   kept-names p [] apart = refl
   kept-names p (i ∷ is) apart =
       by (p i) (is_kept m i) refl
-      (left-first i is (instance_name i) ∙ last-kept (is_kept m i) (same_name (instance_name i) (instance_name i)) (left_in is (instance_name i)) (itself (instance_name i)) (left-none (instance_name i) is apart.0))
+      (left-first i is (instance_name i)
+      ∙ last-kept (is_kept m i) (same_name (instance_name i) (instance_name i)) (left_in is (instance_name i))
+      (itself (instance_name i)) (left-none (instance_name i) is apart.0))
       (filter-others i is (map instance_name (filter p is)) (not-among (instance_name i) p is apart.0) ∙ kept-names p is apart.1)
     where
       by : (b k : Bool) → p i ≡ b → left_in (i ∷ is) (instance_name i) ≡ k → filter (left_in (i ∷ is)) (map instance_name (filter p is)) ≡ map instance_name (filter p (filter (is_kept m) is))
@@ -134,11 +141,15 @@ module _ (u : Unfolder) (scope : TermScope) where
   members-named A (i ∷ is) = by (is_member u scope i A) (members-named A is)
     where
       by : (b : Bool) → map instance_name (filter (λ (j : Instance). is_member u scope j A) is) ≡ member_names u scope A is
-          → map instance_name (if b then i ∷ filter (λ (j : Instance). is_member u scope j A) is else filter (λ (j : Instance). is_member u scope j A) is) ≡ (if b then instance_name i ∷ [] else []) ++ member_names u scope A is
+          → map instance_name
+          (if b then i ∷ filter (λ (j : Instance). is_member u scope j A) is else filter
+          (λ (j : Instance). is_member u scope j A) is) ≡ (if b then instance_name i ∷ [] else []) ++ member_names u scope A is
       by true e = ap (λ v. instance_name i ∷ v) e
       by false e = e
 
-  set-named : (A : StepSetForm) → is_each A ≡ false → unfolded_set (protocol_in u) (scope_in u scope) (erased_steps A) ≡ named_steps (map instance_name (filter (λ (i : Instance). is_member u scope i A) (instances (protocol_in u))))
+  set-named : (A : StepSetForm) → is_each A ≡ false
+      → unfolded_set (protocol_in u) (scope_in u scope) (erased_steps A)
+      ≡ named_steps (map instance_name (filter (λ (i : Instance). is_member u scope i A) (instances (protocol_in u))))
   set-named (StepSetForm.all p) e = absurd (cc)
   set-named (StepSetForm.step x) e = refl
   set-named (StepSetForm.instances x values) e = refl

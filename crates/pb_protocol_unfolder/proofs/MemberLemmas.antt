@@ -37,7 +37,9 @@ or-end false = refl
 -- ---- unions
 
 module _ (u : Unfolder) (scope : TermScope) (i : Instance) where
-  member-united : (A : StepSetForm) (ls : List StepSetLink) → is_member u scope i (chained StepSetForm.union A (map set_link_form ls)) ≡ (is_member u scope i A || list_any (is_member u scope i) (map set_operand ls))
+  member-united : (A : StepSetForm) (ls : List StepSetLink)
+      → is_member u scope i (chained StepSetForm.union A (map set_link_form ls))
+      ≡ (is_member u scope i A || list_any (is_member u scope i) (map set_operand ls))
   member-united A [] = or-end (is_member u scope i A)
   member-united A (l ∷ ls) = ap (λ b. is_member u scope i A || b) (member-united (step_set_form l.operand) ls)
 
@@ -58,7 +60,8 @@ module _ (u : Unfolder) (scope : TermScope) where
   fit xs ks = are_values u scope (map erased_value (map step_value_form xs)) (map written_term ks)
 
   -- past the end of one of them
-  pub fits-end : (xs : List StepValue) (ks : List Written) (p : ℕ) (b : Bool) → b ≡ nat_eq (length xs) (length ks) → ((q : ℕ) → q < length xs → q < length ks → q < p) → p ≤ length xs → p ≤ length ks → b ≡ fit (drop p xs) (drop p ks)
+  pub fits-end : (xs : List StepValue) (ks : List Written) (p : ℕ) (b : Bool) → b ≡ nat_eq (length xs) (length ks)
+      → ((q : ℕ) → q < length xs → q < length ks → q < p) → p ≤ length xs → p ≤ length ks → b ≡ fit (drop p xs) (drop p ks)
   fits-end [] [] zero b is past within inside = is
   fits-end [] [] (suc p) b is past within inside = absurd (omega (arith, within))
   fits-end [] (k ∷ ks) zero b is past within inside = is ∙ grind (arith, nat_tests)
@@ -70,4 +73,6 @@ module _ (u : Unfolder) (scope : TermScope) where
       by (Some y) = grind (arith, nat_tests)
   fits-end (x ∷ xs) [] (suc p) b is past within inside = absurd (omega (arith, inside))
   fits-end (x ∷ xs) (k ∷ ks) zero b is past within inside = absurd (omega (arith, past 0 (omega arith) (omega arith)))
-  fits-end (x ∷ xs) (k ∷ ks) (suc p) b is past within inside = fits-end xs ks p b (is ∙ grind (arith, nat_tests)) (λ q h l. omega (arith, past (suc q) (omega (arith, h)) (omega (arith, l)))) (omega (arith, within)) (omega (arith, inside))
+  fits-end (x ∷ xs) (k ∷ ks) (suc p) b is past within inside =
+      fits-end xs ks p b (is ∙ grind (arith, nat_tests))
+      (λ q h l. omega (arith, past (suc q) (omega (arith, h)) (omega (arith, l)))) (omega (arith, within)) (omega (arith, inside))

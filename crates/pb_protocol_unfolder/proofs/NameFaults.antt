@@ -33,10 +33,12 @@ placed-at : {A : Type 0} (place : A → Place) (xs : List A) (i : ℕ) (x : A) �
 placed-at place xs i x low is =
     slice_get-map place xs i ∙ ap (option_map place) (slice_get-get_or xs i x low) ∙ ap (λ y. Some (place y)) (sym is)
 
-pub repeated-at : {A : Type 0} (place : A → Place) (xs : List A) (i : ℕ) (x : A) (ns names : List Name) → i < length xs → x ≡ get_or xs i x → ns ≡ names → RepeatsAt ns i → IsRepeated names (map place xs) (place x)
+pub repeated-at : {A : Type 0} (place : A → Place) (xs : List A) (i : ℕ) (x : A) (ns names : List Name) → i < length xs
+    → x ≡ get_or xs i x → ns ≡ names → RepeatsAt ns i → IsRepeated names (map place xs) (place x)
 repeated-at place xs i x ns names low is same repeats = (i, subst (λ (v : List Name). RepeatsAt v i) same repeats, placed-at place xs i x low is)
 
-pub taken-at : {A : Type 0} (place : A → Place) (xs : List A) (i : ℕ) (x : A) (others ns names : List Name) → i < length xs → x ≡ get_or xs i x → ns ≡ names → IsTakenAt others ns i → IsTaken others names (map place xs) (place x)
+pub taken-at : {A : Type 0} (place : A → Place) (xs : List A) (i : ℕ) (x : A) (others ns names : List Name)
+    → i < length xs → x ≡ get_or xs i x → ns ≡ names → IsTakenAt others ns i → IsTaken others names (map place xs) (place x)
 taken-at place xs i x others ns names low is same taken = (i, subst (λ (v : List Name). IsTakenAt others v i) same taken, placed-at place xs i x low is)
 
 -- there are as many names as what is named

@@ -144,15 +144,19 @@ pub chain-operators : (c : Connective) (x : term.Term) (p : Box term.Term Global
     → operator_count (tree.term_of t) ≡ operator_count (tree.term_of x) + sum_by operand_operators ls
 chain-operators c x p v ls t is at same =
     ap (λ (y : term.Term). operator_count (tree.term_of y)) is ∙ ap operator_count (chain-said c p v) ∙ chain-counted c (tree.term_of (box_value p)) v.items
-    ∙ sym (ap (λ (y : term.Term). operator_count (tree.term_of y) + sum_by operand_operators ls) at ∙ ap (λ (ks : List TermLink). operator_count (tree.term_of (box_value p)) + sum_by operand_operators ks) same)
+    ∙ sym (ap (λ (y : term.Term). operator_count (tree.term_of y) + sum_by operand_operators ls) at
+    ∙ ap (λ (ks : List TermLink). operator_count (tree.term_of (box_value p)) + sum_by operand_operators ks) same)
 
-pub arithmetic-operators : (x : term.Term) (p : Box term.Term Global) (v : Vec ArithmeticLink Global) (ls : List ArithmeticLink) (t : term.Term) → t ≡ term.Arithmetic p v → x ≡ box_value p → ls ≡ v.items
+pub arithmetic-operators : (x : term.Term) (p : Box term.Term Global) (v : Vec ArithmeticLink Global)
+    (ls : List ArithmeticLink) (t : term.Term) → t ≡ term.Arithmetic p v → x ≡ box_value p → ls ≡ v.items
     → operator_count (tree.term_of t) ≡ operator_count (tree.term_of x) + sum_by operation_operators ls
 arithmetic-operators x p v ls t is at same =
     ap (λ (y : term.Term). operator_count (tree.term_of y)) is ∙ ap operator_count (arithmetic-said p v) ∙ calculated-counted (tree.term_of (box_value p)) v.items
-    ∙ sym (ap (λ (y : term.Term). operator_count (tree.term_of y) + sum_by operation_operators ls) at ∙ ap (λ (ks : List ArithmeticLink). operator_count (tree.term_of (box_value p)) + sum_by operation_operators ks) same)
+    ∙ sym (ap (λ (y : term.Term). operator_count (tree.term_of y) + sum_by operation_operators ls) at
+    ∙ ap (λ (ks : List ArithmeticLink). operator_count (tree.term_of (box_value p)) + sum_by operation_operators ks) same)
 
-pub application-operators : (f : declared_name.Name) (v : Vec Argument Global) (xs : List Argument) (t : term.Term) → t ≡ term.Application f v → xs ≡ v.items → operator_count (tree.term_of t) ≡ suc (sum_by argument_operators xs)
+pub application-operators : (f : declared_name.Name) (v : Vec Argument Global) (xs : List Argument) (t : term.Term)
+    → t ≡ term.Application f v → xs ≡ v.items → operator_count (tree.term_of t) ≡ suc (sum_by argument_operators xs)
 application-operators f v xs t is same =
     ap (λ (y : term.Term). operator_count (tree.term_of y)) is ∙ ap operator_count (application-said f v)
     ∙ ap suc (arguments-counted v.items ∙ sym (ap (sum_by argument_operators) same))
@@ -171,14 +175,18 @@ conjunction-counted : (S : Spec) (left : Name → Bool) (fs : List Formula) → 
 conjunction-counted S left [] = refl
 conjunction-counted S left (f ∷ fs) =
     let rest = conjunction-counted S left fs in
-    let next : sum_by (λ g. suc (formula_operators S left g)) (f ∷ fs) ≡ suc (formula_operators S left f) + sum_by (λ g. suc (formula_operators S left g)) fs = sum_by-cons (λ g. suc (formula_operators S left g)) f fs in
+    let next : sum_by (λ g. suc (formula_operators S left g)) (f ∷ fs)
+    ≡ suc (formula_operators S left f) + sum_by (λ g. suc (formula_operators S left g)) fs =
+    sum_by-cons (λ g. suc (formula_operators S left g)) f fs in
     omega (arith, rest, next)
 
 disjunction-counted : (S : Spec) (left : Name → Bool) (fs : List Formula) → formula_operators S left (disjunction fs) ≡ sum_by (λ f. suc (formula_operators S left f)) fs
 disjunction-counted S left [] = refl
 disjunction-counted S left (f ∷ fs) =
     let rest = disjunction-counted S left fs in
-    let next : sum_by (λ g. suc (formula_operators S left g)) (f ∷ fs) ≡ suc (formula_operators S left f) + sum_by (λ g. suc (formula_operators S left g)) fs = sum_by-cons (λ g. suc (formula_operators S left g)) f fs in
+    let next : sum_by (λ g. suc (formula_operators S left g)) (f ∷ fs)
+    ≡ suc (formula_operators S left f) + sum_by (λ g. suc (formula_operators S left g)) fs =
+    sum_by-cons (λ g. suc (formula_operators S left g)) f fs in
     omega (arith, rest, next)
 
 joined-counted : (S : Spec) (left : Name → Bool) (q : Quantifier) (fs : List Formula) → formula_operators S left (joined_formulas q fs) ≡ sum_by (λ f. suc (formula_operators S left f)) fs
@@ -193,7 +201,9 @@ module _ (u : Unfolder) (scope : declared_scope.TermScope) where
   connected-operators connective.Or q F G = refl
   connected-operators connective.Implies q F G = refl
 
-  links-operators : (c : Connective) (F : FormulaForm) (ls : List Link) → left_operators u scope (chained (FormulaForm.connected c) F (map link_form ls)) ≡ left_operators u scope F + sum_by (link_operators u scope) ls
+  links-operators : (c : Connective) (F : FormulaForm) (ls : List Link)
+      → left_operators u scope (chained (FormulaForm.connected c) F (map link_form ls))
+      ≡ left_operators u scope F + sum_by (link_operators u scope) ls
   links-operators c F [] = omega arith
   links-operators c F (l ∷ ls) =
       let whole = connected-operators c l.place F (chained (FormulaForm.connected c) (formula_form l.operand) (map link_form ls)) in
@@ -201,13 +211,16 @@ module _ (u : Unfolder) (scope : declared_scope.TermScope) where
       let next : sum_by (link_operators u scope) (l ∷ ls) ≡ suc (left_operators u scope (formula_form l.operand)) + sum_by (link_operators u scope) ls = sum_by-cons (link_operators u scope) l ls in
       omega (arith, whole, rest, next)
 
-  pub chain-formula : (c : Connective) (x : formula.Formula) (p : Box formula.Formula Global) (v : Vec Link Global) (ls : List Link) (f : formula.Formula) → f ≡ formula.Chain c p v → x ≡ box_value p → ls ≡ v.items
+  pub chain-formula : (c : Connective) (x : formula.Formula) (p : Box formula.Formula Global) (v : Vec Link Global)
+      (ls : List Link) (f : formula.Formula) → f ≡ formula.Chain c p v → x ≡ box_value p → ls ≡ v.items
       → left_operators u scope (formula_form f) ≡ left_operators u scope (formula_form x) + sum_by (link_operators u scope) ls
   chain-formula c x p v ls f is at same =
       ap (λ (y : formula.Formula). left_operators u scope (formula_form y)) is ∙ ap (left_operators u scope) (chain-form c p v) ∙ links-operators c (formula_form (box_value p)) v.items
-      ∙ sym (ap (λ (y : formula.Formula). left_operators u scope (formula_form y) + sum_by (link_operators u scope) ls) at ∙ ap (λ (ks : List Link). left_operators u scope (formula_form (box_value p)) + sum_by (link_operators u scope) ks) same)
+      ∙ sym (ap (λ (y : formula.Formula). left_operators u scope (formula_form y) + sum_by (link_operators u scope) ls)
+      at ∙ ap (λ (ks : List Link). left_operators u scope (formula_form (box_value p)) + sum_by (link_operators u scope) ks) same)
 
-  pub modal-operators : (k : Modality) (p : Place) (A : StepSetForm) (F : FormulaForm) → left_operators u scope (FormulaForm.modal k p A F) ≡ suc (name_count (left_set u scope A) + left_operators u scope F)
+  pub modal-operators : (k : Modality) (p : Place) (A : StepSetForm) (F : FormulaForm)
+      → left_operators u scope (FormulaForm.modal k p A F) ≡ suc (name_count (left_set u scope A) + left_operators u scope F)
   modal-operators modality.Box p A F = refl
   modal-operators modality.Diamond p A F = refl
 
@@ -224,7 +237,9 @@ module _ (u : Unfolder) (scope : declared_scope.TermScope) where
       ∙ sum-mapped (λ g. suc (formula_operators (data_of m) left g)) (λ (ks : List Term). f (standing ys (terms_of ks) ρ)) (written_tuples (data_of m) ys)
 
   -- the copies that the code makes
-  pub copies-counted : (made : Copies) (f : formula.Formula) (ts : List (Vec Written Global)) (xs : List syntax.Variable) (tuples : List (List Term)) → map variable_of made.variables.now ≡ xs → made.outer.now ≡ scope → map tuple_of ts ≡ tuples
+  pub copies-counted : (made : Copies) (f : formula.Formula) (ts : List (Vec Written Global))
+      (xs : List syntax.Variable) (tuples : List (List Term)) → map variable_of made.variables.now ≡ xs
+      → made.outer.now ≡ scope → map tuple_of ts ≡ tuples
       → sum_by (copy_operators u made f) ts ≡ sum_by (tuple_operators u scope xs (formula_form f)) tuples
   copies-counted made f ts xs tuples variables outer are =
       let ys = map variable_of made.variables.now in

@@ -73,7 +73,8 @@ chain-places k F [] = sym (append-nil (formula_places F))
 chain-places k F (l ∷ ls) = ap (λ v. formula_places F ++ v) (chain-places k (formula_form l.operand) ls)
 
 pub chain-among : (k : Connective) (x : Formula) (p : Box Formula Global) (v : Vec Link Global) (ls : List Link) (f : Formula) (whole first links : List Place)
-    → f ≡ formula.Chain k p v → x ≡ box_value p → ls ≡ v.items → AreAmong whole (first ++ links) → AreAmong first (places_in x) → AreAmong links (flat_map link_places ls) → AreAmong whole (places_in f)
+    → f ≡ formula.Chain k p v → x ≡ box_value p → ls ≡ v.items → AreAmong whole (first ++ links)
+    → AreAmong first (places_in x) → AreAmong links (flat_map link_places ls) → AreAmong whole (places_in f)
 chain-among k x p v ls f whole first links is at same are of-first of-links =
     let same-places : places_in x ++ flat_map link_places ls ≡ places_in f =
     ap (λ (y : Formula). places_in y ++ flat_map link_places ls) at

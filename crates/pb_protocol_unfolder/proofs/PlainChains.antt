@@ -42,7 +42,8 @@ and-assoc false b c = refl
 
 -- ---- terms
 
-plain-chained : (c : Connective) (x : TermForm) (ls : List TermLink) → is_plain_term (chained (TermForm.connected c) x (term_links ls)) ≡ (is_plain_term x && list_all is_plain_term (map operand_form ls))
+plain-chained : (c : Connective) (x : TermForm) (ls : List TermLink)
+    → is_plain_term (chained (TermForm.connected c) x (term_links ls)) ≡ (is_plain_term x && list_all is_plain_term (map operand_form ls))
 plain-chained c x [] = sym (and-true (is_plain_term x))
 plain-chained c x (l ∷ ls) = ap (λ b. is_plain_term x && b) (plain-chained c (term_form l.operand) ls)
 
@@ -66,13 +67,16 @@ term-calculated x p v ls t is at same =
     ∙ ap (λ (u : Term). is_plain_term (term_form u) && list_all is_plain_term (map operation_form v.items)) (sym at)
     ∙ ap (λ (ks : List ArithmeticLink). is_plain_term (term_form x) && list_all is_plain_term (map operation_form ks)) (sym same)
 
-pub term-applied : (f : Name) (v : Vec Argument Global) (xs : List Argument) (t : Term) → t ≡ term.Application f v → xs ≡ v.items → is_plain_term (term_form t) ≡ are_plain_arguments (argument_forms xs)
+pub term-applied : (f : Name) (v : Vec Argument Global) (xs : List Argument) (t : Term) → t ≡ term.Application f v
+    → xs ≡ v.items → is_plain_term (term_form t) ≡ are_plain_arguments (argument_forms xs)
 term-applied f v xs t is same =
     ap (λ (u : Term). is_plain_term (term_form u)) is ∙ ap is_plain_term (term-application f v) ∙ ap (λ (ys : List Argument). are_plain_arguments (argument_forms ys)) (sym same)
 
 -- ---- formulas and sets of steps
 
-formulas-chained : (c : Connective) (f : FormulaForm) (ls : List Link) → is_plain_formula (chained (FormulaForm.connected c) f (map link_form ls)) ≡ (is_plain_formula f && list_all is_plain_formula (map formula_operand ls))
+formulas-chained : (c : Connective) (f : FormulaForm) (ls : List Link)
+    → is_plain_formula (chained (FormulaForm.connected c) f (map link_form ls))
+    ≡ (is_plain_formula f && list_all is_plain_formula (map formula_operand ls))
 formulas-chained c f [] = sym (and-true (is_plain_formula f))
 formulas-chained c f (l ∷ ls) = ap (λ b. is_plain_formula f && b) (formulas-chained c (formula_form l.operand) ls)
 

@@ -40,7 +40,9 @@ map-twice f g [] = refl
 map-twice f g (x ∷ xs) = ap (λ v. f (g x) ∷ v) (map-twice f g xs)
 
 properties-said : (u : Unfolder) (ps : List declared_flat.Property) (qs : List declared_property.Property) → map property_said ps ≡ map (left_property u) qs
-    → map flat_erase.erased_property (map flat_form.property_form ps) ≡ map (folded_property (unfolded (protocol_in u))) (map (unfolded_property (protocol_in u)) (map erased_property (map property_form qs)))
+    → map flat_erase.erased_property (map flat_form.property_form ps)
+    ≡ map (folded_property (unfolded (protocol_in u)))
+    (map (unfolded_property (protocol_in u)) (map erased_property (map property_form qs)))
 properties-said u ps qs same =
     map-twice flat_erase.erased_property flat_form.property_form ps ∙ same
     ∙ sym (map-twice (folded_property (unfolded (protocol_in u))) (λ (q : declared_property.Property). unfolded_property (protocol_in u) (erased_property (property_form q))) qs)
@@ -58,7 +60,9 @@ pub model-said : (u : Unfolder) (p : declared_protocol.Protocol) (text : flat_fo
     → flat_erase.erase text ≡ folded_model (unfolded (protocol_in u))
 model-said u p text steps ps same of-steps of-properties sorts ranges variables are initial properties =
     let n = folded_model (unfolded (protocol_in u)) in
-    let with : List syntax.SortDeclaration → List syntax.Range → List syntax.Variable → List flat.Step → syntax.Terms → List flat.Property → flat.Model = λ ss rs xs us is qs. record { sorts = ss; ranges = rs; variables = xs; steps = us; initial = is; properties = qs } in
+    let with : List syntax.SortDeclaration → List syntax.Range → List syntax.Variable → List flat.Step → syntax.Terms
+    → List flat.Property → flat.Model =
+    λ ss rs xs us is qs. record { sorts = ss; ranges = rs; variables = xs; steps = us; initial = is; properties = qs } in
     let texts = flat_erase.erase text in
     ap (λ v. with v texts.ranges texts.variables texts.steps texts.initial texts.properties) (sorts ∙ ap (λ (m : Protocol). m.sorts) (sym same))
     ∙ ap (λ v. with n.sorts v texts.variables texts.steps texts.initial texts.properties) (ranges ∙ ap (λ (m : Protocol). m.ranges) (sym same))
@@ -71,7 +75,8 @@ model-said u p text steps ps same of-steps of-properties sorts ranges variables 
 
 -- ---- as the code comes to them
 
-pub kept-instances : (u : Unfolder) (p : declared_protocol.Protocol) (is left : List declared_instance.Instance) (kept : List Bool) (xs : List declared_instance.Instance) (bs : List Bool) (ys : List declared_instance.Instance)
+pub kept-instances : (u : Unfolder) (p : declared_protocol.Protocol) (is left : List declared_instance.Instance)
+    (kept : List Bool) (xs : List declared_instance.Instance) (bs : List Bool) (ys : List declared_instance.Instance)
     → protocol_in u ≡ protocol_of p → xs ≡ is → bs ≡ kept → ys ≡ is → map instance_said is ≡ instances (protocol_of p) → kept ≡ map (is_kept (protocol_in u)) (map instance_said ys)
     → map instance_said left ≡ chosen (map instance_said xs) bs → map instance_said left ≡ filter (is_kept (protocol_in u)) (instances (protocol_in u))
 kept-instances u p is left kept xs bs ys same at at' at'' all are chosen-are =
@@ -81,7 +86,8 @@ kept-instances u p is left kept xs bs ys same at at' at'' all are chosen-are =
     ∙ ap (λ (v : List declared_instance.Instance). chosen (map instance_said is) (map (is_kept m) (map instance_said v))) at''
     ∙ chosen-filter (is_kept m) (map instance_said is) ∙ ap (filter (is_kept m)) every
 
-pub apart-instances : (u : Unfolder) (p : declared_protocol.Protocol) (is xs : List declared_instance.Instance) → protocol_in u ≡ protocol_of p → xs ≡ is → map instance_said is ≡ instances (protocol_of p)
+pub apart-instances : (u : Unfolder) (p : declared_protocol.Protocol) (is xs : List declared_instance.Instance)
+    → protocol_in u ≡ protocol_of p → xs ≡ is → map instance_said is ≡ instances (protocol_of p)
     → AreDistinct (map instance_name (map instance_said xs)) → AreDistinct (map instance_name (instances (protocol_in u)))
 apart-instances u p is xs same at all apart =
     let P : List Instance → Type 0 = λ v. AreDistinct (map instance_name v) in

@@ -47,11 +47,13 @@ meant-nameless ρ (Term.Binary o x y) e = refl
 meant-nameless ρ (Term.Apply f xs) e = refl
 meant-nameless ρ (Term.Quantified q xs x) e = refl
 
-pub said-so : {A : Type 0} (m : Protocol) (place : Place) (s t : Term) (r : Result A (OrMemory UnfoldingFault)) → s ≡ t → IfRefused r (IsFaultIn (IsAt place (HasNoValue m s))) → IfRefused r (IsFaultIn (IsAt place (HasNoValue m t)))
+pub said-so : {A : Type 0} (m : Protocol) (place : Place) (s t : Term) (r : Result A (OrMemory UnfoldingFault)) → s ≡ t
+    → IfRefused r (IsFaultIn (IsAt place (HasNoValue m s))) → IfRefused r (IsFaultIn (IsAt place (HasNoValue m t)))
 said-so m place s t r same is = subst (λ (x : Term). IfRefused r (IsFaultIn (IsAt place (HasNoValue m x)))) same is
 
 -- a value, or the error
-pub refused-or : {A : Type 0} (o : Option A) (e : OrMemory UnfoldingFault) (r : Result A (OrMemory UnfoldingFault)) (P : UnfoldingFault → Type 0) → r ≡ ok_or o e → (o ≡ None → IfFault e P) → IfRefused r P
+pub refused-or : {A : Type 0} (o : Option A) (e : OrMemory UnfoldingFault) (r : Result A (OrMemory UnfoldingFault))
+    (P : UnfoldingFault → Type 0) → r ≡ ok_or o e → (o ≡ None → IfFault e P) → IfRefused r P
 refused-or {A = A} (Some v) e r P is to = subst (λ (x : Result A (OrMemory UnfoldingFault)). IfRefused x P) (sym is) tt
 refused-or {A = A} None e r P is to = subst (λ (x : Result A (OrMemory UnfoldingFault)). IfRefused x P) (sym is) (to refl)
 
@@ -131,7 +133,8 @@ module _ (m : ProtocolForm) (Many : Type 0) (ρ : TermScope) (p : UnfoldingFault
   linked-fault c f (l ∷ ls) (inl is) = inr (inl is)
   linked-fault c f (l ∷ ls) (inr (k, at, is)) =
       elim (first-or-behind l ls k at) [
-        | inl same ↦ by (λ fault. linked-fault c (formula_form l.operand) ls (inl fault)) (subst (λ (j : Link). OfMany Many j.place p ⊎ IsFaultOfFormula m Many ρ (formula_form j.operand) p) (sym same) is)
+        | inl same ↦ by (λ fault. linked-fault c (formula_form l.operand) ls (inl fault))
+            (subst (λ (j : Link). OfMany Many j.place p ⊎ IsFaultOfFormula m Many ρ (formula_form j.operand) p) (sym same) is)
         | inr behind ↦ inr (inr (linked-fault c (formula_form l.operand) ls (inr (k, behind, is))))
       ]
     where

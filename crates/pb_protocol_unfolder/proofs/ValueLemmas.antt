@@ -78,7 +78,8 @@ module _ (spec : Spec) where
   valued-up [] x = refl
   valued-up ((y, t) ∷ ρ) x = by (same_name y x) (valued-up ρ x)
     where
-      by : (b : Bool) → looked_up (valued spec [] ρ) x ≡ valued_term (term_of ρ x) → (if b then Some (value spec [] t) else looked_up (valued spec [] ρ) x) ≡ valued_term (if b then Some t else term_of ρ x)
+      by : (b : Bool) → looked_up (valued spec [] ρ) x ≡ valued_term (term_of ρ x)
+          → (if b then Some (value spec [] t) else looked_up (valued spec [] ρ) x) ≡ valued_term (if b then Some t else term_of ρ x)
       by true e = refl
       by false e = e
 

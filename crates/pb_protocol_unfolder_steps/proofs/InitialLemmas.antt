@@ -36,7 +36,9 @@ folded-terms spec (t ∷ ts) = ap (Terms.Then (folded spec false t)) (folded-ter
 abbrev indices_in : StateVariable → List Variable
 indices_in y = y.indices
 
-indices-appended : (xs ys : List StateVariableForm) → map indices_in (map erased_state_variable (xs ++ ys)) ≡ map indices_in (map erased_state_variable xs) ++ map indices_in (map erased_state_variable ys)
+indices-appended : (xs ys : List StateVariableForm)
+    → map indices_in (map erased_state_variable (xs ++ ys))
+    ≡ map indices_in (map erased_state_variable xs) ++ map indices_in (map erased_state_variable ys)
 indices-appended [] ys = refl
 indices-appended (x ∷ xs) ys = ap (λ v. indices_in (erased_state_variable x) ∷ v) (indices-appended xs ys)
 
@@ -70,11 +72,15 @@ elements-counted p =
 
 -- ---- values
 
-fused : (m : Protocol) (is : List Variable) (x : Term) (kss : List (List Term)) → map (term_at m is x) kss ≡ map (folded (data_of m) false) (map (λ (ks : List Term). put_in (data_of m) no_forms (written is ks) x) kss)
+fused : (m : Protocol) (is : List Variable) (x : Term) (kss : List (List Term))
+    → map (term_at m is x) kss
+    ≡ map (folded (data_of m) false) (map (λ (ks : List Term). put_in (data_of m) no_forms (written is ks) x) kss)
 fused m is x [] = refl
 fused m is x (ks ∷ kss) = ap (λ v. term_at m is x ks ∷ v) (fused m is x kss)
 
-values : (m : Protocol) (ys : List StateVariable) (xs : List Argument) → initial_values m (map indices_in ys) (map argument_term xs) ≡ map (folded (data_of m) false) (unfolded_initial (data_of m) ys (terms_of (map argument_term xs)))
+values : (m : Protocol) (ys : List StateVariable) (xs : List Argument)
+    → initial_values m (map indices_in ys) (map argument_term xs)
+    ≡ map (folded (data_of m) false) (unfolded_initial (data_of m) ys (terms_of (map argument_term xs)))
 values m [] xs = refl
 values m (y ∷ ys) [] = refl
 values m (y ∷ ys) (x ∷ xs) =
@@ -105,7 +111,9 @@ left m ys xs = initial_values m (map indices_behind ys) (map argument_term xs)
 -- the values of one more variable stand first in what is left
 pub one-more : (m : Protocol) (ys : List (Bor declared_variable.StateVariable)) (xs : List Argument) (k j : ℕ) (y : Bor declared_variable.StateVariable) (x : Argument) → j ≡ suc k
     → k < length ys → k < length xs → y ≡ get_or ys k y → x ≡ get_or xs k x
-    → terms_at m (indices_said y.now) (argument_term x) ++ initial_values m (map indices_behind (drop j ys)) (map argument_term (drop j xs)) ≡ initial_values m (map indices_behind (drop k ys)) (map argument_term (drop k xs))
+    → terms_at m (indices_said y.now) (argument_term x)
+    ++ initial_values m (map indices_behind (drop j ys)) (map argument_term (drop j xs))
+    ≡ initial_values m (map indices_behind (drop k ys)) (map argument_term (drop k xs))
 one-more m ys xs k j y x next in-ys in-xs y-is x-is =
     let e : drop k ys ≡ y ∷ drop (suc k) ys = drop-cons ys k y in-ys ∙ ap (λ v. v ∷ drop (suc k) ys) (sym y-is) in
     let f : drop k xs ≡ x ∷ drop (suc k) xs = drop-cons xs k x in-xs ∙ ap (λ v. v ∷ drop (suc k) xs) (sym x-is) in

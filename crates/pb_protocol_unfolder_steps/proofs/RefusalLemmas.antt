@@ -13,7 +13,8 @@ use Rattle.pb_protocol_unfolder_steps.specs.declared.fault.StepsFault.TheVariant
 use Rattle.pb_protocol_unfolder_steps.specs.Refusals.{IsPassed, IsPassedIn, IsTermOr, placed}
 
 -- the fault of a call is that of its caller
-pub refused : {A : Type 0} (r : Result A (OrMemory StepsFault)) (e : OrMemory StepsFault) (P Q : StepsFault → Type 0) → IsErrAnd r (λ d. d ≡ e) → ((f : StepsFault) → P f → Q f) → IfFault e P → IfRefused r Q
+pub refused : {A : Type 0} (r : Result A (OrMemory StepsFault)) (e : OrMemory StepsFault) (P Q : StepsFault → Type 0)
+    → IsErrAnd r (λ d. d ≡ e) → ((f : StepsFault) → P f → Q f) → IfFault e P → IfRefused r Q
 refused (Ok a) e P Q h to p = tt
 refused (Err d) e P Q h to p = subst (λ (x : OrMemory StepsFault). IfFault x Q) (sym h) (both e p)
   where

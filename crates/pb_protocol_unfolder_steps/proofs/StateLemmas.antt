@@ -37,7 +37,8 @@ spec_with sorts ranges = record {
 }
 
 -- the sorts of a tree are those of its protocol
-pub spec-said : (p : declared_protocol.Protocol) (ds : List SortDeclaration) (rs : List Range) → ds ≡ p.sorts.items → rs ≡ p.ranges.items → spec_with (declarations ds) (ranges_said rs) ≡ data_of (protocol_of p)
+pub spec-said : (p : declared_protocol.Protocol) (ds : List SortDeclaration) (rs : List Range) → ds ≡ p.sorts.items
+    → rs ≡ p.ranges.items → spec_with (declarations ds) (ranges_said rs) ≡ data_of (protocol_of p)
 spec-said p ds rs sorts ranges =
     ap (λ (v : List SortDeclaration). spec_with (declarations v) (ranges_said rs)) sorts
     ∙ ap (λ (v : List syntax.SortDeclaration). spec_with v (ranges_said rs)) (sorts-said p.sorts.items)
@@ -45,13 +46,17 @@ spec-said p ds rs sorts ranges =
 
 -- ---- elements
 
-flat-append : (spec : Spec) (xs ys : List StateVariableForm) → flat_map (elements_of spec) (map erased_state_variable (xs ++ ys)) ≡ flat_map (elements_of spec) (map erased_state_variable xs) ++ flat_map (elements_of spec) (map erased_state_variable ys)
+flat-append : (spec : Spec) (xs ys : List StateVariableForm)
+    → flat_map (elements_of spec) (map erased_state_variable (xs ++ ys))
+    ≡ flat_map (elements_of spec) (map erased_state_variable xs) ++ flat_map (elements_of spec) (map erased_state_variable ys)
 flat-append spec [] ys = refl
 flat-append spec (x ∷ xs) ys =
     ap (λ v. elements_of spec (erased_state_variable x) ++ v) (flat-append spec xs ys)
     ∙ sym (append_assoc (elements_of spec (erased_state_variable x)) (flat_map (elements_of spec) (map erased_state_variable xs)) (flat_map (elements_of spec) (map erased_state_variable ys)))
 
-of-group : (spec : Spec) (sort : Name) (ys : List declared_variable.StateVariable) → flat_map (elements_of_variable spec sort) ys ≡ flat_map (elements_of spec) (map erased_state_variable (map (state_variable_form sort) ys))
+of-group : (spec : Spec) (sort : Name) (ys : List declared_variable.StateVariable)
+    → flat_map (elements_of_variable spec sort) ys
+    ≡ flat_map (elements_of spec) (map erased_state_variable (map (state_variable_form sort) ys))
 of-group spec sort [] = refl
 of-group spec sort (y ∷ ys) = ap (λ v. elements_of_variable spec sort y ++ v) (of-group spec sort ys)
 
@@ -66,7 +71,8 @@ of-state spec (g ∷ gs) =
 pub elements-said : (spec : Spec) (p : declared_protocol.Protocol) → spec ≡ data_of (protocol_of p) → elements_of_state spec p.state.items ≡ all_elements (protocol_of p)
 elements-said spec p same = ap (λ (s : Spec). elements_of_state s p.state.items) same ∙ of-state (data_of (protocol_of p)) p.state.items
 
-places-of-group : (spec : Spec) (sort : Name) (ys : List declared_variable.StateVariable) → flat_map (places_of_variable spec sort) ys ≡ flat_map (places_of_elements spec) (map (state_variable_form sort) ys)
+places-of-group : (spec : Spec) (sort : Name) (ys : List declared_variable.StateVariable)
+    → flat_map (places_of_variable spec sort) ys ≡ flat_map (places_of_elements spec) (map (state_variable_form sort) ys)
 places-of-group spec sort [] = refl
 places-of-group spec sort (y ∷ ys) = ap (λ v. places_of_variable spec sort y ++ v) (places-of-group spec sort ys)
 

@@ -100,7 +100,9 @@ places-longer : (k n j : ℕ) → j ≡ k + n → places_from k n ++ place_of_st
 places-longer k zero j e = let same : j ≡ k = omega (arith, e) in ap (λ (i : ℕ). place_of_step i ∷ []) same
 places-longer k (suc n) j e = let next : j ≡ suc k + n = omega (arith, e) in ap (λ v. place_of_step k ∷ v) (places-longer (suc k) n j next)
 
-pub one-place : (ss new : List declared_step.Step) (a : declared_step.Step) → new ≡ ss ++ a ∷ [] → map step_place ss ≡ places_from 0 (length ss) → step_place a ≡ place_of_step (length ss) → map step_place new ≡ places_from 0 (length new)
+pub one-place : (ss new : List declared_step.Step) (a : declared_step.Step) → new ≡ ss ++ a ∷ []
+    → map step_place ss ≡ places_from 0 (length ss) → step_place a ≡ place_of_step (length ss)
+    → map step_place new ≡ places_from 0 (length new)
 one-place ss new a added before at =
     let n = length ss in
     let same : n ≡ 0 + n = omega arith in
@@ -115,7 +117,8 @@ drop-next xs k x h is =
     let next : suc k ≡ k + 1 = omega arith in
     drop-cons xs k x h ∙ ap (λ v. v ∷ drop (suc k) xs) (sym is) ∙ ap (λ (n : ℕ). x ∷ drop n xs) next
 
-pub one-step : {A B : Type 0} (f : A → List B) (all old new found : List B) (a : A) (rest : List A) → new ≡ old ++ found → found ≡ f a → old ++ flat_map f (a ∷ rest) ≡ all → new ++ flat_map f rest ≡ all
+pub one-step : {A B : Type 0} (f : A → List B) (all old new found : List B) (a : A) (rest : List A) → new ≡ old ++ found
+    → found ≡ f a → old ++ flat_map f (a ∷ rest) ≡ all → new ++ flat_map f rest ≡ all
 one-step f all old new found a rest added same before =
     ap (λ v. v ++ flat_map f rest) (added ∙ ap (λ v. old ++ v) same) ∙ append_assoc old (f a) (flat_map f rest) ∙ before
 

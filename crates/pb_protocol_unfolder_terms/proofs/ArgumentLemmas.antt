@@ -18,7 +18,8 @@ use Rattle.pb_protocol_unfolder_terms.specs.declared.unfolded.Unfolded.{Unfolded
 use Rattle.pb_protocol_folding.specs.Folding.{folded, folded_arguments}
 
 -- three arguments one by one
-pub arguments-three : (S : Spec) (forms : Forms) (ρ : TermScope) (f : Name) (given : List Argument) (a b d : Argument) → length given ≡ 3 → a ≡ get_or given 0 a → b ≡ get_or given 1 b → d ≡ get_or given 2 d
+pub arguments-three : (S : Spec) (forms : Forms) (ρ : TermScope) (f : Name) (given : List Argument) (a b d : Argument)
+    → length given ≡ 3 → a ≡ get_or given 0 a → b ≡ get_or given 1 b → d ≡ get_or given 2 d
     → choice_of f (put_in S forms ρ (tree.term_of a.term)) (put_in S forms ρ (tree.term_of b.term)) (put_in S forms ρ (tree.term_of d.term)) ≡ Term.Apply f (all_put_in S forms ρ (tree.terms_of given))
 arguments-three S forms ρ f [] a b d three ea eb ed = absurd (omega (arith, three))
 arguments-three S forms ρ f (x ∷ []) a b d three ea eb ed = absurd (omega (arith, three))
@@ -42,7 +43,8 @@ weaker n xs (Refused f) m x h r = by f.rule r
 
 -- two of three arguments
 pub first-and-second : (S : Spec) (forms : Forms) (ρ : TermScope) (f : Name) (given : List Argument) (a b : Argument) → length given ≡ 3 → a ≡ get_or given 0 a → b ≡ get_or given 1 b
-    → choice_of f (put_in S forms ρ (tree.term_of a.term)) (put_in S forms ρ (tree.term_of b.term)) (put_in S forms ρ (tree.term_of (get_or given 2 a).term)) ≡ Term.Apply f (all_put_in S forms ρ (tree.terms_of given))
+    → choice_of f (put_in S forms ρ (tree.term_of a.term)) (put_in S forms ρ (tree.term_of b.term))
+    (put_in S forms ρ (tree.term_of (get_or given 2 a).term)) ≡ Term.Apply f (all_put_in S forms ρ (tree.terms_of given))
 first-and-second S forms ρ f [] a b three ea eb = absurd (omega (arith, three))
 first-and-second S forms ρ f (x ∷ []) a b three ea eb = absurd (omega (arith, three))
 first-and-second S forms ρ f (x ∷ y ∷ []) a b three ea eb = absurd (omega (arith, three))
@@ -52,7 +54,8 @@ first-and-second S forms ρ f (x ∷ y ∷ z ∷ []) a b three ea eb =
 first-and-second S forms ρ f (x ∷ y ∷ z ∷ w ∷ given) a b three ea eb = absurd (omega (arith, three))
 
 pub first-and-third : (S : Spec) (forms : Forms) (ρ : TermScope) (f : Name) (given : List Argument) (a d : Argument) → length given ≡ 3 → a ≡ get_or given 0 a → d ≡ get_or given 2 d
-    → choice_of f (put_in S forms ρ (tree.term_of a.term)) (put_in S forms ρ (tree.term_of (get_or given 1 a).term)) (put_in S forms ρ (tree.term_of d.term)) ≡ Term.Apply f (all_put_in S forms ρ (tree.terms_of given))
+    → choice_of f (put_in S forms ρ (tree.term_of a.term)) (put_in S forms ρ (tree.term_of (get_or given 1 a).term))
+    (put_in S forms ρ (tree.term_of d.term)) ≡ Term.Apply f (all_put_in S forms ρ (tree.terms_of given))
 first-and-third S forms ρ f [] a d three ea ed = absurd (omega (arith, three))
 first-and-third S forms ρ f (x ∷ []) a d three ea ed = absurd (omega (arith, three))
 first-and-third S forms ρ f (x ∷ y ∷ []) a d three ea ed = absurd (omega (arith, three))
@@ -120,7 +123,8 @@ counts-last : (ts : Terms) (x : Term) → operator_counts (with_last ts x) ≡ o
 counts-last Terms.NoTerms x = omega arith
 counts-last (Terms.Then t ts) x = omega (arith, counts-last ts x)
 
-counts-taken : (S : Spec) (forms : Forms) (ρ : TermScope) (given : List Argument) (k : ℕ) → operator_counts (all_put_in S forms ρ (tree.terms_of (take k given))) ≤ operator_counts (all_put_in S forms ρ (tree.terms_of given))
+counts-taken : (S : Spec) (forms : Forms) (ρ : TermScope) (given : List Argument) (k : ℕ)
+    → operator_counts (all_put_in S forms ρ (tree.terms_of (take k given))) ≤ operator_counts (all_put_in S forms ρ (tree.terms_of given))
 counts-taken S forms ρ [] zero = omega arith
 counts-taken S forms ρ [] (suc k) = omega arith
 counts-taken S forms ρ (a ∷ given) zero = omega arith
@@ -134,7 +138,9 @@ argument-within S forms ρ given k a within is =
     let last = counts-last (all_put_in S forms ρ (tree.terms_of (take k given))) (put_in S forms ρ (tree.term_of a.term)) in
     omega (arith, next, last, counts-taken S forms ρ given (k + 1))
 
-pub next-refused : (n k : ℕ) (x : Term) (before whole : Terms) (e : OrMemory UnfoldFault) → n ≤ k + operator_counts before → operator_counts before + operator_count x ≤ operator_counts whole → IsRefusal k x e → IsRefusalOfAll n whole e
+pub next-refused : (n k : ℕ) (x : Term) (before whole : Terms) (e : OrMemory UnfoldFault)
+    → n ≤ k + operator_counts before → operator_counts before + operator_count x ≤ operator_counts whole
+    → IsRefusal k x e → IsRefusalOfAll n whole e
 next-refused n k x before whole e left within r = weaker n whole e k x (λ h. omega (arith, h, left, within)) r
 
 -- the truth of the argument behind one more doesn't count
@@ -156,7 +162,8 @@ folded-last S b (Terms.Then t ts) x =
     ap (Terms.Then (folded S b t)) (folded-last S false ts x ∙ ap (λ (z : Bool). with_last (folded_arguments S false ts) (folded S z x)) (never-counts ts))
 
 -- arguments with one more behind them
-pub with-one-more : (S : Spec) (b : Bool) (n : ℕ) (xs : Terms) (x : Term) (before after : UnfoldedArguments) (last : Unfolded) (a : Argument) → AreArguments S b n xs before → IsUnfolded S (truth_behind b xs) before.room x last
+pub with-one-more : (S : Spec) (b : Bool) (n : ℕ) (xs : Terms) (x : Term) (before after : UnfoldedArguments)
+    (last : Unfolded) (a : Argument) → AreArguments S b n xs before → IsUnfolded S (truth_behind b xs) before.room x last
     → a.term ≡ last.term → after.arguments.items ≡ before.arguments.items ++ (a ∷ []) → after.room ≡ last.room → AreArguments S b n (with_last xs x) after
 with-one-more S b n xs x before after last a h u same items room = record {
   terms = ap tree.terms_of items ∙ terms-last before.arguments.items a ∙ ap (λ t. with_last (tree.terms_of before.arguments.items) (tree.term_of t)) same

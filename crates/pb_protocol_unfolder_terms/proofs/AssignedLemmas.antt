@@ -73,22 +73,28 @@ module _ (S : Spec) (forms : Forms) (ρ : TermScope) where
   after bs e = term_after S forms ρ (assignments_said bs) e (Term.Named (name_of e))
 
   after-further : (bs : List declared_assignment.Assignment) (k : ℕ) (a : declared_assignment.Assignment) (e : Element) → k < length bs → a ≡ get_or bs k a
-      → (if same_name (string_bytes a.variable.text) e.array then choice (is_index (all_put_in S forms ρ (tree.terms_of a.index.items)) e.index) (put_in S forms ρ (tree.term_of a.value.term)) (after (take k bs) e) else after (take k bs) e)
+      → (if same_name (string_bytes a.variable.text) e.array then choice
+      (is_index (all_put_in S forms ρ (tree.terms_of a.index.items)) e.index)
+      (put_in S forms ρ (tree.term_of a.value.term)) (after (take k bs) e) else after (take k bs) e)
       ≡ after (take (suc k) bs) e
   after-further bs k a e within is =
       sym (after-more (assignments_said (take k bs)) (assignment_said a) e (Term.Named (name_of e)))
       ∙ ap (λ xs. term_after S forms ρ xs e (Term.Named (name_of e))) (sym (said-more (take k bs) a) ∙ ap assignments_said (sym (taken-more bs k a within is)))
 
   -- the assignment at a place is to the element's array
-  pub after-same : (bs : List declared_assignment.Assignment) (k : ℕ) (a : declared_assignment.Assignment) (e : Element) → k < length bs → a ≡ get_or bs k a → same_name (string_bytes a.variable.text) e.array ≡ true
+  pub after-same : (bs : List declared_assignment.Assignment) (k : ℕ) (a : declared_assignment.Assignment) (e : Element)
+      → k < length bs → a ≡ get_or bs k a → same_name (string_bytes a.variable.text) e.array ≡ true
       → after (take (suc k) bs) e ≡ choice (is_index (all_put_in S forms ρ (tree.terms_of a.index.items)) e.index) (put_in S forms ρ (tree.term_of a.value.term)) (after (take k bs) e)
   after-same bs k a e within is same =
       sym (after-further bs k a e within is)
-      ∙ ap (λ (b : Bool). if b then choice (is_index (all_put_in S forms ρ (tree.terms_of a.index.items)) e.index) (put_in S forms ρ (tree.term_of a.value.term)) (after (take k bs) e) else after (take k bs) e) same
+      ∙ ap (λ (b : Bool). if b then choice (is_index (all_put_in S forms ρ (tree.terms_of a.index.items)) e.index)
+      (put_in S forms ρ (tree.term_of a.value.term)) (after (take k bs) e) else after (take k bs) e) same
 
   -- to another one
-  pub after-other : (bs : List declared_assignment.Assignment) (k : ℕ) (a : declared_assignment.Assignment) (e : Element) → k < length bs → a ≡ get_or bs k a → same_name (string_bytes a.variable.text) e.array ≡ false
+  pub after-other : (bs : List declared_assignment.Assignment) (k : ℕ) (a : declared_assignment.Assignment)
+      (e : Element) → k < length bs → a ≡ get_or bs k a → same_name (string_bytes a.variable.text) e.array ≡ false
       → after (take (suc k) bs) e ≡ after (take k bs) e
   after-other bs k a e within is other =
       sym (after-further bs k a e within is)
-      ∙ ap (λ (b : Bool). if b then choice (is_index (all_put_in S forms ρ (tree.terms_of a.index.items)) e.index) (put_in S forms ρ (tree.term_of a.value.term)) (after (take k bs) e) else after (take k bs) e) other
+      ∙ ap (λ (b : Bool). if b then choice (is_index (all_put_in S forms ρ (tree.terms_of a.index.items)) e.index)
+      (put_in S forms ρ (tree.term_of a.value.term)) (after (take k bs) e) else after (take k bs) e) other

@@ -54,7 +54,8 @@ other-form form.Name x t u p q h = absurd (true≢false (sym (ap is_plain h) ∙
 other-form form.Other x t u p q h = q
 
 -- the rest unfolded is the whole unfolded
-pub behind-unfolded : (S : Spec) (n : ℕ) (whole rest : Term) (left : ℕ) (u : Unfolded) → is_plain rest ≡ false → IsBehind S n whole rest true left → IsUnfolded S false left rest u → IsUnfolded S false n whole u
+pub behind-unfolded : (S : Spec) (n : ℕ) (whole rest : Term) (left : ℕ) (u : Unfolded) → is_plain rest ≡ false
+    → IsBehind S n whole rest true left → IsUnfolded S false left rest u → IsUnfolded S false n whole u
 behind-unfolded S n whole rest left u plain l r = record {
   term = r.term ∙ l.term;
   form = other-form u.form (name_in u.term) rest whole plain l.form r.form;

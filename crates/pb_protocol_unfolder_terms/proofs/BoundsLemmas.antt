@@ -21,7 +21,8 @@ pub variables-next : (S : Spec) (ys : List StateVariable) (x : Name) (k : ℕ) (
     → (if may_be_of (state_variable_of y) x then either (sort_interval S y.sort.now) (variables-from S ys x (suc k)) else variables-from S ys x (suc k)) ≡ variables-from S ys x k
 variables-next S [] x k y within is = absurd (omega (arith, within))
 variables-next S (z ∷ ys) x zero y within is =
-    ap (λ (v : StateVariable). if may_be_of (state_variable_of v) x then either (sort_interval S v.sort.now) (variable_interval S (map state_variable_of ys) x) else variable_interval S (map state_variable_of ys) x) is
+    ap (λ (v : StateVariable). if may_be_of (state_variable_of v) x then either (sort_interval S v.sort.now)
+    (variable_interval S (map state_variable_of ys) x) else variable_interval S (map state_variable_of ys) x) is
 variables-next S (z ∷ ys) x (suc k) y within is = variables-next S ys x k y (omega (arith, within)) is
 
 pub variables-take : (S : Spec) (ys : List StateVariable) (x : Name) (k : ℕ) (y : StateVariable) → k < length ys → y ≡ get_or ys k y → may_be_of (state_variable_of y) x ≡ true
@@ -43,7 +44,8 @@ argument-none c [] k e = refl
 argument-none c (a ∷ given) zero e = absurd (omega (arith, e))
 argument-none c (a ∷ given) (suc k) e = argument-none c given k (omega (arith, e))
 
-pub argument-some : (c : Context) (given : List Argument) (k : ℕ) (a : Argument) → k < length given → a ≡ get_or given k a → interval_in c (tree.term_of a.term) ≡ at (intervals_in c (tree.terms_of given)) k
+pub argument-some : (c : Context) (given : List Argument) (k : ℕ) (a : Argument) → k < length given
+    → a ≡ get_or given k a → interval_in c (tree.term_of a.term) ≡ at (intervals_in c (tree.terms_of given)) k
 argument-some c [] k a within e = absurd (omega (arith, within))
 argument-some c (b ∷ given) zero a within e = ap (λ (d : Argument). interval_in c (tree.term_of d.term)) e
 argument-some c (b ∷ given) (suc k) a within e = argument-some c given k a (omega (arith, within)) e

@@ -29,7 +29,8 @@ erased-chained c x [] = refl
 erased-chained c x (l ∷ ls) = ap (Term.Binary (of_connective c) (erased_term x)) (erased-chained c (term_form l.operand) ls)
 
 -- what a chain says
-pub chain-said : (c : Connective) (first : Box declared_term.Term Global) (v : Vec TermLink Global) → tree.term_of (declared_term.Chain c first v) ≡ chain_term c (tree.term_of (box_value first)) (operands_of v.items)
+pub chain-said : (c : Connective) (first : Box declared_term.Term Global) (v : Vec TermLink Global)
+    → tree.term_of (declared_term.Chain c first v) ≡ chain_term c (tree.term_of (box_value first)) (operands_of v.items)
 chain-said c first v = ap erased_term (term-chain c first v) ∙ erased-chained c (term_form (box_value first)) v.items
 
 pub no-operands : (ls : List TermLink) → None ≡ slice_get ls 0 → [] ≡ operands_of ls

@@ -58,10 +58,12 @@ abbrev three : Term → Term → Term → Terms
 three c x y = Terms.Then c (Terms.Then x (Terms.Then y Terms.NoTerms))
 
 -- of a choice the truth of the condition counts
-pub folded-choice : (S : Spec) (f : Name) (c x y : Term) (truth : Bool) → is_if (named_function f) ≡ true → folded_application S f (three (folded S true c) (folded S false x) (folded S false y)) ≡ folded S truth (choice_of f c x y)
+pub folded-choice : (S : Spec) (f : Name) (c x y : Term) (truth : Bool) → is_if (named_function f) ≡ true
+    → folded_application S f (three (folded S true c) (folded S false x) (folded S false y)) ≡ folded S truth (choice_of f c x y)
 folded-choice S f c x y truth e = ap (λ b. folded_application S f (three (folded S b c) (folded S false x) (folded S false y))) (sym e)
 
-pub chosen-term : (S : Spec) (f : Name) (c x y : Term) (b truth : Bool) → is_if (named_function f) ≡ true → folded S true c ≡ Term.Truth b → folded S false (if b then x else y) ≡ folded S truth (choice_of f c x y)
+pub chosen-term : (S : Spec) (f : Name) (c x y : Term) (b truth : Bool) → is_if (named_function f) ≡ true
+    → folded S true c ≡ Term.Truth b → folded S false (if b then x else y) ≡ folded S truth (choice_of f c x y)
 chosen-term S f c x y true truth e holds =
     sym (chooses (named_function f) true (folded S false x) (folded S false y) (Term.Apply f (three (Term.Truth true) (folded S false x) (folded S false y))) e)
     ∙ ap (λ z. folded_application S f (three z (folded S false x) (folded S false y))) (sym holds) ∙ folded-choice S f c x y truth e
@@ -69,7 +71,8 @@ chosen-term S f c x y false truth e holds =
     sym (chooses (named_function f) false (folded S false x) (folded S false y) (Term.Apply f (three (Term.Truth false) (folded S false x) (folded S false y))) e)
     ∙ ap (λ z. folded_application S f (three z (folded S false x) (folded S false y))) (sym holds) ∙ folded-choice S f c x y truth e
 
-pub chosen-room : (n m left : ℕ) (c x y : Term) (b : Bool) → n ≤ left + operator_count (if b then x else y) → m ≤ n + suc (operator_count c) → m ≤ left + suc (operator_count c + (operator_count x + (operator_count y + 0)))
+pub chosen-room : (n m left : ℕ) (c x y : Term) (b : Bool) → n ≤ left + operator_count (if b then x else y)
+    → m ≤ n + suc (operator_count c) → m ≤ left + suc (operator_count c + (operator_count x + (operator_count y + 0)))
 chosen-room n m left c x y true within size = omega (arith, within, size)
 chosen-room n m left c x y false within size = omega (arith, within, size)
 

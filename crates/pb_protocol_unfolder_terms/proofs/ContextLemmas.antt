@@ -32,12 +32,14 @@ as-many vs ts n e = by vs ts ∙ ap (λ (m : ℕ). length vs == m) e
 
 -- ---- definitions
 
-pub definition-there : (ds : List declared_definition.Definition) (k : ℕ) (d : declared_definition.Definition) → k < length ds → d ≡ get_or ds k d → slice_get (map definition_of ds) k ≡ Some (definition_of d)
+pub definition-there : (ds : List declared_definition.Definition) (k : ℕ) (d : declared_definition.Definition)
+    → k < length ds → d ≡ get_or ds k d → slice_get (map definition_of ds) k ≡ Some (definition_of d)
 definition-there [] k d within is = absurd (omega (arith, within))
 definition-there (e ∷ ds) zero d within is = ap (λ y. Some (definition_of y)) (sym is)
 definition-there (e ∷ ds) (suc k) d within is = definition-there ds k d (omega (arith, within)) is
 
-one-more : (sorts : Spec) (base : Forms) (ds : List Definition) (k : ℕ) (d : Definition) → slice_get ds k ≡ Some d → with_definitions sorts base (take (suc k) ds) ≡ with_definition sorts (with_definitions sorts base (take k ds)) d
+one-more : (sorts : Spec) (base : Forms) (ds : List Definition) (k : ℕ) (d : Definition) → slice_get ds k ≡ Some d
+    → with_definitions sorts base (take (suc k) ds) ≡ with_definition sorts (with_definitions sorts base (take k ds)) d
 one-more sorts base [] k d is = absurd (nothing is)
   where
     nothing : None ≡ Some d → ⊥
@@ -90,7 +92,8 @@ pub variable-meant : (sorts : Spec) (ys : List StateVariable) (k : ℕ) (y : Sta
 variable-meant sorts [] k y x ts within is meant = absurd (omega (arith, within))
 variable-meant sorts (z ∷ ys) zero y x ts within is meant =
     ap (λ w. reads sorts (map state_variable_of (w ∷ ys)) x ts) (sym is)
-    ∙ chosen (same_name (state_variable_of y).name x && are_as_many (state_variable_of y).indices ts) (Some (read sorts (state_variable_of y).name (state_variable_of y).indices ts)) (reads sorts (map state_variable_of ys) x ts)
+    ∙ chosen (same_name (state_variable_of y).name x && are_as_many (state_variable_of y).indices ts)
+    (Some (read sorts (state_variable_of y).name (state_variable_of y).indices ts)) (reads sorts (map state_variable_of ys) x ts)
     (Some (read sorts (state_variable_of y).name (state_variable_of y).indices ts)) meant refl
 variable-meant sorts (z ∷ ys) (suc k) y x ts within is meant = variable-meant sorts ys k y x ts (omega (arith, within)) is meant
 
@@ -104,7 +107,9 @@ variable-passed sorts ys k y x ts within is meant = skip ys k within is ∙ ap (
     skip [] k within is = absurd (omega (arith, within))
     skip (z ∷ ys) zero within is =
         ap (λ w. reads sorts (map state_variable_of (w ∷ ys)) x ts) (sym is)
-        ∙ passed (same_name (state_variable_of y).name x && are_as_many (state_variable_of y).indices ts) (Some (read sorts (state_variable_of y).name (state_variable_of y).indices ts)) (reads sorts (map state_variable_of ys) x ts) meant
+        ∙ passed (same_name (state_variable_of y).name x && are_as_many (state_variable_of y).indices ts)
+        (Some (read sorts (state_variable_of y).name (state_variable_of y).indices ts))
+        (reads sorts (map state_variable_of ys) x ts) meant
     skip (z ∷ ys) (suc k) within is = skip ys k (omega (arith, within)) is
 
 -- ---- enumerators
@@ -113,12 +118,15 @@ shifted : (n m : ℕ) (x : Name) (es : List Enumerator) → is_some (place_from 
 shifted n m x [] = refl
 shifted n m x (e ∷ es) = by (is_named x e) (shifted (suc n) (suc m) x es)
   where
-    by : (b : Bool) → is_some (place_from (suc n) (is_named x) es) ≡ is_some (place_from (suc m) (is_named x) es) → is_some (if b then Some n else place_from (suc n) (is_named x) es) ≡ is_some (if b then Some m else place_from (suc m) (is_named x) es)
+    by : (b : Bool) → is_some (place_from (suc n) (is_named x) es) ≡ is_some (place_from (suc m) (is_named x) es)
+        → is_some (if b then Some n else place_from (suc n) (is_named x) es)
+        ≡ is_some (if b then Some m else place_from (suc m) (is_named x) es)
     by true rest = refl
     by false rest = rest
 
 -- an enumerator of another name
-pub enumerator-passed : (n : ℕ) (x : Name) (es : List declared_enumerator.Enumerator) (k : ℕ) (e : declared_enumerator.Enumerator) → k < length es → e ≡ get_or es k e → same_name (string_bytes e.name.text) x ≡ false
+pub enumerator-passed : (n : ℕ) (x : Name) (es : List declared_enumerator.Enumerator) (k : ℕ)
+    (e : declared_enumerator.Enumerator) → k < length es → e ≡ get_or es k e → same_name (string_bytes e.name.text) x ≡ false
     → is_some (place_from n (is_named x) (enumerators_said (drop k es))) ≡ is_some (place_from n (is_named x) (enumerators_said (drop (k + 1) es)))
 enumerator-passed n x es k e within is other = skip es k within is ∙ ap (λ (q : ℕ). is_some (place_from n (is_named x) (enumerators_said (drop q es)))) (sym (add-one k))
   where
@@ -129,7 +137,9 @@ enumerator-passed n x es k e within is other = skip es k within is ∙ ap (λ (q
         never : true ≡ false → ⊥
         never h = cc
 
-    skip : (es : List declared_enumerator.Enumerator) (k : ℕ) → k < length es → e ≡ get_or es k e → is_some (place_from n (is_named x) (enumerators_said (drop k es))) ≡ is_some (place_from n (is_named x) (enumerators_said (drop (suc k) es)))
+    skip : (es : List declared_enumerator.Enumerator) (k : ℕ) → k < length es → e ≡ get_or es k e
+        → is_some (place_from n (is_named x) (enumerators_said (drop k es)))
+        ≡ is_some (place_from n (is_named x) (enumerators_said (drop (suc k) es)))
     skip [] k within is = absurd (omega (arith, within))
     skip (d ∷ es) zero within is =
         ap (λ w. is_some (place_from n (is_named x) (enumerators_said (w ∷ es)))) (sym is)

@@ -45,7 +45,8 @@ module _ (c : Context) (n : ℕ) (scope : declared_scope.TermScope) (whole : Occ
   abbrev pub σ : TermScope
   σ = scope_said c scope
 
-  moved : (l : ℕ) (p q : Place) (is js : List Variable) (given others : List Argument) → q ≡ p → js ≡ is → others ≡ given → IsArrayMet c l n scope p given is whole → IsArrayMet c l n scope q others js whole
+  moved : (l : ℕ) (p q : Place) (is js : List Variable) (given others : List Argument) → q ≡ p → js ≡ is
+      → others ≡ given → IsArrayMet c l n scope p given is whole → IsArrayMet c l n scope q others js whole
   moved l p q is js given others d e f h =
       subst (λ (r : Place). IsArrayMet c l n scope r others js whole) (sym d)
       (subst (λ (vs : List Variable). IsArrayMet c l n scope p others vs whole) (sym e)

@@ -122,7 +122,8 @@ assigned-before m l n ρ k bs r p within (a, there, j, less, h) =
     (a, before.0, j, omega (arith, less, before.1, before.2, mapped-length assignment_form (take k bs), mapped-length assignment_form bs, taken-length k bs, within), h)
 
 -- a fault at the token of what is assigned to
-pub assigned-room : (m : Surroundings) (l n : ℕ) (ρ : TermScope) (bs : List Assignment) (a : Assignment) (r : UnfoldRule) (e : OrMemory UnfoldFault) → e ≡ Refused (record { rule = r; place = a.variable.place })
+pub assigned-room : (m : Surroundings) (l n : ℕ) (ρ : TermScope) (bs : List Assignment) (a : Assignment)
+    (r : UnfoldRule) (e : OrMemory UnfoldFault) → e ≡ Refused (record { rule = r; place = a.variable.place })
     → Contains bs a → ((w : Occurrence) → IsTokenMet m w a.variable.place → Breaks m w r a.variable.place)
     → IfFaultAt (IsFaultInAssignments m l n ρ (map assignment_form bs)) e
 assigned-room m l n ρ bs a r e is there breaks =
@@ -131,7 +132,8 @@ assigned-room m l n ρ bs a r e is there breaks =
     (assigned-in m l n ρ bs a r a.variable.place there (inl (breaks w (w, Itself, inl refl))))
 
 -- no level is left to choose it
-pub assigned-deep : (m : Surroundings) (l n : ℕ) (ρ : TermScope) (bs : List Assignment) (a : Assignment) (e : OrMemory UnfoldFault) → e ≡ Refused (record { rule = rule.Depth; place = a.variable.place })
+pub assigned-deep : (m : Surroundings) (l n : ℕ) (ρ : TermScope) (bs : List Assignment) (a : Assignment)
+    (e : OrMemory UnfoldFault) → e ≡ Refused (record { rule = rule.Depth; place = a.variable.place })
     → Contains bs a → l ≡ 0 → IfFaultAt (IsFaultInAssignments m l n ρ (map assignment_form bs)) e
 assigned-deep m l n ρ bs a e is there none =
     subst (IfFaultAt (IsFaultInAssignments m l n ρ (map assignment_form bs))) (sym is)

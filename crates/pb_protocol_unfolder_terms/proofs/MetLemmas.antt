@@ -242,7 +242,8 @@ pub at-weaker : (P Q : UnfoldRule → Place → Type 0) (e : OrMemory UnfoldFaul
 at-weaker P Q Memory to h = tt
 at-weaker P Q (Refused f) to h = to f.rule f.place h
 
-pub at-by : (m : Surroundings) (whole : Occurrence) (P : UnfoldRule → Place → Type 0) (e : OrMemory UnfoldFault) → ((r : UnfoldRule) (p : Place) → Breaks m whole r p → P r p) → IsFaultOf m whole e → IfFaultAt P e
+pub at-by : (m : Surroundings) (whole : Occurrence) (P : UnfoldRule → Place → Type 0) (e : OrMemory UnfoldFault)
+    → ((r : UnfoldRule) (p : Place) → Breaks m whole r p → P r p) → IsFaultOf m whole e → IfFaultAt P e
 at-by m whole P e to h = at-weaker (Breaks m whole) P e to h
 
 -- ---- scopes of values

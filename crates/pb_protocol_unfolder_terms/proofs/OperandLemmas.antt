@@ -41,7 +41,8 @@ operands-more [] x = refl
 operands-more (y ∷ xs) x = ap (λ ys. operand_of y ∷ ys) (operands-more xs x)
 
 -- one operand less, from the last on
-pub operand-joined : (c : Connective) (truth counts : Bool) (xs ys : List TermLink) (x : TermLink) (t u : declared_term.Term) (whole : Term) → xs ≡ ys ++ (x ∷ []) → counts ≡ truth_counts truth (operands_of ys)
+pub operand-joined : (c : Connective) (truth counts : Bool) (xs ys : List TermLink) (x : TermLink)
+    (t u : declared_term.Term) (whole : Term) → xs ≡ ys ++ (x ∷ []) → counts ≡ truth_counts truth (operands_of ys)
     → tree.term_of u ≡ folded_connective c counts (operand_of x) (tree.term_of t) → behind c truth (operands_of xs) (tree.term_of t) ≡ whole → behind c truth (operands_of ys) (tree.term_of u) ≡ whole
 operand-joined c truth counts xs ys x t u whole split counted said before =
     ap (behind c truth (operands_of ys)) (said ∙ ap (λ b. folded_connective c b (operand_of x) (tree.term_of t)) counted)
@@ -93,7 +94,8 @@ left-further S c truth n whole rest x rest' before before' room inner left t one
 
 -- an operand that decides
 pub left-decided : (S : Spec) (c : Connective) (truth : Bool) (n : ℕ) (whole rest x rest' : Term) (os : declared_operands.Operands) (room inner : ℕ)
-    → room ≡ suc inner → rest ≡ Term.Binary (of_connective c) x rest' → Term.Truth (deciding c) ≡ folded S true x → inner ≤ os.room + operator_count x → tree.term_of os.last ≡ Term.Truth (outcome c) → is_plain whole ≡ false
+    → room ≡ suc inner → rest ≡ Term.Binary (of_connective c) x rest' → Term.Truth (deciding c) ≡ folded S true x
+    → inner ≤ os.room + operator_count x → tree.term_of os.last ≡ Term.Truth (outcome c) → is_plain whole ≡ false
     → IsLeft S c truth n whole rest (operands_of os.before.items) room → AreOperands S c truth n whole os
 left-decided S c truth n whole rest x rest' os room inner one split decides within last form l =
     let before = operands_of os.before.items in
@@ -195,7 +197,9 @@ joined-end q g f xs k end =
     ap (joined q) (map-dropped f (map g xs) k ∙ ap (map f) (map-dropped g xs k) ∙ ap (λ ys. map f (map g ys)) (past xs k end)) ∙ joined-none q
 
 -- with an operand on the left nothing is plain
-pub chain-form : (c : Connective) (x : Term) (ls : List TermLink) (put : Term → Term) → ((o : _) (y z : Term) → put (Term.Binary o y z) ≡ Term.Binary o (put y) (put z)) → 0 < length ls → is_plain (put (chain_term c x (operands_of ls))) ≡ false
+pub chain-form : (c : Connective) (x : Term) (ls : List TermLink) (put : Term → Term)
+    → ((o : _) (y z : Term) → put (Term.Binary o y z) ≡ Term.Binary o (put y) (put z)) → 0 < length ls
+    → is_plain (put (chain_term c x (operands_of ls))) ≡ false
 chain-form c x [] put through some = absurd (omega (arith, some))
 chain-form c x (l ∷ ls) put through some = ap is_plain (through (of_connective c) x (chain_term c (operand_of l) (operands_of ls)))
 

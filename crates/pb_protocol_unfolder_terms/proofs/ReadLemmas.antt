@@ -27,7 +27,8 @@ module _ (S : Spec) (forms : Forms) (ρ : TermScope) where
   at-value x is given k = read S (element x k) (map variable_of is) (all_put_in S forms ρ (tree.terms_of given))
 
   pub read-first : (x : Name) (is : List Variable) (given : List Argument) (i : Variable) (a : Argument) → Some i ≡ slice_get is 0 → Some a ≡ slice_get given 0
-      → read S x (map variable_of is) (all_put_in S forms ρ (tree.terms_of given)) ≡ chosen (at-value x (drop 1 is) (drop 1 given)) (put_in S forms ρ (tree.term_of a.term)) (written_values S i.sort.now)
+      → read S x (map variable_of is) (all_put_in S forms ρ (tree.terms_of given))
+      ≡ chosen (at-value x (drop 1 is) (drop 1 given)) (put_in S forms ρ (tree.term_of a.term)) (written_values S i.sort.now)
   read-first x [] given i a is there = absurd (not-none i is)
   read-first x (j ∷ js) [] i a is there = absurd (not-none a there)
   read-first x (j ∷ js) (b ∷ given) i a is there =
@@ -40,7 +41,8 @@ module _ (S : Spec) (forms : Forms) (ρ : TermScope) where
   read-itself x (i ∷ is) ts none = absurd (none-not i none)
 
   -- with too few arguments it is nothing
-  pub read-nothing : (x : Name) (is : List Variable) (given : List Argument) (i : Variable) → Some i ≡ slice_get is 0 → None ≡ slice_get given 0 → read S x (map variable_of is) (all_put_in S forms ρ (tree.terms_of given)) ≡ Term.Number 0
+  pub read-nothing : (x : Name) (is : List Variable) (given : List Argument) (i : Variable) → Some i ≡ slice_get is 0
+      → None ≡ slice_get given 0 → read S x (map variable_of is) (all_put_in S forms ρ (tree.terms_of given)) ≡ Term.Number 0
   read-nothing x [] given i is none = absurd (not-none i is)
   read-nothing x (j ∷ js) [] i is none = refl
   read-nothing x (j ∷ js) (a ∷ given) i is none = absurd (none-not a none)

@@ -11,7 +11,8 @@ use Rattle.pb_protocol_unfolder_terms.specs.View.{variable_of}
 use Rattle.pb_protocol_unfolder_terms.specs.Values.{written_term}
 use Rattle.pb_protocol_unfolder_terms.specs.Scopes.{looked}
 
-looked-step : {A : Type 0} (vs : List Variable) (ks : List A) (p : ℕ) (d : Variable) (e : A) (x : Name) (o : Option A) (b : Bool) → p < length vs → p < length ks → b ≡ same_name (get_or vs p d).name.now x
+looked-step : {A : Type 0} (vs : List Variable) (ks : List A) (p : ℕ) (d : Variable) (e : A) (x : Name) (o : Option A)
+    (b : Bool) → p < length vs → p < length ks → b ≡ same_name (get_or vs p d).name.now x
     → looked (drop p vs) (drop p ks) x o ≡ looked (drop (suc p) vs) (drop (suc p) ks) x (if b then Some (get_or ks p e) else o)
 looked-step [] ks p d e x o b within inside same = absurd (omega (arith, within))
 looked-step (w ∷ vs) [] p d e x o b within inside same = absurd (omega (arith, inside))
@@ -19,7 +20,8 @@ looked-step (w ∷ vs) (l ∷ ks) zero d e x o b within inside same = ap (λ (t 
 looked-step (w ∷ vs) (l ∷ ks) (suc p) d e x o b within inside same = looked-step vs ks p d e x o b (omega (arith, within)) (omega (arith, inside)) same
 
 -- one place further, where the name is that of the variable there
-pub looked-some : {A : Type 0} (vs : List Variable) (ks : List A) (p : ℕ) (d : Variable) (e : A) (x : Name) (o o' : Option A) → p < length vs → p < length ks → true ≡ same_name (get_or vs p d).name.now x → o' ≡ Some (get_or ks p e)
+pub looked-some : {A : Type 0} (vs : List Variable) (ks : List A) (p : ℕ) (d : Variable) (e : A) (x : Name)
+    (o o' : Option A) → p < length vs → p < length ks → true ≡ same_name (get_or vs p d).name.now x → o' ≡ Some (get_or ks p e)
     → looked (drop p vs) (drop p ks) x o ≡ looked (drop (p + 1) vs) (drop (p + 1) ks) x o'
 looked-some vs ks p d e x o o' within inside same is =
     looked-step vs ks p d e x o true within inside same
@@ -31,7 +33,9 @@ pub looked-none : {A : Type 0} (vs : List Variable) (ks : List A) (p : ℕ) (d :
     → looked (drop p vs) (drop p ks) x o ≡ looked (drop (p + 1) vs) (drop (p + 1) ks) x o
 looked-none vs ks p d x o within inside same = skip vs ks p d x o within inside same ∙ ap (λ (q : ℕ). looked (drop q vs) (drop q ks) x o) (sym (add-one p))
   where
-    skip : {A : Type 0} (vs : List Variable) (ks : List A) (p : ℕ) (d : Variable) (x : Name) (o : Option A) → p < length vs → p < length ks → false ≡ same_name (get_or vs p d).name.now x → looked (drop p vs) (drop p ks) x o ≡ looked (drop (suc p) vs) (drop (suc p) ks) x o
+    skip : {A : Type 0} (vs : List Variable) (ks : List A) (p : ℕ) (d : Variable) (x : Name) (o : Option A)
+        → p < length vs → p < length ks → false ≡ same_name (get_or vs p d).name.now x
+        → looked (drop p vs) (drop p ks) x o ≡ looked (drop (suc p) vs) (drop (suc p) ks) x o
     skip [] ks p d x o within inside same = absurd (omega (arith, within))
     skip (w ∷ vs) [] p d x o within inside same = absurd (omega (arith, inside))
     skip (w ∷ vs) (l ∷ ks) zero d x o within inside same = ap (λ (t : Bool). looked vs ks x (if t then Some l else o)) (sym same)
@@ -85,10 +89,15 @@ arguments-by spec forms ρ [] = refl
 arguments-by spec forms ρ (a ∷ given) = ap (Terms.Then (put_argument spec forms ρ a)) (arguments-by spec forms ρ given)
 
 -- what variables stand for, else what is around
-pub values-found : (vs : List Variable) (ks : List Written) (ρ : TermScope) (x : Name) → term_of (standing (map variable_of vs) (terms_of (map written_term ks)) ρ) x ≡ fallback written_term (looked vs ks x None) (term_of ρ x)
+pub values-found : (vs : List Variable) (ks : List Written) (ρ : TermScope) (x : Name)
+    → term_of (standing (map variable_of vs) (terms_of (map written_term ks)) ρ) x
+    ≡ fallback written_term (looked vs ks x None) (term_of ρ x)
 values-found vs ks ρ x =
     ap (λ ts. term_of (standing (map variable_of vs) ts ρ) x) (values-by ks) ∙ standing-looked written_term vs ks ρ x None (term_of ρ x) refl
 
-pub arguments-found : (spec : Spec) (forms : Forms) (ρ : TermScope) (vs : List Variable) (given : List Argument) (x : Name) → term_of (standing (map variable_of vs) (all_put_in spec forms ρ (tree.terms_of given)) []) x ≡ fallback (put_argument spec forms ρ) (looked vs given x None) None
+pub arguments-found : (spec : Spec) (forms : Forms) (ρ : TermScope) (vs : List Variable) (given : List Argument)
+    (x : Name)
+    → term_of (standing (map variable_of vs) (all_put_in spec forms ρ (tree.terms_of given)) []) x
+    ≡ fallback (put_argument spec forms ρ) (looked vs given x None) None
 arguments-found spec forms ρ vs given x =
     ap (λ ts. term_of (standing (map variable_of vs) ts []) x) (arguments-by spec forms ρ given) ∙ standing-looked (put_argument spec forms ρ) vs given [] x None None refl

@@ -63,15 +63,29 @@ module _ (S T : Spec) (same : S.sorts ≡ T.sorts) where
     same-folded b (Term.Binary Operator.And x y) = same-two folded_and b (folded S true x) (folded S true y) (folded T true x) (folded T true y) (same-folded true x) (same-folded true y)
     same-folded b (Term.Binary Operator.Or x y) = same-two folded_or b (folded S true x) (folded S true y) (folded T true x) (folded T true y) (same-folded true x) (same-folded true y)
     same-folded b (Term.Binary Operator.Implies x y) = same-two folded_implies b (folded S true x) (folded S true y) (folded T true x) (folded T true y) (same-folded true x) (same-folded true y)
-    same-folded b (Term.Binary Operator.Equal x y) = same-operation Operator.Equal (folded S false x) (folded S false y) (folded T false x) (folded T false y) (same-folded false x) (same-folded false y)
-    same-folded b (Term.Binary Operator.NotEqual x y) = same-operation Operator.NotEqual (folded S false x) (folded S false y) (folded T false x) (folded T false y) (same-folded false x) (same-folded false y)
+    same-folded b (Term.Binary Operator.Equal x y) =
+        same-operation Operator.Equal (folded S false x) (folded S false y) (folded T false x) (folded T false y)
+        (same-folded false x) (same-folded false y)
+    same-folded b (Term.Binary Operator.NotEqual x y) =
+        same-operation Operator.NotEqual (folded S false x) (folded S false y) (folded T false x) (folded T false y)
+        (same-folded false x) (same-folded false y)
     same-folded b (Term.Binary Operator.Less x y) = same-operation Operator.Less (folded S false x) (folded S false y) (folded T false x) (folded T false y) (same-folded false x) (same-folded false y)
-    same-folded b (Term.Binary Operator.LessEqual x y) = same-operation Operator.LessEqual (folded S false x) (folded S false y) (folded T false x) (folded T false y) (same-folded false x) (same-folded false y)
-    same-folded b (Term.Binary Operator.Greater x y) = same-operation Operator.Greater (folded S false x) (folded S false y) (folded T false x) (folded T false y) (same-folded false x) (same-folded false y)
-    same-folded b (Term.Binary Operator.GreaterEqual x y) = same-operation Operator.GreaterEqual (folded S false x) (folded S false y) (folded T false x) (folded T false y) (same-folded false x) (same-folded false y)
+    same-folded b (Term.Binary Operator.LessEqual x y) =
+        same-operation Operator.LessEqual (folded S false x) (folded S false y) (folded T false x) (folded T false y)
+        (same-folded false x) (same-folded false y)
+    same-folded b (Term.Binary Operator.Greater x y) =
+        same-operation Operator.Greater (folded S false x) (folded S false y) (folded T false x) (folded T false y)
+        (same-folded false x) (same-folded false y)
+    same-folded b (Term.Binary Operator.GreaterEqual x y) =
+        same-operation Operator.GreaterEqual (folded S false x) (folded S false y) (folded T false x) (folded T false y)
+        (same-folded false x) (same-folded false y)
     same-folded b (Term.Binary Operator.Plus x y) = same-operation Operator.Plus (folded S false x) (folded S false y) (folded T false x) (folded T false y) (same-folded false x) (same-folded false y)
-    same-folded b (Term.Binary Operator.Minus x y) = same-operation Operator.Minus (folded S false x) (folded S false y) (folded T false x) (folded T false y) (same-folded false x) (same-folded false y)
-    same-folded b (Term.Binary Operator.Times x y) = same-operation Operator.Times (folded S false x) (folded S false y) (folded T false x) (folded T false y) (same-folded false x) (same-folded false y)
+    same-folded b (Term.Binary Operator.Minus x y) =
+        same-operation Operator.Minus (folded S false x) (folded S false y) (folded T false x) (folded T false y)
+        (same-folded false x) (same-folded false y)
+    same-folded b (Term.Binary Operator.Times x y) =
+        same-operation Operator.Times (folded S false x) (folded S false y) (folded T false x) (folded T false y)
+        (same-folded false x) (same-folded false y)
     same-folded b (Term.Binary Operator.Div x y) = same-operation Operator.Div (folded S false x) (folded S false y) (folded T false x) (folded T false y) (same-folded false x) (same-folded false y)
     same-folded b (Term.Binary Operator.Mod x y) = same-operation Operator.Mod (folded S false x) (folded S false y) (folded T false x) (folded T false y) (same-folded false x) (same-folded false y)
     same-folded b (Term.Apply f xs) =

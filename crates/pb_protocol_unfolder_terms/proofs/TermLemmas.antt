@@ -24,11 +24,13 @@ erased-calculated x [] = refl
 erased-calculated x (l ∷ ls) = erased-calculated (TermForm.computed l.operator l.place x (term_form l.operand)) ls
 
 -- what arithmetic says
-pub arithmetic-said : (first : Box declared_term.Term Global) (v : Vec ArithmeticLink Global) → tree.term_of (declared_term.Arithmetic first v) ≡ calculated_term (tree.term_of (box_value first)) v.items
+pub arithmetic-said : (first : Box declared_term.Term Global) (v : Vec ArithmeticLink Global)
+    → tree.term_of (declared_term.Arithmetic first v) ≡ calculated_term (tree.term_of (box_value first)) v.items
 arithmetic-said first v = ap erased_term (term-arithmetic first v) ∙ erased-calculated (term_form (box_value first)) v.items
 
 -- one more operand
-pub calculated-last : (x : Term) (ls : List ArithmeticLink) (l : ArithmeticLink) → calculated_term x (ls ++ (l ∷ [])) ≡ Term.Binary (of_arithmetic l.operator) (calculated_term x ls) (tree.term_of l.operand)
+pub calculated-last : (x : Term) (ls : List ArithmeticLink) (l : ArithmeticLink)
+    → calculated_term x (ls ++ (l ∷ [])) ≡ Term.Binary (of_arithmetic l.operator) (calculated_term x ls) (tree.term_of l.operand)
 calculated-last x [] l = refl
 calculated-last x (k ∷ ls) l = calculated-last (Term.Binary (of_arithmetic k.operator) x (tree.term_of k.operand)) ls l
 
@@ -73,7 +75,9 @@ operated-chain S o x [] y some = absurd (some refl)
 operated-chain S o x (l ∷ ls) y some = chain-operated S o (of_arithmetic l.operator) x (tree.term_of l.operand) ls y
 
 -- what a quantifier says
-pub quantified-said : (place : Place) (q : Quantifier) (v : Vec Variables Global) (body : Box declared_term.Term Global) → tree.term_of (declared_term.Quantified place q v body) ≡ Term.Quantified q (erased_variables (variable_forms v.items)) (tree.term_of (box_value body))
+pub quantified-said : (place : Place) (q : Quantifier) (v : Vec Variables Global) (body : Box declared_term.Term Global)
+    → tree.term_of (declared_term.Quantified place q v body)
+    ≡ Term.Quantified q (erased_variables (variable_forms v.items)) (tree.term_of (box_value body))
 quantified-said place q v body = refl
 
 -- ---- copies

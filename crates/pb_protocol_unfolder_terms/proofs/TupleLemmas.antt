@@ -40,7 +40,8 @@ factors (suc n) zero h = absurd (omega (arith, h))
 factors (suc n) (suc m) h = (omega arith, omega arith)
 
 -- as the code counts them from the k-th variable on
-pub count-next : (spec : Spec) (vs : List declared_variable.Variable) (k : ℕ) (v : declared_variable.Variable) → k < length vs → v ≡ get_or vs k v → tuple_count spec (drop k vs) ≡ value_count spec v * tuple_count spec (drop (k + 1) vs)
+pub count-next : (spec : Spec) (vs : List declared_variable.Variable) (k : ℕ) (v : declared_variable.Variable)
+    → k < length vs → v ≡ get_or vs k v → tuple_count spec (drop k vs) ≡ value_count spec v * tuple_count spec (drop (k + 1) vs)
 count-next spec vs k v h is =
     let next : suc k ≡ k + 1 = omega arith in
     ap (tuple_count spec) (drop-cons vs k v h ∙ ap (λ w. w ∷ drop (suc k) vs) (sym is))
@@ -64,7 +65,8 @@ in-range [] k d e h = absurd (omega (arith, h))
 in-range (x ∷ xs) zero d e h = refl
 in-range (x ∷ xs) (suc k) d e h = in-range xs k d e (omega (arith, h))
 
-pub count-at : (spec : Spec) (vs : List declared_variable.Variable) (k j : ℕ) (d : declared_variable.Variable) → j ≡ k + 1 → k < length vs → tuple_count spec (drop k vs) ≡ value_count spec (get_or vs k d) * tuple_count spec (drop j vs)
+pub count-at : (spec : Spec) (vs : List declared_variable.Variable) (k j : ℕ) (d : declared_variable.Variable)
+    → j ≡ k + 1 → k < length vs → tuple_count spec (drop k vs) ≡ value_count spec (get_or vs k d) * tuple_count spec (drop j vs)
 count-at spec vs k j d next h =
     count-next spec vs k (get_or vs k d) h (in-range vs k d (get_or vs k d) h)
     ∙ ap (λ (i : ℕ). value_count spec (get_or vs k d) * tuple_count spec (drop i vs)) (sym next)
@@ -94,7 +96,8 @@ pub longer : {A B : Type 0} (xs : List A) (ys : List B) (place : Place) (e : OrM
 longer xs ys place (Refused f) to p = (p.0, to p.1)
 longer xs ys place Memory to p = tt
 
-pub too-long : {A B : Type 0} (r : Result A (OrMemory UnfoldFault)) (e : OrMemory UnfoldFault) (P : A → Type 0) (xs : List B) (place : Place) → IsErrAnd r (λ d. d ≡ e) → IsTooLong xs place e → MatchResult r P (IsTooLong xs place)
+pub too-long : {A B : Type 0} (r : Result A (OrMemory UnfoldFault)) (e : OrMemory UnfoldFault) (P : A → Type 0)
+    (xs : List B) (place : Place) → IsErrAnd r (λ d. d ≡ e) → IsTooLong xs place e → MatchResult r P (IsTooLong xs place)
 too-long (Ok a) e P xs place h t = absurd h
 too-long (Err d) e P xs place h t = subst (IsTooLong xs place) (sym h) t
 

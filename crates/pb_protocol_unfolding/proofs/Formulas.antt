@@ -78,7 +78,9 @@ module _ (m : Protocol) (hides : HidesNothing m) where
           of_list q (λ k. of_list q p (copies (data_of m) xs f ((x.name, k) ∷ ρ))) ks ≡ of_list q (λ k. quantified (data_of m) q xs P ((x.name, value (data_of m) [] k) ∷ valued (data_of m) [] ρ)) ks
       over [] h each = none q
         where
-          none : (q : Quantifier) → of_list q (λ k. of_list q p (copies (data_of m) xs f ((x.name, k) ∷ ρ))) [] ≡ of_list q (λ (k : Term). quantified (data_of m) q xs P ((x.name, value (data_of m) [] k) ∷ valued (data_of m) [] ρ)) []
+          none : (q : Quantifier)
+              → of_list q (λ k. of_list q p (copies (data_of m) xs f ((x.name, k) ∷ ρ))) []
+              ≡ of_list q (λ (k : Term). quantified (data_of m) q xs P ((x.name, value (data_of m) [] k) ∷ valued (data_of m) [] ρ)) []
           none Forall = refl
           none Exists = refl
       over (k ∷ ks) h each =

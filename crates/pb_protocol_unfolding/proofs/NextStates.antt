@@ -79,7 +79,8 @@ module _ (m : Protocol) (hides : HidesNothing m) (s : State) (i : Instance) (own
       ≡ value_after (value_at m s here) (values_at m s here) i.step.assignments e.array (values_of m e.index) v
   element-after e v settled before =
       term_after-value (data_of m) (elements_at m s) (forms_of m) (functions_at m s) (means-here m hides s) ρ i.step.assignments e (Term.Named (name_of e)) ∙
-      (ap (λ d. value_after (meaning (data_of m) (functions_at m s) d) (meanings (data_of m) (functions_at m s) d) i.step.assignments e.array (map evaluated e.index) (evaluated (Term.Named (name_of e)))) scope-is ∙
+      (ap (λ d. value_after (meaning (data_of m) (functions_at m s) d) (meanings (data_of m) (functions_at m s) d)
+      i.step.assignments e.array (map evaluated e.index) (evaluated (Term.Named (name_of e)))) scope-is ∙
       (ap (λ vs. value_after (value_at m s here) (values_at m s here) i.step.assignments e.array vs (evaluated (Term.Named (name_of e)))) (settled-values m e.index settled s) ∙
       ap (value_after (value_at m s here) (values_at m s here) i.step.assignments e.array (values_of m e.index)) before))
 

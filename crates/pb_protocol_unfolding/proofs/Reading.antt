@@ -270,7 +270,9 @@ as-many spec a (x ∷ xs) (Terms.Then t ts) = as-many spec a xs ts
 definition-means : (spec : Spec) (a : Assignment) (forms : Forms) (functions : Functions) → Means spec a forms functions →
     (d : Definition) → FormsMean spec a (form.with_definition spec forms d) (function.with_definition spec functions d)
 definition-means spec a forms functions means d x ts =
-    subst (λ b. HasValue spec a (form.with_definition spec forms d x ts) (if same_name d.name x && b then Some (meaning spec functions (assigned d.parameters (values spec a ts) []) d.term) else functions x (values spec a ts)))
+    subst (λ b. HasValue spec a (form.with_definition spec forms d x ts)
+    (if same_name d.name x && b then Some
+    (meaning spec functions (assigned d.parameters (values spec a ts) []) d.term) else functions x (values spec a ts)))
     (as-many spec a d.parameters ts) (by (same_name d.name x && form.are_as_many d.parameters ts))
   where
     by : (b : Bool) →

@@ -181,7 +181,10 @@ module _ (m : Protocol) (hides : HidesNothing m) where
         taken false e = e
 
         by : (b : Bool) → (flat_rest a rest) ≡ map (next_state m s a) (rest_in a rest) →
-            flat_map leads (cond b (record { step = a; own = ks } ∷ filter in_set (map (λ (ks : List Term). record { step = a; own = ks }) rest)) (filter in_set (map (λ (ks : List Term). record { step = a; own = ks }) rest)))
+            flat_map leads
+            (cond b (record { step = a; own = ks } ∷ filter in_set
+            (map (λ (ks : List Term). record { step = a; own = ks }) rest))
+            (filter in_set (map (λ (ks : List Term). record { step = a; own = ks }) rest)))
             ≡ map (next_state m s a) (cond (b && is_enabled m s a (values_of m ks)) (values_of m ks ∷ (rest_in a rest)) (rest_in a rest))
         by true e =
             ap (λ b. map (flat_steps.next_state (unfolded m) s (unfolded_step m (record { step = a; own = ks }))) (cond b ([] ∷ []) []) ++ (flat_rest a rest))

@@ -31,7 +31,8 @@ copied_all {A} vs done k past so_far =
     sym (append-nil (lists_of done)) ∙ (ap (λ (us : List (Vec Carrier A)). lists_of done ++ lists_of us) (sym (drop_all k vs past)) ∙ so_far)
 
 -- one first number more
-pub starts_more : (xs ys : List ℕ) (x k : ℕ) (start : ℕ → ℕ) → ys ≡ xs ++ x ∷ [] → length xs ≡ k → x ≡ start k → ((j : ℕ) → j < k → get_or xs j 0 ≡ start j) → (j : ℕ) → j < k + 1 → get_or ys j 0 ≡ start j
+pub starts_more : (xs ys : List ℕ) (x k : ℕ) (start : ℕ → ℕ) → ys ≡ xs ++ x ∷ [] → length xs ≡ k → x ≡ start k
+    → ((j : ℕ) → j < k → get_or xs j 0 ≡ start j) → (j : ℕ) → j < k + 1 → get_or ys j 0 ≡ start j
 starts_more xs ys x k start ys_is long x_is so_far j below =
     ap (λ (zs : List ℕ). get_or zs j 0) ys_is
     ∙ ⊎_elim (λ (h : j < k). get_or_append_left xs (x ∷ []) 0 j (omega (arith, h, long)) ∙ so_far j h)
@@ -52,7 +53,8 @@ element_at (x ∷ xs) zero below = record { element = x; at = refl }
 element_at (x ∷ xs) (suc k) below = let rest : HasElement xs k = element_at xs k (omega (arith, below)) in record { element = rest.element; at = rest.at }
 
 -- each list is as short as its vector
-parameters_few : {A : Type 0} (vs : List (Vec Carrier A)) (k : ℕ) (d : List Carrier) → k < length vs → All (λ (v : Vec Carrier A). vec_len v ≤ MAX_PARAMETERS) vs → length (get_or (lists_of vs) k d) ≤ MAX_PARAMETERS
+parameters_few : {A : Type 0} (vs : List (Vec Carrier A)) (k : ℕ) (d : List Carrier) → k < length vs
+    → All (λ (v : Vec Carrier A). vec_len v ≤ MAX_PARAMETERS) vs → length (get_or (lists_of vs) k d) ≤ MAX_PARAMETERS
 parameters_few {A} vs k d below few =
     let e : HasElement vs k = element_at vs k below in
     let list : get_or (lists_of vs) k d ≡ e.element.items = get_or_from_slice_get (lists_of vs) k e.element.items d (slice_get-mapped (λ (u : Vec Carrier A). u.items) vs k e.element e.at) in

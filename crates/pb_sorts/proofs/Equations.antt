@@ -20,7 +20,8 @@ size_of-at equations k ps e = ap tuple_count_at (slice_get-carriers_of equations
 pub length-carriers_of : (equations : List (List Carrier)) → length (carriers_of equations) ≡ length equations
 length-carriers_of equations = map_length (λ (parameters : List Carrier). map values_of parameters) equations
 
-pub first_of-next_at : (equations : List (List Carrier)) (k : ℕ) (ps : List Carrier) → slice_get equations k ≡ Some ps → first_of (carriers_of equations) (k + 1) ≡ first_of (carriers_of equations) k + tuple_count (map values_of ps)
+pub first_of-next_at : (equations : List (List Carrier)) (k : ℕ) (ps : List Carrier) → slice_get equations k ≡ Some ps
+    → first_of (carriers_of equations) (k + 1) ≡ first_of (carriers_of equations) k + tuple_count (map values_of ps)
 first_of-next_at equations k ps e =
     let next : suc k ≡ k + 1 = omega arith in
     ap (first_of (carriers_of equations)) (sym next)
@@ -28,10 +29,12 @@ first_of-next_at equations k ps e =
     ∙ ap (λ (n : ℕ). first_of (carriers_of equations) k + n) (size_of-at equations k ps e))
 
 -- no equation ends behind the last
-pub ends_within : (equations : List (List Carrier)) (k : ℕ) (ps : List Carrier) → slice_get equations k ≡ Some ps → first_of (carriers_of equations) k + tuple_count (map values_of ps) ≤ count_of equations
+pub ends_within : (equations : List (List Carrier)) (k : ℕ) (ps : List Carrier) → slice_get equations k ≡ Some ps
+    → first_of (carriers_of equations) k + tuple_count (map values_of ps) ≤ count_of equations
 ends_within equations k ps e =
     let css = carriers_of equations in
-    let before : first_of css k + size_of css k ≤ first_of css (length css) = first_of-before css k (length css) (omega (arith, slice_get_within equations k ps e, length-carriers_of equations)) (omega arith) in
+    let before : first_of css k + size_of css k ≤ first_of css (length css) =
+    first_of-before css k (length css) (omega (arith, slice_get_within equations k ps e, length-carriers_of equations)) (omega arith) in
     omega (arith, before, first_of-last css, size_of-at equations k ps e)
 
 -- ---- the equations as vectors

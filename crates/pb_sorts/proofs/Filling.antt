@@ -53,7 +53,8 @@ filling_goes_on cs place vs ds rest weight c es size v us filling ds_is size_is 
       below = mod-lt rest (weight_is_some cs place vs ds rest weight c es size filling ds_is size_is);
     }
 
-pub filling_ends : (cs : List Carrier) (place : ℕ) (vs : Tuple) (ds : List Carrier) (rest weight : ℕ) → IsFilling cs place vs ds rest weight → ds ≡ [] → slice_get (tuples (map values_of cs)) place ≡ Some vs
+pub filling_ends : (cs : List Carrier) (place : ℕ) (vs : Tuple) (ds : List Carrier) (rest weight : ℕ)
+    → IsFilling cs place vs ds rest weight → ds ≡ [] → slice_get (tuples (map values_of cs)) place ≡ Some vs
 filling_ends cs place vs ds rest weight filling none =
     let one : weight ≡ 1 = filling.weight_is ∙ ap count none in
     let zero_left : rest ≡ 0 = omega (arith, filling.below, one) in

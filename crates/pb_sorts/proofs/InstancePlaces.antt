@@ -61,7 +61,9 @@ placed m (cs ∷ css) n i e =
           })
       | inr h ↦
           (let deeper : IsPlaced (suc m) css h.place i = placed (suc m) css h.place i h.at in
-          let count : length (instances_from m (cs ∷ take deeper.place css)) ≡ tuple_count cs + length (instances_from (suc m) (take deeper.place css)) = length-instances_from-cons m cs (take deeper.place css) in
+          let count : length (instances_from m (cs ∷ take deeper.place css))
+          ≡ tuple_count cs + length (instances_from (suc m) (take deeper.place css)) =
+          length-instances_from-cons m cs (take deeper.place css) in
           record {
             place = suc deeper.place;
             carriers = deeper.carriers;

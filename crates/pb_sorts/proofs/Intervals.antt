@@ -56,7 +56,9 @@ slice_get-interval low high k h =
 pub contains-interval : (low high v : ℤ) → low ≤ℤ high → Decides (contains (interval low high) v) ((low ≤ℤ v) × (v ≤ℤ high))
 contains-interval low high v h =
     let count : pos (at_least_none (high -ℤ low +ℤ pos 1)) ≡ high -ℤ low +ℤ pos 1 = count-interval low high h in
-    let inside : Decides (contains (interval low high) v) ((low ≤ℤ v) × (v <ℤ (low +ℤ pos (at_least_none (high -ℤ low +ℤ pos 1))))) = contains-numbers_from low (at_least_none (high -ℤ low +ℤ pos 1)) v in (
+    let inside : Decides (contains (interval low high) v)
+    ((low ≤ℤ v) × (v <ℤ (low +ℤ pos (at_least_none (high -ℤ low +ℤ pos 1))))) =
+    contains-numbers_from low (at_least_none (high -ℤ low +ℤ pos 1)) v in (
       λ e. let p : (low ≤ℤ v) × (v <ℤ (low +ℤ pos (at_least_none (high -ℤ low +ℤ pos 1)))) = inside.0 e in (p.0, omega (arith, ints, p.1, count)),
       λ p. inside.1 (p.0, omega (arith, ints, p.1, count)),
     )

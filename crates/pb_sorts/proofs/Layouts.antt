@@ -27,7 +27,8 @@ pub first_of-count : (equations : List (List Carrier)) → first_of (carriers_of
 first_of-count equations = ap (first_of (carriers_of equations)) (sym (length-carriers_of equations)) ∙ first_of-last (carriers_of equations)
 
 -- the next equation begins where this one ends
-pub first_of-after : (equations : List (List Carrier)) (k : ℕ) → k < length equations → first_of (carriers_of equations) (k + 1) ≡ first_of (carriers_of equations) k + size_of (carriers_of equations) k
+pub first_of-after : (equations : List (List Carrier)) (k : ℕ) → k < length equations
+    → first_of (carriers_of equations) (k + 1) ≡ first_of (carriers_of equations) k + size_of (carriers_of equations) k
 first_of-after equations k below =
     let next : k + 1 ≡ suc k = omega arith in
     ap (first_of (carriers_of equations)) next ∙ first_of-next (carriers_of equations) k (omega (arith, below, length-carriers_of equations))
@@ -72,7 +73,10 @@ owner_found equations firsts n p numbered below bound point = record { some = so
         not_above x n e f = grind (arith, e, f)
 
     within : p ≤ length equations
-    within = ⊎_elim (λ (h : length equations < p). absurd (too_large (get_or firsts (length equations) 0) n refl (numbered.starts (length equations) (omega arith)) (point.0 (length equations) 0 (omega arith) h)))
+    within = ⊎_elim
+        (λ (h : length equations < p). absurd
+        (too_large (get_or firsts (length equations) 0) n refl (numbered.starts (length equations) (omega arith))
+        (point.0 (length equations) 0 (omega arith) h)))
         (λ (h : p ≤ length equations). h) (cases_lt (length equations) p)
       where
         too_large : (x m : ℕ) → m ≡ n → x ≡ first_of css (length equations) → leb x m ≡ true → ⊥
@@ -108,7 +112,8 @@ number_at equations k r ps vs at_k at_r =
     ∙ ap (λ (q : ℕ). Some (with_values q vs)) here
 
 -- whether it is one
-pub is_instance-at : (equations : List (List Carrier)) (k : ℕ) (ps : List Carrier) (vs : Tuple) → slice_get equations k ≡ Some ps → is_instance (carriers_of equations) (with_values k vs) ≡ is_within (map values_of ps) vs
+pub is_instance-at : (equations : List (List Carrier)) (k : ℕ) (ps : List Carrier) (vs : Tuple)
+    → slice_get equations k ≡ Some ps → is_instance (carriers_of equations) (with_values k vs) ≡ is_within (map values_of ps) vs
 is_instance-at equations k ps vs at = ap (λ (o : Option (List carriers.Carrier)). is_tuple_of o vs) (slice_get-carriers_of equations k ps at)
 
 -- an equation's tuples are few
@@ -123,26 +128,36 @@ parameters_are_few equations k ps limits at =
 
 -- ---- the fields of a layout, as the methods read them: vs are its carriers, and contracts see the list `equations`
 
-pub numbered_view : {A : Type 0} (vs : List (Vec Carrier A)) (firsts : List ℕ) (equations : List (List Carrier)) → lists_of vs ≡ equations → IsNumbered (lists_of vs) firsts × IsWithinLimits (lists_of vs) → IsNumbered equations firsts
+pub numbered_view : {A : Type 0} (vs : List (Vec Carrier A)) (firsts : List ℕ) (equations : List (List Carrier))
+    → lists_of vs ≡ equations → IsNumbered (lists_of vs) firsts × IsWithinLimits (lists_of vs) → IsNumbered equations firsts
 numbered_view vs firsts equations is h = subst (λ (es : List (List Carrier)). IsNumbered es firsts) is h.0
 
-pub limits_view : {A : Type 0} (vs : List (Vec Carrier A)) (firsts : List ℕ) (equations : List (List Carrier)) → lists_of vs ≡ equations → IsNumbered (lists_of vs) firsts × IsWithinLimits (lists_of vs) → IsWithinLimits equations
+pub limits_view : {A : Type 0} (vs : List (Vec Carrier A)) (firsts : List ℕ) (equations : List (List Carrier))
+    → lists_of vs ≡ equations → IsNumbered (lists_of vs) firsts × IsWithinLimits (lists_of vs) → IsWithinLimits equations
 limits_view vs firsts equations is h = subst IsWithinLimits is h.1
 
 -- an equation's carriers that are read
-pub carriers_read : {A : Type 0} (vs : List (Vec Carrier A)) (equations : List (List Carrier)) (k : ℕ) (v : Vec Carrier A) (xs : List Carrier) → lists_of vs ≡ equations → k < length equations → v ≡ get_or vs k v → xs ≡ v.items → slice_get equations k ≡ Some xs
+pub carriers_read : {A : Type 0} (vs : List (Vec Carrier A)) (equations : List (List Carrier)) (k : ℕ)
+    (v : Vec Carrier A) (xs : List Carrier) → lists_of vs ≡ equations → k < length equations → v ≡ get_or vs k v
+    → xs ≡ v.items → slice_get equations k ≡ Some xs
 carriers_read vs equations k v xs is below read items =
     ap (λ (es : List (List Carrier)). slice_get es k) (sym is)
     ∙ (slice_get-lists_of vs k v (omega (arith, below, ap length is, length-lists_of vs)) read ∙ ap Some (sym items))
 
 -- an equation's carriers that are got from a slice of them
-pub carriers_got : {A : Type 0} (vs ws : List (Vec Carrier A)) (equations : List (List Carrier)) (k : ℕ) (v : Vec Carrier A) (xs : List Carrier) → ws ≡ vs → lists_of vs ≡ equations → k < length ws → v ≡ get_or ws k v → xs ≡ v.items → slice_get equations k ≡ Some xs
+pub carriers_got : {A : Type 0} (vs ws : List (Vec Carrier A)) (equations : List (List Carrier)) (k : ℕ)
+    (v : Vec Carrier A) (xs : List Carrier) → ws ≡ vs → lists_of vs ≡ equations → k < length ws → v ≡ get_or ws k v
+    → xs ≡ v.items → slice_get equations k ≡ Some xs
 carriers_got vs ws equations k v xs same is below read items =
     let shown : lists_of ws ≡ equations = ap lists_of same ∙ is in
     carriers_read ws equations k v xs shown (omega (arith, below, ap length shown, length-lists_of ws)) read items
 
 -- the number of an instance fits
-pub number_fits : (equations : List (List Carrier)) (k r : ℕ) (ps : List Carrier) (vs : Tuple) → IsWithinLimits equations → slice_get equations k ≡ Some ps → slice_get (tuples (map values_of ps)) r ≡ Some vs → first_of (carriers_of equations) k + r < 4194305
+pub number_fits : (equations : List (List Carrier)) (k r : ℕ) (ps : List Carrier) (vs : Tuple)
+    → IsWithinLimits equations → slice_get equations k ≡ Some ps → slice_get (tuples (map values_of ps)) r ≡ Some vs
+    → first_of (carriers_of equations) k + r < 4194305
 number_fits equations k r ps vs limits at_k at_r =
-    let below : first_of (carriers_of equations) k + r < count_of equations = slice_get_within (instances (carriers_of equations)) (first_of (carriers_of equations) k + r) (with_values k vs) (number_at equations k r ps vs at_k at_r) in
+    let below : first_of (carriers_of equations) k + r < count_of equations =
+    slice_get_within (instances (carriers_of equations)) (first_of (carriers_of equations) k + r) (with_values k vs)
+    (number_at equations k r ps vs at_k at_r) in
     omega (arith, below, limits.few_instances)

@@ -111,7 +111,8 @@ number_of-slice_get equations n i e =
     ∙ (ap (λ (o : Option (List carriers.Carrier)). first_of css p.place + mixed_radix_of o i.values) (sym p.carriers_at)
     ∙ ap (λ (k : ℕ). first_of css k + mixed_radix_of (slice_get css k) i.values) same))
 
-pub number_is_unique : (equations : List (List Carrier)) (m n : ℕ) (i : Instance) → slice_get (instances (carriers_of equations)) m ≡ Some i → slice_get (instances (carriers_of equations)) n ≡ Some i → m ≡ n
+pub number_is_unique : (equations : List (List Carrier)) (m n : ℕ) (i : Instance)
+    → slice_get (instances (carriers_of equations)) m ≡ Some i → slice_get (instances (carriers_of equations)) n ≡ Some i → m ≡ n
 number_is_unique equations m n i e f = number_of-slice_get equations m i e ∙ sym (number_of-slice_get equations n i f)
 
 -- ---- which equation owns a number

@@ -33,7 +33,9 @@ reading_starts cs vs ds ws ds_is ws_is long = subst (λ (es : List Carrier). IsR
 
 pub reading_goes_on : (cs : List Carrier) (vs : Tuple) (p : ℕ) (ds : List Carrier) (ws : Tuple) (c : Carrier) (es : List Carrier) (v : Value) (us : Tuple) (q n : ℕ)
     → IsReading cs vs p ds ws → ds ≡ c ∷ es → ws ≡ v ∷ us → slice_get (values_of c) q ≡ Some v → n ≡ p * length (values_of c) + q → IsReading cs vs n es us
-reading_goes_on cs vs p ds ws c es v us q n reading ds_is ws_is at n_is = step (subst (λ (fs : List Carrier). IsReading cs vs p fs (v ∷ us)) ds_is (subst (λ (xs : Tuple). IsReading cs vs p ds xs) ws_is reading))
+reading_goes_on cs vs p ds ws c es v us q n reading ds_is ws_is at n_is =
+    step (subst (λ (fs : List Carrier). IsReading cs vs p fs (v ∷ us)) ds_is
+    (subst (λ (xs : Tuple). IsReading cs vs p ds xs) ws_is reading))
   where
     digit : q < length (values_of c)
     digit = slice_get_within (values_of c) q v at

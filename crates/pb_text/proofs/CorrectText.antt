@@ -110,7 +110,9 @@ some-variables = let c = (variables-correct 0).some in record { tail = c.tail; v
 free-declared : (t : Tok) → t.kind ≡ k.Open → Free Declared 1 (t ∷ [])
 free-declared t is =
     free-to in_brackets Declared (λ x. x) 1 1 (to-declared 1) (t ∷ [])
-    (free-then (λ d. One k.Open) (λ open_bracket d. grammar.◌>>=◌ (deeper (λ d. Variables) d) (λ found. grammar.◌>>=◌ (One k.Close) (λ close_bracket. Is found))) 1 (t ∷ []) (free-one k.Open 1 t is) (λ open_bracket.
+    (free-then (λ d. One k.Open)
+    (λ open_bracket d. grammar.◌>>=◌ (deeper (λ d. Variables) d)
+    (λ found. grammar.◌>>=◌ (One k.Close) (λ close_bracket. Is found))) 1 (t ∷ []) (free-one k.Open 1 t is) (λ open_bracket.
     free-then (deeper (λ d. Variables)) (λ found d. grammar.◌>>=◌ (One k.Close) (λ close_bracket. Is found)) 1 [] some-variables (λ found.
     free-then (λ d. One k.Close) (λ close_bracket d. Is found) 1 [] (readable-one k.Close 1) (λ close_bracket. readable-is found 1))))
 
@@ -155,15 +157,36 @@ semicolon-stops = refl
 equation-correct : (depth : ℕ) → Correct Always (equation depth) IsEquation never depth
 unfolding equation
 equation-correct depth =
-    then-plain (λ d. First SignOf) (λ sign d. grammar.◌>>=◌ Name (λ name. grammar.◌>>=◌ (parameters_of d) (λ ps. grammar.◌>>=◌ (One k.Is) (λ equals. grammar.◌>>=◌ (CountedApart (IsFormula d)) (λ right. grammar.◌>>=◌ (One k.Semicolon) (λ semicolon. Is (record { sign = sign; name = name; parameters = ps; right = right }))))))) never depth
+    then-plain (λ d. First SignOf)
+    (λ sign d. grammar.◌>>=◌ Name
+    (λ name. grammar.◌>>=◌ (parameters_of d)
+    (λ ps. grammar.◌>>=◌ (One k.Is)
+    (λ equals. grammar.◌>>=◌ (CountedApart (IsFormula d))
+    (λ right. grammar.◌>>=◌ (One k.Semicolon)
+    (λ semicolon. Is (record { sign = sign; name = name; parameters = ps; right = right }))))))) never depth
     Always sign_of _ (sign-correct depth) (λ sign.
-    then-plain (λ d. Name) (λ name d. grammar.◌>>=◌ (parameters_of d) (λ ps. grammar.◌>>=◌ (One k.Is) (λ equals. grammar.◌>>=◌ (CountedApart (IsFormula d)) (λ right. grammar.◌>>=◌ (One k.Semicolon) (λ semicolon. Is (record { sign = sign; name = name; parameters = ps; right = right })))))) never depth
+    then-plain (λ d. Name)
+    (λ name d. grammar.◌>>=◌ (parameters_of d)
+    (λ ps. grammar.◌>>=◌ (One k.Is)
+    (λ equals. grammar.◌>>=◌ (CountedApart (IsFormula d))
+    (λ right. grammar.◌>>=◌ (One k.Semicolon)
+    (λ semicolon. Is (record { sign = sign; name = name; parameters = ps; right = right })))))) never depth
     Always name _ (name-correct depth) (λ name.
-    then-correct parameters_of (λ ps d. grammar.◌>>=◌ (One k.Is) (λ equals. grammar.◌>>=◌ (CountedApart (IsFormula d)) (λ right. grammar.◌>>=◌ (One k.Semicolon) (λ semicolon. Is (record { sign = sign; name = name; parameters = ps; right = right }))))) (going never is_open) never depth
-    (λ d x m y z r over. other-stops (going never is_open) k.Is m.tokens r.1.tokens r.0 is-stops r.2.0 r.2.1) Always (parameters depth) _ (parameters-correct depth) (λ ps. anywhere (Stops (going never is_open)) _ _ never depth (
-    then-plain (λ d. One k.Is) (λ equals d. grammar.◌>>=◌ (CountedApart (IsFormula d)) (λ right. grammar.◌>>=◌ (One k.Semicolon) (λ semicolon. Is (record { sign = sign; name = name; parameters = ps; right = right })))) never depth
+    then-correct parameters_of
+    (λ ps d. grammar.◌>>=◌ (One k.Is)
+    (λ equals. grammar.◌>>=◌ (CountedApart (IsFormula d))
+    (λ right. grammar.◌>>=◌ (One k.Semicolon)
+    (λ semicolon. Is (record { sign = sign; name = name; parameters = ps; right = right }))))) (going never is_open) never depth
+    (λ d x m y z r over. other-stops (going never is_open) k.Is m.tokens r.1.tokens r.0 is-stops r.2.0 r.2.1) Always
+    (parameters depth) _ (parameters-correct depth) (λ ps. anywhere (Stops (going never is_open)) _ _ never depth (
+    then-plain (λ d. One k.Is)
+    (λ equals d. grammar.◌>>=◌ (CountedApart (IsFormula d))
+    (λ right. grammar.◌>>=◌ (One k.Semicolon)
+    (λ semicolon. Is (record { sign = sign; name = name; parameters = ps; right = right })))) never depth
     Always (expect k.Is) _ (expect-correct k.Is depth refl) (λ equals.
-    then-correct (λ d. CountedApart (IsFormula d)) (λ right d. grammar.◌>>=◌ (One k.Semicolon) (λ semicolon. Is (record { sign = sign; name = name; parameters = ps; right = right }))) formula_goes never depth
+    then-correct (λ d. CountedApart (IsFormula d))
+    (λ right d. grammar.◌>>=◌ (One k.Semicolon)
+    (λ semicolon. Is (record { sign = sign; name = name; parameters = ps; right = right }))) formula_goes never depth
     (λ d x m y z r over. other-stops formula_goes k.Semicolon m.tokens r.1.tokens r.0 semicolon-stops r.2.0 r.2.1) Always (right_side depth) _ (right_side-correct depth)
     (λ right. anywhere (Stops formula_goes) _ _ never depth (token-correct k.Semicolon depth (record { sign = sign; name = name; parameters = ps; right = right }) refl)))))))
 
@@ -218,15 +241,39 @@ module _ (ranges : List RangeForm) (depth : ℕ) where
   text-correct : Correct Always (text ranges depth) (IsSpec ranges) never depth
   unfolding text
   text-correct =
-      then-correct (λ d. SortParts) (λ sorts d. grammar.◌>>=◌ (One k.Pbes) (λ pbes. grammar.◌>>=◌ (Equations d) (λ found. grammar.◌>>=◌ (One k.Init) (λ init. grammar.◌>>=◌ (CountedApart (IsInitialInstance d)) (λ initial. grammar.◌>>=◌ (One k.Semicolon) (λ semicolon. Is (record { sorts = sorts; ranges = ranges; equations = found; initial = initial }))))))) parts_go never depth
-      (λ d x m y z r over. other-stops parts_go k.Pbes m.tokens r.1.tokens r.0 pbes-stops r.2.0 r.2.1) Always sort_parts _ (sort_parts-correct depth) (λ sorts. anywhere (Stops parts_go) _ _ never depth (
-      then-plain (λ d. One k.Pbes) (λ pbes d. grammar.◌>>=◌ (Equations d) (λ found. grammar.◌>>=◌ (One k.Init) (λ init. grammar.◌>>=◌ (CountedApart (IsInitialInstance d)) (λ initial. grammar.◌>>=◌ (One k.Semicolon) (λ semicolon. Is (record { sorts = sorts; ranges = ranges; equations = found; initial = initial })))))) never depth
+      then-correct (λ d. SortParts)
+      (λ sorts d. grammar.◌>>=◌ (One k.Pbes)
+      (λ pbes. grammar.◌>>=◌ (Equations d)
+      (λ found. grammar.◌>>=◌ (One k.Init)
+      (λ init. grammar.◌>>=◌ (CountedApart (IsInitialInstance d))
+      (λ initial. grammar.◌>>=◌ (One k.Semicolon)
+      (λ semicolon. Is (record { sorts = sorts; ranges = ranges; equations = found; initial = initial }))))))) parts_go never depth
+      (λ d x m y z r over. other-stops parts_go k.Pbes m.tokens r.1.tokens r.0 pbes-stops r.2.0 r.2.1) Always sort_parts
+      _ (sort_parts-correct depth) (λ sorts. anywhere (Stops parts_go) _ _ never depth (
+      then-plain (λ d. One k.Pbes)
+      (λ pbes d. grammar.◌>>=◌ (Equations d)
+      (λ found. grammar.◌>>=◌ (One k.Init)
+      (λ init. grammar.◌>>=◌ (CountedApart (IsInitialInstance d))
+      (λ initial. grammar.◌>>=◌ (One k.Semicolon)
+      (λ semicolon. Is (record { sorts = sorts; ranges = ranges; equations = found; initial = initial })))))) never depth
       Always (expect k.Pbes) _ (expect-correct k.Pbes depth refl) (λ pbes.
-      then-correct Equations (λ found d. grammar.◌>>=◌ (One k.Init) (λ init. grammar.◌>>=◌ (CountedApart (IsInitialInstance d)) (λ initial. grammar.◌>>=◌ (One k.Semicolon) (λ semicolon. Is (record { sorts = sorts; ranges = ranges; equations = found; initial = initial }))))) (going never begins_equation) never depth
-      (λ d x m y z r over. other-stops (going never begins_equation) k.Init m.tokens r.1.tokens r.0 init-stops r.2.0 r.2.1) Always (equations depth) _ (equations-correct depth) (λ found. anywhere (Stops (going never begins_equation)) _ _ never depth (
-      then-plain (λ d. One k.Init) (λ init d. grammar.◌>>=◌ (CountedApart (IsInitialInstance d)) (λ initial. grammar.◌>>=◌ (One k.Semicolon) (λ semicolon. Is (record { sorts = sorts; ranges = ranges; equations = found; initial = initial })))) never depth
+      then-correct Equations
+      (λ found d. grammar.◌>>=◌ (One k.Init)
+      (λ init. grammar.◌>>=◌ (CountedApart (IsInitialInstance d))
+      (λ initial. grammar.◌>>=◌ (One k.Semicolon)
+      (λ semicolon. Is (record { sorts = sorts; ranges = ranges; equations = found; initial = initial })))))
+      (going never begins_equation) never depth
+      (λ d x m y z r over. other-stops (going never begins_equation) k.Init m.tokens r.1.tokens r.0 init-stops r.2.0
+      r.2.1) Always (equations depth) _ (equations-correct depth)
+      (λ found. anywhere (Stops (going never begins_equation)) _ _ never depth (
+      then-plain (λ d. One k.Init)
+      (λ init d. grammar.◌>>=◌ (CountedApart (IsInitialInstance d))
+      (λ initial. grammar.◌>>=◌ (One k.Semicolon)
+      (λ semicolon. Is (record { sorts = sorts; ranges = ranges; equations = found; initial = initial })))) never depth
       Always (expect k.Init) _ (expect-correct k.Init depth refl) (λ init.
-      then-correct (λ d. CountedApart (IsInitialInstance d)) (λ initial d. grammar.◌>>=◌ (One k.Semicolon) (λ semicolon. Is (record { sorts = sorts; ranges = ranges; equations = found; initial = initial }))) node_goes never depth
+      then-correct (λ d. CountedApart (IsInitialInstance d))
+      (λ initial d. grammar.◌>>=◌ (One k.Semicolon)
+      (λ semicolon. Is (record { sorts = sorts; ranges = ranges; equations = found; initial = initial }))) node_goes never depth
       (λ d x m y z r over. other-stops node_goes k.Semicolon m.tokens r.1.tokens r.0 end-stops r.2.0 r.2.1) Always (initial_instance depth) _ (initial-correct depth)
       (λ initial. anywhere (Stops node_goes) _ _ never depth (token-correct k.Semicolon depth (record { sorts = sorts; ranges = ranges; equations = found; initial = initial }) refl))))))))
 
@@ -286,7 +333,13 @@ whole-reads ranges depth s ended = at-text (text ranges depth s) ((text-correct 
       end = t;
       cut = a.tokens ∙ ap (λ v. a.front ++ v) is;
       end_is = end;
-      reads = (z.operators, t, move (IsSpec ranges depth) (a.front ++ t ∷ []) s.tokens s.operators s.operators x (st (t ∷ []) z.operators) (sym (a.tokens ∙ ap (λ v. a.front ++ v) is)) refl (a.reads (t ∷ [])), end);
+      reads = (
+        z.operators,
+        t,
+        move (IsSpec ranges depth) (a.front ++ t ∷ []) s.tokens s.operators s.operators x
+            (st (t ∷ []) z.operators) (sym (a.tokens ∙ ap (λ v. a.front ++ v) is)) refl (a.reads (t ∷ [])),
+        end,
+      );
       only = λ d n y r.
           (a.only d n (t ∷ []) y (st (r.1 ∷ []) r.0) (stops-never (t ∷ []))
           (move (IsSpec ranges d) s.tokens (a.front ++ t ∷ []) n n y (st (r.1 ∷ []) r.0) (a.tokens ∙ ap (λ v. a.front ++ v) is) refl r.2) (stops-never (r.1 ∷ []))).0;

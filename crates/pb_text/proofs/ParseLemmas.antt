@@ -67,7 +67,9 @@ within-self Limit = (omega arith, omega arith)
 
 pub no-reading : (bytes : List ℕ) (bad : Refusal) → IsFault depth_limit operator_limit (all_tokens bytes) bad → (y : SpecForm) → IsReading bytes y → ⊥
 no-reading bytes bad f y h =
-    f.none depth_limit operator_limit f.more (all_ranges bytes) y (within-self bad.rule) (subst (λ (v : List Tok). IsText depth_limit operator_limit v (all_ranges bytes) y) f.cut (of-cut bytes depth_limit operator_limit y h))
+    f.none depth_limit operator_limit f.more (all_ranges bytes) y (within-self bad.rule)
+    (subst (λ (v : List Tok). IsText depth_limit operator_limit v (all_ranges bytes) y) f.cut
+    (of-cut bytes depth_limit operator_limit y h))
 
 -- a refused token is no token, or it is refused by the grammar
 by-kind : (bytes : List ℕ) (rule : ReadingRule) (kind : Kind) (place : Place) → (is_defect kind ≡ true → IsBroken bytes kind place) → (is_defect kind ≡ false → IsRefusal bytes rule place)
@@ -126,11 +128,13 @@ IsFaultOf bytes bad = IsFault depth_limit operator_limit (all_tokens bytes) bad
 abbrev pub Answered : List ℕ → Result Spec (OrMemory Refusal) → Type 0
 Answered bytes result = Answers (IsSaid bytes) (IsFaultOf bytes) result
 
-answered-by : (bytes : List ℕ) (o : Outcome SpecForm) (result : Result Spec (OrMemory Refusal)) (z : State) → Gives spec_form o result z → Reading [] depth_limit (st (all_tokens bytes) operator_limit) o → Answered bytes result
+answered-by : (bytes : List ℕ) (o : Outcome SpecForm) (result : Result Spec (OrMemory Refusal)) (z : State)
+    → Gives spec_form o result z → Reading [] depth_limit (st (all_tokens bytes) operator_limit) o → Answered bytes result
 answered-by bytes o (Ok s) z is h = subst (λ (v : Outcome SpecForm). Reading [] depth_limit (st (all_tokens bytes) operator_limit) v) is h
 answered-by bytes o (Err error) z is h = if_fault error (λ bad is. subst (λ (v : Outcome SpecForm). Reading [] depth_limit (st (all_tokens bytes) operator_limit) v) is h) is
 
-pub answered : (bytes : List ℕ) (s : State) (result : Result Spec (OrMemory Refusal)) (z : State) → s ≡ st (all_tokens bytes) operator_limit → Gives spec_form (whole_text [] depth_limit s) result z → Answered bytes result
+pub answered : (bytes : List ℕ) (s : State) (result : Result Spec (OrMemory Refusal)) (z : State)
+    → s ≡ st (all_tokens bytes) operator_limit → Gives spec_form (whole_text [] depth_limit s) result z → Answered bytes result
 answered bytes s result z is h =
     answered-by bytes (whole_text [] depth_limit (st (all_tokens bytes) operator_limit)) result z
     (subst (λ (v : State). Gives spec_form (whole_text [] depth_limit v) result z) is h)

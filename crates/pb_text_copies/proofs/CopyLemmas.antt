@@ -20,7 +20,9 @@ abbrev pub placed_argument : Argument → Place × TermForm
 placed_argument a = (a.place, term_form a.term)
 
 pub group-copied : (a b : Variables) → map named a.names.items ≡ map named b.names.items → named a.sort ≡ named b.sort → variables_form a ≡ variables_form b
-group-copied a b names sorts = by (named a.sort) a.names.items ∙ ap (λ v. map (sorted v) (map named a.names.items)) sorts ∙ ap (map (sorted (named b.sort))) names ∙ sym (by (named b.sort) b.names.items)
+group-copied a b names sorts =
+    by (named a.sort) a.names.items ∙ ap (λ v. map (sorted v) (map named a.names.items)) sorts
+    ∙ ap (map (sorted (named b.sort))) names ∙ sym (by (named b.sort) b.names.items)
   where
     sorted : Named → Named → VariableForm
     sorted sort name = record { name = name; sort = sort }

@@ -151,7 +151,9 @@ free-not t is =
 
 free-bracket : (t : Tok) → t.kind ≡ k.Open → Free (λ d. kinds d k.Open) 1 (t ∷ [])
 free-bracket t is =
-    free-then (λ d. One k.Open) (λ open_bracket d. grammar.◌>>=◌ (deeper IsFormula d) (λ inner. grammar.◌>>=◌ (One k.Close) (λ close_bracket. Is inner))) 1 (t ∷ []) (free-one k.Open 1 t is) (λ open_bracket.
+    free-then (λ d. One k.Open)
+    (λ open_bracket d. grammar.◌>>=◌ (deeper IsFormula d)
+    (λ inner. grammar.◌>>=◌ (One k.Close) (λ close_bracket. Is inner))) 1 (t ∷ []) (free-one k.Open 1 t is) (λ open_bracket.
     free-then (deeper IsFormula) (λ inner d. grammar.◌>>=◌ (One k.Close) (λ close_bracket. Is inner)) 1 [] (readable-deeper IsFormula 0 (readable-formula 0)) (λ inner.
     free-then (λ d. One k.Close) (λ close_bracket d. Is inner) 1 [] (readable-one k.Close 1) (λ close_bracket. readable-is inner 1)))
 
@@ -177,7 +179,9 @@ opening-last word q s ended u = go s.tokens s.operators ended
     at : (t : Tok) (ts : List Tok) (n : ℕ) (b : Bool) → is_open t.kind ≡ b → ends (t ∷ ts) ≡ true
         → Answers (in_brackets word) never 0 (st (t ∷ ts) n) (and_then (cond b (refuse Limit (st (t ∷ ts) n)) (refuse Unexpected (st (t ∷ ts) n))) q)
     at t ts n true same e =
-        refused-here (in_brackets word) never 0 (st (t ∷ ts) n) Limit e (λ x. ap is_limited (kind-same t.kind k.Open same)) (λ d m v tail y w head within r over. no-level-val word d (st (v ∷ tail) m) y w within.0 r)
+        refused-here (in_brackets word) never 0 (st (t ∷ ts) n) Limit e
+        (λ x. ap is_limited (kind-same t.kind k.Open same))
+        (λ d m v tail y w head within r over. no-level-val word d (st (v ∷ tail) m) y w within.0 r)
         (λ v is. goes-free (in_brackets word) 1 (suc n) (v ∷ []) (free-term word v (is ∙ kind-same t.kind k.Open same)))
     at t ts n false other e =
         refused-here (in_brackets word) never 0 (st (t ∷ ts) n) Unexpected e (λ x. absurd (unlike x)) (λ d m v tail y w head within r over. differs t v tail m r.1 head other r.0 r.2)
@@ -190,16 +194,27 @@ opening-last word q s ended u = go s.tokens s.operators ended
 valued-last : Answering (HeadIs k.Val) (begun (refuse Limit) (refuse Limit) (refuse Limit) (refuse Limit) (expressions.instance 0) k.Val) (λ d. kinds d k.Val) node_goes 0
 valued-last =
     unless_next-answers (λ d. kinds d k.Val) never is_open 0 (HeadIs k.Val)
-    (step.◌>>=◌ take_token (λ word. step.◌>>=◌ (opening (refuse Limit)) (λ open_bracket. step.◌>>=◌ (refuse Limit) (λ x. step.◌>>=◌ (expect k.Close) (λ close_bracket. pure (FormulaForm.val word.place x))))))
+    (step.◌>>=◌ take_token
+    (λ word. step.◌>>=◌ (opening (refuse Limit))
+    (λ open_bracket. step.◌>>=◌ (refuse Limit)
+    (λ x. step.◌>>=◌ (expect k.Close) (λ close_bracket. pure (FormulaForm.val word.place x))))))
     (then-behind k.Val in_brackets never 0
     (λ word. step.◌>>=◌ (opening (refuse Limit)) (λ open_bracket. step.◌>>=◌ (refuse Limit) (λ x. step.◌>>=◌ (expect k.Close) (λ close_bracket. pure (FormulaForm.val word.place x)))))
     refl refl
     (λ word. opening-last word (λ open_bracket. step.◌>>=◌ (refuse Limit) (λ x. step.◌>>=◌ (expect k.Close) (λ close_bracket. pure (FormulaForm.val word.place x))))))
 
-at-last : (kind : Kind) → Answering (HeadIs kind) (begun (refuse Limit) (refuse Limit) (refuse Limit) (refuse Limit) (expressions.instance 0) kind) (λ d. kinds d kind) node_goes 0 ⊎ Nowhere (begun (refuse Limit) (refuse Limit) (refuse Limit) (refuse Limit) (expressions.instance 0) kind) (λ d. kinds d kind)
-at-last k.Not = inl (λ s end h. refused-here (λ d. kinds d k.Not) node_goes 0 s Limit end (λ q. head-limited k.Not s.tokens h refl) (λ d n t tail y w head within r over. no-level-not d n (st (t ∷ tail) n) y w within.0 r)
+at-last : (kind : Kind)
+    → Answering (HeadIs kind)
+    (begun (refuse Limit) (refuse Limit) (refuse Limit) (refuse Limit) (expressions.instance 0) kind)
+    (λ d. kinds d kind) node_goes 0
+    ⊎ Nowhere (begun (refuse Limit) (refuse Limit) (refuse Limit) (refuse Limit) (expressions.instance 0) kind) (λ d. kinds d kind)
+at-last k.Not =
+    inl (λ s end h. refused-here (λ d. kinds d k.Not) node_goes 0 s Limit end (λ q. head-limited k.Not s.tokens h refl)
+    (λ d n t tail y w head within r over. no-level-not d n (st (t ∷ tail) n) y w within.0 r)
     (λ t is. goes-free (λ d. kinds d k.Not) 1 (suc s.operators) (t ∷ []) (free-not t (is ∙ head-kind-is k.Not s.tokens h))))
-at-last k.Open = inl (λ s end h. refused-here (λ d. kinds d k.Open) node_goes 0 s Limit end (λ q. head-limited k.Open s.tokens h refl) (λ d n t tail y w head within r over. no-level-open d n (st (t ∷ tail) n) y w within.0 r)
+at-last k.Open =
+    inl (λ s end h. refused-here (λ d. kinds d k.Open) node_goes 0 s Limit end
+    (λ q. head-limited k.Open s.tokens h refl) (λ d n t tail y w head within r over. no-level-open d n (st (t ∷ tail) n) y w within.0 r)
     (λ t is. goes-free (λ d. kinds d k.Open) 1 (suc s.operators) (t ∷ []) (free-bracket t (is ∙ head-kind-is k.Open s.tokens h))))
 at-last k.True = inl (leaf k.True (λ t. FormulaForm.constant t.place true) 0 refl).answers
 at-last k.False = inl (leaf k.False (λ t. FormulaForm.constant t.place false) 0 refl).answers
@@ -234,7 +249,11 @@ module _ (depth : ℕ) (right-node : Correct Always (node depth) IsNode node_goe
       anywhere (Stops g) _ (λ d. grammar.◌>>=◌ (One k.Close) (λ t. Is x)) never (suc depth)
       (then-plain (λ d. One k.Close) (λ t d. Is x) never (suc depth) Always (expect k.Close) (λ t. pure x) (expect-correct k.Close (suc depth) refl) (λ t. is-correct x (suc depth)))
 
-  open-correct : (word : Tok) → Correct Always (step.◌>>=◌ (opening take_token) (λ open_bracket. step.◌>>=◌ (data_term depth) (λ x. step.◌>>=◌ (expect k.Close) (λ close_bracket. pure (FormulaForm.val word.place x)))))
+  open-correct : (word : Tok)
+      → Correct Always
+      (step.◌>>=◌ (opening take_token)
+      (λ open_bracket. step.◌>>=◌ (data_term depth)
+      (λ x. step.◌>>=◌ (expect k.Close) (λ close_bracket. pure (FormulaForm.val word.place x)))))
       (in_brackets word) never (suc depth)
   unfolding opening expect
   open-correct word =
@@ -262,7 +281,12 @@ module _ (depth : ℕ) (right-node : Correct Always (node depth) IsNode node_goe
       closed-correct (HeadIs k.Val) _ (λ d. kinds d k.Val) (suc depth)
       (then-plain (λ d. One k.Val) in_brackets never (suc depth) (HeadIs k.Val) take_token _ (take-correct k.Val (suc depth) refl) open-correct)
 
-  at-each : (kind : Kind) → Answering (HeadIs kind) (begun take_token (node depth) (formula depth) (data_term depth) (expressions.instance (suc depth)) kind) (λ d. kinds d kind) node_goes (suc depth) ⊎ Nowhere (begun take_token (node depth) (formula depth) (data_term depth) (expressions.instance (suc depth)) kind) (λ d. kinds d kind)
+  at-each : (kind : Kind)
+      → Answering (HeadIs kind)
+      (begun take_token (node depth) (formula depth) (data_term depth) (expressions.instance (suc depth)) kind)
+      (λ d. kinds d kind) node_goes (suc depth)
+      ⊎ Nowhere (begun take_token (node depth) (formula depth) (data_term depth) (expressions.instance (suc depth))
+      kind) (λ d. kinds d kind)
   at-each k.Not = inl negated.answers
   at-each k.Open = inl bracketed.answers
   at-each k.True = inl (leaf k.True (λ t. FormulaForm.constant t.place true) (suc depth) refl).answers
@@ -275,9 +299,12 @@ node-last : Correct Always (node 0) IsNode node_goes 0
 unfolding node
 node-last =
     alike-correct Always (node 0) (λ d. First (kinds d)) IsNode node_goes 0 to-node from-node
-    (first-correct kinds node_goes 0 (λ d kind. starts (deeper IsNode d) (deeper IsFormula d) (deeper IsTerm d) kind) (begun (refuse Limit) (refuse Limit) (refuse Limit) (refuse Limit) (expressions.instance 0)) at-last k.True (readable-true 0) (readable-true 1))
+    (first-correct kinds node_goes 0 (λ d kind. starts (deeper IsNode d) (deeper IsFormula d) (deeper IsTerm d) kind)
+    (begun (refuse Limit) (refuse Limit) (refuse Limit) (refuse Limit) (expressions.instance 0)) at-last k.True
+    (readable-true 0) (readable-true 1))
 
-node-over : (depth : ℕ) → Correct Always (node depth) IsNode node_goes depth → Correct Always (formula depth) IsFormula formula_goes depth → Correct Always (node (suc depth)) IsNode node_goes (suc depth)
+node-over : (depth : ℕ) → Correct Always (node depth) IsNode node_goes depth
+    → Correct Always (formula depth) IsFormula formula_goes depth → Correct Always (node (suc depth)) IsNode node_goes (suc depth)
 unfolding node
 node-over depth n f =
     alike-correct Always (node (suc depth)) (λ d. First (kinds d)) IsNode node_goes (suc depth) to-node from-node
@@ -333,7 +360,9 @@ pub record AreCorrect (depth : ℕ) : Type 0 where
 
 formulas-last : Correct Always (formula 0) IsFormula formula_goes 0
 unfolding node formula
-formulas-last = connections-correct 0 (node 0) (expressions.quantified FormulaForm.quantified (refuse Limit) (refuse Limit)) node-last (quantified-last FormulaForm.quantified IsFormula formula_goes (readable-formula 0) (refuse Limit))
+formulas-last =
+    connections-correct 0 (node 0) (expressions.quantified FormulaForm.quantified (refuse Limit) (refuse Limit))
+    node-last (quantified-last FormulaForm.quantified IsFormula formula_goes (readable-formula 0) (refuse Limit))
 
 formulas-over : (depth : ℕ) → Correct Always (node (suc depth)) IsNode node_goes (suc depth) → Correct Always (formula depth) IsFormula formula_goes depth
     → Correct Always (formula (suc depth)) IsFormula formula_goes (suc depth)

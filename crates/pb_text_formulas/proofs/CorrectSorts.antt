@@ -109,7 +109,9 @@ enumerators-correct depth = record {
   answers = λ s ended u.
       series-correct (λ d. Enumerator) (λ d. One k.Bar) (λ x. x ∷ []) (λ x t xs. x ∷ xs) (going never is_question) is_bar depth bar-apart
       (λ d m t o y z between rest. passes-kind k.Bar m.tokens o.tokens t between.0 between.1)
-      enumerator (enumerator-correct depth).answers take_token (weaker-correct (HeadIs k.Bar) (Passes is_bar) take_token (λ d. One k.Bar) never depth (head-of k.Bar) (take-correct k.Bar depth refl)).answers
+      enumerator (enumerator-correct depth).answers take_token
+      (weaker-correct (HeadIs k.Bar) (Passes is_bar) take_token (λ d. One k.Bar) never depth (head-of k.Bar)
+      (take-correct k.Bar depth refl)).answers
       (λ m bad is. ((enumerator-correct depth).here, (enumerator-correct depth).some))
       (λ m t z a. unlimited-token k.Bar depth refl m t z a)
       (λ s0 s1 s2 x t a b. less s0.tokens s1.tokens s2.tokens a.front b.front t a.tokens b.tokens (b.reads []).0) (suc (length s.tokens)) s (omega arith) ended;

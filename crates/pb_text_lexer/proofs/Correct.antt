@@ -167,7 +167,8 @@ reaches-read fam level n m ts x reads before behind t e lim = record {
   tail = behind;
   value = x;
   left = m;
-  reads = λ after. move (fam level) (ts ++ after) (((before ++ t ∷ []) ++ behind) ++ after) n n x (st after m) (ap (λ v. v ++ after) (e ∙ sym (append_assoc before (t ∷ []) behind))) refl (reads after);
+  reads = λ after. move (fam level) (ts ++ after) (((before ++ t ∷ []) ++ behind) ++ after) n n x (st after m)
+      (ap (λ v. v ++ after) (e ∙ sym (append_assoc before (t ∷ []) behind))) refl (reads after);
 }
 
 -- a token of two lists is one of the first or one of the second

@@ -169,7 +169,9 @@ module _ {X : Type 0} (c : Kind) (join : X → Tok → X → X) (famC L : Family
       → Only L WL A af au x → Only famC (Stops g) A af au x → (b : Took (λ d. Operator c) never depth s1 t s2)
       → None many W rule depth s2.operators rf next → None many W rule depth s.operators (af ++ (b.front ++ rf)) next
   rest-none A s s1 s2 x t rule af rf au next count on wide closed b rest d n tail y w inside r over =
-      at (split d _ y w (move (many d) _ (af ++ (b.front ++ (rf ++ next ∷ tail))) n n y w (append_assoc af (b.front ++ rf) (next ∷ tail) ∙ ap (λ ts. af ++ ts) (append_assoc b.front rf (next ∷ tail))) refl r))
+      at (split d _ y w
+      (move (many d) _ (af ++ (b.front ++ (rf ++ next ∷ tail))) n n y w
+      (append_assoc af (b.front ++ rf) (next ∷ tail) ∙ ap (λ ts. af ++ ts) (append_assoc b.front rf (next ∷ tail))) refl r))
     where
       begins : Passes (is_symbol c) (b.front ++ (rf ++ next ∷ tail))
       begins = starts (st (b.front ++ (rf ++ next ∷ tail)) s1.operators) (st (rf ++ next ∷ tail) s2.operators) t (b.reads (rf ++ next ∷ tail))
@@ -183,7 +185,8 @@ module _ {X : Type 0} (c : Kind) (join : X → Tok → X → X) (famC L : Family
           let two = b.only d q.1.operators (rf ++ next ∷ tail) q.3.0 q.3.1 (stops-never (rf ++ next ∷ tail))
           (move (Operator c) q.1.tokens (b.front ++ (rf ++ next ∷ tail)) q.1.operators q.1.operators q.3.0 q.3.1 one.1 refl q.3.2) (stops-never q.3.1.tokens) in
           rest d q.3.1.operators tail q.3.3.0 w
-          (within-less rule depth d q.1.operators q.3.1.operators b.used s1.operators s2.operators two.2 b.operators (within-less rule depth d n q.1.operators au s.operators s1.operators one.2 count inside))
+          (within-less rule depth d q.1.operators q.3.1.operators b.used s1.operators s2.operators two.2 b.operators
+          (within-less rule depth d n q.1.operators au s.operators s1.operators one.2 count inside))
           (move (many d) q.3.1.tokens (rf ++ next ∷ tail) q.3.1.operators q.3.1.operators q.3.3.0 w two.1 refl q.3.3.1) over
 
 -- ---- the level: from an operand that may be open to a chain that may be
@@ -274,8 +277,12 @@ module _ {X : Type 0} (c : Kind) (join : X → Tok → X → X) (famC famO : Fam
     ended = a.ended;
     reads = λ after. last (a.reads after);
     closes = λ pass after. last (a.closes pass after);
-    only_open = last_only c join famC famO g (Stops conn) (Stops conn) depth apart itself conn-on (Like g conn s1.tokens) (Like gg conn s1.tokens) a.front a.used x (into s1.tokens) (λ ts l. l.stops) a.only_open a.only_closed;
-    only_closed = last_only c join famC famC g (Stops g) (Stops gg) depth apart less on-closed (Like g conn s1.tokens) (Like gg conn s1.tokens) a.front a.used x (into s1.tokens) (λ ts l. l.stops) a.only_closed a.only_closed;
+    only_open =
+        last_only c join famC famO g (Stops conn) (Stops conn) depth apart itself conn-on (Like g conn s1.tokens)
+        (Like gg conn s1.tokens) a.front a.used x (into s1.tokens) (λ ts l. l.stops) a.only_open a.only_closed;
+    only_closed =
+        last_only c join famC famC g (Stops g) (Stops gg) depth apart less on-closed (Like g conn s1.tokens)
+        (Like gg conn s1.tokens) a.front a.used x (into s1.tokens) (λ ts l. l.stops) a.only_closed a.only_closed;
     one_more = λ after. last (a.one_more after);
     one_more_closed = λ pass after. last (a.one_more_closed pass after);
   }
@@ -285,7 +292,10 @@ module _ {X : Type 0} (c : Kind) (join : X → Tok → X → X) (famC famO : Fam
   more-opened s s1 s2 z x v t a head b r = record {
     front = a.front ++ (b.front ++ r.front);
     used = a.used + (b.used + r.used);
-    tokens = a.tokens ∙ ap (λ ts. a.front ++ ts) (b.tokens ∙ ap (λ ts. b.front ++ ts) r.tokens ∙ sym (append_assoc b.front r.front z.tokens)) ∙ sym (append_assoc a.front (b.front ++ r.front) z.tokens);
+    tokens = a.tokens
+        ∙ ap (λ ts. a.front ++ ts)
+        (b.tokens ∙ ap (λ ts. b.front ++ ts) r.tokens ∙ sym (append_assoc b.front r.front z.tokens))
+        ∙ sym (append_assoc a.front (b.front ++ r.front) z.tokens);
     operators = let i = a.operators in let j = b.operators in let l = r.operators in omega arith;
     stops = r.stops;
     ended = r.ended;
@@ -293,8 +303,13 @@ module _ {X : Type 0} (c : Kind) (join : X → Tok → X → X) (famC famO : Fam
         (more (a.closes (passes-conn s1.tokens head) (b.front ++ (r.front ++ after))) (b.reads (r.front ++ after)) (r.reads after));
     closes = λ pass after. move (closeds depth) (a.front ++ (b.front ++ (r.front ++ after))) _ _ _ _ (st after z.operators) (regroup after) refl
         (more (a.closes (passes-conn s1.tokens head) (b.front ++ (r.front ++ after))) (b.reads (r.front ++ after)) (r.closes pass after));
-    only_open = more_only c join famC famO g (Stops conn) (Stops conn) depth apart itself conn-on (Like g conn s1.tokens) (Like gg conn z.tokens) s1 s2 x v t a.front r.front a.used r.used (like-on s1.tokens head) a.only_open a.only_closed b r.only_open;
-    only_closed = more_only c join famC famC g (Stops g) (Stops gg) depth apart less on-closed (Like g conn s1.tokens) (Like gg conn z.tokens) s1 s2 x v t a.front r.front a.used r.used (like-on s1.tokens head) a.only_closed a.only_closed b r.only_closed;
+    only_open =
+        more_only c join famC famO g (Stops conn) (Stops conn) depth apart itself conn-on (Like g conn s1.tokens)
+        (Like gg conn z.tokens) s1 s2 x v t a.front r.front a.used r.used (like-on s1.tokens head) a.only_open a.only_closed b r.only_open;
+    only_closed =
+        more_only c join famC famC g (Stops g) (Stops gg) depth apart less on-closed (Like g conn s1.tokens)
+        (Like gg conn z.tokens) s1 s2 x v t a.front r.front a.used r.used (like-on s1.tokens head) a.only_closed
+        a.only_closed b r.only_closed;
     one_more = λ after. move (opens (suc depth)) (a.front ++ (b.front ++ (r.front ++ after))) _ _ _ _ (st after (suc z.operators)) (regroup after) refl
         (more (a.one_more_closed (passes-conn s1.tokens head) (b.front ++ (r.front ++ after))) (b.one_more (r.front ++ after)) (r.one_more after));
     one_more_closed = λ pass after. move (closeds (suc depth)) (a.front ++ (b.front ++ (r.front ++ after))) _ _ _ _ (st after (suc z.operators)) (regroup after) refl
@@ -329,8 +344,12 @@ module _ {X : Type 0} (c : Kind) (join : X → Tok → X → X) (famC famO : Fam
     kind = b.kind;
     place = b.place;
     limited = b.limited;
-    none_open = operator-none c join famC famO g (Stops conn) (Stops conn) depth apart itself conn-on (Like g conn s1.tokens) s s1 x bad a.front a.used a.operators (like-on s1.tokens head) head a.only_open a.only_closed b;
-    none_closed = operator-none c join famC famC g (Stops g) (Stops gg) depth apart less on-closed (Like g conn s1.tokens) s s1 x bad a.front a.used a.operators (like-on s1.tokens head) head a.only_closed a.only_closed b;
+    none_open =
+        operator-none c join famC famO g (Stops conn) (Stops conn) depth apart itself conn-on (Like g conn s1.tokens) s
+        s1 x bad a.front a.used a.operators (like-on s1.tokens head) head a.only_open a.only_closed b;
+    none_closed =
+        operator-none c join famC famC g (Stops g) (Stops gg) depth apart less on-closed (Like g conn s1.tokens) s s1 x
+        bad a.front a.used a.operators (like-on s1.tokens head) head a.only_closed a.only_closed b;
     goes_on = goes-connective (suc depth) (suc s.operators) (suc s1.operators) a.front b.front (going_on bad.rule b.next) x (a.one_more_closed (passes-conn s1.tokens head)) b.goes_on some;
     first = reaches-append opens depth s.operators a.front b.front (reaches-read opens depth s.operators s1.operators a.front x (λ after. last (a.reads after)))
         (λ before behind u e lim. goes-connective depth s.operators s1.operators a.front before (u ∷ []) x (a.closes (passes-conn s1.tokens head)) (b.first before behind u e lim) here);
@@ -342,13 +361,21 @@ module _ {X : Type 0} (c : Kind) (join : X → Tok → X → X) (famC famO : Fam
     front = a.front ++ (b.front ++ r.front);
     next = r.next;
     more_tokens = r.more_tokens;
-    tokens = a.tokens ∙ ap (λ ts. a.front ++ ts) (b.tokens ∙ ap (λ ts. b.front ++ ts) r.tokens ∙ sym (append_assoc b.front r.front (r.next ∷ r.more_tokens))) ∙ sym (append_assoc a.front (b.front ++ r.front) (r.next ∷ r.more_tokens));
+    tokens = a.tokens
+        ∙ ap (λ ts. a.front ++ ts)
+        (b.tokens ∙ ap (λ ts. b.front ++ ts) r.tokens ∙ sym (append_assoc b.front r.front (r.next ∷ r.more_tokens)))
+        ∙ sym (append_assoc a.front (b.front ++ r.front) (r.next ∷ r.more_tokens));
     kind = r.kind;
     place = r.place;
     limited = r.limited;
-    none_open = rest-none c join famC famO g (Stops conn) (Stops conn) depth apart itself conn-on (Like g conn s1.tokens) s s1 s2 x t bad.rule a.front r.front a.used r.next a.operators (like-on s1.tokens head) a.only_open a.only_closed b r.none_open;
-    none_closed = rest-none c join famC famC g (Stops g) (Stops gg) depth apart less on-closed (Like g conn s1.tokens) s s1 s2 x t bad.rule a.front r.front a.used r.next a.operators (like-on s1.tokens head) a.only_closed a.only_closed b r.none_closed;
-    goes_on = goes-more (suc depth) (suc s.operators) (suc s1.operators) (suc s2.operators) a.front b.front r.front (going_on bad.rule r.next) x t (a.one_more_closed (passes-conn s1.tokens head)) b.one_more r.goes_on;
+    none_open =
+        rest-none c join famC famO g (Stops conn) (Stops conn) depth apart itself conn-on (Like g conn s1.tokens) s s1
+        s2 x t bad.rule a.front r.front a.used r.next a.operators (like-on s1.tokens head) a.only_open a.only_closed b r.none_open;
+    none_closed =
+        rest-none c join famC famC g (Stops g) (Stops gg) depth apart less on-closed (Like g conn s1.tokens) s s1 s2 x t
+        bad.rule a.front r.front a.used r.next a.operators (like-on s1.tokens head) a.only_closed a.only_closed b r.none_closed;
+    goes_on = goes-more (suc depth) (suc s.operators) (suc s1.operators) (suc s2.operators) a.front b.front r.front
+        (going_on bad.rule r.next) x t (a.one_more_closed (passes-conn s1.tokens head)) b.one_more r.goes_on;
     first = reaches-append opens depth s.operators a.front (b.front ++ r.front) (reaches-read opens depth s.operators s1.operators a.front x (λ after. last (a.reads after)))
         (λ before behind u e lim. at before behind u lim (parted b.front r.front before behind u e));
   }
@@ -416,7 +443,11 @@ module _ {X : Type 0} (c : Kind) (join : X → Tok → X → X) (famC famO : Fam
 
         at-item : ((s2 : State) → length s2.tokens ≤ n → ends s2.tokens ≡ true → AnswersOpen opens closeds gg conn depth s2 (chain c join op n s2))
             → (o : Outcome X) → AnswersOpen famO famC g conn depth s o
-            → AnswersOpen opens closeds gg conn depth s (and_then o (λ x. step.◌>>=◌ step.peek (λ kind. cond (is_symbol c kind) (step.◌>>=◌ take_operator (λ t. step.◌>>=◌ (chain c join op n) (λ y. pure (join x t y)))) (pure x))))
+            → AnswersOpen opens closeds gg conn depth s
+            (and_then o
+            (λ x. step.◌>>=◌ step.peek
+            (λ kind. cond (is_symbol c kind)
+            (step.◌>>=◌ take_operator (λ t. step.◌>>=◌ (chain c join op n) (λ y. pure (join x t y)))) (pure x))))
         at-item again (Ok r) a = at-kind r.1 r.0 a again (is_symbol c (kind r.1)) refl
         at-item again (Err bad) a = operand-refused s bad a
 

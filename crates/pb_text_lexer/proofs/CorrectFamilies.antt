@@ -86,7 +86,8 @@ module _ {X : Type 0} (fam : ℕ → Kind → Reads X) (g : Kind → Bool) (dept
       nowhere : (k : Kind) → kind s ≡ k → Nowhere (f k) (λ d. fam d k) → Refused firsts g depth s (refusal Unexpected s.tokens)
       nowhere k is here-none =
           refused-here firsts g depth s Unexpected end (λ q. absurd (unlike q))
-          (λ d n t tail y w head within r over. here-none.none d (st (t ∷ tail) n) y w (from-first (fam d) k (t ∷ tail) n y w (head ∙ is) r)) (λ t is. goes-free firsts (suc depth) (suc s.operators) [] some)
+          (λ d n t tail y w head within r over. here-none.none d (st (t ∷ tail) n) y w
+          (from-first (fam d) k (t ∷ tail) n y w (head ∙ is) r)) (λ t is. goes-free firsts (suc depth) (suc s.operators) [] some)
 
       by : (k : Kind) → kind s ≡ k → HeadIs k s.tokens → Answering (HeadIs k) (f k) (λ d. fam d k) g depth ⊎ Nowhere (f k) (λ d. fam d k) → Answers firsts g depth s (f k s)
       by k is h (inl a) = wrap k h (f k s) (a s end h)
@@ -133,7 +134,19 @@ deeper-answers {X} P p fam g depth a s end pre = go (p s) (a s end pre)
     none rule front next f (suc d) n tail y w within r over = f d n tail y w (less rule d n within) r over
 
     go : (o : Outcome X) → Answers fam g depth s o → Answers (deeper fam) g (suc depth) s o
-    go (Ok r) t = record { front = t.front; used = t.used; tokens = t.tokens; operators = t.operators; stops = t.stops; ended = t.ended; reads = t.reads; only = only t.front t.used r.0 t.only; one_more = t.one_more }
+    go (Ok r) t =
+        record {
+          front = t.front;
+          used = t.used;
+          tokens = t.tokens;
+          operators = t.operators;
+          stops = t.stops;
+          ended =
+              t.ended;
+          reads = t.reads;
+          only = only t.front t.used r.0 t.only;
+          one_more = t.one_more;
+        }
     go (Err bad) t = record {
       front = t.front;
       next = t.next;

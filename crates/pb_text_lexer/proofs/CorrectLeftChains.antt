@@ -35,7 +35,8 @@ module _ (test : Kind → Bool) (depth : ℕ) (are : AreOperators test) where
   of-taken : (t : Tok) (ts : List Tok) (n m : ℕ) → n ≡ suc m → ends (t ∷ ts) ≡ true → test t.kind ≡ true → Took (λ d. OperatorOf test) never depth (st (t ∷ ts) n) t (st ts m)
   of-taken t ts n m count e head =
       subst (λ (v : ℕ). Took (λ d. OperatorOf test) never depth (st (t ∷ ts) v) t (st ts m)) (omega arith)
-      (one-took (λ d. OperatorOf test) depth t ts 1 m t (ends-behind (t ∷ ts) e (are.not_last t.kind head)) (λ d i after. (refl, head, (omega arith))) (λ d i after y w r. of-parts test t i after y w r))
+      (one-took (λ d. OperatorOf test) depth t ts 1 m t (ends-behind (t ∷ ts) e (are.not_last t.kind head))
+      (λ d i after. (refl, head, (omega arith))) (λ d i after y w r. of-parts test t i after y w r))
 
   of-counted : (ts : List Tok) (n : ℕ) (b : Bool) → ((b ≡ true) × (n ≡ 0)) ⊎ ((b ≡ false) × (n ≢ 0)) → ends ts ≡ true → Passes test ts
       → Answers (λ d. OperatorOf test) never depth (st ts n) (cond b (refuse Limit (st ts n)) (take_from ts (n - 1)))
@@ -141,7 +142,9 @@ module _ {X : Type 0} (item : Family X) (g test : Kind → Bool) (join : X → T
   second-answers x =
       then-plain-answers (λ d. OperatorOf test) (λ t d. grammar.◌>>=◌ (item d) (λ y. Is (join x t y))) g depth Always (operator_of test) (λ t. step.◌>>=◌ p (λ y. pure (join x t y)))
       (operator_of-answers test depth are)
-      (λ t. then-correct item (λ y d. Is (join x t y)) g g depth (λ d y m r z h over. subst (λ (v : State). Stops g v.tokens) h.1 over) Always p (λ y. pure (join x t y)) right-p (λ y. pure-correct (join x t y) g depth))
+      (λ t. then-correct item (λ y d. Is (join x t y)) g g depth
+      (λ d y m r z h over. subst (λ (v : State). Stops g v.tokens) h.1 over) Always p (λ y. pure (join x t y))
+      right-p (λ y. pure-correct (join x t y) g depth))
 
   -- one operand or two
   pub comparison-correct : Correct Always (comparison test join p) (λ d. Comparison test join (item d)) (going g test) depth

@@ -242,7 +242,8 @@ module _ {X T Y : Type 0} (item : Family X) (between : Family T) (end : X → Y)
         at-between s1 x a head again (Err bad) is b =
             let found = some s1 bad is in
             more-refused s s1 x bad a head
-            (first-refused between (right x) never (going g test) depth (λ d u m y z h over. stops-never m.tokens) s1 bad (λ t. some-right x t depth found.0) (λ t. some-right x t (suc depth) found.1) b)
+            (first-refused between (right x) never (going g test) depth (λ d u m y z h over. stops-never m.tokens) s1
+            bad (λ t. some-right x t depth found.0) (λ t. some-right x t (suc depth) found.1) b)
 
         head-of : (ts : List Tok) → ends ts ≡ true → test (head_kind ts) ≡ true → Passes test ts
         head-of [] e same = cc
@@ -263,6 +264,10 @@ module _ {X T Y : Type 0} (item : Family X) (between : Family T) (end : X → Y)
 
         at-item : ((s2 : State) → length s2.tokens ≤ n → ends s2.tokens ≡ true → Answers many (going g test) depth s2 (series p test q end join n s2))
             → (o : Outcome X) → Answers item g depth s o
-            → Answers many (going g test) depth s (and_then o (λ x. step.◌>>=◌ step.peek (λ kind. cond (test kind) (step.◌>>=◌ q (λ t. step.◌>>=◌ (series p test q end join n) (λ y. pure (join x t y)))) (pure (end x)))))
+            → Answers many (going g test) depth s
+            (and_then o
+            (λ x. step.◌>>=◌ step.peek
+            (λ kind. cond (test kind)
+            (step.◌>>=◌ q (λ t. step.◌>>=◌ (series p test q end join n) (λ y. pure (join x t y)))) (pure (end x)))))
         at-item again (Ok r) a = at-kind r.1 r.0 a again (test (kind r.1)) refl
         at-item again (Err bad) a = item-refused s bad a

@@ -127,7 +127,8 @@ last-end RangeLine h d = cc
 last-end _ h d = cc
 
 rest-some : (l : Language) (p : Place) (bs : List ℕ) (kind : Kind) → piece_in l p bs ≡ Stop kind → is_defect kind ≡ true → 0 < length bs
-rest-some l p [] kind e h = let stop : Stop End ≡ Stop kind = sym (nothing-stops l p) ∙ e in let same : kind ≡ End = cc in let d : is_defect End ≡ true = subst (λ (v : Kind). is_defect v ≡ true) same h in cc
+rest-some l p [] kind e h = let stop : Stop End ≡ Stop kind = sym (nothing-stops l p) ∙ e in let same : kind ≡ End =
+    cc in let d : is_defect End ≡ true = subst (λ (v : Kind). is_defect v ≡ true) same h in cc
 rest-some l p (b ∷ bs) kind e h = omega arith
 
 -- How a token stands in a text: one that is no token stands where one should, and any other begins no later than the first of those.
@@ -135,7 +136,8 @@ pub record Standing (l : Language) (bytes : List ℕ) (front : List Tok) (next :
   pub defect : is_defect next.kind ≡ true → IsDefectIn l bytes front next.place next.kind
   pub sound : is_defect next.kind ≡ false → BeginsIn l bytes (front ++ next ∷ [])
 
-last-stands : (l : Language) (bytes : List ℕ) (front : List Tok) (next : Tok) → tokens_from l bytes 0 start ≡ front ++ next ∷ [] → IsLexed l start bytes (tokens_from l bytes 0 start) (ranges_from l bytes 0 start)
+last-stands : (l : Language) (bytes : List ℕ) (front : List Tok) (next : Tok)
+    → tokens_from l bytes 0 start ≡ front ++ next ∷ [] → IsLexed l start bytes (tokens_from l bytes 0 start) (ranges_from l bytes 0 start)
     → Standing l bytes front next
 last-stands l bytes front next e whole =
     let found = same_from_push whole.front front (token_at whole.place whole.kind []) next (sym whole.is ∙ e) in
@@ -145,7 +147,8 @@ last-stands l bytes front next e whole =
       defect = λ h. record {
         rest = whole.rest;
         ranges = whole.ranges;
-        cut = subst (λ (v : Place). CutsIn l start bytes front whole.ranges v whole.rest) place (subst (λ (v : List Tok). CutsIn l start bytes v whole.ranges whole.place whole.rest) found.0 whole.cut);
+        cut = subst (λ (v : Place). CutsIn l start bytes front whole.ranges v whole.rest) place
+            (subst (λ (v : List Tok). CutsIn l start bytes v whole.ranges whole.place whole.rest) found.0 whole.cut);
         some = rest-some l whole.place whole.rest whole.kind whole.stops (ap is_defect kind ∙ h);
         stops = subst (λ (v : Place). piece_in l v whole.rest ≡ Stop next.kind) place (whole.stops ∙ ap (λ v. Stop v) kind);
       };
@@ -175,7 +178,9 @@ stands l bytes front (m ∷ more) next e = record {
 }
 
 -- tokens that end in the end of the text are a cut of the whole
-pub whole-cut : (l : Language) (bytes : List ℕ) (front : List Tok) (end : Tok) → tokens_from l bytes 0 start ≡ front ++ end ∷ [] → end.kind ≡ End → IsCutIn l bytes (tokens_from l bytes 0 start) (ranges_from l bytes 0 start)
+pub whole-cut : (l : Language) (bytes : List ℕ) (front : List Tok) (end : Tok)
+    → tokens_from l bytes 0 start ≡ front ++ end ∷ [] → end.kind ≡ End
+    → IsCutIn l bytes (tokens_from l bytes 0 start) (ranges_from l bytes 0 start)
 whole-cut l bytes front end e is =
     let whole = lexed l start bytes in
     let found = same_from_push whole.front front (token_at whole.place whole.kind []) end (sym whole.is ∙ e) in
@@ -183,6 +188,7 @@ whole-cut l bytes front end e is =
     let takes = stop-takes l whole.place whole.rest whole.kind (sym whole.stops) in (
       whole.front,
       whole.place,
-      subst (λ (v : List RangeForm). CutsIn l start bytes whole.front v whole.place []) (sym whole.same) (subst (λ (v : List ℕ). CutsIn l start bytes whole.front whole.ranges whole.place v) (takes.1 at_end) whole.cut),
+      subst (λ (v : List RangeForm). CutsIn l start bytes whole.front v whole.place []) (sym whole.same)
+          (subst (λ (v : List ℕ). CutsIn l start bytes whole.front whole.ranges whole.place v) (takes.1 at_end) whole.cut),
       whole.is ∙ ap (λ v. whole.front ++ token_at whole.place v [] ∷ []) at_end,
     )

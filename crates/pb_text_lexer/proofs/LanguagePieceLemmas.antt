@@ -34,7 +34,13 @@ two-bytes : (kind : Kind) (c d a b : ℕ) (bs : List ℕ) → is_special kind �
     → Takes (Token kind 2) (a ∷ b ∷ bs)
 two-bytes kind c d a b bs plain e good fine =
     let both = and_parts (a == c) (b == d) e in record {
-      is = (omega arith, (let p : 2 ≤ length (a ∷ b ∷ bs) = omega arith in p), special-last kind plain, (plain-is a c both.0 good, (plain-is b d both.1 fine, tt)), (λ q. absurd (special-number kind plain q)));
+      is = (
+        omega arith,
+        (let p : 2 ≤ length (a ∷ b ∷ bs) = omega arith in p),
+        special-last kind plain,
+        (plain-is a c both.0 good, (plain-is b d both.1 fine, tt)),
+        (λ q. absurd (special-number kind plain q)),
+      );
     }
 
 pair-takes : (a : ℕ) (bs : List ℕ) → TakesSome (model_pair a (first_byte bs)) (a ∷ bs)
@@ -61,7 +67,8 @@ model-takes (b ∷ bs) =
     pick (λ v. TakesSome v (b ∷ bs)) (b == 91) _ _ (λ e. record { is = one-byte k.OpenSquare 91 b bs refl e refl }) (λ e.
     pick (λ v. TakesSome v (b ∷ bs)) (b == 93) _ _ (λ e. record { is = one-byte k.CloseSquare 93 b bs refl e refl }) (λ e.
     pick (λ v. TakesSome v (b ∷ bs)) (is_letter b) _ _
-    (λ e. word-takes (1 + length (name_bytes bs)) (b ∷ bs) (let q : 0 < 1 + length (name_bytes bs) = omega arith in q) (front-fits is_name_byte b bs) (front-plain is_name_byte b bs name-plain (letter-plain b e)))
+    (λ e. word-takes (1 + length (name_bytes bs)) (b ∷ bs) (let q : 0 < 1 + length (name_bytes bs) = omega arith in q)
+    (front-fits is_name_byte b bs) (front-plain is_name_byte b bs name-plain (letter-plain b e)))
     (λ e. pair-takes b bs)))
 
 either-takes : (v : Option Piece) (w : Piece) (bs : List ℕ) → TakesIf v bs → Takes w bs → Takes (or_piece v w) bs

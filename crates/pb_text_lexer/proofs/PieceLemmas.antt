@@ -176,7 +176,16 @@ one-takes [] a bs h = record { is = (refl, λ e. cc) }
 one-takes (entry ∷ entries) a bs h =
     let rest = none-rest (is_special entry.1) _ h in
     pick (λ v. Takes v (a ∷ bs)) (a == entry.0) (Token entry.1 1) (one_byte_among entries a)
-    (λ e. record { is = (omega arith, (let p : 1 ≤ length (a ∷ bs) = omega arith in p), special-last entry.1 (none-first (is_special entry.1) _ h), (plain-is a entry.0 e (and-first (is_plain entry.0) _ rest), tt), (λ q. absurd (special-number entry.1 (none-first (is_special entry.1) _ h) q))) })
+    (λ e. record {
+      is = (
+        omega arith,
+        (let p : 1 ≤ length (a ∷ bs) = omega arith in p),
+        special-last entry.1
+            (none-first (is_special entry.1) _ h),
+        (plain-is a entry.0 e (and-first (is_plain entry.0) _ rest), tt),
+        (λ q. absurd (special-number entry.1 (none-first (is_special entry.1) _ h) q)),
+      );
+    })
     (λ e. one-takes entries a bs (and-rest (is_plain entry.0) _ rest))
 
 two-takes : (table : List (ℕ × ℕ × Kind)) (a b : ℕ) (bs : List ℕ) → good_pairs table ≡ true → Takes (two_bytes_among table a b) (a ∷ b ∷ bs)
@@ -253,7 +262,8 @@ piece-takes p (b ∷ bs) =
     }) (λ e.
     choose (b ∷ bs) (b == 48) _ _ (λ e. record { is = (omega arith, (let p : 1 ≤ length (b ∷ bs) = omega arith in p), refl, (plain-is b 48 e refl, tt), (λ q. zero-number b bs e)) }) (λ e.
     choose (b ∷ bs) (is_ascii_digit b) _ _
-    (λ e. number-takes (take (1 + length (digits bs)) (b ∷ bs)) (b ∷ bs) (1 + length (digits bs)) refl (front-all b bs e) (let q : 0 < 1 + length (digits bs) = omega arith in q) (front-fits is_ascii_digit b bs)
+    (λ e. number-takes (take (1 + length (digits bs)) (b ∷ bs)) (b ∷ bs) (1 + length (digits bs)) refl
+    (front-all b bs e) (let q : 0 < 1 + length (digits bs) = omega arith in q) (front-fits is_ascii_digit b bs)
     (front-plain is_ascii_digit b bs digit-plain (digit-plain b e)))
     (λ e. symbol-takes b bs)))))
 

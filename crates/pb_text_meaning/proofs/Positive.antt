@@ -59,7 +59,9 @@ ordered_all even Forall p p' h (v ∷ vs) = ordered_and even _ _ _ _ (h v) (orde
 ordered_all even Exists p p' h [] = ordered_self even false
 ordered_all even Exists p p' h (v ∷ vs) = ordered_or even _ _ _ _ (h v) (ordered_all even Exists p p' h vs)
 
-ordered_quantified : (even : Bool) (spec : Spec) (q : Quantifier) (xs : List Variable) (p p' : Assignment → Bool) → ((a : Assignment) → Ordered even (p a) (p' a)) → (a : Assignment) → Ordered even (quantified spec q xs p a) (quantified spec q xs p' a)
+ordered_quantified : (even : Bool) (spec : Spec) (q : Quantifier) (xs : List Variable) (p p' : Assignment → Bool)
+    → ((a : Assignment) → Ordered even (p a) (p' a)) → (a : Assignment)
+    → Ordered even (quantified spec q xs p a) (quantified spec q xs p' a)
 ordered_quantified even spec q [] p p' h a = h a
 ordered_quantified even spec q (x ∷ xs) p p' h a =
     ordered_all even q _ _ (λ v. ordered_quantified even spec q xs p p' h ((x.name, v) ∷ a)) (carrier_of spec x.sort)

@@ -56,13 +56,15 @@ arithmetic-words x l ls ends =
 
 -- ---- loops
 
-pub opened-next : (o : Option Arithmetic) (ls : List ArithmeticLink) (k : ℕ) (l : ArithmeticLink) (p q : Page) → k < length ls → l ≡ get_or ls k l → q ≡ after (bracket (left_bracketing o l.operator) open_word) p
+pub opened-next : (o : Option Arithmetic) (ls : List ArithmeticLink) (k : ℕ) (l : ArithmeticLink) (p q : Page)
+    → k < length ls → l ≡ get_or ls k l → q ≡ after (bracket (left_bracketing o l.operator) open_word) p
     → after (opened (Some l.operator) (arithmetic_links (drop (k + 1) ls))) q ≡ after (opened o (arithmetic_links (drop k ls))) p
 opened-next o ls k l p q below at first =
     left (bracket (left_bracketing o l.operator) open_word) (opened (Some l.operator) (arithmetic_links (drop (k + 1) ls))) p q first
     ∙ ap (λ (v : List ArithmeticLink). after (opened o (arithmetic_links v)) p) (sym (left-next ls k l below at))
 
-pub computed-next : (o : Option Arithmetic) (ls : List ArithmeticLink) (k : ℕ) (l : ArithmeticLink) (p q r : Page) → k < length ls → l ≡ get_or ls k l → q ≡ after (bracket (left_bracketing o l.operator) close_word) p
+pub computed-next : (o : Option Arithmetic) (ls : List ArithmeticLink) (k : ℕ) (l : ArithmeticLink) (p q r : Page)
+    → k < length ls → l ≡ get_or ls k l → q ≡ after (bracket (left_bracketing o l.operator) close_word) p
     → r ≡ after (operation_words l.operator (term_form l.operand)) q
     → after (computed_words (Some l.operator) (arithmetic_links (drop (k + 1) ls))) r ≡ after (computed_words o (arithmetic_links (drop k ls))) p
 computed-next o ls k l p q r below at first second =
@@ -96,12 +98,14 @@ form-of : (x : Box Term Global) (v : Vec ArithmeticLink Global) (ls : List Arith
     → calculated (term_form (box_value x)) (arithmetic_links ls) ≡ term_form t
 form-of x v ls t is are = ap (λ (l : List ArithmeticLink). calculated (term_form (box_value x)) (arithmetic_links l)) are ∙ sym (term-arithmetic x v) ∙ ap term_form (sym is)
 
-outer-of : (x : Box Term Global) (v : Vec ArithmeticLink Global) (ls : List ArithmeticLink) (l : ArithmeticLink) (t : Term) → t ≡ term.Arithmetic x v → ls ≡ v.items → Some l ≡ slice_get ls (length ls - 1) → Outer l (term_form t)
+outer-of : (x : Box Term Global) (v : Vec ArithmeticLink Global) (ls : List ArithmeticLink) (l : ArithmeticLink)
+    (t : Term) → t ≡ term.Arithmetic x v → ls ≡ v.items → Some l ≡ slice_get ls (length ls - 1) → Outer l (term_form t)
 outer-of x v ls l t is are last =
     let o = outer (term_form (box_value x)) ls l last in
     record { place = o.place; before = o.before; same = sym (form-of x v ls t is are) ∙ o.same }
 
-pub arithmetic-needs_no_brackets : (x : Box Term Global) (v : Vec ArithmeticLink Global) (ls : List ArithmeticLink) (l : ArithmeticLink) (t : Term) (asked : Level) (ends : Bool) → t ≡ term.Arithmetic x v → ls ≡ v.items
+pub arithmetic-needs_no_brackets : (x : Box Term Global) (v : Vec ArithmeticLink Global) (ls : List ArithmeticLink)
+    (l : ArithmeticLink) (t : Term) (asked : Level) (ends : Bool) → t ≡ term.Arithmetic x v → ls ≡ v.items
     → Some l ≡ slice_get ls (length ls - 1) → fits (arithmetic_level l.operator) asked ≡ needs_no_brackets (term_form t) asked ends
 arithmetic-needs_no_brackets x v ls l t asked ends is are last = ap (λ (f : TermForm). needs_no_brackets f asked ends) (sym (outer-of x v ls l t is are last).same)
 
@@ -127,7 +131,9 @@ calculation x v ls ms ns l t ends p q r is are are' are'' some first second =
     left (left_words l.operator (term_form (box_value x))) (computed_words None (arithmetic_links ns)) q r second
     ∙ left (opened None (arithmetic_links ms)) body p q first
     ∙ ap (λ (m : List ArithmeticLink). after (opened None (arithmetic_links m) ++ body) p) (are' ∙ sym are ∙ all)
-    ∙ ap (λ (m : List ArithmeticLink). after (opened None (arithmetic_links (l ∷ drop 1 ls)) ++ (left_words l.operator (term_form (box_value x)) ++ computed_words None (arithmetic_links m))) p) (are'' ∙ sym are ∙ all)
+    ∙ ap (λ (m : List ArithmeticLink). after
+    (opened None (arithmetic_links (l ∷ drop 1 ls))
+    ++ (left_words l.operator (term_form (box_value x)) ++ computed_words None (arithmetic_links m))) p) (are'' ∙ sym are ∙ all)
     ∙ ap (λ (w : List Word). after w p) (sym (arithmetic-words (term_form (box_value x)) (arithmetic_link l) (arithmetic_links (drop 1 ls)) ends))
     ∙ ap (λ (m : List ArithmeticLink). after (term_words (calculated (term_form (box_value x)) (arithmetic_links m)) ends) p) (sym all)
     ∙ ap (λ (f : TermForm). after (term_words f ends) p) (form-of x v ls t is are)

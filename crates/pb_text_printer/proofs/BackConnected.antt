@@ -40,13 +40,15 @@ module _ {X : Type 0} (made : Connective → Place → X → X → X) (Node Quan
   join connective.Or ends s m o z x y t h e i n g = more h (e, i, n) g
   join connective.Implies ends s m o z x y t h e i n g = more h (e, i, n) g
 
-  pub connected-back : (c : Connective) (ends : Bool) (p : Place) (x y : X) (n l : ℕ) (us vs : List Word) → Restores (SideOf made Node c) forget x n us → Restores (LevelOf made Node Quantifier c ends) forget y l vs
+  pub connected-back : (c : Connective) (ends : Bool) (p : Place) (x y : X) (n l : ℕ) (us vs : List Word)
+      → Restores (SideOf made Node c) forget x n us → Restores (LevelOf made Node Quantifier c ends) forget y l vs
       → Restores (LevelOf made Node Quantifier c ends) forget (made c p x y) (n + suc l) (us ++ connective_word c ∷ vs)
   connected-back c ends p x y n l us vs left right s r a b e w =
       let cut = spells-split us (connective_word c ∷ vs) s r w in
       go cut.mid (left s cut.mid a (suc (l + b)) (omega arith) cut.front) cut.back
     where
-      go : (mid : List Tok) → Back (SideOf made Node c) forget x (st s a) (st mid (suc (l + b))) → Spells (connective_word c ∷ vs) mid r → Back (LevelOf made Node Quantifier c ends) forget (made c p x y) (st s a) (st r b)
+      go : (mid : List Tok) → Back (SideOf made Node c) forget x (st s a) (st mid (suc (l + b)))
+          → Spells (connective_word c ∷ vs) mid r → Back (LevelOf made Node Quantifier c ends) forget (made c p x y) (st s a) (st r b)
       go mid h (t, m, f, i, z, rest) =
           let g = right m r (l + b) b refl rest in
           record {

@@ -121,7 +121,8 @@ put-back : (x : FormulaForm) (l : Level) (ends : Bool) (d : ℕ) → PlainBack x
     → Restores (LevelAt l ends d) unplaced_formula x (formula_operators x) (put (formula_needs_no_brackets x l ends) (formula_words x) ends)
 put-back x l ends d plain h s r a b e w = go (formula_needs_no_brackets x l ends) refl d h w
   where
-    go : (v : Bool) → formula_needs_no_brackets x l ends ≡ v → (d : ℕ) → IsPut v (FormulaSayable x) ends d → Spells (put v (formula_words x) ends) s r → Back (LevelAt l ends d) unplaced_formula x (st s a) (st r b)
+    go : (v : Bool) → formula_needs_no_brackets x l ends ≡ v → (d : ℕ) → IsPut v (FormulaSayable x) ends d
+        → Spells (put v (formula_words x) ends) s r → Back (LevelAt l ends d) unplaced_formula x (st s a) (st r b)
     go true f d h w =
         let p = plain ends d h s r a b e w in
         record { said = p.said; reads = own-level x l ends d (st s a) (st r b) p.said f p.reads; same = p.same }
@@ -151,7 +152,8 @@ val-back p x ends (suc d) h s r a b e (t, m, f, i, z, (u, n, g, j, y, rest)) = g
     go : Split (term_words x true) (close_word ∷ []) n r → Back (IsNode (suc d)) unplaced_formula (FormulaForm.val p x) (st s a) (st r b)
     go cut = last-of cut.mid (whole-back x d (term-back x) h n cut.mid a b e cut.front) cut.back
       where
-        last-of : (mid : List Tok) → Back (TermBelow (suc d)) unplaced_term x (st n a) (st mid b) → Spells (close_word ∷ []) mid r → Back (IsNode (suc d)) unplaced_formula (FormulaForm.val p x) (st s a) (st r b)
+        last-of : (mid : List Tok) → Back (TermBelow (suc d)) unplaced_term x (st n a) (st mid b)
+            → Spells (close_word ∷ []) mid r → Back (IsNode (suc d)) unplaced_formula (FormulaForm.val p x) (st s a) (st r b)
         last-of mid q (v, o, c, l, w, end) = record {
           said = FormulaForm.val t.place q.said;
           reads = begins (suc d) k.Val s a (FormulaForm.val t.place q.said) (st r b) t m f i

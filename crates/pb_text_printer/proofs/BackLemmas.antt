@@ -82,7 +82,8 @@ variables-from v [] s r a (t, m, e, k, x, (u, n, f, l, y, (w, o, g, i, z, end)))
 }
 variables-from v (w ∷ vs) s r a h = go (λ n. variables-from w vs n r a) (bytes_eq v.sort.text w.sort.text) refl h
   where
-    go : ((n : List Tok) → Spells (variable_words (w ∷ vs)) n r → VariablesBack w vs (st n a) (st r a)) → (b : Bool) → bytes_eq v.sort.text w.sort.text ≡ b → Spells (cond b (name_word v.name ∷ comma_word ∷ variable_words (w ∷ vs))
+    go : ((n : List Tok) → Spells (variable_words (w ∷ vs)) n r → VariablesBack w vs (st n a) (st r a)) → (b : Bool)
+        → bytes_eq v.sort.text w.sort.text ≡ b → Spells (cond b (name_word v.name ∷ comma_word ∷ variable_words (w ∷ vs))
         (name_word v.name ∷ colon_word ∷ name_word v.sort ∷ comma_word ∷ variable_words (w ∷ vs))) s r → VariablesBack v (w ∷ vs) (st s a) (st r a)
     go again true b (t, m, e, k, x, (u, n, f, l, y, rest)) =
         let h = again n rest in

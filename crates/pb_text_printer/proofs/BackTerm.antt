@@ -182,7 +182,12 @@ bracketed-back x d plain h s r a b e (t, m, f, i, z, rest) = go (spells-split (t
             t,
             st m a,
             (f, i, refl),
-            (p.said, st mid b, whole-reads d (st m a) (st mid b) p.said (own-level x level.Implication true d (st m a) (st mid b) p.said (needs_no_brackets-whole x) p.reads), (u, st n b, (g, j, refl), (refl, at-end n r b b end refl))),
+            (
+              p.said,
+              st mid b,
+              whole-reads d (st m a) (st mid b) p.said (own-level x level.Implication true d (st m a) (st mid b) p.said (needs_no_brackets-whole x) p.reads),
+              (u, st n b, (g, j, refl), (refl, at-end n r b b end refl)),
+            ),
           );
           same = p.same;
         }
@@ -243,7 +248,8 @@ lead-back : (o : Arithmetic) (x : TermForm) (d : ℕ) → PlainBack x → IsPut 
     → Restores (LeadAt o d) unplaced_term x (operators x) (put (goes_on o x || needs_no_brackets x (arithmetic_side o) false) (term_words x) false)
 lead-back o x d plain h s r a b e w = go (goes_on o x) refl h w
   where
-    go : (v : Bool) → goes_on o x ≡ v → IsPut (v || needs_no_brackets x (arithmetic_side o) false) (IsSayable x) false d → Spells (put (v || needs_no_brackets x (arithmetic_side o) false) (term_words x) false) s r
+    go : (v : Bool) → goes_on o x ≡ v → IsPut (v || needs_no_brackets x (arithmetic_side o) false) (IsSayable x) false d
+        → Spells (put (v || needs_no_brackets x (arithmetic_side o) false) (term_words x) false) s r
         → Back (LeadAt o d) unplaced_term x (st s a) (st r b)
     go true f h w =
         let p = plain false d h s r a b e w in
@@ -252,7 +258,8 @@ lead-back o x d plain h s r a b e w = go (goes_on o x) refl h w
         let p = put-back x (arithmetic_side o) false d plain h s r a b e w in
         record { said = p.said; reads = inl (side-operand o d (st s a) (st r b) p.said p.reads); same = p.same }
 
-computed-back : (o : Arithmetic) (p : Place) (x y : TermForm) (d : ℕ) (us vs : List Word) → Restores (LeadAt o d) unplaced_term x (operators x) us → Restores (LevelAt (arithmetic_side o) false d) unplaced_term y (operators y) vs
+computed-back : (o : Arithmetic) (p : Place) (x y : TermForm) (d : ℕ) (us vs : List Word) → Restores (LeadAt o d) unplaced_term x (operators x) us
+    → Restores (LevelAt (arithmetic_side o) false d) unplaced_term y (operators y) vs
     → Restores (ChainAt o d) unplaced_term (TermForm.computed o p x y) (operators x + suc (operators y)) (us ++ arithmetic_word o ∷ vs)
 computed-back o p x y d us vs left right s r a b e w =
     let cut = spells-split us (arithmetic_word o ∷ vs) s r w in
@@ -413,9 +420,19 @@ applied-back n xs d back h s r a b e w =
 
 constant-back : (p : Place) (value : Bool) → PlainBack (TermForm.constant p value)
 constant-back p true ends d h s r a b e (t, m, f, i, z, end) =
-    record { said = TermForm.constant t.place true; reads = begins d k.True s a (TermForm.constant t.place true) (st r b) t m f i (t, st m a, (f, i, refl), (refl, at-last m r a b end e)); same = refl }
+    record {
+      said = TermForm.constant t.place true;
+      reads =
+          begins d k.True s a (TermForm.constant t.place true) (st r b) t m f i (t, st m a, (f, i, refl), (refl, at-last m r a b end e));
+      same = refl;
+    }
 constant-back p false ends d h s r a b e (t, m, f, i, z, end) =
-    record { said = TermForm.constant t.place false; reads = begins d k.False s a (TermForm.constant t.place false) (st r b) t m f i (t, st m a, (f, i, refl), (refl, at-last m r a b end e)); same = refl }
+    record {
+      said = TermForm.constant t.place false;
+      reads =
+          begins d k.False s a (TermForm.constant t.place false) (st r b) t m f i (t, st m a, (f, i, refl), (refl, at-last m r a b end e));
+      same = refl;
+    }
 
 number-back : (p : Place) (n : ℕ) → PlainBack (TermForm.number p n)
 number-back p n ends d h s r a b e (t, m, f, i, z, end) =
@@ -447,12 +464,14 @@ negative-back p x plain ends (suc d) h s r a b e (t, m, f, i, z, rest) =
       same = ap (λ v. TermForm.negative nowhere v) g.same;
     }
 
-level-back : (c : Connective) (ends : Bool) (d : ℕ) (x : TermForm) (n : ℕ) (ws : List Word) → Restores (LevelAt (connective_level c) ends d) unplaced_term x n ws → Restores (ConnectedAt c ends d) unplaced_term x n ws
+level-back : (c : Connective) (ends : Bool) (d : ℕ) (x : TermForm) (n : ℕ) (ws : List Word) → Restores (LevelAt (connective_level c) ends d) unplaced_term x n ws
+    → Restores (ConnectedAt c ends d) unplaced_term x n ws
 level-back connective.And ends d x n ws h = h
 level-back connective.Or ends d x n ws h = h
 level-back connective.Implies ends d x n ws h = h
 
-side-back : (c : Connective) (d : ℕ) (x : TermForm) (n : ℕ) (ws : List Word) → Restores (LevelAt (term_side c) false d) unplaced_term x n ws → Restores (SideOf TermForm.connected (NodeAt d) c) unplaced_term x n ws
+side-back : (c : Connective) (d : ℕ) (x : TermForm) (n : ℕ) (ws : List Word) → Restores (LevelAt (term_side c) false d) unplaced_term x n ws
+    → Restores (SideOf TermForm.connected (NodeAt d) c) unplaced_term x n ws
 side-back connective.And d x n ws h = h
 side-back connective.Or d x n ws h = h
 side-back connective.Implies d x n ws h = h

@@ -41,7 +41,9 @@ flat-back a Item forget words P item x [] h hs s r w = go (spells-split (words x
         record { list = g.said ∷ []; reads = last g.reads; same = cc }
 flat-back a Item forget words P item x (y ∷ ys) h hs s r w = go (spells-split (words x) (flat_map words (y ∷ ys)) s r w) (λ m v. flat-back a Item forget words P item y ys hs.0 hs.1 m r v)
   where
-    go : Split (words x) (flat_map words (y ∷ ys)) s r → ((m : List Tok) → Spells (flat_map words (y ∷ ys)) m r → ListBack Item forget (y ∷ ys) (st m a) (st r a)) → ListBack Item forget (x ∷ y ∷ ys) (st s a) (st r a)
+    go : Split (words x) (flat_map words (y ∷ ys)) s r
+        → ((m : List Tok) → Spells (flat_map words (y ∷ ys)) m r → ListBack Item forget (y ∷ ys) (st m a) (st r a))
+        → ListBack Item forget (x ∷ y ∷ ys) (st s a) (st r a)
     go cut again =
         let g = item x h s cut.mid cut.front in
         let f = again cut.mid cut.back in
@@ -50,7 +52,9 @@ flat-back a Item forget words P item x (y ∷ ys) h hs s r w = go (spells-split 
 
 -- ---- sorts
 
-enumerator-back : (a : ℕ) (n : Named) (recogniser : Option Named) → RestoresAt a Enumerator unplaced_enumerator (record { name = n; recogniser = recogniser }) (enumerator_words (record { name = n; recogniser = recogniser }))
+enumerator-back : (a : ℕ) (n : Named) (recogniser : Option Named)
+    → RestoresAt a Enumerator unplaced_enumerator (record { name = n; recogniser = recogniser })
+    (enumerator_words (record { name = n; recogniser = recogniser }))
 enumerator-back a n None s r (t, m, e, i, x, end) = record {
   said = record { name = record { place = t.place; text = t.text }; recogniser = None };
   reads = inl (record { place = t.place; text = t.text }, st m a, (t, st m a, (e, i, refl), (refl, refl)), (refl, at-end m r a a end refl));
@@ -82,7 +86,9 @@ bars-back a x [] s r w =
     record { list = g.said ∷ []; reads = last g.reads; same = cc }
 bars-back a x (y ∷ ys) s r w = go (spells-split (enumerator_words x) (word k.Bar (124 ∷ []) ∷ enumerators_words (y ∷ ys)) s r w) (λ m v. bars-back a y ys m r v)
   where
-    go : Split (enumerator_words x) (word k.Bar (124 ∷ []) ∷ enumerators_words (y ∷ ys)) s r → ((m : List Tok) → Spells (enumerators_words (y ∷ ys)) m r → BarsBack (y ∷ ys) (st m a) (st r a)) → BarsBack (x ∷ y ∷ ys) (st s a) (st r a)
+    go : Split (enumerator_words x) (word k.Bar (124 ∷ []) ∷ enumerators_words (y ∷ ys)) s r
+        → ((m : List Tok) → Spells (enumerators_words (y ∷ ys)) m r → BarsBack (y ∷ ys) (st m a) (st r a))
+        → BarsBack (x ∷ y ∷ ys) (st s a) (st r a)
     go cut again = bar cut.mid (enumerator-back a x.name x.recogniser s cut.mid cut.front) cut.back
       where
         bar : (mid : List Tok) → Back Enumerator unplaced_enumerator x (st s a) (st mid a) → Spells (word k.Bar (124 ∷ []) ∷ enumerators_words (y ∷ ys)) mid r → BarsBack (x ∷ y ∷ ys) (st s a) (st r a)
@@ -182,14 +188,18 @@ equation-back a depth x h s r (t, m, e, i, y, (u, n, f, j, z, rest)) =
     parameters : Split (parameter_words x.parameters) (is_word ∷ formula_words x.right true ++ semicolon_word ∷ []) n r → Back (IsEquation depth) unplaced_equation x (st s a) (st r a)
     parameters cut = right cut.mid (parameters-back a depth x.parameters h.1 n cut.mid cut.front) cut.back
       where
-        right : (mid : List Tok) → ParametersBack depth x.parameters (st n a) (st mid a) → Spells (is_word ∷ formula_words x.right true ++ semicolon_word ∷ []) mid r → Back (IsEquation depth) unplaced_equation x (st s a) (st r a)
+        right : (mid : List Tok) → ParametersBack depth x.parameters (st n a) (st mid a)
+            → Spells (is_word ∷ formula_words x.right true ++ semicolon_word ∷ []) mid r
+            → Back (IsEquation depth) unplaced_equation x (st s a) (st r a)
         right mid g (v, o, l, p, w, rest) = semicolon (spells-split (formula_words x.right true) (semicolon_word ∷ []) o r rest)
           where
             semicolon : Split (formula_words x.right true) (semicolon_word ∷ []) o r → Back (IsEquation depth) unplaced_equation x (st s a) (st r a)
             semicolon cut = last-of cut.mid
                 (own-back (IsFormula depth) unplaced_formula x.right (formula_operators x.right) a (formula_words x.right true) h.3 (formula-back x.right depth h.2) o cut.mid cut.front) cut.back
               where
-                last-of : (end : List Tok) → Back (CountedApart (IsFormula depth)) unplaced_formula x.right (st o a) (st end a) → Spells (semicolon_word ∷ []) end r → Back (IsEquation depth) unplaced_equation x (st s a) (st r a)
+                last-of : (end : List Tok)
+                    → Back (CountedApart (IsFormula depth)) unplaced_formula x.right (st o a) (st end a)
+                    → Spells (semicolon_word ∷ []) end r → Back (IsEquation depth) unplaced_equation x (st s a) (st r a)
                 last-of end b (c, d, q, aa, bb, over) =
                     let first = sign-back a x.sign s m t e i in
                     let same = named-at u x.name z in let parameters = g.same in let formula = b.same in
@@ -221,9 +231,14 @@ equation-back a depth x h s r (t, m, e, i, y, (u, n, f, j, z, rest)) =
 
 -- ---- whole texts
 
-initial-back : (a depth : ℕ) (i : InstanceForm) → InstanceSayable i depth → list_operators i.arguments ≤ a → RestoresAt a (CountedApart (IsInitialInstance depth)) unplaced_instance i (instance_words i)
-initial-back a zero i h le = own-back (IsInitialInstance zero) unplaced_instance i (list_operators i.arguments) a (instance_words i) le (instance-back i.name i.arguments zero (arguments-back i.arguments) h)
-initial-back a (suc d) i h le = own-back (IsInitialInstance (suc d)) unplaced_instance i (list_operators i.arguments) a (instance_words i) le (instance-back i.name i.arguments (suc d) (arguments-back i.arguments) h)
+initial-back : (a depth : ℕ) (i : InstanceForm) → InstanceSayable i depth → list_operators i.arguments ≤ a
+    → RestoresAt a (CountedApart (IsInitialInstance depth)) unplaced_instance i (instance_words i)
+initial-back a zero i h le =
+    own-back (IsInitialInstance zero) unplaced_instance i (list_operators i.arguments) a (instance_words i) le
+    (instance-back i.name i.arguments zero (arguments-back i.arguments) h)
+initial-back a (suc d) i h le =
+    own-back (IsInitialInstance (suc d)) unplaced_instance i (list_operators i.arguments) a (instance_words i) le
+    (instance-back i.name i.arguments (suc d) (arguments-back i.arguments) h)
 
 some-equations : (a depth : ℕ) (xs : List EquationForm) → EachOf (EquationSayable depth a) xs → (s r : List Tok) → Spells (flat_map equation_words xs) s r
     → ListBack (IsEquation depth) unplaced_equation xs (st s a) (st r a)

@@ -68,7 +68,8 @@ line-before p inside rest ws rs h behind =
       tokens = c.tokens;
       ranges = c.ranges;
       place = c.place;
-      cut = subst (λ (v : List RangeForm). Cuts p (text ++ 10 ∷ rest) c.tokens (v ++ c.ranges) c.place []) (comment-range p inside rest h) (blank {n = length text} (comment-piece p inside rest h) placed);
+      cut = subst (λ (v : List RangeForm). Cuts p (text ++ 10 ∷ rest) c.tokens (v ++ c.ranges) c.place [])
+          (comment-range p inside rest h) (blank {n = length text} (comment-piece p inside rest h) placed);
       spells = c.spells;
       same = c.same;
     }
@@ -99,5 +100,6 @@ all-above (b ∷ comment) bs ws rs behind =
     record { begins = λ p first. byte-before b comment bs ws rs rest p [] tt; within = λ p inside h. byte-before b comment bs ws rs rest p inside h }
 
 -- a comment, and then what begins a line
-pub comment-cut : (comment bs : List ℕ) (ws : List Word) (rs : List RangeForm) → ((q : Place) → q.column ≡ 1 → RangesCut q bs ws rs) → (p : Place) → p.column ≡ 1 → RangesCut p (comment_bytes comment ++ bs) ws rs
+pub comment-cut : (comment bs : List ℕ) (ws : List Word) (rs : List RangeForm)
+    → ((q : Place) → q.column ≡ 1 → RangesCut q bs ws rs) → (p : Place) → p.column ≡ 1 → RangesCut p (comment_bytes comment ++ bs) ws rs
 comment-cut comment bs ws rs behind p first = (all-above comment bs ws rs behind).begins p first

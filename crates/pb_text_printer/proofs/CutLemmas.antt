@@ -41,7 +41,14 @@ record Parted (b : ℕ) : Type 0 where
   bar : (b == 124) ≡ false
 
 parted : (b : ℕ) → is_parting b ≡ true → Parted b
-parted b h = record { name = first (is_name_byte b) _ _ _ _ h; equal = second (is_name_byte b) (b == 61) _ _ _ h; greater = third (is_name_byte b) (b == 61) (b == 62) _ _ h; bar = last (is_name_byte b) (b == 61) (b == 62) (b == 38) (b == 124) h }
+parted b h =
+    record {
+      name = first (is_name_byte b) _ _ _ _ h;
+      equal = second (is_name_byte b) (b == 61) _ _ _ h;
+      greater =
+          third (is_name_byte b) (b == 61) (b == 62) _ _ h;
+      bar = last (is_name_byte b) (b == 61) (b == 62) (b == 38) (b == 124) h;
+    }
   where
     first : (x y z u v : Bool) → (not x && not y && not z && not u && not v) ≡ true → x ≡ false
     first true y z u v e = cc
@@ -212,7 +219,8 @@ unfolding piece
 letter-piece p b bs h = third-of (is_blank b) (b == 37) (is_letter b) _ _ _ _ (letter-not-blank b h) (letter-no-comment b h) h
 
 -- letters and what goes on with them, up to what does not
-pub word-piece : (p : Place) (b : ℕ) (bs rest : List ℕ) → is_letter b ≡ true → length (name_bytes bs) ≡ length bs → Parts rest → piece p ((b ∷ bs) ++ rest) ≡ Token (word_kind (b ∷ bs)) (length (b ∷ bs))
+pub word-piece : (p : Place) (b : ℕ) (bs rest : List ℕ) → is_letter b ≡ true → length (name_bytes bs) ≡ length bs
+    → Parts rest → piece p ((b ∷ bs) ++ rest) ≡ Token (word_kind (b ∷ bs)) (length (b ∷ bs))
 word-piece p b bs rest h all parts =
     let count = whole-name bs rest all parts in
     let more : 1 + length (name_bytes (bs ++ rest)) ≡ length (b ∷ bs) = omega arith in
@@ -279,7 +287,8 @@ number-token ds h = ap (λ v. number_of (length ds) (cond v None (Some (digits_v
     small : nat_lt largest_number (digits_value 10 ds) ≡ false
     small = grind (arith, nat_tests)
 
-pub digits-piece : (p : Place) (d : ℕ) (ds rest : List ℕ) → AllDigits 10 (d ∷ ds) → 48 < d → digits_value 10 (d ∷ ds) ≤ largest_number → Parts rest → piece p (d ∷ ds ++ rest) ≡ Token k.Number (length (d ∷ ds))
+pub digits-piece : (p : Place) (d : ℕ) (ds rest : List ℕ) → AllDigits 10 (d ∷ ds) → 48 < d
+    → digits_value 10 (d ∷ ds) ≤ largest_number → Parts rest → piece p (d ∷ ds ++ rest) ≡ Token k.Number (length (d ∷ ds))
 unfolding piece
 digits-piece p d ds rest all first small parts =
     let is = digit-at-front d all.0 first in

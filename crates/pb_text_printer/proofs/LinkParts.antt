@@ -80,16 +80,20 @@ pub chain-of-more : (c : Connective) (x : Box Term Global) (v : Vec TermLink Glo
 chain-of-more c x v ls l t is are some =
     ap (λ (m : List TermLink). chained (TermForm.connected c) (term_form (box_value x)) (term_links m)) (sym (first-some ls l some) ∙ are) ∙ sym (term-chain c x v) ∙ ap term_form (sym is)
 
-pub chain-needs_no_brackets : (c : Connective) (x : Box Term Global) (v : Vec TermLink Global) (ls : List TermLink) (l : TermLink) (t : Term) (asked : Level) (ends : Bool) → t ≡ term.Chain c x v → ls ≡ v.items
+pub chain-needs_no_brackets : (c : Connective) (x : Box Term Global) (v : Vec TermLink Global) (ls : List TermLink)
+    (l : TermLink) (t : Term) (asked : Level) (ends : Bool) → t ≡ term.Chain c x v → ls ≡ v.items
     → Some l ≡ slice_get ls 0 → fits (connective_level c) asked ≡ needs_no_brackets (term_form t) asked ends
 chain-needs_no_brackets c x v ls l t asked ends is are some = ap (λ (f : TermForm). needs_no_brackets f asked ends) (chain-of-more c x v ls l t is are some)
 
-pub chain-words : (c : Connective) (x : Box Term Global) (v : Vec TermLink Global) (ls ms : List TermLink) (l : TermLink) (t : Term) (ends : Bool) (p q : Page) → t ≡ term.Chain c x v → ls ≡ v.items → ms ≡ v.items
+pub chain-words : (c : Connective) (x : Box Term Global) (v : Vec TermLink Global) (ls ms : List TermLink)
+    (l : TermLink) (t : Term) (ends : Bool) (p q : Page) → t ≡ term.Chain c x v → ls ≡ v.items → ms ≡ v.items
     → Some l ≡ slice_get ls 0 → q ≡ after (placed_words (term_form (box_value x)) (term_side c) false) p → after (link_words c ends (term_links ms)) q ≡ after (term_words (term_form t) ends) p
 chain-words c x v ls ms l t ends p q is are are' some first =
     left (placed_words (term_form (box_value x)) (term_side c) false) (link_words c ends (term_links ms)) p q first
     ∙ ap (λ (m : List TermLink). after (placed_words (term_form (box_value x)) (term_side c) false ++ link_words c ends (term_links m)) p) (are' ∙ sym are ∙ first-some ls l some)
-    ∙ ap (λ (w : List Word). after w p) (sym (chained-words c ends (term_form (box_value x)) (term_link l) (term_links (drop 1 ls))) ∙ ap (λ (f : TermForm). term_words f ends) (chain-of-more c x v ls l t is are some))
+    ∙ ap (λ (w : List Word). after w p)
+    (sym (chained-words c ends (term_form (box_value x)) (term_link l) (term_links (drop 1 ls)))
+    ∙ ap (λ (f : TermForm). term_words f ends) (chain-of-more c x v ls l t is are some))
 
 pub formula-of-one : (c : Connective) (x : Box Formula Global) (v : Vec Link Global) (ls : List Link) (t : Formula) → t ≡ formula.Chain c x v → ls ≡ v.items → None ≡ slice_get ls 0
     → formula_form (box_value x) ≡ formula_form t
@@ -101,13 +105,18 @@ formula-of-more : (c : Connective) (x : Box Formula Global) (v : Vec Link Global
 formula-of-more c x v ls l t is are some =
     ap (λ (m : List Link). chained (FormulaForm.connected c) (formula_form (box_value x)) (link_forms m)) (sym (first-some ls l some) ∙ are) ∙ sym (formula-chain c x v) ∙ ap formula_form (sym is)
 
-pub formula-needs_no_brackets : (c : Connective) (x : Box Formula Global) (v : Vec Link Global) (ls : List Link) (l : Link) (t : Formula) (asked : Level) (ends : Bool) → t ≡ formula.Chain c x v → ls ≡ v.items
+pub formula-needs_no_brackets : (c : Connective) (x : Box Formula Global) (v : Vec Link Global) (ls : List Link)
+    (l : Link) (t : Formula) (asked : Level) (ends : Bool) → t ≡ formula.Chain c x v → ls ≡ v.items
     → Some l ≡ slice_get ls 0 → fits (connective_level c) asked ≡ formula_needs_no_brackets (formula_form t) asked ends
 formula-needs_no_brackets c x v ls l t asked ends is are some = ap (λ (f : FormulaForm). formula_needs_no_brackets f asked ends) (formula-of-more c x v ls l t is are some)
 
-pub formula-chain-words : (c : Connective) (x : Box Formula Global) (v : Vec Link Global) (ls ms : List Link) (l : Link) (t : Formula) (ends : Bool) (p q : Page) → t ≡ formula.Chain c x v → ls ≡ v.items → ms ≡ v.items
-    → Some l ≡ slice_get ls 0 → q ≡ after (placed_formula (formula_form (box_value x)) (formula_side c) false) p → after (formula_link_words c ends (link_forms ms)) q ≡ after (formula_words (formula_form t) ends) p
+pub formula-chain-words : (c : Connective) (x : Box Formula Global) (v : Vec Link Global) (ls ms : List Link) (l : Link)
+    (t : Formula) (ends : Bool) (p q : Page) → t ≡ formula.Chain c x v → ls ≡ v.items → ms ≡ v.items
+    → Some l ≡ slice_get ls 0 → q ≡ after (placed_formula (formula_form (box_value x)) (formula_side c) false) p
+    → after (formula_link_words c ends (link_forms ms)) q ≡ after (formula_words (formula_form t) ends) p
 formula-chain-words c x v ls ms l t ends p q is are are' some first =
     left (placed_formula (formula_form (box_value x)) (formula_side c) false) (formula_link_words c ends (link_forms ms)) p q first
     ∙ ap (λ (m : List Link). after (placed_formula (formula_form (box_value x)) (formula_side c) false ++ formula_link_words c ends (link_forms m)) p) (are' ∙ sym are ∙ first-some ls l some)
-    ∙ ap (λ (w : List Word). after w p) (sym (chained-formula-words c ends (formula_form (box_value x)) (link_form l) (link_forms (drop 1 ls))) ∙ ap (λ (f : FormulaForm). formula_words f ends) (formula-of-more c x v ls l t is are some))
+    ∙ ap (λ (w : List Word). after w p)
+    (sym (chained-formula-words c ends (formula_form (box_value x)) (link_form l) (link_forms (drop 1 ls)))
+    ∙ ap (λ (f : FormulaForm). formula_words f ends) (formula-of-more c x v ls l t is are some))

@@ -50,7 +50,8 @@ from-enumerator (suc n) e es = refl
 barred-behind : (n : ℕ) (es : List EnumeratorForm) → enumerators_from (n + 1) es ≡ barred_words es
 barred-behind n es = ap (λ (m : ℕ). enumerators_from m es) (add-one n)
 
-pub enumerator-next : (es : List Enumerator) (n : ℕ) (e : Enumerator) (p q r : Page) → n < length es → e ≡ get_or es n e → q ≡ after (bar_words n) p → r ≡ after (enumerator_words (enumerator_form e)) q
+pub enumerator-next : (es : List Enumerator) (n : ℕ) (e : Enumerator) (p q r : Page) → n < length es → e ≡ get_or es n e
+    → q ≡ after (bar_words n) p → r ≡ after (enumerator_words (enumerator_form e)) q
     → after (enumerators_from (n + 1) (map enumerator_form (drop (n + 1) es))) r ≡ after (enumerators_from n (map enumerator_form (drop n es))) p
 enumerator-next es n e p q r below at first second =
     let rest : List Word = barred_words (map enumerator_form (drop (n + 1) es)) in

@@ -44,7 +44,9 @@ begun-none k.Val s z x lex (t, m, r, (u, o, c, (y, w, h, e))) = absurd h
 begun-none k.Name s z x lex (i, m, r, e) = instantiated zero s m z i x (alone-said s m i lex r) e.0 e.1
 begun-none _ s z x lex h = absurd h
 
-module _ (d : ℕ) (Node Formula : Reads FormulaForm) (node : EachReadingIs Node (λ x. At d x level.Unary false) formula_operators) (formula : EachReadingIs Formula (λ x. FormulaSayable x true d) formula_operators) where
+module _ (d : ℕ) (Node Formula : Reads FormulaForm)
+    (node : EachReadingIs Node (λ x. At d x level.Unary false) formula_operators)
+    (formula : EachReadingIs Formula (λ x. FormulaSayable x true d) formula_operators) where
   begun-said : (kind : Kind) → EachReadingIs (Begun Node Formula (IsTerm d) kind) (λ x. At (suc d) x level.Unary false) formula_operators
   begun-said k.Not s z x lex (t, m, r, (y, o, q, e)) =
       let h = one-said k.Not s m t lex r in let g = node m o y h.rest q in
@@ -86,4 +88,5 @@ mutual
       (quantified-said FormulaForm.quantified Nothing (λ x. ⊥) (λ x. At zero x level.Unary true) formula_operators (λ s z x lex h. absurd h) (λ q p vars x h g. absurd g) (λ q p vars x. refl))
   formula-said (suc d) = connections-said (suc d) (First (Begun (IsNode d) (IsFormula d) (IsTerm d))) (IsFormula d)
       (first-said (Begun (IsNode d) (IsFormula d) (IsTerm d)) (λ x. At (suc d) x level.Unary false) formula_operators (begun-said d (IsNode d) (IsFormula d) (node-said d) (formula-said d)))
-      (quantified-said FormulaForm.quantified (IsFormula d) (λ x. FormulaSayable x true d) (λ x. At (suc d) x level.Unary true) formula_operators (formula-said d) (λ q p vars x h g. (h, g)) (λ q p vars x. refl))
+      (quantified-said FormulaForm.quantified (IsFormula d) (λ x. FormulaSayable x true d)
+      (λ x. At (suc d) x level.Unary true) formula_operators (formula-said d) (λ q p vars x h g. (h, g)) (λ q p vars x. refl))

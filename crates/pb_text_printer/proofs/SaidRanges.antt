@@ -65,8 +65,13 @@ words-in : (p : Place) (bs : List ℕ) (v : Bounded) → words_bound bs ≡ Some
 unfolding words_bound
 words-in p bs v e = go (is_name (word bs)) refl (length (word (behind_word (behind_word (behind_word bs)))) == 0) e
   where
-    go : (a : Bool) → is_name (word bs) ≡ a → (b : Bool) → cond (a && b) (bounded (word bs) (bound (word (behind_word bs))) (bound (word (behind_word (behind_word bs))))) None ≡ Some v → RangeSayable (at p v)
-    go true n true e = bounded-in p (word bs) (bound (word (behind_word bs))) (bound (word (behind_word (behind_word bs)))) v n (λ z. bound-in (word (behind_word bs)) z) (λ z. bound-in (word (behind_word (behind_word bs))) z) e
+    go : (a : Bool) → is_name (word bs) ≡ a → (b : Bool)
+        → cond (a && b)
+        (bounded (word bs) (bound (word (behind_word bs))) (bound (word (behind_word (behind_word bs))))) None ≡ Some v
+        → RangeSayable (at p v)
+    go true n true e =
+        bounded-in p (word bs) (bound (word (behind_word bs))) (bound (word (behind_word (behind_word bs)))) v n
+        (λ z. bound-in (word (behind_word bs)) z) (λ z. bound-in (word (behind_word (behind_word bs))) z) e
     go true n false e = cc
     go false n b e = cc
 

@@ -59,7 +59,8 @@ some-of : (xs : ArgumentForms) (d : ℕ) → AreSayable xs d → SomeSayable xs 
 some-of no_arguments d h = absurd h
 some-of (argument p x xs) d h = h
 
-pub instance-said : (Term : Reads TermForm) (d : ℕ) → EachReadingIs Term (λ x. IsSayable x true d) operators → EachReadingIs (Instance Term) (λ i. InstanceSayable i (suc d)) (λ i. list_operators i.arguments)
+pub instance-said : (Term : Reads TermForm) (d : ℕ) → EachReadingIs Term (λ x. IsSayable x true d) operators
+    → EachReadingIs (Instance Term) (λ i. InstanceSayable i (suc d)) (λ i. list_operators i.arguments)
 instance-said Term d term s z i lex (inl (n, m, r, e)) =
     let h = name-said s m n lex r in
     finish (λ i. InstanceSayable i (suc d)) (λ i. list_operators i.arguments) (record { name = n; arguments = no_arguments }) i s m z e.0 e.1
@@ -316,7 +317,8 @@ equated-said d Unary unary =
 
 -- ---- whole terms
 
-connections-said : (d : ℕ) (Unary Body : Reads TermForm) → EachReadingIs Unary (λ x. At d x level.Unary false) operators → EachReadingIs (Quantified TermForm.quantified Body) (λ x. At d x level.Equality true) operators
+connections-said : (d : ℕ) (Unary Body : Reads TermForm) → EachReadingIs Unary (λ x. At d x level.Unary false) operators
+    → EachReadingIs (Quantified TermForm.quantified Body) (λ x. At d x level.Equality true) operators
     → EachReadingIs (Connections Unary Body) (λ x. IsSayable x true d) operators
 connections-said d Unary Body unary quantifier s z x lex r =
     let h = connected-said TermForm.connected (Equated Unary) (Quantified TermForm.quantified Body) (At d) operators level.Equality

@@ -25,14 +25,23 @@ mutual
   says-more (TermForm.constant p value) ends d h = h
   says-more (TermForm.number p n) ends d h = h
   says-more (TermForm.name n) ends d h = h
-  says-more (TermForm.not p x) ends d h = opens-more (IsPut (needs_no_brackets x level.Unary false) (IsSayable x) false) (λ e. put-more (needs_no_brackets x level.Unary false) (IsSayable x) false e (says-more x)) d h
-  says-more (TermForm.negative p x) ends d h = opens-more (IsPut (needs_no_brackets x level.Unary false) (IsSayable x) false) (λ e. put-more (needs_no_brackets x level.Unary false) (IsSayable x) false e (says-more x)) d h
+  says-more (TermForm.not p x) ends d h =
+      opens-more (IsPut (needs_no_brackets x level.Unary false) (IsSayable x) false)
+      (λ e. put-more (needs_no_brackets x level.Unary false) (IsSayable x) false e (says-more x)) d h
+  says-more (TermForm.negative p x) ends d h =
+      opens-more (IsPut (needs_no_brackets x level.Unary false) (IsSayable x) false)
+      (λ e. put-more (needs_no_brackets x level.Unary false) (IsSayable x) false e (says-more x)) d h
   says-more (TermForm.connected c p x y) ends d h =
       (put-more (needs_no_brackets x (term_side c) false) (IsSayable x) false d (says-more x) h.0, put-more (needs_no_brackets y (connective_level c) ends) (IsSayable y) ends d (says-more y) h.1)
-  says-more (TermForm.compared c p x y) ends d h =
-      (put-more (needs_no_brackets x (comparison_side c) false) (IsSayable x) false d (says-more x) h.0, put-more (needs_no_brackets y (comparison_side c) false) (IsSayable y) false d (says-more y) h.1)
-  says-more (TermForm.computed o p x y) ends d h =
-      (put-more (goes_on o x || needs_no_brackets x (arithmetic_side o) false) (IsSayable x) false d (says-more x) h.0, put-more (needs_no_brackets y (arithmetic_side o) false) (IsSayable y) false d (says-more y) h.1)
+  says-more (TermForm.compared c p x y) ends d h = (
+    put-more (needs_no_brackets x (comparison_side c) false) (IsSayable x) false d (says-more x) h.0,
+    put-more
+        (needs_no_brackets y (comparison_side c) false) (IsSayable y) false d (says-more y) h.1,
+  )
+  says-more (TermForm.computed o p x y) ends d h = (
+    put-more (goes_on o x || needs_no_brackets x (arithmetic_side o) false) (IsSayable x) false d (says-more x) h.0,
+    put-more (needs_no_brackets y (arithmetic_side o) false) (IsSayable y) false d (says-more y) h.1,
+  )
   says-more (TermForm.application f xs) ends d h = (h.0, list-more xs d h.1)
   says-more (TermForm.quantified q p vars x) ends d h = (h.0, opens-more (IsSayable x true) (says-more x true) d h.1)
 
@@ -53,7 +62,8 @@ formula-more (FormulaForm.constant p value) ends d h = h
 formula-more (FormulaForm.val p x) ends d h = opens-more (IsSayable x true) (says-more x true) d h
 formula-more (FormulaForm.instance i) ends d h = (h.0, instance-more i.arguments d h.1)
 formula-more (FormulaForm.negation p x) ends d h =
-    opens-more (IsPut (formula_needs_no_brackets x level.Unary false) (FormulaSayable x) false) (λ e. put-more (formula_needs_no_brackets x level.Unary false) (FormulaSayable x) false e (formula-more x)) d h
+    opens-more (IsPut (formula_needs_no_brackets x level.Unary false) (FormulaSayable x) false)
+    (λ e. put-more (formula_needs_no_brackets x level.Unary false) (FormulaSayable x) false e (formula-more x)) d h
 formula-more (FormulaForm.connected c p x y) ends d h = (
   put-more (formula_needs_no_brackets x (formula_side c) false) (FormulaSayable x) false d (formula-more x) h.0,
   put-more (formula_needs_no_brackets y (connective_level c) ends) (FormulaSayable y) ends d (formula-more y) h.1,
@@ -99,7 +109,8 @@ needs_no_brackets-open (TermForm.application f xs) l h = h
 says-closed : (x : TermForm) (d : ℕ) → IsSayable x true d → IsSayable x false (suc d)
 says-closed (TermForm.connected c p x y) d h = (
   put-more (needs_no_brackets x (term_side c) false) (IsSayable x) false d (says-more x) h.0,
-  put-closed (needs_no_brackets y (connective_level c) true) (needs_no_brackets y (connective_level c) false) (IsSayable y) d (says-more y) (says-closed y d) (needs_no_brackets-open y (connective_level c)) h.1,
+  put-closed (needs_no_brackets y (connective_level c) true) (needs_no_brackets y (connective_level c) false)
+      (IsSayable y) d (says-more y) (says-closed y d) (needs_no_brackets-open y (connective_level c)) h.1,
 )
 says-closed (TermForm.constant p value) d h = h
 says-closed (TermForm.number p n) d h = h
@@ -112,8 +123,11 @@ says-closed (TermForm.application f xs) d h = says-more (TermForm.application f 
 says-closed (TermForm.quantified q p vars x) d h = says-more (TermForm.quantified q p vars x) false d h
 
 says-opened : (x : TermForm) (d : ℕ) → IsSayable x false d → IsSayable x true d
-says-opened (TermForm.connected c p x y) d h =
-    (h.0, put-opened (needs_no_brackets y (connective_level c) true) (needs_no_brackets y (connective_level c) false) (IsSayable y) d (says-more y) (says-opened y d) (needs_no_brackets-open y (connective_level c)) h.1)
+says-opened (TermForm.connected c p x y) d h = (
+  h.0,
+  put-opened (needs_no_brackets y (connective_level c) true) (needs_no_brackets y (connective_level c) false)
+      (IsSayable y) d (says-more y) (says-opened y d) (needs_no_brackets-open y (connective_level c)) h.1,
+)
 says-opened (TermForm.constant p value) d h = h
 says-opened (TermForm.number p n) d h = h
 says-opened (TermForm.name n) d h = h
@@ -234,16 +248,21 @@ formula-needs_no_brackets-whole (FormulaForm.negation p x) = refl
 
 -- ---- a looser level
 
-pub term-looser : (x : TermForm) (l m : Level) (ends : Bool) (d : ℕ) → fits l m ≡ true → IsPut (needs_no_brackets x l ends) (IsSayable x) ends d → IsPut (needs_no_brackets x m ends) (IsSayable x) ends d
+pub term-looser : (x : TermForm) (l m : Level) (ends : Bool) (d : ℕ) → fits l m ≡ true
+    → IsPut (needs_no_brackets x l ends) (IsSayable x) ends d → IsPut (needs_no_brackets x m ends) (IsSayable x) ends d
 term-looser x l m ends d e h = puts (IsSayable x) (term-bends x) (needs_no_brackets x l ends) (needs_no_brackets x m ends) ends d (looser x l m ends e) h
 
 pub term-freer : (x : TermForm) (l : Level) (ends : Bool) (d : ℕ) → IsPut (needs_no_brackets x l false) (IsSayable x) false d → IsPut (needs_no_brackets x l ends) (IsSayable x) ends d
 term-freer x l false d h = h
 term-freer x l true d h = puts-open (IsSayable x) (term-bends x) (needs_no_brackets x l false) (needs_no_brackets x l true) d (needs_no_brackets-open x l) h
 
-pub formula-loosens : (x : FormulaForm) (l m : Level) (ends : Bool) (d : ℕ) → fits l m ≡ true → IsPut (formula_needs_no_brackets x l ends) (FormulaSayable x) ends d → IsPut (formula_needs_no_brackets x m ends) (FormulaSayable x) ends d
+pub formula-loosens : (x : FormulaForm) (l m : Level) (ends : Bool) (d : ℕ) → fits l m ≡ true
+    → IsPut (formula_needs_no_brackets x l ends) (FormulaSayable x) ends d
+    → IsPut (formula_needs_no_brackets x m ends) (FormulaSayable x) ends d
 formula-loosens x l m ends d e h = puts (FormulaSayable x) (formula-bends x) (formula_needs_no_brackets x l ends) (formula_needs_no_brackets x m ends) ends d (formula-looser x l m ends e) h
 
-pub formula-freer : (x : FormulaForm) (l : Level) (ends : Bool) (d : ℕ) → IsPut (formula_needs_no_brackets x l false) (FormulaSayable x) false d → IsPut (formula_needs_no_brackets x l ends) (FormulaSayable x) ends d
+pub formula-freer : (x : FormulaForm) (l : Level) (ends : Bool) (d : ℕ)
+    → IsPut (formula_needs_no_brackets x l false) (FormulaSayable x) false d
+    → IsPut (formula_needs_no_brackets x l ends) (FormulaSayable x) ends d
 formula-freer x l false d h = h
 formula-freer x l true d h = puts-open (FormulaSayable x) (formula-bends x) (formula_needs_no_brackets x l false) (formula_needs_no_brackets x l true) d (formula-needs_no_brackets-open x l) h

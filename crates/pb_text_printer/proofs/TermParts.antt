@@ -31,12 +31,14 @@ infixed first second w p q r one two = ap (after second) two ∙ left first (w �
 pub placed : (x y : Term) (position wanted : Position) (p : Page) → x ≡ y → position ≡ wanted
     → after (placed_words (term_form x) position.level (is_open_end position.right_end)) p ≡ after (placed_words (term_form y) wanted.level (is_open_end wanted.right_end)) p
 placed x y position wanted p same at =
-    ap (λ (v : Term). after (placed_words (term_form v) position.level (is_open_end position.right_end)) p) same ∙ ap (λ (v : Position). after (placed_words (term_form y) v.level (is_open_end v.right_end)) p) at
+    ap (λ (v : Term). after (placed_words (term_form v) position.level (is_open_end position.right_end)) p) same
+    ∙ ap (λ (v : Position). after (placed_words (term_form y) v.level (is_open_end v.right_end)) p) at
 
 pub placed-formula : (x y : Formula) (position wanted : Position) (p : Page) → x ≡ y → position ≡ wanted
     → after (placed_formula (formula_form x) position.level (is_open_end position.right_end)) p ≡ after (placed_formula (formula_form y) wanted.level (is_open_end wanted.right_end)) p
 placed-formula x y position wanted p same at =
-    ap (λ (v : Formula). after (placed_formula (formula_form v) position.level (is_open_end position.right_end)) p) same ∙ ap (λ (v : Position). after (placed_formula (formula_form y) v.level (is_open_end v.right_end)) p) at
+    ap (λ (v : Formula). after (placed_formula (formula_form v) position.level (is_open_end position.right_end)) p) same
+    ∙ ap (λ (v : Position). after (placed_formula (formula_form y) v.level (is_open_end v.right_end)) p) at
 
 abbrev pub closed : Level → Position
 closed level = record { level = level; right_end = Closed }
@@ -79,15 +81,18 @@ bound q vs body p r first =
     by [] = refl
     by (w ∷ ws) = ap (λ (v : List Word). w ∷ v) (by ws)
 
-pub quantified-words : (place : Place) (q : Quantifier) (v : Vec Variables Global) (vs : List Variables) (x : Box Term Global) (t : Term) (ends : Bool) (p r : Page) → t ≡ term.Quantified place q v x → vs ≡ v.items
+pub quantified-words : (place : Place) (q : Quantifier) (v : Vec Variables Global) (vs : List Variables)
+    (x : Box Term Global) (t : Term) (ends : Bool) (p r : Page) → t ≡ term.Quantified place q v x → vs ≡ v.items
     → r ≡ after (quantifier_word q ∷ variable_words (variable_forms vs) ++ period_word ∷ []) p → after (term_words (term_form (box_value x)) true) r ≡ after (term_words (term_form t) ends) p
 quantified-words place q v vs x t ends p r is are first =
     bound q (variable_forms vs) (term_words (term_form (box_value x)) true) p r first
     ∙ ap (λ (ws : List Variables). after (quantifier_word q ∷ variable_words (variable_forms ws) ++ period_word ∷ term_words (term_form (box_value x)) true) p) are
     ∙ ap (λ (y : Term). after (term_words (term_form y) ends) p) (sym is)
 
-pub quantified-formula : (place : Place) (q : Quantifier) (v : Vec Variables Global) (vs : List Variables) (x : Box Formula Global) (t : Formula) (ends : Bool) (p r : Page) → t ≡ formula.Quantified place q v x → vs ≡ v.items
-    → r ≡ after (quantifier_word q ∷ variable_words (variable_forms vs) ++ period_word ∷ []) p → after (formula_words (formula_form (box_value x)) true) r ≡ after (formula_words (formula_form t) ends) p
+pub quantified-formula : (place : Place) (q : Quantifier) (v : Vec Variables Global) (vs : List Variables)
+    (x : Box Formula Global) (t : Formula) (ends : Bool) (p r : Page) → t ≡ formula.Quantified place q v x → vs ≡ v.items
+    → r ≡ after (quantifier_word q ∷ variable_words (variable_forms vs) ++ period_word ∷ []) p
+    → after (formula_words (formula_form (box_value x)) true) r ≡ after (formula_words (formula_form t) ends) p
 quantified-formula place q v vs x t ends p r is are first =
     bound q (variable_forms vs) (formula_words (formula_form (box_value x)) true) p r first
     ∙ ap (λ (ws : List Variables). after (quantifier_word q ∷ variable_words (variable_forms ws) ++ period_word ∷ formula_words (formula_form (box_value x)) true) p) are

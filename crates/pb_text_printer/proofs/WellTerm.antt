@@ -85,10 +85,14 @@ solid-number : (n : ℕ) → n ≤ largest_number → Solid (word k.Number (deci
 solid-number n h = solid-word (word k.Number (decimal n)) tt (number-starts n h) (number-cut n h) refl
 
 variables-solid : (v : VariableForm) (vs : List VariableForm) → AreNames (v ∷ vs) → Solid (variable_words (v ∷ vs))
-variables-solid v [] h = solid-both (name_word v.name ∷ []) (colon_word ∷ name_word v.sort ∷ []) (solid-name v.name h.0) (solid-behind colon_word (name_word v.sort ∷ []) refl refl colon-cut (solid-name v.sort h.1))
+variables-solid v [] h =
+    solid-both (name_word v.name ∷ []) (colon_word ∷ name_word v.sort ∷ []) (solid-name v.name h.0)
+    (solid-behind colon_word (name_word v.sort ∷ []) refl refl colon-cut (solid-name v.sort h.1))
 variables-solid v (w ∷ vs) h = go (variables-solid w vs h.2) (bytes_eq v.sort.text w.sort.text)
   where
-    go : Solid (variable_words (w ∷ vs)) → (b : Bool) → Solid (cond b (name_word v.name ∷ comma_word ∷ variable_words (w ∷ vs)) (name_word v.name ∷ colon_word ∷ name_word v.sort ∷ comma_word ∷ variable_words (w ∷ vs)))
+    go : Solid (variable_words (w ∷ vs)) → (b : Bool)
+        → Solid (cond b (name_word v.name ∷ comma_word ∷ variable_words (w ∷ vs))
+        (name_word v.name ∷ colon_word ∷ name_word v.sort ∷ comma_word ∷ variable_words (w ∷ vs)))
     go rest true = solid-both (name_word v.name ∷ []) (comma_word ∷ variable_words (w ∷ vs)) (solid-name v.name h.0) (solid-behind comma_word (variable_words (w ∷ vs)) refl refl comma-cut rest)
     go rest false =
         solid-both (name_word v.name ∷ colon_word ∷ name_word v.sort ∷ []) (comma_word ∷ variable_words (w ∷ vs))
@@ -116,7 +120,8 @@ truth-solid false = solid-word (truth_word false) tt refl (truth-cut false) refl
 connective-between : (c : Connective) (us vs : List Word) → Solid us → Solid vs → Solid (us ++ connective_word c ∷ vs)
 connective-between c us vs left right = record {
   before = λ g ws h.
-      subst (λ (v : List Word). Well g v) (sym (append_assoc us (connective_word c ∷ vs) ws)) (left.before g (connective_word c ∷ vs ++ ws) (spaced c, connective-cut c, behind c (vs ++ ws) (right.before true ws h)));
+      subst (λ (v : List Word). Well g v) (sym (append_assoc us (connective_word c ∷ vs) ws))
+      (left.before g (connective_word c ∷ vs ++ ws) (spaced c, connective-cut c, behind c (vs ++ ws) (right.before true ws h)));
 }
   where
     spaced : (c : Connective) → Entry true (connective_word c)
@@ -132,7 +137,8 @@ connective-between c us vs left right = record {
 comparison-between : (c : Comparison) (us vs : List Word) → Solid us → Solid vs → Solid (us ++ comparison_word c ∷ vs)
 comparison-between c us vs left right = record {
   before = λ g ws h.
-      subst (λ (v : List Word). Well g v) (sym (append_assoc us (comparison_word c ∷ vs) ws)) (left.before g (comparison_word c ∷ vs ++ ws) (spaced c, comparison-cut c, right.before (comparison_word c).gap ws h));
+      subst (λ (v : List Word). Well g v) (sym (append_assoc us (comparison_word c ∷ vs) ws))
+      (left.before g (comparison_word c ∷ vs ++ ws) (spaced c, comparison-cut c, right.before (comparison_word c).gap ws h));
 }
   where
     spaced : (c : Comparison) → Entry true (comparison_word c)
@@ -146,7 +152,8 @@ comparison-between c us vs left right = record {
 arithmetic-between : (o : Arithmetic) (us vs : List Word) → Solid us → Solid vs → Solid (us ++ arithmetic_word o ∷ vs)
 arithmetic-between o us vs left right = record {
   before = λ g ws h.
-      subst (λ (v : List Word). Well g v) (sym (append_assoc us (arithmetic_word o ∷ vs) ws)) (left.before g (arithmetic_word o ∷ vs ++ ws) (spaced o, arithmetic-cut o, right.before (arithmetic_word o).gap ws h));
+      subst (λ (v : List Word). Well g v) (sym (append_assoc us (arithmetic_word o ∷ vs) ws))
+      (left.before g (arithmetic_word o ∷ vs ++ ws) (spaced o, arithmetic-cut o, right.before (arithmetic_word o).gap ws h));
 }
   where
     spaced : (o : Arithmetic) → Entry true (arithmetic_word o)
@@ -162,7 +169,8 @@ not-solid : (b : Bool) (d : ℕ) (P : Bool → ℕ → Type 0) (words : Bool →
 not-solid b zero P words each h = absurd h
 not-solid b (suc d) P words each h = solid-behind not_word (put b words false) tt refl not-cut (solid-put b false d P words each h)
 
-minus-solid : (b : Bool) (d : ℕ) (P : Bool → ℕ → Type 0) (words : Bool → List Word) → ((e : Bool) (d : ℕ) → P e d → Solid (words e)) → Opens d (IsPut b P false) → Solid (minus_word ∷ put b words false)
+minus-solid : (b : Bool) (d : ℕ) (P : Bool → ℕ → Type 0) (words : Bool → List Word)
+    → ((e : Bool) (d : ℕ) → P e d → Solid (words e)) → Opens d (IsPut b P false) → Solid (minus_word ∷ put b words false)
 minus-solid b zero P words each h = absurd h
 minus-solid b (suc d) P words each h = solid-behind minus_word (put b words false) tt refl minus-cut (solid-put b false d P words each h)
 
@@ -182,10 +190,12 @@ mutual
   term-solid (TermForm.negative p x) ends d h = minus-solid (needs_no_brackets x level.Unary false) d (IsSayable x) (term_words x) (term-solid x) h
   term-solid (TermForm.connected c p x y) ends d h =
       connective-between c (put (needs_no_brackets x (term_side c) false) (term_words x) false) (put (needs_no_brackets y (connective_level c) ends) (term_words y) ends)
-      (solid-put (needs_no_brackets x (term_side c) false) false d (IsSayable x) (term_words x) (term-solid x) h.0) (solid-put (needs_no_brackets y (connective_level c) ends) ends d (IsSayable y) (term_words y) (term-solid y) h.1)
+      (solid-put (needs_no_brackets x (term_side c) false) false d (IsSayable x) (term_words x) (term-solid x) h.0)
+      (solid-put (needs_no_brackets y (connective_level c) ends) ends d (IsSayable y) (term_words y) (term-solid y) h.1)
   term-solid (TermForm.compared c p x y) ends d h =
       comparison-between c (put (needs_no_brackets x (comparison_side c) false) (term_words x) false) (put (needs_no_brackets y (comparison_side c) false) (term_words y) false)
-      (solid-put (needs_no_brackets x (comparison_side c) false) false d (IsSayable x) (term_words x) (term-solid x) h.0) (solid-put (needs_no_brackets y (comparison_side c) false) false d (IsSayable y) (term_words y) (term-solid y) h.1)
+      (solid-put (needs_no_brackets x (comparison_side c) false) false d (IsSayable x) (term_words x) (term-solid x)
+      h.0) (solid-put (needs_no_brackets y (comparison_side c) false) false d (IsSayable y) (term_words y) (term-solid y) h.1)
   term-solid (TermForm.computed o p x y) ends d h =
       arithmetic-between o (put (goes_on o x || needs_no_brackets x (arithmetic_side o) false) (term_words x) false) (put (needs_no_brackets y (arithmetic_side o) false) (term_words y) false)
       (solid-put (goes_on o x || needs_no_brackets x (arithmetic_side o) false) false d (IsSayable x) (term_words x) (term-solid x) h.0)
@@ -213,7 +223,8 @@ instance-solid n (argument p x xs) d h g = named-solid n (list_words (argument p
 val-solid : (x : TermForm) (d : ℕ) → IsSayable x true d → Solid (word k.Val (codes "val") ∷ list_word ∷ term_words x true ++ close_word ∷ [])
 val-solid x d h =
     solid-behind (word k.Val (codes "val")) (list_word ∷ term_words x true ++ close_word ∷ []) tt refl val-cut
-    (solid-behind list_word (term_words x true ++ close_word ∷ []) refl refl list-cut (solid-both (term_words x true) (close_word ∷ []) (term-solid x true d h) (solid-word close_word refl refl close-cut refl)))
+    (solid-behind list_word (term_words x true ++ close_word ∷ []) refl refl list-cut
+    (solid-both (term_words x true) (close_word ∷ []) (term-solid x true d h) (solid-word close_word refl refl close-cut refl)))
 
 pub formula-solid : (x : FormulaForm) (ends : Bool) (d : ℕ) → FormulaSayable x ends d → Solid (formula_words x ends)
 formula-solid (FormulaForm.constant p value) ends d h = truth-solid value

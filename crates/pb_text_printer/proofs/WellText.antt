@@ -72,7 +72,9 @@ parameters-solid n [] d h g = solid-name n h
 parameters-solid n (v ∷ vs) zero h g = absurd g
 parameters-solid n (v ∷ vs) (suc d) h g =
     solid-both (name_word n ∷ []) (list_word ∷ variable_words (v ∷ vs) ++ close_word ∷ []) (solid-name n h)
-    (solid-behind list_word (variable_words (v ∷ vs) ++ close_word ∷ []) refl refl list-cut (solid-both (variable_words (v ∷ vs)) (close_word ∷ []) (some-variables-solid (v ∷ vs) g) (solid-word close_word refl refl close-cut refl)))
+    (solid-behind list_word (variable_words (v ∷ vs) ++ close_word ∷ []) refl refl list-cut
+    (solid-both (variable_words (v ∷ vs)) (close_word ∷ []) (some-variables-solid (v ∷ vs) g)
+    (solid-word close_word refl refl close-cut refl)))
 
 sign-solid : (x : Sign) (vs : List Word) → Solid vs → Solid (sign_word x ∷ vs)
 sign-solid sign.Mu vs h = solid-behind (sign_word sign.Mu) vs tt refl (sign-cut sign.Mu) h
@@ -99,5 +101,9 @@ tail-well depth limit s h =
 pub text-well : (depth limit : ℕ) (s : SpecForm) → TextSayable depth limit s → Well false (text_words s)
 text-well depth limit s h =
     let tail = word k.Init (codes "init") ∷ instance_words s.initial ++ semicolon_word ∷ [] in
-    (sorts-lines s.sorts h.sorts).before (last_of_line (word k.Pbes (codes "pbes")) ∷ flat_map equation_words s.equations ++ tail)
-    (refl, pbes-cut, (flat-lines equation_words (EquationSayable depth limit) (equation-lines depth limit) s.equations (some-equations depth limit s.equations h.equations)).before tail (tail-well depth limit s h))
+    (sorts-lines s.sorts h.sorts).before (last_of_line (word k.Pbes (codes "pbes")) ∷ flat_map equation_words s.equations ++ tail) (
+      refl,
+      pbes-cut,
+      (flat-lines equation_words (EquationSayable depth limit) (equation-lines depth limit) s.equations
+          (some-equations depth limit s.equations h.equations)).before tail (tail-well depth limit s h),
+    )

@@ -138,10 +138,13 @@ no-arguments i (suc d) s y w le r = omega arith
 free-arguments : (i : InstanceForm) (t : Tok) → t.kind ≡ k.Open → Free (beyond i) 1 (t ∷ [])
 free-arguments i t is =
     free-then (λ d. Arguments (deeper IsTerm d)) (λ found d. Is (record { name = i.name; arguments = found })) 1 (t ∷ [])
-    (free-then (λ d. One k.Open) (λ open_bracket d. grammar.◌>>=◌ (Listed (Placed (deeper IsTerm d)) (One k.Comma)) (λ found. grammar.◌>>=◌ (One k.Close) (λ close_bracket. Is (arguments_of found)))) 1 (t ∷ [])
+    (free-then (λ d. One k.Open)
+    (λ open_bracket d. grammar.◌>>=◌ (Listed (Placed (deeper IsTerm d)) (One k.Comma))
+    (λ found. grammar.◌>>=◌ (One k.Close) (λ close_bracket. Is (arguments_of found)))) 1 (t ∷ [])
     (free-one k.Open 1 t is) (λ open_bracket.
     free-then (λ d. Listed (Placed (deeper IsTerm d)) (One k.Comma)) (λ found d. grammar.◌>>=◌ (One k.Close) (λ close_bracket. Is (arguments_of found))) 1 []
-    (readable-series (λ d. Placed (deeper IsTerm d)) (λ d. One k.Comma) (λ x. x ∷ []) (λ x u xs. x ∷ xs) 1 (readable-placed (deeper IsTerm) 1 deeper-some (readable-deeper IsTerm 0 (readable-term 0)))) (λ found.
+    (readable-series (λ d. Placed (deeper IsTerm d)) (λ d. One k.Comma) (λ x. x ∷ []) (λ x u xs. x ∷ xs) 1
+    (readable-placed (deeper IsTerm) 1 deeper-some (readable-deeper IsTerm 0 (readable-term 0)))) (λ found.
     free-then (λ d. One k.Close) (λ close_bracket d. Is (arguments_of found)) 1 [] (readable-one k.Close 1) (λ close_bracket. readable-is (arguments_of found) 1))))
     (λ found. readable-is (record { name = i.name; arguments = found }) 1)
 
@@ -157,17 +160,24 @@ module _ (depth : ℕ) (right-term : Correct Always (term depth) IsTerm term_goe
   inner-term = deeper-correct Always (term depth) IsTerm term_goes depth right-term
 
   lists : Correct Always (argument_list (term depth)) (λ d. Listed (Placed (deeper IsTerm d)) (One k.Comma)) list_goes (suc depth)
-  lists = listed-correct (λ d. Placed (deeper IsTerm d)) term_goes (suc depth) comma-apart (placed (term depth)) (placed-correct (deeper IsTerm) term_goes (suc depth) deeper-some (term depth) inner-term)
+  lists = listed-correct (λ d. Placed (deeper IsTerm d)) term_goes (suc depth) comma-apart (placed (term depth))
+      (placed-correct (deeper IsTerm) term_goes (suc depth) deeper-some (term depth) inner-term)
 
   arguments-correct : Correct (Passes is_open) (arguments take_token (term depth)) (λ d. Arguments (deeper IsTerm d)) never (suc depth)
   arguments-correct =
-      then-plain (λ d. One k.Open) (λ open_bracket d. grammar.◌>>=◌ (Listed (Placed (deeper IsTerm d)) (One k.Comma)) (λ found. grammar.◌>>=◌ (One k.Close) (λ close_bracket. Is (arguments_of found)))) never (suc depth)
-      (Passes is_open) take_token _ (weaker-correct (HeadIs k.Open) (Passes is_open) take_token (λ d. One k.Open) never (suc depth) (head-of-passes k.Open) (take-correct k.Open (suc depth) refl)) (λ open_bracket.
+      then-plain (λ d. One k.Open)
+      (λ open_bracket d. grammar.◌>>=◌ (Listed (Placed (deeper IsTerm d)) (One k.Comma))
+      (λ found. grammar.◌>>=◌ (One k.Close) (λ close_bracket. Is (arguments_of found)))) never (suc depth)
+      (Passes is_open) take_token _
+      (weaker-correct (HeadIs k.Open) (Passes is_open) take_token (λ d. One k.Open) never (suc depth)
+      (head-of-passes k.Open) (take-correct k.Open (suc depth) refl)) (λ open_bracket.
       then-correct (λ d. Listed (Placed (deeper IsTerm d)) (One k.Comma)) (λ found d. grammar.◌>>=◌ (One k.Close) (λ close_bracket. Is (arguments_of found))) list_goes never (suc depth)
-      (λ d x m y z r over. stops-at-kind list_goes k.Close list-closes m.tokens r.1.tokens r.0 r.2.0 r.2.1) Always (argument_list (term depth)) _ lists (λ found. closing list_goes (arguments_of found) (suc depth)))
+      (λ d x m y z r over. stops-at-kind list_goes k.Close list-closes m.tokens r.1.tokens r.0 r.2.0 r.2.1) Always
+      (argument_list (term depth)) _ lists (λ found. closing list_goes (arguments_of found) (suc depth)))
 
   pub instance-over : Correct Always (instance (suc depth)) instances unary_goes (suc depth)
   instance-over =
       named-correct (suc depth) (λ i. unless_next is_open (step.◌>>=◌ (arguments take_token (term depth)) (λ found. pure (record { name = i.name; arguments = found }))))
       (λ i. unless_next-answers (beyond i) never is_open (suc depth) (Passes is_open) (step.◌>>=◌ (arguments take_token (term depth)) (λ found. pure (record { name = i.name; arguments = found })))
-      (said-correct (λ d. Arguments (deeper IsTerm d)) (λ found. record { name = i.name; arguments = found }) never (suc depth) (Passes is_open) (arguments take_token (term depth)) arguments-correct).answers)
+      (said-correct (λ d. Arguments (deeper IsTerm d)) (λ found. record { name = i.name; arguments = found }) never
+      (suc depth) (Passes is_open) (arguments take_token (term depth)) arguments-correct).answers)

@@ -63,16 +63,26 @@ free-signed kind f t is =
 
 free-bracket : (t : Tok) → t.kind ≡ k.Open → Free (λ d. kinds d k.Open) 1 (t ∷ [])
 free-bracket t is =
-    free-then (λ d. One k.Open) (λ open_bracket d. grammar.◌>>=◌ (deeper IsTerm d) (λ inner. grammar.◌>>=◌ (One k.Close) (λ close_bracket. Is inner))) 1 (t ∷ []) (free-one k.Open 1 t is) (λ open_bracket.
+    free-then (λ d. One k.Open)
+    (λ open_bracket d. grammar.◌>>=◌ (deeper IsTerm d)
+    (λ inner. grammar.◌>>=◌ (One k.Close) (λ close_bracket. Is inner))) 1 (t ∷ []) (free-one k.Open 1 t is) (λ open_bracket.
     free-then (deeper IsTerm) (λ inner d. grammar.◌>>=◌ (One k.Close) (λ close_bracket. Is inner)) 1 [] (readable-deeper IsTerm 0 (readable-term 0)) (λ inner.
     free-then (λ d. One k.Close) (λ close_bracket d. Is inner) 1 [] (readable-one k.Close 1) (λ close_bracket. readable-is inner 1)))
 
-at-last : (kind : Kind) → Answering (HeadIs kind) (begun (refuse Limit) (refuse Limit) (refuse Limit) kind) (λ d. kinds d kind) unary_goes 0 ⊎ Nowhere (begun (refuse Limit) (refuse Limit) (refuse Limit) kind) (λ d. kinds d kind)
-at-last k.Not = inl (λ s end h. refused-here (λ d. kinds d k.Not) unary_goes 0 s Limit end (λ q. head-limited k.Not s.tokens h refl) (λ d n t tail y w head within r over. no-level-not d (st (t ∷ tail) n) y w within.0 r)
+at-last : (kind : Kind)
+    → Answering (HeadIs kind) (begun (refuse Limit) (refuse Limit) (refuse Limit) kind) (λ d. kinds d kind) unary_goes 0
+    ⊎ Nowhere (begun (refuse Limit) (refuse Limit) (refuse Limit) kind) (λ d. kinds d kind)
+at-last k.Not =
+    inl (λ s end h. refused-here (λ d. kinds d k.Not) unary_goes 0 s Limit end (λ q. head-limited k.Not s.tokens h refl)
+    (λ d n t tail y w head within r over. no-level-not d (st (t ∷ tail) n) y w within.0 r)
     (λ t is. goes-free (λ d. kinds d k.Not) 1 (suc s.operators) (t ∷ []) (free-signed k.Not TermForm.not t (is ∙ head-kind-is k.Not s.tokens h))))
-at-last k.Minus = inl (λ s end h. refused-here (λ d. kinds d k.Minus) unary_goes 0 s Limit end (λ q. head-limited k.Minus s.tokens h refl) (λ d n t tail y w head within r over. no-level-minus d (st (t ∷ tail) n) y w within.0 r)
+at-last k.Minus =
+    inl (λ s end h. refused-here (λ d. kinds d k.Minus) unary_goes 0 s Limit end
+    (λ q. head-limited k.Minus s.tokens h refl) (λ d n t tail y w head within r over. no-level-minus d (st (t ∷ tail) n) y w within.0 r)
     (λ t is. goes-free (λ d. kinds d k.Minus) 1 (suc s.operators) (t ∷ []) (free-signed k.Minus TermForm.negative t (is ∙ head-kind-is k.Minus s.tokens h))))
-at-last k.Open = inl (λ s end h. refused-here (λ d. kinds d k.Open) unary_goes 0 s Limit end (λ q. head-limited k.Open s.tokens h refl) (λ d n t tail y w head within r over. no-level-open d (st (t ∷ tail) n) y w within.0 r)
+at-last k.Open =
+    inl (λ s end h. refused-here (λ d. kinds d k.Open) unary_goes 0 s Limit end
+    (λ q. head-limited k.Open s.tokens h refl) (λ d n t tail y w head within r over. no-level-open d (st (t ∷ tail) n) y w within.0 r)
     (λ t is. goes-free (λ d. kinds d k.Open) 1 (suc s.operators) (t ∷ []) (free-bracket t (is ∙ head-kind-is k.Open s.tokens h))))
 at-last k.Number = inl (leaf k.Number (λ t. TermForm.number t.place (digits_value 10 t.text)) 0 refl).answers
 at-last k.True = inl (leaf k.True (λ t. TermForm.constant t.place true) 0 refl).answers
@@ -83,7 +93,8 @@ at-last kind = inr nothing-correct
 unary-last : Correct Always (unary 0) IsUnary unary_goes 0
 unary-last =
     alike-correct Always (unary 0) (λ d. First (kinds d)) IsUnary unary_goes 0 to-unary from-unary
-    (first-correct kinds unary_goes 0 (λ d kind. starts (deeper IsUnary d) (deeper IsTerm d) kind) (begun (refuse Limit) (refuse Limit) (refuse Limit)) at-last k.True (readable-true 0) (readable-true 1))
+    (first-correct kinds unary_goes 0 (λ d kind. starts (deeper IsUnary d) (deeper IsTerm d) kind)
+    (begun (refuse Limit) (refuse Limit) (refuse Limit)) at-last k.True (readable-true 0) (readable-true 1))
 
 module _ (depth : ℕ) (right-unary : Correct Always (unary depth) IsUnary unary_goes depth) (right-term : Correct Always (term depth) IsTerm term_goes depth) where
   inner-unary : Correct Always (unary depth) (deeper IsUnary) unary_goes (suc depth)
@@ -107,7 +118,9 @@ module _ (depth : ℕ) (right-unary : Correct Always (unary depth) IsUnary unary
       then-plain (λ d. One k.Close) (λ close_bracket d. Is inner) unary_goes (suc depth) Always (expect k.Close) (λ close_bracket. closed inner) (expect-correct k.Close (suc depth) refl)
       (λ close_bracket. closed-correct inner (suc depth)))))
 
-  at-each : (kind : Kind) → Answering (HeadIs kind) (begun take_token (unary depth) (term depth) kind) (λ d. kinds d kind) unary_goes (suc depth) ⊎ Nowhere (begun take_token (unary depth) (term depth) kind) (λ d. kinds d kind)
+  at-each : (kind : Kind)
+      → Answering (HeadIs kind) (begun take_token (unary depth) (term depth) kind) (λ d. kinds d kind) unary_goes
+      (suc depth) ⊎ Nowhere (begun take_token (unary depth) (term depth) kind) (λ d. kinds d kind)
   at-each k.Not = inl (signed k.Not TermForm.not refl).answers
   at-each k.Minus = inl (signed k.Minus TermForm.negative refl).answers
   at-each k.Open = inl bracketed.answers

@@ -139,7 +139,9 @@ module _ {X : Type 0} (made : Quantifier → Place → List VariableForm → X �
       then-plain (λ d. One k.Exists) (λ word d. Binding (made Exists word.place) (deeper fam d)) g (suc depth) (HeadIs k.Exists) take_token (λ word. binding (made Exists word.place) p)
       (take-correct k.Exists (suc depth) refl) (λ word. binding-correct (made Exists word.place) depth p right)
 
-  at-each : (depth : ℕ) (p : Step X) → Correct Always p fam g depth → (kind : Kind) → Answering (HeadIs kind) (quantified_by made take_token p (quantifier_of kind)) (λ d. kinds d kind) g (suc depth) ⊎ Nowhere (quantified_by made take_token p (quantifier_of kind)) (λ d. kinds d kind)
+  at-each : (depth : ℕ) (p : Step X) → Correct Always p fam g depth → (kind : Kind)
+      → Answering (HeadIs kind) (quantified_by made take_token p (quantifier_of kind)) (λ d. kinds d kind) g (suc depth)
+      ⊎ Nowhere (quantified_by made take_token p (quantifier_of kind)) (λ d. kinds d kind)
   at-each depth p right k.Forall = inl (forall-correct depth p right).answers
   at-each depth p right k.Exists = inl (exists-correct depth p right).answers
   at-each depth p right kind = inr nothing-correct
@@ -180,10 +182,16 @@ module _ {X : Type 0} (made : Quantifier → Place → List VariableForm → X �
   readable-forall level some =
       readable-free (λ d. kinds d k.Forall) (suc level) (some-token k.Forall ∷ []) (free-forall level some (some-token k.Forall) refl)
 
-  at-last : Readable fam 0 → (p : Step X) (kind : Kind) → Answering (HeadIs kind) (quantified_by made (refuse Limit) p (quantifier_of kind)) (λ d. kinds d kind) g 0 ⊎ Nowhere (quantified_by made (refuse Limit) p (quantifier_of kind)) (λ d. kinds d kind)
-  at-last some p k.Forall = inl (λ s end h. refused-here (λ d. kinds d k.Forall) g 0 s Limit end (λ q. head-limited k.Forall s.tokens h refl) (λ d n t tail y w head within r over. no-level k.Forall refl d (st (t ∷ tail) n) y w within.0 r)
+  at-last : Readable fam 0 → (p : Step X) (kind : Kind)
+      → Answering (HeadIs kind) (quantified_by made (refuse Limit) p (quantifier_of kind)) (λ d. kinds d kind) g 0
+      ⊎ Nowhere (quantified_by made (refuse Limit) p (quantifier_of kind)) (λ d. kinds d kind)
+  at-last some p k.Forall =
+      inl (λ s end h. refused-here (λ d. kinds d k.Forall) g 0 s Limit end (λ q. head-limited k.Forall s.tokens h refl)
+      (λ d n t tail y w head within r over. no-level k.Forall refl d (st (t ∷ tail) n) y w within.0 r)
       (λ t is. goes-free (λ d. kinds d k.Forall) 1 (suc s.operators) (t ∷ []) (free-forall 0 some t (is ∙ head-kind-is k.Forall s.tokens h))))
-  at-last some p k.Exists = inl (λ s end h. refused-here (λ d. kinds d k.Exists) g 0 s Limit end (λ q. head-limited k.Exists s.tokens h refl) (λ d n t tail y w head within r over. no-level k.Exists refl d (st (t ∷ tail) n) y w within.0 r)
+  at-last some p k.Exists =
+      inl (λ s end h. refused-here (λ d. kinds d k.Exists) g 0 s Limit end (λ q. head-limited k.Exists s.tokens h refl)
+      (λ d n t tail y w head within r over. no-level k.Exists refl d (st (t ∷ tail) n) y w within.0 r)
       (λ t is. goes-free (λ d. kinds d k.Exists) 1 (suc s.operators) (t ∷ []) (free-exists 0 some t (is ∙ head-kind-is k.Exists s.tokens h))))
   at-last some p kind = inr nothing-correct
 

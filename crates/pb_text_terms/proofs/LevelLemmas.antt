@@ -300,7 +300,8 @@ module _ (depth : ℕ) where
   quantified-fails high s bad is fails =
       let both = and_parts (may_quantify high) (is_quantifier (kind s)) is in
       let le = rank-may high both.0 in
-      fails-up (rank high - 5) l.Quantified high s bad (let g : rank high ≡ rank high - 5 + 5 = omega arith in g) (λ a b. absurd (let f : 5 < 5 = a in let no : ⊥ = omega arith in no)) (lowest-quantified s both.1 ∙ fails)
+      fails-up (rank high - 5) l.Quantified high s bad (let g : rank high ≡ rank high - 5 + 5 = omega arith in g)
+      (λ a b. absurd (let f : 5 < 5 = a in let no : ⊥ = omega arith in no)) (lowest-quantified s both.1 ∙ fails)
 
   pub first-fails-as : (high : Level) (s : State) (bad : Refusal) → (may_quantify high && is_quantifier (kind s)) ≡ false → unary depth s ≡ Err bad → at high depth s ≡ Err bad
   first-fails-as high s bad other reads = fails-up (rank high) l.Unary high s bad (let g : rank high ≡ rank high + 0 = omega arith in g) (λ a b. plain-first high s other b) reads

@@ -8,7 +8,9 @@ use Rattle.pb_text_lexer.specs.declared.fault.Refusal.{Refusal}
 use Rattle.pb_text_lexer.specs.Grammar.{State}
 use Rattle.pb_text_terms.specs.Reading.{groups, variables}
 
-pub names-of-sort : (sort : Named) (ns : List Name) → map {B = VariableForm} (λ n. record { name = n; sort = sort }) (map named ns) ≡ map {B = VariableForm} (λ n. record { name = named n; sort = sort }) ns
+pub names-of-sort : (sort : Named) (ns : List Name)
+    → map {B = VariableForm} (λ n. record { name = n; sort = sort }) (map named ns)
+    ≡ map {B = VariableForm} (λ n. record { name = named n; sort = sort }) ns
 names-of-sort sort [] = refl
 names-of-sort sort (n ∷ ns) = ap (λ (v : List VariableForm). record { name = named n; sort = sort } ∷ v) (names-of-sort sort ns)
 

@@ -25,7 +25,8 @@ row_in (formula.Chain' c p first shape row) = (_, row)
 row_in _ = (_, end_of-Link)
 
 -- a chain says its first operand and its links
-pub formula-chain : (c : Connective) (first : Box Formula Global) (v : Vec Link Global) → formula_form (formula.Chain c first v) ≡ chained (FormulaForm.connected c) (formula_form (box_value first)) (link_forms v.items)
+pub formula-chain : (c : Connective) (first : Box Formula Global) (v : Vec Link Global)
+    → formula_form (formula.Chain c first v) ≡ chained (FormulaForm.connected c) (formula_form (box_value first)) (link_forms v.items)
 formula-chain c first v =
     let row = row_in (formula.Chain c first v) in
     ap (chained (FormulaForm.connected c) (formula_form (box_value first))) (links-items row.0 row.1 ∙ ap link_forms (items_hidden-the_row-Link-0 v))
@@ -41,7 +42,8 @@ term_row_in (term.Chain' c p first shape row) = (_, row)
 term_row_in _ = (_, end_of-TermLink)
 
 -- a chain says its first operand and its links
-pub term-chain : (c : Connective) (first : Box Term Global) (v : Vec TermLink Global) → term_form (term.Chain c first v) ≡ chained (TermForm.connected c) (term_form (box_value first)) (term_links v.items)
+pub term-chain : (c : Connective) (first : Box Term Global) (v : Vec TermLink Global)
+    → term_form (term.Chain c first v) ≡ chained (TermForm.connected c) (term_form (box_value first)) (term_links v.items)
 term-chain c first v =
     let row = term_row_in (term.Chain c first v) in
     ap (chained (TermForm.connected c) (term_form (box_value first))) (term-links-items row.0 row.1 ∙ ap term_links (items_hidden-the_row-TermLink-0 v))

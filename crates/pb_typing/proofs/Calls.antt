@@ -83,7 +83,8 @@ named_there S layout x k cs laid at there =
 abbrev pub call_faults : Spec → Bool → Scope → List Argument → List Carrier → Place → List TypingFault
 call_faults S even a xs cs p = unless even rule.OddNegations p ++ (unless (length xs == length cs) rule.WrongCount p ++ faults_against S a xs (shapes_of cs))
 
-numbers : (S : Spec) (x : Name) (xs : List Argument) (cs : List Carrier) (n : IsNamed S x cs) → (count (erased_arguments (argument_forms xs)) == length n.equation.parameters) ≡ (length xs == length cs)
+numbers : (S : Spec) (x : Name) (xs : List Argument) (cs : List Carrier) (n : IsNamed S x cs)
+    → (count (erased_arguments (argument_forms xs)) == length n.equation.parameters) ≡ (length xs == length cs)
 numbers S x xs cs n =
     ap (λ (k : ℕ). k == length n.equation.parameters) (length-erased xs)
     ∙ ap (λ (k : ℕ). length xs == k) (sym (length-variables S n.equation.parameters) ∙ (ap length (sym n.shapes) ∙ length-shapes cs))
@@ -94,7 +95,8 @@ called S even a i text cs n is =
     ap (λ (o : Option Equation). called_faults S even a (argument_forms i.arguments.items) o i.name.place) (ap (equation_named S.equations) (sym is) ∙ n.named)
 
 -- another number of arguments
-pub count_instance : (S : Spec) (even : Bool) (a : Scope) (i : declared_instance.Instance) (text : Name) (cs : List Carrier) (e : OrMemory TypingFault) → (n : IsNamed S text cs) → text ≡ (instance_form i).name.text
+pub count_instance : (S : Spec) (even : Bool) (a : Scope) (i : declared_instance.Instance) (text : Name)
+    (cs : List Carrier) (e : OrMemory TypingFault) → (n : IsNamed S text cs) → text ≡ (instance_form i).name.text
     → IsAmong (unless (length i.arguments.items == length cs) rule.WrongCount i.name.place) e → IsAmong (instance_faults S even a (instance_form i)) e
 count_instance S even a i text cs e n is h =
     subst (λ (zs : List TypingFault). IsAmong zs e) (sym (called S even a i text cs n is))
@@ -102,7 +104,8 @@ count_instance S even a i text cs e n is h =
     (among_left _ _ e (subst (λ (b : Bool). IsAmong (unless b rule.WrongCount i.name.place) e) (sym (numbers S text i.arguments.items cs n)) h)))
 
 -- an odd number of negations around
-pub odd_instance : (S : Spec) (even : Bool) (a : Scope) (i : declared_instance.Instance) (text : Name) (cs : List Carrier) (e : OrMemory TypingFault) → (n : IsNamed S text cs) → text ≡ (instance_form i).name.text
+pub odd_instance : (S : Spec) (even : Bool) (a : Scope) (i : declared_instance.Instance) (text : Name)
+    (cs : List Carrier) (e : OrMemory TypingFault) → (n : IsNamed S text cs) → text ≡ (instance_form i).name.text
     → IsAmong (unless even rule.OddNegations i.name.place) e → IsAmong (instance_faults S even a (instance_form i)) e
 odd_instance S even a i text cs e n is h =
     subst (λ (zs : List TypingFault). IsAmong zs e) (sym (called S even a i text cs n is)) (among_left (unless even rule.OddNegations i.name.place) _ e h)

@@ -26,9 +26,15 @@ pub chained-elaborated : (S : Spec) (o : Connective) (c : Slotting) (scope : Sco
     → elaborated S c scope n (expanded (erased_formula (form.chained (FormulaForm.connected o) first (link_forms links))))
     ≡ chained (Connected o) (elaborated S c scope n (expanded (erased_formula first))) (elaborated_links S c scope (n + width (expanded (erased_formula first))) links)
 chained-elaborated S o c scope n first [] = refl
-chained-elaborated S And c scope n first (l ∷ ls) = ap (Connected And (elaborated S c scope n (expanded (erased_formula first)))) (chained-elaborated S And c scope (n + width (expanded (erased_formula first))) (formula_form l.operand) ls)
-chained-elaborated S Or c scope n first (l ∷ ls) = ap (Connected Or (elaborated S c scope n (expanded (erased_formula first)))) (chained-elaborated S Or c scope (n + width (expanded (erased_formula first))) (formula_form l.operand) ls)
-chained-elaborated S Implies c scope n first (l ∷ ls) = ap (Connected Implies (elaborated S c scope n (expanded (erased_formula first)))) (chained-elaborated S Implies c scope (n + width (expanded (erased_formula first))) (formula_form l.operand) ls)
+chained-elaborated S And c scope n first (l ∷ ls) =
+    ap (Connected And (elaborated S c scope n (expanded (erased_formula first))))
+    (chained-elaborated S And c scope (n + width (expanded (erased_formula first))) (formula_form l.operand) ls)
+chained-elaborated S Or c scope n first (l ∷ ls) =
+    ap (Connected Or (elaborated S c scope n (expanded (erased_formula first))))
+    (chained-elaborated S Or c scope (n + width (expanded (erased_formula first))) (formula_form l.operand) ls)
+chained-elaborated S Implies c scope n first (l ∷ ls) =
+    ap (Connected Implies (elaborated S c scope n (expanded (erased_formula first))))
+    (chained-elaborated S Implies c scope (n + width (expanded (erased_formula first))) (formula_form l.operand) ls)
 
 -- ---- quantifiers
 

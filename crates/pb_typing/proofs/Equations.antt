@@ -41,7 +41,8 @@ layout_length S xs layout laid are =
     ap length (laid.shapes ∙ ap (map (λ (X : syntax.Equation). variable_shapes S X.parameters)) are) in
     omega (arith, lists, forms, erasures, shapes, same)
 
-shapes_there : (S : Spec) (xs : List Equation) (layout : List (List Carrier)) (k : ℕ) (X : Equation) (cs : List Carrier) → map shapes_of layout ≡ map (λ (Y : syntax.Equation). variable_shapes S Y.parameters) (all_erased xs)
+shapes_there : (S : Spec) (xs : List Equation) (layout : List (List Carrier)) (k : ℕ) (X : Equation) (cs : List Carrier)
+    → map shapes_of layout ≡ map (λ (Y : syntax.Equation). variable_shapes S Y.parameters) (all_erased xs)
     → slice_get layout k ≡ Some cs → k < length xs → X ≡ get_or xs k X → shapes_of cs ≡ variable_shapes S (erased X).parameters
 shapes_there S [] layout k X cs same there below at = absurd (omega (arith, below))
 shapes_there S (Y ∷ xs) [] k X cs same there below at = cc

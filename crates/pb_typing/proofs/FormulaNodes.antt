@@ -29,30 +29,38 @@ use Rattle.pb_typing.proofs.ValueNodes.{on_ok}
 
 -- ---- data
 
-pub value_formula : (S : Spec) (a : Scope) (c : Slotting) (even : Bool) (n : ℕ) (f : ast.Formula) (p : Place) (x : Term) (r : Result code.Formula (OrMemory TypingFault)) → f ≡ ast.Value p x → ChecksTruthIn S a c n (term_form x) p r
+pub value_formula : (S : Spec) (a : Scope) (c : Slotting) (even : Bool) (n : ℕ) (f : ast.Formula) (p : Place) (x : Term)
+    (r : Result code.Formula (OrMemory TypingFault)) → f ≡ ast.Value p x → ChecksTruthIn S a c n (term_form x) p r
     → ChecksFormulaIn S a c even n (formula_form f) r
 value_formula S a c even n f p x r is h = subst (λ (g : ast.Formula). ChecksFormulaIn S a c even n (formula_form g) r) (sym is) h
 
-pub value_loops : (S : Spec) (f : ast.Formula) (p : Place) (x : Term) (old new : List Carrier) (r : Result code.Formula (OrMemory TypingFault)) → f ≡ ast.Value p x → OnOk r (shapes_of new ≡ shapes_of old ++ loops S (value_of x))
+pub value_loops : (S : Spec) (f : ast.Formula) (p : Place) (x : Term) (old new : List Carrier)
+    (r : Result code.Formula (OrMemory TypingFault)) → f ≡ ast.Value p x → OnOk r (shapes_of new ≡ shapes_of old ++ loops S (value_of x))
     → OnOk r (shapes_of new ≡ shapes_of old ++ loops S (formula_of f))
 value_loops S f p x old new r is h = subst (λ (g : ast.Formula). OnOk r (shapes_of new ≡ shapes_of old ++ loops S (formula_of g))) (sym is) h
 
-pub at_places : (f g : ast.Formula) (r : Result code.Formula (OrMemory TypingFault)) → f ≡ g → IfOk r (λ (y : code.Formula). call_places y ≡ calls_in (formula_form g)) → IfOk r (λ (y : code.Formula). call_places y ≡ calls_in (formula_form f))
+pub at_places : (f g : ast.Formula) (r : Result code.Formula (OrMemory TypingFault)) → f ≡ g
+    → IfOk r (λ (y : code.Formula). call_places y ≡ calls_in (formula_form g))
+    → IfOk r (λ (y : code.Formula). call_places y ≡ calls_in (formula_form f))
 at_places f g r is h = subst (λ (z : ast.Formula). IfOk r (λ (y : code.Formula). call_places y ≡ calls_in (formula_form z))) (sym is) h
 
 -- ---- calls
 
-pub call_formula : (S : Spec) (a : Scope) (c : Slotting) (even : Bool) (n : ℕ) (f : ast.Formula) (i : Instance) (r : Result code.Formula (OrMemory TypingFault)) → f ≡ ast.Instance i → ChecksFormulaIn S a c even n (FormulaForm.instance (instance_form i)) r
+pub call_formula : (S : Spec) (a : Scope) (c : Slotting) (even : Bool) (n : ℕ) (f : ast.Formula) (i : Instance)
+    (r : Result code.Formula (OrMemory TypingFault)) → f ≡ ast.Instance i
+    → ChecksFormulaIn S a c even n (FormulaForm.instance (instance_form i)) r
     → ChecksFormulaIn S a c even n (formula_form f) r
 call_formula S a c even n f i r is h = subst (λ (g : ast.Formula). ChecksFormulaIn S a c even n (formula_form g) r) (sym is) h
 
 -- a call has no quantifier
-pub call_loops : (S : Spec) (f : ast.Formula) (i : Instance) (old : List Carrier) (r : Result code.Formula (OrMemory TypingFault)) → f ≡ ast.Instance i → OnOk r (shapes_of old ≡ shapes_of old ++ loops S (formula_of f))
+pub call_loops : (S : Spec) (f : ast.Formula) (i : Instance) (old : List Carrier)
+    (r : Result code.Formula (OrMemory TypingFault)) → f ≡ ast.Instance i → OnOk r (shapes_of old ≡ shapes_of old ++ loops S (formula_of f))
 call_loops S f i old r is = on_ok r _ (sym (ap (λ (g : ast.Formula). shapes_of old ++ loops S (formula_of g)) is ∙ append-nil (shapes_of old)))
 
 -- ---- negations
 
-pub negation-faults : (S : Spec) (even opposite : Bool) (a : Scope) (f x : ast.Formula) (p : Place) (operand : Box ast.Formula Global) → f ≡ ast.Negation p operand → x ≡ box_value operand → opposite ≡ not even
+pub negation-faults : (S : Spec) (even opposite : Bool) (a : Scope) (f x : ast.Formula) (p : Place)
+    (operand : Box ast.Formula Global) → f ≡ ast.Negation p operand → x ≡ box_value operand → opposite ≡ not even
     → formula_faults S even a (formula_form f) ≡ formula_faults S opposite a (formula_form x)
 negation-faults S even opposite a f x p operand is same odd =
     ap (λ (g : ast.Formula). formula_faults S even a (formula_form g)) is
@@ -66,7 +74,8 @@ negation-calls f x p operand is same = ap (λ (g : ast.Formula). calls_in (formu
 
 -- ---- quantifiers
 
-pub quantified-faults : (S : Spec) (even : Bool) (a : Scope) (f : ast.Formula) (p : Place) (q : Quantifier) (vs : Vec Variables Global) (body : Box ast.Formula Global) (x : ast.Formula) (groups : List Variables)
+pub quantified-faults : (S : Spec) (even : Bool) (a : Scope) (f : ast.Formula) (p : Place) (q : Quantifier)
+    (vs : Vec Variables Global) (body : Box ast.Formula Global) (x : ast.Formula) (groups : List Variables)
     → f ≡ ast.Quantified p q vs body → x ≡ box_value body → groups ≡ vs.items
     → formula_faults S even a (formula_form f) ≡ variables_faults S (variable_forms groups) ++ formula_faults S even (bound S (erased_variables (variable_forms groups)) a) (formula_form x)
 quantified-faults S even a f p q vs body x groups is same are =
@@ -81,5 +90,7 @@ quantified-form f p q vs body x groups is same are =
     ∙ sym (ap (λ (gs : List Variables). syntax.Formula.Quantified q (erased_variables (variable_forms gs)) (formula_of x)) are
     ∙ ap (λ (g : ast.Formula). syntax.Formula.Quantified q (erased_variables (variable_forms vs.items)) (formula_of g)) same)
 
-pub quantified-calls : (f : ast.Formula) (p : Place) (q : Quantifier) (vs : Vec Variables Global) (body : Box ast.Formula Global) (x : ast.Formula) → f ≡ ast.Quantified p q vs body → x ≡ box_value body → calls_in (formula_form f) ≡ calls_in (formula_form x)
+pub quantified-calls : (f : ast.Formula) (p : Place) (q : Quantifier) (vs : Vec Variables Global)
+    (body : Box ast.Formula Global) (x : ast.Formula) → f ≡ ast.Quantified p q vs body → x ≡ box_value body
+    → calls_in (formula_form f) ≡ calls_in (formula_form x)
 quantified-calls f p q vs body x is same = ap (λ (g : ast.Formula). calls_in (formula_form g)) is ∙ ap (λ (g : ast.Formula). calls_in (formula_form g)) (sym same)

@@ -87,13 +87,15 @@ views-push [] f = refl
 views-push (g ∷ fs) f = ap (λ (vs : List Formula). formula_view g ∷ vs) (views-push fs f)
 
 -- so many links are done: their faults, their typed trees, the carriers of their quantifiers and the places of their calls
-pub record AreDone (S : Spec) (a : Scope) (c : Slotting) (o : Connective) (even : Bool) (links : List Link) (before : List Carrier) (k : ℕ) (done : List code.Formula) (now : List Carrier) : Type 0 where
+pub record AreDone (S : Spec) (a : Scope) (c : Slotting) (o : Connective) (even : Bool) (links : List Link)
+    (before : List Carrier) (k : ℕ) (done : List code.Formula) (now : List Carrier) : Type 0 where
   pub faults : link_faults S a o even links ≡ link_faults S a o even (drop k links)
   pub places : places_of done ++ links_calls (drop k links) ≡ links_calls links
   pub rest : elaborated_links S c a (length before) links ≡ formula_views done ++ elaborated_links S c a (length now) (drop k links)
   pub carriers : shapes_of now ++ links_loops S (drop k links) ≡ shapes_of before ++ links_loops S links
 
-pub done_begun : (S : Spec) (a : Scope) (c : Slotting) (o : Connective) (even : Bool) (links : List Link) (before : List Carrier) (done : List code.Formula) → done ≡ [] → AreDone S a c o even links before 0 done before
+pub done_begun : (S : Spec) (a : Scope) (c : Slotting) (o : Connective) (even : Bool) (links : List Link)
+    (before : List Carrier) (done : List code.Formula) → done ≡ [] → AreDone S a c o even links before 0 done before
 done_begun S a c o even links before done none = record {
   faults = refl;
   places = ap (λ (fs : List code.Formula). places_of fs ++ links_calls links) none;
@@ -101,7 +103,8 @@ done_begun S a c o even links before done none = record {
   carriers = refl;
 }
 
-pub done_next : (S : Spec) (scope : Scope) (c : Slotting) (o : Connective) (even : Bool) (links : List Link) (before old new : List Carrier) (k : ℕ) (link : Link) (f : code.Formula) (done more : List code.Formula)
+pub done_next : (S : Spec) (scope : Scope) (c : Slotting) (o : Connective) (even : Bool) (links : List Link)
+    (before old new : List Carrier) (k : ℕ) (link : Link) (f : code.Formula) (done more : List code.Formula)
     → k < length links → link ≡ get_or links k link → more ≡ done ++ f ∷ []
     → link_faults S scope o even (drop k links) ≡ link_faults S scope o even (drop (k + 1) links)
     → formula_view f ≡ elaborated S c scope (length old) (formula_of link.operand) → shapes_of new ≡ shapes_of old ++ loops S (formula_of link.operand)
@@ -167,7 +170,8 @@ module _ (S : Spec) (o : Connective) (first : ast.Formula) (links : List Link) (
       → chained (Connected o) f fs ≡ elaborated S c scope (length before) (chain_form o (formula_form first) links)
   chain-view c scope f fs head behind =
       ap (λ (g : Formula). chained (Connected o) g fs) head
-      ∙ (ap (chained (Connected o) (elaborated S c scope (length before) (formula_of first))) (behind ∙ ap (λ (n : ℕ). elaborated_links S c scope n links) (grown S (formula_of first) before mid shapes))
+      ∙ (ap (chained (Connected o) (elaborated S c scope (length before) (formula_of first)))
+      (behind ∙ ap (λ (n : ℕ). elaborated_links S c scope n links) (grown S (formula_of first) before mid shapes))
       ∙ sym (chained-elaborated S o c scope (length before) (formula_form first) links))
 
 -- ---- nodes
@@ -177,7 +181,8 @@ pub chain-node : (t x : ast.Formula) (o : Connective) (first : Box ast.Formula G
 chain-node t x o first v links is same are =
     ap formula_form is
     ∙ (formula-chain o first v
-    ∙ (ap (λ (y : ast.Formula). form.chained (FormulaForm.connected o) (formula_form y) (link_forms v.items)) (sym same) ∙ ap (λ (ls : List Link). form.chained (FormulaForm.connected o) (formula_form x) (link_forms ls)) (sym are)))
+    ∙ (ap (λ (y : ast.Formula). form.chained (FormulaForm.connected o) (formula_form y) (link_forms v.items)) (sym same)
+    ∙ ap (λ (ls : List Link). form.chained (FormulaForm.connected o) (formula_form x) (link_forms ls)) (sym are)))
 
 -- what is read as data has no calls
 pub value_places : (S : Spec) (c : Slotting) (a : Scope) (n : ℕ) (x : term.Term) (fs : List TypingFault) (r : Result code.Formula (OrMemory TypingFault))
@@ -229,7 +234,8 @@ faults_next S a xs cs k x p below at within here =
     ∙ ap (faults_against S a (x ∷ drop (k + 1) xs)) (shapes-at cs k p within here)
 
 -- an argument that is put behind those that are done
-pub argument_next : (S : Spec) (scope : Scope) (c : Slotting) (xs : List Argument) (ss : List Shape) (k : ℕ) (x : Argument) (y : declared.Argument) (done more : List declared.Argument) → k < length xs → x ≡ get_or xs k x
+pub argument_next : (S : Spec) (scope : Scope) (c : Slotting) (xs : List Argument) (ss : List Shape) (k : ℕ)
+    (x : Argument) (y : declared.Argument) (done more : List declared.Argument) → k < length xs → x ≡ get_or xs k x
     → faults_against S scope (drop k xs) (drop k ss) ≡ faults_against S scope (drop (k + 1) xs) (drop (k + 1) ss)
     → term_view y.term ≡ slotted S c (erased_term (term_form x.term)) → shape_view y.shape ≡ shape S scope (erased_term (term_form x.term)) → more ≡ done ++ y ∷ []
     → AreLeft S scope c xs ss k done → AreLeft S scope c xs ss (k + 1) more
@@ -247,7 +253,8 @@ argument_next S scope c xs ss k x y done more below at clear term_is shape_is pu
           ∙ (ap (λ (es : List model.Argument). es ++ rest) (sym (arguments-push done y)) ∙ ap (λ (es : List declared.Argument). map argument_view es ++ rest) (sym pushed))))));
     }
 
-pub faults_done : (S : Spec) (a : Scope) (c : Slotting) (xs : List Argument) (ss : List Shape) (k : ℕ) (done : List declared.Argument) → length xs ≤ k → AreLeft S a c xs ss k done → faults_against S a xs ss ≡ []
+pub faults_done : (S : Spec) (a : Scope) (c : Slotting) (xs : List Argument) (ss : List Shape) (k : ℕ)
+    (done : List declared.Argument) → length xs ≤ k → AreLeft S a c xs ss k done → faults_against S a xs ss ≡ []
 faults_done S a c xs ss k done end h = h.faults ∙ ap (λ (ys : List Argument). faults_against S a ys (drop k ss)) (drop_all k xs end)
 
 pub arguments_ended : (S : Spec) (a : Scope) (c : Slotting) (xs : List Argument) (ss : List Shape) (k : ℕ) (done : List declared.Argument) → length xs ≤ k

@@ -67,15 +67,18 @@ headed S c cs [] e = absurd (true≢false (ap is_some e))
 headed S c cs (x ∷ xs) e = record { head = x; rest = xs; whole = refl; carrier = ap first e; carriers = ap behind e }
 
 -- the test of an argument is that of its value in its parameter's carrier
-tested : (S : Spec) (c : Carrier) (x : Variable) (a : Argument) (v : Value) (b : Bool) → values_of c ≡ carrier_of S x.sort → v ≡ value S [] (erased_term (term_form a.term)) → b ≡ contains (values_of c) v
+tested : (S : Spec) (c : Carrier) (x : Variable) (a : Argument) (v : Value) (b : Bool)
+    → values_of c ≡ carrier_of S x.sort → v ≡ value S [] (erased_term (term_form a.term)) → b ≡ contains (values_of c) v
     → b ≡ may_have (carrier_of S x.sort) (value S [] (erased_term (term_form a.term)))
 tested S c x a v b ec ev eb =
     let w = value S [] (erased_term (term_form a.term)) in
     eb ∙ (ap (contains (values_of c)) ev ∙ (sym (may_have_of_some (values_of c) w (some_values c)) ∙ ap (λ (d : carriers.Carrier). may_have d w) ec))
 
 -- a fault of the first argument
-pub value_fault : (S : Spec) (c : Carrier) (cs : List Carrier) (a : Argument) (es : List Argument) (all : List Argument) (allc : List Carrier) (xs : List Variable) (v : Value) (b : Bool) (e : OrMemory TypingFault)
-    → allc ≡ c ∷ cs → all ≡ a ∷ es → map values_of allc ≡ carriers_of S xs → v ≡ value S [] (erased_term (term_form a.term)) → b ≡ contains (values_of c) v → IsAmong (unless b OutsideCarrier a.place) e
+pub value_fault : (S : Spec) (c : Carrier) (cs : List Carrier) (a : Argument) (es : List Argument) (all : List Argument)
+    (allc : List Carrier) (xs : List Variable) (v : Value) (b : Bool) (e : OrMemory TypingFault)
+    → allc ≡ c ∷ cs → all ≡ a ∷ es → map values_of allc ≡ carriers_of S xs
+    → v ≡ value S [] (erased_term (term_form a.term)) → b ≡ contains (values_of c) v → IsAmong (unless b OutsideCarrier a.place) e
     → IsAmong (value_faults S (argument_forms all) xs) e
 value_fault S c cs a es all allc xs v b e ec ea m ev eb h =
     let p = headed S c cs xs (sym (ap (map values_of) ec) ∙ m) in
@@ -89,12 +92,15 @@ abbrev pub Tells : Spec → List Argument → List Variable → Result (Unit {0}
 Tells S es xs r = MatchResult r (λ u. value_faults S (argument_forms es) xs ≡ []) (IsAmong (value_faults S (argument_forms es) xs))
 
 -- what is told of the other arguments, where the first one has no fault
-later : (S : Spec) (a : Argument) (es : List Argument) (x : Variable) (xs : List Variable) (r : Result (Unit {0}) (OrMemory TypingFault)) → unless (may_have (carrier_of S x.sort) (value S [] (erased_term (term_form a.term)))) OutsideCarrier a.place ≡ []
+later : (S : Spec) (a : Argument) (es : List Argument) (x : Variable) (xs : List Variable)
+    (r : Result (Unit {0}) (OrMemory TypingFault))
+    → unless (may_have (carrier_of S x.sort) (value S [] (erased_term (term_form a.term)))) OutsideCarrier a.place ≡ []
     → Tells S es xs r → Tells S (a ∷ es) (x ∷ xs) r
 later S a es x xs (Ok u) clear told = no_whole _ _ clear told
 later S a es x xs (Err e) clear told = among_right _ _ e told
 
-pub value_clear : (S : Spec) (c : Carrier) (cs : List Carrier) (a : Argument) (es : List Argument) (all : List Argument) (allc : List Carrier) (xs : List Variable) (v : Value) (b : Bool) (r : Result (Unit {0}) (OrMemory TypingFault))
+pub value_clear : (S : Spec) (c : Carrier) (cs : List Carrier) (a : Argument) (es : List Argument) (all : List Argument)
+    (allc : List Carrier) (xs : List Variable) (v : Value) (b : Bool) (r : Result (Unit {0}) (OrMemory TypingFault))
     → allc ≡ c ∷ cs → all ≡ a ∷ es → map values_of allc ≡ carriers_of S xs → v ≡ value S [] (erased_term (term_form a.term)) → b ≡ contains (values_of c) v → unless b OutsideCarrier a.place ≡ []
     → ((ys : List Variable) → map values_of cs ≡ carriers_of S ys → Tells S es ys r) → Tells S all xs r
 value_clear S c cs a es all allc xs v b r ec ea m ev eb clear told =
@@ -160,7 +166,8 @@ some_equation S i ends e none =
     not_called (Some X) n h = cc
 
 -- and it has an argument for each of that equation's parameters
-pub counted : (S : Spec) (i : InstanceForm) → HaveEnds S → instance_faults S true outermost i ≡ [] → count (erased_arguments i.arguments) ≡ length (parameters_named (equation_named S.equations i.name.text))
+pub counted : (S : Spec) (i : InstanceForm) → HaveEnds S → instance_faults S true outermost i ≡ []
+    → count (erased_arguments i.arguments) ≡ length (parameters_named (equation_named S.equations i.name.text))
 counted S i ends e =
     let proper = instance_proper S ends true outermost i e in
     each_counted (equation_named S.equations i.name.text) proper.1

@@ -15,7 +15,8 @@ use Rattle.pb_typing.specs.Value.{Whole, as_formula, joined, chosen, value_of, v
 abbrev pub chain : Connective → syntax.Term → List syntax.Term → syntax.Term
 chain o x xs = chained (syntax.Term.Binary (of_connective o)) x xs
 
-pub split : (o : Connective) (x y : syntax.Term) → (has_quantifier x || has_quantifier y) ≡ true → expanded_term (syntax.Term.Binary (of_connective o) x y) ≡ formula_joined o (expanded_term x) (expanded_term y)
+pub split : (o : Connective) (x y : syntax.Term) → (has_quantifier x || has_quantifier y) ≡ true
+    → expanded_term (syntax.Term.Binary (of_connective o) x y) ≡ formula_joined o (expanded_term x) (expanded_term y)
 split And x y h = ap (λ (b : Bool). cond b (syntax.Formula.And (expanded_term x) (expanded_term y)) (syntax.Formula.Val (syntax.Term.Binary (of_connective And) x y))) h
 split Or x y h = ap (λ (b : Bool). cond b (syntax.Formula.Or (expanded_term x) (expanded_term y)) (syntax.Formula.Val (syntax.Term.Binary (of_connective Or) x y))) h
 split Implies x y h = ap (λ (b : Bool). cond b (syntax.Formula.Implies (expanded_term x) (expanded_term y)) (syntax.Formula.Val (syntax.Term.Binary (of_connective Implies) x y))) h
@@ -27,7 +28,10 @@ plain-expanded (syntax.Term.Number n) h = refl
 plain-expanded (syntax.Term.Named y) h = refl
 plain-expanded (syntax.Term.Not x) h = ap (λ (b : Bool). cond b (syntax.Formula.Not (expanded_term x)) (syntax.Formula.Val (syntax.Term.Not x))) h
 plain-expanded (syntax.Term.Negative x) h = refl
-plain-expanded (syntax.Term.Binary o x y) h = ap (λ (b : Bool). cond b (Rattle.pb_typing_tree.specs.Expansion.connected o (expanded_term x) (expanded_term y) (syntax.Formula.Val (syntax.Term.Binary o x y))) (syntax.Formula.Val (syntax.Term.Binary o x y))) h
+plain-expanded (syntax.Term.Binary o x y) h =
+    ap (λ (b : Bool). cond b
+    (Rattle.pb_typing_tree.specs.Expansion.connected o (expanded_term x) (expanded_term y)
+    (syntax.Formula.Val (syntax.Term.Binary o x y))) (syntax.Formula.Val (syntax.Term.Binary o x y))) h
 plain-expanded (syntax.Term.Apply f xs) h = refl
 plain-expanded (syntax.Term.Quantified q xs x) h = absurd (Rattle.std.proofs.Common.true≢false h)
 

@@ -90,7 +90,8 @@ negated-loops S x = by_test (has_quantifier x) refl
 abbrev chain_form : Connective → TermForm → List TermLink → syntax.Term
 chain_form o first links = erased_term (form.chained (TermForm.connected o) first (term_links links))
 
-pub form-loops : (S : Spec) (o : Connective) (first : TermForm) (links : List TermLink) → loops S (expanded_term (chain_form o first links)) ≡ loops S (expanded_term (erased_term first)) ++ value_loops S links
+pub form-loops : (S : Spec) (o : Connective) (first : TermForm) (links : List TermLink)
+    → loops S (expanded_term (chain_form o first links)) ≡ loops S (expanded_term (erased_term first)) ++ value_loops S links
 form-loops S o first [] = sym (append-nil (loops S (expanded_term (erased_term first))))
 form-loops S o first (l ∷ ls) =
     by_test (has_quantifier (erased_term first) || has_quantifier (chain_form o (term_form l.operand) ls)) refl (form-loops S o (term_form l.operand) ls)
@@ -104,7 +105,9 @@ form-loops S o first (l ∷ ls) =
         ∙ ap (λ (ss : List Shape). loops S (expanded_term (erased_term first)) ++ ss) rest)
     by_test false e rest =
         let none = or_parts (has_quantifier (erased_term first)) (has_quantifier (chain_form o (term_form l.operand) ls)) e in
-        let whole : loops S (expanded_term (chain_form o first (l ∷ ls))) ≡ [] = ap (loops S) (plain-expanded (syntax.Term.Binary (of_connective o) (erased_term first) (chain_form o (term_form l.operand) ls)) e) in
+        let whole : loops S (expanded_term (chain_form o first (l ∷ ls))) ≡ [] =
+        ap (loops S)
+        (plain-expanded (syntax.Term.Binary (of_connective o) (erased_term first) (chain_form o (term_form l.operand) ls)) e) in
         let others : value_loops S (l ∷ ls) ≡ [] = sym rest ∙ plain-loops S (chain_form o (term_form l.operand) ls) none.1 in
         whole ∙ sym (ap (λ (ss : List Shape). ss ++ value_loops S (l ∷ ls)) (plain-loops S (erased_term first) none.0) ∙ others)
 
@@ -114,5 +117,7 @@ form-chain o first (l ∷ ls) = ap (syntax.Term.Binary (of_connective o) (erased
 
 -- the value of a chain is its operands' values joined
 pub form-value : (S : Spec) (c : Slotting) (a : Scope) (o : Connective) (first : TermForm) (links : List TermLink) (n : ℕ)
-    → value_of S c a n (chain_form o first links) ≡ chained (values.joined o) (value_of S c a n (erased_term first)) (values_of S c a (n + width (expanded_term (erased_term first))) (operand_terms links))
+    → value_of S c a n (chain_form o first links)
+    ≡ chained (values.joined o) (value_of S c a n (erased_term first))
+    (values_of S c a (n + width (expanded_term (erased_term first))) (operand_terms links))
 form-value S c a o first links n = ap (value_of S c a n) (form-chain o first links) ∙ chain-value S c a o (erased_term first) (operand_terms links) n

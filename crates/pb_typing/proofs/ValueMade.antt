@@ -56,13 +56,15 @@ pub added-terms : (s : Joined) (v : declared_value.Value) (x : term.Term) (l : V
     → (o : Connective) (xs : List Value) → folded o (Whole (Test (term_view x)) ∷ (built all none ++ xs)) ≡ folded o (pieces s ++ (value_view v ∷ xs))
 added-terms s v x l f old all none is-s is-v is-old made is-none o xs =
     ap (λ ts. folded o (Whole (Test (term_view x)) ∷ ((map Whole (formula_views all) ++ map Data (term_views ts)) ++ xs))) is-none
-    ∙ (ap (λ fs. folded o (Whole (Test (term_view x)) ∷ ((map Whole fs ++ []) ++ xs))) (made ∙ ap (λ (fs : List formula.Formula). formula_views fs ++ (map Test (term_views l.items) ++ (formula_view f ∷ []))) is-old)
+    ∙ (ap (λ fs. folded o (Whole (Test (term_view x)) ∷ ((map Whole fs ++ []) ++ xs)))
+    (made ∙ ap (λ (fs : List formula.Formula). formula_views fs ++ (map Test (term_views l.items) ++ (formula_view f ∷ []))) is-old)
     ∙ (ap (λ vs. folded o (Whole (Test (term_view x)) ∷ vs)) (lists [] (map Test (term_views l.items)) (formula_view f) xs)
     ∙ (as-tests o [] (term_view x ∷ term_views l.items) (formula_view f) xs
     ∙ (sym (ap (λ (t : Joined). folded o (pieces t ++ (Whole (formula_view f) ∷ xs))) is-s)
     ∙ sym (ap (λ (w : declared_value.Value). folded o (pieces s ++ (value_view w ∷ xs))) is-v)))))
 
-pub added-formulas : (s : Joined) (v : declared_value.Value) (x : formula.Formula) (fs : Vec formula.Formula Global) (l : Vec term.Term Global) (f : formula.Formula) (all : List formula.Formula) (none : List term.Term)
+pub added-formulas : (s : Joined) (v : declared_value.Value) (x : formula.Formula) (fs : Vec formula.Formula Global)
+    (l : Vec term.Term Global) (f : formula.Formula) (all : List formula.Formula) (none : List term.Term)
     → s ≡ state.Formulas x fs l → v ≡ declared_value.TheVariants.Formula f → formula_views all ≡ formula_views fs.items ++ (map Test (term_views l.items) ++ (formula_view f ∷ [])) → none ≡ []
     → (o : Connective) (xs : List Value) → folded o (Whole (formula_view x) ∷ (built all none ++ xs)) ≡ folded o (pieces s ++ (value_view v ∷ xs))
 added-formulas s v x fs l f all none is-s is-v made is-none o xs =
@@ -73,7 +75,8 @@ added-formulas s v x fs l f all none is-s is-v made is-none o xs =
     ∙ (sym (ap (λ (t : Joined). folded o (pieces t ++ (Whole (formula_view f) ∷ xs))) is-s)
     ∙ sym (ap (λ (w : declared_value.Value). folded o (pieces s ++ (value_view w ∷ xs))) is-v)))))
 
-pub tests-ended : (fs before : List tree.Formula) (rest terms : List term.Term) → length rest ≡ 0 → fs ++ map Test (term_views rest) ≡ before ++ map Test (term_views terms) → fs ≡ before ++ map Test (term_views terms)
+pub tests-ended : (fs before : List tree.Formula) (rest terms : List term.Term) → length rest ≡ 0
+    → fs ++ map Test (term_views rest) ≡ before ++ map Test (term_views terms) → fs ≡ before ++ map Test (term_views terms)
 tests-ended fs before [] terms none h = sym (append-nil fs) ∙ h
 tests-ended fs before (x ∷ rest) terms none h = absurd (omega arith)
 

@@ -60,7 +60,8 @@ abbrev pub IsValue : Spec → Scope → Slotting → ℕ → TermForm → Value 
 IsValue S a c n x v = (term_faults S true a x ≡ []) × (value_shape v ≡ shape S a (erased_term x)) × (value_view v ≡ value_of S c a n (erased_term x))
 
 -- what is found of the faults that are left, where those before are none
-pub value_as : (all rest : List TypingFault) (s t : Shape) (x y : values.Value) (r : Result Value (OrMemory TypingFault)) → all ≡ rest → t ≡ s → y ≡ x → ElaboratesValue rest s x r → ElaboratesValue all t y r
+pub value_as : (all rest : List TypingFault) (s t : Shape) (x y : values.Value)
+    (r : Result Value (OrMemory TypingFault)) → all ≡ rest → t ≡ s → y ≡ x → ElaboratesValue rest s x r → ElaboratesValue all t y r
 value_as all rest s t x y r e f g h =
     subst (λ (zs : List TypingFault). ElaboratesValue zs t y r) (sym e)
     (subst (λ (u : Shape). ElaboratesValue rest u y r) (sym f)
@@ -71,7 +72,9 @@ value_node S a c n x y r is h = subst (λ (z : TermForm). ChecksValueIn S a c n 
 
 -- ---- data
 
-pub data_value : (S : Spec) (a : Scope) (c : Slotting) (n : ℕ) (x : TermForm) (y : Argument) → term_faults S false a x ≡ [] → term_view y.term ≡ slotted S c (erased_term x) → value_view (declared.Data y) ≡ value_of S c a n (erased_term x)
+pub data_value : (S : Spec) (a : Scope) (c : Slotting) (n : ℕ) (x : TermForm) (y : Argument)
+    → term_faults S false a x ≡ [] → term_view y.term ≡ slotted S c (erased_term x)
+    → value_view (declared.Data y) ≡ value_of S c a n (erased_term x)
 data_value S a c n x y none is =
     ap Data is ∙ sym (ap (λ (b : Bool). chosen b (elaborated S c a n (expanded_term (erased_term x))) (slotted S c (erased_term x))) (no_quantifier S a x none))
 
@@ -85,32 +88,40 @@ data_node S a c n x r same h = subst (λ (fs : List TypingFault). ElaboratesValu
 negated-value : (S : Spec) (a : Scope) (c : Slotting) (n : ℕ) (x : syntax.Term) → value_of S c a n (syntax.Term.Not x) ≡ values.negated (value_of S c a n x)
 negated-value S a c n x = by_test (has_quantifier x)
   where
-    by_test : (b : Bool) → chosen b (elaborated S c a n (cond b (syntax.Formula.Not (expanded_term x)) (syntax.Formula.Val (syntax.Term.Not x)))) (tree.Term.Not (slotted S c x)) ≡ values.negated (chosen b (elaborated S c a n (expanded_term x)) (slotted S c x))
+    by_test : (b : Bool)
+        → chosen b
+        (elaborated S c a n (cond b (syntax.Formula.Not (expanded_term x)) (syntax.Formula.Val (syntax.Term.Not x))))
+        (tree.Term.Not (slotted S c x)) ≡ values.negated (chosen b (elaborated S c a n (expanded_term x)) (slotted S c x))
     by_test true = refl
     by_test false = refl
 
-pub not_value : (S : Spec) (a : Scope) (c : Slotting) (n : ℕ) (t x : ast.Term) (p : Place) (operand : Box ast.Term Global) (v : Value) (r : Result Value (OrMemory TypingFault)) → t ≡ ast.Not p operand → x ≡ box_value operand
+pub not_value : (S : Spec) (a : Scope) (c : Slotting) (n : ℕ) (t x : ast.Term) (p : Place)
+    (operand : Box ast.Term Global) (v : Value) (r : Result Value (OrMemory TypingFault)) → t ≡ ast.Not p operand → x ≡ box_value operand
     → IsValue S a c n (term_form x) v → ElaboratesValue (unless (may_be_truth (value_shape v)) rule.WrongKind p) Truths (values.negated (value_view v)) r → ChecksValueIn S a c n (term_form t) r
 not_value S a c n t x p operand v r is same h made =
     let z = term_form (box_value operand) in
     let part : IsValue S a c n z v = subst (λ (u : ast.Term). IsValue S a c n (term_form u) v) same h in
     let others = unless (may_be_truth (shape S a (erased_term z))) rule.WrongKind p in
     subst (λ (u : ast.Term). ChecksValueIn S a c n (term_form u) r) (sym is)
-    (value_as (term_faults S true a z ++ others) (unless (may_be_truth (value_shape v)) rule.WrongKind p) Truths Truths (values.negated (value_view v)) (value_of S c a n (syntax.Term.Not (erased_term z))) r
+    (value_as (term_faults S true a z ++ others) (unless (may_be_truth (value_shape v)) rule.WrongKind p) Truths Truths
+    (values.negated (value_view v)) (value_of S c a n (syntax.Term.Not (erased_term z))) r
     (first_clear _ (term_faults S true a z) others refl part.0 ∙ ap (λ (s : Shape). unless (may_be_truth s) rule.WrongKind p) (sym part.1)) refl
     (negated-value S a c n (erased_term z) ∙ ap values.negated (sym part.2)) made)
 
 -- ---- a value as a formula
 
-pub truth_formula : (S : Spec) (a : Scope) (c : Slotting) (n : ℕ) (x : TermForm) (v : Value) (f : code.Formula) → value_view v ≡ value_of S c a n (erased_term x) → formula_view f ≡ as_formula (value_view v)
+pub truth_formula : (S : Spec) (a : Scope) (c : Slotting) (n : ℕ) (x : TermForm) (v : Value) (f : code.Formula)
+    → value_view v ≡ value_of S c a n (erased_term x) → formula_view f ≡ as_formula (value_view v)
     → formula_view f ≡ elaborated S c a n (expanded_term (erased_term x))
 truth_formula S a c n x v f is made = made ∙ (ap as_formula is ∙ value-formula S c a (erased_term x) n)
 
-pub truth_clear : (S : Spec) (a : Scope) (x : TermForm) (p : Place) (s : Shape) → term_faults S true a x ≡ [] → s ≡ shape S a (erased_term x) → unless (may_be_truth s) rule.WrongKind p ≡ [] → truth_faults S a x p ≡ []
+pub truth_clear : (S : Spec) (a : Scope) (x : TermForm) (p : Place) (s : Shape) → term_faults S true a x ≡ []
+    → s ≡ shape S a (erased_term x) → unless (may_be_truth s) rule.WrongKind p ≡ [] → truth_faults S a x p ≡ []
 truth_clear S a x p s none is clear =
     first_clear _ (term_faults S true a x) _ refl none ∙ (ap (λ (u : Shape). unless (may_be_truth u) rule.WrongKind p) (sym is) ∙ clear)
 
-pub truth_kind : (S : Spec) (a : Scope) (x : TermForm) (p : Place) (s : Shape) (e : OrMemory TypingFault) → s ≡ shape S a (erased_term x) → IsAmong (unless (may_be_truth s) rule.WrongKind p) e → IsAmong (truth_faults S a x p) e
+pub truth_kind : (S : Spec) (a : Scope) (x : TermForm) (p : Place) (s : Shape) (e : OrMemory TypingFault)
+    → s ≡ shape S a (erased_term x) → IsAmong (unless (may_be_truth s) rule.WrongKind p) e → IsAmong (truth_faults S a x p) e
 truth_kind S a x p s e is h =
     among_right (term_faults S true a x) _ e (subst (λ (u : Shape). IsAmong (unless (may_be_truth u) rule.WrongKind p) e) is h)
 
@@ -132,7 +143,8 @@ quantified-view S q xs c inner scope f old mid own slot body at slots shapes gro
     ∙ sym (each-nested S q xs c n (λ d k. elaborated S d (bound S xs scope) k f) own shapes))
 
 -- the carriers of a quantifier's variables, then those of its body
-pub quantified-loops : (S : Spec) (q : Quantifier) (xs : List Variable) (f : syntax.Formula) (old mid new : List Carrier) → shapes_of mid ≡ shapes_of old ++ variable_shapes S xs → shapes_of new ≡ shapes_of mid ++ loops S f
+pub quantified-loops : (S : Spec) (q : Quantifier) (xs : List Variable) (f : syntax.Formula)
+    (old mid new : List Carrier) → shapes_of mid ≡ shapes_of old ++ variable_shapes S xs → shapes_of new ≡ shapes_of mid ++ loops S f
     → shapes_of new ≡ shapes_of old ++ loops S (syntax.Formula.Quantified q xs f)
 quantified-loops S q xs f old mid new own behind =
     behind ∙ (ap (λ (ss : List Shape). ss ++ loops S f) own ∙ append_assoc (shapes_of old) (variable_shapes S xs) (loops S f))
@@ -160,18 +172,21 @@ pub chain-node : (t x : ast.Term) (o : Connective) (first : Box ast.Term Global)
     → term_form t ≡ chained (TermForm.connected o) (term_form x) (term_links links)
 chain-node t x o first v links is same are =
     ap term_form is ∙ (term-chain o first v
-    ∙ (ap (λ (y : ast.Term). chained (TermForm.connected o) (term_form y) (term_links v.items)) (sym same) ∙ ap (λ (ls : List TermLink). chained (TermForm.connected o) (term_form x) (term_links ls)) (sym are)))
+    ∙ (ap (λ (y : ast.Term). chained (TermForm.connected o) (term_form y) (term_links v.items)) (sym same)
+    ∙ ap (λ (ls : List TermLink). chained (TermForm.connected o) (term_form x) (term_links ls)) (sym are)))
 
 pub lone_value : (S : Spec) (a : Scope) (c : Slotting) (n : ℕ) (o : Connective) (first : TermForm) (links : List TermLink) (r : Result Value (OrMemory TypingFault)) → (length links == 0) ≡ true
     → ChecksValueIn S a c n first r → ChecksValueIn S a c n (chained (TermForm.connected o) first (term_links links)) r
 lone_value S a c n o first links r none h =
     subst (λ (ls : List TermLink). ChecksValueIn S a c n (chained (TermForm.connected o) first (term_links ls)) r) (sym (no_links links none)) h
 
-pub lone_loops : (S : Spec) (o : Connective) (first : ast.Term) (links : List TermLink) → (length links == 0) ≡ true → loops S (expanded_term (texts.chain_of o first links)) ≡ loops S (texts.value_of first)
+pub lone_loops : (S : Spec) (o : Connective) (first : ast.Term) (links : List TermLink) → (length links == 0) ≡ true
+    → loops S (expanded_term (texts.chain_of o first links)) ≡ loops S (texts.value_of first)
 lone_loops S o first links none = ap (λ (ls : List TermLink). loops S (expanded_term (texts.chain_of o first ls))) (no_links links none)
 
 -- the carriers of the first operand, and of those behind it
-pub chain-loops : (S : Spec) (o : Connective) (first : ast.Term) (links : List TermLink) (before mid now : List Carrier) → shapes_of mid ≡ shapes_of before ++ loops S (texts.value_of first) → shapes_of now ≡ shapes_of mid ++ value_loops S links
+pub chain-loops : (S : Spec) (o : Connective) (first : ast.Term) (links : List TermLink) (before mid now : List Carrier)
+    → shapes_of mid ≡ shapes_of before ++ loops S (texts.value_of first) → shapes_of now ≡ shapes_of mid ++ value_loops S links
     → shapes_of now ≡ shapes_of before ++ loops S (expanded_term (texts.chain_of o first links))
 chain-loops S o first links before mid now shapes behind =
     behind
@@ -181,7 +196,9 @@ chain-loops S o first links before mid now shapes behind =
 
 -- the values of the first operand and of those behind it, joined
 pub chain-value : (S : Spec) (a : Scope) (c : Slotting) (o : Connective) (first : ast.Term) (links : List TermLink) (before mid : List Carrier) (v : Value) (vs : List Value) (w : values.Value)
-    → shapes_of mid ≡ shapes_of before ++ loops S (texts.value_of first) → value_view v ≡ value_of S c a (length before) (erased_term (term_form first)) → value_views vs ≡ values_of S c a (length mid) (operand_terms links)
+    → shapes_of mid ≡ shapes_of before ++ loops S (texts.value_of first)
+    → value_view v ≡ value_of S c a (length before) (erased_term (term_form first))
+    → value_views vs ≡ values_of S c a (length mid) (operand_terms links)
     → w ≡ view.chained (values.joined o) (value_view v) (value_views vs)
     → w ≡ value_of S c a (length before) (texts.chain_of o first links)
 chain-value S a c o first links before mid v vs w shapes head others made =
@@ -199,14 +216,16 @@ pub record AreDone (S : Spec) (a : Scope) (c : Slotting) (links : List TermLink)
   pub rest : values_of S c a (length before) (operand_terms links) ≡ value_views done ++ values_of S c a (length now) (operand_terms (drop k links))
   pub carriers : shapes_of now ++ value_loops S (drop k links) ≡ shapes_of before ++ value_loops S links
 
-pub done_begun : (S : Spec) (a : Scope) (c : Slotting) (links : List TermLink) (first : Shape) (before : List Carrier) (done : List Value) → done ≡ [] → AreDone S a c links first first before 0 done before
+pub done_begun : (S : Spec) (a : Scope) (c : Slotting) (links : List TermLink) (first : Shape) (before : List Carrier)
+    (done : List Value) → done ≡ [] → AreDone S a c links first first before 0 done before
 done_begun S a c links first before done none = record {
   faults = refl;
   rest = ap (λ (vs : List Value). value_views vs ++ values_of S c a (length before) (operand_terms links)) (sym none);
   carriers = refl;
 }
 
-pub done_next : (S : Spec) (a : Scope) (c : Slotting) (links : List TermLink) (first old_left left : Shape) (before old new : List Carrier) (k : ℕ) (link : TermLink) (v : Value) (done more : List Value)
+pub done_next : (S : Spec) (a : Scope) (c : Slotting) (links : List TermLink) (first old_left left : Shape)
+    (before old new : List Carrier) (k : ℕ) (link : TermLink) (v : Value) (done more : List Value)
     → k < length links → link ≡ get_or links k link → more ≡ done ++ v ∷ []
     → link_faults S true a old_left (drop k links) ≡ link_faults S true a (operand_shape S a link) (drop (k + 1) links) → left ≡ operand_shape S a link
     → value_view v ≡ value_of S c a (length old) (erased_term (term_form link.operand)) → shapes_of new ≡ shapes_of old ++ loops S (operand link)
@@ -259,24 +278,32 @@ pub operand-node : (t x : ast.Term) (first : Box ast.Term Global) (v : Vec Arith
 operand-node t x first v is same none =
     ap term_form is ∙ (term-arithmetic first v ∙ (no-arithmetic (term_form (box_value first)) v.items none ∙ ap term_form (sym same)))
 
-calculated-same : (S : Spec) (a : Scope) (f : TermForm) (l : ArithmeticLink) (links : List ArithmeticLink) → term_faults S true a (form.calculated f (arithmetic_links (l ∷ links))) ≡ term_faults S false a (form.calculated f (arithmetic_links (l ∷ links)))
+calculated-same : (S : Spec) (a : Scope) (f : TermForm) (l : ArithmeticLink) (links : List ArithmeticLink)
+    → term_faults S true a (form.calculated f (arithmetic_links (l ∷ links)))
+    ≡ term_faults S false a (form.calculated f (arithmetic_links (l ∷ links)))
 calculated-same S a f l [] = refl
 calculated-same S a f l (m ∷ links) = calculated-same S a (TermForm.computed l.operator l.place f (term_form l.operand)) m links
 
-some-same : (S : Spec) (a : Scope) (f : TermForm) (links : List ArithmeticLink) → (length links ≡ 0 → ⊥) → term_faults S true a (form.calculated f (arithmetic_links links)) ≡ term_faults S false a (form.calculated f (arithmetic_links links))
+some-same : (S : Spec) (a : Scope) (f : TermForm) (links : List ArithmeticLink) → (length links ≡ 0 → ⊥)
+    → term_faults S true a (form.calculated f (arithmetic_links links)) ≡ term_faults S false a (form.calculated f (arithmetic_links links))
 some-same S a f [] some = absurd (some refl)
 some-same S a f (l ∷ links) some = calculated-same S a f l links
 
 -- below an operator none may stand
-pub arithmetic-same : (S : Spec) (a : Scope) (t : ast.Term) (first : Box ast.Term Global) (v : Vec ArithmeticLink Global) → t ≡ ast.Arithmetic first v → (length v.items ≡ 0 → ⊥) → term_faults S true a (term_form t) ≡ term_faults S false a (term_form t)
+pub arithmetic-same : (S : Spec) (a : Scope) (t : ast.Term) (first : Box ast.Term Global)
+    (v : Vec ArithmeticLink Global) → t ≡ ast.Arithmetic first v → (length v.items ≡ 0 → ⊥)
+    → term_faults S true a (term_form t) ≡ term_faults S false a (term_form t)
 arithmetic-same S a t first v is some =
     let same = ap term_form is ∙ term-arithmetic first v in
     ap (term_faults S true a) same ∙ (some-same S a (term_form (box_value first)) v.items some ∙ sym (ap (term_faults S false a) same))
 
-pub same-faults : (S : Spec) (a : Scope) (t u : ast.Term) → t ≡ u → term_faults S true a (term_form u) ≡ term_faults S false a (term_form u) → term_faults S true a (term_form t) ≡ term_faults S false a (term_form t)
+pub same-faults : (S : Spec) (a : Scope) (t u : ast.Term) → t ≡ u
+    → term_faults S true a (term_form u) ≡ term_faults S false a (term_form u)
+    → term_faults S true a (term_form t) ≡ term_faults S false a (term_form t)
 same-faults S a t u is same = subst (λ (x : ast.Term). term_faults S true a (term_form x) ≡ term_faults S false a (term_form x)) (sym is) same
 
-pub application-same : (S : Spec) (a : Scope) (t : ast.Term) (f : Name) (v : Vec ast_argument.Argument Global) → t ≡ ast.Application f v → term_faults S true a (term_form t) ≡ term_faults S false a (term_form t)
+pub application-same : (S : Spec) (a : Scope) (t : ast.Term) (f : Name) (v : Vec ast_argument.Argument Global)
+    → t ≡ ast.Application f v → term_faults S true a (term_form t) ≡ term_faults S false a (term_form t)
 application-same S a t f v is = let same = ap term_form is ∙ term-application f v in ap (term_faults S true a) same ∙ sym (ap (term_faults S false a) same)
 
 -- ---- what is added to the carriers, whatever the result
@@ -289,6 +316,7 @@ pub not_loops : (S : Spec) (t x : ast.Term) (p : Place) (operand : Box ast.Term 
 not_loops S t x p operand is same =
     ap (λ (u : ast.Term). loops S (texts.value_of u)) is ∙ (negated-loops S (erased_term (term_form (box_value operand))) ∙ sym (ap (λ (u : ast.Term). loops S (texts.value_of u)) same))
 
-pub data_grows : (S : Spec) (x : syntax.Term) (old : List Carrier) (r : Result Value (OrMemory TypingFault)) → IfOk r (λ _. has_quantifier x ≡ false) → OnOk r (shapes_of old ≡ shapes_of old ++ loops S (expanded_term x))
+pub data_grows : (S : Spec) (x : syntax.Term) (old : List Carrier) (r : Result Value (OrMemory TypingFault))
+    → IfOk r (λ _. has_quantifier x ≡ false) → OnOk r (shapes_of old ≡ shapes_of old ++ loops S (expanded_term x))
 data_grows S x old (Ok v) h = plain_grows S x old h
 data_grows S x old (Err e) h = tt

@@ -21,7 +21,8 @@ use Rattle.pb_typing_declarations.proofs.Filling.{none_in}
 erased_length : (spec : ast.Spec) → length (erase (spec_form spec)).sorts ≡ length spec.sorts.items
 erased_length spec = length-map (map sort_declaration_form spec.sorts.items) erased_declaration ∙ length-map spec.sorts.items sort_declaration_form
 
-module _ (spec : ast.Spec) (sorts : Table Definition) (ranges : Table Range) (names : Table DataName) (equations : Table ℕ) (agree : AreTables (erase (spec_form spec)) sorts ranges names equations) where
+module _ (spec : ast.Spec) (sorts : Table Definition) (ranges : Table Range) (names : Table DataName)
+    (equations : Table ℕ) (agree : AreTables (erase (spec_form spec)) sorts ranges names equations) where
   -- the end of a chain through as many aliases as there are sorts
   pub end_is : (n : ℕ) (s : Name) (e : End) → n ≡ length spec.sorts.items → e ≡ end_within (suc n) (range_in ranges) (definition_in sorts) s → e ≡ end_of (erase (spec_form spec)) s
   end_is n s e are is =
@@ -30,7 +31,8 @@ module _ (spec : ast.Spec) (sorts : Table Definition) (ranges : Table Range) (na
       ∙ ap (λ ds. end_within (suc (length (erase (spec_form spec)).sorts)) (first (range_bounds (erase (spec_form spec)).ranges)) ds s) (fun_ext agree.definitions)))
 
   -- the same without ranges
-  pub base_is : (none : Table Range) (n : ℕ) (s : Name) (e : End) → IsEmpty none → n ≡ length spec.sorts.items → e ≡ end_within (suc n) (range_in none) (definition_in sorts) s → e ≡ base_of (erase (spec_form spec)) s
+  pub base_is : (none : Table Range) (n : ℕ) (s : Name) (e : End) → IsEmpty none → n ≡ length spec.sorts.items
+      → e ≡ end_within (suc n) (range_in none) (definition_in sorts) s → e ≡ base_of (erase (spec_form spec)) s
   base_is none n s e empty are is =
       is ∙ (ap (λ m. end_within (suc m) (range_in none) (definition_in sorts) s) (are ∙ sym (erased_length spec))
       ∙ (ap (λ (look : Name → Option Range). end_within (suc (length (erase (spec_form spec)).sorts)) (λ x. option_map range_shown (look x)) (definition_in sorts) s) (none_in none empty)

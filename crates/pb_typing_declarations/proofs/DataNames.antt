@@ -104,7 +104,9 @@ recognisers-data_from : (s c n : ℕ) (es : List Enumerator) → only_recogniser
 recognisers-data_from s c n [] = refl
 recognisers-data_from s c n (e ∷ es) = one_more e.recogniser ∙ ap (λ v. recogniser_entry e.recogniser (positioned s c n) ++ v) (recognisers-data_from s c (suc n) es)
   where
-    one_more : (o : Option Name) → only_recognisers (data_of_recogniser (positioned s c n) o ++ data_from s c (suc n) es) ≡ recogniser_entry o (positioned s c n) ++ only_recognisers (data_from s c (suc n) es)
+    one_more : (o : Option Name)
+        → only_recognisers (data_of_recogniser (positioned s c n) o ++ data_from s c (suc n) es)
+        ≡ recogniser_entry o (positioned s c n) ++ only_recognisers (data_from s c (suc n) es)
     one_more None = refl
     one_more (Some x) = refl
 

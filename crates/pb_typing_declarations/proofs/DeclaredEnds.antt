@@ -110,12 +110,18 @@ module _ (S : Spec) (linked : AreLinked S S.sorts) where
     where
       by_tests : (b : Bool) (d : Option Definition) → same_name s (codes "Bool") ≡ b → look s ≡ d → is_endless (base_of S s) ≡ false
       by_tests b (Some (Renaming t)) e f = (linked_to s t f).1
-      by_tests b (Some (Structure m count)) e f = ap (λ (o : Option Definition). is_endless (end_by None (same_name s (codes "Bool")) o (built_in_integers s) (end_within (length S.sorts) unranged look))) f ∙ of_struct (same_name s (codes "Bool"))
+      by_tests b (Some (Structure m count)) e f =
+          ap (λ (o : Option Definition). is_endless
+          (end_by None (same_name s (codes "Bool")) o (built_in_integers s)
+          (end_within (length S.sorts) unranged look))) f ∙ of_struct (same_name s (codes "Bool"))
         where
           of_struct : (c : Bool) → is_endless (end_by None c (Some (Structure m count)) (built_in_integers s) (end_within (length S.sorts) unranged look)) ≡ false
           of_struct true = refl
           of_struct false = refl
-      by_tests b None e f = ap (λ (o : Option Definition). is_endless (end_by None (same_name s (codes "Bool")) o (built_in_integers s) (end_within (length S.sorts) unranged look))) f ∙ of_none (same_name s (codes "Bool"))
+      by_tests b None e f =
+          ap (λ (o : Option Definition). is_endless
+          (end_by None (same_name s (codes "Bool")) o (built_in_integers s)
+          (end_within (length S.sorts) unranged look))) f ∙ of_none (same_name s (codes "Bool"))
         where
           of_none : (c : Bool) → is_endless (end_by None c None (built_in_integers s) (end_within (length S.sorts) unranged look)) ≡ false
           of_none true = refl

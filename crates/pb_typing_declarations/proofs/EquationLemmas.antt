@@ -48,7 +48,8 @@ all_pushed old new v is hs h =
 
 -- ---- the equation that passes a limit
 
-pub equation_beyond : (xs : List Equation) (limit : ℕ) (X : Equation) → limit < length xs → X ≡ get_or xs limit X → limit_faults limit (equation_names (map equation_form xs)) ≡ unless false Limit X.name.place
+pub equation_beyond : (xs : List Equation) (limit : ℕ) (X : Equation) → limit < length xs → X ≡ get_or xs limit X
+    → limit_faults limit (equation_names (map equation_form xs)) ≡ unless false Limit X.name.place
 equation_beyond [] limit X below at = absurd (omega (arith, below))
 equation_beyond (Y ∷ xs) zero X below at = ap (λ (Z : Equation). unless false Limit Z.name.place) (sym at)
 equation_beyond (Y ∷ xs) (suc limit) X below at = equation_beyond xs limit X (omega (arith, below)) at

@@ -81,7 +81,8 @@ equation_clear : (S : Spec) (X : EquationForm) → ShortEquation (erased_equatio
 equation_clear S X short few parameters =
     let same = parameters_length X.parameters in
     no_whole (length_faults X.name) _ (unless_holds _ _ _ (at_most_true _ _ short))
-    (no_whole (limit_faults MAX_PARAMETERS (variable_names X.parameters)) _ (limit_clear MAX_PARAMETERS (variable_names X.parameters) (omega (arith, few, same))) (variables_clear S X.parameters parameters))
+    (no_whole (limit_faults MAX_PARAMETERS (variable_names X.parameters)) _
+    (limit_clear MAX_PARAMETERS (variable_names X.parameters) (omega (arith, few, same))) (variables_clear S X.parameters parameters))
 
 -- what no fault says of equations behind n instances
 pub record EquationsHold (S : Spec) (n : ℕ) (E : List EquationForm) : Type 0 where
@@ -111,7 +112,9 @@ equations_clear S n [] h = refl
 equations_clear S n (X ∷ E) h =
     let size = instance_count S (erased_equation X) in
     no_whole (equation_faults S X) _
-    (equation_clear S X (All-head ShortEquation (erased_equation X) (map erased_equation E) h.short) (All-head FewParameters (erased_equation X) (map erased_equation E) h.few) (All-head (Parameters S) (erased_equation X) (map erased_equation E) h.parameters))
+    (equation_clear S X (All-head ShortEquation (erased_equation X) (map erased_equation E) h.short)
+    (All-head FewParameters (erased_equation X) (map erased_equation E) h.few)
+    (All-head (Parameters S) (erased_equation X) (map erased_equation E) h.parameters))
     (no_whole (unless (stays_within MAX_INSTANCES n (n + size)) Limit X.name.place) _
     (unless_holds _ _ _ (stays MAX_INSTANCES n (n + size) (omega (arith, h.instances)) ∙ at_most_true _ _ (omega (arith, h.instances))))
     (equations_clear S (n + size) E (record {
@@ -201,7 +204,14 @@ sorts_clear S n [] h = (refl, refl)
 sorts_clear S n (d ∷ ds) h =
     let behind = behind_all (number_behind n (erased_sort d.sort)) ds in
     let parts = no_parts (flat_map enumerator_faults (enumerators_of_sort d.sort)) _ (sym (flat_map-append enumerator_faults (enumerators_of_sort d.sort) (all_enumerator_forms ds)) ∙ h.enumerators) in
-    let first = one_sort_clear S n d.name d.sort (record { defined = All-head (Defined S) (erased_declaration d) (map erased_declaration ds) h.defined; few = omega (arith, behind, h.few); enumerators = parts.0 }) in
+    let first =
+    one_sort_clear S n d.name d.sort
+    (record {
+      defined = All-head (Defined S) (erased_declaration d) (map erased_declaration ds) h.defined;
+      few =
+          omega (arith, behind, h.few);
+      enumerators = parts.0;
+    }) in
     let rest = sorts_clear S (number_behind n (erased_sort d.sort)) ds (record {
       new = All-tail NewSort (erased_declaration d) (map erased_declaration ds) h.new;
       defined = All-tail (Defined S) (erased_declaration d) (map erased_declaration ds) h.defined;
@@ -210,7 +220,8 @@ sorts_clear S n (d ∷ ds) h =
     }) in (
       no_whole (struct_faults n d.name.place d.sort) _ first.0 rest.0,
       no_whole (sort_faults S d) _
-          (no_whole (unless (not (is_built_in d.name.text)) NameTwice d.name.place) _ (unless_holds _ _ _ (not_from_false _ (All-head NewSort (erased_declaration d) (map erased_declaration ds) h.new))) first.1)
+          (no_whole (unless (not (is_built_in d.name.text)) NameTwice d.name.place) _
+          (unless_holds _ _ _ (not_from_false _ (All-head NewSort (erased_declaration d) (map erased_declaration ds) h.new))) first.1)
           rest.1,
     )
 
@@ -292,5 +303,9 @@ ranges_clear S (r ∷ rs) h =
     let rest = ranges_clear S rs (All-tail (IsRanged S) (erased_range r) (map erased_range rs) h) in
     let ordered : int_le r.low r.high ≡ true = search (rules, tests, first.order) in (
       no_whole (empty_faults r) _ (unless_holds _ _ _ ordered) rest.0,
-      no_whole (range_faults S r) _ (no_whole (unless (is_integer (base_of S r.name) || is_faulty (is_sort S r.name) (base_of S r.name)) UnknownSort r.place) _ (unless_holds _ _ _ (ap (λ b. b || is_faulty (is_sort S r.name) (base_of S r.name)) first.integer)) (unless_holds _ _ _ first.least)) rest.1,
+      no_whole (range_faults S r) _
+          (no_whole (unless (is_integer (base_of S r.name) || is_faulty (is_sort S r.name) (base_of S r.name))
+          UnknownSort r.place) _
+          (unless_holds _ _ _ (ap (λ b. b || is_faulty (is_sort S r.name) (base_of S r.name)) first.integer))
+          (unless_holds _ _ _ first.least)) rest.1,
     )

@@ -16,7 +16,8 @@ use Rattle.pb_typing_declarations.proofs.VariableLemmas.{carriers_few}
 abbrev Checked : Spec → List VariableForm → Result (Vec Carrier Global) (OrMemory TypingFault) → Type 0
 Checked S xs r = MatchResult r (λ carriers. HasVariables S xs carriers.items) (IsAmong (variables_faults S xs))
 
-at_parameters : (S : Spec) (X : EquationForm) (r : Result (Vec Carrier Global) (OrMemory TypingFault)) → length_faults X.name ≡ [] → limit_faults MAX_PARAMETERS (variable_names X.parameters) ≡ [] → Checked S X.parameters r
+at_parameters : (S : Spec) (X : EquationForm) (r : Result (Vec Carrier Global) (OrMemory TypingFault))
+    → length_faults X.name ≡ [] → limit_faults MAX_PARAMETERS (variable_names X.parameters) ≡ [] → Checked S X.parameters r
     → MatchResult r (λ carriers. HasParameters S X carriers.items) (IsAmong (equation_faults S X))
 at_parameters S X (Ok carriers) short few h = record {
   clear = no_whole (length_faults X.name) _ short (no_whole (limit_faults MAX_PARAMETERS (variable_names X.parameters)) _ few h.clear);

@@ -15,7 +15,11 @@ first-append : (es fs : List (Name × Position)) (x : Name) → option_map place
 first-append [] fs x = refl
 first-append ((y, p) ∷ es) fs x = by_test (same_name y x) (first-append es fs x)
   where
-    by_test : (b : Bool) → option_map place (first (es ++ fs) x) ≡ or_else (option_map place (first es x)) (option_map place (first fs x)) → option_map place (cond b (Some p) (first (es ++ fs) x)) ≡ or_else (option_map place (cond b (Some p) (first es x))) (option_map place (first fs x))
+    by_test : (b : Bool)
+        → option_map place (first (es ++ fs) x)
+        ≡ or_else (option_map place (first es x)) (option_map place (first fs x))
+        → option_map place (cond b (Some p) (first (es ++ fs) x))
+        ≡ or_else (option_map place (cond b (Some p) (first es x))) (option_map place (first fs x))
     by_test true rest = refl
     by_test false rest = rest
 
@@ -26,7 +30,10 @@ enumerators-places : (s c n : ℕ) (es : List Enumerator) (x : Name) → option_
 enumerators-places s c n [] x = refl
 enumerators-places s c n (e ∷ es) x = by_test (same_name e.name x) (enumerators-places s c (suc n) es x)
   where
-    by_test : (b : Bool) → option_map place (first (enumerators_from s c (suc n) es) x) ≡ place_from (suc n) (has_name x) es → option_map place (cond b (Some (positioned s c n)) (first (enumerators_from s c (suc n) es) x)) ≡ (cond b (Some n) (place_from (suc n) (has_name x) es))
+    by_test : (b : Bool)
+        → option_map place (first (enumerators_from s c (suc n) es) x) ≡ place_from (suc n) (has_name x) es
+        → option_map place (cond b (Some (positioned s c n)) (first (enumerators_from s c (suc n) es) x))
+        ≡ (cond b (Some n) (place_from (suc n) (has_name x) es))
     by_test true rest = refl
     by_test false rest = rest
 

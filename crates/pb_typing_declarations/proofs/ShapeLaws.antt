@@ -101,13 +101,16 @@ step_known None false None other next f g h = f h
 integers_known : (s : Name) → has_shape (built_in_integers s) ≡ true → end_shape (built_in_integers s) ≢ Unknown
 integers_known s = by_tests integers.Pos integers.Nat integers.Int (same_name s (codes "Pos")) (same_name s (codes "Nat")) (same_name s (codes "Int"))
   where
-    by_tests : (i j k : Integers) (a b c : Bool) → has_shape (cond a (End.Unranged i) (cond b (End.Unranged j) (cond c (End.Unranged k) End.Undeclared))) ≡ true → end_shape (cond a (End.Unranged i) (cond b (End.Unranged j) (cond c (End.Unranged k) End.Undeclared))) ≢ Unknown
+    by_tests : (i j k : Integers) (a b c : Bool)
+        → has_shape (cond a (End.Unranged i) (cond b (End.Unranged j) (cond c (End.Unranged k) End.Undeclared))) ≡ true
+        → end_shape (cond a (End.Unranged i) (cond b (End.Unranged j) (cond c (End.Unranged k) End.Undeclared))) ≢ Unknown
     by_tests i j k true b c h = absurd (true≢false (sym h))
     by_tests i j k false true c h = absurd (true≢false (sym h))
     by_tests i j k false false true h = absurd (true≢false (sym h))
     by_tests i j k false false false h = absurd (true≢false (sym h))
 
-known_within : (n : ℕ) (bounds : Name → Option Bounds) (definition : Name → Option Definition) (s : Name) → has_shape (end_within n bounds definition s) ≡ true → end_shape (end_within n bounds definition s) ≢ Unknown
+known_within : (n : ℕ) (bounds : Name → Option Bounds) (definition : Name → Option Definition) (s : Name)
+    → has_shape (end_within n bounds definition s) ≡ true → end_shape (end_within n bounds definition s) ≢ Unknown
 known_within zero bounds definition s h = absurd (true≢false (sym h))
 known_within (suc n) bounds definition s h =
     step_known (bounds s) (same_name s (codes "Bool")) (definition s) (built_in_integers s) (end_within n bounds definition) (integers_known s) (known_within n bounds definition) h

@@ -36,11 +36,14 @@ pub struct_whole : (n : ℕ) (place : Place) (s : sort.Sort) (es : Vec ast.Enume
     → struct_faults n place (sort_form s) ≡ struct_parts n place count (count_faults es.items) (flat_map enumerator_faults (map enumerator_form es.items))
 struct_whole n place s es count low is are =
     ap (λ (t : sort.Sort). struct_faults n place (sort_form t)) is
-    ∙ (ap (λ (b : Bool). unless b Limit place ++ (unless (nat_lt 0 (length (map enumerator_form es.items))) Limit place ++ (count_faults es.items ++ flat_map enumerator_faults (map enumerator_form es.items)))) (one_more_stays MAX_STRUCTS n low)
+    ∙ (ap (λ (b : Bool). unless b Limit place
+    ++ (unless (nat_lt 0 (length (map enumerator_form es.items))) Limit place
+    ++ (count_faults es.items ++ flat_map enumerator_faults (map enumerator_form es.items)))) (one_more_stays MAX_STRUCTS n low)
     ∙ ap (λ (k : ℕ). struct_parts n place k (count_faults es.items) (flat_map enumerator_faults (map enumerator_form es.items))) (length-map es.items enumerator_form ∙ sym are))
 
 -- the fault of the enumerator that passes the limit
-pub count_at : (es : List ast.Enumerator) (limit : ℕ) (e : ast.Enumerator) → limit < length es → e ≡ get_or es limit e → limit_faults limit (own_names (map enumerator_form es)) ≡ unless false Limit e.name.place
+pub count_at : (es : List ast.Enumerator) (limit : ℕ) (e : ast.Enumerator) → limit < length es → e ≡ get_or es limit e
+    → limit_faults limit (own_names (map enumerator_form es)) ≡ unless false Limit e.name.place
 count_at [] limit e below at = absurd (omega (arith, below))
 count_at (f ∷ es) zero e below at = ap (λ (g : ast.Enumerator). unless false Limit g.name.place) (sym at)
 count_at (f ∷ es) (suc limit) e below at = count_at es limit e (omega (arith, below)) at
@@ -52,7 +55,8 @@ count_clear (e ∷ es) zero few = absurd (omega (arith, few))
 count_clear (e ∷ es) (suc limit) few = count_clear es limit (omega (arith, few))
 
 -- the number of the next struct
-pub number_after : (n : ℕ) (d : SortForm) (definition : declared.Definition) → shown definition ≡ definition_of n (erased_sort d) → n + struct_count (shown definition) ≡ number_behind n (erased_sort d)
+pub number_after : (n : ℕ) (d : SortForm) (definition : declared.Definition)
+    → shown definition ≡ definition_of n (erased_sort d) → n + struct_count (shown definition) ≡ number_behind n (erased_sort d)
 number_after n (struct es) definition is = ap (λ v. n + struct_count v) is ∙ omega arith
 number_after n (alias t) definition is = ap (λ v. n + struct_count v) is ∙ omega arith
 
@@ -66,7 +70,9 @@ few_after n place (alias t) h e = h
 
 -- the faults from the sort at k on
 pub faults_next : (ds : List SortDeclaration) (k n : ℕ) (d : SortDeclaration) → k < length ds → d ≡ get_or ds k d
-    → structs_faults n (map sort_declaration_form (drop k ds)) ≡ struct_faults n d.name.place (sort_form d.sort) ++ structs_faults (number_behind n (erased_sort (sort_form d.sort))) (map sort_declaration_form (drop (k + 1) ds))
+    → structs_faults n (map sort_declaration_form (drop k ds))
+    ≡ struct_faults n d.name.place (sort_form d.sort)
+    ++ structs_faults (number_behind n (erased_sort (sort_form d.sort))) (map sort_declaration_form (drop (k + 1) ds))
 faults_next ds k n d below at = ap (λ (xs : List SortDeclaration). structs_faults n (map sort_declaration_form xs)) (drop-at ds k d below at)
 
 -- ---- entries
@@ -85,7 +91,8 @@ grown all old new z x is put = is ∙ (one_more old x z ∙ ap (λ xs. xs ++ z) 
 pub grown_by : {X : Type 0} (all old new b z : List X) → all ≡ old ++ (b ++ z) → new ≡ old ++ b → all ≡ new ++ z
 grown_by all old new b z is put = is ∙ (more old b z ∙ ap (λ xs. xs ++ z) (sym put))
 
-pub shown-pushed : (old new : List (Entry declared.Definition)) (e : Entry declared.Definition) → new ≡ old ++ (e ∷ []) → shown_entries (entry_values new) ≡ shown_entries (entry_values old) ++ ((e.name.now, shown e.value) ∷ [])
+pub shown-pushed : (old new : List (Entry declared.Definition)) (e : Entry declared.Definition) → new ≡ old ++ (e ∷ [])
+    → shown_entries (entry_values new) ≡ shown_entries (entry_values old) ++ ((e.name.now, shown e.value) ∷ [])
 shown-pushed old new e is = ap shown_entries (values-pushed old new e is) ∙ map-append (λ (f : Name × declared.Definition). (f.0, shown f.1)) (entry_values old) ((e.name.now, e.value) ∷ [])
 
 pub pair_path : {A B : Type 0} {a b : A} {x y : B} → a ≡ b → x ≡ y → (let p : A × B = (a, x) in p) ≡ (let q : A × B = (b, y) in q)

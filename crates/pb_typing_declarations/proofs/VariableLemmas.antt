@@ -44,7 +44,8 @@ limit_at (f ∷ es) (suc limit) e below at = limit_at es limit e (omega (arith, 
 -- ---- an equation's parameters
 
 -- as many carriers as names
-pub carriers_few : (S : Spec) (xs : List VariableForm) (carriers : List Carrier) (limit : ℕ) → map values_of carriers ≡ carriers_of S (erased_variables xs) → limit_faults limit (variable_names xs) ≡ [] → length carriers ≤ limit
+pub carriers_few : (S : Spec) (xs : List VariableForm) (carriers : List Carrier) (limit : ℕ)
+    → map values_of carriers ≡ carriers_of S (erased_variables xs) → limit_faults limit (variable_names xs) ≡ [] → length carriers ≤ limit
 carriers_few S xs carriers limit are clear =
     let few = few_names limit (variable_names xs) clear in
     let names = length-map xs (λ (x : VariableForm). x.name) in

@@ -32,18 +32,21 @@ mapped : {B : Type 0} (f : program.Variable → B) (b : Bool) (v : program.Varia
 mapped f true v o = refl
 mapped f false v o = refl
 
-view-put : (y : Name) (v : program.Variable) (old new : Table program.Variable) → ((x : Name) → looked_up new x ≡ with_entry y v (looked_up old) x) → table_view new ≡ declare y (shape_view v.shape) (table_view old)
+view-put : (y : Name) (v : program.Variable) (old new : Table program.Variable)
+    → ((x : Name) → looked_up new x ≡ with_entry y v (looked_up old) x) → table_view new ≡ declare y (shape_view v.shape) (table_view old)
 view-put y v old new put =
     let f = λ (w : program.Variable). shape_view w.shape in
     fun_ext (λ x. ap (λ (o : Option program.Variable). option_map f o) (put x) ∙ mapped f (same_name y x) v (looked_up old x))
 
-slots-put : (y : Name) (v : program.Variable) (old new : Table program.Variable) → ((x : Name) → looked_up new x ≡ with_entry y v (looked_up old) x) → table_slots new ≡ with_slot y v.slot (table_slots old)
+slots-put : (y : Name) (v : program.Variable) (old new : Table program.Variable)
+    → ((x : Name) → looked_up new x ≡ with_entry y v (looked_up old) x) → table_slots new ≡ with_slot y v.slot (table_slots old)
 slots-put y v old new put =
     let f = λ (w : program.Variable). w.slot in
     fun_ext (λ x. ap (λ (o : Option program.Variable). option_map f o) (put x) ∙ mapped f (same_name y x) v (looked_up old x))
 
 -- a name that is put into a table
-pub shapes_next : (names : List ast.Name) (k : ℕ) (n : ast.Name) (carriers : List Carrier) (slot : ℕ) (carrier : Carrier) (old new : Table program.Variable) (v : program.Variable) → k < length names → n ≡ get_or names k n
+pub shapes_next : (names : List ast.Name) (k : ℕ) (n : ast.Name) (carriers : List Carrier) (slot : ℕ)
+    (carrier : Carrier) (old new : Table program.Variable) (v : program.Variable) → k < length names → n ≡ get_or names k n
     → slot < length carriers → carrier ≡ get_or carriers slot carrier → shape_view v.shape ≡ shape_of carrier → ((x : Name) → looked_up new x ≡ with_entry (string_bytes n.text) v (looked_up old) x)
     → named_shapes (drop (k + 1) names) (shapes_of (drop (slot + 1) carriers)) (table_view new) ≡ named_shapes (drop k names) (shapes_of (drop slot carriers)) (table_view old)
 shapes_next names k n carriers slot carrier old new v below at within here is put =
@@ -107,7 +110,8 @@ abbrev pub variables_of : List Variables → List Variable
 variables_of groups = erased_variables (variable_forms groups)
 
 -- the slots of the groups that are left, where a group's names have slots
-pub group_put : (groups : List Variables) (k : ℕ) (group : Variables) (names : List ast.Name) (n m : ℕ) (old new : Slotting) → k < length groups → group ≡ get_or groups k group → names ≡ group.names.items → m ≡ n + length names
+pub group_put : (groups : List Variables) (k : ℕ) (group : Variables) (names : List ast.Name) (n m : ℕ)
+    (old new : Slotting) → k < length groups → group ≡ get_or groups k group → names ≡ group.names.items → m ≡ n + length names
     → new ≡ named_slots names n old
     → with_slots (variables_of (drop (k + 1) groups)) m new ≡ with_slots (variables_of (drop k groups)) n old
 group_put groups k group names n m old new below at are count put =
@@ -117,18 +121,23 @@ group_put groups k group names n m old new below at are count put =
     ∙ sym (ap (λ (gs : List Variables). with_slots (variables_of gs) n old) (drop-at groups k group below at)))
 
 -- the shapes of the groups that are left, where a group's names have the first ones
-pub group_shown : (S : Spec) (groups : List Variables) (k : ℕ) (group : Variables) (names : List ast.Name) (shapes : List Shape) (old new : Scope) → k < length groups → group ≡ get_or groups k group → names ≡ group.names.items
+pub group_shown : (S : Spec) (groups : List Variables) (k : ℕ) (group : Variables) (names : List ast.Name)
+    (shapes : List Shape) (old new : Scope) → k < length groups → group ≡ get_or groups k group → names ≡ group.names.items
     → shapes ≡ variable_shapes S (variables_of (drop k groups)) → new ≡ named_shapes names shapes old
     → bound S (variables_of (drop (k + 1) groups)) new ≡ bound S (variables_of (drop k groups)) old
 group_shown S groups k group names shapes old new below at are is put =
     let rest = drop (k + 1) groups in
     let left = drop-at groups k group below at in
-    ap (bound S (variables_of rest)) (put ∙ (ap (λ (ns : List ast.Name). named_shapes ns shapes old) are ∙ ap (λ (ss : List Shape). named_shapes group.names.items ss old) (is ∙ ap (λ (gs : List Variables). variable_shapes S (variables_of gs)) left)))
+    ap (bound S (variables_of rest))
+    (put ∙ (ap (λ (ns : List ast.Name). named_shapes ns shapes old) are
+    ∙ ap (λ (ss : List Shape). named_shapes group.names.items ss old)
+    (is ∙ ap (λ (gs : List Variables). variable_shapes S (variables_of gs)) left)))
     ∙ (group-bound S group rest group.names.items old
     ∙ sym (ap (λ (gs : List Variables). bound S (variables_of gs) old) left))
 
 -- and the ones behind these
-pub group_behind : (S : Spec) (groups : List Variables) (k : ℕ) (group : Variables) (names : List ast.Name) (carriers : List Carrier) (slot : ℕ) → k < length groups → group ≡ get_or groups k group → names ≡ group.names.items
+pub group_behind : (S : Spec) (groups : List Variables) (k : ℕ) (group : Variables) (names : List ast.Name)
+    (carriers : List Carrier) (slot : ℕ) → k < length groups → group ≡ get_or groups k group → names ≡ group.names.items
     → shapes_of (drop slot carriers) ≡ variable_shapes S (variables_of (drop k groups))
     → shapes_of (drop (slot + length names) carriers) ≡ variable_shapes S (variables_of (drop (k + 1) groups))
 group_behind S groups k group names carriers slot below at are is =
@@ -147,7 +156,8 @@ group_counted groups k group names below at are =
     ∙ (ap (λ (n : ℕ). n + length rest) (length-map group.names.items (λ (n : ast.Name). record { name = named n; sort = named group.sort }))
     ∙ ap (λ (ns : List ast.Name). length ns + length rest) (sym are)))
 
-pub groups_begun : (groups : List Variables) (n : ℕ) (table : Table program.Variable) → IsEmpty table → with_slots (variables_of groups) n (table_slots table) ≡ with_slots (variables_of groups) n unslotted
+pub groups_begun : (groups : List Variables) (n : ℕ) (table : Table program.Variable) → IsEmpty table
+    → with_slots (variables_of groups) n (table_slots table) ≡ with_slots (variables_of groups) n unslotted
 groups_begun groups n table e =
     ap (with_slots (variables_of groups) n) (ap (λ (look : Name → Option program.Variable). λ (x : Name). option_map (λ (v : program.Variable). v.slot) (look x)) (none_in table e))
 
@@ -168,7 +178,8 @@ pub record AreLeft (all : List Variables) (carriers : List Carrier) (first : ℕ
   pub slots : with_slots (variables_of left) slot (table_slots table) ≡ with_slots (variables_of all) first unslotted
   pub count : length carriers ≡ slot + length (variable_forms left)
 
-pub left_begun : (all : List Variables) (carriers : List Carrier) (first : ℕ) (table : Table program.Variable) → length carriers ≡ first + length (variable_forms all) → IsEmpty table → AreLeft all carriers first all first table
+pub left_begun : (all : List Variables) (carriers : List Carrier) (first : ℕ) (table : Table program.Variable)
+    → length carriers ≡ first + length (variable_forms all) → IsEmpty table → AreLeft all carriers first all first table
 left_begun all carriers first table count empty = record {
   shapes = λ S is. (is, scopes_begun S all table empty);
   slots = groups_begun all first table empty;

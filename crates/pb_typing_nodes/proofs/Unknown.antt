@@ -33,7 +33,8 @@ beyond t (x ∷ xs) h = by_test (t x) h (beyond t xs)
 pub some_position : {A : Type 0} (t : A → Bool) (xs : List A) (k : ℕ) → position t xs ≡ Some k → (k < length xs) × (prefix_len (λ x. not (t x)) xs ≡ k)
 some_position t xs k e = by_test (nat_lt (prefix_len (λ x. not (t x)) xs) (length xs)) refl e
   where
-    by_test : (b : Bool) → nat_lt (prefix_len (λ x. not (t x)) xs) (length xs) ≡ b → cond b (Some (prefix_len (λ x. not (t x)) xs)) None ≡ Some k → (k < length xs) × (prefix_len (λ x. not (t x)) xs ≡ k)
+    by_test : (b : Bool) → nat_lt (prefix_len (λ x. not (t x)) xs) (length xs) ≡ b
+        → cond b (Some (prefix_len (λ x. not (t x)) xs)) None ≡ Some k → (k < length xs) × (prefix_len (λ x. not (t x)) xs ≡ k)
     by_test true is f = let same : prefix_len (λ x. not (t x)) xs ≡ k = cc in let h = ltb-true _ _ is in (omega (arith, h, same), same)
     by_test false is f = absurd (cc)
 
@@ -47,7 +48,8 @@ no_position t xs e = by_test (nat_lt (prefix_len (λ x. not (t x)) xs) (length x
 abbrev named_as : Name → Equation → Bool
 named_as x X = same_name X.name x
 
-pub predicate_in_data : (S : Spec) (x : Named) (text : Name) (k : ℕ) → text ≡ x.text → equation_place S text ≡ Some k → IsAmong (unknown_faults S x) (Refused (record { rule = rule.PredicateInData; place = x.place }))
+pub predicate_in_data : (S : Spec) (x : Named) (text : Name) (k : ℕ) → text ≡ x.text → equation_place S text ≡ Some k
+    → IsAmong (unknown_faults S x) (Refused (record { rule = rule.PredicateInData; place = x.place }))
 predicate_in_data S x text k same e =
     let p = some_position (named_as x.text) S.equations k (sym (ap (equation_place S) same) ∙ e) in
     by_test (is_declared S.equations x.text) (below (named_as x.text) S.equations (omega (arith, p.0, p.1)))

@@ -92,7 +92,8 @@ module _ {I : Type 0} (X : Equation I) (E : List (Equation I)) (t : Environment 
     outside = out;
     reached = λ i own.
         before_trans side _ (op e i) (e' i) (operator-before side X E m me t _ e a.reached i)
-        (before_trans side (op e i) (later_truth side (e i) (op e i)) (e' i) (joined_right side (e i) (op e i)) (before_same side _ (e' i) (sym (joins i own ∙ ap (later_truth side (e i)) (op_here e b a.outside below i)))));
+        (before_trans side (op e i) (later_truth side (e i) (op e i)) (e' i) (joined_right side (e i) (op e i))
+        (before_same side _ (e' i) (sym (joins i own ∙ ap (later_truth side (e i)) (op_here e b a.outside below i)))));
     within = λ i own.
         before_trans side (e' i) (later_truth side (e i) (op e i)) (V i) (before_same side (e' i) _ (joins i own ∙ ap (later_truth side (e i)) (op_here e b a.outside below i)))
         (joined_least side (e i) (op e i) (V i) (a.within i own) (op_within e a.within i own));
@@ -118,7 +119,8 @@ module _ {I : Type 0} (X : Equation I) (E : List (Equation I)) (t : Environment 
   pub stops : (k : ℕ) (e b : Environment I) → IsApproach X E t k e → b ≡ solution E e → ((i : I) → X.owns i ≡ true → e i ≡ later_truth side (e i) (X.holds i b)) → b ≡ solution (X ∷ E) t
   stops k e b a below same =
       let pre : BeforeAt side X (op e) e =
-      λ i own. before_trans side (op e i) (later_truth side (e i) (op e i)) (e i) (joined_right side (e i) (op e i)) (before_same side _ (e i) (sym (same i own ∙ ap (later_truth side (e i)) (op_here e b a.outside below i)))) in
+      λ i own. before_trans side (op e i) (later_truth side (e i) (op e i)) (e i) (joined_right side (e i) (op e i))
+      (before_same side _ (e i) (sym (same i own ∙ ap (later_truth side (e i)) (op_here e b a.outside below i)))) in
       below ∙ at_value e a.outside a.within (extreme_within X.sign e V solved.extreme pre)
 
   -- it is reached after as many steps as there are instances
@@ -152,18 +154,22 @@ assign-twice {I} X t e e' out out' =
 -- ---- a set whose bounds are the same
 
 -- the set is its bound
-pub settled : {I : Type 0} (X : Equation I) (E : List (Equation I)) (t e low high : Environment I) → e ≡ assign t X e → ((i : I) → X.owns i ≡ true → e i ≡ low i) → ((i : I) → X.owns i ≡ true → e i ≡ high i)
+pub settled : {I : Type 0} (X : Equation I) (E : List (Equation I)) (t e low high : Environment I) → e ≡ assign t X e
+    → ((i : I) → X.owns i ≡ true → e i ≡ low i) → ((i : I) → X.owns i ≡ true → e i ≡ high i)
     → BeforeAt true X low (value_of X E t) → BeforeAt false X high (value_of X E t) → solution E e ≡ solution (X ∷ E) t
 settled {I} X E t e low high out is is' p q =
     ap (solution E) (out ∙ assign-same X t e (value_of X E t)
     (λ i own. before_both true (e i) (value_of X E t i) (λ h. p i own (sym (is i own) ∙ h)) (λ h. is' i own ∙ q i own h)))
 
 -- bounds of the later equations where the set is its bound
-pub kept_bounds : {I : Type 0} (side : Bool) (X : Equation I) (E : List (Equation I)) (t e u : Environment I) → e ≡ assign t X e → ((i : I) → X.owns i ≡ true → e i ≡ u i) → AreBounds side (X ∷ E) t u → AreBounds side E e u
+pub kept_bounds : {I : Type 0} (side : Bool) (X : Equation I) (E : List (Equation I)) (t e u : Environment I)
+    → e ≡ assign t X e → ((i : I) → X.owns i ≡ true → e i ≡ u i) → AreBounds side (X ∷ E) t u → AreBounds side E e u
 kept_bounds {I} side X E t e u out is h = subst (λ (r : Environment I). AreBounds side E r u) (sym (out ∙ assign-same X t e u is)) h.1
 
 -- bounds that say nothing
-pub no_bounds : {I : Type 0} (side : Bool) (E : List (Equation I)) (t u : Environment I) → ((a : ℕ) (X : Equation I) → slice_get E a ≡ Some X → (i : I) → X.owns i ≡ true → (b : Bool) → Before side (u i) b) → AreBounds side E t u
+pub no_bounds : {I : Type 0} (side : Bool) (E : List (Equation I)) (t u : Environment I)
+    → ((a : ℕ) (X : Equation I) → slice_get E a ≡ Some X → (i : I) → X.owns i ≡ true → (b : Bool) → Before side (u i) b)
+    → AreBounds side E t u
 no_bounds near [] t u h = tt
 no_bounds near (X ∷ E) t u h = (
   (λ i own. h 0 X refl i own (value_of X E t i)),

@@ -39,7 +39,8 @@ asked-there S layout i laid h is =
     ∙ (ap (λ (vs : Tuple). is_tuple_of (Some (formula.carriers_of S x.equation.parameters)) vs) is.values ∙ x.within)))
 
 -- the truth at its number, in the solution
-pub asked : (S : Spec) (layout : List (List Carrier)) (truths : List Bool) (n : ℕ) (i : numbered.Instance) → IsLaidOut S layout → IsWellTyped S → IsInitial S i.equation i.values → slice_get (instances (carriers_of layout)) n ≡ Some i
+pub asked : (S : Spec) (layout : List (List Carrier)) (truths : List Bool) (n : ℕ) (i : numbered.Instance)
+    → IsLaidOut S layout → IsWellTyped S → IsInitial S i.equation i.values → slice_get (instances (carriers_of layout)) n ≡ Some i
     → environment_of S truths ≡ solution (equations_of S) empty → get_or truths n false ≡ answer S
 asked S layout truths n i laid h is at solved =
     let x : HasInitial S = has_initial S h in

@@ -75,7 +75,8 @@ holds-before : {I : Type 0} (side : Bool) (X : Equation I) → IsMonotone X → 
 holds-before true X m s t st i = m.keeps s t st i
 holds-before false X m s t st i = m.keeps t s st i
 
-pub operator-before : {I : Type 0} (side : Bool) (X : Equation I) (E : List (Equation I)) → IsMonotone X → AreMonotone E → (t F G : Environment I) → BeforeAt side X F G → All-before side (operator X E t F) (operator X E t G)
+pub operator-before : {I : Type 0} (side : Bool) (X : Equation I) (E : List (Equation I)) → IsMonotone X → AreMonotone E
+    → (t F G : Environment I) → BeforeAt side X F G → All-before side (operator X E t F) (operator X E t G)
 operator-before side X E m me t F G FG =
     holds-before side X m _ _ (solution-before side E me _ _ (assign-before side X t t F G (λ i. before_self side (t i)) FG))
 
@@ -85,7 +86,8 @@ value-within X E m me s t st =
     (λ F G FG i h. m.keeps (solution E (assign s X F)) (solution E (assign t X G)) (solution-within E me (assign s X F) (assign t X G) (assign-within X s t F G st FG)) i h)
     X.size (start X.sign)
 
-pub value-before : {I : Type 0} (side : Bool) (X : Equation I) (E : List (Equation I)) → IsMonotone X → AreMonotone E → (s t : Environment I) → All-before side s t → All-before side (value_of X E s) (value_of X E t)
+pub value-before : {I : Type 0} (side : Bool) (X : Equation I) (E : List (Equation I)) → IsMonotone X → AreMonotone E
+    → (s t : Environment I) → All-before side s t → All-before side (value_of X E s) (value_of X E t)
 value-before true X E m me s t st = value-within X E m me s t st
 value-before false X E m me s t st = value-within X E m me t s st
 

@@ -44,7 +44,8 @@ owned_instance S layout k n X i laid at there own =
     )
 
 -- the equation at a place of the program's list
-pub equation_there : (E : List declared_equation.Equation) (k : ℕ) (X : declared_equation.Equation) → k < length E → X ≡ get_or E k X → slice_get (map erased_equation (map equation_form E)) k ≡ Some (erased_equation (equation_form X))
+pub equation_there : (E : List declared_equation.Equation) (k : ℕ) (X : declared_equation.Equation) → k < length E
+    → X ≡ get_or E k X → slice_get (map erased_equation (map equation_form E)) k ≡ Some (erased_equation (equation_form X))
 equation_there [] k X lt at = absurd (omega arith)
 equation_there (Y ∷ E) zero X lt at = ap (λ (Z : declared_equation.Equation). Some (erased_equation (equation_form Z))) (sym at)
 equation_there (Y ∷ E) (suc k) X lt at = equation_there E k X (omega arith) at
@@ -58,14 +59,16 @@ laid_length spec layout laid =
     ∙ (map_length erased_equation (spec_form spec).equations ∙ map_length equation_form spec.equations.items)))
 
 -- the equation at a place that a layout knows
-pub equation_known : (spec : declared_spec.Spec) (layout : List (List Carrier)) (k : ℕ) (X : declared_equation.Equation) → carriers_of layout ≡ all_carriers (erase (spec_form spec)) → k < length layout → X ≡ get_or spec.equations.items k X
+pub equation_known : (spec : declared_spec.Spec) (layout : List (List Carrier)) (k : ℕ) (X : declared_equation.Equation)
+    → carriers_of layout ≡ all_carriers (erase (spec_form spec)) → k < length layout → X ≡ get_or spec.equations.items k X
     → slice_get (erase (spec_form spec)).equations k ≡ Some (erased_equation (equation_form X))
 equation_known spec layout k X laid lt at = equation_there spec.equations.items k X (omega (arith, lt, laid_length spec layout laid)) at
 
 -- ---- the typed tree
 
 -- so many trees as equations
-pub typed_length : (S : Spec) (layout : List (List Carrier)) (E : List typed_equation.Equation) → carriers_of layout ≡ all_carriers S → right_views E ≡ elaborated_equations S S.equations → length layout ≡ length E
+pub typed_length : (S : Spec) (layout : List (List Carrier)) (E : List typed_equation.Equation)
+    → carriers_of layout ≡ all_carriers S → right_views E ≡ elaborated_equations S S.equations → length layout ≡ length E
 typed_length S layout E laid views =
     sym (length-carriers_of layout)
     ∙ (ap (λ (cs : List (List carriers.Carrier)). length cs) laid
@@ -77,7 +80,8 @@ there : (E : List typed_equation.Equation) (k : ℕ) (R : typed_equation.Equatio
 there E k R lt at = slice_get-get_or E k R lt ∙ ap (λ (Y : typed_equation.Equation). Some Y) (sym at)
 
 -- the tree at a place is that of the equation there
-pub right_there : (S : Spec) (E : List typed_equation.Equation) (k : ℕ) (X : Equation) (R : typed_equation.Equation) → right_views E ≡ elaborated_equations S S.equations → slice_get S.equations k ≡ Some X → k < length E → R ≡ get_or E k R
+pub right_there : (S : Spec) (E : List typed_equation.Equation) (k : ℕ) (X : Equation) (R : typed_equation.Equation)
+    → right_views E ≡ elaborated_equations S S.equations → slice_get S.equations k ≡ Some X → k < length E → R ≡ get_or E k R
     → formula_view R.right ≡ elaborated_equation S X
 right_there S E k X R views here lt at =
     same_Some (formula_view R.right) (elaborated_equation S X)
@@ -85,7 +89,8 @@ right_there S E k X R views here lt at =
     ∙ (ap (λ (fs : List tree.Formula). slice_get fs k) views ∙ slice_get-mapped (elaborated_equation S) S.equations k X here))
 
 -- so many loops as the equation's quantifiers have variables
-pub loops_there : (S : Spec) (E : List typed_equation.Equation) (k : ℕ) (X : Equation) (R : typed_equation.Equation) → loop_shapes E ≡ all_loops S → slice_get S.equations k ≡ Some X → k < length E → R ≡ get_or E k R
+pub loops_there : (S : Spec) (E : List typed_equation.Equation) (k : ℕ) (X : Equation) (R : typed_equation.Equation)
+    → loop_shapes E ≡ all_loops S → slice_get S.equations k ≡ Some X → k < length E → R ≡ get_or E k R
     → length R.loops.items ≡ length (equation_loops S X)
 loops_there S E k X R shapes here lt at =
     sym (map_length shape_of R.loops.items)
@@ -95,10 +100,14 @@ loops_there S E k X R shapes here lt at =
     ∙ (ap (λ (sss : List (List Shape)). slice_get sss k) shapes ∙ slice_get-mapped (equation_loops S) S.equations k X here)))
 
 -- so many carriers as parameters
-pub parameters_there : (S : Spec) (layout : List (List Carrier)) (k : ℕ) (X : Equation) (cs : List Carrier) → carriers_of layout ≡ all_carriers S → slice_get S.equations k ≡ Some X → slice_get layout k ≡ Some cs → length cs ≡ length X.parameters
+pub parameters_there : (S : Spec) (layout : List (List Carrier)) (k : ℕ) (X : Equation) (cs : List Carrier)
+    → carriers_of layout ≡ all_carriers S → slice_get S.equations k ≡ Some X → slice_get layout k ≡ Some cs
+    → length cs ≡ length X.parameters
 parameters_there S layout k X cs laid here at =
     sym (map_length values_of cs)
     ∙ (ap (λ (ds : List carriers.Carrier). length ds)
     (same_Some (map values_of cs) (formula.carriers_of S X.parameters)
-    (sym (slice_get-carriers_of layout k cs at) ∙ (ap (λ (css : List (List carriers.Carrier)). slice_get css k) laid ∙ slice_get-mapped (λ (Y : Equation). formula.carriers_of S Y.parameters) S.equations k X here)))
+    (sym (slice_get-carriers_of layout k cs at)
+    ∙ (ap (λ (css : List (List carriers.Carrier)). slice_get css k) laid
+    ∙ slice_get-mapped (λ (Y : Equation). formula.carriers_of S Y.parameters) S.equations k X here)))
     ∙ map_length (λ (x : Variable). carrier_of S x.sort) X.parameters)

@@ -31,7 +31,8 @@ pub mixed_start : (start : ℕ) (f : ℕ → Bool) (old : List Bool) → IsMixed
 mixed_start start f old n = sym (cond-false (is_between start start n) (f n) (get_or old n false) (between_none start n))
 
 -- one number more
-mixed_step : (start k : ℕ) (f : ℕ → Bool) (old xs ys : List Bool) → start ≤ k → IsMixed start k f old xs → get_or ys k false ≡ f k → ((n : ℕ) → n ≢ k → get_or ys n false ≡ get_or xs n false) → IsMixed start (k + 1) f old ys
+mixed_step : (start k : ℕ) (f : ℕ → Bool) (old xs ys : List Bool) → start ≤ k → IsMixed start k f old xs
+    → get_or ys k false ≡ f k → ((n : ℕ) → n ≢ k → get_or ys n false ≡ get_or xs n false) → IsMixed start (k + 1) f old ys
 mixed_step start k f old xs ys le m here others n =
     elim (cases_lt n k) [
       | inl lt ↦ other (λ e. omega (arith, lt, e))
@@ -60,7 +61,9 @@ mixed_keep start k f old xs le is m = mixed_step start k f old xs xs le m is (λ
 
 -- a number that isn't reached yet
 pub mixed_ahead : (start k : ℕ) (f : ℕ → Bool) (old xs : List Bool) → IsMixed start k f old xs → get_or xs k false ≡ get_or old k false
-mixed_ahead start k f old xs m = m k ∙ cond-false (is_between start k k) (f k) (get_or old k false) (false_from_ne_true (is_between start k k) (λ e. let p = between_bounds start k k e in omega (arith, p.1)))
+mixed_ahead start k f old xs m =
+    m k ∙ cond-false (is_between start k k) (f k) (get_or old k false)
+    (false_from_ne_true (is_between start k k) (λ e. let p = between_bounds start k k e in omega (arith, p.1)))
 
 pub mixed_inside : (start end : ℕ) (f : ℕ → Bool) (old new : List Bool) (n : ℕ) → IsMixed start end f old new → is_between start end n ≡ true → get_or new n false ≡ f n
 mixed_inside start end f old new n m e = m n ∙ cond-true (is_between start end n) (f n) (get_or old n false) e

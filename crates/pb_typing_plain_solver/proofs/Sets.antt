@@ -65,7 +65,9 @@ module _ (S : Spec) (layout : List (List Carrier)) (laid : carriers_of layout �
   pub stays : (old new : List Bool) → ChangesOnly layout k old new → (i : Instance) → (equation_of S X).owns i ≡ false → environment_of S new i ≡ environment_of S old i
   stays old new others i none = by_place (place_named S.equations i.name) refl
     where
-      at_number : (j : ℕ) (n : numbered.Instance) → n.equation ≡ j → n.values ≡ i.values → place_named S.equations i.name ≡ Some j → is_instance (carriers_of layout) n ≡ true → get_or new (number_of (carriers_of layout) n) false ≡ get_or old (number_of (carriers_of layout) n) false
+      at_number : (j : ℕ) (n : numbered.Instance) → n.equation ≡ j → n.values ≡ i.values
+          → place_named S.equations i.name ≡ Some j → is_instance (carriers_of layout) n ≡ true
+          → get_or new (number_of (carriers_of layout) n) false ≡ get_or old (number_of (carriers_of layout) n) false
       at_number j n is same e known =
           let css = carriers_of layout in
           let h : HasNumber css n = number-is_instance css n known in
@@ -78,7 +80,9 @@ module _ (S : Spec) (layout : List (List Carrier)) (laid : carriers_of layout �
           (λ eq.
           let here : j ≡ k = sym is ∙ eqb-true n.equation k eq in
           let found = position-Some (λ (Y : Equation). same_name Y.name i.name) S.equations j X e in
-          let named : same_name X.name i.name ≡ true = ap (λ (Y : Equation). same_name Y.name i.name) (sym (get_or_from_slice_get S.equations k X X at)) ∙ (ap (λ (l : ℕ). same_name (get_or S.equations l X).name i.name) (sym here) ∙ found.1) in
+          let named : same_name X.name i.name ≡ true =
+          ap (λ (Y : Equation). same_name Y.name i.name) (sym (get_or_from_slice_get S.equations k X X at))
+          ∙ (ap (λ (l : ℕ). same_name (get_or S.equations l X).name i.name) (sym here) ∙ found.1) in
           let within : is_within (formula.carriers_of S X.parameters) i.values ≡ true =
           ap (λ (o : Option (List values.Carrier)). is_tuple_of o i.values) (sym carriers_at)
           ∙ (ap (λ (l : ℕ). is_tuple_of (slice_get css l) i.values) (sym (is ∙ here)) ∙ (ap (λ (vs : Tuple). is_tuple_of (slice_get css n.equation) vs) (sym same) ∙ known)) in

@@ -44,7 +44,8 @@ behind-front (v ∷ vs) [] s room le = absurd (omega (arith, room))
 behind-front (v ∷ vs) (o ∷ old) zero room le = absurd (omega (arith, le))
 behind-front (v ∷ vs) (o ∷ old) (suc s) room le = behind-front vs old s (omega (arith, room)) (omega (arith, le))
 
-module _ (S : Spec) (well : IsWellTyped S) (k : ℕ) (X : Equation) (at : slice_get S.equations k ≡ Some X) (vs old : Tuple) (within : is_within (carriers_of S X.parameters) vs ≡ true) (are : AreSlots S X old) where
+module _ (S : Spec) (well : IsWellTyped S) (k : ℕ) (X : Equation) (at : slice_get S.equations k ≡ Some X)
+    (vs old : Tuple) (within : is_within (carriers_of S X.parameters) vs ≡ true) (are : AreSlots S X old) where
   count : length vs ≡ length X.parameters
   count = within-length S X.parameters vs within
 

@@ -52,7 +52,9 @@ own_apart S E apart a b X Y i lt atX atY ownX ownY =
     let p = map_at (equation_of S) E a X atX in
     let q = map_at (equation_of S) E b Y atY in
     apart a b p.0 lt (slice_get_within E b q.0 q.1)
-    (ap (λ (Z : Equation). Z.name) (get_or_from_slice_get E a p.0 p.0 p.1) ∙ (named p.0 X p.2 ownX ∙ (sym (named q.0 Y q.2 ownY) ∙ ap (λ (Z : Equation). Z.name) (sym (get_or_from_slice_get E b q.0 p.0 q.1)))))
+    (ap (λ (Z : Equation). Z.name) (get_or_from_slice_get E a p.0 p.0 p.1)
+    ∙ (named p.0 X p.2 ownX
+    ∙ (sym (named q.0 Y q.2 ownY) ∙ ap (λ (Z : Equation). Z.name) (sym (get_or_from_slice_get E b q.0 p.0 q.1)))))
   where
     named : (Z : Equation) (X : fixpoint.Equation Instance) → equation_of S Z ≡ X → X.owns i ≡ true → Z.name ≡ i.name
     named Z X e own = same_text Z.name i.name (sym ((and_parts (same_name Z.name i.name) _ (ap (λ (W : fixpoint.Equation Instance). W.owns i) e ∙ own)).0))
@@ -115,7 +117,9 @@ module _ (S : Spec) (layout : List (List Carrier)) (laid : carriers_of layout �
       let out = assign-twice read t (environment_of S cur) (environment_of S next) a.outside out' in
       let joined_all = joins_right S layout laid able.apart k X at below cur next joins in
       let one_more : suc j ≡ j + 1 = omega arith in (
-        subst (λ (n : ℕ). IsApproach read after t n (environment_of S next)) one_more (steps read after t monotone.0 monotone.1 (solved_here t) j (environment_of S cur) (environment_of S next) (environment_of S below) a solved out joined_all),
+        subst (λ (n : ℕ). IsApproach read after t n (environment_of S next)) one_more
+            (steps read after t monotone.0 monotone.1 (solved_here t) j (environment_of S cur) (environment_of S next)
+            (environment_of S below) a solved out joined_all),
         near_moves read after t monotone.0 monotone.1 (solved_here t) (environment_of S cur) (environment_of S next) (environment_of S below) apart_after
             (moves read after t monotone.0 monotone.1 (solved_here t) (environment_of S cur) (environment_of S next) (environment_of S below) a.outside out joined_all) solved,
       )
@@ -129,7 +133,8 @@ module _ (S : Spec) (layout : List (List Carrier)) (laid : carriers_of layout �
       ∙ ap (λ (E : List (fixpoint.Equation Instance)). solution E t) (sym here)
 
   -- as many steps as there are instances
-  pub ended : (t : Environment Instance) (j : ℕ) (cur done : List Bool) → j ≡ size_of (carriers_of layout) k → IsApproach read after t j (environment_of S cur) → environment_of S done ≡ solution after (environment_of S cur)
+  pub ended : (t : Environment Instance) (j : ℕ) (cur done : List Bool) → j ≡ size_of (carriers_of layout) k
+      → IsApproach read after t j (environment_of S cur) → environment_of S done ≡ solution after (environment_of S cur)
       → environment_of S done ≡ solution (drop k (equations_of S)) t
   ended t j cur done all a solved =
       let size : j ≡ read.size =
@@ -139,15 +144,19 @@ module _ (S : Spec) (layout : List (List Carrier)) (laid : carriers_of layout �
       ∙ ap (λ (E : List (fixpoint.Equation Instance)). solution E t) (sym here))
 
   -- the bounds on the far side
-  pub far : (t : Environment Instance) (j : ℕ) (cur : List Bool) (u : Environment Instance) → IsApproach read after t j (environment_of S cur) → AreBounds (not side) (drop k (equations_of S)) t u → AreBounds (not side) after (environment_of S cur) u
+  pub far : (t : Environment Instance) (j : ℕ) (cur : List Bool) (u : Environment Instance)
+      → IsApproach read after t j (environment_of S cur) → AreBounds (not side) (drop k (equations_of S)) t u
+      → AreBounds (not side) after (environment_of S cur) u
   far t j cur u a h = far_holds read after t monotone.0 monotone.1 (solved_here t) (environment_of S cur) u a.outside a.within (bounds_here (not side) t u h)
 
   -- ---- both bounds are the same
 
-  pub fixed_bounds : (truths least new : List Bool) (b : Bool) (u : List Bool) → ChangesOnly layout k truths new → TakesSet layout k u new → AreBounds b (drop k (equations_of S)) (environment_of S truths) (environment_of S u)
+  pub fixed_bounds : (truths least new : List Bool) (b : Bool) (u : List Bool) → ChangesOnly layout k truths new
+      → TakesSet layout k u new → AreBounds b (drop k (equations_of S)) (environment_of S truths) (environment_of S u)
       → AreBounds b after (environment_of S new) (environment_of S u)
   fixed_bounds truths least new b u others takes h =
-      kept_bounds b read after (environment_of S truths) (environment_of S new) (environment_of S u) (changes_only S layout laid able.apart k X at truths new others) (takes_set S layout laid able.apart k X at u new takes)
+      kept_bounds b read after (environment_of S truths) (environment_of S new) (environment_of S u)
+      (changes_only S layout laid able.apart k X at truths new others) (takes_set S layout laid able.apart k X at u new takes)
       (bounds_here b (environment_of S truths) (environment_of S u) h)
 
   pub fixed : (truths least greatest new done : List Bool) → ChangesOnly layout k truths new → TakesSet layout k least new → TakesSet layout k greatest new
@@ -181,7 +190,9 @@ lower_bounds S n t =
     no_bounds true (equations_of S) t (environment_of S (replicate n false))
     (λ a X at i own b e. absurd (true≢false (sym e ∙ ap (λ (u : Environment Instance). u i) (none_true S n))))
 
-pub upper_bounds : (S : Spec) (layout : List (List Carrier)) (n : ℕ) (t : Environment Instance) → carriers_of layout ≡ all_carriers S → AreNamedApart S.equations → n ≡ count_of layout → AreBounds false (equations_of S) t (environment_of S (replicate n true))
+pub upper_bounds : (S : Spec) (layout : List (List Carrier)) (n : ℕ) (t : Environment Instance)
+    → carriers_of layout ≡ all_carriers S → AreNamedApart S.equations → n ≡ count_of layout
+    → AreBounds false (equations_of S) t (environment_of S (replicate n true))
 upper_bounds S layout n t laid apart all =
     no_bounds false (equations_of S) t (environment_of S (replicate n true))
     (λ a X at i own b e.
@@ -206,4 +217,11 @@ exists_at (X ∷ E) (suc k) lt = exists_at E k (omega arith)
 
 pub equation_exists : (S : Spec) (layout : List (List Carrier)) (k : ℕ) → carriers_of layout ≡ all_carriers S → k < length layout → (X : Equation) × (slice_get S.equations k ≡ Some X)
 equation_exists S layout k laid lt =
-    exists_at S.equations k (omega (arith, lt, length-carriers_of layout, ap (λ (cs : List (List values.Carrier)). length cs) laid, map_length (λ (Y : Equation). formula.carriers_of S Y.parameters) S.equations))
+    exists_at S.equations k
+    (omega (
+      arith,
+      lt,
+      length-carriers_of layout,
+      ap (λ (cs : List (List values.Carrier)). length cs) laid,
+      map_length (λ (Y : Equation). formula.carriers_of S Y.parameters) S.equations,
+    ))

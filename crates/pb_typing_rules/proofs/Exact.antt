@@ -167,10 +167,12 @@ mutual
       (no_whole _ _ (term_clear spec stands scope y (typed_from spec scope y _ _ (passes-connective c stands) h.1)) (unless_holds _ _ _ truths.1)))
   term_clear spec stands scope (TermForm.compared c p x y) h =
       no_whole _ _ (term_clear spec false scope x (typed_from spec scope x _ _ (passes-comparison c stands) h.0))
-      (no_whole _ _ (term_clear spec false scope y (typed_from spec scope y _ _ (passes-comparison c stands) h.1)) (operation_clear (kind_of (of_comparison c)) (shape spec scope (erased_term x)) (shape spec scope (erased_term y)) p h.2))
+      (no_whole _ _ (term_clear spec false scope y (typed_from spec scope y _ _ (passes-comparison c stands) h.1))
+      (operation_clear (kind_of (of_comparison c)) (shape spec scope (erased_term x)) (shape spec scope (erased_term y)) p h.2))
   term_clear spec stands scope (TermForm.computed o p x y) h =
       no_whole _ _ (term_clear spec false scope x (typed_from spec scope x _ _ (passes-arithmetic o stands) h.0))
-      (no_whole _ _ (term_clear spec false scope y (typed_from spec scope y _ _ (passes-arithmetic o stands) h.1)) (operation_clear (kind_of (of_arithmetic o)) (shape spec scope (erased_term x)) (shape spec scope (erased_term y)) p h.2))
+      (no_whole _ _ (term_clear spec false scope y (typed_from spec scope y _ _ (passes-arithmetic o stands) h.1))
+      (operation_clear (kind_of (of_arithmetic o)) (shape spec scope (erased_term x)) (shape spec scope (erased_term y)) p h.2))
   term_clear spec stands scope (TermForm.application f xs) h =
       no_whole _ _ (all_clear spec scope xs h.0) (applied_clear spec (function_named spec f.text) (shapes spec scope (erased_arguments xs)) f h.1)
   term_clear spec stands scope (TermForm.quantified q p xs x) h =
@@ -184,7 +186,8 @@ mutual
 
 -- ---- formulas
 
-arguments_of_clear : (spec : Spec) (ends : HaveEnds spec) (scope : Scope) (es : ArgumentForms) (xs : List Variable) → argument_faults spec scope es xs ≡ [] → AreArguments spec scope (erased_arguments es) xs
+arguments_of_clear : (spec : Spec) (ends : HaveEnds spec) (scope : Scope) (es : ArgumentForms) (xs : List Variable)
+    → argument_faults spec scope es xs ≡ [] → AreArguments spec scope (erased_arguments es) xs
 arguments_of_clear spec ends scope no_arguments xs e = tt
 arguments_of_clear spec ends scope (argument p x es) [] e = let q = no_parts _ _ e in (typed spec ends false scope x q.0, arguments_of_clear spec ends scope es [] q.1)
 arguments_of_clear spec ends scope (argument p x es) (y ∷ ys) e =
@@ -215,10 +218,12 @@ called_clear spec even scope es (Some X) p is h =
     no_whole _ _ (unless_holds _ _ _ is)
     (no_whole _ _ (unless_holds _ _ _ (eq-eqb (count (erased_arguments es)) (length X.parameters) h.0)) (arguments_clear spec scope es X.parameters h.1))
 
-pub instance_proper : (spec : Spec) (ends : HaveEnds spec) (even : Bool) (scope : Scope) (i : InstanceForm) → instance_faults spec even scope i ≡ [] → IsProper spec even scope (Formula.Call i.name.text (erased_arguments i.arguments))
+pub instance_proper : (spec : Spec) (ends : HaveEnds spec) (even : Bool) (scope : Scope) (i : InstanceForm)
+    → instance_faults spec even scope i ≡ [] → IsProper spec even scope (Formula.Call i.name.text (erased_arguments i.arguments))
 instance_proper spec ends even scope i e = called_of_clear spec ends even scope i.arguments (equation_named spec.equations i.name.text) i.name.place e
 
-pub instance_clear : (spec : Spec) (even : Bool) (scope : Scope) (i : InstanceForm) → IsProper spec even scope (Formula.Call i.name.text (erased_arguments i.arguments)) → instance_faults spec even scope i ≡ []
+pub instance_clear : (spec : Spec) (even : Bool) (scope : Scope) (i : InstanceForm)
+    → IsProper spec even scope (Formula.Call i.name.text (erased_arguments i.arguments)) → instance_faults spec even scope i ≡ []
 instance_clear spec even scope i h =
     called_clear spec even scope i.arguments (equation_named spec.equations i.name.text) i.name.place h.0 h.1
 

@@ -18,7 +18,8 @@ use Rattle.pb_typing_rules.proofs.Names.{within_declared, sort_value}
 use Rattle.pb_typing_rules.proofs.Contained.{formula_fits, all_fit, called_typed}
 
 -- a tuple of the parameters' carriers makes an assignment within their scope
-pub assigned_within : (spec : Spec) (xs : List Variable) (vs : Tuple) (scope : Scope) (a : Assignment) → is_within (carriers_of spec xs) vs ≡ true → IsWithinScope a scope → IsWithinScope (assigned xs vs a) (bound spec xs scope)
+pub assigned_within : (spec : Spec) (xs : List Variable) (vs : Tuple) (scope : Scope) (a : Assignment)
+    → is_within (carriers_of spec xs) vs ≡ true → IsWithinScope a scope → IsWithinScope (assigned xs vs a) (bound spec xs scope)
 assigned_within spec [] [] scope a e within = within
 assigned_within spec [] (v ∷ vs) scope a e within = absurd (true≢false (sym e))
 assigned_within spec (x ∷ xs) [] scope a e within = absurd (true≢false (sym e))

@@ -104,7 +104,8 @@ AreContained (s ∷ ss) (v ∷ vs) = Contained s v × AreContained ss vs
 AreContained [] (v ∷ vs) = ⊥
 AreContained (s ∷ ss) [] = ⊥
 
-pub function_contained : (spec : Spec) (f : Name) (ss : List Shape) (vs : List ℤ) → IsApplied (function_named spec f) ss → AreContained ss vs → Contained (applied_shape (function_named spec f) ss) (function_value spec f vs)
+pub function_contained : (spec : Spec) (f : Name) (ss : List Shape) (vs : List ℤ) → IsApplied (function_named spec f) ss
+    → AreContained ss vs → Contained (applied_shape (function_named spec f) ss) (function_value spec f vs)
 function_contained spec f [] [] h k = absurd (none_applied (function_named spec f) h)
 function_contained spec f (s ∷ []) (v ∷ []) h k = one spec f (named_function f) (recogniser_shape spec f) s v h k.0
 function_contained spec f (s ∷ t ∷ []) (v ∷ w ∷ []) h k = two (named_function f) (recogniser_shape spec f) s t v w h k.0 k.1.0

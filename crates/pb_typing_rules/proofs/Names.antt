@@ -34,11 +34,14 @@ in_struct x sort count place (e ∷ es) more o is h =
     by_test (same_name e.name x) (omega arith) (in_struct x sort count (suc place) es more o (omega arith) h)
   where
     by_test : (b : Bool) → place < count → Placed (first (enumerators_from sort count (suc place) es ++ more) x) (sorts.or_else (place_from (suc place) (λ f. same_name f.name x) es) o)
-        → Placed (cond b (Some (positioned sort count place)) (first (enumerators_from sort count (suc place) es ++ more) x)) (sorts.or_else (cond b (Some place) (place_from (suc place) (λ f. same_name f.name x) es)) o)
+        → Placed (cond b (Some (positioned sort count place))
+        (first (enumerators_from sort count (suc place) es ++ more) x))
+        (sorts.or_else (cond b (Some place) (place_from (suc place) (λ f. same_name f.name x) es)) o)
     by_test true below rest = (refl, below)
     by_test false below rest = rest
 
-in_sort : (x : Name) (n : ℕ) (s : Sort) (more : Entries) (o : Option ℕ) → Placed (first more x) o → Placed (first (enumerators_in n s ++ more) x) (sorts.or_else (place_within (λ e. same_name e.name x) s) o)
+in_sort : (x : Name) (n : ℕ) (s : Sort) (more : Entries) (o : Option ℕ) → Placed (first more x) o
+    → Placed (first (enumerators_in n s ++ more) x) (sorts.or_else (place_within (λ e. same_name e.name x) s) o)
 in_sort x n (Struct es) more o h = in_struct x n (length es) 0 es more o (omega arith) h
 in_sort x n (Alias s) more o h = h
 
@@ -61,14 +64,16 @@ enumerator_value spec x s e = placed_value (enumerator_of spec x) (place_in (λ 
 
 -- ---- names
 
-by_agreement : (spec : Spec) (x : Name) (v : Option ℤ) (s e : Option Shape) → e ≡ enumerator_shape spec x → AgreeWithShape v s → IsNamed (or_else s e) → Contained (shape_or_unknown (or_else s e)) (named_value spec v x)
+by_agreement : (spec : Spec) (x : Name) (v : Option ℤ) (s e : Option Shape) → e ≡ enumerator_shape spec x
+    → AgreeWithShape v s → IsNamed (or_else s e) → Contained (shape_or_unknown (or_else s e)) (named_value spec v x)
 by_agreement spec x (Some v) (Some s) e is h k = record { value = h; bounded = bounded_value s v k h }
 by_agreement spec x None None (Some s) is h k = let p = enumerator_value spec x s (sym is) in record { value = p; bounded = bounded_value s _ k p }
 by_agreement spec x None None None is h k = absurd k
 by_agreement spec x None (Some s) e is h k = absurd h
 by_agreement spec x (Some v) None e is h k = absurd h
 
-pub name_contained : (spec : Spec) (scope : Scope) (a : Assignment) (x : Name) → IsWithinScope a scope → IsNamed (named_shape spec scope x) → Contained (shape_or_unknown (named_shape spec scope x)) (named_value spec (looked_up a x) x)
+pub name_contained : (spec : Spec) (scope : Scope) (a : Assignment) (x : Name) → IsWithinScope a scope
+    → IsNamed (named_shape spec scope x) → Contained (shape_or_unknown (named_shape spec scope x)) (named_value spec (looked_up a x) x)
 name_contained spec scope a x within k = by_agreement spec x (looked_up a x) (scope x) (enumerator_shape spec x) refl (within x) k
 
 -- ---- bound variables
@@ -84,7 +89,8 @@ pub sort_value : (spec : Spec) (s : Name) (v : ℤ) → contains (carrier_of spe
 sort_value spec s v e = carrier_value (sort_shape spec s) v (subst (λ c. contains c v ≡ true) (sym (shape_carrier-sort_shape spec s)) e)
 
 -- a fact of each assignment within the variables' scope
-pub for_variables : (spec : Spec) (xs : List Variable) (scope : Scope) (a : Assignment) (P : Assignment → Type 0) → IsWithinScope a scope → ((b : Assignment) → IsWithinScope b (bound spec xs scope) → P b) → FitsFor spec xs P a
+pub for_variables : (spec : Spec) (xs : List Variable) (scope : Scope) (a : Assignment) (P : Assignment → Type 0)
+    → IsWithinScope a scope → ((b : Assignment) → IsWithinScope b (bound spec xs scope) → P b) → FitsFor spec xs P a
 for_variables spec [] scope a P within h = h a within
 for_variables spec (x ∷ xs) scope a P within h =
     λ v e. for_variables spec xs (declare x.name (sort_shape spec x.sort) scope) ((x.name, v) ∷ a) P (within_declared a scope x.name (sort_shape spec x.sort) v (sort_value spec x.sort v e) within) h

@@ -29,14 +29,18 @@ unary_contained o (Wholes l k) v w e h = whole_value (unary_interval o (interval
 defined : (o : BinaryOperation) (m k : ℤ) → may_divide o (Wholes m k) ≡ true → IsDefined o (interval m k)
 defined o m k e = λ d. le_true (pos 1) m (not_or (divides o) (int_le (pos 1) m) d e)
 
-wholes_contained : (o : BinaryOperation) (l h m k u v : ℤ) → may_divide o (Wholes m k) ≡ true → binary_is_limited o (Wholes l h) (Wholes m k) ≡ true → IsValueOf (Wholes l h) u → IsValueOf (Wholes m k) v → Contained (binary_shape o (Wholes l h) (Wholes m k)) (binary_value o u v)
+wholes_contained : (o : BinaryOperation) (l h m k u v : ℤ) → may_divide o (Wholes m k) ≡ true
+    → binary_is_limited o (Wholes l h) (Wholes m k) ≡ true → IsValueOf (Wholes l h) u → IsValueOf (Wholes m k) v
+    → Contained (binary_shape o (Wholes l h) (Wholes m k)) (binary_value o u v)
 wholes_contained o l h m k u v d e p q =
     let i = binary_interval o (interval l h) (interval m k) in
     let limited = not_or (may_divide o (Wholes m k)) (is_included i literals) d e in
     subst (λ (b : Bool). Contained (cond b (of_interval (within literals i)) Unknown) (binary_value o u v)) (sym d)
     (whole_value i (binary_value o u v) limited (binary_sound o (interval l h) (interval m k) u v (defined o m k d) p q))
 
-pub binary_contained : (o : BinaryOperation) (s t : Shape) (u v : ℤ) → (may_be_whole s && may_be_whole t) ≡ true → may_divide o t ≡ true → binary_is_limited o s t ≡ true → IsValueOf s u → IsValueOf t v → Contained (binary_shape o s t) (binary_value o u v)
+pub binary_contained : (o : BinaryOperation) (s t : Shape) (u v : ℤ) → (may_be_whole s && may_be_whole t) ≡ true
+    → may_divide o t ≡ true → binary_is_limited o s t ≡ true → IsValueOf s u → IsValueOf t v
+    → Contained (binary_shape o s t) (binary_value o u v)
 binary_contained o Unknown t u v w d e p q = absurd p
 binary_contained o Truths t u v w d e p q = absurd (true≢false (sym w))
 binary_contained o (Places s n) t u v w d e p q = absurd (true≢false (sym w))

@@ -88,7 +88,8 @@ parameters_values : (spec : Spec) → IsDeclared spec → All (HaveValues spec) 
 parameters_values spec d k X below j x within =
     some_value spec _ d ((d.parameters k X below).shaped j x within)
 
-instance_of_clear : (spec : Spec) (es : ArgumentForms) (X : Option Equation) → IfSome X (HaveValues spec) → IsCalled spec outermost (erased_arguments es) X → value_faults spec es (parameters_named X) ≡ []
+instance_of_clear : (spec : Spec) (es : ArgumentForms) (X : Option Equation) → IfSome X (HaveValues spec)
+    → IsCalled spec outermost (erased_arguments es) X → value_faults spec es (parameters_named X) ≡ []
     → fits spec X (values spec [] (erased_arguments es)) ≡ true
 instance_of_clear spec es None some h e = absurd h
 instance_of_clear spec es (Some X) some h e = within_of_clear spec es X.parameters some h.0 e

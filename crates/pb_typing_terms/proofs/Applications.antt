@@ -89,7 +89,8 @@ three_applied S a f xs g x y z s t u is these first second third =
 
 -- ---- with the typed terms
 
-pub one_node : (S : Spec) (a : Scope) (c : Slotting) (f : Named) (u : FunctionOfOne) (xs : List Argument) (x : Argument) (y : typed.Argument) (r : Result typed.Argument (OrMemory TypingFault)) → IsOfOne S f.text u
+pub one_node : (S : Spec) (a : Scope) (c : Slotting) (f : Named) (u : FunctionOfOne) (xs : List Argument) (x : Argument)
+    (y : typed.Argument) (r : Result typed.Argument (OrMemory TypingFault)) → IsOfOne S f.text u
     → xs ≡ x ∷ [] → IsChecked S a c (term_form x.term) y
     → Elaborates (kind_faults (view_of_one u) (shape_view y.shape ∷ []) f.place) (shape_of_one (view_of_one u) (shape_view y.shape)) (term_of_one u (term_view y.term)) r
     → ChecksTermIn S a c (TermForm.application f (argument_forms xs)) r
@@ -99,13 +100,17 @@ one_node S a c f u xs x y r is these h made =
     let z = erased_term (term_form x.term) in
     let all = one_applied S a f (x ∷ []) g x s (is.found, arity_of_one u) refl (h.0, h.1.0) in
     subst (λ (ys : List Argument). ChecksTermIn S a c (TermForm.application f (argument_forms ys)) r) (sym these)
-    (elaborates_as (application_faults S a f (x ∷ [])) (kind_faults g (s ∷ []) f.place) (shape_of_one g s) (applied_shape (function_named S f.text) (shapes S a (erased_arguments (argument_forms (x ∷ [])))))
+    (elaborates_as (application_faults S a f (x ∷ [])) (kind_faults g (s ∷ []) f.place) (shape_of_one g s)
+    (applied_shape (function_named S f.text) (shapes S a (erased_arguments (argument_forms (x ∷ [])))))
     (term_of_one u (term_view y.term)) (applied_to_one S f.text (named_function f.text) (slotted S c z)) r
     all.faults (sym all.shape) (is.term (slotted S c z) ∙ ap (term_of_one u) (sym h.1.1)) made)
 
-pub two_node : (S : Spec) (a : Scope) (c : Slotting) (f : Named) (u : Extreme) (xs : List Argument) (x y : Argument) (v w : typed.Argument) (r : Result typed.Argument (OrMemory TypingFault)) → IsOfTwo S f.text u
+pub two_node : (S : Spec) (a : Scope) (c : Slotting) (f : Named) (u : Extreme) (xs : List Argument) (x y : Argument)
+    (v w : typed.Argument) (r : Result typed.Argument (OrMemory TypingFault)) → IsOfTwo S f.text u
     → xs ≡ x ∷ y ∷ [] → IsChecked S a c (term_form x.term) v → IsChecked S a c (term_form y.term) w
-    → Elaborates (kind_faults (OfTwo (extreme_operation u)) (shape_view v.shape ∷ shape_view w.shape ∷ []) f.place) (binary_shape (extreme_operation u) (shape_view v.shape) (shape_view w.shape)) (extreme_term u (term_view v.term) (term_view w.term)) r
+    → Elaborates (kind_faults (OfTwo (extreme_operation u)) (shape_view v.shape ∷ shape_view w.shape ∷ []) f.place)
+    (binary_shape (extreme_operation u) (shape_view v.shape) (shape_view w.shape))
+    (extreme_term u (term_view v.term) (term_view w.term)) r
     → ChecksTermIn S a c (TermForm.application f (argument_forms xs)) r
 two_node S a c f u xs x y v w r is these h k made =
     let g = OfTwo (extreme_operation u) in
@@ -115,14 +120,18 @@ two_node S a c f u xs x y v w r is these h k made =
     let Y = slotted S c (erased_term (term_form y.term)) in
     let all = two_applied S a f (x ∷ y ∷ []) g x y s t (is.found, refl) refl (h.0, h.1.0) (k.0, k.1.0) in
     subst (λ (ys : List Argument). ChecksTermIn S a c (TermForm.application f (argument_forms ys)) r) (sym these)
-    (elaborates_as (application_faults S a f (x ∷ y ∷ [])) (kind_faults g (s ∷ t ∷ []) f.place) (binary_shape (extreme_operation u) s t) (applied_shape (function_named S f.text) (shapes S a (erased_arguments (argument_forms (x ∷ y ∷ [])))))
+    (elaborates_as (application_faults S a f (x ∷ y ∷ [])) (kind_faults g (s ∷ t ∷ []) f.place)
+    (binary_shape (extreme_operation u) s t)
+    (applied_shape (function_named S f.text) (shapes S a (erased_arguments (argument_forms (x ∷ y ∷ [])))))
     (extreme_term u (term_view v.term) (term_view w.term)) (applied_to_two (named_function f.text) X Y) r
     all.faults (sym all.shape)
     (is.term X Y ∙ (ap (λ (p : tree.Term). extreme_term u p Y) (sym h.1.1) ∙ ap (extreme_term u (term_view v.term)) (sym k.1.1))) made)
 
-pub choice_node : (S : Spec) (a : Scope) (c : Slotting) (f : Named) (xs : List Argument) (q x y : Argument) (o v w : typed.Argument) (r : Result typed.Argument (OrMemory TypingFault)) → IsChoice S f.text
+pub choice_node : (S : Spec) (a : Scope) (c : Slotting) (f : Named) (xs : List Argument) (q x y : Argument)
+    (o v w : typed.Argument) (r : Result typed.Argument (OrMemory TypingFault)) → IsChoice S f.text
     → xs ≡ q ∷ x ∷ y ∷ [] → IsChecked S a c (term_form q.term) o → IsChecked S a c (term_form x.term) v → IsChecked S a c (term_form y.term) w
-    → Elaborates (kind_faults Choice (shape_view o.shape ∷ shape_view v.shape ∷ shape_view w.shape ∷ []) f.place) (hull (shape_view v.shape) (shape_view w.shape)) (tree.Choice (term_view o.term) (term_view v.term) (term_view w.term)) r
+    → Elaborates (kind_faults Choice (shape_view o.shape ∷ shape_view v.shape ∷ shape_view w.shape ∷ []) f.place)
+    (hull (shape_view v.shape) (shape_view w.shape)) (tree.Choice (term_view o.term) (term_view v.term) (term_view w.term)) r
     → ChecksTermIn S a c (TermForm.application f (argument_forms xs)) r
 choice_node S a c f xs q x y o v w r is these l h k made =
     let b = shape_view o.shape in
@@ -133,7 +142,8 @@ choice_node S a c f xs q x y o v w r is these l h k made =
     let Y = slotted S c (erased_term (term_form y.term)) in
     let all = three_applied S a f (q ∷ x ∷ y ∷ []) Choice q x y b s t (is.found, refl) refl (l.0, l.1.0) (h.0, h.1.0) (k.0, k.1.0) in
     subst (λ (ys : List Argument). ChecksTermIn S a c (TermForm.application f (argument_forms ys)) r) (sym these)
-    (elaborates_as (application_faults S a f (q ∷ x ∷ y ∷ [])) (kind_faults Choice (b ∷ s ∷ t ∷ []) f.place) (hull s t) (applied_shape (function_named S f.text) (shapes S a (erased_arguments (argument_forms (q ∷ x ∷ y ∷ [])))))
+    (elaborates_as (application_faults S a f (q ∷ x ∷ y ∷ [])) (kind_faults Choice (b ∷ s ∷ t ∷ []) f.place) (hull s t)
+    (applied_shape (function_named S f.text) (shapes S a (erased_arguments (argument_forms (q ∷ x ∷ y ∷ [])))))
     (tree.Choice (term_view o.term) (term_view v.term) (term_view w.term)) (applied_to_three (named_function f.text) Q X Y) r
     all.faults (sym all.shape)
     (is.term Q X Y

@@ -33,7 +33,8 @@ calculated-slotted S c first (l ∷ ls) = calculated-slotted S c (TermForm.compu
 pub links_done : (S : Spec) (c : Slotting) (links : List TermLink) (k : ℕ) (done all : List tree.Term) → length links ≤ k → all ≡ done ++ link_terms S c (drop k links) → all ≡ done
 links_done S c links k done all h e = e ∙ (ap (λ (ls : List TermLink). done ++ link_terms S c ls) (drop_all k links h) ∙ append-nil done)
 
-pub arithmetic_done : (S : Spec) (c : Slotting) (links : List ArithmeticLink) (k : ℕ) (done all : List (Arithmetic × tree.Term)) → length links ≤ k → all ≡ done ++ arithmetic_terms S c (drop k links) → all ≡ done
+pub arithmetic_done : (S : Spec) (c : Slotting) (links : List ArithmeticLink) (k : ℕ)
+    (done all : List (Arithmetic × tree.Term)) → length links ≤ k → all ≡ done ++ arithmetic_terms S c (drop k links) → all ≡ done
 arithmetic_done S c links k done all h e = e ∙ (ap (λ (ls : List ArithmeticLink). done ++ arithmetic_terms S c ls) (drop_all k links h) ∙ append-nil done)
 
 -- one more operand is done
@@ -50,7 +51,8 @@ terms_next S c links k link x old new below at pushed is h =
     ∙ ap (λ (xs : List made.Term). term_views xs ++ rest) (sym pushed)))))
 
 pub operands_next : (S : Spec) (c : Slotting) (links : List ArithmeticLink) (k : ℕ) (link : ArithmeticLink) (x : made.Term) (old new : List code.Link) → k < length links → link ≡ get_or links k link
-    → new ≡ old ++ record { operator = link.operator; operand = x } ∷ [] → term_view x ≡ over_slots S c link.operand → arithmetic_terms S c links ≡ link_views old ++ arithmetic_terms S c (drop k links)
+    → new ≡ old ++ record { operator = link.operator; operand = x } ∷ [] → term_view x ≡ over_slots S c link.operand
+    → arithmetic_terms S c links ≡ link_views old ++ arithmetic_terms S c (drop k links)
     → arithmetic_terms S c links ≡ link_views new ++ arithmetic_terms S c (drop (k + 1) links)
 operands_next S c links k link x old new below at pushed is h =
     let rest = arithmetic_terms S c (drop (k + 1) links) in

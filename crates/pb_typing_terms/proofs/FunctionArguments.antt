@@ -38,7 +38,9 @@ pub three_arguments : (xs : List Argument) (x y z : Argument) → 3 ≤ length x
 three_arguments [] x y z l b is at on = absurd (omega (arith, l))
 three_arguments (u ∷ []) x y z l b is at on = absurd (omega (arith, l))
 three_arguments (u ∷ (v ∷ [])) x y z l b is at on = absurd (omega (arith, l))
-three_arguments (u ∷ (v ∷ (w ∷ []))) x y z l b is at on = ap (λ (s : Argument). s ∷ v ∷ w ∷ []) (sym is) ∙ (ap (λ (s : Argument). x ∷ s ∷ w ∷ []) (sym at) ∙ ap (λ (s : Argument). x ∷ y ∷ s ∷ []) (sym on))
+three_arguments (u ∷ (v ∷ (w ∷ []))) x y z l b is at on =
+    ap (λ (s : Argument). s ∷ v ∷ w ∷ []) (sym is)
+    ∙ (ap (λ (s : Argument). x ∷ s ∷ w ∷ []) (sym at) ∙ ap (λ (s : Argument). x ∷ y ∷ s ∷ []) (sym on))
 three_arguments (u ∷ (v ∷ (w ∷ (s ∷ xs)))) x y z l b is at on = absurd (omega (arith, b))
 
 -- all faults of a function with its arguments
@@ -47,14 +49,18 @@ application_faults S a f xs =
     terms_faults S a (argument_forms xs) ++ function_faults S (function_named S f.text) (shapes S a (erased_arguments (argument_forms xs))) f
 
 -- a fault of an argument
-terms_fault : (S : Spec) (a : Scope) (xs : List Argument) (k : ℕ) (x : Argument) (e : OrMemory TypingFault) → k < length xs → x ≡ get_or xs k x → IsAmong (term_faults S false a (term_form x.term)) e → IsAmong (terms_faults S a (argument_forms xs)) e
+terms_fault : (S : Spec) (a : Scope) (xs : List Argument) (k : ℕ) (x : Argument) (e : OrMemory TypingFault)
+    → k < length xs → x ≡ get_or xs k x → IsAmong (term_faults S false a (term_form x.term)) e
+    → IsAmong (terms_faults S a (argument_forms xs)) e
 terms_fault S a [] k x e below at h = absurd (omega (arith, below))
 terms_fault S a (y ∷ xs) zero x e below at h =
     among_left (term_faults S false a (term_form y.term)) _ e (subst (λ (z : Argument). IsAmong (term_faults S false a (term_form z.term)) e) at h)
 terms_fault S a (y ∷ xs) (suc k) x e below at h =
     among_right (term_faults S false a (term_form y.term)) _ e (terms_fault S a xs k x e (omega (arith, below)) at h)
 
-pub argument_fault : (S : Spec) (a : Scope) (f : Named) (xs : List Argument) (k : ℕ) (x : Argument) (e : OrMemory TypingFault) → k < length xs → x ≡ get_or xs k x → IsAmong (term_faults S false a (term_form x.term)) e → IsAmong (application_faults S a f xs) e
+pub argument_fault : (S : Spec) (a : Scope) (f : Named) (xs : List Argument) (k : ℕ) (x : Argument)
+    (e : OrMemory TypingFault) → k < length xs → x ≡ get_or xs k x
+    → IsAmong (term_faults S false a (term_form x.term)) e → IsAmong (application_faults S a f xs) e
 argument_fault S a f xs k x e below at h = among_left (terms_faults S a (argument_forms xs)) _ e (terms_fault S a xs k x e below at h)
 
 -- which function it is, and how many arguments it takes
@@ -74,7 +80,8 @@ known S x (declared.TheVariants.OfTwo u) h = record { function = OfTwo (extreme_
 known S x declared.TheVariants.Choice h = record { function = Choice; found = h.found; count = refl }
 
 -- another number of arguments
-pub count_fault : (S : Spec) (a : Scope) (f : Named) (g : declared.Function) (xs : List Argument) (e : OrMemory TypingFault) → IsFunction S f.text g → IsAmong (unless (length xs == arity_of g) rule.WrongCount f.place) e
+pub count_fault : (S : Spec) (a : Scope) (f : Named) (g : declared.Function) (xs : List Argument)
+    (e : OrMemory TypingFault) → IsFunction S f.text g → IsAmong (unless (length xs == arity_of g) rule.WrongCount f.place) e
     → IsAmong (application_faults S a f xs) e
 count_fault S a f g xs e is h =
     let ss = shapes S a (erased_arguments (argument_forms xs)) in

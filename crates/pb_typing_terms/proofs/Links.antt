@@ -42,7 +42,8 @@ some-shape spec scope c first [] e = absurd (cc)
 some-shape spec scope c first (l ∷ ls) e = connected-shape c _ _
 
 pub chained-faults : (spec : Spec) (stands : Bool) (scope : Scope) (c : Connective) (first : TermForm) (links : List TermLink)
-    → term_faults spec stands scope (chained (TermForm.connected c) first (term_links links)) ≡ term_faults spec stands scope first ++ link_faults spec stands scope (shape spec scope (erased_term first)) links
+    → term_faults spec stands scope (chained (TermForm.connected c) first (term_links links))
+    ≡ term_faults spec stands scope first ++ link_faults spec stands scope (shape spec scope (erased_term first)) links
 chained-faults spec stands scope c first [] = sym (append-nil (term_faults spec stands scope first))
 chained-faults spec stands scope c first (l ∷ []) =
     ap (λ (zs : List TypingFault). term_faults spec stands scope first ++ zs)
@@ -54,7 +55,9 @@ chained-faults spec stands scope c first (l ∷ (m ∷ ls)) =
     let others = link_faults spec stands scope (operand_shape spec scope l) (m ∷ ls) in
     ap (λ (zs : List TypingFault). term_faults spec stands scope first ++ zs)
     (ap (λ (zs : List TypingFault). u ++ zs)
-    (ap (λ (s : Shape). term_faults spec stands scope rest ++ unless (may_be_truth s) rule.WrongKind l.place) (connected-shape c (operand_shape spec scope l) (shape spec scope (erased_term (chained (TermForm.connected c) (term_form m.operand) (term_links ls)))))
+    (ap (λ (s : Shape). term_faults spec stands scope rest ++ unless (may_be_truth s) rule.WrongKind l.place)
+    (connected-shape c (operand_shape spec scope l)
+    (shape spec scope (erased_term (chained (TermForm.connected c) (term_form m.operand) (term_links ls)))))
     ∙ (append-nil (term_faults spec stands scope rest) ∙ chained-faults spec stands scope c (term_form l.operand) (m ∷ ls)))
     ∙ sym (append_assoc u (t ++ []) others ∙ ap (λ (zs : List TypingFault). u ++ zs) (append_assoc t [] others)))
 
@@ -82,7 +85,8 @@ is_no_link [] = true
 is_no_link (link ∷ links) = false
 
 computed-shape : (spec : Spec) (scope : Scope) (first : TermForm) (l : ArithmeticLink)
-    → shape spec scope (erased_term (TermForm.computed l.operator l.place first (term_form l.operand))) ≡ binary_shape (operation_of l.operator) (shape spec scope (erased_term first)) (arithmetic_shape spec scope l)
+    → shape spec scope (erased_term (TermForm.computed l.operator l.place first (term_form l.operand)))
+    ≡ binary_shape (operation_of l.operator) (shape spec scope (erased_term first)) (arithmetic_shape spec scope l)
 computed-shape spec scope first l = ap (λ (k : OperatorKind). outcome k (shape spec scope (erased_term first)) (arithmetic_shape spec scope l)) (kind_of-arithmetic l.operator)
 
 pub calculated-shape : (spec : Spec) (scope : Scope) (first : TermForm) (links : List ArithmeticLink)
@@ -93,7 +97,9 @@ calculated-shape spec scope first (l ∷ ls) =
     ∙ ap (λ (s : Shape). calculated_shape spec scope s ls) (computed-shape spec scope first l)
 
 pub calculated-faults : (spec : Spec) (stands : Bool) (scope : Scope) (first : TermForm) (links : List ArithmeticLink)
-    → term_faults spec stands scope (calculated first (arithmetic_links links)) ≡ term_faults spec (stands && is_no_link links) scope first ++ arithmetic_faults spec scope (shape spec scope (erased_term first)) links
+    → term_faults spec stands scope (calculated first (arithmetic_links links))
+    ≡ term_faults spec (stands && is_no_link links) scope first
+    ++ arithmetic_faults spec scope (shape spec scope (erased_term first)) links
 calculated-faults spec stands scope first [] =
     ap (λ (b : Bool). term_faults spec b scope first) (sym (and-true stands)) ∙ sym (append-nil (term_faults spec (stands && true) scope first))
 calculated-faults spec stands scope first (l ∷ ls) =

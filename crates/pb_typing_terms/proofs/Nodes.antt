@@ -54,14 +54,16 @@ pub not_operand : (S : Spec) (st : Bool) (a : Scope) (t x : ast.Term) (p : Place
 not_operand S st a t x p operand e is same h =
     at_node S st a t (ast.Not p operand) e is (among_left (term_faults S st a (term_form (box_value operand))) _ e (at_part S st a x (box_value operand) e same h))
 
-pub not_node : (S : Spec) (a : Scope) (c : Slotting) (t x : ast.Term) (p : Place) (operand : Box ast.Term Global) (y : Argument) (r : Result Argument (OrMemory TypingFault)) → t ≡ ast.Not p operand → x ≡ box_value operand
+pub not_node : (S : Spec) (a : Scope) (c : Slotting) (t x : ast.Term) (p : Place) (operand : Box ast.Term Global)
+    (y : Argument) (r : Result Argument (OrMemory TypingFault)) → t ≡ ast.Not p operand → x ≡ box_value operand
     → IsChecked S a c (term_form x) y → Elaborates (unless (may_be_truth (shape_view y.shape)) rule.WrongKind p) Truths (Term.Not (term_view y.term)) r → ChecksTermIn S a c (term_form t) r
 not_node S a c t x p operand y r is same h made =
     let z = term_form (box_value operand) in
     let part : IsChecked S a c z y = subst (λ (u : ast.Term). IsChecked S a c (term_form u) y) same h in
     let others = unless (may_be_truth (shape S a (erased_term z))) rule.WrongKind p in
     subst (λ (u : ast.Term). ChecksTermIn S a c (term_form u) r) (sym is)
-    (elaborates_as (term_faults S false a z ++ others) (unless (may_be_truth (shape_view y.shape)) rule.WrongKind p) Truths Truths (Term.Not (term_view y.term)) (Term.Not (slotted S c (erased_term z))) r
+    (elaborates_as (term_faults S false a z ++ others) (unless (may_be_truth (shape_view y.shape)) rule.WrongKind p)
+    Truths Truths (Term.Not (term_view y.term)) (Term.Not (slotted S c (erased_term z))) r
     (first_clear _ (term_faults S false a z) others refl part.0 ∙ ap (λ (s : Shape). unless (may_be_truth s) rule.WrongKind p) (sym part.1.0)) refl (ap Term.Not (sym part.1.1)) made)
 
 pub negative_operand : (S : Spec) (st : Bool) (a : Scope) (t x : ast.Term) (p : Place) (operand : Box ast.Term Global) (e : OrMemory TypingFault) → t ≡ ast.Negative p operand → x ≡ box_value operand
@@ -69,9 +71,11 @@ pub negative_operand : (S : Spec) (st : Bool) (a : Scope) (t x : ast.Term) (p : 
 negative_operand S st a t x p operand e is same h =
     at_node S st a t (ast.Negative p operand) e is (among_left (term_faults S false a (term_form (box_value operand))) _ e (at_part S false a x (box_value operand) e same h))
 
-pub negative_node : (S : Spec) (a : Scope) (c : Slotting) (t x : ast.Term) (p : Place) (operand : Box ast.Term Global) (y : Argument) (r : Result Argument (OrMemory TypingFault)) → t ≡ ast.Negative p operand → x ≡ box_value operand
+pub negative_node : (S : Spec) (a : Scope) (c : Slotting) (t x : ast.Term) (p : Place) (operand : Box ast.Term Global)
+    (y : Argument) (r : Result Argument (OrMemory TypingFault)) → t ≡ ast.Negative p operand → x ≡ box_value operand
     → IsChecked S a c (term_form x) y
-    → Elaborates (kind_faults (OfOne operations.Negation) (shape_view y.shape ∷ []) p) (unary_shape operations.Negation (shape_view y.shape)) (Negative (term_view y.term)) r → ChecksTermIn S a c (term_form t) r
+    → Elaborates (kind_faults (OfOne operations.Negation) (shape_view y.shape ∷ []) p)
+    (unary_shape operations.Negation (shape_view y.shape)) (Negative (term_view y.term)) r → ChecksTermIn S a c (term_form t) r
 negative_node S a c t x p operand y r is same h made =
     let z = term_form (box_value operand) in
     let part : IsChecked S a c z y = subst (λ (u : ast.Term). IsChecked S a c (term_form u) y) same h in
@@ -85,12 +89,14 @@ negative_node S a c t x p operand y r is same h made =
 
 -- ---- comparisons
 
-pub comparison_left : (S : Spec) (st : Bool) (a : Scope) (t x : ast.Term) (p : Place) (o : Comparison) (left right : Box ast.Term Global) (e : OrMemory TypingFault) → t ≡ ast.Comparison p o left right → x ≡ box_value left
+pub comparison_left : (S : Spec) (st : Bool) (a : Scope) (t x : ast.Term) (p : Place) (o : Comparison)
+    (left right : Box ast.Term Global) (e : OrMemory TypingFault) → t ≡ ast.Comparison p o left right → x ≡ box_value left
     → IsAmong (term_faults S false a (term_form x)) e → IsAmong (term_faults S st a (term_form t)) e
 comparison_left S st a t x p o left right e is same h =
     at_node S st a t (ast.Comparison p o left right) e is (among_left (term_faults S false a (term_form (box_value left))) _ e (at_part S false a x (box_value left) e same h))
 
-pub comparison_right : (S : Spec) (st : Bool) (a : Scope) (t x : ast.Term) (p : Place) (o : Comparison) (left right : Box ast.Term Global) (e : OrMemory TypingFault) → t ≡ ast.Comparison p o left right → x ≡ box_value right
+pub comparison_right : (S : Spec) (st : Bool) (a : Scope) (t x : ast.Term) (p : Place) (o : Comparison)
+    (left right : Box ast.Term Global) (e : OrMemory TypingFault) → t ≡ ast.Comparison p o left right → x ≡ box_value right
     → IsAmong (term_faults S false a (term_form x)) e → IsAmong (term_faults S st a (term_form t)) e
 comparison_right S st a t x p o left right e is same h =
     at_node S st a t (ast.Comparison p o left right) e is
@@ -105,7 +111,8 @@ compared-shape comparison.LessEqual s t = refl
 compared-shape comparison.Greater s t = refl
 compared-shape comparison.GreaterEqual s t = refl
 
-pub comparison_node : (S : Spec) (a : Scope) (c : Slotting) (t x y : ast.Term) (p : Place) (o : Comparison) (left right : Box ast.Term Global) (u v : Argument) (r : Result Argument (OrMemory TypingFault))
+pub comparison_node : (S : Spec) (a : Scope) (c : Slotting) (t x y : ast.Term) (p : Place) (o : Comparison)
+    (left right : Box ast.Term Global) (u v : Argument) (r : Result Argument (OrMemory TypingFault))
     → t ≡ ast.Comparison p o left right → x ≡ box_value left → y ≡ box_value right → IsChecked S a c (term_form x) u → IsChecked S a c (term_form y) v
     → Elaborates (operator_faults (kind_of (of_comparison o)) (shape_view u.shape) (shape_view v.shape) p) Truths (Binary (of_comparison o) (term_view u.term) (term_view v.term)) r
     → ChecksTermIn S a c (term_form t) r

@@ -48,14 +48,16 @@ mutual
   calls-counted (formula.Quantified' q slot cs p body) = calls-counted body ∙ sym (nested-calls q slot cs.items (formula_view body))
   calls-counted (formula.Call place X es) = refl
 
-  chain-counted : {m : _} (c : Connective) (ps : List Place) (f : tree.Formula) → length ps ≡ calls f → (row : Row_of-Formula m) → length (ps ++ places_in row) ≡ calls (chained (Connected c) f (formulas_in row))
+  chain-counted : {m : _} (c : Connective) (ps : List Place) (f : tree.Formula) → length ps ≡ calls f
+      → (row : Row_of-Formula m) → length (ps ++ places_in row) ≡ calls (chained (Connected c) f (formulas_in row))
   chain-counted c ps f counted end_of-Formula = ap length (append-nil ps) ∙ counted
   chain-counted c ps f counted (more_of-Formula g row) =
       omega (arith, length-append ps (call_places g ++ places_in row), counted, chain-counted c (call_places g) (formula_view g) (calls-counted g) row)
 
 -- ---- data has no calls
 
-each-calls : (S : Spec) (q : Quantifier) (xs : List Variable) (c : Slotting) (n : ℕ) (body : Slotting → ℕ → tree.Formula) → ((d : Slotting) (m : ℕ) → calls (body d m) ≡ 0) → calls (each S q xs c n body) ≡ 0
+each-calls : (S : Spec) (q : Quantifier) (xs : List Variable) (c : Slotting) (n : ℕ)
+    (body : Slotting → ℕ → tree.Formula) → ((d : Slotting) (m : ℕ) → calls (body d m) ≡ 0) → calls (each S q xs c n body) ≡ 0
 each-calls S q [] c n body h = h c n
 each-calls S q (x ∷ xs) c n body h = each-calls S q xs (with_slot x.name n c) (suc n) body h
 
@@ -91,7 +93,9 @@ data-calls S (syntax.Term.Not x) c scope n =
     either-calls S (has_quantifier x) (syntax.Formula.Not (expanded_term x)) (syntax.Formula.Val (syntax.Term.Not x)) (data-calls S x) (λ d s m. refl) c scope n
 data-calls S (syntax.Term.Negative x) c scope n = refl
 data-calls S (syntax.Term.Binary o x y) c scope n =
-    either-calls S (has_quantifier x || has_quantifier y) (connected o (expanded_term x) (expanded_term y) (syntax.Formula.Val (syntax.Term.Binary o x y))) (syntax.Formula.Val (syntax.Term.Binary o x y))
+    either-calls S (has_quantifier x || has_quantifier y)
+    (connected o (expanded_term x) (expanded_term y) (syntax.Formula.Val (syntax.Term.Binary o x y)))
+    (syntax.Formula.Val (syntax.Term.Binary o x y))
     (connected-calls S o (expanded_term x) (expanded_term y) _ (data-calls S x) (data-calls S y) (λ d s m. refl)) (λ d s m. refl) c scope n
 data-calls S (syntax.Term.Apply f xs) c scope n = refl
 data-calls S (syntax.Term.Quantified q xs x) c scope n =

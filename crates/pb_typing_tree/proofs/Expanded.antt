@@ -19,7 +19,8 @@ same-of-values Forall p p' h (v ∷ vs) = ap (λ b. b && of_values Forall p vs) 
 same-of-values Exists p p' h [] = refl
 same-of-values Exists p p' h (v ∷ vs) = ap (λ b. b || of_values Exists p vs) (h v) ∙ ap (λ b. p' v || b) (same-of-values Exists p p' h vs)
 
-pub same-quantified : (spec : Spec) (q : Quantifier) (xs : List Variable) (p p' : Assignment → Bool) → ((a : Assignment) → p a ≡ p' a) → (a : Assignment) → quantified spec q xs p a ≡ quantified spec q xs p' a
+pub same-quantified : (spec : Spec) (q : Quantifier) (xs : List Variable) (p p' : Assignment → Bool)
+    → ((a : Assignment) → p a ≡ p' a) → (a : Assignment) → quantified spec q xs p a ≡ quantified spec q xs p' a
 same-quantified spec q [] p p' h a = h a
 same-quantified spec q (x ∷ xs) p p' h a =
     same-of-values q (λ v. quantified spec q xs p ((x.name, v) ∷ a)) (λ v. quantified spec q xs p' ((x.name, v) ∷ a)) (λ v. same-quantified spec q xs p p' h ((x.name, v) ∷ a)) (carrier_of spec x.sort)
@@ -57,7 +58,8 @@ expanded-term-truth spec t (Term.Not x) a =
     (ap not (expanded-term-truth spec t x a) ∙ sym (is_true-of_bool _)) refl
 expanded-term-truth spec t (Term.Negative x) a = refl
 expanded-term-truth spec t (Term.Binary o x y) a =
-    choose-formula spec a t (has_quantifier x || has_quantifier y) (is_true (value spec a (Term.Binary o x y))) (connected o (expanded_term x) (expanded_term y) (Formula.Val (Term.Binary o x y))) (Formula.Val (Term.Binary o x y))
+    choose-formula spec a t (has_quantifier x || has_quantifier y) (is_true (value spec a (Term.Binary o x y)))
+    (connected o (expanded_term x) (expanded_term y) (Formula.Val (Term.Binary o x y))) (Formula.Val (Term.Binary o x y))
     (expanded-connected spec a t o x y (expanded_term x) (expanded_term y) (expanded-term-truth spec t x a) (expanded-term-truth spec t y a)) refl
 expanded-term-truth spec t (Term.Apply f xs) a = refl
 expanded-term-truth spec t (Term.Quantified q xs x) a =

@@ -88,7 +88,8 @@ applied-fits spec n a f (x ∷ y ∷ z ∷ w ∷ ws) h b = b
 -- ---- terms
 
 mutual
-  pub slotted-fits : (spec : Spec) (c : Slotting) (n : ℕ) (a : Slots) (g : Assignment) → AreFree c n → Agree c a g → (x : syntax.Term) → has_quantifier x ≡ false → text.Fits spec g x → Fits n a (slotted spec c x)
+  pub slotted-fits : (spec : Spec) (c : Slotting) (n : ℕ) (a : Slots) (g : Assignment) → AreFree c n → Agree c a g
+      → (x : syntax.Term) → has_quantifier x ≡ false → text.Fits spec g x → Fits n a (slotted spec c x)
   slotted-fits spec c n a g free agree (syntax.Term.Truth b) e f = tt
   slotted-fits spec c n a g free agree (syntax.Term.Number k) e f = f
   slotted-fits spec c n a g free agree (syntax.Term.Named x) e f =
@@ -108,10 +109,14 @@ mutual
       (subst IsBounded (sym (slotted-value spec c a g agree (syntax.Term.Apply h xs) e)) f.1)
   slotted-fits spec c n a g free agree (syntax.Term.Quantified q xs x) e f = absurd (true≢false e)
 
-  all-fit : (spec : Spec) (c : Slotting) (n : ℕ) (a : Slots) (g : Assignment) → AreFree c n → Agree c a g → (xs : Terms) → have_quantifier xs ≡ false → text.AllFit spec g xs → TermsFit n a (slotted_all spec c xs)
+  all-fit : (spec : Spec) (c : Slotting) (n : ℕ) (a : Slots) (g : Assignment) → AreFree c n → Agree c a g → (xs : Terms)
+      → have_quantifier xs ≡ false → text.AllFit spec g xs → TermsFit n a (slotted_all spec c xs)
   all-fit spec c n a g free agree Terms.NoTerms e f = tt
-  all-fit spec c n a g free agree (Terms.Then x xs) e f =
-      (slotted-fits spec c n a g free agree x (neither-left (has_quantifier x) (have_quantifier xs) e) f.0, all-fit spec c n a g free agree xs (neither-right (has_quantifier x) (have_quantifier xs) e) f.1)
+  all-fit spec c n a g free agree (Terms.Then x xs) e f = (
+    slotted-fits spec c n a g free agree x (neither-left (has_quantifier x) (have_quantifier xs) e) f.0,
+    all-fit spec
+        c n a g free agree xs (neither-right (has_quantifier x) (have_quantifier xs) e) f.1,
+  )
 
 -- ---- slots
 
@@ -151,10 +156,14 @@ place-under : (m n : ℕ) (E : List Equation) (x : Name) → m ≡ n + length E 
 place-under m n [] x e = tt
 place-under m n (X ∷ E) x e = choose-under m n (same_name X.name x) (place_of (suc n) E x) (omega (arith, e)) (place-under m (suc n) E x (omega (arith, e)))
 
-arguments-fit : (spec : Spec) (c : Slotting) (scope : Scope) (n : ℕ) (a : Slots) (g : Assignment) → AreFree c n → Agree c a g → (es : Terms) → have_quantifier es ≡ false → text.AllFit spec g es → AllFit n a (arguments spec c scope es)
+arguments-fit : (spec : Spec) (c : Slotting) (scope : Scope) (n : ℕ) (a : Slots) (g : Assignment) → AreFree c n
+    → Agree c a g → (es : Terms) → have_quantifier es ≡ false → text.AllFit spec g es → AllFit n a (arguments spec c scope es)
 arguments-fit spec c scope n a g free agree Terms.NoTerms e f = tt
-arguments-fit spec c scope n a g free agree (Terms.Then x xs) e f =
-    (slotted-fits spec c n a g free agree x (neither-left (has_quantifier x) (have_quantifier xs) e) f.0, arguments-fit spec c scope n a g free agree xs (neither-right (has_quantifier x) (have_quantifier xs) e) f.1)
+arguments-fit spec c scope n a g free agree (Terms.Then x xs) e f = (
+  slotted-fits spec c n a g free agree x (neither-left (has_quantifier x) (have_quantifier xs) e) f.0,
+  arguments-fit
+      spec c scope n a g free agree xs (neither-right (has_quantifier x) (have_quantifier xs) e) f.1,
+)
 
 call-fits : (k m : ℕ) (a : Slots) (o : Option ℕ) (es : List _) → IsUnder k o → AllFit m a es → FormulaFits k m a (made.call o es)
 call-fits k m a None es under f = tt
@@ -170,15 +179,18 @@ elaborated-fits spec m (syntax.Formula.Val x) scope carriers plain c n a g free 
 elaborated-fits spec m (syntax.Formula.Not f) scope carriers plain c n a g free agree clear room h = elaborated-fits spec m f scope carriers plain c n a g free agree clear room h
 elaborated-fits spec m (syntax.Formula.And f f') scope carriers plain c n a g free agree clear room h = (
   elaborated-fits spec m f scope carriers plain.0 c n a g free agree clear (omega (arith, room)) h.0,
-  elaborated-fits spec m f' scope carriers plain.1 c (n + width f) a g (more-free c n (n + width f) (omega arith) free) agree (more-clear n (n + width f) a (omega arith) clear) (omega (arith, room)) h.1,
+  elaborated-fits spec m f' scope carriers plain.1 c (n + width f) a g (more-free c n (n + width f) (omega arith) free)
+      agree (more-clear n (n + width f) a (omega arith) clear) (omega (arith, room)) h.1,
 )
 elaborated-fits spec m (syntax.Formula.Or f f') scope carriers plain c n a g free agree clear room h = (
   elaborated-fits spec m f scope carriers plain.0 c n a g free agree clear (omega (arith, room)) h.0,
-  elaborated-fits spec m f' scope carriers plain.1 c (n + width f) a g (more-free c n (n + width f) (omega arith) free) agree (more-clear n (n + width f) a (omega arith) clear) (omega (arith, room)) h.1,
+  elaborated-fits spec m f' scope carriers plain.1 c (n + width f) a g (more-free c n (n + width f) (omega arith) free)
+      agree (more-clear n (n + width f) a (omega arith) clear) (omega (arith, room)) h.1,
 )
 elaborated-fits spec m (syntax.Formula.Implies f f') scope carriers plain c n a g free agree clear room h = (
   elaborated-fits spec m f scope carriers plain.0 c n a g free agree clear (omega (arith, room)) h.0,
-  elaborated-fits spec m f' scope carriers plain.1 c (n + width f) a g (more-free c n (n + width f) (omega arith) free) agree (more-clear n (n + width f) a (omega arith) clear) (omega (arith, room)) h.1,
+  elaborated-fits spec m f' scope carriers plain.1 c (n + width f) a g (more-free c n (n + width f) (omega arith) free)
+      agree (more-clear n (n + width f) a (omega arith) clear) (omega (arith, room)) h.1,
 )
 elaborated-fits spec m (syntax.Formula.Quantified q xs f) scope carriers plain c n a g free agree clear room h =
     each-fits spec (length spec.equations) m q xs (λ b. text.FormulaFits spec b f) (width f) (λ d l. made.elaborated spec d (bound spec xs scope) l f) carriers
@@ -197,7 +209,8 @@ choose-fits : (spec : Spec) (a : Assignment) (b : Bool) (f g : syntax.Formula) �
 choose-fits spec a true f g h k = h
 choose-fits spec a false f g h k = k
 
-connected-fits : (spec : Spec) (a : Assignment) (o : Operator) (f g other : syntax.Formula) → text.FormulaFits spec a f → text.FormulaFits spec a g → text.FormulaFits spec a other → text.FormulaFits spec a (connected o f g other)
+connected-fits : (spec : Spec) (a : Assignment) (o : Operator) (f g other : syntax.Formula) → text.FormulaFits spec a f
+    → text.FormulaFits spec a g → text.FormulaFits spec a other → text.FormulaFits spec a (connected o f g other)
 connected-fits spec a Operator.And f g other h k l = (h, k)
 connected-fits spec a Operator.Or f g other h k l = (h, k)
 connected-fits spec a Operator.Implies f g other h k l = (h, k)

@@ -95,7 +95,8 @@ neither-right true c e = absurd (true≢false e)
 neither-right false c e = e
 
 mutual
-  pub slotted-value : (spec : Spec) (c : Slotting) (a : Slots) (assignment : Assignment) → Agree c a assignment → (x : syntax.Term) → has_quantifier x ≡ false → value a (slotted spec c x) ≡ meaning.value spec assignment x
+  pub slotted-value : (spec : Spec) (c : Slotting) (a : Slots) (assignment : Assignment) → Agree c a assignment
+      → (x : syntax.Term) → has_quantifier x ≡ false → value a (slotted spec c x) ≡ meaning.value spec assignment x
   slotted-value spec c a g agree (syntax.Term.Truth b) e = refl
   slotted-value spec c a g agree (syntax.Term.Number n) e = refl
   slotted-value spec c a g agree (syntax.Term.Named x) e = named-value spec a (c x) x ∙ ap (λ o. named_value spec o x) (sym (agree x))
@@ -108,7 +109,8 @@ mutual
       applied-value spec a f (slotted_all spec c xs) ∙ ap (function_value spec f) (slotted-values spec c a g agree xs e)
   slotted-value spec c a g agree (syntax.Term.Quantified q xs x) e = absurd (true≢false e)
 
-  pub slotted-values : (spec : Spec) (c : Slotting) (a : Slots) (assignment : Assignment) → Agree c a assignment → (xs : Terms) → have_quantifier xs ≡ false → map (value a) (slotted_all spec c xs) ≡ values spec assignment xs
+  pub slotted-values : (spec : Spec) (c : Slotting) (a : Slots) (assignment : Assignment) → Agree c a assignment
+      → (xs : Terms) → have_quantifier xs ≡ false → map (value a) (slotted_all spec c xs) ≡ values spec assignment xs
   slotted-values spec c a g agree Terms.NoTerms e = refl
   slotted-values spec c a g agree (Terms.Then x xs) e =
       ap (λ v. v ∷ map (value a) (slotted_all spec c xs)) (slotted-value spec c a g agree x (neither-left (has_quantifier x) (have_quantifier xs) e))

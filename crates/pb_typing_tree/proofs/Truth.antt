@@ -78,7 +78,8 @@ each-truth spec t q (x ∷ xs) p body carriers says c n a g free agree =
 
 -- ---- calls
 
-argument-values : (spec : Spec) (c : Slotting) (scope : Scope) (a : Slots) (es : Terms) → map (λ (e : Argument). value a e.term) (arguments spec c scope es) ≡ map (value a) (made.slotted_all spec c es)
+argument-values : (spec : Spec) (c : Slotting) (scope : Scope) (a : Slots) (es : Terms)
+    → map (λ (e : Argument). value a e.term) (arguments spec c scope es) ≡ map (value a) (made.slotted_all spec c es)
 argument-values spec c scope a Terms.NoTerms = refl
 argument-values spec c scope a (Terms.Then x xs) = ap (λ vs. value a (slotted spec c x) ∷ vs) (argument-values spec c scope a xs)
 
@@ -101,10 +102,12 @@ place-found : (n : ℕ) (E : List Equation) (x : Name) → Finds E x n (place_of
 place-found n [] x = refl
 place-found n (X ∷ E) x = finds-next n X E x (same_name X.name x) refl (place_of (suc n) E x) (place-found (suc n) E x)
 
-call-values : (spec : Spec) (c : Slotting) (scope : Scope) (a : Slots) (g : Assignment) → Agree c a g → (es : Terms) → have_quantifier es ≡ false → map (λ (e : Argument). value a e.term) (arguments spec c scope es) ≡ values spec g es
+call-values : (spec : Spec) (c : Slotting) (scope : Scope) (a : Slots) (g : Assignment) → Agree c a g → (es : Terms)
+    → have_quantifier es ≡ false → map (λ (e : Argument). value a e.term) (arguments spec c scope es) ≡ values spec g es
 call-values spec c scope a g agree es plain = argument-values spec c scope a es ∙ slotted-values spec c a g agree es plain
 
-call-kept : (spec : Spec) (t : Environment Instance) (c : Slotting) (scope : Scope) (a : Slots) (g : Assignment) → Agree c a g → (X : Name) (es : Terms) (o : Option ℕ) → Finds spec.equations X 0 o → have_quantifier es ≡ false
+call-kept : (spec : Spec) (t : Environment Instance) (c : Slotting) (scope : Scope) (a : Slots) (g : Assignment)
+    → Agree c a g → (X : Name) (es : Terms) (o : Option ℕ) → Finds spec.equations X 0 o → have_quantifier es ≡ false
     → truth spec a t (made.call o (arguments spec c scope es)) ≡ call_truth spec t (record { name = X; values = values spec g es })
 call-kept spec t c scope a g agree X es None h plain =
     sym (ap (λ (f : Option Equation). fits spec f (values spec g es) && t (record { name = X; values = values spec g es })) h)
@@ -131,6 +134,7 @@ elaborated-truth spec t (syntax.Formula.Implies f h) scope carriers plain c n a 
     ap (λ b. not b || truth spec a t (made.elaborated spec c scope (n + width f) h)) (elaborated-truth spec t f scope carriers plain.0 c n a g free agree)
     ∙ ap (λ b. not (meaning.truth spec g t f) || b) (elaborated-truth spec t h scope carriers plain.1 c (n + width f) a g (more-free c n (n + width f) (omega arith) free) agree)
 elaborated-truth spec t (syntax.Formula.Quantified q xs f) scope carriers plain c n a g free agree =
-    each-truth spec t q xs (λ k. meaning.truth spec k t f) (λ d m. made.elaborated spec d (bound spec xs scope) m f) carriers (elaborated-truth spec t f (bound spec xs scope) carriers plain) c n a g free agree
+    each-truth spec t q xs (λ k. meaning.truth spec k t f) (λ d m. made.elaborated spec d (bound spec xs scope) m f)
+    carriers (elaborated-truth spec t f (bound spec xs scope) carriers plain) c n a g free agree
 elaborated-truth spec t (syntax.Formula.Call X es) scope carriers plain c n a g free agree =
     call-kept spec t c scope a g agree X es (place_of 0 spec.equations X) (place-found 0 spec.equations X) plain

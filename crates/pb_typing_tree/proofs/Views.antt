@@ -20,7 +20,8 @@ abbrev term_row_in : Term → (n : Count) × Row_of-Term n
 term_row_in (term.Chain' c p first shape row) = (_, row)
 term_row_in _ = (_, end_of-Term)
 
-pub term-chain : (c : Connective) (first : Box Term Global) (v : Vec Term Global) → term_view (term.Chain c first v) ≡ chained (Binary (of_connective c)) (term_view (box_value first)) (term_views v.items)
+pub term-chain : (c : Connective) (first : Box Term Global) (v : Vec Term Global)
+    → term_view (term.Chain c first v) ≡ chained (Binary (of_connective c)) (term_view (box_value first)) (term_views v.items)
 term-chain c first v =
     let row = term_row_in (term.Chain c first v) in
     ap (chained (Binary (of_connective c)) (term_view (box_value first))) (terms-items row.0 row.1 ∙ ap term_views (items_hidden-the_row-Term-0 v))
@@ -46,7 +47,8 @@ abbrev formula_row_in : Formula → (n : Count) × Row_of-Formula n
 formula_row_in (formula.Chain' c p first shape row) = (_, row)
 formula_row_in _ = (_, end_of-Formula)
 
-pub formula-chain : (c : Connective) (first : Box Formula Global) (v : Vec Formula Global) → formula_view (formula.Chain c first v) ≡ chained (Connected c) (formula_view (box_value first)) (formula_views v.items)
+pub formula-chain : (c : Connective) (first : Box Formula Global) (v : Vec Formula Global)
+    → formula_view (formula.Chain c first v) ≡ chained (Connected c) (formula_view (box_value first)) (formula_views v.items)
 formula-chain c first v =
     let row = formula_row_in (formula.Chain c first v) in
     ap (chained (Connected c) (formula_view (box_value first))) (formulas-items row.0 row.1 ∙ ap formula_views (items_hidden-the_row-Formula-0 v))

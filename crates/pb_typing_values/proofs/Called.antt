@@ -62,21 +62,24 @@ called S truths x vs k e =
 
 -- ---- numbers
 
-pub wrong_length : (layout : List (List Carrier)) (all : List (List carriers.Carrier)) (truths : List Bool) (k : ℕ) (cs : List Carrier) (vs : Tuple) → carriers_of layout ≡ all → slice_get layout k ≡ Some cs → (length cs ≡ length vs → ⊥)
+pub wrong_length : (layout : List (List Carrier)) (all : List (List carriers.Carrier)) (truths : List Bool) (k : ℕ)
+    (cs : List Carrier) (vs : Tuple) → carriers_of layout ≡ all → slice_get layout k ≡ Some cs → (length cs ≡ length vs → ⊥)
     → truth_at all truths (at_place k vs) ≡ false
 wrong_length layout all truths k cs vs laid at differ =
     ap (λ (b : Bool). b && slice_index_or truths (number_of all (at_place k vs)) false)
     (ap (λ (css : List (List carriers.Carrier)). is_tuple_of (slice_get css k) vs) (sym laid)
     ∙ (ap (λ (o : Option (List carriers.Carrier)). is_tuple_of o vs) (slice_get-carriers_of layout k cs at) ∙ is_within-other_length cs vs differ))
 
-pub counted : (layout : List (List Carrier)) (all : List (List carriers.Carrier)) (truths : List Bool) (n : ℕ) (i : numbered.Instance) → carriers_of layout ≡ all → slice_get (instances (carriers_of layout)) n ≡ Some i
+pub counted : (layout : List (List Carrier)) (all : List (List carriers.Carrier)) (truths : List Bool) (n : ℕ)
+    (i : numbered.Instance) → carriers_of layout ≡ all → slice_get (instances (carriers_of layout)) n ≡ Some i
     → truth_at all truths i ≡ get_or truths n false
 counted layout all truths n i laid at =
     ap (λ (css : List (List carriers.Carrier)). truth_at css truths i) (sym laid)
     ∙ (ap (λ (b : Bool). b && slice_index_or truths (number_of (carriers_of layout) i) false) (is_instance-slice_get (carriers_of layout) n i at)
     ∙ ap (λ (m : ℕ). get_or truths m false) (sym (number_of-slice_get layout n i at)))
 
-pub not_counted : (layout : List (List Carrier)) (all : List (List carriers.Carrier)) (truths : List Bool) (i : numbered.Instance) → carriers_of layout ≡ all → is_instance (carriers_of layout) i ≡ false → truth_at all truths i ≡ false
+pub not_counted : (layout : List (List Carrier)) (all : List (List carriers.Carrier)) (truths : List Bool)
+    (i : numbered.Instance) → carriers_of layout ≡ all → is_instance (carriers_of layout) i ≡ false → truth_at all truths i ≡ false
 not_counted layout all truths i laid none =
     ap (λ (css : List (List carriers.Carrier)). truth_at css truths i) (sym laid) ∙ ap (λ (b : Bool). b && slice_index_or truths (number_of (carriers_of layout) i) false) none
 
@@ -135,7 +138,8 @@ argument_fits n a (y ∷ xs) zero x f lt at = subst (λ (z : Argument). Fits n a
 argument_fits n a (y ∷ xs) (suc k) x f lt at = argument_fits n a xs k x f.1 (omega arith) at
 
 -- one more argument's value
-pub values_more : (a : Slots) (xs : List Argument) (k : ℕ) (x : Argument) (done more all : List Value) (v : Value) → k < length xs → x ≡ get_or xs k x → v ≡ typed.value a (term_view x.term) → more ≡ done ++ v ∷ []
+pub values_more : (a : Slots) (xs : List Argument) (k : ℕ) (x : Argument) (done more all : List Value) (v : Value)
+    → k < length xs → x ≡ get_or xs k x → v ≡ typed.value a (term_view x.term) → more ≡ done ++ v ∷ []
     → done ++ argument_values a (drop k xs) ≡ all → more ++ argument_values a (drop (k + 1) xs) ≡ all
 values_more a xs k x done more all v lt at is pushed h =
     let rest = argument_values a (drop (k + 1) xs) in

@@ -21,11 +21,13 @@ abbrev pub OperandsFit : ℕ → ℕ → Slots → List Formula → Type 0
 OperandsFit k n a [] = ⊤
 OperandsFit k n a (f ∷ fs) = FormulaFits k n a (formula_view f) × OperandsFit k n a fs
 
-pub truth-chained : (S : Spec) (a : Slots) (t : Environment Instance) (c : Connective) (first : tree.Formula) (fs : List Formula) → truth S a t (chained (Connected c) first (formula_views fs)) ≡ chain_truth S a t c (truth S a t first) fs
+pub truth-chained : (S : Spec) (a : Slots) (t : Environment Instance) (c : Connective) (first : tree.Formula)
+    (fs : List Formula) → truth S a t (chained (Connected c) first (formula_views fs)) ≡ chain_truth S a t c (truth S a t first) fs
 truth-chained S a t c first [] = refl
 truth-chained S a t c first (f ∷ fs) = ap (connected_truth c (truth S a t first)) (truth-chained S a t c (formula_view f) fs)
 
-pub fits-chained : (k n : ℕ) (a : Slots) (c : Connective) (first : tree.Formula) (fs : List Formula) → FormulaFits k n a (chained (Connected c) first (formula_views fs)) → FormulaFits k n a first × OperandsFit k n a fs
+pub fits-chained : (k n : ℕ) (a : Slots) (c : Connective) (first : tree.Formula) (fs : List Formula)
+    → FormulaFits k n a (chained (Connected c) first (formula_views fs)) → FormulaFits k n a first × OperandsFit k n a fs
 fits-chained k n a c first [] h = (h, tt)
 fits-chained k n a c first (f ∷ fs) h = (h.0, fits-chained k n a c (formula_view f) fs h.1)
 

@@ -44,7 +44,8 @@ pub any-map : {X Y : Type 0} (p : X → Bool) (h : Y → X) (ys : List Y) → li
 any-map p h [] = refl
 any-map p h (y ∷ ys) = ap (λ b. p (h y) || b) (any-map p h ys)
 
-of-fronts : (q : Quantifier) (p : Tuple → Bool) (c : carriers.Carrier) (ts : List Tuple) → of_tuples q p (flat_map (λ v. map (λ vs. v ∷ vs) ts) c) ≡ of_values q (λ v. of_tuples q (λ vs. p (v ∷ vs)) ts) c
+of-fronts : (q : Quantifier) (p : Tuple → Bool) (c : carriers.Carrier) (ts : List Tuple)
+    → of_tuples q p (flat_map (λ v. map (λ vs. v ∷ vs) ts) c) ≡ of_values q (λ v. of_tuples q (λ vs. p (v ∷ vs)) ts) c
 of-fronts Forall p [] ts = refl
 of-fronts Forall p (v ∷ c) ts =
     list_all-append p (map (λ vs. v ∷ vs) ts) (flat_map (λ u. map (λ vs. u ∷ vs) ts) c)
@@ -104,7 +105,8 @@ undecided Exists p (u ∷ ts) h = ap (λ b. b || list_any p ts) (h 0 u refl) ∙
 
 -- ---- the body fits
 
-pub fits-placed : (k n : ℕ) (q : Quantifier) (f : Formula) (cs : List Carrier) (s : ℕ) (a : Slots) (vs : Tuple) → FormulaFits k n a (nested q s cs f) → is_within (map values_of cs) vs ≡ true → FormulaFits k n (placed a s vs) f
+pub fits-placed : (k n : ℕ) (q : Quantifier) (f : Formula) (cs : List Carrier) (s : ℕ) (a : Slots) (vs : Tuple)
+    → FormulaFits k n a (nested q s cs f) → is_within (map values_of cs) vs ≡ true → FormulaFits k n (placed a s vs) f
 fits-placed k n q f [] s a [] h within = h
 fits-placed k n q f [] s a (v ∷ vs) h within = absurd (true≢false (sym within))
 fits-placed k n q f (c ∷ cs) s a [] h within = absurd (true≢false (sym within))

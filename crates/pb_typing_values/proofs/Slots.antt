@@ -64,7 +64,10 @@ length-put xs s (v ∷ vs) le =
 
 -- a second tuple of the same length replaces the first
 pub put-put : (xs : Tuple) (s : ℕ) (vs ws : Tuple) → s ≤ length xs → length vs ≡ length ws → put (put xs s vs) s ws ≡ put xs s ws
-put-put xs zero vs ws le same = ap (λ (ys : Tuple). ws ++ ys) (ap (λ (n : ℕ). drop n (vs ++ drop (length vs) xs)) (sym same) ∙ (drop-append_seam vs (drop (length vs) xs) ∙ ap (λ (n : ℕ). drop n xs) same))
+put-put xs zero vs ws le same =
+    ap (λ (ys : Tuple). ws ++ ys)
+    (ap (λ (n : ℕ). drop n (vs ++ drop (length vs) xs)) (sym same)
+    ∙ (drop-append_seam vs (drop (length vs) xs) ∙ ap (λ (n : ℕ). drop n xs) same))
 put-put [] (suc s) vs ws le same = absurd (omega arith)
 put-put (x ∷ xs) (suc s) vs ws le same = ap (λ (ys : Tuple). x ∷ ys) (put-put xs s vs ws (omega arith) same)
 

@@ -32,7 +32,9 @@ use Rattle.pb_typing_values.proofs.Nested.{truth-nested, decided, undecided, fit
 place-unique : (cs : List Carrier) (k : ℕ) (vs : Tuple) → slice_get (all_tuples cs) k ≡ Some vs → k ≡ mixed_radix (map values_of cs) vs
 place-unique cs k vs at =
     let f : Tuple → numbered.Instance = λ ws. record { equation = 0; values = ws } in
-    let at_number : k ≡ 0 + mixed_radix (map values_of cs) vs = number_of-slice_get (cs ∷ []) k (f vs) (slice_get-append_left (map f (all_tuples cs)) [] k (f vs) (slice_get-mapped f (all_tuples cs) k vs at)) in
+    let at_number : k ≡ 0 + mixed_radix (map values_of cs) vs =
+    number_of-slice_get (cs ∷ []) k (f vs)
+    (slice_get-append_left (map f (all_tuples cs)) [] k (f vs) (slice_get-mapped f (all_tuples cs) k vs at)) in
     omega (arith, at_number)
 
 -- how many tuples are left, from the one in the slots on
@@ -144,7 +146,10 @@ module _ (layout : List (List Carrier)) (truths : List Bool) (q : Quantifier) (f
     values = vs;
     place = way.place + 1;
     at = at;
-    now = now ∙ (ap (λ (ys : Tuple). put ys slot vs) way.now ∙ put-put xs slot way.values vs (omega (arith, room)) (omega (arith, tuple-count cs way.place way.values way.at, tuple-count cs (way.place + 1) vs at)));
+    now = now ∙
+        (ap (λ (ys : Tuple). put ys slot vs) way.now
+        ∙ put-put xs slot way.values vs (omega (arith, room))
+        (omega (arith, tuple-count cs way.place way.values way.at, tuple-count cs (way.place + 1) vs at)));
     before = λ S laid j ws lt here. sym (same-tuple S j ws here) ∙ none-so-far cur way S laid holds (is S laid) none j ws lt here;
   }
 
@@ -160,7 +165,8 @@ module _ (layout : List (List Carrier)) (truths : List Bool) (q : Quantifier) (f
       omega (arith, read-place cur way.values way.place way.at way.now, read-place more vs (way.place + 1) at now, slice_get_within (all_tuples cs) (way.place + 1) vs at)
 
   -- the slots as they were
-  pub way-cleared : (k : ℕ) (ys vs : Tuple) → ((i : ℕ) → i < length cs → slots_of xs (slot + i) ≡ pos 0) → k ≡ length cs → length vs ≡ length cs → ys ≡ put xs slot vs → put_mid slot k ys (map (λ v. pos 0) (mid_of slot k ys)) ≡ xs
+  pub way-cleared : (k : ℕ) (ys vs : Tuple) → ((i : ℕ) → i < length cs → slots_of xs (slot + i) ≡ pos 0) → k ≡ length cs
+      → length vs ≡ length cs → ys ≡ put xs slot vs → put_mid slot k ys (map (λ v. pos 0) (mid_of slot k ys)) ≡ xs
   way-cleared k ys vs clear count long now =
       let mid : mid_of slot k ys ≡ vs = ap (mid_of slot k) now ∙ mid-put slot k xs vs (omega (arith, count, long)) (omega (arith, room)) in
       let zeros : Tuple = map (λ v. pos 0) vs in

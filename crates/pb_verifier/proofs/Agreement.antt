@@ -41,7 +41,8 @@ SameResult q (Some t) (Some T) = SameBehind q t T
 SameResult q None (Some T) = ⊥
 SameResult q (Some t) None = ⊥
 
-set_agrees : (t T : Table) (q to : ℕ) (o : Option AbstractState) (n : AbstractState) → slice_get t to ≡ Some o → slice_get T to ≡ Some o → SameBehind q t T → SameBehind q (slice_set t to (Some n)) (slice_set T to (Some n))
+set_agrees : (t T : Table) (q to : ℕ) (o : Option AbstractState) (n : AbstractState) → slice_get t to ≡ Some o
+    → slice_get T to ≡ Some o → SameBehind q t T → SameBehind q (slice_set t to (Some n)) (slice_set T to (Some n))
 set_agrees t T q to o n h H s = (
   (λ r lt. ⊎_elim
       (λ (same : r ≡ to). ap (state_at (slice_set t to (Some n))) same ∙ set_same t to o n h ∙ sym (set_same T to o n H) ∙ ap (state_at (slice_set T to (Some n))) (sym same))
@@ -68,7 +69,9 @@ merge_edges_agrees : (es : List Edge) (t T : Table) (q : ℕ) → AllEdges (λ t
 merge_edges_agrees [] t T q l s = s
 merge_edges_agrees (e ∷ es) t T q l s = by (merge_state t e.to e.state) (merge_state T e.to e.state) (merge_state_agrees t T q e.to e.state l.0 s) (λ v V w. merge_edges_agrees es v V q l.1 w)
   where
-    by : (o O : Option Table) → SameResult q o O → ((v V : Table) → SameBehind q v V → SameResult q (merge_edges v es) (merge_edges V es)) → SameResult q (then_table o (λ v. merge_edges v es)) (then_table O (λ v. merge_edges v es))
+    by : (o O : Option Table) → SameResult q o O
+        → ((v V : Table) → SameBehind q v V → SameResult q (merge_edges v es) (merge_edges V es))
+        → SameResult q (then_table o (λ v. merge_edges v es)) (then_table O (λ v. merge_edges v es))
     by None None r f = tt
     by (Some v) (Some V) r f = f v V r
     by None (Some V) r f = absurd r
@@ -90,7 +93,10 @@ pub home_of : (p : Program) (T t : Table) (homes : Homes) (q : ℕ) → Agrees p
 home_of p T t homes q a = ap innermost a.known ∙ innermost_home T (loops_around p.code q)
 
 -- a visit that keeps what was known does the same
-pub visited_agrees : (p : Program) (T t : Table) (homes : Homes) (q : ℕ) (i : Op) → Agrees p T t homes q → ((k : AbstractState) (es : List Edge) → transfer p (innermost homes) q i k ≡ Some es → AllEdges (λ to m. q < to) es) → SameResult q (visited p q i (state_at t q) homes (slice_set t q None)) (visited p q i (state_at T q) homes T)
+pub visited_agrees : (p : Program) (T t : Table) (homes : Homes) (q : ℕ) (i : Op) → Agrees p T t homes q
+    → ((k : AbstractState) (es : List Edge) → transfer p (innermost homes) q i k ≡ Some es
+    → AllEdges (λ to m. q < to) es)
+    → SameResult q (visited p q i (state_at t q) homes (slice_set t q None)) (visited p q i (state_at T q) homes T)
 visited_agrees p T t homes q i a later = rw (a.same q (omega arith)) (by (state_at T q))
   where
     behind : SameBehind q (slice_set t q None) T

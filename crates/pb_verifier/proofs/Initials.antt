@@ -16,7 +16,9 @@ use Rattle.pb_bytecode.specs.Limits.{fits, fits_sort, fits_equation, is_tuple, i
 use Rattle.pb_bytecode.specs.Meaning.{parameters}
 use Rattle.pb_verifier.specs.Acceptance.{IsInitialNumber}
 
-values_fit : (es : List EquationContents) (k : ℕ) (values : Tuple) → is_tuple (parameters_if_any (slice_get es k)) values ≡ true → is_tuple_of (slice_get (carriers_of (map (λ (e : EquationContents). e.parameters) es)) k) values ≡ true
+values_fit : (es : List EquationContents) (k : ℕ) (values : Tuple)
+    → is_tuple (parameters_if_any (slice_get es k)) values ≡ true
+    → is_tuple_of (slice_get (carriers_of (map (λ (e : EquationContents). e.parameters) es)) k) values ≡ true
 values_fit [] k values h = cc
 values_fit (e ∷ es) zero values h = (and_parts (list_all is_i64 values) (is_within (map values_of e.parameters) values) h).1
 values_fit (e ∷ es) (suc k) values h = values_fit es k values h

@@ -21,7 +21,8 @@ use Rattle.pb_verifier.proofs.Merges.{IsBelow, AllSolid, Joined, AllFit, leads_f
 
 -- the rules are met at the places before q
 abbrev pub IsDone : Program → Table → ℕ → Type 0
-IsDone p table q = (r : ℕ) (i : Op) (k : AbstractState) → r < q → slice_get p.code r ≡ Some i → state_at table r ≡ Some k → FlowIsCovered table (transfer p (state_at_loop table (loops_around p.code r)) r i k)
+IsDone p table q = (r : ℕ) (i : Op) (k : AbstractState) → r < q → slice_get p.code r ≡ Some i
+    → state_at table r ≡ Some k → FlowIsCovered table (transfer p (state_at_loop table (loops_around p.code r)) r i k)
 
 -- something is known at each of these places
 abbrev pub AllKnown : Table → List ℕ → Type 0
@@ -67,7 +68,8 @@ target_later p q op.Close h = tt
 target_later p q (op.Emit z) h = tt
 target_later p q (op.Call z) h = tt
 
-pub later_edges : (p : Program) (home : Option AbstractState) (q : ℕ) (i : Op) (k : AbstractState) (es : List Edge) → HasValidTarget p q i → transfer p home q i k ≡ Some es → AllEdges (λ to m. q < to) es
+pub later_edges : (p : Program) (home : Option AbstractState) (q : ℕ) (i : Op) (k : AbstractState) (es : List Edge)
+    → HasValidTarget p q i → transfer p home q i k ≡ Some es → AllEdges (λ to m. q < to) es
 later_edges p home q i k es v e = rw e at (transfer_goes (λ to. q < to) q (omega arith) p home i k (target_later p q i v))
 
 -- the loops around a target are those around the jump
@@ -102,16 +104,24 @@ known_after T Leaves q k [] e a = tt
 known_after T Leaves q k (x ∷ qs) e a = a.1
 known_after T Straight q k qs e a = a
 
-body_edges : (p : Program) (T : Table) (home : Option AbstractState) (q : ℕ) (i : Op) (k m : AbstractState) (es : List Edge) → slice_get p.code q ≡ Some i → HasValidTarget p q i → AllKnown T (loops_around p.code q) → state_at T q ≡ Some m → transfer p home q i k ≡ Some es → AllEdges (λ to n. AllKnown T (loops_around p.code to)) es
+body_edges : (p : Program) (T : Table) (home : Option AbstractState) (q : ℕ) (i : Op) (k m : AbstractState)
+    (es : List Edge) → slice_get p.code q ≡ Some i → HasValidTarget p q i → AllKnown T (loops_around p.code q)
+    → state_at T q ≡ Some m → transfer p home q i k ≡ Some es → AllEdges (λ to n. AllKnown T (loops_around p.code to)) es
 body_edges p T home q i k m es at v a there e =
-    rw e at (transfer_goes (λ to. AllKnown T (loops_around p.code to)) q (rw (around_next p.code q i at) (known_after T (loop_effect i) q m (loops_around p.code q) there a)) p home i k (target_body p T q i v a))
+    rw e at (transfer_goes (λ to. AllKnown T (loops_around p.code to)) q
+    (rw (around_next p.code q i at) (known_after T (loop_effect i) q m (loops_around p.code q) there a)) p home i k
+    (target_body p T q i v a))
 
 -- ---- what is known after a merge was known before, or flowed there
 
-from_set : (P : ℕ → Type 0) (t : Table) (to : ℕ) (n : AbstractState) → P to → ((r : ℕ) (k : AbstractState) → state_at t r ≡ Some k → P r) → (r : ℕ) (k : AbstractState) → state_at (slice_set t to (Some n)) r ≡ Some k → P r
+from_set : (P : ℕ → Type 0) (t : Table) (to : ℕ) (n : AbstractState) → P to
+    → ((r : ℕ) (k : AbstractState) → state_at t r ≡ Some k → P r) → (r : ℕ) (k : AbstractState)
+    → state_at (slice_set t to (Some n)) r ≡ Some k → P r
 from_set P t to n here old r k e = ⊎_elim (λ (same : r ≡ to). subst P (sym same) here) (λ (differ : r ≡ to → ⊥). old r k (sym (set_other t to r n differ) ∙ e)) (cases_eq r to)
 
-from_state : (P : ℕ → Type 0) (t u : Table) (to : ℕ) (s : AbstractState) (o : Option (Option AbstractState)) → joined_at t to o s ≡ Some u → P to → ((r : ℕ) (k : AbstractState) → state_at t r ≡ Some k → P r) → (r : ℕ) (k : AbstractState) → state_at u r ≡ Some k → P r
+from_state : (P : ℕ → Type 0) (t u : Table) (to : ℕ) (s : AbstractState) (o : Option (Option AbstractState))
+    → joined_at t to o s ≡ Some u → P to → ((r : ℕ) (k : AbstractState) → state_at t r ≡ Some k → P r)
+    → (r : ℕ) (k : AbstractState) → state_at u r ≡ Some k → P r
 from_state P t u to s None e here old = absurd (none-some u e)
 from_state P t u to s (Some None) e here old = subst (λ v. (r : ℕ) (k : AbstractState) → state_at v r ≡ Some k → P r) (same_Some _ _ e) (from_set P t to s here old)
 from_state P t u to s (Some (Some m)) e here old = by (join_states m s) e
@@ -120,11 +130,14 @@ from_state P t u to s (Some (Some m)) e here old = by (join_states m s) e
     by None f = absurd (none-some u f)
     by (Some n) f = subst (λ v. (r : ℕ) (k : AbstractState) → state_at v r ≡ Some k → P r) (same_Some _ _ f) (from_set P t to n here old)
 
-from_edges : (P : ℕ → Type 0) (es : List Edge) (t u : Table) → merge_edges t es ≡ Some u → AllEdges (λ to m. P to) es → ((r : ℕ) (k : AbstractState) → state_at t r ≡ Some k → P r) → (r : ℕ) (k : AbstractState) → state_at u r ≡ Some k → P r
+from_edges : (P : ℕ → Type 0) (es : List Edge) (t u : Table) → merge_edges t es ≡ Some u → AllEdges (λ to m. P to) es
+    → ((r : ℕ) (k : AbstractState) → state_at t r ≡ Some k → P r) → (r : ℕ) (k : AbstractState) → state_at u r ≡ Some k → P r
 from_edges P [] t u e a old = subst (λ v. (r : ℕ) (k : AbstractState) → state_at v r ≡ Some k → P r) (same_Some t u e) old
 from_edges P (x ∷ es) t u e a old = by (merge_state t x.to x.state) refl e (λ v h next. from_edges P es v u h a.1 next)
   where
-    by : (o : Option Table) → merge_state t x.to x.state ≡ o → then_table o (λ v. merge_edges v es) ≡ Some u → ((v : Table) → merge_edges v es ≡ Some u → ((r : ℕ) (k : AbstractState) → state_at v r ≡ Some k → P r) → (r : ℕ) (k : AbstractState) → state_at u r ≡ Some k → P r) → (r : ℕ) (k : AbstractState) → state_at u r ≡ Some k → P r
+    by : (o : Option Table) → merge_state t x.to x.state ≡ o → then_table o (λ v. merge_edges v es) ≡ Some u
+        → ((v : Table) → merge_edges v es ≡ Some u → ((r : ℕ) (k : AbstractState) → state_at v r ≡ Some k → P r)
+        → (r : ℕ) (k : AbstractState) → state_at u r ≡ Some k → P r) → (r : ℕ) (k : AbstractState) → state_at u r ≡ Some k → P r
     by None m h f = absurd (none-some u h)
     by (Some v) m h f = f v h (from_state P t v x.to x.state (slice_get t x.to) m a.0 old)
 
@@ -159,10 +172,13 @@ module _ (p : Program) (w : IsStructured p) (limits : IsProgramWithinLimits p) w
       all_of_both (λ to m. Unit {0}) (λ to m. Unit {0}) q es (later_edges p _ q i k es (w.placed q i at) e)
       (solid_flow p (state_at_loop T (loops_around p.code q)) q i k es (limits.bounds q i at) (home_solid T _ (loops_around p.code q) c.solid refl) (c.solid q k there) e)
 
-  done_more : (old new : Table) (q : ℕ) (es : List Edge) → IsDone p old q → ((i : Op) (k : AbstractState) → slice_get p.code q ≡ Some i → state_at old q ≡ Some k → flow_at old q i k ≡ Some es) → Joined old new q es → IsDone p new (q + 1)
+  done_more : (old new : Table) (q : ℕ) (es : List Edge) → IsDone p old q
+      → ((i : Op) (k : AbstractState) → slice_get p.code q ≡ Some i → state_at old q ≡ Some k
+      → flow_at old q i k ≡ Some es) → Joined old new q es → IsDone p new (q + 1)
   done_more old new q es d f j r i k lt at there =
       let old_there : r ≤ q → state_at old r ≡ Some k = λ le. sym (j.earlier r le) ∙ there in
-      let home : r ≤ q → state_at_loop new (loops_around p.code r) ≡ state_at_loop old (loops_around p.code r) = λ le. home_same old new q r (loops_around p.code r) j.earlier le (around_below p.code r) in
+      let home : r ≤ q → state_at_loop new (loops_around p.code r) ≡ state_at_loop old (loops_around p.code r) =
+      λ le. home_same old new q r (loops_around p.code r) j.earlier le (around_below p.code r) in
       ⊎_elim
       (λ (less : r < q). rw (home (omega arith)) (covered_further old new _ j.grows (d r i k less at (old_there (omega arith)))))
       (λ (le : q ≤ r).
@@ -178,9 +194,13 @@ module _ (p : Program) (w : IsStructured p) (limits : IsProgramWithinLimits p) w
       (λ (le : q ≤ r). let same : r ≡ q = omega arith in let e = ap (state_at table) (sym same) in cc)
       (cases_lt r q)
 
-  kept_joined : (T U : Table) (q : ℕ) (i : Op) (k : AbstractState) (es : List Edge) → Kept p T q → slice_get p.code q ≡ Some i → state_at T q ≡ Some k → flow_at T q i k ≡ Some es → merge_edges T es ≡ Some U → Joined T U q es → Kept p U (q + 1)
+  kept_joined : (T U : Table) (q : ℕ) (i : Op) (k : AbstractState) (es : List Edge) → Kept p T q
+      → slice_get p.code q ≡ Some i → state_at T q ≡ Some k → flow_at T q i k ≡ Some es → merge_edges T es ≡ Some U
+      → Joined T U q es → Kept p U (q + 1)
   kept_joined T U q i k es c at there f e j = record {
-    done = done_more T U q es c.done (λ i' k' at' there'. subst (λ (x : Op). flow_at T q x k' ≡ Some es) (same_Some i i' (sym at ∙ at')) (subst (λ (x : AbstractState). flow_at T q i x ≡ Some es) (same_Some k k' (sym there ∙ there')) f)) j;
+    done = done_more T U q es c.done
+        (λ i' k' at' there'. subst (λ (x : Op). flow_at T q x k' ≡ Some es) (same_Some i i' (sym at ∙ at'))
+        (subst (λ (x : AbstractState). flow_at T q i x ≡ Some es) (same_Some k k' (sym there ∙ there')) f)) j;
     solid = j.solid;
     begins = leads_further T U _ j.grows c.begins;
     long = j.long ∙ c.long;
@@ -198,8 +218,12 @@ module _ (p : Program) (w : IsStructured p) (limits : IsProgramWithinLimits p) w
   then_visit T q i home (Some k) = then_table (transfer p home q i k) (merge_edges T)
 
   -- a place more is visited
-  pub kept_more : (T U : Table) (q : ℕ) (i : Op) (home : Option AbstractState) → home ≡ state_at_loop T (loops_around p.code q) → Kept p T q → slice_get p.code q ≡ Some i → (o : Option AbstractState) → state_at T q ≡ o → then_visit T q i home o ≡ Some U → Kept p U (q + 1)
-  kept_more T U q i home g c at None h e = subst (λ v. Kept p v (q + 1)) (same_Some T U e) (record { done = done_unknown T q c.done h; solid = c.solid; begins = c.begins; long = c.long; reached = c.reached })
+  pub kept_more : (T U : Table) (q : ℕ) (i : Op) (home : Option AbstractState)
+      → home ≡ state_at_loop T (loops_around p.code q) → Kept p T q → slice_get p.code q ≡ Some i
+      → (o : Option AbstractState) → state_at T q ≡ o → then_visit T q i home o ≡ Some U → Kept p U (q + 1)
+  kept_more T U q i home g c at None h e =
+      subst (λ v. Kept p v (q + 1)) (same_Some T U e)
+      (record { done = done_unknown T q c.done h; solid = c.solid; begins = c.begins; long = c.long; reached = c.reached })
   kept_more T U q i home g c at (Some k) h e = by (transfer p home q i k) refl e
     where
       by : (F : Flow) → transfer p home q i k ≡ F → then_table F (merge_edges T) ≡ Some U → Kept p U (q + 1)
@@ -209,7 +233,9 @@ module _ (p : Program) (w : IsStructured p) (limits : IsProgramWithinLimits p) w
           kept_joined T U q i k es c at h f' e (edges_joined es T U q (flow_fits T q i k es c at h f') c.solid e)
 
   -- earlier places stay as they were
-  pub earlier_more : (T U : Table) (q : ℕ) (i : Op) (home : Option AbstractState) → home ≡ state_at_loop T (loops_around p.code q) → Kept p T q → slice_get p.code q ≡ Some i → (o : Option AbstractState) → state_at T q ≡ o → then_visit T q i home o ≡ Some U → (r : ℕ) → r ≤ q → state_at U r ≡ state_at T r
+  pub earlier_more : (T U : Table) (q : ℕ) (i : Op) (home : Option AbstractState)
+      → home ≡ state_at_loop T (loops_around p.code q) → Kept p T q → slice_get p.code q ≡ Some i
+      → (o : Option AbstractState) → state_at T q ≡ o → then_visit T q i home o ≡ Some U → (r : ℕ) → r ≤ q → state_at U r ≡ state_at T r
   earlier_more T U q i home g c at None h e r le = ap (λ v. state_at v r) (sym (same_Some T U e))
   earlier_more T U q i home g c at (Some k) h e r le = by (transfer p home q i k) refl e
     where
@@ -223,13 +249,16 @@ module _ (p : Program) (w : IsStructured p) (limits : IsProgramWithinLimits p) w
   -- ---- refusal
 
   -- an accepted table covers what flows from a state that it covers
-  accepted_covers : (T A : Table) (q : ℕ) (i : Op) (k : AbstractState) → Kept p T q → IsBelow T A → Accepted p A → slice_get p.code q ≡ Some i → state_at T q ≡ Some k → FlowIsCovered A (flow_at T q i k)
+  accepted_covers : (T A : Table) (q : ℕ) (i : Op) (k : AbstractState) → Kept p T q → IsBelow T A → Accepted p A
+      → slice_get p.code q ≡ Some i → state_at T q ≡ Some k → FlowIsCovered A (flow_at T q i k)
   accepted_covers T A q i k c b a at there =
       let l = b q k there in
       flow_covered p A _ _ q i k l.known (limits.bounds q i at) (home_covers T A (loops_around p.code q) b (c.reached q k there)) l.covered (a.each q i l.known at l.there)
 
   -- where a place is refused, no table accepts the code
-  pub refused_at : (T A : Table) (q : ℕ) (i : Op) (home : Option AbstractState) → home ≡ state_at_loop T (loops_around p.code q) → Kept p T q → IsBelow T A → Accepted p A → slice_get p.code q ≡ Some i → (o : Option AbstractState) → state_at T q ≡ o → then_visit T q i home o ≡ None → ⊥
+  pub refused_at : (T A : Table) (q : ℕ) (i : Op) (home : Option AbstractState)
+      → home ≡ state_at_loop T (loops_around p.code q) → Kept p T q → IsBelow T A → Accepted p A
+      → slice_get p.code q ≡ Some i → (o : Option AbstractState) → state_at T q ≡ o → then_visit T q i home o ≡ None → ⊥
   refused_at T A q i home g c b a at None h e = none-some T (sym e)
   refused_at T A q i home g c b a at (Some k) h e = by (transfer p home q i k) refl e
     where
@@ -243,7 +272,9 @@ module _ (p : Program) (w : IsStructured p) (limits : IsProgramWithinLimits p) w
           edges_refused es T A q (flow_fits T q i k es c at h f') c.solid (c.long ∙ sym a.long) b (rw f at covered) e
 
   -- what is known stays below an accepted table
-  pub below_more : (T U A : Table) (q : ℕ) (i : Op) (home : Option AbstractState) → home ≡ state_at_loop T (loops_around p.code q) → Kept p T q → IsBelow T A → Accepted p A → slice_get p.code q ≡ Some i → (o : Option AbstractState) → state_at T q ≡ o → then_visit T q i home o ≡ Some U → IsBelow U A
+  pub below_more : (T U A : Table) (q : ℕ) (i : Op) (home : Option AbstractState)
+      → home ≡ state_at_loop T (loops_around p.code q) → Kept p T q → IsBelow T A → Accepted p A
+      → slice_get p.code q ≡ Some i → (o : Option AbstractState) → state_at T q ≡ o → then_visit T q i home o ≡ Some U → IsBelow U A
   below_more T U A q i home g c b a at None h e = subst (λ v. IsBelow v A) (same_Some T U e) b
   below_more T U A q i home g c b a at (Some k) h e = by (transfer p home q i k) refl e
     where

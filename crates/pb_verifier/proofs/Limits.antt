@@ -39,8 +39,12 @@ pub record EquationsFit (m : Contents) : Type 0 where
 
 equations_fit : (m : Contents) → fits m ≡ true → EquationsFit m
 equations_fit m h =
-    let a = and_parts (is_between 0 (MAX_STRUCTS + 1) (length m.sorts) && list_all fits_sort m.sorts) ((is_between 1 (MAX_EQUATIONS + 1) (length m.equations) && list_all (fits_equation m.version (counts m.sorts)) m.equations) && (nat_le (instance_count m.equations) MAX_INSTANCES && fits_initial m.equations m.initial)) h in
-    let b = and_parts (is_between 1 (MAX_EQUATIONS + 1) (length m.equations) && list_all (fits_equation m.version (counts m.sorts)) m.equations) (nat_le (instance_count m.equations) MAX_INSTANCES && fits_initial m.equations m.initial) a.1 in
+    let a = and_parts (is_between 0 (MAX_STRUCTS + 1) (length m.sorts) && list_all fits_sort m.sorts)
+    ((is_between 1 (MAX_EQUATIONS + 1) (length m.equations) && list_all (fits_equation m.version (counts m.sorts))
+    m.equations) && (nat_le (instance_count m.equations) MAX_INSTANCES && fits_initial m.equations m.initial)) h in
+    let b = and_parts
+    (is_between 1 (MAX_EQUATIONS + 1) (length m.equations) && list_all (fits_equation m.version (counts m.sorts))
+    m.equations) (nat_le (instance_count m.equations) MAX_INSTANCES && fits_initial m.equations m.initial) a.1 in
     let c = and_parts (is_between 1 (MAX_EQUATIONS + 1) (length m.equations)) (list_all (fits_equation m.version (counts m.sorts)) m.equations) b.0 in
     record { few = c.0; each = c.1; instances = (and_parts (nat_le (instance_count m.equations) MAX_INSTANCES) (fits_initial m.equations m.initial) b.1).0 }
 
@@ -106,7 +110,9 @@ code_within_limits m k e h at =
 
 -- ---- the layout
 
-few_parameters : (v : Version) (sizes : List ℕ) (es : List EquationContents) → list_all (fits_equation v sizes) es ≡ true → All (λ (ps : List Carrier). length ps ≤ MAX_PARAMETERS) (map (λ (e : EquationContents). e.parameters) es)
+few_parameters : (v : Version) (sizes : List ℕ) (es : List EquationContents)
+    → list_all (fits_equation v sizes) es ≡ true
+    → All (λ (ps : List Carrier). length ps ≤ MAX_PARAMETERS) (map (λ (e : EquationContents). e.parameters) es)
 few_parameters v sizes [] h k d lt = absurd (omega arith)
 few_parameters v sizes (e ∷ es) h zero d lt =
     let b = below 0 (MAX_PARAMETERS + 1) (length e.parameters) (code_fits v sizes e (and_parts (fits_equation v sizes e) (list_all (fits_equation v sizes) es) h).0).parameters in

@@ -72,7 +72,10 @@ pub stood_known : (t : Table) (to : ℕ) (o : Option AbstractState) → Stood t 
 stood_known t to o h = ap join_option h
 
 -- a state that covers what stood there and what came, and no more
-written : (t : Table) (q to : ℕ) (o : Option AbstractState) (s n : AbstractState) → q < to → Stood t to o → AllSolid t → IsCovered s n → IsCovered n n → ((k : AbstractState) → o ≡ Some k → IsCovered k n) → ((m : AbstractState) → ((k : AbstractState) → o ≡ Some k → IsCovered k m) → IsCovered s m → IsCovered n m) → Joined t (slice_set t to (Some n)) q (record { to = to; state = s } ∷ [])
+written : (t : Table) (q to : ℕ) (o : Option AbstractState) (s n : AbstractState) → q < to → Stood t to o → AllSolid t
+    → IsCovered s n → IsCovered n n → ((k : AbstractState) → o ≡ Some k → IsCovered k n)
+    → ((m : AbstractState) → ((k : AbstractState) → o ≡ Some k → IsCovered k m) → IsCovered s m → IsCovered n m)
+    → Joined t (slice_set t to (Some n)) q (record { to = to; state = s } ∷ [])
 written t q to o s n lt h solid sn nn old least =
     let here = set_same t to o n h in
     let at : (r : ℕ) (k : AbstractState) → state_at (slice_set t to (Some n)) r ≡ Some k → ((r ≡ to) × (k ≡ n)) ⊎ ((r ≡ to → ⊥) × (state_at t r ≡ Some k)) = λ r k e.
@@ -93,30 +96,46 @@ written t q to o s n lt h solid sn nn old least =
           let L = l.0 in
           ⊎_elim
           (λ (x : (r ≡ to) × (k ≡ n)).
-          let c : IsCovered n L.known = least L.known (λ k' f. let m = b to k' (stood_known t to o h ∙ f) in subst (λ (u : AbstractState). IsCovered k' u) (let g = m.there in let i = L.there in let same : m.known ≡ L.known = cc in same) m.covered) L.covered in
-          let g : Leads T (record { to = r; state = k }) = record { known = L.known; there = ap (state_at T) x.0 ∙ L.there; covered = subst (λ (u : AbstractState). IsCovered u L.known) (sym x.1) c } in g)
+          let c : IsCovered n L.known =
+          least L.known
+          (λ k' f. let m = b to k' (stood_known t to o h ∙ f) in
+          subst (λ (u : AbstractState). IsCovered k' u)
+          (let g = m.there in let i = L.there in let same : m.known ≡ L.known = cc in same) m.covered) L.covered in
+          let g : Leads T (record { to = r; state = k }) =
+          record {
+            known = L.known;
+            there = ap (state_at T) x.0 ∙ L.there;
+            covered =
+                subst (λ (u : AbstractState). IsCovered u L.known) (sym x.1) c;
+          } in g)
           (λ (x : (r ≡ to → ⊥) × (state_at t r ≡ Some k)). b r k x.1)
           (at r k e);
       solid = λ r k e. ⊎_elim (λ (x : (r ≡ to) × (k ≡ n)). subst (λ (u : AbstractState). IsCovered u u) (sym x.1) nn) (λ (x : (r ≡ to → ⊥) × (state_at t r ≡ Some k)). solid r k x.1) (at r k e);
       long = set_long t to n;
     }
 
-fresh : (t u : Table) (q to : ℕ) (s : AbstractState) → q < to → AllSolid t → IsCovered s s → slice_get t to ≡ Some None → slice_set t to (Some s) ≡ u → Joined t u q (record { to = to; state = s } ∷ [])
+fresh : (t u : Table) (q to : ℕ) (s : AbstractState) → q < to → AllSolid t → IsCovered s s → slice_get t to ≡ Some None
+    → slice_set t to (Some s) ≡ u → Joined t u q (record { to = to; state = s } ∷ [])
 fresh t u q to s lt solid ss h same =
     subst (λ v. Joined t v q (record { to = to; state = s } ∷ [])) same (written t q to None s s lt h solid ss ss (λ k g. absurd (none-some k g)) (λ m b sm. sm))
 
-widened : (t u : Table) (q to : ℕ) (s k n : AbstractState) → q < to → AllSolid t → IsCovered s s → slice_get t to ≡ Some (Some k) → join_states k s ≡ Some n → slice_set t to (Some n) ≡ u → Joined t u q (record { to = to; state = s } ∷ [])
+widened : (t u : Table) (q to : ℕ) (s k n : AbstractState) → q < to → AllSolid t → IsCovered s s
+    → slice_get t to ≡ Some (Some k) → join_states k s ≡ Some n → slice_set t to (Some n) ≡ u
+    → Joined t u q (record { to = to; state = s } ∷ [])
 widened t u q to s k n lt solid ss h f same =
     let c = join_covers k s n f (solid to k (stood_known t to (Some k) h)) ss in
     let nn = join_least k s n n f c.0 c.1 in
     subst (λ v. Joined t v q (record { to = to; state = s } ∷ [])) same
     (written t q to (Some k) s n lt h solid c.1 nn (λ k' g. subst (λ (x : AbstractState). IsCovered x n) (same_Some k k' g) c.0) (λ m b sm. join_least k s n m f (b k refl) sm))
 
-widened_by : (t u : Table) (q to : ℕ) (s k : AbstractState) (j : Option AbstractState) → q < to → AllSolid t → IsCovered s s → slice_get t to ≡ Some (Some k) → join_states k s ≡ j → put t to j ≡ Some u → Joined t u q (record { to = to; state = s } ∷ [])
+widened_by : (t u : Table) (q to : ℕ) (s k : AbstractState) (j : Option AbstractState) → q < to → AllSolid t
+    → IsCovered s s → slice_get t to ≡ Some (Some k) → join_states k s ≡ j → put t to j ≡ Some u
+    → Joined t u q (record { to = to; state = s } ∷ [])
 widened_by t u q to s k None lt solid ss h f e = absurd (none-some u e)
 widened_by t u q to s k (Some n) lt solid ss h f e = widened t u q to s k n lt solid ss h f (same_Some _ _ e)
 
-merge_by : (t u : Table) (q to : ℕ) (s : AbstractState) (o : Option (Option AbstractState)) → q < to → AllSolid t → IsCovered s s → slice_get t to ≡ o → joined_at t to o s ≡ Some u → Joined t u q (record { to = to; state = s } ∷ [])
+merge_by : (t u : Table) (q to : ℕ) (s : AbstractState) (o : Option (Option AbstractState)) → q < to → AllSolid t
+    → IsCovered s s → slice_get t to ≡ o → joined_at t to o s ≡ Some u → Joined t u q (record { to = to; state = s } ∷ [])
 merge_by t u q to s None lt solid ss h e = absurd (none-some u e)
 merge_by t u q to s (Some None) lt solid ss h e = fresh t u q to s lt solid ss h (same_Some _ _ e)
 merge_by t u q to s (Some (Some k)) lt solid ss h e = widened_by t u q to s k (join_states k s) lt solid ss h refl e
@@ -164,7 +183,8 @@ pub edges_joined : (es : List Edge) (t u : Table) (q : ℕ) → AllFit q es → 
 edges_joined [] t u q f s e = subst (λ v. Joined t v q []) (same_Some t u e) (nothing_joined t q s)
 edges_joined (e ∷ es) t u q f s h = by (merge_state t e.to e.state) refl h (λ v s' h'. edges_joined es v u q f.2 s' h')
   where
-    by : (o : Option Table) → merge_state t e.to e.state ≡ o → then_table o (λ v. merge_edges v es) ≡ Some u → ((v : Table) → AllSolid v → merge_edges v es ≡ Some u → Joined v u q es) → Joined t u q (e ∷ es)
+    by : (o : Option Table) → merge_state t e.to e.state ≡ o → then_table o (λ v. merge_edges v es) ≡ Some u
+        → ((v : Table) → AllSolid v → merge_edges v es ≡ Some u → Joined v u q es) → Joined t u q (e ∷ es)
     by None m h r = absurd (none-some u h)
     by (Some v) m h r =
         let a = merge_joined t v q e.to e.state f.0 s f.1 m in
@@ -174,7 +194,8 @@ pub edges_refused : (es : List Edge) (t T : Table) (q : ℕ) → AllFit q es →
 edges_refused [] t T q f s len b l h = none-some t (sym h)
 edges_refused (e ∷ es) t T q f s len b l h = by (merge_state t e.to e.state) refl h (λ v s' len' b' h'. edges_refused es v T q f.2 s' len' b' l.1 h')
   where
-    by : (o : Option Table) → merge_state t e.to e.state ≡ o → then_table o (λ v. merge_edges v es) ≡ None → ((v : Table) → AllSolid v → length v ≡ length T → IsBelow v T → merge_edges v es ≡ None → ⊥) → ⊥
+    by : (o : Option Table) → merge_state t e.to e.state ≡ o → then_table o (λ v. merge_edges v es) ≡ None
+        → ((v : Table) → AllSolid v → length v ≡ length T → IsBelow v T → merge_edges v es ≡ None → ⊥) → ⊥
     by None m h r = merge_refused t T e.to e.state len b l.0 m
     by (Some v) m h r =
         let a = merge_joined t v q e.to e.state f.0 s f.1 m in

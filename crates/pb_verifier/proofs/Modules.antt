@@ -31,7 +31,8 @@ parameters_map (e ∷ es) = ap (λ (cs : List (List Carrier)). parameters_of e �
 pub parameters_are : (m : Module) (sizes : List ℕ) (callees : List (List Carrier)) (es : List Equation) → IsOf m sizes callees es → callees ≡ parameters (module_contents m)
 parameters_are m sizes callees es o = o.callees_are ∙ parameters_map m.equations.items
 
-same_program : (m : Module) (sizes : List ℕ) (callees : List (List Carrier)) (es : List Equation) (e : Equation) → IsOf m sizes callees es → program_of (module_contents m) (equation_contents e) ≡ program_in sizes callees e
+same_program : (m : Module) (sizes : List ℕ) (callees : List (List Carrier)) (es : List Equation) (e : Equation)
+    → IsOf m sizes callees es → program_of (module_contents m) (equation_contents e) ≡ program_in sizes callees e
 same_program m sizes callees es e o = rw (o.sizes_are, parameters_are m sizes callees es o) refl
 
 -- the equation that is there
@@ -45,7 +46,9 @@ equation_at [] k x h = cc
 equation_at (e ∷ es) zero x h = record { equation = e; there = refl; says = let same : equation_contents e ≡ x = cc in same }
 equation_at (e ∷ es) (suc k) x h = let t = equation_at es k x h in record { equation = t.equation; there = t.there; says = t.says }
 
-pub each_within_limits : (m : Module) (sizes : List ℕ) (callees : List (List Carrier)) (es : List Equation) → IsOf m sizes callees es → fits (module_contents m) ≡ true → (k : ℕ) (e : Equation) → slice_get es k ≡ Some e → IsProgramWithinLimits (program_in sizes callees e)
+pub each_within_limits : (m : Module) (sizes : List ℕ) (callees : List (List Carrier)) (es : List Equation)
+    → IsOf m sizes callees es → fits (module_contents m) ≡ true → (k : ℕ) (e : Equation) → slice_get es k ≡ Some e
+    → IsProgramWithinLimits (program_in sizes callees e)
 each_within_limits m sizes callees es o f k e h =
     let here : slice_get m.equations.items k ≡ Some e = ap (λ (xs : List Equation). slice_get xs k) (sym o.equations_are) ∙ h in
     subst IsProgramWithinLimits (same_program m sizes callees es e o) (code_within_limits (module_contents m) k (equation_contents e) f (slice_get-mapped equation_contents m.equations.items k e here))
@@ -68,7 +71,10 @@ pub layout_fits : (m : Module) (sizes : List ℕ) (callees : List (List Carrier)
 layout_fits m sizes callees es o f = subst HasLayout (sym (parameters_are m sizes callees es o)) (has_layout (module_contents m) f)
 
 -- these are at hand where the parts were read out of the module
-pub is_of : {A : Type 0} → (m : Module) (sorts : List Sort) (equations es : List Equation) (sizes ss : List ℕ) (vs ws : List (Vec Carrier A)) → sorts ≡ m.sorts.items → equations ≡ m.equations.items → sizes ≡ counts (map sort_contents sorts) → map vec_items vs ≡ map parameters_of equations → ss ≡ sizes → ws ≡ vs → es ≡ m.equations.items → IsOf m ss (map vec_items ws) es
+pub is_of : {A : Type 0}
+    → (m : Module) (sorts : List Sort) (equations es : List Equation) (sizes ss : List ℕ) (vs ws : List (Vec Carrier A))
+    → sorts ≡ m.sorts.items → equations ≡ m.equations.items → sizes ≡ counts (map sort_contents sorts)
+    → map vec_items vs ≡ map parameters_of equations → ss ≡ sizes → ws ≡ vs → es ≡ m.equations.items → IsOf m ss (map vec_items ws) es
 is_of m sorts equations es sizes ss vs ws s e a b f g h = record {
   sizes_are = f ∙ a ∙ ap (λ xs. counts (map sort_contents xs)) s;
   callees_are = ap (map vec_items) g ∙ b ∙ ap (map parameters_of) e;
@@ -83,5 +89,6 @@ few_each (v ∷ vs) h (suc k) d lt = few_each vs (λ j e l. h (suc j) e (omega a
 pub few_lists : {A : Type 0} → (vs : List (Vec Carrier A)) → length (map vec_items vs) ≤ MAX_EQUATIONS → length vs ≤ MAX_EQUATIONS
 few_lists vs h = simp length-map at h
 
-pub verified_by : (m : Module) (sizes : List ℕ) (callees layout : List (List Carrier)) (es : List Equation) → IsOf m sizes callees es → HaveTables sizes callees es → layout ≡ callees → IsVerified (module_contents m) layout
+pub verified_by : (m : Module) (sizes : List ℕ) (callees layout : List (List Carrier)) (es : List Equation)
+    → IsOf m sizes callees es → HaveTables sizes callees es → layout ≡ callees → IsVerified (module_contents m) layout
 verified_by m sizes callees layout es o h e = record { accepted = accepted_by_tables m sizes callees es o h; laid_out = e ∙ parameters_are m sizes callees es o }

@@ -12,7 +12,9 @@ use Rattle.pb_bytecode_program.specs.declared.instruction.Op.{Op}
 use Rattle.pb_verifier.specs.Pass.{Homes, homes_after, innermost, merge_edges, passes, code_passes, initial_table, then_table, visited}
 
 -- what is known flows on
-pub known_flows : (p : Program) (q : ℕ) (i : Op) (o : Option AbstractState) (k : AbstractState) (home : Option AbstractState) (homes : Homes) (t : Table) (u : Option Table) → o ≡ Some k → home ≡ innermost homes → then_table (transfer p home q i k) (merge_edges t) ≡ u → visited p q i o homes t ≡ u
+pub known_flows : (p : Program) (q : ℕ) (i : Op) (o : Option AbstractState) (k : AbstractState)
+    (home : Option AbstractState) (homes : Homes) (t : Table) (u : Option Table) → o ≡ Some k → home ≡ innermost homes
+    → then_table (transfer p home q i k) (merge_edges t) ≡ u → visited p q i o homes t ≡ u
 known_flows p q i o k home homes t u e h r = rw (e, sym h) r
 
 -- ---- what follows of results
@@ -40,13 +42,18 @@ passes_begin p homes t h e = rw (h, e, drop_none p.code) refl
     drop_none (j ∷ code) = refl
 
 -- where a place is visited, the pass goes on behind it
-pub passes_next : (p : Program) (code : List Op) (q : ℕ) (i : Op) (homes after : Homes) (t u : Table) (all : Bool) → slice_get code q ≡ Some i → visited p q i (state_at t q) homes (slice_set t q None) ≡ Some u → after ≡ homes_after (loop_effect i) (state_at t q) homes → passes p q (drop q code) homes t ≡ all → passes p (q + 1) (drop (q + 1) code) after u ≡ all
+pub passes_next : (p : Program) (code : List Op) (q : ℕ) (i : Op) (homes after : Homes) (t u : Table) (all : Bool)
+    → slice_get code q ≡ Some i → visited p q i (state_at t q) homes (slice_set t q None) ≡ Some u
+    → after ≡ homes_after (loop_effect i) (state_at t q) homes → passes p q (drop q code) homes t ≡ all
+    → passes p (q + 1) (drop (q + 1) code) after u ≡ all
 passes_next p code q i homes after t u all e v h so_far =
     let here : passes p q (drop q code) homes t ≡ passes p (q + 1) (drop (q + 1) code) after u = rw (drop-slice_get code q i e, v, h) refl in
     sym here ∙ so_far
 
 -- where it is refused, the pass refuses the code
-pub passes_not : (p : Program) (code : List Op) (q : ℕ) (i : Op) (homes : Homes) (t : Table) (all : Bool) → slice_get code q ≡ Some i → visited p q i (state_at t q) homes (slice_set t q None) ≡ None → passes p q (drop q code) homes t ≡ all → all ≡ false
+pub passes_not : (p : Program) (code : List Op) (q : ℕ) (i : Op) (homes : Homes) (t : Table) (all : Bool)
+    → slice_get code q ≡ Some i → visited p q i (state_at t q) homes (slice_set t q None) ≡ None
+    → passes p q (drop q code) homes t ≡ all → all ≡ false
 passes_not p code q i homes t all e v so_far =
     let here : passes p q (drop q code) homes t ≡ false = rw (drop-slice_get code q i e, v) refl in
     sym so_far ∙ here

@@ -98,7 +98,19 @@ module _ (P : ℕ → Type 0) (q : ℕ) (next : P (q + 1)) where
 
   by_loop : (k : AbstractState) (i : ℕ) (o : Option Carrier) → Goes (Transfer.abstract_loop q k i o)
   by_loop k i None = tt
-  by_loop k i (Some c) = by_test (nat_lt (length k.loops) 8 && not (Transfer.among k.loops i) && is_inhabited c) (Transfer.to_next_place q (record { operands = []; operands_below = length k.operands + k.operands_below; parameters = k.parameters; loops = (i, abstraction_of c) ∷ k.loops; brackets = k.brackets; brackets_below = k.brackets; roots = k.roots })) (next, tt)
+  by_loop k i (Some c) =
+      by_test (nat_lt (length k.loops) 8 && not (Transfer.among k.loops i) && is_inhabited c)
+      (Transfer.to_next_place q
+      (record {
+        operands = [];
+        operands_below = length k.operands + k.operands_below;
+        parameters = k.parameters;
+        loops =
+            (i, abstraction_of c) ∷ k.loops;
+        brackets = k.brackets;
+        brackets_below = k.brackets;
+        roots = k.roots;
+      })) (next, tt)
 
   by_next : (k : AbstractState) (ss : List AbstractValue) (o : Option AbstractState) → Goes (Transfer.abstract_next q k ss o)
   by_next k ss None = tt
@@ -116,7 +128,11 @@ module _ (P : ℕ → Type 0) (q : ℕ) (next : P (q + 1)) where
   transfer_goes p home (op.PushEnum s j) k h = by_test (Transfer.enum_fits (slice_get p.sorts s) j) _ (by_push k k.operands (abstract.Enum s (Transfer.count_or_zero (slice_get p.sorts s))))
   transfer_goes p home (op.Get j) k h = by_slot (Transfer.abstract_slot k.loops k.parameters j) _ (λ s. by_push k k.operands s)
   transfer_goes p home op.Pop k h = by_any k.operands _ (λ s ss. (next, tt))
-  transfer_goes p home (op.Arithmetic a) k h = by_int k.operands _ (λ m n ss. by_int ss _ (λ l u ts. by_no_test (divides a && int_lt m (pos 1)) (Transfer.abstract_push_int q k ts (interval_of a l u m n)) (by_push_int k ts (interval_of a l u m n))))
+  transfer_goes p home (op.Arithmetic a) k h =
+      by_int k.operands _
+      (λ m n ss. by_int ss _
+      (λ l u ts. by_no_test (divides a && int_lt m (pos 1)) (Transfer.abstract_push_int q k ts (interval_of a l u m n))
+      (by_push_int k ts (interval_of a l u m n))))
   transfer_goes p home op.Negate k h = by_int k.operands _ (λ l u ss. by_push_int k ss (neg_ℤ u, neg_ℤ l))
   transfer_goes p home op.Absolute k h = by_int k.operands _ (λ l u ss. by_push_int k ss (absolute_interval l u))
   transfer_goes p home (op.Compare o) k h = by_int k.operands _ (λ m n ss. by_int ss _ (λ l u ts. by_push k ts abstract.Bool))
@@ -126,7 +142,9 @@ module _ (P : ℕ → Type 0) (q : ℕ) (next : P (q + 1)) where
   transfer_goes p home (op.Jump to) k h = (h, tt)
   transfer_goes p home (op.JumpIf on to) k h = by_bool k.operands _ (λ ss. (next, (h, tt)))
   transfer_goes p home (op.InRange low high to) k h = by_int k.operands _ (λ l u ss. by_range (int_le l high && int_le low u) (not (int_le low l && int_le u high)) to _ _ h)
-  transfer_goes p home (op.SlotInRange j low high to) k h = by_slot (Transfer.abstract_slot k.loops k.parameters j) _ (λ s. by_interval s _ (λ l u. by_range (int_le l high && int_le low u) (not (int_le low l && int_le u high)) to _ _ h))
+  transfer_goes p home (op.SlotInRange j low high to) k h =
+      by_slot (Transfer.abstract_slot k.loops k.parameters j) _
+      (λ s. by_interval s _ (λ l u. by_range (int_le l high && int_le low u) (not (int_le low l && int_le u high)) to _ _ h))
   transfer_goes p home (op.Loop j) k h = by_loop k j (carrier_of p j)
   transfer_goes p home op.Next k h = by_next k k.operands home
   transfer_goes p home (op.Open c) k h = by_test (nat_lt k.brackets 32) _ (by_root k.brackets k.roots _ (λ r. (next, tt)))

@@ -47,14 +47,16 @@ homes_same : (T U : Table) (q r : ℕ) (qs : List ℕ) → ((x : ℕ) → x ≤ 
 homes_same T U q r [] e l a = refl
 homes_same T U q r (x ∷ qs) e l a = let b = a.0 in rw (e x (omega arith), homes_same T U q r qs e l a.1) refl
 
-homes_step : (t : LoopEffect) (T U : Table) (q : ℕ) (qs : List ℕ) (homes : Homes) (o : Option AbstractState) → homes ≡ map (state_at U) qs → o ≡ state_at U q → homes_after t o homes ≡ map (state_at U) (loops_after t q qs)
+homes_step : (t : LoopEffect) (T U : Table) (q : ℕ) (qs : List ℕ) (homes : Homes) (o : Option AbstractState)
+    → homes ≡ map (state_at U) qs → o ≡ state_at U q → homes_after t o homes ≡ map (state_at U) (loops_after t q qs)
 homes_step (Enters i) T U q qs homes o h e = rw (h, e) refl
 homes_step Leaves T U q [] homes o h e = rw h refl
 homes_step Leaves T U q (x ∷ qs) homes o h e = rw h refl
 homes_step Straight T U q qs homes o h e = h
 
 module _ (p : Program) (w : IsStructured p) (limits : IsProgramWithinLimits p) where
-  later : (T t : Table) (homes : Homes) (q : ℕ) (i : Op) → slice_get p.code q ≡ Some i → (a : Agrees p T t homes q) → SameResult q (visited p q i (state_at t q) homes (slice_set t q None)) (visited p q i (state_at T q) homes T)
+  later : (T t : Table) (homes : Homes) (q : ℕ) (i : Op) → slice_get p.code q ≡ Some i → (a : Agrees p T t homes q)
+      → SameResult q (visited p q i (state_at t q) homes (slice_set t q None)) (visited p q i (state_at T q) homes T)
   later T t homes q i at a = visited_agrees p T t homes q i a (λ k es e. later_edges p (innermost homes) q i k es (w.placed q i at) e)
 
   same_visit : (T : Table) (homes : Homes) (q : ℕ) (i : Op) (o : Option AbstractState) → then_visit p w limits T q i (innermost homes) o ≡ visited p q i o homes T
@@ -62,14 +64,20 @@ module _ (p : Program) (w : IsStructured p) (limits : IsProgramWithinLimits p) w
   same_visit T homes q i (Some k) = refl
 
   -- what is known after a place
-  agrees_more : (T U t u : Table) (homes : Homes) (q : ℕ) (i : Op) → slice_get p.code q ≡ Some i → Agrees p T t homes q → SameBehind q u U → ((r : ℕ) → r ≤ q → state_at U r ≡ state_at T r) → Agrees p U u (homes_after (loop_effect i) (state_at t q) homes) (q + 1)
+  agrees_more : (T U t u : Table) (homes : Homes) (q : ℕ) (i : Op) → slice_get p.code q ≡ Some i → Agrees p T t homes q
+      → SameBehind q u U → ((r : ℕ) → r ≤ q → state_at U r ≡ state_at T r)
+      → Agrees p U u (homes_after (loop_effect i) (state_at t q) homes) (q + 1)
   agrees_more T U t u homes q i at a s earlier = record {
     same = λ r le. s.0 r (omega arith);
     long = s.1;
-    known = rw (around_next p.code q i at) (homes_step (loop_effect i) T U q (loops_around p.code q) homes (state_at t q) (a.known ∙ homes_same T U q q (loops_around p.code q) earlier (omega arith) (around_below p.code q)) (a.same q (omega arith) ∙ sym (earlier q (omega arith))));
+    known = rw (around_next p.code q i at)
+        (homes_step (loop_effect i) T U q (loops_around p.code q) homes (state_at t q)
+        (a.known ∙ homes_same T U q q (loops_around p.code q) earlier (omega arith) (around_below p.code q))
+        (a.same q (omega arith) ∙ sym (earlier q (omega arith))));
   }
 
-  all_kept : (is : List Op) (q : ℕ) (T t : Table) (homes : Homes) → drop q p.code ≡ is → q ≤ length p.code → Kept p T q → Agrees p T t homes q → passes p q is homes t ≡ true → (U : Table) × Kept p U (length p.code)
+  all_kept : (is : List Op) (q : ℕ) (T t : Table) (homes : Homes) → drop q p.code ≡ is → q ≤ length p.code → Kept p T q
+      → Agrees p T t homes q → passes p q is homes t ≡ true → (U : Table) × Kept p U (length p.code)
   all_kept [] q T t homes d l c a e = let same : q ≡ length p.code = let x = end_at p.code q d in omega arith in (T, subst (Kept p T) same c)
   all_kept (i ∷ is) q T t homes d l c a e =
       let at = head_at p.code q i is d in
@@ -82,7 +90,9 @@ module _ (p : Program) (w : IsStructured p) (limits : IsProgramWithinLimits p) w
       next : Table → Bool
       next = passes p (q + 1) is (homes_after (loop_effect i) (state_at t q) homes)
 
-      by : (o O : Option Table) → visited p q i (state_at T q) homes T ≡ O → SameResult q o O → passes_on o next ≡ true → ((u U : Table) → visited p q i (state_at T q) homes T ≡ Some U → SameBehind q u U → next u ≡ true → (V : Table) × Kept p V (length p.code)) → (V : Table) × Kept p V (length p.code)
+      by : (o O : Option Table) → visited p q i (state_at T q) homes T ≡ O → SameResult q o O → passes_on o next ≡ true
+          → ((u U : Table) → visited p q i (state_at T q) homes T ≡ Some U → SameBehind q u U → next u ≡ true
+          → (V : Table) × Kept p V (length p.code)) → (V : Table) × Kept p V (length p.code)
       by None O v s e f = cc
       by (Some u) None v s e f = absurd s
       by (Some u) (Some U) v s e f = f u U v s e
@@ -102,7 +112,9 @@ module _ (p : Program) (w : IsStructured p) (limits : IsProgramWithinLimits p) w
       next : Table → Bool
       next = passes p (q + 1) is (homes_after (loop_effect i) (state_at t q) homes)
 
-      by : (o O : Option Table) → visited p q i (state_at T q) homes T ≡ O → SameResult q o O → passes_on o next ≡ false → ((u U : Table) → visited p q i (state_at T q) homes T ≡ Some U → SameBehind q u U → next u ≡ false → ⊥) → (visited p q i (state_at T q) homes T ≡ None → ⊥) → ⊥
+      by : (o O : Option Table) → visited p q i (state_at T q) homes T ≡ O → SameResult q o O → passes_on o next ≡ false
+          → ((u U : Table) → visited p q i (state_at T q) homes T ≡ Some U → SameBehind q u U → next u ≡ false → ⊥)
+          → (visited p q i (state_at T q) homes T ≡ None → ⊥) → ⊥
       by None None v s e f g = g v
       by None (Some U) v s e f g = absurd s
       by (Some u) None v s e f g = absurd s
@@ -152,7 +164,9 @@ opening_agrees : (p : Program) → Agrees p (initial_table p) (initial_table p) 
 opening_agrees p = record { same = λ r le. refl; long = refl; known = rw (start_around p.code) refl }
 
 -- where the pass ends, a table accepts the code
-pub pass_sound : (p : Program) → IsStructured p → IsProgramWithinLimits p → static_steps p ≤ p.stated_steps → p.stated_steps ≤ MAX_STEPS → static_tokens p ≤ p.stated_tokens → p.stated_tokens ≤ MAX_TOKENS → code_passes p ≡ true → (table : Table) × Accepted p table
+pub pass_sound : (p : Program) → IsStructured p → IsProgramWithinLimits p → static_steps p ≤ p.stated_steps
+    → p.stated_steps ≤ MAX_STEPS → static_tokens p ≤ p.stated_tokens → p.stated_tokens ≤ MAX_TOKENS
+    → code_passes p ≡ true → (table : Table) × Accepted p table
 pass_sound p w l a b c d e =
     let k = all_kept p w l p.code 0 (initial_table p) (initial_table p) [] refl (omega arith) (opening_kept p l) (opening_agrees p) e in (
       k.0,
@@ -176,5 +190,11 @@ pub pass_complete : (p : Program) (A : Table) → IsStructured p → IsProgramWi
 pass_complete p A w l e ok =
     none_kept p w l A p.code 0 (initial_table p) (initial_table p) [] ok refl (opening_kept p l)
     (λ r k h. let x = open_known p r k l.some h in let b = ok.begins in
-    let g : Leads A (record { to = r; state = k }) = record { known = b.known; there = ap (state_at A) x.0 ∙ b.there; covered = subst (λ (u : AbstractState). IsCovered u b.known) (sym x.1) b.covered } in g)
+    let g : Leads A (record { to = r; state = k }) =
+    record {
+      known = b.known;
+      there = ap (state_at A) x.0 ∙ b.there;
+      covered =
+          subst (λ (u : AbstractState). IsCovered u b.known) (sym x.1) b.covered;
+    } in g)
     (opening_agrees p) e

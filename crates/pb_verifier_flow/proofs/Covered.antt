@@ -24,14 +24,16 @@ from_edges T (Some es) f = all es f
     all [] l = tt
     all (e ∷ es) l = (l.0, all es l.1)
 
-pub flow_covered : (p : Program) (T : Table) (g h : Option AbstractState) (q : ℕ) (i : Op) (k m : AbstractState) → HasOrderedRange i → IsCoveredAtLoop g h → IsCovered k m → FlowIsCovered T (transfer p h q i m) → FlowIsCovered T (transfer p g q i k)
+pub flow_covered : (p : Program) (T : Table) (g h : Option AbstractState) (q : ℕ) (i : Op) (k m : AbstractState)
+    → HasOrderedRange i → IsCoveredAtLoop g h → IsCovered k m → FlowIsCovered T (transfer p h q i m) → FlowIsCovered T (transfer p g q i k)
 flow_covered p T g h q i k m b e c f =
     let P : ℕ → AbstractState → Type 0 = λ to n. Leads T (record { to = to; state = n }) in
     let down : (to : ℕ) (x y : AbstractState) → IsCovered x y → P to y → P to x = λ to x y d l. record { known = l.known; there = l.there; covered = through x y l.known d l.covered } in
     from_edges T _ (transfer-covers P P down k m c p g h q i b e (to_edges T _ f))
 
 -- what flows from a state that covers itself does so
-pub solid_flow : (p : Program) (g : Option AbstractState) (q : ℕ) (i : Op) (k : AbstractState) (es : List Edge) → HasOrderedRange i → IsCoveredAtLoop g g → IsCovered k k → transfer p g q i k ≡ Some es → AllEdges (λ to m. IsCovered m m) es
+pub solid_flow : (p : Program) (g : Option AbstractState) (q : ℕ) (i : Op) (k : AbstractState) (es : List Edge)
+    → HasOrderedRange i → IsCoveredAtLoop g g → IsCovered k k → transfer p g q i k ≡ Some es → AllEdges (λ to m. IsCovered m m) es
 solid_flow p g q i k es b e c f =
     let P : ℕ → AbstractState → Type 0 = λ to m. Unit {0} in
     let Q : ℕ → AbstractState → Type 0 = λ to m. IsCovered m m in

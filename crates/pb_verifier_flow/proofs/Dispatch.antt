@@ -35,11 +35,16 @@ module _ (ss : List ℕ) (cs : List (List Carrier)) (k : AbstractState) where
   flows_to i j (Ok m) e h = λ p home q a b. rw e (h p home q)
   flows_to i j (Err x) e h = h
 
-  pub goes_enum : (s x : ℕ) (j : Op) (r : Result AbstractState (OrMemory AcceptanceRule)) → j ≡ op.PushEnum s x → IfOk r (λ m. (p : Program) (home : Option AbstractState) (q : ℕ) → p.sorts ≡ ss → transfer p home q (op.PushEnum s x) k ≡ to_next_place q m) → IfOk r (λ m. Does ss cs j k (λ q. to_next_place q m))
+  pub goes_enum : (s x : ℕ) (j : Op) (r : Result AbstractState (OrMemory AcceptanceRule)) → j ≡ op.PushEnum s x
+      → IfOk r (λ m. (p : Program) (home : Option AbstractState) (q : ℕ) → p.sorts ≡ ss
+      → transfer p home q (op.PushEnum s x) k ≡ to_next_place q m) → IfOk r (λ m. Does ss cs j k (λ q. to_next_place q m))
   goes_enum s x j (Ok m) e h = λ p home q a b. rw e (h p home q a)
   goes_enum s x j (Err y) e h = h
 
-  pub fails_enum : (s x : ℕ) (j : Op) (r : Result AbstractState (OrMemory AcceptanceRule)) → j ≡ op.PushEnum s x → OnRefused r ((p : Program) (home : Option AbstractState) (q : ℕ) → p.sorts ≡ ss → transfer p home q (op.PushEnum s x) k ≡ None) → OnRefused r (Does ss cs j k (λ q. None))
+  pub fails_enum : (s x : ℕ) (j : Op) (r : Result AbstractState (OrMemory AcceptanceRule)) → j ≡ op.PushEnum s x
+      → OnRefused r
+      ((p : Program) (home : Option AbstractState) (q : ℕ) → p.sorts ≡ ss
+      → transfer p home q (op.PushEnum s x) k ≡ None) → OnRefused r (Does ss cs j k (λ q. None))
   fails_enum s x j (Ok m) e h = tt
   fails_enum s x j (Err (Refused y)) e h = λ p home q a b. rw e (h p home q a)
   fails_enum s x j (Err Memory) e h = tt
@@ -52,14 +57,21 @@ module _ (ss : List ℕ) (cs : List (List Carrier)) (k : AbstractState) where
   fails_on i j e h = λ p home q a b. rw e (h p home q)
 
   -- an enumerator that the sort has
-  enum_pushed : (s x n : ℕ) (F : ℕ → Flow) → Some n ≡ slice_get ss s → x < n → ((q : ℕ) → abstract_push q k k.operands (abstract.Enum s n) ≡ F q) → (p : Program) (home : Option AbstractState) (q : ℕ) → p.sorts ≡ ss → transfer p home q (op.PushEnum s x) k ≡ F q
+  enum_pushed : (s x n : ℕ) (F : ℕ → Flow) → Some n ≡ slice_get ss s → x < n
+      → ((q : ℕ) → abstract_push q k k.operands (abstract.Enum s n) ≡ F q)
+      → (p : Program) (home : Option AbstractState) (q : ℕ) → p.sorts ≡ ss → transfer p home q (op.PushEnum s x) k ≡ F q
   enum_pushed s x n F e l h = λ p home q a. rw (a, sym e) (cond-true _ _ _ (lt-ltb x n l) ∙ h q)
 
-  pub enum_goes : (s x n : ℕ) (r : Result AbstractState (OrMemory AcceptanceRule)) → Some n ≡ slice_get ss s → x < n → IfOk r (λ m. (q : ℕ) → abstract_push q k k.operands (abstract.Enum s n) ≡ to_next_place q m) → IfOk r (λ m. (p : Program) (home : Option AbstractState) (q : ℕ) → p.sorts ≡ ss → transfer p home q (op.PushEnum s x) k ≡ to_next_place q m)
+  pub enum_goes : (s x n : ℕ) (r : Result AbstractState (OrMemory AcceptanceRule)) → Some n ≡ slice_get ss s → x < n
+      → IfOk r (λ m. (q : ℕ) → abstract_push q k k.operands (abstract.Enum s n) ≡ to_next_place q m)
+      → IfOk r (λ m. (p : Program) (home : Option AbstractState) (q : ℕ) → p.sorts ≡ ss
+      → transfer p home q (op.PushEnum s x) k ≡ to_next_place q m)
   enum_goes s x n (Ok m) e l h = enum_pushed s x n (λ q. to_next_place q m) e l h
   enum_goes s x n (Err y) e l h = h
 
-  pub enum_fails : (s x n : ℕ) (r : Result AbstractState (OrMemory AcceptanceRule)) → Some n ≡ slice_get ss s → x < n → OnRefused r ((q : ℕ) → abstract_push q k k.operands (abstract.Enum s n) ≡ None) → OnRefused r ((p : Program) (home : Option AbstractState) (q : ℕ) → p.sorts ≡ ss → transfer p home q (op.PushEnum s x) k ≡ None)
+  pub enum_fails : (s x n : ℕ) (r : Result AbstractState (OrMemory AcceptanceRule)) → Some n ≡ slice_get ss s → x < n
+      → OnRefused r ((q : ℕ) → abstract_push q k k.operands (abstract.Enum s n) ≡ None)
+      → OnRefused r ((p : Program) (home : Option AbstractState) (q : ℕ) → p.sorts ≡ ss → transfer p home q (op.PushEnum s x) k ≡ None)
   enum_fails s x n (Ok m) e l h = tt
   enum_fails s x n (Err (Refused y)) e l h = enum_pushed s x n (λ q. None) e l h
   enum_fails s x n (Err Memory) e l h = tt
@@ -70,7 +82,9 @@ module _ (ss : List ℕ) (cs : List (List Carrier)) (k : AbstractState) where
   named i j (Err (Refused x)) e h = rw e (h ss cs)
   named i j (Err Memory) e h = tt
 
-  pub named_enum : {A : Type 0} → (s x : ℕ) (j : Op) (r : Result A (OrMemory AcceptanceRule)) → j ≡ op.PushEnum s x → IfRefused r (λ y. (callees : List (List Carrier)) → y ≡ named_rule ss callees (op.PushEnum s x) k) → IfRefused r (λ y. y ≡ named_rule ss cs j k)
+  pub named_enum : {A : Type 0} → (s x : ℕ) (j : Op) (r : Result A (OrMemory AcceptanceRule)) → j ≡ op.PushEnum s x
+      → IfRefused r (λ y. (callees : List (List Carrier)) → y ≡ named_rule ss callees (op.PushEnum s x) k)
+      → IfRefused r (λ y. y ≡ named_rule ss cs j k)
   named_enum s x j (Ok m) e h = tt
   named_enum s x j (Err (Refused y)) e h = rw e (h cs)
   named_enum s x j (Err Memory) e h = tt

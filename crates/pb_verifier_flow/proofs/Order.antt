@@ -51,4 +51,15 @@ solid_loops (x ∷ s) [] c = absurd c
 solid_loops (x ∷ s) (y ∷ t) c = (refl, solid_one x.1 y.1 c.1, solid_loops s t c.2)
 
 pub solid_left : (k m : AbstractState) → IsCovered k m → IsCovered k k
-solid_left k m c = record { operands = solid_each k.operands m.operands c.operands; operands_below = refl; parameters = solid_each k.parameters m.parameters c.parameters; loops = solid_loops k.loops m.loops c.loops; brackets = refl; brackets_below = refl; roots = refl }
+solid_left k m c =
+    record {
+      operands = solid_each k.operands m.operands c.operands;
+      operands_below = refl;
+      parameters =
+          solid_each k.parameters m.parameters c.parameters;
+      loops = solid_loops k.loops m.loops c.loops;
+      brackets =
+          refl;
+      brackets_below = refl;
+      roots = refl;
+    }

@@ -17,18 +17,30 @@ use Rattle.pb_verifier_states.specs.Kinds.{are_there}
 use Rattle.pb_verifier_states.specs.NamedRule.{named_at_numbers}
 use Rattle.pb_verifier_states.specs.declared.rule.AcceptanceRule.TheVariants as rule
 
-fitting_push : (q : ℕ) (k : AbstractState) (ss : List AbstractValue) (j : ℤ × ℤ) (i : IntegerInterval) → Some i ≡ fitting j → nat_lt (length ss + k.operands_below) 32 ≡ true → abstract_push_int q k ss j ≡ to_next_place q (record k { operands = abstract.Int i.low i.high ∷ ss })
+fitting_push : (q : ℕ) (k : AbstractState) (ss : List AbstractValue) (j : ℤ × ℤ) (i : IntegerInterval)
+    → Some i ≡ fitting j → nat_lt (length ss + k.operands_below) 32 ≡ true
+    → abstract_push_int q k ss j ≡ to_next_place q (record k { operands = abstract.Int i.low i.high ∷ ss })
 fitting_push q k ss j i e r = by (fits64 j.0 j.1) e
   where
-    by : (b : Bool) → Some i ≡ cond b (Some (record { low = j.0; high = j.1 })) None → cond b (abstract_push q k ss (abstract.Int j.0 j.1)) None ≡ to_next_place q (record k { operands = abstract.Int i.low i.high ∷ ss })
+    by : (b : Bool) → Some i ≡ cond b (Some (record { low = j.0; high = j.1 })) None
+        → cond b (abstract_push q k ss (abstract.Int j.0 j.1)) None
+        ≡ to_next_place q (record k { operands = abstract.Int i.low i.high ∷ ss })
     by true f = let same : i ≡ record { low = j.0; high = j.1 } = cc in rw same (cond-true _ _ _ r)
     by false f = cc
 
-pub arithmetic_goes_on : (o : Arithmetic) (k k1 k2 k3 : AbstractState) (b a i : IntegerInterval) → k ≡ record k1 { operands = abstract.Int b.low b.high ∷ k1.operands } → k1 ≡ record k2 { operands = abstract.Int a.low a.high ∷ k2.operands } → (divides o && int_lt b.low (pos 1)) ≡ false → Some i ≡ fitting (interval_of o a.low a.high b.low b.high) → nat_lt (length k2.operands + k2.operands_below) 32 ≡ true → k3 ≡ record k2 { operands = abstract.Int i.low i.high ∷ k2.operands } → GoesOn (op.Arithmetic o) k k3
+pub arithmetic_goes_on : (o : Arithmetic) (k k1 k2 k3 : AbstractState) (b a i : IntegerInterval)
+    → k ≡ record k1 { operands = abstract.Int b.low b.high ∷ k1.operands }
+    → k1 ≡ record k2 { operands = abstract.Int a.low a.high ∷ k2.operands }
+    → (divides o && int_lt b.low (pos 1)) ≡ false → Some i ≡ fitting (interval_of o a.low a.high b.low b.high)
+    → nat_lt (length k2.operands + k2.operands_below) 32 ≡ true
+    → k3 ≡ record k2 { operands = abstract.Int i.low i.high ∷ k2.operands } → GoesOn (op.Arithmetic o) k k3
 arithmetic_goes_on o k k1 k2 k3 b a i e f d j r g = λ p home q. rw (e, f, g) (cond-false _ _ _ d ∙ fitting_push q k2 k2.operands (interval_of o a.low a.high b.low b.high) i j r)
 
 -- a second operand that may be below 1 where it divides
-pub divisor_fails : (o : Arithmetic) (k k1 k2 : AbstractState) (b a : IntegerInterval) → k ≡ record k1 { operands = abstract.Int b.low b.high ∷ k1.operands } → k1 ≡ record k2 { operands = abstract.Int a.low a.high ∷ k2.operands } → (divides o && int_lt b.low (pos 1)) ≡ true → Fails (op.Arithmetic o) k
+pub divisor_fails : (o : Arithmetic) (k k1 k2 : AbstractState) (b a : IntegerInterval)
+    → k ≡ record k1 { operands = abstract.Int b.low b.high ∷ k1.operands }
+    → k1 ≡ record k2 { operands = abstract.Int a.low a.high ∷ k2.operands } → (divides o && int_lt b.low (pos 1)) ≡ true
+    → Fails (op.Arithmetic o) k
 divisor_fails o k k1 k2 b a e f d = λ p home q. rw (e, f) (cond-true _ _ _ d)
 
 unfitting : (q : ℕ) (k : AbstractState) (ss : List AbstractValue) (j : ℤ × ℤ) → None ≡ fitting j → abstract_push_int q k ss j ≡ None
@@ -39,17 +51,27 @@ unfitting q k ss j e = by (fits64 j.0 j.1) e
     by false f = refl
 
 -- an interval of results that does not fit
-pub overflow_fails : (o : Arithmetic) (k k1 k2 : AbstractState) (b a : IntegerInterval) → k ≡ record k1 { operands = abstract.Int b.low b.high ∷ k1.operands } → k1 ≡ record k2 { operands = abstract.Int a.low a.high ∷ k2.operands } → (divides o && int_lt b.low (pos 1)) ≡ false → None ≡ fitting (interval_of o a.low a.high b.low b.high) → Fails (op.Arithmetic o) k
+pub overflow_fails : (o : Arithmetic) (k k1 k2 : AbstractState) (b a : IntegerInterval)
+    → k ≡ record k1 { operands = abstract.Int b.low b.high ∷ k1.operands }
+    → k1 ≡ record k2 { operands = abstract.Int a.low a.high ∷ k2.operands }
+    → (divides o && int_lt b.low (pos 1)) ≡ false → None ≡ fitting (interval_of o a.low a.high b.low b.high) → Fails (op.Arithmetic o) k
 overflow_fails o k k1 k2 b a e f d n = λ p home q. rw (e, f) (cond-false _ _ _ d ∙ unfitting q k2 k2.operands (interval_of o a.low a.high b.low b.high) n)
 
-pub two_on_top : (k k1 k2 : AbstractState) (b a : IntegerInterval) → k ≡ record k1 { operands = abstract.Int b.low b.high ∷ k1.operands } → k1 ≡ record k2 { operands = abstract.Int a.low a.high ∷ k2.operands } → k.operands ≡ abstract.Int b.low b.high ∷ abstract.Int a.low a.high ∷ k2.operands
+pub two_on_top : (k k1 k2 : AbstractState) (b a : IntegerInterval)
+    → k ≡ record k1 { operands = abstract.Int b.low b.high ∷ k1.operands }
+    → k1 ≡ record k2 { operands = abstract.Int a.low a.high ∷ k2.operands }
+    → k.operands ≡ abstract.Int b.low b.high ∷ abstract.Int a.low a.high ∷ k2.operands
 two_on_top k k1 k2 b a e f = ap (λ (s : AbstractState). s.operands) e ∙ ap (λ (s : AbstractState). abstract.Int b.low b.high ∷ s.operands) f
 
 two_there : (x y : AbstractValue) (ss : List AbstractValue) → are_there 2 (x ∷ y ∷ ss) ≡ true
 two_there x y ss = grind (arith, common_steps)
 
-pub divisor_named : (is_divided : Bool) (b a : IntegerInterval) (ss : List AbstractValue) → (is_divided && int_lt b.low (pos 1)) ≡ true → rule.Divisor ≡ named_at_numbers is_divided (abstract.Int b.low b.high ∷ abstract.Int a.low a.high ∷ ss)
+pub divisor_named : (is_divided : Bool) (b a : IntegerInterval) (ss : List AbstractValue)
+    → (is_divided && int_lt b.low (pos 1)) ≡ true
+    → rule.Divisor ≡ named_at_numbers is_divided (abstract.Int b.low b.high ∷ abstract.Int a.low a.high ∷ ss)
 divisor_named is_divided b a ss d = rw (two_there (abstract.Int b.low b.high) (abstract.Int a.low a.high) ss, d) refl
 
-pub overflow_named : (is_divided : Bool) (b a : IntegerInterval) (ss : List AbstractValue) → (is_divided && int_lt b.low (pos 1)) ≡ false → rule.Overflow ≡ named_at_numbers is_divided (abstract.Int b.low b.high ∷ abstract.Int a.low a.high ∷ ss)
+pub overflow_named : (is_divided : Bool) (b a : IntegerInterval) (ss : List AbstractValue)
+    → (is_divided && int_lt b.low (pos 1)) ≡ false
+    → rule.Overflow ≡ named_at_numbers is_divided (abstract.Int b.low b.high ∷ abstract.Int a.low a.high ∷ ss)
 overflow_named is_divided b a ss d = rw (two_there (abstract.Int b.low b.high) (abstract.Int a.low a.high) ss, d) refl

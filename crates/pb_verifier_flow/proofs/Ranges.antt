@@ -22,7 +22,9 @@ module _ (q to : ℕ) (l h low high : ℤ) (inside outside : AbstractState) (som
   abbrev IsIn : Bool
   IsIn = int_le low l && int_le h high
 
-  ways : (a b : Bool) → Meets ≡ a → IsIn ≡ b → range_edges q to l h low high inside outside ≡ Some (cond a (record { to = q + 1; state = inside } ∷ []) [] ++ cond (not b) (record { to = to; state = outside } ∷ []) [])
+  ways : (a b : Bool) → Meets ≡ a → IsIn ≡ b
+      → range_edges q to l h low high inside outside
+      ≡ Some (cond a (record { to = q + 1; state = inside } ∷ []) [] ++ cond (not b) (record { to = to; state = outside } ∷ []) [])
   ways a b e f = rw (e, f) refl
 
   pub outside_only : int_le (int_max l low) (int_min h high) ≡ false → range_edges q to l h low high inside outside ≡ Some (edges_of q None (Some (to, outside)))
@@ -38,7 +40,8 @@ module _ (q to : ℕ) (l h low high : ℤ) (inside outside : AbstractState) (som
       (and_from (int_le l high) (int_le low h) (from_le l high (omega (arith, ints))) (from_le low h (omega (arith, ints))))
       (and_from (int_le low l) (int_le h high) (from_le low l a) (from_le h high b))
 
-  pub both_ways_open : int_le (int_max l low) (int_min h high) ≡ true → ((low ≤ℤ l) × (h ≤ℤ high) → ⊥) → range_edges q to l h low high inside outside ≡ Some (edges_of q (Some inside) (Some (to, outside)))
+  pub both_ways_open : int_le (int_max l low) (int_min h high) ≡ true → ((low ≤ℤ l) × (h ≤ℤ high) → ⊥)
+      → range_edges q to l h low high inside outside ≡ Some (edges_of q (Some inside) (Some (to, outside)))
   both_ways_open e f =
       let meet = le_true (int_max l low) (int_min h high) e in
       ways true false
@@ -72,25 +75,44 @@ TopIs k i = k.operands ≡ abstract.Int i.low i.high ∷ drop 1 k.operands
 whole : (k : AbstractState) (i : IntegerInterval) → TopIs k i → record k { operands = abstract.Int i.low i.high ∷ drop 1 k.operands } ≡ k
 whole k i top = ap (λ os. record k { operands = os }) (sym top)
 
-read_top : (k : AbstractState) (q to : ℕ) (low high l h : ℤ) (os ss : List AbstractValue) → os ≡ abstract.Int l h ∷ ss → abstract_pop_int os (λ x y ts. range_edges q to x y low high (record k { operands = abstract.Int (int_max x low) (int_min y high) ∷ ts }) (record k { operands = abstract.Int x y ∷ ts })) ≡ range_edges q to l h low high (record k { operands = abstract.Int (int_max l low) (int_min h high) ∷ ss }) (record k { operands = abstract.Int l h ∷ ss })
+read_top : (k : AbstractState) (q to : ℕ) (low high l h : ℤ) (os ss : List AbstractValue) → os ≡ abstract.Int l h ∷ ss
+    → abstract_pop_int os
+    (λ x y ts. range_edges q to x y low high
+    (record k { operands = abstract.Int (int_max x low) (int_min y high) ∷ ts })
+    (record k { operands = abstract.Int x y ∷ ts }))
+    ≡ range_edges q to l h low high (record k { operands = abstract.Int (int_max l low) (int_min h high) ∷ ss })
+    (record k { operands = abstract.Int l h ∷ ss })
 read_top k q to low high l h os ss e = rw e refl
 
 abbrev narrowed : AbstractState → IntegerInterval → AbstractState
 narrowed k n = record k { operands = abstract.Int n.low n.high ∷ drop 1 k.operands }
 
-by_top : (k : AbstractState) (i : IntegerInterval) (low high : ℤ) (to : ℕ) (next : Option AbstractState) (jump : Option (ℕ × AbstractState)) → TopIs k i → ((q : ℕ) → range_edges q to i.low i.high low high (narrowed k (cut i (range_of low high))) k ≡ Some (edges_of q next jump)) → FlowsTo (op.InRange low high to) k next jump
-by_top k i low high to next jump top h = λ p home q. read_top k q to low high i.low i.high k.operands (drop 1 k.operands) top ∙ ap (λ (m : AbstractState). range_edges q to i.low i.high low high (narrowed k (cut i (range_of low high))) m) (whole k i top) ∙ h q
+by_top : (k : AbstractState) (i : IntegerInterval) (low high : ℤ) (to : ℕ) (next : Option AbstractState)
+    (jump : Option (ℕ × AbstractState)) → TopIs k i
+    → ((q : ℕ)
+    → range_edges q to i.low i.high low high (narrowed k (cut i (range_of low high))) k ≡ Some (edges_of q next jump))
+    → FlowsTo (op.InRange low high to) k next jump
+by_top k i low high to next jump top h =
+    λ p home q. read_top k q to low high i.low i.high k.operands (drop 1 k.operands) top
+    ∙ ap (λ (m : AbstractState). range_edges q to i.low i.high low high (narrowed k (cut i (range_of low high))) m) (whole k i top) ∙ h q
 
-pub top_outside : (k : AbstractState) (i r : IntegerInterval) (low high : ℤ) (to : ℕ) → r ≡ range_of low high → i.low ≤ℤ i.high → low ≤ℤ high → TopIs k i → None ≡ unless_empty (cut i r) → FlowsTo (op.InRange low high to) k None (Some (to, k))
-top_outside k i r low high to e some ordered top none = by_top k i low high to None (Some (to, k)) top (λ q. outside_only q to i.low i.high low high _ k some ordered (cut_none i (range_of low high) (rw e at none)))
+pub top_outside : (k : AbstractState) (i r : IntegerInterval) (low high : ℤ) (to : ℕ) → r ≡ range_of low high
+    → i.low ≤ℤ i.high → low ≤ℤ high → TopIs k i → None ≡ unless_empty (cut i r) → FlowsTo (op.InRange low high to) k None (Some (to, k))
+top_outside k i r low high to e some ordered top none =
+    by_top k i low high to None (Some (to, k)) top
+    (λ q. outside_only q to i.low i.high low high _ k some ordered (cut_none i (range_of low high) (rw e at none)))
 
-pub top_inside : (k m : AbstractState) (i r n : IntegerInterval) (low high : ℤ) (to : ℕ) → r ≡ range_of low high → i.low ≤ℤ i.high → low ≤ℤ high → TopIs k i → IsWithin i r → Some n ≡ unless_empty (cut i r) → m ≡ narrowed k n → FlowsTo (op.InRange low high to) k (Some m) None
+pub top_inside : (k m : AbstractState) (i r n : IntegerInterval) (low high : ℤ) (to : ℕ) → r ≡ range_of low high
+    → i.low ≤ℤ i.high → low ≤ℤ high → TopIs k i → IsWithin i r → Some n ≡ unless_empty (cut i r) → m ≡ narrowed k n
+    → FlowsTo (op.InRange low high to) k (Some m) None
 top_inside k m i r n low high to e some ordered top within has is =
     let two = cut_some i (range_of low high) n (rw e at has) in
     let both : IsWithin i (range_of low high) = rw e at within in
     by_top k i low high to (Some m) None top (λ q. rw (is, two.1) (inside_only q to i.low i.high low high _ k some ordered both.0 both.1))
 
-pub top_both : (k m : AbstractState) (i r n : IntegerInterval) (low high : ℤ) (to : ℕ) → r ≡ range_of low high → i.low ≤ℤ i.high → low ≤ℤ high → TopIs k i → (IsWithin i r → ⊥) → Some n ≡ unless_empty (cut i r) → m ≡ narrowed k n → FlowsTo (op.InRange low high to) k (Some m) (Some (to, k))
+pub top_both : (k m : AbstractState) (i r n : IntegerInterval) (low high : ℤ) (to : ℕ) → r ≡ range_of low high
+    → i.low ≤ℤ i.high → low ≤ℤ high → TopIs k i → (IsWithin i r → ⊥) → Some n ≡ unless_empty (cut i r)
+    → m ≡ narrowed k n → FlowsTo (op.InRange low high to) k (Some m) (Some (to, k))
 top_both k m i r n low high to e some ordered top beyond has is =
     let two = cut_some i (range_of low high) n (rw e at has) in
     let not_both : IsWithin i (range_of low high) → ⊥ = rw e at beyond in
@@ -104,19 +126,31 @@ SlotIs k j i = abstract_slot k.loops k.parameters j ≡ Some (abstract.Int i.low
 abbrev slot_narrowed : AbstractState → ℕ → IntegerInterval → AbstractState
 slot_narrowed k j n = set_slot k j (abstract.Int n.low n.high)
 
-by_slot : (k : AbstractState) (j : ℕ) (i : IntegerInterval) (low high : ℤ) (to : ℕ) (next : Option AbstractState) (jump : Option (ℕ × AbstractState)) → SlotIs k j i → ((q : ℕ) → range_edges q to i.low i.high low high (slot_narrowed k j (cut i (range_of low high))) k ≡ Some (edges_of q next jump)) → FlowsTo (op.SlotInRange j low high to) k next jump
+by_slot : (k : AbstractState) (j : ℕ) (i : IntegerInterval) (low high : ℤ) (to : ℕ) (next : Option AbstractState)
+    (jump : Option (ℕ × AbstractState)) → SlotIs k j i
+    → ((q : ℕ)
+    → range_edges q to i.low i.high low high (slot_narrowed k j (cut i (range_of low high))) k
+    ≡ Some (edges_of q next jump)) → FlowsTo (op.SlotInRange j low high to) k next jump
 by_slot k j i low high to next jump slot h = λ p home q. rw slot (h q)
 
-pub slot_outside : (k : AbstractState) (j : ℕ) (i r : IntegerInterval) (low high : ℤ) (to : ℕ) → r ≡ range_of low high → i.low ≤ℤ i.high → low ≤ℤ high → SlotIs k j i → None ≡ unless_empty (cut i r) → FlowsTo (op.SlotInRange j low high to) k None (Some (to, k))
-slot_outside k j i r low high to e some ordered slot none = by_slot k j i low high to None (Some (to, k)) slot (λ q. outside_only q to i.low i.high low high _ k some ordered (cut_none i (range_of low high) (rw e at none)))
+pub slot_outside : (k : AbstractState) (j : ℕ) (i r : IntegerInterval) (low high : ℤ) (to : ℕ) → r ≡ range_of low high
+    → i.low ≤ℤ i.high → low ≤ℤ high → SlotIs k j i → None ≡ unless_empty (cut i r)
+    → FlowsTo (op.SlotInRange j low high to) k None (Some (to, k))
+slot_outside k j i r low high to e some ordered slot none =
+    by_slot k j i low high to None (Some (to, k)) slot
+    (λ q. outside_only q to i.low i.high low high _ k some ordered (cut_none i (range_of low high) (rw e at none)))
 
-pub slot_inside : (k m : AbstractState) (j : ℕ) (i r n : IntegerInterval) (low high : ℤ) (to : ℕ) → r ≡ range_of low high → i.low ≤ℤ i.high → low ≤ℤ high → SlotIs k j i → IsWithin i r → Some n ≡ unless_empty (cut i r) → m ≡ slot_narrowed k j n → FlowsTo (op.SlotInRange j low high to) k (Some m) None
+pub slot_inside : (k m : AbstractState) (j : ℕ) (i r n : IntegerInterval) (low high : ℤ) (to : ℕ)
+    → r ≡ range_of low high → i.low ≤ℤ i.high → low ≤ℤ high → SlotIs k j i → IsWithin i r
+    → Some n ≡ unless_empty (cut i r) → m ≡ slot_narrowed k j n → FlowsTo (op.SlotInRange j low high to) k (Some m) None
 slot_inside k m j i r n low high to e some ordered slot within has is =
     let two = cut_some i (range_of low high) n (rw e at has) in
     let both : IsWithin i (range_of low high) = rw e at within in
     by_slot k j i low high to (Some m) None slot (λ q. rw (is, two.1) (inside_only q to i.low i.high low high _ k some ordered both.0 both.1))
 
-pub slot_both : (k m : AbstractState) (j : ℕ) (i r n : IntegerInterval) (low high : ℤ) (to : ℕ) → r ≡ range_of low high → i.low ≤ℤ i.high → low ≤ℤ high → SlotIs k j i → (IsWithin i r → ⊥) → Some n ≡ unless_empty (cut i r) → m ≡ slot_narrowed k j n → FlowsTo (op.SlotInRange j low high to) k (Some m) (Some (to, k))
+pub slot_both : (k m : AbstractState) (j : ℕ) (i r n : IntegerInterval) (low high : ℤ) (to : ℕ) → r ≡ range_of low high
+    → i.low ≤ℤ i.high → low ≤ℤ high → SlotIs k j i → (IsWithin i r → ⊥) → Some n ≡ unless_empty (cut i r)
+    → m ≡ slot_narrowed k j n → FlowsTo (op.SlotInRange j low high to) k (Some m) (Some (to, k))
 slot_both k m j i r n low high to e some ordered slot beyond has is =
     let two = cut_some i (range_of low high) n (rw e at has) in
     let not_both : IsWithin i (range_of low high) → ⊥ = rw e at beyond in

@@ -56,7 +56,10 @@ hull_covers (abstract.Enum l h) (abstract.Int m k) u e a b = cc
 hull_covers (abstract.Int l h) (abstract.Int m k) u e a b =
     let w : abstract.Int (int_min l m) (int_max h k) ≡ u = cc in
     let p = a.1 in let q = b.1 in
-    subst (λ x. Covers (abstract.Int l h) x × Covers (abstract.Int m k) x) w ((omega (arith, ints, clamps), omega (arith, ints), omega (arith, ints, clamps)), (omega (arith, ints, clamps), omega (arith, ints), omega (arith, ints, clamps)))
+    subst (λ x. Covers (abstract.Int l h) x × Covers (abstract.Int m k) x) w (
+      (omega (arith, ints, clamps), omega (arith, ints), omega (arith, ints, clamps)),
+      (omega (arith, ints, clamps), omega (arith, ints), omega (arith, ints, clamps)),
+    )
 hull_covers (abstract.Enum s n) (abstract.Enum t m) u e a b = by (s == t) refl e
   where
     by : (c : Bool) → (s == t) ≡ c → cond c (Some (abstract.Enum s (max n m))) None ≡ Some u → Covers (abstract.Enum s n) u × Covers (abstract.Enum t m) u
@@ -113,7 +116,8 @@ hull_none (abstract.Enum s n) (abstract.Enum t k) (abstract.Enum x y) e a b =
 -- ---- lists of them
 
 -- the parts of a list that was made
-pub made : (x : Option AbstractValue) (r : Option (List AbstractValue)) (us : List AbstractValue) → with_first x r ≡ Some us → (u : AbstractValue) × (vs : List AbstractValue) × (x ≡ Some u) × (r ≡ Some vs) × (us ≡ u ∷ vs)
+pub made : (x : Option AbstractValue) (r : Option (List AbstractValue)) (us : List AbstractValue)
+    → with_first x r ≡ Some us → (u : AbstractValue) × (vs : List AbstractValue) × (x ≡ Some u) × (r ≡ Some vs) × (us ≡ u ∷ vs)
 made None r us e = cc
 made (Some u) None us e = cc
 made (Some u) (Some vs) us e = (u, vs, refl, refl, sym (same_Some _ _ e))
@@ -154,7 +158,9 @@ hulls_none (s ∷ ss) (t ∷ ts) (m ∷ ms) e a b =
 
 -- ---- loops
 
-made_loop : (c : Bool) (i : ℕ) (x : Option AbstractValue) (r : Option (List (ℕ × AbstractValue))) (us : List (ℕ × AbstractValue)) → with_loop c i x r ≡ Some us → (u : AbstractValue) × (vs : List (ℕ × AbstractValue)) × (c ≡ true) × (x ≡ Some u) × (r ≡ Some vs) × (us ≡ (i, u) ∷ vs)
+made_loop : (c : Bool) (i : ℕ) (x : Option AbstractValue) (r : Option (List (ℕ × AbstractValue)))
+    (us : List (ℕ × AbstractValue)) → with_loop c i x r ≡ Some us
+    → (u : AbstractValue) × (vs : List (ℕ × AbstractValue)) × (c ≡ true) × (x ≡ Some u) × (r ≡ Some vs) × (us ≡ (i, u) ∷ vs)
 made_loop false i x r us e = cc
 made_loop true i None r us e = cc
 made_loop true i (Some u) None us e = cc
@@ -200,7 +206,9 @@ loops_none (s ∷ ss) (t ∷ ts) (m ∷ ms) e a b =
 pub join_covers : (k m n : AbstractState) → join_states k m ≡ Some n → IsCovered k k → IsCovered m m → IsCovered k n × IsCovered m n
 join_covers k m n e a b = by (agree k m) (hulls k.operands m.operands) (hulls k.parameters m.parameters) (loop_hulls k.loops m.loops) refl refl refl refl e
   where
-    by : (c : Bool) (o r : Option (List AbstractValue)) (l : Option (List (ℕ × AbstractValue))) → agree k m ≡ c → hulls k.operands m.operands ≡ o → hulls k.parameters m.parameters ≡ r → loop_hulls k.loops m.loops ≡ l → joined_state c k o r l ≡ Some n → IsCovered k n × IsCovered m n
+    by : (c : Bool) (o r : Option (List AbstractValue)) (l : Option (List (ℕ × AbstractValue))) → agree k m ≡ c
+        → hulls k.operands m.operands ≡ o → hulls k.parameters m.parameters ≡ r → loop_hulls k.loops m.loops ≡ l
+        → joined_state c k o r l ≡ Some n → IsCovered k n × IsCovered m n
     by false o r l f g h j e = cc
     by true None r l f g h j e = cc
     by true (Some ss) None l f g h j e = cc
@@ -214,27 +222,66 @@ join_covers k m n e a b = by (agree k m) (hulls k.operands m.operands) (hulls k.
         let us = loops_cover k.loops m.loops ls j a.loops b.loops in
         subst (λ (u : AbstractState). IsCovered k u × IsCovered m u) (same_Some _ _ e) (
           record { operands = os.0; operands_below = refl; parameters = qs.0; loops = us.0; brackets = refl; brackets_below = refl; roots = refl },
-          record { operands = os.1; operands_below = sym (eqb-true k.operands_below m.operands_below t1.0); parameters = qs.1; loops = us.1; brackets = sym (eqb-true k.brackets m.brackets t1.1); brackets_below = sym (eqb-true k.brackets_below m.brackets_below t2.1); roots = sym (eqb-true k.roots m.roots t3.1) },
+          record {
+            operands = os.1;
+            operands_below = sym (eqb-true k.operands_below m.operands_below t1.0);
+            parameters =
+                qs.1;
+            loops = us.1;
+            brackets = sym (eqb-true k.brackets m.brackets t1.1);
+            brackets_below =
+                sym (eqb-true k.brackets_below m.brackets_below t2.1);
+            roots = sym (eqb-true k.roots m.roots t3.1);
+          },
         )
 
 pub join_least : (k m n u : AbstractState) → join_states k m ≡ Some n → IsCovered k u → IsCovered m u → IsCovered n u
 join_least k m n u e a b = by (agree k m) (hulls k.operands m.operands) (hulls k.parameters m.parameters) (loop_hulls k.loops m.loops) refl refl refl e
   where
-    by : (c : Bool) (o r : Option (List AbstractValue)) (l : Option (List (ℕ × AbstractValue))) → hulls k.operands m.operands ≡ o → hulls k.parameters m.parameters ≡ r → loop_hulls k.loops m.loops ≡ l → joined_state c k o r l ≡ Some n → IsCovered n u
+    by : (c : Bool) (o r : Option (List AbstractValue)) (l : Option (List (ℕ × AbstractValue)))
+        → hulls k.operands m.operands ≡ o → hulls k.parameters m.parameters ≡ r → loop_hulls k.loops m.loops ≡ l
+        → joined_state c k o r l ≡ Some n → IsCovered n u
     by false o r l g h j e = cc
     by true None r l g h j e = cc
     by true (Some ss) None l g h j e = cc
     by true (Some ss) (Some ps) None g h j e = cc
     by true (Some ss) (Some ps) (Some ls) g h j e =
-        subst (λ (v : AbstractState). IsCovered v u) (same_Some _ _ e) (record { operands = hulls_least k.operands m.operands ss u.operands g a.operands b.operands; operands_below = a.operands_below; parameters = hulls_least k.parameters m.parameters ps u.parameters h a.parameters b.parameters; loops = loops_least k.loops m.loops ls u.loops j a.loops b.loops; brackets = a.brackets; brackets_below = a.brackets_below; roots = a.roots })
+        subst (λ (v : AbstractState). IsCovered v u) (same_Some _ _ e)
+        (record {
+          operands =
+              hulls_least k.operands m.operands ss u.operands g a.operands b.operands;
+          operands_below =
+              a.operands_below;
+          parameters =
+              hulls_least k.parameters m.parameters ps u.parameters h a.parameters b.parameters;
+          loops =
+              loops_least k.loops m.loops ls u.loops j a.loops b.loops;
+          brackets = a.brackets;
+          brackets_below =
+              a.brackets_below;
+          roots = a.roots;
+        })
 
 pub join_none : (k m u : AbstractState) → join_states k m ≡ None → IsCovered k u → IsCovered m u → ⊥
-join_none k m u e a b = by (hulls k.operands m.operands) (hulls k.parameters m.parameters) (loop_hulls k.loops m.loops) refl refl refl (subst (λ c. joined_state c k (hulls k.operands m.operands) (hulls k.parameters m.parameters) (loop_hulls k.loops m.loops) ≡ None) test e)
+join_none k m u e a b =
+    by (hulls k.operands m.operands) (hulls k.parameters m.parameters) (loop_hulls k.loops m.loops) refl refl refl
+    (subst (λ c. joined_state c k (hulls k.operands m.operands) (hulls k.parameters m.parameters)
+    (loop_hulls k.loops m.loops) ≡ None) test e)
   where
     test : agree k m ≡ true
-    test = and_from ((k.operands_below == m.operands_below) && (k.brackets == m.brackets) && (k.brackets_below == m.brackets_below)) (k.roots == m.roots) (and_from ((k.operands_below == m.operands_below) && (k.brackets == m.brackets)) (k.brackets_below == m.brackets_below) (and_from (k.operands_below == m.operands_below) (k.brackets == m.brackets) (eq-eqb k.operands_below m.operands_below (a.operands_below ∙ sym b.operands_below)) (eq-eqb k.brackets m.brackets (a.brackets ∙ sym b.brackets))) (eq-eqb k.brackets_below m.brackets_below (a.brackets_below ∙ sym b.brackets_below))) (eq-eqb k.roots m.roots (a.roots ∙ sym b.roots))
+    test = and_from
+        ((k.operands_below == m.operands_below) && (k.brackets == m.brackets) && (k.brackets_below == m.brackets_below))
+        (k.roots == m.roots)
+        (and_from ((k.operands_below == m.operands_below) && (k.brackets == m.brackets))
+        (k.brackets_below == m.brackets_below)
+        (and_from (k.operands_below == m.operands_below) (k.brackets == m.brackets)
+        (eq-eqb k.operands_below m.operands_below (a.operands_below ∙ sym b.operands_below))
+        (eq-eqb k.brackets m.brackets (a.brackets ∙ sym b.brackets)))
+        (eq-eqb k.brackets_below m.brackets_below (a.brackets_below ∙ sym b.brackets_below)))
+        (eq-eqb k.roots m.roots (a.roots ∙ sym b.roots))
 
-    by : (o r : Option (List AbstractValue)) (l : Option (List (ℕ × AbstractValue))) → hulls k.operands m.operands ≡ o → hulls k.parameters m.parameters ≡ r → loop_hulls k.loops m.loops ≡ l → joined_state true k o r l ≡ None → ⊥
+    by : (o r : Option (List AbstractValue)) (l : Option (List (ℕ × AbstractValue))) → hulls k.operands m.operands ≡ o
+        → hulls k.parameters m.parameters ≡ r → loop_hulls k.loops m.loops ≡ l → joined_state true k o r l ≡ None → ⊥
     by None r l g h j e = hulls_none k.operands m.operands u.operands g a.operands b.operands
     by (Some ss) None l g h j e = hulls_none k.parameters m.parameters u.parameters h a.parameters b.parameters
     by (Some ss) (Some ps) None g h j e = loops_none k.loops m.loops u.loops j a.loops b.loops

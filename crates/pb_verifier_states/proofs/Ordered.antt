@@ -41,7 +41,8 @@ carriers_ordered (c ∷ cs) = (carrier_ordered c, carriers_ordered cs)
 
 -- ---- slots
 
-pub slot_ordered : (ls : List (ℕ × AbstractValue)) (ps : List AbstractValue) (i : ℕ) (v : AbstractValue) → LoopsHaveOrderedEnds ls → HaveOrderedEnds ps → abstract_slot ls ps i ≡ Some v → HasOrderedEnds v
+pub slot_ordered : (ls : List (ℕ × AbstractValue)) (ps : List AbstractValue) (i : ℕ) (v : AbstractValue)
+    → LoopsHaveOrderedEnds ls → HaveOrderedEnds ps → abstract_slot ls ps i ≡ Some v → HasOrderedEnds v
 slot_ordered [] ps i v h o e = ordered_at ps i v o e
 slot_ordered (l ∷ ls) ps i v h o e = by (i == l.0) e (λ f. slot_ordered ls ps i v h.1 o f)
   where
@@ -49,7 +50,8 @@ slot_ordered (l ∷ ls) ps i v h o e = by (i == l.0) e (λ f. slot_ordered ls ps
     by true f r = let same : l.1 ≡ v = cc in rw same at (h.0)
     by false f r = r f
 
-pub slot_if_ordered : (ls : List (ℕ × AbstractValue)) (ps : List AbstractValue) (i : ℕ) (o : Option AbstractValue) → LoopsHaveOrderedEnds ls → HaveOrderedEnds ps → o ≡ abstract_slot ls ps i → IfSome o HasOrderedEnds
+pub slot_if_ordered : (ls : List (ℕ × AbstractValue)) (ps : List AbstractValue) (i : ℕ) (o : Option AbstractValue)
+    → LoopsHaveOrderedEnds ls → HaveOrderedEnds ps → o ≡ abstract_slot ls ps i → IfSome o HasOrderedEnds
 slot_if_ordered ls ps i None h k e = tt
 slot_if_ordered ls ps i (Some v) h k e = slot_ordered ls ps i v h k (sym e)
 
@@ -77,7 +79,8 @@ set_param_past (x ∷ vs) zero v h = absurd (omega arith)
 set_param_past (x ∷ vs) (suc i) v h = ap (λ (ys : List AbstractValue). x ∷ ys) (set_param_past vs i v (omega arith))
 
 -- the first loop of the slot is written
-pub set_loop_here : (ls : List (ℕ × AbstractValue)) (i slot : ℕ) (d : ℕ × AbstractValue) (v : AbstractValue) → i < length ls → (get_or ls i d).0 ≡ slot → slice_set ls i ((get_or ls i d).0, v) ≡ take i ls ++ set_loop (drop i ls) slot v
+pub set_loop_here : (ls : List (ℕ × AbstractValue)) (i slot : ℕ) (d : ℕ × AbstractValue) (v : AbstractValue)
+    → i < length ls → (get_or ls i d).0 ≡ slot → slice_set ls i ((get_or ls i d).0, v) ≡ take i ls ++ set_loop (drop i ls) slot v
 set_loop_here [] i slot d v h e = absurd (omega arith)
 set_loop_here (l ∷ ls) zero slot d v h e = sym (cond-true (slot == l.0) ((l.0, v) ∷ ls) (l ∷ set_loop ls slot v) (eq-eqb slot l.0 (sym e)))
 set_loop_here (l ∷ ls) (suc i) slot d v h e = ap (λ (ys : List (ℕ × AbstractValue)). l ∷ ys) (set_loop_here ls i slot d v (omega arith) e)
@@ -107,7 +110,9 @@ set_param_long (x ∷ vs) (suc i) v = ap suc (set_param_long vs i v)
 hull_ordered : (s t u : AbstractValue) → hull_of s t ≡ Some u → HasOrderedEnds s → HasOrderedEnds t → HasOrderedEnds u
 hull_ordered s t abstract.Bool e a b = tt
 hull_ordered s t (abstract.Enum x n) e a b = tt
-hull_ordered (abstract.Int l h) (abstract.Int m k) (abstract.Int x y) e a b = let f : abstract.Int (int_min l m) (int_max h k) ≡ abstract.Int x y = cc in let g : int_min l m ≡ x = cc in let j : int_max h k ≡ y = cc in omega (arith, ints, clamps)
+hull_ordered (abstract.Int l h) (abstract.Int m k) (abstract.Int x y) e a b =
+    let f : abstract.Int (int_min l m) (int_max h k) ≡ abstract.Int x y = cc in let g : int_min l m ≡ x = cc in
+    let j : int_max h k ≡ y = cc in omega (arith, ints, clamps)
 hull_ordered abstract.Bool t (abstract.Int x y) e a b = absurd (none_from t e)
   where
     none_from : (t : AbstractValue) → hull_of abstract.Bool t ≡ Some (abstract.Int x y) → ⊥
@@ -140,7 +145,9 @@ hulls_long (s ∷ ss) (t ∷ ts) us e =
     let m = made (hull_of s t) (hulls ss ts) us e in
     rw (m.4) (ap suc (hulls_long ss ts m.1 m.3))
 
-made_loop : (c : Bool) (i : ℕ) (x : Option AbstractValue) (r : Option (List (ℕ × AbstractValue))) (us : List (ℕ × AbstractValue)) → with_loop c i x r ≡ Some us → (u : AbstractValue) × (vs : List (ℕ × AbstractValue)) × (x ≡ Some u) × (r ≡ Some vs) × (us ≡ (i, u) ∷ vs)
+made_loop : (c : Bool) (i : ℕ) (x : Option AbstractValue) (r : Option (List (ℕ × AbstractValue)))
+    (us : List (ℕ × AbstractValue)) → with_loop c i x r ≡ Some us
+    → (u : AbstractValue) × (vs : List (ℕ × AbstractValue)) × (x ≡ Some u) × (r ≡ Some vs) × (us ≡ (i, u) ∷ vs)
 made_loop false i x r us e = cc
 made_loop true i None r us e = cc
 made_loop true i (Some u) None us e = cc

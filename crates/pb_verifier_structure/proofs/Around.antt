@@ -87,12 +87,15 @@ pub record IsInnermostBefore (code : List Op) (q : ℕ) (table : List (Option �
   pub long : length table ≡ q
   pub each : (k : ℕ) → k < q → slice_get table k ≡ Some (innermost_of (loops_around code k))
 
-pub one_more : (code : List Op) (q : ℕ) (table : List (Option ℕ)) (o : Option ℕ) → IsInnermostBefore code q table → o ≡ innermost_of (loops_around code q) → IsInnermostBefore code (q + 1) (table ++ o ∷ [])
+pub one_more : (code : List Op) (q : ℕ) (table : List (Option ℕ)) (o : Option ℕ) → IsInnermostBefore code q table
+    → o ≡ innermost_of (loops_around code q) → IsInnermostBefore code (q + 1) (table ++ o ∷ [])
 one_more code q table o t e = record {
   long = length-append table (o ∷ []) ∙ (let l = t.long in omega arith);
   each = λ k h. ⊎_elim
       (λ (less : k < q). let l = t.long in get_before table o k (omega arith) ∙ t.each k less)
-      (λ (same : k ≡ q). ap (slice_get (table ++ o ∷ [])) (same ∙ sym t.long) ∙ slice_get-append_right table (o ∷ []) (length table) 0 (omega arith) ∙ ap Some (e ∙ ap (λ z. innermost_of (loops_around code z)) (sym same)))
+      (λ (same : k ≡ q). ap (slice_get (table ++ o ∷ [])) (same ∙ sym t.long)
+      ∙ slice_get-append_right table (o ∷ []) (length table) 0 (omega arith)
+      ∙ ap Some (e ∙ ap (λ z. innermost_of (loops_around code z)) (sym same)))
       (split k q h);
 }
 

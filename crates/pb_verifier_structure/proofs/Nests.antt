@@ -90,7 +90,10 @@ is_some_some (Some x) h = (x, refl)
 
 module _ (code : List Op) (q : ℕ) (table : List (Option ℕ)) (around : Option ℕ) (depth : ℕ) (h : HasNested code q table around depth) where
   -- the instruction at q is this one, which nests
-  more : (i : Op) → q < length code → slice_get code q ≡ Some i → NestsAt code q i → (after : Option ℕ) (deeper : ℕ) → after ≡ innermost_of (loops_after (loop_effect i) q (loops_around code q)) → deeper ≡ length (loops_after (loop_effect i) q (loops_around code q)) → deeper ≤ 8 → HasNested code (q + 1) (table ++ around ∷ []) after deeper
+  more : (i : Op) → q < length code → slice_get code q ≡ Some i → NestsAt code q i → (after : Option ℕ) (deeper : ℕ)
+      → after ≡ innermost_of (loops_after (loop_effect i) q (loops_around code q))
+      → deeper ≡ length (loops_after (loop_effect i) q (loops_around code q)) → deeper ≤ 8
+      → HasNested code (q + 1) (table ++ around ∷ []) after deeper
   more i w at n after deeper a d l =
       let next = around_next code q i at in record {
         within = omega arith;
@@ -117,7 +120,8 @@ module _ (code : List Op) (q : ℕ) (table : List (Option ℕ)) (around : Option
   pub deeper_refused : (s : ℕ) → q < length code → get_or code q op.End ≡ op.Loop s → depth ≡ 8 → IsNested code → ⊥
   deeper_refused s w e n ok = let d = h.deep in let x : length (loops_around code q) < 8 = ok.each q (op.Loop s) (here (op.Loop s) w e) in omega arith
 
-  pub leaves : (home : ℕ) (r : Option ℕ) → q < length code → get_or code q op.End ≡ op.Next → around ≡ Some home → r ≡ get_or (table ++ around ∷ []) home r → HasNested code (q + 1) (table ++ around ∷ []) r (depth - 1)
+  pub leaves : (home : ℕ) (r : Option ℕ) → q < length code → get_or code q op.End ≡ op.Next → around ≡ Some home
+      → r ≡ get_or (table ++ around ∷ []) home r → HasNested code (q + 1) (table ++ around ∷ []) r (depth - 1)
   leaves home r w e a b =
       let l = h.within in
       let o = outer code q home l (sym a ∙ h.innermost) in
@@ -128,7 +132,10 @@ module _ (code : List Op) (q : ℕ) (table : List (Option ℕ)) (around : Option
       let longer : length (loops_around code q) ≡ suc (length (loops_around code home)) = ap length o.around in
       let some : 0 < length (loops_around code q) = omega arith in
       let there : slice_get table home ≡ Some (innermost_of (loops_around code home)) = h.table_before.each home x in
-      let value : slice_get (table ++ around ∷ []) home ≡ Some r = slice_get-get_or (table ++ around ∷ []) home r (let z = slice_get_within (table ++ around ∷ []) home _ (get_before table around home (omega arith) ∙ there) in z) ∙ ap Some (sym b) in
+      let value : slice_get (table ++ around ∷ []) home ≡ Some r =
+      slice_get-get_or (table ++ around ∷ []) home r
+      (let z = slice_get_within (table ++ around ∷ []) home _ (get_before table around home (omega arith) ∙ there)
+      in z) ∙ ap Some (sym b) in
       let same : r ≡ innermost_of (loops_around code home) = one (sym value ∙ get_before table around home (omega arith) ∙ there) in
       more op.Next w (here op.Next w e) some r (depth - 1)
       (same ∙ ap (λ st. innermost_of (loops_after Leaves q st)) (sym o.around))
@@ -155,7 +162,9 @@ module _ (code : List Op) (q : ℕ) (table : List (Option ℕ)) (around : Option
       let zero_long = ap (λ (st : List ℕ). length st) none in
       omega arith
 
-  pub passes_on : q < length code → ((s : ℕ) → get_or code q op.End ≡ op.Loop s → ⊥) → (get_or code q op.End ≡ op.Next → ⊥) → (get_or code q op.End ≡ op.End → ⊥) → HasNested code (q + 1) (table ++ around ∷ []) around depth
+  pub passes_on : q < length code → ((s : ℕ) → get_or code q op.End ≡ op.Loop s → ⊥)
+      → (get_or code q op.End ≡ op.Next → ⊥) → (get_or code q op.End ≡ op.End → ⊥)
+      → HasNested code (q + 1) (table ++ around ∷ []) around depth
   passes_on w f g e =
       let i = get_or code q op.End in
       let s = quiet i f g in

@@ -87,7 +87,10 @@ slots_less (Some (op.Jump to)) slots slot n h = h
 slots_less (Some (op.JumpIf b to)) slots slot n h = h
 slots_less (Some (op.InRange low high to)) slots slot n h = h
 slots_less (Some (op.SlotInRange s low high to)) slots slot n h = h
-slots_less (Some (op.Loop s)) slots slot n h = ⊎_elim (λ (e : Contains (s ∷ []) slot). absurd (n (let f : (x y : ℕ) → x ≡ y → Some (op.Loop x) ≡ Some (op.Loop y) = λ x y e. ap (λ z. Some (op.Loop z)) e in f s slot (single s slot e)))) (λ (e : Contains slots slot). e) (Contains-append_cases (s ∷ []) slots slot h)
+slots_less (Some (op.Loop s)) slots slot n h =
+    ⊎_elim (λ (e : Contains (s ∷ []) slot). absurd
+    (n (let f : (x y : ℕ) → x ≡ y → Some (op.Loop x) ≡ Some (op.Loop y) = λ x y e. ap (λ z. Some (op.Loop z)) e in
+    f s slot (single s slot e)))) (λ (e : Contains slots slot). e) (Contains-append_cases (s ∷ []) slots slot h)
 slots_less (Some op.Next) slots slot n h = h
 slots_less (Some (op.Open c)) slots slot n h = h
 slots_less (Some op.Close) slots slot n h = h
@@ -108,7 +111,10 @@ module _ (code : List Op) (table : List (Option ℕ)) (q slot home : ℕ) (t : I
   at_home i e = slice_get-get_or code home op.End home_within ∙ ap Some e
 
   pub found : get_or code home op.End ≡ op.Loop slot → Contains (loop_slots code (loops_around code q)) slot
-  found e = f.left_slots (subst (λ slots. Contains slots slot) (sym (slots_here ∙ ap (λ o. slots_at o (loop_slots code (loops_around code home))) (at_home (op.Loop slot) e))) (Contains-append_left (slot ∷ []) (loop_slots code (loops_around code home)) slot (Contains-push [] slot)))
+  found e = f.left_slots
+      (subst (λ slots. Contains slots slot)
+      (sym (slots_here ∙ ap (λ o. slots_at o (loop_slots code (loops_around code home))) (at_home (op.Loop slot) e)))
+      (Contains-append_left (slot ∷ []) (loop_slots code (loops_around code home)) slot (Contains-push [] slot)))
 
   pub outwards : (get_or code home op.End ≡ op.Loop slot → ⊥) → (r : Option ℕ) → r ≡ get_or table home r → IsFrom code q slot r
   outwards n r e = record {
@@ -116,7 +122,10 @@ module _ (code : List Op) (table : List (Option ℕ)) (q slot home : ℕ) (t : I
     within = let x = home_within in omega arith;
     innermost = table_at code table home r t home_within e;
     left_slots = λ h. f.left_slots (subst (λ slots. Contains slots slot) (sym slots_here) (slots_more (slice_get code home) (loop_slots code (loops_around code home)) slot h));
-    all_slots = λ h. slots_less (slice_get code home) (loop_slots code (loops_around code home)) slot (λ g. n (same_Some (get_or code home op.End) (op.Loop slot) (sym (slice_get-get_or code home op.End home_within) ∙ g))) (subst (λ slots. Contains slots slot) slots_here (f.all_slots h));
+    all_slots =
+        λ h. slots_less (slice_get code home) (loop_slots code (loops_around code home)) slot
+        (λ g. n (same_Some (get_or code home op.End) (op.Loop slot)
+        (sym (slice_get-get_or code home op.End home_within) ∙ g))) (subst (λ slots. Contains slots slot) slots_here (f.all_slots h));
   }
 
   pub nearer : (r : Option ℕ) → r ≡ get_or table home r → left r < left (Some home)

@@ -100,7 +100,9 @@ module _ (p : Program) (w : IsStructured p) (q : ℕ) (items : List ℕ) (steps 
   cost_next : (cost : Op → ℕ) → cost_of p cost (drop q p.code) h.weights ≡ multiplier h.weights * cost i + cost_of p cost (drop (q + 1) p.code) (weights_after p (loop_effect i) h.weights)
   cost_next cost = ap (λ is. cost_of p cost is h.weights) (drop-slice_get p.code q i here) ∙ cost_split p (loop_effect i) (cost i) h.weights (cost_of p cost (drop (q + 1) p.code)) some_around
 
-  more : (x y : ℕ) → x ≡ stopped (multiplier h.weights) → y ≡ stopped (multiplier h.weights * tokens_of i) → (after : List ℕ) → after ≡ stacked (weights_after p (loop_effect i) h.weights) → IsCounted p (q + 1) after (min (steps + x) SATURATED) (min (tokens + y) SATURATED)
+  more : (x y : ℕ) → x ≡ stopped (multiplier h.weights) → y ≡ stopped (multiplier h.weights * tokens_of i)
+      → (after : List ℕ) → after ≡ stacked (weights_after p (loop_effect i) h.weights)
+      → IsCounted p (q + 1) after (min (steps + x) SATURATED) (min (tokens + y) SATURATED)
   more x y e f after same = record {
     weights = weights_after p (loop_effect i) h.weights;
     same = same;
@@ -120,10 +122,15 @@ module _ (p : Program) (w : IsStructured p) (q : ℕ) (items : List ℕ) (steps 
     here_tokens : y ≡ stopped (multiplier h.weights * tokens_of i)
     here_tokens = f ∙ stopped_product x (multiplier h.weights) (tokens_of i) here_weight
 
-    pub counted_in : (slot n : ℕ) → loop_effect i ≡ Enters slot → n ≡ min (x * carrier_size (carrier_of p slot)) SATURATED → IsCounted p (q + 1) (items ++ n ∷ []) (min (steps + x) SATURATED) (min (tokens + y) SATURATED)
+    pub counted_in : (slot n : ℕ) → loop_effect i ≡ Enters slot
+        → n ≡ min (x * carrier_size (carrier_of p slot)) SATURATED
+        → IsCounted p (q + 1) (items ++ n ∷ []) (min (steps + x) SATURATED) (min (tokens + y) SATURATED)
     counted_in slot n t g =
         more x y here_weight here_tokens (items ++ n ∷ [])
-        (ap (λ (ws : List ℕ). ws ++ n ∷ []) h.same ∙ ap (λ m. stacked h.weights ++ m ∷ []) (g ∙ stopped_product x (multiplier h.weights) (carrier_size (carrier_of p slot)) here_weight) ∙ ap (λ u. stacked (weights_after p u h.weights)) (sym t))
+        (ap (λ (ws : List ℕ). ws ++ n ∷ []) h.same
+        ∙ ap (λ m. stacked h.weights ++ m ∷ [])
+        (g ∙ stopped_product x (multiplier h.weights) (carrier_size (carrier_of p slot)) here_weight)
+        ∙ ap (λ u. stacked (weights_after p u h.weights)) (sym t))
 
     pub counted_out : loop_effect i ≡ Leaves → IsCounted p (q + 1) (take (length items - 1) items) (min (steps + x) SATURATED) (min (tokens + y) SATURATED)
     counted_out t =
@@ -139,7 +146,8 @@ module _ (p : Program) (w : IsStructured p) (q : ℕ) (items : List ℕ) (steps 
     pub counted_on : loop_effect i ≡ Straight → IsCounted p (q + 1) items (min (steps + x) SATURATED) (min (tokens + y) SATURATED)
     counted_on t = more x y here_weight here_tokens items (h.same ∙ ap (λ u. stacked (weights_after p u h.weights)) (sym t))
 
-pub counted_all : (p : Program) (q : ℕ) (items : List ℕ) (steps tokens : ℕ) → IsCounted p q items steps tokens → length p.code ≤ q → (steps ≡ min (static_steps p) SATURATED) × (tokens ≡ min (static_tokens p) SATURATED)
+pub counted_all : (p : Program) (q : ℕ) (items : List ℕ) (steps tokens : ℕ) → IsCounted p q items steps tokens
+    → length p.code ≤ q → (steps ≡ min (static_steps p) SATURATED) × (tokens ≡ min (static_tokens p) SATURATED)
 counted_all p q items steps tokens h l =
     let none = drop_all q p.code l in
     let a = h.all_steps in

@@ -143,7 +143,8 @@ step_pushed model new xs k x pushed long all last j f at =
     pushed_found (IsFoundOfStep model) xs x all (subst (λ (i : ℕ). IsFoundOfStep model i x) (sym long) last) j f (subst (λ (zs : List StepFinding). slice_get zs j ≡ Some f) pushed at)
 
 -- the line of one more
-pub step_lines_next : (words : Vocabulary) (fs : List StepFinding) (k : ℕ) (f d : StepFinding) (all old new : List ℕ) → k < length fs → f ≡ get_or fs k d → new ≡ old ++ step_line (name_of_step words k) f
+pub step_lines_next : (words : Vocabulary) (fs : List StepFinding) (k : ℕ) (f d : StepFinding) (all old new : List ℕ)
+    → k < length fs → f ≡ get_or fs k d → new ≡ old ++ step_line (name_of_step words k) f
     → old ++ step_lines_from k words (drop k fs) ≡ all → new ++ step_lines_from (k + 1) words (drop (k + 1) fs) ≡ all
 step_lines_next words fs k f d all old new below is pushed before =
     let rest = step_lines_from (k + 1) words (drop (k + 1) fs) in

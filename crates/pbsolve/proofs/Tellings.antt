@@ -94,7 +94,8 @@ next_told instances words protocol model place p q told old new stands at is are
     (subst (λ (xs : List ℕ). AreTold instances words protocol model (take place protocol.properties ++ p ∷ []) (take place model.properties ++ q ∷ []) xs) (sym same) pushed))
 
 -- all are told
-pub all_are_told : (instances : Bool) (words : Vocabulary) (protocol : ProtocolForm) (model : ModelForm) (place : ℕ) (lines : List ℕ) → length protocol.properties ≤ place → length model.properties ≤ place
+pub all_are_told : (instances : Bool) (words : Vocabulary) (protocol : ProtocolForm) (model : ModelForm) (place : ℕ)
+    (lines : List ℕ) → length protocol.properties ≤ place → length model.properties ≤ place
     → AreTold instances words protocol model (take place protocol.properties) (take place model.properties) lines
     → AreTold instances words protocol model protocol.properties model.properties lines
 all_are_told instances words protocol model place lines long as_long are =

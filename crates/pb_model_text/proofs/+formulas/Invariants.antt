@@ -84,7 +84,9 @@ abbrev pub invariant-formula::links_behind-links : goal.invariant-formula::links
 invariant-formula::links_behind-links l = record {
   reads : (s : State) (x : FormulaForm) → operand l.connective (names_of l.scope.names.now) l.scope.depth s ≡ Ok (x, l.fn.input) → length l.fn.input.tokens < length s.tokens
       → level l.connective (names_of l.scope.names.now) l.scope.depth s ≡
-      resumed (symbol l.connective) (FormulaForm.connected l.connective) (operand l.connective (names_of l.scope.names.now) l.scope.depth) (length s.tokens - vec_len l.links) x (link_forms l.links.items) l.input;
+      resumed (symbol l.connective) (FormulaForm.connected l.connective)
+      (operand l.connective (names_of l.scope.names.now) l.scope.depth) (length s.tokens - vec_len l.links) x
+      (link_forms l.links.items) l.input;
   room : vec_len l.links + length l.input.tokens ≤ length l.fn.input.tokens;
 }
 

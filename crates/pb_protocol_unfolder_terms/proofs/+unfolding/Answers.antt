@@ -74,7 +74,9 @@ unfold::unfold_opened-returns-in_ok-negation-in-Not-clause-term t c =
     let x = put c.deref.result.now in
     carried c.args.level.truth c.in_ok-negation-in-Not.field-0 c.folding.result.sorts.now k.declarations.now (suc n) c.args.level.room (Term.Not x) (put c.args.term.now)
     c.folding.ensures (sym c.in_ok-room-in-Not.ensures) (ap (λ y. Term.Not (put y)) c.deref.ensures ∙ ap put (sym c.in-Not.is))
-    (c.in_ok-negation-in-Not.ensures x n c.args.level.truth (subst (λ (ds : List SortDeclaration). IsUnfolded (tree.spec_of ds) true n x u) (sym c.folding.ensures) c.in_ok-operand-in-Not.ensures.term))
+    (c.in_ok-negation-in-Not.ensures x n c.args.level.truth
+    (subst (λ (ds : List SortDeclaration). IsUnfolded (tree.spec_of ds) true n x u) (sym c.folding.ensures)
+    c.in_ok-operand-in-Not.ensures.term))
 
 pub unfold::unfold_opened-returns-in_ok-negative-in-Negative-clause-term : goal.unfold::unfold_opened-returns-in_ok-negative-in-Negative-clause-term
 unfold::unfold_opened-returns-in_ok-negative-in-Negative-clause-term t c =
@@ -85,7 +87,9 @@ unfold::unfold_opened-returns-in_ok-negative-in-Negative-clause-term t c =
     let x = put c.deref-in-Negative.result.now in
     carried c.args.level.truth c.in_ok-negative-in-Negative.field-0 c.folding-in-Negative.result.sorts.now k.declarations.now (suc n) c.args.level.room (Term.Negative x) (put c.args.term.now)
     c.folding-in-Negative.ensures (sym c.in_ok-room-in-Negative.ensures) (ap (λ y. Term.Negative (put y)) c.deref-in-Negative.ensures ∙ ap put (sym c.in-Negative.is))
-    (c.in_ok-negative-in-Negative.ensures x n c.args.level.truth (subst (λ (ds : List SortDeclaration). IsUnfolded (tree.spec_of ds) false n x u) (sym c.folding-in-Negative.ensures) c.in_ok-operand-in-Negative.ensures.term))
+    (c.in_ok-negative-in-Negative.ensures x n c.args.level.truth
+    (subst (λ (ds : List SortDeclaration). IsUnfolded (tree.spec_of ds) false n x u)
+    (sym c.folding-in-Negative.ensures) c.in_ok-operand-in-Negative.ensures.term))
 
 pub unfold::unfold_free-returns-in-Definition-clause-term : goal.unfold::unfold_free-returns-in-Definition-clause-term
 unfold::unfold_free-returns-in-Definition-clause-term t c =
@@ -120,8 +124,11 @@ unfold::unfold_name-returns-in_ok-value_term-in-Value-clause-term t c =
     let x : Name = string_bytes c.args.name.now.text in
     let ρ = scope_of (spec_in k) (forms_in k) c.args.scope.now in
     let e = c.in-Value.ensures.term (spec_in k) (forms_in k) ∙ ap (λ (y : Name). term_of ρ y) c.as_str.ensures.value in
-    subst (λ (o : Option Term). IsUnfolded (folding_in k) c.args.level.truth c.args.level.room (named_term (spec_in k) o (forms_in k c.args.level.definitions x Terms.NoTerms) x) c.in_ok-value_term-in-Value.field-0) e
-    (subst (λ (ds : List SortDeclaration). IsUnfolded (tree.spec_of ds) c.args.level.truth c.args.level.room (written_term c.in-Value.value) c.in_ok-value_term-in-Value.field-0) c.folding.ensures (c.in_ok-value_term-in-Value.ensures c.args.level.truth))
+    subst (λ (o : Option Term). IsUnfolded (folding_in k) c.args.level.truth c.args.level.room
+    (named_term (spec_in k) o (forms_in k c.args.level.definitions x Terms.NoTerms) x) c.in_ok-value_term-in-Value.field-0) e
+    (subst (λ (ds : List SortDeclaration). IsUnfolded (tree.spec_of ds) c.args.level.truth c.args.level.room
+    (written_term c.in-Value.value) c.in_ok-value_term-in-Value.field-0) c.folding.ensures
+    (c.in_ok-value_term-in-Value.ensures c.args.level.truth))
 
 pub unfold::unfold_opened-returns-in_ok-comparison-in-Comparison-clause-term : goal.unfold::unfold_opened-returns-in_ok-comparison-in-Comparison-clause-term
 unfold::unfold_opened-returns-in_ok-comparison-in-Comparison-clause-term t c =
@@ -136,7 +143,9 @@ unfold::unfold_opened-returns-in_ok-comparison-in-Comparison-clause-term t c =
     let back = sym c.folding-in-Comparison.ensures in
     carried c.args.level.truth c.in_ok-comparison-in-Comparison.field-0 c.folding-in-Comparison.result.sorts.now k.declarations.now (suc n) c.args.level.room (Term.Binary o x y) (put c.args.term.now)
     c.folding-in-Comparison.ensures (sym c.in_ok-room-in-Comparison.ensures)
-    (ap (λ z. Term.Binary o (put z) y) c.deref-in-Comparison.ensures ∙ ap (λ z. Term.Binary o (put (box_value c.in-Comparison.left)) (put z)) c.deref-in-Comparison-2.ensures ∙ ap put (sym c.in-Comparison.is))
+    (ap (λ z. Term.Binary o (put z) y) c.deref-in-Comparison.ensures
+    ∙ ap (λ z. Term.Binary o (put (box_value c.in-Comparison.left)) (put z)) c.deref-in-Comparison-2.ensures
+    ∙ ap put (sym c.in-Comparison.is))
     (c.in_ok-comparison-in-Comparison.ensures x y n c.args.level.truth
     (subst (λ (ds : List SortDeclaration). IsUnfolded (tree.spec_of ds) false n x u) back c.in_ok-left-in-Comparison.ensures.term)
     (subst (λ (ds : List SortDeclaration). IsUnfolded (tree.spec_of ds) false u.room y v) back c.in_ok-right-in-Comparison.ensures.term))
@@ -149,9 +158,16 @@ unfold::unfold_opened-returns-in_err-right-in-Comparison-clause-term t c =
     let x = put c.deref-in-Comparison.result.now in
     let y = put c.deref-in-Comparison-2.result.now in
     let same : Term.Binary o x y ≡ put c.args.term.now =
-    ap (λ z. Term.Binary o (put z) y) c.deref-in-Comparison.ensures ∙ ap (λ z. Term.Binary o (put (box_value c.in-Comparison.left)) (put z)) c.deref-in-Comparison-2.ensures ∙ ap put (sym c.in-Comparison.is) in
-    let more = refusal-behind c.args.level.room c.in_ok-room-in-Comparison.room c.in_ok-left-in-Comparison.left.room o x y (put c.args.term.now) c.in_err-right-in-Comparison.field-0.0 c.in_ok-room-in-Comparison.ensures c.in_ok-left-in-Comparison.ensures.term.room same in
-    err-kept c.from_residual-in_err-right-in-Comparison.result c.in_err-right-in-Comparison.field-0.0 (IsUnfolded (folding_in k) c.args.level.truth c.args.level.room (put c.args.term.now)) (IsRefusal c.args.level.room (put c.args.term.now))
+    ap (λ z. Term.Binary o (put z) y) c.deref-in-Comparison.ensures
+    ∙ ap (λ z. Term.Binary o (put (box_value c.in-Comparison.left)) (put z)) c.deref-in-Comparison-2.ensures
+    ∙ ap put (sym c.in-Comparison.is) in
+    let more =
+    refusal-behind c.args.level.room c.in_ok-room-in-Comparison.room c.in_ok-left-in-Comparison.left.room o x y
+    (put c.args.term.now) c.in_err-right-in-Comparison.field-0.0 c.in_ok-room-in-Comparison.ensures
+    c.in_ok-left-in-Comparison.ensures.term.room same in
+    err-kept c.from_residual-in_err-right-in-Comparison.result c.in_err-right-in-Comparison.field-0.0
+    (IsUnfolded (folding_in k) c.args.level.truth c.args.level.room (put c.args.term.now))
+    (IsRefusal c.args.level.room (put c.args.term.now))
     c.from_residual-in_err-right-in-Comparison.ensures.1 (more c.in_err-right-in-Comparison.ensures.term)
 
 pub applications::unfold_application-returns-in-Definition-clause-term : goal.applications::unfold_application-returns-in-Definition-clause-term
@@ -200,7 +216,8 @@ connectives::unfold_operands-loop-link-preserved t c =
     let rest' = p (chain_term o (operand_of l) (operands_of (drop (i + 1) ls))) in
     let split : rest ≡ Term.Binary (of_connective o) (p x) rest' = ap p (chain-next o x ls i l c.loop-link-test.true c.link-item.is) in
     let u = c.in_ok-unfolded.unfolded in (
-      left-further (folding_in k) o b room whole rest (p x) rest' (operands_of c.loop-link.before.items) (operands_of c.push.new.self.items) c.loop-link.room c.in_ok-behind_one.field-0 u.room (tree.term_of u.term)
+      left-further (folding_in k) o b room whole rest (p x) rest' (operands_of c.loop-link.before.items)
+          (operands_of c.push.new.self.items) c.loop-link.room c.in_ok-behind_one.field-0 u.room (tree.term_of u.term)
           c.in_ok-behind_one.ensures split c.in_ok-unfolded.ensures.term.term c.in_ok-unfolded.ensures.term.room
           (ap operands_of c.in_ok-push.ensures.items ∙ operands-more c.loop-link.before.items (record { place = l.place; operand = u.term })) c.loop-link.invariant.0,
       inr (l, item-in ls i l c.loop-link-test.true c.link-item.is, refl),
@@ -242,7 +259,9 @@ connectives::unfold_operands-returns-clause-operands t c =
     let rest = p (chain_term o x (operands_of (drop i ls))) in
     let u = c.in_ok-unfolded-2.unfolded in
     left-last (folding_in k) o b c.truth_counts-truth.result room whole rest (p x) (record { before = c.loop-link.before; last = u.term; room = u.room }) c.loop-link.room
-    (ap p (chain-end o x ls i (λ h. omega (arith, h, c.loop-link-test.false)))) (c.truth_counts-truth.ensures ∙ ap (λ xs. truth_counts b (operands_of xs)) c.deref.ensures.value) c.in_ok-unfolded-2.ensures.term.term c.in_ok-unfolded-2.ensures.term.room
+    (ap p (chain-end o x ls i (λ h. omega (arith, h, c.loop-link-test.false))))
+    (c.truth_counts-truth.ensures ∙ ap (λ xs. truth_counts b (operands_of xs)) c.deref.ensures.value)
+    c.in_ok-unfolded-2.ensures.term.term c.in_ok-unfolded-2.ensures.term.room
     (chain-form o (tree.term_of c.args.chain.first.now) ls p (λ o y z. refl) c.requires) c.loop-link.invariant.0
 
 pub connectives::unfold_operands-returns-in_err-unfolded-2-clause-operands : goal.connectives::unfold_operands-returns-in_err-unfolded-2-clause-operands
@@ -260,7 +279,9 @@ connectives::unfold_operands-returns-in_err-unfolded-2-clause-operands t c =
     let rest = p (chain_term o x (operands_of (drop i ls))) in
     let e = c.in_err-unfolded-2.field-0.0 in
     err-kept c.from_residual-in_err-unfolded-2.result e _ (IsRefusal room whole) c.from_residual-in_err-unfolded-2.ensures.1
-    (last-refused (folding_in k) o b room whole rest (p x) (operands_of c.loop-link.before.items) c.loop-link.room e (ap p (chain-end o x ls i (λ h. omega (arith, h, c.loop-link-test.false)))) c.loop-link.invariant.0 c.in_err-unfolded-2.ensures.term)
+    (last-refused (folding_in k) o b room whole rest (p x) (operands_of c.loop-link.before.items) c.loop-link.room e
+    (ap p (chain-end o x ls i (λ h. omega (arith, h, c.loop-link-test.false)))) c.loop-link.invariant.0
+    c.in_err-unfolded-2.ensures.term)
 
 pub connectives::unfold_copies-loop-values-preserved : goal.connectives::unfold_copies-loop-values-preserved
 connectives::unfold_copies-loop-values-preserved t c =
@@ -273,7 +294,9 @@ connectives::unfold_copies-loop-values-preserved t c =
     let o = joining q in
     let body = tree.term_of c.args.quantified.body.now in
     let xs = c.args.copies.tuples.now in
-    let f : List Term → Term = λ ks. put_in (spec_in k) (forms_in k n) (standing (map variable_of c.args.copies.variables.now) (terms_of ks) (scope_of (spec_in k) (forms_in k) c.args.scope.now)) body in
+    let f : List Term → Term =
+    λ ks. put_in (spec_in k) (forms_in k n)
+    (standing (map variable_of c.args.copies.variables.now) (terms_of ks) (scope_of (spec_in k) (forms_in k) c.args.scope.now)) body in
     let whole = copied_term k n c.args.scope.now q c.args.copies body in
     let i = c.loop-values.values-index in
     let v = c.values-item.result in
@@ -283,7 +306,9 @@ connectives::unfold_copies-loop-values-preserved t c =
     let split : rest ≡ Term.Binary (of_connective o) x rest' = joined-next q tuple_of f xs i v c.loop-values-test.true c.values-item.is in
     let u = c.in_ok-unfolded.unfolded in
     let inner = c.in_ok-behind_one.field-0 in
-    let h : IsUnfolded (folding_in k) true inner x u = subst (λ (z : Term). IsUnfolded (folding_in k) true inner z u) (ap (λ ws. f (map written_term ws)) c.deref.ensures.value) c.in_ok-unfolded.ensures.term in
+    let h : IsUnfolded (folding_in k) true inner x u =
+    subst (λ (z : Term). IsUnfolded (folding_in k) true inner z u)
+    (ap (λ ws. f (map written_term ws)) c.deref.ensures.value) c.in_ok-unfolded.ensures.term in
     left-further (folding_in k) o b room whole rest x rest' (operands_of c.loop-values.before.items) (operands_of c.push.new.self.items) c.loop-values.room inner u.room (tree.term_of u.term)
     c.in_ok-behind_one.ensures split h.term h.room
     (ap operands_of c.in_ok-push.ensures.items ∙ operands-more c.loop-values.before.items (record { place = c.args.quantified.place; operand = u.term })) c.loop-values.invariant
@@ -299,7 +324,9 @@ connectives::unfold_copies-returns-then-decides-clause-operands t c =
     let o = joining q in
     let body = tree.term_of c.args.quantified.body.now in
     let xs = c.args.copies.tuples.now in
-    let f : List Term → Term = λ ks. put_in (spec_in k) (forms_in k n) (standing (map variable_of c.args.copies.variables.now) (terms_of ks) (scope_of (spec_in k) (forms_in k) c.args.scope.now)) body in
+    let f : List Term → Term =
+    λ ks. put_in (spec_in k) (forms_in k n)
+    (standing (map variable_of c.args.copies.variables.now) (terms_of ks) (scope_of (spec_in k) (forms_in k) c.args.scope.now)) body in
     let whole = copied_term k n c.args.scope.now q c.args.copies body in
     let i = c.loop-values.values-index in
     let v = c.values-item.result in
@@ -309,7 +336,9 @@ connectives::unfold_copies-returns-then-decides-clause-operands t c =
     let split : rest ≡ Term.Binary (of_connective o) x rest' = joined-next q tuple_of f xs i v c.loop-values-test.true c.values-item.is in
     let u = c.in_ok-unfolded.unfolded in
     let inner = c.in_ok-behind_one.field-0 in
-    let h : IsUnfolded (folding_in k) true inner x u = subst (λ (z : Term). IsUnfolded (folding_in k) true inner z u) (ap (λ ws. f (map written_term ws)) c.deref.ensures.value) c.in_ok-unfolded.ensures.term in
+    let h : IsUnfolded (folding_in k) true inner x u =
+    subst (λ (z : Term). IsUnfolded (folding_in k) true inner z u)
+    (ap (λ ws. f (map written_term ws)) c.deref.ensures.value) c.in_ok-unfolded.ensures.term in
     let decides : Term.Truth (deciding o) ≡ folded (folding_in k) true x = ap (λ d. Term.Truth (deciding d)) (sym c.joining-connective.ensures) ∙ sym (c.decides.ensures c.if-decides.true) ∙ h.term in
     left-decided (folding_in k) o b room whole rest x rest' (record { before = c.loop-values.before; last = c.decided-last.result; room = u.room }) c.loop-values.room inner
     c.in_ok-behind_one.ensures split decides h.room (c.decided-last.ensures ∙ ap (λ d. Term.Truth (outcome d)) c.joining-connective.ensures)
@@ -326,7 +355,9 @@ connectives::unfold_copies-returns-in_err-behind_one-clause-operands t c =
     let o = joining q in
     let body = tree.term_of c.args.quantified.body.now in
     let xs = c.args.copies.tuples.now in
-    let f : List Term → Term = λ ks. put_in (spec_in k) (forms_in k n) (standing (map variable_of c.args.copies.variables.now) (terms_of ks) (scope_of (spec_in k) (forms_in k) c.args.scope.now)) body in
+    let f : List Term → Term =
+    λ ks. put_in (spec_in k) (forms_in k n)
+    (standing (map variable_of c.args.copies.variables.now) (terms_of ks) (scope_of (spec_in k) (forms_in k) c.args.scope.now)) body in
     let whole = copied_term k n c.args.scope.now q c.args.copies body in
     let i = c.loop-values.values-index in
     let v = c.values-item.result in
@@ -336,7 +367,9 @@ connectives::unfold_copies-returns-in_err-behind_one-clause-operands t c =
     let split : rest ≡ Term.Binary (of_connective o) x rest' = joined-next q tuple_of f xs i v c.loop-values-test.true c.values-item.is in
     let e = c.in_err-behind_one.field-0.0 in
     err-kept c.from_residual.result e _ (IsRefusal room whole) c.from_residual.ensures.1
-    (no-room room whole e c.args.quantified.place c.in_err-behind_one.ensures.0 (left-without-room (folding_in k) o b room whole rest x rest' (operands_of c.loop-values.before.items) c.loop-values.room c.in_err-behind_one.ensures.1 split c.loop-values.invariant))
+    (no-room room whole e c.args.quantified.place c.in_err-behind_one.ensures.0
+    (left-without-room (folding_in k) o b room whole rest x rest' (operands_of c.loop-values.before.items)
+    c.loop-values.room c.in_err-behind_one.ensures.1 split c.loop-values.invariant))
 
 pub connectives::unfold_copies-returns-in_err-unfolded-clause-operands : goal.connectives::unfold_copies-returns-in_err-unfolded-clause-operands
 connectives::unfold_copies-returns-in_err-unfolded-clause-operands t c =
@@ -349,7 +382,9 @@ connectives::unfold_copies-returns-in_err-unfolded-clause-operands t c =
     let o = joining q in
     let body = tree.term_of c.args.quantified.body.now in
     let xs = c.args.copies.tuples.now in
-    let f : List Term → Term = λ ks. put_in (spec_in k) (forms_in k n) (standing (map variable_of c.args.copies.variables.now) (terms_of ks) (scope_of (spec_in k) (forms_in k) c.args.scope.now)) body in
+    let f : List Term → Term =
+    λ ks. put_in (spec_in k) (forms_in k n)
+    (standing (map variable_of c.args.copies.variables.now) (terms_of ks) (scope_of (spec_in k) (forms_in k) c.args.scope.now)) body in
     let whole = copied_term k n c.args.scope.now q c.args.copies body in
     let i = c.loop-values.values-index in
     let v = c.values-item.result in
@@ -409,7 +444,9 @@ connectives::unfold_quantified-returns-clause-term t c =
     ∙ ap (λ ts. joined q (map (f vs) (map tuple_of ts))) c.deref-3.ensures.value ∙ said in
     subst (λ (z : Term). IsUnfolded (folding_in k) b room z c.in_ok-joined_operands.field-0) copied
     (c.in_ok-joined_operands.ensures (folding_in k) room (copied_term k n c.args.scope.now q (record { variables = c.deref-2.result; tuples = c.deref-3.result }) body)
-    (subst (λ (d : Connective). AreOperands (folding_in k) d b room (copied_term k n c.args.scope.now q (record { variables = c.deref-2.result; tuples = c.deref-3.result }) body) c.in_ok-operands.operands) (sym c.joining.ensures) c.in_ok-operands.ensures.operands))
+    (subst (λ (d : Connective). AreOperands (folding_in k) d b room
+    (copied_term k n c.args.scope.now q (record { variables = c.deref-2.result; tuples = c.deref-3.result }) body)
+    c.in_ok-operands.operands) (sym c.joining.ensures) c.in_ok-operands.ensures.operands))
 
 pub connectives::unfold_quantified-returns-in_err-operands-clause-term : goal.connectives::unfold_quantified-returns-in_err-operands-clause-term
 connectives::unfold_quantified-returns-in_err-operands-clause-term t c =
@@ -631,7 +668,9 @@ applications::unfold_choice-returns-in-Some-true-clause-term t c =
     let x2 = p (tree.term_of (get_or given 2 a0).term) in
     let same : choice_of f x0 x1 x2 ≡ whole = first-and-second (spec_in k) (forms_in k n) ρ f given a0 a1 c.requires.arguments is0 is1 in
     subst (λ (z : Term). IsUnfolded (folding_in k) b room z c.chosen.result) same
-    (c.chosen.ensures (folding_in k) f x0 x1 x2 m room true b c.requires.choice (sym c.in_ok-condition.ensures.term.term ∙ truth-said c.in_ok-condition.condition.term true (ap Some (sym c.in-Some-true.field-0-test) ∙ c.in-Some-true.ensures))
+    (c.chosen.ensures (folding_in k) f x0 x1 x2 m room true b c.requires.choice
+    (sym c.in_ok-condition.ensures.term.term
+    ∙ truth-said c.in_ok-condition.condition.term true (ap Some (sym c.in-Some-true.field-0-test) ∙ c.in-Some-true.ensures))
     c.in_ok-unfold-in-Some-true.ensures.term within)
 
 pub applications::unfold_choice-returns-in_err-unfold-in-Some-true-clause-term : goal.applications::unfold_choice-returns-in_err-unfold-in-Some-true-clause-term
@@ -683,7 +722,9 @@ applications::unfold_choice-returns-in-Some-false-clause-term t c =
     let x2 = p (tree.term_of a2.term) in
     let same : choice_of f x0 x1 x2 ≡ whole = first-and-third (spec_in k) (forms_in k n) ρ f given a0 a2 c.requires.arguments is0 is2 in
     subst (λ (z : Term). IsUnfolded (folding_in k) b room z c.chosen-in-Some-false.result) same
-    (c.chosen-in-Some-false.ensures (folding_in k) f x0 x1 x2 m room false b c.requires.choice (sym c.in_ok-condition.ensures.term.term ∙ truth-said c.in_ok-condition.condition.term false (ap Some (sym c.in-Some-false.field-0-test) ∙ c.in-Some-false.ensures))
+    (c.chosen-in-Some-false.ensures (folding_in k) f x0 x1 x2 m room false b c.requires.choice
+    (sym c.in_ok-condition.ensures.term.term
+    ∙ truth-said c.in_ok-condition.condition.term false (ap Some (sym c.in-Some-false.field-0-test) ∙ c.in-Some-false.ensures))
     c.in_ok-unfold-in-Some-false.ensures.term within)
 
 pub applications::unfold_choice-returns-in_err-unfold-in-Some-false-clause-term : goal.applications::unfold_choice-returns-in_err-unfold-in-Some-false-clause-term
@@ -884,7 +925,8 @@ reads::unfold_read-returns-clause-term t c =
     let by-parts : (z : Term) → g z ≡ f z = λ z. same-parts (spec_in k) forms ρ (string_bytes h.name.now.text) x h.indices.now (drop 1 is) h.arguments.now (drop 1 given) z
     (ap (λ y. string_bytes y.text) c.others-2.ensures.name) c.others-2.ensures.indices c.others-2.ensures.arguments in
     let same : choices g t (map written_term c.deref-2.result.now) ≡ read_by k n c.args.scope.now c.args.array =
-    ap (λ zs. choices g t (map written_term zs)) (c.deref-2.ensures.value ∙ sym c.deref.ensures.value) ∙ ap (choices g t) values ∙ choices-same g f by-parts t ks ∙ chosen-otherwise f t ks w ∙ sym first in
+    ap (λ zs. choices g t (map written_term zs)) (c.deref-2.ensures.value ∙ sym c.deref.ensures.value)
+    ∙ ap (choices g t) values ∙ choices-same g f by-parts t ks ∙ chosen-otherwise f t ks w ∙ sym first in
     λ truth. subst (λ (z : Term). Unfolds (folding_in k) truth room z c.unfold_choices.result) same
     (c.unfold_choices.ensures.term t truth c.in-Ok.ensures.term.term (omega (arith, c.in-Ok.ensures.term.room, c.saturating_sub.ensures)))
 
@@ -926,7 +968,9 @@ reads::unfold_choices-returns-in-Some-true-clause-term t c =
     let condition : (t : Term) → tree.term_of c.args.choices.index.now ≡ folded (folding_in k) false t → tree.term_of c.in_ok-condition.condition ≡ folded (folding_in k) true (eq t) =
     λ t said. c.in_ok-condition.ensures t true (said ∙ ap (λ ds. folded (tree.spec_of ds) false t) (sym c.folding.ensures)) ∙ ap (λ ds. folded (tree.spec_of ds) true (eq t)) c.folding.ensures in
     λ t truth said within. subst (λ (z : Term). IsUnfolded (folding_in k) truth room z c.chosen.result) (same t)
-    (c.chosen.ensures (folding_in k) (codes "if") (eq t) y (rest t) room room true truth if-named (sym (condition t said) ∙ truth-said c.in_ok-condition.condition true (ap Some (sym c.in-Some-true.field-0-test) ∙ c.in-Some-true.ensures))
+    (c.chosen.ensures (folding_in k) (codes "if") (eq t) y (rest t) room room true truth if-named
+    (sym (condition t said)
+    ∙ truth-said c.in_ok-condition.condition true (ap Some (sym c.in-Some-true.field-0-test) ∙ c.in-Some-true.ensures))
     (c.in_ok-unfold_element-in-Some-true.ensures.term false) (omega arith))
 
 pub reads::unfold_choices-returns-in-Some-false-clause-term : goal.reads::unfold_choices-returns-in-Some-false-clause-term
@@ -945,8 +989,12 @@ reads::unfold_choices-returns-in-Some-false-clause-term t c =
     let condition : (t : Term) → tree.term_of c.args.choices.index.now ≡ folded (folding_in k) false t → tree.term_of c.in_ok-condition.condition ≡ folded (folding_in k) true (eq t) =
     λ t said. c.in_ok-condition.ensures t true (said ∙ ap (λ ds. folded (tree.spec_of ds) false t) (sym c.folding.ensures)) ∙ ap (λ ds. folded (tree.spec_of ds) true (eq t)) c.folding.ensures in
     λ t truth said within. subst (λ (z : Term). IsUnfolded (folding_in k) truth room z c.chosen-in-Some-false.result) (same t)
-    (c.chosen-in-Some-false.ensures (folding_in k) (codes "if") (eq t) y (rest t) room room false truth if-named (sym (condition t said) ∙ truth-said c.in_ok-condition.condition false (ap Some (sym c.in-Some-false.field-0-test) ∙ c.in-Some-false.ensures))
-    (subst (λ (ws : List Written). IsUnfolded (folding_in k) false room (choices g t (map written_term ws)) c.in_ok-unfold_choices-in-Some-false.field-0) (behind-first vs) (c.in_ok-unfold_choices-in-Some-false.ensures.term t false said within)) (omega arith))
+    (c.chosen-in-Some-false.ensures (folding_in k) (codes "if") (eq t) y (rest t) room room false truth if-named
+    (sym (condition t said)
+    ∙ truth-said c.in_ok-condition.condition false (ap Some (sym c.in-Some-false.field-0-test) ∙ c.in-Some-false.ensures))
+    (subst (λ (ws : List Written). IsUnfolded (folding_in k) false room (choices g t (map written_term ws))
+    c.in_ok-unfold_choices-in-Some-false.field-0) (behind-first vs)
+    (c.in_ok-unfold_choices-in-Some-false.ensures.term t false said within)) (omega arith))
 
 pub reads::unfold_choices-returns-in_err-unfold_element-in-Some-true-clause-term : goal.reads::unfold_choices-returns-in_err-unfold_element-in-Some-true-clause-term
 reads::unfold_choices-returns-in_err-unfold_element-in-Some-true-clause-term t c =
@@ -964,7 +1012,8 @@ reads::unfold_choices-returns-in_err-unfold_element-in-Some-true-clause-term t c
     let condition : (t : Term) → tree.term_of c.args.choices.index.now ≡ folded (folding_in k) false t → tree.term_of c.in_ok-condition.condition ≡ folded (folding_in k) true (eq t) =
     λ t said. c.in_ok-condition.ensures t true (said ∙ ap (λ ds. folded (tree.spec_of ds) false t) (sym c.folding.ensures)) ∙ ap (λ ds. folded (tree.spec_of ds) true (eq t)) c.folding.ensures in
     let e = c.in_err-unfold_element-in-Some-true.field-0.0 in
-    λ t truth said within. err-kept c.from_residual-in_err-unfold_element-in-Some-true.result e _ (IsRefusal room (choices g t (map written_term vs))) c.from_residual-in_err-unfold_element-in-Some-true.ensures.1
+    λ t truth said within. err-kept c.from_residual-in_err-unfold_element-in-Some-true.result e _
+    (IsRefusal room (choices g t (map written_term vs))) c.from_residual-in_err-unfold_element-in-Some-true.ensures.1
     (subst (λ (z : Term). IsRefusal room z e) (same t) (chosen-refused room room (codes "if") (eq t) y (rest t) true e (omega arith) (c.in_err-unfold_element-in-Some-true.ensures.term truth)))
 
 pub reads::unfold_choices-returns-in_err-unfold_choices-in-Some-false-clause-term : goal.reads::unfold_choices-returns-in_err-unfold_choices-in-Some-false-clause-term
@@ -983,8 +1032,12 @@ reads::unfold_choices-returns-in_err-unfold_choices-in-Some-false-clause-term t 
     let condition : (t : Term) → tree.term_of c.args.choices.index.now ≡ folded (folding_in k) false t → tree.term_of c.in_ok-condition.condition ≡ folded (folding_in k) true (eq t) =
     λ t said. c.in_ok-condition.ensures t true (said ∙ ap (λ ds. folded (tree.spec_of ds) false t) (sym c.folding.ensures)) ∙ ap (λ ds. folded (tree.spec_of ds) true (eq t)) c.folding.ensures in
     let e = c.in_err-unfold_choices-in-Some-false.field-0.0 in
-    λ t truth said within. err-kept c.from_residual-in_err-unfold_choices-in-Some-false.result e _ (IsRefusal room (choices g t (map written_term vs))) c.from_residual-in_err-unfold_choices-in-Some-false.ensures.1
-    (subst (λ (z : Term). IsRefusal room z e) (same t) (chosen-refused room room (codes "if") (eq t) y (rest t) false e (omega arith) (subst (λ (ws : List Written). IsRefusal room (choices g t (map written_term ws)) e) (behind-first vs) (c.in_err-unfold_choices-in-Some-false.ensures.term t truth said within))))
+    λ t truth said within. err-kept c.from_residual-in_err-unfold_choices-in-Some-false.result e _
+    (IsRefusal room (choices g t (map written_term vs))) c.from_residual-in_err-unfold_choices-in-Some-false.ensures.1
+    (subst (λ (z : Term). IsRefusal room z e) (same t)
+    (chosen-refused room room (codes "if") (eq t) y (rest t) false e (omega arith)
+    (subst (λ (ws : List Written). IsRefusal room (choices g t (map written_term ws)) e) (behind-first vs)
+    (c.in_err-unfold_choices-in-Some-false.ensures.term t truth said within))))
 
 pub reads::unfold_choices-returns-in_err-left-in-None-clause-term : goal.reads::unfold_choices-returns-in_err-left-in-None-clause-term
 reads::unfold_choices-returns-in_err-left-in-None-clause-term t c =
@@ -1002,7 +1055,8 @@ reads::unfold_choices-returns-in_err-left-in-None-clause-term t c =
     let condition : (t : Term) → tree.term_of c.args.choices.index.now ≡ folded (folding_in k) false t → tree.term_of c.in_ok-condition.condition ≡ folded (folding_in k) true (eq t) =
     λ t said. c.in_ok-condition.ensures t true (said ∙ ap (λ ds. folded (tree.spec_of ds) false t) (sym c.folding.ensures)) ∙ ap (λ ds. folded (tree.spec_of ds) true (eq t)) c.folding.ensures in
     let m = c.in_ok-room-in-None-2.room in
-    let spent : (t : Term) → c.args.choices.operators ≤ operator_count t → room ≤ m + suc (operator_count (eq t)) = λ t within. omega (arith, within, c.in_ok-room-in-None.ensures, c.in_ok-room-in-None-2.ensures) in
+    let spent : (t : Term) → c.args.choices.operators ≤ operator_count t → room ≤ m + suc (operator_count (eq t)) =
+    λ t within. omega (arith, within, c.in_ok-room-in-None.ensures, c.in_ok-room-in-None-2.ensures) in
     let e = c.in_err-left-in-None.field-0.0 in
     λ t truth said within. err-kept c.from_residual-in_err-left-in-None.result e _ (IsRefusal room (choices g t (map written_term vs))) c.from_residual-in_err-left-in-None.ensures.1
     (subst (λ (z : Term). IsRefusal room z e) (same t) (chosen-refused room m (codes "if") (eq t) y (rest t) true e (spent t within) (c.in_err-left-in-None.ensures.term truth)))
@@ -1023,10 +1077,15 @@ reads::unfold_choices-returns-in_err-right-in-None-clause-term t c =
     let condition : (t : Term) → tree.term_of c.args.choices.index.now ≡ folded (folding_in k) false t → tree.term_of c.in_ok-condition.condition ≡ folded (folding_in k) true (eq t) =
     λ t said. c.in_ok-condition.ensures t true (said ∙ ap (λ ds. folded (tree.spec_of ds) false t) (sym c.folding.ensures)) ∙ ap (λ ds. folded (tree.spec_of ds) true (eq t)) c.folding.ensures in
     let m = c.in_ok-room-in-None-2.room in
-    let spent : (t : Term) → c.args.choices.operators ≤ operator_count t → room ≤ m + suc (operator_count (eq t)) = λ t within. omega (arith, within, c.in_ok-room-in-None.ensures, c.in_ok-room-in-None-2.ensures) in
+    let spent : (t : Term) → c.args.choices.operators ≤ operator_count t → room ≤ m + suc (operator_count (eq t)) =
+    λ t within. omega (arith, within, c.in_ok-room-in-None.ensures, c.in_ok-room-in-None-2.ensures) in
     let e = c.in_err-right-in-None.field-0.0 in
     λ t truth said within. err-kept c.from_residual-in_err-right-in-None.result e _ (IsRefusal room (choices g t (map written_term vs))) c.from_residual-in_err-right-in-None.ensures.1
-    (subst (λ (z : Term). IsRefusal room z e) (same t) (right-refused room m c.in_ok-left-in-None.left.room (codes "if") (eq t) y (rest t) e (spent t within) ((c.in_ok-left-in-None.ensures.term truth).room) (subst (λ (ws : List Written). IsRefusal c.in_ok-left-in-None.left.room (choices g t (map written_term ws)) e) (behind-first vs) (c.in_err-right-in-None.ensures.term t truth said within))))
+    (subst (λ (z : Term). IsRefusal room z e) (same t)
+    (right-refused room m c.in_ok-left-in-None.left.room (codes "if") (eq t) y (rest t) e (spent t within)
+    ((c.in_ok-left-in-None.ensures.term truth).room)
+    (subst (λ (ws : List Written). IsRefusal c.in_ok-left-in-None.left.room (choices g t (map written_term ws)) e)
+    (behind-first vs) (c.in_err-right-in-None.ensures.term t truth said within))))
 
 pub reads::unfold_choices-choice-requires : goal.reads::unfold_choices-choice-requires
 reads::unfold_choices-choice-requires t c =
@@ -1048,16 +1107,20 @@ reads::unfold_choices-returns-clause-term t c =
     let condition : (t : Term) → tree.term_of c.args.choices.index.now ≡ folded (folding_in k) false t → tree.term_of c.in_ok-condition.condition ≡ folded (folding_in k) true (eq t) =
     λ t said. c.in_ok-condition.ensures t true (said ∙ ap (λ ds. folded (tree.spec_of ds) false t) (sym c.folding.ensures)) ∙ ap (λ ds. folded (tree.spec_of ds) true (eq t)) c.folding.ensures in
     let m = c.in_ok-room-in-None-2.room in
-    let spent : (t : Term) → c.args.choices.operators ≤ operator_count t → room ≤ m + suc (operator_count (eq t)) = λ t within. omega (arith, within, c.in_ok-room-in-None.ensures, c.in_ok-room-in-None-2.ensures) in
+    let spent : (t : Term) → c.args.choices.operators ≤ operator_count t → room ≤ m + suc (operator_count (eq t)) =
+    λ t within. omega (arith, within, c.in_ok-room-in-None.ensures, c.in_ok-room-in-None-2.ensures) in
     let back = sym c.folding-in-None.ensures in
     let u = c.in_ok-left-in-None.left in
-    λ t truth said within. carried truth c.in_ok-choice-in-None.field-0 c.folding-in-None.result.sorts.now k.declarations.now room room (choice_of (string_bytes c.in_ok-name-in-None.name.text) (eq t) y (rest t)) (choices g t (map written_term vs)) c.folding-in-None.ensures refl
+    λ t truth said within. carried truth c.in_ok-choice-in-None.field-0 c.folding-in-None.result.sorts.now
+    k.declarations.now room room (choice_of (string_bytes c.in_ok-name-in-None.name.text) (eq t) y (rest t))
+    (choices g t (map written_term vs)) c.folding-in-None.ensures refl
     (ap (λ (f : Name). choice_of f (eq t) y (rest t)) c.in_ok-name-in-None.ensures ∙ same t)
     (c.in_ok-choice-in-None.ensures m room (eq t) y (rest t) truth
     (condition t said ∙ ap (λ ds. folded (tree.spec_of ds) true (eq t)) back)
     (subst (λ (ds : List SortDeclaration). IsUnfolded (tree.spec_of ds) false m y u) back (c.in_ok-left-in-None.ensures.term false))
     (subst (λ (ds : List SortDeclaration). IsUnfolded (tree.spec_of ds) false u.room (rest t) c.in_ok-right-in-None.right) back
-    (subst (λ (ws : List Written). IsUnfolded (folding_in k) false u.room (choices g t (map written_term ws)) c.in_ok-right-in-None.right) (behind-first vs) (c.in_ok-right-in-None.ensures.term t false said within)))
+    (subst (λ (ws : List Written). IsUnfolded (folding_in k) false u.room (choices g t (map written_term ws))
+    c.in_ok-right-in-None.right) (behind-first vs) (c.in_ok-right-in-None.ensures.term t false said within)))
     (spent t within))
 
 pub unfold::unfold_opened-returns-in-Arithmetic-clause-term : goal.unfold::unfold_opened-returns-in-Arithmetic-clause-term
@@ -1313,7 +1376,11 @@ applications::unfold_arithmetic-returns-in_err-right-clause-faults t c =
     let σ = scope_said k c.args.scope.now in
     λ w h. let e = c.in_err-right.field-0.0 in
     err-told c.from_residual-in_err-right.result e (IsFaultOf (surroundings_in k) w) c.from_residual-in_err-right.ensures.1
-    (c.in_err-right.ensures.faults w (arithmetic-link-met k l n σ w (term_form c.args.first.now) c.args.links.now c.loop-link.link-index c.link-item.result c.loop-link-test.true c.link-item.is h.0, h.1))
+    (c.in_err-right.ensures.faults w (
+      arithmetic-link-met k l n σ w (term_form c.args.first.now) c.args.links.now c.loop-link.link-index
+          c.link-item.result c.loop-link-test.true c.link-item.is h.0,
+      h.1,
+    ))
 
 pub connectives::unfold_copies-returns-in_err-unfolded-clause-faults : goal.connectives::unfold_copies-returns-in_err-unfolded-clause-faults
 connectives::unfold_copies-returns-in_err-unfolded-clause-faults t c =
@@ -1405,7 +1472,8 @@ unfold::unfold_opened-returns-in_err-room-in-Negative-clause-faults t c =
     let k = c.args.context.now in
     let o = at (suc c.args.level.depth) c.args.level.definitions (scope_said k c.args.scope.now) (term_form c.args.term.now) in
     let p = c.in-Negative.place in
-    λ w h. room-told (surroundings_in k) w p c.from_residual-in_err-room-in-Negative.result c.in_err-room-in-Negative.field-0.0 c.from_residual-in_err-room-in-Negative.ensures.1 c.in_err-room-in-Negative.ensures.0
+    λ w h. room-told (surroundings_in k) w p c.from_residual-in_err-room-in-Negative.result
+    c.in_err-room-in-Negative.field-0.0 c.from_residual-in_err-room-in-Negative.ensures.1 c.in_err-room-in-Negative.ensures.0
     (o, h.0, inl (subst (λ (x : declared_term.Term). IsTokenOf (term_form x) p) (sym c.in-Negative.is) refl))
 
 pub unfold::unfold_opened-returns-in_err-room-in-Comparison-clause-faults : goal.unfold::unfold_opened-returns-in_err-room-in-Comparison-clause-faults
@@ -1413,7 +1481,8 @@ unfold::unfold_opened-returns-in_err-room-in-Comparison-clause-faults t c =
     let k = c.args.context.now in
     let o = at (suc c.args.level.depth) c.args.level.definitions (scope_said k c.args.scope.now) (term_form c.args.term.now) in
     let p = c.in-Comparison.place in
-    λ w h. room-told (surroundings_in k) w p c.from_residual-in_err-room-in-Comparison.result c.in_err-room-in-Comparison.field-0.0 c.from_residual-in_err-room-in-Comparison.ensures.1 c.in_err-room-in-Comparison.ensures.0
+    λ w h. room-told (surroundings_in k) w p c.from_residual-in_err-room-in-Comparison.result
+    c.in_err-room-in-Comparison.field-0.0 c.from_residual-in_err-room-in-Comparison.ensures.1 c.in_err-room-in-Comparison.ensures.0
     (o, h.0, inl (subst (λ (x : declared_term.Term). IsTokenOf (term_form x) p) (sym c.in-Comparison.is) refl))
 
 pub applications::unfold_arithmetic-returns-in_err-room-clause-faults : goal.applications::unfold_arithmetic-returns-in_err-room-clause-faults
@@ -1478,7 +1547,9 @@ connectives::unfold_quantified-returns-in_err-tuples-clause-faults t c =
     let tuples : written_tuples (spec_of c.sorts.result) (map variable_of c.deref.result.now) ≡ written_tuples (spec_in k) (erased_variables form) =
     ap (λ S. written_tuples S (map variable_of c.deref.result.now)) c.sorts.ensures
     ∙ ap (λ ws. written_tuples (spec_in k) (map variable_of ws)) c.deref.ensures.value ∙ ap (written_tuples (spec_in k)) c.in_ok-variables.ensures in
-    λ w h. values-told (surroundings_in k) w (written_tuples (spec_of c.sorts.result) (map variable_of c.deref.result.now)) p c.from_residual-in_err-tuples.result c.in_err-tuples.field-0.0 c.from_residual-in_err-tuples.ensures.1 c.in_err-tuples.ensures
+    λ w h. values-told (surroundings_in k) w
+    (written_tuples (spec_of c.sorts.result) (map variable_of c.deref.result.now)) p
+    c.from_residual-in_err-tuples.result c.in_err-tuples.field-0.0 c.from_residual-in_err-tuples.ensures.1 c.in_err-tuples.ensures
     (λ many. (at (suc l) n σ (TermForm.quantified q p form x), h.0, (refl, subst (λ (ts : List (List Term)). 8192 < length ts) tuples many)))
 
 pub reads::unfold_read-returns-in_err-values-clause-faults : goal.reads::unfold_read-returns-in_err-values-clause-faults
@@ -1488,7 +1559,8 @@ reads::unfold_read-returns-in_err-values-clause-faults t c =
     let is = c.args.array.indices.now in
     let p = c.args.array.name.now.place in
     let values : written_values (spec_of c.sorts.result) i.sort.now ≡ written_values (spec_in k) i.sort.now = ap (λ S. written_values S i.sort.now) c.sorts.ensures in
-    λ w h. values-told (surroundings_in k) w (written_values (spec_of c.sorts.result) i.sort.now) p c.from_residual-in_err-values.result c.in_err-values.field-0.0 c.from_residual-in_err-values.ensures.1 c.in_err-values.ensures
+    λ w h. values-told (surroundings_in k) w (written_values (spec_of c.sorts.result) i.sort.now) p
+    c.from_residual-in_err-values.result c.in_err-values.field-0.0 c.from_residual-in_err-values.ensures.1 c.in_err-values.ensures
     (λ many. h.read.values (first-many (spec_in k) is i c.in-Some.ensures.value (subst (λ (ts : List Term). 8192 < length ts) values many)))
 
 pub applications::unfold_choice-returns-in_err-condition-clause-faults : goal.applications::unfold_choice-returns-in_err-condition-clause-faults
@@ -1559,12 +1631,16 @@ applications::unfold_choice-returns-in_err-right-in-None-clause-faults t c =
 pub reads::unfold_choices-returns-in_err-room-in-None-clause-faults : goal.reads::unfold_choices-returns-in_err-room-in-None-clause-faults
 reads::unfold_choices-returns-in_err-room-in-None-clause-faults t c =
     let k = c.args.context.now in
-    λ w h. room-told (surroundings_in k) w c.args.choices.others.name.now.place c.from_residual-in_err-room-in-None.result c.in_err-room-in-None.field-0.0 c.from_residual-in_err-room-in-None.ensures.1 c.in_err-room-in-None.ensures.0 h.token
+    λ w h. room-told (surroundings_in k) w c.args.choices.others.name.now.place
+    c.from_residual-in_err-room-in-None.result c.in_err-room-in-None.field-0.0
+    c.from_residual-in_err-room-in-None.ensures.1 c.in_err-room-in-None.ensures.0 h.token
 
 pub reads::unfold_choices-returns-in_err-room-in-None-2-clause-faults : goal.reads::unfold_choices-returns-in_err-room-in-None-2-clause-faults
 reads::unfold_choices-returns-in_err-room-in-None-2-clause-faults t c =
     let k = c.args.context.now in
-    λ w h. room-told (surroundings_in k) w c.args.choices.others.name.now.place c.from_residual-in_err-room-in-None-2.result c.in_err-room-in-None-2.field-0.0 c.from_residual-in_err-room-in-None-2.ensures.1 c.in_err-room-in-None-2.ensures.0 h.token
+    λ w h. room-told (surroundings_in k) w c.args.choices.others.name.now.place
+    c.from_residual-in_err-room-in-None-2.result c.in_err-room-in-None-2.field-0.0
+    c.from_residual-in_err-room-in-None-2.ensures.1 c.in_err-room-in-None-2.ensures.0 h.token
 
 -- ---- arguments one after another
 
@@ -1591,19 +1667,26 @@ reads::unfold_element-returns-clause-faults t c =
 -- ---- what nests too deep
 
 pub unfold::unfold_opened-unfold_operands-requires : goal.unfold::unfold_opened-unfold_operands-requires
-unfold::unfold_opened-unfold_operands-requires t c =
-    (omega (arith, c.decreases), subst (λ ls. 0 < length ls) (sym c.deref-in-Chain-2.ensures.value) (chain-links c.in-Chain.connective c.in-Chain.first c.in-Chain.links (subst HasLinks c.in-Chain.is c.requires)))
+unfold::unfold_opened-unfold_operands-requires t c = (
+  omega (arith, c.decreases),
+  subst (λ ls. 0 < length ls) (sym c.deref-in-Chain-2.ensures.value)
+      (chain-links c.in-Chain.connective c.in-Chain.first c.in-Chain.links (subst HasLinks c.in-Chain.is c.requires)),
+)
 
 pub unfold::unfold_opened-unfold_arithmetic-requires : goal.unfold::unfold_opened-unfold_arithmetic-requires
-unfold::unfold_opened-unfold_arithmetic-requires t c =
-    (omega (arith, c.decreases), subst (λ ls. 0 < length ls) (sym c.deref-in-Arithmetic-2.ensures.value) (arithmetic-links c.in-Arithmetic.first c.in-Arithmetic.links (subst HasLinks c.in-Arithmetic.is c.requires)))
+unfold::unfold_opened-unfold_arithmetic-requires t c = (
+  omega (arith, c.decreases),
+  subst (λ ls. 0 < length ls) (sym c.deref-in-Arithmetic-2.ensures.value)
+      (arithmetic-links c.in-Arithmetic.first c.in-Arithmetic.links (subst HasLinks c.in-Arithmetic.is c.requires)),
+)
 
 pub unfold::unfold-returns-clause-term : goal.unfold::unfold-returns-clause-term
 unfold::unfold-returns-clause-term t c =
     let k = c.args.context.now in
     let n = c.args.level.definitions in
     let l = c.args.level.depth in
-    subst (λ (x : TermForm). Unfolds (folding_in k) c.args.level.truth c.args.level.room (put k n c.args.scope.now (erased_term x)) c.unfold_opened.result) c.operated.ensures.form c.unfold_opened.ensures.term
+    subst (λ (x : TermForm). Unfolds (folding_in k) c.args.level.truth c.args.level.room
+    (put k n c.args.scope.now (erased_term x)) c.unfold_opened.result) c.operated.ensures.form c.unfold_opened.ensures.term
 
 pub unfold::unfold-returns-clause-faults : goal.unfold::unfold-returns-clause-faults
 unfold::unfold-returns-clause-faults t c =
@@ -1689,7 +1772,8 @@ reads::unfold_read-returns-in-Some-written_as-clause-faults t c =
     let first = c.in-Some-first.ensures.value in
     let o = c.others.result in
     λ w h. c.unfold_element.ensures.faults w (element-met k n c.args.scope.now w p is given i a there first l c.in-Some-checked_sub.depth o.name.now.place o.indices.now o.arguments.now
-    (ap (λ (x : declared_name.Name). x.place) c.others.ensures.name) c.others.ensures.indices c.others.ensures.arguments (omega (arith, c.in-Some-checked_sub.ensures.0, c.in-Some-checked_sub.ensures.1)) h)
+    (ap (λ (x : declared_name.Name). x.place) c.others.ensures.name) c.others.ensures.indices c.others.ensures.arguments
+    (omega (arith, c.in-Some-checked_sub.ensures.0, c.in-Some-checked_sub.ensures.1)) h)
 
 pub reads::unfold_read-returns-clause-faults : goal.reads::unfold_read-returns-clause-faults
 reads::unfold_read-returns-clause-faults t c =
@@ -1713,7 +1797,9 @@ reads::unfold_read-returns-clause-faults t c =
     let mapped = mapped-length written_term c.deref.result.now in
     let same-values = ap length (c.deref-2.ensures.value ∙ sym c.deref.ensures.value) in
     λ whole h. c.unfold_choices.ensures.faults whole (choices-met k n c.args.scope.now whole p is given i a there first l c.in-Some-checked_sub.depth _
-    (ap (λ (x : declared_name.Name). x.place) c.others-2.ensures.name) c.others-2.ensures.indices c.others-2.ensures.arguments (omega (arith, levels, count, mapped, same-values)) (omega (arith, c.in-Some-checked_sub.ensures.0, c.in-Some-checked_sub.ensures.1)) h)
+    (ap (λ (x : declared_name.Name). x.place) c.others-2.ensures.name) c.others-2.ensures.indices
+    c.others-2.ensures.arguments (omega (arith, levels, count, mapped, same-values))
+    (omega (arith, c.in-Some-checked_sub.ensures.0, c.in-Some-checked_sub.ensures.1)) h)
 
 pub reads::unfold_choices-returns-in_default-checked_sub-clause-faults : goal.reads::unfold_choices-returns-in_default-checked_sub-clause-faults
 reads::unfold_choices-returns-in_default-checked_sub-clause-faults t c =
@@ -1747,7 +1833,9 @@ reads::unfold_choices-returns-in_err-unfold_element-in-Some-true-clause-faults t
     let d = c.in-Some-checked_sub.depth in
     let more : l ≡ d + 1 = omega (arith, c.in-Some-checked_sub.ensures.0, c.in-Some-checked_sub.ensures.1) in
     λ w h. let e = c.in_err-unfold_element-in-Some-true.field-0.0 in
-    err-told c.from_residual-in_err-unfold_element-in-Some-true.result e (IsFaultOf (surroundings_in k) w) c.from_residual-in_err-unfold_element-in-Some-true.ensures.1 (c.in_err-unfold_element-in-Some-true.ensures.faults w (choice-first k n c.args.scope.now w l all v some d more h))
+    err-told c.from_residual-in_err-unfold_element-in-Some-true.result e (IsFaultOf (surroundings_in k) w)
+    c.from_residual-in_err-unfold_element-in-Some-true.ensures.1
+    (c.in_err-unfold_element-in-Some-true.ensures.faults w (choice-first k n c.args.scope.now w l all v some d more h))
 
 pub reads::unfold_choices-returns-in_err-left-in-None-clause-faults : goal.reads::unfold_choices-returns-in_err-left-in-None-clause-faults
 reads::unfold_choices-returns-in_err-left-in-None-clause-faults t c =
@@ -1760,7 +1848,9 @@ reads::unfold_choices-returns-in_err-left-in-None-clause-faults t c =
     let d = c.in-Some-checked_sub.depth in
     let more : l ≡ d + 1 = omega (arith, c.in-Some-checked_sub.ensures.0, c.in-Some-checked_sub.ensures.1) in
     λ w h. let e = c.in_err-left-in-None.field-0.0 in
-    err-told c.from_residual-in_err-left-in-None.result e (IsFaultOf (surroundings_in k) w) c.from_residual-in_err-left-in-None.ensures.1 (c.in_err-left-in-None.ensures.faults w (choice-first k n c.args.scope.now w l all v some d more h))
+    err-told c.from_residual-in_err-left-in-None.result e (IsFaultOf (surroundings_in k) w)
+    c.from_residual-in_err-left-in-None.ensures.1
+    (c.in_err-left-in-None.ensures.faults w (choice-first k n c.args.scope.now w l all v some d more h))
 
 pub reads::unfold_choices-returns-in_err-unfold_choices-in-Some-false-clause-faults : goal.reads::unfold_choices-returns-in_err-unfold_choices-in-Some-false-clause-faults
 reads::unfold_choices-returns-in_err-unfold_choices-in-Some-false-clause-faults t c =
@@ -1773,7 +1863,10 @@ reads::unfold_choices-returns-in_err-unfold_choices-in-Some-false-clause-faults 
     let d = c.in-Some-checked_sub.depth in
     let more : l ≡ d + 1 = omega (arith, c.in-Some-checked_sub.ensures.0, c.in-Some-checked_sub.ensures.1) in
     λ w h. let e = c.in_err-unfold_choices-in-Some-false.field-0.0 in
-    err-told c.from_residual-in_err-unfold_choices-in-Some-false.result e (IsFaultOf (surroundings_in k) w) c.from_residual-in_err-unfold_choices-in-Some-false.ensures.1 (c.in_err-unfold_choices-in-Some-false.ensures.faults w (choices-further k n c.args.scope.now w l all v some d _ refl (behind-first all.values.now) more h))
+    err-told c.from_residual-in_err-unfold_choices-in-Some-false.result e (IsFaultOf (surroundings_in k) w)
+    c.from_residual-in_err-unfold_choices-in-Some-false.ensures.1
+    (c.in_err-unfold_choices-in-Some-false.ensures.faults w
+    (choices-further k n c.args.scope.now w l all v some d _ refl (behind-first all.values.now) more h))
 
 pub reads::unfold_choices-returns-in_err-right-in-None-clause-faults : goal.reads::unfold_choices-returns-in_err-right-in-None-clause-faults
 reads::unfold_choices-returns-in_err-right-in-None-clause-faults t c =
@@ -1786,7 +1879,10 @@ reads::unfold_choices-returns-in_err-right-in-None-clause-faults t c =
     let d = c.in-Some-checked_sub.depth in
     let more : l ≡ d + 1 = omega (arith, c.in-Some-checked_sub.ensures.0, c.in-Some-checked_sub.ensures.1) in
     λ w h. let e = c.in_err-right-in-None.field-0.0 in
-    err-told c.from_residual-in_err-right-in-None.result e (IsFaultOf (surroundings_in k) w) c.from_residual-in_err-right-in-None.ensures.1 (c.in_err-right-in-None.ensures.faults w (choices-further k n c.args.scope.now w l all v some d _ refl (behind-first all.values.now) more h))
+    err-told c.from_residual-in_err-right-in-None.result e (IsFaultOf (surroundings_in k) w)
+    c.from_residual-in_err-right-in-None.ensures.1
+    (c.in_err-right-in-None.ensures.faults w
+    (choices-further k n c.args.scope.now w l all v some d _ refl (behind-first all.values.now) more h))
 
 pub applications::unfold_arguments-loop-argument-init : goal.applications::unfold_arguments-loop-argument-init
 applications::unfold_arguments-loop-argument-init t c =
@@ -1816,7 +1912,8 @@ applications::unfold_arguments-returns-in_err-next-clause-term t c =
     let there = c.loop-argument-test.true in
     let e = c.in_err-next.field-0.0 in
     err-kept c.from_residual.result e _ (IsRefusalOfAll room whole) c.from_residual.ensures.1
-    (next-refused room c.loop-argument.unfolded.room x before whole e c.loop-argument.invariant.0.room (argument-within (spec_in k) (forms_in k n) ρ given i a there c.argument-item.is) c.in_err-next.ensures.term)
+    (next-refused room c.loop-argument.unfolded.room x before whole e c.loop-argument.invariant.0.room
+    (argument-within (spec_in k) (forms_in k n) ρ given i a there c.argument-item.is) c.in_err-next.ensures.term)
 
 pub applications::unfold_arguments-loop-argument-preserved : goal.applications::unfold_arguments-loop-argument-preserved
 applications::unfold_arguments-loop-argument-preserved t c =

@@ -21,19 +21,38 @@ use Rattle.pb_text_terms.proofs.+terms.Goals as goal
 pub instance::argument_list-returns-in_err-term-clause-reads : goal.instance::argument_list-returns-in_err-term-clause-reads
 instance::argument_list-returns-in_err-term-clause-reads t c =
     let p = err_from_is_err_and c.from_residual-in_err-term.result c.from_residual-in_err-term.ensures.1 in
-    rw (p.1, p.2) (if_fault c.in_err-term.field-0.0 (λ bad e. c.arguments.invariant.reads ∙ gathered-item-fails (placed (term c.args.depth)) is_comma take_token (map argument_pair c.arguments.arguments.items) (suc (length c.args.input.now.tokens) - vec_len c.arguments.arguments) (length c.args.input.now.tokens - vec_len c.arguments.arguments) c.arguments.input bad (omega arith) (placed-fails (term c.args.depth) c.arguments.input bad e)) c.in_err-term.ensures.reads)
+    rw (p.1, p.2)
+    (if_fault c.in_err-term.field-0.0
+    (λ bad e. c.arguments.invariant.reads
+    ∙ gathered-item-fails (placed (term c.args.depth)) is_comma take_token
+    (map argument_pair c.arguments.arguments.items)
+    (suc (length c.args.input.now.tokens) - vec_len c.arguments.arguments)
+    (length c.args.input.now.tokens - vec_len c.arguments.arguments) c.arguments.input bad (omega arith)
+    (placed-fails (term c.args.depth) c.arguments.input bad e)) c.in_err-term.ensures.reads)
 
 pub instance::argument_list-returns-then-not-same_kind-clause-reads : goal.instance::argument_list-returns-then-not-same_kind-clause-reads
 instance::argument_list-returns-then-not-same_kind-clause-reads t c =
     let stops : is_comma (kind c.term_at.new.input) ≡ false = search rules in
-    let end = gathered-end (placed (term c.args.depth)) is_comma take_token (map argument_pair c.arguments.arguments.items) (suc (length c.args.input.now.tokens) - vec_len c.arguments.arguments) (length c.args.input.now.tokens - vec_len c.arguments.arguments) c.arguments.input c.term_at.new.input (c.place-place.result, term_form c.in_ok-term.term) (omega arith) (placed-read (term c.args.depth) c.arguments.input c.term_at.new.input c.place-place.result (term_form c.in_ok-term.term) c.place-place.ensures c.in_ok-term.ensures.reads) stops in
+    let end = gathered-end (placed (term c.args.depth)) is_comma take_token
+    (map argument_pair c.arguments.arguments.items)
+    (suc (length c.args.input.now.tokens) - vec_len c.arguments.arguments)
+    (length c.args.input.now.tokens - vec_len c.arguments.arguments) c.arguments.input c.term_at.new.input
+    (c.place-place.result, term_form c.in_ok-term.term) (omega arith)
+    (placed-read (term c.args.depth) c.arguments.input c.term_at.new.input c.place-place.result
+    (term_form c.in_ok-term.term) c.place-place.ensures c.in_ok-term.ensures.reads) stops in
     rw (c.in_ok-push.ensures.items, map_push) (c.arguments.invariant.reads ∙ end)
 
 pub instance::argument_list-arguments-preserved : goal.instance::argument_list-arguments-preserved
 instance::argument_list-arguments-preserved t c =
     let goes : is_comma (kind c.term_at.new.input) ≡ true = search rules in
-    let more = gathered-more (placed (term c.args.depth)) is_comma take_token (map argument_pair c.arguments.arguments.items) (suc (length c.args.input.now.tokens) - vec_len c.arguments.arguments) (suc (length c.args.input.now.tokens) - vec_len c.push.new.self) c.arguments.input c.term_at.new.input c.take.new.self
-    (c.place-place.result, term_form c.in_ok-term.term) (tok c.take.result) (omega (arith, c.in_ok-push.ensures.len, c.in_ok-term.ensures.fewer)) (placed-read (term c.args.depth) c.arguments.input c.term_at.new.input c.place-place.result (term_form c.in_ok-term.term) c.place-place.ensures c.in_ok-term.ensures.reads) goes c.take.ensures.reads in
+    let more =
+    gathered-more (placed (term c.args.depth)) is_comma take_token (map argument_pair c.arguments.arguments.items)
+    (suc (length c.args.input.now.tokens) - vec_len c.arguments.arguments)
+    (suc (length c.args.input.now.tokens) - vec_len c.push.new.self) c.arguments.input c.term_at.new.input c.take.new.self
+    (c.place-place.result, term_form c.in_ok-term.term) (tok c.take.result)
+    (omega (arith, c.in_ok-push.ensures.len, c.in_ok-term.ensures.fewer))
+    (placed-read (term c.args.depth) c.arguments.input c.term_at.new.input c.place-place.result
+    (term_form c.in_ok-term.term) c.place-place.ensures c.in_ok-term.ensures.reads) goes c.take.ensures.reads in
     record {
       reads = rw (c.in_ok-push.ensures.items, map_push) (c.arguments.invariant.reads ∙ more);
       room = omega (arith, c.in_ok-push.ensures.len, c.in_ok-term.ensures.fewer, c.take.ensures.fewer);
@@ -43,21 +62,27 @@ pub instance::instance-returns-in_err-arguments-clause-reads : goal.instance::in
 instance::instance-returns-in_err-arguments-clause-reads t c =
     let opens : is_open (kind c.name.new.input) ≡ true = search rules in
     let p = err_from_is_err_and c.from_residual-in_err-arguments.result c.from_residual-in_err-arguments.ensures.1 in
-    rw (p.1, p.2) (if_fault c.in_err-arguments.field-0.0 (λ bad e. arguments-fail c.args.depth c.in_ok-enter.ensures.deeper c.args.input.now c.name.new.input c.enter.new.self (named c.in_ok-name.name) (tok c.in_ok-enter.field-0) c.in_ok-name.ensures.reads opens c.in_ok-enter.ensures.reads bad e) c.in_err-arguments.ensures.reads)
+    rw (p.1, p.2)
+    (if_fault c.in_err-arguments.field-0.0
+    (λ bad e. arguments-fail c.args.depth c.in_ok-enter.ensures.deeper c.args.input.now c.name.new.input
+    c.enter.new.self (named c.in_ok-name.name) (tok c.in_ok-enter.field-0) c.in_ok-name.ensures.reads opens
+    c.in_ok-enter.ensures.reads bad e) c.in_err-arguments.ensures.reads)
 
 pub instance::instance-returns-then-same_kind-clause-reads : goal.instance::instance-returns-then-same_kind-clause-reads
 instance::instance-returns-then-same_kind-clause-reads t c =
     let opens : is_open (kind c.name.new.input) ≡ true = search rules in
     let again : is_open (kind c.expect.new.self) ≡ true = search rules in
     rw c.refuse.ensures (
-    arguments-again c.args.depth c.in_ok-enter.ensures.deeper c.args.input.now c.name.new.input c.enter.new.self (named c.in_ok-name.name) (tok c.in_ok-enter.field-0) c.in_ok-name.ensures.reads opens c.in_ok-enter.ensures.reads
+    arguments-again c.args.depth c.in_ok-enter.ensures.deeper c.args.input.now c.name.new.input c.enter.new.self
+    (named c.in_ok-name.name) (tok c.in_ok-enter.field-0) c.in_ok-name.ensures.reads opens c.in_ok-enter.ensures.reads
     c.argument_list.new.input c.expect.new.self (tok c.in_ok-expect.field-0) (map argument_pair c.in_ok-arguments.arguments.items) c.in_ok-arguments.ensures.reads c.in_ok-expect.ensures.reads again)
 
 pub instance::instance-returns-clause-reads : goal.instance::instance-returns-clause-reads
 instance::instance-returns-clause-reads t c =
     let opens : is_open (kind c.name.new.input) ≡ true = search rules in
     let other : is_open (kind c.expect.new.self) ≡ false = search rules in
-    arguments-read c.args.depth c.in_ok-enter.ensures.deeper c.args.input.now c.name.new.input c.enter.new.self (named c.in_ok-name.name) (tok c.in_ok-enter.field-0) c.in_ok-name.ensures.reads opens c.in_ok-enter.ensures.reads
+    arguments-read c.args.depth c.in_ok-enter.ensures.deeper c.args.input.now c.name.new.input c.enter.new.self
+    (named c.in_ok-name.name) (tok c.in_ok-enter.field-0) c.in_ok-name.ensures.reads opens c.in_ok-enter.ensures.reads
     c.argument_list.new.input c.expect.new.self (tok c.in_ok-expect.field-0) (map argument_pair c.in_ok-arguments.arguments.items) c.in_ok-arguments.ensures.reads c.in_ok-expect.ensures.reads other
     ∙ ap (λ v. Ok (record { name = named c.in_ok-name.name; arguments = v }, c.expect.new.self)) (arguments-is c.in_ok-arguments.arguments.items)
 
@@ -65,26 +90,58 @@ pub chain::operations-returns-in_err-sign-clause-reads : goal.chain::operations-
 chain::operations-returns-in_err-sign-clause-reads t c =
     let same = ap (λ (v : Level). operations c.args.operators (at v c.args.depth) c.args.input.now) (sym c.operand_level-level.ensures) in
     let p = err_from_is_err_and c.from_residual-in_err-sign.result c.from_residual-in_err-sign.ensures.1 in
-    rw (p.1, p.2) (same ∙ c.operations.invariant.reads ∙ gathered-item-fails (operation c.args.operators (at c.operand_level-level.result c.args.depth)) (is_among c.args.operators) nothing_between (arithmetic_links c.operations.links.items) (suc (length c.args.input.now.tokens) - vec_len c.operations.links) (length c.args.input.now.tokens - vec_len c.operations.links) c.operations.input c.in_err-sign.field-0.0 (omega arith) (operation-fails c.args.operators (at c.operand_level-level.result c.args.depth) c.operations.input c.in_err-sign.field-0.0 c.operations.invariant.stands c.in_err-sign.ensures.reads))
+    rw (p.1, p.2)
+    (same ∙ c.operations.invariant.reads
+    ∙ gathered-item-fails (operation c.args.operators (at c.operand_level-level.result c.args.depth))
+    (is_among c.args.operators) nothing_between (arithmetic_links c.operations.links.items)
+    (suc (length c.args.input.now.tokens) - vec_len c.operations.links)
+    (length c.args.input.now.tokens - vec_len c.operations.links) c.operations.input c.in_err-sign.field-0.0
+    (omega arith)
+    (operation-fails c.args.operators (at c.operand_level-level.result c.args.depth) c.operations.input
+    c.in_err-sign.field-0.0 c.operations.invariant.stands c.in_err-sign.ensures.reads))
 
 pub chain::operations-returns-in_err-operand-clause-reads : goal.chain::operations-returns-in_err-operand-clause-reads
 chain::operations-returns-in_err-operand-clause-reads t c =
     let same = ap (λ (v : Level). operations c.args.operators (at v c.args.depth) c.args.input.now) (sym c.operand_level-level.ensures) in
     let p = err_from_is_err_and c.from_residual-in_err-operand.result c.from_residual-in_err-operand.ensures.1 in
-    rw (p.1, p.2) (if_fault c.in_err-operand.field-0.0 (λ bad e. same ∙ c.operations.invariant.reads ∙ gathered-item-fails (operation c.args.operators (at c.operand_level-level.result c.args.depth)) (is_among c.args.operators) nothing_between (arithmetic_links c.operations.links.items) (suc (length c.args.input.now.tokens) - vec_len c.operations.links) (length c.args.input.now.tokens - vec_len c.operations.links) c.operations.input bad (omega arith) (operation-operand-fails c.args.operators (at c.operand_level-level.result c.args.depth) c.operations.input c.take_operator.new.self (tok c.in_ok-sign.sign) bad c.operations.invariant.stands c.in_ok-sign.ensures.reads e)) c.in_err-operand.ensures.reads)
+    rw (p.1, p.2)
+    (if_fault c.in_err-operand.field-0.0
+    (λ bad e. same ∙ c.operations.invariant.reads
+    ∙ gathered-item-fails (operation c.args.operators (at c.operand_level-level.result c.args.depth))
+    (is_among c.args.operators) nothing_between (arithmetic_links c.operations.links.items)
+    (suc (length c.args.input.now.tokens) - vec_len c.operations.links)
+    (length c.args.input.now.tokens - vec_len c.operations.links) c.operations.input bad (omega arith)
+    (operation-operand-fails c.args.operators (at c.operand_level-level.result c.args.depth) c.operations.input
+    c.take_operator.new.self (tok c.in_ok-sign.sign) bad c.operations.invariant.stands c.in_ok-sign.ensures.reads
+    e)) c.in_err-operand.ensures.reads)
 
 pub chain::operations-returns-then-not-is_among-clause-reads : goal.chain::operations-returns-then-not-is_among-clause-reads
 chain::operations-returns-then-not-is_among-clause-reads t c =
     let same = ap (λ (v : Level). operations c.args.operators (at v c.args.depth) c.args.input.now) (sym c.operand_level-level.ensures) in
     let stops : is_among c.args.operators (kind c.term_at.new.input) ≡ false = search rules in
-    let end = gathered-end (operation c.args.operators (at c.operand_level-level.result c.args.depth)) (is_among c.args.operators) nothing_between (arithmetic_links c.operations.links.items) (suc (length c.args.input.now.tokens) - vec_len c.operations.links) (length c.args.input.now.tokens - vec_len c.operations.links) c.operations.input c.term_at.new.input (arithmetic_of c.in_ok-sign.sign.kind, c.in_ok-sign.sign.place, term_form c.in_ok-operand.operand) (omega arith) (operation-read c.args.operators (at c.operand_level-level.result c.args.depth) c.operations.input c.take_operator.new.self c.term_at.new.input (tok c.in_ok-sign.sign) (term_form c.in_ok-operand.operand) c.operations.invariant.stands c.in_ok-sign.ensures.reads c.in_ok-operand.ensures.reads) stops in
+    let end = gathered-end (operation c.args.operators (at c.operand_level-level.result c.args.depth))
+    (is_among c.args.operators) nothing_between (arithmetic_links c.operations.links.items)
+    (suc (length c.args.input.now.tokens) - vec_len c.operations.links)
+    (length c.args.input.now.tokens - vec_len c.operations.links) c.operations.input c.term_at.new.input
+    (arithmetic_of c.in_ok-sign.sign.kind, c.in_ok-sign.sign.place, term_form c.in_ok-operand.operand) (omega arith)
+    (operation-read c.args.operators (at c.operand_level-level.result c.args.depth) c.operations.input
+    c.take_operator.new.self c.term_at.new.input (tok c.in_ok-sign.sign) (term_form c.in_ok-operand.operand)
+    c.operations.invariant.stands c.in_ok-sign.ensures.reads c.in_ok-operand.ensures.reads) stops in
     rw (c.in_ok-push.ensures.items, map_push, c.arithmetic.ensures) (same ∙ c.operations.invariant.reads ∙ end)
 
 pub chain::operations-operations-preserved : goal.chain::operations-operations-preserved
 chain::operations-operations-preserved t c =
     let goes : is_among c.args.operators (kind c.term_at.new.input) ≡ true = search rules in
-    let more = gathered-more (operation c.args.operators (at c.operand_level-level.result c.args.depth)) (is_among c.args.operators) nothing_between (arithmetic_links c.operations.links.items) (suc (length c.args.input.now.tokens) - vec_len c.operations.links) (suc (length c.args.input.now.tokens) - vec_len c.push.new.self) c.operations.input c.term_at.new.input c.term_at.new.input (arithmetic_of c.in_ok-sign.sign.kind, c.in_ok-sign.sign.place, term_form c.in_ok-operand.operand) tt
-    (omega (arith, c.in_ok-push.ensures.len, c.in_ok-sign.ensures.fewer, c.in_ok-operand.ensures.fewer)) (operation-read c.args.operators (at c.operand_level-level.result c.args.depth) c.operations.input c.take_operator.new.self c.term_at.new.input (tok c.in_ok-sign.sign) (term_form c.in_ok-operand.operand) c.operations.invariant.stands c.in_ok-sign.ensures.reads c.in_ok-operand.ensures.reads) goes refl in
+    let more =
+    gathered-more (operation c.args.operators (at c.operand_level-level.result c.args.depth))
+    (is_among c.args.operators) nothing_between (arithmetic_links c.operations.links.items)
+    (suc (length c.args.input.now.tokens) - vec_len c.operations.links)
+    (suc (length c.args.input.now.tokens) - vec_len c.push.new.self) c.operations.input c.term_at.new.input
+    c.term_at.new.input (arithmetic_of c.in_ok-sign.sign.kind, c.in_ok-sign.sign.place, term_form c.in_ok-operand.operand) tt
+    (omega (arith, c.in_ok-push.ensures.len, c.in_ok-sign.ensures.fewer, c.in_ok-operand.ensures.fewer))
+    (operation-read c.args.operators (at c.operand_level-level.result c.args.depth) c.operations.input
+    c.take_operator.new.self c.term_at.new.input (tok c.in_ok-sign.sign) (term_form c.in_ok-operand.operand)
+    c.operations.invariant.stands c.in_ok-sign.ensures.reads c.in_ok-operand.ensures.reads) goes refl in
     record {
       reads = rw (c.in_ok-push.ensures.items, map_push, c.arithmetic.ensures) (c.operations.invariant.reads ∙ more);
       room = omega (arith, c.in_ok-push.ensures.len, c.in_ok-sign.ensures.fewer, c.in_ok-operand.ensures.fewer);
@@ -99,15 +156,20 @@ primary::unary-returns-in_ok-instance-in-Name-clause-reads t c =
 pub primary::unary-returns-in_default : goal.primary::unary-returns-in_default
 primary::unary-returns-in_default t c =
     rw c.refuse.ensures (record {
-      reads = unary-other c.args.depth c.args.input.now (λ q. c.in_default.not-Not (c.kind.ensures ∙ q)) (λ q. c.in_default.not-Minus (c.kind.ensures ∙ q)) (λ q. c.in_default.not-Open (c.kind.ensures ∙ q))
-          (λ q. c.in_default.not-Number (c.kind.ensures ∙ q)) (λ q. c.in_default.not-True (c.kind.ensures ∙ q)) (λ q. c.in_default.not-False (c.kind.ensures ∙ q)) (λ q. c.in_default.not-Name (c.kind.ensures ∙ q));
+      reads = unary-other c.args.depth c.args.input.now (λ q. c.in_default.not-Not (c.kind.ensures ∙ q))
+          (λ q. c.in_default.not-Minus (c.kind.ensures ∙ q)) (λ q. c.in_default.not-Open (c.kind.ensures ∙ q))
+          (λ q. c.in_default.not-Number (c.kind.ensures ∙ q)) (λ q. c.in_default.not-True (c.kind.ensures ∙ q))
+          (λ q. c.in_default.not-False (c.kind.ensures ∙ q)) (λ q. c.in_default.not-Name (c.kind.ensures ∙ q));
       fewer = tt;
     })
 
 pub primary::bracketed-returns-in_err-inner-clause-reads : goal.primary::bracketed-returns-in_err-inner-clause-reads
 primary::bracketed-returns-in_err-inner-clause-reads t c =
     let p = err_from_is_err_and c.from_residual-in_err-inner.result c.from_residual-in_err-inner.ensures.1 in
-    rw (p.1, p.2) (if_fault c.in_err-inner.field-0.0 (λ bad e. inner-fails c.args.depth c.args.input.now c.enter.new.self (tok c.in_ok-enter.field-0) bad c.in_ok-enter.ensures.deeper c.requires c.in_ok-enter.ensures.reads e) c.in_err-inner.ensures.reads)
+    rw (p.1, p.2)
+    (if_fault c.in_err-inner.field-0.0
+    (λ bad e. inner-fails c.args.depth c.args.input.now c.enter.new.self (tok c.in_ok-enter.field-0) bad
+    c.in_ok-enter.ensures.deeper c.requires c.in_ok-enter.ensures.reads e) c.in_err-inner.ensures.reads)
 
 pub primary::unary-returns-in_ok-number-in-Number-clause-reads : goal.primary::unary-returns-in_ok-number-in-Number-clause-reads
 primary::unary-returns-in_ok-number-in-Number-clause-reads t c = c.in_ok-number-in-Number.ensures.reads c.args.depth
@@ -149,18 +211,25 @@ chain::calculated_by-returns-in_err-links-clause-reads t c s h =
 pub chain::calculated_by-returns-then-is_mixed-clause-reads : goal.chain::calculated_by-returns-then-is_mixed-clause-reads
 chain::calculated_by-returns-then-is_mixed-clause-reads t c s h =
     let mixed : is_mixed c.args.operators (kind c.operations.new.input) ≡ true = search rules in
-    rw c.refuse.ensures (calculation-mixed c.args.depth s c.args.input.now (term_form c.args.first) c.args.operators (arithmetic_links c.in_ok-links.links.items) c.operations.new.input h c.requires c.in_ok-links.ensures.reads mixed)
+    rw c.refuse.ensures
+    (calculation-mixed c.args.depth s c.args.input.now (term_form c.args.first) c.args.operators
+    (arithmetic_links c.in_ok-links.links.items) c.operations.new.input h c.requires c.in_ok-links.ensures.reads mixed)
 
 pub chain::calculated_by-returns-clause-reads : goal.chain::calculated_by-returns-clause-reads
 chain::calculated_by-returns-clause-reads t c s h =
     let other : is_mixed c.args.operators (kind c.operations.new.input) ≡ false = search rules in
-    rw c.in_ok-calculated.ensures (calculation-read c.args.depth s c.args.input.now (term_form c.args.first) c.args.operators (arithmetic_links c.in_ok-links.links.items) c.operations.new.input h c.requires c.in_ok-links.ensures.reads other)
+    rw c.in_ok-calculated.ensures
+    (calculation-read c.args.depth s c.args.input.now (term_form c.args.first) c.args.operators
+    (arithmetic_links c.in_ok-links.links.items) c.operations.new.input h c.requires c.in_ok-links.ensures.reads other)
 
 pub chain::related_by-returns-in_err-sign-clause-reads : goal.chain::related_by-returns-in_err-sign-clause-reads
 chain::related_by-returns-in_err-sign-clause-reads t c s h =
     let item = at (operand_level (Relation c.args.relation)) c.args.depth in
     let p = err_from_is_err_and c.from_residual.result c.from_residual.ensures.1 in
-    rw (p.1, p.2) (relation-is c.args.relation c.args.depth s ∙ sign-fails (is_related c.args.relation) compared_by item s c.args.input.now (term_form c.args.left) c.in_err-sign.field-0.0 h c.requires c.in_err-sign.ensures.reads)
+    rw (p.1, p.2)
+    (relation-is c.args.relation c.args.depth s
+    ∙ sign-fails (is_related c.args.relation) compared_by item s c.args.input.now (term_form c.args.left)
+    c.in_err-sign.field-0.0 h c.requires c.in_err-sign.ensures.reads)
 
 pub chain::related_by-returns-in_err-right-clause-reads : goal.chain::related_by-returns-in_err-right-clause-reads
 chain::related_by-returns-in_err-right-clause-reads t c s h =
@@ -168,27 +237,39 @@ chain::related_by-returns-in_err-right-clause-reads t c s h =
     let item = at (operand_level (Relation c.args.relation)) c.args.depth in
     let p = err_from_is_err_and c.from_residual-in_err-right.result c.from_residual-in_err-right.ensures.1 in
     rw (p.1, p.2) (if_fault c.in_err-right.field-0.0
-    (λ bad e. relation-is c.args.relation c.args.depth s ∙ right-fails (is_related c.args.relation) compared_by item s c.args.input.now c.take_operator.new.self (term_form c.args.left) (tok c.in_ok-sign.sign) bad h c.requires c.in_ok-sign.ensures.reads (same ∙ e)) c.in_err-right.ensures.reads)
+    (λ bad e. relation-is c.args.relation c.args.depth s
+    ∙ right-fails (is_related c.args.relation) compared_by item s c.args.input.now c.take_operator.new.self
+    (term_form c.args.left) (tok c.in_ok-sign.sign) bad h c.requires c.in_ok-sign.ensures.reads (same ∙ e))
+    c.in_err-right.ensures.reads)
 
 pub chain::related_by-returns-then-is_related-clause-reads : goal.chain::related_by-returns-then-is_related-clause-reads
 chain::related_by-returns-then-is_related-clause-reads t c s h =
     let same = ap (λ (v : Level). at v c.args.depth c.take_operator.new.self) (sym c.operand_level-level.ensures) in
     let item = at (operand_level (Relation c.args.relation)) c.args.depth in
     let again : is_related c.args.relation (kind c.term_at.new.input) ≡ true = search rules in
-    rw c.refuse.ensures (relation-is c.args.relation c.args.depth s ∙ right-goes-on (is_related c.args.relation) compared_by item s c.args.input.now c.take_operator.new.self c.term_at.new.input (term_form c.args.left) (term_form c.in_ok-right.right) (tok c.in_ok-sign.sign) h c.requires c.in_ok-sign.ensures.reads (same ∙ c.in_ok-right.ensures.reads) again)
+    rw c.refuse.ensures
+    (relation-is c.args.relation c.args.depth s
+    ∙ right-goes-on (is_related c.args.relation) compared_by item s c.args.input.now c.take_operator.new.self
+    c.term_at.new.input (term_form c.args.left) (term_form c.in_ok-right.right) (tok c.in_ok-sign.sign) h c.requires
+    c.in_ok-sign.ensures.reads (same ∙ c.in_ok-right.ensures.reads) again)
 
 pub chain::related_by-returns-clause-reads : goal.chain::related_by-returns-clause-reads
 chain::related_by-returns-clause-reads t c s h =
     let same = ap (λ (v : Level). at v c.args.depth c.take_operator.new.self) (sym c.operand_level-level.ensures) in
     let item = at (operand_level (Relation c.args.relation)) c.args.depth in
     let other : is_related c.args.relation (kind c.term_at.new.input) ≡ false = search rules in
-    rw c.in_ok-compared.ensures (relation-is c.args.relation c.args.depth s ∙ both-read (is_related c.args.relation) compared_by item s c.args.input.now c.take_operator.new.self c.term_at.new.input (term_form c.args.left) (term_form c.in_ok-right.right) (tok c.in_ok-sign.sign) h c.requires c.in_ok-sign.ensures.reads (same ∙ c.in_ok-right.ensures.reads) other)
+    rw c.in_ok-compared.ensures
+    (relation-is c.args.relation c.args.depth s
+    ∙ both-read (is_related c.args.relation) compared_by item s c.args.input.now c.take_operator.new.self
+    c.term_at.new.input (term_form c.args.left) (term_form c.in_ok-right.right) (tok c.in_ok-sign.sign) h c.requires
+    c.in_ok-sign.ensures.reads (same ∙ c.in_ok-right.ensures.reads) other)
 
 pub chain::connected_by-links-init : goal.chain::connected_by-links-init
 chain::connected_by-links-init t c = record {
   reads = λ s h fewer. rw (c.in_ok-links.ensures.items, c.in_ok-links.ensures.len)
       (connection-is c.args.connective c.args.depth s
-      ∙ resumed-first (symbol c.args.connective) (TermForm.connected c.args.connective) (at (operand_level (Connective c.args.connective)) c.args.depth) (length s.tokens) s c.args.input.now (term_form c.args.first) h);
+      ∙ resumed-first (symbol c.args.connective) (TermForm.connected c.args.connective)
+      (at (operand_level (Connective c.args.connective)) c.args.depth) (length s.tokens) s c.args.input.now (term_form c.args.first) h);
   room = omega (arith, c.in_ok-links.ensures.len);
 }
 
@@ -197,7 +278,11 @@ chain::connected_by-returns-in_err-place-clause-reads t c s h fewer =
     let item = at (operand_level (Connective c.args.connective)) c.args.depth in
     let same : same_kind (kind c.links.input) (symbol c.args.connective) ≡ true = search rules in
     let p = err_from_is_err_and c.from_residual-in_err-place.result c.from_residual-in_err-place.ensures.1 in
-    rw (p.1, p.2) (c.links.invariant.reads s h fewer ∙ resumed-operator-fails (symbol c.args.connective) (TermForm.connected c.args.connective) item (length s.tokens - vec_len c.links.links) _ (term_links c.links.links.items) c.links.input c.in_err-place.field-0.0 same c.in_err-place.ensures.reads)
+    rw (p.1, p.2)
+    (c.links.invariant.reads s h fewer
+    ∙ resumed-operator-fails (symbol c.args.connective) (TermForm.connected c.args.connective) item
+    (length s.tokens - vec_len c.links.links) _ (term_links c.links.links.items) c.links.input
+    c.in_err-place.field-0.0 same c.in_err-place.ensures.reads)
 
 pub chain::connected_by-returns-in_err-operand-clause-reads : goal.chain::connected_by-returns-in_err-operand-clause-reads
 chain::connected_by-returns-in_err-operand-clause-reads t c s h fewer =
@@ -206,7 +291,13 @@ chain::connected_by-returns-in_err-operand-clause-reads t c s h fewer =
     let same : same_kind (kind c.links.input) (symbol c.args.connective) ≡ true = search rules in
     let some : 0 < length s.tokens - vec_len c.links.links = omega arith in
     let p = err_from_is_err_and c.from_residual-in_err-operand.result c.from_residual-in_err-operand.ensures.1 in
-    rw (p.1, p.2) (if_fault c.in_err-operand.field-0.0 (λ bad e. c.links.invariant.reads s h fewer ∙ resumed-operand-fails (symbol c.args.connective) (TermForm.connected c.args.connective) item (length s.tokens - vec_len c.links.links) _ (term_links c.links.links.items) c.links.input c.take_operator.new.self (tok c.in_ok-place.field-0) bad some same c.in_ok-place.ensures.reads (found ∙ e)) c.in_err-operand.ensures.reads)
+    rw (p.1, p.2)
+    (if_fault c.in_err-operand.field-0.0
+    (λ bad e. c.links.invariant.reads s h fewer
+    ∙ resumed-operand-fails (symbol c.args.connective) (TermForm.connected c.args.connective) item
+    (length s.tokens - vec_len c.links.links) _ (term_links c.links.links.items) c.links.input
+    c.take_operator.new.self (tok c.in_ok-place.field-0) bad some same c.in_ok-place.ensures.reads (found ∙ e))
+    c.in_err-operand.ensures.reads)
 
 pub chain::connected_by-links-preserved : goal.chain::connected_by-links-preserved
 chain::connected_by-links-preserved t c =
@@ -214,8 +305,14 @@ chain::connected_by-links-preserved t c =
     let item = at (operand_level (Connective c.args.connective)) c.args.depth in
     let same : same_kind (kind c.links.input) (symbol c.args.connective) ≡ true = search rules in
     record {
-      reads = λ s h fewer. rw (c.in_ok-push.ensures.items, map_push) (c.links.invariant.reads s h fewer ∙ resumed-more (symbol c.args.connective) (TermForm.connected c.args.connective) item (length s.tokens - vec_len c.links.links) (length s.tokens - vec_len c.push.new.self) _ (term_links c.links.links.items) c.links.input c.take_operator.new.self c.term_at.new.input
-          (tok c.in_ok-place.field-0) (term_form c.in_ok-operand.operand) (omega (arith, c.in_ok-push.ensures.len, c.links.invariant.room)) same c.in_ok-place.ensures.reads (found ∙ c.in_ok-operand.ensures.reads));
+      reads = λ s h fewer. rw (c.in_ok-push.ensures.items, map_push)
+          (c.links.invariant.reads s h fewer
+          ∙ resumed-more (symbol c.args.connective) (TermForm.connected c.args.connective) item
+          (length s.tokens - vec_len c.links.links) (length s.tokens - vec_len c.push.new.self) _
+          (term_links c.links.links.items) c.links.input c.take_operator.new.self c.term_at.new.input
+          (tok c.in_ok-place.field-0) (term_form c.in_ok-operand.operand)
+          (omega (arith, c.in_ok-push.ensures.len, c.links.invariant.room)) same c.in_ok-place.ensures.reads
+          (found ∙ c.in_ok-operand.ensures.reads));
       room = omega (arith, c.in_ok-place.ensures.fewer, c.in_ok-operand.ensures.fewer, c.in_ok-push.ensures.len);
     }
 
@@ -223,7 +320,10 @@ pub chain::connected_by-returns-clause-reads : goal.chain::connected_by-returns-
 chain::connected_by-returns-clause-reads t c s h fewer =
     let item = at (operand_level (Connective c.args.connective)) c.args.depth in
     let other : same_kind (kind c.links.input) (symbol c.args.connective) ≡ false = search rules in
-    rw c.in_ok-joined.ensures (c.links.invariant.reads s h fewer ∙ resumed-end (symbol c.args.connective) (TermForm.connected c.args.connective) item (length s.tokens - vec_len c.links.links) _ (term_links c.links.links.items) c.links.input other)
+    rw c.in_ok-joined.ensures
+    (c.links.invariant.reads s h fewer
+    ∙ resumed-end (symbol c.args.connective) (TermForm.connected c.args.connective) item
+    (length s.tokens - vec_len c.links.links) _ (term_links c.links.links.items) c.links.input other)
 
 pub chain::joined_by-returns-in-Arithmetic-clause-reads : goal.chain::joined_by-returns-in-Arithmetic-clause-reads
 chain::joined_by-returns-in-Arithmetic-clause-reads t c = rw c.in-Arithmetic.is (λ s h room. c.calculated_by.ensures.reads s h)
@@ -250,7 +350,8 @@ term::term_at-returns-then-begins_quantified-clause-reads t c =
 pub term::term_at-returns-in-None-clause-reads : goal.term::term_at-returns-in-None-clause-reads
 term::term_at-returns-in-None-clause-reads t c =
     let begins : (may_quantify c.args.limit && is_quantifier (kind c.args.input.now)) ≡ false = search rules in
-    first-or-fails c.args.depth c.args.limit c.args.input.now c.unary-first.new.input c.unary-first.result begins (λ q is above. c.in-None.ensures.none q (ap operator_of c.kind-2.ensures ∙ is) above) c.unary-first.ensures.reads
+    first-or-fails c.args.depth c.args.limit c.args.input.now c.unary-first.new.input c.unary-first.result begins
+    (λ q is above. c.in-None.ensures.none q (ap operator_of c.kind-2.ensures ∙ is) above) c.unary-first.ensures.reads
 
 pub term::term_at-returns-in_err-first-in-Some-clause-reads : goal.term::term_at-returns-in_err-first-in-Some-clause-reads
 term::term_at-returns-in_err-first-in-Some-clause-reads t c =
@@ -264,7 +365,11 @@ term::term_at-returns-in_ok-first-in-Some-clause-reads t c = c.operated-in-Some.
 
 pub term::operated-operators-preserved : goal.term::operated-operators-preserved
 term::operated-operators-preserved t c = record {
-  reads = λ s h fewer. ap (λ (v : Level). at v c.args.depth s) c.level_of-above.ensures ∙ c.in_ok-left.ensures.reads s (before-operator c.args.depth c.operators.above c.in-Some.operator s c.operators.input (term_form c.operators.left) (ap operator_of (sym c.kind.ensures) ∙ c.in-Some.ensures.stands) c.in-Some.ensures.above (c.operators.invariant.reads s h fewer))
+  reads = λ s h fewer. ap (λ (v : Level). at v c.args.depth s) c.level_of-above.ensures
+      ∙ c.in_ok-left.ensures.reads s
+      (before-operator c.args.depth c.operators.above c.in-Some.operator s c.operators.input
+      (term_form c.operators.left) (ap operator_of (sym c.kind.ensures) ∙ c.in-Some.ensures.stands)
+      c.in-Some.ensures.above (c.operators.invariant.reads s h fewer))
       (λ may. let less = fewer (may-above (level_of c.in-Some.operator) c.args.levels.limit c.in-Some.ensures.within may) in omega (arith, c.operators.invariant.room));
   within = subst (λ (v : Level). rank v ≤ rank c.args.levels.limit) (sym c.level_of-above.ensures) c.in-Some.ensures.within;
   room = omega (arith, c.operators.invariant.room, c.in_ok-left.ensures.fewer);
@@ -277,9 +382,13 @@ term::operated-returns-in_err-left-clause-reads t c s h fewer =
     let p = err_from_is_err_and c.from_residual.result c.from_residual.ensures.1 in
     rw (p.1, p.2) (if_fault c.in_err-left.field-0.0
     (λ bad e. operator-fails c.args.depth c.operators.above c.args.levels.limit q s c.operators.input (term_form c.operators.left) bad reads c.in-Some.ensures.above c.in-Some.ensures.within e)
-    (c.in_err-left.ensures.reads s (before-operator c.args.depth c.operators.above q s c.operators.input (term_form c.operators.left) (ap operator_of (sym c.kind.ensures) ∙ c.in-Some.ensures.stands) c.in-Some.ensures.above reads)
+    (c.in_err-left.ensures.reads s
+    (before-operator c.args.depth c.operators.above q s c.operators.input (term_form c.operators.left)
+    (ap operator_of (sym c.kind.ensures) ∙ c.in-Some.ensures.stands) c.in-Some.ensures.above reads)
     (λ may. let less = fewer (may-above (level_of q) c.args.levels.limit c.in-Some.ensures.within may) in omega (arith, c.operators.invariant.room))))
 
 pub term::operated-returns-clause-reads : goal.term::operated-returns-clause-reads
 term::operated-returns-clause-reads t c s h fewer =
-    skips-to c.args.depth c.operators.above c.args.levels.limit s c.operators.input (term_form c.operators.left) c.operators.invariant.within (λ q is above. c.in_default.ensures.none q (ap operator_of c.kind.ensures ∙ is) above) (c.operators.invariant.reads s h fewer)
+    skips-to c.args.depth c.operators.above c.args.levels.limit s c.operators.input (term_form c.operators.left)
+    c.operators.invariant.within
+    (λ q is above. c.in_default.ensures.none q (ap operator_of c.kind.ensures ∙ is) above) (c.operators.invariant.reads s h fewer)

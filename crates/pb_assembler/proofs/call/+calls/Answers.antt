@@ -17,7 +17,8 @@ pub emit_arguments-returns-in_default-split_first : goal.emit_arguments-returns-
 emit_arguments-returns-in_default-split_first t c =
     let l = option_map (λ (l : Label). l.number) c.args.called.end in
     on_ok c.emit_arguments.result _ _ c.emit_arguments.ensures (λ h.
-    argument_alone c.args.called.equation l c.args.carriers.now c.args.arguments.now c.in-Some.argument.now c.in-Some.arguments.now c.args.builder.now c.emit_term.new.builder c.emit_arguments.new.builder
+    argument_alone c.args.called.equation l c.args.carriers.now c.args.arguments.now c.in-Some.argument.now
+    c.in-Some.arguments.now c.args.builder.now c.emit_term.new.builder c.emit_arguments.new.builder
     (nil_from_length c.args.carriers.now c.in_default-split_first.ensures.cases) c.in-Some.ensures.cases.0 c.in_ok-emit_term.ensures h)
 
 pub emit_arguments-returns-in-Some-tested_range : goal.emit_arguments-returns-in-Some-tested_range

@@ -62,9 +62,11 @@ invariant_of-result c =
     record {
       within_limits =
           whole_fits text faultless callees es normal.rights normal.loops normal.typed.now.laid_out.shapes c.requires.kept named small
-          (map sort_contents c.in_ok-sorts.sorts.items) (map equation_contents c.in_ok-equations.equations.items) (initial_contents c.in_ok-initial.initial) sorts equations c.in_ok-initial.ensures.equation c.in_ok-initial.ensures.values
+          (map sort_contents c.in_ok-sorts.sorts.items) (map equation_contents c.in_ok-equations.equations.items)
+          (initial_contents c.in_ok-initial.initial) sorts equations c.in_ok-initial.ensures.equation c.in_ok-initial.ensures.values
           c.in_ok-equations.ensures.fields c.in_ok-initial.ensures.byte c.in_ok-initial.ensures.words
-          (c.structs_are_few.ensures.accepted text faultless) (c.shapes_are_declared.ensures.accepted text faultless) (c.normal_forms_keep_bounds.ensures.accepted text faultless) (c.initial_instances_are_there.ensures.accepted text faultless);
+          (c.structs_are_few.ensures.accepted text faultless) (c.shapes_are_declared.ensures.accepted text faultless)
+          (c.normal_forms_keep_bounds.ensures.accepted text faultless) (c.initial_instances_are_there.ensures.accepted text faultless);
     }
 
 pub returns-clause-module : goal.returns-clause-module
@@ -82,7 +84,8 @@ returns-clause-module c =
     ∙ ap (λ (xs : List tree.Equation). all_compiled callees callees (map equation_form xs) (c.deref-3).result.now) (c.deref-2).ensures.value
     ∙ ap (λ (ds : List Equation). all_compiled callees callees text.equations ds) (c.deref-3).ensures.value in
     compiled text faultless callees es normal.rights normal.loops normal.typed.now.laid_out.shapes c.requires.kept named small
-    (map sort_contents c.in_ok-sorts.sorts.items) (map equation_contents c.in_ok-equations.equations.items) (initial_contents c.in_ok-initial.initial) sorts equations c.in_ok-initial.ensures.equation c.in_ok-initial.ensures.values
+    (map sort_contents c.in_ok-sorts.sorts.items) (map equation_contents c.in_ok-equations.equations.items)
+    (initial_contents c.in_ok-initial.initial) sorts equations c.in_ok-initial.ensures.equation c.in_ok-initial.ensures.values
 
 pub returns-clause-kept : goal.returns-clause-kept
 returns-clause-kept c =
@@ -99,4 +102,5 @@ returns-clause-kept c =
     ∙ ap (λ (xs : List tree.Equation). all_compiled callees callees (map equation_form xs) (c.deref-3).result.now) (c.deref-2).ensures.value
     ∙ ap (λ (ds : List Equation). all_compiled callees callees text.equations ds) (c.deref-3).ensures.value in
     keeps text faultless callees es normal.rights normal.loops normal.typed.now.laid_out.shapes c.requires.kept named small
-    (map sort_contents c.in_ok-sorts.sorts.items) (map equation_contents c.in_ok-equations.equations.items) (initial_contents c.in_ok-initial.initial) sorts equations c.in_ok-initial.ensures.equation c.in_ok-initial.ensures.values
+    (map sort_contents c.in_ok-sorts.sorts.items) (map equation_contents c.in_ok-equations.equations.items)
+    (initial_contents c.in_ok-initial.initial) sorts equations c.in_ok-initial.ensures.equation c.in_ok-initial.ensures.values

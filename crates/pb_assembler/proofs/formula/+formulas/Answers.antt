@@ -88,7 +88,8 @@ emit_formula-returns-then-eq t c =
     let j = c.in-Join in
     let same : j.junction ≡ c.args.around = same_kind j.junction c.args.around c.eq.result c.eq.ensures c.if-eq.true in
     subst (λ (y : normal.Formula). OnOk c.emit_inside.result (Emits (formula_piece c.args.layout.now c.args.around y) nowhere c.args.builder.now c.emit_inside.new.builder))
-    (ap (λ (m : Junction). chained (Join m) (formula_view x) (formula_views rest)) (sym same) ∙ join_is c.args.formula.now x j.junction j.first j.rest rest j.is c.deref.ensures (c.deref-then-eq).ensures.value)
+    (ap (λ (m : Junction). chained (Join m) (formula_view x) (formula_views rest)) (sym same)
+    ∙ join_is c.args.formula.now x j.junction j.first j.rest rest j.is c.deref.ensures (c.deref-then-eq).ensures.value)
     c.emit_inside.ensures
 
 pub emit_formula-returns-else-eq : goal.emit_formula-returns-else-eq
@@ -98,7 +99,8 @@ emit_formula-returns-else-eq t c =
     let j = c.in-Join in
     let same : j.junction ≡ dual c.args.around = other_kind j.junction c.args.around c.eq.result c.eq.ensures c.if-eq.false in
     subst (λ (y : normal.Formula). OnOk c.emit_outside.result (Emits (formula_piece c.args.layout.now c.args.around y) nowhere c.args.builder.now c.emit_outside.new.builder))
-    (ap (λ (m : Junction). chained (Join m) (formula_view x) (formula_views rest)) (sym same) ∙ join_is c.args.formula.now x j.junction j.first j.rest rest j.is (c.deref-else-eq).ensures (c.deref-else-eq-2).ensures.value)
+    (ap (λ (m : Junction). chained (Join m) (formula_view x) (formula_views rest)) (sym same)
+    ∙ join_is c.args.formula.now x j.junction j.first j.rest rest j.is (c.deref-else-eq).ensures (c.deref-else-eq-2).ensures.value)
     c.emit_outside.ensures
 
 pub emit_inside-loop-behind-preserved-in-Some : goal.emit_inside-loop-behind-preserved-in-Some
@@ -131,7 +133,8 @@ emit_inside-loop-behind-preserved-in-Some t c =
       | emit_inside-else-early w ↦ rw w.left-is (first_left s.early.is_first left behind w.if-early.false)
     ] in
     are_left cs m m c.args.first.now c.args.rest.now l d0 c.place.new.self other c.if-early.left.now behind moved (record {
-      awaits = awaits_choose whole (neutral m) leaf rest l c.in_ok-passed.passed.number d0 c.emit_tested.new.builder c.label-in-Some.new.self c.emit_jump.new.self c.emit_plain.new.builder c.emit_jump-in-Some.new.self c.place.new.self a2
+      awaits = awaits_choose whole (neutral m) leaf rest l c.in_ok-passed.passed.number d0 c.emit_tested.new.builder
+          c.label-in-Some.new.self c.emit_jump.new.self c.emit_plain.new.builder c.emit_jump-in-Some.new.self c.place.new.self a2
           c.in_ok-passed.ensures.label c.in_ok-passed.ensures.ok jumps
           (subst (λ (z : Leaf). Emits (Plain (op.Emit z)) nowhere c.emit_jump.new.self c.emit_plain.new.builder) c.deciding.ensures c.in_ok-emit_plain.ensures)
           (c.in_ok-emit_jump-2).ensures.ok c.place.ensures;
@@ -159,8 +162,11 @@ emit_inside-loop-behind-preserved t c =
     let same = next_own cs m left behind next more first (sym c.in_default.ensures.views) in
     let w = i.lighter in
     are_left cs m m c.args.first.now c.args.rest.now l d0 c.emit_formula.new.builder next next behind refl (record {
-      awaits = awaits_then whole (formula_piece cs m (formula_view left)) rest l d0 c.loop-behind.builder c.emit_formula.new.builder (subst (λ (q : Piece). Awaits whole q l d0 c.loop-behind.builder) same i.awaits) c.in_ok-emit_formula.ensures;
-      small = small_rest m (formula_view left) (formula_view next) (formula_views more) (subst (λ (zs : List Formula). is_small_formula (chained (Join m) (formula_view left) (formula_views zs)) ≡ true) first i.small);
+      awaits = awaits_then whole (formula_piece cs m (formula_view left)) rest l d0 c.loop-behind.builder
+          c.emit_formula.new.builder (subst (λ (q : Piece). Awaits whole q l d0 c.loop-behind.builder) same i.awaits)
+          c.in_ok-emit_formula.ensures;
+      small = small_rest m (formula_view left) (formula_view next) (formula_views more)
+          (subst (λ (zs : List Formula). is_small_formula (chained (Join m) (formula_view left) (formula_views zs)) ≡ true) first i.small);
       lighter = omega (arith, w, ap formulas_weight first);
     })
 
@@ -180,7 +186,9 @@ emit_loops-loop-begun-preserved t c =
     let k = c.loop-begun.begun in
     record {
       below = omega (arith, b);
-      begins = subst (λ (n : ℕ). Begins c.args.loops.first n c.args.builder.now c.emit.new.self) (sym (add-one k)) (begins_more c.args.loops.first k c.args.builder.now c.loop-begun.builder c.emit.new.self c.loop-begun.invariant.begins c.in_ok-emit.ensures.ok);
+      begins = subst (λ (n : ℕ). Begins c.args.loops.first n c.args.builder.now c.emit.new.self) (sym (add-one k))
+          (begins_more c.args.loops.first k c.args.builder.now c.loop-begun.builder c.emit.new.self
+          c.loop-begun.invariant.begins c.in_ok-emit.ensures.ok);
     }
 
 pub emit_loops-emit_formula-requires : goal.emit_loops-emit_formula-requires
@@ -192,7 +200,9 @@ emit_loops-loop-ended-preserved t c =
     let k = c.loop-ended.ended in
     record {
       below = omega (arith, b);
-      closes = subst (λ (n : ℕ). Closes n c.emit_formula.new.builder (c.emit-in-loop-ended).new.self) (sym (add-one k)) (closes_more k c.emit_formula.new.builder c.loop-ended.builder (c.emit-in-loop-ended).new.self c.loop-ended.invariant.closes (c.in_ok-emit-2).ensures.ok);
+      closes = subst (λ (n : ℕ). Closes n c.emit_formula.new.builder (c.emit-in-loop-ended).new.self) (sym (add-one k))
+          (closes_more k c.emit_formula.new.builder c.loop-ended.builder (c.emit-in-loop-ended).new.self
+          c.loop-ended.invariant.closes (c.in_ok-emit-2).ensures.ok);
     }
 
 pub emit_loops-returns : goal.emit_loops-returns
@@ -211,7 +221,9 @@ emit_loops-returns t c =
     subst (λ (k : Junction). Emits (formula_piece cs k (formula_view c.args.body.now)) nowhere c.loop-begun.builder c.emit_formula.new.builder) c.junction_of.ensures c.in_ok-emit_formula.ensures in
     let all = c.loop-begun.invariant.begins body c.emit_formula.new.builder c.loop-ended.builder inner
     (subst (λ (k : ℕ). Closes k c.emit_formula.new.builder c.loop-ended.builder) ended c.loop-ended.invariant.closes) in
-    subst (λ (q : Piece). Emits q nowhere c.args.builder.now c.loop-ended.builder) (ap (λ (k : ℕ). repeated c.args.loops.first k body) begun ∙ sym (each_repeated cs r c.args.loops.first c.args.loops.carriers.now (formula_view c.args.body.now))) all
+    subst (λ (q : Piece). Emits q nowhere c.args.builder.now c.loop-ended.builder)
+    (ap (λ (k : ℕ). repeated c.args.loops.first k body) begun
+    ∙ sym (each_repeated cs r c.args.loops.first c.args.loops.carriers.now (formula_view c.args.body.now))) all
 
 pub emit_outside-loop-early-preserved : goal.emit_outside-loop-early-preserved
 emit_outside-loop-early-preserved t c =
@@ -265,7 +277,8 @@ emit_untested-returns t c =
 
 pub emit_outside-returns : goal.emit_outside-returns
 emit_outside-returns t c =
-    awaits_no_more _ _ c.in_ok-last.last.number c.args.builder.now c.loop-early.builder c.emit_untested.new.builder c.place.new.self c.loop-early.invariant.awaits c.in_ok-emit_untested.ensures c.place.ensures
+    awaits_no_more _ _ c.in_ok-last.last.number c.args.builder.now c.loop-early.builder c.emit_untested.new.builder
+    c.place.new.self c.loop-early.invariant.awaits c.in_ok-emit_untested.ensures c.place.ensures
 
 pub emit_inside-returns : goal.emit_inside-returns
 emit_inside-returns t c =

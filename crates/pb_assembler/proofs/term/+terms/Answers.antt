@@ -16,7 +16,9 @@ use Rattle.pb_assembler.proofs.term.+terms.Goals as goal
 
 pub emit_one-returns : goal.emit_one-returns
 emit_one-returns t c =
-    on_ok c.emit_plain.result _ _ c.emit_plain.ensures (λ h. emits_then (data_piece (term_view c.args.operand.now)) (Plain c.args.op) nowhere c.args.builder.now c.emit_term.new.builder c.emit_plain.new.builder c.in_ok-emit_term.ensures h)
+    on_ok c.emit_plain.result _ _ c.emit_plain.ensures
+    (λ h. emits_then (data_piece (term_view c.args.operand.now)) (Plain c.args.op) nowhere c.args.builder.now
+    c.emit_term.new.builder c.emit_plain.new.builder c.in_ok-emit_term.ensures h)
 
 pub emit_two-returns : goal.emit_two-returns
 emit_two-returns t c =
@@ -44,7 +46,8 @@ emit_choice-returns t c =
     let x = data_piece (term_view c.args.positive.now) in
     let y = data_piece (term_view c.args.negative.now) in
     emits_then (data_piece (term_view c.args.condition.now)) (Choose false x y) nowhere c.args.builder.now c.emit_term.new.builder (c.place-2).new.self c.in_ok-emit_term.ensures
-    (choice_emitted false x y nowhere c.emit_term.new.builder c.label.new.self (c.label-2).new.self c.emit_jump.new.self (c.emit_term-2).new.builder (c.emit_jump-2).new.self c.place.new.self (c.emit_term-3).new.builder (c.place-2).new.self
+    (choice_emitted false x y nowhere c.emit_term.new.builder c.label.new.self (c.label-2).new.self c.emit_jump.new.self
+    (c.emit_term-2).new.builder (c.emit_jump-2).new.self c.place.new.self (c.emit_term-3).new.builder (c.place-2).new.self
     c.in_ok-other.other.number c.in_ok-last.last.number
     c.in_ok-other.ensures.label c.in_ok-other.ensures.ok c.in_ok-last.ensures.label c.in_ok-last.ensures.ok
     c.in_ok-emit_jump.ensures.ok (c.in_ok-emit_term-2).ensures (c.in_ok-emit_jump-2).ensures.ok c.place.ensures (c.in_ok-emit_term-3).ensures (c.place-2).ensures)
@@ -71,7 +74,9 @@ emit_arithmetic-loop-link-preserved t c =
     let l = c.link-item.result in
     let x = data_piece (calculated first (link_views (take k links))) in
     let y = data_piece (term_view l.operand) in
-    let same = ap (λ n. data_piece (calculated first (link_views (take n links)))) (add-one k) ∙ ap data_piece (calculated_more first links k l c.loop-link-test.true c.link-item.is) ∙ sym (c.arithmetic_op.ensures.order x y) in
+    let same =
+    ap (λ n. data_piece (calculated first (link_views (take n links)))) (add-one k)
+    ∙ ap data_piece (calculated_more first links k l c.loop-link-test.true c.link-item.is) ∙ sym (c.arithmetic_op.ensures.order x y) in
     subst (λ (q : Piece). Emits q nowhere c.args.builder.now c.emit_one.new.builder) (sym same)
     (emits_then x (Then y (Plain c.arithmetic_op.result)) nowhere c.args.builder.now c.loop-link.builder c.emit_one.new.builder c.loop-link.invariant c.in_ok-emit_one.ensures)
 
@@ -99,7 +104,8 @@ emit_chain-loop-left-preserved t c =
     ∙ ap (λ n. Then (data_piece (chain_from o (drop n xs))) (connected_behind o (data_piece (term_view x)))) next in (
       omega (arith, a),
       subst (λ (q : Piece). Emits q nowhere c.args.builder.now c.emit_operand.new.builder) (sym same)
-          (emits_then (data_piece (chain_from o (drop left xs))) (connected_behind o (data_piece (term_view x))) nowhere c.args.builder.now c.loop-left.builder c.emit_operand.new.builder c.loop-left.invariant.1 c.in_ok-emit_operand.ensures),
+          (emits_then (data_piece (chain_from o (drop left xs))) (connected_behind o (data_piece (term_view x))) nowhere
+          c.args.builder.now c.loop-left.builder c.emit_operand.new.builder c.loop-left.invariant.1 c.in_ok-emit_operand.ensures),
     )
 
 pub emit_operand-returns-in_ok-emit_one-in-Implies : goal.emit_operand-returns-in_ok-emit_one-in-Implies
@@ -107,31 +113,56 @@ emit_operand-returns-in_ok-emit_one-in-Implies t c =
     let x = data_piece (term_view c.args.operand.now) in
     on_ok c.emit_plain.result _ _ c.emit_plain.ensures (λ h.
     subst (λ (o : Connective). Emits (connected_behind o x) nowhere c.args.builder.now c.emit_plain.new.builder) (sym c.in-Implies.is)
-    (emits_then (Then x (Plain op.Not)) (Plain (op.Logic connective.Or)) nowhere c.args.builder.now (c.emit_one-in-Implies).new.builder c.emit_plain.new.builder (c.in_ok-emit_one-in-Implies).ensures h))
+    (emits_then (Then x (Plain op.Not)) (Plain (op.Logic connective.Or)) nowhere c.args.builder.now
+    (c.emit_one-in-Implies).new.builder c.emit_plain.new.builder (c.in_ok-emit_one-in-Implies).ensures h))
 
 -- ---- nodes
 
 pub emit_term-emit_chain-requires : goal.emit_term-emit_chain-requires
 emit_term-emit_chain-requires t c = (
-  omega (arith, c.decreases, ap weight c.in-Chain.is ∙ weight-chain c.in-Chain.connective c.in-Chain.first c.in-Chain.links, ap weight c.deref-in-Chain.ensures, ap terms_weight (c.deref-in-Chain-2).ensures.value),
-  ap is_small (chain_is c.args.term.now c.deref-in-Chain.result.now c.in-Chain.connective c.in-Chain.first c.in-Chain.links (c.deref-in-Chain-2).result.now c.in-Chain.is c.deref-in-Chain.ensures (c.deref-in-Chain-2).ensures.value) ∙ c.requires,
+  omega (
+    arith,
+    c.decreases,
+    ap weight c.in-Chain.is
+        ∙ weight-chain c.in-Chain.connective c.in-Chain.first c.in-Chain.links,
+    ap weight c.deref-in-Chain.ensures,
+    ap
+        terms_weight (c.deref-in-Chain-2).ensures.value,
+  ),
+  ap is_small
+      (chain_is c.args.term.now c.deref-in-Chain.result.now c.in-Chain.connective c.in-Chain.first c.in-Chain.links
+      (c.deref-in-Chain-2).result.now c.in-Chain.is c.deref-in-Chain.ensures (c.deref-in-Chain-2).ensures.value) ∙ c.requires,
 )
 
 pub emit_term-emit_arithmetic-requires : goal.emit_term-emit_arithmetic-requires
 emit_term-emit_arithmetic-requires t c = (
-  omega (arith, c.decreases, ap weight c.in-Arithmetic.is ∙ weight-arithmetic c.in-Arithmetic.first c.in-Arithmetic.links, ap weight c.deref-in-Arithmetic.ensures, ap links_weight (c.deref-in-Arithmetic-2).ensures.value),
-  ap is_small (arithmetic_is c.args.term.now c.deref-in-Arithmetic.result.now c.in-Arithmetic.first c.in-Arithmetic.links (c.deref-in-Arithmetic-2).result.now c.in-Arithmetic.is c.deref-in-Arithmetic.ensures (c.deref-in-Arithmetic-2).ensures.value) ∙ c.requires,
+  omega (
+    arith,
+    c.decreases,
+    ap weight c.in-Arithmetic.is
+        ∙ weight-arithmetic c.in-Arithmetic.first c.in-Arithmetic.links,
+    ap weight c.deref-in-Arithmetic.ensures,
+    ap
+        links_weight (c.deref-in-Arithmetic-2).ensures.value,
+  ),
+  ap is_small
+      (arithmetic_is c.args.term.now c.deref-in-Arithmetic.result.now c.in-Arithmetic.first c.in-Arithmetic.links
+      (c.deref-in-Arithmetic-2).result.now c.in-Arithmetic.is c.deref-in-Arithmetic.ensures
+      (c.deref-in-Arithmetic-2).ensures.value) ∙ c.requires,
 )
 
 pub emit_term-returns-in-Chain : goal.emit_term-returns-in-Chain
 emit_term-returns-in-Chain t c =
     subst (λ (y : normal.Term). OnOk c.emit_chain.result (Emits (data_piece y) nowhere c.args.builder.now c.emit_chain.new.builder))
-    (chain_is c.args.term.now c.deref-in-Chain.result.now c.in-Chain.connective c.in-Chain.first c.in-Chain.links (c.deref-in-Chain-2).result.now c.in-Chain.is c.deref-in-Chain.ensures (c.deref-in-Chain-2).ensures.value) c.emit_chain.ensures
+    (chain_is c.args.term.now c.deref-in-Chain.result.now c.in-Chain.connective c.in-Chain.first c.in-Chain.links
+    (c.deref-in-Chain-2).result.now c.in-Chain.is c.deref-in-Chain.ensures (c.deref-in-Chain-2).ensures.value) c.emit_chain.ensures
 
 pub emit_term-returns-in-Arithmetic : goal.emit_term-returns-in-Arithmetic
 emit_term-returns-in-Arithmetic t c =
     subst (λ (y : normal.Term). OnOk c.emit_arithmetic.result (Emits (data_piece y) nowhere c.args.builder.now c.emit_arithmetic.new.builder))
-    (arithmetic_is c.args.term.now c.deref-in-Arithmetic.result.now c.in-Arithmetic.first c.in-Arithmetic.links (c.deref-in-Arithmetic-2).result.now c.in-Arithmetic.is c.deref-in-Arithmetic.ensures (c.deref-in-Arithmetic-2).ensures.value) c.emit_arithmetic.ensures
+    (arithmetic_is c.args.term.now c.deref-in-Arithmetic.result.now c.in-Arithmetic.first c.in-Arithmetic.links
+    (c.deref-in-Arithmetic-2).result.now c.in-Arithmetic.is c.deref-in-Arithmetic.ensures
+    (c.deref-in-Arithmetic-2).ensures.value) c.emit_arithmetic.ensures
 
 pub emit_chain-returns : goal.emit_chain-returns
 emit_chain-returns t c =
@@ -144,7 +175,8 @@ emit_chain-returns t c =
     let same = ap data_piece (chain_all o first xs left (omega (arith, b)) (omega (arith, a))) ∙ one_more o first (chain_from o (drop left xs)) in
     on_ok (c.emit_operand-2).result _ _ (c.emit_operand-2).ensures (λ h.
     subst (λ (q : Piece). Emits q nowhere c.args.builder.now (c.emit_operand-2).new.builder) (sym same)
-    (emits_then (data_piece (chain_from o (drop left xs))) (connected_behind o (data_piece first)) nowhere c.args.builder.now c.loop-left.builder (c.emit_operand-2).new.builder c.loop-left.invariant.1 h))
+    (emits_then (data_piece (chain_from o (drop left xs))) (connected_behind o (data_piece first)) nowhere
+    c.args.builder.now c.loop-left.builder (c.emit_operand-2).new.builder c.loop-left.invariant.1 h))
 
 pub emit_chain-emit_term-requires-2 : goal.emit_chain-emit_term-requires-2
 emit_chain-emit_term-requires-2 t c =

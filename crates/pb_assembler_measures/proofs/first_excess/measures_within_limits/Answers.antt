@@ -59,4 +59,5 @@ pub returns-clause-kept : goal.returns-clause-kept
 returns-clause-kept c =
     let normal = c.args.normal.now in
     let es = c.deref-equation-items.result.now in
-    all_keep (said normal.typed.now) normal.typed.now.layout es (forms normal es c.deref-equation-items.ensures.value) c.loop-equation.equation-index c.loop-equation-test.false c.loop-equation.invariant.keep
+    all_keep (said normal.typed.now) normal.typed.now.layout es (forms normal es c.deref-equation-items.ensures.value)
+    c.loop-equation.equation-index c.loop-equation-test.false c.loop-equation.invariant.keep

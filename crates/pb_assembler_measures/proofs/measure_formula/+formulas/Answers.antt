@@ -24,7 +24,11 @@ measure_each-loop-left-preserved t c =
     let same : suc k ≡ c.loop-left.left = omega (arith, b) in
     let below : k < length cs = omega (arith, a, b) in (
       omega (arith, a),
-      c.looped-tally.ensures ∙ looped_by c.size-count.result (length (values_of x)) c.loop-left.tally (loops_tally (drop (suc k) cs) own) c.size-count.ensures.count (c.loop-left.invariant.1 ∙ ap (λ n. capped_tally (loops_tally (drop n cs) own)) (sym same)) ∙ sym (ap capped_tally (loops_step cs k x own below c.index-carriers-left.is)),
+      c.looped-tally.ensures
+          ∙ looped_by c.size-count.result (length (values_of x)) c.loop-left.tally (loops_tally (drop (suc k) cs) own)
+          c.size-count.ensures.count
+          (c.loop-left.invariant.1 ∙ ap (λ n. capped_tally (loops_tally (drop n cs) own)) (sym same))
+          ∙ sym (ap capped_tally (loops_step cs k x own below c.index-carriers-left.is)),
     )
 
 pub measure_each-returns : goal.measure_each-returns
@@ -57,7 +61,10 @@ measure_formula-measure_join-requires t c =
 
 pub measure_formula-returns-in-Join : goal.measure_formula-returns-in-Join
 measure_formula-returns-in-Join t c =
-    c.measure_join.ensures ∙ ap (λ y. capped_tally (formula_tally c.args.layout.now c.args.around y)) (join_is c.args.formula.now c.deref.result.now c.in-Join.junction c.in-Join.first c.in-Join.rest c.deref-in-Join.result.now c.in-Join.is c.deref.ensures c.deref-in-Join.ensures.value)
+    c.measure_join.ensures
+    ∙ ap (λ y. capped_tally (formula_tally c.args.layout.now c.args.around y))
+    (join_is c.args.formula.now c.deref.result.now c.in-Join.junction c.in-Join.first c.in-Join.rest
+    c.deref-in-Join.result.now c.in-Join.is c.deref.ensures c.deref-in-Join.ensures.value)
 
 pub measure_join-measure_formula-tally-requires : goal.measure_join-measure_formula-tally-requires
 measure_join-measure_formula-tally-requires t c =
@@ -111,7 +118,10 @@ measure_join-loop-left-preserved t c =
       c.measure_link-tally.ensures
           ∙ ap (λ fs. capped_tally (formula_tally callees c.kind_at-own.result (Join m (formula_view x) (form_chain m fs)))) (all_from rest left)
           ∙ ap (λ d. capped_tally (formula_tally callees d (Join m (formula_view x) (form_chain m (drop left rest))))) c.kind_at-own.ensures
-          ∙ ap (λ y. capped_tally (formula_tally callees (kind_at m c.kind_behind-kind.result c.leading_tests-leading.result k) y)) (ap (λ n. Join m (formula_view x) (form_chain m (drop n rest))) (sym same) ∙ link_step m rest k x (omega (arith, a, b)) (c.index-rest-left-in-loop-left).is),
+          ∙ ap (λ y. capped_tally
+          (formula_tally callees (kind_at m c.kind_behind-kind.result c.leading_tests-leading.result k) y))
+          (ap (λ n. Join m (formula_view x) (form_chain m (drop n rest))) (sym same)
+          ∙ link_step m rest k x (omega (arith, a, b)) (c.index-rest-left-in-loop-left).is),
     )
 
 pub measure_untested-returns-in-Some : goal.measure_untested-returns-in-Some
@@ -119,7 +129,8 @@ measure_untested-returns-in-Some t c =
     let m = c.args.chain.junction in
     let chain = form_chain m c.args.behind.now in
     c.tested_tally.ensures
-    ∙ second_test c.args.layout.now m c.args.chain.around (formula_view c.args.operand.now) chain c.in-Some.load c.measure_formula-own.result c.requires.untested (sym c.in-Some.is ∙ c.only_test.ensures m) c.measure_formula-own.ensures
+    ∙ second_test c.args.layout.now m c.args.chain.around (formula_view c.args.operand.now) chain c.in-Some.load
+    c.measure_formula-own.result c.requires.untested (sym c.in-Some.is ∙ c.only_test.ensures m) c.measure_formula-own.ensures
 
 pub measure_untested-returns-in-None : goal.measure_untested-returns-in-None
 measure_untested-returns-in-None t c =
@@ -127,4 +138,6 @@ measure_untested-returns-in-None t c =
     let chain = form_chain m c.args.behind.now in
     c.under_tally.ensures
     ∙ ap (λ y. capped_tally (under_tally m c.args.chain.around y)) c.after-both.ensures
-    ∙ no_test c.args.layout.now m c.args.chain.around (formula_view c.args.operand.now) chain (c.measure_formula-own-in-None).result c.args.rest c.requires.untested (sym c.in-None.is ∙ c.only_test.ensures m) (c.measure_formula-own-in-None).ensures c.requires.rest
+    ∙ no_test c.args.layout.now m c.args.chain.around (formula_view c.args.operand.now) chain
+    (c.measure_formula-own-in-None).result c.args.rest c.requires.untested
+    (sym c.in-None.is ∙ c.only_test.ensures m) (c.measure_formula-own-in-None).ensures c.requires.rest

@@ -31,7 +31,14 @@ loop-left-preserved c =
     let rest = c.loop-left.invariant.1.1 ∙ ap (λ n. capped_load (arguments_load (drop n cs) (map argument_view (drop n xs)))) (sym same) in (
       omega (arith, a),
       (
-        c.either-any.ensures ∙ ap (λ t. t || c.loop-left.any) c.is_tested-tested.ensures ∙ ap (λ t. is_tested (slice_get cs k) (argument_view x).shape || t) later ∙ sym (tested_step cs xs k x below c.index-arguments-left.is),
-        c.argument_load-load.ensures ∙ argument_by c.is_tested-tested.result (is_tested (slice_get cs k) (argument_view x).shape) c.loop-left.any (any_tested (drop (suc k) cs) (map argument_view (drop (suc k) xs))) c.measure_term-own.result c.loop-left.load (term_load (term_view x.term)) (arguments_load (drop (suc k) cs) (map argument_view (drop (suc k) xs))) c.is_tested-tested.ensures later c.measure_term-own.ensures rest ∙ sym (ap capped_load (argument_step cs xs k x below c.index-arguments-left.is)),
+        c.either-any.ensures ∙ ap (λ t. t || c.loop-left.any) c.is_tested-tested.ensures
+            ∙ ap (λ t. is_tested (slice_get cs k) (argument_view x).shape || t) later
+            ∙ sym (tested_step cs xs k x below c.index-arguments-left.is),
+        c.argument_load-load.ensures
+            ∙ argument_by c.is_tested-tested.result (is_tested (slice_get cs k) (argument_view x).shape) c.loop-left.any
+            (any_tested (drop (suc k) cs) (map argument_view (drop (suc k) xs))) c.measure_term-own.result
+            c.loop-left.load (term_load (term_view x.term))
+            (arguments_load (drop (suc k) cs) (map argument_view (drop (suc k) xs))) c.is_tested-tested.ensures later
+            c.measure_term-own.ensures rest ∙ sym (ap capped_load (argument_step cs xs k x below c.index-arguments-left.is)),
       ),
     )

@@ -16,8 +16,11 @@ measure_arithmetic-loop-link-preserved t c =
     let links = c.args.links.now in
     let k = c.loop-link.link-index in
     let l = c.link-item.result in
-    c.followed-load.ensures ∙ ap (λ k. capped_load (followed k)) c.both.ensures ∙ arithmetic_capped l.operator (calculated first (link_views (take k links))) (term_view l.operand) c.loop-link.load c.measure_term-operand.result c.loop-link.invariant c.measure_term-operand.ensures
-    ∙ sym (ap (λ n. capped_load (term_load (calculated first (link_views (take n links))))) (add-one k) ∙ ap (λ t. capped_load (term_load t)) (calculated_more first links k l c.loop-link-test.true c.link-item.is))
+    c.followed-load.ensures ∙ ap (λ k. capped_load (followed k)) c.both.ensures
+    ∙ arithmetic_capped l.operator (calculated first (link_views (take k links))) (term_view l.operand)
+    c.loop-link.load c.measure_term-operand.result c.loop-link.invariant c.measure_term-operand.ensures
+    ∙ sym (ap (λ n. capped_load (term_load (calculated first (link_views (take n links))))) (add-one k)
+    ∙ ap (λ t. capped_load (term_load t)) (calculated_more first links k l c.loop-link-test.true c.link-item.is))
 
 pub measure_chain-measure_term-load-requires : goal.measure_chain-measure_term-load-requires
 measure_chain-measure_term-load-requires t c =
@@ -33,16 +36,38 @@ measure_chain-measure_term-operand-requires t c =
 
 pub measure_term-measure_chain-requires : goal.measure_term-measure_chain-requires
 measure_term-measure_chain-requires t c =
-    omega (arith, c.decreases, ap weight c.in-Chain.is ∙ weight-chain c.in-Chain.connective c.in-Chain.first c.in-Chain.links, ap weight c.deref-in-Chain.ensures, ap terms_weight (c.deref-in-Chain-2).ensures.value)
+    omega (
+      arith,
+      c.decreases,
+      ap weight c.in-Chain.is
+          ∙ weight-chain c.in-Chain.connective c.in-Chain.first c.in-Chain.links,
+      ap weight c.deref-in-Chain.ensures,
+      ap
+          terms_weight (c.deref-in-Chain-2).ensures.value,
+    )
 
 pub measure_term-measure_arithmetic-requires : goal.measure_term-measure_arithmetic-requires
 measure_term-measure_arithmetic-requires t c =
-    omega (arith, c.decreases, ap weight c.in-Arithmetic.is ∙ weight-arithmetic c.in-Arithmetic.first c.in-Arithmetic.links, ap weight c.deref-in-Arithmetic.ensures, ap links_weight (c.deref-in-Arithmetic-2).ensures.value)
+    omega (
+      arith,
+      c.decreases,
+      ap weight c.in-Arithmetic.is
+          ∙ weight-arithmetic c.in-Arithmetic.first c.in-Arithmetic.links,
+      ap weight c.deref-in-Arithmetic.ensures,
+      ap
+          links_weight (c.deref-in-Arithmetic-2).ensures.value,
+    )
 
 pub measure_term-returns-in-Chain : goal.measure_term-returns-in-Chain
 measure_term-returns-in-Chain t c =
-    c.measure_chain.ensures ∙ ap (λ y. capped_load (term_load y)) (chain_is c.args.term.now c.deref-in-Chain.result.now c.in-Chain.connective c.in-Chain.first c.in-Chain.links (c.deref-in-Chain-2).result.now c.in-Chain.is c.deref-in-Chain.ensures (c.deref-in-Chain-2).ensures.value)
+    c.measure_chain.ensures
+    ∙ ap (λ y. capped_load (term_load y))
+    (chain_is c.args.term.now c.deref-in-Chain.result.now c.in-Chain.connective c.in-Chain.first c.in-Chain.links
+    (c.deref-in-Chain-2).result.now c.in-Chain.is c.deref-in-Chain.ensures (c.deref-in-Chain-2).ensures.value)
 
 pub measure_term-returns-in-Arithmetic : goal.measure_term-returns-in-Arithmetic
 measure_term-returns-in-Arithmetic t c =
-    c.measure_arithmetic.ensures ∙ ap (λ y. capped_load (term_load y)) (arithmetic_is c.args.term.now c.deref-in-Arithmetic.result.now c.in-Arithmetic.first c.in-Arithmetic.links (c.deref-in-Arithmetic-2).result.now c.in-Arithmetic.is c.deref-in-Arithmetic.ensures (c.deref-in-Arithmetic-2).ensures.value)
+    c.measure_arithmetic.ensures
+    ∙ ap (λ y. capped_load (term_load y))
+    (arithmetic_is c.args.term.now c.deref-in-Arithmetic.result.now c.in-Arithmetic.first c.in-Arithmetic.links
+    (c.deref-in-Arithmetic-2).result.now c.in-Arithmetic.is c.deref-in-Arithmetic.ensures (c.deref-in-Arithmetic-2).ensures.value)

@@ -20,4 +20,6 @@ returns c =
     let ew = to_z-of_z c.ranges.d in
     let least = same_two int_min (passed _ _ c.min.type_inv (c.min.ensures.value ∙ same_two int_min ex ey)) (passed _ _ c.min-2.type_inv (c.min-2.ensures.value ∙ same_two int_min ez ew)) in
     let greatest = same_two int_max (passed _ _ c.max.type_inv (c.max.ensures.value ∙ same_two int_max ex ey)) (passed _ _ c.max-2.type_inv (c.max-2.ensures.value ∙ same_two int_max ez ew)) in
-    same_within c.args.limits _ _ _ (span_of_four x y z w) c.limited.ensures (passed _ _ c.min-low.type_inv (c.min-low.ensures.value ∙ least)) (passed _ _ c.max-high.type_inv (c.max-high.ensures.value ∙ greatest))
+    same_within c.args.limits _ _ _ (span_of_four x y z w) c.limited.ensures
+    (passed _ _ c.min-low.type_inv (c.min-low.ensures.value ∙ least))
+    (passed _ _ c.max-high.type_inv (c.max-high.ensures.value ∙ greatest))

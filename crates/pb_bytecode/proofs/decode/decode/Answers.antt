@@ -6,7 +6,13 @@ use Rattle.pb_bytecode.proofs.ModuleLaws.{all_takes, all_within, read_one, read_
 use Rattle.pb_bytecode.proofs.decode.decode.Goals as goal
 
 pub invariant_of-result : goal.invariant_of-result
-invariant_of-result c = record { within_limits = (all_takes c.args.bytes.now (contents_of c.in-Ok.version c.in-Ok.sorts.items c.in-Ok.equations.items c.in-Ok.initial) (λ i. omega (arith, c.type_inv.bytes i)) c.in-Ok.ensures).1 }
+invariant_of-result c =
+    record {
+      within_limits =
+          (all_takes c.args.bytes.now
+          (contents_of c.in-Ok.version c.in-Ok.sorts.items c.in-Ok.equations.items c.in-Ok.initial)
+          (λ i. omega (arith, c.type_inv.bytes i)) c.in-Ok.ensures).1;
+    }
 
 pub overflow_sub-result : goal.overflow_sub-result
 overflow_sub-result c =
@@ -14,7 +20,10 @@ overflow_sub-result c =
     all_within c.args.bytes.now c.in-Err-Refused.fault (λ i. omega (arith, c.type_inv.bytes i)) met
 
 pub returns-in-Ok-clause-spelled : goal.returns-in-Ok-clause-spelled
-returns-in-Ok-clause-spelled c = (all_takes c.args.bytes.now (contents_of c.in-Ok.version c.in-Ok.sorts.items c.in-Ok.equations.items c.in-Ok.initial) (λ i. omega (arith, c.type_inv.bytes i)) c.in-Ok.ensures).0
+returns-in-Ok-clause-spelled c =
+    (all_takes c.args.bytes.now
+    (contents_of c.in-Ok.version c.in-Ok.sorts.items c.in-Ok.equations.items c.in-Ok.initial)
+    (λ i. omega (arith, c.type_inv.bytes i)) c.in-Ok.ensures).0
 
 pub returns-in-Ok-clause-read : goal.returns-in-Ok-clause-read
 returns-in-Ok-clause-read c = λ m h e. read_one c.args.bytes.now (contents_of c.in-Ok.version c.in-Ok.sorts.items c.in-Ok.equations.items c.in-Ok.initial) m h e c.in-Ok.ensures

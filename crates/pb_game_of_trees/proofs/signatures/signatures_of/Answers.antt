@@ -45,7 +45,14 @@ returns-clause-count c =
     let xs = map signature_of es in
     let same : module_contents m ≡ c.args.verified.now = c.module-module.ensures in
     let few : length es ≤ 64 = few_equations c.args.verified.now (subst (λ (x : Contents). fits x ≡ true) same m.within_limits) in
-    let many : length es ≡ c.equation_count-k-end.result = omega (arith, c.equation_count-k-end.ensures.count, ap length c.layout-layout.ensures, length-map es (λ (e : EquationContents). e.parameters)) in
+    let many : length es ≡ c.equation_count-k-end.result =
+    omega (
+      arith,
+      c.equation_count-k-end.ensures.count,
+      ap length c.layout-layout.ensures,
+      length-map es
+          (λ (e : EquationContents). e.parameters),
+    ) in
     let all : map plain items ≡ xs = c.loop-k.invariant ∙ take_all c.loop-k.k xs (omega (arith, many, length-map es signature_of)) in
     omega (arith, few, ap length all, length-map items plain, length-map es signature_of)
 

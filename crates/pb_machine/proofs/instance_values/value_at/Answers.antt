@@ -20,4 +20,5 @@ pub returns : goal.returns
 returns c =
     let b = c.bounds-least in
     let within : (b.result.0 +ℤ pos c.args.place) ≤ℤ b.result.1 = place_within (values_of c.args.carrier.now) b.result.0 b.result.1 c.args.place b.ensures.interval b.ensures.order c.requires in
-    slice_get-from_interval (values_of c.args.carrier.now) b.result.0 b.result.1 _ c.args.place b.ensures.interval (omega (arith, ints, within, b.ensures.high, b.ensures.low)) (omega (arith, ints, within, b.ensures.high, b.ensures.low))
+    slice_get-from_interval (values_of c.args.carrier.now) b.result.0 b.result.1 _ c.args.place b.ensures.interval
+    (omega (arith, ints, within, b.ensures.high, b.ensures.low)) (omega (arith, ints, within, b.ensures.high, b.ensures.low))

@@ -14,7 +14,10 @@ behind-returns-then-is_empty t c =
     let none : length c.in-Chain.links.items ≡ 0 = grind (arith, nat_tests) in
     let same : term_form c.deref-then-is_empty.result.now ≡ term_form c.args.guard.now =
     ap term_form c.deref-then-is_empty.ensures ∙ sym (alone-said c.in-Chain.connective c.in-Chain.first c.in-Chain.links c.args.guard.now c.in-Chain.is none) in
-    IfOk-weaker c.behind-then-is_empty.result (λ f. guards.reversed_chain_form r.connective f ≡ behind_form r.connective r.place r.negated (term_form c.deref-then-is_empty.result.now) (guards.reversed_chain_form r.connective c.args.then))
+    IfOk-weaker c.behind-then-is_empty.result
+    (λ f. guards.reversed_chain_form r.connective f
+    ≡ behind_form r.connective r.place r.negated (term_form c.deref-then-is_empty.result.now)
+    (guards.reversed_chain_form r.connective c.args.then))
     (λ f. guards.reversed_chain_form r.connective f ≡ behind_form r.connective r.place r.negated (term_form c.args.guard.now) (guards.reversed_chain_form r.connective c.args.then))
     (λ f h. h ∙ ap (λ (x : TermForm). behind_form r.connective r.place r.negated x (guards.reversed_chain_form r.connective c.args.then)) same) c.behind-then-is_empty.ensures
 
@@ -24,7 +27,10 @@ behind-returns-then-is_empty-2 t c =
     let none : length c.in-Arithmetic.links.items ≡ 0 = grind (arith, nat_tests) in
     let same : term_form c.deref-then-is_empty-2.result.now ≡ term_form c.args.guard.now =
     ap term_form c.deref-then-is_empty-2.ensures ∙ sym (alone-calculated c.in-Arithmetic.first c.in-Arithmetic.links c.args.guard.now c.in-Arithmetic.is none) in
-    IfOk-weaker c.behind-then-is_empty-2.result (λ f. guards.reversed_chain_form r.connective f ≡ behind_form r.connective r.place r.negated (term_form c.deref-then-is_empty-2.result.now) (guards.reversed_chain_form r.connective c.args.then))
+    IfOk-weaker c.behind-then-is_empty-2.result
+    (λ f. guards.reversed_chain_form r.connective f
+    ≡ behind_form r.connective r.place r.negated (term_form c.deref-then-is_empty-2.result.now)
+    (guards.reversed_chain_form r.connective c.args.then))
     (λ f. guards.reversed_chain_form r.connective f ≡ behind_form r.connective r.place r.negated (term_form c.args.guard.now) (guards.reversed_chain_form r.connective c.args.then))
     (λ f h. h ∙ ap (λ (x : TermForm). behind_form r.connective r.place r.negated x (guards.reversed_chain_form r.connective c.args.then)) same) c.behind-then-is_empty-2.ensures
 
@@ -37,9 +43,15 @@ behind-returns-then-not-is_cut t c =
     let zero : vec_len c.in-Chain.links ≡ 0 = omega (arith, e, c.in-Chain.links.ok.0) in
     let test : (vec_len c.in-Chain.links == 0) ≡ true = ap (λ (n : ℕ). n == 0) zero in
     true≢false (sym test ∙ sym c.is_empty.ensures ∙ c.if-is_empty.false) in
-    IfOk-weaker c.behind_conjunct.result (λ f. guards.reversed_chain_form r.connective f ≡ FormulaForm.connected r.connective r.place (FormulaForm.val r.place (guards.signed_term r.place r.negated (term_form c.args.guard.now))) (guards.reversed_chain_form r.connective c.args.then))
+    IfOk-weaker c.behind_conjunct.result
+    (λ f. guards.reversed_chain_form r.connective f
+    ≡ FormulaForm.connected r.connective r.place
+    (FormulaForm.val r.place (guards.signed_term r.place r.negated (term_form c.args.guard.now)))
+    (guards.reversed_chain_form r.connective c.args.then))
     (λ f. guards.reversed_chain_form r.connective f ≡ behind_form r.connective r.place r.negated (term_form c.args.guard.now) (guards.reversed_chain_form r.connective c.args.then))
-    (λ f h. h ∙ sym (at-whole r.connective k r.place r.negated c.in-Chain.first c.in-Chain.links c.args.guard.now (guards.reversed_chain_form r.connective c.args.then) c.in-Chain.is whole some)) c.behind_conjunct.ensures
+    (λ f h. h ∙ sym
+    (at-whole r.connective k r.place r.negated c.in-Chain.first c.in-Chain.links c.args.guard.now
+    (guards.reversed_chain_form r.connective c.args.then) c.in-Chain.is whole some)) c.behind_conjunct.ensures
 
 pub behind-returns-else-is_empty-2 : goal.behind-returns-else-is_empty-2
 behind-returns-else-is_empty-2 t c =
@@ -48,9 +60,15 @@ behind-returns-else-is_empty-2 t c =
     let zero : vec_len c.in-Arithmetic.links ≡ 0 = omega (arith, e, c.in-Arithmetic.links.ok.0) in
     let test : (vec_len c.in-Arithmetic.links == 0) ≡ true = ap (λ (n : ℕ). n == 0) zero in
     true≢false (sym test ∙ sym c.is_empty-in-Arithmetic.ensures ∙ c.if-is_empty-2.false) in
-    IfOk-weaker c.behind_conjunct-in-Arithmetic.result (λ f. guards.reversed_chain_form r.connective f ≡ FormulaForm.connected r.connective r.place (FormulaForm.val r.place (guards.signed_term r.place r.negated (term_form c.args.guard.now))) (guards.reversed_chain_form r.connective c.args.then))
+    IfOk-weaker c.behind_conjunct-in-Arithmetic.result
+    (λ f. guards.reversed_chain_form r.connective f
+    ≡ FormulaForm.connected r.connective r.place
+    (FormulaForm.val r.place (guards.signed_term r.place r.negated (term_form c.args.guard.now)))
+    (guards.reversed_chain_form r.connective c.args.then))
     (λ f. guards.reversed_chain_form r.connective f ≡ behind_form r.connective r.place r.negated (term_form c.args.guard.now) (guards.reversed_chain_form r.connective c.args.then))
-    (λ f h. h ∙ sym (at-arithmetic r.connective r.place r.negated c.in-Arithmetic.first c.in-Arithmetic.links c.args.guard.now (guards.reversed_chain_form r.connective c.args.then) c.in-Arithmetic.is some)) c.behind_conjunct-in-Arithmetic.ensures
+    (λ f h. h ∙ sym
+    (at-arithmetic r.connective r.place r.negated c.in-Arithmetic.first c.in-Arithmetic.links c.args.guard.now
+    (guards.reversed_chain_form r.connective c.args.then) c.in-Arithmetic.is some)) c.behind_conjunct-in-Arithmetic.ensures
 
 pub behind-returns-in_ok-then-in-Chain : goal.behind-returns-in_ok-then-in-Chain
 behind-returns-in_ok-then-in-Chain t c =

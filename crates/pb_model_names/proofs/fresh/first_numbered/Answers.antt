@@ -52,5 +52,8 @@ pub unreachable-requires : goal.unreachable-requires
 unreachable-requires c =
     let vs = c.args.variables.now in
     let gs = c.args.given.now in
-    let most = numbers-taken (names_in vs ++ names_in gs) c.args.name.now c.loop-number.number (omega (arith, c.loop-number.auto.number)) (omega (arith, c.loop-number.invariant.2, c.loop-number.auto.number-end)) c.loop-number.invariant.1 in
+    let most =
+    numbers-taken (names_in vs ++ names_in gs) c.args.name.now c.loop-number.number
+    (omega (arith, c.loop-number.auto.number))
+    (omega (arith, c.loop-number.invariant.2, c.loop-number.auto.number-end)) c.loop-number.invariant.1 in
     omega (arith, most, names-many vs gs, c.loop-number-test.false)

@@ -12,7 +12,10 @@ pub returns-in_err-arguments-clause-reads : goal.returns-in_err-arguments-clause
 returns-in_err-arguments-clause-reads c s is =
     let opens : is_open (kind c.args.input.now) ≡ true = search rules in
     let p = err_from_is_err_and c.from_residual-in_err-arguments.result c.from_residual-in_err-arguments.ensures.1 in
-    rw (p.1, p.2) (if_fault c.in_err-arguments.field-0.0 (λ bad e. arguments-fail c.args.depth c.in_ok-enter.ensures.deeper s c.args.input.now c.enter.new.self (named c.args.name) (tok c.in_ok-enter.field-0) is opens c.in_ok-enter.ensures.reads bad e) c.in_err-arguments.ensures.reads)
+    rw (p.1, p.2)
+    (if_fault c.in_err-arguments.field-0.0
+    (λ bad e. arguments-fail c.args.depth c.in_ok-enter.ensures.deeper s c.args.input.now c.enter.new.self
+    (named c.args.name) (tok c.in_ok-enter.field-0) is opens c.in_ok-enter.ensures.reads bad e) c.in_err-arguments.ensures.reads)
 
 pub returns-clause-reads : goal.returns-clause-reads
 returns-clause-reads c s is =

@@ -8,7 +8,9 @@ use Rattle.pb_model_text.proofs.definition.definition_list.Given as goal
 
 abbrev pub invariant-definitions : goal.invariant-definitions
 invariant-definitions l = record {
-  reads : definition_list 64 l.fn.input ≡ gathered (definition 64) is_name_kind nothing_between (map definition_form l.definitions.items) (suc (length l.fn.input.tokens) - vec_len l.definitions) l.input;
+  reads : definition_list 64 l.fn.input
+      ≡ gathered (definition 64) is_name_kind nothing_between (map definition_form l.definitions.items)
+      (suc (length l.fn.input.tokens) - vec_len l.definitions) l.input;
   room : vec_len l.definitions + length l.input.tokens ≤ length l.fn.input.tokens;
 }
 

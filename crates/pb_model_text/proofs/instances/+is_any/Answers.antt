@@ -17,7 +17,8 @@ returns-else-is_empty t c =
 pub returns-then-is_empty-2 : goal.returns-then-is_empty-2
 returns-then-is_empty-2 t c =
     let none : length c.in-Arithmetic.links.items ≡ 0 = search rules in
-    c.is_any-then-is_empty-2.ensures ∙ ap (λ v. is_any (term_form v)) c.deref-then-is_empty-2.ensures ∙ arithmetic-alone c.args.term.now c.in-Arithmetic.first c.in-Arithmetic.links c.in-Arithmetic.is none
+    c.is_any-then-is_empty-2.ensures ∙ ap (λ v. is_any (term_form v)) c.deref-then-is_empty-2.ensures
+    ∙ arithmetic-alone c.args.term.now c.in-Arithmetic.first c.in-Arithmetic.links c.in-Arithmetic.is none
 
 pub returns-else-is_empty-2 : goal.returns-else-is_empty-2
 returns-else-is_empty-2 t c =

@@ -14,7 +14,9 @@ returns-in_err-place-clause-reads c =
 pub returns-then-not-is_fairly-clause-reads : goal.returns-then-not-is_fairly-clause-reads
 returns-then-not-is_fairly-clause-reads c =
     let other : is_some (fairly_of c.in_ok-place.text.now) ≡ false = search rules in
-    rw c.unexpected_name.ensures (word-fails-at c.args.input.now c.expect_name.new.self c.in_ok-place.place c.in_ok-place.text.now c.in_ok-place.ensures.reads fairly_of (none-said c.in_ok-place.text.now other))
+    rw c.unexpected_name.ensures
+    (word-fails-at c.args.input.now c.expect_name.new.self c.in_ok-place.place c.in_ok-place.text.now
+    c.in_ok-place.ensures.reads fairly_of (none-said c.in_ok-place.text.now other))
 
 pub returns-clause-reads : goal.returns-clause-reads
 returns-clause-reads c =

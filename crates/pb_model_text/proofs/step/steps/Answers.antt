@@ -25,14 +25,17 @@ returns-in_err-step c =
 pub returns-then-not-same_kind : goal.returns-then-not-same_kind
 returns-then-not-same_kind c =
     let stops : is_name_kind (kind c.step.new.input) ≡ false = search rules in
-    let end = gathered-end (step 64) is_name_kind nothing_between (map step_form c.steps.steps.items) (suc (length c.args.input.now.tokens) - vec_len c.steps.steps) (length c.args.input.now.tokens - vec_len c.steps.steps)
+    let end = gathered-end (step 64) is_name_kind nothing_between (map step_form c.steps.steps.items)
+    (suc (length c.args.input.now.tokens) - vec_len c.steps.steps) (length c.args.input.now.tokens - vec_len c.steps.steps)
     c.steps.input c.step.new.input (step_form c.in_ok-step.step) (omega arith) c.in_ok-step.ensures.reads stops in
     rw (c.in_ok-push.ensures.items, map-append step_form c.steps.steps.items (c.in_ok-step.step ∷ [])) (c.steps.invariant.reads ∙ end)
 
 pub steps-preserved : goal.steps-preserved
 steps-preserved c =
     let goes : is_name_kind (kind c.step.new.input) ≡ true = search rules in
-    let more = gathered-more (step 64) is_name_kind nothing_between (map step_form c.steps.steps.items) (suc (length c.args.input.now.tokens) - vec_len c.steps.steps) (suc (length c.args.input.now.tokens) - vec_len c.push.new.self)
+    let more =
+    gathered-more (step 64) is_name_kind nothing_between (map step_form c.steps.steps.items)
+    (suc (length c.args.input.now.tokens) - vec_len c.steps.steps) (suc (length c.args.input.now.tokens) - vec_len c.push.new.self)
     c.steps.input c.step.new.input c.step.new.input (step_form c.in_ok-step.step) tt (omega (arith, c.in_ok-push.ensures.len, c.in_ok-step.ensures.fewer)) c.in_ok-step.ensures.reads goes refl in
     record {
       reads = rw (c.in_ok-push.ensures.items, map-append step_form c.steps.steps.items (c.in_ok-step.step ∷ [])) (c.steps.invariant.reads ∙ more);

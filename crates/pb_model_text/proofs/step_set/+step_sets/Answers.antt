@@ -23,7 +23,9 @@ pub step_set-returns-in_err-first-clause-reads : goal.step_set-returns-in_err-fi
 step_set-returns-in_err-first-clause-reads t c =
     let p = err_from_is_err_and c.from_residual.result c.from_residual.ensures.1 in
     rw (p.1, p.2) (if_fault c.in_err-first.field-0.0
-    (λ bad e. sets-chain c.args.depth c.args.input.now ∙ resumed-first-fails Or StepSetForm.union (set c.args.depth) (length c.args.input.now.tokens) c.args.input.now bad e) c.in_err-first.ensures.reads)
+    (λ bad e. sets-chain c.args.depth c.args.input.now
+    ∙ resumed-first-fails Or StepSetForm.union (set c.args.depth) (length c.args.input.now.tokens) c.args.input.now
+    bad e) c.in_err-first.ensures.reads)
 
 pub step_set-links-init : goal.step_set-links-init
 step_set-links-init t c = record {
@@ -55,7 +57,9 @@ step_set-links-preserved t c =
     record {
       reads = rw (c.in_ok-push.ensures.items, set-links-last) (c.links.invariant.reads ∙ resumed-more Or StepSetForm.union (set c.args.depth) (length c.args.input.now.tokens - vec_len c.links.links)
           (length c.args.input.now.tokens - vec_len c.push.new.self) _ (step_set_links c.links.links.items) c.links.input c.take_operator.new.self c.set-in-links.new.input
-          (tok c.in_ok-place.field-0) (step_set_form c.in_ok-operand.operand) (omega (arith, c.in_ok-push.ensures.len, c.links.invariant.room)) same c.in_ok-place.ensures.reads c.in_ok-operand.ensures.reads);
+          (tok c.in_ok-place.field-0) (step_set_form c.in_ok-operand.operand)
+          (omega (arith, c.in_ok-push.ensures.len, c.links.invariant.room)) same c.in_ok-place.ensures.reads
+          c.in_ok-operand.ensures.reads);
       room = omega (arith, c.in_ok-place.ensures.fewer, c.in_ok-operand.ensures.fewer, c.in_ok-push.ensures.len, c.links.invariant.room);
     }
 

@@ -12,5 +12,7 @@ formula_names_fixpoint-returns-then-formula_names_fixpoint t c =
 pub formula_names_fixpoint-returns-else-formula_names_fixpoint : goal.formula_names_fixpoint-returns-else-formula_names_fixpoint
 formula_names_fixpoint-returns-else-formula_names_fixpoint t c =
     let n = c.in-Chain in
-    left_out _ _ _ _ (operands-said (bound_names c.args.bound.now) c.args.place c.args.formula.now c.deref.result.now n.connective n.first n.links c.deref-in-Chain.result.now n.is c.deref.ensures c.deref-in-Chain.ensures.value)
+    left_out _ _ _ _
+    (operands-said (bound_names c.args.bound.now) c.args.place c.args.formula.now c.deref.result.now n.connective
+    n.first n.links c.deref-in-Chain.result.now n.is c.deref.ensures c.deref-in-Chain.ensures.value)
     (sym c.formula_names_fixpoint.ensures ∙ c.if-formula_names_fixpoint.false) c.operands_name_fixpoint.ensures

@@ -18,7 +18,9 @@ loop-k-preserved c =
     let weighted = weighted-at ps k p (omega arith) c.index-members-k.is c.loop-k.invariant.1 in
     let at = summands-at xs ps k x p p.weight (omega arith) (omega arith) c.index-variables-k.is c.index-members-k.is weighted.weight in (
       went-on (string_bytes c.loop-k.text) (string_bytes c.push_mark.new.text) (string_bytes c.push_summand.new.text) (if c.loop-k.is_first then [] else codes " + ") (codes " + ")
-          (times_text (counted_text (variable_said x).name.text p.low) p.weight) _ (summands (map variable_said (drop k xs)) (members_of (drop k ps))) (summands (map variable_said (drop (k + 1) xs)) (members_of (drop (k + 1) ps)))
+          (times_text (counted_text (variable_said x).name.text p.low) p.weight) _
+          (summands (map variable_said (drop k xs)) (members_of (drop k ps)))
+          (summands (map variable_said (drop (k + 1) xs)) (members_of (drop (k + 1) ps)))
           c.loop-k.invariant.0 at c.in_ok-push_mark.ensures c.in_ok-push_summand.ensures,
       weighted.others,
     )

@@ -3,4 +3,7 @@ use Rattle.pb_protocol_folding.proofs.Chains.{longer-term}
 use Rattle.pb_protocol_folding.proofs.chain.term_links.Goals as goal
 
 pub returns-then-eq : goal.returns-then-eq
-returns-then-eq c = longer-term c.args.connective c.in-Chain.inner c.args.place c.in-Chain.first c.in-Chain.links c.insert.new.self.items c.into_inner-operand.result c.args.term c.in-Chain.is (search rules) c.into_inner-operand.ensures c.in_ok-insert-in-Chain.ensures.items
+returns-then-eq c =
+    longer-term c.args.connective c.in-Chain.inner c.args.place c.in-Chain.first c.in-Chain.links
+    c.insert.new.self.items c.into_inner-operand.result c.args.term c.in-Chain.is (search rules)
+    c.into_inner-operand.ensures c.in_ok-insert-in-Chain.ensures.items

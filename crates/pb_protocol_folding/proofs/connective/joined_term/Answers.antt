@@ -13,6 +13,7 @@ loop-operand-init c =
 
 pub loop-operand-preserved : goal.loop-operand-preserved
 loop-operand-preserved c =
-    step-joined c.args.quantifier c.args.truth c.loop-operand.operands.items c.pop.new.self.items c.in-Some.operand c.loop-operand.joined c.in_ok-joined.joined c.joining-connective.result c.truth_counts.result
+    step-joined c.args.quantifier c.args.truth c.loop-operand.operands.items c.pop.new.self.items c.in-Some.operand
+    c.loop-operand.joined c.in_ok-joined.joined c.joining-connective.result c.truth_counts.result
     c.in-Some.ensures.items c.joining-connective.ensures (c.truth_counts.ensures ∙ ap (truth_counts c.args.truth) c.deref.ensures.value) c.in_ok-joined.ensures
     (folded_joined c.args.quantifier c.args.truth (map term_of c.args.operands.items)) c.loop-operand.invariant

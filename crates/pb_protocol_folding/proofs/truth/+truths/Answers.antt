@@ -7,7 +7,10 @@ pub returns-then-is_empty : goal.returns-then-is_empty
 returns-then-is_empty t c = c.truth_value.ensures ∙ ap (folding.truth_value) (chain-alone _ _ _ _ _ _ c.in-Chain.is c.is_empty.ensures c.if-is_empty.true c.deref.ensures)
 
 pub returns-then-is_empty-2 : goal.returns-then-is_empty-2
-returns-then-is_empty-2 t c = c.truth_value-then-is_empty-2.ensures ∙ ap (folding.truth_value) (arithmetic-alone _ _ _ _ _ c.in-Arithmetic.is c.is_empty-in-Arithmetic.ensures c.if-is_empty-2.true c.deref-then-is_empty-2.ensures)
+returns-then-is_empty-2 t c =
+    c.truth_value-then-is_empty-2.ensures
+    ∙ ap (folding.truth_value)
+    (arithmetic-alone _ _ _ _ _ c.in-Arithmetic.is c.is_empty-in-Arithmetic.ensures c.if-is_empty-2.true c.deref-then-is_empty-2.ensures)
 
 pub returns-else-is_empty : goal.returns-else-is_empty
 returns-else-is_empty t c = chain-many (folding.truth_value) (None) c.in-Chain.connective (λ l r. refl) _ _ _ _ c.in-Chain.is c.is_empty.ensures c.if-is_empty.false

@@ -15,6 +15,9 @@ push_formula-returns-in_ok-push_formula-in-Chain t c =
     let others = flat_map formula_bound_names (operands_of c.deref-in-Chain-2.result.now) in
     subst (λ (xs : List Name). OnOk c.push_operands.result (names_by c.push_operands.new.names.items ≡ xs))
     (ap (λ (xs : List Name). xs ++ others) c.in_ok-push_formula-in-Chain.ensures ∙ append_assoc old first others
-    ∙ ap (λ (xs : List Name). old ++ xs) (sym (ap formula_bound_names (at-chain c.in-Chain.connective c.deref-in-Chain.result.now c.in-Chain.first c.in-Chain.links c.deref-in-Chain-2.result.now c.args.formula.now c.in-Chain.is c.deref-in-Chain.ensures c.deref-in-Chain-2.ensures.value)
+    ∙ ap (λ (xs : List Name). old ++ xs)
+    (sym (ap formula_bound_names
+    (at-chain c.in-Chain.connective c.deref-in-Chain.result.now c.in-Chain.first c.in-Chain.links
+    c.deref-in-Chain-2.result.now c.args.formula.now c.in-Chain.is c.deref-in-Chain.ensures c.deref-in-Chain-2.ensures.value)
     ∙ bound-formulas-joined c.in-Chain.connective (formula_of c.deref-in-Chain.result.now) (operands_of c.deref-in-Chain-2.result.now))))
     c.push_operands.ensures

@@ -5,4 +5,6 @@ use Rattle.pb_protocol_packer.specs.Initial.{names_by}
 use Rattle.pb_protocol_groups.proofs.bound_names.push_properties.Given as goal
 
 abbrev pub invariant-loop-property : goal.invariant-loop-property
-invariant-loop-property l = names_by l.names.items ++ flat_map property_bound_names (properties_in (drop l.property-index l.properties)) ≡ names_by l.initial.names.items ++ flat_map property_bound_names (properties_in l.properties)
+invariant-loop-property l =
+    names_by l.names.items ++ flat_map property_bound_names (properties_in (drop l.property-index l.properties))
+    ≡ names_by l.initial.names.items ++ flat_map property_bound_names (properties_in l.properties)

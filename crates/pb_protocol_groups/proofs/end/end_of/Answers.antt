@@ -49,6 +49,7 @@ loop-preserved c =
           ∙ ap (λ (k : declared_link.Link). kind_behind k (kind_within j m)) (sym c.in-GoesOn.is) ∙ sym (kind-link model c.chain_link.result s left j next c.chain_link.ensures.kind)
           ∙ ap (λ (x : Name). kind_within left m x) c.deref.ensures ∙ c.loop.invariant.0,
       ap (λ (n : ℕ). carrier_within n (data_of m) t) same
-          ∙ ap (λ (k : declared_link.Link). carrier_behind k (carrier_within j (data_of m))) (sym c.in-GoesOn.is) ∙ sym (carrier-link model c.chain_link.result s left j next c.chain_link.ensures.carrier)
+          ∙ ap (λ (k : declared_link.Link). carrier_behind k (carrier_within j (data_of m))) (sym c.in-GoesOn.is)
+          ∙ sym (carrier-link model c.chain_link.result s left j next c.chain_link.ensures.carrier)
           ∙ ap (λ (x : Name). carrier_within left (data_of m) x) c.deref.ensures ∙ c.loop.invariant.1,
     )

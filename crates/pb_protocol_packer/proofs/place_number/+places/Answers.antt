@@ -20,7 +20,9 @@ pub place_number-returns-in-None : goal.place_number-returns-in-None
 place_number-returns-in-None t c =
     let es = texts_of c.args.enumerators.now in
     subst (λ (z : Term). IfOk c.place_number.result (λ u. term_of u ≡ z))
-    (ap (place_number es) (sym (alone c.in-Chain.connective c.deref-in-None.result.now c.in-Chain.first c.in-Chain.links c.deref.result.now c.args.term.now c.in-Chain.is c.deref-in-None.ensures c.deref.ensures.value c.in-None.ensures.value)))
+    (ap (place_number es)
+    (sym (alone c.in-Chain.connective c.deref-in-None.result.now c.in-Chain.first c.in-Chain.links
+    c.deref.result.now c.args.term.now c.in-Chain.is c.deref-in-None.ensures c.deref.ensures.value c.in-None.ensures.value)))
     c.place_number.ensures
 
 pub place_number-returns-in-Some-first : goal.place_number-returns-in-Some-first
@@ -28,14 +30,18 @@ place_number-returns-in-Some-first t c =
     let es = texts_of c.args.enumerators.now in
     subst (λ (z : Term). IfOk c.place_of-in-Some-first.result (λ u. term_of u ≡ z))
     (computed-as (place_of 0 es) (place_number es) (λ o x y. refl)
-    c.in-Arithmetic.first c.in-Arithmetic.links c.deref-in-Arithmetic.result.now c.in-Some-first.field-0.now c.args.term.now c.in-Arithmetic.is c.deref-in-Arithmetic.ensures.value c.in-Some-first.ensures.value)
+    c.in-Arithmetic.first c.in-Arithmetic.links c.deref-in-Arithmetic.result.now c.in-Some-first.field-0.now
+    c.args.term.now c.in-Arithmetic.is c.deref-in-Arithmetic.ensures.value c.in-Some-first.ensures.value)
     c.place_of-in-Some-first.ensures
 
 pub place_number-returns-in-None-first : goal.place_number-returns-in-None-first
 place_number-returns-in-None-first t c =
     let es = texts_of c.args.enumerators.now in
     subst (λ (z : Term). IfOk c.place_number-in-None-first.result (λ u. term_of u ≡ z))
-    (ap (place_number es) (sym (alone-computed c.deref-in-None-first.result.now c.in-Arithmetic.first c.in-Arithmetic.links c.deref-in-Arithmetic.result.now c.args.term.now c.in-Arithmetic.is c.deref-in-None-first.ensures c.deref-in-Arithmetic.ensures.value c.in-None-first.ensures.value)))
+    (ap (place_number es)
+    (sym (alone-computed c.deref-in-None-first.result.now c.in-Arithmetic.first c.in-Arithmetic.links
+    c.deref-in-Arithmetic.result.now c.args.term.now c.in-Arithmetic.is c.deref-in-None-first.ensures
+    c.deref-in-Arithmetic.ensures.value c.in-None-first.ensures.value)))
     c.place_number-in-None-first.ensures
 
 pub place_number-returns-then-len-ne3 : goal.place_number-returns-then-len-ne3

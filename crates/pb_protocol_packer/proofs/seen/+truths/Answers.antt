@@ -12,16 +12,22 @@ is_truth-returns-in-Some t c =
 pub is_truth-returns-in-None : goal.is_truth-returns-in-None
 is_truth-returns-in-None t c =
     c.is_truth.ensures
-    ∙ ap is_truth (sym (alone c.in-Chain.connective c.deref-in-None.result.now c.in-Chain.first c.in-Chain.links c.deref.result.now c.args.term.now c.in-Chain.is c.deref-in-None.ensures c.deref.ensures.value c.in-None.ensures.value))
+    ∙ ap is_truth
+    (sym (alone c.in-Chain.connective c.deref-in-None.result.now c.in-Chain.first c.in-Chain.links
+    c.deref.result.now c.args.term.now c.in-Chain.is c.deref-in-None.ensures c.deref.ensures.value c.in-None.ensures.value))
 
 pub is_truth-returns-in-Some-first : goal.is_truth-returns-in-Some-first
 is_truth-returns-in-Some-first t c =
-    sym (several-computed c.in-Arithmetic.first c.in-Arithmetic.links c.deref-in-Arithmetic.result.now c.in-Some-first.field-0.now c.args.term.now c.in-Arithmetic.is c.deref-in-Arithmetic.ensures.value c.in-Some-first.ensures.value).1
+    sym (several-computed c.in-Arithmetic.first c.in-Arithmetic.links c.deref-in-Arithmetic.result.now
+    c.in-Some-first.field-0.now c.args.term.now c.in-Arithmetic.is c.deref-in-Arithmetic.ensures.value c.in-Some-first.ensures.value).1
 
 pub is_truth-returns-in-None-first : goal.is_truth-returns-in-None-first
 is_truth-returns-in-None-first t c =
     c.is_truth-in-None-first.ensures
-    ∙ ap is_truth (sym (alone-computed c.deref-in-None-first.result.now c.in-Arithmetic.first c.in-Arithmetic.links c.deref-in-Arithmetic.result.now c.args.term.now c.in-Arithmetic.is c.deref-in-None-first.ensures c.deref-in-Arithmetic.ensures.value c.in-None-first.ensures.value))
+    ∙ ap is_truth
+    (sym (alone-computed c.deref-in-None-first.result.now c.in-Arithmetic.first c.in-Arithmetic.links
+    c.deref-in-Arithmetic.result.now c.args.term.now c.in-Arithmetic.is c.deref-in-None-first.ensures
+    c.deref-in-Arithmetic.ensures.value c.in-None-first.ensures.value))
 
 pub are_truths-returns-then-arguments-ne3 : goal.are_truths-returns-then-arguments-ne3
 are_truths-returns-then-arguments-ne3 t c = not-three is_truth c.args.arguments.now c.if-arguments-ne3.true

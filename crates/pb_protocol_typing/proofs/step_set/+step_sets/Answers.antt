@@ -16,5 +16,7 @@ set_fault-returns-in_default t c =
     let n = c.in-Union in
     let ls = c.deref-in-Union-2.result.now in
     c.sets_fault.ensures
-    ∙ sym (left_out _ _ _ (union-fault (shapes_in c.args.steps.now) (scope_of c.args.scope.now) c.args.set.now c.deref-in-Union.result.now n.first n.links ls n.is c.deref-in-Union.ensures c.deref-in-Union-2.ensures.value)
+    ∙ sym (left_out _ _ _
+    (union-fault (shapes_in c.args.steps.now) (scope_of c.args.scope.now) c.args.set.now c.deref-in-Union.result.now
+    n.first n.links ls n.is c.deref-in-Union.ensures c.deref-in-Union-2.ensures.value)
     c.in_default.ensures)

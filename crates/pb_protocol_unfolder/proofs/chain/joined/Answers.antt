@@ -13,7 +13,9 @@ pub returns-clause-formula : goal.returns-clause-formula
 returns-clause-formula c =
     let k = c.args.connective in
     let f = formula_of c.args.first in
-    IfOk-weaker c.connected.result (λ (h : Formula). formula_of h ≡ folded_connected k f (linked_formula c.in_ok-others.others)) (λ (h : Formula). formula_of h ≡ folded_chain k f (map linked_formula c.args.links.items))
+    IfOk-weaker c.connected.result
+    (λ (h : Formula). formula_of h ≡ folded_connected k f (linked_formula c.in_ok-others.others))
+    (λ (h : Formula). formula_of h ≡ folded_chain k f (map linked_formula c.args.links.items))
     (λ h e. e ∙ sym (c.in_ok-others.ensures.formula f) ∙ chain-begun k f c.args.links.items c.pop.new.self.items c.in-Some.last c.in-Some.ensures.items) c.connected.ensures.formula
 
 pub returns-clause-places : goal.returns-clause-places

@@ -17,7 +17,8 @@ pub loop-before-preserved : goal.loop-before-preserved
 loop-before-preserved c = record {
   formula = λ f.
       c.loop-before.invariant.formula f
-      ∙ sym (chain-goes c.args.connective f (formula_of c.in_ok-operand.operand) c.loop-before.links.items c.pop.new.self.items c.in-Some.before c.loop-before.last c.in-Some.ensures.items c.in_ok-operand.ensures.formula);
+      ∙ sym (chain-goes c.args.connective f (formula_of c.in_ok-operand.operand) c.loop-before.links.items
+      c.pop.new.self.items c.in-Some.before c.loop-before.last c.in-Some.ensures.items c.in_ok-operand.ensures.formula);
   places = last-among flat_link_places c.loop-before.links.items c.pop.new.self.items c.in-Some.before
       (flat_link_places c.loop-before.last) (places_of c.in_ok-operand.operand) (flat_map flat_link_places c.args.links.items ++ flat_link_places c.args.last)
       c.in-Some.ensures.items c.in_ok-operand.ensures.places c.loop-before.invariant.places;

@@ -9,7 +9,9 @@ use Rattle.pb_protocol_unfolder.proofs.chain.joined_links.Given as goal
 abbrev pub invariant-loop-before : goal.invariant-loop-before
 invariant-loop-before l = record {
   formula :
-      (f : Formula) → folded_chain l.connective f (map linked_formula l.fn.links.items ++ linked_formula l.fn.last ∷ []) ≡ folded_chain l.connective f (map linked_formula l.links.items ++ linked_formula l.last ∷ []);
+      (f : Formula)
+      → folded_chain l.connective f (map linked_formula l.fn.links.items ++ linked_formula l.fn.last ∷ [])
+      ≡ folded_chain l.connective f (map linked_formula l.links.items ++ linked_formula l.last ∷ []);
   places :
       AreAmong (flat_map flat_link_places l.links.items ++ flat_link_places l.last) (flat_map flat_link_places l.fn.links.items ++ flat_link_places l.fn.last);
 }

@@ -102,7 +102,9 @@ unfold_formula-returns-in_ok-new-in-Fixpoint-clause-places t c =
     let boxed = box_value c.in_ok-new-in-Fixpoint.field-0 in
     through-among (p ∷ places_of boxed) (p ∷ places_in inner) (places_in c.args.formula.now)
     (behind-among p (places_of boxed) (places_in inner)
-    (through-among (places_of boxed) (places_of body) (places_in inner) (same-among (places_of boxed) (places_of body) (ap places_of c.in_ok-new-in-Fixpoint.ensures.ok)) c.in_ok-body-in-Fixpoint.ensures.places))
+    (through-among (places_of boxed) (places_of body) (places_in inner)
+    (same-among (places_of boxed) (places_of body) (ap places_of c.in_ok-new-in-Fixpoint.ensures.ok))
+    c.in_ok-body-in-Fixpoint.ensures.places))
     (same-among (p ∷ places_in inner) (places_in c.args.formula.now)
     (sym (ap places_in c.in-Fixpoint.is ∙ ap (λ (g : tree.Formula). p ∷ places_in g) (sym c.deref-in-Fixpoint.ensures))))
 
@@ -119,7 +121,10 @@ unfold_copies-loop-values-preserved t c =
     let u = c.args.formulas.now.unfolder.now in
     let a = c.args.copies.now in
     let ks = c.values-item.result in
-    let counted : List Written → tree.Formula → ℕ = λ vs g. written_operators (protocol_in u) (standing (map variable_of a.variables.now) (terms_of (map written_term vs)) (scope_in u a.outer.now)) (erased_formula (formula_form g)) in
+    let counted : List Written → tree.Formula → ℕ =
+    λ vs g. written_operators (protocol_in u)
+    (standing (map variable_of a.variables.now) (terms_of (map written_term vs)) (scope_in u a.outer.now))
+    (erased_formula (formula_form g)) in
     let same : counted c.deref.result.now c.deref-in-loop-values.result.now ≡ counted ks.items body =
     ap (λ (vs : List Written). counted vs c.deref-in-loop-values.result.now) c.deref.ensures.value ∙ ap (counted ks.items) c.deref-in-loop-values.ensures in
     record {
@@ -162,7 +167,9 @@ pub unfold_formula-returns-in-Data-clause-room : goal.unfold_formula-returns-in-
 unfold_formula-returns-in-Data-clause-room t c =
     let u = c.args.formulas.now.unfolder.now in
     let s = c.args.scope.now in
-    subst (λ (g : tree.Formula). OnOk c.unfold_data.result (c.args.room.now.operators ≡ c.unfold_data.new.room.operators + left_operators u s (formula_form g))) (sym c.in-Data.is) c.unfold_data.ensures.room
+    subst (λ (g : tree.Formula). OnOk c.unfold_data.result
+    (c.args.room.now.operators ≡ c.unfold_data.new.room.operators + left_operators u s (formula_form g)))
+    (sym c.in-Data.is) c.unfold_data.ensures.room
 
 pub unfold_formula-returns-in_ok-not_formula-in-Negation-clause-room : goal.unfold_formula-returns-in_ok-not_formula-in-Negation-clause-room
 unfold_formula-returns-in_ok-not_formula-in-Negation-clause-room t c =
@@ -175,7 +182,8 @@ unfold_formula-returns-in_ok-joined-in-Chain-clause-room t c =
     let u = c.args.formulas.now.unfolder.now in
     let s = c.args.scope.now in
     both-left _ _ _ _ _ _ c.in_ok-first-in-Chain.ensures.room c.in_ok-links-in-Chain.ensures.room
-    (chain-formula u s c.in-Chain.connective c.deref-in-Chain.result.now c.in-Chain.first c.in-Chain.links c.deref-in-Chain-2.result.now c.args.formula.now c.in-Chain.is c.deref-in-Chain.ensures c.deref-in-Chain-2.ensures.value)
+    (chain-formula u s c.in-Chain.connective c.deref-in-Chain.result.now c.in-Chain.first c.in-Chain.links
+    c.deref-in-Chain-2.result.now c.args.formula.now c.in-Chain.is c.deref-in-Chain.ensures c.deref-in-Chain-2.ensures.value)
 
 pub unfold_formula-returns-in_ok-new-in-Modal-clause-room : goal.unfold_formula-returns-in_ok-new-in-Modal-clause-room
 unfold_formula-returns-in_ok-new-in-Modal-clause-room t c =
@@ -211,7 +219,8 @@ unfold_formula-returns-in_ok-joined_formula-in-Quantified-clause-room t c =
     ∙ ap (λ (vs : List Variable). tuples_in u (map variable_of vs)) c.deref-in-Quantified-2.ensures.value ∙ ap (tuples_in u) named in
     let whole : sum_by (copy_operators u made f) ts ≡ left_operators u s (formula_form c.args.formula.now) =
     copies-counted u s made f ts xs (tuples_in u xs) variables refl are
-    ∙ sym (ap (λ (g : tree.Formula). left_operators u s (formula_form g)) c.in-Quantified.is ∙ quantified-operators u s c.in-Quantified.quantifier c.in-Quantified.place (variable_forms groups) (formula_form f)) in
+    ∙ sym (ap (λ (g : tree.Formula). left_operators u s (formula_form g)) c.in-Quantified.is
+    ∙ quantified-operators u s c.in-Quantified.quantifier c.in-Quantified.place (variable_forms groups) (formula_form f)) in
     same-left _ _ _ _ c.in_ok-operands-in-Quantified.ensures.room whole
 
 -- ---- what a fault says
@@ -265,7 +274,12 @@ unfold_links-returns-in_err-take-clause-refused t c =
     let item = item-counted (link_operators u s) ls c.loop-link.link-index l c.loop-link-test.true c.link-item.is in
     of-many-by c.from_residual.result c.in_err-take.field-0.0 (c.loop-link.room.operators < 1) l.place
     (IsFaultOfLinks (form_in u) (c.args.room.now.operators < sum_by (link_operators u s) ls) (scope_in u s) ls) c.from_residual.ensures.1
-    (λ f o. (l, item-in ls c.loop-link.link-index l c.loop-link-test.true c.link-item.is, inl (loop-over _ _ _ _ _ _ c.loop-link.invariant.room item (one-over _ _ o.0), o.1))) c.in_err-take.ensures.refused
+    (λ f o. (
+      l,
+      item-in ls c.loop-link.link-index l c.loop-link-test.true c.link-item.is,
+      inl
+          (loop-over _ _ _ _ _ _ c.loop-link.invariant.room item (one-over _ _ o.0), o.1),
+    )) c.in_err-take.ensures.refused
 
 pub unfold_links-returns-in_err-operand-clause-refused : goal.unfold_links-returns-in_err-operand-clause-refused
 unfold_links-returns-in_err-operand-clause-refused t c =
@@ -300,8 +314,11 @@ unfold_formula-returns-in_err-take-in-Negation-clause-refused t c =
     let s = c.args.scope.now in
     let L : tree.Formula → ℕ = λ g. left_operators u s (formula_form g) in
     let fault : tree.Formula → UnfoldingFault → Type 0 = λ f. IsFaultOfFormula (form_in u) (c.args.room.now.operators < L c.args.formula.now) (scope_in u s) (formula_form f) in
-    of-many-by c.from_residual-in_err-take-in-Negation.result c.in_err-take-in-Negation.field-0.0 (c.args.room.now.operators < 1) c.in-Negation.place (fault c.args.formula.now) c.from_residual-in_err-take-in-Negation.ensures.1
-    (λ p o. subst (λ (f : tree.Formula). fault f p) (sym c.in-Negation.is) (inl (token-over _ (L (box_value c.in-Negation.operand)) _ (ap L c.in-Negation.is) o.0, o.1))) c.in_err-take-in-Negation.ensures.refused
+    of-many-by c.from_residual-in_err-take-in-Negation.result c.in_err-take-in-Negation.field-0.0
+    (c.args.room.now.operators < 1) c.in-Negation.place (fault c.args.formula.now) c.from_residual-in_err-take-in-Negation.ensures.1
+    (λ p o. subst (λ (f : tree.Formula). fault f p) (sym c.in-Negation.is)
+    (inl (token-over _ (L (box_value c.in-Negation.operand)) _ (ap L c.in-Negation.is) o.0, o.1)))
+    c.in_err-take-in-Negation.ensures.refused
 
 pub unfold_formula-returns-in_err-operand-in-Negation-clause-refused : goal.unfold_formula-returns-in_err-operand-in-Negation-clause-refused
 unfold_formula-returns-in_err-operand-in-Negation-clause-refused t c =
@@ -312,7 +329,8 @@ unfold_formula-returns-in_err-operand-in-Negation-clause-refused t c =
     let Many = c.args.room.now.operators < L c.args.formula.now in
     let fault : tree.Formula → UnfoldingFault → Type 0 = λ f. IsFaultOfFormula (form_in u) Many (scope_in u s) (formula_form f) in
     let whole : L c.args.formula.now ≡ suc (L x) = ap L c.in-Negation.is ∙ ap (λ (g : tree.Formula). suc (L g)) (sym c.deref.ensures) in
-    part-of c.from_residual-in_err-operand-in-Negation.result c.in_err-operand-in-Negation.field-0.0 _ (fault c.args.formula.now) c.from_residual-in_err-operand-in-Negation.ensures.1 c.in_err-operand-in-Negation.ensures.refused
+    part-of c.from_residual-in_err-operand-in-Negation.result c.in_err-operand-in-Negation.field-0.0 _
+    (fault c.args.formula.now) c.from_residual-in_err-operand-in-Negation.ensures.1 c.in_err-operand-in-Negation.ensures.refused
     (λ p is. subst (λ (f : tree.Formula). fault f p) (sym c.in-Negation.is) (inr (subst (λ (f : tree.Formula). fault f p) c.deref.ensures
     (fault-so (form_in u) _ Many (behind-over _ _ _ _ c.in_ok-take-in-Negation.ensures.taken whole) p (scope_in u s) (formula_form x) is))))
 
@@ -326,7 +344,8 @@ unfold_formula-returns-in_err-first-in-Chain-clause-refused t c =
     let f = c.args.formula.now in
     let Many = c.args.room.now.operators < left_operators u s (formula_form f) in
     let whole = chain-formula u s c.in-Chain.connective x c.in-Chain.first c.in-Chain.links c.in-Chain.links.items f c.in-Chain.is c.deref-in-Chain.ensures refl in
-    part-of c.from_residual-in_err-first-in-Chain.result c.in_err-first-in-Chain.field-0.0 _ (IsFaultOfFormula m Many ρ (formula_form f)) c.from_residual-in_err-first-in-Chain.ensures.1 c.in_err-first-in-Chain.ensures.refused
+    part-of c.from_residual-in_err-first-in-Chain.result c.in_err-first-in-Chain.field-0.0 _
+    (IsFaultOfFormula m Many ρ (formula_form f)) c.from_residual-in_err-first-in-Chain.ensures.1 c.in_err-first-in-Chain.ensures.refused
     (λ p is. fault-of-chain m Many ρ p c.in-Chain.connective x c.in-Chain.first c.in-Chain.links c.in-Chain.links.items f c.in-Chain.is c.deref-in-Chain.ensures refl
     (inl (fault-so m _ Many (first-over _ _ _ _ whole) p ρ (formula_form x) is)))
 
@@ -341,7 +360,8 @@ unfold_formula-returns-in_err-links-in-Chain-clause-refused t c =
     let f = c.args.formula.now in
     let Many = c.args.room.now.operators < left_operators u s (formula_form f) in
     let whole = chain-formula u s c.in-Chain.connective x c.in-Chain.first c.in-Chain.links ls f c.in-Chain.is c.deref-in-Chain.ensures c.deref-in-Chain-2.ensures.value in
-    part-of c.from_residual-in_err-links-in-Chain.result c.in_err-links-in-Chain.field-0.0 _ (IsFaultOfFormula m Many ρ (formula_form f)) c.from_residual-in_err-links-in-Chain.ensures.1 c.in_err-links-in-Chain.ensures.refused
+    part-of c.from_residual-in_err-links-in-Chain.result c.in_err-links-in-Chain.field-0.0 _
+    (IsFaultOfFormula m Many ρ (formula_form f)) c.from_residual-in_err-links-in-Chain.ensures.1 c.in_err-links-in-Chain.ensures.refused
     (λ p is. fault-of-chain m Many ρ p c.in-Chain.connective x c.in-Chain.first c.in-Chain.links ls f c.in-Chain.is c.deref-in-Chain.ensures c.deref-in-Chain-2.ensures.value
     (inr (links-so m _ Many (rest-over _ _ _ _ _ c.in_ok-first-in-Chain.ensures.room whole) p ρ ls is)))
 
@@ -354,7 +374,8 @@ unfold_formula-returns-in_err-take-in-Modal-clause-refused t c =
     let inner = box_value c.in-Modal.operand in
     let whole : L c.args.formula.now ≡ suc (name_count (left_set u s A) + L inner) = ap L c.in-Modal.is ∙ modal-operators u s c.in-Modal.modality c.in-Modal.place A (formula_form inner) in
     let fault : tree.Formula → UnfoldingFault → Type 0 = λ f. IsFaultOfFormula (form_in u) (c.args.room.now.operators < L c.args.formula.now) (scope_in u s) (formula_form f) in
-    of-many-by c.from_residual-in_err-take-in-Modal.result c.in_err-take-in-Modal.field-0.0 (c.args.room.now.operators < 1) c.in-Modal.place (fault c.args.formula.now) c.from_residual-in_err-take-in-Modal.ensures.1
+    of-many-by c.from_residual-in_err-take-in-Modal.result c.in_err-take-in-Modal.field-0.0
+    (c.args.room.now.operators < 1) c.in-Modal.place (fault c.args.formula.now) c.from_residual-in_err-take-in-Modal.ensures.1
     (λ p o. subst (λ (f : tree.Formula). fault f p) (sym c.in-Modal.is) (inl (token-over _ _ _ whole o.0, o.1))) c.in_err-take-in-Modal.ensures.refused
 
 pub unfold_formula-returns-in_err-steps-in-Modal-clause-refused : goal.unfold_formula-returns-in_err-steps-in-Modal-clause-refused
@@ -369,9 +390,11 @@ unfold_formula-returns-in_err-steps-in-Modal-clause-refused t c =
     let inner = box_value c.in-Modal.operand in
     let whole : L f ≡ suc (name_count (left_set u s A) + L inner) = ap L c.in-Modal.is ∙ modal-operators u s c.in-Modal.modality c.in-Modal.place A (formula_form inner) in
     let Many = c.args.room.now.operators < L f in
-    part-of c.from_residual-in_err-steps-in-Modal.result c.in_err-steps-in-Modal.field-0.0 _ (IsFaultOfFormula m Many ρ (formula_form f)) c.from_residual-in_err-steps-in-Modal.ensures.1 c.in_err-steps-in-Modal.ensures.refused
+    part-of c.from_residual-in_err-steps-in-Modal.result c.in_err-steps-in-Modal.field-0.0 _
+    (IsFaultOfFormula m Many ρ (formula_form f)) c.from_residual-in_err-steps-in-Modal.ensures.1 c.in_err-steps-in-Modal.ensures.refused
     (λ p is. subst (λ (g : tree.Formula). IsFaultOfFormula m Many ρ (formula_form g) p) (sym c.in-Modal.is)
-    (fault-of-set m Many ρ p c.in-Modal.modality c.in-Modal.place A (formula_form inner) (modality-so (erase m) _ Many (set-over _ _ _ _ _ c.in_ok-take-in-Modal.ensures.taken whole) p ρ c.in-Modal.place A is)))
+    (fault-of-set m Many ρ p c.in-Modal.modality c.in-Modal.place A (formula_form inner)
+    (modality-so (erase m) _ Many (set-over _ _ _ _ _ c.in_ok-take-in-Modal.ensures.taken whole) p ρ c.in-Modal.place A is)))
 
 pub unfold_formula-returns-in_err-operand-in-Modal-clause-refused : goal.unfold_formula-returns-in_err-operand-in-Modal-clause-refused
 unfold_formula-returns-in_err-operand-in-Modal-clause-refused t c =
@@ -385,7 +408,8 @@ unfold_formula-returns-in_err-operand-in-Modal-clause-refused t c =
     let whole : L c.args.formula.now ≡ suc (name_count (left_set u s A) + L x) =
     ap L c.in-Modal.is ∙ modal-operators u s c.in-Modal.modality c.in-Modal.place A (formula_form (box_value c.in-Modal.operand))
     ∙ ap (λ (g : tree.Formula). suc (name_count (left_set u s A) + L g)) (sym c.deref-in-Modal.ensures) in
-    part-of c.from_residual-in_err-operand-in-Modal.result c.in_err-operand-in-Modal.field-0.0 _ (fault c.args.formula.now) c.from_residual-in_err-operand-in-Modal.ensures.1 c.in_err-operand-in-Modal.ensures.refused
+    part-of c.from_residual-in_err-operand-in-Modal.result c.in_err-operand-in-Modal.field-0.0 _
+    (fault c.args.formula.now) c.from_residual-in_err-operand-in-Modal.ensures.1 c.in_err-operand-in-Modal.ensures.refused
     (λ p is. subst (λ (f : tree.Formula). fault f p) (sym c.in-Modal.is) (inr (inr (subst (λ (f : tree.Formula). fault f p) c.deref-in-Modal.ensures
     (fault-so (form_in u) _ Many (operand-over _ _ _ _ _ _ c.in_ok-take-in-Modal.ensures.taken c.in_ok-steps-in-Modal.ensures.room whole) p (scope_in u s) (formula_form x) is)))))
 
@@ -395,8 +419,11 @@ unfold_formula-returns-in_err-take-in-Fixpoint-clause-refused t c =
     let s = c.args.scope.now in
     let L : tree.Formula → ℕ = λ g. left_operators u s (formula_form g) in
     let fault : tree.Formula → UnfoldingFault → Type 0 = λ f. IsFaultOfFormula (form_in u) (c.args.room.now.operators < L c.args.formula.now) (scope_in u s) (formula_form f) in
-    of-many-by c.from_residual-in_err-take-in-Fixpoint.result c.in_err-take-in-Fixpoint.field-0.0 (c.args.room.now.operators < 1) c.in-Fixpoint.place (fault c.args.formula.now) c.from_residual-in_err-take-in-Fixpoint.ensures.1
-    (λ p o. subst (λ (f : tree.Formula). fault f p) (sym c.in-Fixpoint.is) (inl (token-over _ (L (box_value c.in-Fixpoint.body)) _ (ap L c.in-Fixpoint.is) o.0, o.1))) c.in_err-take-in-Fixpoint.ensures.refused
+    of-many-by c.from_residual-in_err-take-in-Fixpoint.result c.in_err-take-in-Fixpoint.field-0.0
+    (c.args.room.now.operators < 1) c.in-Fixpoint.place (fault c.args.formula.now) c.from_residual-in_err-take-in-Fixpoint.ensures.1
+    (λ p o. subst (λ (f : tree.Formula). fault f p) (sym c.in-Fixpoint.is)
+    (inl (token-over _ (L (box_value c.in-Fixpoint.body)) _ (ap L c.in-Fixpoint.is) o.0, o.1)))
+    c.in_err-take-in-Fixpoint.ensures.refused
 
 pub unfold_formula-returns-in_err-body-in-Fixpoint-clause-refused : goal.unfold_formula-returns-in_err-body-in-Fixpoint-clause-refused
 unfold_formula-returns-in_err-body-in-Fixpoint-clause-refused t c =
@@ -407,7 +434,8 @@ unfold_formula-returns-in_err-body-in-Fixpoint-clause-refused t c =
     let Many = c.args.room.now.operators < L c.args.formula.now in
     let fault : tree.Formula → UnfoldingFault → Type 0 = λ f. IsFaultOfFormula (form_in u) Many (scope_in u s) (formula_form f) in
     let whole : L c.args.formula.now ≡ suc (L x) = ap L c.in-Fixpoint.is ∙ ap (λ (g : tree.Formula). suc (L g)) (sym c.deref-in-Fixpoint.ensures) in
-    part-of c.from_residual-in_err-body-in-Fixpoint.result c.in_err-body-in-Fixpoint.field-0.0 _ (fault c.args.formula.now) c.from_residual-in_err-body-in-Fixpoint.ensures.1 c.in_err-body-in-Fixpoint.ensures.refused
+    part-of c.from_residual-in_err-body-in-Fixpoint.result c.in_err-body-in-Fixpoint.field-0.0 _
+    (fault c.args.formula.now) c.from_residual-in_err-body-in-Fixpoint.ensures.1 c.in_err-body-in-Fixpoint.ensures.refused
     (λ p is. subst (λ (f : tree.Formula). fault f p) (sym c.in-Fixpoint.is) (inr (subst (λ (f : tree.Formula). fault f p) c.deref-in-Fixpoint.ensures
     (fault-so (form_in u) _ Many (behind-over _ _ _ _ c.in_ok-take-in-Fixpoint.ensures.taken whole) p (scope_in u s) (formula_form x) is))))
 
@@ -415,14 +443,19 @@ pub unfold_formula-returns-in_err-tuples-in-Quantified-clause-refused : goal.unf
 unfold_formula-returns-in_err-tuples-in-Quantified-clause-refused t c =
     let u = c.args.formulas.now.unfolder.now in
     let s = c.args.scope.now in
-    let fault : tree.Formula → UnfoldingFault → Type 0 = λ f. IsFaultOfFormula (form_in u) (c.args.room.now.operators < left_operators u s (formula_form c.args.formula.now)) (scope_in u s) (formula_form f) in
+    let fault : tree.Formula → UnfoldingFault → Type 0 =
+    λ f. IsFaultOfFormula (form_in u)
+    (c.args.room.now.operators < left_operators u s (formula_form c.args.formula.now)) (scope_in u s) (formula_form f) in
     let vs = map variable_of c.deref-in-Quantified-2.result.now in
     let xs = erased_variables (variable_forms c.in-Quantified.variables.items) in
     let named : vs ≡ xs =
-    ap (map variable_of) c.deref-in-Quantified-2.ensures.value ∙ c.in_ok-variables-in-Quantified.ensures ∙ ap (λ (gs : List Variables). erased_variables (variable_forms gs)) c.deref-in-Quantified.ensures.value in
+    ap (map variable_of) c.deref-in-Quantified-2.ensures.value ∙ c.in_ok-variables-in-Quantified.ensures
+    ∙ ap (λ (gs : List Variables). erased_variables (variable_forms gs)) c.deref-in-Quantified.ensures.value in
     of-tuples-by c.from_residual-in_err-tuples-in-Quantified.result c.in_err-tuples-in-Quantified.field-0.0 c.in-Quantified.place (tuples_in u vs) (fault c.args.formula.now)
     c.from_residual-in_err-tuples-in-Quantified.ensures.1
-    (λ p o. subst (λ (f : tree.Formula). fault f p) (sym c.in-Quantified.is) (inl (subst (λ (ys : List syntax.Variable). 8192 < length (tuples_in u ys)) named o.1, o.0))) c.in_err-tuples-in-Quantified.ensures.refused
+    (λ p o. subst (λ (f : tree.Formula). fault f p) (sym c.in-Quantified.is)
+    (inl (subst (λ (ys : List syntax.Variable). 8192 < length (tuples_in u ys)) named o.1, o.0)))
+    c.in_err-tuples-in-Quantified.ensures.refused
 
 pub unfold_formula-returns-in_err-operands-in-Quantified-clause-refused : goal.unfold_formula-returns-in_err-operands-in-Quantified-clause-refused
 unfold_formula-returns-in_err-operands-in-Quantified-clause-refused t c =
@@ -448,7 +481,8 @@ unfold_formula-returns-in_err-operands-in-Quantified-clause-refused t c =
     copies-counted u s made body c.deref-in-Quantified-4.result.now xs (tuples_in u xs) variables refl are
     ∙ sym (ap (λ (g : tree.Formula). left_operators u s (formula_form g)) c.in-Quantified.is ∙ quantified-operators u s c.in-Quantified.quantifier q (variable_forms groups) f) in
     let Many = c.args.room.now.operators < left_operators u s (formula_form c.args.formula.now) in
-    part-of c.from_residual-in_err-operands-in-Quantified.result c.in_err-operands-in-Quantified.field-0.0 _ (IsFaultOfFormula m Many ρ (formula_form c.args.formula.now)) c.from_residual-in_err-operands-in-Quantified.ensures.1
+    part-of c.from_residual-in_err-operands-in-Quantified.result c.in_err-operands-in-Quantified.field-0.0 _
+    (IsFaultOfFormula m Many ρ (formula_form c.args.formula.now)) c.from_residual-in_err-operands-in-Quantified.ensures.1
     c.in_err-operands-in-Quantified.ensures.refused
     (λ p is.
     subst (λ (g : tree.Formula). IsFaultOfFormula m Many ρ (formula_form g) p) (sym c.in-Quantified.is)

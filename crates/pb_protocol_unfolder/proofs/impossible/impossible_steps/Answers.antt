@@ -33,4 +33,5 @@ returns-in_err-count-clause-refused c =
     let few : length own ≤ length (flat_map (instances_of (data_of m)) m.steps) =
     subst (λ (ss : List Step). length own ≤ length (flat_map (instances_of (data_of m)) (map erased_step (map step_form ss)))) c.deref-step-items.ensures.value
     (no-more-than-all m steps c.loop-step.step-index a c.loop-step-test.true c.step-item.is) in
-    refused c.from_residual.result c.in_err-count.field-0.0 (OfManyTuples a.name.place own) (λ f. ⊥) c.from_residual.ensures.1 (λ f o. omega (arith, o.1, few, c.requires.few)) c.in_err-count.ensures.refused
+    refused c.from_residual.result c.in_err-count.field-0.0 (OfManyTuples a.name.place own) (λ f. ⊥)
+    c.from_residual.ensures.1 (λ f o. omega (arith, o.1, few, c.requires.few)) c.in_err-count.ensures.refused

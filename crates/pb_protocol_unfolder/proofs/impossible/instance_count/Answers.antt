@@ -29,5 +29,6 @@ returns-in_err-tuples-clause-refused c =
     ap (λ (vs : List Variable). length (tuples_in u (map variable_of vs))) c.deref-2.ensures.value
     ∙ ap (λ (vs : List syntax.Variable). length (tuples_in u vs)) (c.in_ok-variables.ensures ∙ ap (λ (gs : List Variables). erased_variables (variable_forms gs)) c.deref.ensures.value)
     ∙ sym (length-map (tuples_in u b.variables) with) in
-    refused c.from_residual-in_err-tuples.result c.in_err-tuples.field-0.0 (OfManyTuples a.name.place ts) (OfManyTuples a.name.place (instances_of_step (data_of (protocol_in u)) a)) c.from_residual-in_err-tuples.ensures.1
+    refused c.from_residual-in_err-tuples.result c.in_err-tuples.field-0.0 (OfManyTuples a.name.place ts)
+    (OfManyTuples a.name.place (instances_of_step (data_of (protocol_in u)) a)) c.from_residual-in_err-tuples.ensures.1
     (λ f o. (o.0, subst (λ (n : ℕ). 8192 < n) same o.1)) c.in_err-tuples.ensures.refused

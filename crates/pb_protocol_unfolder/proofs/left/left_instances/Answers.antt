@@ -24,5 +24,7 @@ nothing-behind (x ∷ xs) ys e = ap (λ v. x ∷ v) (nothing-behind xs ys e)
 
 pub returns : goal.returns
 returns c =
-    nothing-behind (map instance_said c.loop-place.left.items) _ (chosen-end c.args.instances.now c.args.kept.now c.loop-place.place (λ q h k. omega (arith, h, k, c.loop-place-test.false, c.min-place-end.ensures)))
+    nothing-behind (map instance_said c.loop-place.left.items) _
+    (chosen-end c.args.instances.now c.args.kept.now c.loop-place.place
+    (λ q h k. omega (arith, h, k, c.loop-place-test.false, c.min-place-end.ensures)))
     ∙ c.loop-place.invariant

@@ -31,8 +31,12 @@ returns-in-Some-clause-refused c =
     let others = enumerators_in (declarations_said c.args.declarations.now) in
     let repeats = subst (λ (v : List declared_name.Name). RepeatsAt (map name_bytes v) i) c.deref.ensures.value c.in-Some.ensures in
     let low = within name_of element_said es ns i c.in_ok-names.ensures repeats.0 in
-    subst (λ (e : OrMemory UnfoldingFault). IfFault e (IsFaultOfElements others names (map element_place es))) (sym c.refused.ensures)
-    (refl, subst (λ (y : Element). IsElementClash others names (map element_place es) (element_place y)) c.index-elements-index.is (inl (repeated-at element_place es i x ns names low c.index-elements-index.is c.in_ok-names.ensures repeats)))
+    subst (λ (e : OrMemory UnfoldingFault). IfFault e (IsFaultOfElements others names (map element_place es))) (sym c.refused.ensures) (
+      refl,
+      subst (λ (y : Element). IsElementClash others names (map element_place es) (element_place y))
+          c.index-elements-index.is
+          (inl (repeated-at element_place es i x ns names low c.index-elements-index.is c.in_ok-names.ensures repeats)),
+    )
 
 pub bounds-elements-index-in-Some-first_taken : goal.bounds-elements-index-in-Some-first_taken
 bounds-elements-index-in-Some-first_taken c =
@@ -52,8 +56,12 @@ returns-in-Some-first_taken-clause-refused c =
     let others = enumerators_in (declarations_said c.args.declarations.now) in
     let taken = subst (λ (v : List declared_name.Name). IsTakenAt others (map name_bytes v) i) c.deref-2.ensures.value c.in-Some-first_taken.ensures in
     let low = within name_of element_said es ns i c.in_ok-names.ensures taken.0 in
-    subst (λ (e : OrMemory UnfoldingFault). IfFault e (IsFaultOfElements others names (map element_place es))) (sym c.refused-in-Some-first_taken.ensures)
-    (refl, subst (λ (y : Element). IsElementClash others names (map element_place es) (element_place y)) c.index-elements-index-in-Some-first_taken.is (inr (taken-at element_place es i x others ns names low c.index-elements-index-in-Some-first_taken.is c.in_ok-names.ensures taken)))
+    subst (λ (e : OrMemory UnfoldingFault). IfFault e (IsFaultOfElements others names (map element_place es))) (sym c.refused-in-Some-first_taken.ensures) (
+      refl,
+      subst (λ (y : Element). IsElementClash others names (map element_place es) (element_place y))
+          c.index-elements-index-in-Some-first_taken.is
+          (inr (taken-at element_place es i x others ns names low c.index-elements-index-in-Some-first_taken.is c.in_ok-names.ensures taken)),
+    )
 
 pub returns-clause-distinct : goal.returns-clause-distinct
 returns-clause-distinct c =
@@ -61,4 +69,5 @@ returns-clause-distinct c =
 
 pub returns-clause-untaken : goal.returns-clause-untaken
 returns-clause-untaken c =
-    subst (λ (v : List Name). AreNot (enumerators_in (declarations_said c.args.declarations.now)) v) (ap (map name_bytes) c.deref-2.ensures.value ∙ c.in_ok-names.ensures) c.in_default-first_taken.ensures
+    subst (λ (v : List Name). AreNot (enumerators_in (declarations_said c.args.declarations.now)) v)
+    (ap (map name_bytes) c.deref-2.ensures.value ∙ c.in_ok-names.ensures) c.in_default-first_taken.ensures

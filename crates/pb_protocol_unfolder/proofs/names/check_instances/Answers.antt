@@ -30,8 +30,12 @@ returns-in-Some-clause-refused c =
     let names = map instance_name (map instance_said is) in
     let repeats = subst (λ (v : List declared_name.Name). RepeatsAt (map name_bytes v) i) c.deref.ensures.value c.in-Some.ensures in
     let low = within instance_name instance_said is ns i c.in_ok-names.ensures repeats.0 in
-    subst (λ (e : OrMemory UnfoldingFault). IfFault e (IsFaultOfInstances names (map instance_place is))) (sym c.refused.ensures)
-    (refl, subst (λ (y : Instance). IsRepeated names (map instance_place is) (instance_place y)) c.index-instances-index.is (repeated-at instance_place is i x ns names low c.index-instances-index.is c.in_ok-names.ensures repeats))
+    subst (λ (e : OrMemory UnfoldingFault). IfFault e (IsFaultOfInstances names (map instance_place is))) (sym c.refused.ensures) (
+      refl,
+      subst (λ (y : Instance). IsRepeated names (map instance_place is) (instance_place y))
+          c.index-instances-index.is
+          (repeated-at instance_place is i x ns names low c.index-instances-index.is c.in_ok-names.ensures repeats),
+    )
 
 pub returns-clause-distinct : goal.returns-clause-distinct
 returns-clause-distinct c =

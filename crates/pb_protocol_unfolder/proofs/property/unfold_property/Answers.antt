@@ -14,5 +14,6 @@ pub returns-in_err-formula-clause-refused : goal.returns-in_err-formula-clause-r
 returns-in_err-formula-clause-refused c =
     let m = form_in c.args.formulas.now.unfolder.now in
     let f = formula_form c.args.property.now.formula in
-    part-of c.from_residual-in_err-formula.result c.in_err-formula.field-0.0 _ (IsFaultOfProperty m (property_form c.args.property.now)) c.from_residual-in_err-formula.ensures.1 c.in_err-formula.ensures.refused
+    part-of c.from_residual-in_err-formula.result c.in_err-formula.field-0.0 _
+    (IsFaultOfProperty m (property_form c.args.property.now)) c.from_residual-in_err-formula.ensures.1 c.in_err-formula.ensures.refused
     (λ p is. fault-so m _ (HasManyWritten (erase m) (erased_formula f)) (within-room _ _ c.whole-room.ensures) p [] f is)

@@ -31,7 +31,9 @@ flat_model-requires-clause-left c =
       unfolder = c.in_ok-unfolder.ensures.unfolder;
       steps =
           ap (λ (xs : List declared.Instance). map instance_said xs) c.deref-11.ensures.value
-          ∙ kept-instances u c.args.protocol.now is c.in_ok-left.left.items c.in_ok-steps.field-0.kept.items c.deref-6.result.now c.deref-7.result.now c.deref-5.result.now same c.deref-6.ensures.value c.deref-7.ensures.value c.deref-5.ensures.value
+          ∙ kept-instances u c.args.protocol.now is c.in_ok-left.left.items c.in_ok-steps.field-0.kept.items
+          c.deref-6.result.now c.deref-7.result.now c.deref-5.result.now same c.deref-6.ensures.value
+          c.deref-7.ensures.value c.deref-5.ensures.value
           c.in_ok-instances.ensures.instances c.in_ok-steps.ensures.kept c.in_ok-left.ensures;
       apart = apart-instances u c.args.protocol.now is c.deref-3.result.now same c.deref-3.ensures.value c.in_ok-instances.ensures.instances c.in_ok-check_instances.ensures.distinct;
     }
@@ -44,7 +46,9 @@ returns-clause-told_steps c =
     c.in_ok-origins.ensures
     ∙ ap (map told_instance)
     (ap (λ (xs : List declared.Instance). map instance_said xs) c.deref-9.ensures.value
-    ∙ kept-instances u c.args.protocol.now is c.in_ok-left.left.items c.in_ok-steps.field-0.kept.items c.deref-6.result.now c.deref-7.result.now c.deref-5.result.now same c.deref-6.ensures.value c.deref-7.ensures.value c.deref-5.ensures.value
+    ∙ kept-instances u c.args.protocol.now is c.in_ok-left.left.items c.in_ok-steps.field-0.kept.items
+    c.deref-6.result.now c.deref-7.result.now c.deref-5.result.now same c.deref-6.ensures.value
+    c.deref-7.ensures.value c.deref-5.ensures.value
     c.in_ok-instances.ensures.instances c.in_ok-steps.ensures.kept c.in_ok-left.ensures)
     ∙ ap told_steps same
 
@@ -80,7 +84,10 @@ returns-in_err-steps-clause-refused c =
     let steps : is ≡ placed_instances m = ap (map instance_form) c.deref-5.ensures.value ∙ c.in_ok-instances.ensures.forms in
     let P = IsFaultInSteps F is in
     refused c.from_residual-in_err-steps.result c.in_err-steps.field-0.0 (IsFaultBy (OfTerm P)) (IsUnfoldingFault m) c.from_residual-in_err-steps.ensures.1
-    (term-breaks m P (λ f o. inl (subst (λ (js : List PlacedInstance). OfTerm (IsFaultInSteps m js) f) steps (subst (λ (G : ProtocolForm). OfTerm (IsFaultInSteps G is) f) c.in_ok-unfolder.ensures.form o)))) c.in_err-steps.ensures.refused
+    (term-breaks m P
+    (λ f o. inl
+    (subst (λ (js : List PlacedInstance). OfTerm (IsFaultInSteps m js) f) steps
+    (subst (λ (G : ProtocolForm). OfTerm (IsFaultInSteps G is) f) c.in_ok-unfolder.ensures.form o)))) c.in_err-steps.ensures.refused
 
 pub returns-in_err-model-clause-refused : goal.returns-in_err-model-clause-refused
 returns-in_err-model-clause-refused c =
@@ -115,4 +122,5 @@ returns-clause-impossible c = c.in_ok-impossible.ensures.names ∙ ap impossible
 pub returns-in_err-impossible-clause-refused : goal.returns-in_err-impossible-clause-refused
 returns-in_err-impossible-clause-refused c =
     let m = protocol_form c.args.protocol.now in
-    refused c.from_residual-in_err-impossible.result c.in_err-impossible.field-0.0 (λ f. ⊥) (IsUnfoldingFault m) c.from_residual-in_err-impossible.ensures.1 (λ f none. absurd none) c.in_err-impossible.ensures.refused
+    refused c.from_residual-in_err-impossible.result c.in_err-impossible.field-0.0 (λ f. ⊥) (IsUnfoldingFault m)
+    c.from_residual-in_err-impossible.ensures.1 (λ f none. absurd none) c.in_err-impossible.ensures.refused

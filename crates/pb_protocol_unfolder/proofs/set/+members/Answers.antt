@@ -19,7 +19,9 @@ pub is_in_set-returns-then-branch-clause-member : goal.is_in_set-returns-then-br
 is_in_set-returns-then-branch-clause-member t c =
     let p = is_member c.args.unfolder.now c.args.scope.now (instance_said c.args.instance.now) in
     let x = c.deref-in-Union.result.now in
-    let whole = member-of-union c.args.unfolder.now c.args.scope.now (instance_said c.args.instance.now) x c.in-Union.first c.in-Union.links c.in-Union.links.items c.args.set.now c.in-Union.is c.deref-in-Union.ensures refl in
+    let whole =
+    member-of-union c.args.unfolder.now c.args.scope.now (instance_said c.args.instance.now) x c.in-Union.first
+    c.in-Union.links c.in-Union.links.items c.args.set.now c.in-Union.is c.deref-in-Union.ensures refl in
     or-true (p (step_set_form x)) (list_any p (map set_operand c.in-Union.links.items)) (p (step_set_form c.args.set.now)) whole
     (sym c.in_ok-is_in_set-in-Union.ensures.member ∙ c.if-branch.true)
 
@@ -28,9 +30,12 @@ is_in_set-returns-else-branch-clause-member t c =
     let p = is_member c.args.unfolder.now c.args.scope.now (instance_said c.args.instance.now) in
     let x = c.deref-in-Union.result.now in
     let ls = c.deref-in-Union-2.result.now in
-    let whole = member-of-union c.args.unfolder.now c.args.scope.now (instance_said c.args.instance.now) x c.in-Union.first c.in-Union.links ls c.args.set.now c.in-Union.is c.deref-in-Union.ensures c.deref-in-Union-2.ensures.value in
+    let whole =
+    member-of-union c.args.unfolder.now c.args.scope.now (instance_said c.args.instance.now) x c.in-Union.first
+    c.in-Union.links ls c.args.set.now c.in-Union.is c.deref-in-Union.ensures c.deref-in-Union-2.ensures.value in
     IfOk-weaker c.is_in_some.result (λ (b : Bool). b ≡ list_any p (map set_operand ls)) (λ (b : Bool). b ≡ p (step_set_form c.args.set.now))
-    (λ b h. h ∙ or-false (p (step_set_form x)) (list_any p (map set_operand ls)) (p (step_set_form c.args.set.now)) whole (sym c.in_ok-is_in_set-in-Union.ensures.member ∙ c.if-branch.false)) c.is_in_some.ensures.member
+    (λ b h. h ∙ or-false (p (step_set_form x)) (list_any p (map set_operand ls)) (p (step_set_form c.args.set.now))
+    whole (sym c.in_ok-is_in_set-in-Union.ensures.member ∙ c.if-branch.false)) c.is_in_some.ensures.member
 
 -- ---- what a fault says
 
@@ -46,7 +51,9 @@ is_in_some-returns-in_err-is_in_set-clause-refused t c =
 
 pub is_in_set-returns-in_err-is_in-in-Complement-clause-refused : goal.is_in_set-returns-in_err-is_in-in-Complement-clause-refused
 is_in_set-returns-in_err-is_in-in-Complement-clause-refused t c =
-    let fault : StepSet → Place → Type 0 = λ A. IsFaultOfSet (protocol_in c.args.unfolder.now) (scope_in c.args.unfolder.now c.args.scope.now) (instance_said c.args.instance.now).own (step_set_form A) in
+    let fault : StepSet → Place → Type 0 =
+    λ A. IsFaultOfSet (protocol_in c.args.unfolder.now) (scope_in c.args.unfolder.now c.args.scope.now)
+    (instance_said c.args.instance.now).own (step_set_form A) in
     part c.from_residual.result c.in_err-is_in-in-Complement.field-0.0 (fault c.deref-in-Complement.result.now) (fault c.args.set.now) c.from_residual.ensures.1
     (λ p is. subst (λ (A : StepSet). fault A p) (sym c.in-Complement.is) (subst (λ (A : StepSet). fault A p) c.deref-in-Complement.ensures is)) c.in_err-is_in-in-Complement.ensures.refused
 
@@ -57,7 +64,9 @@ is_in_set-returns-in_err-is_in_set-in-Union-clause-refused t c =
     let own = (instance_said c.args.instance.now).own in
     let x = c.deref-in-Union.result.now in
     let A = c.args.set.now in
-    part c.from_residual-in_err-is_in_set-in-Union.result c.in_err-is_in_set-in-Union.field-0.0 (IsFaultOfSet m ρ own (step_set_form x)) (IsFaultOfSet m ρ own (step_set_form A)) c.from_residual-in_err-is_in_set-in-Union.ensures.1
+    part c.from_residual-in_err-is_in_set-in-Union.result c.in_err-is_in_set-in-Union.field-0.0
+    (IsFaultOfSet m ρ own (step_set_form x)) (IsFaultOfSet m ρ own (step_set_form A))
+    c.from_residual-in_err-is_in_set-in-Union.ensures.1
     (λ p is. fault-of-union m ρ p own x c.in-Union.first c.in-Union.links c.in-Union.links.items A c.in-Union.is c.deref-in-Union.ensures refl (inl is)) c.in_err-is_in_set-in-Union.ensures.refused
 
 pub is_in_set-returns-else-branch-clause-refused : goal.is_in_set-returns-else-branch-clause-refused

@@ -8,4 +8,7 @@ use Rattle.pb_protocol_unfolder.proofs.step_set.members.Given as goal
 -- what is still to be added stands behind what is added
 abbrev pub invariant-loop-instance : goal.invariant-loop-instance
 invariant-loop-instance l =
-    map name_bytes l.names.items ++ member_names l.formulas.unfolder.now l.scope (step_set_form l.set) (map instance_said (drop l.instance-index l.left)) ≡ member_names l.formulas.unfolder.now l.scope (step_set_form l.set) (map instance_said l.left)
+    map name_bytes l.names.items
+    ++ member_names l.formulas.unfolder.now l.scope (step_set_form l.set)
+    (map instance_said (drop l.instance-index l.left))
+    ≡ member_names l.formulas.unfolder.now l.scope (step_set_form l.set) (map instance_said l.left)

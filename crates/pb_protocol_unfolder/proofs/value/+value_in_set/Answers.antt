@@ -47,8 +47,11 @@ returns-in-None-clause-value t c =
     let ρ = scope_in c.args.unfolder.now c.args.scope.now in
     let x = string_bytes c.in-Name.name.text in
     let found : None ≡ put.term_of ρ x = c.in-None.ensures spec (forms_by m) ∙ ap (put.term_of ρ) c.as_str.ensures.value in
-    IfOk-weaker c.plain_value.result (λ (v : Value). folding.written_value spec (term_of c.args.term.now) ≡ Some v) (λ (v : Value). v ≡ named_value c.args.unfolder.now c.args.scope.now (term_of c.args.term.now))
-    (λ v h. named-value spec ρ x v found (ap (λ (s : tree.Term). folding.written_value spec (term_of s)) (sym c.in-Name.is) ∙ h) ∙ ap (λ (s : tree.Term). meaning spec no_functions (valued spec [] ρ) (term_of s)) (sym c.in-Name.is)) c.plain_value.ensures.value
+    IfOk-weaker c.plain_value.result (λ (v : Value). folding.written_value spec (term_of c.args.term.now) ≡ Some v)
+    (λ (v : Value). v ≡ named_value c.args.unfolder.now c.args.scope.now (term_of c.args.term.now))
+    (λ v h. named-value spec ρ x v found
+    (ap (λ (s : tree.Term). folding.written_value spec (term_of s)) (sym c.in-Name.is) ∙ h)
+    ∙ ap (λ (s : tree.Term). meaning spec no_functions (valued spec [] ρ) (term_of s)) (sym c.in-Name.is)) c.plain_value.ensures.value
 
 pub returns-in-None-clause-refused : goal.returns-in-None-clause-refused
 returns-in-None-clause-refused t c =
@@ -65,7 +68,9 @@ returns-in-None-clause-refused t c =
 pub returns-then-is_empty-clause-value : goal.returns-then-is_empty-clause-value
 returns-then-is_empty-clause-value t c =
     let same = chain-alone _ _ _ _ _ _ c.in-Chain.is c.is_empty.ensures c.if-is_empty.true c.deref.ensures in
-    IfOk-weaker c.value_in_set.result (λ (v : Value). v ≡ named_value c.args.unfolder.now c.args.scope.now (term_of c.deref.result.now)) (λ (v : Value). v ≡ named_value c.args.unfolder.now c.args.scope.now (term_of c.args.term.now))
+    IfOk-weaker c.value_in_set.result
+    (λ (v : Value). v ≡ named_value c.args.unfolder.now c.args.scope.now (term_of c.deref.result.now))
+    (λ (v : Value). v ≡ named_value c.args.unfolder.now c.args.scope.now (term_of c.args.term.now))
     (λ v h. h ∙ ap (named_value c.args.unfolder.now c.args.scope.now) same) c.value_in_set.ensures.value
 
 pub returns-then-is_empty-clause-refused : goal.returns-then-is_empty-clause-refused
@@ -93,7 +98,10 @@ returns-else-is_empty-clause-refused t c =
 pub returns-then-is_empty-2-clause-value : goal.returns-then-is_empty-2-clause-value
 returns-then-is_empty-2-clause-value t c =
     let same = arithmetic-alone _ _ _ _ _ c.in-Arithmetic.is c.is_empty-in-Arithmetic.ensures c.if-is_empty-2.true c.deref-then-is_empty-2.ensures in
-    IfOk-weaker c.value_in_set-then-is_empty-2.result (λ (v : Value). v ≡ named_value c.args.unfolder.now c.args.scope.now (term_of c.deref-then-is_empty-2.result.now)) (λ (v : Value). v ≡ named_value c.args.unfolder.now c.args.scope.now (term_of c.args.term.now))
+    IfOk-weaker c.value_in_set-then-is_empty-2.result
+    (λ (v : Value). v
+    ≡ named_value c.args.unfolder.now c.args.scope.now (term_of c.deref-then-is_empty-2.result.now))
+    (λ (v : Value). v ≡ named_value c.args.unfolder.now c.args.scope.now (term_of c.args.term.now))
     (λ v h. h ∙ ap (named_value c.args.unfolder.now c.args.scope.now) same) c.value_in_set-then-is_empty-2.ensures.value
 
 pub returns-then-is_empty-2-clause-refused : goal.returns-then-is_empty-2-clause-refused

@@ -25,6 +25,9 @@ returns-clause-refused c =
     let m = protocol_in c.args.unfolder.now in
     let t = term_of c.args.term.now in
     let fault : UnfoldingFault → Type 0 = IsFaultIn (IsAt c.args.place (HasNoValue m t)) in
-    let said = c.written_value.ensures ∙ ap (λ (ds : List SortDeclaration). folding.written_value (spec_of ds) t) c.deref.ensures.value ∙ written-by (data_of m) c.args.unfolder.now.protocol.now.sorts.items t refl in
+    let said =
+    c.written_value.ensures
+    ∙ ap (λ (ds : List SortDeclaration). folding.written_value (spec_of ds) t) c.deref.ensures.value
+    ∙ written-by (data_of m) c.args.unfolder.now.protocol.now.sorts.items t refl in
     refused-or c.written_value.result c.refused.result c.ok_or.result fault c.ok_or.ensures.value
     (λ none. subst (λ (e : OrMemory UnfoldingFault). IfFault e fault) (sym c.refused.ensures) (refl, sym said ∙ none))

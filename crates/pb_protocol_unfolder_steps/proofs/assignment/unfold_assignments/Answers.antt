@@ -19,4 +19,5 @@ returns-in_err-push_assignment-clause-faults c =
     let P = IsFaultInElement (surroundings_of F) ρ bs (element_said e) in
     let Q = IsFaultInElements F ρ bs (map element_said es) in
     let there = mapped-in element_said es e (item-in es c.loop-element.element-index e c.loop-element-test.true c.element-item.is) in
-    λ v. refused c.from_residual.result c.in_err-push_assignment.field-0.0 (OnTerm P) (OnTerm Q) c.from_residual.ensures.1 (term-in P Q (λ r p o. (element_said e, there, o))) (c.in_err-push_assignment.ensures.faults v)
+    λ v. refused c.from_residual.result c.in_err-push_assignment.field-0.0 (OnTerm P) (OnTerm Q)
+    c.from_residual.ensures.1 (term-in P Q (λ r p o. (element_said e, there, o))) (c.in_err-push_assignment.ensures.faults v)

@@ -18,5 +18,6 @@ returns-in_err-push_elements-clause-refused c =
     let in-group = subst (λ (v : List StateVariable). k < length v) c.deref-variable-items.ensures.value c.loop-variable-test.true in
     let is = subst (λ (v : List StateVariable). y ≡ get_or v k y) c.deref-variable-items.ensures.value c.variable-item.is in
     refused c.from_residual.result c.in_err-push_elements.field-0.0 (IsPassed 64 (length now + length zs) y.name.place) (IsPassedIn 64 all) c.from_residual.ensures.1
-    (λ f. passed-in-all element_place (places_of_variable spec g.sort) 64 now all g.variables.items k y y.name.place zs f in-group is refl c.loop-variable.invariant.places c.loop-variable.invariant.few)
+    (λ f. passed-in-all element_place (places_of_variable spec g.sort) 64 now all g.variables.items k y y.name.place zs
+    f in-group is refl c.loop-variable.invariant.places c.loop-variable.invariant.few)
     c.in_err-push_elements.ensures.refused

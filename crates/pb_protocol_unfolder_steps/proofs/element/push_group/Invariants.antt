@@ -7,7 +7,11 @@ use Rattle.pb_protocol_unfolder_steps.proofs.element.push_group.Given as goal
 -- what is still to be added stands behind what is added
 abbrev pub invariant-loop-variable : goal.invariant-loop-variable
 invariant-loop-variable l = record {
-  added : map element_said l.elements.items ++ flat_map (elements_of_variable (spec_of l.sorts) l.group.sort) (drop l.variable-index l.group.variables.items) ≡ map element_said l.initial.elements.items ++ elements_of_group (spec_of l.sorts) l.group;
-  places : map element_place l.elements.items ++ flat_map (places_of_variable (spec_of l.sorts) l.group.sort) (drop l.variable-index l.group.variables.items) ≡ map element_place l.initial.elements.items ++ places_of_group (spec_of l.sorts) l.group;
+  added : map element_said l.elements.items
+      ++ flat_map (elements_of_variable (spec_of l.sorts) l.group.sort) (drop l.variable-index l.group.variables.items)
+      ≡ map element_said l.initial.elements.items ++ elements_of_group (spec_of l.sorts) l.group;
+  places : map element_place l.elements.items
+      ++ flat_map (places_of_variable (spec_of l.sorts) l.group.sort) (drop l.variable-index l.group.variables.items)
+      ≡ map element_place l.initial.elements.items ++ places_of_group (spec_of l.sorts) l.group;
   few : length l.elements.items ≤ 64;
 }

@@ -14,5 +14,6 @@ returns-in_err-push_instances-clause-refused c =
     let zs = instances_of_step spec a in
     let all = places_of_steps spec steps in
     refused c.from_residual.result c.in_err-push_instances.field-0.0 (IsPassed 1024 (length now + length zs) a.name.place) (IsPassedIn 1024 all) c.from_residual.ensures.1
-    (λ f. passed-in-all instance_place (places_of_step spec) 1024 now all steps c.loop-step.step-index a a.name.place zs f c.loop-step-test.true c.step-item.is refl c.loop-step.invariant.places c.loop-step.invariant.few)
+    (λ f. passed-in-all instance_place (places_of_step spec) 1024 now all steps c.loop-step.step-index a a.name.place zs
+    f c.loop-step-test.true c.step-item.is refl c.loop-step.invariant.places c.loop-step.invariant.few)
     c.in_err-push_instances.ensures.refused

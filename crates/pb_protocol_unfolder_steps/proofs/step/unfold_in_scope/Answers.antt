@@ -54,6 +54,9 @@ returns-in_err-assignments-clause-faults c =
     let P = IsFaultInElements F (scope_in u c.args.scope.now) (map assignment_form c.deref.result.now) es in
     let Q = IsFaultInStep F (instance_form c.args.instance.now) in
     λ v. refused c.from_residual-in_err-assignments.result c.in_err-assignments.field-0.0 (OnTerm P) (OnTerm Q) c.from_residual-in_err-assignments.ensures.1
-    (term-in P Q (λ r p o. inr (subst (λ (ds : List Element). IsFaultInElements F (own_scope (instance_said c.args.instance.now)) (step_form c.args.instance.now.step.now).assignments ds r p) c.requires.elements
+    (term-in P Q
+    (λ r p o. inr
+    (subst (λ (ds : List Element). IsFaultInElements F (own_scope (instance_said c.args.instance.now))
+    (step_form c.args.instance.now.step.now).assignments ds r p) c.requires.elements
     (subst (λ (σ : TermScope). IsFaultInElements F σ (step_form c.args.instance.now.step.now).assignments es r p) c.requires.scope
     (subst (λ (bs : List Assignment). IsFaultInElements F (scope_in u c.args.scope.now) (map assignment_form bs) es r p) c.deref.ensures.value o))))) (c.in_err-assignments.ensures.faults v)

@@ -27,7 +27,8 @@ loop-instance-preserved c =
     let line : c.len.result ≡ length old.steps.items = omega (arith, c.len.ensures, old.steps.ok.0) in
     let place = subst (λ p. IfSome found (λ a. step_place a ≡ p)) (ap place_of_step line) c.in_ok-unfold_step.ensures.place in
     record {
-      steps = one-step (kept_step m) _ (map step_said old.steps.items) (map step_said new.steps.items) (step_found found) (instance_said x) rest c.in_ok-push.ensures.steps c.in_ok-unfold_step.ensures.step steps;
+      steps = one-step (kept_step m) _ (map step_said old.steps.items) (map step_said new.steps.items)
+          (step_found found) (instance_said x) rest c.in_ok-push.ensures.steps c.in_ok-unfold_step.ensures.step steps;
       kept = one-kept (is_kept m) _ old.kept.items new.kept.items _ (instance_said x) rest c.in_ok-push.ensures.kept (found-kept m (instance_said x) found c.in_ok-unfold_step.ensures.step) kept;
       places = c.in_ok-push.ensures.places c.loop-instance.invariant.places place;
       count = omega (arith, c.in_ok-push.ensures.count, c.loop-instance.invariant.count);
@@ -50,4 +51,5 @@ returns-in_err-unfold_step-clause-faults c =
     let P = IsFaultInStep F (instance_form x) in
     let Q = IsFaultInSteps F (map instance_form is) in
     let there = mapped-in instance_form is x (item-in is c.loop-instance.instance-index x c.loop-instance-test.true c.instance-item.is) in
-    refused c.from_residual.result c.in_err-unfold_step.field-0.0 (OnTerm P) (OnTerm Q) c.from_residual.ensures.1 (term-in P Q (λ r p o. (instance_form x, there, o))) c.in_err-unfold_step.ensures.faults
+    refused c.from_residual.result c.in_err-unfold_step.field-0.0 (OnTerm P) (OnTerm Q) c.from_residual.ensures.1
+    (term-in P Q (λ r p o. (instance_form x, there, o))) c.in_err-unfold_step.ensures.faults

@@ -118,7 +118,8 @@ returns-in-Some-true-clause-term t c =
     let both = λ (sort : Name). (found sort).1 a (taken-there bs p a (found sort).0 c.index-assignments-place.is) in
     let says = truth-said c.in-Assigned.condition.term true (ap Some (sym c.in-Some-true.field-0-test) ∙ c.in-Some-true.ensures) in
     λ sort. behind-unfolded F room (whole sort) (choice (b sort) x (rest sort)) (left + suc (operator_count (b sort))) c.chosen.result refl (both sort).1
-    (c.chosen.ensures F (codes "if") (b sort) x (rest sort) left (left + suc (operator_count (b sort))) true false if-named (sym (both sort).0 ∙ says) c.in_ok-unfold-in-Assigned.ensures.term (omega arith))
+    (c.chosen.ensures F (codes "if") (b sort) x (rest sort) left (left + suc (operator_count (b sort))) true false
+    if-named (sym (both sort).0 ∙ says) c.in_ok-unfold-in-Assigned.ensures.term (omega arith))
 
 pub returns-in_err-unfold-in-Assigned-clause-term : goal.returns-in_err-unfold-in-Assigned-clause-term
 returns-in_err-unfold-in-Assigned-clause-term t c =
@@ -190,7 +191,8 @@ returns-in_err-right-in-Assigned-clause-term t c =
     let e = c.in_err-right-in-Assigned.field-0.0 in
     λ sort. err-kept c.from_residual-in_err-right-in-Assigned.result e _ (IsRefusal room (whole sort)) c.from_residual-in_err-right-in-Assigned.ensures.1
     (behind-refused F room (whole sort) (choice (b sort) x (rest sort)) true (left + suc (operator_count (b sort))) e (both sort).1
-    (right-refused (left + suc (operator_count (b sort))) left c.in_ok-left-in-Assigned.left.room (codes "if") (b sort) x (rest sort) e (omega arith) c.in_ok-left-in-Assigned.ensures.term.room (c.in_err-right-in-Assigned.ensures.term sort)))
+    (right-refused (left + suc (operator_count (b sort))) left c.in_ok-left-in-Assigned.left.room (codes "if") (b sort)
+    x (rest sort) e (omega arith) c.in_ok-left-in-Assigned.ensures.term.room (c.in_err-right-in-Assigned.ensures.term sort)))
 
 pub choice-requires : goal.choice-requires
 choice-requires t c =
@@ -219,7 +221,9 @@ returns-in_ok-choice-in-Assigned-clause-term t c =
     let u = c.in_ok-left-in-Assigned.left in
     let m : Name → ℕ = λ sort. left + suc (operator_count (b sort)) in
     λ sort. behind-unfolded F room (whole sort) (choice (b sort) x (rest sort)) (m sort) c.in_ok-choice-in-Assigned.field-0 refl (both sort).1
-    (carried false c.in_ok-choice-in-Assigned.field-0 c.folding.result.sorts.now k.declarations.now (m sort) (m sort) (choice_of (string_bytes c.in_ok-name-in-Assigned.name.text) (b sort) x (rest sort)) (choice (b sort) x (rest sort)) c.folding.ensures refl
+    (carried false c.in_ok-choice-in-Assigned.field-0 c.folding.result.sorts.now k.declarations.now (m sort) (m sort)
+    (choice_of (string_bytes c.in_ok-name-in-Assigned.name.text) (b sort) x (rest sort))
+    (choice (b sort) x (rest sort)) c.folding.ensures refl
     (ap (λ (f : Name). choice_of f (b sort) x (rest sort)) c.in_ok-name-in-Assigned.ensures)
     (c.in_ok-choice-in-Assigned.ensures left (m sort) (b sort) x (rest sort) false
     ((both sort).0 ∙ ap (λ ds. folded (tree.spec_of ds) true (b sort)) back)
@@ -238,7 +242,8 @@ returns-in_err-unfold-in-Assigned-clause-faults t c =
     let Q = IsFaultInAssignments m l n σ (map assignment_form bs) in
     let E = element_said c.args.element in
     let p = c.in-Assigned.place in
-    let found : IsLatest k n c.args.level.room c.args.scope.now bs (E []) (latest.Assigned p c.in-Assigned.condition) = subst (IsLatest k n c.args.level.room c.args.scope.now bs (E [])) c.in-Assigned.is (c.in_ok-latest.ensures.latest []) in
+    let found : IsLatest k n c.args.level.room c.args.scope.now bs (E []) (latest.Assigned p c.in-Assigned.condition) =
+    subst (IsLatest k n c.args.level.room c.args.scope.now bs (E [])) c.in-Assigned.is (c.in_ok-latest.ensures.latest []) in
     let a = c.index-assignments-place.result in
     let w = at l n σ (term_form a.value.term) in
     let there = item-in bs p a found.0 c.index-assignments-place.is in
@@ -257,7 +262,8 @@ returns-in_err-left-in-Assigned-clause-faults t c =
     let Q = IsFaultInAssignments m l n σ (map assignment_form bs) in
     let E = element_said c.args.element in
     let p = c.in-Assigned.place in
-    let found : IsLatest k n c.args.level.room c.args.scope.now bs (E []) (latest.Assigned p c.in-Assigned.condition) = subst (IsLatest k n c.args.level.room c.args.scope.now bs (E [])) c.in-Assigned.is (c.in_ok-latest.ensures.latest []) in
+    let found : IsLatest k n c.args.level.room c.args.scope.now bs (E []) (latest.Assigned p c.in-Assigned.condition) =
+    subst (IsLatest k n c.args.level.room c.args.scope.now bs (E [])) c.in-Assigned.is (c.in_ok-latest.ensures.latest []) in
     let a = c.index-assignments-place.result in
     let w = at l n σ (term_form a.value.term) in
     let there = item-in bs p a found.0 c.index-assignments-place.is in
@@ -287,13 +293,18 @@ returns-in_err-right-in-Assigned-clause-faults t c =
     let bs = c.args.assignments.now in
     let Q = IsFaultInAssignments m l n σ (map assignment_form bs) in
     let p = c.in-Assigned.place in
-    let found : IsLatest k n c.args.level.room c.args.scope.now bs (element_said c.args.element []) (latest.Assigned p c.in-Assigned.condition) = subst (IsLatest k n c.args.level.room c.args.scope.now bs (element_said c.args.element [])) c.in-Assigned.is (c.in_ok-latest.ensures.latest []) in
+    let found : IsLatest k n c.args.level.room c.args.scope.now bs (element_said c.args.element [])
+    (latest.Assigned p c.in-Assigned.condition) =
+    subst (IsLatest k n c.args.level.room c.args.scope.now bs (element_said c.args.element [])) c.in-Assigned.is
+    (c.in_ok-latest.ensures.latest []) in
     let within = found.0 in
     let d = c.in-Some.depth in
     let more : suc d ≡ l = omega (arith, c.in-Some.ensures.0, c.in-Some.ensures.1) in
     let e = c.in_err-right-in-Assigned.field-0.0 in
     λ v. err-told c.from_residual-in_err-right-in-Assigned.result e (IfFaultAt Q) c.from_residual-in_err-right-in-Assigned.ensures.1
-    (at-weaker (IsFaultInAssignments m d n σ (map assignment_form (take p bs))) Q e (λ r q o. subst (λ (j : ℕ). IsFaultInAssignments m j n σ (map assignment_form bs) r q) more (assigned-before m d n σ p bs r q within o)) (c.in_err-right-in-Assigned.ensures.faults v))
+    (at-weaker (IsFaultInAssignments m d n σ (map assignment_form (take p bs))) Q e
+    (λ r q o. subst (λ (j : ℕ). IsFaultInAssignments m j n σ (map assignment_form bs) r q) more
+    (assigned-before m d n σ p bs r q within o)) (c.in_err-right-in-Assigned.ensures.faults v))
 
 pub returns-in_default-checked_sub-clause-faults : goal.returns-in_default-checked_sub-clause-faults
 returns-in_default-checked_sub-clause-faults t c =
@@ -302,6 +313,8 @@ returns-in_default-checked_sub-clause-faults t c =
     let bs = c.args.assignments.now in
     let E = element_said c.args.element in
     let p = c.in-Assigned.place in
-    let found : IsLatest k n c.args.level.room c.args.scope.now bs (E []) (latest.Assigned p c.in-Assigned.condition) = subst (IsLatest k n c.args.level.room c.args.scope.now bs (E [])) c.in-Assigned.is (c.in_ok-latest.ensures.latest []) in
+    let found : IsLatest k n c.args.level.room c.args.scope.now bs (E []) (latest.Assigned p c.in-Assigned.condition) =
+    subst (IsLatest k n c.args.level.room c.args.scope.now bs (E [])) c.in-Assigned.is (c.in_ok-latest.ensures.latest []) in
     let a = c.index-assignments-place.result in
-    λ v. assigned-deep (surroundings_in k) c.args.level.depth n (scope_said k c.args.scope.now) bs a c.refused.result c.refused.ensures (item-in bs p a found.0 c.index-assignments-place.is) (omega (arith, c.in_default-checked_sub.ensures))
+    λ v. assigned-deep (surroundings_in k) c.args.level.depth n (scope_said k c.args.scope.now) bs a c.refused.result
+    c.refused.ensures (item-in bs p a found.0 c.index-assignments-place.is) (omega (arith, c.in_default-checked_sub.ensures))

@@ -72,7 +72,9 @@ returns-in_err-behind_all-clause-term t c =
     let same : Term.Binary Operator.And eq rest ≡ whole = compared-first (spec_in k) forms ρ given vs a v c.in-Some.ensures.value c.in-Some-first.ensures.value in
     let e = c.in_err-behind_all.field-0.0 in
     err-kept c.from_residual.result e _ (IsRefusal room whole) c.from_residual.ensures.1
-    (subst (λ (z : Term). IsRefusal room z e) same (no-room room (Term.Binary Operator.And eq rest) e c.args.compared.place c.in_err-behind_all.ensures.0 (omega (arith, c.in_err-behind_all.ensures.1))))
+    (subst (λ (z : Term). IsRefusal room z e) same
+    (no-room room (Term.Binary Operator.And eq rest) e c.args.compared.place c.in_err-behind_all.ensures.0
+    (omega (arith, c.in_err-behind_all.ensures.1))))
 
 pub returns-in_err-index-clause-term : goal.returns-in_err-index-clause-term
 returns-in_err-index-clause-term t c =
@@ -116,7 +118,9 @@ returns-then-decides-clause-term t c =
     let u = c.in_ok-index.index in
     let within : room ≤ u.room + suc (operator_count eq) = omega (arith, c.in_ok-behind_all.ensures, c.in_ok-index.ensures.term.room) in
     let equal : tree.term_of c.in_ok-equal.equal ≡ folded F true eq =
-    c.in_ok-equal.ensures x true (c.in_ok-index.ensures.term.term ∙ ap (λ ds. folded (tree.spec_of ds) false x) (sym c.folding.ensures)) ∙ ap (λ ds. folded (tree.spec_of ds) true eq) c.folding.ensures in
+    c.in_ok-equal.ensures x true
+    (c.in_ok-index.ensures.term.term ∙ ap (λ ds. folded (tree.spec_of ds) false x) (sym c.folding.ensures))
+    ∙ ap (λ ds. folded (tree.spec_of ds) true eq) c.folding.ensures in
     subst (λ (z : Term). IsUnfolded F true room z c.none_equal.result) same
     (c.none_equal.ensures F room eq rest (sym equal ∙ c.decides.ensures c.if-decides.true) within)
 
@@ -140,7 +144,9 @@ returns-in_err-others-clause-term t c =
     let u = c.in_ok-index.index in
     let within : room ≤ u.room + suc (operator_count eq) = omega (arith, c.in_ok-behind_all.ensures, c.in_ok-index.ensures.term.room) in
     let equal : tree.term_of c.in_ok-equal.equal ≡ folded F true eq =
-    c.in_ok-equal.ensures x true (c.in_ok-index.ensures.term.term ∙ ap (λ ds. folded (tree.spec_of ds) false x) (sym c.folding.ensures)) ∙ ap (λ ds. folded (tree.spec_of ds) true eq) c.folding.ensures in
+    c.in_ok-equal.ensures x true
+    (c.in_ok-index.ensures.term.term ∙ ap (λ ds. folded (tree.spec_of ds) false x) (sym c.folding.ensures))
+    ∙ ap (λ ds. folded (tree.spec_of ds) true eq) c.folding.ensures in
     let e = c.in_err-others.field-0.0 in
     let others : IsRefusal u.room rest e =
     subst (λ (bs : List Argument). IsRefusal u.room (comparing (spec_in k) forms ρ bs (drop 1 vs)) e) (behind-first given)
@@ -168,7 +174,9 @@ returns-clause-term t c =
     let u = c.in_ok-index.index in
     let within : room ≤ u.room + suc (operator_count eq) = omega (arith, c.in_ok-behind_all.ensures, c.in_ok-index.ensures.term.room) in
     let equal : tree.term_of c.in_ok-equal.equal ≡ folded F true eq =
-    c.in_ok-equal.ensures x true (c.in_ok-index.ensures.term.term ∙ ap (λ ds. folded (tree.spec_of ds) false x) (sym c.folding.ensures)) ∙ ap (λ ds. folded (tree.spec_of ds) true eq) c.folding.ensures in
+    c.in_ok-equal.ensures x true
+    (c.in_ok-index.ensures.term.term ∙ ap (λ ds. folded (tree.spec_of ds) false x) (sym c.folding.ensures))
+    ∙ ap (λ ds. folded (tree.spec_of ds) true eq) c.folding.ensures in
     let w = c.in_ok-others.others in
     let others : IsUnfolded F true u.room rest w =
     subst (λ (bs : List Argument). IsUnfolded F true u.room (comparing (spec_in k) forms ρ bs (drop 1 vs)) w) (behind-first given)
@@ -198,7 +206,9 @@ returns-in_err-others-clause-faults t c =
     let l = c.args.level.depth in
     λ w h. let e = c.in_err-others.field-0.0 in
     err-told c.from_residual-in_err-others.result e (IsFaultOf (surroundings_in k) w) c.from_residual-in_err-others.ensures.1
-    (c.in_err-others.ensures.faults w (subst (λ (vs : List Variable). AreIndicesMet k l n c.args.scope.now c.args.compared.place (take (length given - 1) (drop 1 given)) vs w) (sym c.behind_first.ensures)
+    (c.in_err-others.ensures.faults w
+    (subst (λ (vs : List Variable). AreIndicesMet k l n c.args.scope.now c.args.compared.place
+    (take (length given - 1) (drop 1 given)) vs w) (sym c.behind_first.ensures)
     (subst (λ (bs : List Argument). AreIndicesMet k l n c.args.scope.now c.args.compared.place bs (drop 1 c.args.compared.indices.now) w) (sym (behind-first given))
     (indices-others k n c.args.scope.now w c.args.compared.place c.args.compared.indices.now given l h))))
 
@@ -213,4 +223,5 @@ returns-in_err-index-clause-faults t c =
 
 pub returns-in_err-behind_all-clause-faults : goal.returns-in_err-behind_all-clause-faults
 returns-in_err-behind_all-clause-faults t c =
-    λ w h. room-told (surroundings_in c.args.context.now) w c.args.compared.place c.from_residual.result c.in_err-behind_all.field-0.0 c.from_residual.ensures.1 c.in_err-behind_all.ensures.0 h.read.token
+    λ w h. room-told (surroundings_in c.args.context.now) w c.args.compared.place c.from_residual.result
+    c.in_err-behind_all.field-0.0 c.from_residual.ensures.1 c.in_err-behind_all.ensures.0 h.read.token

@@ -64,7 +64,10 @@ loop-place-preserved-then-ne c =
     let within : p < length bs = omega (arith, c.loop-place.auto.place, c.loop-place-test.true) in
     let a = c.index-assignments-place.result in
     let rest : Name → Term = upto p in
-    let test : same_name (string_bytes a.variable.text) (string_bytes c.args.element.array.now.text) ≡ false = (ap (λ (y : Name). same_name y (string_bytes c.args.element.array.now.text)) (sym c.as_str.ensures.value) ∙ ap (λ (y : Name). same_name c.as_str.result.now y) (sym c.as_str-in-loop-place.ensures.value) ∙ not-holds (same_name c.as_str.result.now c.as_str-in-loop-place.result.now) (sym c.ne.ensures ∙ c.if-ne.true)) in
+    let test : same_name (string_bytes a.variable.text) (string_bytes c.args.element.array.now.text) ≡ false =
+    (ap (λ (y : Name). same_name y (string_bytes c.args.element.array.now.text)) (sym c.as_str.ensures.value)
+    ∙ ap (λ (y : Name). same_name c.as_str.result.now y) (sym c.as_str-in-loop-place.ensures.value)
+    ∙ not-holds (same_name c.as_str.result.now c.as_str-in-loop-place.result.now) (sym c.ne.ensures ∙ c.if-ne.true)) in
     λ sort. subst (λ (z : Term). IsBehind F room (whole sort) z c.loop-place.passed c.loop-place.room)
     (ap (λ (m : ℕ). upto m sort) next ∙ after-other (spec_in k) forms ρ bs p a (E sort) within c.index-assignments-place.is test) (c.loop-place.invariant sort)
 
@@ -88,7 +91,10 @@ returns-in_err-behind_one-clause-latest c =
     let vs = c.args.element.index.now in
     let b = comparing (spec_in k) forms ρ a.index.items vs in
     let x = put_in (spec_in k) forms ρ (tree.term_of a.value.term) in
-    let test : same_name (string_bytes a.variable.text) (string_bytes c.args.element.array.now.text) ≡ true = (ap (λ (y : Name). same_name y (string_bytes c.args.element.array.now.text)) (sym c.as_str.ensures.value) ∙ ap (λ (y : Name). same_name c.as_str.result.now y) (sym c.as_str-in-loop-place.ensures.value) ∙ not-fails (same_name c.as_str.result.now c.as_str-in-loop-place.result.now) (sym c.ne.ensures ∙ c.if-ne.false)) in
+    let test : same_name (string_bytes a.variable.text) (string_bytes c.args.element.array.now.text) ≡ true =
+    (ap (λ (y : Name). same_name y (string_bytes c.args.element.array.now.text)) (sym c.as_str.ensures.value)
+    ∙ ap (λ (y : Name). same_name c.as_str.result.now y) (sym c.as_str-in-loop-place.ensures.value)
+    ∙ not-fails (same_name c.as_str.result.now c.as_str-in-loop-place.result.now) (sym c.ne.ensures ∙ c.if-ne.false)) in
     let passed = c.loop-place.passed in
     let now = c.loop-place.room in
     let behind : (sort : Name) → IsBehind F room (whole sort) (choice b x (rest sort)) passed now =
@@ -119,7 +125,10 @@ returns-in_err-condition-clause-latest c =
     let vs = c.args.element.index.now in
     let b = comparing (spec_in k) forms ρ a.index.items vs in
     let x = put_in (spec_in k) forms ρ (tree.term_of a.value.term) in
-    let test : same_name (string_bytes a.variable.text) (string_bytes c.args.element.array.now.text) ≡ true = (ap (λ (y : Name). same_name y (string_bytes c.args.element.array.now.text)) (sym c.as_str.ensures.value) ∙ ap (λ (y : Name). same_name c.as_str.result.now y) (sym c.as_str-in-loop-place.ensures.value) ∙ not-fails (same_name c.as_str.result.now c.as_str-in-loop-place.result.now) (sym c.ne.ensures ∙ c.if-ne.false)) in
+    let test : same_name (string_bytes a.variable.text) (string_bytes c.args.element.array.now.text) ≡ true =
+    (ap (λ (y : Name). same_name y (string_bytes c.args.element.array.now.text)) (sym c.as_str.ensures.value)
+    ∙ ap (λ (y : Name). same_name c.as_str.result.now y) (sym c.as_str-in-loop-place.ensures.value)
+    ∙ not-fails (same_name c.as_str.result.now c.as_str-in-loop-place.result.now) (sym c.ne.ensures ∙ c.if-ne.false)) in
     let passed = c.loop-place.passed in
     let now = c.loop-place.room in
     let behind : (sort : Name) → IsBehind F room (whole sort) (choice b x (rest sort)) passed now =
@@ -155,7 +164,10 @@ loop-place-preserved c =
     let vs = c.args.element.index.now in
     let b = comparing (spec_in k) forms ρ a.index.items vs in
     let x = put_in (spec_in k) forms ρ (tree.term_of a.value.term) in
-    let test : same_name (string_bytes a.variable.text) (string_bytes c.args.element.array.now.text) ≡ true = (ap (λ (y : Name). same_name y (string_bytes c.args.element.array.now.text)) (sym c.as_str.ensures.value) ∙ ap (λ (y : Name). same_name c.as_str.result.now y) (sym c.as_str-in-loop-place.ensures.value) ∙ not-fails (same_name c.as_str.result.now c.as_str-in-loop-place.result.now) (sym c.ne.ensures ∙ c.if-ne.false)) in
+    let test : same_name (string_bytes a.variable.text) (string_bytes c.args.element.array.now.text) ≡ true =
+    (ap (λ (y : Name). same_name y (string_bytes c.args.element.array.now.text)) (sym c.as_str.ensures.value)
+    ∙ ap (λ (y : Name). same_name c.as_str.result.now y) (sym c.as_str-in-loop-place.ensures.value)
+    ∙ not-fails (same_name c.as_str.result.now c.as_str-in-loop-place.result.now) (sym c.ne.ensures ∙ c.if-ne.false)) in
     let passed = c.loop-place.passed in
     let now = c.loop-place.room in
     let behind : (sort : Name) → IsBehind F room (whole sort) (choice b x (rest sort)) passed now =
@@ -168,7 +180,8 @@ loop-place-preserved c =
     subst (λ (gs : List Argument). IsUnfolded F true inner (comparing (spec_in k) forms ρ gs vs) condition) c.compared_with-compared.ensures.arguments
     (subst (λ (ws : List Written). IsUnfolded F true inner (comparing (spec_in k) forms ρ h.arguments.now ws) condition) c.compared_with-compared.ensures.index c.in_ok-condition.ensures.term) in
     let says = sym compared.term ∙ c.decides.ensures c.if-not-decides.false in
-    λ sort. further-behind F room (whole sort) b x (rest sort) passed now inner c.room_behind-room.result c.in_ok-behind_one.ensures (omega (arith, c.room_behind-room.ensures, compared.room)) says (behind sort)
+    λ sort. further-behind F room (whole sort) b x (rest sort) passed now inner c.room_behind-room.result
+    c.in_ok-behind_one.ensures (omega (arith, c.room_behind-room.ensures, compared.room)) says (behind sort)
 
 pub returns-then-not-decides-clause-latest : goal.returns-then-not-decides-clause-latest
 returns-then-not-decides-clause-latest c =
@@ -190,7 +203,10 @@ returns-then-not-decides-clause-latest c =
     let vs = c.args.element.index.now in
     let b = comparing (spec_in k) forms ρ a.index.items vs in
     let x = put_in (spec_in k) forms ρ (tree.term_of a.value.term) in
-    let test : same_name (string_bytes a.variable.text) (string_bytes c.args.element.array.now.text) ≡ true = (ap (λ (y : Name). same_name y (string_bytes c.args.element.array.now.text)) (sym c.as_str.ensures.value) ∙ ap (λ (y : Name). same_name c.as_str.result.now y) (sym c.as_str-in-loop-place.ensures.value) ∙ not-fails (same_name c.as_str.result.now c.as_str-in-loop-place.result.now) (sym c.ne.ensures ∙ c.if-ne.false)) in
+    let test : same_name (string_bytes a.variable.text) (string_bytes c.args.element.array.now.text) ≡ true =
+    (ap (λ (y : Name). same_name y (string_bytes c.args.element.array.now.text)) (sym c.as_str.ensures.value)
+    ∙ ap (λ (y : Name). same_name c.as_str.result.now y) (sym c.as_str-in-loop-place.ensures.value)
+    ∙ not-fails (same_name c.as_str.result.now c.as_str-in-loop-place.result.now) (sym c.ne.ensures ∙ c.if-ne.false)) in
     let passed = c.loop-place.passed in
     let now = c.loop-place.room in
     let behind : (sort : Name) → IsBehind F room (whole sort) (choice b x (rest sort)) passed now =
@@ -240,7 +256,10 @@ returns-in_err-condition-clause-faults c =
     let p : ℕ = c.loop-place.place - 1 in
     let within : p < length bs = omega (arith, c.loop-place.auto.place, c.loop-place-test.true) in
     let a = c.index-assignments-place.result in
-    let test : same_name (string_bytes a.variable.text) (string_bytes c.args.element.array.now.text) ≡ true = (ap (λ (y : Name). same_name y (string_bytes c.args.element.array.now.text)) (sym c.as_str.ensures.value) ∙ ap (λ (y : Name). same_name c.as_str.result.now y) (sym c.as_str-in-loop-place.ensures.value) ∙ not-fails (same_name c.as_str.result.now c.as_str-in-loop-place.result.now) (sym c.ne.ensures ∙ c.if-ne.false)) in
+    let test : same_name (string_bytes a.variable.text) (string_bytes c.args.element.array.now.text) ≡ true =
+    (ap (λ (y : Name). same_name y (string_bytes c.args.element.array.now.text)) (sym c.as_str.ensures.value)
+    ∙ ap (λ (y : Name). same_name c.as_str.result.now y) (sym c.as_str-in-loop-place.ensures.value)
+    ∙ not-fails (same_name c.as_str.result.now c.as_str-in-loop-place.result.now) (sym c.ne.ensures ∙ c.if-ne.false)) in
     let name : string_bytes c.args.element.array.now.text ≡ (named a.variable).text = sym (same-names (string_bytes a.variable.text) (string_bytes c.args.element.array.now.text) test) in
     let h = c.compared_with-compared.result in
     let w = at (suc l) n σ (TermForm.application (named a.variable) (argument_forms a.index.items)) in

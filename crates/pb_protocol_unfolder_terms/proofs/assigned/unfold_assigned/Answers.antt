@@ -32,4 +32,6 @@ returns-clause-faults c =
     subst (λ (N : Surroundings). IfErr c.unfold_assigned_by.result (IfFaultAt (IsFaultInElement N (scope_by N c.args.scope.now) bs e))) same
     (subst (λ (j : ℕ). IfErr c.unfold_assigned_by.result (IfFaultAt (WithMany (HasManyAssigned M j σ bs e) (IsFaultInAssignments M 200 j σ bs))))
     (mapped-length definition_of k.definitions.items)
-    (with-many (folding_in k) false 8192 (after_by k n c.args.scope.now c.args.assignments.now e) (IsFaultInAssignments M 200 n σ bs) c.unfold_assigned_by.result (c.unfold_assigned_by.ensures.term sort) (c.unfold_assigned_by.ensures.faults v)))
+    (with-many (folding_in k) false 8192 (after_by k n c.args.scope.now c.args.assignments.now e)
+    (IsFaultInAssignments M 200 n σ bs) c.unfold_assigned_by.result (c.unfold_assigned_by.ensures.term sort)
+    (c.unfold_assigned_by.ensures.faults v)))

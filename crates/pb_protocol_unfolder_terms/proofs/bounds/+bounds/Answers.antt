@@ -17,7 +17,10 @@ pub bounds_at-returns-in_err-argument : goal.bounds_at-returns-in_err-argument
 bounds_at-returns-in_err-argument t c = c.from_residual.ensures ∙ argument-none c.args.context.now c.args.arguments.now c.args.place c.in_err-argument.ensures.lookup.3
 
 pub bounds_at-returns : goal.bounds_at-returns
-bounds_at-returns t c = c.bounds_of.ensures ∙ argument-some c.args.context.now c.args.arguments.now c.args.place c.in_ok-argument.argument.now c.in_ok-argument.ensures.lookup.3.0 c.in_ok-argument.ensures.lookup.1
+bounds_at-returns t c =
+    c.bounds_of.ensures
+    ∙ argument-some c.args.context.now c.args.arguments.now c.args.place c.in_ok-argument.argument.now
+    c.in_ok-argument.ensures.lookup.3.0 c.in_ok-argument.ensures.lookup.1
 
 pub bounds_of-returns-then-is_empty : goal.bounds_of-returns-then-is_empty
 bounds_of-returns-then-is_empty t c =
@@ -27,7 +30,9 @@ bounds_of-returns-then-is_empty t c =
 pub bounds_of-returns-else-is_empty : goal.bounds_of-returns-else-is_empty
 bounds_of-returns-else-is_empty t c =
     ap Some c.new.ensures
-    ∙ chain-many (interval_in c.args.context.now) (Some truths) c.in-Chain.connective (λ l r. connective-truths c.in-Chain.connective (interval_in c.args.context.now l) (interval_in c.args.context.now r)) _ _ _ _ c.in-Chain.is c.is_empty.ensures c.if-is_empty.false
+    ∙ chain-many (interval_in c.args.context.now) (Some truths) c.in-Chain.connective
+    (λ l r. connective-truths c.in-Chain.connective (interval_in c.args.context.now l)
+    (interval_in c.args.context.now r)) _ _ _ _ c.in-Chain.is c.is_empty.ensures c.if-is_empty.false
 
 pub bounds_of-returns-in-Arithmetic : goal.bounds_of-returns-in-Arithmetic
 bounds_of-returns-in-Arithmetic t c =

@@ -35,7 +35,9 @@ loop-place-preserved c =
     let y = c.index-variable.result.now in
     let next : c.loop-place.place ≡ suc j = omega (arith, c.loop-place-test.true) in
     c.loop-place.invariant ∙ ap (variables-from S ys x) next
-    ∙ variables-pass S ys x j y (omega (arith, c.loop-place.auto.place, c.loop-place-test.true, c.len-place.ensures, k.variables.ok.0)) c.index-variable.ensures (sym c.may_be_of.ensures ∙ c.if-may_be_of.false)
+    ∙ variables-pass S ys x j y
+    (omega (arith, c.loop-place.auto.place, c.loop-place-test.true, c.len-place.ensures, k.variables.ok.0))
+    c.index-variable.ensures (sym c.may_be_of.ensures ∙ c.if-may_be_of.false)
 
 pub returns : goal.returns
 returns c =

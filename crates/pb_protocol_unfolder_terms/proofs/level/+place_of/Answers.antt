@@ -19,9 +19,13 @@ pub returns-in-Chain : goal.returns-in-Chain
 returns-in-Chain t c =
     let o = c.in-Chain.connective in
     c.place_of.ensures ∙ chain-told o (term_form c.deref.result.now) c.in-Chain.links.items
-    ∙ ap told_at (ap (λ y. chained (TermForm.connected o) (term_form y) (term_links c.in-Chain.links.items)) c.deref.ensures ∙ sym (ap term_form c.in-Chain.is ∙ term-chain o c.in-Chain.first c.in-Chain.links))
+    ∙ ap told_at
+    (ap (λ y. chained (TermForm.connected o) (term_form y) (term_links c.in-Chain.links.items)) c.deref.ensures
+    ∙ sym (ap term_form c.in-Chain.is ∙ term-chain o c.in-Chain.first c.in-Chain.links))
 
 pub returns-in-Arithmetic : goal.returns-in-Arithmetic
 returns-in-Arithmetic t c =
     c.place_of-in-Arithmetic.ensures ∙ arithmetic-told (term_form c.deref-in-Arithmetic.result.now) c.in-Arithmetic.links.items
-    ∙ ap told_at (ap (λ y. calculated (term_form y) (arithmetic_links c.in-Arithmetic.links.items)) c.deref-in-Arithmetic.ensures ∙ sym (ap term_form c.in-Arithmetic.is ∙ term-arithmetic c.in-Arithmetic.first c.in-Arithmetic.links))
+    ∙ ap told_at
+    (ap (λ y. calculated (term_form y) (arithmetic_links c.in-Arithmetic.links.items)) c.deref-in-Arithmetic.ensures
+    ∙ sym (ap term_form c.in-Arithmetic.is ∙ term-arithmetic c.in-Arithmetic.first c.in-Arithmetic.links))

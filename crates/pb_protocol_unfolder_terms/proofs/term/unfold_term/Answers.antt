@@ -30,4 +30,5 @@ returns-clause-faults c =
     λ m same v. subst (λ (N : Surroundings). IfErr c.unfold_by.result (IfFaultAt (IsFaultInTerm N (scope_by N c.args.scope.now) x))) same
     (subst (λ (j : ℕ). IfErr c.unfold_by.result (IfFaultAt (WithMany (HasManyOperators M (met j)) (Breaks M (met j)))))
     (mapped-length definition_of k.definitions.items)
-    (with-many (folding_in k) c.args.truth 8192 (put k n c.args.scope.now (tree.term_of c.args.term.now)) (Breaks M (met n)) c.unfold_by.result c.unfold_by.ensures.term (c.unfold_by.ensures.faults v)))
+    (with-many (folding_in k) c.args.truth 8192 (put k n c.args.scope.now (tree.term_of c.args.term.now))
+    (Breaks M (met n)) c.unfold_by.result c.unfold_by.ensures.term (c.unfold_by.ensures.faults v)))

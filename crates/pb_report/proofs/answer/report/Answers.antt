@@ -13,5 +13,6 @@ returns-in_err-finish g c =
     let same : c.finish.new.self.sink.now ≡ c.sink-2-1.given.0 = search rules in
     subst (λ (s : g.row.S.Denot). Delivers is_failed (λ (P : List ℕ → Type 0). P text) e.result taken g.S.Sink.has_failed c.args.sink.now s) same
     (left_part is_failed taken g.S.Sink.has_failed (λ (P : List ℕ → Type 0). P text) c.args.sink.now c.finish.new.self.sink.now e.result _ e.ensures.1 refl
-    (part_out (taken c.args.sink.now) (taken c.write_report.new.writer.sink.now) (taken c.finish.new.self.sink.now) c.in_ok-buffer.buffer.bytes.items c.write_report.new.writer.buffer.now.bytes.items text
+    (part_out (taken c.args.sink.now) (taken c.write_report.new.writer.sink.now) (taken c.finish.new.self.sink.now)
+    c.in_ok-buffer.buffer.bytes.items c.write_report.new.writer.buffer.now.bytes.items text
     c.in_ok-buffer.ensures c.in_ok-write_report.ensures.delivers.0 c.in_err-finish.ensures.written.0) c.in_err-finish.ensures.written.1)

@@ -24,7 +24,8 @@ returns-in_err-write_evidence g c = λ place are.
     let same : c.write_evidence.new.writer.sink.now ≡ c.in_err-write_evidence.sink-1-own.given.0 = search rules in
     subst (λ (s : g.row.S.Denot). Delivers is_failed (ForTrees c.args.verified.now text) e.result taken g.S.Sink.has_failed c.args.sink.now s) same
     (left_part is_failed taken g.S.Sink.has_failed (ForTrees c.args.verified.now text) c.args.sink.now c.write_evidence.new.writer.sink.now e.result _ e.ensures.1 refl
-    (λ trees have. begins (taken c.args.sink.now) (taken c.write_evidence.new.writer.sink.now) c.in_ok-buffer.buffer.bytes.items (text trees) c.in_ok-buffer.ensures (h trees have place are).delivers.0)
+    (λ trees have. begins (taken c.args.sink.now) (taken c.write_evidence.new.writer.sink.now)
+    c.in_ok-buffer.buffer.bytes.items (text trees) c.in_ok-buffer.ensures (h trees have place are).delivers.0)
     sent.delivers.1)
 
 pub returns-in_err-finish : goal.returns-in_err-finish
@@ -38,7 +39,8 @@ returns-in_err-finish g c = λ place are.
     let same : c.finish.new.self.sink.now ≡ c.sink-2-1.given.0 = search rules in
     subst (λ (s : g.row.S.Denot). Delivers is_failed (ForTrees c.args.verified.now text) e.result taken g.S.Sink.has_failed c.args.sink.now s) same
     (left_part is_failed taken g.S.Sink.has_failed (ForTrees c.args.verified.now text) c.args.sink.now c.finish.new.self.sink.now e.result _ e.ensures.1 refl
-    (λ trees have. part_out (taken c.args.sink.now) (taken c.write_evidence.new.writer.sink.now) (taken c.finish.new.self.sink.now) c.in_ok-buffer.buffer.bytes.items c.write_evidence.new.writer.buffer.now.bytes.items (text trees)
+    (λ trees have. part_out (taken c.args.sink.now) (taken c.write_evidence.new.writer.sink.now)
+    (taken c.finish.new.self.sink.now) c.in_ok-buffer.buffer.bytes.items c.write_evidence.new.writer.buffer.now.bytes.items (text trees)
     c.in_ok-buffer.ensures (h trees have place are).delivers.0 c.in_err-finish.ensures.written.0) c.in_err-finish.ensures.written.1)
 
 pub returns : goal.returns
@@ -50,7 +52,8 @@ returns g c = λ place are.
     let sent = h some.0 some.1 place are in
     let same : c.finish.new.self.sink.now ≡ c.sink-2-1.given.0 = search rules in
     subst (λ (s : g.row.S.Denot). Delivers is_failed (ForTrees c.args.verified.now text) (Ok (tt {0})) taken g.S.Sink.has_failed c.args.sink.now s) same (
-      λ trees have. all_out (taken c.args.sink.now) (taken c.write_evidence.new.writer.sink.now) (taken c.finish.new.self.sink.now) c.in_ok-buffer.buffer.bytes.items c.write_evidence.new.writer.buffer.now.bytes.items
+      λ trees have. all_out (taken c.args.sink.now) (taken c.write_evidence.new.writer.sink.now)
+          (taken c.finish.new.self.sink.now) c.in_ok-buffer.buffer.bytes.items c.write_evidence.new.writer.buffer.now.bytes.items
           (text trees) c.in_ok-buffer.ensures (h trees have place are).delivers.0 c.in_ok-finish.ensures.written.0,
       c.in_ok-finish.ensures.written.1 ∙ sent.delivers.1,
     )

@@ -9,5 +9,6 @@ pub returns-then-count-clause-fits : goal.returns-then-count-clause-fits
 returns-then-count-clause-fits c =
     let loop = c.loop-carrier in
     let more : MAX_INSTANCES < tuple_count (map values_of c.args.carriers.now) =
-    too_many c.args.carriers.now loop.carrier-index c.carrier-item.result loop.count MAX_INSTANCES c.loop-carrier-test.true c.carrier-item.is loop.invariant.product (rw (← c.size-count.ensures.count) c.if-count.true) in
+    too_many c.args.carriers.now loop.carrier-index c.carrier-item.result loop.count MAX_INSTANCES
+    c.loop-carrier-test.true c.carrier-item.is loop.invariant.product (rw (← c.size-count.ensures.count) c.if-count.true) in
     grind (arith, more)

@@ -19,7 +19,9 @@ pub overflow_add-place : goal.overflow_add-place
 overflow_add-place c =
     let few : c.loop-carrier.place < 4194305 = place_fits c.args.carriers.now c.args.values.now c.loop-carrier.place _ _ 4194305 c.loop-carrier.invariant (omega (arith, c.requires)) in
     let digit : c.in_ok-place.field-0 < length (values_of c.in-Some.carrier.now) = slice_get_within (values_of c.in-Some.carrier.now) c.in_ok-place.field-0 _ c.in_ok-place.ensures in
-    let fits : c.loop-carrier.place * c.size.result + c.in_ok-place.field-0 < 2 ^ 64 = next_fits c.loop-carrier.place c.size.result c.in_ok-place.field-0 few c.size.ensures.bound (omega (arith, digit, c.size.ensures.count)) in
+    let fits : c.loop-carrier.place * c.size.result + c.in_ok-place.field-0 < 2 ^ 64 =
+    next_fits c.loop-carrier.place c.size.result c.in_ok-place.field-0 few c.size.ensures.bound
+    (omega (arith, digit, c.size.ensures.count)) in
     omega (arith, fits)
 
 pub loop-carrier-preserved : goal.loop-carrier-preserved

@@ -106,7 +106,8 @@ returns-else-priority-parity c =
       | then-eq+else-not-has_edge w ↦ λ _. chooses _ _ _ _ w.choice.ensures (w.if-not-has_edge.ensures.0 refl)
       | else-eq w ↦ search (rules, w.if-eq.ensures, c.owner.ensures, c.winner-winner.ensures)
     ] in
-    let same : priority_of c.args.game.now c.args.v % 2 ≡ parity_of (winner_of c.args.solution.now c.args.v) = omega (arith, c.priority.ensures.value, c.parity.ensures, ap parity_of c.winner-winner.ensures) in
+    let same : priority_of c.args.game.now c.args.v % 2 ≡ parity_of (winner_of c.args.solution.now c.args.v) =
+    omega (arith, c.priority.ensures.value, c.parity.ensures, ap parity_of c.winner-winner.ensures) in
     record {
       choice = chosen;
       region = c.if-leaves_region.ensures;

@@ -15,7 +15,8 @@ use Rattle.pb_text_formulas.proofs.formula.+formulas.Goals as goal
 pub node-returns-in_default : goal.node-returns-in_default
 node-returns-in_default t c = rw c.refuse.ensures (record {
   reads = node-other c.args.depth c.args.input.now (λ q. c.in_default.not-Not (c.kind.ensures ∙ q)) (λ q. c.in_default.not-Open (c.kind.ensures ∙ q))
-      (λ q. c.in_default.not-True (c.kind.ensures ∙ q)) (λ q. c.in_default.not-False (c.kind.ensures ∙ q)) (λ q. c.in_default.not-Val (c.kind.ensures ∙ q)) (λ q. c.in_default.not-Name (c.kind.ensures ∙ q));
+      (λ q. c.in_default.not-True (c.kind.ensures ∙ q)) (λ q. c.in_default.not-False (c.kind.ensures ∙ q))
+      (λ q. c.in_default.not-Val (c.kind.ensures ∙ q)) (λ q. c.in_default.not-Name (c.kind.ensures ∙ q));
   fewer = tt;
 })
 
@@ -24,7 +25,8 @@ level-returns-in_err-first-clause-reads t c =
     let p = err_from_is_err_and c.from_residual.result c.from_residual.ensures.1 in
     rw (p.1, p.2) (if_fault c.in_err-first.field-0.0
     (λ bad e. level-chain c.args.connective c.args.depth c.args.input.now
-    ∙ resumed-first-fails (symbol c.args.connective) (FormulaForm.connected c.args.connective) (operand c.args.connective c.args.depth) (length c.args.input.now.tokens) c.args.input.now bad e) c.in_err-first.ensures.reads)
+    ∙ resumed-first-fails (symbol c.args.connective) (FormulaForm.connected c.args.connective)
+    (operand c.args.connective c.args.depth) (length c.args.input.now.tokens) c.args.input.now bad e) c.in_err-first.ensures.reads)
 
 pub chain-links-init : goal.chain-links-init
 chain-links-init t c = record {
@@ -59,9 +61,14 @@ pub chain-links-preserved : goal.chain-links-preserved
 chain-links-preserved t c =
     let same : same_kind (kind c.links.input) (symbol c.args.connective) ≡ true = search rules in
     record {
-      reads = λ s h fewer. rw (c.in_ok-push.ensures.items, links-last) (c.links.invariant.reads s h fewer ∙ resumed-more (symbol c.args.connective) (FormulaForm.connected c.args.connective) (operand c.args.connective c.args.depth) (length s.tokens - vec_len c.links.links)
+      reads = λ s h fewer. rw (c.in_ok-push.ensures.items, links-last)
+          (c.links.invariant.reads s h fewer
+          ∙ resumed-more (symbol c.args.connective) (FormulaForm.connected c.args.connective)
+          (operand c.args.connective c.args.depth) (length s.tokens - vec_len c.links.links)
           (length s.tokens - vec_len c.push.new.self) _ (link_forms c.links.links.items) c.links.input c.take_operator.new.self c.operand.new.input
-          (tok c.in_ok-place.field-0) (formula_form c.in_ok-operand.operand) (omega (arith, c.in_ok-push.ensures.len, c.links.invariant.room)) same c.in_ok-place.ensures.reads c.in_ok-operand.ensures.reads);
+          (tok c.in_ok-place.field-0) (formula_form c.in_ok-operand.operand)
+          (omega (arith, c.in_ok-push.ensures.len, c.links.invariant.room)) same c.in_ok-place.ensures.reads
+          c.in_ok-operand.ensures.reads);
       room = omega (arith, c.in_ok-place.ensures.fewer, c.in_ok-operand.ensures.fewer, c.in_ok-push.ensures.len);
     }
 

@@ -5,4 +5,6 @@ use Rattle.pb_text_formulas.proofs.formula.joined.Goals as goal
 
 pub returns : goal.returns
 returns c =
-    formula-chain c.args.connective c.in_ok-first.first c.args.links ∙ ap (λ f. chained (FormulaForm.connected c.args.connective) (formula_form f) (link_forms c.args.links.items)) c.in_ok-first.ensures.ok
+    formula-chain c.args.connective c.in_ok-first.first c.args.links
+    ∙ ap (λ f. chained (FormulaForm.connected c.args.connective) (formula_form f) (link_forms c.args.links.items))
+    c.in_ok-first.ensures.ok

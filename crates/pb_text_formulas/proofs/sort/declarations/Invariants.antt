@@ -7,7 +7,9 @@ use Rattle.pb_text_formulas.proofs.sort.declarations.Given as goal
 
 abbrev pub invariant-declarations : goal.invariant-declarations
 invariant-declarations l = record {
-  reads : declarations l.fn.input ≡ gathered declaration is_name_kind nothing_between (map sort_declaration_form l.declarations.items) (suc (length l.fn.input.tokens) - vec_len l.declarations) l.input;
+  reads : declarations l.fn.input
+      ≡ gathered declaration is_name_kind nothing_between (map sort_declaration_form l.declarations.items)
+      (suc (length l.fn.input.tokens) - vec_len l.declarations) l.input;
   room : vec_len l.declarations + length l.input.tokens ≤ length l.fn.input.tokens;
 }
 

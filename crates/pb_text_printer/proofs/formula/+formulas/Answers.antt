@@ -25,7 +25,8 @@ write_links-returns-then-index-links t c =
     let at : c.last-last.result ≡ record { level = connective_level o; right_end = c.args.right_end } =
     c.last-last.ensures ∙ ap (λ (v : Level). let r : Position = record { level = v; right_end = c.args.right_end } in r) c.connective_level.ensures in
     subst (λ (v : Page). OnOk c.write_formula.result (page c.write_formula.new.out ≡ v))
-    (placed-formula c.index-links-index.result.operand c.index-links-index.result.operand c.last-last.result (record { level = connective_level o; right_end = c.args.right_end }) (page c.word.new.self) refl at
+    (placed-formula c.index-links-index.result.operand c.index-links-index.result.operand c.last-last.result
+    (record { level = connective_level o; right_end = c.args.right_end }) (page c.word.new.self) refl at
     ∙ links.link-last link_form (connective_word o) (λ y. placed_formula y (formula_side o) false) (λ y. placed_formula y (connective_level o) (is_open_end c.args.right_end))
     c.args.links.now c.loop-index.index c.index-links-index.result (page c.loop-index.out) (page c.word.new.self) end c.index-links-index.is word
     ∙ c.loop-index.invariant)
@@ -55,7 +56,9 @@ pub write_plain-returns-in-None : goal.write_plain-returns-in-None
 write_plain-returns-in-None t c =
     subst (λ (v : Page). OnOk c.write_plain.result (page c.write_plain.new.out ≡ v))
     (ap (λ (x : FormulaForm). after (formula_words x (is_open_end c.args.right_end)) (page c.args.out.now))
-    (ap formula_form c.deref-in-None.ensures ∙ links.formula-of-one c.in-Chain.connective c.in-Chain.first c.in-Chain.links c.deref-in-Chain.result.now c.args.formula.now c.in-Chain.is c.deref-in-Chain.ensures.value c.in-None.ensures.value))
+    (ap formula_form c.deref-in-None.ensures
+    ∙ links.formula-of-one c.in-Chain.connective c.in-Chain.first c.in-Chain.links c.deref-in-Chain.result.now
+    c.args.formula.now c.in-Chain.is c.deref-in-Chain.ensures.value c.in-None.ensures.value))
     c.write_plain.ensures
 
 pub write_plain-returns-in_ok-write_formula-in-Some : goal.write_plain-returns-in_ok-write_formula-in-Some
@@ -63,22 +66,29 @@ write_plain-returns-in_ok-write_formula-in-Some t c =
     let o = c.in-Chain.connective in
     let at : c.closed-side.result ≡ closed (formula_side o) = c.closed-side.ensures ∙ ap closed c.operand_level.ensures in
     subst (λ (v : Page). OnOk c.write_links.result (page c.write_links.new.out ≡ v))
-    (links.formula-chain-words o c.in-Chain.first c.in-Chain.links c.deref-in-Chain.result.now c.deref-in-Some-2.result.now c.in-Some.field-0.now c.args.formula.now (is_open_end c.args.right_end) (page c.args.out.now) (page c.write_formula-in-Some.new.out)
+    (links.formula-chain-words o c.in-Chain.first c.in-Chain.links c.deref-in-Chain.result.now
+    c.deref-in-Some-2.result.now c.in-Some.field-0.now c.args.formula.now (is_open_end c.args.right_end)
+    (page c.args.out.now) (page c.write_formula-in-Some.new.out)
     c.in-Chain.is c.deref-in-Chain.ensures.value c.deref-in-Some-2.ensures.value c.in-Some.ensures.value
-    (c.in_ok-write_formula-in-Some.ensures ∙ placed-formula c.deref-in-Some.result.now (box_value c.in-Chain.first) c.closed-side.result (closed (formula_side o)) (page c.args.out.now) c.deref-in-Some.ensures at))
+    (c.in_ok-write_formula-in-Some.ensures
+    ∙ placed-formula c.deref-in-Some.result.now (box_value c.in-Chain.first) c.closed-side.result
+    (closed (formula_side o)) (page c.args.out.now) c.deref-in-Some.ensures at))
     c.write_links.ensures
 
 pub write_plain-returns-in_ok-write_quantifier-in-Quantified : goal.write_plain-returns-in_ok-write_quantifier-in-Quantified
 write_plain-returns-in_ok-write_quantifier-in-Quantified t c =
     subst (λ (v : Page). OnOk c.write_plain-in-Quantified.result (page c.write_plain-in-Quantified.new.out ≡ v))
     (ap (λ (x : Formula). after (formula_words (formula_form x) true) (page c.write_quantifier.new.out)) c.deref-in-Quantified-2.ensures
-    ∙ quantified-formula c.in-Quantified.place c.in-Quantified.quantifier c.in-Quantified.variables c.deref-in-Quantified.result.now c.in-Quantified.body c.args.formula.now (is_open_end c.args.right_end)
+    ∙ quantified-formula c.in-Quantified.place c.in-Quantified.quantifier c.in-Quantified.variables
+    c.deref-in-Quantified.result.now c.in-Quantified.body c.args.formula.now (is_open_end c.args.right_end)
     (page c.args.out.now) (page c.write_quantifier.new.out) c.in-Quantified.is c.deref-in-Quantified.ensures.value c.in_ok-write_quantifier-in-Quantified.ensures)
     c.write_plain-in-Quantified.ensures
 
 pub write_formula-returns : goal.write_formula-returns
 write_formula-returns t c =
     subst (λ (v : Page). OnOk c.close.result (page c.close.new.self ≡ v))
-    (bracketed (formula_words (formula_form c.args.formula.now)) (formula_needs_no_brackets (formula_form c.args.formula.now) c.args.position.level (is_open_end c.args.position.right_end)) (is_open_end c.args.position.right_end)
+    (bracketed (formula_words (formula_form c.args.formula.now))
+    (formula_needs_no_brackets (formula_form c.args.formula.now) c.args.position.level
+    (is_open_end c.args.position.right_end)) (is_open_end c.args.position.right_end)
     (page c.args.out.now) (page c.open.new.self) (page c.write_plain-2.new.out) (sym c.needs_no_brackets.ensures ∙ c.if-needs_no_brackets.false) c.in_ok-open.ensures c.in_ok-write_plain.ensures)
     c.close.ensures

@@ -8,4 +8,5 @@ use Rattle.pb_text_printer.proofs.formula.+formulas.Given as goal
 -- what is left to write behind the links so far is all of it
 abbrev pub invariant-write_links-loop-index : goal.invariant-write_links-loop-index
 invariant-write_links-loop-index l =
-    after (formula_link_words l.connective (is_open_end l.right_end) (link_forms (drop l.index l.links))) (page l.out) ≡ after (formula_link_words l.connective (is_open_end l.right_end) (link_forms l.links)) (page l.initial.out)
+    after (formula_link_words l.connective (is_open_end l.right_end) (link_forms (drop l.index l.links))) (page l.out)
+    ≡ after (formula_link_words l.connective (is_open_end l.right_end) (link_forms l.links)) (page l.initial.out)

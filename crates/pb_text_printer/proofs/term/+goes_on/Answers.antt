@@ -14,7 +14,9 @@ pub returns-in-None : goal.returns-in-None
 returns-in-None t c =
     c.goes_on.ensures
     ∙ ap (goes_on c.args.operator)
-    (ap term_form c.deref-in-None.ensures ∙ chain-of-one c.in-Chain.connective c.in-Chain.first c.in-Chain.links c.deref.result.now c.args.term.now c.in-Chain.is c.deref.ensures.value c.in-None.ensures.value)
+    (ap term_form c.deref-in-None.ensures
+    ∙ chain-of-one c.in-Chain.connective c.in-Chain.first c.in-Chain.links c.deref.result.now c.args.term.now
+    c.in-Chain.is c.deref.ensures.value c.in-None.ensures.value)
 
 pub returns-in-Some-last : goal.returns-in-Some-last
 returns-in-Some-last t c =
@@ -26,4 +28,6 @@ pub returns-in-None-last : goal.returns-in-None-last
 returns-in-None-last t c =
     c.goes_on-in-None-last.ensures
     ∙ ap (goes_on c.args.operator)
-    (ap term_form c.deref-in-None-last.ensures ∙ of-one-last c.in-Arithmetic.first c.in-Arithmetic.links c.deref-in-Arithmetic.result.now c.args.term.now c.in-Arithmetic.is c.deref-in-Arithmetic.ensures.value c.in-None-last.ensures.value)
+    (ap term_form c.deref-in-None-last.ensures
+    ∙ of-one-last c.in-Arithmetic.first c.in-Arithmetic.links c.deref-in-Arithmetic.result.now c.args.term.now
+    c.in-Arithmetic.is c.deref-in-Arithmetic.ensures.value c.in-None-last.ensures.value)

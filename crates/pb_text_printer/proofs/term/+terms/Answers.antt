@@ -49,7 +49,8 @@ write_links-returns-then-index-links t c =
     let at : c.last-last.result ≡ record { level = connective_level o; right_end = c.args.right_end } =
     c.last-last.ensures ∙ ap (λ (v : Level). let r : Position = record { level = v; right_end = c.args.right_end } in r) c.connective_level.ensures in
     subst (λ (v : Page). OnOk c.write_term.result (page c.write_term.new.out ≡ v))
-    (placed c.index-links-index.result.operand c.index-links-index.result.operand c.last-last.result (record { level = connective_level o; right_end = c.args.right_end }) (page c.word.new.self) refl at
+    (placed c.index-links-index.result.operand c.index-links-index.result.operand c.last-last.result
+    (record { level = connective_level o; right_end = c.args.right_end }) (page c.word.new.self) refl at
     ∙ links.link-last term_link (connective_word o) (λ y. placed_words y (term_side o) false) (λ y. placed_words y (connective_level o) (is_open_end c.args.right_end))
     c.args.links.now c.loop-index.index c.index-links-index.result (page c.loop-index.out) (page c.word.new.self) end c.index-links-index.is word
     ∙ c.loop-index.invariant)
@@ -79,7 +80,9 @@ pub write_plain-returns-in-None : goal.write_plain-returns-in-None
 write_plain-returns-in-None t c =
     subst (λ (v : Page). OnOk c.write_plain.result (page c.write_plain.new.out ≡ v))
     (ap (λ (x : TermForm). after (term_words x (is_open_end c.args.right_end)) (page c.args.out.now))
-    (ap term_form c.deref-in-None.ensures ∙ links.chain-of-one c.in-Chain.connective c.in-Chain.first c.in-Chain.links c.deref-in-Chain.result.now c.args.term.now c.in-Chain.is c.deref-in-Chain.ensures.value c.in-None.ensures.value))
+    (ap term_form c.deref-in-None.ensures
+    ∙ links.chain-of-one c.in-Chain.connective c.in-Chain.first c.in-Chain.links c.deref-in-Chain.result.now
+    c.args.term.now c.in-Chain.is c.deref-in-Chain.ensures.value c.in-None.ensures.value))
     c.write_plain.ensures
 
 pub write_plain-returns-in_ok-write_term-in-Some : goal.write_plain-returns-in_ok-write_term-in-Some
@@ -87,7 +90,8 @@ write_plain-returns-in_ok-write_term-in-Some t c =
     let o = c.in-Chain.connective in
     let at : c.closed-side.result ≡ closed (term_side o) = c.closed-side.ensures ∙ ap closed c.operand_level.ensures in
     subst (λ (v : Page). OnOk c.write_links.result (page c.write_links.new.out ≡ v))
-    (links.chain-words o c.in-Chain.first c.in-Chain.links c.deref-in-Chain.result.now c.deref-in-Some-2.result.now c.in-Some.field-0.now c.args.term.now (is_open_end c.args.right_end) (page c.args.out.now) (page c.write_term-in-Some.new.out)
+    (links.chain-words o c.in-Chain.first c.in-Chain.links c.deref-in-Chain.result.now c.deref-in-Some-2.result.now
+    c.in-Some.field-0.now c.args.term.now (is_open_end c.args.right_end) (page c.args.out.now) (page c.write_term-in-Some.new.out)
     c.in-Chain.is c.deref-in-Chain.ensures.value c.deref-in-Some-2.ensures.value c.in-Some.ensures.value
     (c.in_ok-write_term-in-Some.ensures ∙ placed c.deref-in-Some.result.now (box_value c.in-Chain.first) c.closed-side.result (closed (term_side o)) (page c.args.out.now) c.deref-in-Some.ensures at))
     c.write_links.ensures
@@ -100,8 +104,10 @@ write_plain-returns-in_ok-word-in-Comparison t c =
     let at : c.closed-side-in-Comparison.result ≡ closed (comparison_side o) = c.closed-side-in-Comparison.ensures ∙ ap closed c.comparison_levels.ensures.sides in
     let q = page c.write_term-in-Comparison.new.out in
     subst (λ (v : Page). OnOk c.write_term-in-Comparison-2.result (page c.write_term-in-Comparison-2.new.out ≡ v))
-    (placed c.deref-in-Comparison-2.result.now (box_value c.in-Comparison.right) c.closed-side-in-Comparison.result (closed (comparison_side o)) (page c.word-in-Comparison.new.self) c.deref-in-Comparison-2.ensures at
-    ∙ comparison-words c.in-Comparison.place o c.in-Comparison.left c.in-Comparison.right c.args.term.now (is_open_end c.args.right_end) (page c.args.out.now) q (page c.word-in-Comparison.new.self) c.in-Comparison.is
+    (placed c.deref-in-Comparison-2.result.now (box_value c.in-Comparison.right) c.closed-side-in-Comparison.result
+    (closed (comparison_side o)) (page c.word-in-Comparison.new.self) c.deref-in-Comparison-2.ensures at
+    ∙ comparison-words c.in-Comparison.place o c.in-Comparison.left c.in-Comparison.right c.args.term.now
+    (is_open_end c.args.right_end) (page c.args.out.now) q (page c.word-in-Comparison.new.self) c.in-Comparison.is
     (c.in_ok-write_term-in-Comparison.ensures
     ∙ placed c.deref-in-Comparison.result.now (box_value c.in-Comparison.left) c.closed-side-in-Comparison.result (closed (comparison_side o)) (page c.args.out.now) c.deref-in-Comparison.ensures at)
     (c.in_ok-word-in-Comparison.ensures ∙ ap (λ (v : List ℕ). typed true true v q) c.comparison_token.ensures ∙ comparison-typed o q))
@@ -114,14 +120,16 @@ write_operations-loop-link-init t c = refl
 
 pub write_operations-loop-link-preserved : goal.write_operations-loop-link-preserved
 write_operations-loop-link-preserved t c =
-    computed-next c.loop-link.before c.args.links.now c.loop-link.link-index c.link-item.result (page c.loop-link.out) (page c.close_bracket.new.out) (page c.write_operation.new.out) c.loop-link-test.true c.link-item.is
+    computed-next c.loop-link.before c.args.links.now c.loop-link.link-index c.link-item.result (page c.loop-link.out)
+    (page c.close_bracket.new.out) (page c.write_operation.new.out) c.loop-link-test.true c.link-item.is
     (c.in_ok-close_bracket.ensures ∙ ap (λ (b : Bracketing). after (bracket b close_word) (page c.loop-link.out)) c.left_bracketing.ensures)
     c.in_ok-write_operation.ensures
     ∙ c.loop-link.invariant
 
 pub write_operations-returns : goal.write_operations-returns
 write_operations-returns t c =
-    ap (λ (v : List ArithmeticLink). after (computed_words c.loop-link.before (arithmetic_links v)) (page c.loop-link.out)) (sym (drop_all c.loop-link.link-index c.args.links.now c.loop-link-test.false))
+    ap (λ (v : List ArithmeticLink). after (computed_words c.loop-link.before (arithmetic_links v))
+    (page c.loop-link.out)) (sym (drop_all c.loop-link.link-index c.args.links.now c.loop-link-test.false))
     ∙ c.loop-link.invariant
 
 pub write_plain-returns-in-None-first : goal.write_plain-returns-in-None-first
@@ -136,7 +144,8 @@ pub write_plain-returns-in_ok-write_left-in-Some-first : goal.write_plain-return
 write_plain-returns-in_ok-write_left-in-Some-first t c =
     let l = c.in-Some-first.link.now in
     subst (λ (v : Page). OnOk c.write_operations.result (page c.write_operations.new.out ≡ v))
-    (calculation c.in-Arithmetic.first c.in-Arithmetic.links c.deref-in-Arithmetic.result.now c.deref-in-Some-first.result.now c.deref-in-Some-first-3.result.now l c.args.term.now (is_open_end c.args.right_end)
+    (calculation c.in-Arithmetic.first c.in-Arithmetic.links c.deref-in-Arithmetic.result.now
+    c.deref-in-Some-first.result.now c.deref-in-Some-first-3.result.now l c.args.term.now (is_open_end c.args.right_end)
     (page c.args.out.now) (page c.open_brackets.new.out) (page c.write_left.new.out) c.in-Arithmetic.is
     c.deref-in-Arithmetic.ensures.value c.deref-in-Some-first.ensures.value c.deref-in-Some-first-3.ensures.value c.in-Some-first.ensures.value
     c.in_ok-open_brackets-in-Some-first.ensures
@@ -148,7 +157,8 @@ write_plain-returns-in_ok-write_left-in-Some-first t c =
 pub write_plain-returns-in_ok-word-in-Application : goal.write_plain-returns-in_ok-word-in-Application
 write_plain-returns-in_ok-word-in-Application t c =
     subst (λ (v : Page). OnOk c.write_arguments.result (page c.write_arguments.new.out ≡ v))
-    (application-words c.in-Application.function c.in-Application.arguments c.deref-in-Application.result.now c.args.term.now (is_open_end c.args.right_end) (page c.args.out.now) (page c.word-in-Application.new.self)
+    (application-words c.in-Application.function c.in-Application.arguments c.deref-in-Application.result.now
+    c.args.term.now (is_open_end c.args.right_end) (page c.args.out.now) (page c.word-in-Application.new.self)
     c.in-Application.is c.deref-in-Application.ensures.value
     (c.in_ok-word-in-Application.ensures ∙ ap (λ (v : List ℕ). typed true true v (page c.args.out.now)) c.as_str-in-Application.ensures.value))
     c.write_arguments.ensures
@@ -166,6 +176,8 @@ write_plain-returns-in_ok-write_quantifier-in-Quantified t c =
 pub write_term-returns : goal.write_term-returns
 write_term-returns t c =
     subst (λ (v : Page). OnOk c.close.result (page c.close.new.self ≡ v))
-    (bracketed (term_words (term_form c.args.term.now)) (needs_no_brackets (term_form c.args.term.now) c.args.position.level (is_open_end c.args.position.right_end)) (is_open_end c.args.position.right_end)
+    (bracketed (term_words (term_form c.args.term.now))
+    (needs_no_brackets (term_form c.args.term.now) c.args.position.level (is_open_end c.args.position.right_end))
+    (is_open_end c.args.position.right_end)
     (page c.args.out.now) (page c.open.new.self) (page c.write_plain-2.new.out) (sym c.needs_no_brackets.ensures ∙ c.if-needs_no_brackets.false) c.in_ok-open.ensures c.in_ok-write_plain.ensures)
     c.close.ensures

@@ -14,7 +14,8 @@ invariant-write_arguments-loop-index l =
 
 abbrev pub invariant-write_links-loop-index : goal.invariant-write_links-loop-index
 invariant-write_links-loop-index l =
-    after (link_words l.connective (is_open_end l.right_end) (term_links (drop l.index l.links))) (page l.out) ≡ after (link_words l.connective (is_open_end l.right_end) (term_links l.links)) (page l.initial.out)
+    after (link_words l.connective (is_open_end l.right_end) (term_links (drop l.index l.links))) (page l.out)
+    ≡ after (link_words l.connective (is_open_end l.right_end) (term_links l.links)) (page l.initial.out)
 
 abbrev pub invariant-write_operations-loop-link : goal.invariant-write_operations-loop-link
 invariant-write_operations-loop-link l =

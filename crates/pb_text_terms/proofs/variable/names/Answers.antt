@@ -19,15 +19,19 @@ returns-in_err-name-clause-reads c =
 pub returns-then-not-same_kind-clause-reads : goal.returns-then-not-same_kind-clause-reads
 returns-then-not-same_kind-clause-reads c =
     let stops : is_comma (kind c.name.new.input) ≡ false = search rules in
-    let end = gathered-end name is_comma take_token (map named c.names.names.items) (suc (length c.args.input.now.tokens) - vec_len c.names.names) (length c.args.input.now.tokens - vec_len c.names.names)
+    let end = gathered-end name is_comma take_token (map named c.names.names.items)
+    (suc (length c.args.input.now.tokens) - vec_len c.names.names) (length c.args.input.now.tokens - vec_len c.names.names)
     c.names.input c.name.new.input (named c.in_ok-name.name) (omega arith) c.in_ok-name.ensures.reads stops in
     rw (c.in_ok-push.ensures.items, map_push) (c.names.invariant.reads ∙ end)
 
 pub names-preserved : goal.names-preserved
 names-preserved c =
     let goes : is_comma (kind c.name.new.input) ≡ true = search rules in
-    let more = gathered-more name is_comma take_token (map named c.names.names.items) (suc (length c.args.input.now.tokens) - vec_len c.names.names) (suc (length c.args.input.now.tokens) - vec_len c.push.new.self)
-    c.names.input c.name.new.input c.take.new.self (named c.in_ok-name.name) (tok c.take.result) (omega (arith, c.in_ok-push.ensures.len, c.in_ok-name.ensures.fewer)) c.in_ok-name.ensures.reads goes c.take.ensures.reads in
+    let more =
+    gathered-more name is_comma take_token (map named c.names.names.items)
+    (suc (length c.args.input.now.tokens) - vec_len c.names.names) (suc (length c.args.input.now.tokens) - vec_len c.push.new.self)
+    c.names.input c.name.new.input c.take.new.self (named c.in_ok-name.name) (tok c.take.result)
+    (omega (arith, c.in_ok-push.ensures.len, c.in_ok-name.ensures.fewer)) c.in_ok-name.ensures.reads goes c.take.ensures.reads in
     record {
       reads = rw (c.in_ok-push.ensures.items, map_push) (c.names.invariant.reads ∙ more);
       room = omega (arith, c.in_ok-push.ensures.len, c.in_ok-name.ensures.fewer, c.take.ensures.fewer);

@@ -39,7 +39,8 @@ returns-in_err-checked c =
     let e = c.in_err-checked.field-0.0 in
     let next = faults_next S xs c.loop-place.place c.equation-item.result c.loop-place-test.true c.equation-item.is in
     let here = among_first _ _ _ e (c.loop-place.invariant.faults ∙ next) c.in_err-checked.ensures in
-    let h : IsAmong (right_faults S (spec_form c.args.spec.now).equations) e = subst (λ (ys : List Equation). IsAmong (right_faults S (map equation_form ys)) e) c.deref-equation-items.ensures.value here in
+    let h : IsAmong (right_faults S (spec_form c.args.spec.now).equations) e =
+    subst (λ (ys : List Equation). IsAmong (right_faults S (map equation_form ys)) e) c.deref-equation-items.ensures.value here in
     search rules
 
 pub loop-place-preserved : goal.loop-place-preserved

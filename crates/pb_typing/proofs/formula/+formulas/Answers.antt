@@ -60,7 +60,10 @@ check_links-returns-in_err-operand-clause-checked t c =
     let links = c.args.links.now in
     let k = c.loop-index.index in
     let link = c.index-links-index.result in
-    let next = chain_next S a c.args.connective even links k link (length links) (is_positive c.operand_polarity-of_link.result) c.loop-index-test.true c.index-links-index.is refl c.operand_polarity-of_link.ensures in
+    let next =
+    chain_next S a c.args.connective even links k link (length links)
+    (is_positive c.operand_polarity-of_link.result) c.loop-index-test.true c.index-links-index.is refl
+    c.operand_polarity-of_link.ensures in
     let whole = link_faults S a c.args.connective even links in
     let h : IsAmong whole c.in_err-operand.field-0.0 = among_first whole _ _ c.in_err-operand.field-0.0 (c.loop-index.invariant.faults ∙ next) c.in_err-operand.ensures.checked in
     search rules
@@ -75,9 +78,13 @@ check_links-loop-index-preserved t c =
     let links = c.args.links.now in
     let k = c.loop-index.index in
     let link = c.index-links-index.result in
-    let next = chain_next S a c.args.connective even links k link (length links) (is_positive c.operand_polarity-of_link.result) c.loop-index-test.true c.index-links-index.is refl c.operand_polarity-of_link.ensures in
+    let next =
+    chain_next S a c.args.connective even links k link (length links)
+    (is_positive c.operand_polarity-of_link.result) c.loop-index-test.true c.index-links-index.is refl
+    c.operand_polarity-of_link.ensures in
     let h = c.in_ok-operand.ensures in
-    done_next S a s c.args.connective even links c.args.carriers.now.items c.loop-index.carriers.items c.check_formula.new.carriers.items k link c.in_ok-operand.operand c.loop-index.operands.items c.push.new.self.items
+    done_next S a s c.args.connective even links c.args.carriers.now.items c.loop-index.carriers.items
+    c.check_formula.new.carriers.items k link c.in_ok-operand.operand c.loop-index.operands.items c.push.new.self.items
     c.loop-index-test.true c.index-links-index.is c.in_ok-push.ensures.items (first_clear _ _ _ next h.checked.0) h.checked.1 h.carriers h.places c.loop-index.invariant
 
 pub check_links-returns-clause-checked : goal.check_links-returns-clause-checked
@@ -86,8 +93,12 @@ check_links-returns-clause-checked t c =
     let a = scope_in c.args.context.now in
     let even = is_positive c.args.polarity in
     let s = slots_in c.args.context.now in
-    let n = length c.args.carriers.now.items in
-    (faults_ended S a s c.args.connective even c.args.links.now c.args.carriers.now.items c.loop-index.carriers.items c.loop-index.index c.loop-index.operands.items (omega (arith, c.loop-index-test.false)) c.loop-index.invariant, views_ended S a s c.args.connective even c.args.links.now c.args.carriers.now.items c.loop-index.carriers.items c.loop-index.index c.loop-index.operands.items (omega (arith, c.loop-index-test.false)) c.loop-index.invariant)
+    let n = length c.args.carriers.now.items in (
+      faults_ended S a s c.args.connective even c.args.links.now c.args.carriers.now.items c.loop-index.carriers.items
+          c.loop-index.index c.loop-index.operands.items (omega (arith, c.loop-index-test.false)) c.loop-index.invariant,
+      views_ended S a s c.args.connective even c.args.links.now c.args.carriers.now.items c.loop-index.carriers.items
+          c.loop-index.index c.loop-index.operands.items (omega (arith, c.loop-index-test.false)) c.loop-index.invariant,
+    )
 
 pub check_links-returns-clause-carriers : goal.check_links-returns-clause-carriers
 check_links-returns-clause-carriers t c =
@@ -96,7 +107,8 @@ check_links-returns-clause-carriers t c =
     let even = is_positive c.args.polarity in
     let s = slots_in c.args.context.now in
     let n = length c.args.carriers.now.items in
-    shapes_ended S a s c.args.connective even c.args.links.now c.args.carriers.now.items c.loop-index.carriers.items c.loop-index.index c.loop-index.operands.items (omega (arith, c.loop-index-test.false)) c.loop-index.invariant
+    shapes_ended S a s c.args.connective even c.args.links.now c.args.carriers.now.items c.loop-index.carriers.items
+    c.loop-index.index c.loop-index.operands.items (omega (arith, c.loop-index-test.false)) c.loop-index.invariant
 
 pub check_links-returns-clause-places : goal.check_links-returns-clause-places
 check_links-returns-clause-places t c =
@@ -105,7 +117,8 @@ check_links-returns-clause-places t c =
     let even = is_positive c.args.polarity in
     let s = slots_in c.args.context.now in
     let n = length c.args.carriers.now.items in
-    places_ended S a s c.args.connective even c.args.links.now c.args.carriers.now.items c.loop-index.carriers.items c.loop-index.index c.loop-index.operands.items (omega (arith, c.loop-index-test.false)) c.loop-index.invariant
+    places_ended S a s c.args.connective even c.args.links.now c.args.carriers.now.items c.loop-index.carriers.items
+    c.loop-index.index c.loop-index.operands.items (omega (arith, c.loop-index-test.false)) c.loop-index.invariant
 
 -- ---- data and calls
 
@@ -120,7 +133,8 @@ check_formula-returns-in-Value-clause-checked t c =
 
 pub check_formula-returns-in-Value-clause-carriers : goal.check_formula-returns-in-Value-clause-carriers
 check_formula-returns-in-Value-clause-carriers t c =
-    value_loops (text_in c.args.context.now) c.args.formula.now c.in-Value.place c.in-Value.term c.args.carriers.now.items c.check_truth.new.carriers.items c.check_truth.result c.in-Value.is c.check_truth.ensures.carriers
+    value_loops (text_in c.args.context.now) c.args.formula.now c.in-Value.place c.in-Value.term
+    c.args.carriers.now.items c.check_truth.new.carriers.items c.check_truth.result c.in-Value.is c.check_truth.ensures.carriers
 
 pub check_formula-returns-in-Value-clause-places : goal.check_formula-returns-in-Value-clause-places
 check_formula-returns-in-Value-clause-places t c =
@@ -129,7 +143,8 @@ check_formula-returns-in-Value-clause-places t c =
     let even = is_positive c.args.polarity in
     let s = slots_in c.args.context.now in
     let n = length c.args.carriers.now.items in
-    at_places c.args.formula.now (ast.Value c.in-Value.place c.in-Value.term) c.check_truth.result c.in-Value.is (value_places S s a n c.in-Value.term _ c.check_truth.result c.check_truth.ensures.checked)
+    at_places c.args.formula.now (ast.Value c.in-Value.place c.in-Value.term) c.check_truth.result c.in-Value.is
+    (value_places S s a n c.in-Value.term _ c.check_truth.result c.check_truth.ensures.checked)
 
 pub check_formula-returns-in-Instance-clause-checked : goal.check_formula-returns-in-Instance-clause-checked
 check_formula-returns-in-Instance-clause-checked t c =
@@ -180,7 +195,8 @@ pub check_formula-returns-in_ok-boxed-in-Negation-clause-carriers : goal.check_f
 check_formula-returns-in_ok-boxed-in-Negation-clause-carriers t c =
     let q = c.in-Negation in
     c.in_ok-operand-in-Negation.ensures.carriers
-    ∙ sym (ap (λ (f : syntax.Formula). shapes_of c.args.carriers.now.items ++ loops (text_in c.args.context.now) f) (negation-form c.args.formula.now c.deref.result.now q.place q.operand q.is c.deref.ensures))
+    ∙ sym (ap (λ (f : syntax.Formula). shapes_of c.args.carriers.now.items ++ loops (text_in c.args.context.now) f)
+    (negation-form c.args.formula.now c.deref.result.now q.place q.operand q.is c.deref.ensures))
 
 pub check_formula-returns-in_ok-boxed-in-Negation-clause-places : goal.check_formula-returns-in_ok-boxed-in-Negation-clause-places
 check_formula-returns-in_ok-boxed-in-Negation-clause-places t c =
@@ -227,7 +243,9 @@ check_formula-returns-in_err-left-in-Chain-clause-checked t c =
     q.is c.deref-in-Chain.ensures (omega (arith, c.len.ensures, q.links.ok.0)) c.operand_polarity-of_first.ensures in
     let whole = formula_faults S even a (formula_form c.args.formula.now) in
     let e = c.in_err-left-in-Chain.field-0.0 in
-    let others = subst (ChecksLinks S a s q.connective even (length c.check_formula-in-Chain.new.carriers.items) c.deref-in-Chain-2.result.now) c.in_err-left-in-Chain.ensures c.check_links-operands.ensures.checked in
+    let others =
+    subst (ChecksLinks S a s q.connective even (length c.check_formula-in-Chain.new.carriers.items)
+    c.deref-in-Chain-2.result.now) c.in_err-left-in-Chain.ensures c.check_links-operands.ensures.checked in
     let here = subst (λ (ls : List Link). IsAmong (link_faults S a q.connective even ls) e) c.deref-in-Chain-2.ensures.value others in
     let h : IsAmong whole e = subst (λ (zs : List TypingFault). IsAmong zs e) (sym (first_clear _ _ _ all c.in_ok-head-in-Chain.ensures.checked.0)) here in
     search rules
@@ -253,7 +271,8 @@ check_formula-returns-in_ok-first-in-Chain-clause-checked t c =
       whole_is ∙ (ap (λ (ls : List Link). link_faults S a q.connective even ls) (sym c.deref-in-Chain-2.ensures.value) ∙ others.0),
       formula-chain q.connective c.in_ok-first-in-Chain.first c.in_ok-left-in-Chain.links
           ∙ (chain-view S q.connective first links c.args.carriers.now.items c.check_formula-in-Chain.new.carriers.items head.carriers s a
-          (formula_view (box_value c.in_ok-first-in-Chain.first)) (formula_views c.in_ok-left-in-Chain.links.items) (ap formula_view (c.in_ok-first-in-Chain.ensures.ok ∙ kept.0) ∙ head.checked.1) others.1
+          (formula_view (box_value c.in_ok-first-in-Chain.first)) (formula_views c.in_ok-left-in-Chain.links.items)
+          (ap formula_view (c.in_ok-first-in-Chain.ensures.ok ∙ kept.0) ∙ head.checked.1) others.1
           ∙ sym (ap (λ (f : FormulaForm). elaborated S s a n (expanded (erased_formula f))) node)),
     )
 
@@ -267,7 +286,11 @@ check_formula-returns-in_ok-first-in-Chain-clause-carriers t c =
     let links = c.deref-in-Chain-2.result.now in
     let node = chain-node c.args.formula.now first q.connective q.first q.links links q.is c.deref-in-Chain.ensures c.deref-in-Chain-2.ensures.value in
     let head = c.in_ok-head-in-Chain.ensures in
-    let grown = subst (λ (r : Result (Vec Formula Global) (OrMemory TypingFault)). OnOk r (shapes_of c.check_links-operands.new.carriers.items ≡ shapes_of c.check_formula-in-Chain.new.carriers.items ++ links_loops S links)) c.in_ok-left-in-Chain.ensures.1 c.check_links-operands.ensures.carriers in
+    let grown =
+    subst (λ (r : Result (Vec Formula Global) (OrMemory TypingFault)). OnOk r
+    (shapes_of c.check_links-operands.new.carriers.items
+    ≡ shapes_of c.check_formula-in-Chain.new.carriers.items ++ links_loops S links)) c.in_ok-left-in-Chain.ensures.1
+    c.check_links-operands.ensures.carriers in
     chain-shapes S q.connective first links c.args.carriers.now.items c.check_formula-in-Chain.new.carriers.items head.carriers c.check_links-operands.new.carriers.items grown
     ∙ sym (ap (λ (f : FormulaForm). shapes_of c.args.carriers.now.items ++ loops S (expanded (erased_formula f))) node)
 
@@ -281,7 +304,8 @@ check_formula-returns-in_ok-first-in-Chain-clause-places t c =
     let kept = c.in_ok-left-in-Chain.ensures in
     let others = subst (λ (r : Result (Vec Formula Global) (OrMemory TypingFault)). IfOk r (λ fs. places_of fs.items ≡ links_calls links)) kept.1 c.check_links-operands.ensures.places in
     chain-places q.connective c.in_ok-first-in-Chain.first c.in_ok-left-in-Chain.links
-    ∙ (chain_calls q.connective first links (call_places (box_value c.in_ok-first-in-Chain.first)) (places_of c.in_ok-left-in-Chain.links.items) (ap call_places (c.in_ok-first-in-Chain.ensures.ok ∙ kept.0) ∙ head.places) others
+    ∙ (chain_calls q.connective first links (call_places (box_value c.in_ok-first-in-Chain.first))
+    (places_of c.in_ok-left-in-Chain.links.items) (ap call_places (c.in_ok-first-in-Chain.ensures.ok ∙ kept.0) ∙ head.places) others
     ∙ sym (ap calls_in node))
 
 -- ---- quantifiers
@@ -295,7 +319,10 @@ check_formula-returns-in_err-bound-in-Quantified-clause-checked t c =
     let groups = c.deref-in-Quantified.result.now in
     let e = c.in_err-bound-in-Quantified.field-0.0 in
     let whole = formula_faults S even a (formula_form c.args.formula.now) in
-    let h : IsAmong whole e = among_first whole (variables_faults S (variable_forms groups)) _ e (quantified-faults S even a c.args.formula.now q.place q.quantifier q.variables q.body q.body.value groups q.is refl c.deref-in-Quantified.ensures.value) c.in_err-bound-in-Quantified.ensures.bound in
+    let h : IsAmong whole e =
+    among_first whole (variables_faults S (variable_forms groups)) _ e
+    (quantified-faults S even a c.args.formula.now q.place q.quantifier q.variables q.body q.body.value groups q.is
+    refl c.deref-in-Quantified.ensures.value) c.in_err-bound-in-Quantified.ensures.bound in
     search rules
 
 pub check_formula-returns-in_err-body-in-Quantified-clause-checked : goal.check_formula-returns-in_err-body-in-Quantified-clause-checked
@@ -359,4 +386,6 @@ pub check_formula-returns-in_ok-formula-in-Quantified-clause-places : goal.check
 check_formula-returns-in_ok-formula-in-Quantified-clause-places t c =
     let q = c.in-Quantified in
     c.in_ok-formula-in-Quantified.ensures.places
-    ∙ (c.in_ok-body-in-Quantified.ensures.places ∙ sym (quantified-calls c.args.formula.now q.place q.quantifier q.variables q.body c.deref-in-Quantified-2.result.now q.is c.deref-in-Quantified-2.ensures))
+    ∙ (c.in_ok-body-in-Quantified.ensures.places
+    ∙ sym (quantified-calls c.args.formula.now q.place q.quantifier q.variables q.body
+    c.deref-in-Quantified-2.result.now q.is c.deref-in-Quantified-2.ensures))

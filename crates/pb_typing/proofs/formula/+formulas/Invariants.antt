@@ -17,4 +17,5 @@ decreases-check_links l = 2 * links_weight l.links.now + 1
 
 abbrev pub invariant-check_links-loop-index : goal.invariant-check_links-loop-index
 invariant-check_links-loop-index l =
-    AreDone (spec_of l.context.declarations.now) (scope_view l.context.scope.now) (slotting l.context.scope.now) l.connective (is_positive l.polarity) l.links l.fn.carriers.items l.index l.operands.items l.carriers.items
+    AreDone (spec_of l.context.declarations.now) (scope_view l.context.scope.now) (slotting l.context.scope.now)
+    l.connective (is_positive l.polarity) l.links l.fn.carriers.items l.index l.operands.items l.carriers.items

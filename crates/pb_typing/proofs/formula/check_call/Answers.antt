@@ -11,7 +11,9 @@ use Rattle.pb_typing.proofs.formula.check_call.Goals as goal
 
 pub returns-in_err-call-clause-checked : goal.returns-in_err-call-clause-checked
 returns-in_err-call-clause-checked c = λ n.
-    let h : IsAmong (instance_faults (text_in c.args.context.now) (is_positive c.args.polarity) (scope_in c.args.context.now) (instance_form c.args.instance.now)) c.in_err-call.field-0.0 = c.in_err-call.ensures in
+    let h : IsAmong
+    (instance_faults (text_in c.args.context.now) (is_positive c.args.polarity) (scope_in c.args.context.now)
+    (instance_form c.args.instance.now)) c.in_err-call.field-0.0 = c.in_err-call.ensures in
     search rules
 
 pub returns-clause-checked : goal.returns-clause-checked

@@ -54,7 +54,8 @@ initial_fits : (S : Spec) (x : Argument) (t : tree.Term) → has_quantifier (for
 initial_fits S x t plain fit is = subst (Fits 0 (slots_of [])) (sym is) (slotted-fits S unslotted 0 (slots_of []) [] (λ y s none. cc) (λ y. refl) (form x) plain fit)
 
 -- the values of all arguments, where that of the first is added to others
-values_then : (S : Spec) (r : Result (Unit {0}) (OrMemory TypingFault)) (old mid new : List ℤ) (v : ℤ) (all : List Argument) (x : Argument) (xs : List Argument) → all ≡ x ∷ xs → mid ≡ old ++ v ∷ [] → v ≡ value S [] (form x)
+values_then : (S : Spec) (r : Result (Unit {0}) (OrMemory TypingFault)) (old mid new : List ℤ) (v : ℤ)
+    (all : List Argument) (x : Argument) (xs : List Argument) → all ≡ x ∷ xs → mid ≡ old ++ v ∷ [] → v ≡ value S [] (form x)
     → OnOk r (new ≡ mid ++ values S [] (forms xs)) → OnOk r (new ≡ old ++ values S [] (forms all))
 values_then S (Ok u) old mid new v all x xs here pushed is h =
     h

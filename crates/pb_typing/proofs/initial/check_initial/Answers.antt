@@ -36,7 +36,8 @@ returns-in_err-call c =
     search rules
 
 -- the faults of an instance that has none of its own are those of its values
-faults_are : (S : Spec) (i : InstanceForm) (es : List Argument) (xs : List Variable) → argument_forms es ≡ i.arguments → instance_faults S true outermost i ≡ [] → xs ≡ parameters_named (equation_named S.equations i.name.text)
+faults_are : (S : Spec) (i : InstanceForm) (es : List Argument) (xs : List Variable) → argument_forms es ≡ i.arguments
+    → instance_faults S true outermost i ≡ [] → xs ≡ parameters_named (equation_named S.equations i.name.text)
     → value_faults S (argument_forms es) xs ≡ initial_faults S i
 faults_are S i es xs are clear same =
     ap (λ (zs : ArgumentForms). value_faults S zs xs) are
@@ -94,7 +95,9 @@ returns-in_err-check_values c =
     let there = carriers_there S c.args.layout.now i.name.text c.in_ok-call.call.equation c.carriers-carriers.result.now c.requires.layout at c.carriers-carriers.ensures.list in
     let e = c.in_err-check_values.field-0.0 in
     let told = c.in_err-check_values.ensures.faults xs there in
-    let h : IsAmong (initial_faults S i) e = subst (λ (fs : List TypingFault). IsAmong fs e) (faults_are S i c.deref.result.now xs (ap argument_forms c.deref.ensures.value) c.in_ok-call.ensures.0 refl) told in
+    let h : IsAmong (initial_faults S i) e =
+    subst (λ (fs : List TypingFault). IsAmong fs e)
+    (faults_are S i c.deref.result.now xs (ap argument_forms c.deref.ensures.value) c.in_ok-call.ensures.0 refl) told in
     search rules
 
 pub overflow_cast-result : goal.overflow_cast-result

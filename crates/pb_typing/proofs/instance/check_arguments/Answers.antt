@@ -9,7 +9,8 @@ use Rattle.pb_typing.proofs.instance.check_arguments.Goals as goal
 
 pub loop-index-init : goal.loop-index-init
 loop-index-init c =
-    arguments_begun (text_in c.args.context.now) (scope_in c.args.context.now) (slots_in c.args.context.now) c.args.arguments.now (shapes_of c.args.carriers.now) c.in_ok-checked.checked.items c.in_ok-checked.ensures.items
+    arguments_begun (text_in c.args.context.now) (scope_in c.args.context.now) (slots_in c.args.context.now)
+    c.args.arguments.now (shapes_of c.args.carriers.now) c.in_ok-checked.checked.items c.in_ok-checked.ensures.items
 
 pub returns-in_err-typed : goal.returns-in_err-typed
 returns-in_err-typed c =

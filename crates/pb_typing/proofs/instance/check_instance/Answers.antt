@@ -91,7 +91,9 @@ returns-in_ok-arguments-in-Some c =
     let odd = sym (ap (λ (b : Bool). unless b rule.OddNegations p) c.is_positive.ensures) ∙ c.in_ok-require-in-Some.ensures in
     let counted = subst (λ (m : ℕ). unless (m == length cs) rule.WrongCount p ≡ []) long (c.in_ok-require-in-Some-2).ensures in
     let none = subst (λ (xs : List Argument). faults_against S a xs (shapes_of cs) ≡ []) c.deref-in-Some.ensures.value c.in_ok-arguments-in-Some.ensures.0 in (
-      instance-called S even a i text cs n c.deref.ensures same ∙ no_whole (unless even rule.OddNegations p) _ odd (no_whole (unless (length i.arguments.items == length cs) rule.WrongCount p) _ counted none),
+      instance-called S even a i text cs n c.deref.ensures same
+          ∙ no_whole (unless even rule.OddNegations p) _ odd
+          (no_whole (unless (length i.arguments.items == length cs) rule.WrongCount p) _ counted none),
       record {
         equation = sym (place-found S x) ∙ (ap (equation_place S) (sym c.deref.ensures) ∙ at);
         arguments = c.in_ok-arguments-in-Some.ensures.1 ∙ ap (call_arguments S s a) c.deref-in-Some.ensures.value;

@@ -13,7 +13,11 @@ pub returns-in_ok-first-in-Terms-Formula : goal.returns-in_ok-first-in-Terms-For
 returns-in_ok-first-in-Terms-Formula c =
     let q = c.in-Terms-Formula in
     let both = c.in_ok-first-in-Terms-Formula in
-    let made = subst (λ (r : Result (Vec Formula Global) AllocError). IfOk r (λ all. formula_views all.items ≡ formula_views c.new.result.items ++ (map Test (term_views q.links.items) ++ formula_views (q.formula ∷ [])))) both.ensures.1 c.with_tests-tests.ensures in
+    let made =
+    subst (λ (r : Result (Vec Formula Global) AllocError). IfOk r
+    (λ all. formula_views all.items
+    ≡ formula_views c.new.result.items ++ (map Test (term_views q.links.items) ++ formula_views (q.formula ∷ []))))
+    both.ensures.1 c.with_tests-tests.ensures in
     added-terms c.args.state c.args.value both.first q.links q.formula c.new.result.items both.links.items c.new-in-Terms-Formula.result.items
     (q.is-0 ∙ ap (λ (x : Term). state.Terms x q.links) (sym both.ensures.0)) q.is-1 c.new.ensures.items made c.new-in-Terms-Formula.ensures.items
 
@@ -21,6 +25,10 @@ pub returns-in_ok-first-in-Formulas-Formula : goal.returns-in_ok-first-in-Formul
 returns-in_ok-first-in-Formulas-Formula c =
     let q = c.in-Formulas-Formula in
     let both = c.in_ok-first-in-Formulas-Formula in
-    let made = subst (λ (r : Result (Vec Formula Global) AllocError). IfOk r (λ all. formula_views all.items ≡ formula_views q.links.items ++ (map Test (term_views q.behind.items) ++ formula_views (q.formula ∷ [])))) both.ensures.1 c.with_tests-operands.ensures in
+    let made =
+    subst (λ (r : Result (Vec Formula Global) AllocError). IfOk r
+    (λ all. formula_views all.items
+    ≡ formula_views q.links.items ++ (map Test (term_views q.behind.items) ++ formula_views (q.formula ∷ []))))
+    both.ensures.1 c.with_tests-operands.ensures in
     added-formulas c.args.state c.args.value both.first q.links q.behind q.formula both.links.items c.new-in-Formulas-Formula.result.items
     (q.is-0 ∙ ap (λ (x : Formula). state.Formulas x q.links q.behind) (sym both.ensures.0)) q.is-1 made c.new-in-Formulas-Formula.ensures.items

@@ -15,5 +15,8 @@ pub returns-in_ok-first-in-Formulas-clause-value : goal.returns-in_ok-first-in-F
 returns-in_ok-first-in-Formulas-clause-value c =
     let q = c.in-Formulas in
     let both = c.in_ok-head-in-Formulas in
-    let made = subst (λ (r : Result (Vec Formula Global) AllocError). IfOk r (λ all. formula_views all.items ≡ formula_views q.links.items ++ tail c.args.connective (term_views q.behind.items))) both.ensures.1 c.with_tail-operands.ensures in
+    let made =
+    subst (λ (r : Result (Vec Formula Global) AllocError). IfOk r
+    (λ all. formula_views all.items
+    ≡ formula_views q.links.items ++ tail c.args.connective (term_views q.behind.items))) both.ensures.1 c.with_tail-operands.ensures in
     formulas-made c.args.connective c.args.state q.first q.links both.links q.behind c.in_ok-first-in-Formulas.first q.is (c.in_ok-first-in-Formulas.ensures.ok ∙ both.ensures.0) made

@@ -6,5 +6,6 @@ pub returns : goal.returns
 returns c =
     tail-made c.args.connective c.args.formulas.items c.push.new.self.items c.args.terms.items c.remove-first.result c.in_ok-first.first c.remove-first.new.self
     c.in_ok-first.ensures.ok
-    (head-removed c.args.terms.len c.args.terms.items c.remove-first.new.self.items c.remove-first.result (sym c.is_empty.ensures ∙ c.if-is_empty.false) (search rules) c.remove-first.ensures.value c.remove-first.ensures.items)
+    (head-removed c.args.terms.len c.args.terms.items c.remove-first.new.self.items c.remove-first.result
+    (sym c.is_empty.ensures ∙ c.if-is_empty.false) (search rules) c.remove-first.ensures.value c.remove-first.ensures.items)
     c.in_ok-push.ensures.items

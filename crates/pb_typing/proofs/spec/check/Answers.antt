@@ -6,7 +6,16 @@ use Rattle.pb_typing.proofs.spec.check.Goals as goal
 
 pub invariant_of-result : goal.invariant_of-result
 invariant_of-result c =
-    let checked = c.in-Ok.ensures.1 in record { faultless = ap is_none c.in-Ok.ensures.0; laid_out = checked.laid_out; rights = checked.rights; loops = checked.loops; calls = checked.calls; asked = checked.asked }
+    let checked = c.in-Ok.ensures.1 in
+    record {
+      faultless = ap is_none c.in-Ok.ensures.0;
+      laid_out = checked.laid_out;
+      rights = checked.rights;
+      loops =
+          checked.loops;
+      calls = checked.calls;
+      asked = checked.asked;
+    }
 
 pub returns-in-Ok-clause-accepted : goal.returns-in-Ok-clause-accepted
 returns-in-Ok-clause-accepted c = well_typed (spec_form c.args.spec) c.in-Ok.ensures.0

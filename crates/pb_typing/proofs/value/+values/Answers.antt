@@ -101,7 +101,9 @@ check_chain-returns-then-is_empty-clause-carriers t c =
     let a = scope_in c.args.context.now in
     let s = slots_in c.args.context.now in
     let n = length c.args.carriers.now.items in
-    c.in_ok-head.ensures.carriers ∙ ap (λ (ss : List model.Shape). shapes_of c.args.carriers.now.items ++ ss) (sym (lone_loops S c.args.connective c.args.first.now c.args.links.now (sym c.is_empty.ensures ∙ c.if-is_empty.true)))
+    c.in_ok-head.ensures.carriers
+    ∙ ap (λ (ss : List model.Shape). shapes_of c.args.carriers.now.items ++ ss)
+    (sym (lone_loops S c.args.connective c.args.first.now c.args.links.now (sym c.is_empty.ensures ∙ c.if-is_empty.true)))
 
 -- what is found of the operands behind the first
 abbrev ChecksLinks : Spec → Scope → Slotting → ℕ → model.Shape → List TermLink → Result (Vec Value Global) (OrMemory TypingFault) → Type 0
@@ -138,14 +140,21 @@ check_chain-returns-clause-checked t c =
     let others = subst (ChecksLinks S a s (length c.check_value.new.carriers.items) (shape_view c.shape.result) links) kept.1 c.check_links-operands.ensures.checked in (
       first_clear _ _ _ all checked.0 ∙ (ap (λ (u : model.Shape). link_faults S true a u links) (sym (c.shape.ensures ∙ checked.1)) ∙ others.0),
       c.in_ok-value.ensures.shape ∙ sym (some-shape S a c.args.connective first links (sym c.is_empty.ensures ∙ c.if-is_empty.false)),
-      chain-value S a s c.args.connective c.args.first.now links c.args.carriers.now.items c.check_value.new.carriers.items c.in_ok-left.left c.in_ok-left.rest.items _ c.in_ok-head.ensures.carriers (ap value_view kept.0 ∙ checked.2) others.1 c.in_ok-value.ensures.value,
+      chain-value S a s c.args.connective c.args.first.now links c.args.carriers.now.items
+          c.check_value.new.carriers.items c.in_ok-left.left c.in_ok-left.rest.items _ c.in_ok-head.ensures.carriers
+          (ap value_view kept.0 ∙ checked.2) others.1 c.in_ok-value.ensures.value,
     )
 
 pub check_chain-returns-clause-carriers : goal.check_chain-returns-clause-carriers
 check_chain-returns-clause-carriers t c =
     let S = text_in c.args.context.now in
-    let grown = subst (λ (r : Result (Vec Value Global) (OrMemory TypingFault)). OnOk r (shapes_of c.check_links-operands.new.carriers.items ≡ shapes_of c.check_value.new.carriers.items ++ value_loops S c.args.links.now)) c.in_ok-left.ensures.1 c.check_links-operands.ensures.carriers in
-    chain-loops S c.args.connective c.args.first.now c.args.links.now c.args.carriers.now.items c.check_value.new.carriers.items c.check_links-operands.new.carriers.items c.in_ok-head.ensures.carriers grown
+    let grown =
+    subst (λ (r : Result (Vec Value Global) (OrMemory TypingFault)). OnOk r
+    (shapes_of c.check_links-operands.new.carriers.items
+    ≡ shapes_of c.check_value.new.carriers.items ++ value_loops S c.args.links.now)) c.in_ok-left.ensures.1
+    c.check_links-operands.ensures.carriers in
+    chain-loops S c.args.connective c.args.first.now c.args.links.now c.args.carriers.now.items
+    c.check_value.new.carriers.items c.check_links-operands.new.carriers.items c.in_ok-head.ensures.carriers grown
 
 pub check_links-loop-index-init : goal.check_links-loop-index-init
 check_links-loop-index-init t c =
@@ -182,7 +191,9 @@ check_links-loop-index-preserved t c =
     let link = c.index-links-index.result in
     let next = links_next S true a (shape_view c.loop-index.left) links k link c.loop-index-test.true c.index-links-index.is in
     let h = c.in_ok-operand.ensures.checked in
-    done_next S a s links (shape_view c.args.first) (shape_view c.loop-index.left) _ c.args.carriers.now.items c.loop-index.carriers.items c.check_link.new.carriers.items k link c.in_ok-operand.operand c.loop-index.operands.items c.push.new.self.items
+    done_next S a s links (shape_view c.args.first) (shape_view c.loop-index.left) _ c.args.carriers.now.items
+    c.loop-index.carriers.items c.check_link.new.carriers.items k link c.in_ok-operand.operand
+    c.loop-index.operands.items c.push.new.self.items
     c.loop-index-test.true c.index-links-index.is c.in_ok-push.ensures.items (first_clear _ _ _ next h.0) (c.shape-left.ensures ∙ h.1) h.2 c.in_ok-operand.ensures.carriers c.loop-index.invariant
 
 pub check_links-returns-clause-checked : goal.check_links-returns-clause-checked
@@ -190,8 +201,14 @@ check_links-returns-clause-checked t c =
     let S = text_in c.args.context.now in
     let a = scope_in c.args.context.now in
     let s = slots_in c.args.context.now in
-    let n = length c.args.carriers.now.items in
-    (faults_ended S a s c.args.links.now (shape_view c.args.first) (shape_view c.loop-index.left) c.args.carriers.now.items c.loop-index.carriers.items c.loop-index.index c.loop-index.operands.items (omega (arith, c.loop-index-test.false)) c.loop-index.invariant, values_ended S a s c.args.links.now (shape_view c.args.first) (shape_view c.loop-index.left) c.args.carriers.now.items c.loop-index.carriers.items c.loop-index.index c.loop-index.operands.items (omega (arith, c.loop-index-test.false)) c.loop-index.invariant)
+    let n = length c.args.carriers.now.items in (
+      faults_ended S a s c.args.links.now (shape_view c.args.first) (shape_view c.loop-index.left)
+          c.args.carriers.now.items c.loop-index.carriers.items c.loop-index.index c.loop-index.operands.items
+          (omega (arith, c.loop-index-test.false)) c.loop-index.invariant,
+      values_ended S a s c.args.links.now
+          (shape_view c.args.first) (shape_view c.loop-index.left) c.args.carriers.now.items c.loop-index.carriers.items
+          c.loop-index.index c.loop-index.operands.items (omega (arith, c.loop-index-test.false)) c.loop-index.invariant,
+    )
 
 pub check_links-returns-clause-carriers : goal.check_links-returns-clause-carriers
 check_links-returns-clause-carriers t c =
@@ -199,7 +216,9 @@ check_links-returns-clause-carriers t c =
     let a = scope_in c.args.context.now in
     let s = slots_in c.args.context.now in
     let n = length c.args.carriers.now.items in
-    loops_ended S a s c.args.links.now (shape_view c.args.first) (shape_view c.loop-index.left) c.args.carriers.now.items c.loop-index.carriers.items c.loop-index.index c.loop-index.operands.items (omega (arith, c.loop-index-test.false)) c.loop-index.invariant
+    loops_ended S a s c.args.links.now (shape_view c.args.first) (shape_view c.loop-index.left)
+    c.args.carriers.now.items c.loop-index.carriers.items c.loop-index.index c.loop-index.operands.items
+    (omega (arith, c.loop-index-test.false)) c.loop-index.invariant
 
 pub check_link-returns-in_err-operand-clause-checked : goal.check_link-returns-in_err-operand-clause-checked
 check_link-returns-in_err-operand-clause-checked t c =
@@ -228,7 +247,8 @@ check_value-returns-in_ok-operand-in-Not-clause-checked t c =
     let a = scope_in c.args.context.now in
     let s = slots_in c.args.context.now in
     let n = length c.args.carriers.now.items in
-    not_value S a s n c.args.term.now c.deref.result.now c.in-Not.place c.in-Not.operand c.in_ok-operand-in-Not.operand c.negated_value.result c.in-Not.is c.deref.ensures c.in_ok-operand-in-Not.ensures.checked c.negated_value.ensures
+    not_value S a s n c.args.term.now c.deref.result.now c.in-Not.place c.in-Not.operand c.in_ok-operand-in-Not.operand
+    c.negated_value.result c.in-Not.is c.deref.ensures c.in_ok-operand-in-Not.ensures.checked c.negated_value.ensures
 
 pub check_value-returns-in_ok-operand-in-Not-clause-carriers : goal.check_value-returns-in_ok-operand-in-Not-clause-carriers
 check_value-returns-in_ok-operand-in-Not-clause-carriers t c =
@@ -237,13 +257,23 @@ check_value-returns-in_ok-operand-in-Not-clause-carriers t c =
     let s = slots_in c.args.context.now in
     let n = length c.args.carriers.now.items in
     on_ok c.negated_value.result _
-    (c.in_ok-operand-in-Not.ensures.carriers ∙ ap (λ (ss : List model.Shape). shapes_of c.args.carriers.now.items ++ ss) (sym (not_loops S c.args.term.now c.deref.result.now c.in-Not.place c.in-Not.operand c.in-Not.is c.deref.ensures)))
+    (c.in_ok-operand-in-Not.ensures.carriers
+    ∙ ap (λ (ss : List model.Shape). shapes_of c.args.carriers.now.items ++ ss)
+    (sym (not_loops S c.args.term.now c.deref.result.now c.in-Not.place c.in-Not.operand c.in-Not.is c.deref.ensures)))
 
 -- ---- chains, as nodes
 
 pub check_value-check_chain-requires : goal.check_value-check_chain-requires
 check_value-check_chain-requires t c =
-    omega (arith, c.decreases, ap weight c.in-Chain.is ∙ weight-chain c.in-Chain.connective c.in-Chain.first c.in-Chain.links, ap weight c.deref-in-Chain.ensures, ap links_weight c.deref-in-Chain-2.ensures.value)
+    omega (
+      arith,
+      c.decreases,
+      ap weight c.in-Chain.is
+          ∙ weight-chain c.in-Chain.connective c.in-Chain.first c.in-Chain.links,
+      ap weight c.deref-in-Chain.ensures,
+      ap
+          links_weight c.deref-in-Chain-2.ensures.value,
+    )
 
 pub check_value-returns-in-Chain-clause-checked : goal.check_value-returns-in-Chain-clause-checked
 check_value-returns-in-Chain-clause-checked t c =
@@ -251,7 +281,9 @@ check_value-returns-in-Chain-clause-checked t c =
     let a = scope_in c.args.context.now in
     let s = slots_in c.args.context.now in
     let n = length c.args.carriers.now.items in
-    let node = chain-node c.args.term.now c.deref-in-Chain.result.now c.in-Chain.connective c.in-Chain.first c.in-Chain.links c.deref-in-Chain-2.result.now c.in-Chain.is c.deref-in-Chain.ensures c.deref-in-Chain-2.ensures.value in
+    let node =
+    chain-node c.args.term.now c.deref-in-Chain.result.now c.in-Chain.connective c.in-Chain.first c.in-Chain.links
+    c.deref-in-Chain-2.result.now c.in-Chain.is c.deref-in-Chain.ensures c.deref-in-Chain-2.ensures.value in
     value_node S a s n (term_form c.args.term.now) _ c.check_chain.result node c.check_chain.ensures.checked
 
 pub check_value-returns-in-Chain-clause-carriers : goal.check_value-returns-in-Chain-clause-carriers
@@ -260,8 +292,12 @@ check_value-returns-in-Chain-clause-carriers t c =
     let a = scope_in c.args.context.now in
     let s = slots_in c.args.context.now in
     let n = length c.args.carriers.now.items in
-    let node = chain-node c.args.term.now c.deref-in-Chain.result.now c.in-Chain.connective c.in-Chain.first c.in-Chain.links c.deref-in-Chain-2.result.now c.in-Chain.is c.deref-in-Chain.ensures c.deref-in-Chain-2.ensures.value in
-    subst (λ (x : TermForm). OnOk c.check_chain.result (shapes_of c.check_chain.new.carriers.items ≡ shapes_of c.args.carriers.now.items ++ loops S (expanded_term (erased_term x)))) (sym node) c.check_chain.ensures.carriers
+    let node =
+    chain-node c.args.term.now c.deref-in-Chain.result.now c.in-Chain.connective c.in-Chain.first c.in-Chain.links
+    c.deref-in-Chain-2.result.now c.in-Chain.is c.deref-in-Chain.ensures c.deref-in-Chain-2.ensures.value in
+    subst (λ (x : TermForm). OnOk c.check_chain.result
+    (shapes_of c.check_chain.new.carriers.items
+    ≡ shapes_of c.args.carriers.now.items ++ loops S (expanded_term (erased_term x)))) (sym node) c.check_chain.ensures.carriers
 
 -- ---- arithmetic
 
@@ -289,7 +325,10 @@ check_value-returns-then-is_empty-clause-carriers t c =
     let links = c.in-Arithmetic.links in
     let none : length links.items ≡ 0 = omega (arith, eqb-true (vec_len links) 0 (sym c.is_empty.ensures ∙ c.if-is_empty.true), links.ok.0) in
     let node = operand-node c.args.term.now c.deref-then-is_empty.result.now c.in-Arithmetic.first links c.in-Arithmetic.is c.deref-then-is_empty.ensures none in
-    subst (λ (x : TermForm). OnOk c.check_value-then-is_empty.result (shapes_of c.check_value-then-is_empty.new.carriers.items ≡ shapes_of c.args.carriers.now.items ++ loops S (expanded_term (erased_term x)))) (sym node) c.check_value-then-is_empty.ensures.carriers
+    subst (λ (x : TermForm). OnOk c.check_value-then-is_empty.result
+    (shapes_of c.check_value-then-is_empty.new.carriers.items
+    ≡ shapes_of c.args.carriers.now.items ++ loops S (expanded_term (erased_term x)))) (sym node)
+    c.check_value-then-is_empty.ensures.carriers
 
 pub check_value-returns-else-is_empty-clause-checked : goal.check_value-returns-else-is_empty-clause-checked
 check_value-returns-else-is_empty-clause-checked t c =
@@ -311,7 +350,8 @@ pub check_value-returns-in-Constant-clause-checked : goal.check_value-returns-in
 check_value-returns-in-Constant-clause-checked t c =
     let S = text_in c.args.context.now in
     let a = scope_in c.args.context.now in
-    data_node S a (slots_in c.args.context.now) (length c.args.carriers.now.items) (term_form c.args.term.now) c.check_data-in-Constant.result (same-faults S a c.args.term.now _ c.in-Constant.is refl) c.check_data-in-Constant.ensures.checked
+    data_node S a (slots_in c.args.context.now) (length c.args.carriers.now.items) (term_form c.args.term.now)
+    c.check_data-in-Constant.result (same-faults S a c.args.term.now _ c.in-Constant.is refl) c.check_data-in-Constant.ensures.checked
 
 pub check_value-returns-in-Constant-clause-carriers : goal.check_value-returns-in-Constant-clause-carriers
 check_value-returns-in-Constant-clause-carriers t c =
@@ -321,7 +361,8 @@ pub check_value-returns-in-Number-clause-checked : goal.check_value-returns-in-N
 check_value-returns-in-Number-clause-checked t c =
     let S = text_in c.args.context.now in
     let a = scope_in c.args.context.now in
-    data_node S a (slots_in c.args.context.now) (length c.args.carriers.now.items) (term_form c.args.term.now) c.check_data-in-Number.result (same-faults S a c.args.term.now _ c.in-Number.is refl) c.check_data-in-Number.ensures.checked
+    data_node S a (slots_in c.args.context.now) (length c.args.carriers.now.items) (term_form c.args.term.now)
+    c.check_data-in-Number.result (same-faults S a c.args.term.now _ c.in-Number.is refl) c.check_data-in-Number.ensures.checked
 
 pub check_value-returns-in-Number-clause-carriers : goal.check_value-returns-in-Number-clause-carriers
 check_value-returns-in-Number-clause-carriers t c =
@@ -331,7 +372,8 @@ pub check_value-returns-in-Name-clause-checked : goal.check_value-returns-in-Nam
 check_value-returns-in-Name-clause-checked t c =
     let S = text_in c.args.context.now in
     let a = scope_in c.args.context.now in
-    data_node S a (slots_in c.args.context.now) (length c.args.carriers.now.items) (term_form c.args.term.now) c.check_data-in-Name.result (same-faults S a c.args.term.now _ c.in-Name.is refl) c.check_data-in-Name.ensures.checked
+    data_node S a (slots_in c.args.context.now) (length c.args.carriers.now.items) (term_form c.args.term.now)
+    c.check_data-in-Name.result (same-faults S a c.args.term.now _ c.in-Name.is refl) c.check_data-in-Name.ensures.checked
 
 pub check_value-returns-in-Name-clause-carriers : goal.check_value-returns-in-Name-clause-carriers
 check_value-returns-in-Name-clause-carriers t c =
@@ -341,7 +383,8 @@ pub check_value-returns-in-Negative-clause-checked : goal.check_value-returns-in
 check_value-returns-in-Negative-clause-checked t c =
     let S = text_in c.args.context.now in
     let a = scope_in c.args.context.now in
-    data_node S a (slots_in c.args.context.now) (length c.args.carriers.now.items) (term_form c.args.term.now) c.check_data-in-Negative.result (same-faults S a c.args.term.now _ c.in-Negative.is refl) c.check_data-in-Negative.ensures.checked
+    data_node S a (slots_in c.args.context.now) (length c.args.carriers.now.items) (term_form c.args.term.now)
+    c.check_data-in-Negative.result (same-faults S a c.args.term.now _ c.in-Negative.is refl) c.check_data-in-Negative.ensures.checked
 
 pub check_value-returns-in-Negative-clause-carriers : goal.check_value-returns-in-Negative-clause-carriers
 check_value-returns-in-Negative-clause-carriers t c =
@@ -351,7 +394,9 @@ pub check_value-returns-in-Comparison-clause-checked : goal.check_value-returns-
 check_value-returns-in-Comparison-clause-checked t c =
     let S = text_in c.args.context.now in
     let a = scope_in c.args.context.now in
-    data_node S a (slots_in c.args.context.now) (length c.args.carriers.now.items) (term_form c.args.term.now) c.check_data-in-Comparison.result (same-faults S a c.args.term.now _ c.in-Comparison.is refl) c.check_data-in-Comparison.ensures.checked
+    data_node S a (slots_in c.args.context.now) (length c.args.carriers.now.items) (term_form c.args.term.now)
+    c.check_data-in-Comparison.result (same-faults S a c.args.term.now _ c.in-Comparison.is refl)
+    c.check_data-in-Comparison.ensures.checked
 
 pub check_value-returns-in-Comparison-clause-carriers : goal.check_value-returns-in-Comparison-clause-carriers
 check_value-returns-in-Comparison-clause-carriers t c =
@@ -361,7 +406,10 @@ pub check_value-returns-in-Application-clause-checked : goal.check_value-returns
 check_value-returns-in-Application-clause-checked t c =
     let S = text_in c.args.context.now in
     let a = scope_in c.args.context.now in
-    data_node S a (slots_in c.args.context.now) (length c.args.carriers.now.items) (term_form c.args.term.now) c.check_data-in-Application.result (application-same S a c.args.term.now c.in-Application.function c.in-Application.arguments c.in-Application.is) c.check_data-in-Application.ensures.checked
+    data_node S a (slots_in c.args.context.now) (length c.args.carriers.now.items) (term_form c.args.term.now)
+    c.check_data-in-Application.result
+    (application-same S a c.args.term.now c.in-Application.function c.in-Application.arguments c.in-Application.is)
+    c.check_data-in-Application.ensures.checked
 
 pub check_value-returns-in-Application-clause-carriers : goal.check_value-returns-in-Application-clause-carriers
 check_value-returns-in-Application-clause-carriers t c =
@@ -377,7 +425,10 @@ check_value-returns-in_err-bound-in-Quantified-clause-checked t c =
     let groups = c.deref-in-Quantified.result.now in
     let e = c.in_err-bound-in-Quantified.field-0.0 in
     let whole = term_faults S true a (term_form c.args.term.now) in
-    let h : IsAmong whole e = among_first whole (variables_faults S (variable_forms groups)) _ e (quantified-faults S a c.args.term.now q.place q.quantifier q.variables q.body q.body.value groups q.is refl c.deref-in-Quantified.ensures.value) c.in_err-bound-in-Quantified.ensures.bound in
+    let h : IsAmong whole e =
+    among_first whole (variables_faults S (variable_forms groups)) _ e
+    (quantified-faults S a c.args.term.now q.place q.quantifier q.variables q.body q.body.value groups q.is refl
+    c.deref-in-Quantified.ensures.value) c.in_err-bound-in-Quantified.ensures.bound in
     search rules
 
 pub check_value-returns-in_err-body-in-Quantified-clause-checked : goal.check_value-returns-in_err-body-in-Quantified-clause-checked

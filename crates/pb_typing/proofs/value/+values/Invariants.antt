@@ -26,4 +26,5 @@ decreases-check_link l = 3 * weight l.link.now.operand + 1
 
 abbrev pub invariant-check_links-loop-index : goal.invariant-check_links-loop-index
 invariant-check_links-loop-index l =
-    AreDone (spec_of l.context.declarations.now) (scope_view l.context.scope.now) (slotting l.context.scope.now) l.links (shape_view l.fn.first) (shape_view l.left) l.fn.carriers.items l.index l.operands.items l.carriers.items
+    AreDone (spec_of l.context.declarations.now) (scope_view l.context.scope.now) (slotting l.context.scope.now) l.links
+    (shape_view l.fn.first) (shape_view l.left) l.fn.carriers.items l.index l.operands.items l.carriers.items

@@ -44,5 +44,6 @@ loop-kept-preserved c =
     record {
       utf8 = search rules;
       below = omega arith;
-      behind = one_more B D c.args.limit c.loop-kept.left c.args.sort.now c.loop-kept.sort.now c.in-GoesOn.target.now c.loop-kept.invariant.below (omega arith) c.loop-kept.invariant.behind (λ n. c.in-GoesOn.ensures (end_within n B D));
+      behind = one_more B D c.args.limit c.loop-kept.left c.args.sort.now c.loop-kept.sort.now c.in-GoesOn.target.now
+          c.loop-kept.invariant.below (omega arith) c.loop-kept.invariant.behind (λ n. c.in-GoesOn.ensures (end_within n B D));
     }

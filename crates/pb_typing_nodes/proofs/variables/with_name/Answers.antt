@@ -11,4 +11,5 @@ at_name {V} look old v key name put is x = ap (λ (f : Name → Option V). f x) 
 
 pub returns : goal.returns
 returns g c =
-    at_name (looked_up c.insert.new.self) (looked_up c.args.table) c.args.value c.as_str.result.now _ (put_in c.args.table c.insert.new.self c.as_str.result c.args.value c.in_ok-insert.ensures.updates) c.as_str.ensures.value
+    at_name (looked_up c.insert.new.self) (looked_up c.args.table) c.args.value c.as_str.result.now _
+    (put_in c.args.table c.insert.new.self c.as_str.result c.args.value c.in_ok-insert.ensures.updates) c.as_str.ensures.value

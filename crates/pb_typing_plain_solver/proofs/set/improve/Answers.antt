@@ -51,7 +51,8 @@ joins_done false true false r e p = refl
 joins_done false true true r e p = absurd (true≢false p)
 
 -- the sign in the text is the equation's
-sign_there : (typed : Typed) (k : ℕ) (R : declared_equation.Equation) (X : Equation) → k < length typed.layout → R ≡ get_or typed.spec.equations.items k R → slice_get (erase (spec_form typed.spec)).equations k ≡ Some X → R.sign ≡ X.sign
+sign_there : (typed : Typed) (k : ℕ) (R : declared_equation.Equation) (X : Equation) → k < length typed.layout
+    → R ≡ get_or typed.spec.equations.items k R → slice_get (erase (spec_form typed.spec)).equations k ≡ Some X → R.sign ≡ X.sign
 sign_there typed k R X lt is at =
     ap (λ (Y : Equation). Y.sign) (same_Some (erased_equation (equation_form R)) X (sym (equation_known typed.spec typed.layout k R typed.laid_out.values lt is) ∙ at))
 
@@ -112,7 +113,10 @@ loop-number-preserved c =
           let f = λ (n : ℕ). later_truth side (get_or old n false) (right n) in
           let m = inv.mixed X at in
           let here : get_or xs k false ≡ get_or old k false = mixed_ahead first k f old xs m in
-          let begins : start ≡ not side = c.starts_full-start.ensures ∙ ap (λ (s : Sign). not (side_of s)) (sign_there typed c.args.equation c.index.result.now X c.requires.known c.index.ensures at) in
+          let begins : start ≡ not side =
+          c.starts_full-start.ensures
+          ∙ ap (λ (s : Sign). not (side_of s))
+          (sign_there typed c.args.equation c.index.result.now X c.requires.known c.index.ensures at) in
           let stays = λ (ys : List Bool) (is : ys ≡ xs) (joins : get_or old k false ≡ f k).
           let goal_at : IsMixed first (k + 1) f old ys = subst (λ (zs : List Bool). IsMixed first (k + 1) f old zs) (sym is) (mixed_keep first k f old xs from (here ∙ joins) m) in goal_at in
           elim c.if-truths-number.branch [
@@ -148,7 +152,8 @@ returns-clause-joins c =
     let css = carriers_of layout in
     let first = first_of css c.args.equation in
     let numbers = c.numbers_of-numbers.ensures in
-    let all : c.loop-number.number ≡ first + size_of css c.args.equation = omega (arith, numbers.start, numbers.end, c.loop-number.auto.number, c.loop-number.auto.number-end, c.loop-number-test.false) in
+    let all : c.loop-number.number ≡ first + size_of css c.args.equation =
+    omega (arith, numbers.start, numbers.end, c.loop-number.auto.number, c.loop-number.auto.number-end, c.loop-number-test.false) in
     λ X at n own.
     let f = λ (m : ℕ). later_truth (side_of X.sign) (get_or old m false) (right_truth_at S t X layout m) in
     let mixed = subst (λ (k : ℕ). IsMixed first k f old c.loop-number.truths) all (c.loop-number.invariant.mixed X at) in
@@ -168,7 +173,8 @@ returns-clause-others c =
     let css = carriers_of layout in
     let first = first_of css c.args.equation in
     let numbers = c.numbers_of-numbers.ensures in
-    let all : c.loop-number.number ≡ first + size_of css c.args.equation = omega (arith, numbers.start, numbers.end, c.loop-number.auto.number, c.loop-number.auto.number-end, c.loop-number-test.false) in
+    let all : c.loop-number.number ≡ first + size_of css c.args.equation =
+    omega (arith, numbers.start, numbers.end, c.loop-number.auto.number, c.loop-number.auto.number-end, c.loop-number-test.false) in
     let mixed = subst (λ (k : ℕ). IsMixed first k f old c.loop-number.truths) all (c.loop-number.invariant.mixed X at) in
     λ n other. mixed_outside first (first + size_of css c.args.equation) f old c.loop-number.truths n mixed other
 

@@ -17,7 +17,9 @@ invariant-loop-number l =
     let S = erase (spec_form l.typed.spec) in
     record {
       mixed : (X : Equation) → slice_get S.equations l.equation ≡ Some X
-          → IsMixed (first_of (carriers_of l.typed.layout) l.equation) l.number (λ n. later_truth (side_of X.sign) (get_or l.fn.truths n false) (right_truth_at S (environment_of S l.below) X l.typed.layout n)) l.fn.truths l.truths;
+          → IsMixed (first_of (carriers_of l.typed.layout) l.equation) l.number
+          (λ n. later_truth (side_of X.sign) (get_or l.fn.truths n false)
+          (right_truth_at S (environment_of S l.below) X l.typed.layout n)) l.fn.truths l.truths;
       kept : l.changed ≡ false → (n : ℕ) → get_or l.truths n false ≡ get_or l.fn.truths n false;
       slots : (X : Equation) → slice_get S.equations l.equation ≡ Some X → AreSlots S X l.slots;
     }

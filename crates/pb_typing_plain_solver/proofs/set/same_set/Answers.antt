@@ -26,5 +26,6 @@ returns c =
     let css = carriers_of c.args.layout.now in
     let first = first_of css c.args.equation in
     let numbers = c.numbers_of-numbers.ensures in
-    let all : c.loop-number.number ≡ first + size_of css c.args.equation = omega (arith, numbers.start, numbers.end, c.loop-number.auto.number, c.loop-number.auto.number-end, c.loop-number-test.false) in
+    let all : c.loop-number.number ≡ first + size_of css c.args.equation =
+    omega (arith, numbers.start, numbers.end, c.loop-number.auto.number, c.loop-number.auto.number-end, c.loop-number-test.false) in
     λ yes n own. c.loop-number.invariant n (subst (λ (k : ℕ). is_between first k n ≡ true) (sym all) own)

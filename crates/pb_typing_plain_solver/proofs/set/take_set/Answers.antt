@@ -8,7 +8,8 @@ pub loop-number-init : goal.loop-number-init
 loop-number-init c =
     let f = λ (n : ℕ). get_or c.args.from.now n false in
     let css = carriers_of c.args.layout.now in
-    subst (λ (k : ℕ). IsMixed (first_of css c.args.equation) k f c.args.truths.now c.args.truths.now) (sym c.numbers_of-numbers.ensures.start) (mixed_start (first_of css c.args.equation) f c.args.truths.now)
+    subst (λ (k : ℕ). IsMixed (first_of css c.args.equation) k f c.args.truths.now c.args.truths.now)
+    (sym c.numbers_of-numbers.ensures.start) (mixed_start (first_of css c.args.equation) f c.args.truths.now)
 
 pub loop-number-preserved : goal.loop-number-preserved
 loop-number-preserved c =
@@ -23,7 +24,8 @@ returns-clause-taken c =
     let css = carriers_of c.args.layout.now in
     let first = first_of css c.args.equation in
     let numbers = c.numbers_of-numbers.ensures in
-    let all : c.loop-number.number ≡ first + size_of css c.args.equation = omega (arith, numbers.start, numbers.end, c.loop-number.auto.number, c.loop-number.auto.number-end, c.loop-number-test.false) in
+    let all : c.loop-number.number ≡ first + size_of css c.args.equation =
+    omega (arith, numbers.start, numbers.end, c.loop-number.auto.number, c.loop-number.auto.number-end, c.loop-number-test.false) in
     let mixed = subst (λ (k : ℕ). IsMixed first k f c.args.truths.now c.loop-number.truths) all c.loop-number.invariant in
     λ n own. mixed_inside first (first + size_of css c.args.equation) f c.args.truths.now c.loop-number.truths n mixed own
 
@@ -33,6 +35,7 @@ returns-clause-others c =
     let css = carriers_of c.args.layout.now in
     let first = first_of css c.args.equation in
     let numbers = c.numbers_of-numbers.ensures in
-    let all : c.loop-number.number ≡ first + size_of css c.args.equation = omega (arith, numbers.start, numbers.end, c.loop-number.auto.number, c.loop-number.auto.number-end, c.loop-number-test.false) in
+    let all : c.loop-number.number ≡ first + size_of css c.args.equation =
+    omega (arith, numbers.start, numbers.end, c.loop-number.auto.number, c.loop-number.auto.number-end, c.loop-number-test.false) in
     let mixed = subst (λ (k : ℕ). IsMixed first k f c.args.truths.now c.loop-number.truths) all c.loop-number.invariant in
     λ n other. mixed_outside first (first + size_of css c.args.equation) f c.args.truths.now c.loop-number.truths n mixed other

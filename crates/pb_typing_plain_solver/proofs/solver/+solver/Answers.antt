@@ -72,7 +72,8 @@ solve_from-returns-then-same_set-clause-solved t c =
     let same = c.same_set.ensures c.if-same_set.true in
     let high : TakesSet layout k c.args.greatest.now new = λ n own. low n own ∙ sym (same n own) in
     on_ok_weaker c.solve_from.result
-    (λ e. fixed S layout c.args.typed.now.laid_out.values (able c.args.typed.now) k X.0 X.1 old c.args.least.now c.args.greatest.now new c.solve_from.new.truths.items others low high c.requires.least c.requires.greatest
+    (λ e. fixed S layout c.args.typed.now.laid_out.values (able c.args.typed.now) k X.0 X.1 old c.args.least.now
+    c.args.greatest.now new c.solve_from.new.truths.items others low high c.requires.least c.requires.greatest
     (e ∙ ap (λ (u : List Bool). solution (drop (k + 1) (equations_of S)) (environment_of S u)) W))
     c.solve_from.ensures.solved
 
@@ -86,7 +87,9 @@ solve_from-approach-requires t c =
     let R = c.index.result.now in
     let lt : k < length layout = omega (arith, c.if-first-equation_count.false, c.equation_count.ensures.count, c.requires.within) in
     let there = equation_known c.args.typed.now.spec layout k R c.args.typed.now.laid_out.values lt c.index.ensures in
-    let sign_is = λ (X : syntax.Equation) (at : slice_get S.equations k ≡ Some X). ap (λ (Y : syntax.Equation). Y.sign) (same_Some X (erased_equation (equation_form R)) (sym at ∙ there)) ∙ c.in-Mu.is in (
+    let sign_is =
+    λ (X : syntax.Equation) (at : slice_get S.equations k ≡ Some X). ap (λ (Y : syntax.Equation). Y.sign)
+    (same_Some X (erased_equation (equation_form R)) (sym at ∙ there)) ∙ c.in-Mu.is in (
       omega (arith, c.decreases),
       (
         lt,
@@ -97,8 +100,13 @@ solve_from-approach-requires t c =
             (
               c.requires.upper,
               (
-                λ X at. subst (λ (s : Sign). AreBounds (side_of s) (drop k (equations_of S)) (environment_of S c.args.truths.now.items) (environment_of S c.args.least.now)) (sym (sign_is X at)) c.requires.least,
-                λ X at. subst (λ (s : Sign). AreBounds (not (side_of s)) (drop k (equations_of S)) (environment_of S c.args.truths.now.items) (environment_of S c.args.greatest.now)) (sym (sign_is X at)) c.requires.greatest,
+                λ X at. subst
+                    (λ (s : Sign). AreBounds (side_of s) (drop k (equations_of S))
+                    (environment_of S c.args.truths.now.items) (environment_of S c.args.least.now)) (sym (sign_is X at)) c.requires.least,
+                λ X at. subst
+                    (λ (s : Sign). AreBounds (not (side_of s)) (drop k (equations_of S))
+                    (environment_of S c.args.truths.now.items) (environment_of S c.args.greatest.now))
+                    (sym (sign_is X at)) c.requires.greatest,
               ),
             ),
           ),
@@ -114,7 +122,9 @@ solve_from-approach-requires-in-Nu t c =
     let R = c.index.result.now in
     let lt : k < length layout = omega (arith, c.if-first-equation_count.false, c.equation_count.ensures.count, c.requires.within) in
     let there = equation_known c.args.typed.now.spec layout k R c.args.typed.now.laid_out.values lt c.index.ensures in
-    let sign_is = λ (X : syntax.Equation) (at : slice_get S.equations k ≡ Some X). ap (λ (Y : syntax.Equation). Y.sign) (same_Some X (erased_equation (equation_form R)) (sym at ∙ there)) ∙ c.in-Nu.is in (
+    let sign_is =
+    λ (X : syntax.Equation) (at : slice_get S.equations k ≡ Some X). ap (λ (Y : syntax.Equation). Y.sign)
+    (same_Some X (erased_equation (equation_form R)) (sym at ∙ there)) ∙ c.in-Nu.is in (
       omega (arith, c.decreases),
       (
         lt,
@@ -125,8 +135,13 @@ solve_from-approach-requires-in-Nu t c =
             (
               c.requires.lower,
               (
-                λ X at. subst (λ (s : Sign). AreBounds (side_of s) (drop k (equations_of S)) (environment_of S c.args.truths.now.items) (environment_of S c.args.greatest.now)) (sym (sign_is X at)) c.requires.greatest,
-                λ X at. subst (λ (s : Sign). AreBounds (not (side_of s)) (drop k (equations_of S)) (environment_of S c.args.truths.now.items) (environment_of S c.args.least.now)) (sym (sign_is X at)) c.requires.least,
+                λ X at. subst
+                    (λ (s : Sign). AreBounds (side_of s) (drop k (equations_of S))
+                    (environment_of S c.args.truths.now.items) (environment_of S c.args.greatest.now))
+                    (sym (sign_is X at)) c.requires.greatest,
+                λ X at. subst
+                    (λ (s : Sign). AreBounds (not (side_of s)) (drop k (equations_of S))
+                    (environment_of S c.args.truths.now.items) (environment_of S c.args.least.now)) (sym (sign_is X at)) c.requires.least,
               ),
             ),
           ),
@@ -146,7 +161,9 @@ approach-loop-step-init t c =
     let after = drop (k + 1) (equations_of S) in
     let W = written old new c.args.truths.now.len (omega (arith, c.take_set.auto.truths, ap (λ (ys : List Bool). length ys) c.deref_mut.ensures.value)) (sym c.args.truths.now.ok.0) in
     let others = subst (λ (o : List Bool). ChangesOnly layout k o new) c.deref_mut.ensures.value c.take_set.ensures.others in
-    let first = λ (X : syntax.Equation) (at : slice_get S.equations k ≡ Some X). begun S layout c.args.typed.now.laid_out.values (able c.args.typed.now) k X at old c.args.near.now new others c.take_set.ensures.taken (c.requires.near X at) in
+    let first =
+    λ (X : syntax.Equation) (at : slice_get S.equations k ≡ Some X). begun S layout c.args.typed.now.laid_out.values
+    (able c.args.typed.now) k X at old c.args.near.now new others c.take_set.ensures.taken (c.requires.near X at) in
     record {
       count = c.requires.count;
       kept = c.in_ok-kept.ensures.len ∙ c.requires.lower;
@@ -176,7 +193,9 @@ approach-solve_behind-requires t c =
                 λ X at. subst (λ (u : List Bool). AreBounds (side_of X.sign) after (environment_of S u) (environment_of S c.deref.result.now)) (sym same)
                     (subst (λ (u : List Bool). AreBounds (side_of X.sign) after (environment_of S c.loop-step.truths.items) (environment_of S u)) (sym c.deref.ensures.value) (inv.bounds X at)),
                 λ X at. subst (λ (u : List Bool). AreBounds (not (side_of X.sign)) after (environment_of S u) (environment_of S c.args.far.now)) (sym same)
-                    (far S layout c.args.typed.now.laid_out.values (able c.args.typed.now) k X at (environment_of S c.args.truths.now.items) c.loop-step._step c.loop-step.truths.items (environment_of S c.args.far.now) (inv.approach X at) (c.requires.far X at)),
+                    (far S layout c.args.typed.now.laid_out.values (able c.args.typed.now) k X at
+                    (environment_of S c.args.truths.now.items) c.loop-step._step c.loop-step.truths.items
+                    (environment_of S c.args.far.now) (inv.approach X at) (c.requires.far X at)),
               ),
             ),
           ),
@@ -202,7 +221,8 @@ approach-returns-then-not-changed-clause-solved t c =
     let joins = subst (λ (o : List Bool). JoinsRight S layout k X.0 below o next) c.deref_mut-in-loop-step.ensures.value
     (subst (λ (u : List Bool). JoinsRight S layout k X.0 u c.deref_mut-in-loop-step.result.now next) c.deref-in-loop-step.ensures.value (c.in_ok-changed.ensures.joins X.0 X.1)) in
     let unchanged = subst (λ (o : List Bool). TakesSet layout k o next) c.deref_mut-in-loop-step.ensures.value (c.in_ok-changed.ensures.unchanged c.if-not-changed.true) in
-    stopped S layout c.args.typed.now.laid_out.values (able c.args.typed.now) k X.0 X.1 (environment_of S c.args.truths.now.items) c.loop-step._step cur below next (c.loop-step.invariant.approach X.0 X.1)
+    stopped S layout c.args.typed.now.laid_out.values (able c.args.typed.now) k X.0 X.1
+    (environment_of S c.args.truths.now.items) c.loop-step._step cur below next (c.loop-step.invariant.approach X.0 X.1)
     (c.in_ok-solve_behind.ensures.solved ∙ ap (λ (u : List Bool). solution after (environment_of S u)) same) joins unchanged
 
 pub approach-loop-step-preserved : goal.approach-loop-step-preserved
@@ -220,7 +240,10 @@ approach-loop-step-preserved t c =
     let others = subst (λ (o : List Bool). ChangesOnly layout k o next) c.deref_mut-in-loop-step.ensures.value c.in_ok-changed.ensures.others in
     let joins = λ (X : syntax.Equation) (at : slice_get S.equations k ≡ Some X). subst (λ (o : List Bool). JoinsRight S layout k X below o next) c.deref_mut-in-loop-step.ensures.value
     (subst (λ (u : List Bool). JoinsRight S layout k X u c.deref_mut-in-loop-step.result.now next) c.deref-in-loop-step.ensures.value (c.in_ok-changed.ensures.joins X at)) in
-    let step = λ (X : syntax.Equation) (at : slice_get S.equations k ≡ Some X). stepped S layout c.args.typed.now.laid_out.values (able c.args.typed.now) k X at start c.loop-step._step cur below next (c.loop-step.invariant.approach X at)
+    let step =
+    λ (X : syntax.Equation) (at : slice_get S.equations k ≡ Some X). stepped S layout
+    c.args.typed.now.laid_out.values (able c.args.typed.now) k X at start c.loop-step._step cur below next
+    (c.loop-step.invariant.approach X at)
     (c.in_ok-solve_behind.ensures.solved ∙ ap (λ (u : List Bool). solution after (environment_of S u)) same) others (joins X at) in
     record {
       count = c.loop-step.invariant.count;
@@ -247,7 +270,9 @@ approach-solve_behind-requires-2 t c =
               c.requires.upper,
               (
                 λ X at. subst (λ (u : List Bool). AreBounds (side_of X.sign) after (environment_of S c.loop-step.truths.items) (environment_of S u)) (sym c.deref-2.ensures.value) (inv.bounds X at),
-                λ X at. far S layout c.args.typed.now.laid_out.values (able c.args.typed.now) k X at (environment_of S c.args.truths.now.items) c.loop-step._step c.loop-step.truths.items (environment_of S c.args.far.now) (inv.approach X at) (c.requires.far X at),
+                λ X at. far S layout c.args.typed.now.laid_out.values (able c.args.typed.now) k X at
+                    (environment_of S c.args.truths.now.items) c.loop-step._step c.loop-step.truths.items
+                    (environment_of S c.args.far.now) (inv.approach X at) (c.requires.far X at),
               ),
             ),
           ),
@@ -263,7 +288,9 @@ approach-returns-clause-solved t c =
     let X = equation_exists S layout k c.args.typed.now.laid_out.values c.requires.within in
     let all : c.loop-step._step ≡ size_of (carriers_of layout) k = omega (arith, c.loop-step-test.false, c.loop-step.auto._step-end, c.size-step-end.ensures) in
     on_ok_weaker c.solve_behind-2.result
-    (ended S layout c.args.typed.now.laid_out.values (able c.args.typed.now) k X.0 X.1 (environment_of S c.args.truths.now.items) c.loop-step._step c.loop-step.truths.items c.solve_behind-2.new.truths.items all (c.loop-step.invariant.approach X.0 X.1))
+    (ended S layout c.args.typed.now.laid_out.values (able c.args.typed.now) k X.0 X.1
+    (environment_of S c.args.truths.now.items) c.loop-step._step c.loop-step.truths.items
+    c.solve_behind-2.new.truths.items all (c.loop-step.invariant.approach X.0 X.1))
     c.solve_behind-2.ensures.solved
 
 -- ---- the equations behind one

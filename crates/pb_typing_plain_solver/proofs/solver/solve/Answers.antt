@@ -31,7 +31,12 @@ pub unreachable-requires : goal.unreachable-requires
 unreachable-requires c =
     let typed = c.args.typed.now in
     let S = erase (spec_form typed.spec) in
-    let is : IsInitial S typed.initial.equation c.in_ok-from_slice.field-0.items = record { equation = typed.asked.equation; values = c.in_ok-from_slice.ensures.ok ∙ (c.deref-3.ensures.value ∙ typed.asked.values) } in
+    let is : IsInitial S typed.initial.equation c.in_ok-from_slice.field-0.items =
+    record {
+      equation = typed.asked.equation;
+      values =
+          c.in_ok-from_slice.ensures.ok ∙ (c.deref-3.ensures.value ∙ typed.asked.values);
+    } in
     true≢false (sym (c.in-None.ensures.exists.1 (asked-there S typed.layout (record { equation = typed.initial.equation; values = c.in_ok-from_slice.field-0.items }) (laid typed) (well typed) is)))
 
 pub returns : goal.returns
@@ -40,7 +45,12 @@ returns c =
     let S = erase (spec_form typed.spec) in
     let truths = c.solve_from.new.truths.items in
     let n = c.in-Some.number in
-    let is : IsInitial S typed.initial.equation c.in_ok-from_slice.field-0.items = record { equation = typed.asked.equation; values = c.in_ok-from_slice.ensures.ok ∙ (c.deref-3.ensures.value ∙ typed.asked.values) } in
+    let is : IsInitial S typed.initial.equation c.in_ok-from_slice.field-0.items =
+    record {
+      equation = typed.asked.equation;
+      values =
+          c.in_ok-from_slice.ensures.ok ∙ (c.deref-3.ensures.value ∙ typed.asked.values);
+    } in
     let solved = c.in_ok-solve_from.ensures.solved
     ∙ ap (solution (equations_of S)) (ap (λ (u : List Bool). environment_of S u) (c.in_ok-truths.ensures.items_if_clones_equal (λ y e. e)) ∙ none_true S _) in
     let lt : n < length truths = omega (arith, slice_get_within (instances (carriers_of typed.layout)) n _ c.in-Some.ensures.place, c.solve_from.new.truths.ok.0, c.in_ok-solve_from.ensures.count) in

@@ -105,7 +105,8 @@ pub check_one-returns-in_err-x : goal.check_one-returns-in_err-x
 check_one-returns-in_err-x t c =
     let S = text_in c.args.context.now in let a = scope_in c.args.context.now in let xs = c.args.arguments.now in
     let e = c.in_err-x.field-0.0 in
-    let h : IsAmong (application_faults S a (named c.args.name.now) xs) e = argument_fault S a (named c.args.name.now) xs 0 (get_or xs 0 c.index-arguments-0.result) e (omega (arith, c.requires.count)) (ap (get_or xs 0) c.index-arguments-0.is) c.in_err-x.ensures in
+    let h : IsAmong (application_faults S a (named c.args.name.now) xs) e =
+    argument_fault S a (named c.args.name.now) xs 0 (get_or xs 0 c.index-arguments-0.result) e (omega (arith, c.requires.count)) (ap (get_or xs 0) c.index-arguments-0.is) c.in_err-x.ensures in
     search rules
 
 pub check_one-returns : goal.check_one-returns
@@ -113,7 +114,8 @@ check_one-returns t c =
     let S = text_in c.args.context.now in let a = scope_in c.args.context.now in let s = slots_in c.args.context.now in
     let xs = c.args.arguments.now in
     one_node S a s (named c.args.name.now) c.args.function xs (get_or xs 0 c.index-arguments-0.result) c.in_ok-x.x c.apply_one.result c.requires.function
-    (one_argument xs (get_or xs 0 c.index-arguments-0.result) (omega (arith, c.requires.count)) (omega (arith, c.requires.count)) (ap (get_or xs 0) c.index-arguments-0.is)) c.in_ok-x.ensures c.apply_one.ensures
+    (one_argument xs (get_or xs 0 c.index-arguments-0.result) (omega (arith, c.requires.count)) (omega (arith, c.requires.count)) (ap (get_or xs 0) c.index-arguments-0.is))
+    c.in_ok-x.ensures c.apply_one.ensures
 
 pub check_two-check_term-requires : goal.check_two-check_term-requires
 check_two-check_term-requires t c =
@@ -129,7 +131,9 @@ pub check_two-returns-in_err-first : goal.check_two-returns-in_err-first
 check_two-returns-in_err-first t c =
     let S = text_in c.args.context.now in let a = scope_in c.args.context.now in let xs = c.args.arguments.now in
     let e = c.in_err-first.field-0.0 in
-    let h : IsAmong (application_faults S a (named c.args.name.now) xs) e = argument_fault S a (named c.args.name.now) xs 0 (get_or xs 0 c.index-arguments-0.result) e (omega (arith, c.requires.count)) (ap (get_or xs 0) c.index-arguments-0.is) c.in_err-first.ensures in
+    let h : IsAmong (application_faults S a (named c.args.name.now) xs) e =
+    argument_fault S a (named c.args.name.now) xs 0 (get_or xs 0 c.index-arguments-0.result) e (omega (arith, c.requires.count)) (ap (get_or xs 0) c.index-arguments-0.is)
+    c.in_err-first.ensures in
     search rules
 
 pub check_two-returns-in_err-x : goal.check_two-returns-in_err-x
@@ -137,7 +141,8 @@ check_two-returns-in_err-x t c =
     let S = text_in c.args.context.now in let a = scope_in c.args.context.now in let s = slots_in c.args.context.now in
     let xs = c.args.arguments.now in let y = get_or xs 1 c.index-arguments-1.result in let e = c.in_err-x.field-0.0 in
     let here : IsAmong (term_faults S false a (term_form y.term)) e = subst (ChecksTermIn S a s (term_form y.term)) c.in_err-x.ensures c.check_term-second.ensures in
-    let h : IsAmong (application_faults S a (named c.args.name.now) xs) e = argument_fault S a (named c.args.name.now) xs 1 y e (omega (arith, c.requires.count)) (ap (get_or xs 1) c.index-arguments-1.is) here in
+    let h : IsAmong (application_faults S a (named c.args.name.now) xs) e =
+    argument_fault S a (named c.args.name.now) xs 1 y e (omega (arith, c.requires.count)) (ap (get_or xs 1) c.index-arguments-1.is) here in
     search rules
 
 pub check_two-returns : goal.check_two-returns
@@ -147,7 +152,8 @@ check_two-returns t c =
     let first : IsChecked S a s (term_form x.term) c.in_ok-x.x = subst (IsChecked S a s (term_form x.term)) (sym c.in_ok-x.ensures.0) c.in_ok-first.ensures in
     let second : IsChecked S a s (term_form y.term) c.in_ok-x.y = subst (ChecksTermIn S a s (term_form y.term)) c.in_ok-x.ensures.1 c.check_term-second.ensures in
     two_node S a s (named c.args.name.now) c.args.extreme xs x y c.in_ok-x.x c.in_ok-x.y c.apply_two.result c.requires.function
-    (two_arguments xs x y (omega (arith, c.requires.count)) (omega (arith, c.requires.count)) (ap (get_or xs 0) c.index-arguments-0.is) (ap (get_or xs 1) c.index-arguments-1.is)) first second c.apply_two.ensures
+    (two_arguments xs x y (omega (arith, c.requires.count)) (omega (arith, c.requires.count)) (ap (get_or xs 0) c.index-arguments-0.is) (ap (get_or xs 1) c.index-arguments-1.is))
+    first second c.apply_two.ensures
 
 pub check_choice-check_term-requires : goal.check_choice-check_term-requires
 check_choice-check_term-requires t c =
@@ -168,7 +174,9 @@ pub check_choice-returns-in_err-condition : goal.check_choice-returns-in_err-con
 check_choice-returns-in_err-condition t c =
     let S = text_in c.args.context.now in let a = scope_in c.args.context.now in let xs = c.args.arguments.now in
     let e = c.in_err-condition.field-0.0 in
-    let h : IsAmong (application_faults S a (named c.args.name.now) xs) e = argument_fault S a (named c.args.name.now) xs 0 (get_or xs 0 c.index-arguments-0.result) e (omega (arith, c.requires.count)) (ap (get_or xs 0) c.index-arguments-0.is) c.in_err-condition.ensures in
+    let h : IsAmong (application_faults S a (named c.args.name.now) xs) e =
+    argument_fault S a (named c.args.name.now) xs 0 (get_or xs 0 c.index-arguments-0.result) e (omega (arith, c.requires.count)) (ap (get_or xs 0) c.index-arguments-0.is)
+    c.in_err-condition.ensures in
     search rules
 
 pub check_choice-returns-in_err-condition-2 : goal.check_choice-returns-in_err-condition-2
@@ -176,7 +184,8 @@ check_choice-returns-in_err-condition-2 t c =
     let S = text_in c.args.context.now in let a = scope_in c.args.context.now in let s = slots_in c.args.context.now in
     let xs = c.args.arguments.now in let x = get_or xs 1 c.index-arguments-1.result in let e = c.in_err-condition-2.field-0.0 in
     let here : IsAmong (term_faults S false a (term_form x.term)) e = subst (ChecksTermIn S a s (term_form x.term)) c.in_err-condition-2.ensures c.check_term-first.ensures in
-    let h : IsAmong (application_faults S a (named c.args.name.now) xs) e = argument_fault S a (named c.args.name.now) xs 1 x e (omega (arith, c.requires.count)) (ap (get_or xs 1) c.index-arguments-1.is) here in
+    let h : IsAmong (application_faults S a (named c.args.name.now) xs) e =
+    argument_fault S a (named c.args.name.now) xs 1 x e (omega (arith, c.requires.count)) (ap (get_or xs 1) c.index-arguments-1.is) here in
     search rules
 
 pub check_choice-returns-in_err-condition-3 : goal.check_choice-returns-in_err-condition-3
@@ -184,7 +193,8 @@ check_choice-returns-in_err-condition-3 t c =
     let S = text_in c.args.context.now in let a = scope_in c.args.context.now in let s = slots_in c.args.context.now in
     let xs = c.args.arguments.now in let y = get_or xs 2 c.index-arguments-2.result in let e = c.in_err-condition-3.field-0.0 in
     let here : IsAmong (term_faults S false a (term_form y.term)) e = subst (ChecksTermIn S a s (term_form y.term)) c.in_err-condition-3.ensures c.check_term-second.ensures in
-    let h : IsAmong (application_faults S a (named c.args.name.now) xs) e = argument_fault S a (named c.args.name.now) xs 2 y e (omega (arith, c.requires.count)) (ap (get_or xs 2) c.index-arguments-2.is) here in
+    let h : IsAmong (application_faults S a (named c.args.name.now) xs) e =
+    argument_fault S a (named c.args.name.now) xs 2 y e (omega (arith, c.requires.count)) (ap (get_or xs 2) c.index-arguments-2.is) here in
     search rules
 
 pub check_choice-returns : goal.check_choice-returns
@@ -198,7 +208,8 @@ check_choice-returns t c =
     subst (IsChecked S a s (term_form x.term)) (sym (ap (λ p. p.1) kept)) (subst (ChecksTermIn S a s (term_form x.term)) c.in_ok-condition-2.ensures.1 c.check_term-first.ensures) in
     let second : IsChecked S a s (term_form y.term) c.in_ok-condition-3.y = subst (ChecksTermIn S a s (term_form y.term)) c.in_ok-condition-3.ensures.1 c.check_term-second.ensures in
     choice_node S a s (named c.args.name.now) xs q x y c.in_ok-condition-3.condition c.in_ok-condition-3.x c.in_ok-condition-3.y c.choose.result c.requires.function
-    (three_arguments xs q x y (omega (arith, c.requires.count)) (omega (arith, c.requires.count)) (ap (get_or xs 0) c.index-arguments-0.is) (ap (get_or xs 1) c.index-arguments-1.is) (ap (get_or xs 2) c.index-arguments-2.is)) test first second c.choose.ensures
+    (three_arguments xs q x y (omega (arith, c.requires.count)) (omega (arith, c.requires.count)) (ap (get_or xs 0) c.index-arguments-0.is)
+    (ap (get_or xs 1) c.index-arguments-1.is) (ap (get_or xs 2) c.index-arguments-2.is)) test first second c.choose.ensures
 
 -- ---- arithmetic
 
@@ -215,7 +226,9 @@ check_arithmetic-returns-in_err-first t c =
     let links = c.args.links.now in let first = term_form c.args.first.now in
     let whole = term_faults S false a (calculated first (arithmetic_links links)) in let checked = c.in_ok-head.ensures in
     let e = c.in_err-first.field-0.0 in
-    let here = subst (λ (u : model.Shape). IsAmong (arithmetic_faults S a u links) e) checked.1.0 (subst (ChecksOperands (λ found. found.0.items) (λ found. found.1) S a s (shape_view c.in_ok-head.head.shape) links) c.in_err-first.ensures c.check_operands-operands.ensures) in
+    let here =
+    subst (λ (u : model.Shape). IsAmong (arithmetic_faults S a u links) e) checked.1.0
+    (subst (ChecksOperands (λ found. found.0.items) (λ found. found.1) S a s (shape_view c.in_ok-head.head.shape) links) c.in_err-first.ensures c.check_operands-operands.ensures) in
     let h : IsAmong whole e = subst (λ (zs : List TypingFault). IsAmong zs e) (sym (first_clear _ _ _ (calculated-faults S false a first links) checked.0)) here in
     search rules
 
@@ -266,7 +279,8 @@ check_operands-returns-in_err-operand t c =
     let checked = c.in_ok-right.ensures in let e = c.in_err-operand.field-0.0 in
     let rest = first_clear whole _ _ (c.loop-link.invariant.left ∙ next) checked.0 in
     let found : IsAmong (operator_faults (Computed o) old (shape_view c.in_ok-right.right.shape) link.place) e =
-    subst (Judges (operator_faults (Computed o) old (shape_view c.in_ok-right.right.shape) link.place) (binary_shape o old (shape_view c.in_ok-right.right.shape))) c.in_err-operand.ensures c.compute-whole.ensures in
+    subst (Judges (operator_faults (Computed o) old (shape_view c.in_ok-right.right.shape) link.place) (binary_shape o old (shape_view c.in_ok-right.right.shape)))
+    c.in_err-operand.ensures c.compute-whole.ensures in
     let here = subst (λ (u : model.Shape). IsAmong (operator_faults (Computed o) old u link.place) e) checked.1.0 found in
     let h : IsAmong whole e = among_first whole _ _ e rest here in
     search rules
@@ -277,8 +291,10 @@ check_operands-loop-link-preserved t c =
     let links = c.args.links.now in let k = c.loop-link.link-index in let link = c.link-item.result in let o = operation_of link.operator in
     let old = shape_view c.loop-link.shape in let over = c.loop-link.invariant in
     let next = drop-at links k link c.loop-link-test.true c.link-item.is in let checked = c.in_ok-right.ensures in
-    let found : (operator_faults (Computed o) old (shape_view c.in_ok-right.right.shape) link.place ≡ []) × (shape_view c.in_ok-operand.whole ≡ binary_shape o old (shape_view c.in_ok-right.right.shape)) =
-    subst (Judges (operator_faults (Computed o) old (shape_view c.in_ok-right.right.shape) link.place) (binary_shape o old (shape_view c.in_ok-right.right.shape))) c.in_ok-operand.ensures.1 c.compute-whole.ensures in
+    let found : (operator_faults (Computed o) old (shape_view c.in_ok-right.right.shape) link.place ≡ [])
+    × (shape_view c.in_ok-operand.whole ≡ binary_shape o old (shape_view c.in_ok-right.right.shape)) =
+    subst (Judges (operator_faults (Computed o) old (shape_view c.in_ok-right.right.shape) link.place) (binary_shape o old (shape_view c.in_ok-right.right.shape)))
+    c.in_ok-operand.ensures.1 c.compute-whole.ensures in
     let passed = ap (λ (u : model.Shape). operator_faults (Computed o) old u link.place) (sym checked.1.0) ∙ found.0 in
     let grown = sym (found.1 ∙ ap (binary_shape o old) checked.1.0) in
     record {
@@ -286,7 +302,9 @@ check_operands-loop-link-preserved t c =
           first_clear _ _ _ (first_clear _ _ _ (over.left ∙ ap (arithmetic_faults S a old) next) checked.0) passed
           ∙ ap (λ (u : model.Shape). arithmetic_faults S a u (drop (k + 1) links)) grown;
       whole = over.whole ∙ (ap (calculated_shape S a old) next ∙ ap (λ (u : model.Shape). calculated_shape S a u (drop (k + 1) links)) grown);
-      operands = operands_next S s links k link c.in_ok-operand.operand c.loop-link.operands.items c.push.new.self.items c.loop-link-test.true c.link-item.is c.in_ok-push.ensures.items (ap term_view c.in_ok-operand.ensures.0 ∙ checked.1.1) over.operands;
+      operands =
+          operands_next S s links k link c.in_ok-operand.operand c.loop-link.operands.items c.push.new.self.items c.loop-link-test.true c.link-item.is c.in_ok-push.ensures.items
+          (ap term_view c.in_ok-operand.ensures.0 ∙ checked.1.1) over.operands;
     }
 
 pub check_operands-returns : goal.check_operands-returns
@@ -331,7 +349,9 @@ check_links-loop-index-preserved t c =
     let over = c.loop-index.invariant in let done = c.in_ok-operand.ensures in
     record {
       left = first_clear _ _ _ (over.left ∙ next) done.0 ∙ ap (λ (u : model.Shape). link_faults S false a u (drop (k + 1) links)) (sym done.1.0);
-      operands = terms_next S s links k link c.in_ok-operand.operand.term c.loop-index.operands.items c.push.new.self.items c.loop-index-test.true c.index-links-index.is c.in_ok-push.ensures.items done.1.1 over.operands;
+      operands =
+          terms_next S s links k link c.in_ok-operand.operand.term c.loop-index.operands.items c.push.new.self.items c.loop-index-test.true c.index-links-index.is
+          c.in_ok-push.ensures.items done.1.1 over.operands;
     }
 
 pub check_links-returns : goal.check_links-returns
@@ -371,7 +391,9 @@ check_chain-returns-in_err-first t c =
     let all = chained-faults S false a c.args.connective first links in
     let whole = term_faults S false a (chained (TermForm.connected c.args.connective) first (term_links links)) in
     let checked = c.in_ok-head.ensures in let e = c.in_err-first.field-0.0 in
-    let here = subst (λ (u : model.Shape). IsAmong (link_faults S false a u links) e) checked.1.0 (subst (ChecksLinks S a s (shape_view c.in_ok-head.head.shape) links) c.in_err-first.ensures c.check_links-operands.ensures) in
+    let here =
+    subst (λ (u : model.Shape). IsAmong (link_faults S false a u links) e) checked.1.0
+    (subst (ChecksLinks S a s (shape_view c.in_ok-head.head.shape) links) c.in_err-first.ensures c.check_links-operands.ensures) in
     let h : IsAmong whole e = subst (λ (zs : List TypingFault). IsAmong zs e) (sym (first_clear _ _ _ all checked.0)) here in
     search rules
 
@@ -396,11 +418,25 @@ check_chain-returns t c =
 
 pub check_term-check_chain-requires : goal.check_term-check_chain-requires
 check_term-check_chain-requires t c =
-    omega (arith, c.decreases, ap weight c.in-Chain.is ∙ weight-chain c.in-Chain.connective c.in-Chain.first c.in-Chain.links, ap weight c.deref-in-Chain.ensures, ap links_weight c.deref-in-Chain-2.ensures.value)
+    omega (
+      arith,
+      c.decreases,
+      ap weight c.in-Chain.is
+          ∙ weight-chain c.in-Chain.connective c.in-Chain.first c.in-Chain.links,
+      ap weight c.deref-in-Chain.ensures,
+      ap links_weight c.deref-in-Chain-2.ensures.value,
+    )
 
 pub check_term-check_arithmetic-requires : goal.check_term-check_arithmetic-requires
 check_term-check_arithmetic-requires t c =
-    omega (arith, c.decreases, ap weight c.in-Arithmetic.is ∙ weight-arithmetic c.in-Arithmetic.first c.in-Arithmetic.links, ap weight c.deref-in-Arithmetic.ensures, ap arithmetic_weight c.deref-in-Arithmetic-2.ensures.value)
+    omega (
+      arith,
+      c.decreases,
+      ap weight c.in-Arithmetic.is
+          ∙ weight-arithmetic c.in-Arithmetic.first c.in-Arithmetic.links,
+      ap weight c.deref-in-Arithmetic.ensures,
+      ap arithmetic_weight c.deref-in-Arithmetic-2.ensures.value,
+    )
 
 pub check_term-check_application-requires : goal.check_term-check_application-requires
 check_term-check_application-requires t c =
@@ -439,25 +475,29 @@ check_term-returns-in_err-operand-in-Not t c =
 pub check_term-returns-in_ok-operand-in-Not : goal.check_term-returns-in_ok-operand-in-Not
 check_term-returns-in_ok-operand-in-Not t c =
     let S = text_in c.args.context.now in let a = scope_in c.args.context.now in let s = slots_in c.args.context.now in
-    not_node S a s c.args.term.now c.deref.result.now c.in-Not.place c.in-Not.operand c.in_ok-operand-in-Not.operand c.negated.result c.in-Not.is c.deref.ensures c.in_ok-operand-in-Not.ensures c.negated.ensures
+    not_node S a s c.args.term.now c.deref.result.now c.in-Not.place c.in-Not.operand c.in_ok-operand-in-Not.operand c.negated.result c.in-Not.is c.deref.ensures
+    c.in_ok-operand-in-Not.ensures c.negated.ensures
 
 pub check_term-returns-in_err-operand-in-Negative : goal.check_term-returns-in_err-operand-in-Negative
 check_term-returns-in_err-operand-in-Negative t c =
     let S = text_in c.args.context.now in let a = scope_in c.args.context.now in
     let h : IsAmong (term_faults S false a (term_form c.args.term.now)) c.in_err-operand-in-Negative.field-0.0 =
-    negative_operand S false a c.args.term.now c.deref-in-Negative.result.now c.in-Negative.place c.in-Negative.operand _ c.in-Negative.is c.deref-in-Negative.ensures c.in_err-operand-in-Negative.ensures in
+    negative_operand S false a c.args.term.now c.deref-in-Negative.result.now c.in-Negative.place c.in-Negative.operand _ c.in-Negative.is c.deref-in-Negative.ensures
+    c.in_err-operand-in-Negative.ensures in
     search rules
 
 pub check_term-returns-in_ok-operand-in-Negative : goal.check_term-returns-in_ok-operand-in-Negative
 check_term-returns-in_ok-operand-in-Negative t c =
     let S = text_in c.args.context.now in let a = scope_in c.args.context.now in let s = slots_in c.args.context.now in
-    negative_node S a s c.args.term.now c.deref-in-Negative.result.now c.in-Negative.place c.in-Negative.operand c.in_ok-operand-in-Negative.operand c.operated.result c.in-Negative.is c.deref-in-Negative.ensures c.in_ok-operand-in-Negative.ensures c.operated.ensures
+    negative_node S a s c.args.term.now c.deref-in-Negative.result.now c.in-Negative.place c.in-Negative.operand c.in_ok-operand-in-Negative.operand c.operated.result
+    c.in-Negative.is c.deref-in-Negative.ensures c.in_ok-operand-in-Negative.ensures c.operated.ensures
 
 pub check_term-returns-in_err-first-in-Comparison : goal.check_term-returns-in_err-first-in-Comparison
 check_term-returns-in_err-first-in-Comparison t c =
     let S = text_in c.args.context.now in let a = scope_in c.args.context.now in
     let h : IsAmong (term_faults S false a (term_form c.args.term.now)) c.in_err-first-in-Comparison.field-0.0 =
-    comparison_left S false a c.args.term.now c.deref-in-Comparison.result.now c.in-Comparison.place c.in-Comparison.comparison c.in-Comparison.left c.in-Comparison.right _ c.in-Comparison.is c.deref-in-Comparison.ensures c.in_err-first-in-Comparison.ensures in
+    comparison_left S false a c.args.term.now c.deref-in-Comparison.result.now c.in-Comparison.place c.in-Comparison.comparison c.in-Comparison.left c.in-Comparison.right _
+    c.in-Comparison.is c.deref-in-Comparison.ensures c.in_err-first-in-Comparison.ensures in
     search rules
 
 pub check_term-returns-in_err-left-in-Comparison : goal.check_term-returns-in_err-left-in-Comparison
@@ -466,7 +506,8 @@ check_term-returns-in_err-left-in-Comparison t c =
     let e = c.in_err-left-in-Comparison.field-0.0 in let y = term_form c.deref-in-Comparison-2.result.now in
     let here : IsAmong (term_faults S false a y) e = subst (ChecksTermIn S a s y) c.in_err-left-in-Comparison.ensures c.check_term-second.ensures in
     let h : IsAmong (term_faults S false a (term_form c.args.term.now)) e =
-    comparison_right S false a c.args.term.now c.deref-in-Comparison-2.result.now c.in-Comparison.place c.in-Comparison.comparison c.in-Comparison.left c.in-Comparison.right _ c.in-Comparison.is c.deref-in-Comparison-2.ensures here in
+    comparison_right S false a c.args.term.now c.deref-in-Comparison-2.result.now c.in-Comparison.place c.in-Comparison.comparison c.in-Comparison.left c.in-Comparison.right _
+    c.in-Comparison.is c.deref-in-Comparison-2.ensures here in
     search rules
 
 pub check_term-returns-in_ok-left-in-Comparison : goal.check_term-returns-in_ok-left-in-Comparison
@@ -476,5 +517,6 @@ check_term-returns-in_ok-left-in-Comparison t c =
     let both = c.in_ok-left-in-Comparison in
     let first : IsChecked S a s x both.left = subst (IsChecked S a s x) (sym both.ensures.0) c.in_ok-first-in-Comparison.ensures in
     let second : IsChecked S a s y both.right = subst (ChecksTermIn S a s y) both.ensures.1 c.check_term-second.ensures in
-    comparison_node S a s c.args.term.now c.deref-in-Comparison.result.now c.deref-in-Comparison-2.result.now c.in-Comparison.place c.in-Comparison.comparison c.in-Comparison.left c.in-Comparison.right
+    comparison_node S a s c.args.term.now c.deref-in-Comparison.result.now c.deref-in-Comparison-2.result.now c.in-Comparison.place c.in-Comparison.comparison
+    c.in-Comparison.left c.in-Comparison.right
     both.left both.right c.compared.result c.in-Comparison.is c.deref-in-Comparison.ensures c.deref-in-Comparison-2.ensures first second c.compared.ensures

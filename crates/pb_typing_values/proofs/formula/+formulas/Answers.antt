@@ -56,7 +56,15 @@ formula_truth-formula_truth-current-requires-in-loop-link t c =
     let here = operand_fits k n (slots_of xs) c.in-Chain.links.items c.loop-link.link-index c.link-item.result fit
     (subst (λ (fs : List Formula). c.loop-link.link-index < length fs) same c.loop-link-test.true)
     (c.link-item.is ∙ ap (λ (fs : List Formula). get_or fs c.loop-link.link-index c.link-item.result) same) in (
-      omega (arith, c.decreases, ap weight c.in-Chain.is ∙ weight-chain c.in-Chain.connective f c.in-Chain.links, ap links_weight same, operand_lighter c.deref-link-items.result.now c.loop-link.link-index c.link-item.result c.loop-link-test.true c.link-item.is),
+      omega (
+        arith,
+        c.decreases,
+        ap weight c.in-Chain.is
+            ∙ weight-chain c.in-Chain.connective f c.in-Chain.links,
+        ap links_weight same,
+        operand_lighter
+            c.deref-link-items.result.now c.loop-link.link-index c.link-item.result c.loop-link-test.true c.link-item.is,
+      ),
       subst (λ (ys : Tuple). FormulaFits k (length ys) (slots_of ys) (formula_view c.link-item.result)) (sym c.loop-link.invariant.kept) here,
     )
 
@@ -65,19 +73,22 @@ formula_truth-formula_truth-current-requires-in-loop-link t c =
 pub quantified-overflow_add-end : goal.quantified-overflow_add-end
 quantified-overflow_add-end t c =
     let loops = c.args.loops.now in
-    let r = room (length c.args.environment.now.layout.now) (length c.args.slots.now) c.args.quantifier (formula_view c.args.body.now) loops.carriers.now loops.slot (slots_of c.args.slots.now) c.requires in
+    let r = room (length c.args.environment.now.layout.now) (length c.args.slots.now) c.args.quantifier
+    (formula_view c.args.body.now) loops.carriers.now loops.slot (slots_of c.args.slots.now) c.requires in
     omega (arith, r.within (omega (arith, c.if-count-eq0.false)))
 
 pub quantified-offset_bounds-slots-loops : goal.quantified-offset_bounds-slots-loops
 quantified-offset_bounds-slots-loops t c =
     let loops = c.args.loops.now in
-    let r = room (length c.args.environment.now.layout.now) (length c.args.slots.now) c.args.quantifier (formula_view c.args.body.now) loops.carriers.now loops.slot (slots_of c.args.slots.now) c.requires in
+    let r = room (length c.args.environment.now.layout.now) (length c.args.slots.now) c.args.quantifier
+    (formula_view c.args.body.now) loops.carriers.now loops.slot (slots_of c.args.slots.now) c.requires in
     omega (arith, r.within (omega (arith, c.if-count-eq0.false)))
 
 pub quantified-slice_bounds-start-end : goal.quantified-slice_bounds-start-end
 quantified-slice_bounds-start-end t c =
     let loops = c.args.loops.now in
-    let r = room (length c.args.environment.now.layout.now) (length c.args.slots.now) c.args.quantifier (formula_view c.args.body.now) loops.carriers.now loops.slot (slots_of c.args.slots.now) c.requires in
+    let r = room (length c.args.environment.now.layout.now) (length c.args.slots.now) c.args.quantifier
+    (formula_view c.args.body.now) loops.carriers.now loops.slot (slots_of c.args.slots.now) c.requires in
     omega (arith, r.within (omega (arith, c.if-count-eq0.false)))
 
 pub quantified-loop-quantifier-init : goal.quantified-loop-quantifier-init

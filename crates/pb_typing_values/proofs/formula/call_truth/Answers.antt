@@ -70,7 +70,8 @@ returns-in-Some c = λ S laid.
     let vs = argument_values a xs in
     let k = c.args.equation in
     let layout = c.args.environment.now.layout.now in
-    let all = values_all a xs c.loop-argument.argument-index c.loop-argument.values.items vs (omega (arith, c.loop-argument-test.false, ap length c.deref-argument-items.ensures.value)) c.loop-argument.invariant.so_far in
+    let all = values_all a xs c.loop-argument.argument-index c.loop-argument.values.items vs
+    (omega (arith, c.loop-argument-test.false, ap length c.deref-argument-items.ensures.value)) c.loop-argument.invariant.so_far in
     sym (counted layout (all_carriers S) truths c.in-Some.number _ laid.carriers c.in-Some.ensures.place)
     ∙ (ap (λ (ws : List ℤ). truth_at (all_carriers S) truths (record { equation = k; values = ws })) all
     ∙ sym (called S truths (name_of (slice_get S.equations k)) vs k (place_known S layout k laid c.requires.known)))
@@ -83,7 +84,9 @@ returns c = λ S laid.
     let vs = argument_values a xs in
     let k = c.args.equation in
     let layout = c.args.environment.now.layout.now in
-    let all = values_all a xs c.loop-argument.argument-index c.loop-argument.values.items vs (omega (arith, c.loop-argument-test.false, ap length c.deref-argument-items.ensures.value)) c.loop-argument.invariant.so_far in
+    let all = values_all a xs c.loop-argument.argument-index c.loop-argument.values.items vs
+    (omega (arith, c.loop-argument-test.false, ap length c.deref-argument-items.ensures.value)) c.loop-argument.invariant.so_far in
     sym (called S truths (name_of (slice_get S.equations k)) vs k (place_known S layout k laid c.requires.known)
     ∙ (ap (λ (ws : List ℤ). truth_at (all_carriers S) truths (record { equation = k; values = ws })) (sym all)
-    ∙ not_counted layout (all_carriers S) truths (record { equation = k; values = c.loop-argument.values.items }) laid.carriers (false_from_ne_true _ (λ h. true≢false (sym (c.in-None.ensures.exists.1 h))))))
+    ∙ not_counted layout (all_carriers S) truths (record { equation = k; values = c.loop-argument.values.items })
+    laid.carriers (false_from_ne_true _ (λ h. true≢false (sym (c.in-None.ensures.exists.1 h))))))

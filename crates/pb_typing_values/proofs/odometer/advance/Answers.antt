@@ -15,7 +15,8 @@ still_there cs (y ∷ ys) zero d lt = refl
 still_there [] (y ∷ ys) (suc j) d lt = still_there [] ys j d (omega arith)
 still_there (c ∷ cs) (y ∷ ys) (suc j) d lt = still_there cs ys j d (omega arith)
 
-restarted_at : (cs : List Carrier) (old : Tuple) (j : ℕ) (d : Carrier) (x : Value) → j < length old → length old ≡ length cs → x ≡ least (get_or cs j d) → slice_set (restarted_from (suc j) cs old) j x ≡ restarted_from j cs old
+restarted_at : (cs : List Carrier) (old : Tuple) (j : ℕ) (d : Carrier) (x : Value) → j < length old
+    → length old ≡ length cs → x ≡ least (get_or cs j d) → slice_set (restarted_from (suc j) cs old) j x ≡ restarted_from j cs old
 restarted_at cs [] j d x lt same e = absurd (omega arith)
 restarted_at [] (y ∷ ys) j d x lt same e = absurd (omega arith)
 restarted_at (c ∷ cs) (y ∷ ys) zero d x lt same e = ap (λ (z : Value). z ∷ map least cs) e
@@ -76,7 +77,8 @@ loop-index-preserved c =
     let last : AreLast (drop (suc j) cs) (drop (suc j) old) = subst (λ (n : ℕ). AreLast (drop n cs) (drop n old)) is c.loop-index.invariant.last in
     let none : behind (get_or cs j d.result) ≤ℤ (get_or old j (pos 0) +ℤ pos 1) = omega (arith, ints, c.if-value-greatest.false, now, end) in
     let fits_first : SFits w64 b.result.0 = record { sfits = omega (arith, ints, b.ensures.low, b.ensures.order, b.ensures.high) } in
-    let first : to_z w64 (of_z w64 b.result.0) ≡ least (get_or cs j d.result) = to_z-of_z fits_first ∙ (bounds-least d.result b.result.0 b.result.1 b.ensures.interval b.ensures.order ∙ ap least d.is) in
+    let first : to_z w64 (of_z w64 b.result.0) ≡ least (get_or cs j d.result) =
+    to_z-of_z fits_first ∙ (bounds-least d.result b.result.0 b.result.1 b.ensures.interval b.ensures.order ∙ ap least d.is) in
     record {
       same = ap (λ (zs : Tuple). slice_set zs j (to_z w64 (of_z w64 b.result.0))) same ∙ restarted_at cs old j d.result (to_z w64 (of_z w64 b.result.0)) lt c.requires first;
       last = last_at cs old j d.result (pos 0) lt c.requires last none;

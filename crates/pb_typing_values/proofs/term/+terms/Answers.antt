@@ -45,7 +45,15 @@ value-arithmetic_value-requires t c =
     let same = ap (λ (x : Term). calculated (term_view x) (link_views c.deref-in-Arithmetic-2.result.now)) c.deref-in-Arithmetic.ensures
     ∙ (ap (λ (ls : List Link). calculated (term_view f.value) (link_views ls)) c.deref-in-Arithmetic-2.ensures.value
     ∙ sym (ap term_view c.in-Arithmetic.is ∙ term-arithmetic f c.in-Arithmetic.links)) in (
-      omega (arith, c.decreases, ap weight c.in-Arithmetic.is ∙ weight-arithmetic f c.in-Arithmetic.links, ap weight c.deref-in-Arithmetic.ensures, ap links_weight c.deref-in-Arithmetic-2.ensures.value),
+      omega (
+        arith,
+        c.decreases,
+        ap weight c.in-Arithmetic.is
+            ∙ weight-arithmetic f c.in-Arithmetic.links,
+        ap weight c.deref-in-Arithmetic.ensures,
+        ap links_weight
+            c.deref-in-Arithmetic-2.ensures.value,
+      ),
       subst (Fits (length c.args.slots.now) (slots_of c.args.slots.now)) (sym same) c.requires,
     )
 
@@ -100,7 +108,8 @@ chain_value-returns-in-Some t c =
     let fits : SFits w64 c.from.result = record { sfits = c.from.type_inv } in
     to_z-of_z fits
     ∙ (c.from.ensures ∙ byte-bool c.in-Some.decided
-    ∙ (sym (chain_decided a c.args.connective (to_z w64 c.loop-link.current-bits) c.args.links.now c.loop-link.link-index c.link-item.result c.is_true.result c.in-Some.decided c.loop-link-test.true c.link-item.is
+    ∙ (sym (chain_decided a c.args.connective (to_z w64 c.loop-link.current-bits) c.args.links.now
+    c.loop-link.link-index c.link-item.result c.is_true.result c.in-Some.decided c.loop-link-test.true c.link-item.is
     c.is_true.ensures c.in-Some.ensures)
     ∙ c.loop-link.invariant))
 

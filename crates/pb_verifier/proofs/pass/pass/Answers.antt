@@ -18,13 +18,17 @@ step-requires-clause-bounds c =
 
 pub loop-place-preserved : goal.loop-place-preserved
 loop-place-preserved c =
-    passes_next (program_in c.args.sorts.now (map vec_items c.args.callees.now) c.args.equation.now) c.args.equation.now.code.items c.loop-place.place _ c.loop-place.pass.open_loops c.step.new.self.open_loops c.loop-place.pass.table.items c.step.new.self.table.items _
+    passes_next (program_in c.args.sorts.now (map vec_items c.args.callees.now) c.args.equation.now)
+    c.args.equation.now.code.items c.loop-place.place _ c.loop-place.pass.open_loops c.step.new.self.open_loops
+    c.loop-place.pass.table.items c.step.new.self.table.items _
     (op_here c.deref-instruction-items.result.now c.args.equation.now.code.items c.loop-place.place op.End c.deref-instruction-items.ensures.value c.loop-place-test.true)
     c.in-Ok.ensures.flows c.in-Ok.ensures.open_loops c.loop-place.invariant
 
 pub returns-in-Err-clause-refused : goal.returns-in-Err-clause-refused
 returns-in-Err-clause-refused c =
-    let refused = passes_not (program_in c.args.sorts.now (map vec_items c.args.callees.now) c.args.equation.now) c.args.equation.now.code.items c.loop-place.place _ c.loop-place.pass.open_loops c.loop-place.pass.table.items _
+    let refused =
+    passes_not (program_in c.args.sorts.now (map vec_items c.args.callees.now) c.args.equation.now)
+    c.args.equation.now.code.items c.loop-place.place _ c.loop-place.pass.open_loops c.loop-place.pass.table.items _
     (op_here c.deref-instruction-items.result.now c.args.equation.now.code.items c.loop-place.place op.End c.deref-instruction-items.ensures.value c.loop-place-test.true)
     in
     if_raised c.in-Err.error c.at_place.result c.at_place.ensures (λ rule fault made none. refused none c.loop-place.invariant) c.in-Err.ensures.refused
@@ -32,4 +36,6 @@ returns-in-Err-clause-refused c =
 pub returns-clause-passes : goal.returns-clause-passes
 returns-clause-passes c =
     let past : length c.args.equation.now.code.items ≤ c.loop-place.place = omega (arith, c.loop-place-test.false, ap length c.deref-instruction-items.ensures.value) in
-    passes_end (program_in c.args.sorts.now (map vec_items c.args.callees.now) c.args.equation.now) c.args.equation.now.code.items c.loop-place.place c.loop-place.pass.open_loops c.loop-place.pass.table.items _ past c.loop-place.invariant
+    passes_end (program_in c.args.sorts.now (map vec_items c.args.callees.now) c.args.equation.now)
+    c.args.equation.now.code.items c.loop-place.place c.loop-place.pass.open_loops c.loop-place.pass.table.items _
+    past c.loop-place.invariant

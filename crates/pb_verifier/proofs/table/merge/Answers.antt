@@ -10,9 +10,12 @@ returns-in-None-clause-ok c =
 pub returns-in-None-join-clause-err : goal.returns-in-None-join-clause-err
 returns-in-None-join-clause-err c =
     let l : c.args.to < length c.args.table.now.items = omega (arith, c.len.ensures, c.if-to-len.false, c.args.table.now.ok.0) in
-    apart_there c.args.table.now.items c.args.to c.args.state c.in-Some.known c.index_mut.result.now l (sym c.index_mut.ensures.value) (sym c.take.ensures.value ∙ c.in-Some.is) (sym c.in-None-join.is ∙ c.join.ensures)
+    apart_there c.args.table.now.items c.args.to c.args.state c.in-Some.known c.index_mut.result.now l
+    (sym c.index_mut.ensures.value) (sym c.take.ensures.value ∙ c.in-Some.is) (sym c.in-None-join.is ∙ c.join.ensures)
 
 pub returns-clause-ok : goal.returns-clause-ok
 returns-clause-ok c =
     let l : c.args.to < length c.args.table.now.items = omega (arith, c.len.ensures, c.if-to-len.false, c.args.table.now.ok.0) in
-    joined_there c.args.table.now.items c.args.to c.args.state c.in-Some.known c.in-Some-join.joined c.index_mut.result.now c.take.new.self l (sym c.index_mut.ensures.value) (sym c.take.ensures.value ∙ c.in-Some.is) (sym c.in-Some-join.is ∙ c.join.ensures)
+    joined_there c.args.table.now.items c.args.to c.args.state c.in-Some.known c.in-Some-join.joined
+    c.index_mut.result.now c.take.new.self l (sym c.index_mut.ensures.value)
+    (sym c.take.ensures.value ∙ c.in-Some.is) (sym c.in-Some-join.is ∙ c.join.ensures)

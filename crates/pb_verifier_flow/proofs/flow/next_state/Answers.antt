@@ -116,7 +116,9 @@ pub returns-in-Logic-clause-rule : goal.returns-in-Logic-clause-rule
 returns-in-Logic-clause-rule c = named c.args.sorts.now (map vec_items c.args.callees.now) c.args.state _ c.args.op c.logic.result c.in-Logic.is c.logic.ensures.rule
 
 pub returns-in-PushEnum-clause-rule : goal.returns-in-PushEnum-clause-rule
-returns-in-PushEnum-clause-rule c = named_enum c.args.sorts.now (map vec_items c.args.callees.now) c.args.state c.in-PushEnum.sort c.in-PushEnum.index c.args.op c.push_enum.result c.in-PushEnum.is c.push_enum.ensures.rule
+returns-in-PushEnum-clause-rule c =
+    named_enum c.args.sorts.now (map vec_items c.args.callees.now) c.args.state c.in-PushEnum.sort c.in-PushEnum.index
+    c.args.op c.push_enum.result c.in-PushEnum.is c.push_enum.ensures.rule
 
 pub returns-in_err-pop-in-Pop-clause-rule : goal.returns-in_err-pop-in-Pop-clause-rule
 returns-in_err-pop-in-Pop-clause-rule c =

@@ -71,13 +71,19 @@ loop-instruction-preserved c = λ p e.
     let weight : x ≡ get_or items (length items - 1) 1 = c.multiplier-weight.ensures ∙ ap (λ (xs : List ℕ). get_or xs (length xs - 1) 1) c.as_slice.ensures.value in
     let written : y ≡ min (x * tokens_of i) SATURATED = c.product.ensures ∙ ap (λ n. min (x * n) SATURATED) c.tokens_of.ensures in
     rw (c.sum-steps.ensures, c.sum-tokens.ensures) (elim c.match-instruction.branch [
-      | in-Loop v ↦ rw (v.weights-is, v.push.ensures.items) (counted_in p w q items _ _ h i at x y weight written v.in-Loop.slot v.product-in-Loop.result (ap loop_effect v.in-Loop.is) (v.product-in-Loop.ensures ∙ ap (λ n. min (x * n) SATURATED) (v.turns.ensures p e)))
+      | in-Loop v ↦ rw (v.weights-is, v.push.ensures.items)
+          (counted_in p w q items _ _ h i at x y weight written v.in-Loop.slot v.product-in-Loop.result
+          (ap loop_effect v.in-Loop.is) (v.product-in-Loop.ensures ∙ ap (λ n. min (x * n) SATURATED) (v.turns.ensures p e)))
       | in-Next v ↦ rw (v.weights-is, v.truncate.ensures.items, v.len.ensures.value) (counted_out p w q items _ _ h i at x y weight written (ap loop_effect v.in-Next.is))
       | in_default v ↦ rw (v.weights-is) (counted_on p w q items _ _ h i at x y weight written (quiet i v.in_default.not-Loop v.in_default.not-Next))
     ])
 
 pub returns-clause-steps : goal.returns-clause-steps
-returns-clause-steps c = λ p e. (counted_all p c.loop-instruction.instruction-index _ _ _ (c.loop-instruction.invariant p e) (let l = ap (λ (is : List Op). length is) e.same_code in let t = c.loop-instruction-test.false in omega arith)).0
+returns-clause-steps c =
+    λ p e. (counted_all p c.loop-instruction.instruction-index _ _ _ (c.loop-instruction.invariant p e)
+    (let l = ap (λ (is : List Op). length is) e.same_code in let t = c.loop-instruction-test.false in omega arith)).0
 
 pub returns-clause-tokens : goal.returns-clause-tokens
-returns-clause-tokens c = λ p e. (counted_all p c.loop-instruction.instruction-index _ _ _ (c.loop-instruction.invariant p e) (let l = ap (λ (is : List Op). length is) e.same_code in let t = c.loop-instruction-test.false in omega arith)).1
+returns-clause-tokens c =
+    λ p e. (counted_all p c.loop-instruction.instruction-index _ _ _ (c.loop-instruction.invariant p e)
+    (let l = ap (λ (is : List Op). length is) e.same_code in let t = c.loop-instruction-test.false in omega arith)).1

@@ -15,7 +15,8 @@ pub loop-preserved : goal.loop-preserved
 loop-preserved c =
     let e = c.in_ok-sort.sort in
     let pushed : map sort_contents c.push.new.self.items ≡ map sort_contents c.loop.sorts.items ++ sort_contents e ∷ [] = rw c.in_ok-push.ensures.items (map_push _ c.loop.sorts.items e) in
-    rw pushed (goes_on sort_at (map sort_contents c.loop.sorts.items) c.args.count c.loop.counter c.loop.rest.now (sort_contents e) c.in_ok-sort.after.now _ c.loop-test.true c.in_ok-sort.ensures c.loop.invariant)
+    rw pushed (goes_on sort_at (map sort_contents c.loop.sorts.items) c.args.count c.loop.counter c.loop.rest.now
+    (sort_contents e) c.in_ok-sort.after.now _ c.loop-test.true c.in_ok-sort.ensures c.loop.invariant)
 
 pub returns : goal.returns
 returns c = is_done sort_at (map sort_contents c.loop.sorts.items) c.args.count c.loop.counter c.loop.rest.now _ c.loop-test.false c.loop.invariant

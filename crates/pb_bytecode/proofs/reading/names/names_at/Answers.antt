@@ -14,8 +14,12 @@ returns-in_err-name-clause-names c =
 pub loop-preserved : goal.loop-preserved
 loop-preserved c =
     let n = c.in_ok-name.name in
-    let e : map text_of c.push.new.self.items ≡ map text_of c.loop.names.items ++ text_of n ∷ [] = rw c.in_ok-push.ensures.items (map_push _ c.loop.names.items n) in
-    (rw e (goes_on name_at (map text_of c.loop.names.items) c.args.count c.loop.counter c.loop.rest.now (text_of n) c.in_ok-name.after.now _ c.loop-test.true c.in_ok-name.ensures c.loop.invariant.0), omega (arith, c.in_ok-push.ensures.len, c.loop.invariant.1))
+    let e : map text_of c.push.new.self.items ≡ map text_of c.loop.names.items ++ text_of n ∷ [] = rw c.in_ok-push.ensures.items (map_push _ c.loop.names.items n) in (
+      rw e (goes_on name_at (map text_of c.loop.names.items) c.args.count c.loop.counter c.loop.rest.now (text_of n)
+          c.in_ok-name.after.now _ c.loop-test.true c.in_ok-name.ensures c.loop.invariant.0),
+      omega
+          (arith, c.in_ok-push.ensures.len, c.loop.invariant.1),
+    )
 
 pub returns-clause-names : goal.returns-clause-names
 returns-clause-names c = is_done name_at (map text_of c.loop.names.items) c.args.count c.loop.counter c.loop.rest.now _ c.loop-test.false c.loop.invariant.0

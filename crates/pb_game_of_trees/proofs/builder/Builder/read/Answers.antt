@@ -23,4 +23,6 @@ pub returns-in-Cut : goal.returns-in-Cut
 returns-in-Cut c = read_leaf (slice_index (table_of c.args.vertices.now)) c.args.self.now c.leaf-in-Cut.new.self c.args.token c.leaf-in-Cut.result 0 Cut c.leaf-in-Cut.ensures refl c.in-Cut.is
 
 pub returns-in-Call : goal.returns-in-Call
-returns-in-Call c = read_leaf (slice_index (table_of c.args.vertices.now)) c.args.self.now c.leaf-in-Call.new.self c.args.token c.leaf-in-Call.result c.vertex.result (Call c.in-Call.number) c.leaf-in-Call.ensures c.vertex.ensures c.in-Call.is
+returns-in-Call c =
+    read_leaf (slice_index (table_of c.args.vertices.now)) c.args.self.now c.leaf-in-Call.new.self c.args.token
+    c.leaf-in-Call.result c.vertex.result (Call c.in-Call.number) c.leaf-in-Call.ensures c.vertex.ensures c.in-Call.is

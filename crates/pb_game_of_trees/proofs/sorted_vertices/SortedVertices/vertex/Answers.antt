@@ -8,10 +8,18 @@ pub returns-in-Ok : goal.returns-in-Ok
 returns-in-Ok c =
     let x = c.args.self.now in
     let found = found_by c.deref.result.now x.numbers.items x.vertices.now c.args.number c.binary_search.result c.deref.ensures.value x.rising x.sized c.binary_search.ensures.position in
-    sym (subst (λ (r : Result _ _). MatchResult r (λ i. (i < length x.numbers.items) × (vertex_in x.numbers.items x.vertices.now c.args.number ≡ get_or x.vertices.now i 0)) (λ i. vertex_in x.numbers.items x.vertices.now c.args.number ≡ 0)) c.in-Ok.is found).1
+    sym (subst
+    (λ (r : Result _ _). MatchResult r
+    (λ i. (i < length x.numbers.items)
+    × (vertex_in x.numbers.items x.vertices.now c.args.number ≡ get_or x.vertices.now i 0))
+    (λ i. vertex_in x.numbers.items x.vertices.now c.args.number ≡ 0)) c.in-Ok.is found).1
 
 pub returns-in-Err : goal.returns-in-Err
 returns-in-Err c =
     let x = c.args.self.now in
     let found = found_by c.deref.result.now x.numbers.items x.vertices.now c.args.number c.binary_search.result c.deref.ensures.value x.rising x.sized c.binary_search.ensures.position in
-    sym (subst (λ (r : Result _ _). MatchResult r (λ i. (i < length x.numbers.items) × (vertex_in x.numbers.items x.vertices.now c.args.number ≡ get_or x.vertices.now i 0)) (λ i. vertex_in x.numbers.items x.vertices.now c.args.number ≡ 0)) c.in-Err.is found)
+    sym (subst
+    (λ (r : Result _ _). MatchResult r
+    (λ i. (i < length x.numbers.items)
+    × (vertex_in x.numbers.items x.vertices.now c.args.number ≡ get_or x.vertices.now i 0))
+    (λ i. vertex_in x.numbers.items x.vertices.now c.args.number ≡ 0)) c.in-Err.is found)

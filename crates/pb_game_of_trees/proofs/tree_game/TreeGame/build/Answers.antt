@@ -11,7 +11,13 @@ pub returns-in-Ok-None-clause-too_many : goal.returns-in-Ok-None-clause-too_many
 returns-in-Ok-None-clause-too_many c = λ trees rows. (
   λ _.
       let are = reached_of trees (equations_of c.args.signatures.now) c.args.rows.now rows in
-      omega (arith, none_found (rows_of trees c.args.rows.now) c.in-Ok-None.field-0 c.in-Ok-None.field-0-is (c.in-Ok-None.ensures.laid (rows_of trees c.args.rows.now) are.held), size_is (equations_of c.args.signatures.now) trees c.args.rows.now (rows_of trees c.args.rows.now) are),
+      omega (
+        arith,
+        none_found (rows_of trees c.args.rows.now) c.in-Ok-None.field-0 c.in-Ok-None.field-0-is
+            (c.in-Ok-None.ensures.laid (rows_of trees c.args.rows.now) are.held),
+        size_is
+            (equations_of c.args.signatures.now) trees c.args.rows.now (rows_of trees c.args.rows.now) are,
+      ),
   λ _. refl,
 )
 
@@ -20,7 +26,14 @@ returns-in_err-of_laid-in-Ok-Some-clause-too_many c = λ trees rows. (
   λ e. let h = err_from_is_err_and c.from_residual.result c.from_residual.ensures.1 in let was = h.1 in let memory = h.2 in cc,
   λ more.
       let are = reached_of trees (equations_of c.args.signatures.now) c.args.rows.now rows in
-      absurd (omega (arith, small_found c.in-Ok-Some.field-0 c.in-Ok-Some.laid c.in-Ok-Some.field-0-is c.in-Ok-Some.ensures.small, size_found (rows_of trees c.args.rows.now) c.in-Ok-Some.field-0 c.in-Ok-Some.laid c.in-Ok-Some.field-0-is (c.in-Ok-Some.ensures.laid (rows_of trees c.args.rows.now) are.held), size_is (equations_of c.args.signatures.now) trees c.args.rows.now (rows_of trees c.args.rows.now) are)),
+      absurd (omega (
+        arith,
+        small_found c.in-Ok-Some.field-0 c.in-Ok-Some.laid c.in-Ok-Some.field-0-is c.in-Ok-Some.ensures.small,
+        size_found (rows_of trees c.args.rows.now) c.in-Ok-Some.field-0 c.in-Ok-Some.laid c.in-Ok-Some.field-0-is
+            (c.in-Ok-Some.ensures.laid (rows_of trees c.args.rows.now) are.held),
+        size_is
+            (equations_of c.args.signatures.now) trees c.args.rows.now (rows_of trees c.args.rows.now) are,
+      )),
 )
 
 pub returns-in_ok-of_laid-in-Ok-Some-clause-too_many : goal.returns-in_ok-of_laid-in-Ok-Some-clause-too_many
@@ -28,7 +41,14 @@ returns-in_ok-of_laid-in-Ok-Some-clause-too_many c = λ trees rows. (
   λ e. cc,
   λ more.
       let are = reached_of trees (equations_of c.args.signatures.now) c.args.rows.now rows in
-      absurd (omega (arith, small_found c.in-Ok-Some.field-0 c.in-Ok-Some.laid c.in-Ok-Some.field-0-is c.in-Ok-Some.ensures.small, size_found (rows_of trees c.args.rows.now) c.in-Ok-Some.field-0 c.in-Ok-Some.laid c.in-Ok-Some.field-0-is (c.in-Ok-Some.ensures.laid (rows_of trees c.args.rows.now) are.held), size_is (equations_of c.args.signatures.now) trees c.args.rows.now (rows_of trees c.args.rows.now) are)),
+      absurd (omega (
+        arith,
+        small_found c.in-Ok-Some.field-0 c.in-Ok-Some.laid c.in-Ok-Some.field-0-is c.in-Ok-Some.ensures.small,
+        size_found (rows_of trees c.args.rows.now) c.in-Ok-Some.field-0 c.in-Ok-Some.laid c.in-Ok-Some.field-0-is
+            (c.in-Ok-Some.ensures.laid (rows_of trees c.args.rows.now) are.held),
+        size_is
+            (equations_of c.args.signatures.now) trees c.args.rows.now (rows_of trees c.args.rows.now) are,
+      )),
 )
 
 pub returns-in-None-clause-too_many : goal.returns-in-None-clause-too_many
@@ -44,5 +64,11 @@ returns-in-Some-clause-too_many c = λ trees rows. (
   λ e. cc,
   λ more.
       let are = reached_of trees (equations_of c.args.signatures.now) c.args.rows.now rows in
-      absurd (omega (arith, c.in-Some.ensures.small, c.in-Some.ensures.size (rows_of trees c.args.rows.now) are.held, size_is (equations_of c.args.signatures.now) trees c.args.rows.now (rows_of trees c.args.rows.now) are)),
+      absurd (omega (
+        arith,
+        c.in-Some.ensures.small,
+        c.in-Some.ensures.size (rows_of trees c.args.rows.now) are.held,
+        size_is
+            (equations_of c.args.signatures.now) trees c.args.rows.now (rows_of trees c.args.rows.now) are,
+      )),
 )

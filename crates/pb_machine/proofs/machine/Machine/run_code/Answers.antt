@@ -26,7 +26,9 @@ execute-requires-clause-ready c =
     let u = c.loop-left.invariant p r in
     let count : c.loop-left.left ≡ suc (c.loop-left.left - 1) = omega arith in
     let s = next_step p c.loop-left.self c.loop-left.registers _ _ c.args.self.now.slots.items count r.runnable u in
-    let same = instruction_same p c.args.code.instructions.now c.loop-left.registers.place u.state s.i c.instruction-op.result.now r.same_code.same_code u.mirrors.place s.here c.instruction-op.ensures in
+    let same =
+    instruction_same p c.args.code.instructions.now c.loop-left.registers.place u.state s.i
+    c.instruction-op.result.now r.same_code.same_code u.mirrors.place s.here c.instruction-op.ensures in
     let fine = subst (λ (i : Op). IsNoFault (execute p i u.state)) same s.fine in
     let short = subst (λ (i : Op). WritesAtMost p.stated_tokens (execute p i u.state)) same s.short in
     let within = slice_get_within p.code u.state.place s.i s.here in
@@ -39,11 +41,15 @@ returns-then-not-execute c p r =
     let u = c.loop-left.invariant p r in
     let count : c.loop-left.left ≡ suc (c.loop-left.left - 1) = omega arith in
     let s = next_step p c.loop-left.self c.loop-left.registers _ _ c.args.self.now.slots.items count r.runnable u in
-    let same = instruction_same p c.args.code.instructions.now c.loop-left.registers.place u.state s.i c.instruction-op.result.now r.same_code.same_code u.mirrors.place s.here c.instruction-op.ensures in
+    let same =
+    instruction_same p c.args.code.instructions.now c.loop-left.registers.place u.state s.i
+    c.instruction-op.result.now r.same_code.same_code u.mirrors.place s.here c.instruction-op.ensures in
     let fine = subst (λ (i : Op). IsNoFault (execute p i u.state)) same s.fine in
     let short = subst (λ (i : Op). WritesAtMost p.stated_tokens (execute p i u.state)) same s.short in
     let leads = subst (λ (i : Op). LeadsTo p (c.loop-left.left - 1) (tree_tokens u.tree) (execute p i u.state)) same s.leads in
-    let ended = has_ended p (c.loop-left.left - 1) (tree_tokens u.tree) c.execute.new.self c.execute.new.registers _ false refl (c.if-not-execute.ensures p r.calls r.same_code.same_loops u.state u.mirrors fine short) leads in
+    let ended =
+    has_ended p (c.loop-left.left - 1) (tree_tokens u.tree) c.execute.new.self c.execute.new.registers _ false refl
+    (c.if-not-execute.ensures p r.calls r.same_code.same_loops u.state u.mirrors fine short) leads in
     record { tree = u.tree; ends = u.ends; written = ended }
 
 pub loop-left-preserved : goal.loop-left-preserved
@@ -51,9 +57,12 @@ loop-left-preserved c p r =
     let u = c.loop-left.invariant p r in
     let count : c.loop-left.left ≡ suc (c.loop-left.left - 1) = omega arith in
     let s = next_step p c.loop-left.self c.loop-left.registers _ _ c.args.self.now.slots.items count r.runnable u in
-    let same = instruction_same p c.args.code.instructions.now c.loop-left.registers.place u.state s.i c.instruction-op.result.now r.same_code.same_code u.mirrors.place s.here c.instruction-op.ensures in
+    let same =
+    instruction_same p c.args.code.instructions.now c.loop-left.registers.place u.state s.i
+    c.instruction-op.result.now r.same_code.same_code u.mirrors.place s.here c.instruction-op.ensures in
     let fine = subst (λ (i : Op). IsNoFault (execute p i u.state)) same s.fine in
     let short = subst (λ (i : Op). WritesAtMost p.stated_tokens (execute p i u.state)) same s.short in
     let leads = subst (λ (i : Op). LeadsTo p (c.loop-left.left - 1) (tree_tokens u.tree) (execute p i u.state)) same s.leads in
-    let g = goes_on p (c.loop-left.left - 1) (tree_tokens u.tree) c.execute.new.self c.execute.new.registers _ true refl (c.if-not-execute.ensures p r.calls r.same_code.same_loops u.state u.mirrors fine short) leads in
+    let g = goes_on p (c.loop-left.left - 1) (tree_tokens u.tree) c.execute.new.self c.execute.new.registers _ true refl
+    (c.if-not-execute.ensures p r.calls r.same_code.same_loops u.state u.mirrors fine short) leads in
     record { state = g.0; mirrors = g.1; tree = u.tree; ends = u.ends; left = g.2 }

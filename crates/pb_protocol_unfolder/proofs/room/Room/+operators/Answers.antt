@@ -20,7 +20,8 @@ pub take_links-returns-in_err-take-clause-refused : goal.take_links-returns-in_e
 take_links-returns-in_err-take-clause-refused t c =
     let ls = c.args.links.now in
     let item = item-counted operand_operators ls c.loop-link.link-index c.link-item.result c.loop-link-test.true c.link-item.is in
-    refused c.from_residual.result c.in_err-take.field-0.0 (OfMany (c.loop-link.self.operators < 1) c.args.place) (OfMany (c.args.self.now.operators < sum_by operand_operators ls) c.args.place) c.from_residual.ensures.1
+    refused c.from_residual.result c.in_err-take.field-0.0 (OfMany (c.loop-link.self.operators < 1) c.args.place)
+    (OfMany (c.args.self.now.operators < sum_by operand_operators ls) c.args.place) c.from_residual.ensures.1
     (λ f o. (loop-over _ _ _ _ _ _ c.loop-link.invariant item (one-over _ _ o.0), o.1)) c.in_err-take.ensures.refused
 
 pub take_links-returns-in_err-take_term-clause-refused : goal.take_links-returns-in_err-take_term-clause-refused
@@ -43,7 +44,8 @@ pub take_operations-returns-in_err-take-clause-refused : goal.take_operations-re
 take_operations-returns-in_err-take-clause-refused t c =
     let ls = c.args.links.now in
     let item = item-counted operation_operators ls c.loop-link.link-index c.link-item.result c.loop-link-test.true c.link-item.is in
-    refused c.from_residual.result c.in_err-take.field-0.0 (OfMany (c.loop-link.self.operators < 1) c.args.place) (OfMany (c.args.self.now.operators < sum_by operation_operators ls) c.args.place) c.from_residual.ensures.1
+    refused c.from_residual.result c.in_err-take.field-0.0 (OfMany (c.loop-link.self.operators < 1) c.args.place)
+    (OfMany (c.args.self.now.operators < sum_by operation_operators ls) c.args.place) c.from_residual.ensures.1
     (λ f o. (loop-over _ _ _ _ _ _ c.loop-link.invariant item (one-over _ _ o.0), o.1)) c.in_err-take.ensures.refused
 
 pub take_operations-returns-in_err-take_term-clause-refused : goal.take_operations-returns-in_err-take_term-clause-refused
@@ -56,7 +58,9 @@ take_operations-returns-in_err-take_term-clause-refused t c =
 
 pub take_arguments-loop-argument-preserved : goal.take_arguments-loop-argument-preserved
 take_arguments-loop-argument-preserved t c =
-    loop-goes _ _ _ _ _ _ _ c.loop-argument.invariant (item-counted argument_operators c.args.arguments.now c.loop-argument.argument-index c.argument-item.result c.loop-argument-test.true c.argument-item.is)
+    loop-goes _ _ _ _ _ _ _ c.loop-argument.invariant
+    (item-counted argument_operators c.args.arguments.now c.loop-argument.argument-index c.argument-item.result
+    c.loop-argument-test.true c.argument-item.is)
     c.in_ok-take_term.ensures.taken
 
 pub take_arguments-returns-clause-taken : goal.take_arguments-returns-clause-taken
@@ -85,7 +89,8 @@ take_term-returns-in_ok-take_term-in-Chain-clause-taken t c =
     let ls = c.deref-in-Chain.result.now in
     let t = c.args.term.now in
     let whole = chain-operators c.in-Chain.connective x c.in-Chain.first c.in-Chain.links ls t c.in-Chain.is c.deref.ensures c.deref-in-Chain.ensures.value in
-    ok-so (c.take_term.new.self.operators ≡ c.take_links.new.self.operators + sum_by operand_operators ls) (c.args.self.now.operators ≡ c.take_links.new.self.operators + operator_count (term_of t)) c.take_links.result
+    ok-so (c.take_term.new.self.operators ≡ c.take_links.new.self.operators + sum_by operand_operators ls)
+    (c.args.self.now.operators ≡ c.take_links.new.self.operators + operator_count (term_of t)) c.take_links.result
     (λ rest. both-left _ _ _ _ _ _ c.in_ok-take_term-in-Chain.ensures.taken rest whole) c.take_links.ensures.taken
 
 pub take_term-returns-in_ok-take_term-in-Chain-clause-refused : goal.take_term-returns-in_ok-take_term-in-Chain-clause-refused
@@ -112,7 +117,9 @@ take_term-returns-in_ok-take_term-in-Arithmetic-clause-taken t c =
     let ls = c.deref-in-Arithmetic-2.result.now in
     let t = c.args.term.now in
     let whole = arithmetic-operators x c.in-Arithmetic.first c.in-Arithmetic.links ls t c.in-Arithmetic.is c.deref-in-Arithmetic.ensures c.deref-in-Arithmetic-2.ensures.value in
-    ok-so (c.take_term-in-Arithmetic.new.self.operators ≡ c.take_operations.new.self.operators + sum_by operation_operators ls) (c.args.self.now.operators ≡ c.take_operations.new.self.operators + operator_count (term_of t)) c.take_operations.result
+    ok-so (c.take_term-in-Arithmetic.new.self.operators
+    ≡ c.take_operations.new.self.operators + sum_by operation_operators ls)
+    (c.args.self.now.operators ≡ c.take_operations.new.self.operators + operator_count (term_of t)) c.take_operations.result
     (λ rest. both-left _ _ _ _ _ _ c.in_ok-take_term-in-Arithmetic.ensures.taken rest whole) c.take_operations.ensures.taken
 
 pub take_term-returns-in_ok-take_term-in-Arithmetic-clause-refused : goal.take_term-returns-in_ok-take_term-in-Arithmetic-clause-refused
@@ -121,7 +128,8 @@ take_term-returns-in_ok-take_term-in-Arithmetic-clause-refused t c =
     let ls = c.deref-in-Arithmetic-2.result.now in
     let t = c.args.term.now in
     let whole = arithmetic-operators x c.in-Arithmetic.first c.in-Arithmetic.links ls t c.in-Arithmetic.is c.deref-in-Arithmetic.ensures c.deref-in-Arithmetic-2.ensures.value in
-    refused-so (OfMany (c.take_term-in-Arithmetic.new.self.operators < sum_by operation_operators ls) c.args.place) (OfMany (c.args.self.now.operators < operator_count (term_of t)) c.args.place) c.take_operations.result
+    refused-so (OfMany (c.take_term-in-Arithmetic.new.self.operators < sum_by operation_operators ls) c.args.place)
+    (OfMany (c.args.self.now.operators < operator_count (term_of t)) c.args.place) c.take_operations.result
     (λ f o. (rest-over _ _ _ _ _ c.in_ok-take_term-in-Arithmetic.ensures.taken whole o.0, o.1)) c.take_operations.ensures.refused
 
 pub take_term-returns-in_ok-take-in-Application-clause-taken : goal.take_term-returns-in_ok-take-in-Application-clause-taken
@@ -129,7 +137,9 @@ take_term-returns-in_ok-take-in-Application-clause-taken t c =
     let xs = c.deref-in-Application.result.now in
     let t = c.args.term.now in
     let whole = application-operators c.in-Application.function c.in-Application.arguments xs t c.in-Application.is c.deref-in-Application.ensures.value in
-    ok-so (c.take-in-Application.new.self.operators ≡ c.take_arguments.new.self.operators + sum_by argument_operators xs) (c.args.self.now.operators ≡ c.take_arguments.new.self.operators + operator_count (term_of t))
+    ok-so (c.take-in-Application.new.self.operators
+    ≡ c.take_arguments.new.self.operators + sum_by argument_operators xs)
+    (c.args.self.now.operators ≡ c.take_arguments.new.self.operators + operator_count (term_of t))
     c.take_arguments.result (λ rest. behind-left _ _ _ _ _ c.in_ok-take-in-Application.ensures.taken rest whole) c.take_arguments.ensures.taken
 
 pub take_term-returns-in_ok-take-in-Application-clause-refused : goal.take_term-returns-in_ok-take-in-Application-clause-refused

@@ -55,7 +55,14 @@ returns-in_err-push_values-clause-refused c =
     let one = 8192 < length (f (indices_said y.now)) in
     let all = 8192 < length (flat_map f (map indices_behind ys)) in
     refused c.from_residual.result c.in_err-push_values.field-0.0 (IsTermOr one) (IsTermOr all) c.from_residual.ensures.1
-    (term-or one all (λ more. omega (arith, more, part-of-all (λ z. f (indices_behind z)) ys k y in-ys c.index-variables-at.is, ap (λ (v : List (List Term)). length v) (flat_map-map f indices_behind ys))))
+    (term-or one all
+    (λ more. omega (
+      arith,
+      more,
+      part-of-all (λ z. f (indices_behind z)) ys k y in-ys c.index-variables-at.is,
+      ap
+          (λ (v : List (List Term)). length v) (flat_map-map f indices_behind ys),
+    )))
     c.in_err-push_values.ensures.refused
 
 pub returns-in_err-push_values-clause-faults : goal.returns-in_err-push_values-clause-faults

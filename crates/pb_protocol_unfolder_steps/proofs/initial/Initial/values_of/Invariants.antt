@@ -7,4 +7,6 @@ use Rattle.pb_protocol_unfolder_steps.proofs.initial.Initial.values_of.Given as 
 abbrev pub invariant-loop-at : goal.invariant-loop-at
 invariant-loop-at l =
     let m = protocol_of l.self.protocol.now in
-    map argument_term l.terms.items ++ initial_values m (map indices_behind (drop l.at l.variables)) (map argument_term (drop l.at l.values)) ≡ initial_values m (map indices_behind l.variables) (map argument_term l.values)
+    map argument_term l.terms.items
+    ++ initial_values m (map indices_behind (drop l.at l.variables)) (map argument_term (drop l.at l.values))
+    ≡ initial_values m (map indices_behind l.variables) (map argument_term l.values)

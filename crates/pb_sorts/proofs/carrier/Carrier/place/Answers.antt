@@ -23,4 +23,5 @@ returns-then-contains c =
     let b = c.bounds-least in
     let v = to_z w64 (of_z w64 c.args.value) in
     let within : (b.result.0 ≤ℤ v) × (v ≤ℤ b.result.1) = within-contains (values_of c.args.self.now) b.result.0 b.result.1 v b.ensures.interval b.ensures.order (sym c.if-contains.ensures) in
-    slice_get-from_interval (values_of c.args.self.now) b.result.0 b.result.1 c.args.value _ b.ensures.interval (omega (arith, ints, within.0, within.1, b.ensures.high, b.ensures.low)) (omega (arith, ints, within.1))
+    slice_get-from_interval (values_of c.args.self.now) b.result.0 b.result.1 c.args.value _ b.ensures.interval
+    (omega (arith, ints, within.0, within.1, b.ensures.high, b.ensures.low)) (omega (arith, ints, within.1))

@@ -10,7 +10,9 @@ returns c =
     let equations = c.args.self.now in
     let k = c.equation_of-equation.result in
     let n = c.args.number in
-    let bounds : (first_of (carriers_of equations) k ≤ n) × (n < first_of (carriers_of equations) k + size_of (carriers_of equations) k) = owner_bounds (first_of (carriers_of equations) k) (size_of (carriers_of equations) k) n c.equation_of-equation.ensures.owner in
+    let bounds : (first_of (carriers_of equations) k ≤ n)
+    × (n < first_of (carriers_of equations) k + size_of (carriers_of equations) k) =
+    owner_bounds (first_of (carriers_of equations) k) (size_of (carriers_of equations) k) n c.equation_of-equation.ensures.owner in
     let sum : n ≡ first_of (carriers_of equations) k + (n - c.first.result) = omega (arith, c.first.ensures, bounds.0) in
     ap (slice_get (instances (carriers_of equations))) sum
     ∙ number_at equations k (n - c.first.result) c.carriers-carriers.result.now c.tuple_at.result.items c.carriers-carriers.ensures.list c.tuple_at.ensures

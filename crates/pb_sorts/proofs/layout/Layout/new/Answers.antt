@@ -19,7 +19,8 @@ unwrap-requires c =
     let few : count_of (lists_of vs) ≤ MAX_INSTANCES = c.count_instances.ensures.fits.0 c.if-is_none.ensures in
     let at : slice_get (lists_of vs) k ≡ Some ps = slice_get-lists_of vs k c.parameters-item.result c.loop-parameters-test.true c.parameters-item.is in
     let ends : first_of (carriers_of (lists_of vs)) k + tuple_count (map values_of ps) ≤ count_of (lists_of vs) = ends_within (lists_of vs) k ps at in
-    let same : tuple_count (map values_of c.deref-in-loop-parameters.result.now) ≡ tuple_count (map values_of ps) = ap (λ (xs : List Carrier). tuple_count (map values_of xs)) c.deref-in-loop-parameters.ensures.value in
+    let same : tuple_count (map values_of c.deref-in-loop-parameters.result.now) ≡ tuple_count (map values_of ps) =
+    ap (λ (xs : List Carrier). tuple_count (map values_of xs)) c.deref-in-loop-parameters.ensures.value in
     c.count_tuples.ensures.fits.1 (omega (arith, few, ends, same))
 
 counted : (o : Option ℕ) (m n : ℕ) → o ≡ Some n → IfSome o (λ x. x ≡ m) → n ≡ m
@@ -34,8 +35,11 @@ overflow_add-first c =
     let few : count_of (lists_of vs) ≤ MAX_INSTANCES = c.count_instances.ensures.fits.0 c.if-is_none.ensures in
     let at : slice_get (lists_of vs) k ≡ Some ps = slice_get-lists_of vs k c.parameters-item.result c.loop-parameters-test.true c.parameters-item.is in
     let ends : first_of (carriers_of (lists_of vs)) k + tuple_count (map values_of ps) ≤ count_of (lists_of vs) = ends_within (lists_of vs) k ps at in
-    let same : tuple_count (map values_of c.deref-in-loop-parameters.result.now) ≡ tuple_count (map values_of ps) = ap (λ (xs : List Carrier). tuple_count (map values_of xs)) c.deref-in-loop-parameters.ensures.value in
-    let size : c.unwrap.result ≡ tuple_count (map values_of c.deref-in-loop-parameters.result.now) = counted c.count_tuples.result (tuple_count (map values_of c.deref-in-loop-parameters.result.now)) c.unwrap.result c.unwrap.ensures c.count_tuples.ensures.count in
+    let same : tuple_count (map values_of c.deref-in-loop-parameters.result.now) ≡ tuple_count (map values_of ps) =
+    ap (λ (xs : List Carrier). tuple_count (map values_of xs)) c.deref-in-loop-parameters.ensures.value in
+    let size : c.unwrap.result ≡ tuple_count (map values_of c.deref-in-loop-parameters.result.now) =
+    counted c.count_tuples.result (tuple_count (map values_of c.deref-in-loop-parameters.result.now))
+    c.unwrap.result c.unwrap.ensures c.count_tuples.ensures.count in
     omega (arith, few, ends, same, size, c.loop-parameters.invariant.next)
 
 pub loop-parameters-preserved : goal.loop-parameters-preserved
@@ -46,17 +50,24 @@ loop-parameters-preserved c =
     let ps = c.parameters-item.result.items in
     let at : slice_get (lists_of vs) k ≡ Some ps = slice_get-lists_of vs k c.parameters-item.result c.loop-parameters-test.true c.parameters-item.is in
     let next : first_of (carriers_of (lists_of vs)) (k + 1) ≡ first_of (carriers_of (lists_of vs)) k + tuple_count (map values_of ps) = first_of-next_at (lists_of vs) k ps at in
-    let same : tuple_count (map values_of c.deref-in-loop-parameters.result.now) ≡ tuple_count (map values_of ps) = ap (λ (xs : List Carrier). tuple_count (map values_of xs)) c.deref-in-loop-parameters.ensures.value in
-    let size : c.unwrap.result ≡ tuple_count (map values_of c.deref-in-loop-parameters.result.now) = counted c.count_tuples.result (tuple_count (map values_of c.deref-in-loop-parameters.result.now)) c.unwrap.result c.unwrap.ensures c.count_tuples.ensures.count in
+    let same : tuple_count (map values_of c.deref-in-loop-parameters.result.now) ≡ tuple_count (map values_of ps) =
+    ap (λ (xs : List Carrier). tuple_count (map values_of xs)) c.deref-in-loop-parameters.ensures.value in
+    let size : c.unwrap.result ≡ tuple_count (map values_of c.deref-in-loop-parameters.result.now) =
+    counted c.count_tuples.result (tuple_count (map values_of c.deref-in-loop-parameters.result.now))
+    c.unwrap.result c.unwrap.ensures c.count_tuples.ensures.count in
     record {
-      copied = copied_more vs loop.carriers.items c.push-in-loop-parameters.new.self.items k c.parameters-item.result c.in_ok-from_slice.field-0 c.loop-parameters-test.true c.parameters-item.is (c.in_ok-from_slice.ensures.items ∙ c.deref.ensures.value) c.in_ok-push-2.ensures.items loop.invariant.copied;
+      copied = copied_more vs loop.carriers.items c.push-in-loop-parameters.new.self.items k c.parameters-item.result
+          c.in_ok-from_slice.field-0 c.loop-parameters-test.true c.parameters-item.is
+          (c.in_ok-from_slice.ensures.items ∙ c.deref.ensures.value) c.in_ok-push-2.ensures.items loop.invariant.copied;
       long = length-pushed loop.firsts.items c.push.new.self.items loop.first k c.in_ok-push.ensures.items loop.invariant.long;
-      starts = starts_more loop.firsts.items c.push.new.self.items loop.first k (first_of (carriers_of (lists_of vs))) c.in_ok-push.ensures.items loop.invariant.long loop.invariant.next loop.invariant.starts;
+      starts = starts_more loop.firsts.items c.push.new.self.items loop.first k (first_of (carriers_of (lists_of vs)))
+          c.in_ok-push.ensures.items loop.invariant.long loop.invariant.next loop.invariant.starts;
       next = omega (arith, next, same, size, loop.invariant.next);
     }
 
 pub invariant_of-result : goal.invariant_of-result
 invariant_of-result c =
     let loop = c.loop-parameters in
-    built c.args.equations.now loop.carriers.items loop.firsts.items c.push-2.new.self.items loop.first loop.parameters-index c.loop-parameters-test.false loop.auto.parameters-index-end loop.invariant.copied
+    built c.args.equations.now loop.carriers.items loop.firsts.items c.push-2.new.self.items loop.first
+    loop.parameters-index c.loop-parameters-test.false loop.auto.parameters-index-end loop.invariant.copied
     c.in_ok-push-3.ensures.items loop.invariant.long loop.invariant.next loop.invariant.starts c.requires.equations c.requires.parameters (c.count_instances.ensures.fits.0 c.if-is_none.ensures)

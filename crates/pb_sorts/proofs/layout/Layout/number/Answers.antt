@@ -18,7 +18,8 @@ pub place_of_tuple-requires : goal.place_of_tuple-requires
 place_of_tuple-requires c =
     let got = c.in_ok-carriers.ensures.lookup in
     let at : slice_get c.args.self.now c.args.instance.now.equation ≡ Some c.deref-2.result.now =
-    carriers_got c.self.inside.carriers.items c.deref.result.now c.args.self.now c.args.instance.now.equation c.in_ok-carriers.carriers.now c.deref-2.result.now c.deref.ensures.value c.self.view_is got.3.0 got.1 c.deref-2.ensures.value in
+    carriers_got c.self.inside.carriers.items c.deref.result.now c.args.self.now c.args.instance.now.equation
+    c.in_ok-carriers.carriers.now c.deref-2.result.now c.deref.ensures.value c.self.view_is got.3.0 got.1 c.deref-2.ensures.value in
     tuples_are_few c.args.self.now c.args.instance.now.equation c.deref-2.result.now
     (limits_view c.self.inside.carriers.items c.self.inside.firsts.items c.args.self.now c.self.view_is c.self.invariant) at
 
@@ -26,9 +27,12 @@ pub returns-in_err-place-clause-exists : goal.returns-in_err-place-clause-exists
 returns-in_err-place-clause-exists c =
     let got = c.in_ok-carriers.ensures.lookup in
     let at : slice_get c.args.self.now c.args.instance.now.equation ≡ Some c.deref-2.result.now =
-    carriers_got c.self.inside.carriers.items c.deref.result.now c.args.self.now c.args.instance.now.equation c.in_ok-carriers.carriers.now c.deref-2.result.now c.deref.ensures.value c.self.view_is got.3.0 got.1 c.deref-2.ensures.value in
+    carriers_got c.self.inside.carriers.items c.deref.result.now c.args.self.now c.args.instance.now.equation
+    c.in_ok-carriers.carriers.now c.deref-2.result.now c.deref.ensures.value c.self.view_is got.3.0 got.1 c.deref-2.ensures.value in
     let test = is_instance-at c.args.self.now c.args.instance.now.equation c.deref-2.result.now c.args.instance.now.values.items at in
-    none_found c.from_residual-in_err-place.result (is_within (map values_of c.deref-2.result.now) c.deref-3.result.now) _ c.from_residual-in_err-place.ensures (test ∙ ap (is_within (map values_of c.deref-2.result.now)) (sym c.deref-3.ensures)) c.in_err-place.ensures.exists
+    none_found c.from_residual-in_err-place.result (is_within (map values_of c.deref-2.result.now) c.deref-3.result.now)
+    _ c.from_residual-in_err-place.ensures
+    (test ∙ ap (is_within (map values_of c.deref-2.result.now)) (sym c.deref-3.ensures)) c.in_err-place.ensures.exists
 
 pub overflow_add-result : goal.overflow_add-result
 overflow_add-result c =
@@ -36,9 +40,11 @@ overflow_add-result c =
     let k = c.args.instance.now.equation in
     let equations = c.args.self.now in
     let at : slice_get equations k ≡ Some c.deref-2.result.now =
-    carriers_got c.self.inside.carriers.items c.deref.result.now equations k c.in_ok-carriers.carriers.now c.deref-2.result.now c.deref.ensures.value c.self.view_is got.3.0 got.1 c.deref-2.ensures.value in
+    carriers_got c.self.inside.carriers.items c.deref.result.now equations k c.in_ok-carriers.carriers.now
+    c.deref-2.result.now c.deref.ensures.value c.self.view_is got.3.0 got.1 c.deref-2.ensures.value in
     let limits = limits_view c.self.inside.carriers.items c.self.inside.firsts.items equations c.self.view_is c.self.invariant in
-    let fits : first_of (carriers_of equations) k + c.in_ok-place.place < 4194305 = number_fits equations k c.in_ok-place.place c.deref-2.result.now c.deref-3.result.now limits at c.in_ok-place.ensures.place in
+    let fits : first_of (carriers_of equations) k + c.in_ok-place.place < 4194305 =
+    number_fits equations k c.in_ok-place.place c.deref-2.result.now c.deref-3.result.now limits at c.in_ok-place.ensures.place in
     omega (arith, c.first.ensures, fits)
 
 pub returns-clause-exists : goal.returns-clause-exists
@@ -47,7 +53,8 @@ returns-clause-exists c =
     let k = c.args.instance.now.equation in
     let equations = c.args.self.now in
     let at : slice_get equations k ≡ Some c.deref-2.result.now =
-    carriers_got c.self.inside.carriers.items c.deref.result.now equations k c.in_ok-carriers.carriers.now c.deref-2.result.now c.deref.ensures.value c.self.view_is got.3.0 got.1 c.deref-2.ensures.value in
+    carriers_got c.self.inside.carriers.items c.deref.result.now equations k c.in_ok-carriers.carriers.now
+    c.deref-2.result.now c.deref.ensures.value c.self.view_is got.3.0 got.1 c.deref-2.ensures.value in
     let test = is_instance-at equations k c.deref-2.result.now c.args.instance.now.values.items at in
     let within : is_within (map values_of c.deref-2.result.now) c.deref-3.result.now ≡ true = c.in_ok-place.ensures.exists.0 refl in
     (λ _. test ∙ (ap (is_within (map values_of c.deref-2.result.now)) (sym c.deref-3.ensures) ∙ within), λ _. refl)
@@ -58,7 +65,8 @@ returns-clause-place c =
     let k = c.args.instance.now.equation in
     let equations = c.args.self.now in
     let at : slice_get equations k ≡ Some c.deref-2.result.now =
-    carriers_got c.self.inside.carriers.items c.deref.result.now equations k c.in_ok-carriers.carriers.now c.deref-2.result.now c.deref.ensures.value c.self.view_is got.3.0 got.1 c.deref-2.ensures.value in
+    carriers_got c.self.inside.carriers.items c.deref.result.now equations k c.in_ok-carriers.carriers.now
+    c.deref-2.result.now c.deref.ensures.value c.self.view_is got.3.0 got.1 c.deref-2.ensures.value in
     ap (λ (n : ℕ). slice_get (instances (carriers_of equations)) (n + c.in_ok-place.place)) c.first.ensures
     ∙ (number_at equations k c.in_ok-place.place c.deref-2.result.now c.deref-3.result.now at c.in_ok-place.ensures.place
     ∙ ap (λ (vs : Tuple). Some (with_values k vs)) c.deref-3.ensures)

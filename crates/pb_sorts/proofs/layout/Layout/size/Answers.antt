@@ -10,7 +10,8 @@ ends c =
     let equations = c.args.self.now in
     let k = c.args.equation in
     let numbered = numbered_view c.self.inside.carriers.items c.self.inside.firsts.items equations c.self.view_is c.self.invariant in
-    let next : c.index.result.now ≡ first_of (carriers_of equations) (k + 1) = start_read equations c.self.inside.firsts.items (k + 1) c.index.result.now numbered (omega (arith, c.requires)) c.index.ensures in
+    let next : c.index.result.now ≡ first_of (carriers_of equations) (k + 1) =
+    start_read equations c.self.inside.firsts.items (k + 1) c.index.result.now numbered (omega (arith, c.requires)) c.index.ensures in
     omega (arith, next, c.first.ensures, first_of-after equations k c.requires)
 
 pub overflow_sub-result : goal.overflow_sub-result

@@ -19,11 +19,13 @@ use Rattle.pb_typing_declarations.proofs.declarations.Declarations.check_variabl
 abbrev Found : Spec → List VariableForm → Result (Vec Carrier Global) (OrMemory TypingFault) → Type 0
 Found S xs r = MatchResult r (λ carriers. HasVariables S xs carriers.items) (IsAmong (variables_faults S xs))
 
-checked : (S : Spec) (xs : List VariableForm) (r : Result (Vec Carrier Global) (OrMemory TypingFault)) → Found S xs r → MatchResult r (λ _. variables_faults S xs ≡ []) (IsAmong (variables_faults S xs))
+checked : (S : Spec) (xs : List VariableForm) (r : Result (Vec Carrier Global) (OrMemory TypingFault)) → Found S xs r
+    → MatchResult r (λ _. variables_faults S xs ≡ []) (IsAmong (variables_faults S xs))
 checked S xs (Ok carriers) h = h.clear
 checked S xs (Err e) h = h
 
-shown : (S : Spec) (xs : List VariableForm) (r : Result (Vec Carrier Global) (OrMemory TypingFault)) → Found S xs r → IfOk r (λ carriers. shapes_of carriers.items ≡ variable_shapes S (erased_variables xs))
+shown : (S : Spec) (xs : List VariableForm) (r : Result (Vec Carrier Global) (OrMemory TypingFault)) → Found S xs r
+    → IfOk r (λ carriers. shapes_of carriers.items ≡ variable_shapes S (erased_variables xs))
 shown S xs (Ok carriers) h = h.shapes
 shown S xs (Err e) h = tt
 

@@ -12,4 +12,5 @@ chain_end-requires c =
 pub returns : goal.returns
 returns c =
     let t = c.args.self.now in
-    base_is t.spec.now t.definitions t.ranges t.names t.equations t.agrees c.new-ranges.result c.len-limit.result c.args.sort.now _ c.new-ranges.ensures.empty (omega (arith, c.len-limit.ensures, t.spec.now.sorts.ok.0)) c.chain_end.ensures
+    base_is t.spec.now t.definitions t.ranges t.names t.equations t.agrees c.new-ranges.result c.len-limit.result
+    c.args.sort.now _ c.new-ranges.ensures.empty (omega (arith, c.len-limit.ensures, t.spec.now.sorts.ok.0)) c.chain_end.ensures

@@ -33,7 +33,9 @@ returns-in_err-parameters c =
     let whole = equations_faults_behind S 0 (map equation_form E) in
     let h : IsAmong whole e =
     among_first whole (equation_faults S (equation_form X)) _ e
-    (c.loop-equation.invariant.left ∙ ap (λ (xs : List ast.Equation). equations_faults_behind S c.loop-equation.count (map equation_form xs)) (drop-at E k X c.loop-equation-test.true c.equation-item.is))
+    (c.loop-equation.invariant.left
+    ∙ ap (λ (xs : List ast.Equation). equations_faults_behind S c.loop-equation.count (map equation_form xs))
+    (drop-at E k X c.loop-equation-test.true c.equation-item.is))
     c.in_err-parameters.ensures in
     search rules
 
@@ -81,11 +83,14 @@ loop-equation-preserved c =
           first_clear _ _ _ (first_clear _ (equation_faults S (equation_form X)) _
           (inv.left ∙ ap (λ (xs : List ast.Equation). equations_faults_behind S n (map equation_form xs)) following) has.clear)
           (ap (λ (b : Bool). unless b Limit X.name.place) (stays MAX_INSTANCES n (n + tuple_count size) inv.few)
-          ∙ (ap (λ cs. unless (nat_le (n + tuple_count cs) MAX_INSTANCES) Limit X.name.place) (sym (sizes_are c.in_ok-parameters.parameters c.deref.result.now c.deref.ensures.value has.values)) ∙ adds.clear))
+          ∙ (ap (λ cs. unless (nat_le (n + tuple_count cs) MAX_INSTANCES) Limit X.name.place)
+          (sym (sizes_are c.in_ok-parameters.parameters c.deref.result.now c.deref.ensures.value has.values)) ∙ adds.clear))
           ∙ ap (λ (m : ℕ). equations_faults_behind S m (map equation_form rest)) (sym counted);
       values =
           grown _ (layouts.carriers_of (lists_of old)) (layouts.carriers_of (lists_of new)) _ size
-          (inv.values ∙ ap (λ (xs : List ast.Equation). layouts.carriers_of (lists_of old) ++ map (λ (Y : Equation). carriers_of S Y.parameters) (map erased_equation (map equation_form xs))) following)
+          (inv.values
+          ∙ ap (λ (xs : List ast.Equation). layouts.carriers_of (lists_of old)
+          ++ map (λ (Y : Equation). carriers_of S Y.parameters) (map erased_equation (map equation_form xs))) following)
           (lists_pushed old new c.in_ok-parameters.parameters c.in_ok-push.ensures.items ∙ ap (λ cs. layouts.carriers_of (lists_of old) ++ (cs ∷ [])) has.values);
       shapes =
           grown _ (map shapes_of (lists_of old)) (map shapes_of (lists_of new)) _ (variable_shapes S (erased_equation (equation_form X)).parameters)

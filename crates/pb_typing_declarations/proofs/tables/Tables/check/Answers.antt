@@ -48,7 +48,9 @@ returns-in_err-check_equation_count c =
     let text = spec_form c.args.self.now.spec.now in
     let e = Refused c.in_err-check_equation_count.field-0.0 in
     let h : IsAmong (checks_faults text) e =
-    in_too_many text e (subst (λ (xs : List Equation). IsAmong (limit_faults MAX_EQUATIONS (equation_names (map equation_form xs))) e) (c.deref-3).ensures.value c.in_err-check_equation_count.ensures) in
+    in_too_many text e
+    (subst (λ (xs : List Equation). IsAmong (limit_faults MAX_EQUATIONS (equation_names (map equation_form xs))) e)
+    (c.deref-3).ensures.value c.in_err-check_equation_count.ensures) in
     search rules
 
 pub returns : goal.returns

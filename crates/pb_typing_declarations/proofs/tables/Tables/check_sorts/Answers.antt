@@ -13,5 +13,6 @@ returns-in_err-check_sort c =
     let xs = c.args.sorts.now in
     let fault = c.in_err-check_sort.field-0.0 in
     let h : Contains (flat_map (sort_faults S) (map sort_declaration_form xs)) fault =
-    among_item (sort_faults S) sort_declaration_form xs c.loop-declaration.declaration-index c.declaration-item.result (Refused fault) c.loop-declaration-test.true c.declaration-item.is c.loop-declaration.invariant c.in_err-check_sort.ensures in
+    among_item (sort_faults S) sort_declaration_form xs c.loop-declaration.declaration-index c.declaration-item.result
+    (Refused fault) c.loop-declaration-test.true c.declaration-item.is c.loop-declaration.invariant c.in_err-check_sort.ensures in
     search rules

@@ -35,7 +35,8 @@ returns-in_err-carrier c =
     let e = Refused c.in_err-carrier.field-0.0 in
     let h : IsAmong (variables_faults S (variables_of es)) e =
     among_right (repeated (variable_names (variables_of es))) _ e
-    (among_item (variable_faults S) variable_of es c.loop-variable.variable-index c.variable-item.result e c.loop-variable-test.true c.variable-item.is c.loop-variable.invariant.left c.in_err-carrier.ensures) in
+    (among_item (variable_faults S) variable_of es c.loop-variable.variable-index c.variable-item.result e
+    c.loop-variable-test.true c.variable-item.is c.loop-variable.invariant.left c.in_err-carrier.ensures) in
     search rules
 
 pub returns : goal.returns

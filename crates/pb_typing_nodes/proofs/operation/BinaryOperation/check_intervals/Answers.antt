@@ -20,5 +20,8 @@ pub returns-in-None : goal.returns-in-None
 returns-in-None c =
     let d : may_divide (binary_operation c.args.self) (Wholes c.args.right.low c.args.right.high) ≡ true =
     sym c.may_divide-divides.ensures ∙ holds_unless c.may_divide-divides.result rule.Divisor c.args.place c.in_ok-require.ensures in
-    let P : TypingFault → Type 0 = λ e. Contains (operator_faults (Computed (binary_operation c.args.self)) (Wholes c.args.left.low c.args.left.high) (Wholes c.args.right.low c.args.right.high) c.args.place) e in
+    let P : TypingFault → Type 0 =
+    λ e. Contains
+    (operator_faults (Computed (binary_operation c.args.self)) (Wholes c.args.left.low c.args.left.high)
+    (Wholes c.args.right.low c.args.right.high) c.args.place) e in
     subst P (sym c.fault.ensures) (beyond (binary_operation c.args.self) c.args.left c.args.right c.args.place d (sym c.in-None.is ∙ c.interval.ensures))

@@ -5,7 +5,8 @@ use Rattle.pb_verifier.proofs.pass.PassState.end_loop.Goals as goal
 pub returns-in-Some-clause-flows : goal.returns-in-Some-clause-flows
 returns-in-Some-clause-flows c =
     where_ok c.visit_next.result
-    (λ h p. known_flows p c.args.place op.Next c.args.known c.in-Some.state c.leave-start.result c.args.self.now.open_loops c.args.self.now.table.items _ c.in-Some.is c.leave-start.ensures.start (h p))
+    (λ h p. known_flows p c.args.place op.Next c.args.known c.in-Some.state c.leave-start.result
+    c.args.self.now.open_loops c.args.self.now.table.items _ c.in-Some.is c.leave-start.ensures.start (h p))
     c.visit_next.ensures.ok
 
 pub returns-in-Some-clause-open_loops : goal.returns-in-Some-clause-open_loops
@@ -14,7 +15,8 @@ returns-in-Some-clause-open_loops c = where_ok c.visit_next.result (λ h. c.leav
 pub returns-in-Some-clause-err : goal.returns-in-Some-clause-err
 returns-in-Some-clause-err c =
     where_err c.visit_next.result
-    (λ h p. known_flows p c.args.place op.Next c.args.known c.in-Some.state c.leave-start.result c.args.self.now.open_loops c.args.self.now.table.items _ c.in-Some.is c.leave-start.ensures.start (h p))
+    (λ h p. known_flows p c.args.place op.Next c.args.known c.in-Some.state c.leave-start.result
+    c.args.self.now.open_loops c.args.self.now.table.items _ c.in-Some.is c.leave-start.ensures.start (h p))
     c.visit_next.ensures.err
 
 pub returns-in-None-clause-open_loops : goal.returns-in-None-clause-open_loops

@@ -13,10 +13,15 @@ returns-in_err-visit_loop-in-Some-clause-refused c =
     let p = err_from_is_err_and c.from_residual.result c.from_residual.ensures.1 in
     rw (p.1, p.2)
     (if_fault c.in_err-visit_loop-in-Some.field-0.0
-    (λ fault h sorts callees. known_flows (program_in sorts callees c.args.equation.now) c.args.place (op.Loop c.args.slot) c.args.known c.in-Some.state (innermost c.args.self.now.open_loops) c.args.self.now.open_loops c.args.self.now.table.items _ c.in-Some.is refl (h (program_in sorts callees c.args.equation.now) (innermost c.args.self.now.open_loops) (sym (c.loop_carrier-carrier.ensures sorts callees))))
+    (λ fault h sorts callees. known_flows (program_in sorts callees c.args.equation.now) c.args.place
+    (op.Loop c.args.slot) c.args.known c.in-Some.state (innermost c.args.self.now.open_loops)
+    c.args.self.now.open_loops c.args.self.now.table.items _ c.in-Some.is refl
+    (h (program_in sorts callees c.args.equation.now) (innermost c.args.self.now.open_loops)
+    (sym (c.loop_carrier-carrier.ensures sorts callees))))
     c.in_err-visit_loop-in-Some.ensures.refused)
 
 pub returns-in_ok-enter-in-Some-clause-flows : goal.returns-in_ok-enter-in-Some-clause-flows
 returns-in_ok-enter-in-Some-clause-flows c sorts callees =
-    known_flows (program_in sorts callees c.args.equation.now) c.args.place (op.Loop c.args.slot) c.args.known c.in-Some.state (innermost c.args.self.now.open_loops) c.args.self.now.open_loops c.args.self.now.table.items _ c.in-Some.is refl
+    known_flows (program_in sorts callees c.args.equation.now) c.args.place (op.Loop c.args.slot) c.args.known
+    c.in-Some.state (innermost c.args.self.now.open_loops) c.args.self.now.open_loops c.args.self.now.table.items _ c.in-Some.is refl
     (c.in_ok-visit_loop-in-Some.ensures.ok (program_in sorts callees c.args.equation.now) (innermost c.args.self.now.open_loops) (sym (c.loop_carrier-carrier.ensures sorts callees)))

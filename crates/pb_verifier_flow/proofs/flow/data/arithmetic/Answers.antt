@@ -7,7 +7,11 @@ use Rattle.pb_verifier_flow.proofs.Pushes.{arithmetic_goes_on, divisor_fails, ov
 use Rattle.pb_verifier_flow.proofs.flow.data.arithmetic.Goals as goal
 
 pub returns-clause-flows : goal.returns-clause-flows
-returns-clause-flows c = arithmetic_goes_on c.args.operator c.args.state c.pop_int.new.self c.pop_int-2.new.self c.push.new.self c.in_ok-b.b c.in_ok-a.a c.in-Some.interval c.in_ok-b.ensures.ok c.in_ok-a.ensures.ok (sym c.may_be_no_divisor.ensures ∙ c.if-may_be_no_divisor.false) c.in-Some.ensures c.in_ok-push.ensures.room (rw (c.numbers.ensures.value) at (c.in_ok-push.ensures.pushed))
+returns-clause-flows c =
+    arithmetic_goes_on c.args.operator c.args.state c.pop_int.new.self c.pop_int-2.new.self c.push.new.self c.in_ok-b.b
+    c.in_ok-a.a c.in-Some.interval c.in_ok-b.ensures.ok c.in_ok-a.ensures.ok
+    (sym c.may_be_no_divisor.ensures ∙ c.if-may_be_no_divisor.false) c.in-Some.ensures c.in_ok-push.ensures.room
+    (rw (c.numbers.ensures.value) at (c.in_ok-push.ensures.pushed))
 
 pub returns-then-may_be_no_divisor-clause-refused : goal.returns-then-may_be_no_divisor-clause-refused
 returns-then-may_be_no_divisor-clause-refused c =

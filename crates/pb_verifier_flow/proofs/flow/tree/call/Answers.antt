@@ -19,19 +19,22 @@ unnamed (w ∷ vs) (suc i) h = unnamed vs i (omega arith)
 pub returns-clause-flows : goal.returns-clause-flows
 returns-clause-flows c =
     let there = named c.args.callees.now c.from-place.result c.index-callees-place.result c.if-place-callees.false c.index-callees-place.is ∙ ap Some (sym c.deref.ensures.value) in
-    let callee : slice_get (map vec_items c.args.callees.now) c.args.equation ≡ Some c.deref.result.now = subst (λ (i : ℕ). slice_get (map vec_items c.args.callees.now) i ≡ Some c.deref.result.now) c.from-place.ensures there in
+    let callee : slice_get (map vec_items c.args.callees.now) c.args.equation ≡ Some c.deref.result.now =
+    subst (λ (i : ℕ). slice_get (map vec_items c.args.callees.now) i ≡ Some c.deref.result.now) c.from-place.ensures there in
     subst (λ (x : Option (List Carrier)). IfOk c.call_with.result (λ k. (q : ℕ) → abstract_call q c.args.state x ≡ to_next_place q k)) (sym callee) c.call_with.ensures.flows
 
 pub returns-clause-err : goal.returns-clause-err
 returns-clause-err c =
     let there = named c.args.callees.now c.from-place.result c.index-callees-place.result c.if-place-callees.false c.index-callees-place.is ∙ ap Some (sym c.deref.ensures.value) in
-    let callee : slice_get (map vec_items c.args.callees.now) c.args.equation ≡ Some c.deref.result.now = subst (λ (i : ℕ). slice_get (map vec_items c.args.callees.now) i ≡ Some c.deref.result.now) c.from-place.ensures there in
+    let callee : slice_get (map vec_items c.args.callees.now) c.args.equation ≡ Some c.deref.result.now =
+    subst (λ (i : ℕ). slice_get (map vec_items c.args.callees.now) i ≡ Some c.deref.result.now) c.from-place.ensures there in
     subst (λ (x : Option (List Carrier)). OnErr c.call_with.result ((q : ℕ) → abstract_call q c.args.state x ≡ None)) (sym callee) c.call_with.ensures.err
 
 pub returns-clause-rule : goal.returns-clause-rule
 returns-clause-rule c =
     let there = named c.args.callees.now c.from-place.result c.index-callees-place.result c.if-place-callees.false c.index-callees-place.is ∙ ap Some (sym c.deref.ensures.value) in
-    let callee : slice_get (map vec_items c.args.callees.now) c.args.equation ≡ Some c.deref.result.now = subst (λ (i : ℕ). slice_get (map vec_items c.args.callees.now) i ≡ Some c.deref.result.now) c.from-place.ensures there in
+    let callee : slice_get (map vec_items c.args.callees.now) c.args.equation ≡ Some c.deref.result.now =
+    subst (λ (i : ℕ). slice_get (map vec_items c.args.callees.now) i ≡ Some c.deref.result.now) c.from-place.ensures there in
     subst (λ (x : Option (List Carrier)). IfErr c.call_with.result (λ r. r ≡ named_at_call c.args.state.operands x)) (sym callee) c.call_with.ensures.rule
 
 pub returns-then-place-callees-clause-err : goal.returns-then-place-callees-clause-err

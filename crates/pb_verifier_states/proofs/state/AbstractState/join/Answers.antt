@@ -7,7 +7,8 @@ invariant_of-result c =
     let mine = c.self.invariant in
     let theirs = c.other.invariant in
     let deep = mine.0 in
-    let long : length c.in_ok-operands.operands.items ≡ length c.self.inside.operands.items = hulls_long c.self.inside.operands.items c.deref.result.now c.in_ok-operands.operands.items (sym c.in_ok-operands.ensures) in (
+    let long : length c.in_ok-operands.operands.items ≡ length c.self.inside.operands.items =
+    hulls_long c.self.inside.operands.items c.deref.result.now c.in_ok-operands.operands.items (sym c.in_ok-operands.ensures) in (
       omega (arith),
       hulls_ordered c.self.inside.operands.items c.deref.result.now c.in_ok-operands.operands.items (sym c.in_ok-operands.ensures) mine.1 (rw (c.deref.ensures.value) (theirs.1)),
       hulls_ordered c.self.inside.parameters.items c.deref-2.result.now c.in_ok-parameters.parameters.items (sym c.in_ok-parameters.ensures) mine.2 (rw (c.deref-2.ensures.value) (theirs.2)),

@@ -20,10 +20,16 @@ loop-place-preserved c =
     ])
 
 pub returns-then-depth-eq-MAX_LOOPS-clause-refused : goal.returns-then-depth-eq-MAX_LOOPS-clause-refused
-returns-then-depth-eq-MAX_LOOPS-clause-refused c = rw (c.broken.ensures) (deeper_refused c.args.code.now c.loop-place.place _ _ _ c.loop-place.invariant c.in-Loop.slot c.loop-place-test.true c.in-Loop.is c.if-depth-eq-MAX_LOOPS.true)
+returns-then-depth-eq-MAX_LOOPS-clause-refused c =
+    rw (c.broken.ensures)
+    (deeper_refused c.args.code.now c.loop-place.place _ _ _ c.loop-place.invariant c.in-Loop.slot
+    c.loop-place-test.true c.in-Loop.is c.if-depth-eq-MAX_LOOPS.true)
 
 pub returns-in_default-around-clause-refused : goal.returns-in_default-around-clause-refused
-returns-in_default-around-clause-refused c = let x = c.in_default-around in rw (c.broken-in_default-around.ensures) (alone_refused c.args.code.now c.loop-place.place _ _ _ c.loop-place.invariant c.loop-place-test.true c.in-Next.is c.in_default-around.is)
+returns-in_default-around-clause-refused c = let x = c.in_default-around in
+    rw (c.broken-in_default-around.ensures)
+    (alone_refused c.args.code.now c.loop-place.place _ _ _ c.loop-place.invariant c.loop-place-test.true c.in-Next.is
+    c.in_default-around.is)
 
 pub index-requires : goal.index-requires
 index-requires c =
@@ -35,7 +41,9 @@ index-requires c =
     omega arith
 
 pub returns-then-is_some-clause-refused : goal.returns-then-is_some-clause-refused
-returns-then-is_some-clause-refused c = rw (c.broken-then-is_some.ensures) (end_refused c.args.code.now c.loop-place.place _ _ _ c.loop-place.invariant c.loop-place-test.true c.in-End.is c.if-is_some.ensures)
+returns-then-is_some-clause-refused c =
+    rw (c.broken-then-is_some.ensures)
+    (end_refused c.args.code.now c.loop-place.place _ _ _ c.loop-place.invariant c.loop-place-test.true c.in-End.is c.if-is_some.ensures)
 
 pub returns-clause-nested : goal.returns-clause-nested
 returns-clause-nested c = nested c.args.code.now c.loop-place.place _ _ _ c.loop-place.invariant c.loop-place-test.false c.if-is_some-2.ensures
