@@ -1,5 +1,5 @@
 """What the bytes of a module say, and whether its code is accepted, written anew from docs/MODULES.md, and for the intervals of results
-from pb_base_intervals/specs/Operation.antt: a reader, a listing and a verifier, which have nothing of the program's own code."""
+from pb_base_values/specs/Operation.antt: a reader, a listing and a verifier, which have nothing of the program's own code."""
 import collections
 import struct
 

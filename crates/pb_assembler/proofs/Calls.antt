@@ -11,7 +11,7 @@ use Rattle.pb_normal.specs.Normal as normal
 use Rattle.pb_normal.specs.View.{argument_view, term_view}
 use Rattle.pb_assembler_scheme.specs.Pieces.{Piece, Plain, Then, Block, Leave}
 use Rattle.pb_assembler_scheme.specs.Scheme.{data_piece, tested_range, any_tested, guarded, arguments_piece, call_piece}
-use Rattle.pb_assembler_accepted.proofs.Sites.{data_stays}
+use Rattle.pb_assembler_scheme.proofs.Sites.{data_stays}
 use Rattle.pb_assembler_builder.specs.Draft.{Draft, Places}
 use Rattle.pb_assembler.specs.Emitted.{Emits, nowhere, block_end, called_piece}
 use Rattle.pb_assembler.proofs.Emitting.{emits_then, emits_anywhere, block_emitted}

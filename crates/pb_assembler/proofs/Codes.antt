@@ -1,6 +1,6 @@
 -- The code of whole equations, as the builder's calls make it.
 use Rattle.std.proofs.Common.{◌≡◌, ◌≤◌, List, [], length, subst, arith}
-use Rattle.pb_base_limits.specs.declared.TheConstants.{MAX_INSTRUCTIONS}
+use Rattle.pb_base.specs.declared.limits.TheConstants.{MAX_INSTRUCTIONS}
 use Rattle.pb_sorts.specs.declared.carrier.Carrier.{Carrier}
 use Rattle.pb_bytecode_program.specs.declared.instruction.Connective.{Connective}
 use Rattle.pb_bytecode_program.specs.declared.instruction.Op.TheVariants as op

@@ -8,7 +8,7 @@ use Rattle.pb_bytecode_program.specs.declared.instruction.Op.{Op}
 use Rattle.pb_bytecode_program.specs.declared.instruction.Op.TheVariants as op
 use Rattle.pb_assembler_scheme.specs.Pieces.{Piece, Empty, Plain, Then, Unless, Choose, Repeat, Block, Leave, Guard, end, flat}
 use Rattle.pb_assembler_scheme.proofs.Flat.{long}
-use Rattle.pb_assembler_accepted.proofs.Positions.{HasNoLeave}
+use Rattle.pb_assembler_scheme.proofs.Positions.{HasNoLeave}
 use Rattle.pb_assembler_builder.specs.Draft.{Draft, Places, are_placed, known_place, open_labels, label_place, resolved, resolved_op}
 use Rattle.pb_assembler_builder.specs.declared.instruction.Instruction.{Instruction}
 use Rattle.pb_assembler_builder.specs.declared.instruction.Instruction.TheVariants as instruction

@@ -15,7 +15,7 @@ use Rattle.pb_bytecode_program.specs.Machine.{Program}
 use Rattle.pb_normal.specs.View.{formula_view}
 use Rattle.pb_normal.specs.declared.normal.Equation.{Equation}
 use Rattle.pb_assembler_scheme.specs.Scheme.{equation_code}
-use Rattle.pb_assembler_accepted.proofs.Limits.{within_limits}
+use Rattle.pb_assembler_scheme.proofs.Limits.{within_limits}
 use Rattle.pb_assembler.specs.Compiled.{bare_program, compiled_contents, all_compiled, has_fitting_carriers, IsReadyToCompile, AreReady}
 use Rattle.pb_assembler_measures.specs.Measures.{AreMeasures}
 use Rattle.pb_assembler_measures.specs.MeasureEquations.{IsProgram}

@@ -6,8 +6,8 @@ use Rattle.std.proofs.lemmas.Bool.{and_parts, and_from, lt-ltb, le-leb, eq-eqb}
 use Rattle.std.proofs.lemmas.List.{length-map}
 use Rattle.std.proofs.lemmas.List.Folds.{list_all-map}
 use Rattle.pb_base_values.specs.Carrier.{tuple_count}
-use Rattle.pb_base_intervals.proofs.Ends.{from_le}
-use Rattle.pb_base_limits.specs.declared.TheConstants.{MAX_ENUMERATORS, MAX_PARAMETERS, MAX_LOOP_SLOTS, MAX_INSTRUCTIONS}
+use Rattle.pb_base_values.proofs.Ends.{from_le}
+use Rattle.pb_base.specs.declared.limits.TheConstants.{MAX_ENUMERATORS, MAX_PARAMETERS, MAX_LOOP_SLOTS, MAX_INSTRUCTIONS}
 use Rattle.pb_sorts.specs.Carrier.{values_of}
 use Rattle.pb_sorts.specs.declared.carrier.Carrier.{Carrier}
 use Rattle.pb_sorts.specs.declared.carrier.Carrier.TheVariants as carrier
@@ -33,8 +33,8 @@ use Rattle.pb_normal.specs.Structs.{with_count, struct_counts, AreFew, IsDeclare
 use Rattle.pb_normal.specs.View.{formula_view, shapes_of}
 use Rattle.pb_normal.specs.declared.normal.Equation.{Equation}
 use Rattle.pb_assembler_scheme.specs.Scheme.{equation_code}
-use Rattle.pb_assembler_accepted.proofs.Limits.{within_limits}
-use Rattle.pb_assembler_accepted.proofs.TextEquations.{all_values}
+use Rattle.pb_assembler_scheme.proofs.Limits.{within_limits}
+use Rattle.pb_assembler_scheme.proofs.TextEquations.{all_values}
 use Rattle.pb_assembler_modules.specs.Module.{with_names, struct_names}
 use Rattle.pb_assembler.specs.Compiled.{bare_program, compiled_contents, all_compiled, has_fitting_fields, has_fitting_carriers, IsReadyToCompile, AreReady}
 use Rattle.pb_assembler.proofs.Names.{has_enumerator_names}

@@ -6,9 +6,9 @@ use Rattle.std.proofs.lemmas.Bool.{and_parts, and_from, lt-ltb, ltb-true}
 use Rattle.std.proofs.lemmas.List.Folds.{list_all-append}
 use Rattle.std.proofs.lemmas.Int.{ints}
 use Rattle.std.proofs.lemmas.Option.{slice_get_within}
-use Rattle.pb_base_intervals.proofs.Ends.{from_le}
-use Rattle.pb_base_intervals.specs.Interval.{is_included}
-use Rattle.pb_base_limits.specs.declared.TheConstants.{MAX_ENUMERATORS, MAX_INSTRUCTIONS}
+use Rattle.pb_base_values.proofs.Ends.{from_le}
+use Rattle.pb_base_values.specs.Interval.{is_included}
+use Rattle.pb_base.specs.declared.limits.TheConstants.{MAX_ENUMERATORS, MAX_INSTRUCTIONS}
 use Rattle.pb_sorts.specs.declared.carrier.Carrier.{Carrier}
 use Rattle.pb_sorts.specs.declared.carrier.Carrier.TheVariants as carrier
 use Rattle.pb_text_meaning.specs.Syntax.{Operator}

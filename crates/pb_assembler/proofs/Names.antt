@@ -7,8 +7,8 @@ use Rattle.std.proofs.lemmas.Bool.{or_left, and_from, and_parts, le-leb}
 use Rattle.std.proofs.lemmas.List.Concat.{flat_map-cons}
 use Rattle.std.proofs.lemmas.List.Elements.{All-head, All-tail, All-cons, All-nil}
 use Rattle.std.proofs.lemmas.List.Folds.{list_all-map}
-use Rattle.pb_base_names.specs.Names.{is_letter, is_name_byte, is_spelled}
-use Rattle.pb_base_limits.specs.declared.TheConstants.{MAX_NAME_BYTES}
+use Rattle.pb_base.specs.Names.{is_letter, is_name_byte, is_spelled}
+use Rattle.pb_base.specs.declared.limits.TheConstants.{MAX_NAME_BYTES}
 use Rattle.pb_text_tree.specs.declared.sort.Enumerator as tree
 use Rattle.pb_text_tree.specs.declared.sort.Sort as declared_sort
 use Rattle.pb_text_tree.specs.declared.sort.Sort.TheVariants as sort

@@ -3,7 +3,7 @@ use Rattle.std.proofs.Common.{◌≡◌, ℕ, suc, ◌≤◌, true, List, [], �
 use Rattle.std.specs.List.{list_all, slice_get}
 use Rattle.std.proofs.lemmas.Bool.{and_parts}
 use Rattle.std.proofs.lemmas.List.{length-map}
-use Rattle.pb_base_limits.specs.declared.TheConstants.{MAX_LOOP_SLOTS}
+use Rattle.pb_base.specs.declared.limits.TheConstants.{MAX_LOOP_SLOTS}
 use Rattle.pb_sorts.specs.declared.carrier.Carrier.{Carrier}
 use Rattle.pb_text_tree.specs.Form.{EquationForm}
 use Rattle.pb_text_meaning.specs.Erase.{erased_equation}
@@ -22,9 +22,9 @@ use Rattle.pb_normal.specs.View.{formula_view, shapes_of}
 use Rattle.pb_normal.specs.declared.normal.Equation.{Equation}
 use Rattle.pb_assembler_scheme.specs.Correct.{IsCompiled, quantifiers}
 use Rattle.pb_assembler_scheme.specs.Scheme.{equation_code}
-use Rattle.pb_assembler_accepted.specs.Limits.{KeepsLimits}
-use Rattle.pb_assembler_accepted.proofs.Limits.{within_limits, keeps_limits}
-use Rattle.pb_assembler_accepted.specs.Made.{IsMadeOf, parameter_shapes}
+use Rattle.pb_assembler_scheme.specs.Limits.{KeepsLimits}
+use Rattle.pb_assembler_scheme.proofs.Limits.{within_limits, keeps_limits}
+use Rattle.pb_assembler_scheme.specs.Made.{IsMadeOf, parameter_shapes}
 use Rattle.pb_assembler_modules.specs.Module.{AreEquationsOf}
 use Rattle.pb_assembler.specs.Compiled.{bare_program, compiled_contents, all_compiled, IsReadyToCompile, AreReady}
 use Rattle.pb_normal.specs.Small.{is_small_formula}

@@ -2,7 +2,7 @@
 use Rattle.std.proofs.Common.{◌≡◌, ℕ, ◌+◌, ◌<◌, ◌≤◌, true, List, [], ◌∷◌, ◌++◌, map, length, get_or, drop, refl, sym, ap, ◌∙◌, subst, arith, string_bytes}
 use Rattle.std.specs.List.{list_all}
 use Rattle.std.proofs.lemmas.List.{append_assoc, length-map, map_push}
-use Rattle.pb_base_limits.specs.declared.TheConstants.{MAX_ENUMERATORS}
+use Rattle.pb_base.specs.declared.limits.TheConstants.{MAX_ENUMERATORS}
 use Rattle.pb_sorts.proofs.Places.{drop-at}
 use Rattle.pb_text_tree.specs.declared.sort.Enumerator as tree
 use Rattle.pb_text_tree.specs.declared.sort.SortDeclaration.{SortDeclaration}

@@ -7,7 +7,7 @@ use Rattle.std.proofs.lemmas.Bool.{and_parts, and_from, le-leb}
 use Rattle.std.proofs.lemmas.Option.{slice_get_within, get_or_from_slice_get}
 use Rattle.pb_base_values.specs.Carrier as carriers
 use Rattle.pb_base_values.specs.Carrier.{is_within}
-use Rattle.pb_base_limits.specs.declared.TheConstants.{MAX_STRUCTS, MAX_EQUATIONS, MAX_INSTANCES}
+use Rattle.pb_base.specs.declared.limits.TheConstants.{MAX_STRUCTS, MAX_EQUATIONS, MAX_INSTANCES}
 use Rattle.pb_sorts.specs.Carrier.{values_of}
 use Rattle.pb_sorts.specs.declared.carrier.Carrier.{Carrier}
 use Rattle.pb_text_tree.specs.Form.{SpecForm}
@@ -28,7 +28,7 @@ use Rattle.pb_normal.specs.Structs.{struct_counts, AreFew, HasDeclaredShapes}
 use Rattle.pb_normal.specs.View.{right_views, shapes_of}
 use Rattle.pb_normal.specs.declared.normal.Equation.{Equation}
 use Rattle.pb_typing.proofs.Accepted.{accepted-well-typed}
-use Rattle.pb_assembler_accepted.specs.Made.{parameter_shapes}
+use Rattle.pb_assembler_scheme.specs.Made.{parameter_shapes}
 use Rattle.pb_assembler_modules.specs.Module.{struct_names, AreEquationsOf, IsCompiledModule, KeepsAllLimits}
 use Rattle.pb_assembler_modules.proofs.Modules.{counted as counted_structs}
 use Rattle.pb_assembler.specs.Compiled.{all_compiled, has_fitting_carriers, AreReady}

@@ -1,7 +1,7 @@
 -- What the parts of a compiled module are made of.
 use Rattle.std.specs.Prelude.{◌≡◌, ◌≤◌, Bool, true, ◌&&◌, ⊤, List, [], ◌∷◌, length}
 use Rattle.std.specs.List.{list_all}
-use Rattle.pb_base_limits.specs.declared.TheConstants.{MAX_ENUMERATORS}
+use Rattle.pb_base.specs.declared.limits.TheConstants.{MAX_ENUMERATORS}
 use Rattle.pb_sorts.specs.declared.carrier.Carrier.{Carrier}
 use Rattle.pb_sorts.specs.declared.carrier.Carrier.TheVariants as carrier
 use Rattle.pb_text_tree.specs.Form.{EquationForm}
@@ -15,7 +15,7 @@ use Rattle.pb_normal.specs.View.{formula_view}
 use Rattle.pb_normal.specs.declared.normal.Equation.{Equation}
 use Rattle.pb_assembler_scheme.specs.Correct.{quantifiers, slots_from}
 use Rattle.pb_assembler_scheme.specs.Scheme.{equation_code}
-use Rattle.pb_assembler_accepted.specs.Limits.{KeepsLimits}
+use Rattle.pb_assembler_scheme.specs.Limits.{KeepsLimits}
 use Rattle.pb_normal.specs.Small.{is_small_formula}
 
 -- the scheme's program of an equation whose parameters have these carriers, without sorts and

@@ -1,7 +1,7 @@
 //! Code of whole equations.
 
 ghost use Rattle.std.specs.Prelude.{◌≡◌, ◌≤◌, true, length, IfOk};
-ghost use Rattle.pb_base_limits.specs.declared.TheConstants.{MAX_INSTRUCTIONS};
+ghost use Rattle.pb_base.specs.declared.limits.TheConstants.{MAX_INSTRUCTIONS};
 ghost use Rattle.pb_normal.specs.View.{formula_view};
 ghost use Rattle.pb_assembler_scheme.specs.Scheme.{equation_code};
 ghost use Rattle.pb_normal.specs.Small.{is_small_formula};

@@ -10,7 +10,7 @@ ghost use Rattle.pb_assembler_modules.specs.Answers.{HasMeaningOf};
 ghost use Rattle.pb_assembler_modules.specs.Module.{IsCompiledModule, KeepsAllLimits};
 ghost use Rattle.pb_assembler_measures.specs.MeasureEquations.{AreMeasuresOfAll, EachKeepsLimits};
 ghost use Rattle.pb_assembler_measures.specs.Excess.{IsFirstExcess};
-ghost use Rattle.pb_base_errors.specs.OrMemory.{IfRefused};
+ghost use Rattle.pb_base.specs.OrMemory.{IfRefused};
 
 use crate::equation::compile_equations;
 use crate::initial::initial;

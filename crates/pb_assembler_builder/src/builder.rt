@@ -3,7 +3,7 @@
 ghost use Rattle.std.specs.Prelude.{◌≡◌, ◌≤◌, ◌<◌, ◌++◌, ◌∷◌, [], true, false, length, map, IfOk};
 ghost use Rattle.std.specs.Prelude.{IfErr, OnOk, OnErr, Some, None};
 ghost use Rattle.std.specs.List.{list_any, slice_set};
-ghost use Rattle.pb_base_limits.specs.declared.TheConstants.{MAX_INSTRUCTIONS};
+ghost use Rattle.pb_base.specs.declared.limits.TheConstants.{MAX_INSTRUCTIONS};
 ghost use Rattle.pb_assembler_builder.specs.Draft.{are_placed, are_within, has_target};
 ghost use Rattle.pb_assembler_builder.specs.Draft.{is_labelled, is_slot_test, label_place};
 ghost use Rattle.pb_assembler_builder.specs.Draft.{needed_version, resolved, resolved_op};

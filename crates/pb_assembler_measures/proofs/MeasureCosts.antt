@@ -19,7 +19,7 @@ use Rattle.pb_normal.specs.Normal.{Term, Number, Slot, Negative, Absolute, Succe
 use Rattle.pb_assembler_scheme.specs.Pieces.{Piece, Plain, Then, Unless, Choose, Repeat, Block, Leave, Guard, end}
 use Rattle.pb_assembler_scheme.specs.Scheme.{neutral, junction_of, data_piece, binary_piece, in_order, swapped, bracketed, under, test_piece, tested_piece, test_of, join_piece, tested_range, any_tested, guarded, arguments_piece, call_piece, parameters, formula_piece, head, equation_piece}
 use Rattle.pb_assembler_scheme.proofs.Numbered.{HasSlots}
-use Rattle.pb_assembler_accepted.specs.Weights.{weight}
+use Rattle.pb_assembler_scheme.specs.Weights.{weight}
 use Rattle.pb_assembler_measures.specs.declared.measure_tally.Tally.{Tally}
 use Rattle.pb_assembler_measures.specs.MeasureTerms.{binary_length, term_length, term_load}
 use Rattle.pb_assembler_measures.specs.MeasureFormulas.{test_tally, tested_tally, bracketed_tally, under_tally, after, looped, join_tally, guard_length, arguments_load, ended_call, call_tally, shape_size, formula_tally}

@@ -6,7 +6,7 @@ use Rattle.pb_normal.specs.declared.formula.Junction.{Junction}
 use Rattle.pb_normal.specs.declared.formula.Junction.TheVariants.{And, Or}
 use Rattle.pb_normal.specs.Normal.{Term, Argument, Formula, Test, Join, Each, Call}
 use Rattle.pb_assembler_scheme.specs.Scheme.{junction_of, any_tested, parameters, test_of}
-use Rattle.pb_assembler_accepted.specs.Limits.{one_kept, term_operands, argument_operands, formula_operands, brackets_under, join_brackets, formula_brackets, formula_loops}
+use Rattle.pb_assembler_scheme.specs.Limits.{one_kept, term_operands, argument_operands, formula_operands, brackets_under, join_brackets, formula_brackets, formula_loops}
 use Rattle.pb_assembler_measures.specs.declared.measure_load.Load.{Load}
 use Rattle.pb_assembler_measures.specs.declared.measure_tally.Tally.{Tally}
 use Rattle.pb_assembler_measures.specs.MeasureTerms.{term_load}

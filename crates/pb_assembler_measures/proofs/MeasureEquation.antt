@@ -9,8 +9,8 @@ use Rattle.pb_normal.specs.declared.normal.Equation.{Equation}
 use Rattle.pb_assembler_scheme.specs.Scheme.{equation_piece, head}
 use Rattle.pb_assembler_scheme.specs.Correct.{IsCompiled}
 use Rattle.pb_assembler_scheme.proofs.Slots.{program-slots}
-use Rattle.pb_assembler_accepted.specs.Limits.{formula_operands, formula_brackets, formula_loops}
-use Rattle.pb_assembler_accepted.proofs.Weights.{code_long, steps_weighed, tokens_weighed}
+use Rattle.pb_assembler_scheme.specs.Limits.{formula_operands, formula_brackets, formula_loops}
+use Rattle.pb_assembler_scheme.proofs.Weights.{code_long, steps_weighed, tokens_weighed}
 use Rattle.pb_assembler_measures.specs.declared.measures.Measures.{Measures}
 use Rattle.pb_assembler_measures.specs.declared.measure_tally.Tally.{Tally}
 use Rattle.pb_assembler_measures.specs.Measures.{AreMeasures}

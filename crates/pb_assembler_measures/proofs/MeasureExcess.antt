@@ -15,8 +15,8 @@ use Rattle.pb_normal.specs.Normal.{Formula}
 use Rattle.pb_normal.specs.View.{formula_view}
 use Rattle.pb_normal.specs.declared.normal.Equation.{Equation}
 use Rattle.pb_assembler_scheme.specs.Scheme.{parameters}
-use Rattle.pb_assembler_accepted.specs.Limits.{KeepsLimits}
-use Rattle.pb_assembler_accepted.specs.Made.{IsMadeOf}
+use Rattle.pb_assembler_scheme.specs.Limits.{KeepsLimits}
+use Rattle.pb_assembler_scheme.specs.Made.{IsMadeOf}
 use Rattle.pb_assembler_modules.specs.Module.{AreEquationsOf, IsCompiledModule, KeepLimits, KeepsAllLimits}
 use Rattle.pb_assembler_modules.proofs.Modules.{made}
 use Rattle.pb_bytecode.specs.declared.limit.Limit.{Limit}

@@ -16,7 +16,7 @@ use Rattle.pb_normal.specs.View.{formula_view, right_views, shapes_of}
 use Rattle.pb_normal.specs.declared.normal.Equation.{Equation}
 use Rattle.pb_assembler_scheme.specs.Scheme.{equation_code, parameters}
 use Rattle.pb_assembler_scheme.specs.Correct.{IsCompiled, quantifiers, slots_from}
-use Rattle.pb_assembler_accepted.specs.Made.{struct_counts, parameter_shapes, IsMadeOf}
+use Rattle.pb_assembler_scheme.specs.Made.{struct_counts, parameter_shapes, IsMadeOf}
 use Rattle.pb_assembler_modules.proofs.StatedCounts.{cost_same}
 use Rattle.pb_assembler_measures.specs.MeasureEquations.{IsProgram}
 use Rattle.pb_assembler_measures.proofs.MeasureSlots.{equation_quantifiers, slots_long}

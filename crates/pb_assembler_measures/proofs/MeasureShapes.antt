@@ -1,7 +1,7 @@
 -- What is measured depends on the shapes of parameters alone.
 use Rattle.std.proofs.Common.{◌≡◌, ℕ, zero, suc, Bool, cond, ◌||◌, List, [], ◌∷◌, map, Some, None, refl, ap, ◌∙◌}
 use Rattle.std.specs.Prelude.{is_some, slice_get, ℤ}
-use Rattle.pb_base_intervals.specs.Interval.{is_included}
+use Rattle.pb_base_values.specs.Interval.{is_included}
 use Rattle.pb_sorts.specs.declared.carrier.Carrier.{Carrier}
 use Rattle.pb_sorts.specs.declared.carrier.Carrier.TheVariants as carriers
 use Rattle.pb_typing_declarations.specs.Shapes.{Shape, Unknown, Truths, Places, Wholes}

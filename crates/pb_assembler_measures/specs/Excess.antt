@@ -8,8 +8,8 @@ use Rattle.pb_bytecode.specs.declared.limit.Limit.TheVariants as limit
 use Rattle.pb_bytecode_program.specs.Machine.{Program}
 use Rattle.pb_normal.specs.Normal.{Formula}
 use Rattle.pb_normal.specs.Equations.{normal_equation}
-use Rattle.pb_assembler_accepted.specs.Limits.{exceeds, KeepsLimits}
-use Rattle.pb_assembler_accepted.specs.Made.{IsMadeOf}
+use Rattle.pb_assembler_scheme.specs.Limits.{exceeds, KeepsLimits}
+use Rattle.pb_assembler_scheme.specs.Made.{IsMadeOf}
 use Rattle.pb_assembler_measures.specs.declared.compile_error.Excess.{Excess}
 
 -- the limits in order, the first one `C01`

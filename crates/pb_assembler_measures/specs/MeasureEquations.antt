@@ -2,17 +2,17 @@
 use Rattle.std.specs.Prelude.{◌≡◌, ℕ, suc, ◌+◌, min, List, map, length, Some}
 use Rattle.std.specs.List.{slice_get}
 use Rattle.pb_sorts.specs.declared.carrier.Carrier.{Carrier}
-use Rattle.pb_base_limits.specs.declared.TheConstants.{MAX_LOOP_SLOTS, MAX_INSTRUCTIONS}
+use Rattle.pb_base.specs.declared.limits.TheConstants.{MAX_LOOP_SLOTS, MAX_INSTRUCTIONS}
 use Rattle.pb_text_meaning.specs.Syntax as syntax
 use Rattle.pb_text_meaning.specs.Syntax.{Spec}
-use Rattle.pb_base_limits.specs.declared.TheConstants.{MAX_OPERANDS, MAX_BRACKETS, MAX_LOOPS, MAX_STEPS, MAX_TOKENS}
+use Rattle.pb_base.specs.declared.limits.TheConstants.{MAX_OPERANDS, MAX_BRACKETS, MAX_LOOPS, MAX_STEPS, MAX_TOKENS}
 use Rattle.pb_bytecode_program.specs.Machine.{Program}
 use Rattle.pb_normal.specs.Equations.{normal_equation}
 use Rattle.pb_normal.specs.View.{formula_view, shapes_of}
 use Rattle.pb_normal.specs.declared.normal.Equation.{Equation}
 use Rattle.pb_assembler_scheme.specs.Correct.{IsCompiled}
-use Rattle.pb_assembler_accepted.specs.Limits.{KeepsLimits}
-use Rattle.pb_assembler_accepted.specs.Made.{IsMadeOf}
+use Rattle.pb_assembler_scheme.specs.Limits.{KeepsLimits}
+use Rattle.pb_assembler_scheme.specs.Made.{IsMadeOf}
 use Rattle.pb_assembler_measures.specs.declared.measures.Measures.{Measures}
 use Rattle.pb_assembler_measures.specs.declared.measure_tally.Tally.{Tally}
 use Rattle.pb_assembler_measures.specs.Measures.{AreMeasures}

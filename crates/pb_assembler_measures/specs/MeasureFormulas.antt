@@ -11,7 +11,7 @@ use Rattle.pb_normal.specs.Normal.{Term, Argument, Formula, Test, Join, Each, Ca
 use Rattle.pb_normal.specs.declared.formula.Formula as formula
 use Rattle.pb_normal.specs.View.{chained, formula_view, formula_views}
 use Rattle.pb_assembler_scheme.specs.Scheme.{junction_of, test_of, tested_range, any_tested, parameters}
-use Rattle.pb_assembler_accepted.specs.Limits.{one_kept}
+use Rattle.pb_assembler_scheme.specs.Limits.{one_kept}
 use Rattle.pb_assembler_measures.specs.declared.measure_load.Load.{Load}
 use Rattle.pb_assembler_measures.specs.declared.measure_tally.Tally.{Tally}
 use Rattle.pb_assembler_measures.specs.MeasureTerms.{capped, capped_load, term_load}

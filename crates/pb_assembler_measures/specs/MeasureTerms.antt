@@ -4,7 +4,7 @@ use Rattle.pb_text_tree.specs.declared.operator.Connective.{Connective}
 use Rattle.pb_text_tree.specs.declared.operator.Connective.TheVariants as connective
 use Rattle.pb_text_meaning.specs.Syntax.{Operator}
 use Rattle.pb_normal.specs.Normal.{Term, Number, Slot, Negative, Absolute, Successor, Predecessor, Binary, Maximum, Minimum, Choice, Recognised}
-use Rattle.pb_assembler_accepted.specs.Limits.{one_kept, term_operands}
+use Rattle.pb_assembler_scheme.specs.Limits.{one_kept, term_operands}
 use Rattle.pb_assembler_measures.specs.declared.measure_load.Load.{Load}
 
 -- how many instructions an operator adds to those of its operands

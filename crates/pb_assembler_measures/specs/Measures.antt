@@ -1,15 +1,15 @@
 -- What is measured of an equation's code, each number no further than just above its limit.
 use Rattle.std.specs.Prelude.{◌≡◌, suc, nat_lt, Bool, ◌||◌, List, [], ◌∷◌, length, min, Option}
 use Rattle.std.specs.List.{find}
-use Rattle.pb_base_limits.specs.declared.TheConstants.{MAX_LOOP_SLOTS, MAX_INSTRUCTIONS}
-use Rattle.pb_base_limits.specs.declared.TheConstants.{MAX_OPERANDS, MAX_BRACKETS, MAX_LOOPS, MAX_STEPS, MAX_TOKENS}
+use Rattle.pb_base.specs.declared.limits.TheConstants.{MAX_LOOP_SLOTS, MAX_INSTRUCTIONS}
+use Rattle.pb_base.specs.declared.limits.TheConstants.{MAX_OPERANDS, MAX_BRACKETS, MAX_LOOPS, MAX_STEPS, MAX_TOKENS}
 use Rattle.pb_bytecode_program.specs.Machine.{Program}
 use Rattle.pb_bytecode_program.specs.Counts.{static_steps, static_tokens}
 use Rattle.pb_bytecode.specs.declared.limit.Limit.{Limit}
 use Rattle.pb_bytecode.specs.declared.limit.Limit.TheVariants as limit
 use Rattle.pb_normal.specs.Normal.{Formula}
 use Rattle.pb_assembler_scheme.specs.Scheme.{head}
-use Rattle.pb_assembler_accepted.specs.Limits.{formula_operands, formula_brackets, formula_loops}
+use Rattle.pb_assembler_scheme.specs.Limits.{formula_operands, formula_brackets, formula_loops}
 use Rattle.pb_assembler_measures.specs.declared.measures.Measures.{Measures}
 
 pub record AreMeasures (m : Measures) (p : Program) (f : Formula) : Type 0 where

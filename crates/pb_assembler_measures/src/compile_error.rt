@@ -1,6 +1,6 @@
 //! Why a text has no compiled module.
 
-use pb_base_errors::{Fault, OrMemory};
+use pb_base::{Fault, OrMemory};
 use pb_bytecode::Limit;
 use thiserror::Error;
 

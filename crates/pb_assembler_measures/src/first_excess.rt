@@ -5,7 +5,7 @@ ghost use Rattle.std.specs.Prelude.{◌≡◌, ◌++◌, ◌∷◌, [], IfOk, On
 ghost use Rattle.pb_normal.specs.Text.{said};
 ghost use Rattle.pb_assembler_measures.specs.MeasureEquations.{AreMeasuresOfAll, EachKeepsLimits};
 ghost use Rattle.pb_assembler_measures.specs.Excess.{IsFirstExcess};
-ghost use Rattle.pb_base_errors.specs.OrMemory.{IfRefused};
+ghost use Rattle.pb_base.specs.OrMemory.{IfRefused};
 
 use crate::compile_error::{CompileError, Excess};
 use crate::measure_equation::measure;

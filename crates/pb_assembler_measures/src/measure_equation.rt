@@ -8,7 +8,7 @@ use crate::measure_formula::measure_formula;
 use crate::measure_load::add;
 use crate::measure_tally::Tally;
 use crate::measures::Measures;
-use pb_base_limits::{
+use pb_base::{
     MAX_BRACKETS, MAX_INSTRUCTIONS, MAX_LOOP_SLOTS, MAX_LOOPS, MAX_OPERANDS, MAX_TOKENS,
 };
 use pb_normal::Equation;

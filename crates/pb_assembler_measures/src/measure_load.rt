@@ -4,7 +4,7 @@ ghost use Rattle.std.specs.Prelude.{◌≡◌, ◌+◌};
 ghost use Rattle.pb_assembler_measures.specs.MeasureTerms.{both, capped, capped_load, choice_load, followed};
 ghost use Rattle.pb_assembler_measures.specs.MeasureTerms.{single};
 
-use pb_base_limits::MAX_STEPS;
+use pb_base::MAX_STEPS;
 
 /// How many instructions a term's code has, and how many operands it holds at most.
 #[derive(Clone, Copy)]

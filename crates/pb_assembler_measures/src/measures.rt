@@ -3,7 +3,7 @@
 ghost use Rattle.std.specs.Prelude.{◌≡◌};
 ghost use Rattle.pb_assembler_measures.specs.Measures.{first_excess};
 
-use pb_base_limits::{
+use pb_base::{
     MAX_BRACKETS, MAX_INSTRUCTIONS, MAX_LOOP_SLOTS, MAX_LOOPS, MAX_OPERANDS, MAX_STEPS, MAX_TOKENS,
 };
 use pb_bytecode::Limit;

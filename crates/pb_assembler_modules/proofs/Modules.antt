@@ -26,8 +26,8 @@ use Rattle.pb_assembler_scheme.specs.Equations.{IsProgramOf, DecidesEquation}
 use Rattle.pb_assembler_scheme.specs.System as scheme
 use Rattle.pb_assembler_scheme.specs.System.{ArePrograms}
 use Rattle.pb_assembler_scheme.proofs.System.{have-answer, solutions-match}
-use Rattle.pb_assembler_accepted.specs.Limits.{KeepsLimits}
-use Rattle.pb_assembler_accepted.specs.Made.{with_count, struct_counts, parameter_shapes, IsMadeOf}
+use Rattle.pb_assembler_scheme.specs.Limits.{KeepsLimits}
+use Rattle.pb_assembler_scheme.specs.Made.{with_count, struct_counts, parameter_shapes, IsMadeOf}
 use Rattle.pb_assembler_modules.specs.Module.{with_names, struct_names, IsEquationOf, AreEquationsOf, IsCompiledModule, KeepLimits, KeepsAllLimits}
 use Rattle.pb_assembler_modules.specs.Answers.{SaysTheSame, TreesHold}
 

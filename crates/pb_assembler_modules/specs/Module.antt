@@ -11,7 +11,7 @@ use Rattle.pb_normal.specs.Equations.{normal_equation}
 use Rattle.pb_normal.specs.Loops.{variable_shapes}
 use Rattle.pb_normal.specs.View.{shapes_of}
 use Rattle.pb_assembler_scheme.specs.Correct.{IsCompiled}
-use Rattle.pb_assembler_accepted.specs.Limits.{KeepsLimits}
+use Rattle.pb_assembler_scheme.specs.Limits.{KeepsLimits}
 
 abbrev pub with_names : Sort → List SortContents → List SortContents
 with_names (Struct es) sorts = map (λ (e : Enumerator). e.name) es ∷ sorts

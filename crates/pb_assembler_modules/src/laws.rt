@@ -19,7 +19,7 @@ pub fn compiled_modules_are_accepted()
     ensures accepted { (text : SpecForm) → is_faultless text ≡ true → (m : Contents)
         → IsCompiledModule (erase text) m → KeepsAllLimits (erase text) m → IsAccepted m }
 {
-    pb_assembler_accepted::compiled_equations_are_accepted();
+    pb_assembler_scheme::compiled_equations_are_accepted();
 }
 
 /// Whatever trees the runs of its instances end with, the module has the answer of the
@@ -31,7 +31,7 @@ pub fn compiled_modules_have_the_answer()
     ensures accepted { (text : SpecForm) → is_faultless text ≡ true → (m : Contents)
         → IsCompiledModule (erase text) m → HasMeaningOf (erase text) m }
 {
-    pb_assembler_accepted::made_programs_are_the_schemes();
+    pb_assembler_scheme::made_programs_are_the_schemes();
     pb_assembler_scheme::compiled_equations_decide();
 }
 

@@ -15,9 +15,9 @@ use Rattle.pb_normal.specs.Normal.{Term, Number, Slot, Negative, Absolute, Succe
 use Rattle.pb_assembler_scheme.specs.Correct.{IsCompiled}
 use Rattle.pb_assembler_scheme.specs.Pieces.{Piece, Empty, Plain, Then, Unless, Choose, Repeat, Block, Leave, Guard, end, flat}
 use Rattle.pb_assembler_scheme.specs.Scheme.{junction_of, data_piece, binary_piece, bracketed, under, tested_piece, test_of, join_piece, tested_range, any_tested, guarded, arguments_piece, call_piece, parameters, formula_piece, head, equation_piece}
-use Rattle.pb_assembler_accepted.specs.Limits.{formula_loops}
-use Rattle.pb_assembler_accepted.proofs.Tables.{IsStraight}
-use Rattle.pb_assembler_accepted.proofs.Weights.{equation_straight}
+use Rattle.pb_assembler_scheme.specs.Limits.{formula_loops}
+use Rattle.pb_assembler_scheme.proofs.Tables.{IsStraight}
+use Rattle.pb_assembler_scheme.proofs.Weights.{equation_straight}
 use Rattle.pb_assembler_places.specs.Reached.{AreMostLoops}
 
 -- ---- how many loops are open, whichever they are

@@ -16,7 +16,7 @@ use Rattle.pb_assembler_scheme.specs.Scheme.{neutral, junction_of, data_piece, b
 use Rattle.pb_assembler_scheme.specs.Correct.{HasFullCalls, IsCompiled, IsFullCall}
 use Rattle.pb_assembler_scheme.proofs.Calls.{full_length}
 use Rattle.pb_assembler_scheme.proofs.Whole.{equation_stands}
-use Rattle.pb_assembler_accepted.specs.Limits.{one_kept, binary_operands, term_operands, argument_operands, formula_operands, brackets_under, join_brackets, formula_brackets}
+use Rattle.pb_assembler_scheme.specs.Limits.{one_kept, binary_operands, term_operands, argument_operands, formula_operands, brackets_under, join_brackets, formula_brackets}
 use Rattle.pb_assembler_places.specs.Reached.{Height, taken, pushed_by, opened, closed, LeadsTo, LeadsToHeight, IsReachedIn, IsReached}
 
 -- ---- each term's code holds an operand

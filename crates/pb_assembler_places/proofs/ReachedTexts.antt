@@ -9,9 +9,9 @@ use Rattle.pb_normal.specs.Equations.{normal_equation}
 use Rattle.pb_normal.specs.Normal.{Formula}
 use Rattle.pb_assembler_scheme.proofs.FullCalls.{equation-full}
 use Rattle.pb_assembler_scheme.specs.Scheme.{head}
-use Rattle.pb_assembler_accepted.specs.Limits.{formula_brackets, formula_operands}
-use Rattle.pb_assembler_accepted.specs.Made.{IsMadeOf}
-use Rattle.pb_assembler_accepted.proofs.TextEquations.{program_made}
+use Rattle.pb_assembler_scheme.specs.Limits.{formula_brackets, formula_operands}
+use Rattle.pb_assembler_scheme.specs.Made.{IsMadeOf}
+use Rattle.pb_assembler_scheme.proofs.TextEquations.{program_made}
 use Rattle.pb_assembler_places.specs.Reached.{AreMostBrackets, AreMostOperands, HoldsWhatIsCounted, HoldWhatIsCounted, IsFullProgram}
 use Rattle.pb_assembler_places.proofs.Nesting.{most_loops}
 use Rattle.pb_assembler_places.proofs.Reached.{operands_reached, brackets_reached}

@@ -12,8 +12,8 @@ use Rattle.pb_normal.specs.Equations.{normal_equation}
 use Rattle.pb_normal.specs.Normal.{Formula}
 use Rattle.pb_assembler_scheme.specs.Correct.{HasFullCalls, IsCompiled}
 use Rattle.pb_assembler_scheme.specs.Scheme.{head, parameters}
-use Rattle.pb_assembler_accepted.specs.Limits.{formula_brackets, formula_loops, formula_operands}
-use Rattle.pb_assembler_accepted.specs.Made.{IsMadeOf}
+use Rattle.pb_assembler_scheme.specs.Limits.{formula_brackets, formula_loops, formula_operands}
+use Rattle.pb_assembler_scheme.specs.Made.{IsMadeOf}
 
 -- a place, and what is held there
 pub record Height : Type 0 where

@@ -5,7 +5,7 @@ use Rattle.std.specs.List.{slice_get}
 use Rattle.std.proofs.lemmas.List.{reverse-append}
 use Rattle.std.proofs.lemmas.Bool.{and_from, or_right, and_right}
 use Rattle.pb_base_values.specs.Carrier as carriers
-use Rattle.pb_base_intervals.specs.Interval as intervals
+use Rattle.pb_base_values.specs.Interval as intervals
 use Rattle.pb_sorts.specs.declared.carrier.Carrier.{Carrier}
 use Rattle.pb_sorts.specs.declared.carrier.Carrier.TheVariants as carrier
 use Rattle.pb_sorts.specs.declared.carrier.Range as range

@@ -12,3 +12,16 @@ pub mod FullCalls
 pub mod Equations
 pub mod Known
 pub mod System
+pub mod Limits
+pub mod Tables
+pub mod Typing
+pub mod AcceptedFormulas
+pub mod AcceptedCalls
+pub mod Positions
+pub mod Sites
+pub mod AcceptedWhole
+pub mod Shapes
+pub mod TextTerms
+pub mod TextFormulas
+pub mod TextEquations
+pub mod Weights

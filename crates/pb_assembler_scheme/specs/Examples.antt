@@ -4,7 +4,7 @@ use Rattle.pb_fixpoint.specs.declared.Sign.TheVariants.{Mu, Nu}
 use Rattle.pb_text_tree.specs.declared.operator.Quantifier.TheVariants.{Forall}
 use Rattle.std.proofs.Common.{refl}
 use Rattle.std.proofs.lemmas.Bool.{ltb-true}
-use Rattle.pb_base_intervals.proofs.Ends.{le_true}
+use Rattle.pb_base_values.proofs.Ends.{le_true}
 use Rattle.pb_sorts.specs.declared.carrier.Carrier.{Carrier}
 use Rattle.pb_sorts.specs.declared.carrier.Carrier.TheVariants as carrier
 use Rattle.pb_text_meaning.specs.Syntax as syntax

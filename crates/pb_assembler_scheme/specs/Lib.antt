@@ -4,3 +4,6 @@ pub mod Correct
 pub mod Equations
 pub mod Examples
 pub mod System
+pub mod Limits
+pub mod Made
+pub mod Weights

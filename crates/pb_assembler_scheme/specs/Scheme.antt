@@ -1,7 +1,7 @@
 -- The compile scheme: from right sides in positive normal form to the code of equations.
 use Rattle.std.specs.Prelude.{ℕ, Bool, true, false, ◌||◌, List, [], ◌∷◌, Option, Some, None, is_some, ℤ, pos, if◌then◌else◌}
 use Rattle.std.specs.List.{slice_get}
-use Rattle.pb_base_intervals.specs.Interval.{is_included}
+use Rattle.pb_base_values.specs.Interval.{is_included}
 use Rattle.pb_sorts.specs.declared.carrier.Carrier.{Carrier}
 use Rattle.pb_sorts.specs.declared.carrier.Carrier.TheVariants as carrier
 use Rattle.pb_text_tree.specs.declared.operator.Quantifier.{Quantifier}

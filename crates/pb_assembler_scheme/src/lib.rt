@@ -3,9 +3,11 @@
 //! is a function from formulas to pieces (`specs/Scheme.antt`). The laws below say that its code,
 //! run, gives the formula's truth (`specs/Correct.antt`), so each equation's program the equation
 //! (`specs/Equations.antt`), and all programs together the specification's answer
-//! (`specs/System.antt`). Definitions and laws alone, so that the compiler, and the proof that its
-//! code is accepted, can speak of one scheme.
+//! (`specs/System.antt`); and that the code which it makes of an accepted text is accepted
+//! (`src/acceptance.rt`). Definitions and laws alone, so that the compiler can speak of them.
 #![tactic(auto)]
+
+mod acceptance;
 
 ghost use Rattle.std.specs.Prelude.{◌≡◌, ℕ, true, List};
 ghost use Rattle.std.specs.List.{All};
@@ -24,6 +26,10 @@ ghost use Rattle.pb_assembler_scheme.specs.Correct.{IsCompiled, IsFaultless};
 ghost use Rattle.pb_assembler_scheme.specs.Equations.{DecidesEquation, IsProgramOf};
 ghost use Rattle.pb_assembler_scheme.specs.Examples.{CountdownIsCompiled, OthersAreCompiled};
 ghost use Rattle.pb_assembler_scheme.specs.System.{ArePrograms, AreTrees, HaveAnswer};
+
+pub use acceptance::{
+    compiled_equations_are_accepted, made_programs_are_the_schemes, programs_weigh_as_pieces,
+};
 
 /// Where the scheme's program of a right side doesn't fault at an instance, its run there ends, and
 /// what it has written is one tree. Under every environment of instance numbers the tree has the

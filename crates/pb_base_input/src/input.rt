@@ -1,12 +1,11 @@
 //! Reading the whole input, up to its limit.
 ghost use Rattle.std.specs.Prelude.{◌≡◌, ◌≢◌, ◌≤◌, true, IfOk, OnOk, IfErr, Err, vec_len};
 ghost use Rattle.pb_sorts.specs.Source.{IsWhole, IsLongerThan};
-ghost use Rattle.pb_base_errors.specs.declared.or_memory.OrMemory.TheVariants.{Refused};
+ghost use Rattle.pb_base.specs.declared.or_memory.OrMemory.TheVariants.{Refused};
 ghost use Rattle.pb_base_input.specs.declared.input.InputFault.TheVariants.{Failed, TooLong};
 ghost use Rattle.pb_base_input.specs.Reading.{ReadsAtMost};
 
-use pb_base_errors::{Fault, OrMemory};
-use pb_base_limits::MAX_INPUT_BYTES;
+use pb_base::{Fault, MAX_INPUT_BYTES, OrMemory};
 use pb_sorts::Source;
 use std::alloc::Global;
 

@@ -1,2 +1,5 @@
 pub mod Carrier
 pub mod Division
+pub mod Interval
+pub mod Laws
+pub mod Operation

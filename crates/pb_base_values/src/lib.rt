@@ -1,11 +1,21 @@
 //! Finite carriers of data, the tuples of their values, and division: definitions, in `specs/`, and
-//! laws about them.
+//! laws about them. And intervals of whole numbers, with the interval of each operation on them:
+//! the one set of rules by which a text is typed and the code of a module is verified.
+//!
+//! The interval of an operation is exact over all whole numbers, and is refused where it leaves the
+//! limits that the caller gives: [`Interval::literals`] for terms of a text, [`Interval::words`]
+//! for code.
 #![tactic(auto)]
+
+mod interval;
+pub mod laws;
 
 ghost use Rattle.std.specs.Prelude.{◌≡◌, ◌≢◌, ◌↔◌, All, AllPairs, ℕ, ◌<◌, ℤ, pos, ◌+ℤ◌, ◌*ℤ◌, ◌≤ℤ◌};
 ghost use Rattle.std.specs.Prelude.{◌<ℤ◌, List, true, length, Contains};
 ghost use Rattle.pb_base_values.specs.Carrier.{Carrier, Tuple, Value, is_within, tuple_count, tuples};
 ghost use Rattle.pb_base_values.specs.Division.{quotient, remainder};
+
+pub use interval::Interval;
 
 /// The list of all tuples is as long as the product of the carriers' sizes.
 pub fn tuples_are_counted()

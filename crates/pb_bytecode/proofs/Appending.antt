@@ -3,7 +3,7 @@ use Rattle.std.proofs.Common.{◌≡◌, ℕ, true, ◌&&◌, List, [], ◌∷�
 use Rattle.std.specs.Prelude.{nat_le}
 use Rattle.std.specs.List.{AllByRecursion, list_all}
 use Rattle.std.proofs.lemmas.Bool.{and_parts, ltb-true}
-use Rattle.pb_base_limits.specs.declared.TheConstants.{MAX_STRUCTS, MAX_EQUATIONS, MAX_PARAMETERS, MAX_LOOP_SLOTS, MAX_INSTRUCTIONS}
+use Rattle.pb_base.specs.declared.limits.TheConstants.{MAX_STRUCTS, MAX_EQUATIONS, MAX_PARAMETERS, MAX_LOOP_SLOTS, MAX_INSTRUCTIONS}
 use Rattle.pb_bytecode_program.specs.declared.version.Version.{Version}
 use Rattle.pb_bytecode.specs.declared.equation.Equation.{Equation}
 use Rattle.pb_bytecode.specs.Contents.{Contents, counts}

@@ -9,9 +9,9 @@ use Rattle.std.proofs.lemmas.List.{append-nil}
 use Rattle.std.proofs.Math.ListN.{drop_of_length-le}
 use Rattle.pb_bytecode.specs.declared.fault.ModuleRule.TheVariants as rule
 use Rattle.pb_bytecode.specs.declared.fault.FieldFault.{FieldFault}
-use Rattle.pb_base_errors.specs.OrMemory.{IfFault}
-use Rattle.pb_base_errors.specs.declared.or_memory.OrMemory.{OrMemory}
-use Rattle.pb_base_errors.specs.declared.or_memory.OrMemory.TheVariants as errors
+use Rattle.pb_base.specs.OrMemory.{IfFault}
+use Rattle.pb_base.specs.declared.or_memory.OrMemory.{OrMemory}
+use Rattle.pb_base.specs.declared.or_memory.OrMemory.TheVariants as errors
 use Rattle.pb_bytecode.specs.Reading.{◌>>=◌, Field, parameters_at, byte_at, value_at, values_at, initial_at}
 use Rattle.pb_bytecode.proofs.Loop.{with_front, regroup}
 use Rattle.pb_bytecode.specs.declared.equation.Equation.{Equation}

@@ -4,7 +4,7 @@ use Rattle.std.specs.Prelude.{ℤ, nat_le, nat_lt, ◌==◌}
 use Rattle.std.specs.Int.{w32, w64}
 use Rattle.std.specs.List.{flat_map, list_all}
 use Rattle.std.proofs.lemmas.Bool.{and_parts, and_from, le-ltb, ltb-true, lt-ltb, eqb-true}
-use Rattle.pb_base_limits.specs.declared.TheConstants.{MAX_STRUCTS, MAX_EQUATIONS, MAX_PARAMETERS, MAX_INSTANCES, MAX_LOOP_SLOTS, MAX_INSTRUCTIONS}
+use Rattle.pb_base.specs.declared.limits.TheConstants.{MAX_STRUCTS, MAX_EQUATIONS, MAX_PARAMETERS, MAX_INSTANCES, MAX_LOOP_SLOTS, MAX_INSTRUCTIONS}
 use Rattle.pb_sorts.specs.declared.carrier.Carrier.{Carrier}
 use Rattle.pb_bytecode.specs.declared.fault.FieldFault.{FieldFault}
 use Rattle.pb_bytecode.specs.declared.fault.ModuleRule.TheVariants as rule

@@ -5,7 +5,7 @@ use Rattle.std.specs.List.{list_all}
 use Rattle.std.specs.Str.{IsAscii, IsUtf8}
 use Rattle.std.proofs.lemmas.Bool.{and_parts, leb-true}
 use Rattle.std.proofs.lemmas.Str.{IsUtf8-from_ascii}
-use Rattle.pb_base_limits.specs.declared.TheConstants.{MAX_NAME_BYTES}
+use Rattle.pb_base.specs.declared.limits.TheConstants.{MAX_NAME_BYTES}
 use Rattle.pb_bytecode.specs.Names.{is_name_byte, begins_with_letter, is_module_name}
 
 name_byte_ascii : (b : ℕ) → is_name_byte b ≡ true → b < 128

@@ -13,7 +13,7 @@ use Rattle.pb_bytecode.proofs.Readers.{IsBytes, bind_ok, bind_err, ok_is, Took, 
 use Rattle.pb_bytecode.proofs.FieldLaws.{byte_reads, number_reads, wide16, i64_reads}
 use Rattle.pb_bytecode.proofs.NameLaws.{between_reads, bounds_reads, behind}
 use Rattle.std.specs.Prelude.{slice_get}
-use Rattle.pb_base_limits.specs.declared.TheConstants.{MAX_INSTRUCTIONS}
+use Rattle.pb_base.specs.declared.limits.TheConstants.{MAX_INSTRUCTIONS}
 use Rattle.pb_bytecode_program.specs.declared.instruction.Op.{Op}
 use Rattle.pb_bytecode_program.specs.declared.instruction.Op.TheVariants as op
 use Rattle.pb_bytecode_program.specs.declared.instruction.Arithmetic.TheVariants as arithmetic

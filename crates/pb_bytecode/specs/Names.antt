@@ -1,8 +1,8 @@
 -- The names of enumerators and of predicate variables.
 use Rattle.std.specs.Prelude.{ℕ, Bool, false, ◌&&◌, nat_le, List, [], ◌∷◌, length}
 use Rattle.std.specs.List.{list_all}
-pub use Rattle.pb_base_names.specs.Names.{is_letter, is_name_byte}
-use Rattle.pb_base_limits.specs.declared.TheConstants.{MAX_NAME_BYTES}
+pub use Rattle.pb_base.specs.Names.{is_letter, is_name_byte}
+use Rattle.pb_base.specs.declared.limits.TheConstants.{MAX_NAME_BYTES}
 
 abbrev pub begins_with_letter : List ℕ → Bool
 begins_with_letter [] = false

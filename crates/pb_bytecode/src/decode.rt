@@ -1,6 +1,6 @@
 //! Reading modules.
 ghost use Rattle.std.specs.Prelude.{◌≡◌, ◌+◌, length, true, Ok, Err, IfOk, MatchResult};
-ghost use Rattle.pb_base_errors.specs.OrMemory.{IfRefused};
+ghost use Rattle.pb_base.specs.OrMemory.{IfRefused};
 ghost use Rattle.pb_bytecode.specs.Contents.{Contents};
 ghost use Rattle.pb_bytecode.specs.Decoded.{IsFirstFieldFault, IsModuleOf, module_contents};
 ghost use Rattle.pb_bytecode.specs.Limits.{fits};

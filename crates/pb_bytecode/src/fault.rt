@@ -1,7 +1,7 @@
 //! Why bytes are no module.
 ghost use Rattle.std.specs.Prelude.{◌≡◌};
 
-use pb_base_errors::{Fault, OrMemory};
+use pb_base::{Fault, OrMemory};
 use std::fmt;
 
 /// What is wrong with the bytes.

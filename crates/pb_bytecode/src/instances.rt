@@ -4,7 +4,7 @@ ghost use Rattle.pb_bytecode.specs.Limits.{instance_count};
 ghost use Rattle.pb_bytecode.specs.Views.{equation_contents};
 
 use crate::equation::Equation;
-use pb_base_limits::MAX_INSTANCES;
+use pb_base::MAX_INSTANCES;
 use pb_sorts::count_tuples;
 
 /// Whether there are no more instances than the limit (B05).

@@ -3,8 +3,7 @@ ghost use Rattle.std.specs.Prelude.{◌≡◌, true, string_bytes};
 ghost use Rattle.std.specs.List.{list_all};
 ghost use Rattle.pb_bytecode.specs.Names.{begins_with_letter, is_module_name, is_name_byte};
 
-use pb_base_limits::MAX_NAME_BYTES;
-use pb_base_names::{is_letter, is_name_byte};
+use pb_base::{MAX_NAME_BYTES, is_letter, is_name_byte};
 
 /// A name: a letter or `_`, then letters, digits, `_` and `'`, at most `MAX_NAME_BYTES` bytes in
 /// all. Reserved words of texts are names, too.

@@ -1,6 +1,6 @@
 //! Sorts of enumerators.
 ghost use Rattle.std.specs.Prelude.{◌≤◌, vec_len};
-ghost use Rattle.pb_base_limits.specs.declared.TheConstants.{MAX_ENUMERATORS};
+ghost use Rattle.pb_base.specs.declared.limits.TheConstants.{MAX_ENUMERATORS};
 
 use crate::name::Name;
 

@@ -3,9 +3,9 @@ use Rattle.std.proofs.Common.{◌≡◌, true, arith}
 use Rattle.std.specs.Prelude.{ℤ, pos, ◌≤ℤ◌, int_le}
 use Rattle.std.proofs.lemmas.Int.{ints}
 use Rattle.std.proofs.lemmas.Bool.{and_parts, and_from}
-use Rattle.pb_base_intervals.specs.Operation.{UnaryOperation}
-use Rattle.pb_base_intervals.proofs.Sound.{unary_non_empty, binary_non_empty}
-use Rattle.pb_base_intervals.proofs.Monotone.{unary_monotone, binary_monotone}
+use Rattle.pb_base_values.specs.Operation.{UnaryOperation}
+use Rattle.pb_base_values.proofs.Sound.{unary_non_empty, binary_non_empty}
+use Rattle.pb_base_values.proofs.Monotone.{unary_monotone, binary_monotone}
 use Rattle.pb_bytecode_program.specs.Values.{operation_of, divides, fits64, least64, greatest64}
 use Rattle.pb_bytecode_program.specs.Abstract.{between, interval_of, absolute_interval}
 use Rattle.pb_bytecode_program.proofs.Ints.{le_true, from_le}

@@ -2,12 +2,12 @@
 use Rattle.std.proofs.Common.{◌≡◌, true, false, arith}
 use Rattle.std.specs.Prelude.{ℤ, pos, neg_ℤ, ◌≤ℤ◌, int_lt}
 use Rattle.std.proofs.lemmas.Int.{ints}
-use Rattle.pb_base_intervals.specs.Operation.{UnaryOperation}
-use Rattle.pb_base_intervals.proofs.Sound.{unary_sound, binary_sound}
+use Rattle.pb_base_values.specs.Operation.{UnaryOperation}
+use Rattle.pb_base_values.proofs.Sound.{unary_sound, binary_sound}
 use Rattle.pb_bytecode_program.specs.Values.{operation_of, arithmetic, divides, absolute}
 use Rattle.pb_bytecode_program.specs.Abstract.{between, interval_of, absolute_interval}
 use Rattle.pb_bytecode_program.specs.declared.instruction.Arithmetic.{Arithmetic}
-pub use Rattle.pb_base_intervals.proofs.Ends.{from_le, le_true, le_false}
+pub use Rattle.pb_base_values.proofs.Ends.{from_le, le_true, le_false}
 
 pub not_below : (m : ℤ) → int_lt m (pos 1) ≡ false → pos 1 ≤ℤ m
 not_below m e = grind (arith, ints)

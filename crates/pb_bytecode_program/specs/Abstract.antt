@@ -2,8 +2,8 @@
 use Rattle.std.specs.Prelude.{◌≡◌, ◌<◌, ◌≤◌, Bool, true, false, ℤ, ◌≤ℤ◌, ◌==◌}
 use Rattle.pb_sorts.specs.declared.carrier.Carrier.{Carrier}
 use Rattle.pb_sorts.specs.declared.carrier.Carrier.TheVariants as carrier
-use Rattle.pb_base_intervals.specs.Interval.{IntegerInterval}
-use Rattle.pb_base_intervals.specs.Operation.{binary_interval, absolute_values}
+use Rattle.pb_base_values.specs.Interval.{IntegerInterval}
+use Rattle.pb_base_values.specs.Operation.{binary_interval, absolute_values}
 use Rattle.pb_bytecode_program.specs.Values.{TaggedValue, BoolValue, IntValue, EnumValue, operation_of}
 use Rattle.pb_bytecode_program.specs.declared.domain.AbstractValue.{AbstractValue}
 use Rattle.pb_bytecode_program.specs.declared.domain.AbstractValue.TheVariants as abstract

@@ -2,7 +2,7 @@
 -- after the rules of bytecode verification (Lindholm and Yellin 1996). A verifier makes one pass;
 -- this is a relation between a program and a table, without order.
 use Rattle.std.specs.Prelude.{◌≡◌, ℕ, ◌<◌, ◌≤◌, List, [], ◌∷◌, length, map, Option, Some, None, slice_get, IsSome, Contains, ◌⊎◌}
-use Rattle.pb_base_limits.specs.declared.TheConstants.{MAX_LOOPS, MAX_STEPS, MAX_TOKENS}
+use Rattle.pb_base.specs.declared.limits.TheConstants.{MAX_LOOPS, MAX_STEPS, MAX_TOKENS}
 use Rattle.pb_bytecode_program.specs.Abstract.{Covers, abstraction_of}
 use Rattle.pb_bytecode_program.specs.Machine.{Program, carrier_of}
 use Rattle.pb_bytecode_program.specs.Counts.{Leaves, loop_effect, loops_around, static_steps, static_tokens}

@@ -2,7 +2,7 @@
 -- interpretation, Cousot and Cousot 1977), which has no value where the instruction's rule fails.
 use Rattle.std.specs.Prelude.{ℕ, zero, suc, ◌+◌, Bool, true, false, not, ◌&&◌, ◌||◌, List, [], ◌∷◌, ◌++◌, length, reverse, Option, Some, None, ℤ, pos, neg_ℤ, int_lt, int_le, ◌==◌, nat_lt, nat_le, if◌then◌else◌, slice_get}
 use Rattle.std.specs.Int.{int_min, int_max}
-use Rattle.pb_base_limits.specs.declared.TheConstants.{MAX_OPERANDS, MAX_BRACKETS, MAX_LOOPS}
+use Rattle.pb_base.specs.declared.limits.TheConstants.{MAX_OPERANDS, MAX_BRACKETS, MAX_LOOPS}
 use Rattle.pb_bytecode_program.specs.Values.{is_inhabited, divides, fits64}
 use Rattle.pb_bytecode_program.specs.Abstract.{abstraction_of, interval_of, absolute_interval, same_kind}
 use Rattle.pb_bytecode_program.specs.Machine.{Program, carrier_of}

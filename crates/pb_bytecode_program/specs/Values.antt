@@ -3,9 +3,9 @@
 use Rattle.std.specs.Prelude.{ℕ, Bool, true, false, not, ◌&&◌, ◌||◌, List, [], ◌∷◌, map, Option, Some, None, ℤ, pos, int_lt, int_le, ◌==◌, nat_lt, if◌then◌else◌, unsigned_abs}
 use Rattle.std.specs.Ordering.{int_eq}
 use Rattle.pb_base_values.specs.Carrier as carriers
-use Rattle.pb_base_intervals.specs.Interval.{is_included, words}
-use Rattle.pb_base_intervals.specs.Operation.{UnaryOperation, BinaryOperation, unary_value, binary_value}
-use Rattle.pb_base_intervals.specs.Operation as operation
+use Rattle.pb_base_values.specs.Interval.{is_included, words}
+use Rattle.pb_base_values.specs.Operation.{UnaryOperation, BinaryOperation, unary_value, binary_value}
+use Rattle.pb_base_values.specs.Operation as operation
 use Rattle.pb_sorts.specs.Carrier.{values_of}
 use Rattle.pb_sorts.specs.declared.carrier.Carrier.{Carrier}
 use Rattle.pb_sorts.specs.declared.carrier.Carrier.TheVariants as carrier

@@ -2,14 +2,14 @@
 use Rattle.std.proofs.Common.{◌≡◌, sym, subst}
 use Rattle.std.specs.Prelude.{Result, Ok, Err}
 use Rattle.std.specs.Result.{IsErrAnd}
-use Rattle.pb_base_errors.specs.OrMemory.{IfFault, IfRefused}
-use Rattle.pb_base_errors.specs.declared.or_memory.OrMemory.{OrMemory}
-use Rattle.pb_base_errors.specs.declared.or_memory.OrMemory.TheVariants as or_memory
+use Rattle.pb_base.specs.OrMemory.{IfFault, IfRefused}
+use Rattle.pb_base.specs.declared.or_memory.OrMemory.{OrMemory}
+use Rattle.pb_base.specs.declared.or_memory.OrMemory.TheVariants as or_memory
 use Rattle.pb_command_faults.specs.declared.solve_error.SolveError.{SolveError}
 use Rattle.pb_command_faults.specs.declared.solve_error.SolveError.TheVariants as solve_error
 use Rattle.pb_command_faults.specs.declared.solve_fault.SolveFault.{SolveFault}
 use Rattle.pb_command_faults.specs.Errors.{IfInputFault, IfInputRefused, joins_into, write_failure}
-use Rattle.pb_base_errors.proofs.Faults.{if_fault}
+use Rattle.pb_base.proofs.Faults.{if_fault}
 use Rattle.pb_sorts.specs.declared.sink.E02 as sink
 
 -- what holds of a layer's fault is what is wrong with the input

@@ -4,7 +4,7 @@ ghost use Rattle.pb_command_faults.specs.declared.solve_error.SolveError.TheVari
 ghost use Rattle.pb_command_faults.specs.Errors.{joins_into, write_failure};
 
 use crate::SolveFault;
-use pb_base_errors::OrMemory;
+use pb_base::OrMemory;
 use pb_report::WriteError;
 use pb_sorts::E02;
 use std::alloc::AllocError;

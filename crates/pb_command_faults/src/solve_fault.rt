@@ -6,7 +6,7 @@ ghost use Rattle.pb_command_faults.specs.declared.solve_fault.SolveFault.TheVari
 
 use crate::{ErrorLine, Line, ProgramFault, PropertyFault};
 use pb_assembler_measures::Excess;
-use pb_base_errors::Fault;
+use pb_base::Fault;
 use pb_bytecode::ModuleFault;
 use pb_game_of_trees::TooManyVertices;
 use pb_model_properties::ModelFault;

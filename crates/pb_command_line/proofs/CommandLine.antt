@@ -28,9 +28,9 @@ use Rattle.pb_command_line.specs.Line.{command_line}
 use Rattle.pb_command_line.specs.Options.{HasOptions, IsChosenBy, IsSetBy, IsSolvingOf, IsWorkersOf}
 use Rattle.pb_command_line.specs.declared.options.Solving.{Solving}
 use Rattle.pb_command_line.specs.declared.words.Usage.{Usage}
-use Rattle.pb_base_errors.specs.OrMemory.{IfFault, OnRefused}
-use Rattle.pb_base_errors.specs.declared.or_memory.OrMemory.{OrMemory}
-use Rattle.pb_base_errors.specs.declared.or_memory.OrMemory.TheVariants.{Refused, Memory}
+use Rattle.pb_base.specs.OrMemory.{IfFault, OnRefused}
+use Rattle.pb_base.specs.declared.or_memory.OrMemory.{OrMemory}
+use Rattle.pb_base.specs.declared.or_memory.OrMemory.TheVariants.{Refused, Memory}
 use Rattle.pb_command_line.specs.Words.{command_name, command_of, property_names, words_error_of, AskFor, AskForSomething, AskPlainly, HaveFault, NeedsNoWord}
 
 line_is_simple : is_simple command_line ≡ true

@@ -14,8 +14,8 @@ use Rattle.pb_command_line.specs.declared.request.Task.TheVariants.{Solve, Game,
 use Rattle.pb_command_line.specs.declared.words.Usage.{Usage}
 use Rattle.pb_command_line.specs.Line.{command_line}
 use Rattle.pb_command_line.specs.Options.{HasOptions}
-use Rattle.pb_base_errors.specs.declared.or_memory.OrMemory.{OrMemory}
-use Rattle.pb_base_errors.specs.declared.or_memory.OrMemory.TheVariants.{Refused, Memory}
+use Rattle.pb_base.specs.declared.or_memory.OrMemory.{OrMemory}
+use Rattle.pb_base.specs.declared.or_memory.OrMemory.TheVariants.{Refused, Memory}
 
 -- every error of the words but want of memory is one of usage
 abbrev pub words_error_of : ErrorKind → OrMemory Usage

@@ -3,7 +3,7 @@ ghost use Rattle.std.specs.Prelude.{◌≡◌, ◌<◌, ◌≤◌, ℕ, codes, m
 ghost use Rattle.std.specs.Prelude.{option_copied, option_map, string_bytes, unwrap_or};
 ghost use Rattle.clap.specs.Matches.{found_of};
 ghost use Rattle.clap.specs.Walk.{all_of, first_of, rows_of};
-ghost use Rattle.pb_base_errors.specs.OrMemory.{OnRefused};
+ghost use Rattle.pb_base.specs.OrMemory.{OnRefused};
 ghost use Rattle.pb_game.specs.declared.solver.Solver.{Solver};
 ghost use Rattle.pb_command_rules.specs.declared.rule.Rule.{Rule};
 ghost use Rattle.pb_command_line.specs.declared.options.Checking.{Checking};
@@ -18,7 +18,7 @@ ghost use Rattle.pb_command_line.specs.Options.{IsSolvingOf, IsTranslatingOf, Is
 use crate::options::{Checking, Explaining, Exploring, Showing, Solving, Translating};
 use crate::words::{Usage, WordsError};
 use clap::ArgMatches;
-use pb_base_errors::OrMemory;
+use pb_base::OrMemory;
 use pb_command_rules::Rule;
 use pb_game::Solver;
 use std::alloc::{AllocError, Global};

@@ -3,7 +3,7 @@ ghost use Rattle.std.specs.Prelude.{◌≡◌, [], map, IfOk};
 ghost use Rattle.clap.specs.Matches.{found_of};
 ghost use Rattle.clap.specs.Walk.{rows_of};
 ghost use Rattle.clap.specs.Words.{kind_of};
-ghost use Rattle.pb_base_errors.specs.OrMemory.{OnRefused};
+ghost use Rattle.pb_base.specs.OrMemory.{OnRefused};
 ghost use Rattle.pb_command_line.specs.Options.{HasOptions};
 ghost use Rattle.pb_command_line.specs.Words.{AskFor, AskNothing, AskPlainly, HaveFault};
 ghost use Rattle.pb_command_line.specs.Words.{command_name, command_of, property_names};
@@ -19,7 +19,7 @@ use crate::read::{
 use crate::request::{Request, Task};
 use clap::error::ErrorKind;
 use clap::{ArgMatches, Error};
-use pb_base_errors::{Fault, OrMemory};
+use pb_base::{Fault, OrMemory};
 use std::alloc::Global;
 use std::convert::AsStr;
 

@@ -1,6 +1,6 @@
 //! Modules that bytes spell: whether they are accepted, what they say, and their answers.
 ghost use Rattle.std.specs.Prelude.{IfOk};
-ghost use Rattle.pb_base_errors.specs.OrMemory.{IfRefused};
+ghost use Rattle.pb_base.specs.OrMemory.{IfRefused};
 ghost use Rattle.pb_command_faults.specs.Errors.{IfInputRefused};
 ghost use Rattle.std.specs.Io.KnownBytes.{Appends};
 ghost use Rattle.pb_report.specs.Report.{report_text};
@@ -13,7 +13,7 @@ ghost use Rattle.pb_command_modules.specs.Outputs.{OutputsListing};
 
 use crate::delivery::deliver;
 use crate::module::write_report;
-use pb_base_errors::OrMemory;
+use pb_base::OrMemory;
 use pb_bytecode::Module;
 use pb_bytecode::decode::decode;
 use pb_bytecode::list::list;

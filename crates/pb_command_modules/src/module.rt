@@ -1,7 +1,7 @@
 //! The texts of a verified module: its report, its game, its solution, a certificate and its
 //! evidence.
 ghost use Rattle.std.specs.Prelude.{◌≤◌, ◌<◌, ℕ, Option, IfOk};
-ghost use Rattle.pb_base_errors.specs.OrMemory.{IfRefused};
+ghost use Rattle.pb_base.specs.OrMemory.{IfRefused};
 ghost use Rattle.pb_command_faults.specs.Errors.{IfInputRefused};
 ghost use Rattle.std.specs.Io.KnownBytes.{Appends};
 ghost use Rattle.pb_text_tree.specs.declared.place.Place.{Place};
@@ -14,7 +14,7 @@ ghost use Rattle.pb_command_modules.specs.Delivery.{Delivers};
 ghost use Rattle.pb_command_modules.specs.Refusals.{IsRefusedModule};
 ghost use Rattle.pb_command_modules.specs.Outputs.{ForReport};
 
-use pb_base_errors::OrMemory;
+use pb_base::OrMemory;
 use pb_command_faults::{SolveError, SolveFault};
 use pb_command_solver::{
     Context, SolveOptions, answer_module, build_module, explain_module, solve_module,

@@ -19,7 +19,7 @@ use Rattle.pb_report.proofs.ReachedGames.{same_length}
 use Rattle.pb_command_solver.specs.Answers.{IsAnswerOf}
 use Rattle.pb_command_solver.specs.Parts.{IsTruthIn}
 use Rattle.pb_command_solver.proofs.Rows.{module_rows}
-use Rattle.pb_base_limits.specs.declared.TheConstants.{MAX_VERTICES}
+use Rattle.pb_base.specs.declared.limits.TheConstants.{MAX_VERTICES}
 
 module _ (m : Contents) (rows : List TokenRow) (built : TreeGame) (explored : AreExploredRows m rows) (game : IsModuleGame m rows built) where
   from : (trees : ℕ → Tree) → AreTrees m trees → AreRowsFrom (map signature_of m.equations) trees rows (initial_of m)

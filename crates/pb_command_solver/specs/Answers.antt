@@ -14,7 +14,7 @@ use Rattle.pb_command_solver.specs.declared.built_module.BuiltModule.{BuiltModul
 use Rattle.pb_command_solver.specs.declared.early.Early.{Early}
 use Rattle.pb_command_solver.specs.declared.early.Early.TheVariants.{Unknown, Shown, Whole}
 use Rattle.pb_command_solver.specs.declared.solved_module.SolvedModule.{SolvedModule}
-use Rattle.pb_base_limits.specs.declared.TheConstants.{MAX_VERTICES}
+use Rattle.pb_base.specs.declared.limits.TheConstants.{MAX_VERTICES}
 
 -- the truth of the initial instance in the solution of the module's equations
 abbrev pub IsTruthOf : Contents → Bool → Type 0

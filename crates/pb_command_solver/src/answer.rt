@@ -1,6 +1,6 @@
 //! Answers of modules, where nothing else is asked for.
 ghost use Rattle.std.specs.Prelude.{IfOk};
-ghost use Rattle.pb_base_errors.specs.OrMemory.{OnRefused};
+ghost use Rattle.pb_base.specs.OrMemory.{OnRefused};
 ghost use Rattle.pb_command_solver.specs.Answers.{IsAnswerOf, IsTooLarge};
 
 use crate::built_module::{BuiltModule, build_module, solve_game};

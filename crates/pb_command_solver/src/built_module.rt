@@ -1,7 +1,7 @@
 //! Modules whose game is built: what is solved, whether its rows are kept behind it or not, and
 //! what can be written of it before anybody solves it.
 ghost use Rattle.std.specs.Prelude.{◌≡◌, ◌<◌, ◌≤◌, IfOk};
-ghost use Rattle.pb_base_errors.specs.OrMemory.{OnRefused};
+ghost use Rattle.pb_base.specs.OrMemory.{OnRefused};
 ghost use Rattle.pb_exploration.specs.Rows.{AreExploredRows};
 ghost use Rattle.pb_game.specs.Certificates.{IsCertificate};
 ghost use Rattle.pb_command_solver.specs.Lifting.{IsLiftedOrNone};

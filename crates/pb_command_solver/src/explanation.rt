@@ -1,7 +1,7 @@
 //! Why a module's initial instance is true or false.
 ghost use Rattle.std.specs.Prelude.{◌≡◌, ℕ, Option, IfOk};
 ghost use Rattle.pb_text_tree.specs.declared.place.Place.{Place};
-ghost use Rattle.pb_base_errors.specs.OrMemory.{OnRefused};
+ghost use Rattle.pb_base.specs.OrMemory.{OnRefused};
 ghost use Rattle.pb_report.specs.CallPlaces.{AreCallPlaces};
 ghost use Rattle.pb_report.specs.ModuleEvidence.{ForEvidenceText, IsExplanation};
 ghost use Rattle.pb_report.specs.Delivery.{Delivers, is_failed};

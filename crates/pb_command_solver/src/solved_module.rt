@@ -1,6 +1,6 @@
 //! Verified modules that are solved.
 ghost use Rattle.std.specs.Prelude.{◌≡◌, IfOk};
-ghost use Rattle.pb_base_errors.specs.OrMemory.{OnRefused};
+ghost use Rattle.pb_base.specs.OrMemory.{OnRefused};
 ghost use Rattle.pb_game.specs.Certificates.{IsCertificate};
 ghost use Rattle.pb_command_solver.specs.Lifting.{IsLiftedOrNone};
 ghost use Rattle.pb_report.specs.Delivery.{Delivers, is_failed};

@@ -45,11 +45,11 @@ use Rattle.pb_assembler_scheme.proofs.FullCalls.{equation-full}
 use Rattle.pb_assembler_scheme.proofs.Numbered.{HasSlots}
 use Rattle.pb_assembler_scheme.proofs.Slots.{program-slots}
 use Rattle.pb_assembler_modules.specs.Module.{AreEquationsOf, IsCompiledModule, IsEquationOf}
-use Rattle.pb_evidence_calls.specs.Calls.{same_place}
-use Rattle.pb_evidence_calls.specs.Made.{first_made, made}
-use Rattle.pb_evidence_calls.proofs.Callers.{first-kept, proper-at}
-use Rattle.pb_evidence_calls.proofs.Elaborated.{calls-kept}
-use Rattle.pb_evidence_calls.proofs.Unmade.{any_at, nothing_made}
+use Rattle.pb_typing_calls.specs.Calls.{same_place}
+use Rattle.pb_typing_calls.specs.Made.{first_made, made}
+use Rattle.pb_typing_calls.proofs.Callers.{first-kept, proper-at}
+use Rattle.pb_typing_calls.proofs.Elaborated.{calls-kept}
+use Rattle.pb_typing_calls.proofs.Unmade.{any_at, nothing_made}
 use Rattle.pb_evidence_places.specs.CallPlaces.{AreCalled, instance_numbered, place_of_call}
 use Rattle.pb_evidence_places.proofs.Carriers.{equations_carriers}
 use Rattle.pb_evidence_places.proofs.FormulaCode.{NamesOnly, tree-names}

@@ -9,7 +9,7 @@ use Rattle.pb_sorts.specs.Layout.{carriers_of}
 use Rattle.pb_typing.specs.Typed.{IsLayout}
 use Rattle.pb_bytecode.specs.Contents.{EquationContents, Contents}
 use Rattle.pb_bytecode.specs.Meaning.{parameters}
-use Rattle.pb_assembler_accepted.proofs.TextEquations.{all_values}
+use Rattle.pb_assembler_scheme.proofs.TextEquations.{all_values}
 use Rattle.pb_assembler_modules.specs.Module.{AreEquationsOf, IsCompiledModule}
 
 pub equations_carriers : (spec : Spec) (m : Contents) (E : List Equation) (es : List EquationContents) → AreEquationsOf spec m E es

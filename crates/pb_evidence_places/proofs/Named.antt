@@ -34,9 +34,9 @@ use Rattle.pb_normal.specs.SignedForm.{signed_form}
 use Rattle.pb_assembler_scheme.specs.Correct.{HasFullCalls, IsFullCall}
 use Rattle.pb_assembler_scheme.specs.Scheme.{neutral, parameters, test_of}
 use Rattle.pb_assembler_scheme.proofs.Numbered.{HasSlots, argument_values, call_number}
-use Rattle.pb_evidence_calls.specs.Calls.{decides, same_place}
-use Rattle.pb_evidence_calls.specs.Made.{is_deciding, is_test, made}
-use Rattle.pb_evidence_calls.specs.declared.side.Side.TheVariants.{Left, Right}
+use Rattle.pb_typing_calls.specs.Calls.{decides, same_place}
+use Rattle.pb_typing_calls.specs.Made.{is_deciding, is_test, made}
+use Rattle.pb_typing_calls.specs.declared.side.Side.TheVariants.{Left, Right}
 use Rattle.pb_evidence_places.proofs.CallCode.{are_within}
 use Rattle.pb_evidence_places.proofs.FormulaCode.{BothName, NamesOnly, OfEach}
 use Rattle.pb_evidence_places.proofs.LoopValues.{values-of-loop}

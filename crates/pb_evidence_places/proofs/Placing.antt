@@ -9,7 +9,7 @@ use Rattle.pb_sorts.specs.declared.carrier.Carrier.{Carrier}
 use Rattle.pb_sorts.specs.Instance.{Instance}
 use Rattle.pb_game.specs.Adjacency.{row}
 use Rattle.pb_game.proofs.Rows.{row_length}
-use Rattle.pb_evidence_calls.specs.Calls.{call_place}
+use Rattle.pb_typing_calls.specs.Calls.{call_place}
 use Rattle.pb_evidence.specs.Divided.{IsDividedIntoRows}
 use Rattle.pb_evidence_places.specs.CallPlaces.{instance_numbered, place_of_call, told_place}
 

@@ -7,7 +7,7 @@ use Rattle.pb_sorts.specs.declared.carrier.Carrier.{Carrier}
 use Rattle.pb_sorts.specs.Instance.{Instance, instances}
 use Rattle.pb_sorts.specs.Layout.{carriers_of}
 use Rattle.pb_evidence.specs.ProofGraphs.{Graph, RestsOn}
-use Rattle.pb_evidence_calls.specs.Calls.{call_place}
+use Rattle.pb_typing_calls.specs.Calls.{call_place}
 
 -- the instance with this number
 abbrev pub instance_numbered : List (List Carrier) → ℕ → Option Instance

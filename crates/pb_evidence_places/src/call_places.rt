@@ -8,17 +8,17 @@ ghost use Rattle.pb_sorts.specs.Layout.{carriers_of, count_of};
 ghost use Rattle.pb_fixpoint_trees.specs.Tree.{Tree};
 ghost use Rattle.pb_bytecode.specs.Meaning.{AreTrees, parameters};
 ghost use Rattle.pb_assembler_modules.specs.Module.{IsCompiledModule};
-ghost use Rattle.pb_evidence_calls.specs.View.{layout_of, said_by};
+ghost use Rattle.pb_typing_calls.specs.View.{layout_of, said_by};
 ghost use Rattle.pb_report.specs.CallPlaces.{AreCallPlaces};
 ghost use Rattle.pb_report.specs.ModuleEvidence.{IsExplanation};
 ghost use Rattle.pb_evidence_places.specs.CallPlaces.{place_of_call, told_place};
 
 use pb_evidence::Evidence;
-use pb_evidence_calls::CallPlaces;
 use pb_report::Explanation;
 use pb_sorts::Layout;
 use pb_text_tree::Place;
 use pb_typing::Typed;
+use pb_typing_calls::CallPlaces;
 use pb_verifier::Verified;
 use std::alloc::{AllocError, Global};
 

@@ -9,9 +9,9 @@ use Rattle.pb_bytecode.specs.Meaning.{AreTrees}
 use Rattle.pb_model_words.specs.View.{vocabulary_of}
 use Rattle.pb_model_words.specs.Words.{state_text}
 use Rattle.pb_sorts.specs.Instance.{Instance, instance_of}
-use Rattle.pb_evidence_calls.specs.MadeCalls.{calls_at}
-use Rattle.pb_evidence_calls.specs.declared.made_call.MadeCall as declared_call
-use Rattle.pb_evidence_calls.specs.MadeCallView.{call_views}
+use Rattle.pb_typing_calls.specs.MadeCalls.{calls_at}
+use Rattle.pb_typing_calls.specs.declared.made_call.MadeCall as declared_call
+use Rattle.pb_typing_calls.specs.MadeCallView.{call_views}
 use Rattle.pb_game_of_trees.specs.Explored.{ModuleHasTrees}
 use Rattle.pb_report.specs.declared.module_evidence.Explanation.{Explanation}
 use Rattle.pb_report.specs.Cuts.{cuts_of}

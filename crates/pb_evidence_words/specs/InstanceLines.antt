@@ -9,7 +9,7 @@ use Rattle.std.specs.List.{find, range_with_len}
 use Rattle.pb_sorts.specs.Instance.{Instance}
 use Rattle.pb_model_words.specs.Vocabulary.{Vocabulary}
 use Rattle.pb_model_words.specs.Words.{values_text, mark_text}
-use Rattle.pb_evidence_calls.specs.MadeCalls.{MadeCall, calls_at}
+use Rattle.pb_typing_calls.specs.MadeCalls.{MadeCall, calls_at}
 use Rattle.pb_report.specs.EvidenceText.{line_tail}
 use Rattle.pb_evidence_words.specs.WhyText.{Told, dependencies_at, formula_text, instance_at, is_call_of}
 use Rattle.pb_evidence_words.specs.WhyText.{is_cut_at, line_instance}

@@ -7,11 +7,11 @@ use Rattle.pb_sorts.specs.Instance.{Instance, instance_of, is_instance}
 use Rattle.pb_sorts.specs.Layout.{carriers_of, count_of}
 use Rattle.pb_bytecode.specs.Meaning.{parameters}
 use Rattle.pb_evidence.specs.Evidence.{graph_of}
-use Rattle.pb_evidence_calls.specs.declared.places.CallPlaces.{CallPlaces}
-use Rattle.pb_evidence_calls.specs.declared.made_call.MadeCall as declared_call
-use Rattle.pb_evidence_calls.specs.MadeCalls.{MadeCall, calls_at}
-use Rattle.pb_evidence_calls.specs.MadeCallView.{call_view, call_views}
-use Rattle.pb_evidence_calls.specs.View.{said_by, layout_of}
+use Rattle.pb_typing_calls.specs.declared.places.CallPlaces.{CallPlaces}
+use Rattle.pb_typing_calls.specs.declared.made_call.MadeCall as declared_call
+use Rattle.pb_typing_calls.specs.MadeCalls.{MadeCall, calls_at}
+use Rattle.pb_typing_calls.specs.MadeCallView.{call_view, call_views}
+use Rattle.pb_typing_calls.specs.View.{said_by, layout_of}
 use Rattle.pb_evidence_words.specs.declared.shown.Shown.{Shown}
 use Rattle.pb_evidence_words.specs.declared.lines.Lines.{Lines}
 use Rattle.pb_evidence_words.specs.declared.caller.Caller.{Caller}

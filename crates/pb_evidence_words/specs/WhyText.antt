@@ -19,7 +19,7 @@ use Rattle.pb_sorts.specs.Instance.{Instance, is_instance}
 use Rattle.pb_sorts.specs.Layout.{carriers_of}
 use Rattle.pb_model_words.specs.Vocabulary.{Vocabulary}
 use Rattle.pb_model_words.specs.Words.{state_text, move_text, changes_text}
-use Rattle.pb_evidence_calls.specs.MadeCalls.{MadeCall, calls_at}
+use Rattle.pb_typing_calls.specs.MadeCalls.{MadeCall, calls_at}
 use Rattle.pb_evidence.specs.ProofGraphs.{Graph}
 use Rattle.pb_evidence_places.specs.CallPlaces.{instance_numbered}
 use Rattle.pb_evidence_words.specs.Order.{place_of, parent_at, leads_back, has_edge}

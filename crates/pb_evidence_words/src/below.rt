@@ -4,7 +4,7 @@
 ghost use Rattle.std.specs.Prelude.{◌≡◌, ◌<◌, ◌==◌, ◌||◌, ◌++◌};
 ghost use Rattle.std.specs.Prelude.{not, Contains, OnOk, codes, decimal, flat_map};
 ghost use Rattle.std.specs.Prelude.{◌+◌, IfOk, length, map, string_bytes};
-ghost use Rattle.pb_evidence_calls.specs.MadeCallView.{call_view, call_views};
+ghost use Rattle.pb_typing_calls.specs.MadeCallView.{call_view, call_views};
 ghost use Rattle.pb_base_values.specs.Carrier.{is_within};
 ghost use Rattle.pb_evidence.specs.Evidence.{graph_of};
 ghost use Rattle.pb_sorts.specs.Carrier.{values_of};
@@ -21,9 +21,9 @@ use crate::caller::Caller;
 use crate::lines::place_in;
 use crate::numbers::push_line_number;
 use crate::telling::Telling;
-use pb_evidence_calls::MadeCall;
 use pb_model_words::push_state;
 use pb_sorts::{Carrier, Instance};
+use pb_typing_calls::MadeCall;
 use std::alloc::{AllocError, Global};
 
 /// Whether each value is in its carrier, and there are no others.

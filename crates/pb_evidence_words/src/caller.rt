@@ -1,7 +1,7 @@
 //! An instance with its calls, and the one that a line comes from.
 
-use pb_evidence_calls::MadeCall;
 use pb_sorts::Instance;
+use pb_typing_calls::MadeCall;
 
 /// The instance of a line, and the calls that its right side makes.
 #[derive(Drop)]

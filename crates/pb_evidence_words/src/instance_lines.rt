@@ -2,7 +2,7 @@
 //! programs that read evidence.
 
 ghost use Rattle.std.specs.Prelude.{◌≡◌, ◌<◌, ◌++◌, Contains, OnOk, length, string_bytes};
-ghost use Rattle.pb_evidence_calls.specs.MadeCallView.{call_views};
+ghost use Rattle.pb_typing_calls.specs.MadeCallView.{call_views};
 ghost use Rattle.pb_report.specs.EvidenceText.{cut_mark, truth_mark};
 ghost use Rattle.pb_sorts.specs.Instance.{instance_of};
 ghost use Rattle.pb_model_words.specs.View.{vocabulary_of};
@@ -15,9 +15,9 @@ ghost use Rattle.pb_evidence_words.specs.WhyText.{is_cut_at, line_instance};
 use crate::caller::Caller;
 use crate::moves::first_call;
 use crate::telling::Telling;
-use pb_evidence_calls::MadeCall;
 use pb_model_words::{push_step_mark, push_values};
 use pb_sorts::Instance;
+use pb_typing_calls::MadeCall;
 use std::alloc::AllocError;
 
 fn push_truth(text: &mut String, truth: bool) -> Result<(), AllocError>

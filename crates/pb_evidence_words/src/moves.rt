@@ -2,7 +2,7 @@
 
 ghost use Rattle.std.specs.Prelude.{◌≡◌, ◌++◌, OnOk, string_bytes};
 ghost use Rattle.std.specs.List.{find};
-ghost use Rattle.pb_evidence_calls.specs.MadeCallView.{call_view, call_views};
+ghost use Rattle.pb_typing_calls.specs.MadeCallView.{call_view, call_views};
 ghost use Rattle.pb_model_words.specs.View.{vocabulary_of};
 ghost use Rattle.pb_model_words.specs.Words.{move_text};
 ghost use Rattle.pb_sorts.specs.Instance.{instance_of};
@@ -11,9 +11,9 @@ ghost use Rattle.pb_evidence_words.specs.WhyText.{is_call_of, is_same, move_amon
 
 use crate::caller::Caller;
 use crate::telling::Telling;
-use pb_evidence_calls::MadeCall;
 use pb_model_words::{Move, push_changes, push_move};
 use pb_sorts::Instance;
+use pb_typing_calls::MadeCall;
 use std::alloc::AllocError;
 
 /// Whether a call names an instance.

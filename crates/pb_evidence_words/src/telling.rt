@@ -11,7 +11,7 @@ ghost use Rattle.pb_bytecode.specs.Meaning.{AreTrees, parameters};
 ghost use Rattle.pb_assembler_modules.specs.Module.{IsCompiledModule};
 ghost use Rattle.pb_model_tree.specs.Form.{FormulaForm, model_form};
 ghost use Rattle.pb_model_translation.specs.Placed.{placed};
-ghost use Rattle.pb_evidence_calls.specs.MadeCallView.{call_views};
+ghost use Rattle.pb_typing_calls.specs.MadeCallView.{call_views};
 ghost use Rattle.pb_report.specs.ModuleEvidence.{IsExplanation};
 ghost use Rattle.pb_evidence_words.specs.Ready.{IsCaller, IsKnown, IsTold, numbers_of, told_of};
 ghost use Rattle.pb_evidence_words.specs.WhyText.{instance_at, is_empty, is_stuck, line_instance};
@@ -19,8 +19,8 @@ ghost use Rattle.pb_evidence_words.specs.WhyText.{instance_at, is_empty, is_stuc
 use crate::caller::Caller;
 use crate::lines::Lines;
 use crate::shown::Shown;
-use pb_evidence_calls::{CallPlaces, MadeCall};
 use pb_sorts::Instance;
+use pb_typing_calls::{CallPlaces, MadeCall};
 use std::alloc::{AllocError, Global};
 
 /// What is shown, with the calls of both texts and the order of the lines.

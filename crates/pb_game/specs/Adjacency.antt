@@ -5,7 +5,7 @@ use Rattle.std.specs.Prelude.{◌∷◌, ◌==◌}
 use Rattle.std.specs.List.{list_any}
 use Rattle.std.specs.List.Sorted.{IsStrictlyIncreasing}
 use Rattle.pb_fixpoint_trees.specs.declared.player.Player.{Player}
-use Rattle.pb_base_limits.specs.declared.TheConstants.{MAX_VERTICES, MAX_PRIORITIES}
+use Rattle.pb_base.specs.declared.limits.TheConstants.{MAX_VERTICES, MAX_PRIORITIES}
 
 -- the items of vertex v
 abbrev pub row : List ℕ → List ℕ → ℕ → List ℕ

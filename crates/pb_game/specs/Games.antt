@@ -6,7 +6,7 @@ use Rattle.pb_game.specs.declared.Game.{Game}
 use Rattle.pb_fixpoint_trees.specs.declared.player.Player.{Player}
 use Rattle.pb_fixpoint_trees.specs.declared.player.Player.TheVariants.{Even}
 use Rattle.pb_game.specs.Adjacency.{row, greatest_of}
-use Rattle.pb_base_limits.specs.declared.TheConstants.{MAX_VERTICES, MAX_PRIORITIES}
+use Rattle.pb_base.specs.declared.limits.TheConstants.{MAX_VERTICES, MAX_PRIORITIES}
 
 -- how many vertices there are; they are the numbers below
 unfoldable pub vertex_count : Game → ℕ

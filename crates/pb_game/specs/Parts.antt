@@ -8,7 +8,7 @@ use Rattle.pb_game.specs.declared.parts.GameFault.{GameFault}
 use Rattle.pb_game.specs.declared.parts.GameFault.TheVariants.{TooManyVertices, Priorities, Places, Successors, TooManyPriorities}
 use Rattle.pb_game.specs.Adjacency.{row}
 use Rattle.pb_game.specs.Games.{vertex_count, owner_of, priority_of, successors_of}
-use Rattle.pb_base_limits.specs.declared.TheConstants.{MAX_VERTICES, MAX_PRIORITIES}
+use Rattle.pb_base.specs.declared.limits.TheConstants.{MAX_VERTICES, MAX_PRIORITIES}
 
 -- G01: vertices within their limit
 abbrev pub HasFewVertices : Parts → Type 0

@@ -14,9 +14,9 @@ mod solver;
 
 ghost use Rattle.std.specs.Prelude.{◌≡◌, ℕ, ◌<◌, ◌≤◌, length, slice_index, IfOk, IsTrue};
 ghost use Rattle.std.specs.Prelude.{Contains, ◌↔◌};
-ghost use Rattle.pb_base_errors.specs.OrMemory.{IfRefused};
+ghost use Rattle.pb_base.specs.OrMemory.{IfRefused};
 ghost use Rattle.pb_game.specs.Adjacency.{IsFlatGame};
-ghost use Rattle.pb_base_limits.specs.declared.TheConstants.{MAX_VERTICES};
+ghost use Rattle.pb_base.specs.declared.limits.TheConstants.{MAX_VERTICES};
 
 use adjacency::row_of;
 pub use certificate::{CertificateRule, Flaw, Solution};

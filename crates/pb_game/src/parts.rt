@@ -6,8 +6,7 @@ ghost use Rattle.pb_game.specs.Adjacency.{greatest_of};
 
 use crate::Player;
 use crate::adjacency::row_of;
-use pb_base_errors::{Fault, OrMemory};
-use pb_base_limits::{MAX_PRIORITIES, MAX_VERTICES};
+use pb_base::{Fault, MAX_PRIORITIES, MAX_VERTICES, OrMemory};
 use std::fmt;
 
 /// The parts of a game, by vertex: owners, priorities, and where a vertex's successors

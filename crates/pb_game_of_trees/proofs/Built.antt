@@ -8,7 +8,7 @@ use Rattle.pb_fixpoint_trees.specs.Game.{Vertex, vertex_of, priority_from, row_v
 use Rattle.pb_fixpoint_trees.specs.Laws.{GameIsTotal}
 use Rattle.pb_fixpoint_trees.proofs.Calls.{tree_weaker}
 use Rattle.pb_fixpoint_rows.specs.Row as in_memory
-use Rattle.pb_base_limits.specs.declared.TheConstants.{MAX_VERTICES}
+use Rattle.pb_base.specs.declared.limits.TheConstants.{MAX_VERTICES}
 use Rattle.pb_game_of_trees.specs.Held.{held}
 use Rattle.pb_game_of_trees.specs.declared.levels.Level.{Level}
 use Rattle.pb_game_of_trees.specs.Draft.{MakeGame}

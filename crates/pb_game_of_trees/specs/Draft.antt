@@ -5,7 +5,7 @@ use Rattle.std.specs.List.{flat_map}
 use Rattle.pb_fixpoint_trees.specs.Game.{Vertex}
 use Rattle.pb_fixpoint_trees.specs.Laws.{IsGameVertex}
 use Rattle.pb_fixpoint_trees.specs.declared.player.Player.{Player}
-use Rattle.pb_base_limits.specs.declared.TheConstants.{MAX_VERTICES, MAX_PRIORITIES}
+use Rattle.pb_base.specs.declared.limits.TheConstants.{MAX_VERTICES, MAX_PRIORITIES}
 use Rattle.pb_game.specs.declared.parts.Parts.{Parts}
 use Rattle.pb_game_of_trees.specs.declared.draft.Draft.{Draft}
 

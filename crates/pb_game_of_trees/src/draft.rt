@@ -4,7 +4,7 @@
 ghost use Rattle.std.specs.Prelude.{◌≡◌, ◌∷◌, ◌-◌, ◌≤◌, All, IfOk, OnOk, List, [], map, reverse};
 ghost use Rattle.pb_fixpoint_trees.specs.Game.{Vertex, rising};
 ghost use Rattle.pb_game_of_trees.specs.Draft.{IsDraft, ArePartsOf};
-ghost use Rattle.pb_base_limits.specs.declared.TheConstants.{MAX_VERTICES};
+ghost use Rattle.pb_base.specs.declared.limits.TheConstants.{MAX_VERTICES};
 
 use crate::falling::push_falling;
 use pb_game::{Game, Parts, Player};

@@ -1,6 +1,6 @@
 //! From the reached instances of a module to their game.
 ghost use Rattle.std.specs.Prelude.{ℕ, IfOk, map};
-ghost use Rattle.pb_base_errors.specs.OrMemory.{OnRefused};
+ghost use Rattle.pb_base.specs.OrMemory.{OnRefused};
 ghost use Rattle.pb_fixpoint_trees.specs.Tree.{Tree};
 ghost use Rattle.pb_fixpoint_rows.specs.Reached.{AreRowsOf};
 ghost use Rattle.pb_bytecode.specs.Meaning.{signature_of, initial_of};

@@ -3,10 +3,10 @@ ghost use Rattle.std.specs.Prelude.{◌≡◌, ◌≤◌, ◌<◌, IfOk, IfSome,
 ghost use Rattle.pb_fixpoint_trees.specs.Rows.{Row as plain_row};
 ghost use Rattle.pb_game_of_trees.specs.Held.{Hold};
 ghost use Rattle.pb_game_of_trees.specs.Places.{vertex_behind, vertices_from};
-ghost use Rattle.pb_base_limits.specs.declared.TheConstants.{MAX_VERTICES};
+ghost use Rattle.pb_base.specs.declared.limits.TheConstants.{MAX_VERTICES};
 
 use crate::size::{Size, inner_brackets};
-use pb_base_limits::MAX_VERTICES;
+use pb_base::MAX_VERTICES;
 use pb_fixpoint_rows::IndexedRows;
 use std::alloc::{AllocError, Global};
 

@@ -7,7 +7,7 @@ ghost use Rattle.pb_game_of_trees.specs.Draft.{IsDraft};
 ghost use Rattle.pb_game_of_trees.specs.Levels.{priority_in, AreOrdered};
 ghost use Rattle.pb_game_of_trees.specs.Numbering.{table_of};
 ghost use Rattle.pb_game_of_trees.specs.Places.{vertex_behind, CallBelow};
-ghost use Rattle.pb_base_limits.specs.declared.TheConstants.{MAX_VERTICES};
+ghost use Rattle.pb_base.specs.declared.limits.TheConstants.{MAX_VERTICES};
 
 use crate::builder::Builder;
 use crate::draft::Draft;

@@ -5,7 +5,7 @@ ghost use Rattle.pb_bytecode.specs.Meaning.{signature_of};
 ghost use Rattle.pb_game_of_trees.specs.Equations.{equations_of};
 
 use crate::Signature;
-use pb_base_limits::{MAX_EQUATIONS, MAX_INSTANCES};
+use pb_base::{MAX_EQUATIONS, MAX_INSTANCES};
 use pb_verifier::Verified;
 use std::alloc::{AllocError, Global};
 

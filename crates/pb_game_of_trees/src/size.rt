@@ -6,9 +6,9 @@ ghost use Rattle.pb_fixpoint_trees.specs.Tokens.{tree_tokens};
 ghost use Rattle.pb_fixpoint_trees.specs.Game.{inner};
 ghost use Rattle.pb_game_of_trees.specs.Held.{Hold};
 ghost use Rattle.pb_game_of_trees.specs.Places.{vertex_behind, is_closing};
-ghost use Rattle.pb_base_limits.specs.declared.TheConstants.{MAX_VERTICES};
+ghost use Rattle.pb_base.specs.declared.limits.TheConstants.{MAX_VERTICES};
 
-use pb_base_limits::MAX_VERTICES;
+use pb_base::MAX_VERTICES;
 use pb_fixpoint_rows::IndexedRows;
 use pb_fixpoint_trees::Token;
 use pb_game::Game;

@@ -1,6 +1,6 @@
 //! The game of a system's reached instances.
 ghost use Rattle.std.specs.Prelude.{◌≡◌, ◌≤◌, ◌<◌, vec_len};
-ghost use Rattle.pb_base_limits.specs.declared.TheConstants.{MAX_VERTICES};
+ghost use Rattle.pb_base.specs.declared.limits.TheConstants.{MAX_VERTICES};
 ghost use Rattle.pb_game.specs.Games.{vertex_count};
 
 use crate::finished::game_of;
@@ -10,7 +10,7 @@ use crate::places::{Laid, lay_rows};
 use crate::row_loop::draft_of;
 use crate::signature::Signature;
 use crate::size::size_of;
-use pb_base_errors::{Fault, OrMemory};
+use pb_base::{Fault, OrMemory};
 use pb_fixpoint_rows::IndexedRows;
 use pb_game::Game;
 use std::alloc::{AllocError, Global};

@@ -5,7 +5,7 @@
 
 ghost use Rattle.pb_lifting.specs.Scales.{AreCountsOf};
 
-use pb_base_limits::MAX_PRIORITIES;
+use pb_base::MAX_PRIORITIES;
 use pb_game::Game;
 
 /// How many vertices have each priority.

@@ -1,6 +1,6 @@
 //! Why there is no lifting.
 
-use pb_base_errors::{Fault, OrMemory};
+use pb_base::{Fault, OrMemory};
 use std::fmt;
 
 /// `K06`: a player has more ranks, top counted, than 2^64 - 1, so that a word is too small.

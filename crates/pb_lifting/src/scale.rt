@@ -8,10 +8,10 @@ ghost use Rattle.pb_lifting.specs.Radix.{step_up, better};
 ghost use Rattle.pb_lifting.specs.Measures.{top_of, asked, counts_of};
 ghost use Rattle.pb_lifting.specs.Measures.{HasTooManyRanks, SomeHasTooManyRanks};
 ghost use Rattle.pb_lifting.specs.Scales.{AreCountsOf, IsScaleOf, AreScalesOf};
-ghost use Rattle.pb_base_limits.specs.declared.TheConstants.{MAX_PRIORITIES};
+ghost use Rattle.pb_base.specs.declared.limits.TheConstants.{MAX_PRIORITIES};
 
 use crate::counts::PriorityCounts;
-use pb_base_limits::MAX_PRIORITIES;
+use pb_base::MAX_PRIORITIES;
 use pb_game::{Game, Player};
 
 /// For each priority what one more of its count adds to a rank, and behind the greatest one the

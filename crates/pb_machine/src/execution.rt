@@ -17,7 +17,7 @@ use crate::machine::Machine;
 use crate::registers::Registers;
 use crate::results::{Bounds, truth};
 use arrayvec::ArrayVec;
-use pb_base_limits::{MAX_INSTANCES, MAX_OPERANDS};
+use pb_base::{MAX_INSTANCES, MAX_OPERANDS};
 use pb_bytecode_program::Op;
 use pb_sorts::{Carrier, Layout};
 use std::alloc::AllocError;

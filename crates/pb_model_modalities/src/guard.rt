@@ -8,8 +8,7 @@ ghost use Rattle.pb_model_modalities.specs.Guard.{reversed_chain_form};
 ghost use Rattle.pb_model_modalities.specs.Guard as guards;
 
 use crate::reversed_chain::ReversedChain;
-use pb_text_copies::copy_term;
-use pb_text_tree::{Connective, Formula, Place, Term, TermLink};
+use pb_text_tree::{Connective, Formula, Place, Term, TermLink, copy_term};
 use std::alloc::{AllocError, Global};
 
 /// How a guard is read: the connective between it and the formula behind it, the place at which it

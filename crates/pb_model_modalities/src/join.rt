@@ -7,8 +7,7 @@ ghost use Rattle.pb_model_translation.specs.Placed as placed;
 ghost use Rattle.pb_model_modalities.specs.Modal.{has_none};
 
 use pb_model_tree::Modality;
-use pb_text_copies::copy_variables;
-use pb_text_tree::{Connective, Formula, Link, Place, Quantifier, Variables};
+use pb_text_tree::{Connective, Formula, Link, Place, Quantifier, Variables, copy_variables};
 use std::alloc::{AllocError, Global};
 
 /// The connective between what a modality says of each step.

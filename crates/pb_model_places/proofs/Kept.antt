@@ -4,7 +4,7 @@ use Rattle.std.specs.Prelude.{Contains}
 use Rattle.std.proofs.lemmas.Bool.{and_parts}
 use Rattle.std.proofs.lemmas.Bool.Decides.{Decides-eqb}
 use Rattle.pb_text_tree.specs.declared.place.Place.{Place}
-use Rattle.pb_evidence_calls.specs.Calls.{same_place}
+use Rattle.pb_typing_calls.specs.Calls.{same_place}
 use Rattle.pb_model_runs.specs.Exact.{is_among, are_apart}
 use Rattle.pb_model_runs.specs.Exact as model
 use Rattle.pb_model_runs.proofs.Elements.{both-true, either_of, some_of, of-some}

@@ -12,7 +12,7 @@ use Rattle.pb_text_lexer.specs.Grammar.{State}
 use Rattle.pb_text_lexer.specs.Tokens.{Tok}
 use Rattle.pb_protocol_tree.specs.Form.{StepForm, PropertyForm, ProtocolForm}
 use Rattle.pb_model_text.specs.Grammar.{IsInitialState, IsModel}
-use Rattle.pb_evidence_calls.specs.Calls.{same_place}
+use Rattle.pb_typing_calls.specs.Calls.{same_place}
 use Rattle.pb_text.specs.Parsing.{depth_limit, operator_limit}
 use Rattle.pb_model_runs.proofs.Elements.{both-true, some_of, of-some, in-left, in-right}
 use Rattle.pb_model_runs.specs.Exact.{is_among, are_apart}

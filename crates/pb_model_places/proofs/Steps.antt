@@ -14,7 +14,7 @@ use Rattle.pb_text_formulas.specs.Grammar.{Plain, Enumerator, SortBy, SortDecl, 
 use Rattle.pb_text.specs.Grammar.{Declared}
 use Rattle.pb_protocol_tree.specs.Form.{StepForm}
 use Rattle.pb_model_text.specs.Grammar.{Indexed, StateGroup, StateVariables, IsDefinition, DefinedBy, Definitions, IsAssignment, AssignedBy, Assigned, IsStep, Steps, IsInitialState, IsFormula, IsProperty, Properties}
-use Rattle.pb_evidence_calls.specs.Calls.{same_place}
+use Rattle.pb_typing_calls.specs.Calls.{same_place}
 use Rattle.pb_model_runs.proofs.Elements.{both-true, either_of, some_of, in-left, in-right, in-either}
 use Rattle.pb_model_runs.specs.Exact.{is_among, are_apart}
 use Rattle.pb_model_places.specs.Apart.{formula_places, step_places, property_places}

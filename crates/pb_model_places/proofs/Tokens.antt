@@ -10,7 +10,7 @@ use Rattle.pb_text_lexer.specs.declared.language.Language.{Language}
 use Rattle.pb_text_lexer.specs.Lexing.{CutsIn, none, blank, token, IsCutIn, next_place, past, start}
 use Rattle.pb_text_lexer.specs.Tokens.{Tok, token_at}
 use Rattle.pb_text_lexer.proofs.LanguagePieceLemmas.{token-takes, token-past}
-use Rattle.pb_evidence_calls.specs.Calls.{same_place}
+use Rattle.pb_typing_calls.specs.Calls.{same_place}
 use Rattle.pb_model_runs.proofs.Elements.{both-true, either_of, some_of, any-of, in-left, in-right}
 use Rattle.pb_model_runs.specs.Exact.{is_among, are_apart}
 use Rattle.pb_model_places.proofs.Keeping.{places_of}

@@ -11,7 +11,7 @@ use Rattle.pb_model_meaning.specs.Erase.{erase, erased_step}
 use Rattle.pb_model_meaning.specs.Steps.{is_state}
 use Rattle.pb_model_translation.specs.Apart.{HasNamesApart}
 use Rattle.pb_model_translation.specs.Placed.{placed}
-use Rattle.pb_evidence_calls.specs.MadeCalls.{MadeCall, calls_at}
+use Rattle.pb_typing_calls.specs.MadeCalls.{MadeCall, calls_at}
 use Rattle.pb_model_runs.specs.Runs.{Leads}
 use Rattle.pb_model_runs.specs.Exact as model
 use Rattle.pb_model_runs.specs.Exact.{is_among, are_apart, step_at}

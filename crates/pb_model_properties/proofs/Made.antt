@@ -3,10 +3,10 @@ use Rattle.std.proofs.Common.{◌≡◌, ◌∙◌, Bool, true, false, ℕ, zero
 use Rattle.std.specs.Prelude.{nat_lt, Contains, Result, Ok, Err, IfOk}
 use Rattle.std.specs.List.{slice_get}
 use Rattle.std.proofs.lemmas.List.{length-map}
-use Rattle.pb_base_limits.specs.declared.TheConstants.{MAX_PARAMETERS}
-use Rattle.pb_base_errors.specs.OrMemory.{IfFault, IfRefused, raised}
-use Rattle.pb_base_errors.specs.declared.or_memory.OrMemory.{OrMemory}
-use Rattle.pb_base_errors.specs.declared.or_memory.OrMemory.TheVariants.{Refused, Memory}
+use Rattle.pb_base.specs.declared.limits.TheConstants.{MAX_PARAMETERS}
+use Rattle.pb_base.specs.OrMemory.{IfFault, IfRefused, raised}
+use Rattle.pb_base.specs.declared.or_memory.OrMemory.{OrMemory}
+use Rattle.pb_base.specs.declared.or_memory.OrMemory.TheVariants.{Refused, Memory}
 use Rattle.pb_text_tree.specs.declared.place.Place.{Place}
 use Rattle.pb_text.specs.declared.error.TextFault.{TextFault}
 use Rattle.pb_typing_declarations.specs.declared.fault.TypingFault.{TypingFault}

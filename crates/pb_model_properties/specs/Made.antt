@@ -1,6 +1,6 @@
 -- Which model is solved in a protocol's place.
 use Rattle.std.specs.Prelude.{◌≡◌, ◌⊎◌, nat_lt, Bool, true, false, length}
-use Rattle.pb_base_limits.specs.declared.TheConstants.{MAX_PARAMETERS}
+use Rattle.pb_base.specs.declared.limits.TheConstants.{MAX_PARAMETERS}
 use Rattle.pb_model_tree.specs.Form.{ModelForm}
 use Rattle.pb_model_meaning.specs.Erase as model_text
 use Rattle.pb_model_meaning.specs.Steps.{State}

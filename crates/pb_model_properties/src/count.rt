@@ -1,11 +1,11 @@
 //! Whether a model has more variables than a text has parameters, so that it is packed.
 
 ghost use Rattle.std.specs.Prelude.{◌≡◌, nat_lt, flat_map, length, map, sum, vec_len, IfOk};
-ghost use Rattle.pb_base_limits.specs.declared.TheConstants.{MAX_PARAMETERS};
+ghost use Rattle.pb_base.specs.declared.limits.TheConstants.{MAX_PARAMETERS};
 ghost use Rattle.pb_text_tree.specs.Form.{variable_forms};
 ghost use Rattle.pb_protocol_tree.specs.Form.{state_variables_form};
 
-use pb_base_limits::MAX_PARAMETERS;
+use pb_base::MAX_PARAMETERS;
 use pb_protocol_tree::StateVariables;
 use pb_text_tree::Variables;
 use std::alloc::{AllocError, Global};

@@ -2,7 +2,7 @@
 //! a text has parameters.
 
 ghost use Rattle.std.specs.Prelude.{◌≡◌, true, false, IfOk};
-ghost use Rattle.pb_base_errors.specs.OrMemory.{IfRefused};
+ghost use Rattle.pb_base.specs.OrMemory.{IfRefused};
 ghost use Rattle.pb_model_tree.specs.Form.{model_form};
 ghost use Rattle.pb_model_properties.specs.Made.{has_many_variables};
 ghost use Rattle.pb_model_properties.specs.Refusals.{IsRefusedFlat};

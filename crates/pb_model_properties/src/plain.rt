@@ -1,8 +1,8 @@
 //! The model of a plain protocol.
 
 ghost use Rattle.std.specs.Prelude.{◌≡◌, nat_lt, true, false, length, IfOk};
-ghost use Rattle.pb_base_limits.specs.declared.TheConstants.{MAX_PARAMETERS};
-ghost use Rattle.pb_base_errors.specs.OrMemory.{IfRefused};
+ghost use Rattle.pb_base.specs.declared.limits.TheConstants.{MAX_PARAMETERS};
+ghost use Rattle.pb_base.specs.OrMemory.{IfRefused};
 ghost use Rattle.pb_model_tree.specs.Form.{model_form};
 ghost use Rattle.pb_protocol_tree.specs.Form.{protocol_form};
 ghost use Rattle.pb_protocol_unfolder.specs.Plain.{is_plain};

@@ -3,7 +3,7 @@
 
 ghost use Rattle.std.specs.Prelude.{◌≡◌, ◌<◌, length, map, string_bytes, IfOk, Some};
 ghost use Rattle.std.specs.List.{slice_get};
-ghost use Rattle.pb_base_errors.specs.OrMemory.{IfRefused};
+ghost use Rattle.pb_base.specs.OrMemory.{IfRefused};
 ghost use Rattle.pb_text_tree.specs.Form.{spec_form};
 ghost use Rattle.pb_model_tree.specs.Form.{StepForm, model_form, step_form};
 ghost use Rattle.pb_model_words.specs.Vocabulary.{called_steps, told_step};

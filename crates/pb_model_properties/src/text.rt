@@ -1,12 +1,12 @@
 //! The texts of a model's properties.
 
-ghost use Rattle.pb_base_limits.specs.declared.TheConstants.{MAX_INPUT_BYTES};
+ghost use Rattle.pb_base.specs.declared.limits.TheConstants.{MAX_INPUT_BYTES};
 ghost use Rattle.std.specs.Prelude.{◌≡◌, ◌<◌, ◌≤◌, ◌++◌, length, IfOk, IsSome};
 ghost use Rattle.std.specs.Prelude.{Err, Some, option_copied};
 ghost use Rattle.std.specs.List.{slice_get};
-ghost use Rattle.pb_base_errors.specs.declared.or_memory.OrMemory.TheVariants.{Refused};
+ghost use Rattle.pb_base.specs.declared.or_memory.OrMemory.TheVariants.{Refused};
 ghost use Rattle.pb_model_properties.specs.declared.error.ModelFault.TheVariants.{NoProperty};
-ghost use Rattle.pb_base_errors.specs.OrMemory.{IfRefused};
+ghost use Rattle.pb_base.specs.OrMemory.{IfRefused};
 ghost use Rattle.pb_text_tree.specs.Form.{spec_form};
 ghost use Rattle.pb_text_printer.specs.Comments.{comment_bytes};
 ghost use Rattle.pb_text_printer.specs.Words.{text_bytes};

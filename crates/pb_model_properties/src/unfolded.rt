@@ -1,7 +1,7 @@
 //! The model to which a protocol is unfolded.
 
 ghost use Rattle.std.specs.Prelude.{◌≡◌, false, IfOk};
-ghost use Rattle.pb_base_errors.specs.OrMemory.{IfRefused};
+ghost use Rattle.pb_base.specs.OrMemory.{IfRefused};
 ghost use Rattle.pb_protocol_tree.specs.Form.{protocol_form};
 ghost use Rattle.pb_protocol_unfolder.specs.Plain.{is_plain};
 ghost use Rattle.pb_model_properties.specs.Flat.{IsUnfoldedTo};

@@ -7,8 +7,8 @@ use Rattle.pb_text_tree.specs.declared.place.Place.{Place}
 use Rattle.pb_model_tree.specs.Form.{FormulaForm, StepForm, ModelForm}
 use Rattle.pb_model_meaning.specs.Erase.{erase, erased_step}
 use Rattle.pb_model_meaning.specs.Steps.{State}
-use Rattle.pb_evidence_calls.specs.Calls.{same_place}
-use Rattle.pb_evidence_calls.specs.MadeCalls.{MadeCall}
+use Rattle.pb_typing_calls.specs.Calls.{same_place}
+use Rattle.pb_typing_calls.specs.MadeCalls.{MadeCall}
 use Rattle.pb_model_runs.specs.Runs.{Leads}
 use Rattle.pb_model_runs.specs.Exact.{step_at, formula_places, step_places, is_among, are_apart, stand_apart}
 use Rattle.pb_model_runs.specs.Shown.{IsMoveCall}

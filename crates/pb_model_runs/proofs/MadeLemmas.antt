@@ -20,9 +20,9 @@ use Rattle.pb_text_meaning.specs.Meaning.{assigned}
 use Rattle.pb_model_tree.specs.declared.formula.Modality.{Modality}
 use Rattle.pb_model_tree.specs.declared.formula.Modality.TheVariants.{Box, Diamond}
 use Rattle.pb_model_translation.specs.Placed.{guarding, behind_form}
-use Rattle.pb_evidence_calls.specs.Calls.{decides}
-use Rattle.pb_evidence_calls.specs.MadeCalls.{MadeCall, has_no_call, with_value, for_values, made_calls}
-use Rattle.pb_evidence_calls.specs.declared.side.Side.TheVariants.{Left}
+use Rattle.pb_typing_calls.specs.Calls.{decides}
+use Rattle.pb_typing_calls.specs.MadeCalls.{MadeCall, has_no_call, with_value, for_values, made_calls}
+use Rattle.pb_typing_calls.specs.declared.side.Side.TheVariants.{Left}
 
 -- ---- lists
 

@@ -3,7 +3,7 @@ use Rattle.std.proofs.Common.{◌≡◌, true, ◌==◌, sym, ap, ◌∙◌}
 use Rattle.std.proofs.lemmas.Bool.{and_parts}
 use Rattle.std.proofs.lemmas.Bool.Decides.{Decides-eqb}
 use Rattle.pb_text_tree.specs.declared.place.Place.{Place}
-use Rattle.pb_evidence_calls.specs.Calls.{same_place}
+use Rattle.pb_typing_calls.specs.Calls.{same_place}
 use Rattle.pb_model_runs.proofs.Elements.{both-true}
 
 pub same-self : (p q : Place) → p ≡ q → same_place p q ≡ true

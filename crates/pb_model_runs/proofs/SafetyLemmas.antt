@@ -8,7 +8,7 @@ use Rattle.pb_model_meaning.specs.Steps.{State, has_step}
 use Rattle.pb_model_meaning.specs.Satisfaction.{no_sets, satisfying}
 use Rattle.pb_model_runs.specs.Runs.{Move, last_state}
 use Rattle.pb_sorts.specs.Instance.{Instance}
-use Rattle.pb_evidence_calls.specs.MadeCalls.{MadeCall}
+use Rattle.pb_typing_calls.specs.MadeCalls.{MadeCall}
 use Rattle.pb_model_runs.specs.Shown.{AreSpokenOf, Follows, last_values}
 use Rattle.pb_model_runs.specs.Always.{AreBy, IsViolated}
 use Rattle.pb_model_runs.specs.Safety.{Safety, safety_form, LinesRefute}

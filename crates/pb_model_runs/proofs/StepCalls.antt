@@ -28,9 +28,9 @@ use Rattle.pb_model_translation.specs.Apart.{AreNew, HasNamesApart, StepsAreNew}
 use Rattle.pb_model_translation.specs.Placed.{joining, guarding, quantifier_of, joined_forms, over_form, behind_form, steps_of_set, next_forms, call_form, step_text, placed_step, right_form}
 use Rattle.pb_model_translation.proofs.Data.{other, value-same, carriers-same, Assigns, assigned-assigns, assigns-under, next_terms-values, state_after-none}
 use Rattle.pb_model_translation.proofs.PlacedLemmas.{next-said}
-use Rattle.pb_evidence_calls.specs.Calls.{decides, same_place}
-use Rattle.pb_evidence_calls.specs.declared.side.Side.TheVariants.{Left}
-use Rattle.pb_evidence_calls.specs.MadeCalls.{MadeCall, has_no_call, decides_alone, for_values, made_calls}
+use Rattle.pb_typing_calls.specs.Calls.{decides, same_place}
+use Rattle.pb_typing_calls.specs.declared.side.Side.TheVariants.{Left}
+use Rattle.pb_typing_calls.specs.MadeCalls.{MadeCall, has_no_call, decides_alone, for_values, made_calls}
 use Rattle.pb_model_runs.specs.Runs.{Leads}
 use Rattle.pb_model_runs.specs.Exact.{formula_places, is_among, speaks_of}
 use Rattle.pb_model_runs.specs.Shown.{IsStepCall, IsMoveCall}

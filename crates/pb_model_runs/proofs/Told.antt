@@ -20,8 +20,8 @@ use Rattle.pb_model_meaning.specs.Steps.{State, has_step, is_state, successors_b
 use Rattle.pb_model_translation.specs.Translation.{Numbered, FixpointScope, has_equation, is_fixpoint, next_if, equation_count}
 use Rattle.pb_model_translation.specs.Names.{names_of}
 use Rattle.pb_model_translation.specs.Placed.{placed, every_step_form, joined_forms, placed_step, right_form, equation_at, with_equation_form, equation_forms, all_equation_forms}
-use Rattle.pb_evidence_calls.specs.Calls.{same_place}
-use Rattle.pb_evidence_calls.specs.MadeCalls.{MadeCall, made_calls, equation_calls}
+use Rattle.pb_typing_calls.specs.Calls.{same_place}
+use Rattle.pb_typing_calls.specs.MadeCalls.{MadeCall, made_calls, equation_calls}
 use Rattle.pb_model_runs.specs.Runs.{Move, IsMove, IsRun}
 use Rattle.pb_model_runs.specs.Exact.{formula_places, is_among, speaks_of}
 use Rattle.pb_model_runs.specs.Shown.{IsMoveCall, AreStates, AreSpokenOf, Follows}

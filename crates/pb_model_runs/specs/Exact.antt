@@ -7,7 +7,7 @@ use Rattle.pb_text_meaning.specs.Syntax.{Name}
 use Rattle.pb_model_tree.specs.Form.{FormulaForm, StepForm, ModelForm}
 use Rattle.pb_model_meaning.specs.Erase.{erased_steps}
 use Rattle.pb_model_meaning.specs.Steps.{has_step}
-use Rattle.pb_evidence_calls.specs.Calls.{same_place}
+use Rattle.pb_typing_calls.specs.Calls.{same_place}
 
 -- whether a modality of the formula speaks of the step of a name
 abbrev pub speaks_of : FormulaForm → Name → Bool

@@ -8,7 +8,7 @@ use Rattle.pb_text_tree.specs.declared.operator.Arithmetic.TheVariants.{Plus}
 use Rattle.pb_text_tree.specs.Form.{Named, VariableForm, TermForm, argument, no_arguments}
 use Rattle.pb_model_tree.specs.Form.{StepForm, ModelForm}
 use Rattle.pb_model_translation.specs.Placed.{every_step_form, placed}
-use Rattle.pb_evidence_calls.specs.MadeCalls.{MadeCall, calls_at}
+use Rattle.pb_typing_calls.specs.MadeCalls.{MadeCall, calls_at}
 use Rattle.pb_model_runs.specs.Runs.{Move}
 
 abbrev pub waiting : List Move

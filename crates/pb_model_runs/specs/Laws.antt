@@ -8,7 +8,7 @@ use Rattle.pb_model_meaning.specs.Erase.{erase, erased_step}
 use Rattle.pb_model_meaning.specs.Steps.{State, is_state, successors}
 use Rattle.pb_model_translation.specs.Apart.{HasNamesApart}
 use Rattle.pb_model_translation.specs.Placed.{every_step_form, placed}
-use Rattle.pb_evidence_calls.specs.MadeCalls.{MadeCall, calls_at}
+use Rattle.pb_typing_calls.specs.MadeCalls.{MadeCall, calls_at}
 use Rattle.pb_model_runs.specs.Runs.{IsRun, Leads, Move}
 use Rattle.pb_model_runs.specs.Exact.{stand_apart, step_at}
 use Rattle.pb_model_runs.specs.Shown.{AreMade, AreSpokenOf, AreStates, Follows, IsMoveCall}

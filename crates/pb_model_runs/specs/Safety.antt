@@ -13,7 +13,7 @@ use Rattle.pb_model_meaning.specs.Erase.{erase, erased_formula}
 use Rattle.pb_model_meaning.specs.Satisfaction.{no_sets, satisfying}
 use Rattle.pb_model_translation.specs.Apart.{HasNamesApart}
 use Rattle.pb_model_translation.specs.Placed.{placed}
-use Rattle.pb_evidence_calls.specs.MadeCalls.{MadeCall}
+use Rattle.pb_typing_calls.specs.MadeCalls.{MadeCall}
 use Rattle.pb_model_runs.specs.Shown.{AreMade, AreStates, last_values}
 
 -- nu X . d && [A] X, at places

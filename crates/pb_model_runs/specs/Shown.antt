@@ -7,8 +7,8 @@ use Rattle.pb_sorts.specs.Instance.{Instance}
 use Rattle.pb_model_tree.specs.Form.{FormulaForm, StepForm, ModelForm}
 use Rattle.pb_model_meaning.specs.Erase.{erase, erased_step}
 use Rattle.pb_model_meaning.specs.Steps.{State, is_state}
-use Rattle.pb_evidence_calls.specs.Calls.{same_place}
-use Rattle.pb_evidence_calls.specs.MadeCalls.{MadeCall, calls_at}
+use Rattle.pb_typing_calls.specs.Calls.{same_place}
+use Rattle.pb_typing_calls.specs.MadeCalls.{MadeCall, calls_at}
 use Rattle.pb_model_runs.specs.Runs.{Leads, Move}
 use Rattle.pb_model_runs.specs.Exact.{formula_places, is_among, speaks_of}
 

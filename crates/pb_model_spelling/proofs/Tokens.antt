@@ -1,6 +1,6 @@
 -- The tokens of a model have names that are names of the grammar, and numbers within their limit.
 use Rattle.std.proofs.Common.{◌≡◌, ◌∙◌, ℕ, zero, suc, ◌+◌, true, List, [], ◌∷◌, ◌++◌, length, take, sym, subst}
-use Rattle.pb_base_names.specs.Names.{is_spelled}
+use Rattle.pb_base.specs.Names.{is_spelled}
 use Rattle.pb_text_tree.specs.declared.place.Place.{Place}
 use Rattle.pb_text_tree.specs.Form.{RangeForm}
 use Rattle.pb_text_lexer.specs.declared.kind.Kind.{Kind}

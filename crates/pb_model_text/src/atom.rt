@@ -1,7 +1,7 @@
 //! Reads data in formulas, and the variables of fixpoints.
 
 ghost use Rattle.std.specs.Prelude.{◌≡◌, ◌<◌, ◌≤◌, true, false, length, Ok, OnOk, MatchResult};
-ghost use Rattle.pb_base_names.specs.Names.{is_spelled};
+ghost use Rattle.pb_base.specs.Names.{is_spelled};
 ghost use Rattle.pb_text_tree.specs.Form.{term_form, argument_forms, instance_form, named};
 ghost use Rattle.pb_text_lexer.specs.Grammar.{State};
 ghost use Rattle.pb_text_lexer.specs.Kinds.{is_last};

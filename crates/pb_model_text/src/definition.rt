@@ -7,7 +7,7 @@ ghost use Rattle.pb_text.specs.Parsing.{depth_limit};
 ghost use Rattle.pb_protocol_tree.specs.Form.{definition_form};
 ghost use Rattle.pb_model_text.specs.Reading as reading;
 
-use pb_base_limits::MAX_DEPTH;
+use pb_base::MAX_DEPTH;
 use pb_protocol_tree::Definition;
 use pb_text::system::parameters;
 use pb_text_lexer::fault::{ReadingError, ReadingRule};

@@ -12,7 +12,7 @@ use crate::formula::formula;
 use crate::scope::Scope;
 use crate::state::state_variables;
 use crate::step::steps;
-use pb_base_limits::MAX_DEPTH;
+use pb_base::MAX_DEPTH;
 use pb_model_tree::InitialState;
 use pb_protocol_tree::{Property, Protocol};
 use pb_text_formulas::sort::sort_parts;

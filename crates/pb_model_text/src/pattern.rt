@@ -1,7 +1,7 @@
 //! Makes the formulas that words stand for. What a word inserts stands at its place.
 
 ghost use Rattle.std.specs.Prelude.{◌≡◌, ◌≤◌, true, length, map, IfOk, OnOk};
-ghost use Rattle.pb_base_names.specs.Names.{is_spelled};
+ghost use Rattle.pb_base.specs.Names.{is_spelled};
 ghost use Rattle.pb_text_tree.specs.Form.{named};
 ghost use Rattle.pb_text_lexer.specs.Steps as spec;
 ghost use Rattle.pb_text_lexer.specs.Steps.{Gives};

@@ -1,15 +1,14 @@
 //! From bytes to a syntax tree.
 
-ghost use Rattle.pb_base_limits.specs.declared.TheConstants.{MAX_INPUT_BYTES};
+ghost use Rattle.pb_base.specs.declared.limits.TheConstants.{MAX_INPUT_BYTES};
 ghost use Rattle.std.specs.Prelude.{◌≡◌, ◌≤◌, ℕ, length, IfOk};
-ghost use Rattle.pb_base_errors.specs.OrMemory.{IfRefused, OnRefused};
+ghost use Rattle.pb_base.specs.OrMemory.{IfRefused, OnRefused};
 ghost use Rattle.pb_protocol_tree.specs.Form.{ProtocolForm, protocol_form};
 ghost use Rattle.pb_model_text.specs.Parsing.{IsModelReading, IsModelReadingWithin, NoModelReading};
 ghost use Rattle.pb_model_text.specs.Parsing.{IsFirstModelFault};
 
 use crate::model::whole;
-use pb_base_errors::OrMemory;
-use pb_base_limits::MAX_OPERATORS;
+use pb_base::{MAX_OPERATORS, OrMemory};
 use pb_protocol_tree::Protocol;
 use pb_text::error::TextError;
 use pb_text_lexer::input::Input;

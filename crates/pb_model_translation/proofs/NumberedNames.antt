@@ -5,7 +5,7 @@ use Rattle.std.specs.Fmt.{digits, digits_onto, digit_glyph}
 use Rattle.std.specs.List.{list_all, list_any}
 use Rattle.std.proofs.lemmas.Bool.{and_from, and_parts}
 use Rattle.std.proofs.lemmas.List.Folds.{list_all-append}
-use Rattle.pb_base_names.specs.Names.{is_letter, is_name_byte, is_spelled}
+use Rattle.pb_base.specs.Names.{is_letter, is_name_byte, is_spelled}
 use Rattle.pb_text_meaning.specs.Syntax.{Name, same_name}
 use Rattle.pb_model_translation.specs.Names.{numbered, primes, longest, first_numbered, with_room, new_name}
 

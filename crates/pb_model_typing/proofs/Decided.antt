@@ -24,9 +24,9 @@ use Rattle.pb_model_translation.specs.Placed.{placed, every_step_form}
 use Rattle.pb_model_translation.proofs.Answer.{translations_have_the_answer}
 use Rattle.pb_model_translation.proofs.PlacedLemmas.{placed-translated}
 use Rattle.pb_typing_declarations.specs.declared.fault.TypingFault.{TypingFault}
-use Rattle.pb_base_errors.specs.OrMemory.{IfFault, raised}
-use Rattle.pb_base_errors.specs.declared.or_memory.OrMemory.{OrMemory}
-use Rattle.pb_base_errors.proofs.Faults.{if_fault, if_raised}
+use Rattle.pb_base.specs.OrMemory.{IfFault, raised}
+use Rattle.pb_base.specs.declared.or_memory.OrMemory.{OrMemory}
+use Rattle.pb_base.proofs.Faults.{if_fault, if_raised}
 use Rattle.pb_model_typing.specs.Data.{fault_in_model}
 use Rattle.pb_model_typing.specs.Faults.{model_faults}
 use Rattle.pb_model_typing.specs.Laws.{FormulasAreDecided}

@@ -4,7 +4,7 @@
 
 ghost use Rattle.std.specs.Prelude.{◌≡◌};
 ghost use Rattle.std.specs.List.{list_any};
-ghost use Rattle.pb_base_errors.specs.OrMemory.{raised};
+ghost use Rattle.pb_base.specs.OrMemory.{raised};
 ghost use Rattle.pb_text_tree.specs.Form.{argument_forms, named, term_form};
 ghost use Rattle.pb_model_tree.specs.Form.{formula_form, model_form};
 ghost use Rattle.pb_model_typing.specs.Data.{arguments_name_fixpoint, formula_names_fixpoint};
@@ -15,7 +15,7 @@ ghost use Rattle.pb_model_typing.specs.Data.{fault_in_model};
 ghost use Rattle.pb_model_typing.specs.View.{bound_names};
 
 use crate::bound::{Bound, is_bound};
-use pb_base_errors::OrMemory;
+use pb_base::OrMemory;
 use pb_model_tree::{Formula, Link, Model};
 use pb_text_tree::{Argument, ArithmeticLink, Name, Place, Term, TermLink};
 use pb_typing_declarations::{TypeError, TypingFault, TypingRule};

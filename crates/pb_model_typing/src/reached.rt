@@ -3,7 +3,7 @@
 
 ghost use Rattle.std.specs.Prelude.{◌≡◌, ◌<◌, length, IfOk, OnOk, Some};
 ghost use Rattle.std.specs.List.{slice_get};
-ghost use Rattle.pb_base_errors.specs.OrMemory.{IfRefused, OnRefused};
+ghost use Rattle.pb_base.specs.OrMemory.{IfRefused, OnRefused};
 ghost use Rattle.pb_text_tree.specs.Form.{named, spec_form};
 ghost use Rattle.pb_text_meaning.specs.Erase.{erase};
 ghost use Rattle.pb_text_meaning.specs.Meaning.{answer};

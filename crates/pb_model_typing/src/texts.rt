@@ -1,7 +1,7 @@
 //! The rules of the texts to which formulas of a model are translated.
 
 ghost use Rattle.std.specs.Prelude.{◌≡◌, IfOk, OnOk};
-ghost use Rattle.pb_base_errors.specs.OrMemory.{IfRefused, OnRefused};
+ghost use Rattle.pb_base.specs.OrMemory.{IfRefused, OnRefused};
 ghost use Rattle.pb_text_tree.specs.Form.{spec_form};
 ghost use Rattle.pb_model_tree.specs.Form.{formula_form, model_form};
 ghost use Rattle.pb_model_meaning.specs.Erase.{model_of};

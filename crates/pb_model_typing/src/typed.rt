@@ -2,7 +2,7 @@
 
 ghost use Rattle.std.specs.Prelude.{◌≡◌, ◌<◌, length, IfErr, IfOk, MatchResult, OnOk, Some};
 ghost use Rattle.std.specs.List.{slice_get};
-ghost use Rattle.pb_base_errors.specs.OrMemory.{IfFault, IfRefused, OnRefused};
+ghost use Rattle.pb_base.specs.OrMemory.{IfFault, IfRefused, OnRefused};
 ghost use Rattle.pb_text_tree.specs.Form.{spec_form};
 ghost use Rattle.pb_text_meaning.specs.Erase.{erase};
 ghost use Rattle.pb_text_meaning.specs.Meaning.{answer};

@@ -1,5 +1,5 @@
--- What each word stands for: a formula of a pattern of `pb_model_run_laws` or `pb_model_runs`, over all
--- steps or those that stand with it, in the model that a protocol is written out as.
+-- What each word stands for: a formula of a pattern of `pb_model_run_laws` or `pb_model_runs`, over
+-- all steps or those that stand with it, in the model that a protocol is written out as.
 use Rattle.std.specs.Prelude.{◌≡◌, List, map, codes}
 use Rattle.pb_text_tree.specs.declared.place.Place.{Place}
 use Rattle.pb_model_meaning.specs.Syntax.{StepSet, Formula}

@@ -4,8 +4,8 @@ use Rattle.std.specs.Prelude.{nat_lt, nat_le}
 use Rattle.std.specs.List.{All}
 use Rattle.std.proofs.lemmas.Int.{ints}
 use Rattle.std.proofs.lemmas.Bool.{and_from, and_parts, le-leb, lt-ltb}
-use Rattle.pb_base_intervals.specs.Interval.{is_included, singleton, literals}
-use Rattle.pb_base_intervals.proofs.Ends.{le_true}
+use Rattle.pb_base_values.specs.Interval.{is_included, singleton, literals}
+use Rattle.pb_base_values.proofs.Ends.{le_true}
 use Rattle.pb_text_tree.specs.declared.operator.Quantifier.{Quantifier}
 use Rattle.pb_text_meaning.specs.Syntax as syntax
 use Rattle.pb_text_meaning.specs.Syntax.{Name, same_name, Variable, Operator, Terms, Equation, Spec}

@@ -2,7 +2,7 @@
 use Rattle.std.proofs.Common.{◌≡◌, ℕ, zero, suc, ◌+◌, ◌<◌, ◌≤◌, Bool, true, false, cond, List, [], ◌∷◌, ◌++◌, length, Option, Some, None, refl, sym, ap, ◌∙◌, subst, arith, true≢false}
 use Rattle.std.specs.Prelude.{◌≤ℤ◌, slice_get, codes, All, nat_lt, unwrap_or}
 use Rattle.std.proofs.lemmas.Bool.{lt-ltb}
-use Rattle.pb_base_limits.specs.declared.TheConstants.{MAX_ENUMERATORS}
+use Rattle.pb_base.specs.declared.limits.TheConstants.{MAX_ENUMERATORS}
 use Rattle.pb_text_meaning.specs.Syntax.{Name, same_name, Variable, Enumerator, Sort, Struct, Alias, SortDeclaration, Range, Equation, Spec, Formula}
 use Rattle.pb_typing_declarations.specs.Shapes.{Shape, Definition, Structure, Renaming, definition_of, definitions_from, number_behind, first, Bounds, range_bounds, End, Shaped, Unranged, Undeclared, Endless, end_by, end_within, end_of, end_shape, sort_shape, built_in_integers, definitions}
 use Rattle.pb_typing_declarations.specs.Enumerators.{Position, positioned, enumerators_from, enumerators_in, all_enumerators, recogniser_entry, recognisers_from, recognisers_in, all_recognisers, enumerator_of, recogniser_of}

@@ -2,7 +2,7 @@
 -- enumerators.
 use Rattle.std.specs.Prelude.{◌≡◌, ◌≤◌, ℕ, ◌+◌, ◌^◌, nat_le, nat_lt, Bool, true, ◌&&◌, List, length}
 use Rattle.std.specs.List.{All, list_all}
-use Rattle.pb_base_limits.specs.declared.TheConstants.{MAX_LOOP_SLOTS}
+use Rattle.pb_base.specs.declared.limits.TheConstants.{MAX_LOOP_SLOTS}
 use Rattle.pb_text_meaning.specs.Syntax.{Equation, Spec}
 use Rattle.pb_normal.specs.Equations.{normal_equation}
 use Rattle.pb_normal.specs.Loops.{equation_loops}

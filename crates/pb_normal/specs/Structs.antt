@@ -1,7 +1,7 @@
 -- The structs that are declared, by their numbers, and which shapes and enumerators there are.
 use Rattle.std.specs.Prelude.{◌≡◌, ℕ, ◌<◌, ◌≤◌, ◌≤ℤ◌, nat_lt, Bool, ⊤, List, [], ◌∷◌, length, Some, unwrap_or}
 use Rattle.std.specs.List.{All, slice_get}
-use Rattle.pb_base_limits.specs.declared.TheConstants.{MAX_STRUCTS, MAX_ENUMERATORS}
+use Rattle.pb_base.specs.declared.limits.TheConstants.{MAX_STRUCTS, MAX_ENUMERATORS}
 use Rattle.pb_text_meaning.specs.Syntax.{Sort, Struct, Alias, SortDeclaration, Equation, Spec}
 use Rattle.pb_typing_declarations.specs.Shapes.{Shape, Unknown, Truths, Places, Wholes}
 use Rattle.pb_normal.specs.Loops.{equation_loops, variable_shapes}

@@ -6,7 +6,7 @@ ghost use Rattle.pb_protocol_copies.specs.Links.{link_forms};
 
 use crate::step_set::copy_step_set;
 use pb_protocol_tree::{Formula, Link};
-use pb_text_copies::{copy_name, copy_term, copy_variables};
+use pb_text_tree::{copy_name, copy_term, copy_variables};
 use std::alloc::{AllocError, Global};
 
 #[cycle(formulas)]

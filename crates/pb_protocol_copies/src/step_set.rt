@@ -5,8 +5,7 @@ ghost use Rattle.pb_protocol_tree.specs.Form.{step_set_form, step_value_form};
 ghost use Rattle.pb_protocol_copies.specs.Links.{step_set_links};
 
 use pb_protocol_tree::{StepSet, StepSetLink, StepValue};
-use pb_text_copies::{copy_name, copy_term};
-use pb_text_tree::Argument;
+use pb_text_tree::{Argument, copy_name, copy_term};
 use std::alloc::{AllocError, Global};
 
 /// What stands for a step's own variable, copied.

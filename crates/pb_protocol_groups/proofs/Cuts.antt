@@ -7,9 +7,9 @@ use Rattle.std.specs.Prelude.{codes}
 use Rattle.std.proofs.lemmas.Bool.{and_from, lt-ltb, le-leb}
 use Rattle.std.proofs.lemmas.List.{length-map, map-append}
 use Rattle.std.proofs.lemmas.List.Elements.{Contains-push}
-use Rattle.pb_base_limits.specs.declared.TheConstants.{MAX_INSTANCES}
-use Rattle.pb_base_errors.specs.declared.or_memory.OrMemory.{OrMemory}
-use Rattle.pb_base_errors.specs.declared.or_memory.OrMemory.TheVariants.{Refused, Memory}
+use Rattle.pb_base.specs.declared.limits.TheConstants.{MAX_INSTANCES}
+use Rattle.pb_base.specs.declared.or_memory.OrMemory.{OrMemory}
+use Rattle.pb_base.specs.declared.or_memory.OrMemory.TheVariants.{Refused, Memory}
 use Rattle.pb_text_tree.specs.declared.place.Place.{Place}
 use Rattle.pb_typing_declarations.specs.declared.fault.TypingRule.TheVariants.{Limit}
 use Rattle.pb_typing_declarations.specs.declared.fault.TypingFault.{TypingFault}

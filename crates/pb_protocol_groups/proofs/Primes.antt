@@ -3,7 +3,7 @@ use Rattle.std.proofs.Common.{◌≡◌, ℕ, zero, suc, ◌+◌, true, List, []
 use Rattle.std.specs.Prelude.{max}
 use Rattle.std.specs.List.{list_all}
 use Rattle.std.proofs.lemmas.List.{append-nil}
-use Rattle.pb_base_names.specs.Names.{is_spelled, is_name_byte}
+use Rattle.pb_base.specs.Names.{is_spelled, is_name_byte}
 use Rattle.pb_text_meaning.specs.Syntax.{Name}
 use Rattle.pb_model_translation.specs.Names.{primes, longest}
 use Rattle.pb_model_translation.proofs.NumberedNames.{primed-spelled}

@@ -3,7 +3,7 @@ use Rattle.std.proofs.Common.{◌≡◌, ℕ, zero, suc, ◌<◌, ◌≤◌, ◌
 use Rattle.std.specs.Prelude.{nat_lt, nat_le, ◌&&◌}
 use Rattle.std.proofs.Math.Nat.{mul-le-mul_left}
 use Rattle.std.proofs.lemmas.Bool.{and_from, lt-ltb, eq-eqb, lt-leb, leb-false}
-use Rattle.pb_base_limits.specs.declared.TheConstants.{MAX_INSTANCES}
+use Rattle.pb_base.specs.declared.limits.TheConstants.{MAX_INSTANCES}
 use Rattle.pb_protocol_packing.specs.Packing.{Member, capacity}
 use Rattle.pb_protocol_packer.specs.declared.member.Member as declared_member
 use Rattle.pb_protocol_packer.specs.Members.{are_weighted, member_of, members_of}

@@ -12,7 +12,7 @@ ghost use Rattle.pb_protocol_packer.specs.View.{terms_of, variables_in, text_of}
 ghost use Rattle.pb_protocol_groups.specs.Bound.{names_of};
 ghost use Rattle.pb_protocol_groups.specs.Checks.{are_all_apart, has_end, none_among, own_names};
 ghost use Rattle.pb_protocol_groups.specs.Checks.{is_packing_rule, sort_enumerators};
-ghost use Rattle.pb_base_errors.specs.OrMemory.{IfRefused};
+ghost use Rattle.pb_base.specs.OrMemory.{IfRefused};
 ghost use Rattle.pb_typing_declarations.specs.declared.fault.TypingRule.TheVariants.{NameTwice};
 ghost use Rattle.pb_typing_declarations.specs.declared.fault.TypingRule.TheVariants.{UnknownSort};
 ghost use Rattle.pb_typing_declarations.specs.declared.fault.TypingRule.TheVariants.{WrongCount};

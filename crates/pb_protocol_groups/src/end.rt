@@ -22,8 +22,7 @@ ghost use Rattle.pb_protocol_groups.specs.Names.{enumerator_names, enumerators_o
 
 use pb_model_tree::Model;
 use pb_protocol_packer::Kind;
-use pb_text_copies::copy_name;
-use pb_text_tree::{Enumerator, Name, Range, Sort, SortDeclaration};
+use pb_text_tree::{Enumerator, Name, Range, Sort, SortDeclaration, copy_name};
 use std::alloc::{AllocError, Global};
 
 /// What stands at the end of a sort's chain of aliases.

@@ -21,7 +21,7 @@ use crate::state_variables::{StateVariable, state_variables};
 use crate::taken::Taken;
 use pb_model_tree::Model;
 use pb_protocol_packer::{Group, Joined, Variable};
-use pb_text_copies::copy_name;
+use pb_text_tree::copy_name;
 use pb_typing_declarations::{TypeError, TypingFault, TypingRule};
 use std::alloc::{AllocError, Global};
 

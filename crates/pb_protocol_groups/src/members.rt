@@ -1,7 +1,7 @@
 //! The variables of a group of several, and what each of them counts in the group's number.
 
 ghost use Rattle.std.specs.Prelude.{◌≡◌, ◌≤◌, ◌<◌, map, true, false, length, IfOk, MatchOption};
-ghost use Rattle.pb_base_limits.specs.declared.TheConstants.{MAX_INSTANCES};
+ghost use Rattle.pb_base.specs.declared.limits.TheConstants.{MAX_INSTANCES};
 ghost use Rattle.pb_model_meaning.specs.Erase.{model_of};
 ghost use Rattle.pb_protocol_packing.specs.Packing as packing;
 ghost use Rattle.pb_protocol_packer.specs.Members.{are_weighted, member_of, members_of};
@@ -11,10 +11,10 @@ ghost use Rattle.pb_protocol_groups.specs.Variables.{members_for, variable_of};
 
 use crate::end::{End, end_of};
 use crate::state_variables::StateVariable;
-use pb_base_limits::MAX_INSTANCES;
+use pb_base::MAX_INSTANCES;
 use pb_model_tree::Model;
 use pb_protocol_packer::{Member, Variable};
-use pb_text_copies::copy_name;
+use pb_text_tree::copy_name;
 use std::alloc::{AllocError, Global};
 
 /// Variables with what each counts, which have some values together and not too many.

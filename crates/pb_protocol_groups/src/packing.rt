@@ -11,7 +11,7 @@ ghost use Rattle.pb_protocol_packer.specs.Groups.{groups_in};
 ghost use Rattle.pb_protocol_groups.specs.Places.{named_properties, property_places};
 ghost use Rattle.pb_protocol_groups.specs.Checks.{IsPackingFault};
 ghost use Rattle.pb_protocol_groups.specs.Sizes.{size_faults};
-ghost use Rattle.pb_base_errors.specs.OrMemory.{IfRefused};
+ghost use Rattle.pb_base.specs.OrMemory.{IfRefused};
 
 use crate::checks::check_packable;
 use crate::grouping::groups_of;

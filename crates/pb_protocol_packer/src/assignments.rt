@@ -17,8 +17,7 @@ use crate::group::Group;
 use crate::group_number::joined_term;
 use crate::member::Member;
 use pb_model_tree::Assignment;
-use pb_text_copies::{copy_name, copy_term};
-use pb_text_tree::{Argument, Name, Term};
+use pb_text_tree::{Argument, Name, Term, copy_name, copy_term};
 use std::alloc::AllocError;
 
 /// Whether one of the variables gets a term.

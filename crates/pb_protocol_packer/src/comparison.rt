@@ -14,8 +14,7 @@ use crate::enumerators::place_among;
 use crate::member::Kind;
 use crate::scope::{Digit, Hiding, Packing, digit_for};
 use crate::seen::{Written, as_written};
-use pb_text_copies::copy_term;
-use pb_text_tree::{Comparison, Term};
+use pb_text_tree::{Comparison, Term, copy_term};
 use std::alloc::AllocError;
 
 /// The digit that stands for a term, where that is a name.

@@ -12,8 +12,9 @@ ghost use Rattle.pb_protocol_packer.specs.Groups.{group_of, groups_in};
 
 use crate::group::{Group, Joined};
 use crate::member::Variable;
-use pb_text_copies::{copy_declarations, copy_name, copy_ranges};
-use pb_text_tree::{Name, Range, Sort, SortDeclaration, Variables};
+use pb_text_tree::{
+    Name, Range, Sort, SortDeclaration, Variables, copy_declarations, copy_name, copy_ranges,
+};
 use std::alloc::{AllocError, Global};
 
 /// The variable of a group.

@@ -6,8 +6,7 @@ ghost use Rattle.pb_protocol_packing.specs.Numbers as numbers;
 ghost use Rattle.pb_protocol_packer.specs.View.{term_of, text_of, texts_of};
 
 use crate::builder::Builder;
-use pb_text_copies::copy_term;
-use pb_text_tree::{Comparison, Connective, Name, Term};
+use pb_text_tree::{Comparison, Connective, Name, Term, copy_term};
 use std::alloc::AllocError;
 
 /// The place of an enumerator's name.

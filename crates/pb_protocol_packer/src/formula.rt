@@ -9,7 +9,7 @@ use crate::said::said;
 use crate::scope::{Hiding, Packing};
 use crate::step_sets::copy_step_set;
 use pb_model_tree::{Formula, Link};
-use pb_text_copies::copy_name;
+use pb_text_tree::copy_name;
 use std::alloc::AllocError;
 
 #[cycle(formulas)]

@@ -12,8 +12,7 @@ ghost use Rattle.pb_protocol_packer.specs.Given.{given_in, new_in, term_by, term
 use crate::builder::Builder;
 use crate::member::Member;
 use crate::to_number::{is_surely_within, test_of, to_number};
-use pb_text_copies::copy_term;
-use pb_text_tree::{Name, Term};
+use pb_text_tree::{Name, Term, copy_term};
 use std::alloc::AllocError;
 
 /// A variable with the term that it gets.

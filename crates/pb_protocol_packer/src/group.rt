@@ -1,7 +1,7 @@
 //! Groups of state variables, each with the variable that it becomes.
 
 ghost use Rattle.std.specs.Prelude.{◌≡◌, ◌≤◌, true};
-ghost use Rattle.pb_base_limits.specs.declared.TheConstants.{MAX_INSTANCES};
+ghost use Rattle.pb_base.specs.declared.limits.TheConstants.{MAX_INSTANCES};
 ghost use Rattle.pb_protocol_packing.specs.Packing as packing;
 ghost use Rattle.pb_protocol_packer.specs.Members.{are_weighted, members_of};
 

@@ -13,8 +13,7 @@ use crate::builder::Builder;
 use crate::given::{Given, all_tests, number_after};
 use crate::group::Joined;
 use crate::member::Member;
-use pb_text_copies::copy_term;
-use pb_text_tree::{Arithmetic, Term};
+use pb_text_tree::{Arithmetic, Term, copy_term};
 use std::alloc::AllocError;
 
 /// A term so many times, where that isn't once.

@@ -11,8 +11,7 @@ use crate::builder::Builder;
 use crate::given::{Given, given_for};
 use crate::group::Group;
 use crate::group_number::joined_term;
-use pb_text_copies::copy_term;
-use pb_text_tree::{Argument, Term};
+use pb_text_tree::{Argument, Term, copy_term};
 use std::alloc::AllocError;
 
 /// The term with which the variable of a group begins.

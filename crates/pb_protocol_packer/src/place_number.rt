@@ -8,8 +8,7 @@ ghost use Rattle.pb_protocol_packer.specs.View.{chosen_place, term_of, terms_of,
 use crate::builder::Builder;
 use crate::enumerators::{place_among, place_of};
 use crate::seen::is_choice;
-use pb_text_copies::copy_term;
-use pb_text_tree::{Argument, Name, Term};
+use pb_text_tree::{Argument, Name, Term, copy_term};
 use std::alloc::AllocError;
 
 /// The place of the enumerator that `if` chooses.

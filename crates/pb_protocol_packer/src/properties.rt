@@ -13,7 +13,7 @@ use crate::group::Group;
 use crate::scope::Packing;
 use crate::step::packed_step;
 use pb_model_tree::{Property, Step};
-use pb_text_copies::copy_name;
+use pb_text_tree::copy_name;
 use std::alloc::AllocError;
 
 /// The steps of the packed model.

@@ -10,8 +10,9 @@ use crate::comparison::{compared, digit_in};
 use crate::digit::from_number;
 use crate::node::{application, arithmetic, chain};
 use crate::scope::{Hiding, Packing, digit_for};
-use pb_text_copies::{copy_name, copy_term, copy_variables};
-use pb_text_tree::{Argument, ArithmeticLink, Name, Term, TermLink};
+use pb_text_tree::{
+    Argument, ArithmeticLink, Name, Term, TermLink, copy_name, copy_term, copy_variables,
+};
 use std::alloc::AllocError;
 
 /// What a name says.

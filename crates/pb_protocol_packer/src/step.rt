@@ -15,7 +15,7 @@ use crate::group::Group;
 use crate::said::said;
 use crate::scope::{Hiding, Packing};
 use pb_model_tree::{Assignment, Step};
-use pb_text_copies::{copy_name, copy_variables};
+use pb_text_tree::{copy_name, copy_variables};
 use std::alloc::AllocError;
 
 /// What is assigned to each variable of the model.

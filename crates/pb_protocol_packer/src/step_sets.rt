@@ -5,7 +5,7 @@ ghost use Rattle.pb_model_tree.specs.Form.{step_set_form};
 ghost use Rattle.pb_protocol_packer.specs.Formulas.{set_links};
 
 use pb_model_tree::{StepSet, StepSetLink};
-use pb_text_copies::copy_name;
+use pb_text_tree::copy_name;
 use std::alloc::{AllocError, Global};
 
 #[cycle(step_sets)]

@@ -12,8 +12,7 @@ use crate::group::Group;
 use crate::group_number::{divided, rest};
 use crate::member::Member;
 use crate::scope::{Digit, Known};
-use pb_text_copies::copy_term;
-use pb_text_tree::Term;
+use pb_text_tree::{Term, copy_term};
 use std::alloc::{AllocError, Global};
 
 /// Puts the digits of a group in front, whose number is that of a term.

@@ -13,8 +13,7 @@ use crate::enumerators::is_one_of;
 use crate::member::{Kind, Member};
 use crate::place_number::place_number;
 use crate::seen::{Written, as_written, is_enumerator, is_truth};
-use pb_text_copies::copy_term;
-use pb_text_tree::{Comparison, Connective, Term};
+use pb_text_tree::{Comparison, Connective, Term, copy_term};
 use std::alloc::AllocError;
 
 /// The numbers below are small.

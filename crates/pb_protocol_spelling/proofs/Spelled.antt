@@ -13,7 +13,7 @@ use Rattle.pb_text_printer.specs.Sayable.{Each, IsBound}
 use Rattle.pb_model_spelling.specs.Writable.{IsWord, TermWritable, EnumeratorWritable, SortWritable, DeclarationWritable, RangeWritable}
 use Rattle.pb_model_translation.proofs.NumberedNames.{decimal-is-name}
 use Rattle.pb_protocol_spelling.proofs.Words.{primed_word, word_spelled}
-use Rattle.pb_base_names.specs.Names.{is_letter}
+use Rattle.pb_base.specs.Names.{is_letter}
 use Rattle.pb_protocol_folding.specs.Folding.{number}
 use Rattle.pb_protocol_unfolding.specs.Written.{written_by, written_within, written_values, spelled, element, element_of}
 

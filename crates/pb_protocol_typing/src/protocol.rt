@@ -1,7 +1,7 @@
 //! The rules of whole protocols.
 
 ghost use Rattle.std.specs.Prelude.{◌≡◌, None, Some, [], map, Contains, IfOk, MatchResult, OnOk};
-ghost use Rattle.pb_base_errors.specs.OrMemory.{IfFault, IfRefused, OnRefused};
+ghost use Rattle.pb_base.specs.OrMemory.{IfFault, IfRefused, OnRefused};
 ghost use Rattle.pb_text_tree.specs.Form.{spec_form};
 ghost use Rattle.pb_typing_declarations.specs.Faults.{IsAmong};
 ghost use Rattle.pb_typing_declarations.specs.View.{spec_of};
@@ -21,8 +21,7 @@ use crate::scope::Scope;
 use crate::signature::{Signature, Steps, state_entries, state_table, step_table};
 use crate::step::{check_definitions, initial_fault, steps_fault};
 use pb_protocol_tree::{Property, Protocol};
-use pb_text_copies::{copy_declarations, copy_ranges};
-use pb_text_tree::{Instance, Name, Spec};
+use pb_text_tree::{Instance, Name, Spec, copy_declarations, copy_ranges};
 use pb_typing::Polarity;
 use pb_typing_declarations::{Declarations, TypeError, TypingFault};
 use std::alloc::{AllocError, Global};

@@ -2,7 +2,7 @@
 
 ghost use Rattle.std.specs.Prelude.{◌≡◌, ◌==◌, None, Some, map, MatchResult, length};
 ghost use Rattle.std.specs.List.{slice_get};
-ghost use Rattle.pb_base_errors.specs.OrMemory.{IfFault};
+ghost use Rattle.pb_base.specs.OrMemory.{IfFault};
 ghost use Rattle.pb_text_tree.specs.Form.{argument_forms, term_form};
 ghost use Rattle.pb_typing_declarations.specs.View.{spec_of};
 ghost use Rattle.pb_model_tree.specs.Form.{initial_form};

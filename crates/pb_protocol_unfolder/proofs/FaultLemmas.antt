@@ -3,9 +3,9 @@ use Rattle.std.proofs.Common.{◌≡◌, ◌<◌, ◌∙◌, ◌⊎◌, ℕ, zer
 use Rattle.std.specs.Prelude.{Contains, IsErrAnd, OnOk, filter}
 use Rattle.std.proofs.lemmas.List.{get_or-map}
 use Rattle.std.proofs.lemmas.List.Elements.{Contains-get_or}
-use Rattle.pb_base_errors.specs.OrMemory.{IfFault, IfRefused, raised}
-use Rattle.pb_base_errors.specs.declared.or_memory.OrMemory.{OrMemory}
-use Rattle.pb_base_errors.specs.declared.or_memory.OrMemory.TheVariants.{Refused, Memory}
+use Rattle.pb_base.specs.OrMemory.{IfFault, IfRefused, raised}
+use Rattle.pb_base.specs.declared.or_memory.OrMemory.{OrMemory}
+use Rattle.pb_base.specs.declared.or_memory.OrMemory.TheVariants.{Refused, Memory}
 use Rattle.pb_text_tree.specs.declared.place.Place.{Place}
 use Rattle.pb_protocol_tree.specs.Form.{ProtocolForm}
 pub use Rattle.pb_protocol_unfolder_terms.proofs.MetLemmas.{behind-in, first-in, item-in}

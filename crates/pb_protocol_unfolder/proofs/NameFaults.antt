@@ -12,9 +12,9 @@ use Rattle.pb_protocol_meaning.specs.Erase.{erase}
 use Rattle.pb_protocol_unfolding.specs.Unfolding.{all_elements, instance_name, instances, name_of}
 use Rattle.pb_protocol_unfolder_steps.specs.declared.fault.StepsFault.{StepsFault}
 use Rattle.pb_protocol_unfolder_steps.specs.declared.fault.StepsFault.TheVariants as steps_fault
-use Rattle.pb_base_errors.specs.OrMemory.{IfFault, raised}
-use Rattle.pb_base_errors.specs.declared.or_memory.OrMemory.{OrMemory}
-use Rattle.pb_base_errors.specs.declared.or_memory.OrMemory.TheVariants.{Refused, Memory}
+use Rattle.pb_base.specs.OrMemory.{IfFault, raised}
+use Rattle.pb_base.specs.declared.or_memory.OrMemory.{OrMemory}
+use Rattle.pb_base.specs.declared.or_memory.OrMemory.TheVariants.{Refused, Memory}
 use Rattle.pb_protocol_unfolder_terms.specs.declared.fault.UnfoldFault.{UnfoldFault}
 use Rattle.pb_protocol_unfolder_terms.specs.declared.fault.UnfoldRule.{UnfoldRule}
 use Rattle.pb_protocol_unfolder_terms.specs.declared.fault.UnfoldRule.TheVariants as unfold_rule

@@ -2,8 +2,8 @@
 use Rattle.std.proofs.Common.{◌≡◌, ◌∙◌, ◌⊎◌, inl, inr, refl, sym, ap, subst, true, List, [], ◌∷◌, map, Option, Some, None, Vec, Global, Box, Result}
 use Rattle.std.specs.Prelude.{Contains, box_value, unwrap_or}
 use Rattle.std.specs.Option.{ok_or}
-use Rattle.pb_base_errors.specs.OrMemory.{IfFault, IfRefused}
-use Rattle.pb_base_errors.specs.declared.or_memory.OrMemory.{OrMemory}
+use Rattle.pb_base.specs.OrMemory.{IfFault, IfRefused}
+use Rattle.pb_base.specs.declared.or_memory.OrMemory.{OrMemory}
 use Rattle.pb_text_tree.specs.declared.place.Place.{Place}
 use Rattle.pb_text_tree.specs.declared.operator.Connective.{Connective}
 use Rattle.pb_text_tree.specs.Form.{chained}

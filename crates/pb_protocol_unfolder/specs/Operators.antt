@@ -1,7 +1,7 @@
 -- How many operators a formula has as it is written out: a quantifier as its copies, terms as they
 -- are folded, and sets of steps by the names of the steps in them that may be taken.
 use Rattle.std.specs.Prelude.{◌+◌, ◌<◌, ℕ, suc, Bool, true, []}
-use Rattle.pb_base_limits.specs.declared.TheConstants.{MAX_OPERATORS}
+use Rattle.pb_base.specs.declared.limits.TheConstants.{MAX_OPERATORS}
 use Rattle.pb_text_tree.specs.declared.term.Argument.{Argument}
 use Rattle.pb_text_tree.specs.declared.term.ArithmeticLink.{ArithmeticLink}
 use Rattle.pb_text_tree.specs.declared.term.TermLink.{TermLink}

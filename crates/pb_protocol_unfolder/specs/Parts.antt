@@ -1,6 +1,6 @@
 -- What a fault says where one part of a protocol is unfolded.
 use Rattle.std.specs.Prelude.{◌≡◌, ◌<◌, ◌⊎◌, List, length, Contains, Option, Some, None}
-use Rattle.pb_base_limits.specs.declared.TheConstants.{MAX_OPERATORS}
+use Rattle.pb_base.specs.declared.limits.TheConstants.{MAX_OPERATORS}
 use Rattle.pb_text_tree.specs.declared.place.Place.{Place}
 use Rattle.pb_text_meaning.specs.Syntax.{Name, Term, Variable}
 use Rattle.pb_protocol_tree.specs.declared.formula.Link.{Link}

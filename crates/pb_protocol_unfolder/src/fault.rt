@@ -1,12 +1,12 @@
 //! Why a protocol isn't unfolded.
 
 ghost use Rattle.std.specs.Prelude.{◌≡◌};
-ghost use Rattle.pb_base_errors.specs.OrMemory.{raised};
-ghost use Rattle.pb_base_errors.specs.declared.or_memory.OrMemory.TheVariants.{Refused};
+ghost use Rattle.pb_base.specs.OrMemory.{raised};
+ghost use Rattle.pb_base.specs.declared.or_memory.OrMemory.TheVariants.{Refused};
 ghost use Rattle.pb_protocol_unfolder.specs.Faults.{rule_of};
 ghost use Rattle.pb_protocol_unfolder.specs.Parts.{IsOfSteps, IsOfTerm};
 
-use pb_base_errors::{Fault, OrMemory};
+use pb_base::{Fault, OrMemory};
 use pb_protocol_unfolder_steps::{StepsError, StepsFault};
 use pb_protocol_unfolder_terms::{UnfoldError, UnfoldFault, UnfoldRule};
 use pb_text_tree::Place;

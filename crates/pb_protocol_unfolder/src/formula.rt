@@ -2,7 +2,7 @@
 
 ghost use Rattle.std.specs.Prelude.{◌≡◌, ◌+◌, ◌<◌, [], map, flat_map, IfOk, OnOk};
 ghost use Rattle.std.specs.Prelude.{box_value, sum_by};
-ghost use Rattle.pb_base_errors.specs.OrMemory.{IfRefused};
+ghost use Rattle.pb_base.specs.OrMemory.{IfRefused};
 ghost use Rattle.pb_text_tree.specs.Form.{term_form};
 ghost use Rattle.pb_protocol_tree.specs.Form.{FormulaForm, formula_form};
 ghost use Rattle.pb_protocol_meaning.specs.Erase.{protocol_of};
@@ -32,8 +32,7 @@ use pb_protocol_unfolder_steps::{Instance, Unfolder};
 use pb_protocol_unfolder_terms::{
     Sorts, TermScope, Variable, Written, variables_of, written_tuples,
 };
-use pb_text_copies::copy_name;
-use pb_text_tree::{Place, Term};
+use pb_text_tree::{Place, Term, copy_name};
 
 /// What formulas are unfolded by: the protocol, and the steps with their values that are left.
 #[derive(Clone, Copy)]

@@ -1,7 +1,7 @@
 //! The names of elements and of steps with their values, which are apart.
 
 ghost use Rattle.std.specs.Prelude.{◌≡◌, map, IfOk, OnOk};
-ghost use Rattle.pb_base_errors.specs.OrMemory.{IfRefused};
+ghost use Rattle.pb_base.specs.OrMemory.{IfRefused};
 ghost use Rattle.pb_protocol_folding.specs.Names.{AreDistinct, AreNot, enumerators_in};
 ghost use Rattle.pb_protocol_unfolding.specs.Unfolding as definitions;
 ghost use Rattle.pb_protocol_unfolder_steps.specs.Elements.{element_said, instance_said};

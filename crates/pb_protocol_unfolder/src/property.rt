@@ -1,7 +1,7 @@
 //! Properties without quantifiers over formulas.
 
 ghost use Rattle.std.specs.Prelude.{◌≡◌, [], map, IfOk};
-ghost use Rattle.pb_base_errors.specs.OrMemory.{IfRefused};
+ghost use Rattle.pb_base.specs.OrMemory.{IfRefused};
 ghost use Rattle.pb_model_tree.specs.Form as flat_form;
 ghost use Rattle.pb_protocol_tree.specs.Form.{property_form};
 ghost use Rattle.pb_protocol_folding.specs.Places.{AreAmong, places_of};
@@ -19,7 +19,7 @@ use crate::room::Room;
 use pb_model_tree as flat;
 use pb_protocol_tree::Property;
 use pb_protocol_unfolder_terms::TermScope;
-use pb_text_copies::copy_name;
+use pb_text_tree::copy_name;
 
 /// A property whose formula has no quantifiers, folded.
 fn unfold_property(

@@ -1,7 +1,7 @@
 //! A whole protocol as a flat model.
 
 ghost use Rattle.std.specs.Prelude.{◌≡◌, ◌≤◌, map, length, IfOk, OnOk, string_bytes};
-ghost use Rattle.pb_base_errors.specs.OrMemory.{IfRefused};
+ghost use Rattle.pb_base.specs.OrMemory.{IfRefused};
 ghost use Rattle.pb_text_tree.specs.Form.{argument_forms};
 ghost use Rattle.pb_text_meaning.specs.Erase.{erased_arguments};
 ghost use Rattle.pb_model_tree.specs.Form as flat_form;
@@ -43,8 +43,7 @@ use pb_protocol_unfolder_steps::{
     Element, Instance, MAX_ELEMENTS, MAX_WRITTEN_STEPS, UnfoldedSteps, Unfolder, elements,
     flat_state, initial_terms, instances, unfold_steps,
 };
-use pb_text_copies::{copy_declarations, copy_ranges};
-use pb_text_tree::Argument;
+use pb_text_tree::{Argument, copy_declarations, copy_ranges};
 use std::alloc::Global;
 
 fn elements_of(alloc: Global, protocol: &Protocol) -> Result<Vec<Element<'_>>, UnfoldingError>

@@ -1,16 +1,16 @@
 //! How many operators an unfolded formula may have.
 
 ghost use Rattle.std.specs.Prelude.{◌≡◌, ◌+◌, ◌<◌, OnOk, sum_by};
-ghost use Rattle.pb_base_errors.specs.OrMemory.{IfRefused};
+ghost use Rattle.pb_base.specs.OrMemory.{IfRefused};
 ghost use Rattle.pb_protocol_folding.specs.View.{term_of};
-ghost use Rattle.pb_base_limits.specs.declared.TheConstants.{MAX_OPERATORS};
+ghost use Rattle.pb_base.specs.declared.limits.TheConstants.{MAX_OPERATORS};
 ghost use Rattle.pb_protocol_unfolder_terms.specs.Unfolding.{operator_count};
 ghost use Rattle.pb_protocol_unfolder.specs.Faults.{OfMany};
 ghost use Rattle.pb_protocol_unfolder.specs.Operators.{argument_operators, operand_operators};
 ghost use Rattle.pb_protocol_unfolder.specs.Operators.{operation_operators};
 
 use crate::fault::{UnfoldingError, UnfoldingRule, refused};
-use pb_base_limits::MAX_OPERATORS;
+use pb_base::MAX_OPERATORS;
 use pb_text_tree::{Argument, ArithmeticLink, Place, Term, TermLink};
 
 /// How many more operators a formula may have.

@@ -2,7 +2,7 @@
 
 ghost use Rattle.std.specs.Prelude.{◌≡◌, [], ◌∷◌, map, IfOk};
 ghost use Rattle.std.specs.List.{list_any};
-ghost use Rattle.pb_base_errors.specs.OrMemory.{IfRefused};
+ghost use Rattle.pb_base.specs.OrMemory.{IfRefused};
 ghost use Rattle.pb_protocol_tree.specs.Form.{step_set_form, step_value_form};
 ghost use Rattle.pb_protocol_meaning.specs.Erase.{erased_steps, erased_value};
 ghost use Rattle.pb_protocol_unfolder_terms.specs.Values.{written_term};

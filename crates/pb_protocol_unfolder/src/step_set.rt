@@ -2,7 +2,7 @@
 
 ghost use Rattle.std.specs.Prelude.{◌≡◌, ◌+◌, ◌<◌, ◌++◌, map, IfOk, OnOk};
 ghost use Rattle.std.specs.Prelude.{is_some};
-ghost use Rattle.pb_base_errors.specs.OrMemory.{IfRefused};
+ghost use Rattle.pb_base.specs.OrMemory.{IfRefused};
 ghost use Rattle.pb_protocol_folding.specs.View.{set_of};
 ghost use Rattle.pb_protocol_tree.specs.Form.{step_set_form};
 ghost use Rattle.pb_protocol_unfolder_steps.specs.Elements.{instance_said};

@@ -1,7 +1,7 @@
 //! The values that are named in sets of steps.
 
 ghost use Rattle.std.specs.Prelude.{◌≡◌, [], Some, IfOk};
-ghost use Rattle.pb_base_errors.specs.OrMemory.{IfRefused};
+ghost use Rattle.pb_base.specs.OrMemory.{IfRefused};
 ghost use Rattle.pb_text_meaning.specs.Value.{value};
 ghost use Rattle.pb_protocol_folding.specs.Folding as folding;
 ghost use Rattle.pb_protocol_folding.specs.View.{term_of};

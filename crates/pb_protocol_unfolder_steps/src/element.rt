@@ -1,7 +1,7 @@
 //! The elements of a protocol's state variables, with their indices as they are written.
 
 ghost use Rattle.std.specs.Prelude.{◌≡◌, ◌≤◌, ◌+◌, ◌++◌, length, map, IfOk, OnOk};
-ghost use Rattle.pb_base_errors.specs.OrMemory.{IfRefused};
+ghost use Rattle.pb_base.specs.OrMemory.{IfRefused};
 ghost use Rattle.pb_protocol_tree.specs.Form.{protocol_form};
 ghost use Rattle.pb_protocol_meaning.specs.Erase.{protocol_of};
 ghost use Rattle.pb_protocol_unfolding.specs.Unfolding as definitions;

@@ -1,11 +1,11 @@
 //! Why the state or the steps of a protocol aren't unfolded.
 
 ghost use Rattle.std.specs.Prelude.{◌≡◌};
-ghost use Rattle.pb_base_errors.specs.OrMemory.{IfFault};
+ghost use Rattle.pb_base.specs.OrMemory.{IfFault};
 ghost use Rattle.pb_protocol_unfolder_steps.specs.StepFaults.{term_error};
 ghost use Rattle.pb_protocol_unfolder_steps.specs.Refusals.{IsTermOr};
 
-use pb_base_errors::{Fault, OrMemory};
+use pb_base::{Fault, OrMemory};
 use pb_protocol_unfolder_terms::{UnfoldError, UnfoldFault};
 use pb_text_tree::Place;
 

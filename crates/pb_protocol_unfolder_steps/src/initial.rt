@@ -4,14 +4,14 @@ ghost use Rattle.std.specs.Prelude.{◌≡◌, ◌<◌, ◌++◌, false, length,
 ghost use Rattle.pb_text_tree.specs.Form.{argument_forms, term_form};
 ghost use Rattle.pb_protocol_tree.specs.Form.{protocol_form};
 ghost use Rattle.pb_text_meaning.specs.Erase.{erased_arguments};
-ghost use Rattle.pb_base_errors.specs.OrMemory.{IfRefused};
+ghost use Rattle.pb_base.specs.OrMemory.{IfRefused};
 ghost use Rattle.pb_protocol_folding.specs.Folding.{folded_arguments};
 ghost use Rattle.pb_protocol_folding.specs.View.{term_of};
 ghost use Rattle.pb_protocol_meaning.specs.Erase.{protocol_of};
 ghost use Rattle.pb_protocol_meaning.specs.Steps.{data_of};
 ghost use Rattle.pb_protocol_unfolding.specs.Unfolding as definitions;
 ghost use Rattle.pb_protocol_unfolding.specs.Written.{written_tuples};
-ghost use Rattle.pb_base_limits.specs.declared.TheConstants.{MAX_OPERATORS};
+ghost use Rattle.pb_base.specs.declared.limits.TheConstants.{MAX_OPERATORS};
 ghost use Rattle.pb_protocol_unfolder_terms.specs.Values.{tuple_of, written_term};
 ghost use Rattle.pb_protocol_unfolder_terms.specs.View.{variable_of};
 ghost use Rattle.pb_protocol_unfolder_steps.specs.Unfolder.{IsInitial};

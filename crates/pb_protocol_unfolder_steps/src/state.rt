@@ -9,8 +9,7 @@ ghost use Rattle.pb_protocol_unfolder_steps.specs.Groups.{group_said, groups_sai
 
 use crate::element::Element;
 use pb_protocol_unfolder_terms::element_name;
-use pb_text_copies::copy_name;
-use pb_text_tree::Variables;
+use pb_text_tree::{Variables, copy_name};
 use std::alloc::{AllocError, Global};
 
 /// The variable of an element: its name stands where the array's does, its sort where the array's

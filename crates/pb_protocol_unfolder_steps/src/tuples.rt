@@ -1,8 +1,8 @@
 //! The tuples of values of variables, as they are written.
 
-ghost use Rattle.pb_base_limits.specs.declared.TheConstants.{MAX_OPERATORS};
+ghost use Rattle.pb_base.specs.declared.limits.TheConstants.{MAX_OPERATORS};
 ghost use Rattle.std.specs.Prelude.{◌≡◌, length, map, MatchResult};
-ghost use Rattle.pb_base_errors.specs.OrMemory.{IfFault};
+ghost use Rattle.pb_base.specs.OrMemory.{IfFault};
 ghost use Rattle.pb_text_tree.specs.Form.{variable_forms};
 ghost use Rattle.pb_text_meaning.specs.Erase.{erased_variables};
 ghost use Rattle.pb_protocol_unfolding.specs.Written as written;
@@ -11,7 +11,7 @@ ghost use Rattle.pb_protocol_unfolder_terms.specs.Values.{tuple_of};
 ghost use Rattle.pb_protocol_unfolder_steps.specs.Refusals.{IsPassed};
 
 use crate::fault::{StepsError, StepsFault};
-use pb_base_errors::OrMemory;
+use pb_base::OrMemory;
 use pb_protocol_unfolder_terms::{Sorts, Written, variables_of, written_tuples};
 use pb_text_tree::{Place, Variables};
 use std::alloc::Global;

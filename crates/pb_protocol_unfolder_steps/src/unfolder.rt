@@ -3,7 +3,7 @@
 ghost use Rattle.std.specs.Prelude.{◌≡◌, map, IfOk};
 ghost use Rattle.pb_text_tree.specs.Form.{term_form};
 ghost use Rattle.pb_protocol_tree.specs.Form.{assignment_form, protocol_form};
-ghost use Rattle.pb_base_errors.specs.OrMemory.{IfRefused};
+ghost use Rattle.pb_base.specs.OrMemory.{IfRefused};
 ghost use Rattle.pb_protocol_folding.specs.Folding.{folded};
 ghost use Rattle.pb_protocol_folding.specs.View.{term_of};
 ghost use Rattle.pb_protocol_meaning.specs.Erase.{protocol_of};

@@ -3,7 +3,7 @@ use Rattle.std.proofs.Common.{◌≡◌, ℕ, suc, ◌+◌, ◌≤◌, Bool, tru
 use Rattle.std.specs.Prelude.{codes}
 use Rattle.pb_text_meaning.specs.Syntax.{Name, Term, Spec}
 use Rattle.pb_protocol_folding.specs.Folding.{folded}
-use Rattle.pb_base_errors.specs.declared.or_memory.OrMemory.{OrMemory}
+use Rattle.pb_base.specs.declared.or_memory.OrMemory.{OrMemory}
 use Rattle.pb_protocol_unfolding.specs.PutIn.{choice}
 use Rattle.pb_protocol_unfolder_terms.specs.declared.fault.UnfoldFault.{UnfoldFault}
 use Rattle.pb_protocol_unfolder_terms.specs.declared.form.Form as declared_form

@@ -1,7 +1,7 @@
 -- The bounds of names, of arguments and of operators.
 use Rattle.std.proofs.Common.{◌≡◌, ◌∙◌, ◌<◌, ◌≤◌, ℕ, zero, suc, Bool, true, false, List, [], ◌∷◌, Option, Some, None, length, map, drop, get_or, refl, sym, ap, arith}
 use Rattle.std.specs.Prelude.{if◌then◌else◌}
-use Rattle.pb_base_intervals.specs.Interval.{IntegerInterval}
+use Rattle.pb_base_values.specs.Interval.{IntegerInterval}
 use Rattle.pb_text_tree.specs.declared.operator.Connective.{Connective}
 use Rattle.pb_text_tree.specs.declared.operator.Connective.TheVariants as connective
 use Rattle.pb_text_tree.specs.declared.term.Argument.{Argument}

@@ -16,8 +16,8 @@ use Rattle.pb_text_tree.proofs.FormLemmas.{term-chain, term-application}
 use Rattle.pb_text_meaning.specs.Syntax.{Operator, Term}
 use Rattle.pb_text_meaning.specs.Erase.{erased_term, of_connective}
 use Rattle.pb_protocol_folding.specs.View as tree
-use Rattle.pb_base_errors.specs.declared.or_memory.OrMemory.{OrMemory}
-use Rattle.pb_base_errors.specs.declared.or_memory.OrMemory.TheVariants.{Refused, Memory}
+use Rattle.pb_base.specs.declared.or_memory.OrMemory.{OrMemory}
+use Rattle.pb_base.specs.declared.or_memory.OrMemory.TheVariants.{Refused, Memory}
 use Rattle.pb_protocol_unfolder_terms.specs.declared.fault.UnfoldFault.{UnfoldFault}
 use Rattle.pb_protocol_unfolder_terms.specs.declared.fault.UnfoldRule.{UnfoldRule}
 use Rattle.pb_protocol_unfolder_terms.specs.declared.fault.UnfoldRule.TheVariants as rule

@@ -9,7 +9,7 @@ use Rattle.pb_text_tree.specs.declared.term.Term as declared_term
 use Rattle.pb_protocol_folding.specs.Folding.{folded, folded_application, function_of_three, is_if, truth_value}
 use Rattle.pb_protocol_folding.specs.View as tree
 use Rattle.pb_protocol_unfolder_terms.specs.Puts.{choice_of}
-use Rattle.pb_base_errors.specs.declared.or_memory.OrMemory.{OrMemory}
+use Rattle.pb_base.specs.declared.or_memory.OrMemory.{OrMemory}
 use Rattle.pb_protocol_unfolder_terms.specs.declared.fault.UnfoldFault.{UnfoldFault}
 use Rattle.pb_protocol_unfolder_terms.specs.Unfolding.{IsRefusal, operator_count}
 use Rattle.pb_protocol_unfolder_terms.proofs.ChainLemmas.{refusal-weaker}

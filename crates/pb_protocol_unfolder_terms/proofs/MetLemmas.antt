@@ -2,8 +2,8 @@
 use Rattle.std.proofs.Common.{◌≡◌, ◌<◌, ◌≤◌, ◌∙◌, ◌⊎◌, ◌+◌, ℕ, zero, suc, Bool, true, false, if◌then◌else◌, inl, inr, refl, sym, ap, subst, arith, List, [], ◌∷◌, map, drop, take, length, get_or, Option, Some, None}
 use Rattle.std.specs.List.{slice_get}
 use Rattle.std.specs.Prelude.{Contains, IfErr, IsErrAnd, Result, Ok, Err}
-use Rattle.pb_base_errors.specs.declared.or_memory.OrMemory.{OrMemory}
-use Rattle.pb_base_errors.specs.declared.or_memory.OrMemory.TheVariants.{Refused, Memory}
+use Rattle.pb_base.specs.declared.or_memory.OrMemory.{OrMemory}
+use Rattle.pb_base.specs.declared.or_memory.OrMemory.TheVariants.{Refused, Memory}
 use Rattle.pb_text_tree.specs.declared.place.Place.{Place}
 use Rattle.pb_text_tree.specs.declared.operator.Connective.{Connective}
 use Rattle.pb_text_tree.specs.declared.term.Argument.{Argument}

@@ -11,7 +11,7 @@ use Rattle.pb_text_meaning.specs.Erase.{of_connective}
 use Rattle.pb_protocol_folding.specs.Folding.{folded}
 use Rattle.pb_protocol_folding.specs.Kept.{folded_connective, joining, neutral, truth_counts}
 use Rattle.pb_protocol_folding.specs.View as tree
-use Rattle.pb_base_errors.specs.declared.or_memory.OrMemory.{OrMemory}
+use Rattle.pb_base.specs.declared.or_memory.OrMemory.{OrMemory}
 use Rattle.pb_protocol_unfolding.specs.PutIn.{joined}
 use Rattle.pb_protocol_unfolder_terms.specs.declared.fault.UnfoldFault.{UnfoldFault}
 use Rattle.pb_protocol_unfolder_terms.specs.declared.operands.Operands as declared_operands

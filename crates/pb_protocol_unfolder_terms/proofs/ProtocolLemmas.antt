@@ -7,7 +7,7 @@ use Rattle.pb_text_tree.specs.Form.{TermForm}
 use Rattle.pb_protocol_tree.specs.Form.{ProtocolForm}
 use Rattle.pb_protocol_meaning.specs.Erase.{erase}
 use Rattle.pb_protocol_meaning.specs.Steps.{data_of}
-use Rattle.pb_base_errors.specs.declared.or_memory.OrMemory.{OrMemory}
+use Rattle.pb_base.specs.declared.or_memory.OrMemory.{OrMemory}
 use Rattle.pb_protocol_unfolding.specs.PutIn.{Forms, TermScope, reads, with_definitions}
 use Rattle.pb_protocol_unfolder_terms.specs.declared.context.Context.{Context}
 use Rattle.pb_protocol_unfolder_terms.specs.declared.fault.UnfoldFault.{UnfoldFault}

@@ -5,12 +5,12 @@ use Rattle.std.specs.Prelude.{ℕ, zero, suc, pos, ◌-ℤ◌, int_le, Bool, tru
 use Rattle.std.specs.Prelude.{if◌then◌else◌, nat_eq, List, [], ◌∷◌, length, Option, Some, None}
 use Rattle.std.specs.Prelude.{codes, option_map}
 use Rattle.std.specs.List.{slice_get, starts_with}
-use Rattle.pb_base_intervals.specs.Interval.{IntegerInterval, IsWithin, hull, literals, singleton}
-use Rattle.pb_base_intervals.specs.Interval.{unless_empty, within}
-use Rattle.pb_base_intervals.specs.Operation.{UnaryOperation, Negation, Successor, Predecessor}
-use Rattle.pb_base_intervals.specs.Operation.{AbsoluteValue, BinaryOperation, Sum, Difference, Product}
-use Rattle.pb_base_intervals.specs.Operation.{Quotient, Remainder, Maximum, Minimum, divides}
-use Rattle.pb_base_intervals.specs.Operation.{unary_interval, binary_interval}
+use Rattle.pb_base_values.specs.Interval.{IntegerInterval, IsWithin, hull, literals, singleton}
+use Rattle.pb_base_values.specs.Interval.{unless_empty, within}
+use Rattle.pb_base_values.specs.Operation.{UnaryOperation, Negation, Successor, Predecessor}
+use Rattle.pb_base_values.specs.Operation.{AbsoluteValue, BinaryOperation, Sum, Difference, Product}
+use Rattle.pb_base_values.specs.Operation.{Quotient, Remainder, Maximum, Minimum, divides}
+use Rattle.pb_base_values.specs.Operation.{unary_interval, binary_interval}
 use Rattle.pb_text_meaning.specs.Syntax.{Name, same_name, Operator, Term, Terms, Sort, Struct, Alias}
 use Rattle.pb_text_meaning.specs.Syntax.{Range, Spec}
 use Rattle.pb_text_meaning.specs.Sorts.{range_of, declared}

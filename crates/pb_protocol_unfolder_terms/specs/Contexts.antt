@@ -3,7 +3,7 @@ use Rattle.std.specs.Prelude.{◌≡◌, ℕ, suc, ⊤, List, [], ◌∷◌, map
 use Rattle.std.specs.Prelude.{None, string_bytes}
 use Rattle.std.specs.Borrow.{Bor}
 use Rattle.std.specs.List.{slice_get}
-use Rattle.pb_base_intervals.specs.Interval.{IntegerInterval}
+use Rattle.pb_base_values.specs.Interval.{IntegerInterval}
 use Rattle.pb_text_meaning.specs.Syntax.{Name, Term, Terms, Spec, NoTerms}
 use Rattle.pb_protocol_meaning.specs.Syntax.{StateVariable, Definition, Protocol}
 use Rattle.pb_protocol_folding.specs.View as tree

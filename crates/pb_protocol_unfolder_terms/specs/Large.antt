@@ -1,7 +1,7 @@
 -- Where a term is refused that is too large as it is unfolded: at a token of a term that is met, or
 -- where too many values are written out.
 use Rattle.std.specs.Prelude.{◌≡◌, ◌<◌, ◌⊎◌, List, length, Contains}
-use Rattle.pb_base_limits.specs.declared.TheConstants.{MAX_OPERATORS}
+use Rattle.pb_base.specs.declared.limits.TheConstants.{MAX_OPERATORS}
 use Rattle.pb_text_tree.specs.declared.place.Place.{Place}
 use Rattle.pb_text_tree.specs.Form.{TermForm}
 use Rattle.pb_text_meaning.specs.Syntax.{Variable, Spec}

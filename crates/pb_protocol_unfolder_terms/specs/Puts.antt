@@ -5,8 +5,8 @@ use Rattle.std.specs.Prelude.{Result, MatchResult, string_bytes}
 use Rattle.pb_text_tree.specs.declared.term.ArithmeticLink as declared_link
 use Rattle.pb_text_meaning.specs.Syntax.{Name, Term, Terms, Spec}
 use Rattle.pb_text_meaning.specs.Erase.{of_arithmetic}
-use Rattle.pb_base_errors.specs.declared.or_memory.OrMemory.{OrMemory}
-use Rattle.pb_base_errors.specs.OrMemory.{IfFault}
+use Rattle.pb_base.specs.declared.or_memory.OrMemory.{OrMemory}
+use Rattle.pb_base.specs.OrMemory.{IfFault}
 use Rattle.pb_protocol_folding.specs.Folding.{folded_arguments}
 use Rattle.pb_protocol_folding.specs.View as tree
 use Rattle.pb_protocol_unfolding.specs.Written.{is_written, element}

@@ -1,8 +1,8 @@
 -- What the fault of a protocol's term, or of a step's assignments, says.
 use Rattle.std.specs.Prelude.{◌≡◌, ◌⊎◌, ◌<◌, ◌≤◌, ◌+◌, ℕ, suc, List, [], map, length, Contains}
-use Rattle.pb_base_errors.specs.OrMemory.{IfFault}
-use Rattle.pb_base_errors.specs.declared.or_memory.OrMemory.{OrMemory}
-use Rattle.pb_base_limits.specs.declared.TheConstants.{MAX_OPERATORS}
+use Rattle.pb_base.specs.OrMemory.{IfFault}
+use Rattle.pb_base.specs.declared.or_memory.OrMemory.{OrMemory}
+use Rattle.pb_base.specs.declared.limits.TheConstants.{MAX_OPERATORS}
 use Rattle.pb_text_tree.specs.declared.place.Place.{Place}
 use Rattle.pb_text_tree.specs.Form.{TermForm}
 use Rattle.pb_protocol_tree.specs.Form.{AssignmentForm, DefinitionForm, ProtocolForm}

@@ -3,8 +3,8 @@ use Rattle.std.specs.Prelude.{◌≡◌, ◌+◌, ◌≤◌, ◌<◌, ℕ, suc, 
 use Rattle.std.specs.Prelude.{MatchResult}
 use Rattle.pb_text_tree.specs.declared.term.Term as declared_term
 use Rattle.pb_text_meaning.specs.Syntax.{Name, Term, Terms, Spec}
-use Rattle.pb_base_errors.specs.OrMemory.{IfFault}
-use Rattle.pb_base_errors.specs.declared.or_memory.OrMemory.{OrMemory}
+use Rattle.pb_base.specs.OrMemory.{IfFault}
+use Rattle.pb_base.specs.declared.or_memory.OrMemory.{OrMemory}
 use Rattle.pb_protocol_folding.specs.Folding.{folded}
 use Rattle.pb_protocol_folding.specs.View.{term_of}
 use Rattle.pb_protocol_unfolder_terms.specs.declared.fault.UnfoldFault.{UnfoldFault}

@@ -3,15 +3,15 @@ use Rattle.std.specs.Prelude.{◌≡◌, ◌<◌, Bool, true, false, List, [], �
 use Rattle.std.specs.Prelude.{Option, Some, None}
 use Rattle.std.specs.declared.alloc.Global.{Global}
 use Rattle.pb_base_values.specs.Carrier.{interval}
-use Rattle.pb_base_intervals.specs.Interval.{IntegerInterval, unless_empty}
+use Rattle.pb_base_values.specs.Interval.{IntegerInterval, unless_empty}
 use Rattle.pb_text_tree.specs.declared.place.Place.{Place}
 use Rattle.pb_text_tree.specs.declared.sort.Enumerator as declared_enumerator
 use Rattle.pb_text_tree.specs.Form.{enumerator_form}
 use Rattle.pb_text_meaning.specs.Syntax.{Name, same_name, Term, Enumerator}
 use Rattle.pb_text_meaning.specs.Erase.{erased_enumerator}
 use Rattle.pb_protocol_folding.specs.Folding.{number}
-use Rattle.pb_base_errors.specs.OrMemory.{IfFault}
-use Rattle.pb_base_errors.specs.declared.or_memory.OrMemory.{OrMemory}
+use Rattle.pb_base.specs.OrMemory.{IfFault}
+use Rattle.pb_base.specs.declared.or_memory.OrMemory.{OrMemory}
 use Rattle.pb_protocol_unfolder_terms.specs.Bounds.{places, truths}
 use Rattle.pb_protocol_unfolder_terms.specs.declared.fault.UnfoldRule.TheVariants as rule
 use Rattle.pb_protocol_unfolder_terms.specs.declared.fault.UnfoldFault.{UnfoldFault}

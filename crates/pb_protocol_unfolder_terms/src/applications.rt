@@ -24,8 +24,7 @@ use crate::scope::TermScope;
 use crate::unfold::unfold;
 use crate::unfolded::Unfolded;
 use pb_protocol_folding::truth_value;
-use pb_text_copies::copy_name;
-use pb_text_tree::{Argument, ArithmeticLink, Name, Term};
+use pb_text_tree::{Argument, ArithmeticLink, Name, Term, copy_name};
 
 /// Arguments, of the first of which the truth alone may count.
 #[cycle(unfolding)]

@@ -11,9 +11,8 @@ ghost use Rattle.pb_protocol_unfolder_terms.specs.Unfolding.{IsUnfolded};
 use crate::form::Form;
 use crate::unfolded::Unfolded;
 use pb_protocol_folding::{Folding, application_term};
-use pb_text_copies::copy_name;
 use pb_text_meaning::NamedFunction;
-use pb_text_tree::{Argument, Name, Place};
+use pb_text_tree::{Argument, Name, Place, copy_name};
 use std::alloc::{AllocError, Global};
 
 /// Arguments of a function of data, unfolded and folded.

@@ -19,8 +19,7 @@ use crate::sorts::Variable;
 use crate::unfolded::{Unfolded, name_of};
 use crate::written::Written;
 use pb_protocol_folding::{Folding, application_term, compared_term};
-use pb_text_copies::copy_term;
-use pb_text_tree::{Argument, Comparison, Name, Place, Term};
+use pb_text_tree::{Argument, Comparison, Name, Place, Term, copy_term};
 use std::alloc::{AllocError, Global};
 
 /// An array, or a part of one, with an argument for each of its indices.

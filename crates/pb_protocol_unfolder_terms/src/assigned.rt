@@ -37,7 +37,7 @@ use crate::term::MAX_LEVELS;
 use crate::unfold::unfold;
 use crate::unfolded::Unfolded;
 use crate::written::Written;
-use pb_base_limits::MAX_OPERATORS;
+use pb_base::MAX_OPERATORS;
 use pb_protocol_folding::truth_value;
 use pb_protocol_tree::Assignment;
 use pb_text_tree::{Argument, Connective, Name, Place, Term};

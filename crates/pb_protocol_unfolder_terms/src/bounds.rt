@@ -2,7 +2,7 @@
 
 ghost use Rattle.std.specs.Prelude.{◌≡◌, ◌↔◌, IsTrue, map};
 ghost use Rattle.pb_protocol_folding.specs.View.{spec_of, term_of, terms_of};
-ghost use Rattle.pb_base_intervals.specs.Operation.{Negation};
+ghost use Rattle.pb_base_values.specs.Operation.{Negation};
 ghost use Rattle.pb_text_meaning.specs.Erase.{of_arithmetic};
 ghost use Rattle.pb_text_meaning.specs.Functions.{named_function};
 ghost use Rattle.pb_text_meaning.specs.Syntax as syntax;
@@ -14,7 +14,7 @@ ghost use Rattle.pb_protocol_unfolder_terms.specs.Puts.{calculated_term};
 
 use crate::context::{Context, StateVariable};
 use crate::written::bounds_of_sort;
-use pb_base_intervals::Interval;
+use pb_base_values::Interval;
 use pb_protocol_folding::written_value;
 use pb_text_meaning::NamedFunction;
 use pb_text_tree::{Argument, Arithmetic, ArithmeticLink, SortDeclaration, Term};

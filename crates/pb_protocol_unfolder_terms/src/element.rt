@@ -2,13 +2,12 @@
 
 ghost use Rattle.std.specs.Prelude.{◌≡◌, ◌++◌, true, map, decimal, IfOk, OnOk, string_bytes};
 ghost use Rattle.std.specs.List.{list_all};
-ghost use Rattle.pb_base_names.specs.Names.{is_name_byte};
+ghost use Rattle.pb_base.specs.Names.{is_name_byte};
 ghost use Rattle.pb_protocol_unfolding.specs.Written.{element, element_of, spelled};
 ghost use Rattle.pb_protocol_unfolder_terms.specs.Values.{written_term};
 
 use crate::written::Written;
-use pb_text_copies::copy_name;
-use pb_text_tree::Name;
+use pb_text_tree::{Name, copy_name};
 use std::alloc::{AllocError, Global};
 
 /// Adds a number in decimal.

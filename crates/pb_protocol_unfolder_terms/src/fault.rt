@@ -1,6 +1,6 @@
 //! Why a term isn't unfolded.
 
-use pb_base_errors::{Fault, OrMemory};
+use pb_base::{Fault, OrMemory};
 use pb_text_tree::Place;
 
 /// Which rule an unfolded term would break, with the number that a user sees.

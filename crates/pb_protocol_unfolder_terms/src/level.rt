@@ -1,7 +1,7 @@
 //! How a term is unfolded, and what is refused.
 
 ghost use Rattle.std.specs.Prelude.{◌≡◌, ◌+◌, ◌<◌, ℕ, suc, MatchResult};
-ghost use Rattle.pb_base_errors.specs.declared.or_memory.OrMemory.TheVariants.{Refused};
+ghost use Rattle.pb_base.specs.declared.or_memory.OrMemory.TheVariants.{Refused};
 ghost use Rattle.pb_text_tree.specs.Form.{term_form};
 ghost use Rattle.pb_text_meaning.specs.Syntax as syntax;
 ghost use Rattle.pb_protocol_unfolder_terms.specs.Chains.{HasLinks};

@@ -18,8 +18,7 @@ use crate::form::Form;
 use crate::unfolded::Unfolded;
 use crate::written::Written;
 use pb_protocol_folding::{Folding, negative_term};
-use pb_text_copies::copy_name;
-use pb_text_tree::{Name, Place, Term};
+use pb_text_tree::{Name, Place, Term, copy_name};
 use std::alloc::{AllocError, Global};
 
 /// The number 0, which stands for what is nothing.

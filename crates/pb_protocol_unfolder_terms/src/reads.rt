@@ -22,7 +22,7 @@ use crate::scope::TermScope;
 use crate::unfold::unfold;
 use crate::unfolded::Unfolded;
 use crate::written::{Written, written_values};
-use pb_base_limits::MAX_OPERATORS;
+use pb_base::MAX_OPERATORS;
 use pb_protocol_folding::truth_value;
 
 /// An element of an array at one more value.

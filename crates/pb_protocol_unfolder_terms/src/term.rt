@@ -19,7 +19,7 @@ use crate::level::Level;
 use crate::scope::TermScope;
 use crate::unfold::unfold;
 use crate::unfolded::Unfolded;
-use pb_base_limits::MAX_OPERATORS;
+use pb_base::MAX_OPERATORS;
 use pb_text_tree::Term;
 
 /// How many terms may be open, each within the one before or what a name in it stands for.

@@ -17,8 +17,8 @@ ghost use Rattle.pb_protocol_unfolder_terms.specs.Values.{interval_of, tuple_of,
 
 use crate::fault::{UnfoldError, UnfoldFault, UnfoldRule};
 use crate::sorts::{Sorts, Variable};
-use pb_base_intervals::Interval;
-use pb_base_limits::MAX_OPERATORS;
+use pb_base::MAX_OPERATORS;
+use pb_base_values::Interval;
 use pb_text_tree::{Enumerator, Name, Place, Range, Sort, SortDeclaration, Term};
 use std::alloc::{AllocError, Global};
 

@@ -5,7 +5,7 @@ ghost use Rattle.std.specs.Prelude.{length, vec_len, vec_capacity};
 ghost use Rattle.pb_report.specs.declared.buffer.TheConstants.{CAPACITY};
 
 use itoa::Buffer;
-use pb_base_errors::OrMemory;
+use pb_base::OrMemory;
 use pb_sorts::{E02, Sink, put};
 use std::alloc::{AllocError, Global};
 

@@ -3,7 +3,7 @@
 use Rattle.std.specs.Prelude.{◌≡◌, ℕ, ◌+◌, ◌≤◌, List, map, length, slice_index, All, Vec}
 use Rattle.pb_base_values.specs.Carrier as carriers
 use Rattle.pb_sorts.specs.declared.carrier.Carrier.{Carrier}
-use Rattle.pb_base_limits.specs.declared.TheConstants.{MAX_EQUATIONS, MAX_PARAMETERS, MAX_INSTANCES}
+use Rattle.pb_base.specs.declared.limits.TheConstants.{MAX_EQUATIONS, MAX_PARAMETERS, MAX_INSTANCES}
 use Rattle.pb_sorts.specs.Carrier.{values_of}
 use Rattle.pb_sorts.specs.Instance.{instances, first_of}
 

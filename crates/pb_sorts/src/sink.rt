@@ -5,7 +5,7 @@ ghost use Rattle.std.specs.Prelude.{OnErr, Option};
 ghost use Rattle.std.specs.Io.KnownBytes.{Appends, WriteAppends};
 ghost use Rattle.pb_sorts.specs.Sink.{AppendsPrefix};
 
-use pb_base_errors::Fault;
+use pb_base::Fault;
 use std::fmt;
 use std::io::Write;
 

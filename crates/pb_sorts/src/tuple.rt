@@ -6,7 +6,7 @@ ghost use Rattle.pb_sorts.specs.Carrier.{values_of};
 
 use crate::carrier::Carrier;
 use crate::instance::Tuple;
-use pb_base_limits::{MAX_INSTANCES, MAX_PARAMETERS};
+use pb_base::{MAX_INSTANCES, MAX_PARAMETERS};
 use std::alloc::Global;
 
 /// How many tuples carriers have; none where these are more than a layout may have.

@@ -1,7 +1,7 @@
 //! What a certificate of the game of trees means: its winners are the truth values of the nested
 //! fixpoint solution. It ties the games and certificates of `pb_game`, which know nothing of
-//! equations, to the solution of `pb_fixpoint` over the trees of `pb_fixpoint_trees`. Each law is the
-//! contract of a function that does nothing when it runs.
+//! equations, to the solution of `pb_fixpoint` over the trees of `pb_fixpoint_trees`. Each law is
+//! the contract of a function that does nothing when it runs.
 
 ghost use Rattle.pb_strategy.specs.Examples.{AlternatingInstances, EachOther, GreatestFirst};
 ghost use Rattle.pb_strategy.specs.Examples.{GreatestOfItself, LeastFirst, LeastOfItself};

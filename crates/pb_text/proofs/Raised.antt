@@ -1,9 +1,9 @@
 -- What is known of an answer whose error is raised to the layer above, by what is known below.
 use Rattle.std.proofs.Common.{◌≡◌, subst, Result, Ok, Err}
 use Rattle.std.specs.Prelude.{MatchResult, IsErrAnd}
-use Rattle.pb_base_errors.specs.OrMemory.{IfFault, raised}
-use Rattle.pb_base_errors.specs.declared.or_memory.OrMemory.{OrMemory}
-use Rattle.pb_base_errors.proofs.Faults.{if_raised}
+use Rattle.pb_base.specs.OrMemory.{IfFault, raised}
+use Rattle.pb_base.specs.declared.or_memory.OrMemory.{OrMemory}
+use Rattle.pb_base.proofs.Faults.{if_raised}
 
 -- P holds of what is answered, or Q of the fault
 abbrev pub Answers : {A F : Type 0} → (A → Type 0) → (F → Type 0) → Result A (OrMemory F) → Type 0

@@ -14,7 +14,7 @@ use Rattle.pb_text_lexer.specs.Tokens.{Tok}
 use Rattle.pb_text.specs.declared.error.TextRule.{TextRule}
 use Rattle.pb_text.specs.declared.error.TextRule.TheVariants as rule
 use Rattle.pb_text.specs.declared.error.TextFault.{TextFault}
-use Rattle.pb_base_limits.specs.declared.TheConstants.{MAX_DEPTH, MAX_OPERATORS}
+use Rattle.pb_base.specs.declared.limits.TheConstants.{MAX_DEPTH, MAX_OPERATORS}
 use Rattle.pb_text.specs.Grammar.{IsText}
 
 -- P04: how many levels of brackets, negations, signs and quantifiers may open, and how many

@@ -3,7 +3,7 @@
 ghost use Rattle.std.specs.Prelude.{◌≡◌};
 ghost use Rattle.pb_text.specs.Parsing as spec;
 
-use pb_base_errors::{Fault, OrMemory};
+use pb_base::{Fault, OrMemory};
 use pb_text_lexer::fault::{ReadingRule, Refusal};
 use pb_text_lexer::kind::Kind;
 use pb_text_tree::Place;

@@ -7,7 +7,7 @@ ghost use Rattle.pb_text_lexer.specs.Steps.{Gives, GivesExactly};
 ghost use Rattle.pb_text.specs.Parsing.{depth_limit};
 ghost use Rattle.pb_text.specs.Reading as reading;
 
-use pb_base_limits::MAX_DEPTH;
+use pb_base::MAX_DEPTH;
 use pb_fixpoint::Sign;
 use pb_text_formulas::formula::formula;
 use pb_text_formulas::next::unless;

@@ -1,15 +1,14 @@
 //! From bytes to a syntax tree.
 
-ghost use Rattle.pb_base_limits.specs.declared.TheConstants.{MAX_INPUT_BYTES};
+ghost use Rattle.pb_base.specs.declared.limits.TheConstants.{MAX_INPUT_BYTES};
 ghost use Rattle.std.specs.Prelude.{◌≡◌, ◌≤◌, ℕ, length, IfOk};
-ghost use Rattle.pb_base_errors.specs.OrMemory.{IfRefused, OnRefused};
+ghost use Rattle.pb_base.specs.OrMemory.{IfRefused, OnRefused};
 ghost use Rattle.pb_text_tree.specs.Form.{SpecForm, spec_form};
 ghost use Rattle.pb_text.specs.Parsing.{IsReading, IsReadingWithin, NoReading, IsFirstFault};
 
 use crate::error::TextError;
 use crate::system::whole;
-use pb_base_errors::OrMemory;
-use pb_base_limits::MAX_OPERATORS;
+use pb_base::{MAX_OPERATORS, OrMemory};
 use pb_text_lexer::input::Input;
 use pb_text_lexer::language::Language;
 use pb_text_lexer::ranges::ranges;

@@ -7,7 +7,7 @@ use Rattle.pb_text_tree.specs.declared.formula.Link.{Link}
 use Rattle.pb_text_tree.specs.declared.formula.Formula.{Formula}
 use Rattle.pb_text_tree.specs.Form.{FormulaForm, TermForm, InstanceForm, formula_form, link_form, link_forms}
 use Rattle.pb_text_lexer.specs.declared.fault.Refusal.{Refusal}
-use Rattle.pb_base_errors.specs.declared.or_memory.OrMemory.{OrMemory}
+use Rattle.pb_base.specs.declared.or_memory.OrMemory.{OrMemory}
 use Rattle.pb_text_lexer.specs.declared.fault.ReadingRule.TheVariants.{Unexpected, Limit}
 use Rattle.pb_text_lexer.specs.declared.kind.Kind.{Kind}
 use Rattle.pb_text_lexer.specs.declared.kind.Kind.TheVariants as k

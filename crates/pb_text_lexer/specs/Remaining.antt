@@ -1,6 +1,6 @@
 -- What a lexer still gives: a function of where it stands.
 use Rattle.std.specs.Prelude.{◌≡◌, true, ℕ, zero, suc, ◌+◌, ◌-◌, ◌^◌, ◌<◌, if◌then◌else◌, List, [], ◌∷◌, ◌++◌, length, take}
-use Rattle.pb_base_names.specs.Names.{is_spelled}
+use Rattle.pb_base.specs.Names.{is_spelled}
 use Rattle.pb_text_tree.specs.declared.place.Place.{Place}
 use Rattle.pb_text_tree.specs.Form.{RangeForm}
 use Rattle.pb_text_lexer.specs.declared.kind.Kind.TheVariants.{End, Name, Number}

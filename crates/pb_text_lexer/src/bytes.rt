@@ -3,7 +3,7 @@
 ghost use Rattle.std.specs.Prelude.{◌≡◌, ◌≤◌, length};
 ghost use Rattle.pb_text_lexer.specs.Bytes as spec;
 
-use pb_base_names::is_name_byte;
+use pb_base::is_name_byte;
 
 /// Whether a byte is white space.
 #[inline(always)]

@@ -1,7 +1,7 @@
 //! Why reading stops.
 
 use crate::kind::Kind;
-use pb_base_errors::{Fault, OrMemory};
+use pb_base::{Fault, OrMemory};
 use pb_text_tree::Place;
 
 /// What a reader finds wrong with a token.

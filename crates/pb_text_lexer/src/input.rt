@@ -2,7 +2,7 @@
 
 ghost use Rattle.std.specs.Prelude.{◌≡◌, ◌-◌, ◌<◌, ◌^◌, length, false, true, Ok, OnOk, IfOk};
 ghost use Rattle.std.specs.Str.Parse.{digits_value};
-ghost use Rattle.pb_base_names.specs.Names.{is_spelled};
+ghost use Rattle.pb_base.specs.Names.{is_spelled};
 ghost use Rattle.pb_text_lexer.specs.Grammar.{State};
 ghost use Rattle.pb_text_lexer.specs.Kinds.{is_last};
 ghost use Rattle.pb_text_lexer.specs.Lexing.{start};

@@ -10,7 +10,7 @@ use crate::kind::Kind;
 use crate::language::Language;
 use crate::piece::{Piece, front_piece};
 use crate::word::kind_among;
-use pb_base_names::is_letter;
+use pb_base::is_letter;
 use pb_text_tree::Place;
 
 /// The reserved words of models alone.

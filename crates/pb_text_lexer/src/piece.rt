@@ -9,7 +9,7 @@ use crate::digits::value_within;
 use crate::kind::Kind;
 use crate::range_line::is_wrong;
 use crate::word::word_kind;
-use pb_base_names::is_letter;
+use pb_base::is_letter;
 use pb_text_tree::Place;
 
 /// What stands at the front of a text, with its length in bytes.

@@ -5,7 +5,7 @@ ghost use Rattle.pb_text_lexer.specs.Bytes as spec;
 
 use crate::bytes::name_len;
 use crate::kind::{Kind, same_kind};
-use pb_base_names::is_letter;
+use pb_base::is_letter;
 
 /// The reserved words.
 const WORDS: [(&str, Kind); 24] = [

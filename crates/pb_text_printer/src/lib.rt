@@ -20,5 +20,5 @@ pub use laws::{
     commented_text_is_read_back, printed_text_is_read_back, printed_words_are_read_back,
     sayable_text_is_read_back, worked_comment,
 };
-pub use pb_text_copies::copy_term as copy;
+pub use pb_text_tree::copy_term as copy;
 pub use printing::print;

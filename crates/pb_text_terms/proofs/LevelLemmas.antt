@@ -8,8 +8,8 @@ use Rattle.pb_text_tree.specs.declared.operator.Connective.TheVariants.{And, Or,
 use Rattle.pb_text_tree.specs.declared.term.Term.{Term}
 use Rattle.pb_text_tree.specs.Form.{TermForm, term_form, calculated}
 use Rattle.pb_text_lexer.specs.declared.fault.ReadingRule.TheVariants.{Unexpected}
-use Rattle.pb_base_errors.specs.declared.or_memory.OrMemory.{OrMemory}
-use Rattle.pb_base_errors.proofs.Faults.{if_fault}
+use Rattle.pb_base.specs.declared.or_memory.OrMemory.{OrMemory}
+use Rattle.pb_base.proofs.Faults.{if_fault}
 use Rattle.pb_text_lexer.specs.declared.fault.Refusal.{Refusal}
 use Rattle.pb_text_lexer.specs.declared.kind.Kind.{Kind}
 use Rattle.pb_text_lexer.specs.declared.kind.Kind.TheVariants as k

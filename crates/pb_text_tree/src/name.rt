@@ -1,7 +1,7 @@
 //! Names as they are read.
 
 ghost use Rattle.std.specs.Prelude.{◌≡◌, string_bytes, true};
-ghost use Rattle.pb_base_names.specs.Names.{is_spelled};
+ghost use Rattle.pb_base.specs.Names.{is_spelled};
 
 use crate::place::Place;
 

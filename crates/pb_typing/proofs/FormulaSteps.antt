@@ -39,7 +39,7 @@ use Rattle.pb_typing.specs.FormulaLinks.{elaborated_links, link_faults, link_wid
 use Rattle.pb_typing.proofs.ElaboratedChains.{chained-elaborated}
 use Rattle.pb_typing.specs.Arguments.{faults_against, own_faults}
 use Rattle.pb_typing.specs.Elaborated.{ElaboratesFormula}
-use Rattle.pb_base_errors.specs.declared.or_memory.OrMemory.{OrMemory}
+use Rattle.pb_base.specs.declared.or_memory.OrMemory.{OrMemory}
 use Rattle.pb_typing_declarations.specs.declared.fault.TypingFault.{TypingFault}
 use Rattle.pb_typing_declarations.specs.Entries.{shape_of}
 use Rattle.pb_typing.proofs.ValueLemmas.{grown, joined-loops}

@@ -18,7 +18,7 @@ use Rattle.pb_text_meaning.specs.Value.{value}
 use Rattle.pb_text_meaning.specs.Formula.{carriers_of, equation_named}
 use Rattle.pb_text_tree.specs.Form.{SpecForm}
 use Rattle.pb_text_meaning.specs.Erase.{erase}
-use Rattle.pb_base_limits.specs.declared.TheConstants.{MAX_EQUATIONS}
+use Rattle.pb_base.specs.declared.limits.TheConstants.{MAX_EQUATIONS}
 use Rattle.pb_typing_declarations.specs.Declarations.{declaration_faults}
 use Rattle.pb_typing_declarations.proofs.DeclaredLaw.{declared}
 use Rattle.pb_typing_rules.specs.Formula.{count, IsCalled}
@@ -27,9 +27,9 @@ use Rattle.std.proofs.lemmas.List.{length-map}
 use Rattle.pb_text_meaning.specs.Erase.{erased_arguments, erased_term}
 use Rattle.pb_text_meaning.specs.Fits.{AllFit}
 use Rattle.pb_typing_declarations.specs.declared.fault.TypingFault.{TypingFault}
-use Rattle.pb_base_errors.specs.declared.or_memory.OrMemory.TheVariants.{Refused, Memory}
+use Rattle.pb_base.specs.declared.or_memory.OrMemory.TheVariants.{Refused, Memory}
 use Rattle.pb_typing_declarations.specs.declared.fault.TypingRule.TheVariants.{OutsideCarrier}
-use Rattle.pb_base_errors.specs.declared.or_memory.OrMemory.{OrMemory}
+use Rattle.pb_base.specs.declared.or_memory.OrMemory.{OrMemory}
 use Rattle.pb_typing_declarations.specs.Faults.{unless, IsAmong}
 use Rattle.pb_typing_declarations.specs.Agreement.{equation_place}
 use Rattle.pb_typing_declarations.specs.WellDeclared.{HaveEnds}

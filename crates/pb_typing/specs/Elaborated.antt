@@ -7,7 +7,7 @@ use Rattle.pb_text_meaning.specs.Syntax.{Spec}
 use Rattle.pb_text_meaning.specs.Erase.{erased_arguments, erased_formula, erased_term}
 use Rattle.pb_typing_declarations.specs.declared.fault.TypingRule.TheVariants.{WrongKind}
 use Rattle.pb_typing_declarations.specs.declared.fault.TypingFault.{TypingFault}
-use Rattle.pb_base_errors.specs.declared.or_memory.OrMemory.{OrMemory}
+use Rattle.pb_base.specs.declared.or_memory.OrMemory.{OrMemory}
 use Rattle.pb_typing_declarations.specs.Faults.{IsAmong, unless}
 use Rattle.pb_typing_declarations.specs.Shapes.{Shape}
 use Rattle.pb_typing_rules.specs.Faults.{formula_faults, term_faults}

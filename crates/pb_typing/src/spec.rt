@@ -1,7 +1,7 @@
 //! The check of a whole text.
 
 ghost use Rattle.std.specs.Prelude.{◌≡◌, ◌++◌, [], MatchResult, OnOk, IfErr};
-ghost use Rattle.pb_base_errors.specs.OrMemory.{IfFault};
+ghost use Rattle.pb_base.specs.OrMemory.{IfFault};
 ghost use Rattle.pb_text_tree.specs.Form.{spec_form};
 ghost use Rattle.pb_text_meaning.specs.Erase.{erase};
 ghost use Rattle.pb_typing_declarations.specs.Faults.{IsAmong};

@@ -7,7 +7,7 @@ use Rattle.pb_sorts.specs.Carrier.{values_of}
 use Rattle.pb_sorts.specs.Layout as layouts
 use Rattle.pb_sorts.specs.Layout.{lists_of}
 use Rattle.pb_base_values.specs.Carrier as carriers
-use Rattle.pb_base_limits.specs.declared.TheConstants.{MAX_PARAMETERS}
+use Rattle.pb_base.specs.declared.limits.TheConstants.{MAX_PARAMETERS}
 use Rattle.pb_text_tree.specs.declared.spec.Equation.{Equation}
 use Rattle.pb_text_tree.specs.Form.{equation_form}
 use Rattle.pb_typing_declarations.specs.declared.fault.TypingRule.TheVariants.{Limit}

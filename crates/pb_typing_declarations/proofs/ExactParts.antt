@@ -8,7 +8,7 @@ use Rattle.std.proofs.lemmas.List.Elements.{All-cons, All-head, All-tail, All-ni
 use Rattle.std.proofs.lemmas.Simd.{map-map}
 use Rattle.pb_text_tree.specs.declared.place.Place.{Place}
 use Rattle.pb_text_tree.specs.Form.{Named, VariableForm, EnumeratorForm, SortForm, struct, alias, SortDeclarationForm, RangeForm, EquationForm}
-use Rattle.pb_base_limits.specs.declared.TheConstants.{MAX_STRUCTS, MAX_ENUMERATORS, MAX_PARAMETERS, MAX_INSTANCES, MAX_NAME_BYTES}
+use Rattle.pb_base.specs.declared.limits.TheConstants.{MAX_STRUCTS, MAX_ENUMERATORS, MAX_PARAMETERS, MAX_INSTANCES, MAX_NAME_BYTES}
 use Rattle.pb_text_meaning.specs.Syntax.{Variable, Enumerator, SortDeclaration, Equation, Spec}
 use Rattle.pb_text_meaning.specs.Erase.{erased_variable, erased_variables, erased_enumerator, erased_recogniser, erased_sort, erased_declaration, erased_range, erased_equation}
 use Rattle.pb_typing_declarations.specs.declared.fault.TypingRule.TheVariants.{NameTwice, Limit, UnknownSort}

@@ -6,7 +6,7 @@ use Rattle.pb_sorts.specs.declared.carrier.Range.{Range}
 use Rattle.pb_text_tree.specs.Form.{Named, RangeForm, EquationForm}
 use Rattle.pb_text_meaning.specs.Syntax.{Name}
 use Rattle.pb_typing_declarations.specs.declared.entry.Entry.{Entry}
-use Rattle.pb_base_errors.specs.declared.or_memory.OrMemory.{OrMemory}
+use Rattle.pb_base.specs.declared.or_memory.OrMemory.{OrMemory}
 use Rattle.pb_typing_declarations.specs.declared.fault.TypingFault.{TypingFault}
 use Rattle.pb_typing_declarations.specs.Faults.{repeated, IsAmong}
 use Rattle.pb_typing_declarations.specs.Shapes.{first}

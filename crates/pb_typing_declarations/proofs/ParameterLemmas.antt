@@ -1,11 +1,11 @@
 -- An equation's parameters, by the check of their list.
 use Rattle.std.proofs.Common.{◌≡◌, List, [], subst, Vec, Global}
 use Rattle.std.specs.Prelude.{Result, Ok, Err, MatchResult}
-use Rattle.pb_base_limits.specs.declared.TheConstants.{MAX_PARAMETERS}
+use Rattle.pb_base.specs.declared.limits.TheConstants.{MAX_PARAMETERS}
 use Rattle.pb_sorts.specs.declared.carrier.Carrier.{Carrier}
 use Rattle.pb_text_tree.specs.Form.{VariableForm, EquationForm}
 use Rattle.pb_text_meaning.specs.Syntax.{Spec}
-use Rattle.pb_base_errors.specs.declared.or_memory.OrMemory.{OrMemory}
+use Rattle.pb_base.specs.declared.or_memory.OrMemory.{OrMemory}
 use Rattle.pb_typing_declarations.specs.declared.fault.TypingFault.{TypingFault}
 use Rattle.pb_typing_declarations.specs.Faults.{length_faults, IsAmong}
 use Rattle.pb_typing_declarations.specs.Reading.{HasVariables, HasParameters}

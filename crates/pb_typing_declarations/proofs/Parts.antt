@@ -6,9 +6,9 @@ use Rattle.std.proofs.lemmas.List.Elements.{Contains-append_left, Contains-appen
 use Rattle.pb_text_tree.specs.declared.place.Place.{Place}
 use Rattle.pb_typing_declarations.specs.declared.fault.TypingRule.{TypingRule}
 use Rattle.pb_typing_declarations.specs.declared.fault.TypingFault.{TypingFault}
-use Rattle.pb_base_errors.specs.declared.or_memory.OrMemory.{OrMemory}
-use Rattle.pb_base_errors.specs.declared.or_memory.OrMemory.TheVariants.{Refused, Memory}
-use Rattle.pb_base_errors.proofs.Faults.{if_fault}
+use Rattle.pb_base.specs.declared.or_memory.OrMemory.{OrMemory}
+use Rattle.pb_base.specs.declared.or_memory.OrMemory.TheVariants.{Refused, Memory}
+use Rattle.pb_base.proofs.Faults.{if_fault}
 use Rattle.pb_typing_declarations.specs.Faults.{unless, IsAmong}
 
 pub among_left : (xs ys : List TypingFault) (e : OrMemory TypingFault) → IsAmong xs e → IsAmong (xs ++ ys) e

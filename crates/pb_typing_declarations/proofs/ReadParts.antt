@@ -1,11 +1,11 @@
 -- The faults that are found as names are gathered, and those that are found by the tables, part by part.
 use Rattle.std.proofs.Common.{◌≡◌, ◌++◌, List, [], map}
 use Rattle.std.specs.Prelude.{flat_map}
-use Rattle.pb_base_limits.specs.declared.TheConstants.{MAX_EQUATIONS}
+use Rattle.pb_base.specs.declared.limits.TheConstants.{MAX_EQUATIONS}
 use Rattle.pb_text_tree.specs.Form.{SpecForm}
 use Rattle.pb_text_meaning.specs.Erase.{erase}
 use Rattle.pb_typing_declarations.specs.declared.fault.TypingFault.{TypingFault}
-use Rattle.pb_base_errors.specs.declared.or_memory.OrMemory.{OrMemory}
+use Rattle.pb_base.specs.declared.or_memory.OrMemory.{OrMemory}
 use Rattle.pb_typing_declarations.specs.Faults.{repeated, IsAmong}
 use Rattle.pb_typing_declarations.specs.Declarations.{structs_faults, empty_faults, names_of_enumerator, all_enumerator_forms, sort_names, range_name, equation_names, tables_faults, checks_faults, declaration_faults, sort_faults, range_faults, limit_faults, equations_faults_behind}
 use Rattle.pb_typing_declarations.proofs.Parts.{among_left, among_right, among_parts, no_whole, no_parts}

@@ -19,8 +19,8 @@ use Rattle.pb_typing_declarations.specs.Faults.{unless, repeated, length_faults}
 use Rattle.pb_typing_declarations.specs.Shapes.{End, Shaped, Unranged, Undeclared, Endless, end_of}
 use Rattle.pb_typing_declarations.specs.Shapes.{base_of, is_sort, is_built_in, number_behind}
 use Rattle.pb_typing_declarations.specs.Instances.{instance_count}
-use Rattle.pb_base_limits.specs.declared.TheConstants.{MAX_STRUCTS, MAX_ENUMERATORS, MAX_EQUATIONS}
-use Rattle.pb_base_limits.specs.declared.TheConstants.{MAX_PARAMETERS, MAX_INSTANCES}
+use Rattle.pb_base.specs.declared.limits.TheConstants.{MAX_STRUCTS, MAX_ENUMERATORS, MAX_EQUATIONS}
+use Rattle.pb_base.specs.declared.limits.TheConstants.{MAX_PARAMETERS, MAX_INSTANCES}
 
 -- ---- limits
 

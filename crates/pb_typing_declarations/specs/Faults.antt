@@ -1,9 +1,9 @@
 -- Faults: rules that fail, each with its place in the text.
 use Rattle.std.specs.Prelude.{Bool, true, false, not, nat_le, List, [], ◌∷◌, ◌++◌, length, Contains}
 use Rattle.std.specs.List.{list_any}
-use Rattle.pb_base_errors.specs.OrMemory.{IfFault}
-use Rattle.pb_base_errors.specs.declared.or_memory.OrMemory.{OrMemory}
-use Rattle.pb_base_limits.specs.declared.TheConstants.{MAX_NAME_BYTES}
+use Rattle.pb_base.specs.OrMemory.{IfFault}
+use Rattle.pb_base.specs.declared.or_memory.OrMemory.{OrMemory}
+use Rattle.pb_base.specs.declared.limits.TheConstants.{MAX_NAME_BYTES}
 use Rattle.pb_text_tree.specs.declared.place.Place.{Place}
 use Rattle.pb_text_tree.specs.Form.{Named}
 use Rattle.pb_text_meaning.specs.Syntax.{Name, same_name}

@@ -16,7 +16,7 @@ use Rattle.pb_typing_declarations.specs.Shapes.{range_bounds}
 use Rattle.pb_typing_declarations.specs.Shapes.{sort_shape, variable_shapes}
 use Rattle.pb_sorts.specs.declared.carrier.Range.{Range}
 use Rattle.pb_sorts.specs.declared.carrier.Carrier.{Carrier}
-use Rattle.pb_base_limits.specs.declared.TheConstants.{MAX_PARAMETERS, MAX_INSTANCES}
+use Rattle.pb_base.specs.declared.limits.TheConstants.{MAX_PARAMETERS, MAX_INSTANCES}
 use Rattle.pb_sorts.specs.Carrier.{values_of}
 use Rattle.pb_sorts.specs.Layout as layouts
 use Rattle.pb_base_values.specs.Carrier.{tuple_count}

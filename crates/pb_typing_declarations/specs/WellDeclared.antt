@@ -1,9 +1,9 @@
 -- What may be declared: the relation on what a text says, without places.
 use Rattle.std.specs.Prelude.{ℕ, ◌≡◌, ◌≢◌, ◌<◌, ◌≤◌, ◌≤ℤ◌, true, false, Bool, List, [], ◌∷◌, map}
 use Rattle.std.specs.Prelude.{flat_map, length, All, AllPairs, Option, Some, None}
-use Rattle.pb_base_limits.specs.declared.TheConstants.{MAX_STRUCTS, MAX_ENUMERATORS, MAX_EQUATIONS}
-use Rattle.pb_base_limits.specs.declared.TheConstants.{MAX_PARAMETERS, MAX_INSTANCES}
-use Rattle.pb_base_limits.specs.declared.TheConstants.{MAX_NAME_BYTES}
+use Rattle.pb_base.specs.declared.limits.TheConstants.{MAX_STRUCTS, MAX_ENUMERATORS, MAX_EQUATIONS}
+use Rattle.pb_base.specs.declared.limits.TheConstants.{MAX_PARAMETERS, MAX_INSTANCES}
+use Rattle.pb_base.specs.declared.limits.TheConstants.{MAX_NAME_BYTES}
 use Rattle.pb_text_meaning.specs.Syntax.{Name, Variable, Enumerator, Sort, Struct, Alias}
 use Rattle.pb_text_meaning.specs.Syntax.{SortDeclaration, Range, Equation, Spec}
 use Rattle.pb_typing_declarations.specs.Shapes.{End, Shaped, Unranged, Undeclared, Endless, end_of}

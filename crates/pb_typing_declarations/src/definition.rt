@@ -18,7 +18,7 @@ use crate::entry::Entry;
 use crate::fault::{TypeError, TypingFault, TypingRule, require};
 use crate::sorts::Enumerator;
 use crate::table::table;
-use pb_base_limits::{MAX_ENUMERATORS, MAX_NAME_BYTES, MAX_STRUCTS};
+use pb_base::{MAX_ENUMERATORS, MAX_NAME_BYTES, MAX_STRUCTS};
 use pb_sorts::Enumeration;
 use pb_text_meaning::NamedFunction;
 use pb_text_tree::{Name, Sort, SortDeclaration};

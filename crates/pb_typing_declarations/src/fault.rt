@@ -3,7 +3,7 @@
 ghost use Rattle.std.specs.Prelude.{◌≡◌, [], Contains, MatchResult};
 ghost use Rattle.pb_typing_declarations.specs.Faults.{unless};
 
-use pb_base_errors::{Fault, OrMemory};
+use pb_base::{Fault, OrMemory};
 use pb_text_tree::Place;
 use std::fmt;
 

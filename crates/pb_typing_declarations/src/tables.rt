@@ -36,7 +36,7 @@ use crate::fault::{TypeError, TypingFault, TypingRule, require};
 use crate::range::range_table;
 use crate::table::table;
 use crate::variables::variable_entries;
-use pb_base_limits::{MAX_EQUATIONS, MAX_INSTANCES, MAX_PARAMETERS};
+use pb_base::{MAX_EQUATIONS, MAX_INSTANCES, MAX_PARAMETERS};
 use pb_sorts::{Carrier, Range, count_tuples};
 use pb_text_tree::{Equation, Name, Place, Sort, SortDeclaration, Spec};
 use std::alloc::{AllocError, Global};

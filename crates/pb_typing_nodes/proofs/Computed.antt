@@ -3,12 +3,12 @@ use Rattle.std.proofs.Common.{◌≡◌, Bool, true, false, cond, ◌||◌, not,
 use Rattle.pb_text_tree.specs.declared.place.Place.{Place}
 use Rattle.pb_text_tree.specs.declared.operator.Arithmetic.{Arithmetic}
 use Rattle.pb_text_tree.specs.declared.operator.Arithmetic.TheVariants as arithmetic
-use Rattle.pb_base_intervals.specs.Interval.{IntegerInterval, is_included, within, literals}
-use Rattle.pb_base_intervals.specs.Operation.{BinaryOperation, binary_interval}
+use Rattle.pb_base_values.specs.Interval.{IntegerInterval, is_included, within, literals}
+use Rattle.pb_base_values.specs.Operation.{BinaryOperation, binary_interval}
 use Rattle.pb_text_meaning.specs.Erase.{of_arithmetic}
 use Rattle.pb_typing_declarations.specs.declared.fault.TypingRule.TheVariants as rule
 use Rattle.pb_typing_declarations.specs.Faults.{unless}
-use Rattle.pb_base_errors.specs.declared.or_memory.OrMemory.TheVariants.{Refused}
+use Rattle.pb_base.specs.declared.or_memory.OrMemory.TheVariants.{Refused}
 use Rattle.pb_typing_declarations.specs.Faults.{IsAmong}
 use Rattle.pb_typing_declarations.specs.Shapes.{Shape, Unknown, Wholes}
 use Rattle.pb_typing_rules.specs.Shapes.{may_divide, binary_shape, binary_is_limited, of_interval, kind_of, Computed}

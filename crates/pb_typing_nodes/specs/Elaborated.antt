@@ -1,6 +1,6 @@
 -- The typed tree of a part, or which rule fails.
 use Rattle.std.specs.Prelude.{◌≡◌, [], List, Result, Contains, MatchResult}
-use Rattle.pb_base_errors.specs.declared.or_memory.OrMemory.{OrMemory}
+use Rattle.pb_base.specs.declared.or_memory.OrMemory.{OrMemory}
 use Rattle.pb_typing_declarations.specs.declared.fault.TypingFault.{TypingFault}
 use Rattle.pb_typing_declarations.specs.Faults.{IsAmong}
 use Rattle.pb_typing_declarations.specs.Shapes.{Shape}

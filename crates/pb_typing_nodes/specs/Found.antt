@@ -1,7 +1,7 @@
 -- What is found of a term's shape.
 use Rattle.std.specs.Prelude.{◌≡◌, [], List, Result, Contains, MatchResult}
 use Rattle.pb_typing_declarations.specs.declared.fault.TypingFault.{TypingFault}
-use Rattle.pb_base_errors.specs.declared.or_memory.OrMemory.{OrMemory}
+use Rattle.pb_base.specs.declared.or_memory.OrMemory.{OrMemory}
 use Rattle.pb_typing_declarations.specs.Faults.{IsAmong}
 use Rattle.pb_typing_declarations.specs.Shapes as model
 use Rattle.pb_typing_tree.specs.declared.shape.Shape.{Shape}

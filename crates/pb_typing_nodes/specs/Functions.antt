@@ -1,6 +1,6 @@
 -- The program's functions of data, as the definitions name them.
 use Rattle.std.specs.Prelude.{◌≡◌, ℕ, Some}
-use Rattle.pb_base_intervals.specs.Operation as operations
+use Rattle.pb_base_values.specs.Operation as operations
 use Rattle.pb_text_meaning.specs.Functions.{named_function}
 use Rattle.pb_text_meaning.specs.Syntax.{Name, Spec}
 use Rattle.pb_typing_declarations.specs.Enumerators.{position_shape}

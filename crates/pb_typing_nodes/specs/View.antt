@@ -1,7 +1,7 @@
 -- The program's operations, as the definitions name them.
 use Rattle.pb_text_tree.specs.declared.operator.Arithmetic.{Arithmetic}
 use Rattle.pb_text_tree.specs.declared.operator.Arithmetic.TheVariants as arithmetic
-use Rattle.pb_base_intervals.specs.Operation as operations
+use Rattle.pb_base_values.specs.Operation as operations
 use Rattle.pb_typing_nodes.specs.declared.operation.UnaryOperation.{UnaryOperation}
 use Rattle.pb_typing_nodes.specs.declared.operation.UnaryOperation.TheVariants as unary
 use Rattle.pb_typing_nodes.specs.declared.operation.BinaryOperation.{BinaryOperation}

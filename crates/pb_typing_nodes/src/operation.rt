@@ -2,8 +2,8 @@
 //! fails.
 
 ghost use Rattle.std.specs.Prelude.{◌≡◌, [], ◌∷◌, true};
-ghost use Rattle.pb_base_intervals.specs.Interval.{within, literals};
-ghost use Rattle.pb_base_intervals.specs.Operation as operations;
+ghost use Rattle.pb_base_values.specs.Interval.{within, literals};
+ghost use Rattle.pb_base_values.specs.Operation as operations;
 ghost use Rattle.pb_typing_rules.specs.Faults.{kind_faults, operator_faults};
 ghost use Rattle.pb_typing_rules.specs.Functions as functions;
 ghost use Rattle.pb_typing_rules.specs.Shapes.{Computed, binary_shape, may_divide, unary_shape};
@@ -12,7 +12,7 @@ ghost use Rattle.pb_typing_tree.specs.View.{shape_view};
 ghost use Rattle.pb_typing_nodes.specs.Found.{Finds};
 ghost use Rattle.pb_typing_nodes.specs.View.{binary_operation, unary_operation};
 
-use pb_base_intervals::Interval;
+use pb_base_values::Interval;
 use pb_text_tree::Place;
 use pb_typing_declarations::{TypingFault, TypingRule, require};
 use pb_typing_tree::Shape;

@@ -1,12 +1,12 @@
 //! What the shapes of data terms allow: their kinds, and intervals within 2^62.
 
 ghost use Rattle.std.specs.Prelude.{◌≡◌, true, false, pos, MatchOption};
-ghost use Rattle.pb_base_intervals.specs.Interval.{literals, singleton, within};
+ghost use Rattle.pb_base_values.specs.Interval.{literals, singleton, within};
 ghost use Rattle.pb_typing_declarations.specs.Entries.{shape_of};
 ghost use Rattle.pb_typing_rules.specs.Shapes as shapes;
 ghost use Rattle.pb_typing_tree.specs.View.{shape_view};
 
-use pb_base_intervals::Interval;
+use pb_base_values::Interval;
 use pb_sorts::Carrier;
 use pb_typing_tree::Shape;
 

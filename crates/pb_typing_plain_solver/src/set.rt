@@ -6,7 +6,7 @@ ghost use Rattle.std.specs.List.{slice_get};
 ghost use Rattle.pb_text_tree.specs.Form.{spec_form};
 ghost use Rattle.pb_sorts.specs.Instance.{first_of, owns_number, size_of};
 ghost use Rattle.pb_sorts.specs.Layout.{carriers_of, count_of};
-ghost use Rattle.pb_base_limits.specs.declared.TheConstants.{MAX_INSTANCES};
+ghost use Rattle.pb_base.specs.declared.limits.TheConstants.{MAX_INSTANCES};
 ghost use Rattle.pb_text_meaning.specs.Erase.{erase};
 ghost use Rattle.pb_text_meaning.specs.Syntax as syntax;
 ghost use Rattle.pb_typing_values.specs.Environment.{environment_of};

@@ -1,8 +1,8 @@
 -- The value of a well-typed term is one of the term's shape, and each value on the way is within the limits.
 use Rattle.std.proofs.Common.{Bool, true, false, List, [], ◌∷◌, arith, pos, Option, Some, None}
 use Rattle.std.proofs.lemmas.Int.{ints}
-use Rattle.pb_base_intervals.specs.Interval.{singleton}
-use Rattle.pb_base_intervals.specs.Operation.{Negation}
+use Rattle.pb_base_values.specs.Interval.{singleton}
+use Rattle.pb_base_values.specs.Operation.{Negation}
 use Rattle.pb_text_meaning.specs.Syntax.{Variable, Term, Terms, Formula, Equation, Spec}
 use Rattle.pb_text_meaning.specs.Value.{Assignment, value, values}
 use Rattle.pb_text_meaning.specs.Formula.{equation_named}

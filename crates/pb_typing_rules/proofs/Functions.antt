@@ -1,7 +1,7 @@
 -- The shape of what a named function gives has the function's value.
 use Rattle.std.proofs.Common.{◌≡◌, Bool, true, false, cond, ◌||◌, not, List, [], ◌∷◌, refl, sym, ap, arith, ℤ, pos, int_le, true≢false, Option, Some, None}
 use Rattle.std.proofs.lemmas.Bool.{and_parts}
-use Rattle.pb_base_intervals.specs.Operation.{BinaryOperation, Successor, Predecessor, AbsoluteValue, Maximum, Minimum, divides}
+use Rattle.pb_base_values.specs.Operation.{BinaryOperation, Successor, Predecessor, AbsoluteValue, Maximum, Minimum, divides}
 use Rattle.pb_text_meaning.specs.Syntax.{Name, Spec}
 use Rattle.pb_text_meaning.specs.declared.function.NamedFunction.{NamedFunction}
 use Rattle.pb_text_meaning.specs.declared.function.NamedFunction.TheVariants.{If, Succ, Pred, Abs, Max, Min, Pos2Nat, Pos2Int, Nat2Int}

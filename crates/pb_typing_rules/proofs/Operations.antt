@@ -3,11 +3,11 @@ use Rattle.std.proofs.Common.{◌≡◌, ℕ, Bool, true, false, cond, ◌&&◌,
 use Rattle.std.specs.Prelude.{◌==◌, max}
 use Rattle.std.proofs.lemmas.Int.{ints}
 use Rattle.std.proofs.lemmas.Bool.{and_parts}
-use Rattle.pb_base_intervals.specs.Interval.{is_included, within, literals}
-use Rattle.pb_base_intervals.specs.Operation.{UnaryOperation, BinaryOperation, Sum, Difference, Product, Quotient, Remainder, unary_value, binary_value, unary_interval, binary_interval, divides}
-use Rattle.pb_base_intervals.specs.Laws.{IsDefined}
-use Rattle.pb_base_intervals.proofs.Ends.{le_true}
-use Rattle.pb_base_intervals.proofs.Sound.{unary_sound, binary_sound, hull_sound}
+use Rattle.pb_base_values.specs.Interval.{is_included, within, literals}
+use Rattle.pb_base_values.specs.Operation.{UnaryOperation, BinaryOperation, Sum, Difference, Product, Quotient, Remainder, unary_value, binary_value, unary_interval, binary_interval, divides}
+use Rattle.pb_base_values.specs.Laws.{IsDefined}
+use Rattle.pb_base_values.proofs.Ends.{le_true}
+use Rattle.pb_base_values.proofs.Sound.{unary_sound, binary_sound, hull_sound}
 use Rattle.pb_text_meaning.specs.Syntax.{Operator}
 use Rattle.pb_text_meaning.specs.Value.{binary}
 use Rattle.pb_text_meaning.specs.Fits.{DivisorFits}

@@ -5,8 +5,8 @@ use Rattle.std.proofs.lemmas.Bool.Decides.{Decides-int_eq}
 use Rattle.std.proofs.lemmas.Bool.{and_parts}
 use Rattle.pb_base_values.specs.Carrier.{contains, of_bool, at_least_none}
 use Rattle.pb_sorts.proofs.Intervals.{contains-numbers_from}
-use Rattle.pb_base_intervals.specs.Interval.{IntegerInterval, Includes, is_included, within, literals}
-use Rattle.pb_base_intervals.proofs.Ends.{le_true}
+use Rattle.pb_base_values.specs.Interval.{IntegerInterval, Includes, is_included, within, literals}
+use Rattle.pb_base_values.proofs.Ends.{le_true}
 use Rattle.pb_text_meaning.specs.Fits.{IsBounded}
 use Rattle.pb_typing_declarations.specs.Shapes.{Shape, Unknown, Truths, Places, Wholes, shape_carrier}
 use Rattle.pb_typing_rules.specs.Shapes.{IsValueOf, is_limited, interval, of_interval}

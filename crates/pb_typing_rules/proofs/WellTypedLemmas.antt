@@ -13,9 +13,9 @@ use Rattle.pb_text_meaning.specs.Value.{value, values}
 use Rattle.pb_text_meaning.specs.Formula.{carriers_of, equation_named, fits}
 use Rattle.pb_text_meaning.specs.Erase.{erase, erased_equation, erased_term, erased_arguments, erased_variables}
 use Rattle.pb_typing_declarations.specs.declared.fault.TypingFault.{TypingFault}
-use Rattle.pb_base_errors.specs.OrMemory.{IfFault}
-use Rattle.pb_base_errors.specs.declared.or_memory.OrMemory.{OrMemory}
-use Rattle.pb_base_errors.specs.declared.or_memory.OrMemory.TheVariants.{Refused, Memory}
+use Rattle.pb_base.specs.OrMemory.{IfFault}
+use Rattle.pb_base.specs.declared.or_memory.OrMemory.{OrMemory}
+use Rattle.pb_base.specs.declared.or_memory.OrMemory.TheVariants.{Refused, Memory}
 use Rattle.pb_typing_declarations.specs.Faults.{IsAmong}
 use Rattle.pb_typing_declarations.specs.Declarations.{declaration_faults}
 use Rattle.pb_typing_declarations.specs.WellDeclared.{HaveEnds, IsDeclared}

@@ -4,8 +4,8 @@ use Rattle.pb_text_tree.specs.declared.place.Place.{Place}
 use Rattle.pb_text_tree.specs.declared.operator.Connective.{Connective}
 use Rattle.pb_text_tree.specs.declared.operator.Connective.TheVariants.{And, Or, Implies}
 use Rattle.pb_text_tree.specs.Form.{Named, TermForm, ArgumentForms, no_arguments, argument, InstanceForm, FormulaForm, EquationForm, SpecForm}
-use Rattle.pb_base_intervals.specs.Interval.{is_included, singleton, literals}
-use Rattle.pb_base_intervals.specs.Operation.{Negation}
+use Rattle.pb_base_values.specs.Interval.{is_included, singleton, literals}
+use Rattle.pb_base_values.specs.Operation.{Negation}
 use Rattle.pb_text_meaning.specs.Syntax.{Variable, Equation, Spec}
 use Rattle.pb_base_values.specs.Carrier.{Carrier, Value, contains}
 use Rattle.pb_text_meaning.specs.Sorts.{carrier_of}

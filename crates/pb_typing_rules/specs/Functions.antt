@@ -7,7 +7,7 @@ use Rattle.pb_text_meaning.specs.declared.function.NamedFunction.TheVariants.{If
 use Rattle.pb_text_meaning.specs.declared.function.NamedFunction.TheVariants.{Max, Min, Pos2Nat}
 use Rattle.pb_text_meaning.specs.declared.function.NamedFunction.TheVariants.{Pos2Int, Nat2Int}
 use Rattle.pb_text_meaning.specs.Functions.{named_function}
-use Rattle.pb_base_intervals.specs.Operation.{UnaryOperation, Successor, Predecessor, AbsoluteValue, BinaryOperation, Maximum, Minimum}
+use Rattle.pb_base_values.specs.Operation.{UnaryOperation, Successor, Predecessor, AbsoluteValue, BinaryOperation, Maximum, Minimum}
 use Rattle.pb_typing_declarations.specs.Shapes.{Shape, Unknown, Truths, Wholes}
 use Rattle.pb_typing_declarations.specs.Enumerators.{recogniser_shape}
 use Rattle.pb_typing_rules.specs.Shapes.{may_be_truth, may_be_whole, may_be_alike, hull, unary_shape, unary_is_limited, binary_shape, binary_is_limited}

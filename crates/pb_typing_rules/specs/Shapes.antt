@@ -2,9 +2,9 @@
 -- unknown shape has a fault of its own, and so it passes each test.
 use Rattle.std.specs.Prelude.{ℕ, ℤ, pos, ◌-ℤ◌, int_le, Bool, true, false, not, ◌==◌, ◌&&◌, ◌||◌, if◌then◌else◌, Option, Some, None, max}
 use Rattle.pb_text_meaning.specs.Syntax.{Operator}
-use Rattle.pb_base_intervals.specs.Interval as intervals
-use Rattle.pb_base_intervals.specs.Interval.{IntegerInterval, Includes, is_included, within, singleton, literals}
-use Rattle.pb_base_intervals.specs.Operation.{UnaryOperation, BinaryOperation, Sum, Difference, Product, Quotient, Remainder, divides, unary_interval, binary_interval}
+use Rattle.pb_base_values.specs.Interval as intervals
+use Rattle.pb_base_values.specs.Interval.{IntegerInterval, Includes, is_included, within, singleton, literals}
+use Rattle.pb_base_values.specs.Operation.{UnaryOperation, BinaryOperation, Sum, Difference, Product, Quotient, Remainder, divides, unary_interval, binary_interval}
 use Rattle.pb_typing_declarations.specs.Shapes.{Shape, Unknown, Truths, Places, Wholes}
 
 -- ---- kinds

@@ -1,8 +1,8 @@
 -- The kind and interval of a data term, and which terms are well typed.
 use Rattle.std.specs.Prelude.{◌≡◌, pos, Bool, true, false, ⊤, List, [], ◌∷◌, length, Option, Some, None}
 use Rattle.pb_text_meaning.specs.Syntax.{Term, Terms, Spec}
-use Rattle.pb_base_intervals.specs.Interval.{is_included, singleton, literals}
-use Rattle.pb_base_intervals.specs.Operation.{Negation}
+use Rattle.pb_base_values.specs.Interval.{is_included, singleton, literals}
+use Rattle.pb_base_values.specs.Operation.{Negation}
 use Rattle.pb_typing_declarations.specs.Shapes.{Shape, Unknown, Truths}
 use Rattle.pb_typing_declarations.specs.WellDeclared.{AreVariables}
 use Rattle.pb_typing_rules.specs.Shapes.{may_be_truth, may_be_whole, is_limited, literal_shape, unary_shape, unary_is_limited, OperatorKind, OfTruths, OfAlike, OfWholes, Computed, kind_of, accepts, outcome, divisor_is_positive, outcome_is_limited}

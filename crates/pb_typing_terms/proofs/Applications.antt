@@ -16,7 +16,7 @@ use Rattle.pb_typing_rules.specs.Scope.{Scope}
 use Rattle.pb_typing_rules.specs.Term.{shape, shapes, applied_shape}
 use Rattle.pb_typing_rules.specs.Faults.{term_faults, terms_faults, function_faults, kind_faults}
 use Rattle.pb_text_meaning.specs.Functions.{named_function}
-use Rattle.pb_base_errors.specs.declared.or_memory.OrMemory.{OrMemory}
+use Rattle.pb_base.specs.declared.or_memory.OrMemory.{OrMemory}
 use Rattle.pb_typing_tree.specs.declared.formula.Argument as typed
 use Rattle.pb_typing_tree.specs.Elaboration.{Slotting, slotted, applied_to_one, applied_to_two, applied_to_three}
 use Rattle.pb_typing_tree.specs.Tree as tree

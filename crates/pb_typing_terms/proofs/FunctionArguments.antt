@@ -7,7 +7,7 @@ use Rattle.pb_text_meaning.specs.Syntax.{Name, Spec}
 use Rattle.pb_text_meaning.specs.Erase.{erased_arguments}
 use Rattle.pb_typing_declarations.specs.declared.fault.TypingRule.TheVariants as rule
 use Rattle.pb_typing_declarations.specs.declared.fault.TypingFault.{TypingFault}
-use Rattle.pb_base_errors.specs.declared.or_memory.OrMemory.{OrMemory}
+use Rattle.pb_base.specs.declared.or_memory.OrMemory.{OrMemory}
 use Rattle.pb_typing_declarations.specs.Faults.{unless, IsAmong}
 use Rattle.pb_typing_rules.specs.Functions.{Function, Choice, OfTwo, function_named, arity}
 use Rattle.pb_typing_rules.specs.Scope.{Scope}

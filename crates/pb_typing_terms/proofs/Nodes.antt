@@ -10,10 +10,10 @@ use Rattle.pb_text_tree.specs.declared.term.TermLink.{TermLink}
 use Rattle.pb_text_tree.specs.Form.{TermForm, chained, term_form, term_links}
 use Rattle.pb_text_meaning.specs.Syntax.{Spec}
 use Rattle.pb_text_meaning.specs.Erase.{erased_term, of_comparison}
-use Rattle.pb_base_intervals.specs.Operation as operations
+use Rattle.pb_base_values.specs.Operation as operations
 use Rattle.pb_typing_declarations.specs.declared.fault.TypingRule.TheVariants as rule
 use Rattle.pb_typing_declarations.specs.declared.fault.TypingFault.{TypingFault}
-use Rattle.pb_base_errors.specs.declared.or_memory.OrMemory.{OrMemory}
+use Rattle.pb_base.specs.declared.or_memory.OrMemory.{OrMemory}
 use Rattle.pb_typing_declarations.specs.Faults.{unless, IsAmong}
 use Rattle.pb_typing_declarations.specs.Shapes.{Shape, Truths}
 use Rattle.pb_typing_rules.specs.Shapes.{may_be_truth, kind_of, outcome, unary_shape}

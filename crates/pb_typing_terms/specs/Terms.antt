@@ -1,6 +1,6 @@
 -- Typed trees of terms where no quantifier may stand.
 use Rattle.std.specs.Prelude.{false, Result}
-use Rattle.pb_base_errors.specs.declared.or_memory.OrMemory.{OrMemory}
+use Rattle.pb_base.specs.declared.or_memory.OrMemory.{OrMemory}
 use Rattle.pb_text_tree.specs.Form.{TermForm}
 use Rattle.pb_text_meaning.specs.Erase.{erased_term}
 use Rattle.pb_text_meaning.specs.Syntax.{Spec}

@@ -3,7 +3,7 @@
 ghost use Rattle.std.specs.Prelude.{◌≡◌, [], false, length, pos, MatchResult};
 ghost use Rattle.pb_text_tree.specs.Form.{TermForm, argument_forms, arithmetic_links, calculated};
 ghost use Rattle.pb_text_tree.specs.Form.{chained, named, term_form, term_links};
-ghost use Rattle.pb_base_intervals.specs.Interval.{is_included, literals, singleton};
+ghost use Rattle.pb_base_values.specs.Interval.{is_included, literals, singleton};
 ghost use Rattle.pb_typing_rules.specs.Shapes.{literal_shape};
 ghost use Rattle.pb_typing_declarations.specs.Faults.{IsAmong, unless};
 ghost use Rattle.pb_typing_tree.specs.Tree as tree;

@@ -1,6 +1,6 @@
 //! What is known of a data term's values: their kind, and the interval of whole numbers.
 
-use pb_base_intervals::Interval;
+use pb_base_values::Interval;
 
 /// Kind and interval together.
 #[derive(Clone, Copy, Debug, PartialEq, Eq)]

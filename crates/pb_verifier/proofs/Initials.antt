@@ -5,7 +5,7 @@ use Rattle.std.specs.Prelude.{◌&&◌, nat_le, length, slice_get}
 use Rattle.std.specs.List.{list_all}
 use Rattle.std.proofs.lemmas.Bool.{and_parts}
 use Rattle.pb_base_values.specs.Carrier.{Tuple, is_within}
-use Rattle.pb_base_limits.specs.declared.TheConstants.{MAX_STRUCTS, MAX_EQUATIONS, MAX_INSTANCES}
+use Rattle.pb_base.specs.declared.limits.TheConstants.{MAX_STRUCTS, MAX_EQUATIONS, MAX_INSTANCES}
 use Rattle.pb_sorts.specs.Carrier.{values_of}
 use Rattle.pb_sorts.specs.Instance.{Instance, instances, is_instance, is_tuple_of}
 use Rattle.pb_sorts.specs.Layout.{carriers_of}

@@ -1,7 +1,7 @@
 -- From the equations of a module as the program holds them to what the module says.
 use Rattle.std.proofs.Common.{◌≡◌, ℕ, zero, suc, ◌≤◌, true, List, [], ◌∷◌, length, map, Some, Vec, refl, sym, ap, subst, ◌∙◌, arith}
 use Rattle.std.specs.Prelude.{All, slice_get, vec_items, vec_len}
-use Rattle.pb_base_limits.specs.declared.TheConstants.{MAX_EQUATIONS}
+use Rattle.pb_base.specs.declared.limits.TheConstants.{MAX_EQUATIONS}
 use Rattle.pb_sorts.specs.declared.carrier.Carrier.{Carrier}
 use Rattle.pb_sorts.proofs.Places.{slice_get-mapped}
 use Rattle.pb_bytecode.specs.declared.module.Module.{Module}

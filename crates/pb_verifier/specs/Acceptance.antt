@@ -3,7 +3,7 @@ use Rattle.std.specs.Prelude.{◌≡◌, ℕ, ◌<◌, ◌≤◌, List, Some}
 use Rattle.std.specs.List.{slice_get}
 use Rattle.pb_sorts.specs.Layout.{count_of}
 use Rattle.pb_sorts.specs.declared.carrier.Carrier.{Carrier}
-use Rattle.pb_base_limits.specs.declared.TheConstants.{MAX_STEPS, MAX_TOKENS}
+use Rattle.pb_base.specs.declared.limits.TheConstants.{MAX_STEPS, MAX_TOKENS}
 use Rattle.pb_bytecode_program.specs.Machine.{Program}
 use Rattle.pb_bytecode_program.specs.Counts.{static_steps, static_tokens}
 use Rattle.pb_bytecode_program.specs.Accepted.{Accepted, Table}

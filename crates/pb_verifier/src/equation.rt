@@ -5,13 +5,12 @@ ghost use Rattle.pb_bytecode_program.specs.Machine.{Program};
 ghost use Rattle.pb_verifier_structure.specs.Structure.{IsStructured};
 ghost use Rattle.pb_verifier_structure.specs.Views.{IsProgramOf};
 ghost use Rattle.pb_verifier.specs.Acceptance.{HasTable, StatesCounts};
-ghost use Rattle.pb_base_errors.specs.OrMemory.{OnRefused};
+ghost use Rattle.pb_base.specs.OrMemory.{OnRefused};
 ghost use Rattle.pb_verifier.specs.Programs.{program_in};
 ghost use Rattle.pb_verifier_structure.specs.Structure.{IsProgramWithinLimits};
 
 use crate::pass::pass;
-use pb_base_errors::OrMemory;
-use pb_base_limits::{MAX_STEPS, MAX_TOKENS};
+use pb_base::{MAX_STEPS, MAX_TOKENS, OrMemory};
 use pb_bytecode::Equation;
 use pb_sorts::Carrier;
 use pb_verifier_states::AcceptanceRule;

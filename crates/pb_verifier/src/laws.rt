@@ -1,7 +1,7 @@
 //! The law of the pass. The function does nothing: the law stands on its contract.
 
 ghost use Rattle.std.specs.Prelude.{◌≡◌, ◌≤◌, true, false};
-ghost use Rattle.pb_base_limits.specs.declared.TheConstants.{MAX_STEPS, MAX_TOKENS};
+ghost use Rattle.pb_base.specs.declared.limits.TheConstants.{MAX_STEPS, MAX_TOKENS};
 ghost use Rattle.pb_bytecode_program.specs.Accepted.{Accepted, Table};
 ghost use Rattle.pb_bytecode_program.specs.Counts.{static_steps, static_tokens};
 ghost use Rattle.pb_bytecode_program.specs.Machine.{Program};

@@ -6,10 +6,10 @@ ghost use Rattle.pb_bytecode.specs.Contents.{counts};
 ghost use Rattle.pb_bytecode.specs.Views.{sort_contents};
 ghost use Rattle.pb_sorts.specs.Layout.{count_of, lists_of};
 ghost use Rattle.pb_verifier.specs.Programs.{parameters_of};
-ghost use Rattle.pb_base_limits.specs.declared.TheConstants.{MAX_EQUATIONS, MAX_PARAMETERS};
-ghost use Rattle.pb_base_limits.specs.declared.TheConstants.{MAX_INSTANCES};
+ghost use Rattle.pb_base.specs.declared.limits.TheConstants.{MAX_EQUATIONS, MAX_PARAMETERS};
+ghost use Rattle.pb_base.specs.declared.limits.TheConstants.{MAX_INSTANCES};
 
-use pb_base_errors::OrMemory;
+use pb_base::OrMemory;
 use pb_bytecode::{Equation, Sort};
 use pb_sorts::{Carrier, Layout};
 use std::alloc::{AllocError, Global};

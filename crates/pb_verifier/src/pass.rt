@@ -3,7 +3,7 @@
 
 ghost use Rattle.std.specs.Prelude.{◌≡◌, ◌<◌, ◌≤◌, [], ◌∷◌, IfOk, List, None, OnErr, OnOk, Some, ℕ};
 ghost use Rattle.std.specs.Prelude.{map, replicate, slice_set, true, false, vec_items, vec_len};
-ghost use Rattle.pb_base_errors.specs.OrMemory.{OnRefused, raised};
+ghost use Rattle.pb_base.specs.OrMemory.{OnRefused, raised};
 ghost use Rattle.pb_bytecode_program.specs.Accepted.{state_at};
 ghost use Rattle.pb_bytecode_program.specs.Counts.{Leaves, loop_effect};
 ghost use Rattle.pb_bytecode_program.specs.Monotone.{HasOrderedRange};
@@ -13,12 +13,12 @@ ghost use Rattle.pb_verifier.specs.Pass.{code_passes, homes_after, initial_table
 ghost use Rattle.pb_verifier.specs.Programs.{program_in};
 ghost use Rattle.pb_verifier.specs.Names.{program_with};
 ghost use Rattle.pb_verifier_structure.specs.Structure.{IsProgramWithinLimits};
-ghost use Rattle.pb_base_limits.specs.declared.TheConstants.{MAX_INSTRUCTIONS};
+ghost use Rattle.pb_base.specs.declared.limits.TheConstants.{MAX_INSTRUCTIONS};
 ghost use Rattle.pb_sorts.specs.declared.carrier.Carrier.{Carrier as carrier_type};
 
 use crate::open_loops::OpenLoops;
 use crate::visit::{Names, visit, visit_loop, visit_next};
-use pb_base_errors::OrMemory;
+use pb_base::OrMemory;
 use pb_bytecode::Equation;
 use pb_bytecode_program::Op;
 use pb_sorts::Carrier;

@@ -6,14 +6,14 @@ ghost use Rattle.pb_bytecode.specs.Meaning.{parameters};
 ghost use Rattle.pb_bytecode.specs.declared.equation.Equation.{Equation as equation_type};
 ghost use Rattle.pb_verifier.specs.Acceptance.{IsAccepted, IsInitialNumber, IsVerified};
 ghost use Rattle.pb_verifier.specs.Programs.{program_in, HaveTables};
-ghost use Rattle.pb_base_errors.specs.OrMemory.{IfFault, OnRefused, raised};
+ghost use Rattle.pb_base.specs.OrMemory.{IfFault, OnRefused, raised};
 ghost use Rattle.pb_verifier_structure.specs.Structure.{IsProgramWithinLimits};
 
 use crate::equation::check_equation;
 use crate::module_tables::{enumerator_counts, layout_of, parameter_carriers};
 use crate::verified::Verified;
 use crate::verify_error::{CodeFault, VerifyError};
-use pb_base_errors::OrMemory;
+use pb_base::OrMemory;
 use pb_bytecode::{Equation, Module};
 use pb_sorts::{Carrier, Instance, Layout, Tuple};
 use pb_verifier_structure::PositionFault;

@@ -1,6 +1,6 @@
 //! Why a module is refused.
 
-use pb_base_errors::{Fault, OrMemory};
+use pb_base::{Fault, OrMemory};
 use pb_verifier_states::AcceptanceRule;
 use std::fmt;
 

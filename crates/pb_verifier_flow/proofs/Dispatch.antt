@@ -11,11 +11,11 @@ use Rattle.pb_bytecode_program.specs.declared.instruction.Op.TheVariants as op
 use Rattle.pb_verifier_flow.specs.Edges.{edges_of}
 use Rattle.pb_verifier_flow.specs.Flows.{GoesOn, Fails, FlowsTo}
 use Rattle.pb_verifier_states.specs.NamedRule.{IsNamed, named_rule}
-use Rattle.pb_base_errors.specs.OrMemory.{OnRefused, IfRefused}
+use Rattle.pb_base.specs.OrMemory.{OnRefused, IfRefused}
 use Rattle.pb_verifier_states.specs.declared.rule.AcceptanceRule.{AcceptanceRule}
 use Rattle.pb_verifier_flow.specs.declared.edges.Edges.{Edges}
-use Rattle.pb_base_errors.specs.declared.or_memory.OrMemory.{OrMemory}
-use Rattle.pb_base_errors.specs.declared.or_memory.OrMemory.TheVariants.{Refused, Memory}
+use Rattle.pb_base.specs.declared.or_memory.OrMemory.{OrMemory}
+use Rattle.pb_base.specs.declared.or_memory.OrMemory.TheVariants.{Refused, Memory}
 
 -- in programs with these sorts and callees the instruction does this
 abbrev pub Does : List ℕ → List (List Carrier) → Op → AbstractState → (ℕ → Flow) → Type 0

@@ -10,7 +10,7 @@ use Rattle.pb_bytecode_program.specs.declared.domain.AbstractValue.{AbstractValu
 use Rattle.pb_bytecode_program.specs.declared.domain.AbstractValue.TheVariants as abstract
 use Rattle.pb_bytecode_program.specs.declared.instruction.Arithmetic.{Arithmetic}
 use Rattle.pb_bytecode_program.specs.declared.instruction.Op.TheVariants as op
-use Rattle.pb_base_intervals.specs.Interval.{IntegerInterval}
+use Rattle.pb_base_values.specs.Interval.{IntegerInterval}
 use Rattle.pb_verifier_flow.specs.Edges.{fitting}
 use Rattle.pb_verifier_flow.specs.Flows.{Fails, GoesOn}
 use Rattle.pb_verifier_states.specs.Kinds.{are_there}

@@ -9,7 +9,7 @@ use Rattle.pb_bytecode_program.proofs.Ints.{le_true, le_false, from_le}
 use Rattle.pb_bytecode_program.specs.declared.domain.AbstractValue.{AbstractValue}
 use Rattle.pb_bytecode_program.specs.declared.domain.AbstractValue.TheVariants as abstract
 use Rattle.pb_bytecode_program.specs.declared.instruction.Op.TheVariants as op
-use Rattle.pb_base_intervals.specs.Interval.{IntegerInterval, IsWithin, cut, unless_empty, is_non_empty}
+use Rattle.pb_base_values.specs.Interval.{IntegerInterval, IsWithin, cut, unless_empty, is_non_empty}
 use Rattle.pb_verifier_flow.specs.Edges.{edges_of}
 use Rattle.pb_verifier_flow.specs.Flows.{FlowsTo}
 

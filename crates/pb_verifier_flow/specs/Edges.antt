@@ -2,7 +2,7 @@
 use Rattle.std.specs.Prelude.{ℕ, ◌+◌, List, [], ◌∷◌, Option, Some, None, ℤ, if◌then◌else◌}
 use Rattle.pb_bytecode_program.specs.Values.{fits64}
 use Rattle.pb_bytecode_program.specs.Transfer.{AbstractState, Edge}
-use Rattle.pb_base_intervals.specs.Interval.{IntegerInterval}
+use Rattle.pb_base_values.specs.Interval.{IntegerInterval}
 
 abbrev pub jump_edges : Option (ℕ × AbstractState) → List Edge
 jump_edges None = []

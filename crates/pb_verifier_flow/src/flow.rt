@@ -5,7 +5,7 @@ ghost use Rattle.pb_verifier_flow.specs.Edges.{edges_of};
 ghost use Rattle.pb_verifier_flow.specs.Flows.{GoesOnAlone};
 ghost use Rattle.pb_verifier_states.specs.NamedRule.{named_rule};
 ghost use Rattle.pb_bytecode_program.specs.Monotone.{HasOrderedRange};
-ghost use Rattle.pb_base_errors.specs.OrMemory.{IfRefused, OnRefused};
+ghost use Rattle.pb_base.specs.OrMemory.{IfRefused, OnRefused};
 ghost use Rattle.pb_bytecode_program.specs.Counts.{Straight, loop_effect};
 ghost use Rattle.pb_bytecode_program.specs.Machine.{Program};
 ghost use Rattle.pb_bytecode_program.specs.Transfer.{AbstractState as Known, to_next_place};
@@ -16,7 +16,7 @@ mod data;
 mod tree;
 
 use crate::edges::Edges;
-use pb_base_intervals::Interval;
+use pb_base_values::Interval;
 use pb_bytecode_program::{AbstractValue, Op};
 use pb_sorts::Carrier;
 use pb_verifier_states::flow_error::FlowError;

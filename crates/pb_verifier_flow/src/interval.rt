@@ -5,7 +5,7 @@ ghost use Rattle.pb_bytecode_program.specs.Abstract.{absolute_interval, interval
 ghost use Rattle.pb_bytecode_program.specs.Values.{divides};
 ghost use Rattle.pb_verifier_flow.specs.Edges.{fitting};
 
-use pb_base_intervals::Interval;
+use pb_base_values::Interval;
 use pb_bytecode_program::Arithmetic;
 
 /// The results for a first operand in `a` and a second one in `b`, or `None` where an end lies

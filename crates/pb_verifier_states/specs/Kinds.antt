@@ -1,6 +1,6 @@
 -- What an instruction finds among the operands above the floor, the topmost first.
 use Rattle.std.specs.Prelude.{ℕ, ◌+◌, Bool, true, false, ◌&&◌, List, [], ◌∷◌, length, Some, pos, int_lt, is_some, nat_le, nat_lt}
-use Rattle.pb_base_limits.specs.declared.TheConstants.{MAX_OPERANDS}
+use Rattle.pb_base.specs.declared.limits.TheConstants.{MAX_OPERANDS}
 use Rattle.pb_bytecode_program.specs.Abstract.{abstraction_of, same_kind}
 use Rattle.pb_bytecode_program.specs.Transfer.{AbstractState, abstract_pop_args, abstract_pop_int}
 use Rattle.pb_bytecode_program.specs.declared.domain.AbstractValue.{AbstractValue}

@@ -3,7 +3,7 @@
 -- kinds, kinds before the divisor, the divisor before the result, the kinds of all arguments before
 -- their intervals, and the brackets before the root.
 use Rattle.std.specs.Prelude.{◌≡◌, ℕ, Bool, not, ◌&&◌, List, [], ◌∷◌, length, reverse, Option, Some, None, is_some, nat_lt, nat_le, if◌then◌else◌, slice_get}
-use Rattle.pb_base_limits.specs.declared.TheConstants.{MAX_BRACKETS}
+use Rattle.pb_base.specs.declared.limits.TheConstants.{MAX_BRACKETS}
 use Rattle.pb_bytecode_program.specs.declared.domain.AbstractValue.{AbstractValue}
 use Rattle.pb_bytecode_program.specs.Values.{divides}
 use Rattle.pb_bytecode_program.specs.Transfer.{AbstractState, abstract_slot, enum_fits}

@@ -1,7 +1,7 @@
 //! Why no state flows on from an instruction.
 
 use crate::rule::AcceptanceRule;
-use pb_base_errors::{Fault, OrMemory};
+use pb_base::{Fault, OrMemory};
 
 impl Fault for AcceptanceRule {}
 

@@ -36,7 +36,7 @@ impl Model for AbstractState {
     ghost use Rattle.std.specs.Prelude.{length, ◌+◌, ◌≤◌};
     ghost use Rattle.pb_verifier_states.specs.Inhabited.{HaveOrderedEnds, LoopsHaveOrderedEnds};
     ghost use Rattle.pb_bytecode_program.specs.Transfer.{AbstractState as Known};
-    ghost use Rattle.pb_base_limits.specs.declared.TheConstants.{MAX_OPERANDS};
+    ghost use Rattle.pb_base.specs.declared.limits.TheConstants.{MAX_OPERANDS};
 
     ghost Value = { Known };
 

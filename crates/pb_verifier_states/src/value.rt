@@ -8,7 +8,7 @@ ghost use Rattle.pb_verifier_states.specs.Inhabited.{HasOrderedEnds};
 ghost use Rattle.pb_verifier_states.specs.Join.{hull_of};
 ghost use Rattle.pb_bytecode_program.specs.declared.domain.AbstractValue.TheVariants as abstract;
 
-use pb_base_intervals::Interval;
+use pb_base_values::Interval;
 use pb_bytecode_program::AbstractValue;
 use pb_sorts::Carrier;
 

@@ -8,9 +8,9 @@ use Rattle.pb_bytecode_program.specs.Counts.{Leaves, loop_effect, loops_around}
 use Rattle.pb_bytecode_program.specs.Machine.{Program}
 use Rattle.pb_bytecode_program.specs.declared.instruction.Op.{Op}
 use Rattle.pb_bytecode_program.specs.declared.instruction.Op.TheVariants as op
-use Rattle.pb_base_errors.specs.OrMemory.{IfFault, OnRefused}
-use Rattle.pb_base_errors.specs.declared.or_memory.OrMemory.{OrMemory}
-use Rattle.pb_base_errors.specs.declared.or_memory.OrMemory.TheVariants.{Refused, Memory}
+use Rattle.pb_base.specs.OrMemory.{IfFault, OnRefused}
+use Rattle.pb_base.specs.declared.or_memory.OrMemory.{OrMemory}
+use Rattle.pb_base.specs.declared.or_memory.OrMemory.TheVariants.{Refused, Memory}
 use Rattle.pb_verifier_structure.specs.Nesting.{NestsAt, IsNested}
 use Rattle.pb_verifier_structure.specs.Structure.{IsStructured}
 

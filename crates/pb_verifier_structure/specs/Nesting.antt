@@ -1,7 +1,7 @@
 -- How loops nest: LOOP and NEXT pair like brackets, at most MAX_LOOPS deep, and the end stands in
 -- no body.
 use Rattle.std.specs.Prelude.{◌≡◌, ℕ, ◌<◌, List, [], ◌∷◌, length, Option, Some, None, slice_get}
-use Rattle.pb_base_limits.specs.declared.TheConstants.{MAX_LOOPS}
+use Rattle.pb_base.specs.declared.limits.TheConstants.{MAX_LOOPS}
 use Rattle.pb_bytecode_program.specs.Counts.{loops_around}
 use Rattle.pb_bytecode_program.specs.declared.instruction.Op.{Op}
 use Rattle.pb_bytecode_program.specs.declared.instruction.Op.TheVariants as op

@@ -1,7 +1,7 @@
 -- What is asked of code before the pass: the rules by position, and the limits within which the
 -- code was decoded.
 use Rattle.std.specs.Prelude.{◌≡◌, ℕ, ◌<◌, ◌≤◌, [], length, Some, slice_get}
-use Rattle.pb_base_limits.specs.declared.TheConstants.{MAX_INSTRUCTIONS}
+use Rattle.pb_base.specs.declared.limits.TheConstants.{MAX_INSTRUCTIONS}
 use Rattle.pb_bytecode_program.specs.Machine.{Program}
 use Rattle.pb_bytecode_program.specs.Counts.{Leaves, loop_effect, loops_around}
 use Rattle.pb_bytecode_program.specs.Accepted.{HasValidTarget, NamesInScope}

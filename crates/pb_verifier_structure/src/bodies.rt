@@ -4,16 +4,16 @@
 ghost use Rattle.std.specs.Prelude.{◌≡◌, ◌<◌, ◌≤◌, ◌↔◌, IfOk, IsTrue, OnErr, OnOk, List, Some};
 ghost use Rattle.std.specs.Prelude.{Contains};
 ghost use Rattle.std.specs.Prelude.{length, slice_get};
-ghost use Rattle.pb_base_limits.specs.declared.TheConstants.{MAX_INSTRUCTIONS};
+ghost use Rattle.pb_base.specs.declared.limits.TheConstants.{MAX_INSTRUCTIONS};
 ghost use Rattle.pb_bytecode_program.specs.Accepted.{IsTarget, loop_slots};
 ghost use Rattle.pb_bytecode_program.specs.Counts.{loops_around};
 ghost use Rattle.pb_bytecode_program.specs.declared.instruction.Op.{Op};
 ghost use Rattle.pb_bytecode_program.specs.declared.instruction.Op.TheVariants as op;
 ghost use Rattle.pb_verifier_structure.specs.Nesting.{IsInnermost, IsNested, innermost_of};
-ghost use Rattle.pb_base_errors.specs.OrMemory.{OnRefused};
+ghost use Rattle.pb_base.specs.OrMemory.{OnRefused};
 
 use crate::position_fault::{StructureError, broken};
-use pb_base_limits::MAX_LOOPS;
+use pb_base::MAX_LOOPS;
 use pb_bytecode_program::Op;
 use pb_verifier_states::AcceptanceRule;
 use std::alloc::Global;

@@ -3,12 +3,12 @@
 
 ghost use Rattle.std.specs.Prelude.{◌≡◌, ◌<◌, ◌≤◌, ◌↔◌, IsSome, IsTrue, OnErr, OnOk, Some, length};
 ghost use Rattle.std.specs.Prelude.{slice_get};
-ghost use Rattle.pb_base_limits.specs.declared.TheConstants.{MAX_INSTRUCTIONS};
+ghost use Rattle.pb_base.specs.declared.limits.TheConstants.{MAX_INSTRUCTIONS};
 ghost use Rattle.pb_bytecode_program.specs.Accepted.{HasValidTarget, IsVisible, NamesInScope};
 ghost use Rattle.pb_bytecode_program.specs.Machine.{Program, carrier_of};
 ghost use Rattle.pb_bytecode_program.specs.declared.instruction.Op.TheVariants as op;
 ghost use Rattle.pb_verifier_structure.specs.Nesting.{IsInnermost, IsNested};
-ghost use Rattle.pb_base_errors.specs.OrMemory.{OnRefused};
+ghost use Rattle.pb_base.specs.OrMemory.{OnRefused};
 ghost use Rattle.pb_verifier_structure.specs.Structure.{IsStructured};
 ghost use Rattle.pb_verifier_structure.specs.Views.{IsProgramOf};
 

@@ -11,7 +11,7 @@ ghost use Rattle.pb_verifier_structure.specs.Views.{IsProgramOf};
 
 use crate::equation_code::EquationCode;
 use arrayvec::ArrayVec;
-use pb_base_limits::{MAX_LOOPS, MAX_STEPS};
+use pb_base::{MAX_LOOPS, MAX_STEPS};
 use pb_bytecode_program::Op;
 
 /// The count at which counting stops. It is above the limits of stated counts, `MAX_STEPS` and

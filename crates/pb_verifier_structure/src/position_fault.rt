@@ -2,7 +2,7 @@
 
 ghost use Rattle.std.specs.Prelude.{◌≡◌};
 
-use pb_base_errors::{Fault, OrMemory};
+use pb_base::{Fault, OrMemory};
 use pb_verifier_states::AcceptanceRule;
 
 /// A rule that is broken, and the place of the instruction that breaks it.

@@ -1,6 +1,6 @@
 -- How great the numbers of a solution are.
 use Rattle.std.specs.Prelude.{ℕ, ◌*◌}
-use Rattle.pb_base_limits.specs.declared.TheConstants.{MAX_VERTICES}
+use Rattle.pb_base.specs.declared.limits.TheConstants.{MAX_VERTICES}
 
 -- no attractor has more rounds
 abbrev pub most_rounds : ℕ

@@ -1,8 +1,8 @@
 -- What a fault says of a model that is checked or explained, whichever layer finds it.
 use Rattle.std.proofs.Common.{◌≡◌, ℕ, false, List, sym, subst, inl, inr}
-use Rattle.pb_base_errors.specs.OrMemory.{IfFault, raised}
-use Rattle.pb_base_errors.specs.declared.or_memory.OrMemory.{OrMemory}
-use Rattle.pb_base_errors.specs.declared.or_memory.OrMemory.TheVariants as or_memory
+use Rattle.pb_base.specs.OrMemory.{IfFault, raised}
+use Rattle.pb_base.specs.declared.or_memory.OrMemory.{OrMemory}
+use Rattle.pb_base.specs.declared.or_memory.OrMemory.TheVariants as or_memory
 use Rattle.pb_model_tree.specs.Form.{ModelForm}
 use Rattle.pb_protocol_negation.specs.Negated.{negated_protocol}
 use Rattle.pb_protocol_tree.specs.Form.{ProtocolForm}

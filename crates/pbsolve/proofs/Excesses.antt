@@ -6,9 +6,9 @@ use Rattle.pb_model_tree.specs.Form.{ModelForm, PropertyForm}
 use Rattle.pb_bytecode.specs.Contents.{Contents}
 use Rattle.pb_command_solver.specs.Answers.{IsTooLarge}
 use Rattle.pb_model_properties.specs.Said.{IsTextOf}
-use Rattle.pb_base_errors.specs.OrMemory.{IfFault, IfRefused, OnRefused}
-use Rattle.pb_base_errors.specs.declared.or_memory.OrMemory.{OrMemory}
-use Rattle.pb_base_errors.specs.declared.or_memory.OrMemory.TheVariants as or_memory
+use Rattle.pb_base.specs.OrMemory.{IfFault, IfRefused, OnRefused}
+use Rattle.pb_base.specs.declared.or_memory.OrMemory.{OrMemory}
+use Rattle.pb_base.specs.declared.or_memory.OrMemory.TheVariants as or_memory
 use Rattle.pb_command_faults.specs.declared.property_fault.PropertyExcess.TheVariants.{Game}
 use Rattle.pb_command_faults.specs.declared.solve_fault.SolveFault.{SolveFault}
 use Rattle.pb_command_faults.specs.declared.solve_fault.SolveFault.TheVariants as solve_fault

@@ -5,10 +5,10 @@ use Rattle.std.specs.Result.{IsErrAnd}
 use Rattle.std.specs.List.{slice_get}
 use Rattle.std.proofs.lemmas.List.{append_assoc, drop_more}
 use Rattle.std.proofs.lemmas.Option.{slice_get_within, get_or_from_slice_get}
-use Rattle.pb_base_errors.specs.OrMemory.{IfFault, IfRefused}
-use Rattle.pb_base_errors.specs.declared.or_memory.OrMemory.{OrMemory}
-use Rattle.pb_base_errors.specs.declared.or_memory.OrMemory.TheVariants as or_memory
-use Rattle.pb_base_errors.proofs.Faults.{if_fault, if_refused}
+use Rattle.pb_base.specs.OrMemory.{IfFault, IfRefused}
+use Rattle.pb_base.specs.declared.or_memory.OrMemory.{OrMemory}
+use Rattle.pb_base.specs.declared.or_memory.OrMemory.TheVariants as or_memory
+use Rattle.pb_base.proofs.Faults.{if_fault, if_refused}
 use Rattle.pb_command_faults.specs.Errors.{fault_of_model}
 use Rattle.pb_command_faults.specs.declared.property_fault.PropertyExcess.{PropertyExcess}
 use Rattle.pb_command_faults.specs.declared.solve_fault.SolveFault.{SolveFault}

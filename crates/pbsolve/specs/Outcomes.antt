@@ -17,8 +17,8 @@ use Rattle.pb_report.specs.declared.answer.Answer.{Answer}
 use Rattle.pb_report.specs.ModuleEvidence.{IsExplanation}
 use Rattle.pb_command_solver.specs.declared.early.Early.{Early}
 use Rattle.pb_command_solver.specs.declared.early.Early.TheVariants as early
-use Rattle.pb_base_errors.specs.declared.or_memory.OrMemory.{OrMemory}
-use Rattle.pb_base_errors.specs.declared.or_memory.OrMemory.TheVariants as or_memory
+use Rattle.pb_base.specs.declared.or_memory.OrMemory.{OrMemory}
+use Rattle.pb_base.specs.declared.or_memory.OrMemory.TheVariants as or_memory
 use Rattle.pb_typing_declarations.specs.declared.fault.TypingRule.{TypingRule}
 use Rattle.pb_typing_declarations.specs.declared.fault.TypingRule.TheVariants as rule
 use Rattle.pb_model_properties.specs.declared.error.ModelFault.{ModelFault}

@@ -21,7 +21,7 @@ use Rattle.pb_model_runs.specs.Runs.{Leads}
 use Rattle.pb_model_runs.specs.Exact.{step_at}
 use Rattle.pb_model_words.specs.States.{says}
 use Rattle.pb_model_words.specs.Vocabulary.{Vocabulary}
-use Rattle.pb_evidence_calls.specs.MadeCalls.{MadeCall, calls_at}
+use Rattle.pb_typing_calls.specs.MadeCalls.{MadeCall, calls_at}
 use Rattle.pb_model_translation.specs.Placed.{placed, every_step_form}
 use Rattle.pb_model_properties.specs.Asked.{IsAskedAt}
 use Rattle.pb_model_properties.specs.Made.{said_where}

@@ -1,7 +1,7 @@
 //! What is found of properties, by what becomes of their texts and of those of their negations.
 ghost use Rattle.std.specs.Prelude.{◌≡◌, ◌≤◌, ◌<◌, Bool, length, map, true, IfOk};
 ghost use Rattle.std.specs.List.{All};
-ghost use Rattle.pb_base_errors.specs.OrMemory.{IfRefused};
+ghost use Rattle.pb_base.specs.OrMemory.{IfRefused};
 ghost use Rattle.pb_model_tree.specs.Form.{ModelForm, PropertyForm};
 ghost use Rattle.pb_model_properties.specs.Said.{IsModelOf};
 ghost use Rattle.pbsolve.specs.Models.{IsFound, IsUnnegated};
@@ -13,8 +13,7 @@ use crate::negation::negation_module;
 use crate::outcome::{AskedOutcome, Outcome, early_of, early_truth, outcome_of};
 use crate::property_module::{AskedModule, PropertyModule, asked_module};
 use crate::property_text::AskedText;
-use pb_base_errors::OrMemory;
-use pb_base_limits::MAX_INPUT_BYTES;
+use pb_base::{MAX_INPUT_BYTES, OrMemory};
 use pb_command_faults::SolveFault;
 use pb_command_solver::{Context, Early, SolveOptions};
 use pb_exploration::Gate;

@@ -1,6 +1,6 @@
 //! Texts, explained, and those of properties.
 ghost use Rattle.std.specs.Prelude.{◌≡◌, ◌<◌, ◌≤◌, ℕ, List, IfOk, length};
-ghost use Rattle.pb_base_errors.specs.OrMemory.{IfRefused};
+ghost use Rattle.pb_base.specs.OrMemory.{IfRefused};
 ghost use Rattle.pb_text_tree.specs.Form.{spec_form};
 ghost use Rattle.pb_text_meaning.specs.Erase.{erase};
 ghost use Rattle.pb_typing_rules.specs.WellTyped.{IsWellTyped};
@@ -13,7 +13,7 @@ ghost use Rattle.pbsolve.specs.Refusals.{IsUnexplainedForm};
 use crate::compile::verified;
 use crate::options::WhyOptions;
 use crate::property_faults::{error_of_property, name_place};
-use pb_base_errors::OrMemory;
+use pb_base::OrMemory;
 use pb_command_faults::SolveFault;
 use pb_command_modules::explained;
 use pb_command_solver::Context;

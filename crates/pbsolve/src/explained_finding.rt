@@ -1,6 +1,6 @@
 //! What is found of properties that are explained.
 ghost use Rattle.std.specs.Prelude.{◌≤◌, ◌<◌, false, length, IfOk};
-ghost use Rattle.pb_base_errors.specs.OrMemory.{IfRefused};
+ghost use Rattle.pb_base.specs.OrMemory.{IfRefused};
 ghost use Rattle.pb_model_tree.specs.Form.{ModelForm};
 ghost use Rattle.pb_model_properties.specs.Said.{IsModelOf};
 ghost use Rattle.pbsolve.specs.Models.{IsFound, IsUnnegated};
@@ -11,8 +11,7 @@ use crate::explained::ExplainedText;
 use crate::finding::Finding;
 use crate::options::WhyOptions;
 use crate::outcome::{AskedOutcome, answered};
-use pb_base_errors::OrMemory;
-use pb_base_limits::MAX_INPUT_BYTES;
+use pb_base::{MAX_INPUT_BYTES, OrMemory};
 use pb_command_faults::SolveFault;
 use pb_command_solver::{Context, SolveOptions};
 use pb_exploration::Gate;

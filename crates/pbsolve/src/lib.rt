@@ -33,7 +33,7 @@ pub use finding::{Finding, Found};
 pub use laws::{bytes_spell_one_module, told_calls_are_steps};
 pub use models::translate_text;
 pub use options::{ExplainOptions, WhyOptions};
-pub use pb_base_limits::MAX_INPUT_BYTES;
+pub use pb_base::MAX_INPUT_BYTES;
 pub use pb_command_faults::{ErrorLine, Line, ProgramFault, SolveError, SolveFault};
 pub use pb_command_line::Checking;
 pub use pb_command_modules::{list_code, solve_code, verify_code};

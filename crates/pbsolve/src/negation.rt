@@ -1,6 +1,6 @@
 //! The negations of the properties of a protocol, which are read where the first is needed.
 ghost use Rattle.std.specs.Prelude.{◌≡◌, ◌≤◌, ◌<◌, length, IfOk, IsSome};
-ghost use Rattle.pb_base_errors.specs.OrMemory.{IfRefused};
+ghost use Rattle.pb_base.specs.OrMemory.{IfRefused};
 ghost use Rattle.pb_model_tree.specs.Form.{ModelForm};
 ghost use Rattle.pb_model_properties.specs.Negations.{IsRefusedNegation};
 ghost use Rattle.pb_model_properties.specs.Said.{IsModelOf};
@@ -9,8 +9,7 @@ ghost use Rattle.pbsolve.specs.Outcomes.{AreNegations, IsNegationAt};
 
 use crate::property_module::{AskedModule, asked_module};
 use crate::property_text::asked_text;
-use pb_base_errors::OrMemory;
-use pb_base_limits::MAX_INPUT_BYTES;
+use pb_base::{MAX_INPUT_BYTES, OrMemory};
 use pb_command_faults::SolveFault;
 use pb_model_properties::{ModelError, SolvedModel, read_negations};
 use std::alloc::Global;

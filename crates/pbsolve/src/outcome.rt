@@ -5,7 +5,7 @@ ghost use Rattle.pb_model_properties.specs.Said.{satisfies};
 ghost use Rattle.pbsolve.specs.Outcomes.{IsEarlyOf, IsOutcome, IsPropertyModule};
 
 use crate::property_module::PropertyModule;
-use pb_base_errors::OrMemory;
+use pb_base::OrMemory;
 use pb_command_faults::PropertyExcess;
 use pb_command_solver::{Context, Early, SolveOptions, answer_early, answer_module};
 use pb_exploration::Gate;

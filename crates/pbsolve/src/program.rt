@@ -17,7 +17,7 @@ ghost use Rattle.pbsolve.specs.Program.{fault_status, status_of, error_line_of, 
 ghost use Rattle.pbsolve.specs.Program.{Answers};
 ghost use Rattle.pbsolve.specs.declared.status.Status.TheVariants as status;
 ghost use Rattle.pb_sorts.specs.Source.{IsLongerThan};
-ghost use Rattle.pb_base_errors.specs.declared.or_memory.OrMemory.TheVariants.{Refused};
+ghost use Rattle.pb_base.specs.declared.or_memory.OrMemory.TheVariants.{Refused};
 ghost use Rattle.pb_base_input.specs.declared.input.InputFault.TheVariants.{Failed, TooLong};
 ghost use Rattle.pb_base_input.specs.Reading.{ReadsAtMost};
 ghost use Rattle.pbsolve.specs.Program.{IsInputOf, IsRefusedBy, LackProperty, Outputs, Refuses, Tells};
@@ -32,8 +32,8 @@ use crate::solve::{certificate_of, explain_text, game_of, solution_of, solve_tex
 use crate::status::Status;
 use crate::streams::Streams;
 use crate::why::why_text;
+use pb_base::MAX_INPUT_BYTES;
 use pb_base_input::{InputError, read_input};
-use pb_base_limits::MAX_INPUT_BYTES;
 use pb_command_faults::{ErrorLine, ProgramFault, SolveError};
 use pb_command_line::{Request, Solving, Task, request_of};
 use pb_command_modules::{deliver, list_code, solve_code, verify_code};

@@ -1,11 +1,11 @@
 //! Faults of the text of a property, told at the property's name in the model.
 ghost use Rattle.std.specs.Prelude.{◌≡◌, ◌<◌, Some, length};
 ghost use Rattle.std.specs.List.{slice_get};
-ghost use Rattle.pb_base_errors.specs.OrMemory.{raised};
+ghost use Rattle.pb_base.specs.OrMemory.{raised};
 ghost use Rattle.pb_model_tree.specs.Form.{PropertyForm, model_form};
 ghost use Rattle.pbsolve.specs.Models.{fault_of_property};
 
-use pb_base_errors::OrMemory;
+use pb_base::OrMemory;
 use pb_command_faults::{PropertyExcess, PropertyFault, SolveFault};
 use pb_model_typing::TypedModel;
 use pb_text_tree::Place;

@@ -1,13 +1,13 @@
 //! The modules of the texts of properties.
 ghost use Rattle.std.specs.Prelude.{◌≡◌, IfOk};
-ghost use Rattle.pb_base_errors.specs.OrMemory.{IfFault, IfRefused, OnRefused};
+ghost use Rattle.pb_base.specs.OrMemory.{IfFault, IfRefused, OnRefused};
 ghost use Rattle.pb_model_tree.specs.Form.{ModelForm, PropertyForm};
 ghost use Rattle.pbsolve.specs.Outcomes.{IsExcess, IsModuleAt, IsPropertyModule, IsPropertyText};
 ghost use Rattle.pbsolve.specs.Outcomes.{IsTextAt, excess_of};
 
 use crate::compile::verified;
 use crate::property_text::{AskedText, PropertyText};
-use pb_base_errors::OrMemory;
+use pb_base::OrMemory;
 use pb_command_faults::{PropertyExcess, SolveFault};
 use pb_verifier::Verified;
 use std::alloc::Global;

@@ -1,12 +1,12 @@
 //! The texts of the properties that are asked for.
 ghost use Rattle.std.specs.Prelude.{◌≡◌, ◌<◌, true, length, map, IfOk};
 ghost use Rattle.std.specs.List.{All};
-ghost use Rattle.pb_base_errors.specs.OrMemory.{IfFault, IfRefused};
+ghost use Rattle.pb_base.specs.OrMemory.{IfFault, IfRefused};
 ghost use Rattle.pb_model_tree.specs.Form.{model_form};
 ghost use Rattle.pbsolve.specs.Outcomes.{IsFault, IsTextAt, IsUntyped, is_limit};
 ghost use Rattle.pb_command_faults.specs.Errors.{fault_of_model};
 
-use pb_base_errors::OrMemory;
+use pb_base::OrMemory;
 use pb_command_faults::SolveFault;
 use pb_model_properties::{ModelError, ModelFault, SolvedModel, text_at};
 use pb_typing::Typed;

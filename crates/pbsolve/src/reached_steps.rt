@@ -1,7 +1,7 @@
 //! Which steps of a model can be taken in a reached state. The guard of one that can't is true in
 //! none, which mostly is a mistake.
 ghost use Rattle.std.specs.Prelude.{◌<◌, ℕ, length, IfOk};
-ghost use Rattle.pb_base_errors.specs.OrMemory.{IfRefused};
+ghost use Rattle.pb_base.specs.OrMemory.{IfRefused};
 ghost use Rattle.pb_model_tree.specs.Form.{ModelForm, model_form};
 ghost use Rattle.pbsolve.specs.ReachedSteps.{AreStepsFound, AreStepsFoundWhere, IsFoundOfStep};
 ghost use Rattle.pbsolve.specs.ReachedSteps.{IsStepModule, IsStepText, IsUntypedStep};
@@ -10,7 +10,7 @@ use crate::outcome::{Outcome, early_truth, outcome_of};
 use crate::property_module::{PropertyModule, property_module};
 use crate::property_text::{AskedText, PropertyText, untyped};
 use crate::step_finding::StepFinding;
-use pb_base_errors::OrMemory;
+use pb_base::OrMemory;
 use pb_command_faults::SolveFault;
 use pb_command_line::Checking;
 use pb_command_solver::{Context, SolveOptions};

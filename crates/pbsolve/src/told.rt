@@ -2,7 +2,7 @@
 ghost use Rattle.std.specs.Prelude.{◌≡◌, ◌≤◌, ◌<◌, ℕ, List, false, IfOk};
 ghost use Rattle.std.specs.Prelude.{Some, length, string_bytes};
 ghost use Rattle.std.specs.List.{slice_get};
-ghost use Rattle.pb_base_errors.specs.OrMemory.{IfRefused};
+ghost use Rattle.pb_base.specs.OrMemory.{IfRefused};
 ghost use Rattle.pb_text_tree.specs.Form.{spec_form};
 ghost use Rattle.pb_text_tree.specs.declared.place.Place.{Place};
 ghost use Rattle.pb_text_meaning.specs.Erase.{erase};
@@ -25,8 +25,7 @@ use crate::explained_finding::{Asked, explained_finding};
 use crate::finding::Finding;
 use crate::finding_lines::verdict_of;
 use crate::property_faults::too_large_at;
-use pb_base_errors::OrMemory;
-use pb_base_limits::MAX_INPUT_BYTES;
+use pb_base::{MAX_INPUT_BYTES, OrMemory};
 use pb_command_faults::{PropertyExcess, SolveFault};
 use pb_command_solver::Context;
 use pb_evidence_words::{Shown, push_instance_lines, push_why};

@@ -14,7 +14,7 @@ use crate::equation::Equation;
 use crate::fault::{FieldFault, ModuleRule, ReadError};
 use crate::initial::Initial;
 use crate::instances::has_few_instances;
-use pb_base_limits::{MAX_EQUATIONS, MAX_LOOP_SLOTS, MAX_PARAMETERS};
+use pb_base::{MAX_EQUATIONS, MAX_LOOP_SLOTS, MAX_PARAMETERS};
 use pb_bytecode_program::Version;
 use pb_fixpoint::Sign;
 use pb_sorts::Carrier;

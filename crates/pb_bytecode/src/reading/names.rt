@@ -8,7 +8,7 @@ use super::numbers::{between_at, fault, truncated, u8_at};
 use crate::fault::{ModuleRule, ReadError};
 use crate::name::{Name, is_name};
 use crate::sort::Sort;
-use pb_base_limits::{MAX_ENUMERATORS, MAX_STRUCTS};
+use pb_base::{MAX_ENUMERATORS, MAX_STRUCTS};
 use std::alloc::{AllocError, Global};
 
 /// The length of a name and its bytes; B05 where they are none.

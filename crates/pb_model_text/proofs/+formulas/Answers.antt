@@ -1,7 +1,7 @@
 use Rattle.std.specs.Prelude.{string_bytes}
 use Rattle.std.proofs.Common.{rules, arith, ℕ, List, refl, sym, ap, subst, ◌≡◌, ◌<◌, ◌-◌, length, true, false, vec_len, ◌∙◌, Ok, Some, None, Vec, Global}
 use Rattle.std.proofs.lemmas.Result.{err_from_is_err_and}
-use Rattle.pb_base_errors.proofs.Faults.{if_fault}
+use Rattle.pb_base.proofs.Faults.{if_fault}
 use Rattle.pb_protocol_tree.specs.Form.{FormulaForm, formula_form, step_set_form}
 use Rattle.pb_protocol_tree.specs.declared.formula.Link.{Link}
 use Rattle.pb_text_tree.specs.Form.{chained}

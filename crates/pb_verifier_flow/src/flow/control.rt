@@ -5,14 +5,14 @@ ghost use Rattle.pb_verifier_flow.specs.Flows.{Fails, FlowsTo, GoesOn};
 ghost use Rattle.pb_verifier_states.specs.NamedRule.{IsNamed, named_rule};
 ghost use Rattle.pb_verifier_states.specs.Inhabited.{HasOrderedEnds};
 ghost use Rattle.pb_sorts.specs.declared.carrier.Carrier.{Carrier as carrier_type};
-ghost use Rattle.pb_base_errors.specs.OrMemory.{IfRefused, OnRefused};
+ghost use Rattle.pb_base.specs.OrMemory.{IfRefused, OnRefused};
 ghost use Rattle.pb_bytecode_program.specs.Machine.{Program};
 ghost use Rattle.pb_bytecode_program.specs.Transfer.{AbstractState as Known, abstract_push};
 ghost use Rattle.pb_bytecode_program.specs.Transfer.{to_next_place, transfer};
 ghost use Rattle.pb_bytecode_program.specs.declared.instruction.Op.TheVariants as op;
 
 use crate::edges::Edges;
-use pb_base_intervals::Interval;
+use pb_base_values::Interval;
 use pb_bytecode_program::AbstractValue;
 use pb_verifier_states::flow_error::FlowError;
 use pb_verifier_states::rule::AcceptanceRule;

@@ -3,12 +3,12 @@
 ghost use Rattle.std.specs.Prelude.{◌≡◌, ◌&&◌, IfErr, IfOk, OnErr, int_lt, pos};
 ghost use Rattle.pb_verifier_flow.specs.Flows.{Fails, GoesOn};
 ghost use Rattle.pb_verifier_states.specs.NamedRule.{IsNamed};
-ghost use Rattle.pb_base_errors.specs.OrMemory.{IfRefused, OnRefused};
+ghost use Rattle.pb_base.specs.OrMemory.{IfRefused, OnRefused};
 ghost use Rattle.pb_bytecode_program.specs.Values.{divides};
 ghost use Rattle.pb_bytecode_program.specs.declared.instruction.Op.TheVariants as op;
 
 use crate::interval::{absolute_values, negatives, results};
-use pb_base_intervals::Interval;
+use pb_base_values::Interval;
 use pb_bytecode_program::{AbstractValue, Arithmetic, Comparison, Connective, Equality};
 use pb_verifier_states::flow_error::FlowError;
 use pb_verifier_states::rule::AcceptanceRule;

@@ -10,7 +10,7 @@ ghost use Rattle.pb_verifier_states.specs.NamedRule.{IsNamed};
 
 use crate::rule::AcceptanceRule;
 use crate::state::AbstractState;
-use pb_base_limits::MAX_BRACKETS;
+use pb_base::MAX_BRACKETS;
 
 impl AbstractState {
     /// Counts a leaf or a bracket, a root (V14) where no bracket is open: there may be one.

@@ -1,14 +1,14 @@
 //! Loops of abstract states.
 
 ghost use Rattle.std.specs.Prelude.{◌≡◌, Some, None, IfOk, Option, ℕ, OnErr};
-ghost use Rattle.pb_base_errors.specs.OrMemory.{OnRefused};
+ghost use Rattle.pb_base.specs.OrMemory.{OnRefused};
 ghost use Rattle.pb_bytecode_program.specs.Transfer.{abstract_loop, abstract_next, to_next_place};
 
 use crate::flow_error::FlowError;
 use crate::rule::AcceptanceRule;
 use crate::state::AbstractState;
 use crate::value::abstraction;
-use pb_base_limits::MAX_LOOPS;
+use pb_base::MAX_LOOPS;
 use pb_sorts::Carrier;
 use std::alloc::Global;
 

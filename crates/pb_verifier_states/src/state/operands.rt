@@ -6,7 +6,7 @@ ghost use Rattle.std.specs.Prelude.{length, true, false, reverse, drop, ◌<◌,
 ghost use Rattle.pb_verifier_states.specs.Inhabited.{HasOrderedEnds};
 ghost use Rattle.pb_verifier_states.specs.Kinds as kinds;
 ghost use Rattle.pb_verifier_states.specs.NamedRule.{named_at_call, named_at_top};
-ghost use Rattle.pb_base_errors.specs.OrMemory.{IfRefused, OnRefused};
+ghost use Rattle.pb_base.specs.OrMemory.{IfRefused, OnRefused};
 ghost use Rattle.pb_bytecode_program.specs.Transfer.{Flow, abstract_pop_args, abstract_pop_bool};
 ghost use Rattle.pb_bytecode_program.specs.Transfer.{abstract_pop_int};
 ghost use Rattle.pb_bytecode_program.specs.declared.domain.AbstractValue.{AbstractValue as domain};
@@ -17,8 +17,8 @@ use crate::flow_error::FlowError;
 use crate::rule::AcceptanceRule;
 use crate::state::AbstractState;
 use crate::value::{is_accepted, is_of_kind, numbers};
-use pb_base_intervals::Interval;
-use pb_base_limits::MAX_OPERANDS;
+use pb_base::MAX_OPERANDS;
+use pb_base_values::Interval;
 use pb_bytecode_program::AbstractValue;
 use pb_sorts::Carrier;
 

@@ -12,7 +12,7 @@ ghost use Rattle.pb_bytecode_program.specs.declared.domain.AbstractValue.TheVari
 use crate::rule::AcceptanceRule;
 use crate::state::AbstractState;
 use crate::value::numbers;
-use pb_base_intervals::Interval;
+use pb_base_values::Interval;
 use pb_bytecode_program::AbstractValue;
 
 impl AbstractState {

@@ -2,7 +2,7 @@ use Rattle.std.proofs.Common.{◌≡◌, ◌∙◌, refl}
 use Rattle.std.proofs.lemmas.Bool.{and_from}
 use Rattle.pb_text_tree.specs.Form.{equation_form}
 use Rattle.pb_normal.specs.View.{formula_view}
-use Rattle.pb_assembler_accepted.proofs.Limits.{within_limits}
+use Rattle.pb_assembler_scheme.proofs.Limits.{within_limits}
 use Rattle.pb_assembler_modules.proofs.Unique.{same_contents}
 use Rattle.pb_assembler.specs.Compiled.{bare_program}
 use Rattle.pb_assembler.proofs.Equations.{steps_exact, tokens_exact}

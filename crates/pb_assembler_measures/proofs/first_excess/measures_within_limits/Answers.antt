@@ -3,7 +3,7 @@ use Rattle.std.proofs.lemmas.Option.{slice_get_read}
 use Rattle.pb_normal.specs.Text.{said}
 use Rattle.pb_normal.specs.declared.normal.Equation.{Equation}
 use Rattle.pb_normal.specs.declared.normal.Normal.{Normal}
-use Rattle.pb_base_errors.specs.OrMemory.{IfFault}
+use Rattle.pb_base.specs.OrMemory.{IfFault}
 use Rattle.pb_assembler_measures.specs.Excess.{IsFirstExcess}
 use Rattle.pb_assembler_measures.specs.MeasureEquations.{AreMeasuresOfAll}
 use Rattle.pb_assembler_measures.proofs.MeasureExcess.{all_keep, all_measured, exceeds, first_found, keeps, measured_more}

@@ -1,4 +1,4 @@
-use Rattle.pb_base_errors.proofs.Faults.{if_fault}
+use Rattle.pb_base.proofs.Faults.{if_fault}
 use Rattle.pb_assembler_modules.proofs.verification.verify_compiled.Goals as goal
 
 pub only_memory-requires : goal.only_memory-requires

@@ -1,7 +1,7 @@
 -- What was read so far left the reader, and fits.
 use Rattle.std.proofs.Common.{◌≡◌, ◌≤◌, ◌-◌, vec_len}
 use Rattle.std.specs.Io.KnownBytes.{Consumes}
-use Rattle.pb_base_limits.specs.declared.TheConstants.{MAX_INPUT_BYTES}
+use Rattle.pb_base.specs.declared.limits.TheConstants.{MAX_INPUT_BYTES}
 use Rattle.pb_base_input.proofs.input.read_input.Given as goal
 
 abbrev pub invariant-loop-n : goal.invariant-loop-n

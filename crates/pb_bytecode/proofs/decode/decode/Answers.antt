@@ -1,5 +1,5 @@
 use Rattle.std.proofs.Common.{◌≡◌, subst, Err, arith}
-use Rattle.pb_base_errors.specs.OrMemory.{IfFault}
+use Rattle.pb_base.specs.OrMemory.{IfFault}
 use Rattle.pb_bytecode.specs.Reading.{all_of}
 use Rattle.pb_bytecode.specs.Views.{contents_of}
 use Rattle.pb_bytecode.proofs.ModuleLaws.{all_takes, all_within, read_one, read_none}

@@ -2,7 +2,7 @@
 use Rattle.std.proofs.Common.{map, sym, subst}
 use Rattle.clap.specs.Matches.{found_of}
 use Rattle.clap.specs.Walk.{rows_of}
-use Rattle.pb_base_errors.specs.OrMemory.{IfFault}
+use Rattle.pb_base.specs.OrMemory.{IfFault}
 use Rattle.pb_command_line.specs.Words.{HaveFault}
 use Rattle.pb_command_line.proofs.CommandLine.{asks, clap_refuses, clap_takes, met, unnamed, unread}
 use Rattle.pb_command_line.proofs.words.request_in.Goals as goal

@@ -1,6 +1,6 @@
 -- What was decoded is what the bytes spell.
 use Rattle.std.proofs.Common.{sym, subst}
-use Rattle.pb_base_errors.proofs.Faults.{if_raised}
+use Rattle.pb_base.proofs.Faults.{if_raised}
 use Rattle.pb_command_modules.specs.Refusals.{IsUnlisted}
 use Rattle.pb_command_modules.proofs.code.decoded.Goals as goal
 

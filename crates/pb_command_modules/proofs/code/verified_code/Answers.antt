@@ -1,6 +1,6 @@
 -- What was verified is the module that the bytes spell.
 use Rattle.std.proofs.Common.{sym, subst}
-use Rattle.pb_base_errors.proofs.Faults.{if_raised}
+use Rattle.pb_base.proofs.Faults.{if_raised}
 use Rattle.pb_bytecode.specs.Decoded.{module_contents}
 use Rattle.pb_command_modules.specs.Answers.{IsModuleOfCode}
 use Rattle.pb_command_modules.specs.Refusals.{IsUnlisted, IsUnverified}

@@ -1,6 +1,6 @@
 -- A module that has no explanation has too large a game.
 use Rattle.std.proofs.Common.{sym, subst}
-use Rattle.pb_base_errors.proofs.Faults.{if_raised}
+use Rattle.pb_base.proofs.Faults.{if_raised}
 use Rattle.pb_command_modules.specs.Refusals.{IsRefusedModule}
 use Rattle.pb_command_modules.proofs.module.explained.Goals as goal
 

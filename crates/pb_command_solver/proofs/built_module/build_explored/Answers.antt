@@ -1,4 +1,4 @@
-use Rattle.pb_base_errors.proofs.Faults.{if_fault}
+use Rattle.pb_base.proofs.Faults.{if_fault}
 use Rattle.pb_command_solver.proofs.Rows.{module_rows, too_large}
 use Rattle.pb_command_solver.proofs.built_module.build_explored.Goals as goal
 

@@ -5,7 +5,7 @@ use Rattle.pb_text_tree.specs.Form.{spec_form}
 use Rattle.pb_sorts.specs.declared.carrier.Carrier.{Carrier}
 use Rattle.pb_sorts.specs.Layout.{carriers_of, count_of}
 use Rattle.pb_bytecode.specs.Meaning.{parameters}
-use Rattle.pb_evidence_calls.specs.View.{said_by}
+use Rattle.pb_typing_calls.specs.View.{said_by}
 use Rattle.pb_report.specs.CallPlaces.{AreCallPlaces}
 use Rattle.pb_report.proofs.Lines.{instance_below, dependency_below}
 use Rattle.pb_evidence_places.proofs.Carriers.{same_carriers}

@@ -1,6 +1,6 @@
 use Rattle.std.proofs.Common.{◌≡◌, drop}
 use Rattle.std.specs.List.{find}
-use Rattle.pb_evidence_calls.specs.MadeCallView.{call_views}
+use Rattle.pb_typing_calls.specs.MadeCallView.{call_views}
 use Rattle.pb_sorts.specs.Instance.{instance_of}
 use Rattle.pb_evidence_words.specs.WhyText.{is_call_of}
 use Rattle.pb_evidence_words.proofs.moves.first_call.Given as goal

@@ -1,5 +1,5 @@
 use Rattle.std.proofs.lemmas.Result.{IfOk-weaker}
-use Rattle.pb_base_errors.proofs.Faults.{if_refused}
+use Rattle.pb_base.proofs.Faults.{if_refused}
 use Rattle.pb_game_of_trees.proofs.game.build.Goals as goal
 
 pub build_rows-requires : goal.build_rows-requires

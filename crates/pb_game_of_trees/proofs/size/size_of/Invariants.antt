@@ -1,6 +1,6 @@
 use Rattle.std.proofs.Common.{◌≡◌, ◌≤◌, List, drop}
 use Rattle.pb_fixpoint_trees.specs.Rows.{Row}
-use Rattle.pb_base_limits.specs.declared.TheConstants.{MAX_VERTICES}
+use Rattle.pb_base.specs.declared.limits.TheConstants.{MAX_VERTICES}
 use Rattle.pb_game_of_trees.specs.Held.{Hold}
 use Rattle.pb_game_of_trees.specs.Places.{vertex_behind}
 use Rattle.pb_game_of_trees.proofs.size.size_of.Given as goal

@@ -1,6 +1,6 @@
 use Rattle.std.proofs.Common.{◌≡◌, ◌+◌, take}
 use Rattle.std.specs.Prelude.{sum}
-use Rattle.pb_base_limits.specs.declared.TheConstants.{MAX_PARAMETERS}
+use Rattle.pb_base.specs.declared.limits.TheConstants.{MAX_PARAMETERS}
 use Rattle.pb_model_properties.proofs.count.are_many.Given as goal
 
 -- how many are left behind those so far

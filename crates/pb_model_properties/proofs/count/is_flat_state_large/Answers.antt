@@ -1,6 +1,6 @@
 use Rattle.std.proofs.Common.{◌∙◌, ℕ, List, ap}
 use Rattle.std.specs.Prelude.{nat_lt, sum}
-use Rattle.pb_base_limits.specs.declared.TheConstants.{MAX_PARAMETERS}
+use Rattle.pb_base.specs.declared.limits.TheConstants.{MAX_PARAMETERS}
 use Rattle.pb_model_properties.proofs.Counts.{flat_counts}
 use Rattle.pb_model_properties.proofs.count.is_flat_state_large.Goals as goal
 

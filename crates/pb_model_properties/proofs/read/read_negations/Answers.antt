@@ -1,8 +1,8 @@
 -- The model of the negated protocol of what was read.
 use Rattle.std.proofs.Common.{◌≡◌, ℕ, List, inl, sym, subst, Result, Ok, Err, IsErrAnd}
-use Rattle.pb_base_errors.specs.OrMemory.{IfFault, IfRefused}
-use Rattle.pb_base_errors.specs.declared.or_memory.OrMemory.{OrMemory}
-use Rattle.pb_base_errors.proofs.Faults.{if_fault}
+use Rattle.pb_base.specs.OrMemory.{IfFault, IfRefused}
+use Rattle.pb_base.specs.declared.or_memory.OrMemory.{OrMemory}
+use Rattle.pb_base.proofs.Faults.{if_fault}
 use Rattle.pb_protocol_tree.specs.Form.{protocol_form}
 use Rattle.pb_model_properties.specs.declared.error.ModelFault.{ModelFault}
 use Rattle.pb_model_properties.specs.Negations.{IsRefusedNegation}

@@ -1,7 +1,7 @@
 use Rattle.std.specs.Prelude.{string_bytes}
 use Rattle.std.proofs.Common.{rules, ◌≡◌, true, false, Ok}
 use Rattle.std.proofs.lemmas.Result.{err_from_is_err_and}
-use Rattle.pb_base_errors.proofs.Faults.{if_fault}
+use Rattle.pb_base.proofs.Faults.{if_fault}
 use Rattle.pb_text_tree.specs.Form.{term_form, instance_form}
 use Rattle.pb_text_lexer.specs.Steps.{kind}
 use Rattle.pb_text_terms.specs.Operators.{is_operator}

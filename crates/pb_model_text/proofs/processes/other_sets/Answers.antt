@@ -1,7 +1,7 @@
 use Rattle.std.proofs.Common.{rules, arith, ◌≡◌, ◌∷◌, [], ◌-◌, ◌<◌, ◌∙◌, map, true, false, suc, ap, vec_len, Ok}
 use Rattle.std.proofs.lemmas.Result.{err_from_is_err_and}
 use Rattle.std.proofs.lemmas.List.{append-nil}
-use Rattle.pb_base_errors.proofs.Faults.{if_fault}
+use Rattle.pb_base.proofs.Faults.{if_fault}
 use Rattle.pb_protocol_tree.specs.Form.{step_set_form}
 use Rattle.pb_text_lexer.specs.Steps.{kind}
 use Rattle.pb_text_lexer.specs.Tokens.{tok}

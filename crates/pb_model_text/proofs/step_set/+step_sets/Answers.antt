@@ -1,6 +1,6 @@
 use Rattle.std.proofs.Common.{rules, arith, ◌≡◌, ◌<◌, ◌-◌, length, true, false, vec_len, ◌∙◌}
 use Rattle.std.proofs.lemmas.Result.{err_from_is_err_and}
-use Rattle.pb_base_errors.proofs.Faults.{if_fault}
+use Rattle.pb_base.proofs.Faults.{if_fault}
 use Rattle.pb_protocol_tree.specs.Form.{StepSetForm, step_set_form}
 use Rattle.pb_text_lexer.specs.declared.kind.Kind.TheVariants.{Name, Or}
 use Rattle.pb_text_lexer.specs.Kinds.{same_kind}

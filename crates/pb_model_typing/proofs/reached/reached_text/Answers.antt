@@ -1,7 +1,7 @@
 -- What the text of the step at the place says, and why there is none.
 use Rattle.std.proofs.Common.{◌∙◌, ap, sym, subst}
 use Rattle.std.proofs.lemmas.Result.{IfOk-weaker, on_ok_weaker}
-use Rattle.pb_base_errors.proofs.Faults.{if_refused}
+use Rattle.pb_base.proofs.Faults.{if_refused}
 use Rattle.pb_text_tree.specs.Form.{spec_form}
 use Rattle.pb_model_tree.specs.Form.{FormulaForm, StepForm, model_form}
 use Rattle.pb_model_meaning.specs.Erase.{erased_formula, model_of}

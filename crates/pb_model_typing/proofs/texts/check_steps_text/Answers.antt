@@ -1,6 +1,6 @@
 use Rattle.std.proofs.Common.{rules, sym, subst, ap}
-use Rattle.pb_base_errors.specs.OrMemory.{IfFault}
-use Rattle.pb_base_errors.proofs.Faults.{if_fault}
+use Rattle.pb_base.specs.OrMemory.{IfFault}
+use Rattle.pb_base.proofs.Faults.{if_fault}
 use Rattle.pb_model_tree.specs.Form.{FormulaForm, model_form}
 use Rattle.pb_model_meaning.specs.Syntax.{Formula}
 use Rattle.pb_model_meaning.specs.Erase.{erased_formula, model_of}

@@ -1,7 +1,7 @@
 use Rattle.std.proofs.Common.{inr, rules}
 use Rattle.std.proofs.lemmas.Result.{on_ok_weaker}
-use Rattle.pb_base_errors.specs.OrMemory.{IfFault}
-use Rattle.pb_base_errors.proofs.Faults.{if_refused}
+use Rattle.pb_base.specs.OrMemory.{IfFault}
+use Rattle.pb_base.proofs.Faults.{if_refused}
 use Rattle.pb_model_tree.specs.Form.{model_form}
 use Rattle.pb_model_typing.specs.Texts.{IsTypedModel, IsModelFault}
 use Rattle.pb_model_typing.proofs.Decided.{rule-broken, rule-fault}

@@ -1,8 +1,8 @@
 use Rattle.std.proofs.Common.{◌≡◌, true, inl, inr, rules}
 use Rattle.std.specs.Prelude.{Contains}
-use Rattle.pb_base_errors.specs.OrMemory.{IfFault}
-use Rattle.pb_base_errors.specs.declared.or_memory.OrMemory.{OrMemory}
-use Rattle.pb_base_errors.specs.declared.or_memory.OrMemory.TheVariants.{Refused, Memory}
+use Rattle.pb_base.specs.OrMemory.{IfFault}
+use Rattle.pb_base.specs.declared.or_memory.OrMemory.{OrMemory}
+use Rattle.pb_base.specs.declared.or_memory.OrMemory.TheVariants.{Refused, Memory}
 use Rattle.pb_typing_declarations.specs.declared.fault.TypingFault.{TypingFault}
 use Rattle.pb_model_tree.specs.Form.{ModelForm, model_form}
 use Rattle.pb_protocol_groups.specs.Checks.{is_packing_rule, IsPackingFault}

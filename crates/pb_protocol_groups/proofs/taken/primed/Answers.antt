@@ -1,5 +1,5 @@
 use Rattle.std.proofs.Common.{◌≡◌, true, List, ℕ, suc, sym, subst}
-use Rattle.pb_base_names.specs.Names.{is_spelled}
+use Rattle.pb_base.specs.Names.{is_spelled}
 use Rattle.pb_protocol_packer.specs.View.{text_of}
 use Rattle.pb_protocol_groups.proofs.Primes.{primes-spelled}
 use Rattle.pb_protocol_groups.proofs.taken.primed.Goals as goal

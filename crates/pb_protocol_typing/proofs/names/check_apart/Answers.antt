@@ -3,7 +3,7 @@ use Rattle.pb_sorts.proofs.Places.{drop-at}
 use Rattle.pb_text_tree.specs.Form.{named}
 use Rattle.pb_text_meaning.specs.Syntax.{Name}
 use Rattle.pb_typing_declarations.specs.declared.fault.TypingRule.TheVariants.{NameTwice}
-use Rattle.pb_base_errors.specs.declared.or_memory.OrMemory.TheVariants.{Refused}
+use Rattle.pb_base.specs.declared.or_memory.OrMemory.TheVariants.{Refused}
 use Rattle.pb_typing_declarations.specs.Faults.{unless, repeated, IsAmong}
 use Rattle.pb_typing_declarations.proofs.Parts.{among_first, first_clear}
 use Rattle.pb_typing_declarations.proofs.Filling.{Seen, seen_repeated, seen_too, repeated_after-seen}

@@ -1,5 +1,5 @@
 use Rattle.std.proofs.Common.{map, subst}
-use Rattle.pb_base_errors.specs.OrMemory.{IfFault}
+use Rattle.pb_base.specs.OrMemory.{IfFault}
 use Rattle.pb_text_meaning.specs.Syntax.{Spec}
 use Rattle.pb_protocol_unfolding.specs.Written.{written_tuples}
 use Rattle.pb_protocol_unfolder_terms.specs.View.{spec_of, variable_of}

@@ -1,6 +1,6 @@
 use Rattle.std.proofs.Common.{◌∙◌, ap, inl, inr, refl, sym, subst, List, map}
-use Rattle.pb_base_errors.specs.OrMemory.{IfFault}
-use Rattle.pb_base_errors.specs.declared.or_memory.OrMemory.{OrMemory}
+use Rattle.pb_base.specs.OrMemory.{IfFault}
+use Rattle.pb_base.specs.declared.or_memory.OrMemory.{OrMemory}
 use Rattle.pb_text_tree.specs.declared.name.Name as declared_name
 use Rattle.pb_text_meaning.specs.Syntax.{Name}
 use Rattle.pb_protocol_folding.specs.Names.{AreDistinct, AreNot, enumerators_in}

@@ -1,5 +1,5 @@
 use Rattle.std.proofs.Common.{◌∙◌, ap, subst, List}
-use Rattle.pb_base_errors.specs.OrMemory.{IfRefused}
+use Rattle.pb_base.specs.OrMemory.{IfRefused}
 use Rattle.pb_text_tree.specs.declared.place.Place.{Place}
 use Rattle.pb_protocol_unfolder_terms.specs.View.{spec_of}
 use Rattle.pb_protocol_unfolder_steps.specs.Elements.{elements_of_state}

@@ -9,7 +9,7 @@ use Rattle.pb_protocol_unfolder_steps.specs.Refusals.{IsTermOr}
 use Rattle.pb_protocol_unfolder_steps.proofs.InitialLemmas.{elements-counted, initial-said}
 use Rattle.pb_protocol_unfolder_steps.proofs.RefusalLemmas.{refused-so, term-or}
 use Rattle.pb_protocol_unfolder_steps.proofs.OkLemmas.{if-ok}
-use Rattle.pb_base_errors.specs.OrMemory.{IfRefused}
+use Rattle.pb_base.specs.OrMemory.{IfRefused}
 use Rattle.pb_protocol_tree.specs.Form.{protocol_form}
 use Rattle.pb_protocol_unfolder_steps.specs.StepFaults.{IsFaultInValues, OnTerm, indices_at, value_form}
 use Rattle.pb_protocol_unfolder_steps.proofs.StepFaultLemmas.{indices-of-state, values-said}

@@ -4,7 +4,7 @@ use Rattle.std.proofs.lemmas.Option.{none-some}
 use Rattle.pb_sorts.specs.declared.carrier.Carrier.{Carrier}
 use Rattle.std.specs.List.{slice_get}
 use Rattle.pb_base_values.specs.Carrier.{tuple_count}
-use Rattle.pb_base_limits.specs.declared.TheConstants.{MAX_INSTANCES}
+use Rattle.pb_base.specs.declared.limits.TheConstants.{MAX_INSTANCES}
 use Rattle.pb_sorts.specs.Carrier.{values_of}
 use Rattle.pb_sorts.specs.Instance.{first_of}
 use Rattle.pb_sorts.specs.Layout.{carriers_of, lists_of, count_of}

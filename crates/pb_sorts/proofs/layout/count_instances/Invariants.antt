@@ -1,5 +1,5 @@
 use Rattle.std.proofs.Common.{◌≡◌, ◌≤◌}
-use Rattle.pb_base_limits.specs.declared.TheConstants.{MAX_INSTANCES}
+use Rattle.pb_base.specs.declared.limits.TheConstants.{MAX_INSTANCES}
 use Rattle.pb_sorts.specs.Instance.{first_of}
 use Rattle.pb_sorts.specs.Layout.{carriers_of, lists_of}
 use Rattle.pb_sorts.proofs.layout.count_instances.Given as goal

@@ -1,6 +1,6 @@
 use Rattle.std.proofs.Common.{◌<◌, map, arith}
 use Rattle.pb_base_values.specs.Carrier.{tuple_count}
-use Rattle.pb_base_limits.specs.declared.TheConstants.{MAX_INSTANCES}
+use Rattle.pb_base.specs.declared.limits.TheConstants.{MAX_INSTANCES}
 use Rattle.pb_sorts.specs.Carrier.{values_of}
 use Rattle.pb_sorts.proofs.Counts.{too_many}
 use Rattle.pb_sorts.proofs.tuple.count_tuples.Goals as goal

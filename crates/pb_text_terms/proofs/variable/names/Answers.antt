@@ -1,7 +1,7 @@
 use Rattle.std.proofs.Common.{rules, arith, ◌≡◌, ◌∙◌, ◌-◌, suc, true, false, length, map, vec_len}
 use Rattle.std.proofs.lemmas.Result.{err_from_is_err_and}
 use Rattle.std.proofs.lemmas.List.{map_push}
-use Rattle.pb_base_errors.proofs.Faults.{if_fault}
+use Rattle.pb_base.proofs.Faults.{if_fault}
 use Rattle.pb_text_tree.specs.Form.{named}
 use Rattle.pb_text_lexer.specs.Steps.{kind, take_token}
 use Rattle.pb_text_lexer.specs.Tokens.{tok}

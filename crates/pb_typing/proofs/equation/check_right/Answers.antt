@@ -8,7 +8,7 @@ use Rattle.pb_text_tree.specs.declared.spec.Equation as declared
 use Rattle.pb_text_tree.specs.Form.{equation_form, formula_form, variable_forms}
 use Rattle.pb_text_meaning.specs.Erase.{erased_variable}
 use Rattle.pb_text_meaning.specs.Syntax.{Spec}
-use Rattle.pb_base_errors.specs.declared.or_memory.OrMemory.{OrMemory}
+use Rattle.pb_base.specs.declared.or_memory.OrMemory.{OrMemory}
 use Rattle.pb_typing_declarations.specs.declared.fault.TypingFault.{TypingFault}
 use Rattle.pb_typing_declarations.specs.Entries.{shapes_of}
 use Rattle.pb_typing_declarations.specs.Faults.{IsAmong}

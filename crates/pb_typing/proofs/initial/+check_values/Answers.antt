@@ -17,9 +17,9 @@ use Rattle.pb_typing_tree.specs.View.{argument_view, term_view}
 use Rattle.pb_typing_tree.proofs.Fits.{slotted-fits}
 use Rattle.pb_typing_tree.proofs.Slotted.{slotted-value, neither-left}
 use Rattle.pb_typing_values.specs.Slots.{slots_of}
-use Rattle.pb_base_errors.specs.declared.or_memory.OrMemory.{OrMemory}
+use Rattle.pb_base.specs.declared.or_memory.OrMemory.{OrMemory}
 use Rattle.pb_typing_declarations.specs.declared.fault.TypingFault.{TypingFault}
-use Rattle.pb_base_errors.specs.declared.or_memory.OrMemory.TheVariants.{Refused}
+use Rattle.pb_base.specs.declared.or_memory.OrMemory.TheVariants.{Refused}
 use Rattle.pb_typing_declarations.specs.Faults.{IsAmong}
 use Rattle.pb_typing_declarations.specs.View.{spec_of}
 use Rattle.pb_typing_rules.specs.Faults.{value_faults}

@@ -5,7 +5,7 @@ use Rattle.pb_text_tree.specs.declared.term.Argument.{Argument}
 use Rattle.pb_text_tree.specs.Form.{instance_form}
 use Rattle.pb_typing_rules.specs.Faults.{instance_faults}
 use Rattle.pb_typing_declarations.specs.declared.fault.TypingFault.{TypingFault}
-use Rattle.pb_base_errors.specs.declared.or_memory.OrMemory.TheVariants.{Refused}
+use Rattle.pb_base.specs.declared.or_memory.OrMemory.TheVariants.{Refused}
 use Rattle.pb_typing_declarations.specs.declared.fault.TypingRule.TheVariants as rule
 use Rattle.pb_typing_declarations.specs.Agreement.{equation_place}
 use Rattle.pb_typing_declarations.specs.Entries.{shapes_of}

@@ -1,7 +1,7 @@
 use Rattle.std.proofs.Common.{refl, arith, length, false}
-use Rattle.pb_base_limits.specs.declared.TheConstants.{MAX_ENUMERATORS}
+use Rattle.pb_base.specs.declared.limits.TheConstants.{MAX_ENUMERATORS}
 use Rattle.pb_typing_declarations.specs.declared.fault.TypingRule.TheVariants.{Limit}
-use Rattle.pb_base_errors.specs.declared.or_memory.OrMemory.TheVariants.{Refused}
+use Rattle.pb_base.specs.declared.or_memory.OrMemory.TheVariants.{Refused}
 use Rattle.pb_typing_declarations.specs.Faults.{unless}
 use Rattle.pb_typing_declarations.proofs.Loops.{among_same}
 use Rattle.pb_typing_declarations.proofs.Structs.{count_at, count_clear, count_faults}

@@ -4,7 +4,7 @@ use Rattle.std.specs.Option.{option_map}
 use Rattle.pb_text_tree.specs.Form.{Named, SortDeclarationForm, sort_declaration_form}
 use Rattle.pb_text_meaning.specs.Syntax.{Name}
 use Rattle.pb_text_meaning.specs.Erase.{erased_declaration}
-use Rattle.pb_base_errors.specs.declared.or_memory.OrMemory.{OrMemory}
+use Rattle.pb_base.specs.declared.or_memory.OrMemory.{OrMemory}
 use Rattle.pb_typing_declarations.specs.declared.fault.TypingFault.{TypingFault}
 use Rattle.pb_typing_declarations.specs.Faults.{repeated, IsAmong}
 use Rattle.pb_typing_declarations.specs.Shapes as shapes

@@ -2,7 +2,7 @@ use Rattle.std.proofs.Common.{Bool, rules, subst, map}
 use Rattle.std.specs.Prelude.{flat_map}
 use Rattle.pb_text_tree.specs.Form.{enumerator_form, recogniser_form, named}
 use Rattle.pb_typing_declarations.specs.declared.fault.TypingRule.TheVariants.{Limit}
-use Rattle.pb_base_errors.specs.declared.or_memory.OrMemory.TheVariants.{Refused}
+use Rattle.pb_base.specs.declared.or_memory.OrMemory.TheVariants.{Refused}
 use Rattle.pb_typing_declarations.specs.Faults.{unless, length_faults, IsAmong}
 use Rattle.pb_typing_declarations.specs.Declarations.{enumerator_faults, recogniser_faults}
 use Rattle.pb_typing_declarations.proofs.Parts.{among_left, among_right}

@@ -1,10 +1,10 @@
 use Rattle.std.proofs.Common.{rules, arith, map, List, subst}
 use Rattle.std.specs.Prelude.{flat_map, nat_lt}
-use Rattle.pb_base_limits.specs.declared.TheConstants.{MAX_STRUCTS}
+use Rattle.pb_base.specs.declared.limits.TheConstants.{MAX_STRUCTS}
 use Rattle.pb_text_tree.specs.Form.{enumerator_form, sort_form}
 use Rattle.pb_text_tree.specs.declared.sort.Enumerator.{Enumerator}
 use Rattle.pb_typing_declarations.specs.declared.fault.TypingRule.TheVariants.{Limit}
-use Rattle.pb_base_errors.specs.declared.or_memory.OrMemory.TheVariants.{Refused}
+use Rattle.pb_base.specs.declared.or_memory.OrMemory.TheVariants.{Refused}
 use Rattle.pb_typing_declarations.specs.Faults.{unless, IsAmong}
 use Rattle.pb_typing_declarations.specs.Declarations.{struct_faults, enumerator_faults}
 use Rattle.pb_typing_declarations.proofs.Parts.{among_left, among_right}

@@ -1,7 +1,7 @@
 use Rattle.std.proofs.Common.{◌≡◌, ◌++◌, ◌+◌, ℕ, List, [], ◌∷◌, drop, rules, map, sym, ap, subst, ◌∙◌, ◌≤◌, string_bytes}
 use Rattle.std.specs.Prelude.{flat_map}
 use Rattle.std.proofs.lemmas.Grind.{flat_map-append}
-use Rattle.pb_base_limits.specs.declared.TheConstants.{MAX_STRUCTS}
+use Rattle.pb_base.specs.declared.limits.TheConstants.{MAX_STRUCTS}
 use Rattle.pb_sorts.proofs.Places.{drop-at}
 use Rattle.pb_text_tree.specs.declared.sort.SortDeclaration.{SortDeclaration}
 use Rattle.pb_text_tree.specs.Form.{SortDeclarationForm, named, sort_form, sort_declaration_form}

@@ -1,6 +1,6 @@
 use Rattle.std.proofs.Common.{◌≡◌, ◌≤◌, ◌++◌, drop, map}
 use Rattle.std.specs.Prelude.{flat_map}
-use Rattle.pb_base_limits.specs.declared.TheConstants.{MAX_STRUCTS}
+use Rattle.pb_base.specs.declared.limits.TheConstants.{MAX_STRUCTS}
 use Rattle.pb_text_tree.specs.Form.{SortDeclarationForm, sort_declaration_form}
 use Rattle.pb_text_meaning.specs.Erase.{erased_declaration}
 use Rattle.pb_typing_declarations.specs.Shapes.{definitions_from}

@@ -3,7 +3,7 @@ use Rattle.std.specs.Prelude.{Option}
 use Rattle.std.proofs.lemmas.List.{drop_all}
 use Rattle.pb_text_meaning.specs.Syntax.{Name}
 use Rattle.pb_typing_declarations.specs.declared.fault.TypingRule.TheVariants.{NameTwice}
-use Rattle.pb_base_errors.specs.declared.or_memory.OrMemory.TheVariants.{Refused}
+use Rattle.pb_base.specs.declared.or_memory.OrMemory.TheVariants.{Refused}
 use Rattle.pb_typing_declarations.specs.Faults.{unless, repeated, IsAmong}
 use Rattle.pb_typing_declarations.specs.Shapes.{first}
 use Rattle.pb_typing_declarations.specs.Tables.{entry_names, entry_values, looked_up}

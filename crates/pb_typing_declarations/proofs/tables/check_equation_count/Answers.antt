@@ -1,8 +1,8 @@
 use Rattle.std.proofs.Common.{refl, arith, length, false, map}
-use Rattle.pb_base_limits.specs.declared.TheConstants.{MAX_EQUATIONS}
+use Rattle.pb_base.specs.declared.limits.TheConstants.{MAX_EQUATIONS}
 use Rattle.pb_text_tree.specs.Form.{equation_form}
 use Rattle.pb_typing_declarations.specs.declared.fault.TypingRule.TheVariants.{Limit}
-use Rattle.pb_base_errors.specs.declared.or_memory.OrMemory.TheVariants.{Refused}
+use Rattle.pb_base.specs.declared.or_memory.OrMemory.TheVariants.{Refused}
 use Rattle.pb_typing_declarations.specs.Faults.{unless}
 use Rattle.pb_typing_declarations.specs.Declarations.{limit_faults, equation_names}
 use Rattle.pb_typing_declarations.proofs.Loops.{among_same}

@@ -1,6 +1,6 @@
 use Rattle.std.proofs.Common.{refl, arith, length, false}
 use Rattle.pb_typing_declarations.specs.declared.fault.TypingRule.TheVariants.{Limit}
-use Rattle.pb_base_errors.specs.declared.or_memory.OrMemory.TheVariants.{Refused}
+use Rattle.pb_base.specs.declared.or_memory.OrMemory.TheVariants.{Refused}
 use Rattle.pb_typing_declarations.specs.Faults.{unless}
 use Rattle.pb_typing_declarations.specs.Tables.{entry_names}
 use Rattle.pb_typing_declarations.specs.Declarations.{limit_faults}

@@ -5,7 +5,7 @@ use Rattle.std.proofs.lemmas.Result.{err_from_is_err_and}
 use Rattle.pb_verifier_structure.specs.Views.{IsProgramOf}
 use Rattle.pb_verifier_structure.specs.declared.equation_code.EquationCode.{EquationCode}
 use Rattle.pb_verifier.specs.Programs.{program_in}
-use Rattle.pb_base_errors.proofs.Faults.{if_fault, if_refused}
+use Rattle.pb_base.proofs.Faults.{if_fault, if_refused}
 use Rattle.pb_verifier.proofs.Steps.{where_ok}
 use Rattle.pb_verifier.proofs.Equations.{broken_structure, not_enough, enough, table_found, no_table}
 use Rattle.pb_verifier.proofs.equation.check_equation.Goals as goal

@@ -1,7 +1,7 @@
 use Rattle.std.proofs.Common.{map, length, ◌≤◌, ap, arith}
 use Rattle.std.specs.Prelude.{vec_items}
 use Rattle.pb_bytecode_program.specs.declared.instruction.Op.TheVariants as op
-use Rattle.pb_base_errors.proofs.Faults.{if_raised}
+use Rattle.pb_base.proofs.Faults.{if_raised}
 use Rattle.pb_verifier.specs.Programs.{program_in}
 use Rattle.pb_verifier.proofs.Steps.{op_here, passes_begin, passes_next, passes_not, passes_end}
 use Rattle.pb_verifier.proofs.pass.pass.Goals as goal

@@ -1,7 +1,7 @@
 use Rattle.std.proofs.Common.{map, sym, ap, ◌∙◌}
 use Rattle.std.specs.Prelude.{vec_items}
 use Rattle.std.proofs.lemmas.Result.{err_from_is_err_and}
-use Rattle.pb_base_errors.proofs.Faults.{if_fault}
+use Rattle.pb_base.proofs.Faults.{if_fault}
 use Rattle.pb_verifier.proofs.Modules.{is_of, each_within_limits, layout_fits, few_each, few_lists, tables_of_accepted, verified_by}
 use Rattle.pb_verifier.proofs.verification.check.Goals as goal
 

@@ -2,7 +2,7 @@ use Rattle.std.proofs.Common.{◌≡◌, Some, refl, ◌∙◌, subst, inl, inr,
 use Rattle.std.specs.Prelude.{map, slice_get, vec_items}
 use Rattle.std.proofs.lemmas.Bool.{cases_lt}
 use Rattle.std.proofs.lemmas.Option.{slice_get_read, slice_get_within, get_or_from_slice_get}
-use Rattle.pb_base_errors.proofs.Faults.{if_raised}
+use Rattle.pb_base.proofs.Faults.{if_raised}
 use Rattle.pb_verifier.specs.Acceptance.{HasTable}
 use Rattle.pb_verifier.specs.Programs.{program_in}
 use Rattle.pb_verifier.proofs.verification.check_equations.Goals as goal

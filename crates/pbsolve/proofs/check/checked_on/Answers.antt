@@ -1,8 +1,8 @@
 -- The text that asks for a step is refused.
 use Rattle.std.proofs.Common.{◌≡◌, ap, map, rules, string_bytes}
 use Rattle.std.specs.Prelude.{Err}
-use Rattle.pb_base_errors.specs.OrMemory.{IfFault}
-use Rattle.pb_base_errors.proofs.Faults.{if_fault}
+use Rattle.pb_base.specs.OrMemory.{IfFault}
+use Rattle.pb_base.proofs.Faults.{if_fault}
 use Rattle.pb_model_tree.specs.Form.{model_form}
 use Rattle.pbsolve.specs.Models.{IsUnchecked}
 use Rattle.pbsolve.proofs.Checked.{step_unchecked}

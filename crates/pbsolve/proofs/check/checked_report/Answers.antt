@@ -1,8 +1,8 @@
 -- What is found is told, or the model is refused.
 use Rattle.std.proofs.Common.{◌≡◌, ◌∙◌, ◌++◌, ℕ, List, length, map, sym, ap, subst, string_bytes}
 use Rattle.std.proofs.lemmas.List.{length-map}
-use Rattle.pb_base_errors.proofs.Faults.{if_raised}
-use Rattle.pb_base_errors.specs.declared.or_memory.OrMemory.TheVariants as or_memory
+use Rattle.pb_base.proofs.Faults.{if_raised}
+use Rattle.pb_base.specs.declared.or_memory.OrMemory.TheVariants as or_memory
 use Rattle.pb_command_faults.specs.declared.solve_fault.SolveFault.TheVariants as solve_fault
 use Rattle.pb_model_tree.specs.Form.{model_form, property_form}
 use Rattle.pb_model_words.specs.Vocabulary.{Vocabulary}

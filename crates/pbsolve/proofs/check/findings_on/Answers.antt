@@ -2,7 +2,7 @@
 use Rattle.std.proofs.Common.{◌≡◌, ◌∙◌, ◌<◌, ℕ, length, map, sym, ap, subst, string_bytes}
 use Rattle.std.specs.List.{All}
 use Rattle.std.proofs.lemmas.List.{length-map}
-use Rattle.pb_base_errors.proofs.Faults.{if_refused}
+use Rattle.pb_base.proofs.Faults.{if_refused}
 use Rattle.pb_model_tree.specs.Form.{model_form, property_form}
 use Rattle.pb_model_properties.specs.Asked.{asked_places}
 use Rattle.pbsolve.specs.Outcomes.{IsTextAt}

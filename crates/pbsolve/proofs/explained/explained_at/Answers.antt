@@ -1,7 +1,7 @@
 -- The text of the property at the place is explained, or the model isn't.
 use Rattle.std.proofs.Common.{subst, sym, inl, inr}
 use Rattle.std.specs.Prelude.{Contains}
-use Rattle.pb_base_errors.proofs.Faults.{if_raised}
+use Rattle.pb_base.proofs.Faults.{if_raised}
 use Rattle.pb_text_tree.specs.Form.{spec_form}
 use Rattle.pb_model_tree.specs.Form.{PropertyForm, model_form, property_form}
 use Rattle.pb_command_faults.specs.Errors.{fault_of_model}

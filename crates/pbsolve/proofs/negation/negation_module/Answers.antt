@@ -1,7 +1,7 @@
 -- The negation stands at the place of the property.
 use Rattle.std.proofs.Common.{subst, sym, arith}
 use Rattle.std.proofs.lemmas.List.{length-map}
-use Rattle.pb_base_errors.proofs.Faults.{if_raised}
+use Rattle.pb_base.proofs.Faults.{if_raised}
 use Rattle.pb_model_tree.specs.Form.{model_form, property_form}
 use Rattle.pbsolve.specs.Models.{IsUnnegated}
 use Rattle.pbsolve.specs.Outcomes.{AreNegations}

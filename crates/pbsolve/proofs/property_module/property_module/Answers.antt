@@ -1,7 +1,7 @@
 -- The module of a text is that of the property whose text it is.
 use Rattle.std.proofs.Common.{subst}
-use Rattle.pb_base_errors.specs.OrMemory.{IfFault}
-use Rattle.pb_base_errors.proofs.Faults.{if_fault}
+use Rattle.pb_base.specs.OrMemory.{IfFault}
+use Rattle.pb_base.proofs.Faults.{if_fault}
 use Rattle.pb_text_tree.specs.Form.{spec_form}
 use Rattle.pbsolve.specs.Outcomes.{IsExcess, IsPropertyModule, IsPropertyText, excess_of}
 use Rattle.pbsolve.proofs.Excesses.{answer_more, never_refused, uncompiled_excess}

@@ -1,7 +1,7 @@
 -- The verdict is told, or something is too large for one.
 use Rattle.std.proofs.Common.{◌∙◌, false, subst, sym}
-use Rattle.pb_base_errors.specs.OrMemory.{IfFault}
-use Rattle.pb_base_errors.specs.declared.or_memory.OrMemory.{OrMemory}
+use Rattle.pb_base.specs.OrMemory.{IfFault}
+use Rattle.pb_base.specs.declared.or_memory.OrMemory.{OrMemory}
 use Rattle.pb_command_faults.specs.declared.solve_fault.SolveFault.{SolveFault}
 use Rattle.pb_model_tree.specs.Form.{model_form, property_form}
 use Rattle.pb_model_properties.specs.Words.{words_in}

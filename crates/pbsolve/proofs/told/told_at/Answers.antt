@@ -1,5 +1,5 @@
 -- What is found of the property is told, or something is too large for a verdict.
-use Rattle.pb_base_errors.proofs.Faults.{if_refused}
+use Rattle.pb_base.proofs.Faults.{if_refused}
 use Rattle.pb_command_faults.proofs.HandedUp.{handed_on}
 use Rattle.pb_model_tree.specs.Form.{model_form, property_form}
 use Rattle.pbsolve.specs.Models.{IsUnexplained, IsUnnegated}

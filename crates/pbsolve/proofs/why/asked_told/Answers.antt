@@ -1,8 +1,8 @@
 -- Where none is named no property is missed.
 use Rattle.std.proofs.Common.{sym, subst}
 use Rattle.std.specs.Prelude.{option_copied}
-use Rattle.pb_base_errors.proofs.Faults.{if_refused}
-use Rattle.pb_base_errors.specs.OrMemory.{IfRefused}
+use Rattle.pb_base.proofs.Faults.{if_refused}
+use Rattle.pb_base.specs.OrMemory.{IfRefused}
 use Rattle.pbsolve.specs.Why.{IsUnshown}
 use Rattle.pbsolve.proofs.Tellings.{never_missed, unshown}
 use Rattle.pbsolve.proofs.why.asked_told.Goals as goal

@@ -1,10 +1,10 @@
 -- The property of the name stands at the place that was found.
 use Rattle.std.proofs.Common.{◌≡◌, List, Option, Some, None, map, refl, string_bytes, sym, subst}
 use Rattle.std.specs.Prelude.{IfNone}
-use Rattle.pb_base_errors.specs.OrMemory.{IfFault}
-use Rattle.pb_base_errors.specs.declared.or_memory.OrMemory.{OrMemory}
+use Rattle.pb_base.specs.OrMemory.{IfFault}
+use Rattle.pb_base.specs.declared.or_memory.OrMemory.{OrMemory}
 use Rattle.pb_command_faults.specs.declared.solve_fault.SolveFault.{SolveFault}
-use Rattle.pb_base_errors.proofs.Faults.{if_refused}
+use Rattle.pb_base.proofs.Faults.{if_refused}
 use Rattle.pb_model_tree.specs.Form.{model_form, property_form}
 use Rattle.pb_model_properties.specs.Asked.{IsAskedAt, NoneIsAskedFor}
 use Rattle.pb_model_properties.specs.Words.{words_in}

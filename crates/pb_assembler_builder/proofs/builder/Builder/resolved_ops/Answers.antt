@@ -1,5 +1,5 @@
 use Rattle.std.proofs.Common.{◌≤◌, length, ap, ◌∙◌, arith}
-use Rattle.pb_base_limits.specs.declared.TheConstants.{MAX_INSTRUCTIONS}
+use Rattle.pb_base.specs.declared.limits.TheConstants.{MAX_INSTRUCTIONS}
 use Rattle.pb_assembler_builder.specs.Draft.{Draft, are_within}
 use Rattle.pb_assembler_builder.proofs.Drafts.{are_within_more}
 use Rattle.pb_assembler_builder.proofs.builder.Builder.resolved_ops.Goals as goal

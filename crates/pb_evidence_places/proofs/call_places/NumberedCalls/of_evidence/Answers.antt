@@ -1,7 +1,7 @@
 use Rattle.std.proofs.Common.{ℕ, ◌<◌, length, sym, subst, arith}
 use Rattle.std.proofs.lemmas.List.{get_or_read}
 use Rattle.pb_sorts.specs.Layout.{count_of}
-use Rattle.pb_evidence_calls.specs.View.{said_by}
+use Rattle.pb_typing_calls.specs.View.{said_by}
 use Rattle.pb_evidence_places.specs.CallPlaces.{place_of_call}
 use Rattle.pb_evidence_places.proofs.Placing.{none_placed, next_placed}
 use Rattle.pb_evidence_places.proofs.call_places.NumberedCalls.of_evidence.Goals as goal

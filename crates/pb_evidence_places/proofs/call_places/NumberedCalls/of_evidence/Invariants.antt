@@ -1,4 +1,4 @@
-use Rattle.pb_evidence_calls.specs.View.{said_by}
+use Rattle.pb_typing_calls.specs.View.{said_by}
 use Rattle.pb_evidence_places.specs.CallPlaces.{place_of_call}
 use Rattle.pb_evidence_places.proofs.Placing.{ArePlacedTo}
 use Rattle.pb_evidence_places.proofs.call_places.NumberedCalls.of_evidence.Given as goal

@@ -3,7 +3,7 @@ use Rattle.pb_text_tree.specs.declared.place.Place.{Place}
 use Rattle.pb_sorts.specs.Instance.{instance_of, is_instance}
 use Rattle.pb_sorts.specs.Layout.{carriers_of}
 use Rattle.pb_sorts.proofs.Numbers.{is_instance-slice_get}
-use Rattle.pb_evidence_calls.specs.View.{said_by}
+use Rattle.pb_typing_calls.specs.View.{said_by}
 use Rattle.pb_evidence_places.proofs.Placing.{place_known}
 use Rattle.pb_evidence_places.proofs.call_places.NumberedCalls.place.Goals as goal
 

@@ -1,5 +1,5 @@
 use Rattle.std.proofs.Common.{◌≡◌, ◌++◌, map, take}
-use Rattle.pb_evidence_calls.specs.View.{said_by}
+use Rattle.pb_typing_calls.specs.View.{said_by}
 use Rattle.pb_evidence_places.specs.CallPlaces.{place_of_call}
 use Rattle.pb_evidence_places.proofs.call_places.NumberedCalls.push_places.Given as goal
 

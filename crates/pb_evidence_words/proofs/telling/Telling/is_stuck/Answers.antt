@@ -1,9 +1,9 @@
 use Rattle.std.proofs.Common.{List, ap, ◌∙◌}
 use Rattle.pb_text_tree.specs.Form.{SpecForm, spec_form}
 use Rattle.pb_sorts.specs.Instance.{Instance, instance_of}
-use Rattle.pb_evidence_calls.specs.MadeCalls.{calls_at}
-use Rattle.pb_evidence_calls.specs.declared.made_call.MadeCall as declared_call
-use Rattle.pb_evidence_calls.specs.MadeCallView.{call_views}
+use Rattle.pb_typing_calls.specs.MadeCalls.{calls_at}
+use Rattle.pb_typing_calls.specs.declared.made_call.MadeCall as declared_call
+use Rattle.pb_typing_calls.specs.MadeCallView.{call_views}
 use Rattle.pb_evidence_words.specs.WhyText.{is_empty}
 use Rattle.pb_evidence_words.proofs.telling.Telling.is_stuck.Goals as goal
 

@@ -1,7 +1,7 @@
 use Rattle.std.proofs.Common.{◌++◌, codes, string_bytes, arith, refl}
 use Rattle.pb_model_words.specs.View.{vocabulary_of}
 use Rattle.pb_sorts.specs.Instance.{instance_of}
-use Rattle.pb_evidence_calls.specs.MadeCallView.{call_views}
+use Rattle.pb_typing_calls.specs.MadeCallView.{call_views}
 use Rattle.pb_evidence_words.specs.Order.{parent_at}
 use Rattle.pb_evidence_words.specs.Ready.{told_of}
 use Rattle.pb_evidence_words.specs.WhyText.{from_text, arrival_text, line_instance, move_among, move_between}

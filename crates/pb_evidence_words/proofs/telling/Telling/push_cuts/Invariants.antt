@@ -1,5 +1,5 @@
 use Rattle.std.proofs.Common.{◌≡◌, ◌++◌, flat_map, string_bytes, take}
-use Rattle.pb_evidence_calls.specs.MadeCallView.{call_views}
+use Rattle.pb_typing_calls.specs.MadeCallView.{call_views}
 use Rattle.pb_sorts.specs.Instance.{instance_of}
 use Rattle.pb_evidence_words.specs.Ready.{told_of}
 use Rattle.pb_evidence_words.specs.WhyText.{cut_text}

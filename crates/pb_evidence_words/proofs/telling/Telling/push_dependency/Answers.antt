@@ -1,8 +1,8 @@
 use Rattle.std.proofs.Common.{◌≡◌, ◌++◌, List, codes, string_bytes, ap, ◌∙◌}
 use Rattle.pb_model_words.specs.View.{vocabulary_of}
 use Rattle.pb_sorts.specs.Instance.{Instance, instance_of}
-use Rattle.pb_evidence_calls.specs.MadeCalls.{MadeCall, calls_at}
-use Rattle.pb_evidence_calls.specs.MadeCallView.{call_views}
+use Rattle.pb_typing_calls.specs.MadeCalls.{MadeCall, calls_at}
+use Rattle.pb_typing_calls.specs.MadeCallView.{call_views}
 use Rattle.pb_evidence_words.specs.Ready.{told_of}
 use Rattle.pb_evidence_words.specs.InstanceLines.{instance_text, mark_among}
 use Rattle.pb_evidence_words.specs.WhyText.{instance_at, line_instance}

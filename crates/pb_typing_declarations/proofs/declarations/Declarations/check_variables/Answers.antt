@@ -1,7 +1,7 @@
 use Rattle.std.proofs.Common.{◌≡◌, ◌∙◌, List, [], Vec, Global, ap, subst, Result, Ok, Err}
 use Rattle.std.specs.Prelude.{MatchResult, IfOk}
 use Rattle.pb_sorts.specs.declared.carrier.Carrier.{Carrier}
-use Rattle.pb_base_errors.specs.declared.or_memory.OrMemory.{OrMemory}
+use Rattle.pb_base.specs.declared.or_memory.OrMemory.{OrMemory}
 use Rattle.pb_text_tree.specs.Form.{VariableForm, variable_forms}
 use Rattle.pb_text_meaning.specs.Syntax.{Spec}
 use Rattle.pb_text_meaning.specs.Erase.{erased_variables}

@@ -1,12 +1,12 @@
 use Rattle.std.proofs.Common.{◌≡◌, ◌∙◌, ◌≤◌, ◌<◌, ℕ, List, length, map, subst, sym, ap, arith, get_or, Vec, Global}
 use Rattle.pb_sorts.specs.declared.carrier.Carrier.{Carrier}
 use Rattle.std.specs.Prelude.{Result, Err, vec_len}
-use Rattle.pb_base_errors.specs.OrMemory.{IfFault}
-use Rattle.pb_base_errors.specs.declared.or_memory.OrMemory.{OrMemory}
-use Rattle.pb_base_errors.specs.declared.or_memory.OrMemory.TheVariants.{Refused, Memory}
+use Rattle.pb_base.specs.OrMemory.{IfFault}
+use Rattle.pb_base.specs.declared.or_memory.OrMemory.{OrMemory}
+use Rattle.pb_base.specs.declared.or_memory.OrMemory.TheVariants.{Refused, Memory}
 use Rattle.pb_sorts.specs.declared.layout.Layout.{Layout}
 use Rattle.pb_sorts.specs.declared.layout.TooManyInstances.{TooManyInstances}
-use Rattle.pb_base_limits.specs.declared.TheConstants.{MAX_EQUATIONS, MAX_PARAMETERS}
+use Rattle.pb_base.specs.declared.limits.TheConstants.{MAX_EQUATIONS, MAX_PARAMETERS}
 use Rattle.pb_sorts.specs.Layout as layouts
 use Rattle.pb_sorts.specs.Layout.{lists_of, count_of}
 use Rattle.pb_typing_declarations.specs.Entries.{shapes_of}

@@ -1,7 +1,7 @@
 use Rattle.std.proofs.Common.{◌≡◌, ◌+◌, ◌++◌, ◌∙◌, ℕ, List, [], ◌∷◌, drop, rules, map, sym, ap, subst, Bool}
 use Rattle.std.specs.Prelude.{nat_le}
 use Rattle.pb_base_values.specs.Carrier.{tuple_count}
-use Rattle.pb_base_limits.specs.declared.TheConstants.{MAX_INSTANCES}
+use Rattle.pb_base.specs.declared.limits.TheConstants.{MAX_INSTANCES}
 use Rattle.pb_sorts.specs.Layout as layouts
 use Rattle.pb_sorts.specs.Layout.{lists_of}
 use Rattle.pb_sorts.proofs.Places.{drop-at}
@@ -11,7 +11,7 @@ use Rattle.pb_text_meaning.specs.Syntax.{Equation}
 use Rattle.pb_text_meaning.specs.Erase.{erase, erased_equation}
 use Rattle.pb_text_meaning.specs.Formula.{carriers_of}
 use Rattle.pb_typing_declarations.specs.declared.fault.TypingRule.TheVariants.{Limit}
-use Rattle.pb_base_errors.specs.declared.or_memory.OrMemory.TheVariants.{Refused}
+use Rattle.pb_base.specs.declared.or_memory.OrMemory.TheVariants.{Refused}
 use Rattle.pb_typing_declarations.specs.Faults.{unless, IsAmong}
 use Rattle.pb_typing_declarations.specs.Shapes.{Shape, variable_shapes}
 use Rattle.pb_typing_declarations.specs.Entries.{shapes_of}

@@ -2,7 +2,7 @@ use Rattle.std.proofs.Common.{rules, map}
 use Rattle.std.specs.Prelude.{flat_map, Contains}
 use Rattle.pb_text_tree.specs.Form.{spec_form, sort_declaration_form}
 use Rattle.pb_text_meaning.specs.Erase.{erase}
-use Rattle.pb_base_errors.specs.declared.or_memory.OrMemory.TheVariants.{Refused}
+use Rattle.pb_base.specs.declared.or_memory.OrMemory.TheVariants.{Refused}
 use Rattle.pb_typing_declarations.specs.Declarations.{sort_faults}
 use Rattle.pb_typing_declarations.proofs.Loops.{among_item}
 use Rattle.pb_typing_declarations.proofs.tables.Tables.check_sorts.Goals as goal

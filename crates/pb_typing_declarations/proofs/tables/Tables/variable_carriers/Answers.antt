@@ -7,7 +7,7 @@ use Rattle.pb_text_tree.specs.Form.{Named, spec_form}
 use Rattle.pb_text_meaning.specs.Erase.{erase, erased_variables}
 use Rattle.pb_text_meaning.specs.Formula.{carriers_of}
 use Rattle.pb_typing_declarations.specs.declared.entry.Entry.{Entry}
-use Rattle.pb_base_errors.specs.declared.or_memory.OrMemory.TheVariants.{Refused}
+use Rattle.pb_base.specs.declared.or_memory.OrMemory.TheVariants.{Refused}
 use Rattle.pb_typing_declarations.specs.Faults.{repeated, IsAmong}
 use Rattle.pb_typing_declarations.specs.Entries.{shapes_of}
 use Rattle.pb_typing_declarations.specs.Shapes.{variable_shapes}

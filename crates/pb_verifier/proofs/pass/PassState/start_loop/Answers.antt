@@ -3,7 +3,7 @@ use Rattle.std.proofs.lemmas.Result.{err_from_is_err_and}
 use Rattle.pb_bytecode_program.specs.declared.instruction.Op.TheVariants as op
 use Rattle.pb_verifier.specs.Pass.{innermost}
 use Rattle.pb_verifier.specs.Programs.{program_in}
-use Rattle.pb_base_errors.proofs.Faults.{if_fault}
+use Rattle.pb_base.proofs.Faults.{if_fault}
 use Rattle.pb_verifier.proofs.Steps.{known_flows}
 use Rattle.pb_verifier.proofs.pass.PassState.start_loop.Goals as goal
 

@@ -1,5 +1,0 @@
-use Rattle.pb_assembler_accepted.proofs.Weights.{code_long, steps_weighed, tokens_weighed}
-use Rattle.pb_assembler_accepted.proofs.programs_weigh_as_pieces.Goals as goal
-
-pub returns : goal.returns
-returns c = record { instructions = code_long; steps = steps_weighed; tokens = tokens_weighed }

@@ -1,0 +1,2 @@
+pub mod OrMemory
+pub mod Names

@@ -1,5 +1,0 @@
-pub mod Ends
-pub mod Products
-pub mod Division
-pub mod Sound
-pub mod Monotone

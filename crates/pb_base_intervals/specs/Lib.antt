@@ -1,3 +1,0 @@
-pub mod Interval
-pub mod Laws
-pub mod Operation

@@ -1,6 +1,0 @@
-use Rattle.std.proofs.Common.{◌≡◌, ◌++◌, drop, map}
-use Rattle.pb_text_tree.specs.Form.{named}
-use Rattle.pb_text_copies.proofs.variable.copy_names.Given as goal
-
-abbrev pub invariant-loop-name : goal.invariant-loop-name
-invariant-loop-name l = map named l.copies.items ++ map named (drop l.name-index l.names) ≡ map named l.names
