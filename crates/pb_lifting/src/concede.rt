@@ -10,7 +10,7 @@ ghost use Rattle.pb_lifting.specs.Turns.{IsOpponents};
 use crate::measured::Measured;
 use crate::ranks::{LiftSeat, Ranks};
 use crate::work::{Lifting, part};
-use pb_exploration::Gate;
+use pb_exploration_words::Gate;
 use pb_game::{Game, Player};
 
 /// Concedes each of the worker's vertices that the opponent wins by a measure, with the gate's

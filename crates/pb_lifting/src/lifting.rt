@@ -21,7 +21,7 @@ use crate::scale::Scales;
 use crate::solution::solution_of;
 use crate::turn::Turn;
 use crate::work::Lifting;
-use pb_exploration::Gate;
+use pb_exploration_words::Gate;
 use pb_game::{Game, Player, Solution};
 use std::alloc::{AllocError, Global};
 use std::thread::Threads;

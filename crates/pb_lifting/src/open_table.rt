@@ -11,7 +11,7 @@ use crate::scale::Scale;
 use crate::sweep::sweep;
 use crate::turn::Turn;
 use crate::work::{Lifting, work};
-use pb_exploration::Gate;
+use pb_exploration_words::Gate;
 use pb_game::{Game, Player};
 use std::alloc::{AllocError, Global};
 use std::thread;
