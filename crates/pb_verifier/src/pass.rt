@@ -17,7 +17,10 @@ ghost use Rattle.pb_base.specs.declared.limits.TheConstants.{MAX_INSTRUCTIONS};
 ghost use Rattle.pb_sorts.specs.declared.carrier.Carrier.{Carrier as carrier_type};
 
 use crate::open_loops::OpenLoops;
-use crate::visit::{Names, visit, visit_loop, visit_next};
+use crate::table::take_state;
+use crate::visit::{
+    Names, visit_alone, visit_fork, visit_jump, visit_jump_if, visit_loop, visit_next,
+};
 use pb_base::OrMemory;
 use pb_bytecode::Equation;
 use pb_bytecode_program::Op;
@@ -41,20 +44,9 @@ fn empty_table(alloc: Global, places: usize) -> Result<Vec<Option<AbstractState>
 {
     let mut table = Vec::with_capacity(alloc, places)?;
     for _place in 0..places {
-        table.push(None)?;
+        table.push_reserved(None);
     }
     Ok(table)
-}
-
-// What is known at a place, taken out of the table.
-fn take_state(table: &mut Vec<Option<AbstractState>>, place: usize) -> Option<AbstractState>
-    ensures state { result ≡ state_at table.old.items place }
-    ensures taken { table.new.items ≡ slice_set table.old.items place None }
-{
-    if place >= table.len() {
-        return None;
-    }
-    table[place].take()
 }
 
 fn loop_carrier(equation: &Equation, slot: u8) -> Option<Carrier>
@@ -108,14 +100,23 @@ impl PassState {
             (state_at self.old.table.items place) self.old.open_loops
             (slice_set self.old.table.items place None) ≡ None) }
     {
-        let known = take_state(&mut self.table, place);
         match instruction {
-            Op::Loop { slot } => self.start_loop(equation, slot, place, known),
-            Op::Next => Ok(self.end_loop(place, known)?),
-            _ => match known {
-                Some(state) => visit(state, names, place, instruction, &mut self.table),
-                None => Ok(()),
-            },
+            Op::Loop { slot } => {
+                let known = take_state(&mut self.table, place);
+                self.start_loop(equation, slot, place, known)
+            }
+            Op::Next => {
+                let known = take_state(&mut self.table, place);
+                Ok(self.end_loop(place, known)?)
+            }
+            Op::Jump { target } => visit_jump(place, target, &mut self.table),
+            Op::JumpIf { condition, target } => {
+                visit_jump_if(place, condition, target, &mut self.table)
+            }
+            Op::End | Op::InRange { .. } | Op::SlotInRange { .. } => {
+                visit_fork(names, place, instruction, &mut self.table)
+            }
+            _ => visit_alone(names, place, instruction, &mut self.table),
         }
     }
 

@@ -1,7 +1,10 @@
 //! What is known of the places to come.
 
-ghost use Rattle.std.specs.Prelude.{◌≡◌, ◌≤◌, OnErr, OnOk, Some, None};
+ghost use Rattle.std.specs.Prelude.{◌≡◌, ◌≤◌, OnErr, OnOk, Some, None, is_some};
+ghost use Rattle.std.specs.Prelude.{slice_set};
 ghost use Rattle.pb_base.specs.declared.limits.TheConstants.{MAX_INSTRUCTIONS};
+ghost use Rattle.pb_bytecode_program.specs.Accepted.{state_at};
+ghost use Rattle.pb_bytecode_program.specs.Transfer.{AbstractState as Known};
 ghost use Rattle.pb_verifier_flow.specs.Edges.{edges_of};
 ghost use Rattle.pb_verifier.specs.Pass.{merge_edges as merged_edges, merge_state as merged_state};
 
@@ -20,18 +23,60 @@ pub(crate) fn merge(
     if to >= table.len() {
         return Err(AcceptanceRule::PastTheEnd);
     }
-    match table[to].take() {
+    match &mut table[to] {
         None => {
             table[to] = Some(state);
             Ok(())
         }
-        Some(known) => match known.join(&state) {
-            None => Err(AcceptanceRule::WaysDiffer),
-            Some(joined) => {
-                table[to] = Some(joined);
+        Some(known) => {
+            if known.widen(&state) {
                 Ok(())
+            } else {
+                Err(AcceptanceRule::WaysDiffer)
             }
-        },
+        }
+    }
+}
+
+/// What is known at a place, taken out of the table.
+pub(crate) fn take_state(
+    table: &mut Vec<Option<AbstractState>>,
+    place: usize,
+) -> Option<AbstractState>
+    ensures state { result ≡ state_at table.old.items place }
+    ensures taken { table.new.items ≡ slice_set table.old.items place None }
+{
+    if place >= table.len() {
+        return None;
+    }
+    table[place].take()
+}
+
+/// Whether anything is known of a place.
+pub(crate) fn is_reached(table: &[Option<AbstractState>], place: usize) -> bool
+    ensures { result ≡ is_some (state_at table.now place) }
+{
+    place < table.len() && table[place].is_some()
+}
+
+/// Moves what is known at a place to another one, where it joins.
+pub(crate) fn hand_on(
+    table: &mut Vec<Option<AbstractState>>,
+    from: usize,
+    to: usize,
+) -> Result<(), AcceptanceRule>
+    ensures ok { OnOk result ((state : Known) → state_at table.old.items from ≡ Some state
+        → merged_state (slice_set table.old.items from None) to state ≡ Some table.new.items) }
+    ensures err { OnErr result ((state : Known) → state_at table.old.items from ≡ Some state
+        → merged_state (slice_set table.old.items from None) to state ≡ None) }
+{
+    if from < table.len() && to < table.len() && table[to].is_none() {
+        table.swap(from, to);
+        return Ok(());
+    }
+    match take_state(table, from) {
+        Some(state) => merge(table, to, state),
+        None => Ok(()),
     }
 }
 

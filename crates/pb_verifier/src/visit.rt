@@ -8,13 +8,15 @@ ghost use Rattle.pb_bytecode_program.specs.Counts.{Straight, loop_effect};
 ghost use Rattle.pb_bytecode_program.specs.Machine.{Program, carrier_of};
 ghost use Rattle.pb_bytecode_program.specs.Transfer.{AbstractState as Known, transfer};
 ghost use Rattle.pb_bytecode_program.specs.declared.instruction.Op.TheVariants as op;
-ghost use Rattle.pb_verifier.specs.Names.{FlowsInto};
+ghost use Rattle.pb_verifier.specs.Names.{FlowsInto, FlowsOn};
+ghost use Rattle.pb_verifier.specs.declared.visit.Names.{Names as names_type};
+ghost use Rattle.pb_verifier_flow.specs.Flows.{GoesOnAlone};
 ghost use Rattle.pb_verifier.specs.Pass.{merge_edges as merged_edges, then_table};
 
-use crate::table::{merge, merge_edges};
+use crate::table::{hand_on, is_reached, merge, merge_edges, take_state};
 use pb_bytecode_program::Op;
 use pb_sorts::Carrier;
-use pb_verifier_flow::flow::flow;
+use pb_verifier_flow::flow::{flow, go_on};
 use pb_verifier_states::{AbstractState, AcceptanceRule, FlowError};
 
 /// What the instructions of a module may name: its sorts, by how many enumerators each has, and its
@@ -25,9 +27,29 @@ pub(crate) struct Names<'a> {
     pub callees: &'a [Vec<Carrier>],
 }
 
-/// Joins what flows from an instruction, other than the start and the end of a loop, into the
-/// table.
-pub(crate) fn visit(
+/// What is known at an instruction, other than the start and the end of a loop, flows on.
+pub(crate) fn visit_fork(
+    names: &Names<'_>,
+    place: usize,
+    instruction: Op,
+    table: &mut Vec<Option<AbstractState>>,
+) -> Result<(), FlowError>
+    requires straight { loop_effect instruction ≡ Straight }
+    requires bounds { HasOrderedRange instruction }
+    requires small { place ≤ MAX_INSTRUCTIONS }
+    ensures ok { OnOk result (FlowsOn names.now place instruction table.old.items
+        (Some table.new.items)) }
+    ensures refused { OnRefused result
+        (FlowsOn names.now place instruction table.old.items None) }
+{
+    match take_state(table, place) {
+        Some(state) => visit(state, names, place, instruction, table),
+        None => Ok(()),
+    }
+}
+
+// Joins what flows from such an instruction into the table.
+fn visit(
     state: AbstractState,
     names: &Names<'_>,
     place: usize,
@@ -45,6 +67,79 @@ pub(crate) fn visit(
     let alloc = *table.allocator();
     let edges = flow(state, alloc, names.sorts, names.callees, instruction)?;
     merge_edges(table, place, edges)?;
+    Ok(())
+}
+
+/// What is known at a jump flows to its target.
+pub(crate) fn visit_jump(
+    place: usize,
+    target: u16,
+    table: &mut Vec<Option<AbstractState>>,
+) -> Result<(), FlowError>
+    ensures ok { OnOk result ((names : names_type) → FlowsOn names place (op.Jump target)
+        table.old.items (Some table.new.items)) }
+    ensures refused { OnRefused result ((names : names_type) → FlowsOn names place (op.Jump target)
+        table.old.items None) }
+{
+    if !is_reached(table, place) {
+        return Ok(());
+    }
+    hand_on(table, place, usize::from(target))?;
+    Ok(())
+}
+
+/// What is known at a jump where a truth value is the condition flows to the next place and to the
+/// target.
+pub(crate) fn visit_jump_if(
+    place: usize,
+    condition: bool,
+    target: u16,
+    table: &mut Vec<Option<AbstractState>>,
+) -> Result<(), FlowError>
+    requires { place ≤ MAX_INSTRUCTIONS }
+    ensures ok { OnOk result ((names : names_type)
+        → FlowsOn names place (op.JumpIf condition target) table.old.items
+        (Some table.new.items)) }
+    ensures refused { OnRefused result ((names : names_type)
+        → FlowsOn names place (op.JumpIf condition target) table.old.items None) }
+{
+    if place >= table.len() {
+        return Ok(());
+    }
+    let alloc = *table.allocator();
+    let Some(state) = &mut table[place] else {
+        return Ok(());
+    };
+    state.pop_bool()?;
+    let copy = state.copy(alloc)?;
+    hand_on(table, place, place + 1)?;
+    merge(table, usize::from(target), copy)?;
+    Ok(())
+}
+
+/// What is known at an instruction, from which control goes on to the next place alone, flows
+/// there: the state is changed in place and moved on.
+pub(crate) fn visit_alone(
+    names: &Names<'_>,
+    place: usize,
+    instruction: Op,
+    table: &mut Vec<Option<AbstractState>>,
+) -> Result<(), FlowError>
+    requires alone { GoesOnAlone instruction }
+    requires small { place ≤ MAX_INSTRUCTIONS }
+    ensures ok { OnOk result (FlowsOn names.now place instruction table.old.items
+        (Some table.new.items)) }
+    ensures refused { OnRefused result
+        (FlowsOn names.now place instruction table.old.items None) }
+{
+    if place >= table.len() {
+        return Ok(());
+    }
+    let Some(state) = &mut table[place] else {
+        return Ok(());
+    };
+    go_on(state, names.sorts, names.callees, instruction)?;
+    hand_on(table, place, place + 1)?;
     Ok(())
 }
 

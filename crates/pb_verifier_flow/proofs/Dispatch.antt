@@ -1,6 +1,6 @@
 -- What an instruction does in any program, in those with the same sorts and callees.
 use Rattle.std.proofs.Common.{◌≡◌, ℕ, ◌<◌, List, Option, Some, None, sym, ◌∙◌}
-use Rattle.std.specs.Prelude.{Result, Ok, Err, IfOk, slice_get}
+use Rattle.std.specs.Prelude.{Result, Ok, Err, IfOk, OnOk, slice_get, ℤ}
 use Rattle.std.proofs.lemmas.Bool.{cond-true, lt-ltb}
 use Rattle.pb_bytecode_program.specs.Machine.{Program}
 use Rattle.pb_bytecode_program.specs.Transfer.{AbstractState, Flow, transfer, to_next_place, abstract_push}
@@ -22,9 +22,20 @@ abbrev pub Does : List ℕ → List (List Carrier) → Op → AbstractState → 
 Does ss cs j k F = (p : Program) (home : Option AbstractState) (q : ℕ) → p.sorts ≡ ss → p.callees ≡ cs → transfer p home q j k ≡ F q
 
 module _ (ss : List ℕ) (cs : List (List Carrier)) (k : AbstractState) where
-  pub goes : (i j : Op) (r : Result AbstractState (OrMemory AcceptanceRule)) → j ≡ i → IfOk r (GoesOn i k) → IfOk r (λ m. Does ss cs j k (λ q. to_next_place q m))
-  goes i j (Ok m) e h = λ p home q a b. rw e (h p home q)
-  goes i j (Err x) e h = h
+  pub goes : (i j : Op) (m : AbstractState) (r : Result (Unit {0}) (OrMemory AcceptanceRule)) → j ≡ i → OnOk r (GoesOn i k m) → OnOk r (Does ss cs j k (λ q. to_next_place q m))
+  goes i j m (Ok x) e h = λ p home q a b. rw e (h p home q)
+  goes i j m (Err x) e h = h
+
+  pub goes_int : (z : ℤ) (j : Op) (m : AbstractState) (r : Result (Unit {0}) (OrMemory AcceptanceRule)) → j ≡ op.PushInt z
+      → OnOk r ((q : ℕ) → abstract_push q k k.operands (abstract.Int z z) ≡ to_next_place q m) → OnOk r (Does ss cs j k (λ q. to_next_place q m))
+  goes_int z j m (Ok x) e h = λ p home q a b. rw e (h q)
+  goes_int z j m (Err x) e h = h
+
+  pub fails_int : (z : ℤ) (j : Op) (r : Result (Unit {0}) (OrMemory AcceptanceRule)) → j ≡ op.PushInt z
+      → OnRefused r ((q : ℕ) → abstract_push q k k.operands (abstract.Int z z) ≡ None) → OnRefused r (Does ss cs j k (λ q. None))
+  fails_int z j (Ok x) e h = tt
+  fails_int z j (Err (Refused x)) e h = λ p home q a b. rw e (h q)
+  fails_int z j (Err Memory) e h = tt
 
   pub fails : {A : Type 0} → (i j : Op) (r : Result A (OrMemory AcceptanceRule)) → j ≡ i → OnRefused r (Fails i k) → OnRefused r (Does ss cs j k (λ q. None))
   fails i j (Ok m) e h = tt
@@ -35,13 +46,13 @@ module _ (ss : List ℕ) (cs : List (List Carrier)) (k : AbstractState) where
   flows_to i j (Ok m) e h = λ p home q a b. rw e (h p home q)
   flows_to i j (Err x) e h = h
 
-  pub goes_enum : (s x : ℕ) (j : Op) (r : Result AbstractState (OrMemory AcceptanceRule)) → j ≡ op.PushEnum s x
-      → IfOk r (λ m. (p : Program) (home : Option AbstractState) (q : ℕ) → p.sorts ≡ ss
-      → transfer p home q (op.PushEnum s x) k ≡ to_next_place q m) → IfOk r (λ m. Does ss cs j k (λ q. to_next_place q m))
-  goes_enum s x j (Ok m) e h = λ p home q a b. rw e (h p home q a)
-  goes_enum s x j (Err y) e h = h
+  pub goes_enum : (s x : ℕ) (j : Op) (m : AbstractState) (r : Result (Unit {0}) (OrMemory AcceptanceRule)) → j ≡ op.PushEnum s x
+      → OnOk r ((p : Program) (home : Option AbstractState) (q : ℕ) → p.sorts ≡ ss
+      → transfer p home q (op.PushEnum s x) k ≡ to_next_place q m) → OnOk r (Does ss cs j k (λ q. to_next_place q m))
+  goes_enum s x j m (Ok y) e h = λ p home q a b. rw e (h p home q a)
+  goes_enum s x j m (Err y) e h = h
 
-  pub fails_enum : (s x : ℕ) (j : Op) (r : Result AbstractState (OrMemory AcceptanceRule)) → j ≡ op.PushEnum s x
+  pub fails_enum : (s x : ℕ) (j : Op) (r : Result (Unit {0}) (OrMemory AcceptanceRule)) → j ≡ op.PushEnum s x
       → OnRefused r
       ((p : Program) (home : Option AbstractState) (q : ℕ) → p.sorts ≡ ss
       → transfer p home q (op.PushEnum s x) k ≡ None) → OnRefused r (Does ss cs j k (λ q. None))
@@ -62,14 +73,14 @@ module _ (ss : List ℕ) (cs : List (List Carrier)) (k : AbstractState) where
       → (p : Program) (home : Option AbstractState) (q : ℕ) → p.sorts ≡ ss → transfer p home q (op.PushEnum s x) k ≡ F q
   enum_pushed s x n F e l h = λ p home q a. rw (a, sym e) (cond-true _ _ _ (lt-ltb x n l) ∙ h q)
 
-  pub enum_goes : (s x n : ℕ) (r : Result AbstractState (OrMemory AcceptanceRule)) → Some n ≡ slice_get ss s → x < n
-      → IfOk r (λ m. (q : ℕ) → abstract_push q k k.operands (abstract.Enum s n) ≡ to_next_place q m)
-      → IfOk r (λ m. (p : Program) (home : Option AbstractState) (q : ℕ) → p.sorts ≡ ss
+  pub enum_goes : (s x n : ℕ) (m : AbstractState) (r : Result (Unit {0}) (OrMemory AcceptanceRule)) → Some n ≡ slice_get ss s → x < n
+      → OnOk r ((q : ℕ) → abstract_push q k k.operands (abstract.Enum s n) ≡ to_next_place q m)
+      → OnOk r ((p : Program) (home : Option AbstractState) (q : ℕ) → p.sorts ≡ ss
       → transfer p home q (op.PushEnum s x) k ≡ to_next_place q m)
-  enum_goes s x n (Ok m) e l h = enum_pushed s x n (λ q. to_next_place q m) e l h
-  enum_goes s x n (Err y) e l h = h
+  enum_goes s x n m (Ok y) e l h = enum_pushed s x n (λ q. to_next_place q m) e l h
+  enum_goes s x n m (Err y) e l h = h
 
-  pub enum_fails : (s x n : ℕ) (r : Result AbstractState (OrMemory AcceptanceRule)) → Some n ≡ slice_get ss s → x < n
+  pub enum_fails : (s x n : ℕ) (r : Result (Unit {0}) (OrMemory AcceptanceRule)) → Some n ≡ slice_get ss s → x < n
       → OnRefused r ((q : ℕ) → abstract_push q k k.operands (abstract.Enum s n) ≡ None)
       → OnRefused r ((p : Program) (home : Option AbstractState) (q : ℕ) → p.sorts ≡ ss → transfer p home q (op.PushEnum s x) k ≡ None)
   enum_fails s x n (Ok m) e l h = tt

@@ -1,14 +1,15 @@
 -- What a push of an interval that fits does.
-use Rattle.std.proofs.Common.{◌≡◌, ◌+◌, ℕ, Bool, true, false, cond, List, ◌∷◌, length, Option, Some, None, refl, ap, arith, ◌∙◌}
+use Rattle.std.proofs.Common.{◌≡◌, ◌+◌, ℕ, Bool, true, false, cond, List, ◌∷◌, drop, length, Option, Some, None, refl, sym, ap, arith, ◌∙◌}
 use Rattle.std.proofs.lemmas.Grind.{common_steps}
 use Rattle.std.specs.Prelude.{ℤ, nat_lt, int_lt, pos, ◌&&◌}
 use Rattle.std.proofs.lemmas.Bool.{cond-true, cond-false}
 use Rattle.pb_bytecode_program.specs.Values.{fits64, divides}
 use Rattle.pb_bytecode_program.specs.Abstract.{interval_of}
-use Rattle.pb_bytecode_program.specs.Transfer.{AbstractState, abstract_push, abstract_push_int, to_next_place}
+use Rattle.pb_bytecode_program.specs.Transfer.{AbstractState, abstract_pop_bool, abstract_push, abstract_push_int, to_next_place}
 use Rattle.pb_bytecode_program.specs.declared.domain.AbstractValue.{AbstractValue}
 use Rattle.pb_bytecode_program.specs.declared.domain.AbstractValue.TheVariants as abstract
 use Rattle.pb_bytecode_program.specs.declared.instruction.Arithmetic.{Arithmetic}
+use Rattle.pb_bytecode_program.specs.declared.instruction.Connective.{Connective}
 use Rattle.pb_bytecode_program.specs.declared.instruction.Op.TheVariants as op
 use Rattle.pb_base_values.specs.Interval.{IntegerInterval}
 use Rattle.pb_verifier_flow.specs.Edges.{fitting}
@@ -75,3 +76,21 @@ pub overflow_named : (is_divided : Bool) (b a : IntegerInterval) (ss : List Abst
     → (is_divided && int_lt b.low (pos 1)) ≡ false
     → rule.Overflow ≡ named_at_numbers is_divided (abstract.Int b.low b.high ∷ abstract.Int a.low a.high ∷ ss)
 overflow_named is_divided b a ss d = rw (two_there (abstract.Int b.low b.high) (abstract.Int a.low a.high) ss, d) refl
+
+-- a truth value on top is popped, and another one is pushed
+bool_pushed : (q : ℕ) (k : AbstractState) → k.operands ≡ abstract.Bool ∷ drop 1 k.operands
+    → nat_lt (length (drop 1 k.operands) + k.operands_below) 32 ≡ true
+    → abstract_pop_bool k.operands (λ ss. abstract_push q k ss abstract.Bool) ≡ to_next_place q k
+bool_pushed q k e r = by k.operands (drop 1 k.operands) e r ∙ ap (λ (os : List AbstractValue). to_next_place q (record k { operands = os })) (sym e)
+  where
+    by : (os ts : List AbstractValue) → os ≡ abstract.Bool ∷ ts → nat_lt (length ts + k.operands_below) 32 ≡ true
+        → abstract_pop_bool os (λ ss. abstract_push q k ss abstract.Bool) ≡ to_next_place q (record k { operands = abstract.Bool ∷ ts })
+    by os ts f s = rw f (cond-true _ _ _ s)
+
+pub not_goes_on : (k : AbstractState) → k.operands ≡ abstract.Bool ∷ drop 1 k.operands → nat_lt (length (drop 1 k.operands) + k.operands_below) 32 ≡ true
+    → GoesOn op.Not k k
+not_goes_on k e r = λ p home q. bool_pushed q k e r
+
+pub logic_goes_on : (c : Connective) (k n : AbstractState) → k ≡ record n { operands = abstract.Bool ∷ n.operands }
+    → n.operands ≡ abstract.Bool ∷ drop 1 n.operands → nat_lt (length (drop 1 n.operands) + n.operands_below) 32 ≡ true → GoesOn (op.Logic c) k n
+logic_goes_on c k n f e r = λ p home q. rw f (bool_pushed q n e r)

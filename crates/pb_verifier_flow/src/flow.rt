@@ -1,6 +1,6 @@
 //! What flows from an instruction.
 
-ghost use Rattle.std.specs.Prelude.{◌≡◌, ◌≤ℤ◌, IfOk, None, Option, Some, map, vec_items, ℕ};
+ghost use Rattle.std.specs.Prelude.{◌≡◌, ◌≤ℤ◌, IfOk, None, OnOk, Option, Some, map, vec_items, ℕ};
 ghost use Rattle.pb_verifier_flow.specs.Edges.{edges_of};
 ghost use Rattle.pb_verifier_flow.specs.Flows.{GoesOnAlone};
 ghost use Rattle.pb_verifier_states.specs.NamedRule.{named_rule};
@@ -32,7 +32,7 @@ use std::alloc::Global;
 /// the divisor before the result, the kinds of all arguments before their intervals, and these
 /// before the root.
 pub fn flow(
-    state: AbstractState,
+    mut state: AbstractState,
     alloc: Global,
     sorts: &[u8],
     callees: &[Vec<Carrier>],
@@ -66,8 +66,8 @@ pub fn flow(
             target,
         } => control::slot_in_range(state, alloc, slot, range_between(low, high), target),
         _ => {
-            let next = next_state(state, sorts, callees, op)?;
-            Ok(Edges::next(next))
+            go_on(&mut state, sorts, callees, op)?;
+            Ok(Edges::next(state))
         }
     }
 }
@@ -81,22 +81,28 @@ fn range_between(low: i32, high: i32) -> Interval
     Interval::new(i64::from(low), i64::from(high))
 }
 
-// What is known at the next place, where control goes on to that place alone.
-fn next_state(
-    state: AbstractState,
+/// Changes what is known at an instruction, from which control goes on to the next place alone, to
+/// what is known there. `sorts` has the counts of enumerators, `callees` the carriers of each
+/// equation's parameters.
+///
+/// # Errors
+/// `Refused` exactly where the instruction breaks a rule, memory aside, with the rule that `flow`
+/// names. After an error the state is of no more use.
+pub fn go_on(
+    state: &mut AbstractState,
     sorts: &[u8],
     callees: &[Vec<Carrier>],
     op: Op,
-) -> Result<AbstractState, FlowError>
+) -> Result<(), FlowError>
     requires { GoesOnAlone op }
-    ensures flows { IfOk result (λ k. (p : Program) (home : Option Known) (q : ℕ)
+    ensures flows { OnOk result ((p : Program) (home : Option Known) (q : ℕ)
         → p.sorts ≡ sorts.now → p.callees ≡ map vec_items callees.now
-        → transfer p home q op state ≡ to_next_place q k) }
+        → transfer p home q op state.old ≡ to_next_place q state.new) }
     ensures refused { OnRefused result ((p : Program) (home : Option Known) (q : ℕ)
         → p.sorts ≡ sorts.now → p.callees ≡ map vec_items callees.now
-        → transfer p home q op state ≡ None) }
+        → transfer p home q op state.old ≡ None) }
     ensures rule { IfRefused result (λ rule. rule
-        ≡ named_rule sorts.now (map vec_items callees.now) op state) }
+        ≡ named_rule sorts.now (map vec_items callees.now) op state.old) }
 {
     match op {
         Op::PushInt(z) => control::push(state, AbstractValue::Int { low: z, high: z }),

@@ -15,8 +15,7 @@ use Rattle.std.proofs.lemmas.Bool.{cond-true, eq-eqb, lt-ltb}
 use Rattle.std.proofs.Common.{◌<◌, ◌≤◌, ◌++◌, take, drop, get_or, Bool, false, cond, suc, length, refl, ap, sym, max}
 use Rattle.pb_bytecode_program.specs.Transfer.{abstract_slot, set_loop, set_param}
 use Rattle.pb_bytecode_program.specs.declared.domain.AbstractValue.TheVariants as abstract
-use Rattle.pb_verifier_states.specs.Join.{hull_of, hulls, with_loop, loop_hulls}
-use Rattle.pb_verifier_states.proofs.Hulls.{made}
+use Rattle.pb_verifier_states.specs.Join.{hull_of}
 use Rattle.pb_verifier_states.specs.Inhabited.{HasOrderedEnds, HaveOrderedEnds, LoopsHaveOrderedEnds}
 
 pub ordered_at : (vs : List AbstractValue) (i : ℕ) (v : AbstractValue) → HaveOrderedEnds vs → slice_get vs i ≡ Some v → HasOrderedEnds v
@@ -129,34 +128,36 @@ hull_ordered (abstract.Enum s n) (abstract.Enum t m) (abstract.Int x y) e a b = 
     by true f = cc
     by false f = cc
 
-pub hulls_ordered : (ss ts us : List AbstractValue) → hulls ss ts ≡ Some us → HaveOrderedEnds ss → HaveOrderedEnds ts → HaveOrderedEnds us
-hulls_ordered [] [] us e a b = let f : [] ≡ us = cc in rw (sym f) tt
-hulls_ordered [] (t ∷ ts) us e a b = cc
-hulls_ordered (s ∷ ss) [] us e a b = cc
-hulls_ordered (s ∷ ss) (t ∷ ts) us e a b =
-    let m = made (hull_of s t) (hulls ss ts) us e in
-    rw (m.4) (hull_ordered s t m.0 m.2 a.0 b.0, hulls_ordered ss ts m.1 m.3 a.1 b.1)
+-- ---- joins made in place
 
-pub hulls_long : (ss ts us : List AbstractValue) → hulls ss ts ≡ Some us → length us ≡ length ss
-hulls_long [] [] us e = let f : [] ≡ us = cc in rw (sym f) refl
-hulls_long [] (t ∷ ts) us e = cc
-hulls_long (s ∷ ss) [] us e = cc
-hulls_long (s ∷ ss) (t ∷ ts) us e =
-    let m = made (hull_of s t) (hulls ss ts) us e in
-    rw (m.4) (ap suc (hulls_long ss ts m.1 m.3))
+ordered_item : (vs : List AbstractValue) (i : ℕ) (d : AbstractValue) → i < length vs → HaveOrderedEnds vs → HasOrderedEnds (get_or vs i d)
+ordered_item [] i d l h = absurd (omega arith)
+ordered_item (x ∷ vs) zero d l h = h.0
+ordered_item (x ∷ vs) (suc i) d l h = ordered_item vs i d (omega arith) h.1
 
-made_loop : (c : Bool) (i : ℕ) (x : Option AbstractValue) (r : Option (List (ℕ × AbstractValue)))
-    (us : List (ℕ × AbstractValue)) → with_loop c i x r ≡ Some us
-    → (u : AbstractValue) × (vs : List (ℕ × AbstractValue)) × (x ≡ Some u) × (r ≡ Some vs) × (us ≡ (i, u) ∷ vs)
-made_loop false i x r us e = cc
-made_loop true i None r us e = cc
-made_loop true i (Some u) None us e = cc
-made_loop true i (Some u) (Some vs) us e = (u, vs, refl, refl, cc)
+ordered_set : (vs : List AbstractValue) (i : ℕ) (v : AbstractValue) → HaveOrderedEnds vs → HasOrderedEnds v → HaveOrderedEnds (slice_set vs i v)
+ordered_set [] i v h o = tt
+ordered_set (x ∷ vs) zero v h o = (o, h.1)
+ordered_set (x ∷ vs) (suc i) v h o = (h.0, ordered_set vs i v h.1 o)
 
-pub loop_hulls_ordered : (ss ts us : List (ℕ × AbstractValue)) → loop_hulls ss ts ≡ Some us → LoopsHaveOrderedEnds ss → LoopsHaveOrderedEnds ts → LoopsHaveOrderedEnds us
-loop_hulls_ordered [] [] us e a b = let f : [] ≡ us = cc in rw (sym f) tt
-loop_hulls_ordered [] (t ∷ ts) us e a b = cc
-loop_hulls_ordered (s ∷ ss) [] us e a b = cc
-loop_hulls_ordered (s ∷ ss) (t ∷ ts) us e a b =
-    let m = made_loop (s.0 == t.0) s.0 (hull_of s.1 t.1) (loop_hulls ss ts) us e in
-    rw (m.4) (hull_ordered s.1 t.1 m.0 m.2 a.0 b.0, loop_hulls_ordered ss ts m.1 m.3 a.1 b.1)
+-- an item that is widened
+pub widened_ordered : (vs ws : List AbstractValue) (i : ℕ) (d e u : AbstractValue) → i < length vs → i < length ws
+    → Some u ≡ hull_of (get_or vs i d) (get_or ws i e) → HaveOrderedEnds vs → HaveOrderedEnds ws → HaveOrderedEnds (slice_set vs i u)
+widened_ordered vs ws i d e u l m j a b =
+    ordered_set vs i u a (hull_ordered (get_or vs i d) (get_or ws i e) u (sym j) (ordered_item vs i d l a) (ordered_item ws i e m b))
+
+ordered_loop : (ls : List (ℕ × AbstractValue)) (i : ℕ) (d : ℕ × AbstractValue) → i < length ls → LoopsHaveOrderedEnds ls → HasOrderedEnds (get_or ls i d).1
+ordered_loop [] i d l h = absurd (omega arith)
+ordered_loop (x ∷ ls) zero d l h = h.0
+ordered_loop (x ∷ ls) (suc i) d l h = ordered_loop ls i d (omega arith) h.1
+
+ordered_loop_set : (ls : List (ℕ × AbstractValue)) (i : ℕ) (v : ℕ × AbstractValue) → LoopsHaveOrderedEnds ls → HasOrderedEnds v.1 → LoopsHaveOrderedEnds (slice_set ls i v)
+ordered_loop_set [] i v h o = tt
+ordered_loop_set (x ∷ ls) zero v h o = (o, h.1)
+ordered_loop_set (x ∷ ls) (suc i) v h o = (h.0, ordered_loop_set ls i v h.1 o)
+
+-- the slot of a loop that is widened
+pub widened_loop_ordered : (ls ms : List (ℕ × AbstractValue)) (i slot : ℕ) (d e : ℕ × AbstractValue) (u : AbstractValue) → i < length ls → i < length ms
+    → Some u ≡ hull_of (get_or ls i d).1 (get_or ms i e).1 → LoopsHaveOrderedEnds ls → LoopsHaveOrderedEnds ms → LoopsHaveOrderedEnds (slice_set ls i (slot, u))
+widened_loop_ordered ls ms i slot d e u l m j a b =
+    ordered_loop_set ls i (slot, u) a (hull_ordered (get_or ls i d).1 (get_or ms i e).1 u (sym j) (ordered_loop ls i d l a) (ordered_loop ms i e m b))

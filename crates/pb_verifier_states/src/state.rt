@@ -1,9 +1,10 @@
 //! Abstract states: what is known at a place of code, without running it.
 
-ghost use Rattle.std.specs.Prelude.{◌≡◌, ◌+◌, ◌≤◌, option_map, vec_items, IfOk, [], map, Some};
+ghost use Rattle.std.specs.Prelude.{◌≡◌, ◌+◌, ◌≤◌, IfOk, [], map, Some};
 ghost use Rattle.std.specs.Prelude.{None, true, if◌then◌else◌, length};
 ghost use Rattle.pb_bytecode_program.specs.Abstract.{abstraction_of};
-ghost use Rattle.pb_verifier_states.specs.Join.{hulls, join_states, loop_hulls};
+ghost use Rattle.pb_verifier_states.specs.Inhabited.{HaveOrderedEnds, LoopsHaveOrderedEnds};
+ghost use Rattle.pb_verifier_states.specs.Join.{agree, hulls, join_states, loop_hulls};
 
 mod brackets;
 mod loops;
@@ -96,36 +97,37 @@ impl AbstractState {
     }
 
     /// The least state that covers both, made in place, or `None` where no state does.
-    pub fn join(self, other: &AbstractState) -> Option<AbstractState>
+    pub fn join(mut self, other: &AbstractState) -> Option<AbstractState>
         ensures { result ≡ join_states self other.now }
     {
-        let AbstractState {
-            operands,
-            operands_below,
-            parameters,
-            loops,
-            brackets,
-            brackets_below,
-            roots,
-        } = self;
-        if operands_below != other.operands_below || brackets != other.brackets {
-            return None;
+        if self.widen(other) { Some(self) } else { None }
+    }
+
+    /// Widens the state, in place, to the least one that covers both. Where no state does, some of
+    /// it may be widened: the state is of no more use.
+    pub fn widen(&mut self, other: &AbstractState) -> bool
+        ensures { join_states self.old other.now ≡ (if result then Some self.new else None) }
+    {
+        if !self.agrees(other) {
+            return false;
         }
-        if brackets_below != other.brackets_below || roots != other.roots {
-            return None;
+        if !widen_all(&mut self.operands, &other.operands) {
+            return false;
         }
-        let operands = widened(operands, &other.operands)?;
-        let parameters = widened(parameters, &other.parameters)?;
-        let loops = widened_loops(loops, &other.loops)?;
-        Some(AbstractState {
-            operands,
-            operands_below,
-            parameters,
-            loops,
-            brackets,
-            brackets_below,
-            roots,
-        })
+        if !widen_all(&mut self.parameters, &other.parameters) {
+            return false;
+        }
+        widen_loops(&mut self.loops, &other.loops)
+    }
+
+    // Whether all but operands and slots is the same.
+    fn agrees(&self, other: &AbstractState) -> bool
+        ensures { result ≡ agree self.now other.now }
+    {
+        self.operands_below == other.operands_below
+            && self.brackets == other.brackets
+            && self.brackets_below == other.brackets_below
+            && self.roots == other.roots
     }
 }
 
@@ -140,34 +142,11 @@ fn abstractions(alloc: Global, carriers: &[Carrier]) -> Result<Vec<AbstractValue
     Ok(values)
 }
 
-// The least values that cover both lists' values, made in place.
-fn widened(mut values: Vec<AbstractValue>, others: &[AbstractValue]) -> Option<Vec<AbstractValue>>
-    ensures { option_map vec_items result ≡ hulls values.items others.now }
-{
-    if widen_all(&mut values, others) {
-        Some(values)
-    } else {
-        None
-    }
-}
-
-// The same of the slots of loops.
-fn widened_loops(
-    mut loops: Vec<(u8, AbstractValue)>,
-    others: &[(u8, AbstractValue)],
-) -> Option<Vec<(u8, AbstractValue)>>
-    ensures { option_map vec_items result ≡ loop_hulls loops.items others.now }
-{
-    if widen_loops(&mut loops, others) {
-        Some(loops)
-    } else {
-        None
-    }
-}
-
 // Widens each value, in place, to the least one that covers the other list's value too.
 fn widen_all(values: &mut [AbstractValue], others: &[AbstractValue]) -> bool
-    ensures { hulls values.old others.now ≡ (if result then Some values.new else None) }
+    ensures hulls { hulls values.old others.now ≡ (if result then Some values.new else None) }
+    ensures ordered { HaveOrderedEnds values.old → HaveOrderedEnds others.now
+        → HaveOrderedEnds values.new }
 {
     if values.len() != others.len() {
         return false;
@@ -183,7 +162,9 @@ fn widen_all(values: &mut [AbstractValue], others: &[AbstractValue]) -> bool
 
 // The same of the slots of loops.
 fn widen_loops(loops: &mut [(u8, AbstractValue)], others: &[(u8, AbstractValue)]) -> bool
-    ensures { loop_hulls loops.old others.now ≡ (if result then Some loops.new else None) }
+    ensures hulls { loop_hulls loops.old others.now ≡ (if result then Some loops.new else None) }
+    ensures ordered { LoopsHaveOrderedEnds loops.old → LoopsHaveOrderedEnds others.now
+        → LoopsHaveOrderedEnds loops.new }
 {
     if loops.len() != others.len() {
         return false;

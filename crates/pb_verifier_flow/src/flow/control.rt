@@ -1,6 +1,7 @@
 //! What flows from pushes and jumps.
 
-ghost use Rattle.std.specs.Prelude.{◌≡◌, ◌≤ℤ◌, IfOk, OnErr, List, None, Option, Some, slice_get, ℕ};
+ghost use Rattle.std.specs.Prelude.{◌≡◌, ◌≤ℤ◌, IfOk, List, None, OnOk, Option, Some, slice_get};
+ghost use Rattle.std.specs.Prelude.{ℕ};
 ghost use Rattle.pb_verifier_flow.specs.Flows.{Fails, FlowsTo, GoesOn};
 ghost use Rattle.pb_verifier_states.specs.NamedRule.{IsNamed, named_rule};
 ghost use Rattle.pb_verifier_states.specs.Inhabited.{HasOrderedEnds};
@@ -19,35 +20,31 @@ use pb_verifier_states::rule::AcceptanceRule;
 use pb_verifier_states::state::AbstractState;
 use std::alloc::Global;
 
-pub(crate) fn push(
-    mut state: AbstractState,
-    value: AbstractValue,
-) -> Result<AbstractState, FlowError>
+pub(crate) fn push(state: &mut AbstractState, value: AbstractValue) -> Result<(), FlowError>
     requires { HasOrderedEnds value }
-    ensures flows { IfOk result (λ k. (q : ℕ)
-        → abstract_push q state state.operands value ≡ to_next_place q k) }
+    ensures flows { OnOk result ((q : ℕ)
+        → abstract_push q state.old state.old.operands value ≡ to_next_place q state.new) }
     ensures refused { OnRefused result ((q : ℕ)
-        → abstract_push q state state.operands value ≡ None) }
+        → abstract_push q state.old state.old.operands value ≡ None) }
     ensures rule { IfRefused result (λ rule. rule ≡ AcceptanceRule.TooManyOperands) }
 {
-    state.push(value)?;
-    Ok(state)
+    state.push(value)
 }
 
 /// Pushes an enumerator of one of the sorts, of which `sorts` has the counts of enumerators.
 pub(crate) fn push_enum(
-    state: AbstractState,
+    state: &mut AbstractState,
     sorts: &[u8],
     sort: u8,
     index: u8,
-) -> Result<AbstractState, FlowError>
-    ensures flows { IfOk result (λ k. (p : Program) (home : Option Known) (q : ℕ)
-        → p.sorts ≡ sorts.now → transfer p home q (op.PushEnum sort index) state
-        ≡ to_next_place q k) }
+) -> Result<(), FlowError>
+    ensures flows { OnOk result ((p : Program) (home : Option Known) (q : ℕ)
+        → p.sorts ≡ sorts.now → transfer p home q (op.PushEnum sort index) state.old
+        ≡ to_next_place q state.new) }
     ensures refused { OnRefused result ((p : Program) (home : Option Known) (q : ℕ)
-        → p.sorts ≡ sorts.now → transfer p home q (op.PushEnum sort index) state ≡ None) }
+        → p.sorts ≡ sorts.now → transfer p home q (op.PushEnum sort index) state.old ≡ None) }
     ensures rule { IfRefused result (λ rule. (callees : List (List carrier_type))
-        → rule ≡ named_rule sorts.now callees (op.PushEnum sort index) state) }
+        → rule ≡ named_rule sorts.now callees (op.PushEnum sort index) state.old) }
 {
     let Some(count) = enumerators(sorts, sort) else {
         return Err(FlowError::Refused(AcceptanceRule::UnknownName));
@@ -66,10 +63,10 @@ fn enumerators(sorts: &[u8], sort: u8) -> Option<u8>
 }
 
 /// Pushes a slot's value.
-pub(crate) fn get(state: AbstractState, slot: u8) -> Result<AbstractState, FlowError>
-    ensures flows { IfOk result (GoesOn (op.Get slot) state) }
-    ensures refused { OnRefused result (Fails (op.Get slot) state) }
-    ensures rule { IfRefused result (IsNamed (op.Get slot) state) }
+pub(crate) fn get(state: &mut AbstractState, slot: u8) -> Result<(), FlowError>
+    ensures flows { OnOk result (GoesOn (op.Get slot) state.old state.new) }
+    ensures refused { OnRefused result (Fails (op.Get slot) state.old) }
+    ensures rule { IfRefused result (IsNamed (op.Get slot) state.old) }
 {
     let Some(value) = state.slot(slot) else {
         return Err(FlowError::Refused(AcceptanceRule::UnknownName));

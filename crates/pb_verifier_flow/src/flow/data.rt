@@ -1,6 +1,6 @@
 //! What flows from the instructions on operands.
 
-ghost use Rattle.std.specs.Prelude.{◌≡◌, ◌&&◌, IfErr, IfOk, OnErr, int_lt, pos};
+ghost use Rattle.std.specs.Prelude.{◌≡◌, ◌&&◌, IfErr, OnErr, OnOk, int_lt, pos};
 ghost use Rattle.pb_verifier_flow.specs.Flows.{Fails, GoesOn};
 ghost use Rattle.pb_verifier_states.specs.NamedRule.{IsNamed};
 ghost use Rattle.pb_base.specs.OrMemory.{IfRefused, OnRefused};
@@ -15,23 +15,20 @@ use pb_verifier_states::rule::AcceptanceRule;
 use pb_verifier_states::state::AbstractState;
 use pb_verifier_states::value::{are_of_one_kind, numbers};
 
-pub(crate) fn pop(mut state: AbstractState) -> Result<AbstractState, AcceptanceRule>
-    ensures flows { IfOk result (GoesOn op.Pop state) }
-    ensures err { OnErr result (Fails op.Pop state) }
-    ensures rule { IfErr result (IsNamed op.Pop state) }
+pub(crate) fn pop(state: &mut AbstractState) -> Result<(), AcceptanceRule>
+    ensures flows { OnOk result (GoesOn op.Pop state.old state.new) }
+    ensures err { OnErr result (Fails op.Pop state.old) }
+    ensures rule { IfErr result (IsNamed op.Pop state.old) }
 {
     state.pop()?;
-    Ok(state)
+    Ok(())
 }
 
 /// An operator on two numbers, whose result is within 64 bits (V04).
-pub(crate) fn arithmetic(
-    mut state: AbstractState,
-    operator: Arithmetic,
-) -> Result<AbstractState, FlowError>
-    ensures flows { IfOk result (GoesOn (op.Arithmetic operator) state) }
-    ensures refused { OnRefused result (Fails (op.Arithmetic operator) state) }
-    ensures rule { IfRefused result (IsNamed (op.Arithmetic operator) state) }
+pub(crate) fn arithmetic(state: &mut AbstractState, operator: Arithmetic) -> Result<(), FlowError>
+    ensures flows { OnOk result (GoesOn (op.Arithmetic operator) state.old state.new) }
+    ensures refused { OnRefused result (Fails (op.Arithmetic operator) state.old) }
+    ensures rule { IfRefused result (IsNamed (op.Arithmetic operator) state.old) }
 {
     state.test_operands(2)?;
     let b = state.pop_int()?;
@@ -43,7 +40,7 @@ pub(crate) fn arithmetic(
         return Err(FlowError::Refused(AcceptanceRule::Overflow));
     };
     state.push(numbers(interval))?;
-    Ok(state)
+    Ok(())
 }
 
 // Whether the second operand is a divisor that may be below 1 (V03).
@@ -54,57 +51,51 @@ fn may_be_no_divisor(operator: Arithmetic, b: Interval) -> bool
 }
 
 /// The negative of a number.
-pub(crate) fn negate(mut state: AbstractState) -> Result<AbstractState, FlowError>
-    ensures flows { IfOk result (GoesOn op.Negate state) }
-    ensures refused { OnRefused result (Fails op.Negate state) }
-    ensures rule { IfRefused result (IsNamed op.Negate state) }
+pub(crate) fn negate(state: &mut AbstractState) -> Result<(), FlowError>
+    ensures flows { OnOk result (GoesOn op.Negate state.old state.new) }
+    ensures refused { OnRefused result (Fails op.Negate state.old) }
+    ensures rule { IfRefused result (IsNamed op.Negate state.old) }
 {
     let a = state.pop_int()?;
     let Some(interval) = negatives(a) else {
         return Err(FlowError::Refused(AcceptanceRule::Overflow));
     };
     state.push(numbers(interval))?;
-    Ok(state)
+    Ok(())
 }
 
 /// The absolute value of a number.
-pub(crate) fn absolute(mut state: AbstractState) -> Result<AbstractState, FlowError>
-    ensures flows { IfOk result (GoesOn op.Absolute state) }
-    ensures refused { OnRefused result (Fails op.Absolute state) }
-    ensures rule { IfRefused result (IsNamed op.Absolute state) }
+pub(crate) fn absolute(state: &mut AbstractState) -> Result<(), FlowError>
+    ensures flows { OnOk result (GoesOn op.Absolute state.old state.new) }
+    ensures refused { OnRefused result (Fails op.Absolute state.old) }
+    ensures rule { IfRefused result (IsNamed op.Absolute state.old) }
 {
     let a = state.pop_int()?;
     let Some(interval) = absolute_values(a) else {
         return Err(FlowError::Refused(AcceptanceRule::Overflow));
     };
     state.push(numbers(interval))?;
-    Ok(state)
+    Ok(())
 }
 
 /// Whether two numbers stand in an order.
-pub(crate) fn compare(
-    mut state: AbstractState,
-    order: Comparison,
-) -> Result<AbstractState, FlowError>
-    ensures flows { IfOk result (GoesOn (op.Compare order) state) }
-    ensures refused { OnRefused result (Fails (op.Compare order) state) }
-    ensures rule { IfRefused result (IsNamed (op.Compare order) state) }
+pub(crate) fn compare(state: &mut AbstractState, order: Comparison) -> Result<(), FlowError>
+    ensures flows { OnOk result (GoesOn (op.Compare order) state.old state.new) }
+    ensures refused { OnRefused result (Fails (op.Compare order) state.old) }
+    ensures rule { IfRefused result (IsNamed (op.Compare order) state.old) }
 {
     state.test_operands(2)?;
     state.pop_int()?;
     state.pop_int()?;
     state.push(AbstractValue::Bool)?;
-    Ok(state)
+    Ok(())
 }
 
 /// Whether two values of one kind are equal, or different.
-pub(crate) fn equality(
-    mut state: AbstractState,
-    wanted: Equality,
-) -> Result<AbstractState, FlowError>
-    ensures flows { IfOk result (GoesOn (op.Equality wanted) state) }
-    ensures refused { OnRefused result (Fails (op.Equality wanted) state) }
-    ensures rule { IfRefused result (IsNamed (op.Equality wanted) state) }
+pub(crate) fn equality(state: &mut AbstractState, wanted: Equality) -> Result<(), FlowError>
+    ensures flows { OnOk result (GoesOn (op.Equality wanted) state.old state.new) }
+    ensures refused { OnRefused result (Fails (op.Equality wanted) state.old) }
+    ensures rule { IfRefused result (IsNamed (op.Equality wanted) state.old) }
 {
     let b = state.pop()?;
     let a = state.pop()?;
@@ -112,32 +103,27 @@ pub(crate) fn equality(
         return Err(FlowError::Refused(AcceptanceRule::WrongKind));
     }
     state.push(AbstractValue::Bool)?;
-    Ok(state)
+    Ok(())
 }
 
-/// The negation of a truth value.
-pub(crate) fn negation(mut state: AbstractState) -> Result<AbstractState, FlowError>
-    ensures flows { IfOk result (GoesOn op.Not state) }
-    ensures refused { OnRefused result (Fails op.Not state) }
-    ensures rule { IfRefused result (IsNamed op.Not state) }
+/// The negation of a truth value: what is known stays the same.
+pub(crate) fn negation(state: &AbstractState) -> Result<(), FlowError>
+    ensures flows { OnOk result (GoesOn op.Not state.now state.now) }
+    ensures refused { OnRefused result (Fails op.Not state.now) }
+    ensures rule { IfRefused result (IsNamed op.Not state.now) }
 {
-    state.pop_bool()?;
-    state.push(AbstractValue::Bool)?;
-    Ok(state)
+    state.test_bool()?;
+    Ok(())
 }
 
 /// A conjunction or a disjunction of two truth values.
-pub(crate) fn logic(
-    mut state: AbstractState,
-    connective: Connective,
-) -> Result<AbstractState, FlowError>
-    ensures flows { IfOk result (GoesOn (op.Logic connective) state) }
-    ensures refused { OnRefused result (Fails (op.Logic connective) state) }
-    ensures rule { IfRefused result (IsNamed (op.Logic connective) state) }
+pub(crate) fn logic(state: &mut AbstractState, connective: Connective) -> Result<(), FlowError>
+    ensures flows { OnOk result (GoesOn (op.Logic connective) state.old state.new) }
+    ensures refused { OnRefused result (Fails (op.Logic connective) state.old) }
+    ensures rule { IfRefused result (IsNamed (op.Logic connective) state.old) }
 {
     state.test_operands(2)?;
     state.pop_bool()?;
-    state.pop_bool()?;
-    state.push(AbstractValue::Bool)?;
-    Ok(state)
+    state.test_bool()?;
+    Ok(())
 }

@@ -97,6 +97,23 @@ impl AbstractState {
         }
     }
 
+    /// Whether a truth value is on top, which stays.
+    pub fn test_bool(&self) -> Result<(), AcceptanceRule>
+        ensures ok { OnOk result
+            (self.now.operands ≡ abstract.Bool ∷ drop 1 self.now.operands) }
+        ensures room { OnOk result (kinds.has_room
+            (record self.now { operands = drop 1 self.now.operands }) ≡ true) }
+        ensures err { OnErr result ((go : List domain → Flow)
+            → abstract_pop_bool self.now.operands go ≡ None) }
+        ensures rule { IfErr result (λ rule. rule ≡ named_at_top self.now.operands) }
+    {
+        match self.operands.first() {
+            Some(AbstractValue::Bool) => Ok(()),
+            Some(_) => Err(AcceptanceRule::WrongKind),
+            None => Err(AcceptanceRule::MissingOperand),
+        }
+    }
+
     /// The number on top, which stays.
     pub fn top_int(&self) -> Result<Interval, AcceptanceRule>
         ensures ok { IfOk result (λ i. self.now.operands
