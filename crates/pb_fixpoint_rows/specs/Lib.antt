@@ -1,3 +1,4 @@
 pub mod Row
 pub mod Entries
 pub mod Reached
+pub mod Order

@@ -3,8 +3,15 @@
 //! (`specs/Row.antt`).
 #![tactic(auto)]
 
+mod cuts;
 pub mod index;
+mod listed;
+pub mod reordering;
+pub mod room;
 pub mod rows;
 
+pub use cuts::any_cut;
 pub use index::{IndexedRows, Place};
+pub use reordering::Reordering;
+pub use room::push;
 pub use rows::Rows;

@@ -17,3 +17,4 @@ pub mod Searched
 pub mod Sizes
 pub mod Placed
 pub mod Refused
+pub mod Dense

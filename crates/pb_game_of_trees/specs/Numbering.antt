@@ -3,7 +3,7 @@ use Rattle.std.specs.Prelude.{ℕ, List, map}
 use Rattle.std.specs.List.{range_with_len}
 use Rattle.pb_game_of_trees.specs.declared.sorted_vertices.SortedVertices.{SortedVertices}
 use Rattle.pb_game_of_trees.specs.declared.numbering.Numbering.{Numbering}
-use Rattle.pb_game_of_trees.specs.declared.numbering.Numbering.TheVariants.{Table, Sorted}
+use Rattle.pb_game_of_trees.specs.declared.numbering.Numbering.TheVariants.{Dense, Table, Sorted}
 use Rattle.pb_game_of_trees.specs.Places.{vertex_in}
 
 abbrev pub sorted_table : SortedVertices → List ℕ
@@ -11,5 +11,6 @@ sorted_table x = map (vertex_in x.numbers.items x.vertices.now) (range_with_len 
 
 -- the vertex of each number, in order
 abbrev pub table_of : Numbering → List ℕ
+table_of (Dense vertices) = vertices.now
 table_of (Table vertices) = vertices.items
 table_of (Sorted x) = sorted_table x

@@ -7,6 +7,7 @@ ghost use Rattle.pb_game_of_trees.specs.Draft.{IsDraft, ArePartsOf};
 ghost use Rattle.pb_base.specs.declared.limits.TheConstants.{MAX_VERTICES};
 
 use crate::falling::push_falling;
+use pb_fixpoint_rows::push;
 use pb_game::{Game, Parts, Player};
 use std::alloc::{AllocError, Global};
 
@@ -50,9 +51,9 @@ impl Draft {
             } ∷ vertices)) }
     {
         push_falling(&mut self.successors, targets)?;
-        self.edges.push(self.successors.len())?;
-        self.priorities.push(priority)?;
-        self.owners.push(owner)?;
+        push(&mut self.edges, self.successors.len())?;
+        push(&mut self.priorities, priority)?;
+        push(&mut self.owners, owner)?;
         Ok(())
     }
 
@@ -65,10 +66,10 @@ impl Draft {
               successors = target ∷ [];
             } ∷ vertices)) }
     {
-        self.successors.push(target)?;
-        self.edges.push(self.successors.len())?;
-        self.priorities.push(priority)?;
-        self.owners.push(owner)?;
+        push(&mut self.successors, target)?;
+        push(&mut self.edges, self.successors.len())?;
+        push(&mut self.priorities, priority)?;
+        push(&mut self.owners, owner)?;
         Ok(())
     }
 

@@ -3,6 +3,7 @@ ghost use Rattle.std.specs.Prelude.{◌≡◌, ◌++◌, OnOk, reverse, IsTrue, 
 ghost use Rattle.pb_fixpoint_trees.specs.Game.{rising};
 ghost use Rattle.pb_game_of_trees.specs.Falling.{IsFalling};
 
+use pb_fixpoint_rows::push;
 use std::alloc::AllocError;
 
 /// Adds the numbers of a list that is read from its end: rising, each once, and the last first.
@@ -39,7 +40,7 @@ fn push_each_once(list: &mut Vec<u32>, numbers: &[u32]) -> Result<(), AllocError
         if k > 0 && numbers[k - 1] == numbers[k] {
             continue;
         }
-        list.push(numbers[k])?;
+        push(list, numbers[k])?;
     }
     Ok(())
 }

@@ -15,10 +15,11 @@ use std::alloc::{AllocError, Global};
 /// number, of which a part of the instances has few.
 const SPARSE: usize = 16;
 
-/// The vertices of instances by their numbers: in a table of all numbers, or among those of the
-/// rows.
+/// The vertices of instances by their numbers: those of the rows, where each number has a row; else
+/// in a table of all numbers, or among those of the rows.
 #[derive(Drop)]
 pub(crate) enum Numbering<'a> {
+    Dense(&'a [u32]),
     Table(Vec<u32>),
     Sorted(SortedVertices<'a>),
 }
@@ -30,6 +31,7 @@ impl Numbering<'_> {
         ensures { result ≡ slice_index (table_of self.now) number }
     {
         match self {
+            Numbering::Dense(vertices) => vertices[number as usize],
             Numbering::Table(table) => table[number as usize],
             Numbering::Sorted(sorted) => sorted.vertex(number),
         }
@@ -74,6 +76,9 @@ pub(crate) fn number_vertices<'a>(
         → slice_index (table_of numbering) (slice_index (numbers plain) k)
         ≡ slice_index vertices.now k)) }
 {
+    if rows.len() == count {
+        return Ok(Numbering::Dense(vertices));
+    }
     if rows.len() < count / SPARSE {
         let numbers = numbers_of_rows(alloc, rows)?;
         Ok(Numbering::Sorted(SortedVertices {

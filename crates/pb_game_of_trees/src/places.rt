@@ -5,9 +5,9 @@ ghost use Rattle.pb_game_of_trees.specs.Held.{Hold};
 ghost use Rattle.pb_game_of_trees.specs.Places.{vertex_behind, vertices_from};
 ghost use Rattle.pb_base.specs.declared.limits.TheConstants.{MAX_VERTICES};
 
-use crate::size::{Size, inner_brackets};
+use crate::size::{Size, inner_of};
 use pb_base::MAX_VERTICES;
-use pb_fixpoint_rows::IndexedRows;
+use pb_fixpoint_rows::{IndexedRows, push};
 use std::alloc::{AllocError, Global};
 
 /// The vertex of each row, and the size of the game.
@@ -31,14 +31,13 @@ pub(crate) fn lay_rows(alloc: Global, rows: &IndexedRows) -> Result<Option<Laid>
     let mut next = 2;
     let mut edges: usize = 2;
     for k in 0..rows.len() {
-        let tokens = rows.tokens(k);
-        let inner = inner_brackets(tokens);
-        vertices.push(next as u32)?;
+        let inner = inner_of(rows, k);
+        push(&mut vertices, next as u32)?;
         next += inner + 1;
         if next > MAX_VERTICES {
             return Ok(None);
         }
-        edges = edges.saturating_add(tokens.len().saturating_sub(inner + 1).max(1));
+        edges = edges.saturating_add(rows.tree_len(k).saturating_sub(inner + 1).max(1));
     }
     let size = Size {
         vertices: next,

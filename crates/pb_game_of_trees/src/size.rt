@@ -1,9 +1,11 @@
 //! The size of a game, before it is built.
-ghost use Rattle.std.specs.Prelude.{◌≡◌, ◌≤◌, ◌<◌, count_by, length, IfSome, MatchOption, List};
+ghost use Rattle.std.specs.Prelude.{◌≡◌, ◌≤◌, ◌<◌, ◌^◌, count_by, length, IfSome, MatchOption};
+ghost use Rattle.std.specs.Prelude.{List, slice_index_or};
 ghost use Rattle.pb_fixpoint_trees.specs.Rows.{Row as plain_row};
 ghost use Rattle.pb_fixpoint_trees.specs.Tree.{Tree};
 ghost use Rattle.pb_fixpoint_trees.specs.Tokens.{tree_tokens};
 ghost use Rattle.pb_fixpoint_trees.specs.Game.{inner};
+ghost use Rattle.pb_fixpoint_rows.specs.Row.{nothing};
 ghost use Rattle.pb_game_of_trees.specs.Held.{Hold};
 ghost use Rattle.pb_game_of_trees.specs.Places.{vertex_behind, is_closing};
 ghost use Rattle.pb_base.specs.declared.limits.TheConstants.{MAX_VERTICES};
@@ -36,19 +38,28 @@ fn count_closing(tokens: &[Token]) -> usize
     tokens.iter().filter(|token| is_closing(**token)).count()
 }
 
-/// How many tokens the least tree has that has a bracket inside its root.
-const LEAST_NESTED: usize = 4;
-
-/// How many brackets there are inside a tree, its root not counted. The tokens of a small tree need
-/// no look.
-pub(crate) fn inner_brackets(tokens: &[Token]) -> usize
+/// How many brackets there are inside a tree, its root not counted.
+fn inner_brackets(tokens: &[Token]) -> usize
     ensures inner { (tree : Tree) → tokens.now ≡ tree_tokens tree → result ≡ inner tree }
     ensures bound { result ≤ length tokens.now }
 {
-    if tokens.len() < LEAST_NESTED {
+    count_closing(tokens).saturating_sub(1)
+}
+
+/// How many tokens the least tree has that has a bracket inside its root.
+const LEAST_NESTED: usize = 4;
+
+/// How many brackets there are inside a row's tree. The tokens of a small tree need no look.
+pub(crate) fn inner_of(rows: &IndexedRows, k: usize) -> usize
+    requires { k < length rows.now }
+    ensures inner { (tree : Tree) → (slice_index_or rows.now k nothing).tree ≡ tree_tokens tree
+        → result ≡ inner tree }
+    ensures bound { result < 2 ^ 32 }
+{
+    if rows.tree_len(k) < LEAST_NESTED {
         return 0;
     }
-    count_closing(tokens).saturating_sub(1)
+    inner_brackets(rows.tokens(k))
 }
 
 /// The size of the game of these rows; none where it has more vertices than a game may have (G01).
@@ -61,13 +72,12 @@ pub(crate) fn size_of(rows: &IndexedRows) -> Option<Size>
     let mut vertices = 2;
     let mut edges: usize = 2;
     for k in 0..rows.len() {
-        let tokens = rows.tokens(k);
-        let inner = inner_brackets(tokens);
+        let inner = inner_of(rows, k);
         vertices += inner + 1;
         if vertices > MAX_VERTICES {
             return None;
         }
-        edges = edges.saturating_add(tokens.len().saturating_sub(inner + 1).max(1));
+        edges = edges.saturating_add(rows.tree_len(k).saturating_sub(inner + 1).max(1));
     }
     Some(Size { vertices, edges })
 }

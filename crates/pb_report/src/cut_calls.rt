@@ -1,29 +1,13 @@
 //! How many trees have a Cut.
 ghost use Rattle.std.specs.Prelude.{◌≡◌, ◌≤◌, ◌<◌, ◌^◌, List, length};
-ghost use Rattle.std.specs.List.{list_any};
 ghost use Rattle.pb_fixpoint_trees.specs.Tree.{Tree};
 ghost use Rattle.pb_fixpoint_trees.specs.Tokens.{tree_tokens};
 ghost use Rattle.pb_fixpoint_trees.specs.Rows.{Row as plain_row};
 ghost use Rattle.pb_game_of_trees.specs.Held.{Hold};
-ghost use Rattle.pb_report.specs.CutCalls.{is_cut_token, has_cut, one_if, cut_count};
+ghost use Rattle.pb_report.specs.CutCalls.{has_cut, one_if, cut_count};
 
-use pb_fixpoint_rows::IndexedRows;
+use pb_fixpoint_rows::{IndexedRows, any_cut};
 use pb_fixpoint_trees::Token;
-
-fn is_cut_token(token: Token) -> bool
-    ensures { result ≡ is_cut_token token }
-{
-    match token {
-        Token::Cut => true,
-        _ => false,
-    }
-}
-
-fn any_cut(tokens: &[Token]) -> bool
-    ensures { result ≡ list_any is_cut_token tokens.now }
-{
-    tokens.iter().any(|token| is_cut_token(*token))
-}
 
 /// 1 where a tree has a Cut, else 0.
 fn cuts_of(tokens: &[Token]) -> u32
@@ -33,8 +17,8 @@ fn cuts_of(tokens: &[Token]) -> u32
     if any_cut(tokens) { 1 } else { 0 }
 }
 
-/// How many reached instances have a Cut in their trees.
-pub fn count_cut(rows: &IndexedRows) -> u32
+// Looks at each row's tree.
+fn count_each(rows: &IndexedRows) -> u32
     requires { length rows.now < 2 ^ 32 }
     ensures { (reached : List plain_row) → Hold rows.now reached → result ≡ cut_count reached }
 {
@@ -43,4 +27,13 @@ pub fn count_cut(rows: &IndexedRows) -> u32
         count += cuts_of(rows.tokens(k));
     }
     count
+}
+
+/// How many reached instances have a Cut in their trees.
+pub fn count_cut(rows: &IndexedRows) -> u32
+    requires { length rows.now < 2 ^ 32 }
+    ensures { (reached : List plain_row) → Hold rows.now reached → result ≡ cut_count reached }
+{
+    // Most modules call nothing outside the ranges, which one pass over all tokens tells.
+    if rows.any_cut() { count_each(rows) } else { 0 }
 }

@@ -8,21 +8,21 @@ pub loop-k-preserved : goal.loop-k-preserved
 loop-k-preserved c =
     let l = c.loop-k in
     let row = get_or c.args.rows.now c.loop-k.k nothing in
-    let m = c.inner_brackets-inner.result in
+    let m = c.inner_of-inner.result in
     record {
       small = omega arith;
       counted = λ plain hold.
           let n = next_row c.args.rows.now plain l.k hold (omega arith) in
           sym (vertex_behind-more plain l.k l.next m row n
-          (λ tree e. c.inner_brackets-inner.ensures.inner tree (c.tokens-tokens.ensures ∙ e))) ∙ l.invariant.counted plain hold;
+          (λ tree e. c.inner_of-inner.ensures.inner tree e)) ∙ l.invariant.counted plain hold;
       pushed = λ plain hold.
           let n = next_row c.args.rows.now plain l.k hold (omega arith) in
           let later = vertices_from (drop (l.k + 1) plain) (l.next + (m + 1)) in
-          ap (λ (xs : List ℕ). xs ++ later) c.in_ok-push.ensures.items
+          ap (λ (xs : List ℕ). xs ++ later) c.in_ok-push.ensures.ok
           ∙ (append_assoc l.vertices.items (l.next ∷ []) later
           ∙ (ap (λ (xs : List ℕ). l.vertices.items ++ xs)
           (sym (vertices_from-more plain l.k l.next m row n
-          (λ tree e. c.inner_brackets-inner.ensures.inner tree (c.tokens-tokens.ensures ∙ e))))
+          (λ tree e. c.inner_of-inner.ensures.inner tree e)))
           ∙ l.invariant.pushed plain hold));
     }
 
@@ -31,6 +31,6 @@ returns-then-next-gt-MAX_VERTICES-clause-laid c = λ plain hold.
     let l = c.loop-k in
     let row = get_or c.args.rows.now c.loop-k.k nothing in
     let n = next_row c.args.rows.now plain l.k hold (omega arith) in
-    let fits = next_fits plain l.k l.next c.inner_brackets-inner.result row n
-    (λ tree e. c.inner_brackets-inner.ensures.inner tree (c.tokens-tokens.ensures ∙ e)) in
+    let fits = next_fits plain l.k l.next c.inner_of-inner.result row n
+    (λ tree e. c.inner_of-inner.ensures.inner tree e) in
     omega (arith, l.invariant.counted plain hold)

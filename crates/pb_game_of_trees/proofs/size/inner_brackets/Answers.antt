@@ -1,11 +1,8 @@
-use Rattle.std.proofs.Common.{ℕ, ◌-◌, List, count_by, length, sym, ap, ◌∙◌, arith}
+use Rattle.std.proofs.Common.{ℕ, ◌-◌, List, count_by, ap, ◌∙◌}
 use Rattle.pb_fixpoint_trees.specs.declared.Token.{Token}
 use Rattle.pb_game_of_trees.specs.Places.{is_closing}
-use Rattle.pb_game_of_trees.proofs.Closing.{closing_tree, short_tree}
+use Rattle.pb_game_of_trees.proofs.Closing.{closing_tree}
 use Rattle.pb_game_of_trees.proofs.size.inner_brackets.Goals as goal
-
-pub returns-then-tokens-lt-LEAST_NESTED-clause-inner : goal.returns-then-tokens-lt-LEAST_NESTED-clause-inner
-returns-then-tokens-lt-LEAST_NESTED-clause-inner c = λ tree e. sym (short_tree tree (omega (arith, ap length e)))
 
 pub returns-clause-inner : goal.returns-clause-inner
 returns-clause-inner c = λ tree e.

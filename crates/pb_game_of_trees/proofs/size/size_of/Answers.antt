@@ -8,8 +8,8 @@ returns-then-vertices-gt-MAX_VERTICES-clause-size c = λ plain hold.
     let l = c.loop-k in
     let row = get_or c.args.rows.now c.loop-k.k nothing in
     let n = next_row c.args.rows.now plain l.k hold (omega arith) in
-    let fits = next_fits plain l.k l.vertices c.inner_brackets-inner.result row n
-    (λ tree e. c.inner_brackets-inner.ensures.inner tree (c.tokens-tokens.ensures ∙ e)) in
+    let fits = next_fits plain l.k l.vertices c.inner_of-inner.result row n
+    (λ tree e. c.inner_of-inner.ensures.inner tree e) in
     omega (arith, l.invariant.counted plain hold)
 
 pub loop-k-preserved : goal.loop-k-preserved
@@ -19,6 +19,6 @@ loop-k-preserved c = record {
       let l = c.loop-k in
       let row = get_or c.args.rows.now c.loop-k.k nothing in
       let n = next_row c.args.rows.now plain l.k hold (omega arith) in
-      sym (vertex_behind-more plain l.k l.vertices c.inner_brackets-inner.result row n
-      (λ tree e. c.inner_brackets-inner.ensures.inner tree (c.tokens-tokens.ensures ∙ e))) ∙ l.invariant.counted plain hold;
+      sym (vertex_behind-more plain l.k l.vertices c.inner_of-inner.result row n
+      (λ tree e. c.inner_of-inner.ensures.inner tree e)) ∙ l.invariant.counted plain hold;
 }

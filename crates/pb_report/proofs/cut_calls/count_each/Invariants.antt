@@ -2,7 +2,7 @@ use Rattle.std.proofs.Common.{◌≡◌, ◌≤◌, ◌+◌, List, drop}
 use Rattle.pb_fixpoint_trees.specs.Rows.{Row}
 use Rattle.pb_game_of_trees.specs.Held.{Hold}
 use Rattle.pb_report.specs.CutCalls.{cut_count}
-use Rattle.pb_report.proofs.cut_calls.count_cut.Given as goal
+use Rattle.pb_report.proofs.cut_calls.count_each.Given as goal
 
 abbrev pub invariant-loop-k : goal.invariant-loop-k
 invariant-loop-k l = record {
