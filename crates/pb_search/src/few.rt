@@ -70,17 +70,27 @@ pub(crate) fn is_front_apart(
     if FEW < front || solved <= front || !is_won {
         return Ok(false);
     }
-    let places = places_of_front(level);
-    for k in places.from..places.to {
-        let Some(v) = item(&space.list, k) else { break };
-        if leads_to_decided(game, space, v)? {
-            return Ok(false);
-        }
+    let sides = sides_of_front(level);
+    if lead_to_decided(game, space, sides.before)? || lead_to_decided(game, space, sides.behind)? {
+        return Ok(false);
     }
     level.undecided = front;
-    level.left = places;
+    level.left = sides.span();
     level.inner.to = level.inner.from;
     Ok(true)
+}
+
+/// Whether an edge may lead from the vertices at these places to what is decided.
+fn lead_to_decided(game: &Game, space: &mut Workspace, places: Places) -> Result<bool, Stop> {
+    for k in places.from..places.to {
+        let Some(v) = space.vertices.vertex(k) else {
+            break
+        };
+        if leads_to_decided(game, space, v)? {
+            return Ok(true);
+        }
+    }
+    Ok(false)
 }
 
 /// Whether an edge may lead from `v` to what is decided: of many successors none is looked at.
@@ -98,17 +108,38 @@ fn leads_to_decided(game: &Game, space: &mut Workspace, v: u32) -> Result<bool, 
     Ok(false)
 }
 
-/// Where the list has the front, before a turn.
-fn places_of_front(level: &Level) -> Places {
-    if level.part.from < level.inner.from {
+/// Where the list has the front, before a turn: on both sides of what is solved.
+#[derive(Clone, Copy)]
+struct Sides {
+    before: Places,
+    behind: Places,
+}
+
+impl Sides {
+    /// The places from the first vertex of the front to the last one.
+    fn span(self) -> Places {
+        if self.before.len() == 0 {
+            return self.behind;
+        }
+        if self.behind.len() == 0 {
+            return self.before;
+        }
         Places {
+            from: self.before.from,
+            to: self.behind.to,
+        }
+    }
+}
+
+fn sides_of_front(level: &Level) -> Sides {
+    Sides {
+        before: Places {
             from: level.part.from,
             to: level.inner.from,
-        }
-    } else {
-        Places {
+        },
+        behind: Places {
             from: level.inner.to,
             to: level.part.to,
-        }
+        },
     }
 }

@@ -105,7 +105,9 @@ pub(crate) fn greatest(game: &Game, space: &mut Workspace, part: Part) -> Result
     }
     let mut greatest = 0;
     for k in part.from..part.to {
-        let Some(v) = item(&space.list, k) else { break };
+        let Some(v) = space.vertices.vertex(k) else {
+            break
+        };
         greatest = priority(game, v).max(greatest);
         if part.limit <= greatest.saturating_add(1) {
             break;
@@ -114,7 +116,7 @@ pub(crate) fn greatest(game: &Game, space: &mut Workspace, part: Part) -> Result
     Ok(greatest)
 }
 
-/// Divides a subgame into the front and the rest, which stands first in the list then.
+/// Divides a subgame into the front and the rest, which stands side by side in the list then.
 pub(crate) fn open(
     rt: &(impl Threads + Sync),
     game: &Game,
@@ -162,7 +164,7 @@ pub(crate) fn open(
             to: part.to,
         };
     } else {
-        gather_rest(space, &mut level);
+        gather_rest(space, &mut level)?;
     }
     Ok(level)
 }
@@ -174,36 +176,73 @@ fn is_front_first(game: &Game, space: &Workspace, part: Part, heads: usize) -> b
     };
     part.is_whole(game)
         && space.taken.len() == heads
-        && (space.position.get(last) as usize).saturating_add(1) == heads
+        && space.vertices.place(last).saturating_add(1) == heads
 }
 
-/// Puts the rest first in the list. Few vertices, which are listed, are known to be all of it.
-fn gather_rest(space: &mut Workspace, level: &mut Level) {
+/// Puts the rest side by side in the list. Few vertices, which are listed, are known to be all of
+/// it.
+fn gather_rest(space: &mut Workspace, level: &mut Level) -> Result<(), AllocError> {
     if space.part.len() <= FEW {
+        if let Some(places) = places_of_rest(space, level) {
+            level.inner = places;
+            return Ok(());
+        }
         for k in 0..space.part.len() {
             let Some(v) = item(&space.part, k) else { break };
-            let place = space.position.get(v) as usize;
-            put_in_rest(space, level, v, place);
+            let place = space.vertices.place(v);
+            put_in_rest(space, level, v, place)?;
         }
-        return;
+        return Ok(());
     }
     let rest = level.part.len().saturating_sub(space.taken.len());
     for k in level.part.from..level.part.to {
         if level.inner.len() == rest {
             break;
         }
-        let Some(v) = item(&space.list, k) else { break };
-        put_in_rest(space, level, v, k);
+        let Some(v) = space.vertices.vertex(k) else {
+            break
+        };
+        put_in_rest(space, level, v, k)?;
     }
+    Ok(())
+}
+
+/// Where the rest stands, if it is side by side, of the few vertices that are listed.
+fn places_of_rest(space: &Workspace, level: &Level) -> Option<Places> {
+    let mut places = level.inner;
+    for k in 0..space.part.len() {
+        let Some(v) = item(&space.part, k) else { break };
+        if space.label.get(v) != level.rest {
+            continue;
+        }
+        let place = space.vertices.place(v);
+        if places.len() == 0 {
+            places = Places {
+                from: place,
+                to: place,
+            };
+        }
+        if place != places.to {
+            return None;
+        }
+        places.to = places.to.saturating_add(1);
+    }
+    Some(places)
 }
 
 /// Puts the vertex at this place behind those of the rest that are put there, if it is of the rest.
 #[inline]
-fn put_in_rest(space: &mut Workspace, level: &mut Level, v: u32, place: usize) {
+fn put_in_rest(
+    space: &mut Workspace,
+    level: &mut Level,
+    v: u32,
+    place: usize,
+) -> Result<(), AllocError> {
     if space.label.get(v) == level.rest {
-        space.swap(place, level.inner.to);
+        space.vertices.swap(place, level.inner.to)?;
         level.inner.to = level.inner.to.saturating_add(1);
     }
+    Ok(())
 }
 
 /// Labels a subgame, takes its heads, and lists its rest as far as that is few.
@@ -212,7 +251,9 @@ fn take_heads(game: &Game, space: &mut Workspace, level: &Level) -> Result<(), S
     space.taken.clear();
     space.part.clear();
     for k in level.part.from..level.part.to {
-        let Some(v) = item(&space.list, k) else { break };
+        let Some(v) = space.vertices.vertex(k) else {
+            break
+        };
         if priority(game, v) == level.top {
             space.label.set(v, level.front);
             space.order.set(v, 0);
@@ -237,7 +278,7 @@ pub(crate) fn number_front(
     if space.taken.len() <= from {
         return Ok(());
     }
-    space.order.make(space.list.len())?;
+    space.order.make(space.vertices.len())?;
     for k in from..space.taken.len() {
         let Some(v) = item(&space.taken, k) else {
             break
@@ -262,7 +303,9 @@ pub(crate) fn read_back(
     space.budget.spend(level.inner.len())?;
     let (conceded, base) = (level.conceded, level.base.saturating_add(1));
     for k in level.inner.from..level.inner.to {
-        let Some(v) = item(&space.list, k) else { break };
+        let Some(v) = space.vertices.vertex(k) else {
+            break
+        };
         if space.draft.winner(v) == level.player {
             space.label.set(v, level.rest);
             let count = space.draft.count(v, level.below()).saturating_add(base);
@@ -292,7 +335,9 @@ pub(crate) fn close(game: &Game, space: &mut Workspace, level: &Level) -> Result
         return close_left(game, space, level);
     }
     for k in part.from..part.to {
-        let Some(v) = item(&space.list, k) else { break };
+        let Some(v) = space.vertices.vertex(k) else {
+            break
+        };
         for q in lowest..part.limit {
             space.draft.set_count(v, Some(q), 0);
         }
@@ -308,7 +353,9 @@ fn close_left(game: &Game, space: &mut Workspace, level: &Level) -> Result<(), S
         if undecided == 0 {
             break;
         }
-        let Some(v) = item(&space.list, k) else { break };
+        let Some(v) = space.vertices.vertex(k) else {
+            break
+        };
         let label = space.label.get(v);
         if label < level.front {
             continue;

@@ -6,6 +6,7 @@ use crate::levels::Part;
 use crate::share::Share;
 use crate::workspace::{Attractor, Region, Workspace, item};
 use pb_game::{Game, Player};
+use std::alloc::AllocError;
 use std::thread::Threads;
 
 /// A subgame that is solved component by component, last ones first. What a player wins attracts
@@ -42,7 +43,7 @@ impl Split {
             space.components.ends.truncate(first);
             return Ok(None);
         }
-        arrange(space, part);
+        arrange(space, part)?;
         let player = Player::of_priority(part.limit);
         let is_whole = part.limit == space.draft.width;
         let mut priority = Some(part.limit);
@@ -86,9 +87,11 @@ impl Split {
             space.budget.spend(self.stop.saturating_sub(self.start))?;
             let mut to = self.start;
             for i in self.start..self.stop {
-                let Some(v) = item(&space.list, i) else { break };
+                let Some(v) = space.vertices.vertex(i) else {
+                    break
+                };
                 if space.label.get(v) == self.open {
-                    space.swap(i, to);
+                    space.vertices.swap(i, to)?;
                     to = to.saturating_add(1);
                 }
             }
@@ -111,7 +114,9 @@ impl Split {
         space.budget.spend(part.to.saturating_sub(part.from))?;
         let (mut mine, mut theirs) = (self.mine, self.theirs);
         for k in part.from..part.to {
-            let Some(v) = item(&space.list, k) else { break };
+            let Some(v) = space.vertices.vertex(k) else {
+                break
+            };
             if space.draft.winner(v) == mine.player {
                 let count = space.draft.count(v, mine.priority);
                 mine.take(space, v, self.mine.greatest.saturating_add(count));
@@ -170,7 +175,9 @@ impl Split {
 fn take_won(space: &mut Workspace, part: Part, label: u32) -> Result<(), Stop> {
     space.taken.clear();
     for k in part.from..part.to {
-        let Some(v) = item(&space.list, k) else { break };
+        let Some(v) = space.vertices.vertex(k) else {
+            break
+        };
         if space.label.get(v) == label {
             space.taken.push(v)?;
         }
@@ -182,7 +189,9 @@ fn take_won(space: &mut Workspace, part: Part, label: u32) -> Result<(), Stop> {
 fn find_components(game: &Game, space: &mut Workspace, part: Part, label: u32) -> Result<(), Stop> {
     space.taken.clear();
     for k in part.from..part.to {
-        let Some(v) = item(&space.list, k) else { break };
+        let Some(v) = space.vertices.vertex(k) else {
+            break
+        };
         space.label.set(v, label);
         space.taken.push(v)?;
     }
@@ -198,11 +207,12 @@ fn find_components(game: &Game, space: &mut Workspace, part: Part, label: u32) -
 }
 
 /// Puts a subgame into the order of its components.
-fn arrange(space: &mut Workspace, part: Part) {
+fn arrange(space: &mut Workspace, part: Part) -> Result<(), AllocError> {
     for k in 0..space.components.order.len() {
         let Some(v) = item(&space.components.order, k) else {
             break
         };
-        space.put(part.from.saturating_add(k), v);
+        space.vertices.put(part.from.saturating_add(k), v)?;
     }
+    Ok(())
 }

@@ -166,8 +166,8 @@ fn collect(space: &mut Workspace, level: &mut Level, now: u32) -> Result<(), Sto
     for k in 0..space.part.len() {
         let Some(v) = item(&space.part, k) else { break };
         if space.label.get(v) == now {
-            let place = space.position.get(v) as usize;
-            space.swap(place, level.inner.to);
+            let place = space.vertices.place(v);
+            space.vertices.swap(place, level.inner.to)?;
             level.inner.to = level.inner.to.saturating_add(1);
         }
     }

@@ -3,6 +3,7 @@
 use crate::arena::{Draft, Numbers, owner, predecessors, successors};
 use crate::budget::{Budget, Stop};
 use crate::components::Components;
+use crate::permutation::Permutation;
 use crate::rounds::{Ahead, Forced, Round, Ways, look_ahead};
 use pb_game::{Game, Player};
 use std::alloc::{AllocError, Global};
@@ -64,8 +65,7 @@ pub(crate) struct Workspace {
     pub passed: Numbers,
     pub stamp: Numbers,
     /// All vertices: a level has a part of this list, and what it solves again stands first there.
-    pub list: Vec<u32>,
-    pub position: Numbers,
+    pub vertices: Permutation,
     pub draft: Draft,
     /// What the attractor under way has taken in.
     pub taken: Vec<u32>,
@@ -89,12 +89,6 @@ impl Workspace {
         by_components: bool,
     ) -> Result<Workspace, AllocError> {
         let vertices = game.len() as usize;
-        let mut list = Vec::with_capacity(alloc, vertices)?;
-        let mut position = Numbers::new(alloc, vertices)?;
-        for v in 0..game.len() {
-            list.push(v)?;
-            position.set(v, v);
-        }
         let mut of_components = 0;
         if by_components {
             of_components = vertices;
@@ -106,8 +100,7 @@ impl Workspace {
             order: Numbers::none(alloc),
             passed: Numbers::none(alloc),
             stamp: Numbers::none(alloc),
-            list,
-            position,
+            vertices: Permutation::identity(alloc, game.len()),
             draft: Draft::new(alloc, game)?,
             taken: Vec::new(alloc),
             hit: Vec::new(alloc),
@@ -128,32 +121,14 @@ impl Workspace {
         Ok(self.clock)
     }
 
-    /// Changes the places of two vertices in the list.
-    #[inline]
-    pub fn swap(&mut self, i: usize, j: usize) {
-        if i != j && i < self.list.len() && j < self.list.len() {
-            let (v, u) = (self.list[i], self.list[j]);
-            self.put(i, u);
-            self.put(j, v);
-        }
-    }
-
-    /// Puts a vertex at a place of the list.
-    pub fn put(&mut self, i: usize, v: u32) {
-        if i < self.list.len() {
-            self.list[i] = v;
-            self.position.set(v, narrow(i));
-        }
-    }
-
     /// How many of the first successors of `u` are known to be outside of the region.
     #[inline]
     pub fn passed_before(&mut self, u: u32, region: Region) -> Result<u32, AllocError> {
         if self.stamp.get(u) == region.stamp {
             return Ok(self.passed.get(u));
         }
-        self.stamp.make(self.list.len())?;
-        self.passed.make(self.list.len())?;
+        self.stamp.make(self.vertices.len())?;
+        self.passed.make(self.vertices.len())?;
         self.stamp.set(u, region.stamp);
         Ok(0)
     }
