@@ -105,13 +105,13 @@ pub done_out : (Done Same : ℕ → Type 0) (list : List ℕ) (k : ℕ) → AreD
 done_out Done Same list k i v none =
     i.same v (λ j h e. none (contains_at list v j (record { within = omega (arith, h, i.within); there = e })))
 
-single : (v w : ℕ) → Contains (v ∷ []) w → w ≡ v
+pub single : (v w : ℕ) → Contains (v ∷ []) w → w ≡ v
 single v w h = let k = contains_place (v ∷ []) w h in elim (cases_eq k.0 0) [
   | inl e ↦ sym k.1.there ∙ subst (λ (x : ℕ). get_or (v ∷ []) x 0 ≡ v) (sym e) refl
   | inr ne ↦ absurd (omega (arith, k.1.within))
 ]
 
-itself : (v : ℕ) → Contains (v ∷ []) v
+pub itself : (v : ℕ) → Contains (v ∷ []) v
 itself v = contains_at (v ∷ []) v 0 (record { within = omega arith; there = refl })
 
 pub part_none : (P : ℕ → Type 0) → IsSelection P [] []

@@ -1,0 +1,71 @@
+use Rattle.std.proofs.Common.{◌≡◌, ◌≢◌, ◌<◌, ◌≤◌, ◌+◌, ◌∙◌, ℕ, List, Bool, [], ◌∷◌, ◌++◌, true, false, length, get_or, set, take, arith, rules, refl, sym, subst, inl, inr}
+use Rattle.std.specs.Prelude.{Contains, IsTrue}
+use Rattle.std.proofs.lemmas.Bool.Decides.{nat_tests}
+use Rattle.pb_game.specs.Games.{vertex_count, owner_of, priority_of, predecessors_of}
+use Rattle.pb_game.specs.Solutions.{choice_of}
+use Rattle.pb_game.proofs.Laws.{is_game}
+use Rattle.pb_game.proofs.Membership.{contains_at, contains_place}
+use Rattle.pb_zielonka.specs.Regions.{IsIn}
+use Rattle.pb_zielonka.proofs.LevelLemmas.{in_below, in_or_out}
+use Rattle.pb_zielonka.specs.Kept.{StandsOn}
+use Rattle.pb_zielonka.proofs.Dropping.{IsClearedUpTo, cleared_up_drop, cleared_up_stay}
+use Rattle.pb_zielonka.proofs.support.drop_predecessors.Goals as goal
+use Rattle.pb_zielonka.proofs.support.drop_predecessors.Goals.{then-standing-v+then-kept-v+then-stands_on+in_ok-push, else-standing-v, else-standing-v-via-then-standing-v+then-kept-v+else-stands_on, else-standing-v-via-then-standing-v+else-kept-v, else-standing-v-via-else-standing-v}
+
+pub loop-v-preserved : goal.loop-v-preserved
+loop-v-preserved c =
+    let st = c.args.standing.now in
+    let g = st.game.now in
+    let u = c.args.u in
+    let xs = predecessors_of g u in
+    let k = c.loop-v.v-index in
+    let e0 = c.predecessors-v-items.ensures.list in
+    let v = get_or xs k 0 in
+    let same : get_or c.predecessors-v-items.result.now k 0 ≡ v = subst (λ (ys : List ℕ). get_or c.predecessors-v-items.result.now k 0 ≡ get_or ys k 0) e0 refl in
+    let old = c.args.kept.now in
+    let before = c.args.dropped.now.items in
+    let kept = c.loop-v.kept in
+    let dropped = c.loop-v.dropped.items in
+    let below : v < vertex_count g = subst (λ (x : ℕ). x < vertex_count g) same (c.predecessors-v-items.ensures.closed k c.loop-v-test.true) in
+    let i : IsClearedUpTo st old kept before dropped xs u k = c.loop-v.invariant in
+    elim c.if-standing-v.branch [
+      | then-standing-v+then-kept-v+then-stands_on+in_ok-push w ↦
+          let e : c.if-standing-v.kept ≡ set kept v false = cc (w.kept-is, same) in
+          let e' : c.if-standing-v.dropped.items ≡ dropped ++ v ∷ [] = cc (w.dropped-is, w.in_ok-push.ensures.items, same) in
+          let on' : IsIn kept (get_or c.predecessors-v-items.result.now k 0) = search rules in
+          let on : IsIn kept v = subst (λ (x : ℕ). IsIn kept x) same on' in
+          subst (λ (x : List Bool). IsClearedUpTo st old x before c.if-standing-v.dropped.items xs u (k + 1)) (sym e)
+          (subst (λ (x : List ℕ). IsClearedUpTo st old (set kept v false) before x xs u (k + 1)) (sym e') (cleared_up_drop st old kept before dropped xs u k below on i))
+      | else-standing-v w ↦
+          let e : c.if-standing-v.kept ≡ kept = cc (w.kept-is) in
+          let e' : c.if-standing-v.dropped.items ≡ dropped = cc (w.dropped-is) in
+          let none : IsIn st.region.now v → IsIn kept v → StandsOn g st.solution.now st.player v u → ⊥ = elim w.else-standing-v.branch [
+            | else-standing-v-via-then-standing-v+then-kept-v+else-stands_on w' ↦ λ inside on stands.
+                let no : IsTrue w'.stands_on.result → ⊥ = search rules in
+                w'.stands_on.ensures.apart no (subst (λ (x : ℕ). choice_of st.solution.now x ≡ u) (sym same)
+                (stands.choice (subst (λ (x : ℕ). owner_of g x ≡ st.player) same (w'.stands_on.ensures.free no))))
+            | else-standing-v-via-then-standing-v+else-kept-v w' ↦ λ inside on stands.
+                let off : get_or kept (get_or c.predecessors-v-items.result.now k 0) false ≡ false = search rules in
+                let off' : get_or kept v false ≡ false = subst (λ (x : ℕ). get_or kept x false ≡ false) same off in
+                absurd (cc)
+            | else-standing-v-via-else-standing-v w' ↦ λ inside on stands.
+                let off : get_or st.region.now (get_or c.predecessors-v-items.result.now k 0) false ≡ false = search rules in
+                let off' : get_or st.region.now v false ≡ false = subst (λ (x : ℕ). get_or st.region.now x false ≡ false) same off in
+                absurd (cc)
+          ] in
+          subst (λ (x : List Bool). IsClearedUpTo st old x before c.if-standing-v.dropped.items xs u (k + 1)) (sym e)
+          (subst (λ (x : List ℕ). IsClearedUpTo st old kept before x xs u (k + 1)) (sym e') (cleared_up_stay st old kept before dropped xs u k none i))
+    ]
+
+pub returns-clause-cleared : goal.returns-clause-cleared
+returns-clause-cleared c = λ v inside on stands.
+    let st = c.args.standing.now in
+    let g = st.game.now in
+    let u = c.args.u in
+    let e = c.predecessors-v-items.ensures.list in
+    let below : v < vertex_count g = in_below st.region.now v _ st.sized inside in
+    let p = contains_place (predecessors_of g u) v (((is_game g).predecessor v u below c.requires.vertex).1 stands.edge) in
+    let done : p.0 < c.loop-v.v-index = omega (arith, p.1.within, subst (λ (xs : List ℕ). length xs ≤ c.loop-v.v-index) e c.loop-v-test.false) in
+    c.loop-v.invariant.cleared p.0 done (subst (λ (x : ℕ). IsIn st.region.now x) (sym p.1.there) inside)
+    (subst (λ (x : ℕ). IsIn c.loop-v.kept x) (sym p.1.there) on)
+    (subst (λ (x : ℕ). StandsOn g st.solution.now st.player x u) (sym p.1.there) stands)
