@@ -1,18 +1,16 @@
 -- What stays kept: marks that are taken, and what that leaves.
-use Rattle.std.proofs.Common.{◌≡◌, ◌≢◌, ℕ, ◌+◌, ◌<◌, ◌≤◌, ◌∙◌, ◌⊎◌, inl, inr, arith, refl, sym, subst, Bool, true, false, List, [], ◌∷◌, ◌++◌, length, get_or, set, length-set, length-append}
+use Rattle.std.proofs.Common.{◌≡◌, ◌≢◌, ℕ, ◌+◌, ◌<◌, ◌≤◌, ◌∙◌, inl, inr, arith, refl, sym, subst, Bool, true, false, List, [], ◌∷◌, ◌++◌, length, get_or, set, length-set, length-append}
 use Rattle.std.specs.Prelude.{Contains}
 use Rattle.std.proofs.lemmas.Bool.{cases_eq}
 use Rattle.std.proofs.lemmas.List.{get_or-set_same, get_or-set_other, get_or_append_left}
 use Rattle.std.proofs.lemmas.List.Elements.{Contains-append_left, Contains-append_right, Contains-append_cases}
 use Rattle.pb_game.specs.Games.{vertex_count, owner_of, priority_of}
 use Rattle.pb_game.specs.Solutions.{choice_of}
-use Rattle.pb_game.proofs.Membership.{contains_at}
 use Rattle.pb_zielonka.specs.declared.scopes.Standing.{Standing}
 use Rattle.pb_zielonka.specs.declared.scopes.TheConstants.{MAX_HEIGHT}
 use Rattle.pb_zielonka.specs.Regions.{IsIn, region_count}
 use Rattle.pb_zielonka.specs.Kept.{IsFewer, IsSiftedOn, IsClearedOn, IsHeightOn, StandsOn}
 use Rattle.pb_zielonka.proofs.Counts.{count_by-fewer}
-use Rattle.pb_zielonka.proofs.LevelLemmas.{in_below}
 use Rattle.pb_zielonka.proofs.Lists.{single, itself}
 
 -- a mark that is taken

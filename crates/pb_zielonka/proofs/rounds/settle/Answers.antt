@@ -11,7 +11,7 @@ take_in-requires-clause-under_way c =
     record {
       small = c.requires.under_way.small;
       started = c.requires.under_way.started;
-      search = search_passed c.args.arena.now.game.now c.args.arena.now.region.now c.args.arena.now.player a _ c.args.next.now.items c.args.v c.args.place refl refl refl
+      search = search_passed c.args.arena.now a _ c.args.next.now.items c.args.v c.args.place refl refl refl
           c.requires.candidate.untaken.inside (written a.passed.items c.args.v c.args.place here) c.requires.stops c.requires.under_way.search;
     }
 
@@ -19,7 +19,7 @@ pub take_in-requires-clause-taken : goal.take_in-requires-clause-taken
 take_in-requires-clause-taken c =
     let g = c.args.arena.now.game.now in
     let all : length (successors_of g c.args.v) ≤ c.args.place = omega (arith, ap length c.successors.ensures.list) in
-    passed_taken g c.args.arena.now.region.now c.args.arena.now.player c.args.attractor.now.rank.items c.args.attractor.now.rounds c.args.v c.args.place 0
+    passed_taken c.args.arena.now c.args.attractor.now.rank.items c.args.attractor.now.rounds c.args.v c.args.place 0
     c.requires.candidate.theirs c.requires.stops all
 
 pub take_in-requires-clause-untaken : goal.take_in-requires-clause-untaken
@@ -32,7 +32,7 @@ returns-then-place-successors-clause-under_way c =
     record {
       small = c.requires.under_way.small;
       started = c.requires.under_way.started;
-      search = search_passed c.args.arena.now.game.now c.args.arena.now.region.now c.args.arena.now.player a _ c.args.next.now.items c.args.v c.args.place refl refl refl
+      search = search_passed c.args.arena.now a _ c.args.next.now.items c.args.v c.args.place refl refl refl
           c.requires.candidate.untaken.inside (written a.passed.items c.args.v c.args.place here) c.requires.stops c.requires.under_way.search;
     }
 
@@ -40,7 +40,7 @@ pub returns-then-place-successors-clause-outside : goal.returns-then-place-succe
 returns-then-place-successors-clause-outside c = λ inside z.
     let g = c.args.arena.now.game.now in
     let some : c.args.place < length (successors_of g c.args.v) = omega (arith, ap length c.successors.ensures.list) in
-    stops_outside g c.args.arena.now.region.now c.args.arena.now.player c.args.attractor.now.rank.items c.args.attractor.now.rounds c.args.v c.args.place
+    stops_outside c.args.arena.now c.args.attractor.now.rank.items c.args.attractor.now.rounds c.args.v c.args.place
     c.requires.candidate.theirs c.requires.stops some
 
 pub returns-clause-outside : goal.returns-clause-outside

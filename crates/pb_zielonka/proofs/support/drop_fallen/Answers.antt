@@ -1,12 +1,9 @@
-use Rattle.std.proofs.Common.{◌≡◌, ◌≢◌, ◌<◌, ◌≤◌, ◌+◌, ◌∙◌, ℕ, List, Bool, [], ◌∷◌, ◌++◌, true, false, length, get_or, set, take, arith, rules, refl, sym, subst, inl, inr}
-use Rattle.std.specs.Prelude.{Contains, IsTrue}
+use Rattle.std.proofs.Common.{◌≡◌, ◌<◌, ◌+◌, ℕ, List, Bool, [], ◌∷◌, ◌++◌, false, get_or, set, arith, rules, refl, sym, subst}
+use Rattle.std.specs.Prelude.{IsTrue}
 use Rattle.std.proofs.lemmas.Bool.Decides.{nat_tests}
-use Rattle.pb_game.specs.Games.{vertex_count, owner_of, priority_of, predecessors_of}
-use Rattle.pb_game.specs.Solutions.{choice_of}
-use Rattle.pb_game.proofs.Laws.{is_game}
+use Rattle.pb_game.specs.Games.{vertex_count, priority_of}
 use Rattle.pb_game.proofs.Membership.{contains_at, contains_place}
 use Rattle.pb_zielonka.specs.Regions.{IsIn}
-use Rattle.pb_zielonka.proofs.LevelLemmas.{in_below, in_or_out}
 use Rattle.pb_zielonka.proofs.Parts.{list_vertices}
 use Rattle.pb_zielonka.proofs.Dropping.{IsSiftedAt, IsSiftedUpTo, sifted_up_head, sifted_up_drop, sifted_up_stay}
 use Rattle.pb_zielonka.proofs.support.drop_fallen.Goals as goal

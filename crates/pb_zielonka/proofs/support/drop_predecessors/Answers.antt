@@ -1,12 +1,11 @@
-use Rattle.std.proofs.Common.{◌≡◌, ◌≢◌, ◌<◌, ◌≤◌, ◌+◌, ◌∙◌, ℕ, List, Bool, [], ◌∷◌, ◌++◌, true, false, length, get_or, set, take, arith, rules, refl, sym, subst, inl, inr}
-use Rattle.std.specs.Prelude.{Contains, IsTrue}
-use Rattle.std.proofs.lemmas.Bool.Decides.{nat_tests}
-use Rattle.pb_game.specs.Games.{vertex_count, owner_of, priority_of, predecessors_of}
+use Rattle.std.proofs.Common.{◌≡◌, ◌<◌, ◌≤◌, ◌+◌, ℕ, List, Bool, [], ◌∷◌, ◌++◌, false, length, get_or, set, arith, rules, refl, sym, subst}
+use Rattle.std.specs.Prelude.{IsTrue}
+use Rattle.pb_game.specs.Games.{vertex_count, owner_of, predecessors_of}
 use Rattle.pb_game.specs.Solutions.{choice_of}
 use Rattle.pb_game.proofs.Laws.{is_game}
-use Rattle.pb_game.proofs.Membership.{contains_at, contains_place}
+use Rattle.pb_game.proofs.Membership.{contains_place}
 use Rattle.pb_zielonka.specs.Regions.{IsIn}
-use Rattle.pb_zielonka.proofs.LevelLemmas.{in_below, in_or_out}
+use Rattle.pb_zielonka.proofs.LevelLemmas.{in_below}
 use Rattle.pb_zielonka.specs.Kept.{StandsOn}
 use Rattle.pb_zielonka.proofs.Dropping.{IsClearedUpTo, cleared_up_drop, cleared_up_stay}
 use Rattle.pb_zielonka.proofs.support.drop_predecessors.Goals as goal
