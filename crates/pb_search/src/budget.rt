@@ -42,12 +42,6 @@ impl Budget {
         }
     }
 
-    /// How many looks are left.
-    #[inline]
-    pub fn left(&self) -> usize {
-        self.looks
-    }
-
     /// Takes these looks, for which a vertex or list is still to be paid.
     #[inline]
     pub fn pass(&mut self, looks: usize) -> Result<(), Stop> {

@@ -14,6 +14,7 @@ mod few;
 mod levels;
 mod measure;
 mod method;
+mod passed;
 mod permutation;
 mod promotion;
 mod recursion;

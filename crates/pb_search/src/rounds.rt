@@ -6,67 +6,25 @@
 
 use crate::arena::{Numbers, owner, predecessors, successors};
 use crate::budget::{Budget, Stop};
+use crate::passed::Passed;
 use crate::workspace::{Region, Workspace, item, narrow};
 use pb_game::{Game, Player};
+use rayon::current_num_threads;
 use rayon::prelude::*;
 use std::alloc::{AllocError, Global};
 use std::ops::Range;
 use std::thread::Threads;
 
-/// Of fewer candidates than this, a chain of `rayon` goes over them on one thread.
-const MANY: usize = 2048;
+/// A search for a way out that passes over so many successors is long: below it, to list a vertex
+/// for a thread costs more than the thread saves.
+pub(crate) const LONG: u32 = 32;
 
-/// With fewer edges than this to look at, a thread costs more than it saves.
-const MANY_EDGES: usize = 64_000;
+/// A round is large once it was long at so many vertices. Of fewer candidates a chain of `rayon`
+/// goes over them on one thread.
+pub(crate) const MANY: u32 = 2048;
 
 /// Stands for the number of passed successors while a vertex is a candidate.
 const LISTED: u32 = u32::MAX;
-
-/// The round under way.
-#[derive(Clone, Copy)]
-pub(crate) struct Round {
-    /// Where what it goes over ends in the list of what is taken.
-    pub end: usize,
-    /// How many looks would be left, had the round looked for no way out.
-    left: usize,
-    is_large: bool,
-}
-
-impl Round {
-    /// The round before the first one.
-    pub fn new() -> Round {
-        Round {
-            end: 0,
-            left: 0,
-            is_large: false,
-        }
-    }
-
-    /// Goes on to a place of the list, from which so many edges come and where the next round may
-    /// begin. Whether the round is found to be large there: it has many edges to go over at once,
-    /// or has looked at many for ways out.
-    #[inline]
-    pub fn turns_large(
-        &mut self,
-        place: usize,
-        edges: usize,
-        taken: &[u32],
-        budget: &Budget,
-    ) -> bool {
-        if place == self.end {
-            self.end = taken.len();
-            self.left = budget.left();
-            self.is_large = false;
-        }
-        if self.is_large {
-            return false;
-        }
-        let looks = self.left.saturating_sub(budget.left());
-        self.left = self.left.saturating_sub(edges).saturating_sub(1);
-        self.is_large = MANY_EDGES <= edges.max(looks);
-        self.is_large
-    }
-}
 
 /// The vertices at which a round decides: those of this player with these labels. What is in the
 /// region is a way out for them.
@@ -102,7 +60,7 @@ impl Ahead {
 }
 
 /// Passes over the first successors that are no way out, of all vertices to which the round comes
-/// from these places of the list.
+/// from these places of the list, where there are several threads to do so.
 pub(crate) fn look_ahead(
     rt: &(impl Threads + Sync),
     game: &Game,
@@ -110,6 +68,9 @@ pub(crate) fn look_ahead(
     forced: Forced,
     frontier: Range<usize>,
 ) -> Result<(), Stop> {
+    if current_num_threads(rt) < 2 {
+        return Ok(());
+    }
     space.ahead.candidates.clear();
     for k in frontier {
         let Some(x) = item(&space.taken, k) else {
@@ -125,7 +86,12 @@ pub(crate) fn look_ahead(
         region: forced.region,
     };
     find_places(rt, &ways, &space.ahead.candidates, &mut space.ahead.places)?;
-    settle(&mut space.passed, &mut space.budget, &space.ahead)
+    settle(
+        &mut space.passed,
+        &mut space.budget,
+        &space.ahead,
+        forced.region.stamp,
+    )
 }
 
 /// Lists the predecessor `u` of the frontier, once, where the round has to decide at it.
@@ -134,9 +100,9 @@ fn list_candidate(game: &Game, space: &mut Workspace, forced: Forced, u: u32) ->
     if label < forced.least || forced.greatest < label || owner(game, u) != forced.player {
         return Ok(());
     }
-    let passed = space.passed_before(u, forced.region)?;
+    let passed = space.passed.get(u, forced.region.stamp);
     if passed != LISTED {
-        space.passed.set(u, LISTED);
+        space.passed.set(u, forced.region.stamp, LISTED)?;
         space
             .ahead
             .candidates
@@ -168,19 +134,16 @@ impl Ways<'_, '_> {
     }
 }
 
-/// Finds how many of the first successors of each candidate are no way out; of many candidates with
-/// many edges by several threads.
+/// Finds how many of the first successors of each candidate are no way out, by several threads; of
+/// few candidates none, since the round is as quick by itself.
 fn find_places(
     rt: &(impl Threads + Sync),
     ways: &Ways<'_, '_>,
     candidates: &[Candidate],
     places: &mut Vec<u32>,
 ) -> Result<(), AllocError> {
-    if !are_many(ways.game, candidates) {
+    if candidates.len() < MANY as usize {
         places.clear();
-        for &Candidate { vertex, passed } in candidates {
-            places.push(ways.first(vertex, passed))?;
-        }
         return Ok(());
     }
     candidates
@@ -189,29 +152,16 @@ fn find_places(
         .collect_into_vec(rt, places)
 }
 
-/// Whether it pays to look at these candidates by several threads.
-fn are_many(game: &Game, candidates: &[Candidate]) -> bool {
-    if candidates.len() < MANY {
-        return false;
-    }
-    let mut edges: usize = 0;
-    for candidate in candidates {
-        edges = edges.saturating_add(successors(game, candidate.vertex).len());
-        if MANY_EDGES <= edges {
-            return true;
-        }
-    }
-    false
-}
-
-/// Notes how many successors are no way out, and takes the looks for it.
-fn settle(passed: &mut Numbers, budget: &mut Budget, ahead: &Ahead) -> Result<(), Stop> {
+/// Notes how many successors of each candidate are no way out, as far as that was found, and takes
+/// the looks for it.
+fn settle(passed: &mut Passed, budget: &mut Budget, ahead: &Ahead, stamp: u32) -> Result<(), Stop> {
     for k in 0..ahead.candidates.len() {
         let candidate = ahead.candidates[k];
         let Some(place) = item(&ahead.places, k) else {
-            break
+            passed.set(candidate.vertex, stamp, candidate.passed)?;
+            continue;
         };
-        passed.set(candidate.vertex, place);
+        passed.set(candidate.vertex, stamp, place)?;
         budget.pass(place.saturating_sub(candidate.passed) as usize)?;
     }
     Ok(())

@@ -29,9 +29,10 @@ fn find_successor(
     u: u32,
     wanted: Wanted,
 ) -> Result<Option<u32>, Stop> {
-    space.pass_over(game, u, turn.level.region())?;
+    let region = turn.level.region();
+    space.pass_over(game, u, region)?;
     let row = successors(game, u);
-    for k in space.passed.get(u) as usize..row.len() {
+    for k in space.passed.get(u, region.stamp) as usize..row.len() {
         space.budget.spend(0)?;
         let w = row[k];
         if space.label.get(w) == wanted.label && space.order.get(w) < wanted.before {
@@ -99,7 +100,9 @@ fn regain(
             return Ok(());
         };
         space.draft.set_choice(x, w);
-    } else if space.way_out(game, x, region)?.is_some() {
+    } else if space.knows_way_out(game, x, region) {
+        return space.budget.spend(0);
+    } else if space.pass_over(game, x, region)?.is_some() {
         return Ok(());
     }
     space.label.set(x, region.but);

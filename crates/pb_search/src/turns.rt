@@ -5,7 +5,7 @@ use crate::arena::{owner, predecessors};
 use crate::budget::Stop;
 use crate::few::is_front_apart;
 use crate::levels::{Level, Places, number_front};
-use crate::rounds::{Round, look_ahead};
+use crate::rounds::look_ahead;
 use crate::support::{Turn, number_rest, regain_front, regain_rest, replace};
 use crate::workspace::{Workspace, item};
 use pb_game::Game;
@@ -46,19 +46,22 @@ fn concede(
     level: &mut Level,
 ) -> Result<(), Stop> {
     space.hit.clear();
-    let mut round = Round::new();
+    let mut end = 0;
     for k in 0..usize::MAX {
         let Some(x) = item(&space.taken, k) else {
             break
         };
-        let row = predecessors(game, x);
-        if round.turns_large(k, row.len(), &space.taken, &space.budget) {
-            look_ahead(rt, game, space, level.forced(), k..round.end)?;
+        if k == end {
+            end = space.begin_round();
         }
+        let row = predecessors(game, x);
         space.budget.spend(row.len())?;
         for &u in row {
             if space.label.get(u) >= level.front {
                 concede_at(game, space, level, u, x)?;
+                if space.turns_large() {
+                    look_ahead(rt, game, space, level.forced(), k..end)?;
+                }
             }
         }
     }
@@ -76,17 +79,26 @@ fn concede_at(
 ) -> Result<(), Stop> {
     if owner(game, u) != level.player {
         space.draft.set_choice(u, x);
-    } else if space.way_out(game, u, level.region())?.is_some() {
-        if space.draft.choice(u) == x {
-            space.hit.push(u)?;
-        }
-        return Ok(());
+    } else if space.knows_way_out(game, u, level.region()) {
+        space.budget.spend(0)?;
+        return note_hit(space, u, x);
+    } else if space.pass_over(game, u, level.region())?.is_some() {
+        return note_hit(space, u, x);
     }
     space.label.set(u, 0);
     space.draft.set_winner(u, level.player.opponent());
     level.conceded = level.conceded.saturating_add(1);
     space.draft.set_count(u, Some(level.top), level.conceded);
     space.taken.push(u)?;
+    Ok(())
+}
+
+/// The player's vertex `u` is hit where its choice was `x`.
+#[inline]
+fn note_hit(space: &mut Workspace, u: u32, x: u32) -> Result<(), Stop> {
+    if space.draft.choice(u) == x {
+        space.hit.push(u)?;
+    }
     Ok(())
 }
 

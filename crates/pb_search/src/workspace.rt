@@ -3,8 +3,9 @@
 use crate::arena::{Draft, Numbers, owner, predecessors, successors};
 use crate::budget::{Budget, Stop};
 use crate::components::Components;
+use crate::passed::Passed;
 use crate::permutation::Permutation;
-use crate::rounds::{Ahead, Forced, Round, Ways, look_ahead};
+use crate::rounds::{Ahead, Forced, LONG, MANY, Ways, look_ahead};
 use pb_game::{Game, Player};
 use std::alloc::{AllocError, Global};
 use std::thread::Threads;
@@ -60,10 +61,9 @@ pub(crate) struct Workspace {
     /// In which order the front of a level took in the vertex, 0 at its heads. It is made when a
     /// front first takes in any.
     pub order: Numbers,
-    /// How many of the vertex's first successors are outside of the region of its stamp. Both are
-    /// made when a search for a way out first passes over one.
-    pub passed: Numbers,
-    pub stamp: Numbers,
+    pub passed: Passed,
+    /// At how many vertices of the round under way a search for a way out passed over many.
+    pub long_ways: u32,
     /// All vertices: a level has a part of this list, and what it solves again stands first there.
     pub vertices: Permutation,
     pub draft: Draft,
@@ -98,8 +98,8 @@ impl Workspace {
             clock: 0,
             label: Numbers::new(alloc, vertices)?,
             order: Numbers::none(alloc),
-            passed: Numbers::none(alloc),
-            stamp: Numbers::none(alloc),
+            passed: Passed::none(alloc, vertices),
+            long_ways: 0,
             vertices: Permutation::identity(alloc, game.len()),
             draft: Draft::new(alloc, game)?,
             taken: Vec::new(alloc),
@@ -121,43 +121,51 @@ impl Workspace {
         Ok(self.clock)
     }
 
-    /// How many of the first successors of `u` are known to be outside of the region.
+    /// Whether the successor of `u` is in the region at which the last search under its stamp
+    /// stopped. Where no search passed over any, that is the first one.
     #[inline]
-    pub fn passed_before(&mut self, u: u32, region: Region) -> Result<u32, AllocError> {
-        if self.stamp.get(u) == region.stamp {
-            return Ok(self.passed.get(u));
+    pub fn knows_way_out(&self, game: &Game, u: u32, region: Region) -> bool {
+        let place = self.passed.get(u, region.stamp);
+        match item(successors(game, u), place as usize) {
+            Some(w) => region.has(self.label.get(w)),
+            None => false,
         }
-        self.stamp.make(self.vertices.len())?;
-        self.passed.make(self.vertices.len())?;
-        self.stamp.set(u, region.stamp);
-        Ok(0)
-    }
-
-    /// The first successor of `u` in the region.
-    #[inline]
-    pub fn way_out(&mut self, game: &Game, u: u32, region: Region) -> Result<Option<u32>, Stop> {
-        if let Some(w) = item(successors(game, u), 0) {
-            if region.has(self.label.get(w)) {
-                self.budget.spend(0)?;
-                return Ok(Some(w));
-            }
-        }
-        self.pass_over(game, u, region)
     }
 
     /// The first successor of `u` in the region, looked for where the last search under this stamp
     /// stopped; those before it are passed.
     pub fn pass_over(&mut self, game: &Game, u: u32, region: Region) -> Result<Option<u32>, Stop> {
-        let from = self.passed_before(u, region)?;
+        let from = self.passed.get(u, region.stamp);
         let ways = Ways {
             game,
             label: &self.label,
             region,
         };
         let place = ways.first(u, from);
-        self.passed.set(u, place);
-        self.budget.spend(place.saturating_sub(from) as usize)?;
+        self.passed.set(u, region.stamp, place)?;
+        let looks = place.saturating_sub(from);
+        if LONG <= looks {
+            self.long_ways = self.long_ways.saturating_add(1);
+        }
+        self.budget.spend(looks as usize)?;
         Ok(item(successors(game, u), place as usize))
+    }
+
+    /// Begins a round, which goes over what is taken up to the place that is given.
+    #[inline]
+    pub fn begin_round(&mut self) -> usize {
+        self.long_ways = 0;
+        self.taken.len()
+    }
+
+    /// Whether the round turns large at the vertex at which it has decided: once in a round.
+    #[inline]
+    pub fn turns_large(&mut self) -> bool {
+        if self.long_ways != MANY {
+            return false;
+        }
+        self.long_ways = MANY + 1;
+        true
     }
 
     /// Takes in, round by round, what the player forces into the vertices that are taken already.
@@ -167,17 +175,20 @@ impl Workspace {
         game: &Game,
         attractor: Attractor,
     ) -> Result<(), Stop> {
-        let mut round = Round::new();
+        let mut end = 0;
         for k in 0..usize::MAX {
             let Some(x) = item(&self.taken, k) else { break };
-            let row = predecessors(game, x);
-            if round.turns_large(k, row.len(), &self.taken, &self.budget) {
-                look_ahead(rt, game, self, attractor.forced(), k..round.end)?;
+            if k == end {
+                end = self.begin_round();
             }
+            let row = predecessors(game, x);
             self.budget.spend(row.len())?;
             for &u in row {
                 if self.label.get(u) == attractor.open {
                     self.try_to_take(game, attractor, u, x)?;
+                    if self.turns_large() {
+                        look_ahead(rt, game, self, attractor.forced(), k..end)?;
+                    }
                 }
             }
         }
@@ -195,7 +206,9 @@ impl Workspace {
     ) -> Result<(), Stop> {
         if owner(game, u) == attractor.player {
             self.draft.set_choice(u, x);
-        } else if self.way_out(game, u, attractor.region)?.is_some() {
+        } else if self.knows_way_out(game, u, attractor.region) {
+            return self.budget.spend(0);
+        } else if self.pass_over(game, u, attractor.region)?.is_some() {
             return Ok(());
         }
         self.label.set(u, attractor.region.but);

@@ -99,6 +99,26 @@ fn three_a_level(alloc: Global, levels: u32) -> Result<Game, Fail> {
     builder.game(alloc)
 }
 
+/// Vertices of which each leads to all of 64 cycles of one vertex, or to all but the first: they
+/// are attracted in one round, which is large.
+fn wide_round(alloc: Global, vertices: u32) -> Result<Game, Fail> {
+    let mut builder = Builder::new(alloc)?;
+    let mut all = Vec::new(alloc);
+    let mut but_first = Vec::new(alloc);
+    for v in 0..64 {
+        builder.push(Odd, 1, &[v])?;
+        all.push(v)?;
+        if v != 0 {
+            but_first.push(v)?;
+        }
+    }
+    for v in 0..vertices {
+        let successors = if v % 2 == 0 { &all } else { &but_first };
+        builder.push(Even, 0, successors)?;
+    }
+    builder.game(alloc)
+}
+
 #[test]
 fn generated_games_are_solved_by_each_search(rt: HostRuntime) -> Result<(), Fail> {
     for seed in 0..40 {
@@ -116,6 +136,16 @@ fn the_recursion_keeps_its_fronts(rt: HostRuntime) -> Result<(), Fail> {
     let game = layers(rt.alloc(), 1_000)?;
     let found = outcome_of(&rt, rt.alloc(), &game, Search::Recursion)?;
     assert!(rt; found == Outcome::Certified);
+    Ok(())
+}
+
+#[test]
+fn threads_look_ahead_in_a_large_round(rt: HostRuntime) -> Result<(), Fail> {
+    let game = wide_round(rt.alloc(), 4_400)?;
+    for method in [Search::Recursion, Search::Components] {
+        let found = outcome_of(&rt, rt.alloc(), &game, method)?;
+        assert!(rt; found == Outcome::Certified, "{method:?}");
+    }
     Ok(())
 }
 
