@@ -11,12 +11,12 @@ use Rattle.pb_bytecode.specs.Decoded.{module_contents}
 use Rattle.pb_bytecode.specs.Limits.{fits}
 use Rattle.pb_bytecode.specs.Meaning.{parameters, program_of}
 use Rattle.pb_bytecode.specs.Views.{equation_contents, sort_contents}
-use Rattle.pb_verifier.specs.Acceptance.{HasTable, IsAccepted, IsVerified}
+use Rattle.pb_verifier.specs.Acceptance.{HasTable, IsAccepted}
 use Rattle.pb_verifier.specs.Programs.{HaveTables, parameters_of, program_in}
 use Rattle.pb_bytecode.specs.declared.sort.Sort.{Sort}
 use Rattle.std.proofs.lemmas.List.{length-map}
 use Rattle.pb_verifier_structure.specs.Structure.{IsProgramWithinLimits}
-use Rattle.pb_verifier.proofs.Limits.{HasLayout, code_within_limits, has_layout}
+use Rattle.pb_verifier.proofs.Limits.{code_within_limits}
 
 -- what the check of a module has at hand: counts of enumerators, the carriers of callees, and the equations
 pub record IsOf (m : Module) (sizes : List ℕ) (callees : List (List Carrier)) (equations : List Equation) : Type 0 where
@@ -24,7 +24,7 @@ pub record IsOf (m : Module) (sizes : List ℕ) (callees : List (List Carrier)) 
   pub callees_are : callees ≡ map parameters_of m.equations.items
   pub equations_are : equations ≡ m.equations.items
 
-parameters_map : (es : List Equation) → map parameters_of es ≡ map (λ (e : EquationContents). e.parameters) (map equation_contents es)
+pub parameters_map : (es : List Equation) → map parameters_of es ≡ map (λ (e : EquationContents). e.parameters) (map equation_contents es)
 parameters_map [] = refl
 parameters_map (e ∷ es) = ap (λ (cs : List (List Carrier)). parameters_of e ∷ cs) (parameters_map es)
 
@@ -67,17 +67,13 @@ tables_of_accepted m sizes callees es o a k e h =
     let here : slice_get m.equations.items k ≡ Some e = ap (λ (xs : List Equation). slice_get xs k) (sym o.equations_are) ∙ h in
     subst HasTable (same_program m sizes callees es e o) (a.codes k (equation_contents e) (slice_get-mapped equation_contents m.equations.items k e here))
 
-pub layout_fits : (m : Module) (sizes : List ℕ) (callees : List (List Carrier)) (es : List Equation) → IsOf m sizes callees es → fits (module_contents m) ≡ true → HasLayout callees
-layout_fits m sizes callees es o f = subst HasLayout (sym (parameters_are m sizes callees es o)) (has_layout (module_contents m) f)
-
--- these are at hand where the parts were read out of the module
-pub is_of : {A : Type 0}
-    → (m : Module) (sorts : List Sort) (equations es : List Equation) (sizes ss : List ℕ) (vs ws : List (Vec Carrier A))
-    → sorts ≡ m.sorts.items → equations ≡ m.equations.items → sizes ≡ counts (map sort_contents sorts)
-    → map vec_items vs ≡ map parameters_of equations → ss ≡ sizes → ws ≡ vs → es ≡ m.equations.items → IsOf m ss (map vec_items ws) es
-is_of m sorts equations es sizes ss vs ws s e a b f g h = record {
+-- these are at hand where the parts were read out of the module, whose layout is known
+pub is_of : (m : Module) (sorts : List Sort) (es : List Equation) (sizes ss : List ℕ) (layout : List (List Carrier))
+    → sorts ≡ m.sorts.items → sizes ≡ counts (map sort_contents sorts) → ss ≡ sizes → layout ≡ parameters (module_contents m) → es ≡ m.equations.items
+    → IsOf m ss layout es
+is_of m sorts es sizes ss layout s a f l h = record {
   sizes_are = f ∙ a ∙ ap (λ xs. counts (map sort_contents xs)) s;
-  callees_are = ap (map vec_items) g ∙ b ∙ ap (map parameters_of) e;
+  callees_are = l ∙ sym (parameters_map m.equations.items);
   equations_are = h;
 }
 
@@ -88,7 +84,3 @@ few_each (v ∷ vs) h (suc k) d lt = few_each vs (λ j e l. h (suc j) e (omega a
 
 pub few_lists : {A : Type 0} → (vs : List (Vec Carrier A)) → length (map vec_items vs) ≤ MAX_EQUATIONS → length vs ≤ MAX_EQUATIONS
 few_lists vs h = simp length-map at h
-
-pub verified_by : (m : Module) (sizes : List ℕ) (callees layout : List (List Carrier)) (es : List Equation)
-    → IsOf m sizes callees es → HaveTables sizes callees es → layout ≡ callees → IsVerified (module_contents m) layout
-verified_by m sizes callees layout es o h e = record { accepted = accepted_by_tables m sizes callees es o h; laid_out = e ∙ parameters_are m sizes callees es o }

@@ -12,7 +12,7 @@ ghost use Rattle.pb_verifier_structure.specs.Structure.{IsProgramWithinLimits};
 use crate::pass::pass;
 use pb_base::{MAX_STEPS, MAX_TOKENS, OrMemory};
 use pb_bytecode::Equation;
-use pb_sorts::Carrier;
+use pb_sorts::Layout;
 use pb_verifier_states::AcceptanceRule;
 use pb_verifier_structure::{EquationCode, PositionFault, check_structure, static_counts};
 use std::alloc::Global;
@@ -32,21 +32,21 @@ fn are_enough(code: &EquationCode, steps: u32, tokens: u32) -> bool
 pub(crate) fn check_equation(
     alloc: Global,
     sorts: &[u8],
-    callees: &[Vec<Carrier>],
+    callees: &Layout,
     equation: &Equation,
 ) -> Result<(), OrMemory<PositionFault>>
     requires { IsProgramWithinLimits
-        (program_in sorts.now (map vec_items callees.now) equation.now) }
+        (program_in sorts.now callees.now equation.now) }
     ensures accepted { OnOk result (HasTable (program_in sorts.now
-        (map vec_items callees.now) equation.now)) }
+        callees.now equation.now)) }
     ensures refused { OnRefused result
-        (HasTable (program_in sorts.now (map vec_items callees.now) equation.now) → ⊥) }
+        (HasTable (program_in sorts.now callees.now equation.now) → ⊥) }
 {
     let code = EquationCode {
         instructions: &equation.code,
         parameters: &equation.parameters,
         loops: &equation.loops,
-        equations: callees.len(),
+        equations: callees.equation_count(),
     };
     check_structure(alloc, &code)?;
     if !are_enough(&code, equation.steps, equation.tokens) {

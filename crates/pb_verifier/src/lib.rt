@@ -16,6 +16,6 @@ pub mod verify_error;
 mod visit;
 
 pub use pb_verifier_states::AcceptanceRule;
-pub use verification::verify;
+pub use verification::{verify, verify_laid_out};
 pub use verified::Verified;
 pub use verify_error::{CodeFault, VerifyError};

@@ -4,13 +4,15 @@
 ghost use Rattle.std.specs.Prelude.{◌≡◌, ◌≤◌, All, IfOk, map, length, vec_items, vec_len};
 ghost use Rattle.pb_bytecode.specs.Contents.{counts};
 ghost use Rattle.pb_bytecode.specs.Views.{sort_contents};
+ghost use Rattle.pb_bytecode.specs.Decoded.{module_contents};
+ghost use Rattle.pb_bytecode.specs.Meaning.{parameters};
 ghost use Rattle.pb_sorts.specs.Layout.{count_of, lists_of};
 ghost use Rattle.pb_verifier.specs.Programs.{parameters_of};
 ghost use Rattle.pb_base.specs.declared.limits.TheConstants.{MAX_EQUATIONS, MAX_PARAMETERS};
 ghost use Rattle.pb_base.specs.declared.limits.TheConstants.{MAX_INSTANCES};
 
 use pb_base::OrMemory;
-use pb_bytecode::{Equation, Sort};
+use pb_bytecode::{Equation, Module, Sort};
 use pb_sorts::{Carrier, Layout};
 use std::alloc::{AllocError, Global};
 
@@ -25,7 +27,7 @@ pub(crate) fn enumerator_counts(alloc: Global, sorts: &[Sort]) -> Result<Vec<u8>
     Ok(sizes)
 }
 
-pub(crate) fn parameter_carriers(
+fn parameter_carriers(
     alloc: Global,
     equations: &[Equation],
 ) -> Result<Vec<Vec<Carrier>>, AllocError>
@@ -41,11 +43,19 @@ pub(crate) fn parameter_carriers(
 
 /// The layout of equations with these parameters, of which there are no more than a layout may
 /// have.
-pub(crate) fn layout_of(alloc: Global, carriers: &[Vec<Carrier>]) -> Result<Layout, AllocError>
+fn layout_with(alloc: Global, carriers: &[Vec<Carrier>]) -> Result<Layout, AllocError>
     requires equations { length carriers.now ≤ MAX_EQUATIONS }
     requires parameters { All (λ parameters. vec_len parameters ≤ MAX_PARAMETERS) carriers.now }
     requires instances { count_of (lists_of carriers.now) ≤ MAX_INSTANCES }
     ensures { IfOk result (λ layout. layout ≡ lists_of carriers.now) }
 {
     Layout::new(alloc, carriers).map_err(OrMemory::only_memory)
+}
+
+/// The layout of a module's instances, which has no more than a layout may have.
+pub(crate) fn layout_of(alloc: Global, module: &Module) -> Result<Layout, AllocError>
+    ensures { IfOk result (λ layout. layout ≡ parameters (module_contents «module».now)) }
+{
+    let carriers = parameter_carriers(alloc, &module.equations)?;
+    layout_with(alloc, &carriers)
 }

@@ -24,7 +24,7 @@ use crate::visit::{
 use pb_base::OrMemory;
 use pb_bytecode::Equation;
 use pb_bytecode_program::Op;
-use pb_sorts::Carrier;
+use pb_sorts::{Carrier, Layout};
 use pb_verifier_states::{AbstractState, AcceptanceRule, FlowError};
 use pb_verifier_structure::PositionFault;
 use std::alloc::{AllocError, Global};
@@ -186,15 +186,15 @@ fn at_place(error: FlowError, place: usize) -> OrMemory<PositionFault>
 pub(crate) fn pass(
     alloc: Global,
     sorts: &[u8],
-    callees: &[Vec<Carrier>],
+    callees: &Layout,
     equation: &Equation,
 ) -> Result<(), OrMemory<PositionFault>>
     requires { IsProgramWithinLimits
-        (program_in sorts.now (map vec_items callees.now) equation.now) }
+        (program_in sorts.now callees.now equation.now) }
     ensures passes { OnOk result
-        (code_passes (program_in sorts.now (map vec_items callees.now) equation.now) ≡ true) }
+        (code_passes (program_in sorts.now callees.now equation.now) ≡ true) }
     ensures refused { OnRefused result
-        (code_passes (program_in sorts.now (map vec_items callees.now) equation.now) ≡ false) }
+        (code_passes (program_in sorts.now callees.now equation.now) ≡ false) }
 {
     let names = Names { sorts, callees };
     let mut pass = PassState::opening(alloc, equation)?;

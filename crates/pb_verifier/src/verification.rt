@@ -1,21 +1,21 @@
 //! Verifying modules.
 
-ghost use Rattle.std.specs.Prelude.{◌≡◌, IfErr, IfOk, OnOk, Some, ℕ, map, slice_get, vec_items};
+ghost use Rattle.std.specs.Prelude.{◌≡◌, IfErr, IfOk, OnOk, Some, ℕ, slice_get};
 ghost use Rattle.pb_bytecode.specs.Decoded.{module_contents};
 ghost use Rattle.pb_bytecode.specs.Meaning.{parameters};
 ghost use Rattle.pb_bytecode.specs.declared.equation.Equation.{Equation as equation_type};
-ghost use Rattle.pb_verifier.specs.Acceptance.{IsAccepted, IsInitialNumber, IsVerified};
+ghost use Rattle.pb_verifier.specs.Acceptance.{IsAccepted, IsInitialNumber};
 ghost use Rattle.pb_verifier.specs.Programs.{program_in, HaveTables};
 ghost use Rattle.pb_base.specs.OrMemory.{IfFault, OnRefused, raised};
 ghost use Rattle.pb_verifier_structure.specs.Structure.{IsProgramWithinLimits};
 
 use crate::equation::check_equation;
-use crate::module_tables::{enumerator_counts, layout_of, parameter_carriers};
+use crate::module_tables::{enumerator_counts, layout_of};
 use crate::verified::Verified;
 use crate::verify_error::{CodeFault, VerifyError};
 use pb_base::OrMemory;
 use pb_bytecode::{Equation, Module};
-use pb_sorts::{Carrier, Instance, Layout, Tuple};
+use pb_sorts::{Instance, Layout, Tuple};
 use pb_verifier_structure::PositionFault;
 use std::alloc::{AllocError, Global};
 
@@ -35,15 +35,15 @@ fn in_equation(error: OrMemory<PositionFault>, number: usize) -> VerifyError
 fn check_equations(
     alloc: Global,
     sorts: &[u8],
-    callees: &[Vec<Carrier>],
+    callees: &Layout,
     equations: &[Equation],
 ) -> Result<(), VerifyError>
     requires { (k : ℕ) (e : equation_type) → slice_get equations.now k ≡ Some e
-        → IsProgramWithinLimits (program_in sorts.now (map vec_items callees.now) e) }
+        → IsProgramWithinLimits (program_in sorts.now callees.now e) }
     ensures accepted { OnOk result (HaveTables sorts.now
-        (map vec_items callees.now) equations.now) }
+        callees.now equations.now) }
     ensures refused { OnRefused result
-        (HaveTables sorts.now (map vec_items callees.now) equations.now → ⊥) }
+        (HaveTables sorts.now callees.now equations.now → ⊥) }
 {
     for (number, equation) in equations.iter().enumerate() {
         match check_equation(alloc, sorts, callees, equation) {
@@ -69,19 +69,39 @@ fn initial_number(alloc: Global, module: &Module, layout: &Layout) -> Result<u32
     }
 }
 
-// Checks the module, and gives the layout of its instances and the number of the initial one.
-fn check(alloc: Global, module: &Module) -> Result<(Layout, u32), VerifyError>
-    ensures verified { IfOk result (λ found. IsVerified (module_contents «module».now) found.0) }
-    ensures initial { IfOk result
-        (λ found. IsInitialNumber (module_contents «module».now) found.1) }
+// Checks a module whose instances have this layout, and gives the number of the initial one.
+fn check(alloc: Global, module: &Module, layout: &Layout) -> Result<u32, VerifyError>
+    requires { layout.now ≡ parameters (module_contents «module».now) }
+    ensures accepted { OnOk result (IsAccepted (module_contents «module».now)) }
+    ensures initial { IfOk result (IsInitialNumber (module_contents «module».now)) }
     ensures refused { OnRefused result (IsAccepted (module_contents «module».now) → ⊥) }
 {
     let sorts = enumerator_counts(alloc, &module.sorts)?;
-    let callees = parameter_carriers(alloc, &module.equations)?;
-    check_equations(alloc, &sorts, &callees, &module.equations)?;
-    let layout = layout_of(alloc, &callees)?;
-    let initial = initial_number(alloc, module, &layout)?;
-    Ok((layout, initial))
+    check_equations(alloc, &sorts, layout, &module.equations)?;
+    Ok(initial_number(alloc, module, layout)?)
+}
+
+/// Verifies a module whose instances have this layout, which is the one that is kept: whoever made
+/// the module of a text has it.
+///
+/// # Errors
+/// As with `verify`.
+pub fn verify_laid_out(
+    alloc: Global,
+    module: Module,
+    layout: Layout,
+) -> Result<Verified, (Module, VerifyError)>
+    requires { layout ≡ parameters (module_contents «module») }
+    ensures same { IfOk result (λ verified. verified ≡ module_contents «module») }
+    ensures accepted { OnOk result (IsAccepted (module_contents «module»)) }
+    ensures handed_back { IfErr result (λ refusal. refusal.0 ≡ «module») }
+    ensures refused { IfErr result (λ refusal. IfFault refusal.1
+        (λ _. IsAccepted (module_contents «module») → ⊥)) }
+{
+    match check(alloc, &module, &layout) {
+        Ok(initial) => Ok(Verified::new(module, layout, initial)),
+        Err(error) => Err((module, error)),
+    }
 }
 
 /// Verifies a module: it is accepted where the code of each equation keeps the rules by position,
@@ -105,8 +125,8 @@ pub fn verify(alloc: Global, module: Module) -> Result<Verified, (Module, Verify
     ensures refused { IfErr result (λ refusal. IfFault refusal.1
         (λ _. IsAccepted (module_contents «module») → ⊥)) }
 {
-    match check(alloc, &module) {
-        Ok((layout, initial)) => Ok(Verified::new(module, layout, initial)),
-        Err(error) => Err((module, error)),
+    match layout_of(alloc, &module) {
+        Ok(layout) => verify_laid_out(alloc, module, layout),
+        Err(error) => Err((module, error.into())),
     }
 }

@@ -15,7 +15,7 @@ ghost use Rattle.pb_verifier.specs.Pass.{merge_edges as merged_edges, then_table
 
 use crate::table::{hand_on, is_reached, merge, merge_edges, take_state};
 use pb_bytecode_program::Op;
-use pb_sorts::Carrier;
+use pb_sorts::{Carrier, Layout};
 use pb_verifier_flow::flow::{flow, go_on};
 use pb_verifier_states::{AbstractState, AcceptanceRule, FlowError};
 
@@ -24,7 +24,7 @@ use pb_verifier_states::{AbstractState, AcceptanceRule, FlowError};
 #[derive(Clone, Copy)]
 pub(crate) struct Names<'a> {
     pub sorts: &'a [u8],
-    pub callees: &'a [Vec<Carrier>],
+    pub callees: &'a Layout,
 }
 
 /// What is known at an instruction, other than the start and the end of a loop, flows on.

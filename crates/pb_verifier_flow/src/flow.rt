@@ -1,6 +1,6 @@
 //! What flows from an instruction.
 
-ghost use Rattle.std.specs.Prelude.{◌≡◌, ◌≤ℤ◌, IfOk, None, OnOk, Option, Some, map, vec_items, ℕ};
+ghost use Rattle.std.specs.Prelude.{◌≡◌, ◌≤ℤ◌, IfOk, None, OnOk, Option, Some, ℕ};
 ghost use Rattle.pb_verifier_flow.specs.Edges.{edges_of};
 ghost use Rattle.pb_verifier_flow.specs.Flows.{GoesOnAlone};
 ghost use Rattle.pb_verifier_states.specs.NamedRule.{named_rule};
@@ -18,7 +18,7 @@ mod tree;
 use crate::edges::Edges;
 use pb_base_values::Interval;
 use pb_bytecode_program::{AbstractValue, Op};
-use pb_sorts::Carrier;
+use pb_sorts::Layout;
 use pb_verifier_states::flow_error::FlowError;
 use pb_verifier_states::state::AbstractState;
 use std::alloc::Global;
@@ -35,19 +35,19 @@ pub fn flow(
     mut state: AbstractState,
     alloc: Global,
     sorts: &[u8],
-    callees: &[Vec<Carrier>],
+    callees: &Layout,
     op: Op,
 ) -> Result<Edges, FlowError>
     requires straight { loop_effect op ≡ Straight }
     requires bounds { HasOrderedRange op }
     ensures flows { IfOk result (λ e. (p : Program) (home : Option Known) (q : ℕ)
-        → p.sorts ≡ sorts.now → p.callees ≡ map vec_items callees.now
+        → p.sorts ≡ sorts.now → p.callees ≡ callees.now
         → transfer p home q op state ≡ Some (edges_of q e.next e.jump)) }
     ensures refused { OnRefused result ((p : Program) (home : Option Known) (q : ℕ)
-        → p.sorts ≡ sorts.now → p.callees ≡ map vec_items callees.now
+        → p.sorts ≡ sorts.now → p.callees ≡ callees.now
         → transfer p home q op state ≡ None) }
     ensures rule { IfRefused result (λ rule. rule
-        ≡ named_rule sorts.now (map vec_items callees.now) op state) }
+        ≡ named_rule sorts.now callees.now op state) }
 {
     match op {
         Op::End => match state.end() {
@@ -91,18 +91,18 @@ fn range_between(low: i32, high: i32) -> Interval
 pub fn go_on(
     state: &mut AbstractState,
     sorts: &[u8],
-    callees: &[Vec<Carrier>],
+    callees: &Layout,
     op: Op,
 ) -> Result<(), FlowError>
     requires { GoesOnAlone op }
     ensures flows { OnOk result ((p : Program) (home : Option Known) (q : ℕ)
-        → p.sorts ≡ sorts.now → p.callees ≡ map vec_items callees.now
+        → p.sorts ≡ sorts.now → p.callees ≡ callees.now
         → transfer p home q op state.old ≡ to_next_place q state.new) }
     ensures refused { OnRefused result ((p : Program) (home : Option Known) (q : ℕ)
-        → p.sorts ≡ sorts.now → p.callees ≡ map vec_items callees.now
+        → p.sorts ≡ sorts.now → p.callees ≡ callees.now
         → transfer p home q op state.old ≡ None) }
     ensures rule { IfRefused result (λ rule. rule
-        ≡ named_rule sorts.now (map vec_items callees.now) op state.old) }
+        ≡ named_rule sorts.now callees.now op state.old) }
 {
     match op {
         Op::PushInt(z) => control::push(state, AbstractValue::Int { low: z, high: z }),

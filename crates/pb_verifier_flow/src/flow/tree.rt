@@ -1,6 +1,6 @@
 //! What flows from the instructions that write the tree.
 
-ghost use Rattle.std.specs.Prelude.{◌≡◌, IfErr, None, OnErr, OnOk, Some, map, slice_get, vec_items};
+ghost use Rattle.std.specs.Prelude.{◌≡◌, IfErr, None, OnErr, OnOk, Some, slice_get};
 ghost use Rattle.std.specs.Prelude.{ℕ};
 ghost use Rattle.pb_verifier_flow.specs.Flows.{Fails, GoesOn};
 ghost use Rattle.pb_verifier_states.specs.NamedRule.{IsNamed, named_at_call};
@@ -8,7 +8,7 @@ ghost use Rattle.pb_bytecode_program.specs.Transfer.{abstract_call, to_next_plac
 ghost use Rattle.pb_bytecode_program.specs.declared.instruction.Op.TheVariants as op;
 
 use pb_bytecode_program::{Connective, Leaf};
-use pb_sorts::Carrier;
+use pb_sorts::{Carrier, Layout};
 use pb_verifier_states::rule::AcceptanceRule;
 use pb_verifier_states::state::AbstractState;
 
@@ -47,22 +47,22 @@ pub(crate) fn emit(state: &mut AbstractState, leaf: Leaf) -> Result<(), Acceptan
 /// Writes a call of an equation; `callees` has the carriers of each one's parameters.
 pub(crate) fn call(
     state: &mut AbstractState,
-    callees: &[Vec<Carrier>],
+    callees: &Layout,
     equation: u8,
 ) -> Result<(), AcceptanceRule>
     ensures flows { OnOk result ((q : ℕ)
-        → abstract_call q state.old (slice_get (map vec_items callees.now) equation)
+        → abstract_call q state.old (slice_get callees.now equation)
         ≡ to_next_place q state.new) }
     ensures err { OnErr result ((q : ℕ)
-        → abstract_call q state.old (slice_get (map vec_items callees.now) equation) ≡ None) }
+        → abstract_call q state.old (slice_get callees.now equation) ≡ None) }
     ensures rule { IfErr result (λ rule. rule
-        ≡ named_at_call state.old.operands (slice_get (map vec_items callees.now) equation)) }
+        ≡ named_at_call state.old.operands (slice_get callees.now equation)) }
 {
     let place = usize::from(equation);
-    if place >= callees.len() {
+    if place >= callees.equation_count() {
         return Err(AcceptanceRule::UnknownName);
     }
-    call_with(state, &callees[place])
+    call_with(state, callees.carriers(place))
 }
 
 // Writes a call of an equation with these parameters.

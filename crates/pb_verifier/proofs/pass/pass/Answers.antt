@@ -1,5 +1,4 @@
-use Rattle.std.proofs.Common.{map, length, ◌≤◌, ap, arith}
-use Rattle.std.specs.Prelude.{vec_items}
+use Rattle.std.proofs.Common.{length, ◌≤◌, ap, arith}
 use Rattle.pb_bytecode_program.specs.declared.instruction.Op.TheVariants as op
 use Rattle.pb_base.proofs.Faults.{if_raised}
 use Rattle.pb_verifier.specs.Programs.{program_in}
@@ -8,8 +7,8 @@ use Rattle.pb_verifier.proofs.pass.pass.Goals as goal
 
 pub loop-place-init : goal.loop-place-init
 loop-place-init c =
-    passes_begin (program_in c.args.sorts.now (map vec_items c.args.callees.now) c.args.equation.now) c.in_ok-pass.pass.open_loops c.in_ok-pass.pass.table.items c.in_ok-pass.ensures.open_loops
-    (c.in_ok-pass.ensures.table c.args.sorts.now (map vec_items c.args.callees.now))
+    passes_begin (program_in c.args.sorts.now c.args.callees.now c.args.equation.now) c.in_ok-pass.pass.open_loops c.in_ok-pass.pass.table.items c.in_ok-pass.ensures.open_loops
+    (c.in_ok-pass.ensures.table c.args.sorts.now c.args.callees.now)
 
 pub step-requires-clause-bounds : goal.step-requires-clause-bounds
 step-requires-clause-bounds c =
@@ -18,7 +17,7 @@ step-requires-clause-bounds c =
 
 pub loop-place-preserved : goal.loop-place-preserved
 loop-place-preserved c =
-    passes_next (program_in c.args.sorts.now (map vec_items c.args.callees.now) c.args.equation.now)
+    passes_next (program_in c.args.sorts.now c.args.callees.now c.args.equation.now)
     c.args.equation.now.code.items c.loop-place.place _ c.loop-place.pass.open_loops c.step.new.self.open_loops
     c.loop-place.pass.table.items c.step.new.self.table.items _
     (op_here c.deref-instruction-items.result.now c.args.equation.now.code.items c.loop-place.place op.End c.deref-instruction-items.ensures.value c.loop-place-test.true)
@@ -27,7 +26,7 @@ loop-place-preserved c =
 pub returns-in-Err-clause-refused : goal.returns-in-Err-clause-refused
 returns-in-Err-clause-refused c =
     let refused =
-    passes_not (program_in c.args.sorts.now (map vec_items c.args.callees.now) c.args.equation.now)
+    passes_not (program_in c.args.sorts.now c.args.callees.now c.args.equation.now)
     c.args.equation.now.code.items c.loop-place.place _ c.loop-place.pass.open_loops c.loop-place.pass.table.items _
     (op_here c.deref-instruction-items.result.now c.args.equation.now.code.items c.loop-place.place op.End c.deref-instruction-items.ensures.value c.loop-place-test.true)
     in
@@ -36,6 +35,6 @@ returns-in-Err-clause-refused c =
 pub returns-clause-passes : goal.returns-clause-passes
 returns-clause-passes c =
     let past : length c.args.equation.now.code.items ≤ c.loop-place.place = omega (arith, c.loop-place-test.false, ap length c.deref-instruction-items.ensures.value) in
-    passes_end (program_in c.args.sorts.now (map vec_items c.args.callees.now) c.args.equation.now)
+    passes_end (program_in c.args.sorts.now c.args.callees.now c.args.equation.now)
     c.args.equation.now.code.items c.loop-place.place c.loop-place.pass.open_loops c.loop-place.pass.table.items _
     past c.loop-place.invariant

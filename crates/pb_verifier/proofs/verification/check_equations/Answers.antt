@@ -1,5 +1,5 @@
 use Rattle.std.proofs.Common.{◌≡◌, Some, refl, ◌∙◌, subst, inl, inr, arith}
-use Rattle.std.specs.Prelude.{map, slice_get, vec_items}
+use Rattle.std.specs.Prelude.{slice_get}
 use Rattle.std.proofs.lemmas.Bool.{cases_lt}
 use Rattle.std.proofs.lemmas.Option.{slice_get_read, slice_get_within, get_or_from_slice_get}
 use Rattle.pb_base.proofs.Faults.{if_raised}
@@ -25,7 +25,7 @@ loop-number-preserved c = λ k e lt there.
           let found = c.index-equations-number.result in
           let same = c.index-equations-number.is
           ∙ get_or_from_slice_get c.args.equations.now c.loop-number.number e found read in
-          let callees = map vec_items c.args.callees.now in
+          let callees = c.args.callees.now in
           subst (λ x. HasTable (program_in c.args.sorts.now callees x)) same c.in-Ok.ensures.accepted
     ]
 

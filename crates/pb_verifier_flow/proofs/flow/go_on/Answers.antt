@@ -1,6 +1,5 @@
 -- Each arm's instruction does what its function says.
 use Rattle.std.proofs.Common.{◌≡◌, map, of_z, rules, to_z, w64}
-use Rattle.std.specs.Prelude.{vec_items}
 use Rattle.std.proofs.lemmas.Result.{err_from_is_err_and}
 use Rattle.pb_verifier_flow.proofs.Dispatch.{goes, goes_int, fails, fails_int, goes_on, fails_on, goes_enum, fails_enum, named, named_on, named_enum}
 use Rattle.pb_verifier_flow.proofs.flow.go_on.Goals as goal
@@ -102,50 +101,50 @@ returns-in_err-emit-in-Emit-clause-refused c =
     rw (p.1, p.2) (fails_on _ _ c.args.state.now _ c.args.op c.in-Emit.is c.in_err-emit-in-Emit.ensures.err)
 
 pub returns-in-Get-clause-rule : goal.returns-in-Get-clause-rule
-returns-in-Get-clause-rule c = named c.args.sorts.now (map vec_items c.args.callees.now) c.args.state.now _ c.args.op c.get.result c.in-Get.is c.get.ensures.rule
+returns-in-Get-clause-rule c = named c.args.sorts.now c.args.callees.now c.args.state.now _ c.args.op c.get.result c.in-Get.is c.get.ensures.rule
 
 pub returns-in-Arithmetic-clause-rule : goal.returns-in-Arithmetic-clause-rule
-returns-in-Arithmetic-clause-rule c = named c.args.sorts.now (map vec_items c.args.callees.now) c.args.state.now _ c.args.op c.arithmetic.result c.in-Arithmetic.is c.arithmetic.ensures.rule
+returns-in-Arithmetic-clause-rule c = named c.args.sorts.now c.args.callees.now c.args.state.now _ c.args.op c.arithmetic.result c.in-Arithmetic.is c.arithmetic.ensures.rule
 
 pub returns-in-Negate-clause-rule : goal.returns-in-Negate-clause-rule
-returns-in-Negate-clause-rule c = named c.args.sorts.now (map vec_items c.args.callees.now) c.args.state.now _ c.args.op c.negate.result c.in-Negate.is c.negate.ensures.rule
+returns-in-Negate-clause-rule c = named c.args.sorts.now c.args.callees.now c.args.state.now _ c.args.op c.negate.result c.in-Negate.is c.negate.ensures.rule
 
 pub returns-in-Absolute-clause-rule : goal.returns-in-Absolute-clause-rule
-returns-in-Absolute-clause-rule c = named c.args.sorts.now (map vec_items c.args.callees.now) c.args.state.now _ c.args.op c.absolute.result c.in-Absolute.is c.absolute.ensures.rule
+returns-in-Absolute-clause-rule c = named c.args.sorts.now c.args.callees.now c.args.state.now _ c.args.op c.absolute.result c.in-Absolute.is c.absolute.ensures.rule
 
 pub returns-in-Compare-clause-rule : goal.returns-in-Compare-clause-rule
-returns-in-Compare-clause-rule c = named c.args.sorts.now (map vec_items c.args.callees.now) c.args.state.now _ c.args.op c.compare.result c.in-Compare.is c.compare.ensures.rule
+returns-in-Compare-clause-rule c = named c.args.sorts.now c.args.callees.now c.args.state.now _ c.args.op c.compare.result c.in-Compare.is c.compare.ensures.rule
 
 pub returns-in-Equality-clause-rule : goal.returns-in-Equality-clause-rule
-returns-in-Equality-clause-rule c = named c.args.sorts.now (map vec_items c.args.callees.now) c.args.state.now _ c.args.op c.equality.result c.in-Equality.is c.equality.ensures.rule
+returns-in-Equality-clause-rule c = named c.args.sorts.now c.args.callees.now c.args.state.now _ c.args.op c.equality.result c.in-Equality.is c.equality.ensures.rule
 
 pub returns-in-Not-clause-rule : goal.returns-in-Not-clause-rule
-returns-in-Not-clause-rule c = named c.args.sorts.now (map vec_items c.args.callees.now) c.args.state.now _ c.args.op c.negation.result c.in-Not.is c.negation.ensures.rule
+returns-in-Not-clause-rule c = named c.args.sorts.now c.args.callees.now c.args.state.now _ c.args.op c.negation.result c.in-Not.is c.negation.ensures.rule
 
 pub returns-in-Logic-clause-rule : goal.returns-in-Logic-clause-rule
-returns-in-Logic-clause-rule c = named c.args.sorts.now (map vec_items c.args.callees.now) c.args.state.now _ c.args.op c.logic.result c.in-Logic.is c.logic.ensures.rule
+returns-in-Logic-clause-rule c = named c.args.sorts.now c.args.callees.now c.args.state.now _ c.args.op c.logic.result c.in-Logic.is c.logic.ensures.rule
 
 pub returns-in-PushEnum-clause-rule : goal.returns-in-PushEnum-clause-rule
 returns-in-PushEnum-clause-rule c =
-    named_enum c.args.sorts.now (map vec_items c.args.callees.now) c.args.state.now c.in-PushEnum.sort c.in-PushEnum.index
+    named_enum c.args.sorts.now c.args.callees.now c.args.state.now c.in-PushEnum.sort c.in-PushEnum.index
     c.args.op c.push_enum.result c.in-PushEnum.is c.push_enum.ensures.rule
 
 pub returns-in_err-pop-in-Pop-clause-rule : goal.returns-in_err-pop-in-Pop-clause-rule
 returns-in_err-pop-in-Pop-clause-rule c =
     let p = err_from_is_err_and c.from_residual.result c.from_residual.ensures.1 in
-    rw (p.1, p.2) (named_on c.args.sorts.now (map vec_items c.args.callees.now) c.args.state.now _ c.args.op _ c.in-Pop.is c.in_err-pop-in-Pop.ensures.rule)
+    rw (p.1, p.2) (named_on c.args.sorts.now c.args.callees.now c.args.state.now _ c.args.op _ c.in-Pop.is c.in_err-pop-in-Pop.ensures.rule)
 
 pub returns-in_err-open-in-Open-clause-rule : goal.returns-in_err-open-in-Open-clause-rule
 returns-in_err-open-in-Open-clause-rule c =
     let p = err_from_is_err_and c.from_residual-in_err-open-in-Open.result c.from_residual-in_err-open-in-Open.ensures.1 in
-    rw (p.1, p.2) (named_on c.args.sorts.now (map vec_items c.args.callees.now) c.args.state.now _ c.args.op _ c.in-Open.is c.in_err-open-in-Open.ensures.rule)
+    rw (p.1, p.2) (named_on c.args.sorts.now c.args.callees.now c.args.state.now _ c.args.op _ c.in-Open.is c.in_err-open-in-Open.ensures.rule)
 
 pub returns-in_err-close-in-Close-clause-rule : goal.returns-in_err-close-in-Close-clause-rule
 returns-in_err-close-in-Close-clause-rule c =
     let p = err_from_is_err_and c.from_residual-in_err-close-in-Close.result c.from_residual-in_err-close-in-Close.ensures.1 in
-    rw (p.1, p.2) (named_on c.args.sorts.now (map vec_items c.args.callees.now) c.args.state.now _ c.args.op _ c.in-Close.is c.in_err-close-in-Close.ensures.rule)
+    rw (p.1, p.2) (named_on c.args.sorts.now c.args.callees.now c.args.state.now _ c.args.op _ c.in-Close.is c.in_err-close-in-Close.ensures.rule)
 
 pub returns-in_err-emit-in-Emit-clause-rule : goal.returns-in_err-emit-in-Emit-clause-rule
 returns-in_err-emit-in-Emit-clause-rule c =
     let p = err_from_is_err_and c.from_residual-in_err-emit-in-Emit.result c.from_residual-in_err-emit-in-Emit.ensures.1 in
-    rw (p.1, p.2) (named_on c.args.sorts.now (map vec_items c.args.callees.now) c.args.state.now _ c.args.op _ c.in-Emit.is c.in_err-emit-in-Emit.ensures.rule)
+    rw (p.1, p.2) (named_on c.args.sorts.now c.args.callees.now c.args.state.now _ c.args.op _ c.in-Emit.is c.in_err-emit-in-Emit.ensures.rule)
