@@ -16,7 +16,7 @@ use Rattle.pb_model_meaning.specs.Syntax as model
 use Rattle.pb_model_meaning.specs.Erase as model_text
 use Rattle.pb_model_spelling.specs.Protocols.{FormulaWritable, PropertyWritable, ProtocolWritable}
 use Rattle.pb_model_spelling.specs.Writable.{ModalWritable, ModelWritable}
-use Rattle.pb_protocol_spelling.specs.Laws.{FlatFormulasAreWritable, FlatModelsAreWritable}
+use Rattle.pb_protocol_spelling.specs.Laws.{FlatFormulasAreWritable}
 use Rattle.pb_model_places.specs.Apart.{lines_from}
 use Rattle.pb_model_places.specs.Apart.{formula_places}
 use Rattle.pb_model_runs.specs.Exact as model_places
@@ -40,12 +40,13 @@ use Rattle.pb_protocol_unfolder.specs.Plain.{is_plain}
 use Rattle.pb_protocol_unfolder.specs.Places as unfolded_places
 use Rattle.pb_protocol_unfolder.specs.Unfolded.{flat_name, property_name}
 use Rattle.pb_protocol_tree.specs.declared.protocol.Property.{Property as DeclaredProperty}
-use Rattle.pb_protocol_solved.specs.Laws.{UnfoldedModelsAreSolved, model_property_names, property_names}
+use Rattle.pb_protocol_solved.specs.Laws.{model_property_names, property_names}
 use Rattle.pb_model_properties.specs.declared.error.ModelFault.{ModelFault}
 use Rattle.pb_model_properties.specs.declared.error.ModelFault.TheVariants as model_fault
 use Rattle.pb_model_properties.specs.declared.solved.ToldNames.{ToldNames}
 use Rattle.pb_model_properties.specs.Faults.{as_model_fault}
 use Rattle.pb_model_properties.specs.Flat.{IsFlatModelFor, IsUnfoldedTo}
+use Rattle.pb_model_properties.specs.Laws.{ModelsStandForProtocols}
 use Rattle.pb_model_properties.specs.Refusals.{IsRefusedProtocol, told_at, told_place}
 use Rattle.pb_model_properties.specs.Refusals.{step_place as step_place_of}
 use Rattle.pb_model_properties.specs.Solvable.{CanBeSolved}
@@ -124,19 +125,13 @@ first_named [] qs e (p, at) = absurd (cc at)
 first_named (p ∷ ps) [] e first = absurd (cc e)
 first_named (p ∷ ps) (q ∷ qs) e first = (q, refl)
 
--- the laws that say that a flat model may be solved and told
-pub record Laws : Type 0 where
-  pub solved : UnfoldedModelsAreSolved
-  pub models : FlatModelsAreWritable
-  pub formulas : FlatFormulasAreWritable
-
-pub unfolded_is_flat : Laws → (protocol : ProtocolForm) (u : Unfolded) → CanBeSolved protocol → IsUnfoldedTo protocol u → IsFlatModelFor protocol (model_form u.model)
+pub unfolded_is_flat : ModelsStandForProtocols → (protocol : ProtocolForm) (u : Unfolded) → CanBeSolved protocol → IsUnfoldedTo protocol u → IsFlatModelFor protocol (model_form u.model)
 unfolded_is_flat laws protocol u solvable is =
     let names = names_said u.model.properties.items ∙ is.names in
     let steps = places_said u.model.steps.items ∙ (is.steps ∙ numbered 0 (length u.model.steps.items)) in
     record {
       from = inr is.meaning;
-      solved = laws.solved protocol (model_form u.model) is.hides_nothing is.meaning names;
+      solved = laws.unfolded protocol (model_form u.model) is.hides_nothing is.meaning names;
       first = first_named protocol.properties (model_form u.model).properties names solvable.first;
       apart = λ q among.
           let from = is.places q among in

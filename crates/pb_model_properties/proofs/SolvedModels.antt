@@ -26,15 +26,14 @@ use Rattle.pb_protocol_groups.specs.Checks.{IsPackingFault}
 use Rattle.pb_protocol_groups.specs.Places.{named_properties, property_places}
 use Rattle.pb_protocol_groups.specs.Sizes.{size_faults}
 use Rattle.pb_protocol_spelling.specs.FewValues.{HasFewValues}
-use Rattle.pb_protocol_spelling.specs.Laws.{GroupsHaveFewValues, PackedFormulasAreWritable, PackedModelsAreWritable}
 use Rattle.pb_protocol_tree.specs.Form.{ProtocolForm}
-use Rattle.pb_protocol_solved.specs.Laws.{PackedModelsAreSolved}
 use Rattle.pb_model_properties.specs.declared.error.ModelFault.{ModelFault}
 use Rattle.pb_model_properties.specs.declared.error.ModelFault.TheVariants as model_fault
 use Rattle.pb_model_properties.specs.declared.solved.SolvedModel.{SolvedModel}
 use Rattle.pb_model_properties.specs.declared.solved.ToldNames.{ToldNames}
 use Rattle.pb_model_properties.specs.declared.solved.UnpackedModel.{UnpackedModel}
 use Rattle.pb_model_properties.specs.Flat.{IsFlatModelFor}
+use Rattle.pb_model_properties.specs.Laws.{ModelsStandForProtocols}
 use Rattle.pb_model_properties.specs.Made.{IsFlatOf, IsMadeOf, has_many_variables}
 use Rattle.pb_model_properties.specs.Refusals.{IsRefusedFlat, IsRefusedProtocol, told_fault}
 use Rattle.pb_model_properties.specs.Words.{AreNamesOf, IsSolvedFlat, IsToldModel}
@@ -67,14 +66,6 @@ flat_told said m t names few kept typed protocol is called =
 
 -- ---- the flat model packed
 
--- the laws by which a packed model is solved
-pub record Laws : Type 0 where
-  pub solved : PackedModelsAreSolved
-  pub models : PackedModelsAreWritable
-  pub formulas : PackedFormulasAreWritable
-  pub few : GroupsHaveFewValues
-  pub said : TranslationsCanBeSaid
-
 -- what a model is packed to
 pub record IsPackedTo (m n : ModelForm) : Type 0 where
   pub packable : IsPackable (model_text.erase m)
@@ -84,7 +75,7 @@ pub record IsPackedTo (m n : ModelForm) : Type 0 where
   pub places : property_places n ≡ property_places m
   pub few : size_faults m ≡ []
 
-pub packed_told : Laws → (u : UnpackedModel) (n : Model) (t : TypedModel) (names : Option ToldNames) → has_many_variables (model_form u.model) ≡ true → t.model ≡ n
+pub packed_told : ModelsStandForProtocols → (u : UnpackedModel) (n : Model) (t : TypedModel) (names : Option ToldNames) → has_many_variables (model_form u.model) ≡ true → t.model ≡ n
     → IsTypedModel (model_form n)
     → IsPackedTo (model_form u.model) (model_form n) → groups_in u.groups.items ≡ groups_of (model_text.erase (model_form u.model))
     → IsSolvedFlat (model_form u.model) names (record { typed = t; names = names; unpacked = Some u })
@@ -93,16 +84,16 @@ packed_told laws u n t names many kept typed is_packed groups protocol is called
     let M = model_text.erase m in
     let to : IsPackedTo m (model_form t.model) = subst (λ (x : Model). IsPackedTo m (model_form x)) (sym kept) is_packed in
     let few : Each HasFewValues (groups_of M) = laws.few m to.few in
-    let writable : ModelWritable (model_text.erase (model_form t.model)) = subst ModelWritable (sym to.meaning) (laws.models M few is.writable) in
+    let writable : ModelWritable (model_text.erase (model_form t.model)) = subst ModelWritable (sym to.meaning) (laws.packed_models M few is.writable) in
     let words : All HasWords (model_form t.model).properties =
-    all_packed (groups_of M) (λ f has. laws.formulas M f few is.writable has) m.properties (model_form t.model).properties
+    all_packed (groups_of M) (λ f has. laws.packed_formulas M f few is.writable has) m.properties (model_form t.model).properties
     (ap (λ (x : model.Model). x.properties) to.meaning) (all_of HasWords m.properties is.formulas) in
     let apart : All (StandsApart (model_form t.model)) (model_form t.model).properties =
     all_apart m (model_form t.model) to.steps m.properties (model_form t.model).properties to.places (all_of (StandsApart m) m.properties is.apart) in
     record {
       is_for = record {
         made = record { flat = m; from = is.from; is_packed = true; where_many = sym many; made = (to.packable, to.meaning) };
-        solved = laws.solved protocol m (model_form t.model) is.solved to.packable to.meaning to.names;
+        solved = laws.packed protocol m (model_form t.model) is.solved to.packable to.meaning to.names;
         typed = subst (λ (x : Model). IsTypedModel (model_form x)) (sym kept) typed;
         first = first_kept m.properties (model_form t.model).properties to.names is.first;
         apart = λ p among. All-contains (StandsApart (model_form t.model)) (model_form t.model).properties p apart among;

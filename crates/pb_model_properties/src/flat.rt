@@ -10,16 +10,12 @@ ghost use Rattle.pb_model_properties.specs.Words.{IsSolvedFlat};
 
 use crate::count::is_flat_state_large;
 use crate::error::ModelError;
+use crate::laws::models_stand_for_protocols;
 use crate::solved::{SolvedModel, ToldNames, UnpackedModel};
 use crate::told::told_error;
-use pb_model_spelling::translations_can_be_said;
 use pb_model_tree::Model;
 use pb_model_typing::check_model;
 use pb_protocol_groups::pack_checked;
-use pb_protocol_solved::packed_models_are_solved;
-use pb_protocol_spelling::{
-    packed_formulas_are_writable, packed_groups_have_few_values, packed_models_are_writable,
-};
 use std::alloc::Global;
 
 /// A flat model as it is, checked.
@@ -32,7 +28,7 @@ fn as_it_is(
     ensures model { IfOk result (IsSolvedFlat (model_form model) names) }
     ensures refused { IfRefused result (IsRefusedFlat (model_form model)) }
 {
-    translations_can_be_said();
+    models_stand_for_protocols();
     match check_model(alloc, model) {
         Ok(typed) => Ok(SolvedModel {
             typed,
@@ -49,11 +45,7 @@ fn packed(alloc: Global, model: Model, names: Option<ToldNames>) -> Result<Solve
     ensures model { IfOk result (IsSolvedFlat (model_form model) names) }
     ensures refused { IfRefused result (IsRefusedFlat (model_form model)) }
 {
-    translations_can_be_said();
-    packed_models_are_solved();
-    packed_models_are_writable();
-    packed_formulas_are_writable();
-    packed_groups_have_few_values();
+    models_stand_for_protocols();
     let packed = match pack_checked(alloc, &model) {
         Ok(packed) => packed,
         Err(error) => return Err(told_error(&names, error)),

@@ -13,12 +13,9 @@ ghost use Rattle.pb_model_properties.specs.Words.{IsToldModel};
 use crate::count::is_state_large;
 use crate::error::ModelError;
 use crate::flat::flat_solved;
+use crate::laws::models_stand_for_protocols;
 use crate::solved::SolvedModel;
-use pb_model_places::read_protocols_stand_apart;
-use pb_model_spelling::translations_can_be_said;
-use pb_model_typing::{check_model, names_are_apart};
-use pb_protocol_laws::plain_protocols_are_plain;
-use pb_protocol_solved::flat_models_are_solved;
+use pb_model_typing::check_model;
 use pb_protocol_tree::Protocol;
 use pb_protocol_typing::check_protocol;
 use pb_protocol_unfolder::plain_model;
@@ -32,10 +29,7 @@ fn as_it_is(alloc: Global, protocol: Protocol) -> Result<SolvedModel, ModelError
     ensures model { IfOk result (IsToldModel (protocol_form protocol)) }
     ensures refused { IfRefused result (IsRefusedProtocol (protocol_form protocol)) }
 {
-    read_protocols_stand_apart();
-    translations_can_be_said();
-    flat_models_are_solved();
-    names_are_apart();
+    models_stand_for_protocols();
     let model = plain_model(alloc, protocol)?;
     match check_model(alloc, model) {
         Ok(typed) => Ok(SolvedModel {
@@ -55,9 +49,7 @@ fn packed(alloc: Global, protocol: Protocol) -> Result<SolvedModel, ModelError>
     ensures model { IfOk result (IsToldModel (protocol_form protocol)) }
     ensures refused { IfRefused result (IsRefusedProtocol (protocol_form protocol)) }
 {
-    read_protocols_stand_apart();
-    flat_models_are_solved();
-    plain_protocols_are_plain();
+    models_stand_for_protocols();
     match check_protocol(alloc, &protocol) {
         Ok(()) => (),
         Err(error) => return Err(error.raise()),

@@ -11,11 +11,9 @@ ghost use Rattle.pb_model_properties.specs.Words.{IsToldModel};
 
 use crate::error::ModelError;
 use crate::flat::flat_solved;
+use crate::laws::models_stand_for_protocols;
 use crate::solved::{SolvedModel, ToldNames};
 use crate::told::{names_of, places_of};
-use pb_protocol_laws::enumerators_are_apart;
-use pb_protocol_solved::flat_models_are_solved;
-use pb_protocol_spelling::{flat_formulas_are_writable, flat_models_are_writable};
 use pb_protocol_tree::Protocol;
 use pb_protocol_typing::check_protocol;
 use pb_protocol_unfolder::{Unfolded, unfold};
@@ -27,7 +25,7 @@ fn flat(alloc: Global, protocol: &Protocol) -> Result<Unfolded, ModelError>
     ensures flat { IfOk result (IsUnfoldedTo (protocol_form protocol.now)) }
     ensures refused { IfRefused result (IsRefusedProtocol (protocol_form protocol.now)) }
 {
-    enumerators_are_apart();
+    models_stand_for_protocols();
     match check_protocol(alloc, protocol) {
         Ok(()) => (),
         Err(error) => return Err(error.raise()),
@@ -45,9 +43,7 @@ pub(crate) fn unfolded_solved(alloc: Global, protocol: &Protocol) -> Result<Solv
     ensures model { IfOk result (IsToldModel (protocol_form protocol.now)) }
     ensures refused { IfRefused result (IsRefusedProtocol (protocol_form protocol.now)) }
 {
-    flat_models_are_writable();
-    flat_formulas_are_writable();
-    flat_models_are_solved();
+    models_stand_for_protocols();
     let unfolded = flat(alloc, protocol)?;
     let origins = unfolded.steps;
     let steps = names_of(alloc, &origins)?;

@@ -6,7 +6,7 @@ use Rattle.pb_model_properties.proofs.flat.as_it_is.Goals as goal
 
 pub returns-in-Ok-clause-model : goal.returns-in-Ok-clause-model
 returns-in-Ok-clause-model c =
-    flat_told c.translations_can_be_said.ensures c.args.model c.in-Ok.typed c.args.names c.requires c.in-Ok.ensures.kept c.in-Ok.ensures.accepted
+    flat_told c.models_stand_for_protocols.ensures.said c.args.model c.in-Ok.typed c.args.names c.requires c.in-Ok.ensures.kept c.in-Ok.ensures.accepted
 
 pub returns-in-Err-clause-refused : goal.returns-in-Err-clause-refused
 returns-in-Err-clause-refused c =

@@ -1,5 +1,6 @@
 -- The flat model packed, accepted or not; or not packed.
 use Rattle.pb_model_tree.specs.Form.{model_form}
+use Rattle.pb_model_properties.specs.declared.solved.UnpackedModel.{UnpackedModel}
 use Rattle.pb_model_properties.specs.Refusals.{told_places}
 use Rattle.pb_model_properties.proofs.SolvedModels.{IsPackedTo, as_packed, ill_typed_told, not_packed_told, packed_told}
 use Rattle.pb_model_properties.proofs.flat.packed.Goals as goal
@@ -18,14 +19,9 @@ returns-in-Ok-check_model-clause-model c =
       places = c.in-Ok.ensures.places;
       few = c.in-Ok.ensures.few;
     } in
-    packed_told (record {
-      solved = c.packed_models_are_solved.ensures;
-      models = c.packed_models_are_writable.ensures;
-      formulas = c.packed_formulas_are_writable.ensures;
-      few = c.packed_groups_have_few_values.ensures;
-      said = c.translations_can_be_said.ensures;
-    }) (record { model = c.args.model; groups = c.in-Ok.packed.groups }) c.in-Ok.packed.model c.in-Ok-check_model.typed c.args.names c.requires c.in-Ok-check_model.ensures.kept
-    c.in-Ok-check_model.ensures.accepted to c.in-Ok.ensures.groups
+    let unpacked : UnpackedModel = record { model = c.args.model; groups = c.in-Ok.packed.groups } in
+    packed_told c.models_stand_for_protocols.ensures unpacked c.in-Ok.packed.model c.in-Ok-check_model.typed c.args.names c.requires
+    c.in-Ok-check_model.ensures.kept c.in-Ok-check_model.ensures.accepted to c.in-Ok.ensures.groups
 
 pub returns-in-Err-check_model-clause-refused : goal.returns-in-Err-check_model-clause-refused
 returns-in-Err-check_model-clause-refused c =

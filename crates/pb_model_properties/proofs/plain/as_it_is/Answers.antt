@@ -16,11 +16,11 @@ returns-in-Ok-clause-model c =
       words = c.in_ok-model.ensures.words;
       meaning = c.in_ok-model.ensures.meaning;
       solvable = c.requires.solvable;
-      kept = c.read_protocols_stand_apart.ensures.kept;
+      kept = c.models_stand_for_protocols.ensures.kept;
     } in
     let few : has_many_variables m ≡ false = plain_few protocol m c.in_ok-model.ensures.words c.requires.few in
-    let flat = plain_is_flat c.flat_models_are_solved.ensures.plain protocol m is (typed_is_plain c.names_are_apart.ensures m c.in-Ok.ensures.accepted) in
-    flat_told c.translations_can_be_said.ensures c.in_ok-model.model c.in-Ok.typed None few c.in-Ok.ensures.kept c.in-Ok.ensures.accepted protocol flat
+    let flat = plain_is_flat c.models_stand_for_protocols.ensures.plain protocol m is (typed_is_plain c.models_stand_for_protocols.ensures.names m c.in-Ok.ensures.accepted) in
+    flat_told c.models_stand_for_protocols.ensures.said c.in_ok-model.model c.in-Ok.typed None few c.in-Ok.ensures.kept c.in-Ok.ensures.accepted protocol flat
     (plain_names_of protocol m c.requires.plain)
 
 pub returns-in-Err-clause-refused : goal.returns-in-Err-clause-refused

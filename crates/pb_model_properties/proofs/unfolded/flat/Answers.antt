@@ -15,7 +15,7 @@ returns-in-Ok-unfold-clause-flat c =
     let keeps : protocol_faults protocol ≡ [] = c.in-Ok.ensures.accepted in
     record {
       meaning = c.in-Ok-unfold.ensures.model;
-      hides_nothing = c.in-Ok-unfold.ensures.hides_nothing (c.enumerators_are_apart.ensures protocol keeps);
+      hides_nothing = c.in-Ok-unfold.ensures.hides_nothing (c.models_stand_for_protocols.ensures.enumerators protocol keeps);
       names = c.in-Ok-unfold.ensures.names ∙ names_read c.args.protocol.now.properties.items;
       steps = c.in-Ok-unfold.ensures.places;
       places = c.in-Ok-unfold.ensures.formulas;

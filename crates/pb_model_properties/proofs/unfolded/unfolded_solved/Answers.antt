@@ -14,11 +14,7 @@ returns-clause-model c =
     let protocol = protocol_form c.args.protocol.now in
     let u = c.in_ok-unfolded.unfolded in
     let is = c.in_ok-unfolded.ensures.flat in
-    let flat = unfolded_is_flat (record {
-      solved = c.flat_models_are_solved.ensures.unfolded;
-      models = c.flat_models_are_writable.ensures;
-      formulas = c.flat_formulas_are_writable.ensures;
-    }) protocol u c.requires.solvable is in
+    let flat = unfolded_is_flat c.models_stand_for_protocols.ensures protocol u c.requires.solvable is in
     let steps = c.in_ok-steps.ensures ∙ ap (λ (xs : List StepOrigin). map origin_name xs) c.deref.ensures.value in
     let names : ToldNames = record { variables = u.variables; steps = c.in_ok-steps.steps; places = c.in_ok-places.places; impossible = u.impossible } in
     let called = unfolded_names protocol u names c.requires.unfolds is refl steps refl in
@@ -28,9 +24,5 @@ pub returns-clause-refused : goal.returns-clause-refused
 returns-clause-refused c =
     let protocol = protocol_form c.args.protocol.now in
     let u = c.in_ok-unfolded.unfolded in
-    let flat = unfolded_is_flat (record {
-      solved = c.flat_models_are_solved.ensures.unfolded;
-      models = c.flat_models_are_writable.ensures;
-      formulas = c.flat_formulas_are_writable.ensures;
-    }) protocol u c.requires.solvable c.in_ok-unfolded.ensures.flat in
+    let flat = unfolded_is_flat c.models_stand_for_protocols.ensures protocol u c.requires.solvable c.in_ok-unfolded.ensures.flat in
     refused_for protocol (model_form u.model) flat c.flat_solved.result c.flat_solved.ensures.refused
