@@ -1,9 +1,8 @@
 -- A tree of three tokens is a bracket around a leaf.
-use Rattle.std.proofs.Common.{◌≡◌, ℕ, ◌<◌, List, [], ◌∷◌, ◌++◌, length, length-append, get_or, Result, Ok, Err, refl, sym, ap, ◌∙◌, subst, arith}
-use Rattle.std.specs.Prelude.{OnOk}
+use Rattle.std.proofs.Common.{◌≡◌, ℕ, ◌<◌, List, [], ◌∷◌, ◌++◌, length, length-append, get_or, refl, sym, ap, ◌∙◌, subst, arith}
 use Rattle.pb_fixpoint_trees.specs.declared.Token.{Token}
 use Rattle.pb_fixpoint_trees.specs.declared.Token.TheVariants as token
-use Rattle.pb_fixpoint_trees.specs.Tree.{Connective, Leaf, Operands, End, LeafThen, BracketThen, Tree, Single, Root, LeafCalls, Yes, No, Cut, Call}
+use Rattle.pb_fixpoint_trees.specs.Tree.{Connective, Leaf, End, LeafThen, BracketThen, Tree, Single, Root, LeafCalls, Yes, No, Cut, Call}
 use Rattle.pb_fixpoint_trees.specs.Tokens.{opening, leaf_token, operands_tokens, tree_tokens}
 use Rattle.pb_game_of_trees.specs.Builder.{CallsBelow}
 

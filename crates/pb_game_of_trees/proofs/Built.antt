@@ -1,5 +1,6 @@
--- What is built from reached rows.
-use Rattle.std.proofs.Common.{◌≡◌, ℕ, ◌<◌, ◌≤◌, List, ◌∷◌, length, get_or, slice_index, sym, ap, ◌∙◌, subst, arith}
+-- What is built from the rows of a system, which have these trees.
+use Rattle.std.proofs.Common.{◌≡◌, ℕ, ◌<◌, ◌≤◌, List, ◌∷◌, length, get_or, slice_index, Contains, ap, ◌∙◌, subst, arith}
+use Rattle.std.specs.List.Sorted.{IsStrictlyIncreasing}
 use Rattle.std.proofs.lemmas.List.{get_or-map, length-map, get_or_default}
 use Rattle.pb_fixpoint_trees.specs.Tree.{Tree}
 use Rattle.pb_fixpoint_trees.specs.Equations.{Signature, total}
@@ -7,51 +8,70 @@ use Rattle.pb_fixpoint_trees.specs.Rows.{Row, IsReached}
 use Rattle.pb_fixpoint_trees.specs.Game.{Vertex, vertex_of, priority_from, row_vertices, false_sink, true_sink, game_vertices}
 use Rattle.pb_fixpoint_trees.specs.Laws.{GameIsTotal}
 use Rattle.pb_fixpoint_trees.proofs.Calls.{tree_weaker}
-use Rattle.pb_fixpoint_rows.specs.Row as in_memory
+use Rattle.pb_fixpoint_rows.specs.Row.{TokenRow}
+use Rattle.pb_fixpoint_rows.specs.Reached.{numbers_of, row_of, rows_of, AreRowsOf}
 use Rattle.pb_base.specs.declared.limits.TheConstants.{MAX_VERTICES}
-use Rattle.pb_game_of_trees.specs.Held.{held}
+use Rattle.pb_game_of_trees.specs.Held.{Hold}
 use Rattle.pb_game_of_trees.specs.declared.levels.Level.{Level}
 use Rattle.pb_game_of_trees.specs.Draft.{MakeGame}
 use Rattle.pb_game_of_trees.specs.Levels.{levels_from, priority_in}
-use Rattle.pb_game_of_trees.specs.Places.{vertex_behind, vertices_from, numbers, CallBelow}
-use Rattle.pb_game_of_trees.proofs.Reached.{AreReached}
+use Rattle.pb_game_of_trees.specs.Places.{vertex_behind, numbers, CallBelow, IsSizeOf, ArePlacesOf}
+use Rattle.pb_game_of_trees.proofs.Reached.{AreReached, found_row, reached_of}
 use Rattle.pb_game_of_trees.proofs.EquationLevels.{priority_in-levels}
 use Rattle.pb_game_of_trees.proofs.LowPriorities.{low_vertices}
 use Rattle.pb_game_of_trees.proofs.Vertices.{none, IsTable, table_at, rows_same, length-row_vertices, length-vertices_from}
 
-module _ (signatures : List Signature) (trees : ℕ → Tree) (rows : List in_memory.TokenRow) (reached : List Row) (are : AreReached signatures trees rows reached) where
-  pub count_rows : length reached ≡ length rows
-  count_rows = sym (ap length are.held ∙ length-map reached held)
+module _ {signatures : List Signature} {trees : ℕ → Tree} {rows : List TokenRow} (of : AreRowsOf signatures trees rows) where
+  abbrev reached : List Row
+  reached = rows_of trees rows
 
-  pub count_vertices : (vertices : List ℕ) → vertices ≡ vertices_from reached 2 → length vertices ≡ length rows
-  count_vertices vertices e = ap length e ∙ (length-vertices_from reached 2 ∙ count_rows)
+  pub are : AreReached signatures trees rows (rows_of trees rows)
+  are = reached_of trees signatures rows of
 
-  pub number_below : (k : ℕ) → k < length reached → slice_index (numbers reached) k < total signatures
+  pub hold : Hold rows (rows_of trees rows)
+  hold = are.held
+
+  pub count_vertices : {xs vertices : List ℕ} → xs ≡ vertices → ArePlacesOf rows vertices → length xs ≡ length rows
+  count_vertices e places = ap length (e ∙ places reached hold) ∙ (length-vertices_from reached 2 ∙ length-map rows (row_of trees))
+
+  number_below : (k : ℕ) → k < length reached → slice_index (numbers reached) k < total signatures
   number_below k l =
       let row = get_or reached k none in
-      let below = are.are.below row (k, l, get_or_default reached k row none l) in
+      let below = of.system.below row (k, l, get_or_default reached k row none l) in
       omega (arith, below, get_or-map (λ (x : Row). x.number) reached k none 0 l)
 
-  pub reached_below : (n : ℕ) → IsReached reached n → n < total signatures
-  reached_below n is = subst (λ (m : ℕ). m < total signatures) is.2 (are.are.below is.0 is.1)
+  pub rows_numbered : {count : ℕ} → count ≡ total signatures → (plain : List Row) × Hold rows plain × IsStrictlyIncreasing (numbers plain)
+      × ((k : ℕ) → k < length plain → slice_index (numbers plain) k < count)
+  rows_numbered e = (reached, hold, are.rising, λ k l. omega (arith, number_below k l, e))
 
-  pub call_below : (count : ℕ) → count ≡ total signatures → CallBelow count reached
-  call_below count e = λ row contains.
-      tree_weaker (IsReached reached) (λ n. n < count) (λ n is. omega (arith, reached_below n is, e)) row.tree (are.are.closed row contains)
+  reached_below : (n : ℕ) → IsReached reached n → n < total signatures
+  reached_below n is = subst (λ (m : ℕ). m < total signatures) is.2 (of.system.below is.0 is.1)
 
-  pub built : (table : List ℕ) (levels : List Level) → IsTable table reached → levels ≡ levels_from 0 signatures →
-      false_sink ∷ (true_sink ∷ row_vertices (slice_index table) (priority_in levels) reached 2) ≡ game_vertices signatures reached
-  built table levels is e =
+  pub found_below : (n : ℕ) → Contains (numbers_of rows) n → n < total signatures
+  found_below n found = reached_below n (found_row trees rows n found)
+
+  pub rows_sized : {size count : ℕ} → IsSizeOf rows size → count ≡ total signatures →
+      (plain : List Row) × Hold rows plain × (size ≡ vertex_behind plain 2) × CallBelow count plain
+  rows_sized {count} size e =
+      let closed : CallBelow count (rows_of trees rows) = λ row contains.
+      tree_weaker (IsReached reached) (λ n. n < count) (λ n is. omega (arith, reached_below n is, e)) row.tree (of.system.closed row contains) in
+      (reached, hold, size reached hold, closed)
+
+  pub built : {table : List ℕ} {levels : List Level} → IsTable table (rows_of trees rows) → levels ≡ levels_from 0 signatures →
+      false_sink ∷ (true_sink ∷ row_vertices (slice_index table) (priority_in levels) (rows_of trees rows) 2) ≡ game_vertices signatures (rows_of trees rows)
+  built {table} {levels} is e =
       ap (λ (xs : List Vertex). false_sink ∷ (true_sink ∷ xs))
       (rows_same (slice_index table) (vertex_of reached) (IsReached reached) (table_at table reached is are.rising) (priority_in levels) (priority_from 0 signatures)
-      (λ n. ap (λ (ls : List Level). priority_in ls n) e ∙ priority_in-levels 0 signatures n) reached 2 are.are.closed)
+      (λ n. ap (λ (ls : List Level). priority_in ls n) e ∙ priority_in-levels 0 signatures n) reached 2 of.system.closed)
 
-  pub size_is : length (game_vertices signatures reached) ≡ vertex_behind reached 2
+  pub size_is : length (game_vertices signatures (rows_of trees rows)) ≡ vertex_behind (rows_of trees rows) 2
   size_is = omega (arith, length-row_vertices (vertex_of reached) (priority_from 0 signatures) reached 2)
 
-  pub makes_game : GameIsTotal → length signatures < 256 → vertex_behind reached 2 ≤ MAX_VERTICES → MakeGame (game_vertices signatures reached)
-  makes_game total_game few small = record {
-    few = omega (arith, size_is);
-    each = total_game signatures trees reached are.are;
-    low = λ v x e. omega (arith, low_vertices signatures reached 255 (omega arith) (omega (arith, few)) v x e);
-  }
+  pub makes_game : {size : ℕ} → GameIsTotal → length signatures < 256 → IsSizeOf rows size → size ≤ MAX_VERTICES → MakeGame (game_vertices signatures (rows_of trees rows))
+  makes_game total_game few size small =
+      let fits : vertex_behind reached 2 ≤ MAX_VERTICES = omega (arith, size reached hold, small) in
+      record {
+        few = omega (arith, size_is, fits);
+        each = total_game signatures trees reached of.system;
+        low = λ v x e. omega (arith, low_vertices signatures reached 255 (omega arith) (omega (arith, few)) v x e);
+      }

@@ -85,13 +85,13 @@ rest_none tokens tree e =
     let size : length tokens - 1 ≡ length (rest_tokens (opened tree)) = omega (arith, ap length e, length-tree_tokens tree) in
     ap (λ (k : ℕ). rest_at k (opened tree)) size ∙ rest_at-all (opened tree)
 
-pub rest_step : (k : ℕ) (fs : List Operands) → 1 < k → rest_at (k - 1) fs ≡ behind_first (rest_at (k - 1 - 1) fs)
+rest_step : (k : ℕ) (fs : List Operands) → 1 < k → rest_at (k - 1) fs ≡ behind_first (rest_at (k - 1 - 1) fs)
 rest_step k fs l = let e : k - 1 ≡ suc (k - 1 - 1) = omega arith in ap (λ (j : ℕ). rest_at j fs) e
 
-pub rest_first : (k : ℕ) (fs : List Operands) → k ≤ 1 → rest_at (k - 1) fs ≡ fs
+rest_first : (k : ℕ) (fs : List Operands) → k ≤ 1 → rest_at (k - 1) fs ≡ fs
 rest_first k fs l = let e : k - 1 ≡ 0 = omega arith in ap (λ (j : ℕ). rest_at j fs) e
 
-pub first_behind : (tokens : List Token) (tree : Tree) (k : ℕ) (d : Token) → tokens ≡ tree_tokens tree → 1 < k → k ≤ length tokens →
+first_behind : (tokens : List Token) (tree : Tree) (k : ℕ) (d : Token) → tokens ≡ tree_tokens tree → 1 < k → k ≤ length tokens →
     first_token (rest_at (k - 1 - 1) (opened tree)) ≡ Some (get_or tokens (k - 1) d)
 first_behind tokens tree k d e l h =
     let j : k - 1 ≡ suc (k - 1 - 1) = omega arith in
@@ -103,11 +103,24 @@ first_of_tree : (tree : Tree) (d : Token) → slice_get (tree_tokens tree) 0 ≡
 first_of_tree (Single l) d = refl
 first_of_tree (Root c f) d = refl
 
-pub first_is : (tokens : List Token) (tree : Tree) (d : Token) → tokens ≡ tree_tokens tree → slice_get (tree_tokens tree) 0 ≡ Some (get_or tokens 0 d)
+first_is : (tokens : List Token) (tree : Tree) (d : Token) → tokens ≡ tree_tokens tree → slice_get (tree_tokens tree) 0 ≡ Some (get_or tokens 0 d)
 first_is tokens tree d e = first_of_tree tree d ∙ ap (λ (xs : List Token). Some (get_or xs 0 d)) (sym e)
 
--- each token comes before some vertex
-pub some_next : (at : ℕ → ℕ) (start builder : Builder) (tree : Tree) (behind : List Vertex) (limit j : ℕ) → IsAt at start [] behind limit →
-    inner tree < start.next → IsAt at builder (rest_at j (opened tree)) behind limit → 0 < builder.next
-some_next at start builder tree behind limit j begins less is =
-    omega (arith, begins.reaches, is.reaches, rest_brackets-at j (opened tree), opened-brackets tree)
+-- what stands behind the token at k of a tree, and behind its first one
+module _ {at : ℕ → ℕ} {builder : Builder} {behind : List Vertex} {limit : ℕ} (tokens : List Token) (tree : Tree) (spelled : tokens ≡ tree_tokens tree) (k : ℕ)
+    (is : IsAt at builder (rest_at (k - 1) (opened tree)) behind limit) where
+  -- each token comes before some vertex
+  pub some_next : {start : Builder} → IsAt at start [] behind limit → inner tree < start.next → 0 < builder.next
+  some_next begins less = omega (arith, begins.reaches, less, is.reaches, rest_brackets-at (k - 1) (opened tree), opened-brackets tree)
+
+  pub before_token : 1 < k → k ≤ length tokens → IsBefore at builder (rest_at (k - 1 - 1) (opened tree)) (get_or tokens (k - 1) token.And) behind limit
+  before_token more within = record {
+    first = first_behind tokens tree k token.And spelled more within;
+    rest = subst (λ (fs : List Operands). IsAt at builder fs behind limit) (rest_step k (opened tree) more) is;
+  }
+
+  pub before_first : k ≤ 1 → IsBeforeFirst at builder tree (get_or tokens 0 token.And) behind limit
+  before_first last = record {
+    first = first_is tokens tree token.And spelled;
+    rest = subst (λ (fs : List Operands). IsAt at builder fs behind limit) (rest_first k (opened tree) last) is;
+  }

@@ -1,92 +1,89 @@
-use Rattle.std.proofs.Common.{◌≡◌, ℕ, suc, ◌+◌, ◌-◌, List, [], ◌++◌, length, take, drop, sym, ap, ◌∙◌, subst, slice_index, get_or, arith}
-use Rattle.std.proofs.lemmas.List.{take_all, drop_all, length-map}
+use Rattle.std.proofs.Common.{◌≡◌, ℕ, ◌-◌, List, [], take, drop, sym, ap, ◌∙◌, subst, slice_index, get_or, arith}
+use Rattle.std.proofs.lemmas.List.{take_all, drop_all}
 use Rattle.pb_fixpoint_trees.specs.Rows.{Row}
 use Rattle.pb_fixpoint_rows.specs.Row.{nothing}
-use Rattle.pb_fixpoint_trees.specs.Game.{inner, row_vertices, tree_vertices}
-use Rattle.pb_game_of_trees.specs.Held.{held}
+use Rattle.pb_fixpoint_trees.specs.Game.{row_vertices}
+use Rattle.pb_game_of_trees.specs.Held.{Hold}
 use Rattle.pb_game_of_trees.specs.Draft.{IsDraft}
+use Rattle.pb_game_of_trees.specs.Builder.{IsAt, HasTree}
 use Rattle.pb_game_of_trees.specs.Levels.{priority_in}
 use Rattle.pb_game_of_trees.specs.Places.{vertex_behind}
-use Rattle.pb_game_of_trees.proofs.Rows.{number, one_size, next_row, tokens_of, contained, drop_before, place_before}
+use Rattle.pb_game_of_trees.proofs.Rows.{IsNext, number, one_size, count_held, next_row, tokens_of, contained, vertices_before, place_before}
 use Rattle.pb_game_of_trees.specs.Numbering.{table_of}
+use Rattle.pb_game_of_trees.proofs.row_loop.draft_of.Goals.{After-tokens, In_ok-put_tree}
 use Rattle.pb_game_of_trees.proofs.row_loop.draft_of.Goals as goal
 
 pub loop-k-init : goal.loop-k-init
 loop-k-init c =
-    let rows = c.args.rows.now in
-    let many : c.len-k.result ≡ length rows = c.len-k.ensures in
-    let at = slice_index (table_of c.args.vertices.now) in
-    let p = priority_in c.args.levels.now in
+    let count = c.len-k.result in
     let r = c.requires.rows in
-    let next = c.args.size.vertices in
     record {
       within = omega arith;
       level = omega arith;
       place = λ plain hold.
-          let same : vertex_behind r.0 2 ≡ vertex_behind plain 2 = one_size rows r.0 plain r.1 hold in
-          r.2 ∙ (same ∙ ap (λ (xs : List Row). vertex_behind xs 2) (sym (take_all c.len-k.result plain (omega (arith, many, ap length hold, length-map plain held)))));
+          r.2 ∙ (one_size c.args.rows.now r.0 plain r.1 hold
+          ∙ ap (λ (xs : List Row). vertex_behind xs 2) (sym (take_all count plain (omega (arith, c.len-k.ensures, count_held plain hold)))));
       behind = λ plain hold.
-          let none : drop c.len-k.result plain ≡ [] = drop_all c.len-k.result plain (omega (arith, many, ap length hold, length-map plain held)) in
+          let none : drop count plain ≡ [] = drop_all count plain (omega (arith, c.len-k.ensures, count_held plain hold)) in
           record {
             targets = c.new.ensures.items;
             starts = c.new-2.ensures.items;
-            draft = subst (λ (xs : List Row). IsDraft c.in_ok-with_capacity.field-0 (row_vertices at p xs next)) (sym none) c.in_ok-with_capacity.ensures;
+            draft = subst (λ (xs : List Row). IsDraft c.in_ok-with_capacity.field-0
+                (row_vertices (slice_index (table_of c.args.vertices.now)) (priority_in c.args.levels.now) xs c.args.size.vertices)) (sym none) c.in_ok-with_capacity.ensures;
             reaches = omega arith;
           };
     }
+
+module _ (c : After-tokens) (plain : List Row) (hold : Hold c.args.rows.now plain) where
+  -- the row before those that were put
+  row : IsNext plain (c.loop-k.k - 1) (get_or c.args.rows.now (c.loop-k.k - 1) nothing)
+  row = next_row c.args.rows.now plain (c.loop-k.k - 1) hold (omega (arith, c.loop-k.invariant.within))
+
+  -- what was put stays where room is made
+  room : IsAt (slice_index (table_of c.args.vertices.now)) c.make_room.new.self []
+      (row_vertices (slice_index (table_of c.args.vertices.now)) (priority_in c.args.levels.now) (drop c.loop-k.k plain) c.loop-k.builder.next) c.loop-k.builder.next
+  room = c.in_ok-make_room.ensures (slice_index (table_of c.args.vertices.now)) [] _ c.loop-k.builder.next (c.loop-k.invariant.behind plain hold)
 
 pub put_tree-requires-clause-spelled : goal.put_tree-requires-clause-spelled
 put_tree-requires-clause-spelled c =
     let l = c.loop-k in
     let r = c.requires.rows in
-    let row = get_or c.args.rows.now (l.k - 1) nothing in
-    let at = slice_index (table_of c.args.vertices.now) in
-    let n = next_row c.args.rows.now r.0 (l.k - 1) r.1 (omega (arith, l.invariant.within)) in (
+    let n = row c r.0 r.1 in (
       n.next.tree,
-      c.tokens.ensures ∙ tokens_of r.0 (l.k - 1) row n,
-      omega (arith, l.invariant.place r.0 r.1, place_before r.0 l.k (omega arith) row n, (c.in_ok-make_room.ensures at [] _ l.builder.next (l.invariant.behind r.0 r.1)).reaches),
-      r.3 n.next (contained r.0 (l.k - 1) row n),
+      c.tokens.ensures ∙ tokens_of r.0 (l.k - 1) _ n,
+      omega (arith, l.invariant.place r.0 r.1, place_before r.0 l.k (omega arith) _ n, (room c r.0 r.1).reaches),
+      r.3 n.next (contained r.0 (l.k - 1) _ n),
     )
 
 pub put_tree-requires-clause-before : goal.put_tree-requires-clause-before
-put_tree-requires-clause-before c =
-    let l = c.loop-k in
-    let r = c.requires.rows in
-    let at = slice_index (table_of c.args.vertices.now) in
-    let behind = row_vertices at (priority_in c.args.levels.now) (drop l.k r.0) l.builder.next in
-    (behind, l.builder.next, c.in_ok-make_room.ensures at [] behind l.builder.next (l.invariant.behind r.0 r.1))
+put_tree-requires-clause-before c = (_, _, room c c.requires.rows.0 c.requires.rows.1)
+
+-- the row's vertices are put
+put : (c : In_ok-put_tree) (plain : List Row) (hold : Hold c.args.rows.now plain) →
+    HasTree (slice_index (table_of c.args.vertices.now)) c.put_tree.new.self c.priority_at-priority.result (row (goal.at.loop-k-preserved c).After-tokens plain hold).next.tree
+    (row_vertices (slice_index (table_of c.args.vertices.now)) (priority_in c.args.levels.now) (drop c.loop-k.k plain) c.loop-k.builder.next) c.loop-k.builder.next
+put c plain hold =
+    let n = row (goal.at.loop-k-preserved c).After-tokens plain hold in
+    c.in_ok-put_tree.ensures n.next.tree _ c.loop-k.builder.next (c.tokens.ensures ∙ tokens_of plain (c.loop-k.k - 1) _ n) (room (goal.at.loop-k-preserved c).After-tokens plain hold)
 
 pub loop-k-preserved : goal.loop-k-preserved
 loop-k-preserved c =
     let l = c.loop-k in
-    let rows = c.args.rows.now in
-    let at = slice_index (table_of c.args.vertices.now) in
     let p = priority_in c.args.levels.now in
-    let row = get_or c.args.rows.now (l.k - 1) nothing in
-    let new = c.put_tree.new.self in
     record {
       within = omega (arith, l.invariant.within);
       level = c.priority_at-priority.ensures.place;
       place = λ plain hold.
-          let n = next_row rows plain (l.k - 1) hold (omega (arith, l.invariant.within)) in
-          let h = c.in_ok-put_tree.ensures n.next.tree (row_vertices at p (drop l.k plain) l.builder.next) l.builder.next
-          (c.tokens.ensures ∙ tokens_of plain (l.k - 1) row n) (c.in_ok-make_room.ensures at [] _ l.builder.next (l.invariant.behind plain hold)) in
-          omega (arith, h.reaches, l.invariant.place plain hold, place_before plain l.k (omega arith) row n);
+          omega (arith, (put c plain hold).reaches, l.invariant.place plain hold, place_before plain l.k (omega arith) _ (row (goal.at.loop-k-preserved c).After-tokens plain hold));
       behind = λ plain hold.
-          let n = next_row rows plain (l.k - 1) hold (omega (arith, l.invariant.within)) in
-          let h = c.in_ok-put_tree.ensures n.next.tree (row_vertices at p (drop l.k plain) l.builder.next) l.builder.next
-          (c.tokens.ensures ∙ tokens_of plain (l.k - 1) row n) (c.in_ok-make_room.ensures at [] _ l.builder.next (l.invariant.behind plain hold)) in
+          let n = row (goal.at.loop-k-preserved c).After-tokens plain hold in
+          let h = put c plain hold in
           let priority : c.priority_at-priority.result ≡ p n.next.number = c.priority_at-priority.ensures.priority ∙ ap (λ (x : ℕ). p x) (c.number.ensures ∙ sym (ap number n.is)) in
-          let limit : l.builder.next ≡ suc (new.next + inner n.next.tree) = omega (arith, h.reaches) in
-          let vertices : tree_vertices at c.priority_at-priority.result n.next.tree new.next ++ row_vertices at p (drop l.k plain) l.builder.next
-          ≡ row_vertices at p (drop (l.k - 1) plain) new.next =
-          ap (λ (q : ℕ). tree_vertices at q n.next.tree new.next ++ row_vertices at p (drop l.k plain) l.builder.next) priority
-          ∙ (ap (λ (m : ℕ). tree_vertices at (p n.next.number) n.next.tree new.next ++ row_vertices at p (drop l.k plain) m) limit
-          ∙ ap (λ (xs : List Row). row_vertices at p xs new.next) (sym (drop_before plain l.k (omega arith) row n))) in
           record {
             targets = h.targets;
             starts = h.starts;
-            draft = subst (IsDraft new.draft) vertices h.draft;
+            draft = subst (IsDraft c.put_tree.new.self.draft)
+                (vertices_before plain l.k (omega arith) _ n (slice_index (table_of c.args.vertices.now)) p c.put_tree.new.self.next l.builder.next priority (omega (arith, h.reaches))) h.draft;
             reaches = omega arith;
           };
     }

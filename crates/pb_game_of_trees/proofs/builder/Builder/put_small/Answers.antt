@@ -3,22 +3,25 @@ use Rattle.pb_fixpoint_trees.specs.declared.Token.TheVariants as token
 use Rattle.pb_fixpoint_trees.specs.Tree.{Connective, End, LeafThen, Root, Tree, TreeCalls}
 use Rattle.pb_game_of_trees.specs.Numbering.{table_of}
 use Rattle.pb_game_of_trees.specs.Builder.{CallsBelow, HasTree}
-use Rattle.pb_game_of_trees.proofs.AroundLeaf.{small_tree, leaf_calls}
+use Rattle.pb_game_of_trees.proofs.AroundLeaf.{IsSmall, small_tree, leaf_calls}
+use Rattle.pb_game_of_trees.proofs.builder.Builder.put_small.Goals.{After-bracket_of-bracket}
 use Rattle.pb_game_of_trees.proofs.builder.Builder.put_small.Goals as goal
+
+-- the required tree is a bracket around a leaf
+small : (c : After-bracket_of-bracket) → IsSmall c.args.tokens.now token.And c.requires.spelled.0
+small c = small_tree c.args.tokens.now token.And c.requires.spelled.0 c.requires.spelled.1 c.requires.small
 
 pub leaf_vertex-vertex-requires-clause-call : goal.leaf_vertex-vertex-requires-clause-call
 leaf_vertex-vertex-requires-clause-call c =
-    let s = c.requires.spelled in
-    let small = small_tree c.args.tokens.now token.And s.0 s.1 c.requires.small in
     let count = length (table_of c.args.vertices.now) in
-    let calls = subst (TreeCalls (λ n. n < count)) small.is s.2 in
-    subst (CallsBelow count) (sym small.second) (leaf_calls count small.leaf calls.0)
+    let s = small (goal.at.leaf_vertex-vertex-requires-clause-call c).After-bracket_of-bracket in
+    let calls = subst (TreeCalls (λ n. n < count)) s.is c.requires.spelled.2 in
+    subst (CallsBelow count) (sym s.second) (leaf_calls count s.leaf calls.0)
 
 pub leaf_vertex-vertex-requires-clause-leaf : goal.leaf_vertex-vertex-requires-clause-leaf
 leaf_vertex-vertex-requires-clause-leaf c =
-    let s = c.requires.spelled in
-    let small = small_tree c.args.tokens.now token.And s.0 s.1 c.requires.small in
-    (small.leaf, small.second)
+    let s = small (goal.at.leaf_vertex-vertex-requires-clause-leaf c).After-bracket_of-bracket in
+    (s.leaf, s.second)
 
 pub returns : goal.returns
 returns c = λ tree behind limit e is.

@@ -1,28 +1,32 @@
 use Rattle.std.proofs.Common.{◌≡◌, ℕ, ◌-◌, List, map, length, get_or, reverse, ap, ◌∙◌, arith}
 use Rattle.std.specs.Vec.{with_items}
 use Rattle.std.proofs.lemmas.List.{length-map, reverse-reverse, with_items_is}
-use Rattle.pb_game_of_trees.specs.Draft.{owners, priorities, successors, edge_sums}
+use Rattle.pb_fixpoint_trees.specs.Game.{Vertex}
+use Rattle.pb_game_of_trees.specs.Draft.{IsDraft, owners, priorities, successors, edge_sums}
 use Rattle.pb_game_of_trees.proofs.Sums.{edge_sums-le}
+use Rattle.pb_game_of_trees.proofs.draft.Draft.into_parts.Goals.{After-deref_mut}
 use Rattle.pb_game_of_trees.proofs.draft.Draft.into_parts.Goals as goal
+
+-- the lists once they are turned round
+module _ (c : After-deref_mut) {vs : List Vertex} (is : IsDraft c.args.self vs) where
+  sums : c.deref_mut.result.now ≡ edge_sums vs
+  sums = c.deref_mut.ensures.value ∙ (c.reverse-4.ensures.items ∙ (ap reverse is.edges ∙ reverse-reverse (edge_sums vs)))
+
+  all : c.reverse-3.new.self.items ≡ successors vs
+  all = c.reverse-3.ensures.items ∙ (ap reverse is.successor ∙ reverse-reverse (successors vs))
+
+  size : c.len.result ≡ length (successors vs)
+  size = omega (arith, ap length all, c.len.ensures, c.reverse-3.new.self.ok.0)
 
 pub subtract_from-requires : goal.subtract_from-requires
 subtract_from-requires c =
     let vs = c.requires.0 in
-    let is = c.requires.1 in
-    let places : c.deref_mut.result.now ≡ edge_sums vs =
-    c.deref_mut.ensures.value ∙ (c.reverse-4.ensures.items ∙ (ap reverse is.edges ∙ reverse-reverse (edge_sums vs))) in
-    let all : c.reverse-3.new.self.items ≡ successors vs =
-    c.reverse-3.ensures.items ∙ (ap reverse is.successor ∙ reverse-reverse (successors vs)) in
-    let size : c.len.result ≡ length (successors vs) = omega (arith, ap length all, c.len.ensures, c.reverse-3.new.self.ok.0) in
-    λ k d l. omega (arith, edge_sums-le vs k d (omega (arith, ap length places)), ap (λ (xs : List ℕ). get_or xs k d) places)
+    let places = sums c c.requires.1 in
+    λ k d l. omega (arith, edge_sums-le vs k d (omega (arith, l, ap length places)), ap (λ (xs : List ℕ). get_or xs k d) places, size c c.requires.1)
 
 pub returns : goal.returns
 returns c = λ vs is.
-    let numbers : c.deref_mut.result.now ≡ edge_sums vs =
-    c.deref_mut.ensures.value ∙ (c.reverse-4.ensures.items ∙ (ap reverse is.edges ∙ reverse-reverse (edge_sums vs))) in
-    let all : c.reverse-3.new.self.items ≡ successors vs =
-    c.reverse-3.ensures.items ∙ (ap reverse is.successor ∙ reverse-reverse (successors vs)) in
-    let size : c.len.result ≡ length (successors vs) = omega (arith, ap length all, c.len.ensures, c.reverse-3.new.self.ok.0) in
+    let turned = (goal.at.returns c).After-deref_mut in
     let back : (with_items c.reverse-4.new.self c.subtract_from.new.numbers).items ≡ c.subtract_from.new.numbers =
     with_items_is c.reverse-4.new.self c.subtract_from.new.numbers (omega (
       arith,
@@ -34,6 +38,6 @@ returns c = λ vs is.
     record {
       owner = c.reverse.ensures.items ∙ (ap reverse is.owner ∙ reverse-reverse (owners vs));
       priority = c.reverse-2.ensures.items ∙ (ap reverse is.priority ∙ reverse-reverse (priorities vs));
-      place = back ∙ (c.subtract_from.ensures ∙ (ap (map (λ n. c.len.result - n)) numbers ∙ ap (λ (t : ℕ). map (λ n. t - n) (edge_sums vs)) size));
-      successor = all;
+      place = back ∙ (c.subtract_from.ensures ∙ (ap (map (λ n. c.len.result - n)) (sums turned is) ∙ ap (λ (t : ℕ). map (λ n. t - n) (edge_sums vs)) (size turned is)));
+      successor = all turned is;
     }
