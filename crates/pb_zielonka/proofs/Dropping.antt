@@ -179,12 +179,23 @@ pub sifted_up_stay : (st : Standing) (old kept : List Bool) (dropped list : List
 sifted_up_stay st old kept dropped list k here s =
     sifted_step st old kept kept dropped dropped list k refl (sifts_none kept dropped (get_or list k 0)) here s.vertices s
 
+-- what the next turn of the loop has is what was made
+pub sifted_up_same : {st : Standing} {old kept kept' : List Bool} {dropped dropped' list : List ℕ} {k : ℕ} → IsSiftedUpTo st old kept dropped list k →
+    kept' ≡ kept → dropped' ≡ dropped → IsSiftedUpTo st old kept' dropped' list k
+sifted_up_same {st} {old} {kept} {kept'} {dropped} {dropped'} {list} {k} i e e' =
+    subst (λ (x : List Bool). IsSiftedUpTo st old x dropped' list k) (sym e) (subst (λ (x : List ℕ). IsSiftedUpTo st old kept x list k) (sym e') i)
+
 -- the first k of the list, the predecessors of u, are dropped where they stand on u
 pub record IsClearedUpTo (st : Standing) (old kept : List Bool) (before dropped list : List ℕ) (u k : ℕ) : Type 0 where
   pub sifted : IsSiftedOn st kept dropped
   pub drops : Drops old kept before dropped
   pub cleared : (j : ℕ) → j < k → IsIn st.region.now (get_or list j 0) → IsIn kept (get_or list j 0) →
       StandsOn st.game.now st.solution.now st.player (get_or list j 0) u → ⊥
+
+pub cleared_up_same : {st : Standing} {old kept kept' : List Bool} {before dropped dropped' list : List ℕ} {u k : ℕ} → IsClearedUpTo st old kept before dropped list u k →
+    kept' ≡ kept → dropped' ≡ dropped → IsClearedUpTo st old kept' before dropped' list u k
+cleared_up_same {st} {old} {kept} {kept'} {before} {dropped} {dropped'} {list} {u} {k} i e e' =
+    subst (λ (x : List Bool). IsClearedUpTo st old x before dropped' list u k) (sym e) (subst (λ (x : List ℕ). IsClearedUpTo st old kept before x list u k) (sym e') i)
 
 pub cleared_up_drop : (st : Standing) (old kept : List Bool) (before dropped list : List ℕ) (u k : ℕ) → get_or list k 0 < vertex_count st.game.now →
     IsIn kept (get_or list k 0) → IsClearedUpTo st old kept before dropped list u k →

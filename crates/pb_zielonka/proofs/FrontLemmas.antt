@@ -1,5 +1,5 @@
 -- What a turn's front and what its opponent attracts are.
-use Rattle.std.proofs.Common.{◌≡◌, ◌≢◌, ◌+◌, ◌<◌, inl, inr, ℕ, List, Bool, length, get_or, sym, subst, arith, ◌∙◌}
+use Rattle.std.proofs.Common.{◌≡◌, ◌≢◌, ◌+◌, ◌<◌, inl, inr, ℕ, List, Bool, get_or, sym, subst, arith}
 use Rattle.pb_game.specs.Games.{vertex_count, priority_of}
 use Rattle.pb_game.specs.Solutions.{choice_of}
 use Rattle.pb_game.specs.declared.certificate.Solution.{Solution}
@@ -13,11 +13,11 @@ use Rattle.pb_zielonka.specs.Turns.{IsClaimedFront}
 
 -- the attractor of what stays kept and of the greatest priority is a front
 pub claimed_front : (standing : Standing) (left marks kept' rest : List Bool) (target list : List ℕ) (a : Attractor) (s' : Solution) (height peak : ℕ) →
-    standing.region.now ≡ left → length left ≡ vertex_count standing.game.now → ListsRegion left list → IsClosedOn standing marks kept' height →
+    standing.region.now ≡ left → ListsRegion left list → IsClosedOn standing marks kept' height →
     IsSelection (λ v. IsTargetOn standing kept' v) target list → IsAttractor standing.game.now left standing.player target a → IsWithout rest left a →
     ((v : ℕ) → v < vertex_count standing.game.now → IsClaimedAt standing.game.now standing.solution.now s' left a standing.player standing.top height v) →
     peak ≡ height + a.rounds → IsClaimedFront standing.game.now standing.solution.now s' left marks standing.player standing.top rest peak
-claimed_front standing left marks kept' rest target list a s' height peak same size listed closed part found w claimed counted =
+claimed_front standing left marks kept' rest target list a s' height peak same listed closed part found w claimed counted =
     let g = standing.game.now in
     let top = standing.top in
     let on : (v : ℕ) → get_or a.rank.items v 0 ≡ 1 → priority_of g v ≢ top → IsIn kept' v = λ v one ne. elim (part.meets v (found.only_start v one)) [
@@ -34,10 +34,7 @@ claimed_front standing left marks kept' rest target list a s' height peak same s
         closed = found.closed;
         all = λ v h p. found.start v (part.all v (listed.all v h) (inr p));
         rounds = found.rounds;
-        size = w.size ∙ size;
-        rest_left = w.within;
-        rest_outside = w.outside;
-        rest_all = w.all;
+        without = w;
       };
       claimed = claimed;
       still = λ v one ne. closed.fewer v (on v one ne);

@@ -1,11 +1,11 @@
 -- Regions as lists: what a loop over a list has done, parts of a list, and a list in another order.
-use Rattle.std.proofs.Common.{◌≡◌, ◌≢◌, ℕ, zero, suc, ◌+◌, ◌<◌, ◌≤◌, ◌⊎◌, inl, inr, arith, refl, sym, ◌∙◌, subst, Bool, false, List, [], ◌∷◌, ◌++◌, length, get_or, set, replicate}
+use Rattle.std.proofs.Common.{◌≡◌, ◌≢◌, ℕ, zero, suc, ◌+◌, ◌<◌, ◌≤◌, ◌⊎◌, inl, inr, arith, refl, sym, ◌∙◌, subst, Bool, false, List, [], ◌∷◌, ◌++◌, length, get_or, take, set, replicate}
 use Rattle.std.specs.Prelude.{◌==◌, Contains}
 use Rattle.std.specs.List.{AllByRecursion, IsDistinct, SwappedAt}
 use Rattle.std.specs.List.Sorted.{IsPermutation}
 use Rattle.std.proofs.lemmas.Bool.{cases_eq}
 use Rattle.std.proofs.lemmas.Bool.Decides.{nat_tests}
-use Rattle.std.proofs.lemmas.List.{get_or-set_same, get_or-set_other}
+use Rattle.std.proofs.lemmas.List.{get_or-set_same, get_or-set_other, take_all, take_more}
 use Rattle.std.proofs.lemmas.List.Sorted.{IsPermutation-sym, Contains-permutation}
 use Rattle.std.proofs.lemmas.List.Elements.{Contains-append_left, Contains-append_right, Contains-append_cases}
 use Rattle.std.proofs.lemmas.Map.Keys.{IsDistinct-IsPermutation}
@@ -79,9 +79,6 @@ pub record AreDone (Done Same : ℕ → Type 0) (list : List ℕ) (k : ℕ) : Ty
   pub done : (j : ℕ) → j < k → Done (get_or list j 0)
   pub same : (w : ℕ) → ((j : ℕ) → j < k → get_or list j 0 ≢ w) → Same w
 
-pub done_none : (Done Same : ℕ → Type 0) (list : List ℕ) → ((w : ℕ) → Same w) → AreDone Done Same list 0
-done_none Done Same list same = record { within = omega arith; done = λ j h. absurd (omega arith); same = λ w away. same w }
-
 -- one vertex more is done
 pub done_more : (Done Same Done' Same' : ℕ → Type 0) (list : List ℕ) (k : ℕ) → k < length list → IsDistinct (λ v u. v == u) list →
     (Same (get_or list k 0) → Done' (get_or list k 0)) → ((w : ℕ) → w ≢ get_or list k 0 → Done w → Done' w) →
@@ -95,15 +92,22 @@ done_more Done Same Done' Same' list k less apart here later still i = record {
   same = λ w away. still w (λ e. away k (omega arith) (sym e)) (i.same w (λ j h. away j (omega arith)));
 }
 
--- all of the list is done, and nothing else
-pub done_in : (Done Same : ℕ → Type 0) (list : List ℕ) (k : ℕ) → length list ≤ k → AreDone Done Same list k → (v : ℕ) → Contains list v → Done v
+-- at the loop's end all of the list is done, and nothing else
+done_in : (Done Same : ℕ → Type 0) (list : List ℕ) (k : ℕ) → length list ≤ k → AreDone Done Same list k → (v : ℕ) → Contains list v → Done v
 done_in Done Same list k all i v h =
     let p = contains_place list v h in
     subst Done p.1.there (i.done p.0 (omega (arith, p.1.within)))
 
-pub done_out : (Done Same : ℕ → Type 0) (list : List ℕ) (k : ℕ) → AreDone Done Same list k → (v : ℕ) → (Contains list v → ⊥) → Same v
+done_out : (Done Same : ℕ → Type 0) (list : List ℕ) (k : ℕ) → AreDone Done Same list k → (v : ℕ) → (Contains list v → ⊥) → Same v
 done_out Done Same list k i v none =
     i.same v (λ j h e. none (contains_at list v j (record { within = omega (arith, h, i.within); there = e })))
+
+pub all_done : {Done Same : ℕ → Type 0} {list : List ℕ} {k : ℕ} → length list ≤ k → AreDone Done Same list k →
+    ((v : ℕ) → (Contains list v → ⊥) → Same v → Done v) → (v : ℕ) → Done v
+all_done {Done} {Same} {list} {k} all i unlisted v = elim (listed_or_not list v) [
+  | inl listed ↦ done_in Done Same list k all i v listed
+  | inr none ↦ unlisted v none (done_out Done Same list k i v none)
+]
 
 pub single : (v w : ℕ) → Contains (v ∷ []) w → w ≡ v
 single v w h = let k = contains_place (v ∷ []) w h in elim (cases_eq k.0 0) [
@@ -122,7 +126,7 @@ part_none P = record {
 }
 
 -- one vertex more of the list, which meets P
-pub part_taken : (P : ℕ → Type 0) (part list : List ℕ) (v : ℕ) → P v → IsSelection P part list → IsSelection P (part ++ v ∷ []) (list ++ v ∷ [])
+part_taken : (P : ℕ → Type 0) (part list : List ℕ) (v : ℕ) → P v → IsSelection P part list → IsSelection P (part ++ v ∷ []) (list ++ v ∷ [])
 part_taken P part list v p i = record {
   within = λ w h. elim (Contains-append_cases part (v ∷ []) w h) [
     | inl h' ↦ Contains-append_left list (v ∷ []) w (i.within w h')
@@ -139,7 +143,7 @@ part_taken P part list v p i = record {
 }
 
 -- and one that doesn't
-pub part_passed : (P : ℕ → Type 0) (part list : List ℕ) (v : ℕ) → (P v → ⊥) → IsSelection P part list → IsSelection P part (list ++ v ∷ [])
+part_passed : (P : ℕ → Type 0) (part list : List ℕ) (v : ℕ) → (P v → ⊥) → IsSelection P part list → IsSelection P part (list ++ v ∷ [])
 part_passed P part list v none i = record {
   within = λ w h. Contains-append_left list (v ∷ []) w (i.within w h);
   meets = i.meets;
@@ -149,9 +153,27 @@ part_passed P part list v none i = record {
   ];
 }
 
+-- a loop has gone through one place more of the list, and has taken it
+pub taken_more : (P : ℕ → Type 0) (part part' list : List ℕ) (k : ℕ) → k < length list → P (get_or list k 0) → part' ≡ part ++ get_or list k 0 ∷ [] →
+    IsSelection P part (take k list) → IsSelection P part' (take (k + 1) list)
+taken_more P part part' list k less meets e i =
+    subst (λ (ps : List ℕ). IsSelection P ps (take (k + 1) list)) (sym e)
+    (subst (λ (xs : List ℕ). IsSelection P (part ++ get_or list k 0 ∷ []) xs) (sym (take_more list k 0 less)) (part_taken P part (take k list) (get_or list k 0) meets i))
+
+-- or passed it
+pub passed_more : (P : ℕ → Type 0) (part part' list : List ℕ) (k : ℕ) → k < length list → (P (get_or list k 0) → ⊥) → part' ≡ part →
+    IsSelection P part (take k list) → IsSelection P part' (take (k + 1) list)
+passed_more P part part' list k less none e i =
+    subst (λ (ps : List ℕ). IsSelection P ps (take (k + 1) list)) (sym e)
+    (subst (λ (xs : List ℕ). IsSelection P part xs) (sym (take_more list k 0 less)) (part_passed P part (take k list) (get_or list k 0) none i))
+
+-- and at its end all of the list
+pub taken_all : (P : ℕ → Type 0) (part list : List ℕ) (k : ℕ) → length list ≤ k → IsSelection P part (take k list) → IsSelection P part list
+taken_all P part list k all i = subst (λ (xs : List ℕ). IsSelection P part xs) (take_all k list all) i
+
 -- a region's list in another order
-pub lists_permuted : (region : List Bool) (xs ys : List ℕ) → IsPermutation xs ys → ListsRegion region xs → ListsRegion region ys
-lists_permuted region xs ys p i = record {
+pub lists_permuted : {region : List Bool} {xs ys : List ℕ} → IsPermutation xs ys → ListsRegion region xs → ListsRegion region ys
+lists_permuted {region} {xs} {ys} p i = record {
   inside = λ v h. i.inside v (Contains-permutation ys xs v (IsPermutation-sym xs ys p) h);
   all = λ v h. Contains-permutation xs ys v p (i.all v h);
   once = IsDistinct-IsPermutation (λ v u. v == u) same_flips xs ys p i.once;

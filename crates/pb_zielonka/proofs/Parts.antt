@@ -12,19 +12,27 @@ use Rattle.pb_game.specs.declared.Game.{Game}
 use Rattle.pb_game.specs.Games.{vertex_count}
 use Rattle.pb_game.proofs.Membership.{contains_at, contains_place}
 use Rattle.pb_zielonka.specs.declared.attractor.Attractor.{Attractor}
+use Rattle.pb_zielonka.specs.declared.scopes.Standing.{Standing}
 use Rattle.pb_zielonka.specs.Regions.{IsIn, ListsRegion, AreVertices}
 use Rattle.pb_zielonka.specs.Attractors.{IsWithout, IsCut, IsCutBy, ListsAttracted}
-use Rattle.pb_zielonka.proofs.LevelLemmas.{in_below, in_or_out}
+use Rattle.pb_zielonka.proofs.LevelLemmas.{in_below, in_or_out, unranked_if}
 use Rattle.pb_zielonka.proofs.Lists.{listed_or_not, lists_permuted}
 
 -- what stands in a region's list is less than the region is long
-pub list_below : (region : List Bool) (list : List ℕ) (n : ℕ) → length region ≡ n → ListsRegion region list → (k : ℕ) → k < length list → get_or list k 0 < n
-list_below region list n size l k h =
+pub list_below : {region : List Bool} {list : List ℕ} {n : ℕ} → length region ≡ n → ListsRegion region list → (k : ℕ) → k < length list → get_or list k 0 < n
+list_below {region} {list} {n} size l k h =
     in_below region (get_or list k 0) n size (l.inside (get_or list k 0) (contains_at list (get_or list k 0) k (record { within = h; there = refl })))
 
 -- so it is a vertex
-pub list_vertices : (g : Game) (region : List Bool) (list : List ℕ) → length region ≡ vertex_count g → ListsRegion region list → AreVertices g list
-list_vertices g region list size l = list_below region list (vertex_count g) size l
+pub list_vertices : (g : Game) {region : List Bool} {list : List ℕ} → length region ≡ vertex_count g → ListsRegion region list → AreVertices g list
+list_vertices g size l = list_below size l
+
+pub standing_vertices : (standing : Standing) (list : List ℕ) → ListsRegion standing.region.now list → AreVertices standing.game.now list
+standing_vertices standing list l = list_vertices standing.game.now standing.sized l
+
+-- what isn't listed was not attracted
+pub unlisted_unranked : {g : Game} {a : Attractor} {list : List ℕ} (v : ℕ) → ListsAttracted g a list → (Contains list v → ⊥) → get_or a.rank.items v 0 ≡ 0
+unlisted_unranked {g} {a} v l none = unranked_if a.rank.items v (λ ranked. none (l.all v ranked))
 
 pub front_listed : (list : List ℕ) (first v : ℕ) → Contains (take first list) v → Contains list v
 front_listed list first v h =
@@ -74,7 +82,7 @@ pub behind_below : (region : List Bool) (list : List ℕ) (first n : ℕ) → fi
     (k : ℕ) → k < length (take (length list - first) (drop first list)) → get_or (take (length list - first) (drop first list)) k 0 < n
 behind_below region list first n within size l =
     subst (λ (xs : List ℕ). (k : ℕ) → k < length xs → get_or xs k 0 < n) (sym (slice_behind list first within))
-    (λ k h. subst (λ (x : ℕ). x < n) (sym (get_or-drop first list k 0)) (list_below region list n size l (first + k) (omega (arith, h, length-drop first list))))
+    (λ k h. subst (λ (x : ℕ). x < n) (sym (get_or-drop first list k 0)) (list_below size l (first + k) (omega (arith, h, length-drop first list))))
 
 -- what stands first isn't ranked
 front_unranked : (rank list : List ℕ) (first v : ℕ) → IsCut rank list first → Contains (take first list) v → get_or rank v 0 ≡ 0
@@ -100,9 +108,9 @@ behind_ranked rank list first v c h =
     subst (λ (x : ℕ). 0 < get_or rank x 0) there (c.behind (first + k.0) (omega arith) (omega (arith, length-drop first list, k.1.within)))
 
 -- what stands behind is what is attracted
-pub attracted_behind : (g : Game) (region : List Bool) (a : Attractor) (list : List ℕ) (first : ℕ) → length region ≡ vertex_count g → IsCutBy region a list first →
+pub attracted_behind : {g : Game} {region : List Bool} {a : Attractor} {list : List ℕ} {first : ℕ} → length region ≡ vertex_count g → IsCutBy region a list first →
     ListsAttracted g a (take (length list - first) (drop first list))
-attracted_behind g region a list first size c =
+attracted_behind {g} {region} {a} {list} {first} size c =
     let slice = sym (slice_behind list first c.cut.within) in
     record {
       vertices = behind_below region list first (vertex_count g) c.cut.within size c.listed;
@@ -152,10 +160,10 @@ lists_cut left rest a list first c w = record {
 }
 
 -- marks of a part that are set again at the whole region
-pub marked_again : (region rest old new : List Bool) (list : List ℕ) → old ≡ rest → length rest ≡ length region → length new ≡ length old → ListsRegion region list →
+pub marked_again : {region rest old new : List Bool} {list : List ℕ} → old ≡ rest → length rest ≡ length region → length new ≡ length old → ListsRegion region list →
     ((v : ℕ) → IsIn rest v → IsIn region v) → ((v : ℕ) → Contains list v → get_or new v false ≡ true) →
     ((v : ℕ) → (Contains list v → ⊥) → get_or new v false ≡ get_or old v false) → new ≡ region
-marked_again region rest old new list now e e' l within listed others = ext_get_or false new region (e' ∙ (ap length now ∙ e)) (λ v h. elim (in_or_out region v) [
+marked_again {region} {rest} {old} {new} {list} now e e' l within listed others = ext_get_or false new region (e' ∙ (ap length now ∙ e)) (λ v h. elim (in_or_out region v) [
   | inl inside ↦ listed v (l.all v inside) ∙ sym inside
   | inr out ↦
       let away : get_or region v false ≡ false = false_from_ne_true (get_or region v false) out in
@@ -176,9 +184,9 @@ pub record IsLevelList (left : List Bool) (initial list : List ℕ) (n : ℕ) : 
   pub listed : ListsRegion left (take n list)
 
 -- it stays one when the first part is put into another order and cut
-pub list_cut : (left rest : List Bool) (initial xs ys : List ℕ) (n m : ℕ) → IsLevelList left initial xs n → IsPermutation (take n xs) ys →
+pub list_cut : {left rest : List Bool} {initial xs ys : List ℕ} {n m : ℕ} → IsLevelList left initial xs n → IsPermutation (take n xs) ys →
     m ≤ length ys → ListsRegion rest (take m ys) → IsLevelList rest initial (ys ++ drop n xs) m
-list_cut left rest initial xs ys n m l p h listed =
+list_cut {left} {rest} {initial} {xs} {ys} {n} {m} l p h listed =
     let front : take m (ys ++ drop n xs) ≡ take m ys = take-append-le m ys (drop n xs) h in
     record {
       whole = IsPermutation-trans initial xs (ys ++ drop n xs) l.whole (front_permuted xs ys n p);
@@ -187,17 +195,18 @@ list_cut left rest initial xs ys n m l p h listed =
     }
 
 -- or not cut
-pub list_turned : (left : List Bool) (initial xs ys : List ℕ) (n : ℕ) → IsLevelList left initial xs n → IsPermutation (take n xs) ys → IsLevelList left initial (ys ++ drop n xs) n
-list_turned left initial xs ys n l p =
+pub list_turned : {left : List Bool} {initial xs ys : List ℕ} {n : ℕ} → IsLevelList left initial xs n → IsPermutation (take n xs) ys → IsLevelList left initial (ys ++ drop n xs) n
+list_turned {left} {initial} {xs} {ys} {n} l p =
     let size : length ys ≡ n = length_permutation (take n xs) ys p ∙ length-take-le n xs l.within in
     let all : take n ys ≡ ys = take_all n ys (omega arith) in
-    list_cut left left initial xs ys n n l p (omega arith) (rw all (lists_permuted left (take n xs) ys p l.listed))
+    list_cut l p (omega arith) (rw all (lists_permuted p l.listed))
 
 -- marks of what is left, once they are set behind it too
-pub marked_behind : (region left old new : List Bool) (initial list : List ℕ) (n : ℕ) → old ≡ left → length left ≡ length region → length new ≡ length old →
-    ListsRegion region list → IsLevelList left initial list n → ((v : ℕ) → Contains (take (length list - n) (drop n list)) v → get_or new v false ≡ true) →
+pub marked_behind : {region left old new : List Bool} {initial list : List ℕ} {n : ℕ} → old ≡ left → length left ≡ length region → length new ≡ length old →
+    ListsRegion region initial → IsLevelList left initial list n → ((v : ℕ) → Contains (take (length list - n) (drop n list)) v → get_or new v false ≡ true) →
     ((v : ℕ) → (Contains (take (length list - n) (drop n list)) v → ⊥) → get_or new v false ≡ get_or old v false) → new ≡ region
-marked_behind region left old new initial list n now e e' l p listed others =
+marked_behind {region} {left} {old} {new} {initial} {list} {n} now e e' first p listed others =
+    let l : ListsRegion region list = lists_permuted p.whole first in
     let slice : take (length list - n) (drop n list) ≡ drop n list = slice_behind list n p.within in
     ext_get_or false new region (e' ∙ (ap length now ∙ e)) (λ v h. elim (listed_or_not (take (length list - n) (drop n list)) v) [
       | inl behind ↦ listed v behind ∙ sym (l.inside v (behind_listed list n v (subst (λ (xs : List ℕ). Contains xs v) slice behind)))

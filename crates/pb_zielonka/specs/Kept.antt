@@ -32,12 +32,10 @@ IsHeightOn standing v height = (below : ℕ) → below + 1 ≡ standing.top
     → count_of standing.game.now standing.solution.now v below ≤ height
 
 -- the player has won what is kept
-abbrev pub AreWonOn : Standing → List Bool → Type 0
-AreWonOn standing kept =
-    (v : ℕ) → IsIn standing.region.now v → IsIn kept v
-    → priority_of standing.game.now v ≢ standing.top
-    → IsWonOn standing.game.now standing.region.now kept standing.solution.now standing.player
-    standing.top v
+abbrev pub AreWonOn : Game → List Bool → List Bool → Solution → Player → ℕ → Type 0
+AreWonOn g left kept s player top =
+    (v : ℕ) → IsIn left v → IsIn kept v → priority_of g v ≢ top
+    → IsWonOn g left kept s player top v
 
 -- what is kept has choices, where the player moves
 abbrev pub HasChoices : Standing → List Bool → Type 0

@@ -186,7 +186,8 @@ pub(crate) fn keep(
 ) -> Result<u64, AllocError>
     requires listed { ListsRegion standing.now.region.now list.now }
     requires size { length kept.old ≡ vertex_count standing.now.game.now }
-    requires won { AreWonOn standing.now kept.old }
+    requires won { AreWonOn standing.now.game.now standing.now.region.now kept.old
+        standing.now.solution.now standing.now.player standing.now.top }
     ensures closed { IfOk result
         (λ height. IsClosedOn standing.now kept.old kept.new height) }
     ensures target { OnOk result

@@ -15,7 +15,7 @@ pub cut-requires : goal.cut-requires
 cut-requires bound c = λ k h.
     omega (
       arith,
-      list_below c.args.space.now.region.items c.args.list.now _ c.requires.region.size c.requires.listed k h,
+      list_below c.requires.region.size c.requires.listed k h,
       ap length c.deref-2.ensures.value,
       c.in_ok-attract.ensures.found.forcing.ranks,
     )
@@ -27,6 +27,6 @@ returns-clause-found bound c =
 pub returns-clause-cut : goal.returns-clause-cut
 returns-clause-cut bound c = record {
   known = subst (λ (x : List Bool). IsKnownWithin x c.attract.new.attractor) c.deref.ensures.value c.in_ok-attract.ensures.known;
-  listed = lists_permuted _ _ _ c.cut.ensures.permuted c.requires.listed;
+  listed = lists_permuted c.cut.ensures.permuted c.requires.listed;
   cut = subst (λ (xs : List ℕ). IsCut xs c.cut.new.list c.cut.result) c.deref-2.ensures.value c.cut.ensures.cut;
 }

@@ -1,22 +1,19 @@
 use Rattle.std.proofs.Common.{◌≡◌, ◌<◌, ℕ, get_or, length, length-set, inl, inr, arith, ◌∙◌}
-use Rattle.std.proofs.lemmas.List.{length-replicate}
 use Rattle.std.specs.Prelude.{Contains}
 use Rattle.pb_zielonka.proofs.Lists.{copies, listed_or_not, overwritten_in, overwritten_more, overwritten_out}
-use Rattle.pb_game.specs.Games.{vertex_count}
+use Rattle.pb_zielonka.proofs.RoundLemmas.{blank_ranks}
 use Rattle.pb_zielonka.proofs.attractor.start.Goals as goal
 
 pub index_mut-requires : goal.index_mut-requires
 index_mut-requires c =
-    let all : length c.args.attractor.now.rank.items ≡ vertex_count c.args.arena.now.game.now = rw c.requires.blank.ranks (length-replicate _ 0) in
-    omega (arith, c.loop-v.invariant.size, c.requires.vertices c.loop-v.v-index c.loop-v-test.true, all)
+    omega (arith, c.loop-v.invariant.size, c.requires.vertices c.loop-v.v-index c.loop-v-test.true, blank_ranks _ _ c.requires.blank)
 
 pub loop-v-preserved : goal.loop-v-preserved
 loop-v-preserved c =
     let i = c.loop-v.invariant in
     let target = c.args.target.now in
     let now = c.loop-v.attractor.rank.items in
-    let all : length c.args.attractor.now.rank.items ≡ vertex_count c.args.arena.now.game.now = rw c.requires.blank.ranks (length-replicate _ 0) in
-    let here : get_or target c.loop-v.v-index 0 < length now = omega (arith, i.size, c.requires.vertices c.loop-v.v-index c.loop-v-test.true, all) in
+    let here : get_or target c.loop-v.v-index 0 < length now = omega (arith, i.size, c.requires.vertices c.loop-v.v-index c.loop-v-test.true, blank_ranks _ _ c.requires.blank) in
     record {
       rounds = i.rounds;
       choices = i.choices;

@@ -11,7 +11,7 @@ forget-requires c =
     let known = c.requires.cut.known in
     let listed = c.requires.cut.listed in
     record {
-      vertices = λ k h. omega (arith, list_below _ _ _ refl listed k h, known.choice_size);
+      vertices = λ k h. omega (arith, list_below refl listed k h, known.choice_size);
       ranks = known.rank_size ∙ sym known.choice_size;
       passes = known.passed_size ∙ sym known.choice_size;
       lists = known.listed_size ∙ sym known.choice_size;

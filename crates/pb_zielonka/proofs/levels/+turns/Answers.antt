@@ -1,28 +1,26 @@
-use Rattle.std.proofs.Common.{◌≡◌, ◌<◌, ◌≤◌, ◌+◌, ◌∙◌, ◌++◌, ℕ, List, Bool, false, length, get_or, take, drop, arith, rules, sym, ap, subst}
+use Rattle.std.proofs.Common.{◌≡◌, ◌<◌, ◌+◌, ◌∙◌, ◌++◌, ℕ, List, Bool, false, length, get_or, take, drop, arith, rules, sym, ap, subst}
 use Rattle.std.proofs.lemmas.List.{take_all}
 use Rattle.std.proofs.lemmas.List.Sums.{count_by-le-length}
 use Rattle.std.proofs.lemmas.List.Sorted.{IsPermutation-refl}
 use Rattle.pb_fixpoint_trees.specs.Players.{opponent_of}
 use Rattle.pb_game.specs.Games.{vertex_count}
 use Rattle.pb_game.proofs.Laws.{is_game}
-use Rattle.pb_zielonka.specs.Limits.{greatest_count}
 use Rattle.pb_zielonka.specs.Regions.{IsIn, IsSubgame, ListsRegion, IsWonPart, IsGreatestIn, region_count}
-use Rattle.pb_zielonka.specs.Changes.{IsClearedAt}
-use Rattle.pb_zielonka.specs.Written.{HasRoomAt, Raises}
-use Rattle.pb_zielonka.specs.Turns.{IsRemaining, IsConceded}
+use Rattle.pb_zielonka.specs.Changes.{HasRoomAt, IsRaisedAt, IsClearedAt}
+use Rattle.pb_zielonka.specs.Turns.{IsRemaining}
 use Rattle.pb_zielonka.proofs.Frames.{same_refl, same_trans}
 use Rattle.pb_zielonka.proofs.Lists.{lists_permuted}
 use Rattle.pb_zielonka.proofs.Parts.{list_turned, list_cut, list_below, list_vertices, behind_below, marked_again, marked_behind}
 use Rattle.pb_zielonka.proofs.LevelLemmas.{level_won, level_cleared}
 use Rattle.pb_zielonka.proofs.LostLemmas.{level_lost}
-use Rattle.pb_zielonka.proofs.TurnLemmas.{front_subgame, front_below, steps_turn, turn_played, won_part, none_lost, rest_room, level_bounded, turn_fewer, reduced_at, outside_lost, next_won}
+use Rattle.pb_zielonka.proofs.TurnLemmas.{IsTurnInSteps, front_subgame, front_below, steps_turn, turn_played, won_part, none_lost, rest_room, level_bounded, turn_fewer, reduced_at, outside_lost, next_won}
 use Rattle.pb_zielonka.proofs.levels.+turns.Goals as goal
 
 pub solve_below-greatest_in-requires : goal.solve_below-greatest_in-requires
-solve_below-greatest_in-requires bound m0 c = list_vertices c.args.level.now.game.now _ _ c.requires.region.size c.requires.listed
+solve_below-greatest_in-requires bound m0 c = list_vertices c.args.level.now.game.now c.requires.region.size c.requires.listed
 
 pub solve_below-mark-requires : goal.solve_below-mark-requires
-solve_below-mark-requires bound m0 c = λ k h. omega (arith, list_below _ _ _ c.requires.region.size c.requires.listed k h, c.requires.sized)
+solve_below-mark-requires bound m0 c = λ k h. omega (arith, list_below c.requires.region.size c.requires.listed k h, c.requires.sized)
 
 pub solve_below-turns-init : goal.solve_below-turns-init
 solve_below-turns-init bound m0 c =
@@ -73,55 +71,44 @@ pub solve_below-mark-requires-then-is_empty : goal.solve_below-mark-requires-the
 solve_below-mark-requires-then-is_empty bound m0 c =
     let i = c.turns.invariant in
     let e = c.in_ok-play_turn.ensures in
-    let lists = list_turned _ _ _ _ _ i.list e.permuted in
+    let lists = list_turned i.list e.permuted in
     behind_below c.args.space.now.region.items _ c.turns.left _ lists.within (c.requires.region.size ∙ sym (ap length e.region ∙ i.remaining.subgame.size))
-    (lists_permuted _ _ _ lists.whole c.requires.listed)
+    (lists_permuted lists.whole c.requires.listed)
 
 pub solve_below-clear-requires-clause-listed : goal.solve_below-clear-requires-clause-listed
 solve_below-clear-requires-clause-listed bound m0 c =
     let i = c.turns.invariant in
     let e = c.in_ok-play_turn.ensures in
-    let list = c.play_turn.new.list ++ drop c.turns.left c.turns.list in
-    let lists = list_turned _ _ _ _ _ i.list e.permuted in
-    let listed : ListsRegion c.args.space.now.region.items list = lists_permuted _ _ _ lists.whole c.requires.listed in
+    let lists = list_turned i.list e.permuted in
     let marked = c.mark-then-is_empty.ensures in
-    subst (λ (x : List Bool). ListsRegion x list) (sym (c.deref.ensures.value ∙
-    marked_behind _ _ _ _ _ _ c.turns.left e.region (i.remaining.subgame.size ∙ sym c.requires.region.size) marked.size listed lists marked.listed marked.others)) listed
+    subst (λ (x : List Bool). ListsRegion x (c.play_turn.new.list ++ drop c.turns.left c.turns.list)) (sym (c.deref.ensures.value ∙
+    marked_behind e.region (i.remaining.subgame.size ∙ sym c.requires.region.size) marked.size c.requires.listed lists marked.listed marked.others))
+    (lists_permuted lists.whole c.requires.listed)
 
 pub solve_below-returns-then-is_empty : goal.solve_below-returns-then-is_empty
 solve_below-returns-then-is_empty bound m0 c =
     let g = c.args.level.now.game.now in
-    let limit = c.args.level.now.limit in
-    let region = c.args.space.now.region.items in
-    let top = c.in-Some.top in
-    let player = c.of_priority-player.result in
     let i = c.turns.invariant in
-    let base = c.turns.base in
-    let left = c.turns.space.region.items in
-    let s0 = c.turns.solution in
-    let s1 = c.play_turn.new.solution in
-    let s2 = c.clear.new.solution in
     let e = c.in_ok-play_turn.ensures in
     let t = e.played in
-    let p = turn_played _ region left s0 s1 _ t c.requires.region.size i.limit i.remaining in
+    let p = turn_played t c.requires.region.size i.limit i.remaining in
     let none : length c.play_turn.new.space.frontier.items ≡ 0 = search rules in
-    let all = none_lost s1 _ t.rest player t.part none in
-    let lists = list_turned _ _ _ _ _ i.list e.permuted in
+    let all = none_lost c.of_priority-player.result t.part none in
+    let lists = list_turned i.list e.permuted in
     let marked = c.mark-then-is_empty.ensures in
-    let back : c.mark-then-is_empty.new.region.items ≡ region = marked_behind region left _ _ _ _ c.turns.left e.region
-    (i.remaining.subgame.size ∙ sym c.requires.region.size) marked.size (lists_permuted _ _ _ lists.whole c.requires.listed) lists marked.listed marked.others in
-    let cleared = subst (λ (x : List Bool). (v : ℕ) → v < vertex_count g → IsClearedAt g s1 s2 x top limit v) (c.deref.ensures.value ∙ back) c.clear.ensures.cleared in
-    let small : base ≤ greatest_count = omega (arith, i.bound, (is_game g).small) in
+    let back : c.mark-then-is_empty.new.region.items ≡ c.args.space.now.region.items =
+    marked_behind e.region (i.remaining.subgame.size ∙ sym c.requires.region.size) marked.size c.requires.listed lists marked.listed marked.others in
+    let cleared = subst (λ (x : List Bool). (v : ℕ) → v < vertex_count g → IsClearedAt g c.play_turn.new.solution c.clear.new.solution x c.in-Some.top c.args.level.now.limit v)
+    (c.deref.ensures.value ∙ back) c.clear.ensures.cleared in
     record {
       lengths = c.clear.ensures.lengths;
       region = back;
       permuted = lists.whole;
       blank = e.blank;
       sized = e.sized;
-      certified = level_cleared g region s1 s2 top limit i.below c.args.level.now.limited c.requires.region.size
-          (level_won g region left t.rest s1 t.attractor player top base t.height p all t.stands) cleared;
-      outside = λ v l out. same_trans g _ s1 s2 v (same_trans g _ s0 s1 v (i.outside v l out) (t.same v l (λ h. out (i.remaining.within v h)))) ((cleared v l).outside out);
-      bounded = level_bounded g region left t.rest s1 s2 t.attractor player top limit base t.height i.below small p all t.stands cleared;
+      certified = level_cleared i.below c.args.level.now.limited c.requires.region.size (level_won p t.stands all) cleared;
+      outside = λ v l out. same_trans g _ _ _ v (same_trans g _ _ _ v (i.outside v l out) (t.same v l (λ h. out (i.remaining.within v h)))) ((cleared v l).outside out);
+      bounded = level_bounded i.below (omega (arith, i.bound, (is_game g).small)) p all t.stands cleared;
     }
 
 pub solve_below-concede-requires-clause-left : goal.solve_below-concede-requires-clause-left
@@ -132,57 +119,43 @@ pub solve_below-concede-requires-clause-listed : goal.solve_below-concede-requir
 solve_below-concede-requires-clause-listed bound m0 c κs fits =
     let e = c.in_ok-play_turn.ensures in
     subst (λ (x : List Bool). ListsRegion x (take c.turns.left (c.play_turn.new.list ++ drop c.turns.left c.turns.list))) (sym e.region)
-    (list_turned _ _ _ _ _ c.turns.invariant.list e.permuted).listed
+    (list_turned c.turns.invariant.list e.permuted).listed
 
 pub solve_below-concede-requires-clause-within : goal.solve_below-concede-requires-clause-within
 solve_below-concede-requires-clause-within bound m0 c κs fits = λ v h.
     let t = c.in_ok-play_turn.ensures.played in
-    subst (λ (x : List Bool). IsIn x v) (sym c.in_ok-play_turn.ensures.region) (t.front.rest_left v (t.part.within v h))
+    subst (λ (x : List Bool). IsIn x v) (sym c.in_ok-play_turn.ensures.region) (t.front.without.within v (t.part.within v h))
 
 pub solve_below-turns-smaller : goal.solve_below-turns-smaller
 solve_below-turns-smaller bound m0 c =
     let e = c.in_ok-play_turn.ensures in
-    turn_fewer _ _ _ _ _ _ _ _ _ e.played e.region c.in_ok-remainder.ensures.conceded (search rules)
+    turn_fewer e.played e.region c.in_ok-remainder.ensures.conceded (search rules)
 
 pub solve_below-turns-preserved : goal.solve_below-turns-preserved
 solve_below-turns-preserved bound m0 c =
     let g = c.args.level.now.game.now in
     let region = c.args.space.now.region.items in
-    let top = c.in-Some.top in
-    let player = c.of_priority-player.result in
-    let opponent = opponent_of player in
     let i = c.turns.invariant in
-    let base = c.turns.base in
-    let left = c.turns.space.region.items in
-    let s0 = c.turns.solution in
-    let s1 = c.play_turn.new.solution in
-    let s2 = c.concede.new.solution in
-    let lost = c.play_turn.new.space.frontier.items in
     let e = c.in_ok-play_turn.ensures in
     let t = e.played in
-    let p = turn_played _ region left s0 s1 _ t c.requires.region.size i.limit i.remaining in
+    let p = turn_played t c.requires.region.size i.limit i.remaining in
     let after = c.in_ok-remainder.ensures in
+    let conceded = after.conceded in
     let left' = c.concede.new.space.region.items in
-    let rounds = c.in_ok-remainder.remainder.rounds in
-    let conceded : IsConceded g s1 s2 left lost opponent top base left' rounds =
-    subst (λ (x : List Bool). IsConceded g s1 s2 x lost opponent top base left' rounds) e.region after.conceded in
-    let some : 0 < length lost = search rules in
-    let fewer : region_count left' < region_count left = turn_fewer _ _ _ _ _ _ _ _ _ t e.region after.conceded some in
-    let r = reduced_at g region left t.rest lost left' s1 s2 t.attractor player top base rounds p t.part conceded in
-    let sum : base + conceded.attractor.rounds ≡ base + c.from-base.result = omega (arith, conceded.counted, c.from-base.ensures) in
+    let fewer : region_count left' < region_count c.turns.space.region.items = turn_fewer t e.region conceded (search rules) in
+    let r = reduced_at p t.part e.region conceded in
+    let sum : c.turns.base + conceded.attractor.rounds ≡ c.turns.base + c.from-base.result = omega (arith, conceded.counted, c.from-base.ensures) in
     record {
       lengths = after.lengths;
       limit = i.limit;
       below = i.below;
-      remaining = subst (λ (x : ℕ). IsRemaining g region s2 left' player top x) sum
-          (level_lost g region left t.rest lost left' s1 s2 t.attractor conceded.attractor player opponent top base r);
-      list = list_cut _ _ _ _ _ _ _ (list_turned _ _ _ _ _ i.list e.permuted) after.permuted after.within after.listed;
+      remaining = subst (λ (x : ℕ). IsRemaining g region c.concede.new.solution left' c.of_priority-player.result c.in-Some.top x) sum (level_lost r);
+      list = list_cut (list_turned i.list e.permuted) after.permuted after.within after.listed;
       blank = after.blank;
       sized = after.sized;
-      won = λ v h on ne. next_won g region left t.rest lost left' _ s1 s2 t.attractor conceded.attractor player opponent top base t.height r t.stands v h ne;
+      won = λ v h on ne. next_won r t.stands v h ne;
       bound = omega (arith, i.bound, fewer, conceded.counted, conceded.taken.rounds, c.from-base.ensures, (is_game g).small);
-      outside = λ v l out. outside_lost g region left t.rest lost left' c.args.solution.now s1 s2 t.attractor conceded.attractor player opponent top base r v l out
-          (same_trans g c.args.solution.now s0 s1 v (i.outside v l out) (t.same v l (λ h. out (i.remaining.within v h))));
+      outside = λ v l out. outside_lost r v l out (same_trans g _ _ _ v (i.outside v l out) (t.same v l (λ h. out (i.remaining.within v h))));
     }
 
 pub play_turn-invariant_of-next : goal.play_turn-invariant_of-next
@@ -192,10 +165,10 @@ play_turn-invariant_of-next bound m0 c = record {
 }
 
 pub play_turn-solve_below-requires-clause-region : goal.play_turn-solve_below-requires-clause-region
-play_turn-solve_below-requires-clause-region bound m0 c κs lt = front_subgame c.args.turn.now _ _ _ _ _ _ c.requires.left c.in_ok-front.ensures.claimed
+play_turn-solve_below-requires-clause-region bound m0 c κs lt = front_subgame c.args.turn.now c.in_ok-front.ensures.claimed c.requires.left
 
 pub play_turn-solve_below-requires-clause-priorities : goal.play_turn-solve_below-requires-clause-priorities
-play_turn-solve_below-requires-clause-priorities bound m0 c κs lt = front_below c.args.turn.now _ _ _ _ _ _ c.requires.limit c.in_ok-front.ensures.claimed
+play_turn-solve_below-requires-clause-priorities bound m0 c κs lt = front_below c.args.turn.now c.in_ok-front.ensures.claimed c.requires.limit
 
 pub play_turn-overflow_add-gain : goal.play_turn-overflow_add-gain
 play_turn-overflow_add-gain bound m0 c =
@@ -207,7 +180,7 @@ play_turn-win_rest-requires-clause-listed bound m0 c =
     let f = c.in_ok-front.ensures in
     let e = c.in_ok-solve_below.ensures in
     let m = c.in_ok-front.front.vertices in
-    let lists = list_turned _ _ _ _ _ (record { whole = f.permuted; within = f.within; listed = f.listed }) e.permuted in
+    let lists = list_turned (record { whole = f.permuted; within = f.within; listed = f.listed }) e.permuted in
     subst (λ (x : List Bool). ListsRegion x (take m (c.solve_below.new.list ++ drop m c.claim_front.new.list))) (sym (c.deref.ensures.value ∙ e.region)) lists.listed
 
 pub play_turn-win_rest-requires-clause-small : goal.play_turn-win_rest-requires-clause-small
@@ -216,20 +189,20 @@ play_turn-win_rest-requires-clause-small bound m0 c =
     let s = c.solve_below.new.solution in
     let e = c.in_ok-solve_below.ensures in
     subst (λ (x : List Bool). (v : ℕ) → HasRoomAt turn s x (c.in_ok-front.front.peak + 1) v) (sym (c.deref.ensures.value ∙ e.region))
-    (rest_room turn _ _ _ _ _ s _ c.in_ok-front.ensures.claimed e.bounded)
+    (rest_room turn c.in_ok-front.ensures.claimed s e.bounded)
 
 pub play_turn-won_by-requires : goal.play_turn-won_by-requires
 play_turn-won_by-requires bound m0 c = λ k h.
     let f = c.in_ok-front.ensures in
-    let lists = list_turned _ _ _ _ _ (record { whole = f.permuted; within = f.within; listed = f.listed }) c.in_ok-solve_below.ensures.permuted in
-    omega (arith, list_below _ _ _ f.claimed.front.size lists.listed k h, c.win_rest.ensures.lengths.winner)
+    let lists = list_turned (record { whole = f.permuted; within = f.within; listed = f.listed }) c.in_ok-solve_below.ensures.permuted in
+    omega (arith, list_below (f.claimed.front.without.size ∙ c.requires.left.size) lists.listed k h, c.win_rest.ensures.lengths.winner)
 
 pub play_turn-mark-requires : goal.play_turn-mark-requires
 play_turn-mark-requires bound m0 c = λ k h.
     let f = c.in_ok-front.ensures in
     let e = c.in_ok-solve_below.ensures in
-    let lists = list_turned _ _ _ _ _ (record { whole = f.permuted; within = f.within; listed = f.listed }) e.permuted in
-    omega (arith, list_below _ _ _ c.requires.left.size (lists_permuted _ _ _ lists.whole c.requires.listed) k h, ap length e.region, f.claimed.front.size)
+    let lists = list_turned (record { whole = f.permuted; within = f.within; listed = f.listed }) e.permuted in
+    omega (arith, list_below c.requires.left.size (lists_permuted lists.whole c.requires.listed) k h, ap length e.region, f.claimed.front.without.size, c.requires.left.size)
 
 pub play_turn-returns : goal.play_turn-returns
 play_turn-returns bound m0 c =
@@ -243,22 +216,23 @@ play_turn-returns bound m0 c =
     let f = c.in_ok-front.ensures in
     let front = f.claimed.front in
     let e = c.in_ok-solve_below.ensures in
-    let lists = list_turned _ _ _ _ _ (record { whole = f.permuted; within = f.within; listed = f.listed }) e.permuted in
+    let lists = list_turned (record { whole = f.permuted; within = f.within; listed = f.listed }) e.permuted in
     let part : IsWonPart s3 c.won_by.new.part.items rest (opponent_of turn.player) = won_part s3 _ _ rest _ _ c.opponent.ensures lists.listed c.in_ok-won_by.ensures in
+    let steps : IsTurnInSteps turn left kept rest c.args.solution.now c.claim_front.new.solution s2 s3 peak = record {
+      subgame = c.requires.left;
+      limit = c.requires.limit;
+      won = c.requires.won;
+      claimed = f.claimed;
+      certified = e.certified;
+      same = e.outside;
+      raised = subst (λ (x : List Bool). (v : ℕ) → v < vertex_count turn.game.now → IsRaisedAt turn s2 s3 x (peak + 1) v) (c.deref.ensures.value ∙ e.region) c.win_rest.ensures.raised;
+    } in
     record {
       lengths = c.win_rest.ensures.lengths;
-      region = marked_again left rest _ _ _ e.region (front.size ∙ sym c.requires.left.size) c.mark.ensures.size (lists_permuted _ _ _ lists.whole c.requires.listed)
-          front.rest_left c.mark.ensures.listed c.mark.ensures.others;
+      region = marked_again e.region front.without.size c.mark.ensures.size (lists_permuted lists.whole c.requires.listed)
+          front.without.within c.mark.ensures.listed c.mark.ensures.others;
       permuted = lists.whole;
       blank = e.blank;
       sized = e.sized;
-      played = steps_turn turn left kept rest c.args.solution.now c.claim_front.new.solution s2 s3 peak _ (record {
-        subgame = c.requires.left;
-        limit = c.requires.limit;
-        won = c.requires.won;
-        claimed = f.claimed;
-        certified = e.certified;
-        same = e.outside;
-        raised = subst (λ (x : List Bool). Raises turn s2 s3 x (peak + 1)) (c.deref.ensures.value ∙ e.region) c.win_rest.ensures.raised;
-      }) part;
+      played = steps_turn steps part;
     }

@@ -1,24 +1,15 @@
 use Rattle.std.proofs.Common.{◌<◌, ◌≤◌, length, ap, refl, arith}
 use Rattle.pb_game.specs.Games.{successors_of}
-use Rattle.pb_zielonka.proofs.Forcing.{written}
-use Rattle.pb_zielonka.proofs.RoundLemmas.{on_ok3, grows_write, passed_taken, search_passed, stops_outside}
+use Rattle.pb_zielonka.proofs.RoundLemmas.{on_ok3, grows_write, passed_taken, under_way_passed, stops_outside}
 use Rattle.pb_zielonka.proofs.rounds.settle.Goals as goal
 
 pub take_in-requires-clause-under_way : goal.take_in-requires-clause-under_way
 take_in-requires-clause-under_way c =
-    let a = c.args.attractor.now in
-    let here : c.args.v < length a.passed.items = omega (arith, c.requires.under_way.search.known.size, c.requires.candidate.untaken.vertex) in
-    record {
-      small = c.requires.under_way.small;
-      started = c.requires.under_way.started;
-      search = search_passed c.args.arena.now a _ c.args.next.now.items c.args.v c.args.place refl refl refl
-          c.requires.candidate.untaken.inside (written a.passed.items c.args.v c.args.place here) c.requires.stops c.requires.under_way.search;
-    }
+    under_way_passed c.args.arena.now c.args.attractor.now _ c.args.next.now.items c.args.v c.args.place refl refl refl refl c.requires.candidate c.requires.stops c.requires.under_way
 
 pub take_in-requires-clause-taken : goal.take_in-requires-clause-taken
 take_in-requires-clause-taken c =
-    let g = c.args.arena.now.game.now in
-    let all : length (successors_of g c.args.v) ≤ c.args.place = omega (arith, ap length c.successors.ensures.list) in
+    let all : length (successors_of c.args.arena.now.game.now c.args.v) ≤ c.args.place = omega (arith, ap length c.successors.ensures.list) in
     passed_taken c.args.arena.now c.args.attractor.now.rank.items c.args.attractor.now.rounds c.args.v c.args.place 0
     c.requires.candidate.theirs c.requires.stops all
 
@@ -27,19 +18,11 @@ take_in-requires-clause-untaken c = c.requires.candidate.untaken
 
 pub returns-then-place-successors-clause-under_way : goal.returns-then-place-successors-clause-under_way
 returns-then-place-successors-clause-under_way c =
-    let a = c.args.attractor.now in
-    let here : c.args.v < length a.passed.items = omega (arith, c.requires.under_way.search.known.size, c.requires.candidate.untaken.vertex) in
-    record {
-      small = c.requires.under_way.small;
-      started = c.requires.under_way.started;
-      search = search_passed c.args.arena.now a _ c.args.next.now.items c.args.v c.args.place refl refl refl
-          c.requires.candidate.untaken.inside (written a.passed.items c.args.v c.args.place here) c.requires.stops c.requires.under_way.search;
-    }
+    under_way_passed c.args.arena.now c.args.attractor.now _ c.args.next.now.items c.args.v c.args.place refl refl refl refl c.requires.candidate c.requires.stops c.requires.under_way
 
 pub returns-then-place-successors-clause-outside : goal.returns-then-place-successors-clause-outside
 returns-then-place-successors-clause-outside c = λ inside z.
-    let g = c.args.arena.now.game.now in
-    let some : c.args.place < length (successors_of g c.args.v) = omega (arith, ap length c.successors.ensures.list) in
+    let some : c.args.place < length (successors_of c.args.arena.now.game.now c.args.v) = omega (arith, ap length c.successors.ensures.list) in
     stops_outside c.args.arena.now c.args.attractor.now.rank.items c.args.attractor.now.rounds c.args.v c.args.place
     c.requires.candidate.theirs c.requires.stops some
 

@@ -1,40 +1,30 @@
-use Rattle.std.proofs.Common.{◌≡◌, ◌<◌, ◌+◌, ℕ, List, Bool, [], ◌∷◌, ◌++◌, false, get_or, set, arith, rules, refl, sym, subst}
+use Rattle.std.proofs.Common.{◌≡◌, ◌<◌, ℕ, get_or, arith, rules, refl, subst}
 use Rattle.std.specs.Prelude.{IsTrue}
 use Rattle.std.proofs.lemmas.Bool.Decides.{nat_tests}
 use Rattle.pb_game.specs.Games.{vertex_count, priority_of}
 use Rattle.pb_game.proofs.Membership.{contains_at, contains_place}
 use Rattle.pb_zielonka.specs.Regions.{IsIn}
-use Rattle.pb_zielonka.proofs.Parts.{list_vertices}
-use Rattle.pb_zielonka.proofs.Dropping.{IsSiftedAt, IsSiftedUpTo, sifted_up_head, sifted_up_drop, sifted_up_stay}
+use Rattle.pb_zielonka.proofs.Parts.{standing_vertices}
+use Rattle.pb_zielonka.proofs.Dropping.{IsSiftedAt, IsSiftedUpTo, sifted_up_same, sifted_up_head, sifted_up_drop, sifted_up_stay}
 use Rattle.pb_zielonka.proofs.support.drop_fallen.Goals as goal
 use Rattle.pb_zielonka.proofs.support.drop_fallen.Goals.{then-priority-standing, else-priority-standing+then-not-stands+in_ok-push, else-priority-standing+else-not-stands}
 
 pub priority-requires : goal.priority-requires
-priority-requires c =
-    let st = c.args.standing.now in
-    list_vertices st.game.now st.region.now c.args.list.now st.sized c.requires.listed c.loop-v.v-index c.loop-v-test.true
+priority-requires c = standing_vertices c.args.standing.now c.args.list.now c.requires.listed c.loop-v.v-index c.loop-v-test.true
 
 pub bounds-kept-v : goal.bounds-kept-v
-bounds-kept-v c =
-    let st = c.args.standing.now in
-    omega (arith, list_vertices st.game.now st.region.now c.args.list.now st.sized c.requires.listed c.loop-v.v-index c.loop-v-test.true, c.loop-v.invariant.size)
+bounds-kept-v c = omega (arith, standing_vertices c.args.standing.now c.args.list.now c.requires.listed c.loop-v.v-index c.loop-v-test.true, c.loop-v.invariant.size)
 
 pub bounds-kept-v-then-not-stands : goal.bounds-kept-v-then-not-stands
-bounds-kept-v-then-not-stands c =
-    let st = c.args.standing.now in
-    omega (arith, list_vertices st.game.now st.region.now c.args.list.now st.sized c.requires.listed c.loop-v.v-index c.loop-v-test.true, c.loop-v.invariant.size)
+bounds-kept-v-then-not-stands c = omega (arith, standing_vertices c.args.standing.now c.args.list.now c.requires.listed c.loop-v.v-index c.loop-v-test.true, c.loop-v.invariant.size)
 
 pub stands-requires-clause-vertex : goal.stands-requires-clause-vertex
-stands-requires-clause-vertex c =
-    let st = c.args.standing.now in
-    list_vertices st.game.now st.region.now c.args.list.now st.sized c.requires.listed c.loop-v.v-index c.loop-v-test.true
+stands-requires-clause-vertex c = standing_vertices c.args.standing.now c.args.list.now c.requires.listed c.loop-v.v-index c.loop-v-test.true
 
 pub stands-requires-clause-choice : goal.stands-requires-clause-choice
 stands-requires-clause-choice c = λ on o.
-    let st = c.args.standing.now in
-    let list = c.args.list.now in
-    let v = get_or list c.loop-v.v-index 0 in
-    let inside : IsIn st.region.now v = c.requires.listed.inside v (contains_at list v c.loop-v.v-index (record { within = c.loop-v-test.true; there = refl })) in
+    let v = get_or c.args.list.now c.loop-v.v-index 0 in
+    let inside = c.requires.listed.inside v (contains_at c.args.list.now v c.loop-v.v-index (record { within = c.loop-v-test.true; there = refl })) in
     c.requires.choices v inside (c.loop-v.invariant.fewer v on) (λ e. absurd (grind (arith, nat_tests, e, c.if-priority-standing.false, c.priority.ensures.value))) o
 
 pub loop-v-preserved : goal.loop-v-preserved
@@ -46,23 +36,15 @@ loop-v-preserved c =
     let old = c.args.kept.now in
     let kept = c.loop-v.kept in
     let dropped = c.loop-v.dropped.items in
-    let below : v < vertex_count st.game.now = list_vertices st.game.now st.region.now list st.sized c.requires.listed k c.loop-v-test.true in
+    let below : v < vertex_count st.game.now = standing_vertices st list c.requires.listed k c.loop-v-test.true in
     let i : IsSiftedUpTo st old kept dropped list k = c.loop-v.invariant in
     elim c.if-priority-standing.branch [
       | then-priority-standing w ↦
-          let e : c.if-priority-standing.kept ≡ set kept v false = cc (w.kept-is) in
-          let e' : c.if-priority-standing.dropped.items ≡ dropped = cc (w.dropped-is) in
           let head : priority_of st.game.now v ≡ st.top = grind (arith, nat_tests, w.if-priority-standing.true, c.priority.ensures.value) in
-          subst (λ (x : List Bool). IsSiftedUpTo st old x c.if-priority-standing.dropped.items list (k + 1)) (sym e)
-          (subst (λ (x : List ℕ). IsSiftedUpTo st old (set kept v false) x list (k + 1)) (sym e') (sifted_up_head st old kept dropped list k below head i))
+          sifted_up_same (sifted_up_head st old kept dropped list k below head i) (cc (w.kept-is)) (cc (w.dropped-is))
       | else-priority-standing+then-not-stands+in_ok-push w ↦
-          let e : c.if-priority-standing.kept ≡ set kept v false = cc (w.kept-is) in
-          let e' : c.if-priority-standing.dropped.items ≡ dropped ++ v ∷ [] = cc (w.dropped-is, w.in_ok-push.ensures.items) in
-          subst (λ (x : List Bool). IsSiftedUpTo st old x c.if-priority-standing.dropped.items list (k + 1)) (sym e)
-          (subst (λ (x : List ℕ). IsSiftedUpTo st old (set kept v false) x list (k + 1)) (sym e') (sifted_up_drop st old kept dropped list k below i))
+          sifted_up_same (sifted_up_drop st old kept dropped list k below i) (cc (w.kept-is)) (cc (w.dropped-is, w.in_ok-push.ensures.items))
       | else-priority-standing+else-not-stands w ↦
-          let e : c.if-priority-standing.kept ≡ kept = cc (w.kept-is) in
-          let e' : c.if-priority-standing.dropped.items ≡ dropped = cc (w.dropped-is) in
           let ok : IsTrue w.stands.result = search rules in
           let on : IsIn kept v = w.stands.ensures.kept ok in
           let here : IsSiftedAt st kept dropped v = record {
@@ -71,8 +53,7 @@ loop-v-preserved c =
             height = λ h. w.stands.ensures.small ok;
             listed = λ out p. absurd (out on);
           } in
-          subst (λ (x : List Bool). IsSiftedUpTo st old x c.if-priority-standing.dropped.items list (k + 1)) (sym e)
-          (subst (λ (x : List ℕ). IsSiftedUpTo st old kept x list (k + 1)) (sym e') (sifted_up_stay st old kept dropped list k here i))
+          sifted_up_same (sifted_up_stay st old kept dropped list k here i) (cc (w.kept-is)) (cc (w.dropped-is))
     ]
 
 pub returns-clause-sifted : goal.returns-clause-sifted

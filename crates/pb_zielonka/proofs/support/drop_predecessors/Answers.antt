@@ -1,4 +1,4 @@
-use Rattle.std.proofs.Common.{◌≡◌, ◌<◌, ◌≤◌, ◌+◌, ℕ, List, Bool, [], ◌∷◌, ◌++◌, false, length, get_or, set, arith, rules, refl, sym, subst}
+use Rattle.std.proofs.Common.{◌≡◌, ◌<◌, ◌≤◌, ℕ, List, false, length, get_or, arith, rules, refl, sym, subst}
 use Rattle.std.specs.Prelude.{IsTrue}
 use Rattle.pb_game.specs.Games.{vertex_count, owner_of, predecessors_of}
 use Rattle.pb_game.specs.Solutions.{choice_of}
@@ -7,7 +7,7 @@ use Rattle.pb_game.proofs.Membership.{contains_place}
 use Rattle.pb_zielonka.specs.Regions.{IsIn}
 use Rattle.pb_zielonka.proofs.LevelLemmas.{in_below}
 use Rattle.pb_zielonka.specs.Kept.{StandsOn}
-use Rattle.pb_zielonka.proofs.Dropping.{IsClearedUpTo, cleared_up_drop, cleared_up_stay}
+use Rattle.pb_zielonka.proofs.Dropping.{IsClearedUpTo, cleared_up_same, cleared_up_drop, cleared_up_stay}
 use Rattle.pb_zielonka.proofs.support.drop_predecessors.Goals as goal
 use Rattle.pb_zielonka.proofs.support.drop_predecessors.Goals.{then-standing-v+then-kept-v+then-stands_on+in_ok-push, else-standing-v, else-standing-v-via-then-standing-v+then-kept-v+else-stands_on, else-standing-v-via-then-standing-v+else-kept-v, else-standing-v-via-else-standing-v}
 
@@ -29,15 +29,10 @@ loop-v-preserved c =
     let i : IsClearedUpTo st old kept before dropped xs u k = c.loop-v.invariant in
     elim c.if-standing-v.branch [
       | then-standing-v+then-kept-v+then-stands_on+in_ok-push w ↦
-          let e : c.if-standing-v.kept ≡ set kept v false = cc (w.kept-is, same) in
-          let e' : c.if-standing-v.dropped.items ≡ dropped ++ v ∷ [] = cc (w.dropped-is, w.in_ok-push.ensures.items, same) in
           let on' : IsIn kept (get_or c.predecessors-v-items.result.now k 0) = search rules in
           let on : IsIn kept v = subst (λ (x : ℕ). IsIn kept x) same on' in
-          subst (λ (x : List Bool). IsClearedUpTo st old x before c.if-standing-v.dropped.items xs u (k + 1)) (sym e)
-          (subst (λ (x : List ℕ). IsClearedUpTo st old (set kept v false) before x xs u (k + 1)) (sym e') (cleared_up_drop st old kept before dropped xs u k below on i))
+          cleared_up_same (cleared_up_drop st old kept before dropped xs u k below on i) (cc (w.kept-is, same)) (cc (w.dropped-is, w.in_ok-push.ensures.items, same))
       | else-standing-v w ↦
-          let e : c.if-standing-v.kept ≡ kept = cc (w.kept-is) in
-          let e' : c.if-standing-v.dropped.items ≡ dropped = cc (w.dropped-is) in
           let none : IsIn st.region.now v → IsIn kept v → StandsOn g st.solution.now st.player v u → ⊥ = elim w.else-standing-v.branch [
             | else-standing-v-via-then-standing-v+then-kept-v+else-stands_on w' ↦ λ inside on stands.
                 let no : IsTrue w'.stands_on.result → ⊥ = search rules in
@@ -52,8 +47,7 @@ loop-v-preserved c =
                 let off' : get_or st.region.now v false ≡ false = subst (λ (x : ℕ). get_or st.region.now x false ≡ false) same off in
                 absurd (cc)
           ] in
-          subst (λ (x : List Bool). IsClearedUpTo st old x before c.if-standing-v.dropped.items xs u (k + 1)) (sym e)
-          (subst (λ (x : List ℕ). IsClearedUpTo st old kept before x xs u (k + 1)) (sym e') (cleared_up_stay st old kept before dropped xs u k none i))
+          cleared_up_same (cleared_up_stay st old kept before dropped xs u k none i) (cc (w.kept-is)) (cc (w.dropped-is))
     ]
 
 pub returns-clause-cleared : goal.returns-clause-cleared

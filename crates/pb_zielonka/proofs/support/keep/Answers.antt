@@ -4,7 +4,7 @@ use Rattle.pb_game.specs.Solutions.{choice_of}
 use Rattle.pb_game.proofs.Laws.{is_game}
 use Rattle.pb_zielonka.proofs.LevelLemmas.{in_below, in_or_out}
 use Rattle.std.proofs.lemmas.Bool.{cases_eq}
-use Rattle.pb_zielonka.proofs.Parts.{list_vertices}
+use Rattle.pb_zielonka.proofs.Parts.{standing_vertices}
 use Rattle.pb_zielonka.proofs.support.keep.Goals as goal
 
 pub drop_fallen-requires-clause-choices : goal.drop_fallen-requires-clause-choices
@@ -13,14 +13,10 @@ drop_fallen-requires-clause-choices c = λ v i k p o.
     (is_game st.game.now).closed v (choice_of st.solution.now v) (in_below st.region.now v _ st.sized i) ((c.requires.won v i k p).choice o)
 
 pub list_target-requires-clause-vertices : goal.list_target-requires-clause-vertices
-list_target-requires-clause-vertices c =
-    let st = c.args.standing.now in
-    list_vertices st.game.now st.region.now c.args.list.now st.sized c.requires.listed
+list_target-requires-clause-vertices c = standing_vertices c.args.standing.now c.args.list.now c.requires.listed
 
 pub height_of-requires-clause-vertices : goal.height_of-requires-clause-vertices
-height_of-requires-clause-vertices c =
-    let st = c.args.standing.now in
-    list_vertices st.game.now st.region.now c.args.list.now st.sized c.requires.listed
+height_of-requires-clause-vertices c = standing_vertices c.args.standing.now c.args.list.now c.requires.listed
 
 pub returns-clause-closed : goal.returns-clause-closed
 returns-clause-closed c =
