@@ -13,6 +13,7 @@ use Rattle.pb_text_tree.specs.declared.place.Place.{Place}
 use Rattle.pb_text_tree.specs.Form.{EquationForm, SpecForm, spec_form}
 use Rattle.pb_base_values.specs.Carrier as carriers
 use Rattle.pb_base_values.specs.Carrier.{Tuple, is_within}
+use Rattle.pb_sorts.specs.declared.carrier.Carrier.{Carrier}
 use Rattle.pb_sorts.specs.Instance as numbered
 use Rattle.pb_sorts.specs.Instance.{is_instance, is_tuple_of}
 use Rattle.pb_sorts.specs.Layout.{carriers_of}
@@ -274,7 +275,14 @@ values-count t i X at instance =
     within-length (erase (spec_form t.spec)) (erased_variables X.parameters) i.values
     (within-carriers t i X at instance)
 
--- the slots of a caller: its values, and 0 for each variable of a quantifier
+-- the slots of a caller, as they are made: its values, and 0 for each variable of a quantifier
+pub caller-slots : {slots made vs us : Tuple} {cs ds : List Carrier}
+    → slots ≡ made → made ≡ vs ++ replicate (length cs) (pos 0) → vs ≡ us → cs ≡ ds → slots ≡ us ++ replicate (length ds) (pos 0)
+caller-slots {slots} {made} {vs} {us} {cs} same is values loops =
+    same ∙ (is ∙ (ap (λ (ws : Tuple). ws ++ replicate (length cs) (pos 0)) values
+    ∙ ap (λ (es : List Carrier). us ++ replicate (length es) (pos 0)) loops))
+
+-- its tree fits them
 pub caller-fits : (t : Typed) (i : numbered.Instance) (X : typed.Equation) (slots : Tuple)
     → IsTreeOf (spec_form t.spec) i.equation X → is_instance (carriers_of t.layout) i ≡ true
     → slots ≡ i.values ++ replicate (length X.loops.items) (pos 0)

@@ -1,8 +1,7 @@
 -- The calls that a chain makes, operand by operand.
 use Rattle.std.proofs.Common.{◌≡◌, ℕ, ◌+◌, ◌<◌, ◌≤◌, Bool, true, false, if◌then◌else◌}
 use Rattle.std.proofs.Common.{List, [], ◌∷◌, ◌++◌, length, get_or, take, drop, refl, sym, ◌∙◌, ap}
-use Rattle.std.proofs.Common.{subst, append_assoc, append-nil, Vec, Global, Box, arith}
-use Rattle.std.specs.Prelude.{box_value}
+use Rattle.std.proofs.Common.{subst, append_assoc, append-nil, arith}
 use Rattle.std.proofs.Math.Seq.{take-append_seam, drop-append_seam}
 use Rattle.std.proofs.lemmas.List.{drop_all}
 use Rattle.pb_text_tree.specs.declared.operator.Connective.{Connective}
@@ -15,25 +14,28 @@ use Rattle.pb_typing_tree.specs.Meaning.{Slots}
 use Rattle.pb_typing_tree.specs.Tree as tree
 use Rattle.pb_typing_tree.specs.Tree.{Connected}
 use Rattle.pb_typing_tree.specs.View.{chained, formula_view, formula_views}
-use Rattle.pb_typing_tree.specs.declared.formula.Formula as formula
 use Rattle.pb_typing_tree.specs.declared.formula.Formula.{Formula}
-use Rattle.pb_typing_tree.proofs.Calls.{calls-counted, chain-places}
+use Rattle.pb_typing_tree.proofs.Calls.{calls-counted}
 use Rattle.pb_typing_tree.proofs.FormulaWeight.{links_weight, weight}
-use Rattle.pb_typing_tree.proofs.Views.{formula-chain}
 use Rattle.pb_typing_values.specs.Environment.{IsLaidOut}
 use Rattle.pb_typing_values.specs.Slots.{slots_of}
 use Rattle.pb_typing_calls.specs.Gathered.{FitAt, FitsAt, calls_of, chain_calls, decides_first}
 use Rattle.pb_typing_calls.specs.Gathered.{gathered}
 use Rattle.pb_typing_calls.specs.MadeCalls.{MadeCall}
 use Rattle.pb_typing_calls.specs.declared.scope.Scope.{Scope}
+use Rattle.pb_typing_calls.proofs.Nodes.{IsChainOf}
 
 -- ---- each operand fits
 
-pub fit-chained : (s : Scope) (vs : Tuple) (o : Connective) (first : Formula) (fs : List Formula)
+fit-each : (s : Scope) (vs : Tuple) (o : Connective) (first : Formula) (fs : List Formula)
     → FitsAt s vs (chained (Connected o) (formula_view first) (formula_views fs))
     → FitsAt s vs (formula_view first) × FitAt s vs fs
-fit-chained s vs o first [] h = (h, tt)
-fit-chained s vs o first (f ∷ fs) h = (h.0, fit-chained s vs o f fs h.1)
+fit-each s vs o first [] h = (h, tt)
+fit-each s vs o first (f ∷ fs) h = (h.0, fit-each s vs o f fs h.1)
+
+pub fit-chained : (s : Scope) (vs : Tuple) {f : Formula} {o : Connective} {first : Formula} {links : List Formula}
+    → IsChainOf f o first links → FitsAt s vs (formula_view f) → FitsAt s vs (formula_view first) × FitAt s vs links
+fit-chained s vs {f} {o} {first} {links} read h = fit-each s vs o first links (subst (FitsAt s vs) read.view h)
 
 -- ---- operands make calls
 
@@ -64,17 +66,12 @@ module _ (spec : Spec) (s : Scope) (a : Slots) (o : Connective) where
       ∙ ap (both (formula_calls t ps)) (gathered-chained f fs))
 
   -- a chain makes the calls of its operands
-  pub gathered-chain : (f : Formula) (first : Box Formula Global) (v : Vec Formula Global)
-      → f ≡ formula.Chain o first v
-      → calls_of spec s a f ≡ chain_calls spec s a o (box_value first) v.items
-  gathered-chain f first v is =
-      ap (calls_of spec s a) is
-      ∙ (ap (λ (t : tree.Formula). formula_calls t (call_places (formula.Chain o first v)))
-      (formula-chain o first v)
-      ∙ (ap (formula_calls (chained (Connected o) (formula_view (box_value first))
-      (formula_views v.items)))
-      (chain-places o first v)
-      ∙ gathered-chained (box_value first) v.items))
+  pub gathered-chain : {f first : Formula} {links : List Formula} → IsChainOf f o first links
+      → calls_of spec s a f ≡ chain_calls spec s a o first links
+  gathered-chain {f} {first} {links} read =
+      ap (λ (t : tree.Formula). formula_calls t (call_places f)) read.view
+      ∙ (ap (formula_calls (chained (Connected o) (formula_view first) (formula_views links))) read.places
+      ∙ gathered-chained first links)
 
   -- behind an operand that decides no call is made
   stops-there : (f : Formula) (fs : List Formula) → decides_first spec a o (formula_view f) ≡ true

@@ -1,8 +1,7 @@
 -- Whether a chain makes a call, operand by operand.
 use Rattle.std.proofs.Common.{◌≡◌, ℕ, ◌+◌, ◌-◌, ◌<◌, ◌≤◌, Bool, true, false, not, ◌&&◌, ◌||◌}
 use Rattle.std.proofs.Common.{List, [], ◌∷◌, ◌++◌, length, get_or, take, drop, refl, sym, ◌∙◌, ap}
-use Rattle.std.proofs.Common.{subst, append-nil, Vec, Global, Box, arith}
-use Rattle.std.specs.Prelude.{box_value}
+use Rattle.std.proofs.Common.{subst, append-nil, arith}
 use Rattle.std.proofs.Math.Seq.{take-append_seam, take-length, drop-append_seam}
 use Rattle.std.proofs.lemmas.Bool.{and_parts, and_right}
 use Rattle.std.proofs.lemmas.List.{drop_all, length-drop}
@@ -17,24 +16,28 @@ use Rattle.pb_typing_tree.specs.Meaning.{Slots}
 use Rattle.pb_typing_tree.specs.Tree as tree
 use Rattle.pb_typing_tree.specs.Tree.{Test, Negation, Connected, Quantified, Call}
 use Rattle.pb_typing_tree.specs.View.{chained, formula_view, formula_views}
-use Rattle.pb_typing_tree.specs.declared.formula.Formula as formula
 use Rattle.pb_typing_tree.specs.declared.formula.Formula.{Formula}
-use Rattle.pb_typing_tree.proofs.Calls.{calls-counted, chain-places}
+use Rattle.pb_typing_tree.proofs.Calls.{calls-counted}
 use Rattle.pb_typing_tree.proofs.FormulaWeight.{links_weight, weight}
-use Rattle.pb_typing_tree.proofs.Views.{formula-chain}
 use Rattle.pb_typing_values.specs.Slots.{slots_of}
 use Rattle.pb_typing_calls.specs.Made.{is_deciding, is_test, made, rest_decides}
 use Rattle.pb_typing_calls.specs.Sought.{FitsValues, FitValues, IsOf, chain_makes, is_made}
 use Rattle.pb_typing_calls.specs.declared.side.Side.TheVariants.{Left, Right}
 use Rattle.pb_typing_calls.specs.declared.sought.Sought.{Sought}
+use Rattle.pb_typing_calls.proofs.Nodes.{IsChainOf}
 
 -- ---- each operand fits
 
-pub fits-chained : (s : Sought) (vs : Tuple) (o : Connective) (first : Formula) (fs : List Formula)
+fits-each : (s : Sought) (vs : Tuple) (o : Connective) (first : Formula) (fs : List Formula)
     → FitsValues s vs (chained (Connected o) (formula_view first) (formula_views fs))
     → FitsValues s vs (formula_view first) × FitValues s vs fs
-fits-chained s vs o first [] h = (h, tt)
-fits-chained s vs o first (f ∷ fs) h = (h.0, fits-chained s vs o f fs h.1)
+fits-each s vs o first [] h = (h, tt)
+fits-each s vs o first (f ∷ fs) h = (h.0, fits-each s vs o f fs h.1)
+
+pub fits-chained : (s : Sought) (vs : Tuple) {f : Formula} {o : Connective} {first : Formula} {links : List Formula}
+    → IsChainOf f o first links → FitsValues s vs (formula_view f)
+    → FitsValues s vs (formula_view first) × FitValues s vs links
+fits-chained s vs {f} {o} {first} {links} read h = fits-each s vs o first links (subst (FitsValues s vs) read.view h)
 
 -- ---- operands make the call
 
@@ -83,17 +86,12 @@ module _ (spec : Spec) (s : Sought) (a : Slots) (o : Connective) where
       (made-chained f fs)))
 
   -- a chain makes the call where its operands do
-  pub made-chain : (f : Formula) (first : Box Formula Global) (v : Vec Formula Global)
-      → f ≡ formula.Chain o first v
-      → is_made spec s a f ≡ chain_makes spec s a o (box_value first) v.items
-  made-chain f first v is =
-      ap (is_made spec s a) is
-      ∙ (ap (λ (t : tree.Formula). formula_makes t (call_places (formula.Chain o first v)))
-      (formula-chain o first v)
-      ∙ (ap (formula_makes (chained (Connected o) (formula_view (box_value first))
-      (formula_views v.items)))
-      (chain-places o first v)
-      ∙ made-chained (box_value first) v.items))
+  pub made-chain : {f first : Formula} {links : List Formula} → IsChainOf f o first links
+      → is_made spec s a f ≡ chain_makes spec s a o first links
+  made-chain {f} {first} {links} read =
+      ap (λ (t : tree.Formula). formula_makes t (call_places f)) read.view
+      ∙ (ap (formula_makes (chained (Connected o) (formula_view first) (formula_views links))) read.places
+      ∙ made-chained first links)
 
   -- ---- one operand of a chain, and those behind it
 

@@ -4,6 +4,7 @@ pub mod Elaborated
 pub mod Truths
 pub mod Operands
 pub mod Holding
+pub mod Nodes
 pub mod Arguments
 pub mod ChainMade
 pub mod TuplesMade

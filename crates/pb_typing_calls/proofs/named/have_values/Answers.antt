@@ -13,8 +13,10 @@ use Rattle.pb_typing_tree.specs.declared.formula.Argument.{Argument}
 use Rattle.pb_typing_values.specs.Slots.{slots_of}
 use Rattle.pb_typing_calls.specs.Made.{argument_values}
 use Rattle.pb_typing_calls.proofs.Arguments.{compared, values-at}
+use Rattle.pb_typing_calls.proofs.Truths.{fails, passes}
 use Rattle.pb_typing_values.proofs.Called.{argument_fits}
 use Rattle.pb_typing_calls.proofs.named.have_values.Goals as goal
+use Rattle.pb_typing_calls.proofs.named.have_values.Goals.{After-value}
 
 -- values that are the same word are the same
 same-word : (v w : Value) → SFits w64 v → SFits w64 w → of_z w64 v ≡ of_z w64 w → v ≡ w
@@ -42,47 +44,33 @@ value-requires c =
     (argument_fits n a c.args.arguments.now c.loop-index.index c.index-arguments-index.result
     c.requires c.loop-index-test.true c.index-arguments-index.is)
 
-pub returns-then-value-values : goal.returns-then-value-values
-returns-then-value-values c =
+-- the value of an argument and those behind it decide
+by_value : (c : After-value)
+    → pointwise int_eq (argument_values (slots_of c.args.slots.now) (map argument_view c.args.arguments.now)) c.args.values.now
+    ≡ int_eq c.value.result (get_or c.args.values.now c.loop-index.index (pos 0))
+    && pointwise int_eq (drop (c.loop-index.index + 1) (argument_values (slots_of c.args.slots.now) (map argument_view c.args.arguments.now)))
+    (drop (c.loop-index.index + 1) c.args.values.now)
+by_value c =
     let a = slots_of c.args.slots.now in
     let es = c.args.arguments.now in
     let ws = c.args.values.now in
     let k = c.loop-index.index in
     let e = c.index-arguments-index.result in
-    let v = value a (term_view e.term) in
-    let w = get_or ws k (pos 0) in
     let all = argument_values a (map argument_view es) in
-    let less : k < length ws = omega (arith, c.loop-index-test.true, c.if-arguments-values.false) in
-    let is : c.value.result ≡ v =
-    c.value.ensures ∙ ap (λ (d : Argument). value a (term_view d.term))
-    (sym c.index-arguments-index.is) in
-    let other : int_eq v w ≡ false = ap (λ (u : Value). int_eq u w) (sym is)
-    ∙ differ c.value.result w c.if-value-values.true in
-    let split = compared (drop k all) (drop k ws) (drop (k + 1) all) (drop (k + 1) ws) v w
-    (pointwise int_eq all ws) (values-at a es k e c.loop-index-test.true c.index-arguments-index.is)
-    (drop-cons-at ws k less) c.loop-index.invariant in
-    sym (split ∙ ap (λ (b : Bool). b && pointwise int_eq (drop (k + 1) all) (drop
-    (k + 1) ws)) other)
+    let is = c.value.ensures ∙ ap (λ (d : Argument). value a (term_view d.term)) (sym c.index-arguments-index.is) in
+    compared (drop k all) (drop k ws) (drop (k + 1) all) (drop (k + 1) ws) c.value.result (get_or ws k (pos 0)) (pointwise int_eq all ws)
+    (values-at a es k e c.loop-index-test.true c.index-arguments-index.is ∙ ap (λ (v : Value). v ∷ drop (k + 1) all) (sym is))
+    (drop-cons-at ws k (omega (arith, c.loop-index-test.true, c.if-arguments-values.false))) c.loop-index.invariant
+
+pub returns-then-value-values : goal.returns-then-value-values
+returns-then-value-values c =
+    fails _ _ _ (by_value (goal.at.returns-then-value-values c).After-value)
+    (differ c.value.result (get_or c.args.values.now c.loop-index.index (pos 0)) c.if-value-values.true)
 
 pub loop-index-preserved : goal.loop-index-preserved
 loop-index-preserved c =
-    let a = slots_of c.args.slots.now in
-    let es = c.args.arguments.now in
-    let ws = c.args.values.now in
-    let k = c.loop-index.index in
-    let e = c.index-arguments-index.result in
-    let v = value a (term_view e.term) in
-    let w = get_or ws k (pos 0) in
-    let all = argument_values a (map argument_view es) in
-    let less : k < length ws = omega (arith, c.loop-index-test.true, c.if-arguments-values.false) in
-    let is : c.value.result ≡ v =
-    c.value.ensures ∙ ap (λ (d : Argument). value a (term_view d.term))
-    (sym c.index-arguments-index.is) in
+    let w = get_or c.args.values.now c.loop-index.index (pos 0) in
     let fits : SFits w64 c.value.result = record { sfits = omega arith } in
     let word : SFits w64 w = record { sfits = omega arith } in
-    let same : v ≡ w = sym is ∙ same-word c.value.result w fits word c.if-value-values.false in
-    let split = compared (drop k all) (drop k ws) (drop (k + 1) all) (drop (k + 1) ws) v w
-    (pointwise int_eq all ws) (values-at a es k e c.loop-index-test.true c.index-arguments-index.is)
-    (drop-cons-at ws k less) c.loop-index.invariant in
-    sym (split ∙ ap (λ (b : Bool). b && pointwise int_eq (drop (k + 1) all) (drop (k + 1) ws))
-    ((Decides-int_eq v w).1 same))
+    passes _ _ _ (by_value (goal.at.loop-index-preserved c).After-value)
+    ((Decides-int_eq c.value.result w).1 (same-word c.value.result w fits word c.if-value-values.false))

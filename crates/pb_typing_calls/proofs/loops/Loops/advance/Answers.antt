@@ -10,23 +10,17 @@ advance-requires c =
 pub returns-clause-next : goal.returns-clause-next
 returns-clause-next c = λ outer k h yes.
     let l = c.args.self.now in
-    let slots = c.args.slots.now in
     let n = l.slot + length l.carriers.now - l.slot in
     let old = tuple-length l k h.tuple h.at in
     let vs = c.advance.new.values in
-    let at = c.advance.ensures.next k (held l outer slots k n h (omega (arith, old))) yes in
+    let at = c.advance.ensures.next k (held h n (omega arith)) yes in
     let new = tuple-length l (k + 1) vs at in
     record {
       tuple = vs;
       at = at;
       room = omega (arith, old, new, h.room);
-      is = written l slots vs n (omega (arith, new)) ∙ replaced l outer slots vs k h (old
-          ∙ sym new);
+      is = written l c.args.slots.now vs n (omega (arith, new)) ∙ replaced l outer c.args.slots.now vs k h (old ∙ sym new);
     }
 
 pub returns-clause-last : goal.returns-clause-last
-returns-clause-last c = λ outer k h no.
-    let l = c.args.self.now in
-    let n = l.slot + length l.carriers.now - l.slot in
-    let old = tuple-length l k h.tuple h.at in
-    c.advance.ensures.last k (held l outer c.args.slots.now k n h (omega (arith, old))) no
+returns-clause-last c = λ outer k h no. c.advance.ensures.last k (held h _ (omega arith)) no
