@@ -125,8 +125,8 @@ pub record Awaits (whole rest : Piece) (l : ℕ) (d0 d : Draft) : Type 0 where
   pub follows : Follows d0 d
   pub completed : (d' : Draft) → Ends rest l d d' → Emits whole nowhere d0 d'
 
-pub awaits_all : (x : Piece) (l : ℕ) (d0 d : Draft) → l ≡ length d0.places → d ≡ record d0 { places = d0.places ++ None ∷ [] } → Awaits x x l d0 d
-awaits_all x l d0 d n e =
+pub awaits_all : {x : Piece} {l : ℕ} {d0 d : Draft} → l ≡ length d0.places → d ≡ record d0 { places = d0.places ++ None ∷ [] } → Awaits x x l d0 d
+awaits_all {x} {l} {d0} {d} n e =
     let m = makes_from d0 d l n e in
     let long1 = m.long in record {
       is_open = record { there = omega arith; open_yet = new_place d0 d l n e };
@@ -139,17 +139,17 @@ awaits_all x l d0 d n e =
       };
     }
 
-pub awaits_then : (whole x y : Piece) (l : ℕ) (d0 d d1 : Draft) → Awaits whole (Then x y) l d0 d → Emits x nowhere d d1 → Awaits whole y l d0 d1
-awaits_then whole x y l d0 d d1 a h =
+pub awaits_then : {whole x y : Piece} {l : ℕ} {d0 d d1 : Draft} → Awaits whole (Then x y) l d0 d → Emits x nowhere d d1 → Awaits whole y l d0 d1
+awaits_then {whole} {x} {y} {l} {d0} {d} {d1} a h =
     let f = emits_follows x nowhere d d1 h in record {
       is_open = still_open l d d1 a.is_open f;
       follows = then_follows d0 d d1 a.follows f;
       completed = λ d' k. a.completed d' (ends_then x y l d d1 d' a.is_open h k);
     }
 
-pub awaits_unless : (whole : Piece) (on : Bool) (x : Piece) (l : ℕ) (d0 d d1 : Draft)
+pub awaits_unless : {whole : Piece} {on : Bool} {x : Piece} {l : ℕ} {d0 d d1 : Draft}
     → Awaits whole (Unless on x) l d0 d → d1 ≡ record d { ops = d.ops ++ (instruction.Jump (jump.If on) l) ∷ [] } → Awaits whole x l d0 d1
-awaits_unless whole on x l d0 d d1 a e =
+awaits_unless {whole} {on} {x} {l} {d0} {d} {d1} a e =
     let s = adds_from d d1 (instruction.Jump (jump.If on) l) e in
     let f = adds_follows d d1 (instruction.Jump (jump.If on) l) s in record {
       is_open = still_open l d d1 a.is_open f;
@@ -157,10 +157,10 @@ awaits_unless whole on x l d0 d d1 a e =
       completed = λ d' k. a.completed d' (ends_unless on x l d d1 d' a.is_open s k);
     }
 
-pub awaits_choose : (whole : Piece) (on : Bool) (x y : Piece) (l other : ℕ) (d0 d d1 d2 d3 d4 d5 : Draft) → Awaits whole (Choose on x y) l d0 d
+pub awaits_choose : {whole : Piece} {on : Bool} {x y : Piece} {l other : ℕ} {d0 d d1 d2 d3 d4 d5 : Draft} → Awaits whole (Choose on x y) l d0 d
     → other ≡ length d.places → d1 ≡ record d { places = d.places ++ None ∷ [] } → d2 ≡ record d1 { ops = d1.ops ++ (instruction.Jump (jump.If on) other) ∷ [] } → Emits x nowhere d2 d3
     → d4 ≡ record d3 { ops = d3.ops ++ (instruction.Jump jump.Always l) ∷ [] } → d5 ≡ record d4 { places = slice_set d4.places other (Some (length d4.ops)) } → Awaits whole y l d0 d5
-awaits_choose whole on x y l other d0 d d1 d2 d3 d4 d5 a n e1 e2 hx e4 e5 =
+awaits_choose {whole} {on} {x} {y} {l} {other} {d0} {d} {d1} {d2} {d3} {d4} {d5} a n e1 e2 hx e4 e5 =
     let m = makes_from d d1 other n e1 in
     let a2 = adds_from d1 d2 (instruction.Jump (jump.If on) other) e2 in
     let a4 = adds_from d3 d4 (instruction.Jump jump.Always l) e4 in
@@ -177,8 +177,8 @@ awaits_choose whole on x y l other d0 d d1 d2 d3 d4 d5 a n e1 e2 hx e4 e5 =
       completed = λ d' k. a.completed d' (ends_choose on x y d d1 d2 d3 d4 d5 d' other l a.is_open m a2 hx a4 s5 k w5 f5);
     }
 
-pub awaits_no_more : (whole x : Piece) (l : ℕ) (d0 d d1 d2 : Draft) → Awaits whole x l d0 d → Emits x nowhere d d1
+pub awaits_no_more : {whole x : Piece} {l : ℕ} {d0 d d1 d2 : Draft} → Awaits whole x l d0 d → Emits x nowhere d d1
     → d2 ≡ record d1 { places = slice_set d1.places l (Some (length d1.ops)) } → Emits whole nowhere d0 d2
-awaits_no_more whole x l d0 d d1 d2 a h e =
+awaits_no_more {whole} {x} {l} {d0} {d} {d1} {d2} a h e =
     let w = still_open l d d1 a.is_open (emits_follows x nowhere d d1 h) in
     a.completed d2 (ends_last x l d d1 d2 h (sets_from d1 d2 l (unplaced d1.places l w.there w.open_yet) e))

@@ -1,17 +1,20 @@
 -- Chains of operands, emitted operand by operand.
-use Rattle.std.proofs.Common.{◌≡◌, ℕ, zero, suc, ◌<◌, true, List, [], ◌∷◌, length, get_or, drop, refl, sym, ap, subst, arith}
+use Rattle.std.proofs.Common.{◌≡◌, ℕ, zero, suc, ◌+◌, ◌<◌, true, List, [], ◌∷◌, length, get_or, drop, refl, sym, ap, ◌∙◌, subst, arith, Vec, Global, Box}
+use Rattle.std.specs.Prelude.{box_value}
 use Rattle.std.proofs.lemmas.Bool.{and_parts}
 use Rattle.pb_text_tree.specs.declared.operator.Connective.{Connective}
 use Rattle.pb_text_tree.specs.declared.operator.Connective.TheVariants as connective
 use Rattle.pb_text_meaning.specs.Erase.{of_arithmetic, of_connective}
 use Rattle.pb_normal.specs.Normal as normal
 use Rattle.pb_normal.specs.Normal.{Binary}
+use Rattle.pb_typing_tree.specs.declared.term.Term as term
 use Rattle.pb_typing_tree.specs.declared.term.Term.{Term}
 use Rattle.pb_typing_tree.specs.declared.term.Link.{Link}
 use Rattle.pb_normal.specs.View.{calculated, chained, term_view, term_views, link_views}
 use Rattle.pb_assembler_scheme.specs.Pieces.{Then}
 use Rattle.pb_assembler_scheme.specs.Scheme.{data_piece}
-use Rattle.pb_assembler_measures.proofs.Views.{chain_from}
+use Rattle.pb_typing_tree.proofs.Weight.{weight, terms_weight, links_weight, weight-chain, weight-arithmetic}
+use Rattle.pb_assembler_measures.proofs.Views.{arithmetic_is, chain_from, chain_is}
 use Rattle.pb_assembler.specs.Emitted.{connected_behind}
 use Rattle.pb_normal.specs.Small.{is_small}
 
@@ -61,3 +64,29 @@ small_operand first (m ∷ ls) zero l b e h =
     (and_parts (is_small first) (is_small (term_view m.operand))
     (small_head (Binary (of_arithmetic m.operator) first (term_view m.operand)) ls h)).1
 small_operand first (m ∷ ls) (suc k) l b e h = small_operand (Binary (of_arithmetic m.operator) first (term_view m.operand)) ls k l (omega arith) e h
+
+-- ---- chains and arithmetic, as they are read
+
+-- a term connects a first operand and those behind it
+pub record IsChainOf (t : Term) (o : Connective) (x : Term) (xs : List Term) : Type 0 where
+  pub view : chained (Binary (of_connective o)) (term_view x) (term_views xs) ≡ term_view t
+  pub weighs : weight t ≡ 4 + (weight x + terms_weight xs)
+
+pub chain_read : {t x : Term} {xs : List Term} (o : Connective) (b : Box Term Global) (v : Vec Term Global)
+    → t ≡ term.Chain o b v → x ≡ box_value b → xs ≡ v.items → IsChainOf t o x xs
+chain_read {t} {x} {xs} o b v is first links = record {
+  view = chain_is t x o b v xs is first links;
+  weighs = omega (arith, ap weight is ∙ weight-chain o b v, ap weight first, ap terms_weight links);
+}
+
+-- a term calculates with a first operand and those behind it
+pub record IsArithmeticOf (t x : Term) (ls : List Link) : Type 0 where
+  pub view : calculated (term_view x) (link_views ls) ≡ term_view t
+  pub weighs : weight t ≡ 4 + (weight x + links_weight ls)
+
+pub arithmetic_read : {t x : Term} {ls : List Link} (b : Box Term Global) (v : Vec Link Global)
+    → t ≡ term.Arithmetic b v → x ≡ box_value b → ls ≡ v.items → IsArithmeticOf t x ls
+arithmetic_read {t} {x} {ls} b v is first links = record {
+  view = arithmetic_is t x b v ls is first links;
+  weighs = omega (arith, ap weight is ∙ weight-arithmetic b v, ap weight first, ap links_weight links);
+}

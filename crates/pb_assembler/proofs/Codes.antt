@@ -11,24 +11,21 @@ use Rattle.pb_assembler_scheme.specs.Pieces.{Plain, Then}
 use Rattle.pb_assembler_scheme.specs.Scheme.{bracketed, connective_of, equation_code, equation_piece, formula_piece, head}
 use Rattle.pb_assembler_builder.specs.Draft.{Draft, label_place}
 use Rattle.pb_assembler.specs.Emitted.{Emits, nowhere}
-use Rattle.pb_assembler.proofs.Emitting.{emits_then, emitted_long}
+use Rattle.pb_assembler.proofs.Emitting.{bracket_emitted, emits_then, emitted_long}
 
 abbrev pub empty : Draft
 empty = record { ops = []; places = [] }
 
-pub equation_emitted : (callees : List (List Carrier)) (f : Formula) (m : Junction) (k : Connective) (d0 d1 d2 d3 d4 : Draft) → m ≡ head f → k ≡ connective_of m → d0 ≡ empty
+pub equation_emitted : (callees : List (List Carrier)) (f : Formula) {m : Junction} {k : Connective} {d0 d1 d2 d3 d4 : Draft} → m ≡ head f → k ≡ connective_of m → d0 ≡ empty
     → Emits (Plain (op.Open k)) nowhere d0 d1 → Emits (formula_piece callees m f) nowhere d1 d2 → Emits (Plain op.Close) nowhere d2 d3 → Emits (Plain op.End) nowhere d3 d4
     → Emits (equation_piece callees f) nowhere empty d4
-equation_emitted callees f m k d0 d1 d2 d3 d4 is kind new opened inner closed ended =
-    let x = formula_piece callees m f in
-    let first = subst (λ (c : Connective). Emits (Plain (op.Open c)) nowhere d0 d1) kind opened in
-    let body = emits_then (Plain (op.Open (connective_of m))) (Then x (Plain op.Close)) nowhere d0 d1 d3 first (emits_then x (Plain op.Close) nowhere d1 d2 d3 inner closed) in
-    let whole = emits_then (bracketed m x) (Plain op.End) nowhere d0 d3 d4 body ended in
+equation_emitted callees f {m} {k} {d0} {d1} {d2} {d3} {d4} is kind new opened inner closed ended =
     subst (λ (d : Draft). Emits (equation_piece callees f) nowhere d d4) new
-    (subst (λ (h : Junction). Emits (Then (bracketed h (formula_piece callees h f)) (Plain op.End)) nowhere d0 d4) is whole)
+    (subst (λ (h : Junction). Emits (Then (bracketed h (formula_piece callees h f)) (Plain op.End)) nowhere d0 d4) is
+    (emits_then (bracket_emitted m kind opened inner closed) ended))
 
-pub code_short : (callees : List (List Carrier)) (f : Formula) (d : Draft)
+pub code_short : (callees : List (List Carrier)) (f : Formula) {d : Draft}
     → length (equation_code callees f) ≤ MAX_INSTRUCTIONS → Emits (equation_piece callees f) nowhere empty d
     → length d.ops ≤ MAX_INSTRUCTIONS
-code_short callees f d few h =
+code_short callees f {d} few h =
     omega (arith, emitted_long (equation_piece callees f) nowhere empty d (label_place d.places) h (λ l q at. at), long 0 0 (equation_piece callees f), few)

@@ -1,11 +1,14 @@
 -- Emitting the parts of a piece, with the labels of its jumps, emits the piece.
-use Rattle.std.proofs.Common.{◌≡◌, ℕ, zero, suc, ◌+◌, ◌<◌, ◌≤◌, Bool, true, List, [], ◌∷◌, ◌++◌, length, Option, Some, None, refl, sym, ap, ◌∙◌, arith, append_assoc, length-append}
+use Rattle.std.proofs.Common.{◌≡◌, ℕ, zero, suc, ◌+◌, ◌<◌, ◌≤◌, Bool, true, List, [], ◌∷◌, ◌++◌, length, Option, Some, None, refl, sym, ap, ◌∙◌, subst, arith, append_assoc, length-append}
 use Rattle.std.specs.Prelude.{ℤ, unwrap_or, Result, Ok, Err, OnOk}
 use Rattle.std.specs.List.{slice_get, slice_set}
 use Rattle.std.proofs.lemmas.Option.{slice_get_within}
 use Rattle.std.proofs.lemmas.List.{map-append, length-map}
+use Rattle.pb_bytecode_program.specs.declared.instruction.Connective.{Connective}
 use Rattle.pb_bytecode_program.specs.declared.instruction.Op.{Op}
 use Rattle.pb_bytecode_program.specs.declared.instruction.Op.TheVariants as op
+use Rattle.pb_normal.specs.declared.formula.Junction.{Junction}
+use Rattle.pb_assembler_scheme.specs.Scheme.{bracketed, connective_of}
 use Rattle.pb_assembler_scheme.specs.Pieces.{Piece, Empty, Plain, Then, Unless, Choose, Repeat, Block, Leave, Guard, end, flat}
 use Rattle.pb_assembler_scheme.proofs.Flat.{long}
 use Rattle.pb_assembler_scheme.proofs.Positions.{HasNoLeave}
@@ -13,7 +16,7 @@ use Rattle.pb_assembler_builder.specs.Draft.{Draft, Places, are_placed, known_pl
 use Rattle.pb_assembler_builder.specs.declared.instruction.Instruction.{Instruction}
 use Rattle.pb_assembler_builder.specs.declared.instruction.Instruction.TheVariants as instruction
 use Rattle.pb_assembler_builder.specs.declared.instruction.Jump.TheVariants as jump
-use Rattle.pb_assembler.specs.Emitted.{Keeps, Emits}
+use Rattle.pb_assembler.specs.Emitted.{Keeps, Emits, nowhere}
 
 -- ---- the builder's steps
 
@@ -95,8 +98,8 @@ added_code d d' o M a = ap (resolved M) a.ops ∙ map-append (resolved_op M) d.o
 
 -- ---- pieces
 
-pub emits_then : (x y : Piece) (e : Places → ℕ) (d d1 d2 : Draft) → Emits x e d d1 → Emits y e d1 d2 → Emits (Then x y) e d d2
-emits_then x y e d d1 d2 hx hy =
+pub emits_then : {x y : Piece} {e : Places → ℕ} {d d1 d2 : Draft} → Emits x e d d1 → Emits y e d1 d2 → Emits (Then x y) e d d2
+emits_then {x} {y} {e} {d} {d1} {d2} hx hy =
     let f = then_follows d d1 d2 (emits_follows x e d d1 hx) (emits_follows y e d1 d2 hy) in record {
       grown = f.grown;
       kept = f.kept;
@@ -249,12 +252,12 @@ emits_guard low high x e d d1 d2 d3 d4 d5 l m a h s b =
 -- ---- at the end of all
 
 -- where each label has its place, the draft of a whole piece finishes as its code
-pub finished : (x : Piece) (e : Places → ℕ) (d : Draft) → Emits x e (record { ops = []; places = [] }) d → resolved (label_place d.places) d.ops ≡ flat 0 (e (label_place d.places)) x
-finished x e d h = h.code (label_place d.places) (λ l q at. at)
+pub finished : {x : Piece} {e : Places → ℕ} {d : Draft} → Emits x e (record { ops = []; places = [] }) d → resolved (label_place d.places) d.ops ≡ flat 0 (e (label_place d.places)) x
+finished {x} {e} {d} h = h.code (label_place d.places) (λ l q at. at)
 
 -- and each label has its place
-pub all_settled : (x : Piece) (e : Places → ℕ) (d : Draft) → Emits x e (record { ops = []; places = [] }) d → are_placed d.places ≡ true
-all_settled x e d h = none_open d.places h.settled
+pub all_settled : {x : Piece} {e : Places → ℕ} {d : Draft} → Emits x e (record { ops = []; places = [] }) d → are_placed d.places ≡ true
+all_settled {x} {e} {d} h = none_open d.places h.settled
   where
     none_open : (places : List (Option ℕ)) → open_labels places ≡ 0 → are_placed places ≡ true
     none_open [] n = refl
@@ -337,12 +340,12 @@ on_ok (Ok a) P Q h f = f h
 on_ok (Err e) P Q h f = tt
 
 -- a choice, as the builder's calls make it
-pub choice_emitted : (on : Bool) (x y : Piece) (e : Places → ℕ) (d0 d1 d2 d3 d4 d5 d6 d7 d8 : Draft) (other last : ℕ)
+pub choice_emitted : {on : Bool} {x y : Piece} {e : Places → ℕ} {d0 d1 d2 d3 d4 d5 d6 d7 d8 : Draft} {other last : ℕ}
     → other ≡ length d0.places → d1 ≡ record d0 { places = d0.places ++ None ∷ [] } → last ≡ length d1.places → d2 ≡ record d1 { places = d1.places ++ None ∷ [] }
     → d3 ≡ record d2 { ops = d2.ops ++ (instruction.Jump (jump.If on) other) ∷ [] } → Emits x e d3 d4 → d5 ≡ record d4 { ops = d4.ops ++ (instruction.Jump jump.Always last) ∷ [] }
     → d6 ≡ record d5 { places = slice_set d5.places other (Some (length d5.ops)) } → Emits y e d6 d7 → d8 ≡ record d7 { places = slice_set d7.places last (Some (length d7.ops)) }
     → Emits (Choose on x y) e d0 d8
-choice_emitted on x y e d0 d1 d2 d3 d4 d5 d6 d7 d8 other last n0 e1 n1 e2 e3 hx e5 e6 hy e8 =
+choice_emitted {on} {x} {y} {e} {d0} {d1} {d2} {d3} {d4} {d5} {d6} {d7} {d8} {other} {last} n0 e1 n1 e2 e3 hx e5 e6 hy e8 =
     let m0 = makes_from d0 d1 other n0 e1 in
     let m1 = makes_from d1 d2 last n1 e2 in
     let a3 = adds_from d2 d3 (instruction.Jump (jump.If on) other) e3 in
@@ -364,10 +367,10 @@ choice_emitted on x y e d0 d1 d2 d3 d4 d5 d6 d7 d8 other last n0 e1 n1 e2 e3 hx 
     emits_choose on x y e d0 d1 d2 d3 d4 d5 d6 d7 d8 other last m0 m1 a3 hx a5 s6 hy s8
 
 -- a part that may be passed over, as the builder's calls make it
-pub unless_emitted : (on : Bool) (x : Piece) (e : Places → ℕ) (d0 d1 d2 d3 d4 : Draft) (l : ℕ)
+pub unless_emitted : {on : Bool} {x : Piece} {e : Places → ℕ} {d0 d1 d2 d3 d4 : Draft} {l : ℕ}
     → l ≡ length d0.places → d1 ≡ record d0 { places = d0.places ++ None ∷ [] } → d2 ≡ record d1 { ops = d1.ops ++ (instruction.Jump (jump.If on) l) ∷ [] } → Emits x e d2 d3
     → d4 ≡ record d3 { places = slice_set d3.places l (Some (length d3.ops)) } → Emits (Unless on x) e d0 d4
-unless_emitted on x e d0 d1 d2 d3 d4 l n e1 e2 hx e4 =
+unless_emitted {on} {x} {e} {d0} {d1} {d2} {d3} {d4} {l} n e1 e2 hx e4 =
     let m = makes_from d0 d1 l n e1 in
     let a = adds_from d1 d2 (instruction.Jump (jump.If on) l) e2 in
     let long1 = m.long in
@@ -387,10 +390,10 @@ block_emitted x d0 d1 d2 d3 l n e1 hx e3 e =
     emits_block x e d0 d1 d2 d3 l m hx s
 
 -- a range's test with what is behind it, as the builder's calls make it
-pub guard_emitted : (low high : ℤ) (x : Piece) (e : Places → ℕ) (d0 d1 d2 d3 d4 d5 : Draft) (l : ℕ)
+pub guard_emitted : {low high : ℤ} {x : Piece} {e : Places → ℕ} {d0 d1 d2 d3 d4 d5 : Draft} {l : ℕ}
     → l ≡ length d0.places → d1 ≡ record d0 { places = d0.places ++ None ∷ [] } → d2 ≡ record d1 { ops = d1.ops ++ (instruction.Jump (jump.InRange low high) l) ∷ [] } → Emits x e d2 d3
     → d4 ≡ record d3 { places = slice_set d3.places l (Some (length d3.ops)) } → Adds d4 d5 (instruction.Plain op.Pop) → Emits (Guard low high x) e d0 d5
-guard_emitted low high x e d0 d1 d2 d3 d4 d5 l n e1 e2 hx e4 b =
+guard_emitted {low} {high} {x} {e} {d0} {d1} {d2} {d3} {d4} {d5} {l} n e1 e2 hx e4 b =
     let m = makes_from d0 d1 l n e1 in
     let a = adds_from d1 d2 (instruction.Jump (jump.InRange low high) l) e2 in
     let long1 = m.long in
@@ -415,8 +418,8 @@ flat_stays Leave h q e f = absurd h
 flat_stays (Guard low high a) h q e f = ap (λ (is : List Op). op.InRange low high (end (q + 1) a) ∷ (is ++ op.Pop ∷ [])) (flat_stays a h (q + 1) e f)
 
 -- so it is emitted in any block
-pub emits_anywhere : (x : Piece) → HasNoLeave x → (e f : Places → ℕ) (d d' : Draft) → Emits x e d d' → Emits x f d d'
-emits_anywhere x h e f d d' s =
+pub emits_anywhere : {x : Piece} → HasNoLeave x → {e f : Places → ℕ} {d d' : Draft} → Emits x e d d' → Emits x f d d'
+emits_anywhere {x} h {e} {f} {d} s =
     record {
       grown = s.grown;
       kept = s.kept;
@@ -424,3 +427,12 @@ emits_anywhere x h e f d d' s =
       code =
           λ M k. s.code M k ∙ ap (λ (is : List Op). resolved M d.ops ++ is) (flat_stays x h (length d.ops) (e M) (f M));
     }
+
+-- ---- brackets
+
+-- an opened bracket, its content, and its end
+pub bracket_emitted : (m : Junction) {k : Connective} {x : Piece} {d d1 d2 d3 : Draft} → k ≡ connective_of m
+    → Emits (Plain (op.Open k)) nowhere d d1 → Emits x nowhere d1 d2
+    → Emits (Plain op.Close) nowhere d2 d3 → Emits (bracketed m x) nowhere d d3
+bracket_emitted m {k} {x} {d} {d1} kind opened inner closed =
+    emits_then (subst (λ (c : Connective). Emits (Plain (op.Open c)) nowhere d d1) kind opened) (emits_then inner closed)

@@ -71,9 +71,8 @@ dropped [] (suc k) l = absurd (omega arith)
 dropped (x ∷ xs) zero l = omega arith
 dropped (x ∷ xs) (suc k) l = let h = dropped xs k l in omega arith
 
-module _ (callees : List (List Carrier)) (texts : List tree.Equation) (normals : List Equation) (k : ℕ) (X : Equation)
-    (below : k < length normals) (at : X ≡ get_or normals k X) (done : List bytecode.Equation)
-    (h : AreMade callees texts normals k done) where
+module _ {callees : List (List Carrier)} {texts : List tree.Equation} {normals : List Equation} {k : ℕ} {X : Equation} {done : List bytecode.Equation}
+    (below : k < length normals) (at : X ≡ get_or normals k X) (h : AreMade callees texts normals k done) where
   here : AreReady callees (drop k callees) (map equation_form (drop k texts)) (X ∷ drop (k + 1) normals)
   here = subst (λ (E : List Equation). AreReady callees (drop k callees) (map equation_form (drop k texts)) E) (drop-at normals k X below at) h.ready
 
@@ -83,7 +82,7 @@ module _ (callees : List (List Carrier)) (texts : List tree.Equation) (normals :
   pub text_there : k < length texts
   text_there = dropped texts k (parameters_left callees (drop k callees) (drop k texts) X (drop (k + 1) normals) here).1
 
-  module _ (v : List Carrier) (t : tree.Equation) (v_at : slice_get callees k ≡ Some v) (t_at : t ≡ get_or texts k t) where
+  module _ {v : List Carrier} {t : tree.Equation} (v_at : slice_get callees k ≡ Some v) (t_at : t ≡ get_or texts k t) where
     split : drop k callees ≡ v ∷ drop (k + 1) callees
     split = drop-at callees k v parameters_there (sym (get_or_from_slice_get callees k v v v_at))
 
@@ -95,9 +94,9 @@ module _ (callees : List (List Carrier)) (texts : List tree.Equation) (normals :
     pub ready_next : IsReadyToCompile callees v (equation_form t) X
     ready_next = whole.0
 
-    pub made_more : (e : bytecode.Equation) (more : List bytecode.Equation) → more ≡ done ++ e ∷ [] → equation_contents e ≡ compiled_contents callees v (equation_form t) X
+    pub made_more : (e : bytecode.Equation) {more : List bytecode.Equation} → more ≡ done ++ e ∷ [] → equation_contents e ≡ compiled_contents callees v (equation_form t) X
         → has_fitting_carriers (equation_contents e) ≡ true → AreMade callees texts normals (k + 1) more
-    made_more e more pushed is fields =
+    made_more e pushed is fields =
         let rest = all_compiled callees (drop (k + 1) callees) (map equation_form (drop (k + 1) texts)) (drop (k + 1) normals) in record {
           ready = whole.1;
           fields =
@@ -119,10 +118,10 @@ module _ (callees : List (List Carrier)) (texts : List tree.Equation) (normals :
               ∙ h.made;
         }
 
-pub made_equations : (callees : List (List Carrier)) (texts : List tree.Equation) (normals : List Equation) (k : ℕ)
-    (done : List bytecode.Equation) → length normals ≤ k → AreMade callees texts normals k done
+pub made_equations : {callees : List (List Carrier)} {texts : List tree.Equation} {normals : List Equation} {k : ℕ}
+    {done : List bytecode.Equation} → length normals ≤ k → AreMade callees texts normals k done
     → map equation_contents done ≡ all_compiled callees callees (map equation_form texts) normals
-made_equations callees texts normals k done end h =
+made_equations {callees} {texts} {normals} {k} {done} end h =
     sym (append-nil (map equation_contents done))
     ∙ ap (λ (es : List EquationContents). map equation_contents done ++ es) (sym (none (drop k callees) (map equation_form (drop k texts))))
     ∙ ap (λ (E : List Equation). map equation_contents done ++ all_compiled callees (drop k callees) (map equation_form (drop k texts)) E) (sym (drop_all k normals end))

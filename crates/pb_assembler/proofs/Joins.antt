@@ -1,8 +1,10 @@
 -- Chains of formulas, operand by operand, and quantifiers, slot by slot.
-use Rattle.std.proofs.Common.{◌≡◌, ℕ, zero, suc, ◌+◌, ◌<◌, Bool, true, false, List, [], ◌∷◌, ◌++◌, length, get_or, take, drop, ◌-◌, ◌≤◌, Option, Some, None, IfSome, refl, sym, ap, ◌∙◌, subst, arith, true≢false, inl, inr}
-use Rattle.std.proofs.lemmas.Bool.{and_parts, ltb-true}
-use Rattle.std.specs.Prelude.{nat_lt}
-use Rattle.std.proofs.lemmas.List.{take_rest}
+use Rattle.std.proofs.Common.{◌≡◌, ℕ, zero, suc, ◌+◌, ◌<◌, ◌==◌, Bool, true, false, List, [], ◌∷◌, ◌++◌, length, get_or, take, drop}
+use Rattle.std.proofs.Common.{◌-◌, ◌≤◌, Option, Some, None, IfSome, refl, sym, ap, ◌∙◌, subst, arith, true≢false, inl, inr, Vec, Global, Box}
+use Rattle.std.proofs.lemmas.Bool.{and_parts, eqb-false, eqb-true, ltb-true}
+use Rattle.std.specs.Prelude.{box_value, nat_lt}
+use Rattle.std.specs.List.{slice_set}
+use Rattle.std.proofs.lemmas.List.{nil_from_length, take_rest}
 use denote.Enum.Bare.{sameb}
 use Rattle.pb_sorts.specs.declared.carrier.Carrier.{Carrier}
 use Rattle.pb_text_tree.specs.declared.operator.Quantifier.{Quantifier}
@@ -11,30 +13,31 @@ use Rattle.pb_normal.specs.Normal.{Term, Test, Join, Each, Call}
 use Rattle.pb_normal.specs.contracts.formula.Junction.{the_type}
 use Rattle.pb_normal.specs.declared.formula.Junction.{Junction}
 use Rattle.pb_normal.specs.declared.formula.Junction.TheVariants.{And, Or}
+use Rattle.pb_normal.specs.declared.formula.Formula as formula
 use Rattle.pb_normal.specs.declared.formula.Formula.{Formula}
 use Rattle.pb_normal.specs.Normalisation.{dual}
 use Rattle.pb_normal.specs.View.{chained, nested, formula_view, formula_views}
 use Rattle.pb_bytecode_program.specs.declared.instruction.Op.TheVariants as op
 use Rattle.pb_assembler_scheme.specs.Pieces.{Piece, Plain, Then, Unless, Choose, Repeat}
-use Rattle.pb_assembler_scheme.specs.Scheme.{data_piece, neutral, junction_of, test_of, tested_piece, join_piece, under, bracketed, deciding_leaf, connective_of, formula_piece}
+use Rattle.pb_assembler_scheme.specs.Scheme.{data_piece, neutral, junction_of, test_of, tested_piece, join_piece, under, bracketed, deciding_leaf, formula_piece}
 use Rattle.pb_assembler_builder.specs.Draft.{Draft}
 use Rattle.pb_assembler_builder.specs.declared.instruction.Instruction.{Instruction}
 use Rattle.pb_assembler_builder.specs.declared.instruction.Instruction.TheVariants as instruction
 use Rattle.pb_assembler.specs.Emitted.{Emits, nowhere}
 use Rattle.pb_assembler.specs.Operands.{Guarded, early_test, guarded_by, IsLeft, other_of}
 use Rattle.pb_normal.specs.Small.{is_small, is_small_formula}
-use Rattle.pb_assembler.proofs.Awaited.{Awaits}
-use Rattle.pb_assembler.proofs.Emitting.{emits_then, emits_repeat, adds_from}
-use Rattle.pb_assembler_measures.proofs.FormulaWeight.{weight, formulas_weight, positive}
+use Rattle.pb_assembler.proofs.Awaited.{Awaits, awaits_all, awaits_then, awaits_no_more}
+use Rattle.pb_assembler.proofs.Emitting.{emits_repeat, adds_from}
+use Rattle.pb_assembler_measures.proofs.FormulaWeight.{weight, formulas_weight, join_is, join_weighs, positive}
 
 -- ---- the first test decides
 
 module _ (callees : List (List Carrier)) where
   -- the code of a chain is that of its test, which guards the chain that is left
-  abbrev pub IsDecided : (m a : Junction) → normal.Formula → Guarded → Type 0
+  abbrev IsDecided : (m a : Junction) → normal.Formula → Guarded → Type 0
   IsDecided m a f r = formula_piece callees a f ≡ tested_piece m a r.0 (formula_piece callees a (chained (Join m) r.1.0 r.1.1))
 
-  pub decided : (m a : Junction) (f : normal.Formula) (gs : List normal.Formula) → IfSome (early_test f gs) (IsDecided m a (chained (Join m) f gs))
+  decided : (m a : Junction) (f : normal.Formula) (gs : List normal.Formula) → IfSome (early_test f gs) (IsDecided m a (chained (Join m) f gs))
   decided m a f [] = tt
   decided m a f (g ∷ gs) = by (test_of f) (test_of g) refl refl gs
     where
@@ -49,7 +52,7 @@ module _ (callees : List (List Carrier)) where
       by None None e k gs = tt
 
   -- where no test comes first, the operands stand one behind the other
-  pub undecided : (m a : Junction) (f g : normal.Formula) (gs : List normal.Formula) → early_test f (g ∷ gs) ≡ None
+  undecided : (m a : Junction) (f g : normal.Formula) (gs : List normal.Formula) → early_test f (g ∷ gs) ≡ None
       → formula_piece callees a (chained (Join m) f (g ∷ gs)) ≡ under m a (Then (formula_piece callees m f) (formula_piece callees m (chained (Join m) g gs)))
   undecided m a f g gs n = by (test_of f) (test_of g) refl refl gs n
     where
@@ -91,7 +94,7 @@ small_test (Join m f g) h = tt
 small_test (Each q s shape f) h = tt
 small_test (Call X xs) h = tt
 
-abbrev pub AreSmall : Junction → Guarded → Type 0
+abbrev AreSmall : Junction → Guarded → Type 0
 AreSmall m r = (is_small r.0 ≡ true) × (is_small_formula (chained (Join m) r.1.0 r.1.1) ≡ true)
 
 small_parts : (m : Junction) (f : normal.Formula) (gs : List normal.Formula) → is_small_formula (chained (Join m) f gs) ≡ true → IfSome (early_test f gs) (AreSmall m)
@@ -107,10 +110,10 @@ small_parts m f (g ∷ gs) h =
     by None (Some t) e k (x ∷ xs) h i = tt
     by None None e k gs h i = tt
 
-pub small_rest : (m : Junction) (f g : normal.Formula) (gs : List normal.Formula) → is_small_formula (chained (Join m) f (g ∷ gs)) ≡ true → is_small_formula (chained (Join m) g gs) ≡ true
+small_rest : (m : Junction) (f g : normal.Formula) (gs : List normal.Formula) → is_small_formula (chained (Join m) f (g ∷ gs)) ≡ true → is_small_formula (chained (Join m) g gs) ≡ true
 small_rest m f g gs h = (and_parts (is_small_formula f) (is_small_formula (chained (Join m) g gs)) h).1
 
-pub left_weighs : (first : Formula) (rest : List Formula) (f : Formula) (gs : List Formula) → IsLeft first rest f gs
+left_weighs : (first : Formula) (rest : List Formula) (f : Formula) (gs : List Formula) → IsLeft first rest f gs
     → (length gs < length rest) × (weight f + formulas_weight gs < weight first + formulas_weight rest)
 left_weighs first rest f gs (inl e) =
     let p = positive first in (omega (arith, ap (λ (zs : List Formula). length zs) e), omega (arith, p, ap formulas_weight e))
@@ -121,25 +124,7 @@ left_weighs first rest f gs (inr (same, none, some)) =
     more [] l = absurd (omega arith)
     more (x ∷ xs) l = let p = positive x in omega arith
 
--- ---- one step along a chain, in the code's words
-
-pub test_step : (callees : List (List Carrier)) (m a : Junction) (f : normal.Formula) (gs : List normal.Formula)
-    (o : Option Guarded) (r : Guarded) → o ≡ Some r → o ≡ early_test f gs → IsDecided callees m a (chained (Join m) f gs) r
-test_step callees m a f gs o r is told = subst (λ q. IfSome q (IsDecided callees m a (chained (Join m) f gs))) (sym told ∙ is) (decided callees m a f gs)
-
-pub test_small : (m : Junction) (f : normal.Formula) (gs : List normal.Formula) (o : Option Guarded) (r : Guarded) → o ≡ Some r → o ≡ early_test f gs → is_small_formula (chained (Join m) f gs) ≡ true
-    → (is_small r.0 ≡ true) × (is_small_formula (chained (Join m) r.1.0 r.1.1) ≡ true)
-test_small m f gs o r is told h = subst (λ q. IfSome q (AreSmall m)) (sym told ∙ is) (small_parts m f gs h)
-
-pub next_own : (callees : List (List Carrier)) (m : Junction) (f : Formula) (gs : List Formula) (g : Formula) (hs : List Formula) → gs ≡ g ∷ hs → early_test (formula_view f) (formula_views gs) ≡ None
-    → formula_piece callees m (chained (Join m) (formula_view f) (formula_views gs))
-    ≡ Then (formula_piece callees m (formula_view f)) (formula_piece callees m (chained (Join m) (formula_view g) (formula_views hs)))
-next_own callees m f gs g hs e n =
-    ap (λ (zs : List Formula). formula_piece callees m (chained (Join m) (formula_view f) (formula_views zs))) e
-    ∙ undecided callees m m (formula_view f) (formula_view g) (formula_views hs) (sym (ap (λ (zs : List Formula). early_test (formula_view f) (formula_views zs)) e) ∙ n)
-    ∙ under_own m _
-
-pub all_other : (callees : List (List Carrier)) (a : Junction) (f : normal.Formula) (gs : List normal.Formula) → 0 < length gs → early_test f gs ≡ None
+all_other : (callees : List (List Carrier)) (a : Junction) (f : normal.Formula) (gs : List normal.Formula) → 0 < length gs → early_test f gs ≡ None
     → formula_piece callees a (chained (Join (dual a)) f gs) ≡ bracketed (dual a) (formula_piece callees (dual a) (chained (Join (dual a)) f gs))
 all_other callees a f [] l n = absurd (omega arith)
 all_other callees a f (g ∷ gs) l n =
@@ -209,13 +194,6 @@ begins_more s k d0 d d' b e = λ y d1 d2 h c.
     (adds_from d d' (instruction.Plain (op.Loop (s + k))) e) h
     (adds_from d1 (plus d1 (instruction.Plain op.Next)) (instruction.Plain op.Next) refl)) c
 
--- an opened bracket, its content, and its end
-pub bracket_emitted : (m : Junction) (x : Piece) (d d1 d2 d3 : Draft)
-    → Emits (Plain (op.Open (connective_of m))) nowhere d d1 → Emits x nowhere d1 d2
-    → Emits (Plain op.Close) nowhere d2 d3 → Emits (bracketed m x) nowhere d d3
-bracket_emitted m x d d1 d2 d3 h hx k =
-    emits_then (Plain (op.Open (connective_of m))) (Then x (Plain op.Close)) nowhere d d1 d3 h (emits_then x (Plain op.Close) nowhere d1 d2 d3 hx k)
-
 pub other_kind : (m a : Junction) (b : Bool) → b ≡ sameb the_type m a → b ≡ false → m ≡ dual a
 other_kind And And b e n = absurd (true≢false (sym e ∙ n))
 other_kind And Or b e n = refl
@@ -233,31 +211,111 @@ same_kind And Or b e is = absurd (true≢false (sym is ∙ e))
 same_kind Or And b e is = absurd (true≢false (sym is ∙ e))
 same_kind Or Or b e is = refl
 
--- ---- the operands that are left
+-- ---- a join, as it is read
 
--- the whole chain of first and rest awaits the code of these operands, which keep what is asked of them
-pub record AreLeft (callees : List (List Carrier)) (m a : Junction) (first : Formula) (rest : List Formula) (l : ℕ) (d0 d : Draft) (f : Formula) (fs : List Formula) : Type 0 where
-  pub awaits : Awaits (formula_piece callees a (chained (Join m) (formula_view first) (formula_views rest))) (formula_piece callees a (chained (Join m) (formula_view f) (formula_views fs))) l d0 d
-  pub small : is_small_formula (chained (Join m) (formula_view f) (formula_views fs)) ≡ true
-  pub lighter : weight f + formulas_weight fs ≤ weight first + formulas_weight rest
+-- a formula joins a first operand and the rest
+pub record IsJoinOf (t : Formula) (m : Junction) (f : Formula) (fs : List Formula) : Type 0 where
+  pub view : chained (Join m) (formula_view f) (formula_views fs) ≡ formula_view t
+  pub weighs : weight t ≡ 8 + (weight f + formulas_weight fs)
 
--- in the code's words
-pub are_left : (callees : List (List Carrier)) (m a : Junction) (first : Formula) (rest : List Formula) (l : ℕ) (d0 d : Draft) (f g : Formula) (fs : List Formula) → g ≡ f
-    → AreLeft callees m a first rest l d0 d f (drop 1 fs) → AreLeft callees m a first rest l d0 d g (take (length fs - 1) (drop 1 fs))
-are_left callees m a first rest l d0 d f g fs same h =
-    subst (λ (x : Formula). AreLeft callees m a first rest l d0 d x (take (length fs - 1) (drop 1 fs))) (sym same)
-    (subst (λ (xs : List Formula). AreLeft callees m a first rest l d0 d f xs) (sym (take_rest fs 1)) h)
+pub join_read : {t f : Formula} {m : Junction} {fs : List Formula} (k : Junction) (b : Box Formula Global) (v : Vec Formula Global)
+    → t ≡ formula.Join k b v → f ≡ box_value b → fs ≡ v.items → k ≡ m → IsJoinOf t m f fs
+join_read {t} {f} {m} {fs} k b v is first rest kind = record {
+  view =
+      ap (λ (n : Junction). chained (Join n) (formula_view f) (formula_views fs)) (sym kind)
+      ∙ join_is t f k b v fs is first rest;
+  weighs = join_weighs t f k b v fs is first rest;
+}
 
-pub second_left : (b : Bool) (f : Formula) (fs : List Formula) (x : Formula) → b ≡ true → 0 < length fs → x ≡ get_or fs 0 x → x ≡ other_of b f fs
-second_left b f [] x e l is = absurd (omega arith)
-second_left true f (g ∷ gs) x e l is = is
-second_left false f (g ∷ gs) x e l is = absurd (true≢false (sym e))
+-- ---- slices, as they are tested
+
+pub some_there : {X : Type 0} (xs : List X) {b : Bool} → b ≡ (length xs == 0) → b ≡ false → 0 < length xs
+some_there xs e f = omega (arith, eqb-false (length xs) 0 (sym e ∙ f))
+
+pub none_there : {X : Type 0} (xs : List X) {b : Bool} → b ≡ (length xs == 0) → b ≡ true → xs ≡ []
+none_there xs e t = nil_from_length xs (eqb-true (length xs) 0 (sym e ∙ t))
+
+pub second_left : (b : Bool) (f : Formula) (fs : List Formula) (x : Formula) → b ≡ true → IsLeft f fs (other_of b f fs) (drop 1 fs) → x ≡ get_or fs 0 x → x ≡ other_of b f fs
+second_left b f [] x e left is = let w = (left_weighs f [] (other_of b f []) [] left).0 in absurd (omega arith)
+second_left true f (g ∷ gs) x e left is = is
+second_left false f (g ∷ gs) x e left is = absurd (true≢false (sym e))
 
 pub first_left : (b : Bool) (f : Formula) (fs : List Formula) → b ≡ false → f ≡ other_of b f fs
 first_left b f [] e = refl
 first_left true f (g ∷ gs) e = absurd (true≢false e)
 first_left false f (g ∷ gs) e = refl
 
-pub behind_first : (fs : List Formula) (x : Formula) → 0 < length fs → x ≡ get_or fs 0 x → fs ≡ x ∷ drop 1 fs
+behind_first : (fs : List Formula) (x : Formula) → 0 < length fs → x ≡ get_or fs 0 x → fs ≡ x ∷ drop 1 fs
 behind_first [] x l is = absurd (omega arith)
 behind_first (g ∷ gs) x l is = ap (λ (y : Formula). y ∷ gs) (sym is)
+
+-- ---- the operands that are left
+
+-- the code of a chain of this kind, in a bracket of the kind a
+abbrev pub operands_piece : List (List Carrier) → (m a : Junction) → Formula → List Formula → Piece
+operands_piece callees m a f fs = formula_piece callees a (chained (Join m) (formula_view f) (formula_views fs))
+
+-- the whole chain of first and rest awaits the code of these operands, which keep what is asked of them
+pub record AreLeft (callees : List (List Carrier)) (m a : Junction) (first : Formula) (rest : List Formula) (l : ℕ) (d0 d : Draft) (f : Formula) (fs : List Formula) : Type 0 where
+  pub awaits : Awaits (operands_piece callees m a first rest) (operands_piece callees m a f fs) l d0 d
+  pub small : is_small_formula (chained (Join m) (formula_view f) (formula_views fs)) ≡ true
+  pub lighter : weight f + formulas_weight fs ≤ weight first + formulas_weight rest
+
+-- in the code's words
+are_left : {callees : List (List Carrier)} {m a : Junction} {first : Formula} {rest : List Formula} {l : ℕ} {d0 d : Draft} {f g : Formula} (fs : List Formula) → g ≡ f
+    → AreLeft callees m a first rest l d0 d f (drop 1 fs) → AreLeft callees m a first rest l d0 d g (take (length fs - 1) (drop 1 fs))
+are_left {callees} {m} {a} {first} {rest} {l} {d0} {d} {f} fs same h =
+    subst (λ (x : Formula). AreLeft callees m a first rest l d0 d x (take (length fs - 1) (drop 1 fs))) (sym same)
+    (subst (λ (xs : List Formula). AreLeft callees m a first rest l d0 d f xs) (sym (take_rest fs 1)) h)
+
+-- at the beginning all are
+pub all_left : {callees : List (List Carrier)} {m a : Junction} {first : Formula} {rest : List Formula} {l : ℕ} {d0 d : Draft}
+    → is_small_formula (chained (Join m) (formula_view first) (formula_views rest)) ≡ true
+    → l ≡ length d0.places → d ≡ record d0 { places = d0.places ++ None ∷ [] } → AreLeft callees m a first rest l d0 d first rest
+all_left small label made = record { awaits = awaits_all label made; small = small; lighter = omega arith }
+
+module _ {callees : List (List Carrier)} {m a : Junction} {first : Formula} {rest : List Formula} {l : ℕ} {d0 d : Draft} {f : Formula} {fs : List Formula} where
+  -- a test was emitted, which guards some of them
+  pub guarded_left : AreLeft callees m a first rest l d0 d f fs → (b : Bool) (t : Term)
+      → Some (t, (formula_view (other_of b f fs), formula_views (drop 1 fs))) ≡ early_test (formula_view f) (formula_views fs)
+      → IsLeft f fs (other_of b f fs) (drop 1 fs) → {g : Formula} → g ≡ other_of b f fs → {d1 d2 : Draft} → Emits (data_piece t) nowhere d d1
+      → (guarding : Piece → Piece) → ((x : Piece) → tested_piece m a t x ≡ Then (data_piece t) (guarding x))
+      → ((x : Piece) → Awaits (operands_piece callees m a first rest) (guarding x) l d0 d1 → Awaits (operands_piece callees m a first rest) x l d0 d2)
+      → AreLeft callees m a first rest l d0 d2 g (take (length fs - 1) (drop 1 fs))
+  guarded_left w b t told left same {d1} {d2} tested guarding is goes =
+      let other = other_of b f fs in
+      let more = drop 1 fs in
+      let step = subst (λ o. IfSome o (IsDecided callees m a (chained (Join m) (formula_view f) (formula_views fs)))) (sym told) (decided callees m a (formula_view f) (formula_views fs)) in
+      let lighter = left_weighs f fs other more left in
+      are_left fs same (record {
+        awaits = goes _ (awaits_then (subst (λ (q : Piece). Awaits (operands_piece callees m a first rest) q l d0 d)
+            (step ∙ is (operands_piece callees m a other more)) w.awaits) tested);
+        small = (subst (λ o. IfSome o (AreSmall m)) (sym told) (small_parts m (formula_view f) (formula_views fs) w.small)).1;
+        lighter = omega (arith, lighter.1, w.lighter);
+      })
+
+module _ {callees : List (List Carrier)} {m : Junction} {first : Formula} {rest : List Formula} {l : ℕ} {d0 d : Draft} {f : Formula} {fs : List Formula} where
+  -- the first one was emitted, where no test decides
+  pub next_left : AreLeft callees m m first rest l d0 d f fs → (g : Formula) → 0 < length fs → g ≡ get_or fs 0 g
+      → early_test (formula_view f) (formula_views fs) ≡ None
+      → {d1 : Draft} → Emits (formula_piece callees m (formula_view f)) nowhere d d1
+      → AreLeft callees m m first rest l d0 d1 g (take (length fs - 1) (drop 1 fs))
+  next_left w g some at none h =
+      let split = behind_first fs g some at in
+      let x = formula_view f in
+      let gs = formula_views (drop 1 fs) in
+      let same =
+      ap (λ (zs : List Formula). operands_piece callees m m f zs) split
+      ∙ undecided callees m m x (formula_view g) gs (sym (ap (λ (zs : List Formula). early_test x (formula_views zs)) split) ∙ none)
+      ∙ under_own m _ in
+      are_left fs refl (record {
+        awaits = awaits_then (subst (λ (q : Piece). Awaits (operands_piece callees m m first rest) q l d0 d) same w.awaits) h;
+        small = small_rest m x (formula_view g) gs (subst (λ (zs : List Formula). is_small_formula (chained (Join m) x (formula_views zs)) ≡ true) split w.small);
+        lighter = omega (arith, w.lighter, ap formulas_weight split);
+      })
+
+  -- it was emitted, and is the last
+  pub last_left : AreLeft callees m m first rest l d0 d f fs → fs ≡ [] → {d1 d2 : Draft} → Emits (formula_piece callees m (formula_view f)) nowhere d d1
+      → d2 ≡ record d1 { places = slice_set d1.places l (Some (length d1.ops)) } → Emits (operands_piece callees m m first rest) nowhere d0 d2
+  last_left w none h placed =
+      awaits_no_more (subst (λ (zs : List Formula). Awaits (operands_piece callees m m first rest) (operands_piece callees m m f zs) l d0 d) none w.awaits) h placed

@@ -17,8 +17,6 @@ use Rattle.pb_assembler_modules.specs.Module.{with_names, struct_names}
 use Rattle.pb_assembler.specs.Compiled.{IsSort, AreSorts}
 use Rattle.pb_assembler.proofs.Names.{enumerators_named}
 
--- ---- what is made of a list, element by element
-
 -- ---- declarations
 
 abbrev pub erased_all : List SortDeclaration → List syntax.SortDeclaration
@@ -32,25 +30,25 @@ names_erased : (es : List tree.Enumerator) → map (λ (e : syntax.Enumerator). 
 names_erased [] = refl
 names_erased (e ∷ es) = ap (λ (ns : SortContents). string_bytes e.name.text ∷ ns) (names_erased es)
 
-module _ (all : List SortDeclaration) (k : ℕ) (d : SortDeclaration) (below : k < length all) (at : d ≡ get_or all k d) where
+-- a struct's enumerators have names, and are few
+pub struct_fits : (es : List tree.Enumerator)
+    → IsSort (syntax.Sort.Struct (map erased_enumerator (map enumerator_form es)))
+    → (length es ≤ MAX_ENUMERATORS) × (list_all (λ (e : tree.Enumerator). is_module_name (string_bytes e.name.text)) es ≡ true)
+struct_fits es h =
+    let few = h.0 in
+    (omega (arith, few, length-map (map enumerator_form es) erased_enumerator, length-map es enumerator_form), sym (enumerators_named es) ∙ h.1)
+
+module _ {all : List SortDeclaration} {k : ℕ} {d : SortDeclaration} {done : List bytecode.Sort} (below : k < length all) (at : d ≡ get_or all k d) (h : AreMade all (drop k all) done) where
   split : drop k all ≡ d ∷ drop (k + 1) all
   split = drop-at all k d below at
 
-  pub fits_next : (done : List bytecode.Sort) → AreMade all (drop k all) done → IsSort (erased_sort (sort_form d.sort))
-  fits_next done h = (subst (λ (ds : List SortDeclaration). AreSorts (erased_all ds)) split h.fit).0
+  pub fits_next : IsSort (erased_sort (sort_form d.sort))
+  fits_next = (subst (λ (ds : List SortDeclaration). AreSorts (erased_all ds)) split h.fit).0
 
-  -- a struct's enumerators have names, and are few
-  pub struct_fits : (done : List bytecode.Sort) (es : List tree.Enumerator)
-      → IsSort (syntax.Sort.Struct (map erased_enumerator (map enumerator_form es)))
-      → (length es ≤ MAX_ENUMERATORS) × (list_all (λ (e : tree.Enumerator). is_module_name (string_bytes e.name.text)) es ≡ true)
-  struct_fits done es h =
-      let few = h.0 in
-      (omega (arith, few, length-map (map enumerator_form es) erased_enumerator, length-map es enumerator_form), sym (enumerators_named es) ∙ h.1)
-
-  pub struct_next : (done more : List bytecode.Sort) (es : List tree.Enumerator) (s : bytecode.Sort)
+  pub struct_next : (es : List tree.Enumerator) (s : bytecode.Sort) {more : List bytecode.Sort}
       → erased_sort (sort_form d.sort) ≡ syntax.Sort.Struct (map erased_enumerator (map enumerator_form es))
-      → sort_contents s ≡ map (λ (e : tree.Enumerator). string_bytes e.name.text) es → more ≡ done ++ s ∷ [] → AreMade all (drop k all) done → AreMade all (drop (k + 1) all) more
-  struct_next done more es s is names pushed h =
+      → sort_contents s ≡ map (λ (e : tree.Enumerator). string_bytes e.name.text) es → more ≡ done ++ s ∷ [] → AreMade all (drop (k + 1) all) more
+  struct_next es s is names pushed =
       let rest = struct_names (erased_all (drop (k + 1) all)) in record {
         fit = (subst (λ (ds : List SortDeclaration). AreSorts (erased_all ds)) split h.fit).1;
         names =
@@ -63,8 +61,8 @@ module _ (all : List SortDeclaration) (k : ℕ) (d : SortDeclaration) (below : k
             ∙ h.names;
       }
 
-  pub alias_next : (done : List bytecode.Sort) (target : List ℕ) → erased_sort (sort_form d.sort) ≡ syntax.Sort.Alias target → AreMade all (drop k all) done → AreMade all (drop (k + 1) all) done
-  alias_next done target is h =
+  pub alias_next : {target : List ℕ} → erased_sort (sort_form d.sort) ≡ syntax.Sort.Alias target → AreMade all (drop (k + 1) all) done
+  alias_next is =
       let rest = struct_names (erased_all (drop (k + 1) all)) in record {
         fit = (subst (λ (ds : List SortDeclaration). AreSorts (erased_all ds)) split h.fit).1;
         names =

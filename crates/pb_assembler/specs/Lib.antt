@@ -1,3 +1,4 @@
 pub mod Emitted
 pub mod Operands
 pub mod Compiled
+pub mod Laws

@@ -1,9 +1,10 @@
 //! From normal forms to modules.
 
-ghost use Rattle.std.specs.Prelude.{IfOk};
+ghost use Rattle.std.specs.Prelude.{◌≡◌, IfOk};
 ghost use Rattle.pb_text_tree.specs.Form.{spec_form};
 ghost use Rattle.pb_text_meaning.specs.Erase.{erase};
 ghost use Rattle.pb_bytecode.specs.Decoded.{module_contents};
+ghost use Rattle.pb_bytecode.specs.Meaning.{parameters};
 ghost use Rattle.pb_normal.specs.Text.{said};
 ghost use Rattle.pb_verifier.specs.Acceptance.{IsAccepted};
 ghost use Rattle.pb_assembler_modules.specs.Answers.{HasMeaningOf};
@@ -14,6 +15,7 @@ ghost use Rattle.pb_base.specs.OrMemory.{IfRefused};
 
 use crate::equation::compile_equations;
 use crate::initial::initial;
+use crate::laws::accepted_texts_can_be_compiled;
 use crate::sort::sorts;
 use pb_assembler_measures::{CompileError, Measures, measures_within_limits};
 use pb_assembler_modules::laws::{compiled_modules_are_accepted, compiled_modules_have_the_answer};
@@ -34,12 +36,10 @@ fn module_of(
         (module_contents m)) }
     ensures kept { IfOk result (λ m. KeepsAllLimits (said normal.now.typed.now)
         (module_contents m)) }
+    ensures laid_out { IfOk result
+        (λ m. parameters (module_contents m) ≡ normal.now.typed.now.layout) }
 {
-    pb_normal::limits::normal_forms_are_small();
-    pb_normal::limits::normal_forms_keep_bounds();
-    pb_normal::limits::structs_are_few();
-    pb_normal::limits::shapes_are_declared();
-    pb_normal::limits::initial_instances_are_there();
+    accepted_texts_can_be_compiled();
     let spec = &normal.typed.spec;
     let layout = &normal.typed.layout;
     let sorts = sorts(alloc, &spec.sorts)?;
@@ -67,6 +67,9 @@ pub fn compile(alloc: Global, normal: &Normal<'_>) -> Result<Module, CompileErro
     // Its code keeps the machine's limits.
     ensures kept { IfOk result (λ m. KeepsAllLimits (erase (spec_form normal.now.typed.now.spec))
         (module_contents m)) }
+    // The carriers of its parameters are those of the text's layout.
+    ensures laid_out { IfOk result
+        (λ m. parameters (module_contents m) ≡ normal.now.typed.now.layout) }
     // It is accepted.
     ensures accepted { IfOk result (λ m. IsAccepted (module_contents m)) }
     // Whichever trees the runs of its instances end with, they say what the text says.

@@ -5,20 +5,14 @@ use Rattle.pb_assembler.proofs.Equations.{made_equations, made_more, parameters_
 use Rattle.pb_assembler.proofs.equation.compile_equations.Goals as goal
 
 pub carriers-parameters-requires : goal.carriers-parameters-requires
-carriers-parameters-requires c =
-    parameters_there c.args.layout.now c.args.texts.now c.args.normals.now c.loop-place.place
-    c.index-normals-place.result c.loop-place-test.true c.index-normals-place.is c.loop-place.equations.items c.loop-place.invariant
+carriers-parameters-requires c = parameters_there c.loop-place-test.true c.index-normals-place.is c.loop-place.invariant
 
 pub bounds-texts-place : goal.bounds-texts-place
-bounds-texts-place c =
-    text_there c.args.layout.now c.args.texts.now c.args.normals.now c.loop-place.place c.index-normals-place.result
-    c.loop-place-test.true c.index-normals-place.is c.loop-place.equations.items c.loop-place.invariant
+bounds-texts-place c = text_there c.loop-place-test.true c.index-normals-place.is c.loop-place.invariant
 
 pub compile_equation-requires-clause-ready : goal.compile_equation-requires-clause-ready
 compile_equation-requires-clause-ready c =
-    ready_next c.args.layout.now c.args.texts.now c.args.normals.now c.loop-place.place c.index-normals-place.result
-    c.loop-place-test.true c.index-normals-place.is c.loop-place.equations.items c.loop-place.invariant
-    c.carriers-parameters.result.now c.index-texts-place.result c.carriers-parameters.ensures.list c.index-texts-place.is
+    ready_next c.loop-place-test.true c.index-normals-place.is c.loop-place.invariant c.carriers-parameters.ensures.list c.index-texts-place.is
 
 pub bounds-measures-place : goal.bounds-measures-place
 bounds-measures-place c = let l = c.requires.measured.long in omega (arith, l, c.loop-place-test.true)
@@ -34,10 +28,8 @@ compile_equation-requires-clause-measured c =
 
 pub loop-place-preserved : goal.loop-place-preserved
 loop-place-preserved c =
-    made_more c.args.layout.now c.args.texts.now c.args.normals.now c.loop-place.place c.index-normals-place.result
-    c.loop-place-test.true c.index-normals-place.is c.loop-place.equations.items c.loop-place.invariant
-    c.carriers-parameters.result.now c.index-texts-place.result c.carriers-parameters.ensures.list c.index-texts-place.is
-    c.in_ok-equation.equation c.push.new.self.items c.in_ok-push.ensures.items c.in_ok-equation.ensures.contents c.in_ok-equation.ensures.fields
+    made_more c.loop-place-test.true c.index-normals-place.is c.loop-place.invariant c.carriers-parameters.ensures.list c.index-texts-place.is
+    c.in_ok-equation.equation c.in_ok-push.ensures.items c.in_ok-equation.ensures.contents c.in_ok-equation.ensures.fields
 
 pub returns-clause-contents : goal.returns-clause-contents
-returns-clause-contents c = made_equations c.args.layout.now c.args.texts.now c.args.normals.now c.loop-place.place c.loop-place.equations.items c.loop-place-test.false c.loop-place.invariant
+returns-clause-contents c = made_equations c.loop-place-test.false c.loop-place.invariant

@@ -13,29 +13,22 @@ use Rattle.pb_assembler.proofs.sort.sorts.Goals.{in-Struct+in_ok-enumerators-in-
 
 pub enumerator_names-requires : goal.enumerator_names-requires
 enumerator_names-requires c =
-    let all = c.args.declarations.now in
-    let k = c.loop-declaration.declaration-index in
-    let d = c.declaration-item.result in
-    let done = c.loop-declaration.sorts.items in
-    let fits = subst (λ (s : Sort). IsSort (erased_sort (sort_form s))) c.in-Struct.is (fits_next all k d c.loop-declaration-test.true c.declaration-item.is done c.loop-declaration.invariant) in
+    let fits = subst (λ (s : Sort). IsSort (erased_sort (sort_form s))) c.in-Struct.is (fits_next c.loop-declaration-test.true c.declaration-item.is c.loop-declaration.invariant) in
     subst (λ (es : List Enumerator). list_all (λ (e : Enumerator). is_module_name (string_bytes e.name.text)) es ≡ true) (sym c.deref.ensures.value)
-    (struct_fits all k d c.loop-declaration-test.true c.declaration-item.is done c.in-Struct.enumerators.items fits).1
+    (struct_fits c.in-Struct.enumerators.items fits).1
 
 pub loop-declaration-preserved : goal.loop-declaration-preserved
 loop-declaration-preserved c =
     let all = c.args.declarations.now in
-    let k = c.loop-declaration.declaration-index in
-    let d = c.declaration-item.result in
-    let done = c.loop-declaration.sorts.items in
-    let Made : Vec bytecode.Sort Global → Type 0 = λ v. AreMade all (drop (k + 1) all) v.items in
+    let Made : Vec bytecode.Sort Global → Type 0 = λ v. AreMade all (drop (c.loop-declaration.declaration-index + 1) all) v.items in
     elim c.match-declaration.branch [
       | in-Struct+in_ok-enumerators-in-Struct+in_ok-push-in-Struct w ↦
           subst Made (sym w.sorts-is)
-          (struct_next all k d c.loop-declaration-test.true c.declaration-item.is done w.push.new.self.items w.in-Struct.enumerators.items _
+          (struct_next c.loop-declaration-test.true c.declaration-item.is c.loop-declaration.invariant w.in-Struct.enumerators.items _
           (ap (λ (s : Sort). erased_sort (sort_form s)) w.in-Struct.is)
           (w.in_ok-enumerators-in-Struct.ensures ∙ ap (λ (es : List Enumerator). map (λ (e : Enumerator). string_bytes e.name.text) es) w.deref.ensures.value)
-          w.in_ok-push-in-Struct.ensures.items c.loop-declaration.invariant)
+          w.in_ok-push-in-Struct.ensures.items)
       | in-Alias w ↦
           subst Made (sym w.sorts-is)
-          (alias_next all k d c.loop-declaration-test.true c.declaration-item.is done _ (ap (λ (s : Sort). erased_sort (sort_form s)) w.in-Alias.is) c.loop-declaration.invariant)
+          (alias_next c.loop-declaration-test.true c.declaration-item.is c.loop-declaration.invariant (ap (λ (s : Sort). erased_sort (sort_form s)) w.in-Alias.is))
     ]

@@ -1,55 +1,38 @@
-use Rattle.std.proofs.Common.{◌≡◌, ◌-◌, ◌<◌, suc, false, sym, ap, ◌∙◌, subst, arith, add-one, length, drop, take, OnOk}
-use Rattle.pb_bytecode_program.specs.declared.instruction.Op.TheVariants as op
-use Rattle.pb_bytecode_program.specs.declared.instruction.Connective.TheVariants as connective
+use Rattle.std.proofs.Common.{◌≡◌, ℕ, ◌-◌, ◌<◌, suc, sym, ap, ◌∙◌, subst, arith, add-one, length, drop, take, OnOk}
 use Rattle.pb_text_tree.specs.declared.operator.Connective.{Connective}
 use Rattle.pb_normal.specs.Normal as normal
 use Rattle.pb_normal.specs.View.{calculated, link_views, term_view}
-use Rattle.pb_assembler_scheme.specs.Pieces.{Piece, Plain, Then, Choose}
+use Rattle.pb_assembler_scheme.specs.Pieces.{Piece, Then}
 use Rattle.pb_assembler_scheme.specs.Scheme.{data_piece}
 use Rattle.pb_assembler.specs.Emitted.{Emits, connected_behind, nowhere}
 use Rattle.pb_normal.specs.Small.{is_small}
-use Rattle.pb_assembler.proofs.Chains.{one_more, chain_step, chain_all, small_link, small_head, small_operand}
-use Rattle.pb_assembler_measures.proofs.Views.{calculated_more, chain_from, chain_is, arithmetic_is}
-use Rattle.pb_typing_tree.proofs.Weight.{weight, terms_weight, links_weight, weight-chain, weight-arithmetic, term_lighter, link_lighter}
+use Rattle.pb_assembler.proofs.Chains.{one_more, chain_step, chain_all, chain_read, small_link, small_head, small_operand, arithmetic_read, IsChainOf, IsArithmeticOf}
+use Rattle.pb_assembler_measures.proofs.Views.{calculated_more, chain_from}
+use Rattle.pb_typing_tree.proofs.Weight.{term_lighter, link_lighter}
 use Rattle.pb_assembler.proofs.Emitting.{emits_then, choice_emitted, on_ok}
 use Rattle.pb_assembler.proofs.term.+terms.Goals as goal
+use Rattle.pb_assembler.proofs.term.+terms.Goals.{emit_term-After-deref-in-Chain-2, emit_term-After-deref-in-Arithmetic-2}
 
 pub emit_one-returns : goal.emit_one-returns
-emit_one-returns t c =
-    on_ok c.emit_plain.result _ _ c.emit_plain.ensures
-    (λ h. emits_then (data_piece (term_view c.args.operand.now)) (Plain c.args.op) nowhere c.args.builder.now
-    c.emit_term.new.builder c.emit_plain.new.builder c.in_ok-emit_term.ensures h)
+emit_one-returns t c = on_ok c.emit_plain.result _ _ c.emit_plain.ensures (emits_then c.in_ok-emit_term.ensures)
 
 pub emit_two-returns : goal.emit_two-returns
 emit_two-returns t c =
-    let x = data_piece (term_view c.args.left.now) in
-    let y = data_piece (term_view c.args.right.now) in
-    on_ok c.emit_plain.result _ _ c.emit_plain.ensures (λ h.
-    emits_then x (Then y (Plain c.args.op)) nowhere c.args.builder.now c.emit_term.new.builder c.emit_plain.new.builder c.in_ok-emit_term.ensures
-    (emits_then y (Plain c.args.op) nowhere c.emit_term.new.builder (c.emit_term-2).new.builder c.emit_plain.new.builder (c.in_ok-emit_term-2).ensures h))
+    on_ok c.emit_plain.result _ _ c.emit_plain.ensures (λ h. emits_then c.in_ok-emit_term.ensures (emits_then (c.in_ok-emit_term-2).ensures h))
 
 pub emit_beside-returns : goal.emit_beside-returns
 emit_beside-returns t c =
-    let x = data_piece (term_view c.args.operand.now) in
-    on_ok (c.emit_plain-2).result _ _ (c.emit_plain-2).ensures (λ h.
-    emits_then x (Then (Plain c.args.constant) (Plain c.args.op)) nowhere c.args.builder.now c.emit_term.new.builder (c.emit_plain-2).new.builder c.in_ok-emit_term.ensures
-    (emits_then (Plain c.args.constant) (Plain c.args.op) nowhere c.emit_term.new.builder c.emit_plain.new.builder (c.emit_plain-2).new.builder c.in_ok-emit_plain.ensures h))
+    on_ok (c.emit_plain-2).result _ _ (c.emit_plain-2).ensures (λ h. emits_then c.in_ok-emit_term.ensures (emits_then c.in_ok-emit_plain.ensures h))
 
 pub emit_comparison-returns : goal.emit_comparison-returns
 emit_comparison-returns t c =
-    let x = data_piece (term_view c.args.left.now) in
-    let y = data_piece (term_view c.args.right.now) in
-    subst (λ (q : Piece). OnOk c.emit_two.result (Emits q nowhere c.args.builder.now c.emit_two.new.builder)) (c.comparison_op-op.ensures.order x y) c.emit_two.ensures
+    subst (λ (q : Piece). OnOk c.emit_two.result (Emits q nowhere c.args.builder.now c.emit_two.new.builder))
+    (c.comparison_op-op.ensures.order (data_piece (term_view c.args.left.now)) (data_piece (term_view c.args.right.now))) c.emit_two.ensures
 
 pub emit_choice-returns : goal.emit_choice-returns
 emit_choice-returns t c =
-    let x = data_piece (term_view c.args.positive.now) in
-    let y = data_piece (term_view c.args.negative.now) in
-    emits_then (data_piece (term_view c.args.condition.now)) (Choose false x y) nowhere c.args.builder.now c.emit_term.new.builder (c.place-2).new.self c.in_ok-emit_term.ensures
-    (choice_emitted false x y nowhere c.emit_term.new.builder c.label.new.self (c.label-2).new.self c.emit_jump.new.self
-    (c.emit_term-2).new.builder (c.emit_jump-2).new.self c.place.new.self (c.emit_term-3).new.builder (c.place-2).new.self
-    c.in_ok-other.other.number c.in_ok-last.last.number
-    c.in_ok-other.ensures.label c.in_ok-other.ensures.ok c.in_ok-last.ensures.label c.in_ok-last.ensures.ok
+    emits_then c.in_ok-emit_term.ensures
+    (choice_emitted c.in_ok-other.ensures.label c.in_ok-other.ensures.ok c.in_ok-last.ensures.label c.in_ok-last.ensures.ok
     c.in_ok-emit_jump.ensures.ok (c.in_ok-emit_term-2).ensures (c.in_ok-emit_jump-2).ensures.ok c.place.ensures (c.in_ok-emit_term-3).ensures (c.place-2).ensures)
 
 -- ---- arithmetic
@@ -78,7 +61,7 @@ emit_arithmetic-loop-link-preserved t c =
     ap (λ n. data_piece (calculated first (link_views (take n links)))) (add-one k)
     ∙ ap data_piece (calculated_more first links k l c.loop-link-test.true c.link-item.is) ∙ sym (c.arithmetic_op.ensures.order x y) in
     subst (λ (q : Piece). Emits q nowhere c.args.builder.now c.emit_one.new.builder) (sym same)
-    (emits_then x (Then y (Plain c.arithmetic_op.result)) nowhere c.args.builder.now c.loop-link.builder c.emit_one.new.builder c.loop-link.invariant c.in_ok-emit_one.ensures)
+    (emits_then c.loop-link.invariant c.in_ok-emit_one.ensures)
 
 -- ---- chains
 
@@ -104,8 +87,7 @@ emit_chain-loop-left-preserved t c =
     ∙ ap (λ n. Then (data_piece (chain_from o (drop n xs))) (connected_behind o (data_piece (term_view x)))) next in (
       omega (arith, a),
       subst (λ (q : Piece). Emits q nowhere c.args.builder.now c.emit_operand.new.builder) (sym same)
-          (emits_then (data_piece (chain_from o (drop left xs))) (connected_behind o (data_piece (term_view x))) nowhere
-          c.args.builder.now c.loop-left.builder c.emit_operand.new.builder c.loop-left.invariant.1 c.in_ok-emit_operand.ensures),
+          (emits_then c.loop-left.invariant.1 c.in_ok-emit_operand.ensures),
     )
 
 pub emit_operand-returns-in_ok-emit_one-in-Implies : goal.emit_operand-returns-in_ok-emit_one-in-Implies
@@ -113,56 +95,35 @@ emit_operand-returns-in_ok-emit_one-in-Implies t c =
     let x = data_piece (term_view c.args.operand.now) in
     on_ok c.emit_plain.result _ _ c.emit_plain.ensures (λ h.
     subst (λ (o : Connective). Emits (connected_behind o x) nowhere c.args.builder.now c.emit_plain.new.builder) (sym c.in-Implies.is)
-    (emits_then (Then x (Plain op.Not)) (Plain (op.Logic connective.Or)) nowhere c.args.builder.now
-    (c.emit_one-in-Implies).new.builder c.emit_plain.new.builder (c.in_ok-emit_one-in-Implies).ensures h))
+    (emits_then (c.in_ok-emit_one-in-Implies).ensures h))
 
 -- ---- nodes
 
+chain : (t : ℕ) (c : emit_term-After-deref-in-Chain-2 t) → IsChainOf c.args.term.now c.in-Chain.connective c.deref-in-Chain.result.now (c.deref-in-Chain-2).result.now
+chain t c = chain_read c.in-Chain.connective c.in-Chain.first c.in-Chain.links c.in-Chain.is c.deref-in-Chain.ensures (c.deref-in-Chain-2).ensures.value
+
+arithmetic : (t : ℕ) (c : emit_term-After-deref-in-Arithmetic-2 t) → IsArithmeticOf c.args.term.now c.deref-in-Arithmetic.result.now (c.deref-in-Arithmetic-2).result.now
+arithmetic t c = arithmetic_read c.in-Arithmetic.first c.in-Arithmetic.links c.in-Arithmetic.is c.deref-in-Arithmetic.ensures (c.deref-in-Arithmetic-2).ensures.value
+
 pub emit_term-emit_chain-requires : goal.emit_term-emit_chain-requires
-emit_term-emit_chain-requires t c = (
-  omega (
-    arith,
-    c.decreases,
-    ap weight c.in-Chain.is
-        ∙ weight-chain c.in-Chain.connective c.in-Chain.first c.in-Chain.links,
-    ap weight c.deref-in-Chain.ensures,
-    ap
-        terms_weight (c.deref-in-Chain-2).ensures.value,
-  ),
-  ap is_small
-      (chain_is c.args.term.now c.deref-in-Chain.result.now c.in-Chain.connective c.in-Chain.first c.in-Chain.links
-      (c.deref-in-Chain-2).result.now c.in-Chain.is c.deref-in-Chain.ensures (c.deref-in-Chain-2).ensures.value) ∙ c.requires,
-)
+emit_term-emit_chain-requires t c =
+    let read = chain t (goal.at.emit_term-emit_chain-requires t c).After-deref-in-Chain-2 in
+    (omega (arith, c.decreases, read.weighs), ap is_small read.view ∙ c.requires)
 
 pub emit_term-emit_arithmetic-requires : goal.emit_term-emit_arithmetic-requires
-emit_term-emit_arithmetic-requires t c = (
-  omega (
-    arith,
-    c.decreases,
-    ap weight c.in-Arithmetic.is
-        ∙ weight-arithmetic c.in-Arithmetic.first c.in-Arithmetic.links,
-    ap weight c.deref-in-Arithmetic.ensures,
-    ap
-        links_weight (c.deref-in-Arithmetic-2).ensures.value,
-  ),
-  ap is_small
-      (arithmetic_is c.args.term.now c.deref-in-Arithmetic.result.now c.in-Arithmetic.first c.in-Arithmetic.links
-      (c.deref-in-Arithmetic-2).result.now c.in-Arithmetic.is c.deref-in-Arithmetic.ensures
-      (c.deref-in-Arithmetic-2).ensures.value) ∙ c.requires,
-)
+emit_term-emit_arithmetic-requires t c =
+    let read = arithmetic t (goal.at.emit_term-emit_arithmetic-requires t c).After-deref-in-Arithmetic-2 in
+    (omega (arith, c.decreases, read.weighs), ap is_small read.view ∙ c.requires)
 
 pub emit_term-returns-in-Chain : goal.emit_term-returns-in-Chain
 emit_term-returns-in-Chain t c =
     subst (λ (y : normal.Term). OnOk c.emit_chain.result (Emits (data_piece y) nowhere c.args.builder.now c.emit_chain.new.builder))
-    (chain_is c.args.term.now c.deref-in-Chain.result.now c.in-Chain.connective c.in-Chain.first c.in-Chain.links
-    (c.deref-in-Chain-2).result.now c.in-Chain.is c.deref-in-Chain.ensures (c.deref-in-Chain-2).ensures.value) c.emit_chain.ensures
+    (chain t (goal.at.emit_term-returns-in-Chain t c).After-deref-in-Chain-2).view c.emit_chain.ensures
 
 pub emit_term-returns-in-Arithmetic : goal.emit_term-returns-in-Arithmetic
 emit_term-returns-in-Arithmetic t c =
     subst (λ (y : normal.Term). OnOk c.emit_arithmetic.result (Emits (data_piece y) nowhere c.args.builder.now c.emit_arithmetic.new.builder))
-    (arithmetic_is c.args.term.now c.deref-in-Arithmetic.result.now c.in-Arithmetic.first c.in-Arithmetic.links
-    (c.deref-in-Arithmetic-2).result.now c.in-Arithmetic.is c.deref-in-Arithmetic.ensures
-    (c.deref-in-Arithmetic-2).ensures.value) c.emit_arithmetic.ensures
+    (arithmetic t (goal.at.emit_term-returns-in-Arithmetic t c).After-deref-in-Arithmetic-2).view c.emit_arithmetic.ensures
 
 pub emit_chain-returns : goal.emit_chain-returns
 emit_chain-returns t c =
@@ -175,8 +136,7 @@ emit_chain-returns t c =
     let same = ap data_piece (chain_all o first xs left (omega (arith, b)) (omega (arith, a))) ∙ one_more o first (chain_from o (drop left xs)) in
     on_ok (c.emit_operand-2).result _ _ (c.emit_operand-2).ensures (λ h.
     subst (λ (q : Piece). Emits q nowhere c.args.builder.now (c.emit_operand-2).new.builder) (sym same)
-    (emits_then (data_piece (chain_from o (drop left xs))) (connected_behind o (data_piece first)) nowhere
-    c.args.builder.now c.loop-left.builder (c.emit_operand-2).new.builder c.loop-left.invariant.1 h))
+    (emits_then c.loop-left.invariant.1 h))
 
 pub emit_chain-emit_term-requires-2 : goal.emit_chain-emit_term-requires-2
 emit_chain-emit_term-requires-2 t c =

@@ -1,9 +1,7 @@
 use Rattle.std.proofs.Common.{sym, subst}
-use Rattle.pb_bytecode_program.specs.declared.instruction.Op.TheVariants as op
 use Rattle.pb_normal.specs.View.{term_view}
 use Rattle.pb_typing.specs.View.{is_positive}
 use Rattle.pb_typing.specs.declared.polarity.Polarity.{Polarity}
-use Rattle.pb_assembler_scheme.specs.Pieces.{Plain}
 use Rattle.pb_assembler_scheme.specs.Scheme.{data_piece}
 use Rattle.pb_assembler.specs.Emitted.{Emits, nowhere}
 use Rattle.pb_assembler_measures.specs.Tests.{signed_term}
@@ -17,4 +15,4 @@ returns-in-Negative c =
     let d2 = c.emit_plain.new.builder in
     on_ok c.emit_plain.result _ _ c.emit_plain.ensures (λ h.
     subst (λ (p : Polarity). Emits (data_piece (signed_term (is_positive p) x)) nowhere d d2) (sym c.in-Negative.is)
-    (emits_then (data_piece x) (Plain op.Not) nowhere d c.emit_term.new.builder d2 c.in_ok-emit_term.ensures h))
+    (emits_then c.in_ok-emit_term.ensures h))
