@@ -3,7 +3,7 @@ use Rattle.std.proofs.Common.{◌≡◌, ℕ, Bool, add-one, suc, zero, ◌+◌,
 use Rattle.std.proofs.Math.Dec.{eqb-suc-zero}
 use Rattle.std.specs.List.{slice_get}
 use Rattle.pb_text_tree.specs.declared.term.Argument.{Argument}
-use Rattle.pb_text_meaning.specs.Syntax.{Name, Term, Terms, Spec}
+use Rattle.pb_text_meaning.specs.Syntax.{Term, Terms, Spec}
 use Rattle.pb_base.specs.declared.or_memory.OrMemory.{OrMemory}
 use Rattle.pb_base.specs.declared.or_memory.OrMemory.TheVariants.{Refused, Memory}
 use Rattle.pb_protocol_folding.specs.View as tree
@@ -11,24 +11,11 @@ use Rattle.pb_protocol_unfolding.specs.PutIn.{Forms, TermScope, all_put_in, put_
 use Rattle.pb_protocol_unfolder_terms.specs.declared.fault.UnfoldFault.{UnfoldFault}
 use Rattle.pb_protocol_unfolder_terms.specs.declared.fault.UnfoldRule.{UnfoldRule}
 use Rattle.pb_protocol_unfolder_terms.specs.declared.fault.UnfoldRule.TheVariants as rule
-use Rattle.pb_protocol_unfolder_terms.specs.Puts.{AreArguments, IsRefusalOfAll, choice_of, truth_behind, with_last}
+use Rattle.pb_protocol_unfolder_terms.specs.Puts.{AreArguments, IsRefusalOfAll, truth_behind, with_last}
 use Rattle.pb_protocol_unfolder_terms.specs.Unfolding.{IsRefusal, IsUnfolded, OnOperators, operator_count, operator_counts}
 use Rattle.pb_protocol_unfolder_terms.specs.declared.arguments.UnfoldedArguments.{UnfoldedArguments}
 use Rattle.pb_protocol_unfolder_terms.specs.declared.unfolded.Unfolded.{Unfolded}
 use Rattle.pb_protocol_folding.specs.Folding.{folded, folded_arguments}
-
--- three arguments one by one
-pub arguments-three : (S : Spec) (forms : Forms) (ρ : TermScope) (f : Name) (given : List Argument) (a b d : Argument)
-    → length given ≡ 3 → a ≡ get_or given 0 a → b ≡ get_or given 1 b → d ≡ get_or given 2 d
-    → choice_of f (put_in S forms ρ (tree.term_of a.term)) (put_in S forms ρ (tree.term_of b.term)) (put_in S forms ρ (tree.term_of d.term)) ≡ Term.Apply f (all_put_in S forms ρ (tree.terms_of given))
-arguments-three S forms ρ f [] a b d three ea eb ed = absurd (omega (arith, three))
-arguments-three S forms ρ f (x ∷ []) a b d three ea eb ed = absurd (omega (arith, three))
-arguments-three S forms ρ f (x ∷ y ∷ []) a b d three ea eb ed = absurd (omega (arith, three))
-arguments-three S forms ρ f (x ∷ y ∷ z ∷ []) a b d three ea eb ed =
-    ap (λ (u : Argument). choice_of f (put_in S forms ρ (tree.term_of u.term)) (put_in S forms ρ (tree.term_of b.term)) (put_in S forms ρ (tree.term_of d.term))) ea
-    ∙ ap (λ (u : Argument). choice_of f (put_in S forms ρ (tree.term_of x.term)) (put_in S forms ρ (tree.term_of u.term)) (put_in S forms ρ (tree.term_of d.term))) eb
-    ∙ ap (λ (u : Argument). choice_of f (put_in S forms ρ (tree.term_of x.term)) (put_in S forms ρ (tree.term_of y.term)) (put_in S forms ρ (tree.term_of u.term))) ed
-arguments-three S forms ρ f (x ∷ y ∷ z ∷ w ∷ given) a b d three ea eb ed = absurd (omega (arith, three))
 
 -- what is refused
 weaker : (n : ℕ) (xs : Terms) (e : OrMemory UnfoldFault) (m : ℕ) (x : Term) → (m < operator_count x → n < operator_counts xs) → IsRefusal m x e → IsRefusalOfAll n xs e
@@ -40,29 +27,6 @@ weaker n xs (Refused f) m x h r = by f.rule r
     by rule.Depth p = tt
     by rule.Values p = tt
     by rule.Index p = tt
-
--- two of three arguments
-pub first-and-second : (S : Spec) (forms : Forms) (ρ : TermScope) (f : Name) (given : List Argument) (a b : Argument) → length given ≡ 3 → a ≡ get_or given 0 a → b ≡ get_or given 1 b
-    → choice_of f (put_in S forms ρ (tree.term_of a.term)) (put_in S forms ρ (tree.term_of b.term))
-    (put_in S forms ρ (tree.term_of (get_or given 2 a).term)) ≡ Term.Apply f (all_put_in S forms ρ (tree.terms_of given))
-first-and-second S forms ρ f [] a b three ea eb = absurd (omega (arith, three))
-first-and-second S forms ρ f (x ∷ []) a b three ea eb = absurd (omega (arith, three))
-first-and-second S forms ρ f (x ∷ y ∷ []) a b three ea eb = absurd (omega (arith, three))
-first-and-second S forms ρ f (x ∷ y ∷ z ∷ []) a b three ea eb =
-    ap (λ (u : Argument). choice_of f (put_in S forms ρ (tree.term_of u.term)) (put_in S forms ρ (tree.term_of b.term)) (put_in S forms ρ (tree.term_of z.term))) ea
-    ∙ ap (λ (u : Argument). choice_of f (put_in S forms ρ (tree.term_of x.term)) (put_in S forms ρ (tree.term_of u.term)) (put_in S forms ρ (tree.term_of z.term))) eb
-first-and-second S forms ρ f (x ∷ y ∷ z ∷ w ∷ given) a b three ea eb = absurd (omega (arith, three))
-
-pub first-and-third : (S : Spec) (forms : Forms) (ρ : TermScope) (f : Name) (given : List Argument) (a d : Argument) → length given ≡ 3 → a ≡ get_or given 0 a → d ≡ get_or given 2 d
-    → choice_of f (put_in S forms ρ (tree.term_of a.term)) (put_in S forms ρ (tree.term_of (get_or given 1 a).term))
-    (put_in S forms ρ (tree.term_of d.term)) ≡ Term.Apply f (all_put_in S forms ρ (tree.terms_of given))
-first-and-third S forms ρ f [] a d three ea ed = absurd (omega (arith, three))
-first-and-third S forms ρ f (x ∷ []) a d three ea ed = absurd (omega (arith, three))
-first-and-third S forms ρ f (x ∷ y ∷ []) a d three ea ed = absurd (omega (arith, three))
-first-and-third S forms ρ f (x ∷ y ∷ z ∷ []) a d three ea ed =
-    ap (λ (u : Argument). choice_of f (put_in S forms ρ (tree.term_of u.term)) (put_in S forms ρ (tree.term_of y.term)) (put_in S forms ρ (tree.term_of d.term))) ea
-    ∙ ap (λ (u : Argument). choice_of f (put_in S forms ρ (tree.term_of x.term)) (put_in S forms ρ (tree.term_of y.term)) (put_in S forms ρ (tree.term_of u.term))) ed
-first-and-third S forms ρ f (x ∷ y ∷ z ∷ w ∷ given) a d three ea ed = absurd (omega (arith, three))
 
 -- up to the element at a place, and all
 pub taken-more : {A : Type 0} (xs : List A) (k : ℕ) (x : A) → k < length xs → x ≡ get_or xs k x → take (suc k) xs ≡ take k xs ++ (x ∷ [])

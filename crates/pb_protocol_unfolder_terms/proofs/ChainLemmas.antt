@@ -11,7 +11,7 @@ use Rattle.pb_text_tree.specs.declared.term.Term as declared_term
 use Rattle.pb_text_tree.specs.declared.term.Term.{items_hidden-the_row-TermLink-0, items_hidden-the_row-ArithmeticLink-1}
 use Rattle.pb_text_tree.specs.declared.term.ArithmeticLink.{ArithmeticLink}
 use Rattle.pb_text_tree.specs.declared.term.TermLink.{TermLink}
-use Rattle.pb_text_tree.specs.Form.{TermForm, chained, term_form, term_links}
+use Rattle.pb_text_tree.specs.Form.{TermForm, argument_forms, chained, named, term_form, term_links}
 use Rattle.pb_text_tree.proofs.FormLemmas.{term-chain, term-application}
 use Rattle.pb_text_meaning.specs.Syntax.{Operator, Term}
 use Rattle.pb_text_meaning.specs.Erase.{erased_term, of_connective}
@@ -28,10 +28,30 @@ erased-chained : (c : Connective) (x : TermForm) (ls : List TermLink) → erased
 erased-chained c x [] = refl
 erased-chained c x (l ∷ ls) = ap (Term.Binary (of_connective c) (erased_term x)) (erased-chained c (term_form l.operand) ls)
 
--- what a chain says
-pub chain-said : (c : Connective) (first : Box declared_term.Term Global) (v : Vec TermLink Global)
-    → tree.term_of (declared_term.Chain c first v) ≡ chain_term c (tree.term_of (box_value first)) (operands_of v.items)
-chain-said c first v = ap erased_term (term-chain c first v) ∙ erased-chained c (term_form (box_value first)) v.items
+-- ---- a term by the parts that the code has of it
+
+-- a chain: its form, and what it says
+pub chain-is : {t f : declared_term.Term} {o : Connective} {first : Box declared_term.Term Global} (links : Vec TermLink Global) {ls : List TermLink}
+    → t ≡ declared_term.Chain o first links → f ≡ box_value first → ls ≡ links.items → term_form t ≡ chained (TermForm.connected o) (term_form f) (term_links ls)
+chain-is {f = f} {o = o} {first = first} links is same rows =
+    ap term_form is ∙ term-chain o first links ∙ ap (λ y. chained (TermForm.connected o) (term_form y) (term_links links.items)) (sym same)
+    ∙ ap (λ ms. chained (TermForm.connected o) (term_form f) (term_links ms)) (sym rows)
+
+pub chain-means : {t f : declared_term.Term} {o : Connective} {first : Box declared_term.Term Global} (links : Vec TermLink Global) {ls : List TermLink}
+    → t ≡ declared_term.Chain o first links → f ≡ box_value first → ls ≡ links.items → chain_term o (tree.term_of f) (operands_of ls) ≡ tree.term_of t
+chain-means {f = f} {o = o} links {ls = ls} is same rows = sym (ap erased_term (chain-is links is same rows) ∙ erased-chained o (term_form f) ls)
+
+-- a name with arguments
+pub application-said : (f : Name) (v : Vec Argument Global) → tree.term_of (declared_term.Application f v) ≡ Term.Apply (string_bytes f.text) (tree.terms_of v.items)
+application-said f v = ap erased_term (term-application f v)
+
+pub application-is : {t : declared_term.Term} {f : Name} (arguments : Vec Argument Global) {given : List Argument} → t ≡ declared_term.Application f arguments → given ≡ arguments.items
+    → term_form t ≡ TermForm.application (named f) (argument_forms given)
+application-is {f = f} arguments is same = ap term_form is ∙ term-application f arguments ∙ ap (λ bs. TermForm.application (named f) (argument_forms bs)) (sym same)
+
+pub application-means : {t : declared_term.Term} {f : Name} (arguments : Vec Argument Global) {given : List Argument} → t ≡ declared_term.Application f arguments → given ≡ arguments.items
+    → Term.Apply (string_bytes f.text) (tree.terms_of given) ≡ tree.term_of t
+application-means arguments is same = sym (ap erased_term (application-is arguments is same))
 
 pub no-operands : (ls : List TermLink) → None ≡ slice_get ls 0 → [] ≡ operands_of ls
 no-operands [] e = refl
@@ -61,7 +81,8 @@ refusal-weaker n m x y (Refused f) h r = by f.rule r
     by rule.Index p = tt
 
 -- what is refused on the right of an operator is too much behind the left one
-pub refusal-behind : (n m k : ℕ) (o : Operator) (x y whole : Term) (e : OrMemory UnfoldFault) → n ≡ suc m → m ≤ k + operator_count x → Term.Binary o x y ≡ whole → IsRefusal k y e → IsRefusal n whole e
+pub refusal-behind : (n m k : ℕ) (o : Operator) (x y whole : Term) (e : OrMemory UnfoldFault) → n ≡ suc m → m ≤ k + operator_count x → Term.Binary o x y ≡ whole → IsRefusal k y e
+    → IsRefusal n whole e
 refusal-behind n m k o x y whole e one left same r =
     subst (λ (z : Term). IsRefusal n z e) same (refusal-weaker n k y (Term.Binary o x y) e (λ h. more (operator_count x) (operator_count y) left h) r)
   where
@@ -76,10 +97,6 @@ err-kept (Err d) e P Q h q = subst Q (sym h) q
 -- a chain by its parts
 pub chain-parts : (c d : Connective) (x y : Term) (xs ys : List Term) → c ≡ d → x ≡ y → xs ≡ ys → chain_term c x xs ≡ chain_term d y ys
 chain-parts c d x y xs ys e f g = ap (λ (k : Connective). chain_term k x xs) e ∙ ap (λ (z : Term). chain_term d z xs) f ∙ ap (chain_term d y) g
-
--- what an application says
-pub application-said : (f : Name) (v : Vec Argument Global) → tree.term_of (declared_term.Application f v) ≡ Term.Apply (string_bytes f.text) (tree.terms_of v.items)
-application-said f v = ap erased_term (term-application f v)
 
 -- no room for an operator
 pub no-room : (n : ℕ) (whole : Term) (e : OrMemory UnfoldFault) (place : Place) → e ≡ Refused record { rule = rule.Operators; place = place } → n < operator_count whole → IsRefusal n whole e

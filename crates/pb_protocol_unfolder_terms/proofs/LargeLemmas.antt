@@ -8,10 +8,11 @@ use Rattle.pb_text_tree.specs.declared.place.Place.{Place}
 use Rattle.pb_text_tree.specs.declared.operator.Connective.{Connective}
 use Rattle.pb_text_tree.specs.declared.term.Argument.{Argument}
 use Rattle.pb_text_tree.specs.declared.term.ArithmeticLink.{ArithmeticLink}
+use Rattle.pb_text_tree.specs.declared.term.Term as declared_term
 use Rattle.pb_text_tree.specs.declared.term.TermLink.{TermLink}
 use Rattle.pb_protocol_tree.specs.declared.step.Assignment.{Assignment}
 use Rattle.pb_protocol_tree.specs.Form.{assignment_form}
-use Rattle.pb_text_tree.specs.Form.{TermForm, argument_forms, arithmetic_links, calculated, chained, named, term_form, term_links}
+use Rattle.pb_text_tree.specs.Form.{Named, TermForm, argument_forms, arithmetic_links, calculated, chained, named, term_form, term_links}
 use Rattle.pb_text_meaning.specs.Syntax.{Spec, Term}
 use Rattle.pb_protocol_unfolding.specs.PutIn.{TermScope}
 use Rattle.pb_protocol_unfolding.specs.Written.{written_values}
@@ -19,12 +20,14 @@ use Rattle.pb_protocol_unfolder_terms.specs.declared.context.Context.{Context}
 use Rattle.pb_protocol_unfolder_terms.specs.declared.fault.UnfoldFault.{UnfoldFault}
 use Rattle.pb_protocol_unfolder_terms.specs.declared.fault.UnfoldRule.{UnfoldRule}
 use Rattle.pb_protocol_unfolder_terms.specs.declared.fault.UnfoldRule.TheVariants as rule
+use Rattle.pb_protocol_unfolder_terms.specs.declared.level.Level.{Level}
+use Rattle.pb_protocol_unfolder_terms.specs.declared.scope.TermScope as declared_scope
 use Rattle.pb_protocol_unfolder_terms.specs.declared.sorts.Variable.{Variable}
 use Rattle.pb_protocol_unfolder_terms.specs.declared.unfolded.Unfolded.{Unfolded}
 use Rattle.pb_protocol_unfolder_terms.specs.Deep.{IsDepthFault}
-use Rattle.pb_protocol_unfolder_terms.specs.Large.{HasManyValues, IsConnectiveAt, IsOperatorAt, IsTokenMet, IsValuesFault}
+use Rattle.pb_protocol_unfolder_terms.specs.Large.{HasManyValues, IsConnectiveAt, IsOperatorAt, IsTokenMet, IsTokenOf, IsValuesFault}
 use Rattle.pb_protocol_unfolder_terms.specs.Met.{Itself, Occurrence, Surroundings, at}
-use Rattle.pb_protocol_unfolder_terms.specs.Tells.{AreMetAt, IsFaultOf, IsMetAt, IsTokenAt}
+use Rattle.pb_protocol_unfolder_terms.specs.Tells.{AreMetAt, IsFaultOf, IsMetAt, IsTermMet, IsTokenAt, Tells, scope_said, surroundings_in}
 use Rattle.pb_protocol_unfolder_terms.specs.TermFaults.{Breaks, IfFaultAt, IsFaultInAssignment, IsFaultInAssignments, WithMany}
 use Rattle.pb_protocol_unfolder_terms.specs.Unfolding.{OnOperators, Unfolds, operator_count}
 use Rattle.pb_protocol_unfolder_terms.specs.Values.{IsTooLong}
@@ -36,22 +39,23 @@ use Rattle.pb_protocol_unfolder_terms.proofs.ReadLemmas.{not-none, some-is}
 -- ---- faults
 
 -- it nests too deep
-pub depth-told : (m : Surroundings) (whole : Occurrence) (p : Place) (e : OrMemory UnfoldFault) → e ≡ Refused (record { rule = rule.Depth; place = p }) → IsDepthFault m whole p → IsFaultOf m whole e
-depth-told m whole p e is deep = subst (IsFaultOf m whole) (sym is) deep
+pub depth-told : {Q : Occurrence → Type 0} {p : Place} (k : Context) (e : OrMemory UnfoldFault) → e ≡ Refused (record { rule = rule.Depth; place = p })
+    → ((whole : Occurrence) → Q whole → IsDepthFault (surroundings_in k) whole p) → (whole : Occurrence) → Q whole → IsFaultOf (surroundings_in k) whole e
+depth-told k e is deep whole h = subst (IsFaultOf (surroundings_in k) whole) (sym is) (deep whole h)
 
 -- there is no room at a token
-pub room-told : {A : Type 0} (m : Surroundings) (whole : Occurrence) (p : Place) (r : Result A (OrMemory UnfoldFault)) (e : OrMemory UnfoldFault) → IsErrAnd r (λ d. d ≡ e)
-    → e ≡ Refused (record { rule = rule.Operators; place = p }) → IsTokenMet m whole p → IfErr r (IsFaultOf m whole)
-room-told m whole p r e same is token = err-told r e (IsFaultOf m whole) same (subst (IsFaultOf m whole) (sym is) token)
+pub room-told : {A : Type 0} {Q : Occurrence → Type 0} {p : Place} (k : Context) (r : Result A (OrMemory UnfoldFault)) (e : OrMemory UnfoldFault) → IsErrAnd r (λ d. d ≡ e)
+    → e ≡ Refused (record { rule = rule.Operators; place = p }) → ((whole : Occurrence) → Q whole → IsTokenAt k p whole) → Tells k r Q
+room-told k r e same is token whole h = err-told r e (IsFaultOf (surroundings_in k) whole) same (subst (IsFaultOf (surroundings_in k) whole) (sym is) (token whole h))
 
 -- there are too many values
-pub values-told : {A B : Type 0} (m : Surroundings) (whole : Occurrence) (xs : List A) (p : Place) (r : Result B (OrMemory UnfoldFault)) (e : OrMemory UnfoldFault) → IsErrAnd r (λ d. d ≡ e)
-    → IsTooLong xs p e → (8192 < length xs → IsValuesFault m whole p) → IfErr r (IsFaultOf m whole)
-values-told {A = A} m whole xs p r e same is many = err-told r e (IsFaultOf m whole) same (by e is)
+pub values-told : {A B : Type 0} {Q : Occurrence → Type 0} {p : Place} (k : Context) (xs : List A) (r : Result B (OrMemory UnfoldFault)) (e : OrMemory UnfoldFault) → IsErrAnd r (λ d. d ≡ e)
+    → IsTooLong xs p e → ((whole : Occurrence) → Q whole → 8192 < length xs → IsValuesFault (surroundings_in k) whole p) → Tells k r Q
+values-told {A = A} {p = p} k xs r e same is many whole h = err-told r e (IsFaultOf (surroundings_in k) whole) same (by e is)
   where
-    by : (d : OrMemory UnfoldFault) → IsTooLong xs p d → IsFaultOf m whole d
-    by Memory h = tt
-    by (Refused f) h = subst (λ (g : UnfoldFault). IsFaultOf m whole (Refused g)) (sym h.0) (many h.1)
+    by : (d : OrMemory UnfoldFault) → IsTooLong xs p d → IsFaultOf (surroundings_in k) whole d
+    by Memory g = tt
+    by (Refused f) g = subst (λ (fault : UnfoldFault). IsFaultOf (surroundings_in k) whole (Refused fault)) (sym g.0) (many whole h g.1)
 
 -- by the rule of operators there are as many as that
 pub with-many : (S : Spec) (b : Bool) (n : ℕ) (t : Term) (P : UnfoldRule → Place → Type 0) (r : Result Unfolded (OrMemory UnfoldFault)) → Unfolds S b n t r → IfErr r (IfFaultAt P)
@@ -73,6 +77,19 @@ first-many S (j ∷ js) i there many =
     (variable_of j, first-in (variable_of j) (map variable_of js), subst (λ (v : Variable). 8192 < length (written_values S v.sort.now)) (some-is i j there) many)
 
 -- ---- tokens
+
+-- a token of a term as the code holds it, and that of a name with arguments
+pub token-met : (k : Context) (v : Level) (s : declared_scope.TermScope) (x : declared_term.Term) (p : Place) {u : declared_term.Term} → x ≡ u → IsTokenOf (term_form u) p
+    → (whole : Occurrence) → IsTermMet k (suc v.depth) v.definitions s (term_form x) whole → IsTokenAt k p whole
+token-met k v s x p same token whole h = (
+  at (suc v.depth) v.definitions (scope_said k s) (term_form x),
+  h.0,
+  inl (subst (λ (z : declared_term.Term). IsTokenOf (term_form z) p) (sym same) token),
+)
+
+pub name-met : (k : Context) (v : Level) (s : declared_scope.TermScope) (f : Named) (given : List Argument)
+    → (whole : Occurrence) → IsTermMet k (suc v.depth) v.definitions s (TermForm.application f (argument_forms given)) whole → IsTokenAt k f.place whole
+name-met k v s f given whole h = (at (suc v.depth) v.definitions (scope_said k s) (TermForm.application f (argument_forms given)), h.0, inl refl)
 
 module _ (c : Context) (l n : ℕ) (ρ : TermScope) (whole : Occurrence) where
   connective-at : (k : Connective) (x : TermForm) (ls : List TermLink) (i : ℕ) (d : TermLink) → i < length ls → d ≡ get_or ls i d

@@ -17,4 +17,13 @@ pub mod BehindLemmas
 pub mod BoundsLemmas
 pub mod MetLemmas
 pub mod LargeLemmas
+pub mod LatestLemmas
 pub mod DeepLemmas
+pub mod AfterLemmas
+pub mod CalculationLemmas
+pub mod ChoosingLemmas
+pub mod ComparedLemmas
+pub mod ConditionalLemmas
+pub mod CopyLemmas
+pub mod GivenLemmas
+pub mod MeantLemmas

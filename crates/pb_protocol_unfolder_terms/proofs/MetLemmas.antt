@@ -8,20 +8,23 @@ use Rattle.pb_text_tree.specs.declared.place.Place.{Place}
 use Rattle.pb_text_tree.specs.declared.operator.Connective.{Connective}
 use Rattle.pb_text_tree.specs.declared.term.Argument.{Argument}
 use Rattle.pb_text_tree.specs.declared.term.ArithmeticLink.{ArithmeticLink}
+use Rattle.pb_text_tree.specs.declared.term.Term as declared_term
 use Rattle.pb_text_tree.specs.declared.term.TermLink.{TermLink}
 use Rattle.pb_text_tree.specs.Form.{Named, TermForm, argument_forms, arithmetic_links, calculated, chained, term_form, term_links}
 use Rattle.pb_text_meaning.specs.Syntax.{Name, same_name, Spec, Term}
 use Rattle.pb_text_meaning.specs.Erase.{erased_term}
 use Rattle.pb_protocol_folding.specs.Folding.{folded}
 use Rattle.pb_protocol_unfolding.specs.PutIn.{TermScope, put_in}
+use Rattle.pb_protocol_unfolder_terms.specs.declared.connectives.Chain.{Chain}
 use Rattle.pb_protocol_unfolder_terms.specs.declared.context.Context.{Context}
 use Rattle.pb_protocol_unfolder_terms.specs.declared.fault.UnfoldFault.{UnfoldFault}
+use Rattle.pb_protocol_unfolder_terms.specs.declared.level.Level.{Level}
 use Rattle.pb_protocol_unfolder_terms.specs.declared.sorts.Variable.{Variable}
 use Rattle.pb_protocol_unfolder_terms.specs.declared.scope.TermScope as declared_scope
 use Rattle.pb_protocol_unfolder_terms.specs.Large.{HasManyValues, IsValuesFault}
-use Rattle.pb_protocol_unfolder_terms.specs.Met.{HaveOutside, IsArgument, IsCalculated, IsChained, IsIndex, IsIndexFault, IsOutside, Itself, Occurrence, Operand, Surroundings, all_index_levels, at, index_levels}
+use Rattle.pb_protocol_unfolder_terms.specs.Met.{HaveOutside, IsArgument, IsCalculated, IsChained, IsIndex, IsIndexFault, IsOutside, IsPart, Itself, Occurrence, Operand, Surroundings, all_index_levels, at, index_levels}
 use Rattle.pb_protocol_unfolder_terms.specs.Scopes.{looked}
-use Rattle.pb_protocol_unfolder_terms.specs.Tells.{AreIndices, AreIndicesMet, AreMetAt, IsArrayMet, IsFaultOf, IsMetAt, IsReadMet, IsScopeMet, scope_said, surroundings_in}
+use Rattle.pb_protocol_unfolder_terms.specs.Tells.{AreArgumentsMet, AreIndices, AreIndicesMet, AreMetAt, IsArrayMet, IsFaultOf, IsMetAt, IsReadMet, IsScopeMet, IsTermMet, Tells, scope_said, surroundings_in}
 use Rattle.pb_protocol_unfolder_terms.specs.TermFaults.{Breaks, HasValues, IfFaultAt}
 use Rattle.pb_protocol_unfolder_terms.specs.Bounds.{IsSeenWithin, sort_interval}
 use Rattle.pb_protocol_unfolder_terms.specs.Contexts.{IsSeenInside, forms_in, interval_in, spec_in, state_variable_of}
@@ -90,7 +93,7 @@ module _ (c : Context) (l n : ℕ) (ρ : TermScope) (whole : Occurrence) where
     link-chained x (m ∷ ls) d (suc i, within, e) = inr (inr (link-chained (term_form m.operand) ls d (i, omega (arith, within), e)))
 
     -- an operand of a chain
-    pub chain-operand-met : (x : TermForm) (ls : List TermLink) (y : TermForm) → 0 < length ls → IsChainOperand x ls y
+    chain-operand-met : (x : TermForm) (ls : List TermLink) (y : TermForm) → 0 < length ls → IsChainOperand x ls y
         → IsMetAt c (suc l) n ρ (chained (TermForm.connected k) x (term_links ls)) whole → IsMetAt c l n ρ y whole
     chain-operand-met x [] y some o h = absurd (omega (arith, some))
     chain-operand-met x (m ∷ ls) y some (inl e) h = Operand l n ρ (chained (TermForm.connected k) x (term_links (m ∷ ls))) y h (inr (inl (inl e)))
@@ -113,10 +116,10 @@ module _ (c : Context) (l n : ℕ) (ρ : TermScope) (whole : Occurrence) where
   link-calculated x (m ∷ ls) d (suc i, within, e) = link-calculated (TermForm.computed m.operator m.place x (term_form m.operand)) ls d (i, omega (arith, within), e)
 
   -- the first operand of arithmetic, and one behind it
-  pub arithmetic-first-met : (x : TermForm) (ls : List ArithmeticLink) → 0 < length ls → IsMetAt c (suc l) n ρ (calculated x (arithmetic_links ls)) whole → IsMetAt c l n ρ x whole
+  arithmetic-first-met : (x : TermForm) (ls : List ArithmeticLink) → 0 < length ls → IsMetAt c (suc l) n ρ (calculated x (arithmetic_links ls)) whole → IsMetAt c l n ρ x whole
   arithmetic-first-met x ls some h = Operand l n ρ (calculated x (arithmetic_links ls)) x h (inr (inr (first-calculated x ls some)))
 
-  pub arithmetic-link-met : (x : TermForm) (ls : List ArithmeticLink) (i : ℕ) (d : ArithmeticLink) → i < length ls → d ≡ get_or ls i d
+  arithmetic-link-met : (x : TermForm) (ls : List ArithmeticLink) (i : ℕ) (d : ArithmeticLink) → i < length ls → d ≡ get_or ls i d
       → IsMetAt c (suc l) n ρ (calculated x (arithmetic_links ls)) whole → IsMetAt c l n ρ (term_form d.operand) whole
   arithmetic-link-met x ls i d within is h =
       Operand l n ρ (calculated x (arithmetic_links ls)) (term_form d.operand) h (inr (inr (link-calculated x ls d (item-in ls i d within is))))
@@ -133,8 +136,52 @@ module _ (c : Context) (l n : ℕ) (ρ : TermScope) (whole : Occurrence) where
   pub argument-at-met : (given : List Argument) (i : ℕ) (a : Argument) → i < length given → a ≡ get_or given i a → AreMetAt c l n ρ given whole → IsMetAt c l n ρ (term_form a.term) whole
   argument-at-met given i a within is h = h a (item-in given i a within is)
 
-  pub other-arguments-met : (given : List Argument) → AreMetAt c l n ρ given whole → AreMetAt c l n ρ (drop 1 given) whole
+  other-arguments-met : (given : List Argument) → AreMetAt c l n ρ given whole → AreMetAt c l n ρ (drop 1 given) whole
   other-arguments-met given h = λ a in-it. h a (left-in given a in-it)
+
+-- the same term is met
+pub same-met : (k : Context) (l n : ℕ) (s : declared_scope.TermScope) {x y : TermForm} → x ≡ y → (whole : Occurrence) → IsTermMet k l n s x whole → IsTermMet k l n s y whole
+same-met k l n s same whole h = (subst (λ (z : TermForm). IsMetAt k l n (scope_said k s) z whole) same h.0, h.1)
+
+-- ---- the parts of a term that is met, with a level less
+
+module _ (k : Context) (v : Level) (s : declared_scope.TermScope) where
+  abbrev Met : ℕ → TermForm → Occurrence → Type 0
+  Met l x whole = IsTermMet k l v.definitions s x whole
+
+  -- a part of a term as the code holds it
+  pub part-met : (x y : declared_term.Term) {u : declared_term.Term} → x ≡ u → IsPart (term_form u) (term_form y) → (whole : Occurrence) → Met (suc v.depth) (term_form x) whole
+      → Met v.depth (term_form y) whole
+  part-met x y same part whole h = (
+    Operand v.depth v.definitions (scope_said k s) (term_form x) (term_form y) h.0
+        (inl (subst (λ (z : declared_term.Term). IsPart (term_form z) (term_form y)) (sym same) part)),
+    h.1,
+  )
+
+  pub chain-part-met : (chain : Chain) (y : TermForm) → 0 < length chain.links.now → IsChainOperand (term_form chain.first.now) chain.links.now y
+      → (whole : Occurrence) → Met (suc v.depth) (chained (TermForm.connected chain.connective) (term_form chain.first.now) (term_links chain.links.now)) whole → Met v.depth y whole
+  chain-part-met chain y some operand whole h =
+      (chain-operand-met k v.depth v.definitions (scope_said k s) whole chain.connective (term_form chain.first.now) chain.links.now y some operand h.0, h.1)
+
+  pub first-part-met : (x : TermForm) (ls : List ArithmeticLink) → 0 < length ls → (whole : Occurrence) → Met (suc v.depth) (calculated x (arithmetic_links ls)) whole → Met v.depth x whole
+  first-part-met x ls some whole h = (arithmetic-first-met k v.depth v.definitions (scope_said k s) whole x ls some h.0, h.1)
+
+  pub link-part-met : (x : TermForm) (ls : List ArithmeticLink) (i : ℕ) (d : ArithmeticLink) → i < length ls → d ≡ get_or ls i d
+      → (whole : Occurrence) → Met (suc v.depth) (calculated x (arithmetic_links ls)) whole → Met v.depth (term_form d.operand) whole
+  link-part-met x ls i d within is whole h = (arithmetic-link-met k v.depth v.definitions (scope_said k s) whole x ls i d within is h.0, h.1)
+
+  -- arguments, and the one at a place
+  pub given-met : (f : Named) (given : List Argument) (whole : Occurrence) → Met (suc v.depth) (TermForm.application f (argument_forms given)) whole
+      → AreArgumentsMet k v.depth v.definitions s given whole
+  given-met f given whole h = (arguments-met k v.depth v.definitions (scope_said k s) whole f given h.0, h.1)
+
+  pub argument-part-met : (f : Named) (given : List Argument) (i : ℕ) (a : Argument) → i < length given → a ≡ get_or given i a
+      → (whole : Occurrence) → Met (suc v.depth) (TermForm.application f (argument_forms given)) whole → Met v.depth (term_form (get_or given i a).term) whole
+  argument-part-met f given i a within is whole h = (
+    subst (λ (b : Argument). IsMetAt k v.depth v.definitions (scope_said k s) (term_form b.term) whole) is
+        (argument-at-met k v.depth v.definitions (scope_said k s) whole given i a within is (given-met f given whole h).0),
+    h.1,
+  )
 
 module _ (c : Context) (n : ℕ) (ρ : TermScope) (whole : Occurrence) where
   -- ---- reads
@@ -236,6 +283,11 @@ module _ (c : Context) (n : ℕ) (scope : declared_scope.TermScope) (whole : Occ
 pub err-told : {A : Type 0} (r : Result A (OrMemory UnfoldFault)) (e : OrMemory UnfoldFault) (Q : OrMemory UnfoldFault → Type 0) → IsErrAnd r (λ d. d ≡ e) → Q e → IfErr r Q
 err-told (Ok a) e Q h q = absurd h
 err-told (Err d) e Q h q = subst Q (sym h) q
+
+-- what is told of a part is told of the whole
+pub told : {A : Type 0} {P Q : Occurrence → Type 0} (k : Context) (r : Result A (OrMemory UnfoldFault)) (e : OrMemory UnfoldFault) → IsErrAnd r (λ d. d ≡ e)
+    → ((whole : Occurrence) → P whole → IsFaultOf (surroundings_in k) whole e) → ((whole : Occurrence) → Q whole → P whole) → Tells k r Q
+told k r e same faults part whole h = err-told r e (IsFaultOf (surroundings_in k) whole) same (faults whole (part whole h))
 
 -- a fault at a place is what P says of it
 pub at-weaker : (P Q : UnfoldRule → Place → Type 0) (e : OrMemory UnfoldFault) → ((r : UnfoldRule) (p : Place) → P r p → Q r p) → IfFaultAt P e → IfFaultAt Q e

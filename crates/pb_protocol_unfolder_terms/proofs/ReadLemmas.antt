@@ -1,14 +1,20 @@
 -- Reads of arrays by their first index, and choices by their first value.
-use Rattle.std.proofs.Common.{◌≡◌, Bool, if◌then◌else◌, List, [], ◌∷◌, map, drop, length, Some, None, refl, sym, ◌∙◌, ap, arith}
+use Rattle.std.proofs.Common.{◌≡◌, Bool, if◌then◌else◌, List, [], ◌∷◌, map, drop, length, ℕ, Some, None, refl, sym, ◌∙◌, ap, subst, arith}
 use Rattle.std.specs.List.{slice_get}
+use Rattle.std.specs.Prelude.{string_bytes}
 use Rattle.pb_text_tree.specs.declared.term.Argument.{Argument}
 use Rattle.pb_text_meaning.specs.Syntax.{Name, Operator, Term, Terms, Spec}
 use Rattle.pb_protocol_folding.specs.View as tree
 use Rattle.pb_protocol_unfolding.specs.Written.{element, written_values}
 use Rattle.pb_protocol_unfolding.specs.PutIn.{Forms, TermScope, all_put_in, choice, choices, chosen, put_in, read}
+use Rattle.pb_protocol_unfolder_terms.specs.declared.array.Array.{Array}
+use Rattle.pb_protocol_unfolder_terms.specs.declared.context.Context.{Context}
+use Rattle.pb_protocol_unfolder_terms.specs.declared.scope.TermScope as declared_scope
 use Rattle.pb_protocol_unfolder_terms.specs.declared.sorts.Variable.{Variable}
 use Rattle.pb_protocol_unfolder_terms.specs.declared.written.Written.{Written}
-use Rattle.pb_protocol_unfolder_terms.specs.Puts.{IsWrittenAs}
+use Rattle.pb_protocol_unfolder_terms.specs.Contexts.{forms_in, spec_in}
+use Rattle.pb_protocol_unfolder_terms.specs.Puts.{IsWrittenAs, element_by, put, read_by}
+use Rattle.pb_protocol_unfolder_terms.specs.Scopes.{scope_of}
 use Rattle.pb_protocol_unfolder_terms.specs.Values.{written_term}
 use Rattle.pb_protocol_unfolder_terms.specs.View.{variable_of}
 
@@ -83,3 +89,53 @@ choices-same f g same t (k ∷ []) = same k
 choices-same f g same t (k ∷ l ∷ ks) =
     ap (λ z. choice (Term.Binary Operator.Equal t k) z (choices f t (l ∷ ks))) (same k)
     ∙ ap (choice (Term.Binary Operator.Equal t k) (g k)) (choices-same f g same t (l ∷ ks))
+
+-- ---- as the code holds them
+
+-- the others are an array behind its first index and its first argument
+pub record AreOthers (array others : Array) (i : Variable) (a : Argument) : Type 0 where
+  pub first : Some i ≡ slice_get array.indices.now 0
+  pub there : Some a ≡ slice_get array.arguments.now 0
+  pub name : others.name.now ≡ array.name.now
+  pub indices : others.indices.now ≡ drop 1 array.indices.now
+  pub arguments : others.arguments.now ≡ drop 1 array.arguments.now
+
+pub are-others : {array others : Array} {i : Variable} {a : Argument} → Some i ≡ slice_get array.indices.now 0 → Some a ≡ slice_get array.arguments.now 0
+    → others.name.now ≡ array.name.now → others.indices.now ≡ drop 1 array.indices.now → others.arguments.now ≡ drop 1 array.arguments.now → AreOthers array others i a
+are-others first there name indices arguments = record { first = first; there = there; name = name; indices = indices; arguments = arguments }
+
+-- of equal values, none is the one that is written
+pub unwritten-by : (t : Term) {values all : List Term} → values ≡ all → IsWrittenAs None t values → IsWrittenAs None t all
+unwritten-by t same w = subst (λ (zs : List Term). IsWrittenAs None t zs) same w
+
+module _ (k : Context) (n : ℕ) (s : declared_scope.TermScope) {array others : Array} {i : Variable} {a : Argument} (is : AreOthers array others i a) where
+  element-behind : Term → Term
+  element-behind = at-value (spec_in k) (forms_in k n) (scope_of (spec_in k) (forms_in k) s) (string_bytes array.name.now.text) (drop 1 array.indices.now) (drop 1 array.arguments.now)
+
+  by-others : (z : Term) → element_by k n s others z ≡ element-behind z
+  unfolding element-behind
+  by-others z =
+      same-parts (spec_in k) (forms_in k n) (scope_of (spec_in k) (forms_in k) s) (string_bytes others.name.now.text)
+      (string_bytes array.name.now.text) others.indices.now (drop 1 array.indices.now) others.arguments.now (drop 1 array.arguments.now) z
+      (ap (λ y. string_bytes y.text) is.name) is.indices is.arguments
+
+  by-first : read_by k n s array ≡ chosen element-behind (put k n s (tree.term_of a.term)) (written_values (spec_in k) i.sort.now)
+  unfolding element-behind
+  by-first = read-first (spec_in k) (forms_in k n) (scope_of (spec_in k) (forms_in k) s) (string_bytes array.name.now.text) array.indices.now array.arguments.now i a is.first is.there
+
+  -- where the index is written, the element at that value
+  pub written-read : {values : List Term} (v : Written) → values ≡ written_values (spec_in k) i.sort.now → IsWrittenAs (Some v) (put k n s (tree.term_of a.term)) values
+      → element_by k n s others (written_term v) ≡ read_by k n s array
+  written-read v all w =
+      by-others (written_term v)
+      ∙ chosen-written element-behind (put k n s (tree.term_of a.term)) (written_values (spec_in k) i.sort.now) v
+      (subst (λ (zs : List Term). IsWrittenAs (Some v) (put k n s (tree.term_of a.term)) zs) all w) ∙ sym by-first
+
+  -- else a choice among all values
+  pub chosen-read : {values : List Term} → values ≡ written_values (spec_in k) i.sort.now → IsWrittenAs None (put k n s (tree.term_of a.term)) values
+      → choices (element_by k n s others) (put k n s (tree.term_of a.term)) values ≡ read_by k n s array
+  chosen-read all w =
+      ap (choices (element_by k n s others) (put k n s (tree.term_of a.term))) all
+      ∙ choices-same (element_by k n s others) element-behind by-others (put k n s (tree.term_of a.term)) (written_values (spec_in k) i.sort.now)
+      ∙ chosen-otherwise element-behind (put k n s (tree.term_of a.term)) (written_values (spec_in k) i.sort.now)
+      (subst (λ (zs : List Term). IsWrittenAs None (put k n s (tree.term_of a.term)) zs) all w) ∙ sym by-first

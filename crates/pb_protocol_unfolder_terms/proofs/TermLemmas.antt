@@ -28,6 +28,17 @@ pub arithmetic-said : (first : Box declared_term.Term Global) (v : Vec Arithmeti
     → tree.term_of (declared_term.Arithmetic first v) ≡ calculated_term (tree.term_of (box_value first)) v.items
 arithmetic-said first v = ap erased_term (term-arithmetic first v) ∙ erased-calculated (term_form (box_value first)) v.items
 
+-- arithmetic by the parts that the code has of it: its form, and what it says
+pub arithmetic-is : {t f : declared_term.Term} {first : Box declared_term.Term Global} (links : Vec ArithmeticLink Global) {ls : List ArithmeticLink}
+    → t ≡ declared_term.Arithmetic first links → f ≡ box_value first → ls ≡ links.items → term_form t ≡ calculated (term_form f) (arithmetic_links ls)
+arithmetic-is {f = f} {first = first} links is same rows =
+    ap term_form is ∙ term-arithmetic first links ∙ ap (λ y. calculated (term_form y) (arithmetic_links links.items)) (sym same)
+    ∙ ap (λ ms. calculated (term_form f) (arithmetic_links ms)) (sym rows)
+
+pub arithmetic-means : {t f : declared_term.Term} {first : Box declared_term.Term Global} (links : Vec ArithmeticLink Global) {ls : List ArithmeticLink}
+    → t ≡ declared_term.Arithmetic first links → f ≡ box_value first → ls ≡ links.items → calculated_term (tree.term_of f) ls ≡ tree.term_of t
+arithmetic-means {f = f} links {ls = ls} is same rows = sym (ap erased_term (arithmetic-is links is same rows) ∙ erased-calculated (term_form f) ls)
+
 -- one more operand
 pub calculated-last : (x : Term) (ls : List ArithmeticLink) (l : ArithmeticLink)
     → calculated_term x (ls ++ (l ∷ [])) ≡ Term.Binary (of_arithmetic l.operator) (calculated_term x ls) (tree.term_of l.operand)
@@ -75,10 +86,12 @@ operated-chain S o x [] y some = absurd (some refl)
 operated-chain S o x (l ∷ ls) y some = chain-operated S o (of_arithmetic l.operator) x (tree.term_of l.operand) ls y
 
 -- what a quantifier says
-pub quantified-said : (place : Place) (q : Quantifier) (v : Vec Variables Global) (body : Box declared_term.Term Global)
-    → tree.term_of (declared_term.Quantified place q v body)
-    ≡ Term.Quantified q (erased_variables (variable_forms v.items)) (tree.term_of (box_value body))
-quantified-said place q v body = refl
+pub quantified-means : {t body : declared_term.Term} {place : Place} {q : Quantifier} {variables : Vec Variables Global} {inner : Box declared_term.Term Global} {vs : List Variables}
+    → t ≡ declared_term.Quantified place q variables inner → vs ≡ variables.items → body ≡ box_value inner
+    → Term.Quantified q (erased_variables (variable_forms vs)) (tree.term_of body) ≡ tree.term_of t
+quantified-means {body = body} {q = q} {variables = variables} is rows same =
+    ap (λ zs. Term.Quantified q (erased_variables (variable_forms zs)) (tree.term_of body)) rows
+    ∙ ap (λ y. Term.Quantified q (erased_variables (variable_forms variables.items)) (tree.term_of y)) same ∙ ap tree.term_of (sym is)
 
 -- ---- copies
 
