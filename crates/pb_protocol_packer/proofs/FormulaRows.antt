@@ -13,7 +13,7 @@ use Rattle.pb_model_meaning.specs.Syntax.{Formula}
 use Rattle.pb_model_meaning.specs.Erase.{joined, erased_formula}
 use Rattle.pb_protocol_packing.specs.Said.{Scope}
 use Rattle.pb_protocol_packing.specs.Packing.{formula_said}
-use Rattle.pb_protocol_packer.specs.Formulas.{formula_of, operand_of, operands_of, without_data, shape_of, link_shape, link_shapes}
+use Rattle.pb_protocol_packer.specs.Formulas.{formula_of, operands_of, without_data, shape_of, link_shapes}
 use mathlib.Core.Former.{Count}
 
 abbrev link_form : Link → Place × FormulaForm

@@ -1,5 +1,5 @@
 -- The number of a group, from its first variable on, and what tests stand in front of it.
-use Rattle.std.proofs.Common.{◌≡◌, ℕ, List, [], ◌∷◌, ◌++◌, length, refl, sym, ap, ◌∙◌}
+use Rattle.std.proofs.Common.{◌≡◌, ℕ, List, [], ◌∷◌, ◌++◌, length, refl, ap, ◌∙◌}
 use Rattle.std.specs.Prelude.{Option}
 use Rattle.pb_text_meaning.specs.Syntax.{Name, Operator, Term}
 use Rattle.pb_protocol_packing.specs.Numbers.{either, times, divided, rest}

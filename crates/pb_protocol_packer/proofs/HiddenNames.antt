@@ -1,12 +1,12 @@
 -- Names that variables around hide.
-use Rattle.std.proofs.Common.{◌≡◌, Bool, true, false, ◌||◌, if◌then◌else◌, List, [], ◌∷◌, ◌++◌, map, refl, sym, ap, ◌∙◌}
-use Rattle.std.specs.Prelude.{Option, None, Some, flat_map}
+use Rattle.std.proofs.Common.{◌≡◌, ℕ, ◌+◌, ◌<◌, length, drop, get_or, Bool, true, false, ◌||◌, if◌then◌else◌, List, [], ◌∷◌, map, refl, sym, ap, ◌∙◌}
+use Rattle.std.specs.Prelude.{Option, None}
 use Rattle.std.specs.List.{list_any}
 use Rattle.std.proofs.lemmas.List.Folds.{list_any-append}
-use Rattle.std.proofs.lemmas.List.{map-append}
+use Rattle.std.proofs.lemmas.List.{at_drop_more, map-append}
 use Rattle.pb_text_tree.specs.declared.name.Name as declared_name
 use Rattle.pb_text_tree.specs.declared.variable.Variables.{Variables}
-use Rattle.pb_text_tree.specs.Form.{VariableForm, named, variables_form, variable_forms}
+use Rattle.pb_text_tree.specs.Form.{named, variables_form, variable_forms}
 use Rattle.pb_text_meaning.specs.Syntax.{Name, same_name, Variable}
 use Rattle.pb_text_meaning.specs.Erase.{erased_variable, erased_variables}
 use Rattle.pb_protocol_packing.specs.Apart.{is_among}
@@ -53,3 +53,10 @@ declares-more g gs x =
     ap (list_any (is_named x)) (map-append erased_variable (variables_form g) (variable_forms gs))
     ∙ list_any-append (is_named x) (erased_variables (variables_form g)) (variables_in gs)
     ∙ ap (λ b. b || list_any (is_named x) (variables_in gs)) (of-group g.names.items g.sort x)
+
+-- a group more
+pub declares-next : (groups : List Variables) (k : ℕ) (g : Variables) (x : Name) → k < length groups → g ≡ get_or groups k g
+    → list_any (is_named x) (variables_in (drop k groups)) ≡ (is_among (texts_of g.names.items) x || list_any (is_named x) (variables_in (drop (k + 1) groups)))
+declares-next groups k g x within is =
+    at_drop_more (λ (gs : List Variables). list_any (is_named x) (variables_in gs)) groups k g within
+    ∙ ap (λ (h : Variables). list_any (is_named x) (variables_in (h ∷ drop (k + 1) groups))) (sym is) ∙ declares-more g (drop (k + 1) groups) x

@@ -1,16 +1,14 @@
 -- What variables begin with, one after another.
-use Rattle.std.proofs.Common.{◌≡◌, List, [], ◌∷◌, ◌++◌, map, refl, sym, ap, ◌∙◌}
+use Rattle.std.proofs.Common.{◌≡◌, List, [], ◌∷◌, ◌++◌, map, refl, ap, ◌∙◌}
 use Rattle.std.proofs.lemmas.List.{map-append}
 use Rattle.pb_text_tree.specs.declared.name.Name as declared_name
 use Rattle.pb_text_tree.specs.declared.variable.Variables.{Variables}
-use Rattle.pb_text_tree.specs.declared.term.Argument.{Argument}
 use Rattle.pb_text_tree.specs.Form.{named, variables_form, variable_forms}
 use Rattle.pb_text_meaning.specs.Syntax.{Name, Variable, Terms}
 use Rattle.pb_text_meaning.specs.Erase.{erased_variable, erased_variables}
 use Rattle.pb_model_meaning.specs.Syntax.{Assignment}
 use Rattle.pb_protocol_packing.specs.Packing.{initial_assignments}
-use Rattle.pb_protocol_packing.specs.Said.{Scope}
-use Rattle.pb_protocol_packer.specs.View.{term_of, terms_of, text_of, texts_of, variables_in}
+use Rattle.pb_protocol_packer.specs.View.{text_of, texts_of, variables_in}
 use Rattle.pb_protocol_packer.specs.Initial.{variable_name, assigned_names}
 
 pub group-names : (ns : List declared_name.Name) (s : declared_name.Name)

@@ -1,5 +1,6 @@
 pub mod Nodes
 pub mod SaidNodes
+pub mod LoopRows
 pub mod HiddenNames
 pub mod EnumeratorRows
 pub mod Tokens

@@ -1,5 +1,5 @@
 -- What nodes with operands in a row say.
-use Rattle.std.proofs.Common.{◌≡◌, List, [], ◌∷◌, ◌++◌, map, refl, sym, ap, ◌∙◌, Vec, Global, Box}
+use Rattle.std.proofs.Common.{◌≡◌, List, [], ◌∷◌, ◌++◌, refl, sym, ap, subst, ◌∙◌, Vec, Global, Box, Result, IfOk}
 use Rattle.std.specs.Prelude.{box_value}
 use Rattle.pb_text_tree.specs.declared.operator.Connective.{Connective}
 use Rattle.pb_text_tree.specs.declared.name.Name as declared_name
@@ -7,11 +7,11 @@ use Rattle.pb_text_tree.specs.declared.term.Term as tree
 use Rattle.pb_text_tree.specs.declared.term.TermLink.{TermLink}
 use Rattle.pb_text_tree.specs.declared.term.ArithmeticLink.{ArithmeticLink}
 use Rattle.pb_text_tree.specs.declared.term.Argument.{Argument}
-use Rattle.pb_text_tree.specs.Form.{TermForm, chained, calculated, term_form, term_links, arithmetic_links, argument_forms, named}
+use Rattle.pb_text_tree.specs.Form.{TermForm, chained, calculated, term_form, term_links, arithmetic_links, argument_forms}
 use Rattle.pb_text_tree.proofs.FormLemmas.{term-chain, term-arithmetic, term-application}
 use Rattle.pb_text_meaning.specs.Syntax.{Operator, Term, Terms}
-use Rattle.pb_text_meaning.specs.Erase.{erased_term, erased_arguments, of_connective, of_arithmetic}
-use Rattle.pb_protocol_packer.specs.View.{term_of, operand_of, operands_of, operation_of, operations_of, terms_of, joined_terms, calculated_terms, text_of}
+use Rattle.pb_text_meaning.specs.Erase.{erased_term, erased_arguments, of_connective}
+use Rattle.pb_protocol_packer.specs.View.{term_of, operands_of, operation_of, operations_of, terms_of, joined_terms, calculated_terms, text_of}
 
 erased-chained : (c : Connective) (x : TermForm) (ls : List TermLink) → erased_term (chained (TermForm.connected c) x (term_links ls)) ≡ joined_terms (of_connective c) (erased_term x) (operands_of ls)
 erased-chained c x [] = refl
@@ -60,3 +60,7 @@ calculated-more x (p ∷ os) o y = calculated-more (Term.Binary p.0 x p.1) os o 
 pub more-operations : (ls : List ArithmeticLink) (l : ArithmeticLink) → operations_of (ls ++ l ∷ []) ≡ operations_of ls ++ operation_of l ∷ []
 more-operations [] l = refl
 more-operations (k ∷ ls) l = ap (λ (os : List (Operator × Term)). operation_of k ∷ os) (more-operations ls l)
+
+-- what a term says, by an equation
+pub says-so : {E : Type 0} (r : Result tree.Term E) (x y : Term) → x ≡ y → IfOk r (λ t. term_of t ≡ x) → IfOk r (λ t. term_of t ≡ y)
+says-so r x y same says = subst (λ (z : Term). IfOk r (λ t. term_of t ≡ z)) same says

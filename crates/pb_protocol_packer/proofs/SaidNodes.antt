@@ -1,5 +1,5 @@
 -- What is said of nodes with operands in a row.
-use Rattle.std.proofs.Common.{◌≡◌, List, [], ◌∷◌, ◌++◌, map, refl, sym, ap, ◌∙◌}
+use Rattle.std.proofs.Common.{◌≡◌, List, [], ◌∷◌, ◌++◌, map, refl, ap, ◌∙◌}
 use Rattle.std.specs.Prelude.{Option, None, Some}
 use Rattle.pb_text_tree.specs.declared.operator.Connective.{Connective}
 use Rattle.pb_text_tree.specs.declared.operator.Connective.TheVariants as connective
@@ -7,10 +7,10 @@ use Rattle.pb_text_tree.specs.declared.operator.Arithmetic.{Arithmetic}
 use Rattle.pb_text_tree.specs.declared.operator.Arithmetic.TheVariants as operator
 use Rattle.pb_text_tree.specs.declared.term.ArithmeticLink.{ArithmeticLink}
 use Rattle.pb_text_tree.specs.declared.term.Argument.{Argument}
-use Rattle.pb_text_meaning.specs.Syntax.{Operator, Term, Terms}
+use Rattle.pb_text_meaning.specs.Syntax.{Term, Terms}
 use Rattle.pb_text_meaning.specs.Erase.{of_connective, of_arithmetic}
-use Rattle.pb_protocol_packing.specs.Said.{Digit, Scope, digit_in, compared, said, all_said}
-use Rattle.pb_protocol_packer.specs.View.{term_of, operation_of, operations_of, terms_of, joined_terms, calculated_terms}
+use Rattle.pb_protocol_packing.specs.Said.{Digit, Scope, digit_in, compared, said}
+use Rattle.pb_protocol_packer.specs.View.{term_of, operations_of, terms_of, joined_terms, calculated_terms}
 use Rattle.pb_protocol_packer.specs.Scopes.{operation_said}
 
 -- ---- connectives and arithmetic compare nothing

@@ -2,7 +2,7 @@
 use Rattle.std.proofs.Common.{◌≡◌, ℕ, ℤ, pos, ◌-ℤ◌, Bool, true, false, if◌then◌else◌, refl, ap, ◌∙◌, sym}
 use Rattle.std.specs.Prelude.{Option, Some, None, nat_lt, ◌^◌}
 use Rattle.std.specs.Option.{option_map}
-use Rattle.pb_text_meaning.specs.Syntax.{Operator, Term, Terms}
+use Rattle.pb_text_meaning.specs.Syntax.{Term}
 use Rattle.pb_protocol_packing.specs.Numbers.{Boolean, Whole, number, constant_number, number_or, lowered, to_number}
 use Rattle.pb_protocol_packer.specs.Written.{written_in, small_in}
 

@@ -13,7 +13,7 @@ use Rattle.pb_text_tree.specs.declared.term.Argument.{Argument}
 use Rattle.pb_text_meaning.specs.Syntax.{Name, same_name, Operator, Term}
 use Rattle.pb_text_meaning.specs.Erase.{of_connective, of_arithmetic}
 use Rattle.pb_protocol_packing.specs.Numbers.{is_truth, is_enumerator, either, place_of, place_number}
-use Rattle.pb_protocol_packer.specs.View.{term_of, operand_of, operands_of, operation_of, operations_of, terms_of, joined_terms, calculated_terms, chooses, chosen_place}
+use Rattle.pb_protocol_packer.specs.View.{term_of, operand_of, operands_of, operations_of, terms_of, joined_terms, calculated_terms, chooses, chosen_place}
 use Rattle.pb_protocol_packer.specs.Written.{Written, written_in}
 use Rattle.pb_protocol_packer.proofs.Nodes.{at-chain, at-arithmetic}
 

@@ -1,5 +1,5 @@
 -- What each variable of a group counts.
-use Rattle.std.proofs.Common.{◌≡◌, ℕ, ◌<◌, ◌+◌, true, List, ◌∷◌, length, get_or, drop, sym, ap, ◌∙◌, Bool}
+use Rattle.std.proofs.Common.{◌≡◌, ℕ, ◌<◌, ◌+◌, true, List, ◌∷◌, length, get_or, drop, sym, ap, ◌∙◌}
 use Rattle.std.specs.Prelude.{nat_eq, nat_lt, ◌&&◌}
 use Rattle.std.proofs.lemmas.Bool.{and_parts, eqb-true, ltb-true}
 use Rattle.std.proofs.lemmas.List.{at_drop_more}

@@ -1,5 +1,5 @@
 -- What formulas say, and what of them packing leaves as it is.
-use Rattle.std.specs.Prelude.{List, [], ◌∷◌, true, map}
+use Rattle.std.specs.Prelude.{List, true, map}
 use Rattle.pb_text_tree.specs.declared.place.Place.{Place}
 use Rattle.pb_text_tree.specs.Form.{TermForm}
 use Rattle.pb_model_tree.specs.declared.step_set.StepSetLink.{StepSetLink}

@@ -1,6 +1,6 @@
 -- What names stand for, as the program holds it.
 use denote.Ref.{Bor}
-use Rattle.std.specs.Prelude.{Bool, false, ◌||◌, List, map, Option, None, Some}
+use Rattle.std.specs.Prelude.{Bool, false, ◌||◌, List, map, Option}
 use Rattle.std.specs.Option.{option_map}
 use Rattle.std.specs.List.{list_any}
 use Rattle.pb_text_meaning.specs.Syntax.{Name, same_name, Variable, Operator, Term}

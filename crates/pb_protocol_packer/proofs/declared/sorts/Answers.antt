@@ -1,4 +1,4 @@
-use Rattle.std.proofs.Common.{◌≡◌, ◌∙◌, List, map, length, ap, sym, arith}
+use Rattle.std.proofs.Common.{◌∙◌, List, map, length, ap, sym, arith}
 use Rattle.std.proofs.lemmas.List.{at_drop_all}
 use Rattle.pb_text_meaning.specs.Erase.{erased_declaration}
 use Rattle.pb_protocol_packing.specs.Packing.{with_sorts}

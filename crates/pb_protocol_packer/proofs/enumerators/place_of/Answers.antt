@@ -1,6 +1,6 @@
-use Rattle.std.proofs.Common.{◌≡◌, ℕ, ◌+◌, ◌-◌, drop, ap, sym, ◌∙◌, refl, arith, length, true, ◌==◌}
+use Rattle.std.proofs.Common.{◌≡◌, ℕ, ◌+◌, ◌-◌, drop, ap, sym, ◌∙◌, refl, arith, length}
 use Rattle.std.proofs.lemmas.Bool.Decides.{nat_tests}
-use Rattle.pb_text_meaning.specs.Syntax.{Name, Operator, Term}
+use Rattle.pb_text_meaning.specs.Syntax.{Operator, Term}
 use Rattle.pb_protocol_packing.specs.Numbers.{either, place_of}
 use Rattle.pb_protocol_packer.specs.View.{term_of, text_of, texts_of}
 use Rattle.pb_protocol_packer.proofs.EnumeratorRows.{next-at, place-last}

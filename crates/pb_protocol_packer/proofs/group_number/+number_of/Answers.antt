@@ -1,4 +1,4 @@
-use Rattle.std.proofs.Common.{◌≡◌, ◌∙◌, ◌==◌, ℕ, true, true≢false, List, ◌∷◌, length, ap, sym, subst, arith, IfOk}
+use Rattle.std.proofs.Common.{◌≡◌, ◌∙◌, ◌==◌, ℕ, true≢false, List, length, ap, sym, subst, arith, IfOk}
 use Rattle.pb_text_meaning.specs.Syntax.{Term}
 use Rattle.pb_model_meaning.specs.Steps.{assigned_term}
 use Rattle.pb_protocol_packing.specs.Packing.{number_of}

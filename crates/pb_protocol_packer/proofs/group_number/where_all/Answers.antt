@@ -1,4 +1,4 @@
-use Rattle.std.proofs.Common.{◌≡◌, ◌∙◌, ◌++◌, List, [], ◌∷◌, map, ap, sym}
+use Rattle.std.proofs.Common.{◌∙◌, List, ap, sym}
 use Rattle.std.proofs.lemmas.List.{map_push}
 use Rattle.pb_text_tree.specs.declared.term.Term as tree
 use Rattle.pb_text_meaning.specs.Syntax.{Term}

@@ -1,18 +1,18 @@
-use Rattle.std.proofs.Common.{◌≡◌, ◌∙◌, ◌+◌, ◌++◌, List, [], ◌∷◌, map, ap, sym, subst, append_assoc, drop, IfOk}
+use Rattle.std.proofs.Common.{◌∙◌, ◌++◌, List, map, ap, refl, sym}
 use Rattle.std.specs.Prelude.{box_value, Option}
-use Rattle.std.proofs.lemmas.List.{at_drop_more, at_drop_all, append-nil, map-append}
 use Rattle.pb_text_tree.specs.declared.term.Term as tree
 use Rattle.pb_text_tree.specs.declared.term.Argument.{Argument}
 use Rattle.pb_text_tree.specs.declared.term.TermLink.{TermLink}
 use Rattle.pb_text_tree.specs.declared.term.ArithmeticLink.{ArithmeticLink}
 use Rattle.pb_text_tree.specs.Form.{Named}
-use Rattle.pb_text_meaning.specs.Syntax.{Name, Operator, Term, Terms}
+use Rattle.pb_text_meaning.specs.Syntax.{Operator, Term}
 use Rattle.pb_text_meaning.specs.Erase.{of_connective, of_arithmetic, of_comparison}
 use Rattle.pb_protocol_packing.specs.Said.{Digit, compared, digit_in, said, all_said}
 use Rattle.pb_protocol_packer.specs.View.{term_of, text_of, operand_of, operands_of, operation_of, operations_of, terms_of, joined_terms, calculated_terms}
 use Rattle.pb_protocol_packer.specs.Scopes.{operation_said, scope_in}
-use Rattle.pb_protocol_packer.proofs.Nodes.{at-chain, at-arithmetic, at-application}
-use Rattle.pb_protocol_packer.proofs.SaidNodes.{said-joined, said-calculated, terms_behind, terms-behind-none, terms-behind-push}
+use Rattle.pb_protocol_packer.proofs.Nodes.{at-chain, at-arithmetic, at-application, says-so}
+use Rattle.pb_protocol_packer.proofs.SaidNodes.{said-joined, said-calculated, terms_behind, terms-behind-none}
+use Rattle.pb_protocol_packer.proofs.LoopRows.{loop-ends, loop-goes, row-ends, row-pushed, terms-pushed}
 use Rattle.pb_protocol_packer.proofs.said.+terms.Goals as goal
 
 pub said-returns-in_ok-links-in-Chain : goal.said-returns-in_ok-links-in-Chain
@@ -21,7 +21,7 @@ said-returns-in_ok-links-in-Chain t c =
     let k = of_connective c.in-Chain.connective in
     let x = c.deref.result.now in
     let ls = c.deref-in-Chain.result.now in
-    subst (λ (z : Term). IfOk c.chain.result (λ u. term_of u ≡ z))
+    says-so c.chain.result _ _
     (ap (λ (z : Term). joined_terms k z (operands_of c.in_ok-links-in-Chain.links.items)) c.in_ok-first-in-Chain.ensures
     ∙ ap (joined_terms k (said σ (term_of x))) c.in_ok-links-in-Chain.ensures
     ∙ sym (said-joined σ c.in-Chain.connective (term_of x) (operands_of ls))
@@ -33,7 +33,7 @@ said-returns-in_ok-links-in-Arithmetic t c =
     let σ = scope_in c.args.packing.now c.args.hiding.now in
     let x = c.deref-in-Arithmetic.result.now in
     let ls = c.deref-in-Arithmetic-2.result.now in
-    subst (λ (z : Term). IfOk c.arithmetic.result (λ u. term_of u ≡ z))
+    says-so c.arithmetic.result _ _
     (ap (λ (z : Term). calculated_terms z (operations_of c.in_ok-links-in-Arithmetic.links.items)) c.in_ok-first-in-Arithmetic.ensures
     ∙ ap (calculated_terms (said σ (term_of x))) c.in_ok-links-in-Arithmetic.ensures
     ∙ sym (said-calculated σ (term_of x) ls)
@@ -49,82 +49,43 @@ said-returns-in_ok-arguments-in-Application t c =
     ∙ ap (Term.Apply (text_of c.in-Application.function)) c.in_ok-arguments-in-Application.ensures
     ∙ ap (said σ) (sym (at-application c.in-Application.function c.in-Application.arguments xs c.args.term.now c.in-Application.is c.deref-in-Application.ensures.value))
 
+abbrev with_operator : Operator → Term → Operator × Term
+with_operator o x = (o, x)
+
 pub said_arguments-loop-argument-preserved : goal.said_arguments-loop-argument-preserved
 said_arguments-loop-argument-preserved t c =
-    let σ = scope_in c.args.packing.now c.args.hiding.now in
-    let xs = c.args.arguments.now in
-    let k = c.loop-argument.argument-index in
-    let a = c.argument-item.result in
-    let old = c.loop-argument.said_arguments.items in
-    let new : Argument = record { place = a.place; term = c.in_ok-term.term } in
-    let rest = all_said σ (terms_of (drop (k + 1) xs)) in
-    ap (λ (ys : List Argument). terms_behind ys rest) c.in_ok-push.ensures.items
-    ∙ terms-behind-push old new rest
-    ∙ ap (λ (z : Term). terms_behind old (Terms.Then z rest)) c.in_ok-term.ensures
-    ∙ ap (λ (b : Argument). terms_behind old (all_said σ (terms_of (b ∷ drop (k + 1) xs)))) c.argument-item.is
-    ∙ sym (at_drop_more (λ (ys : List Argument). terms_behind old (all_said σ (terms_of ys))) xs k a c.loop-argument-test.true)
-    ∙ c.loop-argument.invariant
+    loop-goes (λ (ys : List Argument). terms_behind c.loop-argument.said_arguments.items (all_said (scope_in c.args.packing.now c.args.hiding.now) (terms_of ys))) c.args.arguments.now
+    c.loop-argument.argument-index c.argument-item.result _ _ c.loop-argument-test.true c.argument-item.is
+    (terms-pushed _ _ _ _ _ c.in_ok-push.ensures.items c.in_ok-term.ensures) c.loop-argument.invariant
 
 pub said_arguments-returns : goal.said_arguments-returns
 said_arguments-returns t c =
-    let σ = scope_in c.args.packing.now c.args.hiding.now in
-    let xs = c.args.arguments.now in
     let made = c.loop-argument.said_arguments.items in
     sym (terms-behind-none made)
-    ∙ sym (at_drop_all (λ (ys : List Argument). terms_behind made (all_said σ (terms_of ys))) xs c.loop-argument.argument-index c.loop-argument-test.false)
-    ∙ c.loop-argument.invariant
+    ∙ loop-ends (λ (ys : List Argument). terms_behind made (all_said (scope_in c.args.packing.now c.args.hiding.now) (terms_of ys))) c.args.arguments.now
+    c.loop-argument.argument-index _ c.loop-argument-test.false c.loop-argument.invariant
 
 pub said_links-loop-link-preserved : goal.said_links-loop-link-preserved
 said_links-loop-link-preserved t c =
-    let σ = scope_in c.args.packing.now c.args.hiding.now in
-    let xs = c.args.links.now in
-    let k = c.loop-link.link-index in
-    let l = c.link-item.result in
-    let old = operands_of c.loop-link.said_links.items in
-    let new : TermLink = record { place = l.place; operand = c.in_ok-operand.operand } in
-    let rest = map (said σ) (operands_of (drop (k + 1) xs)) in
-    ap (λ (ys : List TermLink). operands_of ys ++ rest) c.in_ok-push.ensures.items
-    ∙ ap (λ (ys : List Term). ys ++ rest) (map-append operand_of c.loop-link.said_links.items (new ∷ []))
-    ∙ append_assoc old (operand_of new ∷ []) rest
-    ∙ ap (λ (z : Term). old ++ z ∷ rest) c.in_ok-operand.ensures
-    ∙ ap (λ (b : TermLink). old ++ map (said σ) (operands_of (b ∷ drop (k + 1) xs))) c.link-item.is
-    ∙ sym (at_drop_more (λ (ys : List TermLink). old ++ map (said σ) (operands_of ys)) xs k l c.loop-link-test.true)
-    ∙ c.loop-link.invariant
+    loop-goes (λ (ys : List TermLink). operands_of c.loop-link.said_links.items ++ map (said (scope_in c.args.packing.now c.args.hiding.now)) (operands_of ys)) c.args.links.now
+    c.loop-link.link-index c.link-item.result _ _ c.loop-link-test.true c.link-item.is
+    (row-pushed operand_of _ _ _ _ _ c.in_ok-push.ensures.items c.in_ok-operand.ensures) c.loop-link.invariant
 
 pub said_links-returns : goal.said_links-returns
 said_links-returns t c =
-    let σ = scope_in c.args.packing.now c.args.hiding.now in
-    let made = operands_of c.loop-link.said_links.items in
-    sym (append-nil made)
-    ∙ ap (λ (ys : List Term). made ++ ys)
-    (sym (at_drop_all (λ (ys : List TermLink). map (said σ) (operands_of ys)) c.args.links.now c.loop-link.link-index c.loop-link-test.false))
-    ∙ c.loop-link.invariant
+    row-ends (λ (ys : List TermLink). map (said (scope_in c.args.packing.now c.args.hiding.now)) (operands_of ys)) (operands_of c.loop-link.said_links.items) c.args.links.now
+    c.loop-link.link-index _ refl c.loop-link-test.false c.loop-link.invariant
 
 pub said_operations-loop-link-preserved : goal.said_operations-loop-link-preserved
 said_operations-loop-link-preserved t c =
-    let σ = scope_in c.args.packing.now c.args.hiding.now in
-    let xs = c.args.links.now in
-    let k = c.loop-link.link-index in
-    let l = c.link-item.result in
-    let old = operations_of c.loop-link.said_links.items in
-    let new : ArithmeticLink = record { place = l.place; operator = l.operator; operand = c.in_ok-operand.operand } in
-    let rest = map (operation_said σ) (operations_of (drop (k + 1) xs)) in
-    ap (λ (ys : List ArithmeticLink). operations_of ys ++ rest) c.in_ok-push.ensures.items
-    ∙ ap (λ (ys : List (Operator × Term)). ys ++ rest) (map-append operation_of c.loop-link.said_links.items (new ∷ []))
-    ∙ append_assoc old (operation_of new ∷ []) rest
-    ∙ ap (λ (z : Term). old ++ (of_arithmetic l.operator, z) ∷ rest) c.in_ok-operand.ensures
-    ∙ ap (λ (b : ArithmeticLink). old ++ map (operation_said σ) (operations_of (b ∷ drop (k + 1) xs))) c.link-item.is
-    ∙ sym (at_drop_more (λ (ys : List ArithmeticLink). old ++ map (operation_said σ) (operations_of ys)) xs k l c.loop-link-test.true)
-    ∙ c.loop-link.invariant
+    loop-goes (λ (ys : List ArithmeticLink). operations_of c.loop-link.said_links.items ++ map (operation_said (scope_in c.args.packing.now c.args.hiding.now)) (operations_of ys)) c.args.links.now
+    c.loop-link.link-index c.link-item.result _ _ c.loop-link-test.true c.link-item.is
+    (row-pushed operation_of _ _ _ _ _ c.in_ok-push.ensures.items (ap (with_operator (of_arithmetic c.link-item.result.operator)) c.in_ok-operand.ensures)) c.loop-link.invariant
 
 pub said_operations-returns : goal.said_operations-returns
 said_operations-returns t c =
-    let σ = scope_in c.args.packing.now c.args.hiding.now in
-    let made = operations_of c.loop-link.said_links.items in
-    sym (append-nil made)
-    ∙ ap (λ (ys : List (Operator × Term)). made ++ ys)
-    (sym (at_drop_all (λ (ys : List ArithmeticLink). map (operation_said σ) (operations_of ys)) c.args.links.now c.loop-link.link-index c.loop-link-test.false))
-    ∙ c.loop-link.invariant
+    row-ends (λ (ys : List ArithmeticLink). map (operation_said (scope_in c.args.packing.now c.args.hiding.now)) (operations_of ys)) (operations_of c.loop-link.said_links.items) c.args.links.now
+    c.loop-link.link-index _ refl c.loop-link-test.false c.loop-link.invariant
 
 pub said-returns-in_ok-right-in-Comparison : goal.said-returns-in_ok-right-in-Comparison
 said-returns-in_ok-right-in-Comparison t c =
@@ -134,7 +95,7 @@ said-returns-in_ok-right-in-Comparison t c =
     let d = digit_in σ x in
     let left = term_of c.in_ok-left-in-Comparison.left in
     let right = term_of c.in_ok-right-in-Comparison.right in
-    subst (λ (z : Term). IfOk c.compared.result (λ u. term_of u ≡ z))
+    says-so c.compared.result _ _
     (ap (λ (e : Option Digit). compared o e left right) (c.digit_in-digit.ensures ∙ ap (λ (y : tree.Term). digit_in σ (term_of y)) c.deref-in-Comparison.ensures)
     ∙ ap (λ (z : Term). compared o d z right) (c.in_ok-left-in-Comparison.ensures ∙ ap (λ (y : tree.Term). said σ (term_of y)) c.deref-in-Comparison-2.ensures)
     ∙ ap (λ (z : Term). compared o d (said σ x) z) (c.in_ok-right-in-Comparison.ensures ∙ ap (λ (y : tree.Term). said σ (term_of y)) c.deref-in-Comparison-3.ensures)

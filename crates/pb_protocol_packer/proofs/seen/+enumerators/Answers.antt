@@ -1,6 +1,6 @@
 use Rattle.std.proofs.Common.{◌∙◌, ap, sym, false, refl}
 use Rattle.pb_protocol_packing.specs.Numbers.{is_enumerator}
-use Rattle.pb_protocol_packer.specs.View.{terms_of, text_of, texts_of}
+use Rattle.pb_protocol_packer.specs.View.{text_of, texts_of}
 use Rattle.pb_protocol_packer.proofs.Nodes.{at-application}
 use Rattle.pb_protocol_packer.proofs.Tokens.{alone, alone-computed, chain-as, computed-as, not-three, enumerator-choice}
 use Rattle.pb_protocol_packer.proofs.seen.+enumerators.Goals as goal

@@ -1,6 +1,6 @@
 use Rattle.std.proofs.Common.{◌∙◌, ap, sym}
 use Rattle.pb_protocol_packing.specs.Numbers.{is_truth}
-use Rattle.pb_protocol_packer.specs.View.{terms_of, text_of}
+use Rattle.pb_protocol_packer.specs.View.{text_of}
 use Rattle.pb_protocol_packer.proofs.Nodes.{at-application}
 use Rattle.pb_protocol_packer.proofs.Tokens.{alone, alone-computed, several, several-computed, not-three, truth-choice}
 use Rattle.pb_protocol_packer.proofs.seen.+truths.Goals as goal

@@ -1,4 +1,4 @@
-use Rattle.std.proofs.Common.{rules, ◌∙◌, sym}
+use Rattle.std.proofs.Common.{rules}
 use Rattle.pb_protocol_packer.specs.View.{term_of}
 use Rattle.pb_protocol_packer.proofs.SmallNumbers.{whole-some, whole-none}
 use Rattle.pb_protocol_packer.proofs.to_number.whole_number.Goals as goal

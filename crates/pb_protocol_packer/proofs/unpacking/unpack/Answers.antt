@@ -1,20 +1,17 @@
-use Rattle.std.proofs.Common.{rules, ◌≡◌, ◌∙◌, ◌+◌, ◌++◌, List, [], ◌∷◌, ap, sym, append_assoc, drop}
-use Rattle.std.proofs.lemmas.List.{at_drop_more, at_drop_all, append-nil}
+use Rattle.std.proofs.Common.{rules, ◌≡◌, ◌∙◌, ◌+◌, ◌++◌, List, ◌∷◌, ap, sym, append_assoc, drop}
+use Rattle.std.proofs.lemmas.List.{at_drop_more}
 use Rattle.pb_base_values.specs.Carrier.{Value, Tuple}
 use Rattle.pb_protocol_packing.specs.Unpacked.{unpacked}
 use Rattle.pb_protocol_packer.specs.declared.group.Group.{Group}
 use Rattle.pb_protocol_packer.specs.Groups.{group_of, groups_in, values_at}
+use Rattle.pb_protocol_packer.proofs.LoopRows.{row-ends}
 use Rattle.pb_protocol_packer.proofs.UnpackedRows.{unpacked-none, unpacked-more}
 use Rattle.pb_protocol_packer.proofs.unpacking.unpack.Goals as goal
 
 pub returns-in_default : goal.returns-in_default
 returns-in_default c =
     let gs = groups_in (drop c.loop-index.index c.args.groups.now) in
-    let made = c.loop-index.state.items in
-    sym (append-nil made)
-    ∙ ap (λ (xs : Tuple). made ++ xs)
-    (sym (at_drop_all (λ (vs : Tuple). unpacked gs vs) c.args.packed.now c.loop-index.index c.in_default.ensures.lookup.3 ∙ unpacked-none gs))
-    ∙ c.loop-index.invariant
+    row-ends (λ (vs : Tuple). unpacked gs vs) c.loop-index.state.items c.args.packed.now c.loop-index.index _ (unpacked-none gs) c.in_default.ensures.lookup.3 c.loop-index.invariant
 
 pub loop-index-preserved : goal.loop-index-preserved
 loop-index-preserved c =

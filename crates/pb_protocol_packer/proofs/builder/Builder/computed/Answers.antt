@@ -1,10 +1,10 @@
-use Rattle.std.proofs.Common.{◌≡◌, ap, ◌∙◌, sym, List}
+use Rattle.std.proofs.Common.{ap, ◌∙◌, sym, List}
 use Rattle.pb_text_tree.specs.declared.term.ArithmeticLink.{ArithmeticLink}
 use Rattle.pb_text_meaning.specs.Syntax as syntax
 use Rattle.pb_text_meaning.specs.Erase.{of_arithmetic}
 use Rattle.pb_protocol_packer.specs.View.{calculated_terms, operations_of, term_of}
 use Rattle.std.specs.Prelude.{box_value}
-use Rattle.pb_protocol_packer.proofs.Nodes.{arithmetic-says, at-arithmetic, calculated-more, more-operations}
+use Rattle.pb_protocol_packer.proofs.Nodes.{arithmetic-says, calculated-more, more-operations}
 use Rattle.pb_protocol_packer.proofs.builder.Builder.computed.Goals as goal
 
 pub returns-in_ok-push-in-Arithmetic : goal.returns-in_ok-push-in-Arithmetic
