@@ -1,8 +1,8 @@
 -- Lists that are cut into parts, one after another.
-use Rattle.std.proofs.Common.{◌≡◌, ℕ, zero, suc, ◌+◌, ◌-◌, ◌<◌, ◌≤◌, Bool, true, false, List, [], ◌∷◌, ◌++◌, map, take, drop, length, refl, sym, ap, subst, ◌∙◌, append_assoc, arith}
-use Rattle.std.specs.Prelude.{min, ◌&&◌}
+use Rattle.std.proofs.Common.{◌≡◌, ℕ, zero, suc, ◌+◌, ◌-◌, ◌<◌, ◌≤◌, ◌==◌, Bool, true, false, true≢false, List, [], ◌∷◌, ◌++◌, map, take, drop, get_or, length, refl, sym, ap, subst, ◌∙◌, append_assoc, arith}
+use Rattle.std.specs.Prelude.{min, ◌&&◌, Option, MatchOption}
 use Rattle.std.specs.List.{list_all}
-use Rattle.std.proofs.lemmas.List.{take-map, take_min, drop_min, drop-drop, length-drop}
+use Rattle.std.proofs.lemmas.List.{take-map, take_min, drop_min, drop_more, drop-drop, length-drop}
 use Rattle.std.specs.Prelude.{codes}
 use Rattle.std.proofs.lemmas.Bool.{and_from, lt-ltb, le-leb}
 use Rattle.std.proofs.lemmas.List.{length-map, map-append}
@@ -20,7 +20,9 @@ use Rattle.pb_protocol_packing.specs.Packing.{Member, Group, Joined, capacity}
 use Rattle.pb_protocol_packer.specs.declared.group.Group as declared_group
 use Rattle.pb_protocol_packer.specs.Groups.{group_of, groups_in}
 use Rattle.pb_protocol_packing.specs.Groups.{cut, named_groups, member_for, groups_of, group_sizes, names_in, all_members_for, unused_name}
+use Rattle.pb_protocol_packer.specs.Members.{members_of}
 use Rattle.pb_protocol_groups.specs.declared.grouping.Grouping.{Grouping}
+use Rattle.pb_protocol_groups.specs.declared.members.Members.{Members}
 use Rattle.pb_protocol_groups.specs.Groups.{behind, named_variable}
 use Rattle.pb_protocol_groups.specs.declared.state_variables.StateVariable.{StateVariable}
 use Rattle.pb_protocol_groups.specs.Sizes.{is_few, are_few, has_few, makes_few}
@@ -76,6 +78,11 @@ start m g xs sizes taken none vars is =
       few = ap (list_all makes_few) cuts ∙ sym (few-named (cut (group_sizes (length m.variables)) (all_members_for m)) (names_in m));
     }
 
+-- the next size, and those behind it
+pub next-size : (m : Model) (g : Grouping) (xs : List StateVariable) (sizes : List ℕ) (i first : ℕ) → i < length sizes → AreBehind m g xs (drop i sizes) first
+    → AreBehind m g xs (get_or sizes i 0 ∷ drop (i + 1) sizes) first
+next-size m g xs sizes i first within behind = subst (λ (ks : List ℕ). AreBehind m g xs ks first) (drop_more sizes i 0 within) behind
+
 pub step : (m : Model) (g h : Grouping) (xs part : List StateVariable) (k : ℕ) (sizes : List ℕ) (first end : ℕ) → AreBehind m g xs (k ∷ sizes) first → end ≡ first + min (length xs - first) k
     → part ≡ take (end - first) (drop first xs) → ((others : List (List Member)) → behind h others ≡ behind g (members_for m part ∷ others)) → makes_few (members_for m part) ≡ true
     → AreBehind m h xs sizes end
@@ -113,6 +120,13 @@ refuses m g xs part k sizes first end p e was is parts h =
     subst (λ (b : Bool). IsAmong (unless b Limit p) e) (sym (ap (list_all makes_few) cuts) ∙ was.few) (one-of-all (makes_few (members_for m part)) (list_all makes_few rest) p e h)
 
 -- ---- one group more
+
+pub occupied : (n : ℕ) (b : Bool) → b ≡ (n == 0) → b ≡ false → n ≡ 0 → ⊥
+occupied n b is none e = true≢false (sym (ap (λ (k : ℕ). k == 0) e) ∙ sym is ∙ none)
+
+-- what the search for members says, by what it finds
+abbrev pub AreFound : Model → List StateVariable → Option Members → Type 0
+AreFound m xs found = MatchOption found (are_few (members_for m xs) ≡ false) (λ (ms : Members). members_of ms.items.items ≡ members_for m xs)
 
 pub makes-several : (m : Model) (xs : List StateVariable) (x : StateVariable) (ys : List StateVariable) → xs ≡ x ∷ ys → (length ys ≡ 0 → ⊥) → makes_few (members_for m xs) ≡ are_few (members_for m xs)
 makes-several m xs x [] is some = absurd (some refl)

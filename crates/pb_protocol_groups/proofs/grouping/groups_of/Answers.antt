@@ -1,6 +1,5 @@
-use Rattle.std.proofs.Common.{◌≡◌, ◌∙◌, ◌+◌, ◌-◌, ◌++◌, ℕ, List, ◌∷◌, drop, take, get_or, length, map, ap, subst, rules, arith}
+use Rattle.std.proofs.Common.{◌≡◌, ◌∙◌, ◌+◌, ◌-◌, ◌++◌, List, drop, take, get_or, length, map, ap, rules, arith}
 use Rattle.std.specs.Prelude.{min, string_bytes}
-use Rattle.std.proofs.lemmas.List.{drop_more}
 use Rattle.pb_typing_declarations.specs.Faults.{IsAmong}
 use Rattle.pb_model_tree.specs.Form.{model_form}
 use Rattle.pb_model_meaning.specs.Erase.{model_of}
@@ -10,7 +9,7 @@ use Rattle.pb_protocol_packer.specs.Groups.{groups_in}
 use Rattle.pb_protocol_packer.specs.Initial.{names_by}
 use Rattle.pb_protocol_groups.specs.declared.state_variables.StateVariable.{StateVariable}
 use Rattle.pb_protocol_groups.specs.Sizes.{size_faults}
-use Rattle.pb_protocol_groups.proofs.Cuts.{AreBehind, start, step, clear, refuses}
+use Rattle.pb_protocol_groups.proofs.Cuts.{start, step, clear, next-size, refuses}
 use Rattle.pb_protocol_groups.proofs.grouping.groups_of.Goals as goal
 
 pub loop-size-init : goal.loop-size-init
@@ -31,8 +30,7 @@ loop-size-preserved c =
     let k = get_or items i 0 in
     let first = c.loop-size.first in
     let end = first + c.min.result in
-    let was : AreBehind m c.loop-size.grouping xs (k ∷ drop (i + 1) items) first =
-    subst (λ (ks : List ℕ). AreBehind m c.loop-size.grouping xs ks first) (drop_more items i 0 c.loop-size-test.true) c.loop-size.invariant in
+    let was = next-size m c.loop-size.grouping xs items i first c.loop-size-test.true c.loop-size.invariant in
     let is : end ≡ first + min (length xs - first) k = omega (arith, c.min.ensures, c.len-in-loop-size.ensures, c.in_ok-variables.variables.ok.0) in
     let part = ap (λ (ys : List StateVariable). take (end - first) (drop first ys)) c.deref-in-loop-size.ensures.value in
     step m c.loop-size.grouping c.push.new.self xs _ k (drop (i + 1) items) first end was is part c.in_ok-push.ensures.made (clear _ c.args.model.now.initial.place c.in_ok-push.ensures.few)
@@ -46,8 +44,7 @@ returns-in_err-push-clause-few c =
     let k = get_or items i 0 in
     let first = c.loop-size.first in
     let end = first + c.min.result in
-    let was : AreBehind m c.loop-size.grouping xs (k ∷ drop (i + 1) items) first =
-    subst (λ (ks : List ℕ). AreBehind m c.loop-size.grouping xs ks first) (drop_more items i 0 c.loop-size-test.true) c.loop-size.invariant in
+    let was = next-size m c.loop-size.grouping xs items i first c.loop-size-test.true c.loop-size.invariant in
     let is : end ≡ first + min (length xs - first) k = omega (arith, c.min.ensures, c.len-in-loop-size.ensures, c.in_ok-variables.variables.ok.0) in
     let part = ap (λ (ys : List StateVariable). take (end - first) (drop first ys)) c.deref-in-loop-size.ensures.value in
     let e = c.in_err-push.field-0.0 in
