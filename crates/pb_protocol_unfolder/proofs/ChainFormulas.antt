@@ -8,7 +8,8 @@ use Rattle.pb_text_tree.specs.declared.operator.Connective.TheVariants as connec
 use Rattle.pb_text_tree.specs.declared.operator.Quantifier.{Quantifier}
 use Rattle.pb_text_tree.specs.declared.sort.Range.{Range}
 use Rattle.pb_text_tree.specs.declared.sort.SortDeclaration.{SortDeclaration}
-use Rattle.pb_text_tree.specs.Form.{VariableForm, chained, sort_declaration_form}
+use Rattle.pb_text_tree.specs.declared.variable.Variables.{Variables}
+use Rattle.pb_text_tree.specs.Form.{VariableForm, chained, sort_declaration_form, variable_forms}
 use Rattle.pb_text_meaning.specs.Syntax as syntax
 use Rattle.pb_text_meaning.specs.Syntax.{Spec, NoTerms, Term}
 use Rattle.pb_text_meaning.specs.Erase.{erased_declaration, erased_variables}
@@ -29,13 +30,14 @@ use Rattle.pb_protocol_unfolding.specs.Written.{written_tuples}
 use Rattle.pb_protocol_unfolding.specs.PutIn.{TermScope, copies, standing}
 use Rattle.pb_protocol_unfolding.specs.Unfolding.{terms_of, unfolded, unfolded_formula}
 use Rattle.pb_protocol_unfolder_terms.specs.declared.scope.TermScope as declared_scope
+use Rattle.pb_protocol_unfolder_terms.specs.declared.sorts.Variable.{Variable}
 use Rattle.pb_protocol_unfolder_terms.specs.declared.written.Written.{Written}
 use Rattle.pb_protocol_unfolder_terms.specs.Values.{tuple_of}
 use Rattle.pb_protocol_unfolder_terms.specs.View.{declarations, ranges_said, variable_of}
 use Rattle.pb_protocol_unfolder_steps.specs.declared.unfolder.Unfolder.{Unfolder}
 use Rattle.pb_protocol_unfolder_steps.specs.Unfolder.{protocol_in, scope_in}
 use Rattle.pb_protocol_unfolder.specs.declared.formula.Copies.{Copies}
-use Rattle.pb_protocol_unfolder.specs.Copies.{copy_of, left_operand}
+use Rattle.pb_protocol_unfolder.specs.Copies.{copy_of, left_operand, tuples_in}
 use Rattle.pb_protocol_unfolder.specs.Left.{left_formula, left_set}
 use Rattle.pb_protocol_unfolder.specs.Links.{folded_chain, folded_connected, linked_formula}
 use Rattle.pb_protocol_unfolder.specs.View.{link_form}
@@ -148,17 +150,31 @@ module _ (u : Unfolder) (scope : declared_scope.TermScope) where
       ∙ ap (map (folded_formula (data_of m) left)) (sym (copies-of-tuples (data_of m) ys f (scope_in u scope))))
       ∙ sym (folded-joined (data_of m) left q (copies (data_of m) ys f (scope_in u scope)))
 
+  -- the copies are of a quantifier with these variables
+  pub record AreCopies (made : Copies) (xs : List syntax.Variable) : Type 0 where
+    pub variables : map variable_of made.variables.now ≡ xs
+    pub outer : made.outer.now ≡ scope
+    pub tuples : map tuple_of made.tuples.now ≡ tuples_in u xs
+
+  pub are-copies : (made : Copies) (vs ws : List Variable) (ts : List (Vec Written Global)) (gs groups : List Variables) → made.outer.now ≡ scope → made.variables.now ≡ vs → made.tuples.now ≡ ts
+      → map variable_of vs ≡ erased_variables (variable_forms gs) → gs ≡ groups → map tuple_of ts ≡ tuples_in u (map variable_of ws) → ws
+      ≡ vs → AreCopies made (erased_variables (variable_forms groups))
+  are-copies made vs ws ts gs groups outer variables tuples said same are given =
+      let named = said ∙ ap (λ (hs : List Variables). erased_variables (variable_forms hs)) same in
+      record {
+        variables = ap (map variable_of) variables ∙ named;
+        outer = outer;
+        tuples = ap (map tuple_of) tuples ∙ are ∙ ap (tuples_in u) (ap (map variable_of) given ∙ named);
+      }
+
   -- the copies that the code makes
-  pub copies-made : (made : Copies) (f : formula.Formula) (ts : List (Vec Written Global)) (xs : List syntax.Variable)
-      (tuples : List (List Term)) → map variable_of made.variables.now ≡ xs → made.outer.now ≡ scope → map tuple_of ts ≡ tuples
-      → map (copy_of u made f) ts
+  pub copies-made : (made : Copies) (f : formula.Formula) (xs : List syntax.Variable) → AreCopies made xs
+      → map (copy_of u made f) made.tuples.now
       ≡ map (λ (ks : List Term). folded_formula (data_of (protocol_in u)) (is_left (unfolded (protocol_in u)))
-      (unfolded_formula (protocol_in u) (standing xs (terms_of ks) (scope_in u scope)) (erased_formula (formula_form f)))) tuples
-  copies-made made f ts xs tuples variables outer are =
+      (unfolded_formula (protocol_in u) (standing xs (terms_of ks) (scope_in u scope)) (erased_formula (formula_form f)))) (tuples_in u xs)
+  copies-made made f xs are =
       let at : List syntax.Variable → declared_scope.TermScope → List Term → Formula =
       λ ys s ks. folded_formula (data_of (protocol_in u)) (is_left (unfolded (protocol_in u)))
       (unfolded_formula (protocol_in u) (standing ys (terms_of ks) (scope_in u s)) (erased_formula (formula_form f))) in
-      sym (map-twice (at (map variable_of made.variables.now) made.outer.now) tuple_of ts)
-      ∙ ap (map (at (map variable_of made.variables.now) made.outer.now)) are
-      ∙ ap (λ (ys : List syntax.Variable). map (at ys made.outer.now) tuples) variables
-      ∙ ap (λ (s : declared_scope.TermScope). map (at xs s) tuples) outer
+      sym (map-twice (at (map variable_of made.variables.now) made.outer.now) tuple_of made.tuples.now)
+      ∙ (λ i. map (at (are.variables i) (are.outer i)) (are.tuples i))

@@ -82,6 +82,14 @@ refused (Err d) e P Q h to p = subst (λ (x : OrMemory UnfoldingFault). IfFault 
     both (Refused f) p = to f p
     both Memory p = tt
 
+-- what is too much for a part is too much for the whole
+pub many-refused : {A : Type 0} (r : Result A (OrMemory UnfoldingFault)) (e : OrMemory UnfoldingFault) (M N : Type 0) (place : Place)
+    → IsErrAnd r (λ d. d ≡ e) → (M → N) → IfFault e (OfMany M place) → IfRefused r (OfMany N place)
+many-refused r e M N place h to is = refused r e (OfMany M place) (OfMany N place) h (λ f o. (to o.0, o.1)) is
+
+pub many-so : {A : Type 0} (M N : Type 0) (place : Place) (r : Result A (OrMemory UnfoldingFault)) → (M → N) → IfRefused r (OfMany M place) → IfRefused r (OfMany N place)
+many-so M N place r to is = refused-so (OfMany M place) (OfMany N place) r (λ f o. (to o.0, o.1)) is
+
 pub part : {A : Type 0} (r : Result A (OrMemory UnfoldingFault)) (e : OrMemory UnfoldingFault) (P Q : Place → Type 0)
     → IsErrAnd r (λ d. d ≡ e) → ((p : Place) → P p → Q p) → IfFault e (IsFaultIn P) → IfRefused r (IsFaultIn Q)
 part r e P Q h to is = refused r e (IsFaultIn P) (IsFaultIn Q) h (fault-in P Q to) is

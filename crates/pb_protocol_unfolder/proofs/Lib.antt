@@ -18,4 +18,5 @@ mod UnfoldedLemmas
 mod PlaceLemmas
 mod FaultLemmas
 mod ValueFaults
+mod FormulaParts
 mod NameFaults

@@ -1,5 +1,5 @@
 -- How many operators terms and formulas have, and what room for them is left.
-use Rattle.std.proofs.Common.{◌≡◌, ◌∙◌, ◌+◌, ◌<◌, ◌≤◌, ℕ, zero, suc, refl, sym, ap, subst, arith, Bool, List, [], ◌∷◌, map, length, drop, get_or, Vec, Global, Box}
+use Rattle.std.proofs.Common.{◌≡◌, ◌∙◌, ◌+◌, ◌<◌, ◌≤◌, ℕ, suc, refl, sym, ap, subst, arith, Bool, List, [], ◌∷◌, map, length, drop, get_or, Vec, Global, Box}
 use Rattle.std.specs.Prelude.{box_value, sum_by}
 use Rattle.std.proofs.lemmas.List.{at_drop_all}
 use Rattle.std.proofs.lemmas.List.Sums.{sum_by-cons, sum_by-drop_more}
@@ -15,7 +15,6 @@ use Rattle.pb_text_tree.specs.declared.term.ArithmeticLink.{ArithmeticLink}
 use Rattle.pb_text_tree.specs.declared.term.Term as term
 use Rattle.pb_text_tree.specs.declared.term.TermLink.{TermLink}
 use Rattle.pb_text_tree.specs.Form.{VariableForm, chained}
-use Rattle.pb_text_meaning.specs.Syntax as syntax
 use Rattle.pb_text_meaning.specs.Syntax.{Name, Spec, Term}
 use Rattle.pb_text_meaning.specs.Erase.{erased_variables, of_arithmetic}
 use Rattle.pb_model_tree.specs.declared.formula.Modality.{Modality}
@@ -37,8 +36,7 @@ use Rattle.pb_protocol_unfolder_terms.specs.Unfolding.{operator_count, operator_
 use Rattle.pb_protocol_unfolder_terms.specs.Values.{tuple_of}
 use Rattle.pb_protocol_unfolder_terms.specs.View.{variable_of}
 use Rattle.pb_protocol_unfolder_terms.specs.declared.scope.TermScope as declared_scope
-use Rattle.pb_protocol_unfolder_terms.specs.declared.written.Written.{Written}
-use Rattle.pb_protocol_unfolder_terms.proofs.ChainLemmas.{application-said, chain-said}
+use Rattle.pb_protocol_unfolder_terms.proofs.ChainLemmas.{application-said, chain-means}
 use Rattle.pb_protocol_unfolder_terms.proofs.TermLemmas.{arithmetic-said}
 use Rattle.pb_protocol_unfolder_steps.specs.declared.unfolder.Unfolder.{Unfolder}
 use Rattle.pb_protocol_unfolder_steps.specs.Unfolder.{protocol_in, scope_in}
@@ -48,6 +46,7 @@ use Rattle.pb_protocol_unfolder.specs.Left.{left_operators, left_set}
 use Rattle.pb_protocol_unfolder.specs.Operators.{argument_operators, formula_operators, name_count, operand_operators, operation_operators}
 use Rattle.pb_protocol_unfolder.specs.View.{link_form}
 use Rattle.pb_protocol_unfolder.proofs.Chains.{chain-form}
+use Rattle.pb_protocol_unfolder.proofs.ChainFormulas.{AreCopies}
 use Rattle.pb_protocol_unfolder.proofs.FormulaLemmas.{copies-of-tuples}
 
 -- ---- room
@@ -113,6 +112,15 @@ loop-ends old rest all room before none = omega (arith, before, none)
 pub item-counted : {X : Type 0} (f : X → ℕ) (xs : List X) (i : ℕ) (x : X) → i < length xs → x ≡ get_or xs i x → sum_by f (drop i xs) ≡ f x + sum_by f (drop (i + 1) xs)
 item-counted f xs i x within is = sum_by-drop_more f xs i x within ∙ ap (λ y. f y + sum_by f (drop (i + 1) xs)) (sym is)
 
+-- an item more is taken, or is too much
+pub item-taken : {X : Type 0} (f : X → ℕ) (xs : List X) (i : ℕ) (x : X) (old room room' : ℕ) → i < length xs → x ≡ get_or xs i x → old + sum_by f (drop i xs) ≡ room + sum_by f xs → room ≡ room' + f x
+    → old + sum_by f (drop (i + 1) xs) ≡ room' + sum_by f xs
+item-taken f xs i x old room room' within is before spent = loop-goes _ _ _ _ _ _ _ before (item-counted f xs i x within is) spent
+
+pub item-over : {X : Type 0} (f : X → ℕ) (xs : List X) (i : ℕ) (x : X) (old room : ℕ) → i < length xs → x ≡ get_or xs i x → old + sum_by f (drop i xs) ≡ room + sum_by f xs → room < f x
+    → old < sum_by f xs
+item-over f xs i x old room within is before over = loop-over _ _ _ _ _ _ before (item-counted f xs i x within is) over
+
 pub end-counted : {X : Type 0} (f : X → ℕ) (xs : List X) (i : ℕ) → length xs ≤ i → sum_by f (drop i xs) ≡ 0
 end-counted f xs i end = at_drop_all (sum_by f) xs i end
 
@@ -142,10 +150,7 @@ arguments-counted (x ∷ xs) = ap (λ n. operator_count (tree.term_of x.term) + 
 
 pub chain-operators : (c : Connective) (x : term.Term) (p : Box term.Term Global) (v : Vec TermLink Global) (ls : List TermLink) (t : term.Term) → t ≡ term.Chain c p v → x ≡ box_value p → ls ≡ v.items
     → operator_count (tree.term_of t) ≡ operator_count (tree.term_of x) + sum_by operand_operators ls
-chain-operators c x p v ls t is at same =
-    ap (λ (y : term.Term). operator_count (tree.term_of y)) is ∙ ap operator_count (chain-said c p v) ∙ chain-counted c (tree.term_of (box_value p)) v.items
-    ∙ sym (ap (λ (y : term.Term). operator_count (tree.term_of y) + sum_by operand_operators ls) at
-    ∙ ap (λ (ks : List TermLink). operator_count (tree.term_of (box_value p)) + sum_by operand_operators ks) same)
+chain-operators c x p v ls t is at same = ap operator_count (sym (chain-means v is at same)) ∙ chain-counted c (tree.term_of x) ls
 
 pub arithmetic-operators : (x : term.Term) (p : Box term.Term Global) (v : Vec ArithmeticLink Global)
     (ls : List ArithmeticLink) (t : term.Term) → t ≡ term.Arithmetic p v → x ≡ box_value p → ls ≡ v.items
@@ -237,13 +242,8 @@ module _ (u : Unfolder) (scope : declared_scope.TermScope) where
       ∙ sum-mapped (λ g. suc (formula_operators (data_of m) left g)) (λ (ks : List Term). f (standing ys (terms_of ks) ρ)) (written_tuples (data_of m) ys)
 
   -- the copies that the code makes
-  pub copies-counted : (made : Copies) (f : formula.Formula) (ts : List (Vec Written Global))
-      (xs : List syntax.Variable) (tuples : List (List Term)) → map variable_of made.variables.now ≡ xs
-      → made.outer.now ≡ scope → map tuple_of ts ≡ tuples
-      → sum_by (copy_operators u made f) ts ≡ sum_by (tuple_operators u scope xs (formula_form f)) tuples
-  copies-counted made f ts xs tuples variables outer are =
-      let ys = map variable_of made.variables.now in
-      sym (sum-mapped (tuple_operators u made.outer.now ys (formula_form f)) tuple_of ts)
-      ∙ ap (sum_by (tuple_operators u made.outer.now ys (formula_form f))) are
-      ∙ ap (λ (zs : List syntax.Variable). sum_by (tuple_operators u made.outer.now zs (formula_form f)) tuples) variables
-      ∙ ap (λ (s : declared_scope.TermScope). sum_by (tuple_operators u s xs (formula_form f)) tuples) outer
+  pub copies-counted : (made : Copies) (f : formula.Formula) (q : Quantifier) (place : Place) (xs : List VariableForm) → AreCopies u scope made (erased_variables xs)
+      → sum_by (copy_operators u made f) made.tuples.now ≡ left_operators u scope (FormulaForm.quantified q place xs (formula_form f))
+  copies-counted made f q place xs are =
+      sym (sum-mapped (tuple_operators u made.outer.now (map variable_of made.variables.now) (formula_form f)) tuple_of made.tuples.now)
+      ∙ (λ i. sum_by (tuple_operators u (are.outer i) (are.variables i) (formula_form f)) (are.tuples i)) ∙ sym (quantified-operators q place xs (formula_form f))

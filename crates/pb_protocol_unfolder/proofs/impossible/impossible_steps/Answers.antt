@@ -1,4 +1,4 @@
-use Rattle.std.proofs.Common.{◌≤◌, ap, arith, subst, flat_map, length, List, map, string_bytes}
+use Rattle.std.proofs.Common.{◌≤◌, arith, subst, flat_map, length, List, map, string_bytes}
 use Rattle.pb_protocol_tree.specs.declared.step.Step.{Step}
 use Rattle.pb_protocol_tree.specs.Form.{step_form}
 use Rattle.pb_protocol_meaning.specs.Erase.{erased_step}

@@ -13,54 +13,55 @@ use Rattle.pb_protocol_unfolder.specs.Apart.{IsTakenAt, RepeatsAt, declarations_
 use Rattle.pb_protocol_unfolder.specs.Faults.{IsElementClash}
 use Rattle.pb_protocol_unfolder.specs.Parts.{IsFaultOfElements}
 use Rattle.pb_protocol_unfolder.proofs.NameFaults.{repeated-at, taken-at, within}
+use Rattle.pb_protocol_unfolder.proofs.names.check_elements.Goals.{In-Some, In-Some-first_taken}
 use Rattle.pb_protocol_unfolder.proofs.names.check_elements.Goals as goal
+
+-- ---- what is said of the names is said of those of the elements
+
+repeats : (c : In-Some) → RepeatsAt (map name_bytes c.in_ok-names.names.items) c.in-Some.index
+repeats c = subst (λ (v : List declared_name.Name). RepeatsAt (map name_bytes v) c.in-Some.index) c.deref.ensures.value c.in-Some.ensures
+
+taken : (c : In-Some-first_taken) → IsTakenAt (enumerators_in (declarations_said c.args.declarations.now)) (map name_bytes c.in_ok-names.names.items) c.in-Some-first_taken.index
+taken c =
+    let others = enumerators_in (declarations_said c.args.declarations.now) in
+    subst (λ (v : List declared_name.Name). IsTakenAt others (map name_bytes v) c.in-Some-first_taken.index) c.deref-2.ensures.value c.in-Some-first_taken.ensures
 
 pub bounds-elements-index : goal.bounds-elements-index
 bounds-elements-index c =
-    let ns = map name_bytes c.in_ok-names.names.items in
-    let repeats = subst (λ (v : List declared_name.Name). RepeatsAt (map name_bytes v) c.in-Some.index) c.deref.ensures.value c.in-Some.ensures in
-    within name_of element_said c.args.elements.now ns c.in-Some.index c.in_ok-names.ensures repeats.0
+    within name_of element_said c.args.elements.now (map name_bytes c.in_ok-names.names.items) c.in-Some.index c.in_ok-names.ensures (repeats (goal.at.bounds-elements-index c).In-Some).0
 
 pub returns-in-Some-clause-refused : goal.returns-in-Some-clause-refused
 returns-in-Some-clause-refused c =
     let es = c.args.elements.now in
-    let i = c.in-Some.index in
-    let x = c.index-elements-index.result in
-    let ns = map name_bytes c.in_ok-names.names.items in
     let names = map name_of (map element_said es) in
     let others = enumerators_in (declarations_said c.args.declarations.now) in
-    let repeats = subst (λ (v : List declared_name.Name). RepeatsAt (map name_bytes v) i) c.deref.ensures.value c.in-Some.ensures in
-    let low = within name_of element_said es ns i c.in_ok-names.ensures repeats.0 in
+    let again = repeats (goal.at.returns-in-Some-clause-refused c).In-Some in
+    let low = within name_of element_said es _ c.in-Some.index c.in_ok-names.ensures again.0 in
     subst (λ (e : OrMemory UnfoldingFault). IfFault e (IsFaultOfElements others names (map element_place es))) (sym c.refused.ensures) (
       refl,
       subst (λ (y : Element). IsElementClash others names (map element_place es) (element_place y))
           c.index-elements-index.is
-          (inl (repeated-at element_place es i x ns names low c.index-elements-index.is c.in_ok-names.ensures repeats)),
+          (inl (repeated-at element_place es c.in-Some.index c.index-elements-index.result _ names low c.index-elements-index.is c.in_ok-names.ensures again)),
     )
 
 pub bounds-elements-index-in-Some-first_taken : goal.bounds-elements-index-in-Some-first_taken
 bounds-elements-index-in-Some-first_taken c =
-    let ns = map name_bytes c.in_ok-names.names.items in
-    let i = c.in-Some-first_taken.index in
-    let others = enumerators_in (declarations_said c.args.declarations.now) in
-    let taken = subst (λ (v : List declared_name.Name). IsTakenAt others (map name_bytes v) i) c.deref-2.ensures.value c.in-Some-first_taken.ensures in
-    within name_of element_said c.args.elements.now ns i c.in_ok-names.ensures taken.0
+    within name_of element_said c.args.elements.now (map name_bytes c.in_ok-names.names.items) c.in-Some-first_taken.index c.in_ok-names.ensures
+    (taken (goal.at.bounds-elements-index-in-Some-first_taken c).In-Some-first_taken).0
 
 pub returns-in-Some-first_taken-clause-refused : goal.returns-in-Some-first_taken-clause-refused
 returns-in-Some-first_taken-clause-refused c =
     let es = c.args.elements.now in
-    let i = c.in-Some-first_taken.index in
-    let x = c.index-elements-index-in-Some-first_taken.result in
-    let ns = map name_bytes c.in_ok-names.names.items in
     let names = map name_of (map element_said es) in
     let others = enumerators_in (declarations_said c.args.declarations.now) in
-    let taken = subst (λ (v : List declared_name.Name). IsTakenAt others (map name_bytes v) i) c.deref-2.ensures.value c.in-Some-first_taken.ensures in
-    let low = within name_of element_said es ns i c.in_ok-names.ensures taken.0 in
+    let clash = taken (goal.at.returns-in-Some-first_taken-clause-refused c).In-Some-first_taken in
+    let low = within name_of element_said es _ c.in-Some-first_taken.index c.in_ok-names.ensures clash.0 in
     subst (λ (e : OrMemory UnfoldingFault). IfFault e (IsFaultOfElements others names (map element_place es))) (sym c.refused-in-Some-first_taken.ensures) (
       refl,
       subst (λ (y : Element). IsElementClash others names (map element_place es) (element_place y))
           c.index-elements-index-in-Some-first_taken.is
-          (inr (taken-at element_place es i x others ns names low c.index-elements-index-in-Some-first_taken.is c.in_ok-names.ensures taken)),
+          (inr (taken-at element_place es c.in-Some-first_taken.index c.index-elements-index-in-Some-first_taken.result others _ names low
+          c.index-elements-index-in-Some-first_taken.is c.in_ok-names.ensures clash)),
     )
 
 pub returns-clause-distinct : goal.returns-clause-distinct

@@ -1,5 +1,4 @@
-use Rattle.std.proofs.Common.{◌<◌, ◌≡◌, [], ap, subst, sym}
-use Rattle.pb_base.specs.declared.limits.TheConstants.{MAX_OPERATORS}
+use Rattle.std.proofs.Common.{[]}
 use Rattle.pb_protocol_meaning.specs.Erase.{erase, erased_formula}
 use Rattle.pb_protocol_tree.specs.Form.{formula_form, property_form}
 use Rattle.pb_protocol_unfolder_steps.specs.Unfolder.{form_in}

@@ -1,4 +1,5 @@
 use Rattle.std.proofs.Common.{◌≡◌, ◌∙◌, inl, ap, arith, length, subst, sym, List, map}
+use Rattle.std.specs.Prelude.{filter}
 use Rattle.std.proofs.lemmas.List.{length-map}
 use Rattle.pb_text_tree.specs.declared.sort.SortDeclaration.{SortDeclaration}
 use Rattle.pb_protocol_tree.specs.Form.{protocol_form}
@@ -20,37 +21,29 @@ use Rattle.pb_protocol_unfolder.specs.Told.{impossible_steps, told_instance, tol
 use Rattle.pb_protocol_unfolder.proofs.FaultLemmas.{fault-by, model-breaks, refused, term-breaks}
 use Rattle.pb_protocol_unfolder.proofs.NameFaults.{elements-clash, instances-clash}
 use Rattle.pb_protocol_unfolder.proofs.UnfoldedLemmas.{kept-instances, apart-instances}
+use Rattle.pb_protocol_unfolder.proofs.protocol.unfold.Goals.{In_ok-left}
 use Rattle.pb_protocol_unfolder.proofs.protocol.unfold.Goals as goal
 
+-- the instances that are left are those that are kept
+left : (c : In_ok-left) →
+    let m = protocol_in c.in_ok-unfolder.unfolder in map instance_said c.in_ok-left.left.items ≡ filter (is_kept m) (definitions.instances m)
+left c =
+    kept-instances c.in_ok-unfolder.unfolder c.args.protocol.now c.in_ok-instances.instances.items c.in_ok-left.left.items c.in_ok-steps.field-0.kept.items
+    c.deref-6.result.now c.deref-7.result.now c.deref-5.result.now c.in_ok-unfolder.ensures.protocol c.deref-6.ensures.value c.deref-7.ensures.value c.deref-5.ensures.value
+    c.in_ok-instances.ensures.instances c.in_ok-steps.ensures.kept c.in_ok-left.ensures
+
 pub flat_model-requires-clause-left : goal.flat_model-requires-clause-left
-flat_model-requires-clause-left c =
-    let u = c.in_ok-unfolder.unfolder in
-    let same = c.in_ok-unfolder.ensures.protocol in
-    let is = c.in_ok-instances.instances.items in
-    record {
-      unfolder = c.in_ok-unfolder.ensures.unfolder;
-      steps =
-          ap (λ (xs : List declared.Instance). map instance_said xs) c.deref-11.ensures.value
-          ∙ kept-instances u c.args.protocol.now is c.in_ok-left.left.items c.in_ok-steps.field-0.kept.items
-          c.deref-6.result.now c.deref-7.result.now c.deref-5.result.now same c.deref-6.ensures.value
-          c.deref-7.ensures.value c.deref-5.ensures.value
-          c.in_ok-instances.ensures.instances c.in_ok-steps.ensures.kept c.in_ok-left.ensures;
-      apart = apart-instances u c.args.protocol.now is c.deref-3.result.now same c.deref-3.ensures.value c.in_ok-instances.ensures.instances c.in_ok-check_instances.ensures.distinct;
-    }
+flat_model-requires-clause-left c = record {
+  unfolder = c.in_ok-unfolder.ensures.unfolder;
+  steps = ap (λ (xs : List declared.Instance). map instance_said xs) c.deref-11.ensures.value ∙ left (goal.at.flat_model-requires-clause-left c).In_ok-left;
+  apart = apart-instances c.in_ok-unfolder.unfolder c.args.protocol.now c.in_ok-instances.instances.items c.deref-3.result.now c.in_ok-unfolder.ensures.protocol c.deref-3.ensures.value
+      c.in_ok-instances.ensures.instances c.in_ok-check_instances.ensures.distinct;
+}
 
 pub returns-clause-told_steps : goal.returns-clause-told_steps
 returns-clause-told_steps c =
-    let u = c.in_ok-unfolder.unfolder in
-    let same = c.in_ok-unfolder.ensures.protocol in
-    let is = c.in_ok-instances.instances.items in
-    c.in_ok-origins.ensures
-    ∙ ap (map told_instance)
-    (ap (λ (xs : List declared.Instance). map instance_said xs) c.deref-9.ensures.value
-    ∙ kept-instances u c.args.protocol.now is c.in_ok-left.left.items c.in_ok-steps.field-0.kept.items
-    c.deref-6.result.now c.deref-7.result.now c.deref-5.result.now same c.deref-6.ensures.value
-    c.deref-7.ensures.value c.deref-5.ensures.value
-    c.in_ok-instances.ensures.instances c.in_ok-steps.ensures.kept c.in_ok-left.ensures)
-    ∙ ap told_steps same
+    c.in_ok-origins.ensures ∙ ap (map told_instance) (ap (λ (xs : List declared.Instance). map instance_said xs) c.deref-9.ensures.value ∙ left (goal.at.returns-clause-told_steps c).In_ok-left)
+    ∙ ap told_steps c.in_ok-unfolder.ensures.protocol
 
 pub returns-in_err-check_elements-clause-refused : goal.returns-in_err-check_elements-clause-refused
 returns-in_err-check_elements-clause-refused c =

@@ -14,6 +14,7 @@ use Rattle.pb_protocol_unfolder.specs.Parts.{IsFaultOfModality}
 use Rattle.pb_protocol_unfolder.proofs.FaultLemmas.{kept-in, of-many-by, of-value-by}
 use Rattle.pb_protocol_unfolder.proofs.LeftLemmas.{each-left, named-left}
 use Rattle.pb_protocol_unfolder.proofs.OperatorLemmas.{names-counted, same-left, same-over}
+use Rattle.pb_protocol_unfolder.proofs.step_set.unfold_set.Goals.{After-take}
 use Rattle.pb_protocol_unfolder.proofs.step_set.unfold_set.Goals as goal
 
 pub returns-clause-set : goal.returns-clause-set
@@ -28,16 +29,20 @@ returns-in-Some-clause-room c =
     let none : 0 ≡ name_count (left_set u c.args.scope.now A) = ap name_count (each-left u c.args.scope.now A (sym c.in-Some.ensures)) in
     omega (arith, none)
 
-pub returns-clause-room : goal.returns-clause-room
-returns-clause-room c =
+-- as many names as the set that is left has
+many : (c : After-take) → c.len.result ≡ name_count (left_set c.args.formulas.now.unfolder.now c.args.scope.now (step_set_form c.args.set.now))
+many c =
     let u = c.args.formulas.now.unfolder.now in
     let s = c.args.scope.now in
     let A = step_set_form c.args.set.now in
     let named = named-left u s c.args.formulas.now.left.now A c.requires.formulas (sym c.in_default.ensures) in
     let names = member_names u s A (map instance_said c.args.formulas.now.left.now) in
-    let many : length c.in_ok-names.names.items ≡ name_count (left_set u s A) =
+    let same : length c.in_ok-names.names.items ≡ name_count (left_set u s A) =
     sym (length-map c.in_ok-names.names.items name_bytes) ∙ ap length c.in_ok-names.ensures.names ∙ sym (names-counted names) ∙ ap name_count named in
-    same-left _ _ _ _ c.in_ok-take.ensures.taken (omega (arith, c.len.ensures, c.in_ok-names.names.ok.0, many))
+    omega (arith, c.len.ensures, c.in_ok-names.names.ok.0, same)
+
+pub returns-clause-room : goal.returns-clause-room
+returns-clause-room c = same-left _ _ _ _ c.in_ok-take.ensures.taken (many (goal.at.returns-clause-room c).After-take)
 
 pub returns-in_err-names-clause-refused : goal.returns-in_err-names-clause-refused
 returns-in_err-names-clause-refused c =
@@ -53,13 +58,7 @@ returns-in_err-names-clause-refused c =
 pub returns-in_err-take-clause-refused : goal.returns-in_err-take-clause-refused
 returns-in_err-take-clause-refused c =
     let u = c.args.formulas.now.unfolder.now in
-    let m = protocol_in u in
-    let s = c.args.scope.now in
     let A = step_set_form c.args.set.now in
-    let named = named-left u s c.args.formulas.now.left.now A c.requires.formulas (sym c.in_default.ensures) in
-    let names = member_names u s A (map instance_said c.args.formulas.now.left.now) in
-    let many : length c.in_ok-names.names.items ≡ name_count (left_set u s A) =
-    sym (length-map c.in_ok-names.names.items name_bytes) ∙ ap length c.in_ok-names.ensures.names ∙ sym (names-counted names) ∙ ap name_count named in
     of-many-by c.from_residual-in_err-take.result c.in_err-take.field-0.0 (c.args.room.now.operators < c.len.result) c.args.place
-    (IsFaultOfModality m (c.args.room.now.operators < name_count (left_set u s A)) (scope_in u s) c.args.place A) c.from_residual-in_err-take.ensures.1
-    (λ f o. inl (same-over _ _ _ (omega (arith, c.len.ensures, c.in_ok-names.names.ok.0, many)) o.0, o.1)) c.in_err-take.ensures.refused
+    (IsFaultOfModality (protocol_in u) (c.args.room.now.operators < name_count (left_set u c.args.scope.now A)) (scope_in u c.args.scope.now) c.args.place A) c.from_residual-in_err-take.ensures.1
+    (λ f o. inl (same-over _ _ _ (many (goal.at.returns-in_err-take-clause-refused c).After-take) o.0, o.1)) c.in_err-take.ensures.refused

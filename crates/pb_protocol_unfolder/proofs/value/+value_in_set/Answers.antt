@@ -14,114 +14,72 @@ use Rattle.pb_protocol_unfolder_terms.specs.Values.{written_term}
 use Rattle.pb_protocol_unfolder_terms.specs.Contexts.{forms_by}
 use Rattle.pb_protocol_unfolder_steps.specs.Unfolder.{protocol_in, scope_in}
 use Rattle.pb_protocol_unfolder.specs.Faults.{meant}
-use Rattle.pb_protocol_unfolder.specs.Values.{named_value, valuation}
-use Rattle.pb_protocol_unfolder.proofs.ValueLemmas.{bound-value, is_nameless, named-value, nameless-value}
-use Rattle.pb_protocol_unfolder.proofs.ValueFaults.{meant-bound, meant-free, meant-nameless, said-so}
+use Rattle.pb_protocol_unfolder.specs.Values.{named_value}
+use Rattle.pb_protocol_unfolder.proofs.ValueLemmas.{bound-value, is_nameless, named-value}
+use Rattle.pb_protocol_unfolder.proofs.ValueFaults.{alone-refused, alone-value, meant-bound, meant-free, plain-refused, plain-value, said-so}
 use Rattle.pb_protocol_unfolder.proofs.value.+value_in_set.Goals as goal
 
-pub returns-in-Some-clause-value : goal.returns-in-Some-clause-value
-returns-in-Some-clause-value t c =
+pub returns-in-Some : goal.returns-in-Some
+returns-in-Some t c =
     let m = protocol_in c.args.unfolder.now in
     let spec = data_of m in
     let ρ = scope_in c.args.unfolder.now c.args.scope.now in
     let k = written_term c.in-Some.written in
     let x = string_bytes c.in-Name.name.text in
     let found : Some k ≡ put.term_of ρ x = c.in-Some.ensures spec (forms_by m) ∙ ap (put.term_of ρ) c.as_str.ensures.value in
-    IfOk-weaker c.value_of_written.result (λ (v : Value). v ≡ value spec [] k) (λ (v : Value). v ≡ named_value c.args.unfolder.now c.args.scope.now (term_of c.args.term.now))
-    (λ v h. bound-value spec ρ x k v found h ∙ ap (λ (s : tree.Term). meaning spec no_functions (valued spec [] ρ) (term_of s)) (sym c.in-Name.is)) c.value_of_written.ensures.value
+    record {
+      value = IfOk-weaker c.value_of_written.result (λ (v : Value). v ≡ value spec [] k) (λ (v : Value). v ≡ named_value c.args.unfolder.now c.args.scope.now (term_of c.args.term.now))
+          (λ v h. bound-value spec ρ x k v found h ∙ ap (λ (s : tree.Term). meaning spec no_functions (valued spec [] ρ) (term_of s)) (sym c.in-Name.is)) c.value_of_written.ensures.value;
+      refused = said-so m c.args.place k (meant ρ (term_of c.args.term.now)) c.value_of_written.result
+          (meant-bound ρ x k found ∙ ap (λ (s : tree.Term). meant ρ (term_of s)) (sym c.in-Name.is)) c.value_of_written.ensures.refused;
+    }
 
-pub returns-in-Some-clause-refused : goal.returns-in-Some-clause-refused
-returns-in-Some-clause-refused t c =
-    let m = protocol_in c.args.unfolder.now in
-    let ρ = scope_in c.args.unfolder.now c.args.scope.now in
-    let k = written_term c.in-Some.written in
-    let x = string_bytes c.in-Name.name.text in
-    let found : Some k ≡ put.term_of ρ x = c.in-Some.ensures (data_of m) (forms_by m) ∙ ap (put.term_of ρ) c.as_str.ensures.value in
-    said-so m c.args.place k (meant ρ (term_of c.args.term.now)) c.value_of_written.result
-    (meant-bound ρ x k found ∙ ap (λ (s : tree.Term). meant ρ (term_of s)) (sym c.in-Name.is)) c.value_of_written.ensures.refused
-
-pub returns-in-None-clause-value : goal.returns-in-None-clause-value
-returns-in-None-clause-value t c =
+pub returns-in-None : goal.returns-in-None
+returns-in-None t c =
     let m = protocol_in c.args.unfolder.now in
     let spec = data_of m in
     let ρ = scope_in c.args.unfolder.now c.args.scope.now in
     let x = string_bytes c.in-Name.name.text in
+    let s = term_of c.args.term.now in
     let found : None ≡ put.term_of ρ x = c.in-None.ensures spec (forms_by m) ∙ ap (put.term_of ρ) c.as_str.ensures.value in
-    IfOk-weaker c.plain_value.result (λ (v : Value). folding.written_value spec (term_of c.args.term.now) ≡ Some v)
-    (λ (v : Value). v ≡ named_value c.args.unfolder.now c.args.scope.now (term_of c.args.term.now))
-    (λ v h. named-value spec ρ x v found
-    (ap (λ (s : tree.Term). folding.written_value spec (term_of s)) (sym c.in-Name.is) ∙ h)
-    ∙ ap (λ (s : tree.Term). meaning spec no_functions (valued spec [] ρ) (term_of s)) (sym c.in-Name.is)) c.plain_value.ensures.value
-
-pub returns-in-None-clause-refused : goal.returns-in-None-clause-refused
-returns-in-None-clause-refused t c =
-    let m = protocol_in c.args.unfolder.now in
-    let ρ = scope_in c.args.unfolder.now c.args.scope.now in
-    let x = string_bytes c.in-Name.name.text in
-    let s = c.args.term.now in
-    let found : None ≡ put.term_of ρ x = c.in-None.ensures (data_of m) (forms_by m) ∙ ap (put.term_of ρ) c.as_str.ensures.value in
-    said-so m c.args.place (term_of s) (meant ρ (term_of s)) c.plain_value.result
-    (ap term_of c.in-Name.is ∙ meant-free ρ x found ∙ ap (λ (r : tree.Term). meant ρ (term_of r)) (sym c.in-Name.is)) c.plain_value.ensures.refused
+    record {
+      value = IfOk-weaker c.plain_value.result (λ (v : Value). folding.written_value spec s ≡ Some v) (λ (v : Value). v ≡ named_value c.args.unfolder.now c.args.scope.now s)
+          (λ v h. named-value spec ρ x v found (ap (λ (r : tree.Term). folding.written_value spec (term_of r)) (sym c.in-Name.is) ∙ h)
+          ∙ ap (λ (r : tree.Term). meaning spec no_functions (valued spec [] ρ) (term_of r)) (sym c.in-Name.is)) c.plain_value.ensures.value;
+      refused = said-so m c.args.place s (meant ρ s) c.plain_value.result
+          (ap term_of c.in-Name.is ∙ meant-free ρ x found ∙ ap (λ (r : tree.Term). meant ρ (term_of r)) (sym c.in-Name.is)) c.plain_value.ensures.refused;
+    }
 
 -- ---- chains
 
-pub returns-then-is_empty-clause-value : goal.returns-then-is_empty-clause-value
-returns-then-is_empty-clause-value t c =
+pub returns-then-is_empty : goal.returns-then-is_empty
+returns-then-is_empty t c =
     let same = chain-alone _ _ _ _ _ _ c.in-Chain.is c.is_empty.ensures c.if-is_empty.true c.deref.ensures in
-    IfOk-weaker c.value_in_set.result
-    (λ (v : Value). v ≡ named_value c.args.unfolder.now c.args.scope.now (term_of c.deref.result.now))
-    (λ (v : Value). v ≡ named_value c.args.unfolder.now c.args.scope.now (term_of c.args.term.now))
-    (λ v h. h ∙ ap (named_value c.args.unfolder.now c.args.scope.now) same) c.value_in_set.ensures.value
+    record {
+      value = alone-value c.args.unfolder.now c.args.scope.now _ _ c.value_in_set.result same c.value_in_set.ensures.value;
+      refused = alone-refused c.args.unfolder.now c.args.scope.now c.args.place _ _ c.value_in_set.result same c.value_in_set.ensures.refused;
+    }
 
-pub returns-then-is_empty-clause-refused : goal.returns-then-is_empty-clause-refused
-returns-then-is_empty-clause-refused t c =
-    let ρ = scope_in c.args.unfolder.now c.args.scope.now in
-    said-so (protocol_in c.args.unfolder.now) c.args.place (meant ρ (term_of c.deref.result.now)) (meant ρ (term_of c.args.term.now)) c.value_in_set.result
-    (ap (meant ρ) (chain-alone _ _ _ _ _ _ c.in-Chain.is c.is_empty.ensures c.if-is_empty.true c.deref.ensures)) c.value_in_set.ensures.refused
+pub returns-else-is_empty : goal.returns-else-is_empty
+returns-else-is_empty t c =
+    let nameless = sym (chain-many is_nameless true c.in-Chain.connective (λ l r. refl) _ _ _ _ c.in-Chain.is c.is_empty.ensures c.if-is_empty.false) in
+    record {
+      value = plain-value c.args.unfolder.now c.args.scope.now _ c.plain_value-in-Chain.result nameless c.plain_value-in-Chain.ensures.value;
+      refused = plain-refused c.args.unfolder.now c.args.scope.now c.args.place _ c.plain_value-in-Chain.result nameless c.plain_value-in-Chain.ensures.refused;
+    }
 
-pub returns-else-is_empty-clause-value : goal.returns-else-is_empty-clause-value
-returns-else-is_empty-clause-value t c =
-    let u = c.args.unfolder.now in
-    let spec = data_of (protocol_in u) in
-    let s = term_of c.args.term.now in
-    let nameless : is_nameless s ≡ true = sym (chain-many is_nameless true c.in-Chain.connective (λ l r. refl) _ _ _ _ c.in-Chain.is c.is_empty.ensures c.if-is_empty.false) in
-    IfOk-weaker c.plain_value-in-Chain.result (λ (v : Value). folding.written_value spec s ≡ Some v) (λ (v : Value). v ≡ named_value u c.args.scope.now s)
-    (λ v h. nameless-value spec (valuation u c.args.scope.now) s v nameless h) c.plain_value-in-Chain.ensures.value
-
-pub returns-else-is_empty-clause-refused : goal.returns-else-is_empty-clause-refused
-returns-else-is_empty-clause-refused t c =
-    let ρ = scope_in c.args.unfolder.now c.args.scope.now in
-    let s = term_of c.args.term.now in
-    let nameless : is_nameless s ≡ true = sym (chain-many is_nameless true c.in-Chain.connective (λ l r. refl) _ _ _ _ c.in-Chain.is c.is_empty.ensures c.if-is_empty.false) in
-    said-so (protocol_in c.args.unfolder.now) c.args.place s (meant ρ s) c.plain_value-in-Chain.result (meant-nameless ρ s nameless) c.plain_value-in-Chain.ensures.refused
-
-pub returns-then-is_empty-2-clause-value : goal.returns-then-is_empty-2-clause-value
-returns-then-is_empty-2-clause-value t c =
+pub returns-then-is_empty-2 : goal.returns-then-is_empty-2
+returns-then-is_empty-2 t c =
     let same = arithmetic-alone _ _ _ _ _ c.in-Arithmetic.is c.is_empty-in-Arithmetic.ensures c.if-is_empty-2.true c.deref-then-is_empty-2.ensures in
-    IfOk-weaker c.value_in_set-then-is_empty-2.result
-    (λ (v : Value). v
-    ≡ named_value c.args.unfolder.now c.args.scope.now (term_of c.deref-then-is_empty-2.result.now))
-    (λ (v : Value). v ≡ named_value c.args.unfolder.now c.args.scope.now (term_of c.args.term.now))
-    (λ v h. h ∙ ap (named_value c.args.unfolder.now c.args.scope.now) same) c.value_in_set-then-is_empty-2.ensures.value
+    record {
+      value = alone-value c.args.unfolder.now c.args.scope.now _ _ c.value_in_set-then-is_empty-2.result same c.value_in_set-then-is_empty-2.ensures.value;
+      refused = alone-refused c.args.unfolder.now c.args.scope.now c.args.place _ _ c.value_in_set-then-is_empty-2.result same c.value_in_set-then-is_empty-2.ensures.refused;
+    }
 
-pub returns-then-is_empty-2-clause-refused : goal.returns-then-is_empty-2-clause-refused
-returns-then-is_empty-2-clause-refused t c =
-    let ρ = scope_in c.args.unfolder.now c.args.scope.now in
-    said-so (protocol_in c.args.unfolder.now) c.args.place (meant ρ (term_of c.deref-then-is_empty-2.result.now)) (meant ρ (term_of c.args.term.now)) c.value_in_set-then-is_empty-2.result
-    (ap (meant ρ) (arithmetic-alone _ _ _ _ _ c.in-Arithmetic.is c.is_empty-in-Arithmetic.ensures c.if-is_empty-2.true c.deref-then-is_empty-2.ensures)) c.value_in_set-then-is_empty-2.ensures.refused
-
-pub returns-else-is_empty-2-clause-value : goal.returns-else-is_empty-2-clause-value
-returns-else-is_empty-2-clause-value t c =
-    let u = c.args.unfolder.now in
-    let spec = data_of (protocol_in u) in
-    let s = term_of c.args.term.now in
-    let nameless : is_nameless s ≡ true = sym (arithmetic-many is_nameless true (λ o l r. refl) _ _ _ _ c.in-Arithmetic.is c.is_empty-in-Arithmetic.ensures c.if-is_empty-2.false) in
-    IfOk-weaker c.plain_value-in-Arithmetic.result (λ (v : Value). folding.written_value spec s ≡ Some v) (λ (v : Value). v ≡ named_value u c.args.scope.now s)
-    (λ v h. nameless-value spec (valuation u c.args.scope.now) s v nameless h) c.plain_value-in-Arithmetic.ensures.value
-
-pub returns-else-is_empty-2-clause-refused : goal.returns-else-is_empty-2-clause-refused
-returns-else-is_empty-2-clause-refused t c =
-    let ρ = scope_in c.args.unfolder.now c.args.scope.now in
-    let s = term_of c.args.term.now in
-    let nameless : is_nameless s ≡ true = sym (arithmetic-many is_nameless true (λ o l r. refl) _ _ _ _ c.in-Arithmetic.is c.is_empty-in-Arithmetic.ensures c.if-is_empty-2.false) in
-    said-so (protocol_in c.args.unfolder.now) c.args.place s (meant ρ s) c.plain_value-in-Arithmetic.result (meant-nameless ρ s nameless) c.plain_value-in-Arithmetic.ensures.refused
+pub returns-else-is_empty-2 : goal.returns-else-is_empty-2
+returns-else-is_empty-2 t c =
+    let nameless = sym (arithmetic-many is_nameless true (λ o l r. refl) _ _ _ _ c.in-Arithmetic.is c.is_empty-in-Arithmetic.ensures c.if-is_empty-2.false) in
+    record {
+      value = plain-value c.args.unfolder.now c.args.scope.now _ c.plain_value-in-Arithmetic.result nameless c.plain_value-in-Arithmetic.ensures.value;
+      refused = plain-refused c.args.unfolder.now c.args.scope.now c.args.place _ c.plain_value-in-Arithmetic.result nameless c.plain_value-in-Arithmetic.ensures.refused;
+    }
