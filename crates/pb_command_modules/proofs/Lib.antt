@@ -1,2 +1,3 @@
 pub mod Deliveries
 mod Refusals
+mod Texts

@@ -1,5 +1,6 @@
 -- How a text comes to the sink of a call of the program.
-use Rattle.std.specs.Prelude.{ℕ, Bool, true, false, List, Option, Result}
+use Rattle.std.specs.Prelude.{ℕ, Bool, true, false, List, Result}
+use Rattle.pb_sorts.specs.declared.sink.Sink.{Ghosts}
 use Rattle.pb_report.specs.Delivery as delivery
 use Rattle.pb_command_faults.specs.declared.solve_error.SolveError.{SolveError}
 use Rattle.pb_command_faults.specs.declared.solve_error.SolveError.TheVariants.{Write}
@@ -9,8 +10,8 @@ abbrev pub is_failed_write : SolveError → Bool
 is_failed_write (Write _) = true
 is_failed_write _ = false
 
--- a text of which this is known was appended, or an error left what it leaves
-abbrev pub Delivers : {S T : Type 0} → ((List ℕ → Type 0) → Type 0) → Result T SolveError
-    → (S → Option (List ℕ)) → (S → Bool) → (old new : S) → Type 0
-Delivers For result taken has_failed old new =
-    delivery.Delivers is_failed_write For result taken has_failed old new
+-- a text that may be written was appended, or an error left what it leaves
+abbrev pub Delivers : {S T : Type 0} → (List ℕ → Type 0) → Result T SolveError → Ghosts S
+    → (old new : S) → Type 0
+Delivers IsWritten result sink old new =
+    delivery.Delivers is_failed_write IsWritten result sink old new

@@ -1,4 +1,4 @@
 pub mod Answers
 pub mod Delivery
-pub mod Outputs
 pub mod Refusals
+pub mod Writes

@@ -8,8 +8,7 @@ ghost use Rattle.pb_bytecode.specs.Decoded.{module_contents};
 ghost use Rattle.pb_command_modules.specs.Answers.{IsAnswerOfCode, IsModuleOfCode, Spell};
 ghost use Rattle.pb_command_modules.specs.Delivery.{Delivers};
 ghost use Rattle.pb_command_modules.specs.Refusals.{IsRefusedBytes, IsUnlisted, IsUnverified};
-ghost use Rattle.pb_command_modules.specs.Outputs.{OutputsAcceptance, OutputsAnswer};
-ghost use Rattle.pb_command_modules.specs.Outputs.{OutputsListing};
+ghost use Rattle.pb_command_modules.specs.Writes.{WritesAcceptance, WritesAnswer, WritesListing};
 
 use crate::delivery::deliver;
 use crate::module::write_report;
@@ -65,8 +64,7 @@ pub fn solve_code<R: Threads + Sync, G: Gate + Sync, S: Sink>(
     ensures answer { IfOk result (IsAnswerOfCode bytes.now) }
     ensures report { IfOk result
         (λ answer. Appends (S.taken writer.old) (S.taken writer.new) (report_text answer)) }
-    ensures written { Delivers (OutputsAnswer bytes.now) result
-        S.taken S.has_failed writer.old writer.new }
+    ensures written { Delivers (WritesAnswer bytes.now) result S.Sink writer.old writer.new }
     ensures refused { IfInputRefused result (IsRefusedBytes bytes.now) }
 {
     let verified = verified_code(context.alloc, bytes)?;
@@ -80,8 +78,7 @@ pub fn solve_code<R: Threads + Sync, G: Gate + Sync, S: Sink>(
 /// and where; `Memory` comes where a request for memory was refused, and `Write` where the text
 /// could not be written whole.
 pub fn verify_code<S: Sink>(alloc: Global, bytes: &[u8], writer: &mut S) -> Result<(), SolveError>
-    ensures accepted { Delivers (OutputsAcceptance bytes.now) result
-        S.taken S.has_failed writer.old writer.new }
+    ensures accepted { Delivers (WritesAcceptance bytes.now) result S.Sink writer.old writer.new }
     ensures refused { IfInputRefused result (IsUnverified bytes.now) }
 {
     let _verified = verified_code(alloc, bytes)?;
@@ -94,8 +91,7 @@ pub fn verify_code<S: Sink>(alloc: Global, bytes: &[u8], writer: &mut S) -> Resu
 /// `Module` says what is wrong with the bytes and where; `Memory` comes where a request for memory
 /// was refused, and `Write` where the listing could not be written whole.
 pub fn list_code<S: Sink>(alloc: Global, bytes: &[u8], writer: &mut S) -> Result<(), SolveError>
-    ensures listed { Delivers (OutputsListing bytes.now) result
-        S.taken S.has_failed writer.old writer.new }
+    ensures listed { Delivers (WritesListing bytes.now) result S.Sink writer.old writer.new }
     ensures refused { IfInputRefused result (IsUnlisted bytes.now) }
 {
     let module = decoded(alloc, bytes)?;

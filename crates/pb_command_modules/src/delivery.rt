@@ -10,7 +10,7 @@ use pb_sorts::{Sink, put};
 /// # Errors
 /// `Write` where it could not be written whole.
 pub fn deliver<S: Sink>(text: &[u8], writer: &mut S) -> Result<(), SolveError>
-    ensures text { Delivers (λ P. P text.now) result S.taken S.has_failed writer.old writer.new }
+    ensures text { Delivers (λ t. t ≡ text.now) result S.Sink writer.old writer.new }
     ensures failed { IfErr result (λ e. e ≡ SolveError.Write (record {})) }
 {
     match put(text, writer) {

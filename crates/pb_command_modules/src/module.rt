@@ -7,21 +7,25 @@ ghost use Rattle.std.specs.Io.KnownBytes.{Appends};
 ghost use Rattle.pb_text_tree.specs.declared.place.Place.{Place};
 ghost use Rattle.pb_report.specs.Report.{report_text};
 ghost use Rattle.pb_report.specs.CallPlaces.{AreCallPlaces};
-ghost use Rattle.pb_report.specs.ModuleEvidence.{ForEvidenceText, IsExplanation};
+ghost use Rattle.pb_report.specs.ModuleEvidence.{IsExplanation};
 ghost use Rattle.pb_command_solver.specs.Answers.{IsAnswerOf};
-ghost use Rattle.pb_command_solver.specs.Texts.{ForCertificateText, ForGameText, ForSolutionText};
 ghost use Rattle.pb_command_modules.specs.Delivery.{Delivers};
 ghost use Rattle.pb_command_modules.specs.Refusals.{IsRefusedModule};
-ghost use Rattle.pb_command_modules.specs.Outputs.{ForReport};
+ghost use Rattle.pb_command_modules.specs.Writes.{WritesCertificate, WritesEvidence, WritesGame};
+ghost use Rattle.pb_command_modules.specs.Writes.{WritesReport, WritesSolution};
 
 use pb_base::OrMemory;
 use pb_command_faults::{SolveError, SolveFault};
 use pb_command_solver::{
     Context, SolveOptions, answer_module, build_module, explain_module, solve_module,
-    write_explanation,
 };
 use pb_exploration::Gate;
 use pb_game::Solver;
+use pb_machine::instances_have_trees;
+use pb_report::certificate_text::certificate_text;
+use pb_report::evidence_text::evidence_text;
+use pb_report::game_text::game_text;
+use pb_report::solution_text::solution_text;
 use pb_report::{Answer, Explanation, PlacedExplanation, report};
 use pb_sorts::Sink;
 use pb_verifier::Verified;
@@ -42,8 +46,7 @@ pub fn write_report<R: Threads + Sync, G: Gate + Sync, S: Sink>(
     ensures answer { IfOk result (IsAnswerOf verified.now) }
     ensures report { IfOk result
         (λ answer. Appends (S.taken writer.old) (S.taken writer.new) (report_text answer)) }
-    ensures written { Delivers (ForReport verified.now) result
-        S.taken S.has_failed writer.old writer.new }
+    ensures written { Delivers (WritesReport verified.now) result S.Sink writer.old writer.new }
     ensures refused { IfInputRefused result (IsRefusedModule verified.now) }
 {
     let answer = answer_module(context, verified, options)?;
@@ -62,12 +65,12 @@ pub fn write_game<R: Threads + Sync, G: Gate + Sync, S: Sink>(
     writer: &mut S,
 ) -> Result<(), SolveError>
     requires { (0 < workers) × (workers ≤ 16) }
-    ensures game { Delivers (ForGameText verified.now) result
-        S.taken S.has_failed writer.old writer.new }
+    ensures game { Delivers (WritesGame verified.now) result S.Sink writer.old writer.new }
     ensures refused { IfInputRefused result (IsRefusedModule verified.now) }
 {
-    let built = build_module(context, verified, workers)?;
-    built.write_game(context.alloc, verified, writer)?;
+    let module = build_module(context, verified, workers)?;
+    let reached = module.explored.rows();
+    game_text(context.alloc, verified, &module.built, reached, writer)?;
     Ok(())
 }
 
@@ -81,12 +84,13 @@ pub fn write_solution<R: Threads + Sync, G: Gate + Sync, S: Sink>(
     options: SolveOptions,
     writer: &mut S,
 ) -> Result<(), SolveError>
-    ensures solution { Delivers (ForSolutionText verified.now) result
-        S.taken S.has_failed writer.old writer.new }
+    ensures solution { Delivers (WritesSolution verified.now) result
+        S.Sink writer.old writer.new }
     ensures refused { IfInputRefused result (IsRefusedModule verified.now) }
 {
-    let solved = solve_module(context, verified, options)?;
-    solved.write_solution(context.alloc, verified, writer)?;
+    let module = solve_module(context, verified, options)?;
+    let reached = module.explored.rows();
+    solution_text(context.alloc, verified, &module.solved, reached, writer)?;
     Ok(())
 }
 
@@ -101,12 +105,14 @@ pub fn write_certificate<R: Threads + Sync, G: Gate + Sync, S: Sink>(
     options: SolveOptions,
     writer: &mut S,
 ) -> Result<(), SolveError>
-    ensures certificate { Delivers (ForCertificateText verified.now) result
-        S.taken S.has_failed writer.old writer.new }
+    ensures certificate { Delivers (WritesCertificate verified.now) result
+        S.Sink writer.old writer.new }
     ensures refused { IfInputRefused result (IsRefusedModule verified.now) }
 {
-    let solved = solve_module(context, verified, options)?;
-    solved.write_certificate(context.alloc, verified, writer)?;
+    let module = solve_module(context, verified, options)?;
+    let game = &module.solved.built.game;
+    let certificate = module.solved.certified.solution();
+    certificate_text(context.alloc, game, certificate, writer)?;
     Ok(())
 }
 
@@ -147,10 +153,10 @@ pub fn write_evidence<S: Sink>(
         × AreCallPlaces place placed.now.explanation.now.evidence placed.now.call_places.now }
     ensures evidence { (place : ℕ → ℕ → Option Place)
         → AreCallPlaces place placed.now.explanation.now.evidence placed.now.call_places.now
-        → Delivers (ForEvidenceText verified.now place) result
-        S.taken S.has_failed writer.old writer.new }
+        → Delivers (WritesEvidence verified.now place) result S.Sink writer.old writer.new }
     ensures refused { IfInputRefused result (IsRefusedModule verified.now) }
 {
-    write_explanation(alloc, verified, placed, writer)?;
+    instances_have_trees(verified);
+    evidence_text(alloc, verified, placed, writer)?;
     Ok(())
 }

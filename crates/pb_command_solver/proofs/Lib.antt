@@ -1,5 +1,4 @@
-mod Rows
-mod Texts
+pub mod Rows
 mod Answered
 mod Parts
 pub mod Results

@@ -58,9 +58,9 @@ module _ (m : Contents) (rows : List TokenRow) (some : ModuleHasTrees m) (b : Bo
         explains (map signature_of m.equations) trees (initial_of m) (module_rows m rows rows refl explored trees have) (game_of_all explored trees have)
 
 -- evidence of a part that is enough is evidence of the module
-pub part_explains : (m : Contents) (s : SolvedPart) → IsSolvedPart m s → ModuleHasTrees m → AssumedIsShown → (x : Explanation) → ExplainsRows s.part.rows s.solved.built x
+pub part_explains : (m : Contents) (s : SolvedPart) → IsSolvedPart m s → AssumedIsShown → (x : Explanation) → ExplainsRows s.part.rows s.solved.built x
     → IsExplanation m x
-part_explains m s is some law x explains = elim is.enough [
-  | inl whole ↦ shown_by_all m s.part.rows some s.part.truth is.part.assumed s.solved.built is.game (is.part.whole whole) x explains
-  | inr truth ↦ shown_by_part m s.part.rows some s.part.truth is.part.assumed s.solved.built is.game law truth x explains
+part_explains m s is law x explains = elim is.enough [
+  | inl whole ↦ shown_by_all m s.part.rows is.trees s.part.truth is.part.assumed s.solved.built is.game (is.part.whole whole) x explains
+  | inr truth ↦ shown_by_part m s.part.rows is.trees s.part.truth is.part.assumed s.solved.built is.game law truth x explains
 ]

@@ -1,13 +1,13 @@
 -- What the answer to a module is. The trees that its instances have are determined by the module,
 -- and there are such trees (`meaning_is_unique` and `instances_have_trees` of pb_machine); a fact
--- about them is said of whichever trees they have.
+-- about them is said of whichever trees they have. What is made of a module says that it has trees.
 use Rattle.std.specs.Prelude.{◌≡◌, ⊤, ℕ, Bool, ◌<◌, ◌≤◌, List, Option, Some, None}
 use Rattle.pb_fixpoint_trees.specs.Tree.{Tree}
 use Rattle.pb_fixpoint_rows.specs.Row.{TokenRow}
 use Rattle.pb_bytecode.specs.Contents.{Contents}
 use Rattle.pb_bytecode.specs.Meaning.{AreTrees, answer}
 use Rattle.pb_exploration.specs.Rows.{AreReached, AreExploredRows}
-use Rattle.pb_game_of_trees.specs.Explored.{IsModuleGame}
+use Rattle.pb_game_of_trees.specs.Explored.{ModuleHasTrees, IsModuleGame}
 use Rattle.pb_report.specs.declared.answer.Answer.{Answer}
 use Rattle.pb_report.specs.ModuleTexts.{answer_for}
 use Rattle.pb_command_solver.specs.declared.built_module.BuiltModule.{BuiltModule}
@@ -55,10 +55,12 @@ IsTooLarge m = (trees : ℕ → Tree) → AreTrees m trees → IsTooLargeUnder m
 
 -- the rows are the module's reached instances, and the game is that of these
 pub record IsBuiltModule (m : Contents) (b : BuiltModule) : Type 0 where
+  pub trees : ModuleHasTrees m
   pub explored : AreExploredRows m b.explored
   pub game : IsModuleGame m b.explored b.built
 
 -- the same, where the game is solved
 pub record IsSolutionOf (m : Contents) (s : SolvedModule) : Type 0 where
+  pub trees : ModuleHasTrees m
   pub explored : AreExploredRows m s.explored
   pub game : IsModuleGame m s.explored s.solved.built

@@ -7,6 +7,7 @@ use Rattle.pb_bytecode.specs.Contents.{Contents}
 use Rattle.pb_bytecode.specs.Meaning.{signature_of, initial_of}
 use Rattle.pb_exploration.specs.Rows.{AreExploredRows}
 use Rattle.pb_game_of_trees.specs.declared.tree_game.TreeGame.{TreeGame}
+use Rattle.pb_game_of_trees.specs.Explored.{ModuleHasTrees}
 use Rattle.pb_game_of_trees.specs.TreeGame.{IsGameOf, IsTreeGame}
 use Rattle.pb_evidence_nearby.specs.Around.{AreAssumedRows}
 use Rattle.pb_command_solver.specs.declared.part.Part.{Part}
@@ -28,6 +29,7 @@ IsTruthIn built truth =
 -- the game is that of the part's rows; these are all that are reached, or the initial instance has
 -- the part's truth value in it
 pub record IsSolvedPart (m : Contents) (s : SolvedPart) : Type 0 where
+  pub trees : ModuleHasTrees m
   pub part : IsPart m s.part
   pub game : IsGameOf (map signature_of m.equations) s.part.rows (initial_of m) s.solved.built
   pub enough : (s.part.is_whole ≡ true) ⊎ IsTruthIn s.solved.built s.part.truth

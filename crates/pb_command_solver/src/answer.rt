@@ -8,7 +8,6 @@ use crate::context::Context;
 use crate::options::SolveOptions;
 use pb_exploration::Gate;
 use pb_game_of_trees::BuildError;
-use pb_machine::instances_have_trees;
 use pb_report::Answer;
 use pb_report::cut_calls::count_cut;
 use pb_verifier::Verified;
@@ -29,7 +28,6 @@ pub fn answer_module<R: Threads + Sync, G: Gate + Sync>(
     ensures answer { IfOk result (IsAnswerOf verified.now) }
     ensures too_many { OnRefused result (IsTooLarge verified.now) }
 {
-    instances_have_trees(verified);
     match build_module(context, verified, options.workers) {
         Ok(BuiltModule { explored, built }) => {
             let cut = count_cut(explored.rows());

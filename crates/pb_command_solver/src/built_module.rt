@@ -1,14 +1,11 @@
-//! Modules whose game is built: what is solved, whether its rows are kept behind it or not, and
-//! what can be written of it before anybody solves it.
+//! Modules whose game is built: what is solved, whether its rows are kept behind it or not.
 ghost use Rattle.std.specs.Prelude.{◌≡◌, ◌<◌, ◌≤◌, IfOk};
 ghost use Rattle.pb_base.specs.OrMemory.{OnRefused};
 ghost use Rattle.pb_exploration.specs.Rows.{AreExploredRows};
 ghost use Rattle.pb_game.specs.Certificates.{IsCertificate};
 ghost use Rattle.pb_command_solver.specs.Lifting.{IsLiftedOrNone};
-ghost use Rattle.pb_report.specs.Delivery.{Delivers, is_failed};
 ghost use Rattle.pb_game.specs.declared.solver.Solver.TheVariants.{Lift};
 ghost use Rattle.pb_command_solver.specs.Answers.{IsBuiltModule, IsTooLarge};
-ghost use Rattle.pb_command_solver.specs.Texts.{ForGameText};
 
 use crate::context::Context;
 use crate::options::SolveOptions;
@@ -16,9 +13,6 @@ use crate::solve;
 use pb_exploration::{Explored, Gate, explore};
 use pb_game_of_trees::{BuildError, Solved, TreeGame, build};
 use pb_machine::instances_have_trees;
-use pb_report::WriteError;
-use pb_report::game_text::game_text;
-use pb_sorts::Sink;
 use pb_verifier::Verified;
 use std::alloc::{AllocError, Global};
 use std::thread::Threads;
@@ -66,27 +60,6 @@ pub fn build_explored(
     match build(alloc, verified, explored.rows()) {
         Ok(built) => Ok(BuiltModule { explored, built }),
         Err(error) => Err(error),
-    }
-}
-
-impl BuiltModule {
-    /// Appends the game of the reached instances, in the form that PGSolver reads.
-    ///
-    /// # Errors
-    /// `Memory` before the first byte. After `Failed` a part that begins the text, and not the
-    /// whole of it, went out.
-    pub fn write_game<S: Sink>(
-        &self,
-        alloc: Global,
-        verified: &Verified,
-        sink: &mut S,
-    ) -> Result<(), WriteError>
-        requires { IsBuiltModule verified.now self.now }
-        ensures { Delivers is_failed (ForGameText verified.now) result
-            S.taken S.has_failed sink.old sink.new }
-    {
-        instances_have_trees(verified);
-        game_text(alloc, verified, &self.built, self.explored.rows(), sink)
     }
 }
 

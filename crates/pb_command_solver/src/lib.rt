@@ -17,7 +17,7 @@ pub use answer::answer_module;
 pub use built_module::{BuiltModule, build_explored, build_module};
 pub use context::Context;
 pub use early::{Early, answer_early};
-pub use explanation::{explain_module, write_explanation};
+pub use explanation::explain_module;
 pub use options::SolveOptions;
 pub use solved_module::{SolvedModule, solve_module};
 pub use solver::solve;

@@ -145,7 +145,6 @@ impl SolvedPart {
         requires { IsSolvedPart verified.now self.now }
         ensures { IfOk result (IsExplanation verified.now) }
     {
-        instances_have_trees(verified);
         pb_evidence::assumed_is_shown();
         evidence_of_rows(alloc, &self.solved, &self.part.rows)
     }
@@ -156,7 +155,6 @@ impl SolvedPart {
         requires whole { self.now.part.is_whole ≡ true }
         ensures { IsAnswerOf verified.now result }
     {
-        instances_have_trees(verified);
         let cut = count_cut(&self.part.rows);
         Answer {
             truth: self.solved.truth(),

@@ -8,6 +8,7 @@ pub mod Cutting
 pub mod Assumed
 pub mod Delivery
 pub mod Sending
+pub mod Buffered
 pub mod Commas
 pub mod Underway
 pub mod Names
@@ -15,4 +16,5 @@ pub mod VertexLines
 pub mod ReachedGames
 pub mod Cut
 pub mod Solutions
+pub mod OneSolution
 pub mod Certificates

@@ -19,8 +19,9 @@ use Rattle.pb_evidence.proofs.Finding.{contains_at}
 use Rattle.pb_report.specs.declared.module_evidence.Explanation.{Explanation}
 use Rattle.pb_report.specs.Cuts.{is_cut}
 use Rattle.pb_report.specs.CallPlaces.{AreCallPlaces, placed_names}
-use Rattle.pb_report.specs.EvidenceText.{dependency_text, dependencies_text}
-use Rattle.pb_report.specs.ModuleEvidence.{IsExplanation}
+use Rattle.pb_report.specs.EvidenceText.{dependency_text, dependencies_text, evidence_line, evidence_lines}
+use Rattle.pb_report.specs.Report.{truth_line}
+use Rattle.pb_report.specs.ModuleEvidence.{IsExplanation, module_evidence_text}
 use Rattle.pb_report.specs.ModuleLines.{evidence_line_of, evidence_lines_of}
 
 pub next_dependency : (name : ℕ → List ℕ) (ns : List ℕ) (ps : List (Option Place)) (k : ℕ) → k < length ns →
@@ -44,6 +45,16 @@ placed_is name place (n ∷ ns) ps are =
 pub next_line : (m : Contents) (trees : ℕ → Tree) (place : ℕ → ℕ → Option Place) (e : Evidence) (ns : List ℕ) (k : ℕ) → k < length ns →
     evidence_lines_of m trees place e (drop k ns) ≡ evidence_line_of m trees place e (get_or ns k 0) ++ evidence_lines_of m trees place e (drop (k + 1) ns)
 next_line m trees place e ns k l = ap (evidence_lines_of m trees place e) (drop_more ns k 0 l)
+
+-- lines with the same marks of cuts
+same_lines : (name : ℕ → List ℕ) (place : ℕ → ℕ → Option Place) (truth : Bool) (dependencies : ℕ → List ℕ) (f h : ℕ → Bool) (ns : List ℕ) → map f ns ≡ map h ns
+    → evidence_lines name place truth dependencies f ns ≡ evidence_lines name place truth dependencies h ns
+same_lines name place truth dependencies f h [] e = refl
+same_lines name place truth dependencies f h (n ∷ ns) e =
+    let here : f n ≡ h n = cc e in
+    let behind : map f ns ≡ map h ns = cc e in
+    ap (λ (b : Bool). evidence_line name (place n) truth n (dependencies n) b ++ evidence_lines name place truth dependencies f ns) here
+    ∙ ap (λ (text : List ℕ). evidence_line name (place n) truth n (dependencies n) (h n) ++ text) (same_lines name place truth dependencies f h ns behind)
 
 module _ (m : Contents) (have : ModuleHasTrees m) (x : Explanation) (is : IsExplanation m x) where
   abbrev e : Evidence
@@ -89,3 +100,9 @@ module _ (m : Contents) (have : ModuleHasTrees m) (x : Explanation) (is : IsExpl
   cut_at trees are k l =
       ap (λ (cs : List Bool). get_or cs k false) (is trees are).cuts
       ∙ get_or-map (is_cut trees e) e.instances.items k 0 false l
+
+  -- the text is the same whichever trees the module's instances have
+  pub one_text : (place : ℕ → ℕ → Option Place) (s t : ℕ → Tree) → AreTrees m s → AreTrees m t → module_evidence_text m s place e ≡ module_evidence_text m t place e
+  one_text place s t has are =
+      ap (λ (lines : List ℕ). truth_line e.truth ++ lines)
+      (same_lines (instance_name m) place e.truth (graph_of e).dependencies (is_cut s e) (is_cut t e) e.instances.items (sym (is s has).cuts ∙ (is t are).cuts))

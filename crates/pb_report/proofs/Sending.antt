@@ -8,8 +8,7 @@ use Rattle.std.proofs.Math.Seq.{take-append-add}
 use Rattle.pb_sorts.specs.Sink.{AppendsPrefix}
 use Rattle.pb_sorts.specs.declared.sink.E02.{E02}
 use Rattle.pb_sorts.specs.declared.sink.Sink.{Ghosts}
-use Rattle.pb_report.specs.Delivery.{Delivers}
-use Rattle.pb_report.specs.Sending.{IsSent, ForBuffered, Sends, is_failed_put}
+use Rattle.pb_report.specs.Sending.{IsSent, PassesOn, Sends}
 use Rattle.pb_report.specs.declared.buffer.TextWriter.{TextWriter}
 
 -- a part that begins a text begins each longer one
@@ -33,48 +32,44 @@ after_sent a b c sent ys out h =
 regrouped : (sent q p A B : List ℕ) → sent ++ q ≡ p ++ A → sent ++ (q ++ B) ≡ p ++ (A ++ B)
 regrouped sent q p A B e = sym (append_assoc sent q B) ∙ (ap (λ (zs : List ℕ). zs ++ B) e ∙ append_assoc p A B)
 
-pub prefix_after : (a b c : Option (List ℕ)) (p q A B : List ℕ) → IsSent (Appends a b) p q A → AppendsPrefix b c (q ++ B) → AppendsPrefix a c (p ++ (A ++ B))
+pub prefix_after : (a b c : Option (List ℕ)) (p q A B : List ℕ) → IsSent a b p q A → AppendsPrefix b c (q ++ B) → AppendsPrefix a c (p ++ (A ++ B))
 prefix_after a b c p q A B is h =
     subst (AppendsPrefix a c) (regrouped is.sent q p A B is.rest) (after_sent a b c is.sent (q ++ B) is.went_out h)
 
-pub sent_after : (a b c : Option (List ℕ)) (p q s A B : List ℕ) → IsSent (Appends a b) p q A → IsSent (Appends b c) q s B → IsSent (Appends a c) p s (A ++ B)
+pub sent_after : (a b c : Option (List ℕ)) (p q s A B : List ℕ) → IsSent a b p q A → IsSent b c q s B → IsSent a c p s (A ++ B)
 sent_after a b c p q s A B x y = record {
   sent = x.sent ++ y.sent;
   went_out = Appends-trans a b c x.sent y.sent x.went_out y.went_out;
   rest = append_assoc x.sent y.sent s ∙ (ap (λ (zs : List ℕ). x.sent ++ zs) y.rest ∙ regrouped x.sent q p A B x.rest);
 }
 
-module _ {S T : Type 0} (taken : S → Option (List ℕ)) (has_failed : S → Bool) where
-  -- what a call delivers of a text through a buffer that held `before` and holds `after`
-  abbrev pub DeliversText : Result T E02 → S → S → List ℕ → List ℕ → List ℕ → Type 0
-  DeliversText r a b before after text = Delivers is_failed_put (ForBuffered r before after text) r taken has_failed a b
-
+module _ {S T : Type 0} (sink : Ghosts S) where
   -- one piece was sent, and then another one is
-  pub delivers_then : (r : Result T E02) (a b c : S) (p q s A B : List ℕ) → IsSent (Appends (taken a) (taken b)) p q A × (has_failed b ≡ has_failed a)
-      → DeliversText r b c q s B → DeliversText r a c p s (A ++ B)
-  delivers_then (Ok x) a b c p q s A B first second = (sent_after (taken a) (taken b) (taken c) p q s A B first.0 second.0, second.1 ∙ first.1)
-  delivers_then (Err x) a b c p q s A B first second = (prefix_after (taken a) (taken b) (taken c) p q A B first.0 second.0, second.1)
+  pub passes_then : (r : Result T E02) (a b c : S) (p q s A B : List ℕ) → IsSent (sink.taken a) (sink.taken b) p q A × (sink.has_failed b ≡ sink.has_failed a)
+      → PassesOn q s B r sink b c → PassesOn p s (A ++ B) r sink a c
+  passes_then (Ok x) a b c p q s A B first second = (sent_after (sink.taken a) (sink.taken b) (sink.taken c) p q s A B first.0 second.0, second.1 ∙ first.1)
+  passes_then (Err x) a b c p q s A B first second = (prefix_after (sink.taken a) (sink.taken b) (sink.taken c) p q A B first.0 second.0, second.1)
 
   -- a piece is not sent, so neither is what follows it
-  pub delivers_err : (r : Result T E02) (a b : S) (p s A B : List ℕ) → IsErr r → AppendsPrefix (taken a) (taken b) (p ++ A) × (has_failed b ≡ true)
-      → DeliversText r a b p s (A ++ B)
-  delivers_err (Ok x) a b p s A B is h = cc
-  delivers_err (Err x) a b p s A B is h =
-      (subst (AppendsPrefix (taken a) (taken b)) (append_assoc p A B) (prefix_more (taken a) (taken b) (p ++ A) B h.0), h.1)
+  pub passes_err : (r : Result T E02) (a b : S) (p s A B : List ℕ) → IsErr r → AppendsPrefix (sink.taken a) (sink.taken b) (p ++ A) × (sink.has_failed b ≡ true)
+      → PassesOn p s (A ++ B) r sink a b
+  passes_err (Ok x) a b p s A B is h = cc
+  passes_err (Err x) a b p s A B is h =
+      (subst (AppendsPrefix (sink.taken a) (sink.taken b)) (append_assoc p A B) (prefix_more (sink.taken a) (sink.taken b) (p ++ A) B h.0), h.1)
 
   -- what was in the buffer, and then the text
-  pub put_both : (r : Result T E02) (a b c : S) (p after text : List ℕ) → Appends (taken a) (taken b) p → has_failed b ≡ has_failed a
-      → OnOk r (Appends (taken b) (taken c) text) → OnOk r (has_failed c ≡ has_failed b) → OnErr r (AppendsPrefix (taken b) (taken c) text) → OnErr r (has_failed c ≡ true)
-      → after ≡ [] → DeliversText r a c p after text
+  pub put_both : (r : Result T E02) (a b c : S) (p after text : List ℕ) → Appends (sink.taken a) (sink.taken b) p → sink.has_failed b ≡ sink.has_failed a
+      → OnOk r (Appends (sink.taken b) (sink.taken c) text) → OnOk r (sink.has_failed c ≡ sink.has_failed b) → OnErr r (AppendsPrefix (sink.taken b) (sink.taken c) text)
+      → OnErr r (sink.has_failed c ≡ true) → after ≡ [] → PassesOn p after text r sink a c
   put_both (Ok x) a b c p after text out same all ok part failed none = (
     record {
       sent = p ++ text;
-      went_out = Appends-trans (taken a) (taken b) (taken c) p text out all;
+      went_out = Appends-trans (sink.taken a) (sink.taken b) (sink.taken c) p text out all;
       rest = ap (λ (zs : List ℕ). (p ++ text) ++ zs) none ∙ append-nil (p ++ text);
     },
     ok ∙ same,
   )
-  put_both (Err x) a b c p after text out same all ok part failed none = (after_sent (taken a) (taken b) (taken c) p text out part, failed)
+  put_both (Err x) a b c p after text out same all ok part failed none = (after_sent (sink.taken a) (sink.taken b) (sink.taken c) p text out part, failed)
 
 module _ {S : Type 0} {members : Ghosts S} where
   -- nothing is sent
@@ -89,7 +84,7 @@ module _ {S : Type 0} {members : Ghosts S} where
       → Sends (A ++ B) r members a c
   sends_then {T} {U} {u} {r} {a} {b} {c} A B first second = record {
     same_sink = second.same_sink ∙ first.same_sink;
-    delivers = delivers_then members.taken members.has_failed r a.sink.now b.sink.now c.sink.now _ _ _ A B first.delivers second.delivers;
+    delivers = passes_then members r a.sink.now b.sink.now c.sink.now _ _ _ A B first.delivers second.delivers;
   }
 
   -- a text is not sent, so neither is what follows it
@@ -97,7 +92,7 @@ module _ {S : Type 0} {members : Ghosts S} where
       → Sends (A ++ B) r members a b
   sends_err {T} {U} {e} {r} {a} {b} A B is h = record {
     same_sink = h.same_sink;
-    delivers = delivers_err members.taken members.has_failed r a.sink.now b.sink.now _ _ A B is h.delivers;
+    delivers = passes_err members r a.sink.now b.sink.now _ _ A B is h.delivers;
   }
 
   -- the same text, otherwise written
@@ -109,13 +104,13 @@ module _ {S : Type 0} {members : Ghosts S} where
   sends_ok h = record { same_sink = h.same_sink; delivers = h.delivers }
 
 -- all that was sent through the buffer went out
-pub all_out : (a b c : Option (List ℕ)) (before after text : List ℕ) → before ≡ [] → IsSent (Appends a b) before after text → Appends b c after → Appends a c text
+pub all_out : (a b c : Option (List ℕ)) (before after text : List ℕ) → before ≡ [] → IsSent a b before after text → Appends b c after → Appends a c text
 all_out a b c before after text none is out =
     let all : is.sent ++ after ≡ text = is.rest ∙ ap (λ (zs : List ℕ). zs ++ text) none in
     subst (Appends a c) all (Appends-trans a b c is.sent after is.went_out out)
 
 -- or a part of it, where the buffer was not sent after all had come
-pub part_out : (a b c : Option (List ℕ)) (before after text : List ℕ) → before ≡ [] → IsSent (Appends a b) before after text → AppendsPrefix b c after → AppendsPrefix a c text
+pub part_out : (a b c : Option (List ℕ)) (before after text : List ℕ) → before ≡ [] → IsSent a b before after text → AppendsPrefix b c after → AppendsPrefix a c text
 part_out a b c before after text none is part =
     let all : is.sent ++ after ≡ text = is.rest ∙ ap (λ (zs : List ℕ). zs ++ text) none in
     subst (AppendsPrefix a c) all (after_sent a b c is.sent after is.went_out part)

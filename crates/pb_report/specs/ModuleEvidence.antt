@@ -35,9 +35,3 @@ abbrev pub module_evidence_text :
     Contents → (ℕ → Tree) → (ℕ → ℕ → Option Place) → Evidence → List ℕ
 module_evidence_text m trees place e =
     evidence_text (instance_name m) place e.truth (is_cut trees e) (graph_of e)
-
--- there is evidence for the truth of the module's initial instance, of whose text P holds
-abbrev pub ForEvidenceText : Contents → (ℕ → ℕ → Option Place) → (List ℕ → Type 0) → Type 0
-ForEvidenceText m place P =
-    (e : Evidence) × IsModuleEvidence m e
-    × ((trees : ℕ → Tree) → AreTrees m trees → P (module_evidence_text m trees place e))

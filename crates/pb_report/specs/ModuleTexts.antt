@@ -1,5 +1,5 @@
 -- What is printed about a module: functions of its rows and of the trees that its instances have.
-use Rattle.std.specs.Prelude.{ℕ, List, length, map}
+use Rattle.std.specs.Prelude.{◌≡◌, ℕ, List, length, map}
 use Rattle.pb_fixpoint_trees.specs.Tree.{Tree}
 use Rattle.pb_fixpoint_trees.specs.Equations.{solved}
 use Rattle.pb_fixpoint_trees.specs.Game.{Vertex, game_vertices}
@@ -33,9 +33,9 @@ answer_for m trees rows = record {
   vertices = length (module_vertices m trees rows);
 }
 
--- P holds of a text that the trees say, with whichever trees the module's instances have
-abbrev pub ForTrees : Contents → ((ℕ → Tree) → List ℕ) → (List ℕ → Type 0) → Type 0
-ForTrees m text P = (trees : ℕ → Tree) → AreTrees m trees → P (text trees)
+-- the text that the trees say, whichever the module's instances have
+abbrev pub IsTextOfTrees : Contents → ((ℕ → Tree) → List ℕ) → List ℕ → Type 0
+IsTextOfTrees m text written = (trees : ℕ → Tree) → AreTrees m trees → written ≡ text trees
 
 -- the game of the reached instances, the sinks and the instances by name
 abbrev pub module_game_text : Contents → (ℕ → Tree) → List TokenRow → List ℕ
@@ -49,12 +49,12 @@ module_solution_text m trees rows =
     solution_text (instance_name m) (solved (map signature_of m.equations) trees)
     (rows_of trees rows)
 
--- A certificate of the game whose vertices, by the same numbers, are those of `module_game_text`: a
--- winner for each, a strategy for each winner, and progress measures. P holds of its text.
-pub record HasCertificateText (m : Contents) (trees : ℕ → Tree) (rows : List TokenRow)
-    (P : List ℕ → Type 0) : Type 0 where
+-- The text of a certificate of the game whose vertices, by the same numbers, are those of
+-- `module_game_text`: a winner for each, a strategy for each winner, and progress measures.
+pub record IsCertificateText (m : Contents) (trees : ℕ → Tree) (rows : List TokenRow)
+    (written : List ℕ) : Type 0 where
   pub game : Game
   pub vertices : HasVertices game (module_vertices m trees rows)
   pub solution : Solution
   pub certificate : IsCertificate game solution
-  pub text : P (certificate_text game solution)
+  pub text : written ≡ certificate_text game solution

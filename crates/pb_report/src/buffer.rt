@@ -56,8 +56,7 @@ pub struct TextWriter<'a, S> {
 
 impl<S: Sink> TextWriter<'_, S> {
     ghost use Rattle.std.specs.Fmt.{signed_decimal};
-    ghost use Rattle.pb_report.specs.Delivery.{Delivers};
-    ghost use Rattle.pb_report.specs.Sending.{Sends, is_failed_put};
+    ghost use Rattle.pb_report.specs.Sending.{GoOut, Sends};
 
     /// Sends text after that which is in the buffer.
     pub fn write(&mut self, text: &[u8]) -> Result<(), E02>
@@ -94,8 +93,8 @@ impl<S: Sink> TextWriter<'_, S> {
     /// Sends what is in the buffer.
     pub fn finish(&mut self) -> Result<(), E02>
         ensures same_sink { self.new.sink.ghost_name ≡ self.old.sink.ghost_name }
-        ensures written { Delivers is_failed_put (λ P. P self.old.buffer.now.bytes.items) result
-            S.taken S.has_failed self.old.sink.now self.new.sink.now }
+        ensures written { GoOut self.old.buffer.now.bytes.items result S.Sink
+            self.old.sink.now self.new.sink.now }
         ensures empty { OnOk result (self.new.buffer.now.bytes.items ≡ []) }
     {
         let buffer = &mut *self.buffer;

@@ -112,8 +112,8 @@ pub fn certificate_text<S: Sink>(
     sink: &mut S,
 ) -> Result<(), WriteError>
     requires lengths { HasLengths game.now solution.now }
-    ensures { Delivers is_failed (λ P. P (certificate_text game.now solution.now)) result
-        S.taken S.has_failed sink.old sink.new }
+    ensures { Delivers is_failed (λ text. text ≡ certificate_text game.now solution.now) result
+        S.Sink sink.old sink.new }
 {
     let mut buffer = TextBuffer::new(alloc)?;
     let mut writer = TextWriter {

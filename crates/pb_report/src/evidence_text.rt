@@ -15,7 +15,7 @@ ghost use Rattle.pb_report.specs.EvidenceText.{cut_mark, line_tail};
 ghost use Rattle.pb_report.specs.CallPlaces.{AreCallPlaces, placed_names};
 ghost use Rattle.pb_report.specs.ModuleLines.{evidence_line_at, evidence_lines_of};
 ghost use Rattle.pb_report.specs.ModuleEvidence.{IsExplanation, module_evidence_text};
-ghost use Rattle.pb_report.specs.ModuleTexts.{ForTrees};
+ghost use Rattle.pb_report.specs.ModuleTexts.{IsTextOfTrees};
 
 use crate::answer::write_answer;
 use crate::instance_name::write_instance_name;
@@ -229,9 +229,9 @@ pub fn evidence_text<S: Sink>(
         × AreCallPlaces place placed.now.explanation.now.evidence placed.now.call_places.now }
     ensures { (place : ℕ → ℕ → Option Place)
         → AreCallPlaces place placed.now.explanation.now.evidence placed.now.call_places.now
-        → Delivers is_failed (ForTrees verified.now (λ trees.
+        → Delivers is_failed (IsTextOfTrees verified.now (λ trees.
         module_evidence_text verified.now trees place placed.now.explanation.now.evidence)) result
-        S.taken S.has_failed sink.old sink.new }
+        S.Sink sink.old sink.new }
 {
     let mut buffer = TextBuffer::new(alloc)?;
     let mut writer = TextWriter {

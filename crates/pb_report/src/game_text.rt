@@ -5,7 +5,7 @@ ghost use Rattle.pb_sorts.specs.Layout.{count_of};
 ghost use Rattle.pb_bytecode.specs.Meaning.{parameters};
 ghost use Rattle.pb_game.specs.Games.{vertex_count, successors_of};
 ghost use Rattle.pb_game_of_trees.specs.Explored.{ModuleHasTrees, AreModuleRows, IsModuleGame};
-ghost use Rattle.pb_report.specs.ModuleTexts.{module_game_text, ForTrees};
+ghost use Rattle.pb_report.specs.ModuleTexts.{module_game_text, IsTextOfTrees};
 ghost use Rattle.pb_report.specs.Delivery.{Delivers, is_failed};
 ghost use Rattle.pb_report.specs.Sending.{Sends};
 ghost use Rattle.pb_report.specs.InstanceName.{instance_name};
@@ -177,9 +177,9 @@ fn write_text<S: Sink>(
     requires edges { (v : ℕ) → v < vertex_count game.now → 0 < length (successors_of game.now v) }
     requires numbers { (v : ℕ) → IfSome (number_in placed.now.vertices.now placed.now.rows.now v)
         (λ n. n < count_of (parameters verified.now)) }
-    ensures { Delivers is_failed
-        (λ P. P (memory_text verified.now game.now placed.now.vertices.now placed.now.rows.now))
-        result S.taken S.has_failed sink.old sink.new }
+    ensures { Delivers is_failed (λ text. text
+        ≡ memory_text verified.now game.now placed.now.vertices.now placed.now.rows.now)
+        result S.Sink sink.old sink.new }
 {
     let mut buffer = TextBuffer::new(alloc)?;
     let mut writer = TextWriter {
@@ -208,8 +208,8 @@ pub fn game_text<S: Sink>(
     requires rows { AreModuleRows verified.now rows.now }
     requires game { IsModuleGame verified.now rows.now built.now }
     ensures { Delivers is_failed
-        (ForTrees verified.now (λ trees. module_game_text verified.now trees rows.now)) result
-        S.taken S.has_failed sink.old sink.new }
+        (IsTextOfTrees verified.now (λ trees. module_game_text verified.now trees rows.now)) result
+        S.Sink sink.old sink.new }
 {
     pb_fixpoint_trees::games_of_rows_are_total();
     let placed = PlacedRows {

@@ -8,7 +8,7 @@ ghost use Rattle.pb_report.specs.Delivery.{Delivers, is_failed};
 ghost use Rattle.pb_report.specs.Sending.{Sends};
 ghost use Rattle.pb_report.specs.InstanceName.{instance_name};
 ghost use Rattle.pb_report.specs.SolutionText.{truth_end, solution_line};
-ghost use Rattle.pb_report.specs.ModuleTexts.{module_solution_text, ForTrees};
+ghost use Rattle.pb_report.specs.ModuleTexts.{module_solution_text, IsTextOfTrees};
 
 use crate::buffer::{TextBuffer, TextWriter, WriteError};
 use crate::instance_name::write_instance_name;
@@ -79,8 +79,8 @@ pub fn solution_text<S: Sink>(
     requires rows { AreModuleRows verified.now rows.now }
     requires game { IsModuleGame verified.now rows.now solved.now.built }
     ensures { Delivers is_failed
-        (ForTrees verified.now (λ trees. module_solution_text verified.now trees rows.now)) result
-        S.taken S.has_failed sink.old sink.new }
+        (IsTextOfTrees verified.now (λ trees. module_solution_text verified.now trees rows.now))
+        result S.Sink sink.old sink.new }
 {
     let mut buffer = TextBuffer::new(alloc)?;
     let mut writer = TextWriter {

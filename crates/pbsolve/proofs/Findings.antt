@@ -2,7 +2,6 @@
 use Rattle.std.proofs.Common.{◌≡◌, ◌∙◌, ◌++◌, ◌+◌, ◌<◌, ℕ, Bool, List, [], ◌∷◌, Option, Some, length, map, drop, get_or, sym, ap, subst, string_bytes}
 use Rattle.std.specs.Prelude.{IfOk, Result, Ok, Err, option_map}
 use Rattle.std.specs.Result.{IsErrAnd}
-use Rattle.std.specs.Io.KnownBytes.{Appends}
 use Rattle.std.specs.Option.{option_map_or}
 use Rattle.std.specs.List.{All, slice_get}
 use Rattle.std.proofs.lemmas.List.{append_assoc, drop_more, map-append}
@@ -15,18 +14,8 @@ use Rattle.pb_base.specs.declared.or_memory.OrMemory.{OrMemory}
 use Rattle.pb_base.specs.declared.or_memory.OrMemory.TheVariants as or_memory
 use Rattle.pb_command_faults.specs.declared.solve_fault.SolveFault.{SolveFault}
 use Rattle.pb_command_faults.specs.declared.solve_fault.SolveFault.TheVariants as solve_fault
-use Rattle.pb_command_faults.specs.declared.solve_error.SolveError.{SolveError}
-use Rattle.pb_report.proofs.Delivery.{less_delivered}
-use Rattle.pb_report.specs.Delivery.{Leaves}
-use Rattle.pb_command_modules.specs.Delivery.{Delivers, is_failed_write}
-use Rattle.pb_command_line.specs.declared.options.Checking.{Checking}
-use Rattle.pb_model_properties.specs.Said.{IsModelOf}
-use Rattle.pbsolve.specs.declared.status.Status.{Status}
-use Rattle.pbsolve.specs.Outputs.{OutputsVerdicts, lines_of_steps}
-use Rattle.pbsolve.specs.declared.step_finding.StepFinding.{StepFinding}
-use Rattle.pbsolve.specs.ReachedSteps.{AreStepsFoundWhere, status_of_checked}
 use Rattle.pbsolve.specs.declared.finding.Found.{Found}
-use Rattle.pbsolve.specs.Models.{AreFound, IsUnnegated, finding_lines, found_lines, name_at}
+use Rattle.pbsolve.specs.Models.{IsUnnegated, finding_lines, found_lines, name_at}
 
 -- what holds of all holds of the one at a place
 pub at_place : {X : Type 0} (P : X → Type 0) (xs : List X) (k : ℕ) (x d : X) → k < length xs → x ≡ get_or xs k d → All P xs → P x
@@ -72,24 +61,7 @@ names_no_property bytes r is h = subst (λ x. IfRefused x (IsUnnegated bytes)) i
 
 -- ---- what is written
 
--- the lines of what is found, of whose status less is known
-pub verdicts_told : (options : Checking) (bytes : List ℕ) (A S : Status → Type 0) → ((x : Status) → A x → S x) → (lines text : List ℕ) → text ≡ lines
-    → OutputsVerdicts options bytes A (λ (t : List ℕ). lines ≡ t) → (P : List ℕ → Type 0) → P text → OutputsVerdicts options bytes S P
-verdicts_told options bytes A S less lines text same told P h = (told.0, told.1, told.2, told.3, told.4, told.5, less _ told.6, subst P (same ∙ told.7) h)
-
 -- there is no status where there is an error
 pub no_status : {T E : Type 0} (P : T → Type 0) (Q : E → Type 0) (r : Result T E) → IsErrAnd r Q → IfOk r P
 no_status P Q (Ok v) made = absurd made
 no_status P Q (Err e) made = tt
-
-module _ {S : Type 0} (taken : S → Option (List ℕ)) (has_failed : S → Bool) (For Less : (List ℕ → Type 0) → Type 0) (less : (P : List ℕ → Type 0) → For P → Less P) (old new : S) where
-  -- an error that is handed on left as much of a text of which less is known
-  pub less_left_on : {T : Type 0} (r : Result T SolveError) (e : SolveError) → IsErrAnd r (λ x. x ≡ e) → Leaves (is_failed_write e) For taken has_failed old new
-      → Delivers Less r taken has_failed old new
-  less_left_on (Ok v) e made h = absurd made
-  less_left_on {T = T} (Err x) e made h = less_delivered {T = T} is_failed_write taken has_failed For Less less old new (Err x)
-      (subst (λ (y : SolveError). Leaves (is_failed_write y) For taken has_failed old new) (sym made) h)
-
-  -- what is written whole
-  pub less_sent : For (Appends (taken old) (taken new)) × (has_failed new ≡ has_failed old) → Less (Appends (taken old) (taken new)) × (has_failed new ≡ has_failed old)
-  less_sent h = (less _ h.0, h.1)

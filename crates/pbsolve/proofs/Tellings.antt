@@ -6,9 +6,7 @@ use Rattle.std.proofs.lemmas.List.{length-map}
 use Rattle.std.specs.List.{slice_get}
 use Rattle.std.proofs.lemmas.List.{take_more}
 use Rattle.std.proofs.lemmas.Option.{slice_get_within, get_or_from_slice_get}
-use Rattle.pb_fixpoint_trees.specs.Tree.{Tree}
 use Rattle.pb_text_tree.specs.Form.{spec_form}
-use Rattle.pb_bytecode.specs.Meaning.{AreTrees}
 use Rattle.pb_model_tree.specs.Form.{ModelForm, PropertyForm}
 use Rattle.pb_protocol_tree.specs.Form as protocol_form
 use Rattle.pb_protocol_tree.specs.Form.{ProtocolForm}
@@ -30,26 +28,21 @@ use Rattle.pb_model_words.specs.Vocabulary.{Vocabulary}
 use Rattle.pbsolve.specs.declared.explained.ExplainedText.{ExplainedText}
 use Rattle.pbsolve.specs.Models.{IsUnexplained}
 use Rattle.pbsolve.specs.Outcomes.{IsExplainedText}
-use Rattle.pbsolve.specs.Why.{AreTold, IsTold, IsUnshown, IsVerdict, lines_of, shown_by, steps_of, TellAsked, told_text}
+use Rattle.pbsolve.specs.Why.{AreTold, IsTold, IsToldText, IsUnshown, IsVerdict, steps_of, TellAsked}
 use Rattle.pbsolve.proofs.Decisions.{same_at}
-use Rattle.pbsolve.proofs.Texts.{HasTrees}
 
 -- its truth is that of the property
-pub explained_truth : (model : ModelForm) (q : PropertyForm) (e : ExplainedText) → HasTrees e.verified → IsExplainedText model q e
+pub explained_truth : (model : ModelForm) (q : PropertyForm) (e : ExplainedText) → IsExplainedText model q e
     → e.explanation.evidence.truth ≡ satisfies model q.formula
-explained_truth model q e some explained =
+explained_truth model q e explained =
+    let some = explained.explanation.of_text.trees in
     (explained.explanation.explains some.0 some.1).shown.truth ∙ ((explained.explanation.of_text.says some.0 some.1).answer ∙ explained.text.decides)
 
--- the lines of an explanation of a property's text tell the property by its verdict
-abbrev pub ArePrinted : Bool → Bool → Vocabulary → ModelForm → PropertyForm → Verdict → ExplainedText → List ℕ → Type 0
-ArePrinted instances always words model q verdict e told =
-    (trees : ℕ → Tree) → AreTrees e.verified trees
-    → told ≡ told_text always q.name.text verdict (lines_of instances (shown_by words (spec_form e.typed.spec) (steps_of model) e.verified trees e.explanation.evidence))
-
 pub property_told : (instances always : Bool) (words : Vocabulary) (protocol : ProtocolForm) (model : ModelForm) (p : protocol_form.PropertyForm) (q : PropertyForm)
-    → (verdict : Verdict) → IsVerdict protocol p.formula model q verdict → (e : ExplainedText) → HasTrees e.verified → IsExplainedText model q e
-    → (told : List ℕ) → ArePrinted instances always words model q verdict e told → IsTold instances always words protocol model p q told
-property_told instances always words protocol model p q verdict is e some explained told printed = record {
+    → (verdict : Verdict) → IsVerdict protocol p.formula model q verdict → (e : ExplainedText) → IsExplainedText model q e
+    → (told : List ℕ) →
+    IsToldText instances always words q.name.text verdict (spec_form e.typed.spec) (steps_of model) e.verified e.explanation.evidence told → IsTold instances always words protocol model p q told
+property_told instances always words protocol model p q verdict is e explained told printed = record {
   verdict = verdict;
   of_verdict = is;
   text = spec_form e.typed.spec;
@@ -58,7 +51,7 @@ property_told instances always words protocol model p q verdict is e some explai
   of_text = explained.explanation.of_text;
   evidence = e.explanation.evidence;
   shown = λ trees are. (explained.explanation.explains trees are).shown;
-  exact = explained_truth model q e some explained;
+  exact = explained_truth model q e explained;
   printed = printed;
 }
 

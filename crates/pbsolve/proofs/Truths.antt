@@ -11,12 +11,12 @@ use Rattle.pbsolve.specs.declared.property_module.PropertyModule.{PropertyModule
 use Rattle.pbsolve.specs.declared.property_module.PropertyModule.TheVariants as property_module
 use Rattle.pbsolve.specs.Outcomes.{IsEarlyOf, IsPropertyModule}
 use Rattle.pbsolve.proofs.PropertyVerdicts.{property_verdict}
-use Rattle.pbsolve.proofs.Texts.{HasTrees}
 
-module _ (compiled : PropertyModule) (m : Contents) (some : HasTrees m) (same : compiled ≡ property_module.Verified m) where
+module _ (compiled : PropertyModule) (m : Contents) (same : compiled ≡ property_module.Verified m) where
   pub property_truth : (b : Bool) → IsTruthOf m b → (model : ModelForm) (p : PropertyForm) → IsPropertyModule model p compiled → b ≡ satisfies model p.formula
   property_truth b is model p h =
       let text = subst (IsPropertyModule model p) same h in
+      let some = text.2.trees in
       is some.0 some.1 ∙ ((text.2.says some.0 some.1).answer ∙ text.1.decides)
 
   -- what is told of the module early is told of the property
@@ -26,7 +26,7 @@ module _ (compiled : PropertyModule) (m : Contents) (some : HasTrees m) (same : 
   property_early (Ok (early.Shown b)) is = property_truth b is
   property_early (Ok (early.Whole a)) is = λ model p h.
       let text = subst (IsPropertyModule model p) same h in
-      property_verdict model p text.0 text.1 m some text.2 a is
+      property_verdict model p text.0 text.1 m text.2 a is
   property_early (Err e) is = tt
 
 -- the truth that is told is the property's

@@ -3,11 +3,15 @@ use Rattle.std.specs.Prelude.{◌≡◌, ◌⊎◌, ◌<◌, ℕ, Bool, true, fa
 use Rattle.std.specs.Prelude.{if◌then◌else◌, Contains, MatchOption, Option, Some, None}
 use Rattle.std.specs.List.{slice_get}
 use Rattle.pb_text_tree.specs.Form.{SpecForm}
+use Rattle.pb_text_tree.specs.declared.place.Place.{Place}
+use Rattle.pb_text_meaning.specs.Erase.{erase as erased_text}
 use Rattle.pb_sorts.specs.Instance.{Instance}
 use Rattle.pb_fixpoint_trees.specs.Tree.{Tree}
 use Rattle.pb_bytecode.specs.Contents.{Contents}
-use Rattle.pb_bytecode.specs.Meaning.{AreTrees, parameters}
-use Rattle.pb_model_tree.specs.Form.{ModelForm, PropertyForm, StepForm}
+use Rattle.pb_bytecode.specs.Meaning.{parameters}
+use Rattle.pb_assembler_modules.specs.Module.{IsCompiledModule}
+use Rattle.pb_game_of_trees.specs.Explored.{ModuleHasTrees}
+use Rattle.pb_model_tree.specs.Form.{FormulaForm, ModelForm, PropertyForm, StepForm}
 use Rattle.pb_model_meaning.specs.Erase.{erase, erased_step}
 use Rattle.pb_model_meaning.specs.Steps.{State, is_state}
 use Rattle.pb_protocol_negation.specs.Negated.{negated}
@@ -35,12 +39,14 @@ use Rattle.pb_evidence.specs.declared.Evidence.{Evidence}
 use Rattle.pb_evidence.specs.Evidence.{graph_of}
 use Rattle.pb_report.specs.declared.answer.Answer.{Answer}
 use Rattle.pb_report.specs.Cuts.{cuts_of}
+use Rattle.pb_report.specs.ModuleTexts.{IsTextOfTrees}
+use Rattle.pb_report.specs.declared.module_evidence.Explanation.{Explanation}
 use Rattle.pb_evidence_words.specs.InstanceLines.{instance_lines}
 use Rattle.pb_evidence_words.specs.WhyText.{Told, why_lines}
 use Rattle.pb_command_faults.specs.declared.solve_fault.SolveFault.{SolveFault}
 use Rattle.pb_command_faults.specs.declared.solve_fault.SolveFault.TheVariants as solve_fault
 use Rattle.pbsolve.specs.Answers.{IsModuleOfForm}
-use Rattle.pb_report.specs.ModuleEvidence.{IsModuleEvidence}
+use Rattle.pb_report.specs.ModuleEvidence.{IsExplanation, IsModuleEvidence}
 use Rattle.pbsolve.specs.Models.{IsPropertyAnswer, IsUnexplained}
 
 -- Each call of a property's text at a state is a step of the model: that at whose name it stands,
@@ -93,6 +99,20 @@ shown_by vocabulary text steps m trees e = record {
   cuts = cuts_of trees e;
 }
 
+-- the text is that of a formula of the model
+abbrev pub IsOfFormula : ModelForm → SpecForm → Type 0
+IsOfFormula model text = (here : Place) × (f : FormulaForm) × (text ≡ placed model here f)
+
+-- What is told of the module of a text: its instances have trees, and this explains it. The text is
+-- that of a formula of the model, as is the one in which every step is called.
+pub record IsTellable (model : ModelForm) (text all_steps : SpecForm) (m : Contents)
+    (x : Explanation) : Type 0 where
+  pub compiled : IsCompiledModule (erased_text text) m
+  pub trees : ModuleHasTrees m
+  pub explanation : IsExplanation m x
+  pub property : IsOfFormula model text
+  pub steps : IsOfFormula model all_steps
+
 -- the lines that show it: those of instances, or in the model's words
 abbrev pub lines_of : Bool → Told → List ℕ
 lines_of instances shown = if instances then instance_lines shown else why_lines shown
@@ -121,6 +141,13 @@ abbrev pub told_text : Bool → List ℕ → Verdict → List ℕ → List ℕ
 told_text always name verdict lines =
     verdict_line name verdict ++ (if always || not (is_true verdict) then lines else [])
 
+-- the text tells a verdict, and shows it by the lines that the module's trees say
+abbrev pub IsToldText : (instances always : Bool) → Vocabulary → List ℕ → Verdict
+    → (text steps : SpecForm) → Contents → Evidence → List ℕ → Type 0
+IsToldText instances always words name verdict text steps m e told =
+    IsTextOfTrees m (λ trees. told_text always name verdict
+    (lines_of instances (shown_by words text steps m trees e))) told
+
 -- The verdict on a property of the protocol is told. What shows whether the model satisfies it, by
 -- lines of instances or in these words, is evidence of the module of the property's text.
 pub record IsTold (instances always : Bool) (words : Vocabulary) (protocol : ProtocolForm)
@@ -135,10 +162,8 @@ pub record IsTold (instances always : Bool) (words : Vocabulary) (protocol : Pro
   pub evidence : Evidence
   pub shown : IsModuleEvidence contents evidence
   pub exact : evidence.truth ≡ satisfies model q.formula
-  pub printed : (trees : ℕ → Tree) → AreTrees contents trees
-      → told ≡ told_text always q.name.text verdict
-      (lines_of instances
-      (shown_by words text (steps_of model) contents trees evidence))
+  pub printed : IsToldText instances always words q.name.text verdict text (steps_of model)
+      contents evidence told
 
 -- each of these properties, which are those of the model, is told, in order, and shown where the
 -- verdict isn't true
@@ -168,13 +193,13 @@ TellAsked instances None words protocol model lines =
 TellAsked instances (Some name) words protocol model lines =
     IsNamedTold instances name words protocol model lines
 
--- P holds of what is told of the property of a name, or of all where none is named, of the model
--- that is solved for the bytes, by lines of instances or in the words of the protocol that they say
-abbrev pub OutputsWhy : Bool → Option (List ℕ) → List ℕ → (List ℕ → Type 0) → Type 0
-OutputsWhy instances name bytes P =
-    (model : ModelForm) × (lines : List ℕ) × (said : IsModelOf bytes model)
+-- what is told of the property of a name, or of all where none is named, of the model that is
+-- solved for the bytes, by lines of instances or in the words of the protocol that they say
+abbrev pub WritesWhy : Bool → Option (List ℕ) → List ℕ → List ℕ → Type 0
+WritesWhy instances name bytes written =
+    (model : ModelForm) × (said : IsModelOf bytes model)
     × TellAsked instances name (words_of said.protocol model said.is_for.made) said.protocol
-    model lines × P lines
+    model written
 
 -- the model isn't explained, or it has no property of the name
 abbrev pub IsUnshown : Option (List ℕ) → List ℕ → SolveFault → Type 0

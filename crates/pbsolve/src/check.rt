@@ -11,7 +11,7 @@ ghost use Rattle.pb_model_properties.specs.Said.{IsModelOf};
 ghost use Rattle.pb_model_properties.specs.Words.{impossible_in, words_in};
 ghost use Rattle.pb_command_modules.specs.Delivery.{Delivers};
 ghost use Rattle.pbsolve.specs.Models.{AreFound, IsUnchecked, found_lines};
-ghost use Rattle.pbsolve.specs.Outputs.{OutputsVerdicts};
+ghost use Rattle.pbsolve.specs.Writes.{WithStatus, WritesVerdicts};
 ghost use Rattle.pbsolve.specs.ReachedSteps.{AreStepsFoundWhere, impossible_lines};
 ghost use Rattle.pbsolve.specs.ReachedSteps.{status_of_checked, step_lines};
 
@@ -141,8 +141,8 @@ fn checked_report<R: Threads + Sync, G: Gate + Sync>(
     options: &Checking,
 ) -> Result<CheckReport, OrMemory<SolveFault>>
     requires input { length bytes.now ≤ MAX_INPUT_BYTES }
-    ensures report { IfOk result (λ report. OutputsVerdicts options.now bytes.now
-        (λ status. report.status ≡ status) (λ text. string_bytes report.lines ≡ text)) }
+    ensures report { IfOk result (λ report.
+        WritesVerdicts options.now bytes.now report.status (string_bytes report.lines)) }
     ensures refused { IfRefused result
         (IsUnchecked (map string_bytes options.now.properties.items) bytes.now) }
     ensures named { result ≡ Err (Refused NoProperty)
@@ -187,9 +187,8 @@ pub fn check_text<R: Threads + Sync, G: Gate + Sync, S: Sink>(
 ) -> Result<Status, SolveError>
     requires input { length bytes.now ≤ MAX_INPUT_BYTES }
     // The status is that of what was found.
-    ensures verdicts { Delivers
-        (OutputsVerdicts options.now bytes.now (λ status. IfOk result (λ s. s ≡ status)))
-        result S.taken S.has_failed writer.old writer.new }
+    ensures verdicts { Delivers (WithStatus result (WritesVerdicts options.now bytes.now))
+        result S.Sink writer.old writer.new }
     ensures refused { IfInputRefused result
         (IsUnchecked (map string_bytes options.now.properties.items) bytes.now) }
     ensures named { result ≡ Err (SolveError.Refused NoProperty)

@@ -16,7 +16,6 @@ use pb_command_faults::SolveFault;
 use pb_command_solver::{Context, SolveOptions};
 use pb_exploration::Gate;
 use pb_game::Solver;
-use pb_machine::instances_have_trees;
 use pb_model_properties::SolvedModel;
 use std::thread::Threads;
 
@@ -52,7 +51,6 @@ pub(crate) fn explained_finding<R: Threads + Sync, G: Gate + Sync>(
         (record { place = asked.place; finding = finding })) }
     ensures refused { IfRefused result (IsUnnegated bytes.now) }
 {
-    instances_have_trees(&explained.verified);
     if explained.explanation.evidence.truth {
         return Ok(Finding::Shown(true));
     }

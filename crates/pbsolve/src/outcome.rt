@@ -9,7 +9,6 @@ use pb_base::OrMemory;
 use pb_command_faults::PropertyExcess;
 use pb_command_solver::{Context, Early, SolveOptions, answer_early, answer_module};
 use pb_exploration::Gate;
-use pb_machine::instances_have_trees;
 use pb_report::Answer;
 use pb_verifier::Verified;
 use std::alloc::AllocError;
@@ -43,10 +42,7 @@ pub(crate) fn early_of<R: Threads + Sync, G: Gate + Sync>(
 {
     match property {
         PropertyModule::TooLarge(_) => Ok(Early::Unknown),
-        PropertyModule::Verified(verified) => {
-            instances_have_trees(verified);
-            answer_early(context, verified, options)
-        }
+        PropertyModule::Verified(verified) => answer_early(context, verified, options),
     }
 }
 
@@ -80,7 +76,6 @@ pub(crate) fn answered<R: Threads + Sync, G: Gate + Sync>(
         → IsPropertyModule model p (PropertyModule.Verified verified.now)
         → IsOutcome model p outcome) }
 {
-    instances_have_trees(verified);
     match answer_module(context, verified, options) {
         Ok(answer) => Ok(Outcome::Answered(answer)),
         Err(OrMemory::Refused(_)) => Ok(Outcome::TooLarge(PropertyExcess::Game)),

@@ -1,8 +1,6 @@
 //! The whole program: words, input, answer, exit status.
 ghost use Rattle.std.specs.Prelude.{◌≡◌, ◌≢◌, ◌≤◌, ◌⊎◌, true, [], codes, length, map, OnOk, IfErr};
 ghost use Rattle.std.specs.Prelude.{Err, IfOk, option_copied, option_map, string_bytes, vec_len};
-ghost use Rattle.std.specs.Io.KnownBytes.{Appends};
-ghost use Rattle.pb_sorts.specs.Sink.{AppendsPrefix};
 ghost use Rattle.pb_command_faults.specs.declared.fault.ProgramFault.TheVariants as fault;
 ghost use Rattle.pb_command_faults.specs.declared.solve_fault.SolveFault.TheVariants.{NoProperty};
 ghost use Rattle.pb_command_faults.specs.Errors.{IfInputRefused};
@@ -12,15 +10,19 @@ ghost use Rattle.pb_command_line.specs.Words.{property_names, task_names};
 ghost use Rattle.pb_command_line.specs.declared.request.Request.{Request};
 ghost use Rattle.pb_command_rules.specs.declared.rule.Rule.{Rule};
 ghost use Rattle.pb_command_modules.specs.Delivery.{Delivers};
-ghost use Rattle.pbsolve.specs.Outputs.{OutputsFor, IsRefusedFor};
-ghost use Rattle.pbsolve.specs.Program.{fault_status, status_of, error_line_of, AnyStatus};
-ghost use Rattle.pbsolve.specs.Program.{Answers};
+ghost use Rattle.pb_report.specs.Delivery as delivery;
+ghost use Rattle.pbsolve.specs.Status.{code_of};
+ghost use Rattle.pbsolve.specs.Writes.{IsRefusedFor, WithStatus, Writes};
+ghost use Rattle.pbsolve.specs.Program.{fault_status, status_of, error_line_of, is_answer};
+ghost use Rattle.pbsolve.specs.Program.{is_write_fault, Answers, AnswersBy, AnswersWords};
+ghost use Rattle.pbsolve.specs.Program.{BeginsAnswer};
+ghost use Rattle.pbsolve.specs.declared.status.Status.{Status};
 ghost use Rattle.pbsolve.specs.declared.status.Status.TheVariants as status;
 ghost use Rattle.pb_sorts.specs.Source.{IsLongerThan};
 ghost use Rattle.pb_base.specs.declared.or_memory.OrMemory.TheVariants.{Refused};
 ghost use Rattle.pb_base_input.specs.declared.input.InputFault.TheVariants.{Failed, TooLong};
 ghost use Rattle.pb_base_input.specs.Reading.{ReadsAtMost};
-ghost use Rattle.pbsolve.specs.Program.{IsInputOf, IsRefusedBy, LackProperty, Outputs, Refuses, Tells};
+ghost use Rattle.pbsolve.specs.Program.{IsInputOf, IsRefusedBy, LackProperty, Refuses, Tells};
 ghost use Rattle.pbsolve.specs.Program.{TellsRefusal};
 
 use crate::check::check_text;
@@ -52,8 +54,7 @@ fn task_answer<R: Threads + Sync, G: Gate + Sync, O: Sink>(
     out: &mut O,
 ) -> Result<(), SolveError>
     requires { length bytes.now ≤ MAX_INPUT_BYTES }
-    ensures written { Delivers (OutputsFor task bytes.now) result
-        O.taken O.has_failed out.old out.new }
+    ensures written { Delivers (Writes task bytes.now) result O.Sink out.old out.new }
     ensures refused { IfInputRefused result (IsRefusedFor task bytes.now) }
     ensures named { result ≡ Err (SolveError.Refused NoProperty) → task_names task ≢ [] }
 {
@@ -118,17 +119,22 @@ fn answer<R: Threads + Sync, G: Gate + Sync, O: Sink>(
     out: &mut O,
 ) -> Result<Status, SolveError>
     requires { length bytes.now ≤ MAX_INPUT_BYTES }
-    ensures written { Delivers (Outputs request bytes.now (λ status. IfOk result (λ s. s ≡ status)))
-        result O.taken O.has_failed out.old out.new }
+    ensures written { Delivers (WithStatus result (Answers request bytes.now)) result
+        O.Sink out.old out.new }
     ensures refused { IfInputRefused result (Refuses request bytes.now) }
     ensures named { result ≡ Err (SolveError.Refused NoProperty) → property_names request ≢ [] }
 {
     match request {
-        Request::Rule(rule) => deliver(rule.words().as_bytes(), out)?,
-        Request::Check(options) => return check_text(context, bytes, &options, out),
-        Request::Input(task) => task_answer(context, task, bytes, out)?,
+        Request::Rule(rule) => {
+            deliver(rule.words().as_bytes(), out)?;
+            Ok(Status::Answered)
+        }
+        Request::Check(options) => check_text(context, bytes, &options, out),
+        Request::Input(task) => {
+            task_answer(context, task, bytes, out)?;
+            Ok(Status::Answered)
+        }
     }
-    Ok(Status::Answered)
 }
 
 // The bytes that are read for a request. No input is read for what a rule says.
@@ -163,10 +169,9 @@ fn attempt<T: Threads + Sync, S: AsStr, R: Source, G: Gate + Sync, O: Sink>(
     reader: &mut R,
     out: &mut O,
 ) -> Result<Status, RunError>
-    ensures answered { IfOk result (λ status.
-        Answers (map S.text words.now) (R.left reader.old) (λ s. s ≡ status)
-        (Appends (O.taken out.old) (O.taken out.new))) }
-    ensures kept { OnOk result (O.has_failed out.new ≡ O.has_failed out.old) }
+    ensures written { delivery.Delivers is_write_fault
+        (WithStatus result (AnswersWords (map S.text words.now) (R.left reader.old))) result
+        O.Sink out.old out.new }
     ensures read { OnOk result (R.has_failed reader.new ≡ R.has_failed reader.old) }
     ensures asked { AskPlainly (map S.text words.now) →
         result ≢ Err (RunError.ProgramFault fault.U01) }
@@ -188,12 +193,6 @@ fn attempt<T: Threads + Sync, S: AsStr, R: Source, G: Gate + Sync, O: Sink>(
         ReadsAtMost MAX_INPUT_BYTES (R.left reader.old) (R.left reader.new) }
     ensures read_refused { IfErr result (λ e. e ≢ RunError.ProgramFault fault.E01 →
         R.has_failed reader.new ≡ R.has_failed reader.old) }
-    ensures write { result ≡ Err (RunError.ProgramFault fault.E02) →
-        Answers (map S.text words.now) (R.left reader.old) AnyStatus
-        (AppendsPrefix (O.taken out.old) (O.taken out.new)) }
-    ensures write_failed { result ≡ Err (RunError.ProgramFault fault.E02) →
-        O.has_failed out.new ≡ true }
-    ensures silent { IfErr result (λ e. e ≢ RunError.ProgramFault fault.E02 → out.new ≡ out.old) }
 {
     let request = request_of(context.alloc, words)?;
     let input = input_for(context.alloc, &request, reader)?;
@@ -203,7 +202,7 @@ fn attempt<T: Threads + Sync, S: AsStr, R: Source, G: Gate + Sync, O: Sink>(
 
 // What becomes of a line on standard error changes nothing.
 fn say<E: Sink>(line: &str, err: &mut E)
-    ensures { Tells (E.taken err.old) (E.taken err.new) (E.has_failed err.new) line.now }
+    ensures { Tells line.now E.Sink err.old err.new }
 {
     match put(line.as_bytes(), err) {
         Ok(()) => (),
@@ -216,8 +215,7 @@ fn say<E: Sink>(line: &str, err: &mut E)
 /// It is what the program does where it can't even have its words: `U01` where they are no text.
 pub fn tell_fault<E: Sink>(fault: ProgramFault, err: &mut E) -> Status
     ensures status { result ≡ fault_status fault }
-    ensures line { Tells (E.taken err.old) (E.taken err.new) (E.has_failed err.new)
-        (line_of fault) }
+    ensures line { Tells (line_of fault) E.Sink err.old err.new }
 {
     say(fault.line(), err);
     match fault {
@@ -231,8 +229,7 @@ pub fn tell_fault<E: Sink>(fault: ProgramFault, err: &mut E) -> Status
 // An error is told whatever memory there is.
 fn tell<E: Sink>(error: &RunError, err: &mut E) -> Status
     ensures status { result ≡ status_of error.now }
-    ensures line { Tells (E.taken err.old) (E.taken err.new) (E.has_failed err.new)
-        (error_line_of error.now) }
+    ensures line { Tells (error_line_of error.now) E.Sink err.old err.new }
 {
     match error {
         RunError::ProgramFault(fault) => tell_fault(*fault, err),
@@ -273,24 +270,12 @@ pub fn run<T: Threads + Sync, S: AsStr, G: Gate + Sync, R: Source, O: Sink, E: S
     ensures asked { AskPlainly (map S.text words.now) → result ≢ 2 }
     ensures unasked { AskNothing (map S.text words.now) → (result ≡ 2) ⊎ (result ≡ 3) }
 
-    // Answered: what is asked for went out, with the status that belongs to it, and nothing on
-    // standard error.
-    ensures answered { result ≡ 0 →
-        Answers (map S.text words.now) (R.left streams.old.input)
-        (λ s. s ≡ status.Answered)
-        (Appends (O.taken streams.old.output) (O.taken streams.new.output)) }
-    ensures denied { result ≡ 5 →
-        Answers (map S.text words.now) (R.left streams.old.input)
-        (λ s. s ≡ status.False)
-        (Appends (O.taken streams.old.output) (O.taken streams.new.output)) }
-    ensures undecided { result ≡ 6 →
-        Answers (map S.text words.now) (R.left streams.old.input)
-        (λ s. s ≡ status.Unknown)
-        (Appends (O.taken streams.old.output) (O.taken streams.new.output)) }
-    ensures quiet { (result ≡ 0) ⊎ (result ≡ 5) ⊎ (result ≡ 6)
-        → streams.new.error ≡ streams.old.error }
-    ensures written { (result ≡ 0) ⊎ (result ≡ 5) ⊎ (result ≡ 6) →
-        O.has_failed streams.new.output ≡ O.has_failed streams.old.output }
+    // Answered, with status 0, 5 or 6: what is asked for went out, with the status that belongs to
+    // it, and nothing on standard error.
+    ensures answered { (end : Status) → is_answer end ≡ true → result ≡ code_of end →
+        (streams.new.error ≡ streams.old.error)
+        × AnswersBy (map S.text words.now) (R.left streams.old.input) end
+        O.Sink streams.old.output streams.new.output }
 
     // But for status 4 no read failed.
     ensures read { result ≢ 4 → R.has_failed streams.new.input ≡ R.has_failed streams.old.input }
@@ -300,21 +285,17 @@ pub fn run<T: Threads + Sync, S: AsStr, G: Gate + Sync, R: Source, O: Sink, E: S
     ensures refused { result ≡ 1 →
         ((streams.new.output ≡ streams.old.output)
         × TellsRefusal (map S.text words.now) (R.left streams.old.input)
-        (E.taken streams.old.error) (E.taken streams.new.error) (E.has_failed streams.new.error))
+        E.Sink streams.old.error streams.new.error)
         ⊎ ((streams.new.error ≡ streams.old.error)
-        × (O.has_failed streams.new.output ≡ O.has_failed streams.old.output)
-        × Answers (map S.text words.now) (R.left streams.old.input)
-        (λ s. s ≡ status.Refused)
-        (Appends (O.taken streams.old.output) (O.taken streams.new.output))) }
+        × AnswersBy (map S.text words.now) (R.left streams.old.input) status.Refused
+        O.Sink streams.old.output streams.new.output) }
 
     // Not understood, or no memory: nothing went out, and a line tells which.
     ensures silent { (result ≡ 2) ⊎ (result ≡ 3) → streams.new.output ≡ streams.old.output }
     ensures usage { result ≡ 2 →
-        Tells (E.taken streams.old.error) (E.taken streams.new.error)
-        (E.has_failed streams.new.error) (codes "U01\n") }
+        Tells (codes "U01\n") E.Sink streams.old.error streams.new.error }
     ensures memory { result ≡ 3 →
-        Tells (E.taken streams.old.error) (E.taken streams.new.error)
-        (E.has_failed streams.new.error) (codes "M01\n") }
+        Tells (codes "M01\n") E.Sink streams.old.error streams.new.error }
 
     // Reading failed before the limit was passed, with nothing written, or writing failed, and no
     // read did.
@@ -322,14 +303,11 @@ pub fn run<T: Threads + Sync, S: AsStr, G: Gate + Sync, R: Source, O: Sink, E: S
         (AskForSomething (map S.text words.now)
         × (R.has_failed streams.new.input ≡ true) × (streams.new.output ≡ streams.old.output)
         × ReadsAtMost MAX_INPUT_BYTES (R.left streams.old.input) (R.left streams.new.input)
-        × Tells (E.taken streams.old.error) (E.taken streams.new.error)
-        (E.has_failed streams.new.error) (codes "E01\n"))
-        ⊎ ((O.has_failed streams.new.output ≡ true)
-        × (R.has_failed streams.new.input ≡ R.has_failed streams.old.input)
-        × Answers (map S.text words.now) (R.left streams.old.input) AnyStatus
-        (AppendsPrefix (O.taken streams.old.output) (O.taken streams.new.output))
-        × Tells (E.taken streams.old.error) (E.taken streams.new.error)
-        (E.has_failed streams.new.error) (codes "E02\n")) }
+        × Tells (codes "E01\n") E.Sink streams.old.error streams.new.error)
+        ⊎ ((R.has_failed streams.new.input ≡ R.has_failed streams.old.input)
+        × BeginsAnswer (map S.text words.now) (R.left streams.old.input)
+        O.Sink streams.old.output streams.new.output
+        × Tells (codes "E02\n") E.Sink streams.old.error streams.new.error) }
 {
     let context = Context { rt, alloc, gate };
     match attempt(&context, words, &mut streams.input, &mut streams.output) {

@@ -4,21 +4,14 @@ ghost use Rattle.std.specs.Prelude.{Some, length, string_bytes};
 ghost use Rattle.std.specs.List.{slice_get};
 ghost use Rattle.pb_base.specs.OrMemory.{IfRefused};
 ghost use Rattle.pb_text_tree.specs.Form.{spec_form};
-ghost use Rattle.pb_text_tree.specs.declared.place.Place.{Place};
-ghost use Rattle.pb_text_meaning.specs.Erase.{erase};
-ghost use Rattle.pb_fixpoint_trees.specs.Tree.{Tree};
-ghost use Rattle.pb_bytecode.specs.Meaning.{AreTrees};
-ghost use Rattle.pb_assembler_modules.specs.Module.{IsCompiledModule};
-ghost use Rattle.pb_report.specs.ModuleEvidence.{IsExplanation};
-ghost use Rattle.pb_model_tree.specs.Form.{FormulaForm, PropertyForm, model_form};
-ghost use Rattle.pb_model_translation.specs.Placed.{placed};
+ghost use Rattle.pb_model_tree.specs.Form.{PropertyForm, model_form};
 ghost use Rattle.pb_protocol_tree.specs.Form as protocol_form;
 ghost use Rattle.pb_model_properties.specs.Said.{IsModelOf};
 ghost use Rattle.pb_model_properties.specs.Words.{words_in};
 ghost use Rattle.pb_model_words.specs.View.{vocabulary_of};
 ghost use Rattle.pbsolve.specs.Models.{IsFound, IsUnexplained};
 ghost use Rattle.pbsolve.specs.Outcomes.{AreNegations, IsExplainedAt, verdict_in};
-ghost use Rattle.pbsolve.specs.Why.{IsTold, is_true, lines_of, shown_by, steps_of, told_text};
+ghost use Rattle.pbsolve.specs.Why.{IsTellable, IsTold, IsToldText, is_true, steps_of};
 
 use crate::explained::{ExplainedText, explained_at};
 use crate::explained_finding::{Asked, explained_finding};
@@ -30,7 +23,6 @@ use pb_command_faults::{PropertyExcess, SolveFault};
 use pb_command_solver::Context;
 use pb_evidence_words::{Shown, push_instance_lines, push_why};
 use pb_exploration::Gate;
-use pb_machine::instances_have_trees;
 use pb_model_properties::{SolvedModel, Verdict, push_verdict, words_of};
 use pb_model_tree::Model;
 use pb_model_typing::steps_text;
@@ -76,20 +68,12 @@ fn told(
     name: &str,
     shown: &Shown<'_>,
 ) -> Result<String, AllocError>
-    requires compiled { IsCompiledModule (erase (spec_form shown.now.typed.now.spec))
-        shown.now.verified.now }
-    requires trees { (trees : ℕ → Tree) × AreTrees shown.now.verified.now trees }
-    requires explanation { IsExplanation shown.now.verified.now shown.now.explanation.now }
-    requires property { (here : Place) × (f : FormulaForm)
-        × (spec_form shown.now.typed.now.spec ≡ placed (model_form shown.now.model.now) here f) }
-    requires steps { (here : Place) × (f : FormulaForm)
-        × (spec_form shown.now.steps.now.spec ≡ placed (model_form shown.now.model.now) here f) }
-    ensures { IfOk result (λ told. (trees : ℕ → Tree) → AreTrees shown.now.verified.now trees
-        → string_bytes told ≡ told_text telling.always name.now telling.verdict
-        (lines_of telling.lines
-        (shown_by (vocabulary_of shown.now.vocabulary.now) (spec_form shown.now.typed.now.spec)
-        (spec_form shown.now.steps.now.spec) shown.now.verified.now trees
-        shown.now.explanation.now.evidence))) }
+    requires { IsTellable (model_form shown.now.model.now) (spec_form shown.now.typed.now.spec)
+        (spec_form shown.now.steps.now.spec) shown.now.verified.now shown.now.explanation.now }
+    ensures { IfOk result (λ told. IsToldText telling.lines telling.always
+        (vocabulary_of shown.now.vocabulary.now) name.now telling.verdict
+        (spec_form shown.now.typed.now.spec) (spec_form shown.now.steps.now.spec)
+        shown.now.verified.now shown.now.explanation.now.evidence (string_bytes told)) }
 {
     let mut told = String::new(alloc);
     push_verdict(&mut told, name, telling.verdict)?;
@@ -120,23 +104,14 @@ fn told_in(
     vocabulary: &Vocabulary<'_>,
     parts: &ShownParts<'_>,
 ) -> Result<String, AllocError>
-    requires compiled { IsCompiledModule
-        (erase (spec_form parts.now.explained.now.typed.spec)) parts.now.explained.now.verified }
-    requires trees { (trees : ℕ → Tree) × AreTrees parts.now.explained.now.verified trees }
-    requires explanation { IsExplanation parts.now.explained.now.verified
-        parts.now.explained.now.explanation }
-    requires property { (here : Place) × (f : FormulaForm)
-        × (spec_form parts.now.explained.now.typed.spec
-        ≡ placed (model_form parts.now.model.now) here f) }
-    requires steps { (here : Place) × (f : FormulaForm) × (spec_form
-        parts.now.steps.now.spec ≡ placed (model_form parts.now.model.now) here f) }
-    ensures { IfOk result (λ told. (trees : ℕ → Tree)
-        → AreTrees parts.now.explained.now.verified trees
-        → string_bytes told ≡ told_text telling.always name.now telling.verdict
-        (lines_of telling.lines
-        (shown_by (vocabulary_of vocabulary.now) (spec_form parts.now.explained.now.typed.spec)
-        (spec_form parts.now.steps.now.spec) parts.now.explained.now.verified trees
-        parts.now.explained.now.explanation.evidence))) }
+    requires { IsTellable (model_form parts.now.model.now)
+        (spec_form parts.now.explained.now.typed.spec) (spec_form parts.now.steps.now.spec)
+        parts.now.explained.now.verified parts.now.explained.now.explanation }
+    ensures { IfOk result (λ told. IsToldText telling.lines telling.always
+        (vocabulary_of vocabulary.now) name.now telling.verdict
+        (spec_form parts.now.explained.now.typed.spec) (spec_form parts.now.steps.now.spec)
+        parts.now.explained.now.verified parts.now.explained.now.explanation.evidence
+        (string_bytes told)) }
 {
     let explained = parts.explained;
     let shown = Shown {
@@ -162,14 +137,11 @@ fn explained_told(
     requires explained { IsExplainedAt (model_form solved.now.typed.model) place explained.now }
     ensures { IfOk result (λ told. (q : PropertyForm)
         → slice_get (model_form solved.now.typed.model).properties place ≡ Some q
-        → (trees : ℕ → Tree) → AreTrees explained.now.verified trees
-        → string_bytes told ≡ told_text telling.always q.name.text telling.verdict
-        (lines_of telling.lines
-        (shown_by (words_in solved.now) (spec_form explained.now.typed.spec)
-        (steps_of (model_form solved.now.typed.model)) explained.now.verified trees
-        explained.now.explanation.evidence))) }
+        → IsToldText telling.lines telling.always (words_in solved.now) q.name.text
+        telling.verdict (spec_form explained.now.typed.spec)
+        (steps_of (model_form solved.now.typed.model)) explained.now.verified
+        explained.now.explanation.evidence (string_bytes told)) }
 {
-    instances_have_trees(&explained.verified);
     let model = &solved.typed;
     let steps = steps_text(alloc, model)?;
     let vocabulary = words_of(alloc, solved)?;
@@ -207,7 +179,6 @@ fn found_told(
         → IsFound false said.protocol (model_form solved.now.typed.model)
         (record { place = asked.place; finding = finding }) → IsUnexplained bytes fault) }
 {
-    instances_have_trees(&explained.verified);
     match verdict_in(finding) {
         Err(excess) => Err(too_large_at(&solved.typed, asked.place, excess).into()),
         Ok(verdict) => {

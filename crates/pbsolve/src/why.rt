@@ -12,7 +12,7 @@ ghost use Rattle.pb_model_properties.specs.Words.{words_in};
 ghost use Rattle.pb_command_modules.specs.Delivery.{Delivers};
 ghost use Rattle.pbsolve.specs.Models.{IsUnexplained};
 ghost use Rattle.pbsolve.specs.Why.{CallsAreMoves, CallsAreSteps, StatesAreTold};
-ghost use Rattle.pbsolve.specs.Why.{AreTold, IsUnshown, OutputsWhy, TellAsked};
+ghost use Rattle.pbsolve.specs.Why.{AreTold, IsUnshown, TellAsked, WritesWhy};
 
 use crate::explained_finding::Asked;
 use crate::laws::told_calls_are_steps;
@@ -137,8 +137,8 @@ pub fn why_text<R: Threads + Sync, G: Gate + Sync, S: Sink>(
     writer: &mut S,
 ) -> Result<(), SolveError>
     requires input { length bytes.now ≤ MAX_INPUT_BYTES }
-    ensures told { Delivers (OutputsWhy options.lines (option_copied property.entry) bytes.now)
-        result S.taken S.has_failed writer.old writer.new }
+    ensures told { Delivers (WritesWhy options.lines (option_copied property.entry) bytes.now)
+        result S.Sink writer.old writer.new }
     // The calls that the lines tell are steps of the model.
     ensures steps { (model : ModelForm) (p : PropertyForm) → IsModelOf bytes.now model
         → Contains model.properties p → CallsAreSteps model p }

@@ -1,7 +1,7 @@
 -- What was written is the listing of the module that was read.
-use Rattle.std.proofs.Common.{◌∙◌, ℕ, List, subst}
+use Rattle.std.proofs.Common.{◌≡◌, ◌∙◌, ℕ, List}
 use Rattle.pb_bytecode.specs.Decoded.{module_contents}
-use Rattle.pb_command_modules.specs.Outputs.{OutputsListing}
+use Rattle.pb_command_modules.specs.Writes.{WritesListing}
 use Rattle.pb_command_modules.specs.Refusals.{IsUnlisted}
 use Rattle.pb_command_modules.proofs.Deliveries.{less_delivered, nothing_in_want, nothing_written, only_write}
 use Rattle.pb_command_faults.proofs.HandedUp.{handed_up, wanting_up}
@@ -9,7 +9,7 @@ use Rattle.pb_command_modules.proofs.code.list_code.Goals as goal
 
 pub returns-in_err-module-clause-listed : goal.returns-in_err-module-clause-listed
 returns-in_err-module-clause-listed g c =
-    nothing_written g.S.Sink.taken g.S.Sink.has_failed _ (OutputsListing c.args.bytes.now) c.args.writer.now
+    nothing_written g.S.Sink _ (WritesListing c.args.bytes.now) c.args.writer.now
     c.in_err-module.field-0.0 c.from_residual.result c.from_residual.ensures.1
 
 pub returns-in_err-module-clause-refused : goal.returns-in_err-module-clause-refused
@@ -19,16 +19,16 @@ returns-in_err-module-clause-refused g c =
 
 pub returns-in_err-listing-clause-listed : goal.returns-in_err-listing-clause-listed
 returns-in_err-listing-clause-listed g c =
-    nothing_in_want g.S.Sink.taken g.S.Sink.has_failed (OutputsListing c.args.bytes.now) c.args.writer.now
+    nothing_in_want g.S.Sink (WritesListing c.args.bytes.now) c.args.writer.now
     c.from_residual-in_err-listing.result c.from_residual-in_err-listing.ensures.1
 
 pub returns-clause-listed : goal.returns-clause-listed
 returns-clause-listed g c =
-    less_delivered g.S.Sink.taken g.S.Sink.has_failed (λ (P : List ℕ → Type 0). P c.as_slice.result.now) (OutputsListing c.args.bytes.now)
-    (λ (P : List ℕ → Type 0) h. (
+    less_delivered g.S.Sink (λ (t : List ℕ). t ≡ c.as_slice.result.now) (WritesListing c.args.bytes.now)
+    (λ text is. (
       module_contents c.in_ok-module.module,
       c.in_ok-module.ensures.«module»,
-      subst P (c.as_slice.ensures.value ∙ c.in_ok-listing.ensures) h,
+      is ∙ (c.as_slice.ensures.value ∙ c.in_ok-listing.ensures),
     )) c.args.writer.now c.deliver.new.writer c.deliver.result c.deliver.ensures.text
 
 pub returns-clause-refused : goal.returns-clause-refused

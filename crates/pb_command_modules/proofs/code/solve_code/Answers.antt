@@ -1,5 +1,4 @@
-use Rattle.std.proofs.Common.{ℕ, List}
-use Rattle.pb_command_modules.specs.Outputs.{ForReport, OutputsAnswer}
+use Rattle.pb_command_modules.specs.Writes.{WritesReport, WritesAnswer}
 use Rattle.pb_command_modules.specs.Refusals.{IsRefusedBytes, IsRefusedModule, IsUnverified}
 use Rattle.pb_command_modules.proofs.Deliveries.{less_delivered, nothing_written}
 use Rattle.pb_command_faults.proofs.HandedUp.{handed_up, if_input_refused}
@@ -8,7 +7,7 @@ use Rattle.pb_command_modules.proofs.code.solve_code.Goals as goal
 
 pub returns-in_err-verified-clause-written : goal.returns-in_err-verified-clause-written
 returns-in_err-verified-clause-written g c =
-    nothing_written g.S.Sink.taken g.S.Sink.has_failed _ (OutputsAnswer c.args.bytes.now) c.args.writer.now
+    nothing_written g.S.Sink _ (WritesAnswer c.args.bytes.now) c.args.writer.now
     c.in_err-verified.field-0.0 c.from_residual.result c.from_residual.ensures.1
 
 pub returns-in_err-verified-clause-refused : goal.returns-in_err-verified-clause-refused
@@ -19,8 +18,8 @@ returns-in_err-verified-clause-refused g c =
 pub returns-clause-written : goal.returns-clause-written
 returns-clause-written g c =
     let m = c.in_ok-verified.verified in
-    less_delivered g.S.Sink.taken g.S.Sink.has_failed (ForReport m) (OutputsAnswer c.args.bytes.now)
-    (λ (P : List ℕ → Type 0) h. (
+    less_delivered g.S.Sink (WritesReport m) (WritesAnswer c.args.bytes.now)
+    (λ text h. (
       h.0,
       record { contents = m; of_code = c.in_ok-verified.ensures.«module»; answered = h.1 },
       h.2,

@@ -1,6 +1,6 @@
-use Rattle.std.proofs.Common.{ℕ, List}
+use Rattle.std.proofs.Common.{◌≡◌, ℕ, List}
 use Rattle.std.specs.Prelude.{codes}
-use Rattle.pb_command_modules.specs.Outputs.{OutputsAcceptance}
+use Rattle.pb_command_modules.specs.Writes.{WritesAcceptance}
 use Rattle.pb_command_modules.specs.Refusals.{IsUnverified}
 use Rattle.pb_command_modules.proofs.Deliveries.{less_delivered, nothing_written, only_write}
 use Rattle.pb_command_faults.proofs.HandedUp.{handed_up}
@@ -8,13 +8,13 @@ use Rattle.pb_command_modules.proofs.code.verify_code.Goals as goal
 
 pub returns-in_err-_verified-clause-accepted : goal.returns-in_err-_verified-clause-accepted
 returns-in_err-_verified-clause-accepted g c =
-    nothing_written g.S.Sink.taken g.S.Sink.has_failed _ (OutputsAcceptance c.args.bytes.now) c.args.writer.now
+    nothing_written g.S.Sink _ (WritesAcceptance c.args.bytes.now) c.args.writer.now
     c.in_err-_verified.field-0.0 c.from_residual.result c.from_residual.ensures.1
 
 pub returns-clause-accepted : goal.returns-clause-accepted
 returns-clause-accepted g c =
-    less_delivered g.S.Sink.taken g.S.Sink.has_failed (λ (P : List ℕ → Type 0). P (codes "accepted\n")) (OutputsAcceptance c.args.bytes.now)
-    (λ (P : List ℕ → Type 0) h. (c.in_ok-_verified._verified, c.in_ok-_verified.ensures.«module», h))
+    less_delivered g.S.Sink (λ (t : List ℕ). t ≡ codes "accepted\n") (WritesAcceptance c.args.bytes.now)
+    (λ text h. (c.in_ok-_verified._verified, c.in_ok-_verified.ensures.«module», h))
     c.args.writer.now c.deliver.new.writer c.deliver.result c.deliver.ensures.text
 
 pub returns-clause-refused : goal.returns-clause-refused

@@ -1,30 +1,51 @@
-use Rattle.pb_command_solver.specs.Texts.{ForCertificateText}
+use Rattle.std.proofs.Common.{◌≡◌, ℕ, List, sym, subst}
+use Rattle.pb_game.specs.Certificates.{IsCertificate}
+use Rattle.pb_game.specs.Solutions.{HasLengths}
+use Rattle.pb_report.specs.CertificateText.{certificate_text}
 use Rattle.pb_command_modules.proofs.Deliveries.{nothing_written, sent_up, sent_whole}
 use Rattle.pb_command_faults.proofs.HandedUp.{failed_up}
 use Rattle.pb_command_modules.proofs.Refusals.{too_large_up}
+use Rattle.pb_command_modules.proofs.Texts.{certificate_of_module}
 use Rattle.pb_command_modules.specs.Refusals.{IsRefusedModule}
+use Rattle.pb_command_modules.specs.Writes.{WritesCertificate}
 use Rattle.pb_command_modules.proofs.module.write_certificate.Goals as goal
 
-pub returns-in_err-solved-clause-certificate : goal.returns-in_err-solved-clause-certificate
-returns-in_err-solved-clause-certificate g c =
-    nothing_written g.S.Sink.taken g.S.Sink.has_failed _ (ForCertificateText c.args.verified.now) c.args.writer.now
-    c.in_err-solved.field-0.0 c.from_residual.result c.from_residual.ensures.1
+pub certificate_text-requires : goal.certificate_text-requires
+certificate_text-requires g c =
+    record { lengths = subst (HasLengths c.in_ok-module.«module».solved.built.game) (sym c.solution-certificate.ensures) c.in_ok-module.ensures.certificate.lengths }
 
-pub returns-in_err-write_certificate-clause-certificate : goal.returns-in_err-write_certificate-clause-certificate
-returns-in_err-write_certificate-clause-certificate g c =
-    sent_up g.S.Sink.taken g.S.Sink.has_failed (ForCertificateText c.args.verified.now) c.args.writer.now c.write_certificate.new.sink
-    c.write_certificate.result c.in_err-write_certificate.field-0.0 c.from_residual-in_err-write_certificate.result
-    c.write_certificate.ensures c.in_err-write_certificate.was c.from_residual-in_err-write_certificate.ensures.1
+pub returns-in_err-module-clause-certificate : goal.returns-in_err-module-clause-certificate
+returns-in_err-module-clause-certificate g c =
+    nothing_written g.S.Sink _ (WritesCertificate c.args.verified.now) c.args.writer.now c.in_err-module.field-0.0 c.from_residual.result c.from_residual.ensures.1
+
+pub returns-in_err-certificate_text-clause-certificate : goal.returns-in_err-certificate_text-clause-certificate
+returns-in_err-certificate_text-clause-certificate g c =
+    let m = c.args.verified.now in
+    let s = c.in_ok-module.«module» in
+    let is = c.in_ok-module.ensures.solved in
+    let solution = c.solution-certificate.result.now in
+    let certificate = subst (IsCertificate s.solved.built.game) (sym c.solution-certificate.ensures) c.in_ok-module.ensures.certificate in
+    sent_up g.S.Sink (λ (t : List ℕ). t ≡ certificate_text s.solved.built.game solution) (WritesCertificate m)
+    (certificate_of_module m s.explored is.explored s.solved.built is.game solution certificate) c.args.writer.now c.certificate_text.new.sink
+    c.certificate_text.result c.in_err-certificate_text.field-0.0 c.from_residual-in_err-certificate_text.result c.certificate_text.ensures
+    c.in_err-certificate_text.was c.from_residual-in_err-certificate_text.ensures.1
 
 pub returns-clause-certificate : goal.returns-clause-certificate
 returns-clause-certificate g c =
-    sent_whole g.S.Sink.taken g.S.Sink.has_failed (ForCertificateText c.args.verified.now) c.args.writer.now c.write_certificate.new.sink
-    c.write_certificate.result c.in_ok-write_certificate.field-0 c.write_certificate.ensures c.in_ok-write_certificate.was
+    let m = c.args.verified.now in
+    let s = c.in_ok-module.«module» in
+    let is = c.in_ok-module.ensures.solved in
+    let solution = c.solution-certificate.result.now in
+    let certificate = subst (IsCertificate s.solved.built.game) (sym c.solution-certificate.ensures) c.in_ok-module.ensures.certificate in
+    sent_whole g.S.Sink (λ (t : List ℕ). t ≡ certificate_text s.solved.built.game solution) (WritesCertificate m)
+    (certificate_of_module m s.explored is.explored s.solved.built is.game solution certificate) c.args.writer.now c.certificate_text.new.sink
+    c.certificate_text.result c.in_ok-certificate_text.field-0 c.certificate_text.ensures c.in_ok-certificate_text.was
 
-pub returns-in_err-solved-clause-refused : goal.returns-in_err-solved-clause-refused
-returns-in_err-solved-clause-refused g c =
-    too_large_up c.args.verified.now c.in_err-solved.field-0.0 c.from_residual.result c.in_err-solved.ensures.too_many c.from_residual.ensures.1
+pub returns-in_err-module-clause-refused : goal.returns-in_err-module-clause-refused
+returns-in_err-module-clause-refused g c =
+    too_large_up c.args.verified.now c.in_err-module.field-0.0 c.from_residual.result c.in_err-module.ensures.too_many c.from_residual.ensures.1
 
-pub returns-in_err-write_certificate-clause-refused : goal.returns-in_err-write_certificate-clause-refused
-returns-in_err-write_certificate-clause-refused g c =
-    failed_up (IsRefusedModule c.args.verified.now) c.in_err-write_certificate.field-0.0 c.from_residual-in_err-write_certificate.result c.from_residual-in_err-write_certificate.ensures.1
+pub returns-in_err-certificate_text-clause-refused : goal.returns-in_err-certificate_text-clause-refused
+returns-in_err-certificate_text-clause-refused g c =
+    failed_up (IsRefusedModule c.args.verified.now) c.in_err-certificate_text.field-0.0 c.from_residual-in_err-certificate_text.result
+    c.from_residual-in_err-certificate_text.ensures.1

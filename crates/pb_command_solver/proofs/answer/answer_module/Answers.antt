@@ -8,8 +8,8 @@ use Rattle.pb_command_solver.proofs.answer.answer_module.Goals as goal
 
 pub count_cut-cut-requires : goal.count_cut-cut-requires
 count_cut-cut-requires g c =
-    let some = c.instances_have_trees.ensures in
     let e = c.in-Ok.ensures.built in
+    let some = e.trees in
     let same = count c.args.verified.now _ _ e.explored e.game some.0 some.1 in
     omega (arith, same, c.in-Ok.field-0.built.few, ap length c.rows.ensures)
 

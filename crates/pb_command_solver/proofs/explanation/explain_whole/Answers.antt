@@ -6,7 +6,7 @@ use Rattle.pb_command_solver.proofs.explanation.explain_whole.Goals as goal
 pub evidence_of-requires : goal.evidence_of-requires
 evidence_of-requires g c = (
   c.args.verified.now,
-  c.instances_have_trees.ensures,
+  c.in-Ok.ensures.solved.trees,
   module_rows _ _ _ c.rows.ensures c.in-Ok.ensures.solved.explored,
   subst (λ r. IsModuleGame c.args.verified.now r c.in-Ok.module.solved.built) (sym c.rows.ensures) c.in-Ok.ensures.solved.game,
 )

@@ -17,6 +17,7 @@ returns g c =
     let part = c.args.part in
     let solved = c.in_ok-solved.solved in
     record {
+      trees = c.instances_have_trees.ensures;
       part = c.requires;
       game = subst (λ (b : TreeGame). IsGameOf (map signature_of m.equations) part.rows (initial_of m) b) (sym c.in_ok-solved.ensures.built) c.in-Ok.ensures.game;
       enough = elim c.else-truth-part.branch [

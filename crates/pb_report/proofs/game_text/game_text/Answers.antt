@@ -1,11 +1,11 @@
-use Rattle.std.proofs.Common.{ℕ, ◌<◌, List, length, map, sym, ap, ◌∙◌, subst}
+use Rattle.std.proofs.Common.{◌≡◌, ℕ, ◌<◌, List, length, map, sym, ap, ◌∙◌, subst}
 use Rattle.std.specs.Prelude.{IfSome}
 use Rattle.pb_bytecode.specs.Meaning.{parameters, signature_of, initial_of}
 use Rattle.pb_sorts.specs.Layout.{count_of}
 use Rattle.pb_fixpoint_rows.specs.Reached.{rows_of}
 use Rattle.pb_game_of_trees.proofs.Reached.{reached_of}
 use Rattle.pb_report.specs.Delivery.{is_failed}
-use Rattle.pb_report.specs.ModuleTexts.{module_game_text, ForTrees}
+use Rattle.pb_report.specs.ModuleTexts.{module_game_text, IsTextOfTrees}
 use Rattle.pb_report.specs.VertexNames.{memory_text, number_in, AreRising}
 use Rattle.pb_report.proofs.Delivery.{less_delivered}
 use Rattle.pb_report.proofs.ReachedGames.{text_is, some_vertex, same_length, are_rising, are_numbers, are_edges}
@@ -37,9 +37,8 @@ returns g c =
     let rows = c.args.rows.now in
     let built = c.args.built.now in
     let same = ap (λ (vs : List ℕ). memory_text m built.game vs rows) c.deref.ensures.value in
-    less_delivered is_failed g.S.Sink.taken g.S.Sink.has_failed (λ (P : List ℕ → Type 0). P (memory_text m built.game c.deref.result.now rows))
-    (ForTrees m (λ trees. module_game_text m trees rows))
-    (λ (P : List ℕ → Type 0) h trees have.
+    less_delivered is_failed g.S.Sink (λ (text : List ℕ). text ≡ memory_text m built.game c.deref.result.now rows) (IsTextOfTrees m (λ trees. module_game_text m trees rows))
+    (λ text is trees have.
     let are = reached_of trees (map signature_of m.equations) rows (c.requires.rows trees have).are in
-    subst P (same ∙ text_is m rows built trees (rows_of trees rows) (initial_of m) are (c.requires.game trees have)) h)
+    is ∙ (same ∙ text_is m rows built trees (rows_of trees rows) (initial_of m) are (c.requires.game trees have)))
     c.args.sink.now c.write_text.new.sink c.write_text.result c.write_text.ensures

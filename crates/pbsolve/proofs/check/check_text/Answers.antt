@@ -1,17 +1,16 @@
 -- What is told is written.
-use Rattle.std.proofs.Common.{◌≡◌, ◌∙◌, ℕ, List, IfOk, map, sym, string_bytes}
+use Rattle.std.proofs.Common.{◌≡◌, ◌∙◌, ℕ, List, map, refl, sym, subst, string_bytes}
 use Rattle.pb_command_faults.proofs.HandedUp.{handed_up}
-use Rattle.pb_command_modules.proofs.Deliveries.{nothing_written}
+use Rattle.pb_command_modules.proofs.Deliveries.{less_left_on, less_sent, nothing_written}
 use Rattle.pbsolve.specs.declared.status.Status.{Status}
 use Rattle.pbsolve.specs.Models.{IsUnchecked}
-use Rattle.pbsolve.specs.Outputs.{OutputsVerdicts}
-use Rattle.pbsolve.proofs.Findings.{less_left_on, less_sent, no_status, verdicts_told}
+use Rattle.pbsolve.specs.Writes.{WithStatus, WritesVerdicts}
+use Rattle.pbsolve.proofs.Findings.{no_status}
 use Rattle.pbsolve.proofs.check.check_text.Goals as goal
 
 pub returns-in_err-report-clause-verdicts : goal.returns-in_err-report-clause-verdicts
 returns-in_err-report-clause-verdicts g c =
-    let S = λ (status : Status). IfOk c.from_residual.result (λ (s : Status). s ≡ status) in
-    nothing_written g.S.Sink.taken g.S.Sink.has_failed _ (OutputsVerdicts c.args.options.now c.args.bytes.now S) c.args.writer.now
+    nothing_written g.S.Sink _ (WithStatus c.from_residual.result (WritesVerdicts c.args.options.now c.args.bytes.now)) c.args.writer.now
     c.in_err-report.field-0.0 c.from_residual.result c.from_residual.ensures.1
 
 pub returns-in_err-report-clause-refused : goal.returns-in_err-report-clause-refused
@@ -21,22 +20,21 @@ returns-in_err-report-clause-refused g c =
 
 pub returns-in_err-deliver-clause-verdicts : goal.returns-in_err-deliver-clause-verdicts
 returns-in_err-deliver-clause-verdicts g c =
-    let options = c.args.options.now in
-    let bytes = c.args.bytes.now in
+    let verdicts = WritesVerdicts c.args.options.now c.args.bytes.now in
     let report = c.in_ok-report.report in
     let r = c.from_residual-in_err-deliver.result in
-    let S = λ (status : Status). IfOk r (λ (s : Status). s ≡ status) in
-    less_left_on g.S.Sink.taken g.S.Sink.has_failed (λ (P : List ℕ → Type 0). P c.as_bytes.result.now) (OutputsVerdicts options bytes S)
-    (verdicts_told options bytes (λ (x : Status). report.status ≡ x) S (λ x is. no_status (λ (s : Status). s ≡ x) _ r c.from_residual-in_err-deliver.ensures.1)
-    (string_bytes report.lines) c.as_bytes.result.now c.as_bytes.ensures.value c.in_ok-report.ensures.report)
-    c.args.writer.now c.deliver.new.writer r c.in_err-deliver.field-0.0 c.from_residual-in_err-deliver.ensures.1 c.in_err-deliver.ensures.text
+    less_left_on g.S.Sink (λ (t : List ℕ). t ≡ c.as_bytes.result.now) (WithStatus r verdicts)
+    (λ text is. (
+      report.status,
+      no_status (λ (s : Status). s ≡ report.status) _ r c.from_residual-in_err-deliver.ensures.1,
+      subst (verdicts report.status) (sym (is ∙ c.as_bytes.ensures.value)) c.in_ok-report.ensures.report,
+    )) c.args.writer.now c.deliver.new.writer r c.in_err-deliver.field-0.0 c.from_residual-in_err-deliver.ensures.1 c.in_err-deliver.ensures.text
 
 pub returns-clause-verdicts : goal.returns-clause-verdicts
 returns-clause-verdicts g c =
-    let options = c.args.options.now in
-    let bytes = c.args.bytes.now in
+    let verdicts = WritesVerdicts c.args.options.now c.args.bytes.now in
     let report = c.in_ok-report.report in
-    let S = λ (x : Status). report.status ≡ x in
-    less_sent g.S.Sink.taken g.S.Sink.has_failed (λ (P : List ℕ → Type 0). P c.as_bytes.result.now) (OutputsVerdicts options bytes S)
-    (verdicts_told options bytes S S (λ x is. is) (string_bytes report.lines) c.as_bytes.result.now c.as_bytes.ensures.value c.in_ok-report.ensures.report)
+    let Verdicts : List ℕ → Type 0 = λ t. (status : Status) × (report.status ≡ status) × verdicts status t in
+    less_sent g.S.Sink (λ (t : List ℕ). t ≡ c.as_bytes.result.now) Verdicts
+    (λ text is. (report.status, refl, subst (verdicts report.status) (sym (is ∙ c.as_bytes.ensures.value)) c.in_ok-report.ensures.report))
     c.args.writer.now c.deliver.new.writer c.in_ok-deliver.ensures.text

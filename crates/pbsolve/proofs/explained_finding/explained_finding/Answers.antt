@@ -27,14 +27,14 @@ returns-then-explained-clause-found g c model said within at =
     let some = some_at model.properties c.args.asked.place within in
     found_shown false said.protocol model said.is_for c.args.asked.place some.0 some.1 true refl
     (shown_true false said.protocol model said.is_for c.args.asked.place some.0 some.1
-    (sym c.if-explained.true ∙ explained_truth model some.0 c.args.explained.now c.instances_have_trees.ensures (at some.0 some.1)))
+    (sym c.if-explained.true ∙ explained_truth model some.0 c.args.explained.now (at some.0 some.1)))
 
 pub returns-then-denied-clause-found : goal.returns-then-denied-clause-found
 returns-then-denied-clause-found g c model said within at =
     let some = some_at model.properties c.args.asked.place within in
     found_shown false said.protocol model said.is_for c.args.asked.place some.0 some.1 false refl
     (shown_false false said.protocol model said.is_for c.args.asked.place some.0 some.1 c.args.bytes.now said.read (c.in_ok-denied.ensures.denied c.if-denied.true)
-    (sym c.if-explained.false ∙ explained_truth model some.0 c.args.explained.now c.instances_have_trees.ensures (at some.0 some.1)))
+    (sym c.if-explained.false ∙ explained_truth model some.0 c.args.explained.now (at some.0 some.1)))
 
 pub decided-requires-clause-given : goal.decided-requires-clause-given
 decided-requires-clause-given g c κs within =

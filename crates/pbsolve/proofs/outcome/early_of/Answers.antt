@@ -4,4 +4,4 @@ use Rattle.pbsolve.proofs.outcome.early_of.Goals as goal
 
 pub returns-in-Verified : goal.returns-in-Verified
 returns-in-Verified g c =
-    property_early c.args.property.now c.in-Verified.verified c.instances_have_trees.ensures c.in-Verified.is c.answer_early.result c.answer_early.ensures
+    property_early c.args.property.now c.in-Verified.verified c.in-Verified.is c.answer_early.result c.answer_early.ensures

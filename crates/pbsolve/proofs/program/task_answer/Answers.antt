@@ -4,15 +4,15 @@ use Rattle.pb_command_line.specs.declared.request.Task.{Task}
 use Rattle.pb_command_faults.specs.Errors.{IfInputRefused}
 use Rattle.pb_command_modules.specs.Delivery.{Delivers}
 use Rattle.pbsolve.specs.Models.{IsUntranslated}
-use Rattle.pbsolve.specs.Outputs.{IsRefusedFor, OutputsFor}
-use Rattle.pbsolve.specs.Why.{IsUnshown, OutputsWhy}
+use Rattle.pbsolve.specs.Writes.{IsRefusedFor, Writes}
+use Rattle.pbsolve.specs.Why.{IsUnshown, WritesWhy}
 use Rattle.pbsolve.proofs.program.task_answer.Goals as goal
 
 pub returns-in-Why-clause-written : goal.returns-in-Why-clause-written
 returns-in-Why-clause-written g c =
-    subst (λ (t : Task). Delivers (OutputsFor t c.args.bytes.now) c.why_text.result g.O.Sink.taken g.O.Sink.has_failed c.args.out.now c.why_text.new.writer)
+    subst (λ (t : Task). Delivers (Writes t c.args.bytes.now) c.why_text.result g.O.Sink c.args.out.now c.why_text.new.writer)
     (sym c.in-Why.is)
-    (subst (λ (n : Option (List ℕ)). Delivers (OutputsWhy c.in-Why.options.lines n c.args.bytes.now) c.why_text.result g.O.Sink.taken g.O.Sink.has_failed c.args.out.now c.why_text.new.writer)
+    (subst (λ (n : Option (List ℕ)). Delivers (WritesWhy c.in-Why.options.lines n c.args.bytes.now) c.why_text.result g.O.Sink c.args.out.now c.why_text.new.writer)
     c.name_of-in-Why.ensures c.why_text.ensures.told)
 
 -- and what it is refused by, as what is refused of a translation

@@ -4,9 +4,9 @@ use Rattle.pb_text_tree.specs.declared.place.Place.{Place}
 use Rattle.pb_text_tree.specs.Form.{spec_form}
 use Rattle.pb_bytecode.specs.Meaning.{parameters}
 use Rattle.pb_report.specs.CallPlaces.{AreCallPlaces}
-use Rattle.pb_report.specs.ModuleEvidence.{ForEvidenceText}
 use Rattle.pb_evidence_places.specs.CallPlaces.{told_place}
-use Rattle.pbsolve.specs.Outputs.{OutputsEvidence}
+use Rattle.pb_command_modules.specs.Writes.{WritesEvidence}
+use Rattle.pbsolve.specs.Writes.{WritesTextEvidence}
 use Rattle.pbsolve.specs.Refusals.{IsRefused}
 use Rattle.pb_command_modules.specs.Refusals.{IsRefusedModule}
 use Rattle.pb_command_modules.proofs.Deliveries.{less_delivered, nothing_in_want}
@@ -24,7 +24,7 @@ write_evidence-requires-clause-places g c =
 
 pub returns-in_err-call_places-clause-evidence : goal.returns-in_err-call_places-clause-evidence
 returns-in_err-call_places-clause-evidence g c bytes read =
-    nothing_in_want g.S.Sink.taken g.S.Sink.has_failed (OutputsEvidence c.args.places bytes) c.args.writer.now c.from_residual.result c.from_residual.ensures.1
+    nothing_in_want g.S.Sink (WritesTextEvidence c.args.places bytes) c.args.writer.now c.from_residual.result c.from_residual.ensures.1
 
 pub returns-in_err-call_places-clause-refused : goal.returns-in_err-call_places-clause-refused
 returns-in_err-call_places-clause-refused g c bytes read = wanting_up (IsRefused bytes) c.from_residual.result c.from_residual.ensures.1
@@ -36,8 +36,8 @@ returns-clause-evidence g c bytes read =
     let m = explained.verified in
     let place = told_place c.args.places text (parameters m) in
     let are = subst (λ (xs : List (Option Place)). AreCallPlaces place explained.explanation.evidence xs) (sym c.deref.ensures.value) c.in_ok-call_places.ensures in
-    less_delivered g.S.Sink.taken g.S.Sink.has_failed (ForEvidenceText m place) (OutputsEvidence c.args.places bytes)
-    (text_evidence c.named_instances_are_called.ensures bytes text m c.instances_have_trees.ensures read c.requires.explained.of_text c.args.places)
+    less_delivered g.S.Sink (WritesEvidence m place) (WritesTextEvidence c.args.places bytes)
+    (text_evidence c.named_instances_are_called.ensures bytes text m read c.requires.explained.of_text c.args.places)
     c.args.writer.now c.write_evidence.new.writer c.write_evidence.result (c.write_evidence.ensures.evidence place are)
 
 pub returns-clause-refused : goal.returns-clause-refused

@@ -13,25 +13,18 @@ use Rattle.pbsolve.proofs.Tellings.{ok_more}
 use Rattle.pbsolve.proofs.Verdicts.{at_mapped}
 use Rattle.pbsolve.proofs.told.explained_told.Goals as goal
 
-pub told_in-requires-clause-compiled : goal.told_in-requires-clause-compiled
-told_in-requires-clause-compiled c =
-    let some = some_property property_form c.args.solved.now.typed.model.properties.items c.args.place c.requires.within in
-    (c.requires.explained some.0 some.1).explanation.of_text.compiled
-
-pub told_in-requires-clause-explanation : goal.told_in-requires-clause-explanation
-told_in-requires-clause-explanation c =
-    let some = some_property property_form c.args.solved.now.typed.model.properties.items c.args.place c.requires.within in
-    (c.requires.explained some.0 some.1).explanation.explains
-
-pub told_in-requires-clause-property : goal.told_in-requires-clause-property
-told_in-requires-clause-property c =
-    let some = some_property property_form c.args.solved.now.typed.model.properties.items c.args.place c.requires.within in
-    (some.0.name.place, some.0.formula, (c.requires.explained some.0 some.1).text.placed)
-
-pub told_in-requires-clause-steps : goal.told_in-requires-clause-steps
-told_in-requires-clause-steps c =
+pub told_in-requires : goal.told_in-requires
+told_in-requires c =
     let place = c.args.solved.now.typed.model.initial.place in
-    (place, every_step_form place, c.in_ok-steps.ensures)
+    let some = some_property property_form c.args.solved.now.typed.model.properties.items c.args.place c.requires.within in
+    let is = c.requires.explained some.0 some.1 in
+    record {
+      compiled = is.explanation.of_text.compiled;
+      trees = is.explanation.of_text.trees;
+      explanation = is.explanation.explains;
+      property = (some.0.name.place, some.0.formula, is.text.placed);
+      steps = (place, every_step_form place, c.in_ok-steps.ensures);
+    }
 
 pub returns : goal.returns
 returns c = ok_more _ _ (λ told h q stands trees are.

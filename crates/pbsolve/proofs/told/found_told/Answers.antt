@@ -29,4 +29,4 @@ returns-in_ok-explained_told-in-Ok-clause-told c bytes said found p q stands the
     let finding = finding_at false said.protocol model place c.args.finding found p q stands there in
     let verdict = found_verdict said.protocol model place p q stands there c.args.finding finding c.in-Ok.verdict (sym c.verdict_in.ensures ∙ c.in-Ok.is) in
     property_told c.args.asked.options.lines c.args.asked.always (words_in solved) said.protocol model p q c.in-Ok.verdict verdict
-    explained c.instances_have_trees.ensures (c.requires.explained q there) _ (c.in_ok-explained_told-in-Ok.ensures q there)
+    explained (c.requires.explained q there) _ (c.in_ok-explained_told-in-Ok.ensures q there)

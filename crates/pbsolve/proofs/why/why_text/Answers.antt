@@ -1,9 +1,10 @@
 -- An error on what is asked is an error on the model.
-use Rattle.std.proofs.Common.{◌≡◌, ℕ, List, Err, string_bytes, ap, sym, subst}
+use Rattle.std.proofs.Common.{◌≡◌, ◌∙◌, ℕ, List, Err, string_bytes, ap, sym, subst}
 use Rattle.std.specs.Prelude.{option_copied}
 use Rattle.pb_model_tree.specs.Form.{model_form}
 use Rattle.pb_model_words.specs.Vocabulary.{Vocabulary}
-use Rattle.pbsolve.specs.Why.{IsUnshown, OutputsWhy, TellAsked}
+use Rattle.pb_model_properties.specs.Words.{words_of}
+use Rattle.pbsolve.specs.Why.{IsUnshown, TellAsked, WritesWhy}
 use Rattle.pb_command_modules.proofs.Deliveries.{less_delivered, nothing_written, only_write}
 use Rattle.pbsolve.proofs.Checked.{model_untold, untold_unexplained}
 use Rattle.pbsolve.proofs.Tellings.{missed, no_name, never_missed_model, unshown}
@@ -20,12 +21,12 @@ returns-in_err-lines-clause-refused g c =
 
 pub returns-in_err-solved-clause-told : goal.returns-in_err-solved-clause-told
 returns-in_err-solved-clause-told g c =
-    nothing_written g.S.Sink.taken g.S.Sink.has_failed _ (OutputsWhy c.args.options.lines (option_copied c.args.property) c.args.bytes.now) c.args.writer.now
+    nothing_written g.S.Sink _ (WritesWhy c.args.options.lines (option_copied c.args.property) c.args.bytes.now) c.args.writer.now
     c.in_err-solved.field-0.0 c.from_residual.result c.from_residual.ensures.1
 
 pub returns-in_err-lines-clause-told : goal.returns-in_err-lines-clause-told
 returns-in_err-lines-clause-told g c =
-    nothing_written g.S.Sink.taken g.S.Sink.has_failed _ (OutputsWhy c.args.options.lines (option_copied c.args.property) c.args.bytes.now) c.args.writer.now
+    nothing_written g.S.Sink _ (WritesWhy c.args.options.lines (option_copied c.args.property) c.args.bytes.now) c.args.writer.now
     c.in_err-lines.field-0.0 c.from_residual-in_err-lines.result c.from_residual-in_err-lines.ensures.1
 
 pub returns-clause-told : goal.returns-clause-told
@@ -34,14 +35,9 @@ returns-clause-told g c =
     let said = c.in_ok-solved.ensures.model.said in
     let told = subst (λ (v : Vocabulary). TellAsked c.args.options.lines (option_copied c.args.property) v said.protocol model (string_bytes c.in_ok-lines.lines))
     c.in_ok-solved.ensures.model.words (c.in_ok-lines.ensures.told said) in
-    less_delivered g.S.Sink.taken g.S.Sink.has_failed (λ (P : List ℕ → Type 0). P c.as_bytes.result.now) (OutputsWhy c.args.options.lines (option_copied c.args.property) c.args.bytes.now)
-    (λ (P : List ℕ → Type 0) h. (
-      model,
-      string_bytes c.in_ok-lines.lines,
-      said,
-      told,
-      subst P c.as_bytes.ensures.value h,
-    )) c.args.writer.now c.deliver.new.writer c.deliver.result c.deliver.ensures.text
+    let tells = λ (t : List ℕ). TellAsked c.args.options.lines (option_copied c.args.property) (words_of said.protocol model said.is_for.made) said.protocol model t in
+    less_delivered g.S.Sink (λ (t : List ℕ). t ≡ c.as_bytes.result.now) (WritesWhy c.args.options.lines (option_copied c.args.property) c.args.bytes.now)
+    (λ text is. (model, said, subst tells (sym (is ∙ c.as_bytes.ensures.value)) told)) c.args.writer.now c.deliver.new.writer c.deliver.result c.deliver.ensures.text
 
 pub returns-clause-refused : goal.returns-clause-refused
 returns-clause-refused g c = only_write (IsUnshown (option_copied c.args.property) c.args.bytes.now) c.deliver.result c.deliver.ensures.failed

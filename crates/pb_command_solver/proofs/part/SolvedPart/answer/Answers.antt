@@ -8,7 +8,7 @@ count_cut-cut-requires c =
     let m = c.args.verified.now in
     let part = c.args.self.now.part in
     let built = c.args.self.now.solved.built in
-    let some = c.instances_have_trees.ensures in
+    let some = c.requires.solved.trees in
     let is = c.requires.solved.part in
     let explored = is.whole c.requires.whole in
     let same = count m part.rows built explored (game_of_all m part.rows some part.truth is.assumed built c.requires.solved.game explored) some.0 some.1 in
@@ -21,6 +21,6 @@ returns c =
     let built = c.args.self.now.solved.built in
     let is = c.requires.solved.part in
     let explored = is.whole c.requires.whole in
-    answer_is m part.rows built explored (game_of_all m part.rows c.instances_have_trees.ensures part.truth is.assumed built c.requires.solved.game explored)
+    answer_is m part.rows built explored (game_of_all m part.rows c.requires.solved.trees part.truth is.assumed built c.requires.solved.game explored)
     c.truth.result c.instances.result c.count_cut-cut.result c.len.result
     c.truth.ensures.meaning c.instances.ensures c.count_cut-cut.ensures c.len.ensures.value c.len.ensures.small

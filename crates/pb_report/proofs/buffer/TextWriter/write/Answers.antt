@@ -9,7 +9,7 @@ returns-then-text-gt-CAPACITY g c =
     record {
       same_sink = refl;
       delivers =
-          put_both g.S.Sink.taken g.S.Sink.has_failed last.result c.args.self.now.sink.now c.put.new.writer
+          put_both g.S.Sink last.result c.args.self.now.sink.now c.put.new.writer
           last.new.writer c.args.self.now.buffer.now.bytes.items c.clear.new.self.items c.args.text.now
           (subst (Appends _ _) c.deref.ensures.value c.in_ok-put.ensures.all) c.in_ok-put.ensures.ok_failed
           last.ensures.all last.ensures.ok_failed last.ensures.prefix last.ensures.err_failed c.clear.ensures.items;

@@ -1,0 +1,68 @@
+-- What is written answers the request, with the status that the run ends with.
+use Rattle.std.proofs.Common.{◌≡◌, ◌∙◌, ℕ, List, refl, sym, subst}
+use Rattle.pb_command_line.specs.declared.request.Request.{Request}
+use Rattle.pb_command_line.specs.declared.request.Request.TheVariants as request_is
+use Rattle.pb_command_line.specs.declared.request.Task.{Task}
+use Rattle.pb_command_rules.specs.declared.rule.Rule.{Rule}
+use Rattle.pb_command_rules.specs.Rules.{rule_words}
+use Rattle.pb_command_modules.specs.Delivery.{Delivers}
+use Rattle.pb_command_modules.proofs.Deliveries.{less_left_on, less_sent}
+use Rattle.pbsolve.specs.declared.status.Status.{Status}
+use Rattle.pbsolve.specs.declared.status.Status.TheVariants.{Answered}
+use Rattle.pbsolve.specs.Program.{Answers}
+use Rattle.pbsolve.specs.Writes.{WithStatus, Writes}
+use Rattle.pbsolve.proofs.Findings.{no_status}
+use Rattle.pbsolve.proofs.program.answer.Goals as goal
+
+-- what answers the request in one arm of the match answers it
+module _ (bytes : List ℕ) (request : Request) where
+  answers_rule : (rule : Rule) → request ≡ request_is.Rule rule → (text : List ℕ) → text ≡ rule_words rule → Answers request bytes Answered text
+  answers_rule rule is text same = subst (λ (r : Request). Answers r bytes Answered text) (sym is) (refl, same)
+
+  answers_input : (task : Task) → request ≡ request_is.Input task → (text : List ℕ) → Writes task bytes text → Answers request bytes Answered text
+  answers_input task is text written = subst (λ (r : Request). Answers r bytes Answered text) (sym is) (refl, written)
+
+pub returns-in_err-deliver-in-Rule-clause-written : goal.returns-in_err-deliver-in-Rule-clause-written
+returns-in_err-deliver-in-Rule-clause-written g c =
+    let answers : Status → List ℕ → Type 0 = Answers c.args.request c.args.bytes.now in
+    let r = c.from_residual.result in
+    less_left_on g.O.Sink (λ (t : List ℕ). t ≡ c.as_bytes.result.now) (WithStatus r answers)
+    (λ text is. (
+      Answered,
+      no_status (λ (s : Status). s ≡ Answered) _ r c.from_residual.ensures.1,
+      answers_rule c.args.bytes.now c.args.request c.in-Rule.rule c.in-Rule.is text (is ∙ (c.as_bytes.ensures.value ∙ c.words.ensures)),
+    )) c.args.out.now c.deliver.new.writer r c.in_err-deliver-in-Rule.field-0.0 c.from_residual.ensures.1 c.in_err-deliver-in-Rule.ensures.text
+
+pub returns-in_ok-deliver-in-Rule-clause-written : goal.returns-in_ok-deliver-in-Rule-clause-written
+returns-in_ok-deliver-in-Rule-clause-written g c =
+    let answers : Status → List ℕ → Type 0 = Answers c.args.request c.args.bytes.now in
+    less_sent g.O.Sink (λ (t : List ℕ). t ≡ c.as_bytes.result.now) (λ (t : List ℕ). (s : Status) × (Answered ≡ s) × answers s t)
+    (λ text is. (
+      Answered,
+      refl,
+      answers_rule c.args.bytes.now c.args.request c.in-Rule.rule c.in-Rule.is text (is ∙ (c.as_bytes.ensures.value ∙ c.words.ensures)),
+    )) c.args.out.now c.deliver.new.writer c.in_ok-deliver-in-Rule.ensures.text
+
+pub returns-in-Check-clause-written : goal.returns-in-Check-clause-written
+returns-in-Check-clause-written g c =
+    subst (λ (r : Request). Delivers (WithStatus c.check_text.result (Answers r c.args.bytes.now)) c.check_text.result g.O.Sink c.args.out.now c.check_text.new.writer)
+    (sym c.in-Check.is) c.check_text.ensures.verdicts
+
+pub returns-in_err-task_answer-in-Input-clause-written : goal.returns-in_err-task_answer-in-Input-clause-written
+returns-in_err-task_answer-in-Input-clause-written g c =
+    let answers : Status → List ℕ → Type 0 = Answers c.args.request c.args.bytes.now in
+    let r = c.from_residual-in_err-task_answer-in-Input.result in
+    let made = c.from_residual-in_err-task_answer-in-Input.ensures.1 in
+    less_left_on g.O.Sink (Writes c.in-Input.task c.args.bytes.now) (WithStatus r answers)
+    (λ text written. (
+      Answered,
+      no_status (λ (s : Status). s ≡ Answered) _ r made,
+      answers_input c.args.bytes.now c.args.request c.in-Input.task c.in-Input.is text written,
+    )) c.args.out.now c.task_answer.new.out r c.in_err-task_answer-in-Input.field-0.0 made c.in_err-task_answer-in-Input.ensures.written
+
+pub returns-in_ok-task_answer-in-Input-clause-written : goal.returns-in_ok-task_answer-in-Input-clause-written
+returns-in_ok-task_answer-in-Input-clause-written g c =
+    let answers : Status → List ℕ → Type 0 = Answers c.args.request c.args.bytes.now in
+    less_sent g.O.Sink (Writes c.in-Input.task c.args.bytes.now) (λ (t : List ℕ). (s : Status) × (Answered ≡ s) × answers s t)
+    (λ text written. (Answered, refl, answers_input c.args.bytes.now c.args.request c.in-Input.task c.in-Input.is text written))
+    c.args.out.now c.task_answer.new.out c.in_ok-task_answer-in-Input.ensures.written
