@@ -1,30 +1,39 @@
 -- A text that goes through a buffer of its own, which is empty at first and at the end, is delivered.
-use Rattle.std.proofs.Common.{◌≡◌, ℕ, true, List, [], ◌++◌, Result, Ok, IsErrAnd, ◌∙◌}
+use Rattle.std.proofs.Common.{◌≡◌, ℕ, true, List, [], Result, Ok, Err, IsErrAnd, ◌∙◌, subst}
 use Rattle.std.specs.Io.KnownBytes.{Appends}
 use Rattle.pb_base.specs.declared.or_memory.OrMemory.{OrMemory}
 use Rattle.pb_sorts.specs.Sink.{AppendsPrefix}
 use Rattle.pb_sorts.specs.declared.sink.E02.{E02}
 use Rattle.pb_sorts.specs.declared.sink.Sink.{Ghosts}
-use Rattle.pb_report.specs.Delivery.{Delivers, is_failed}
-use Rattle.pb_report.specs.Sending.{IsSent}
+use Rattle.pb_report.specs.Delivery.{Delivers, SomeText, is_failed}
+use Rattle.pb_report.specs.Sending.{Sends}
+use Rattle.pb_report.specs.declared.buffer.TextWriter.{TextWriter}
 use Rattle.pb_report.proofs.Delivery.{left_part}
 use Rattle.pb_report.proofs.Sending.{all_out, part_out, begins}
 
-module _ {S T : Type 0} (sink : Ghosts S) (IsWritten : List ℕ → Type 0) (text : List ℕ) (is : IsWritten text) (old : S) (before : List ℕ) (none : before ≡ []) where
+module _ {S U : Type 0} {sink : Ghosts S} (IsWritten : List ℕ → Type 0) {text : List ℕ} {a b : TextWriter S} (is : IsWritten text) where
   -- the text didn't come whole
-  pub part_written : (new : S) (r : Result T (OrMemory E02)) (e : OrMemory E02) → IsErrAnd r (λ x. x ≡ e) → is_failed e ≡ true
-      → AppendsPrefix (sink.taken old) (sink.taken new) (before ++ text) × (sink.has_failed new ≡ true) → Delivers is_failed IsWritten r sink old new
-  part_written new r e made failed h =
-      left_part is_failed sink IsWritten old new r e made failed text is (begins (sink.taken old) (sink.taken new) before text none h.0) h.1
+  pub part_written : {T : Type 0} {x : E02} {after : S} (r : Result T (OrMemory E02)) (e : OrMemory E02) → Sends {T = U} text (Err x) sink a b → a.buffer.now.bytes.items ≡ []
+      → IsErrAnd r (λ y. y ≡ e) → is_failed e ≡ true → b.sink.now ≡ after → Delivers is_failed IsWritten r sink a.sink.now after
+  part_written {T} {x} {after} r e sent none made failed same =
+      subst (Delivers is_failed IsWritten r sink a.sink.now) same
+      (left_part is_failed sink IsWritten a.sink.now b.sink.now r e made failed text is
+      (begins (sink.taken a.sink.now) (sink.taken b.sink.now) a.buffer.now.bytes.items text none sent.delivers.0) sent.delivers.1)
 
-  module _ (mid : S) (after : List ℕ) (sent : IsSent (sink.taken old) (sink.taken mid) before after text × (sink.has_failed mid ≡ sink.has_failed old)) (new : S) where
-    -- it came, and the buffer wasn't emptied
-    pub end_unwritten : (r : Result T (OrMemory E02)) (e : OrMemory E02) → IsErrAnd r (λ x. x ≡ e) → is_failed e ≡ true
-        → AppendsPrefix (sink.taken mid) (sink.taken new) after × (sink.has_failed new ≡ true) → Delivers is_failed IsWritten r sink old new
-    end_unwritten r e made failed h =
-        left_part is_failed sink IsWritten old new r e made failed text is
-        (part_out (sink.taken old) (sink.taken mid) (sink.taken new) before after text none sent.0 h.0) h.1
+  -- it came, and the buffer wasn't emptied
+  pub end_unwritten : {T : Type 0} {u : U} {new after : S} (r : Result T (OrMemory E02)) (e : OrMemory E02) → Sends text (Ok u) sink a b → a.buffer.now.bytes.items ≡ []
+      → AppendsPrefix (sink.taken b.sink.now) (sink.taken new) b.buffer.now.bytes.items × (sink.has_failed new ≡ true)
+      → IsErrAnd r (λ y. y ≡ e) → is_failed e ≡ true → new ≡ after → Delivers is_failed IsWritten r sink a.sink.now after
+  end_unwritten {T} {u} {new} {after} r e sent none part made failed same =
+      subst (Delivers is_failed IsWritten r sink a.sink.now) same
+      (left_part is_failed sink IsWritten a.sink.now new r e made failed text is
+      (part_out (sink.taken a.sink.now) (sink.taken b.sink.now) (sink.taken new) a.buffer.now.bytes.items b.buffer.now.bytes.items text none sent.delivers.0 part.0) part.1)
 
-    pub all_written : (v : T) → Appends (sink.taken mid) (sink.taken new) after × (sink.has_failed new ≡ sink.has_failed mid)
-        → Delivers {E = OrMemory E02} is_failed IsWritten (Ok v) sink old new
-    all_written v h = ((text, is, all_out (sink.taken old) (sink.taken mid) (sink.taken new) before after text none sent.0 h.0), h.1 ∙ sent.1)
+  pub all_written : {u : U} {new after : S} → Sends text (Ok u) sink a b → a.buffer.now.bytes.items ≡ []
+      → Appends (sink.taken b.sink.now) (sink.taken new) b.buffer.now.bytes.items × (sink.has_failed new ≡ sink.has_failed b.sink.now) → new ≡ after
+      → SomeText IsWritten (Appends (sink.taken a.sink.now) (sink.taken after)) × (sink.has_failed after ≡ sink.has_failed a.sink.now)
+  all_written {u} {new} {after} sent none all same =
+      subst (λ (s : S). SomeText IsWritten (Appends (sink.taken a.sink.now) (sink.taken s)) × (sink.has_failed s ≡ sink.has_failed a.sink.now)) same (
+        (text, is, all_out (sink.taken a.sink.now) (sink.taken b.sink.now) (sink.taken new) a.buffer.now.bytes.items b.buffer.now.bytes.items text none sent.delivers.0 all.0),
+        all.1 ∙ sent.delivers.1,
+      )

@@ -1,6 +1,5 @@
 -- What a call that writes leaves of its sink, by how it ends.
 use Rattle.std.proofs.Common.{◌≡◌, ℕ, Bool, true, false, List, Result, Ok, Err, IsErrAnd, refl, sym, ap, ◌∙◌, subst}
-use Rattle.std.specs.Io.KnownBytes.{Appends}
 use Rattle.pb_sorts.specs.Sink.{AppendsPrefix}
 use Rattle.pb_sorts.specs.declared.sink.Sink.{Ghosts}
 use Rattle.pb_report.specs.Delivery.{Delivers, Leaves, SomeText}

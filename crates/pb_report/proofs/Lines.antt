@@ -19,18 +19,20 @@ use Rattle.pb_evidence.proofs.Finding.{contains_at}
 use Rattle.pb_report.specs.declared.module_evidence.Explanation.{Explanation}
 use Rattle.pb_report.specs.Cuts.{is_cut}
 use Rattle.pb_report.specs.CallPlaces.{AreCallPlaces, placed_names}
-use Rattle.pb_report.specs.EvidenceText.{dependency_text, dependencies_text, evidence_line, evidence_lines}
+use Rattle.pb_report.specs.EvidenceText.{dependency_text, dependencies_text, evidence_line, evidence_lines, line_tail}
 use Rattle.pb_report.specs.Report.{truth_line}
 use Rattle.pb_report.specs.ModuleEvidence.{IsExplanation, module_evidence_text}
-use Rattle.pb_report.specs.ModuleLines.{evidence_line_of, evidence_lines_of}
+use Rattle.pb_report.specs.ModuleTexts.{IsTextOfTrees}
+use Rattle.pb_report.specs.ModuleLines.{evidence_line_at, evidence_line_of, evidence_lines_of}
 
-pub next_dependency : (name : ℕ → List ℕ) (ns : List ℕ) (ps : List (Option Place)) (k : ℕ) → k < length ns →
-    placed_names name (drop k ns) (drop k ps) ≡ dependency_text name (get_or ns k 0) (get_or ps k None) ++ placed_names name (drop (k + 1) ns) (drop (k + 1) ps)
-next_dependency name ns ps k l =
+-- of the names from k on, the first one and the others
+pub next_dependency : (name : ℕ → List ℕ) (ns : List ℕ) (ps : List (Option Place)) (k : ℕ) (place : Option Place) → k < length ns → place ≡ get_or ps k None →
+    placed_names name (drop k ns) (drop k ps) ≡ dependency_text name (get_or ns k 0) place ++ placed_names name (drop (k + 1) ns) (drop (k + 1) ps)
+next_dependency name ns ps k place l is =
     let here : get_or (drop k ps) 0 None ≡ get_or ps k None = get_or-drop k ps 0 None ∙ ap (λ (i : ℕ). get_or ps i None) (omega arith) in
     ap (λ (xs : List ℕ). placed_names name xs (drop k ps)) (drop_more ns k 0 l)
-    ∙ (ap (λ (p : Option Place). dependency_text name (get_or ns k 0) p ++ placed_names name (drop (k + 1) ns) (drop 1 (drop k ps))) here
-    ∙ ap (λ (xs : List (Option Place)). dependency_text name (get_or ns k 0) (get_or ps k None) ++ placed_names name (drop (k + 1) ns) xs) (drop-drop 1 k ps))
+    ∙ (ap (λ (p : Option Place). dependency_text name (get_or ns k 0) p ++ placed_names name (drop (k + 1) ns) (drop 1 (drop k ps))) (here ∙ sym is)
+    ∙ ap (λ (xs : List (Option Place)). dependency_text name (get_or ns k 0) place ++ placed_names name (drop (k + 1) ns) xs) (drop-drop 1 k ps))
 
 -- names with the places of a list, where these are those of a function
 pub placed_is : (name : ℕ → List ℕ) (place : ℕ → Option Place) (ns : List ℕ) (ps : List (Option Place))
@@ -79,7 +81,7 @@ module _ (m : Contents) (have : ModuleHasTrees m) (x : Explanation) (is : IsExpl
       omega (arith, all, shown.graph.below x (shown.graph.closed n x (contains_at e.instances.items k l, rests)))
 
   -- the names behind the instance at k, with the places of the list from there on
-  pub placed_at : (place : ℕ → ℕ → Option Place) (ps : List (Option Place)) → AreCallPlaces place e ps → (k : ℕ) → k < length e.instances.items
+  placed_at : (place : ℕ → ℕ → Option Place) (ps : List (Option Place)) → AreCallPlaces place e ps → (k : ℕ) → k < length e.instances.items
       → (list : List ℕ) → list ≡ row e.places.items e.dependencies.items k → (first : ℕ) → first ≡ get_or e.places.items k 0
       → placed_names (instance_name m) list (drop first ps)
       ≡ dependencies_text (instance_name m) (place (get_or e.instances.items k 0)) ((graph_of e).dependencies (get_or e.instances.items k 0))
@@ -95,14 +97,28 @@ module _ (m : Contents) (have : ModuleHasTrees m) (x : Explanation) (is : IsExpl
   pub cut_within : (k : ℕ) → k < length e.instances.items → k < length x.cuts.items
   cut_within k l = omega (arith, l, ap length (is have.0 have.1).cuts, length-map e.instances.items (is_cut have.0 e))
 
-  pub cut_at : (trees : ℕ → Tree) → AreTrees m trees → (k : ℕ) → k < length e.instances.items →
+  cut_at : (trees : ℕ → Tree) → AreTrees m trees → (k : ℕ) → k < length e.instances.items →
       get_or x.cuts.items k false ≡ is_cut trees e (get_or e.instances.items k 0)
   cut_at trees are k l =
       ap (λ (cs : List Bool). get_or cs k false) (is trees are).cuts
       ∙ get_or-map (is_cut trees e) e.instances.items k 0 false l
 
+  -- the line of the instance at k, from parts that are read
+  pub line_is : (trees : ℕ → Tree) → AreTrees m trees → (place : ℕ → ℕ → Option Place) (ps : List (Option Place)) → AreCallPlaces place e ps → (k : ℕ) → k < length e.instances.items
+      → (number first : ℕ) (list : List ℕ) (behind : List (Option Place)) (cut : Bool) → number ≡ get_or e.instances.items k 0 → list ≡ row e.places.items e.dependencies.items k
+      → first ≡ get_or e.places.items k 0 → behind ≡ drop first ps → cut ≡ get_or x.cuts.items k false
+      → instance_name m number ++ line_tail e.truth (placed_names (instance_name m) list behind) cut ≡ evidence_line_at m trees place e k
+  line_is trees has place ps are k l number first list behind cut here rests from places cuts =
+      let name = instance_name m in
+      let n = get_or e.instances.items k 0 in
+      let names = dependencies_text name (place n) ((graph_of e).dependencies n) in
+      let placed = ap (placed_names name list) places ∙ placed_at place ps are k l list rests first from in
+      ap (λ (i : ℕ). name i ++ line_tail e.truth (placed_names name list behind) cut) here
+      ∙ (ap (λ (text : List ℕ). name n ++ line_tail e.truth text cut) placed ∙ ap (λ (b : Bool). name n ++ line_tail e.truth names b) (cuts ∙ cut_at trees has k l))
+
   -- the text is the same whichever trees the module's instances have
-  pub one_text : (place : ℕ → ℕ → Option Place) (s t : ℕ → Tree) → AreTrees m s → AreTrees m t → module_evidence_text m s place e ≡ module_evidence_text m t place e
-  one_text place s t has are =
+  pub one_text : (place : ℕ → ℕ → Option Place) → IsTextOfTrees m (λ trees. module_evidence_text m trees place e) (module_evidence_text m have.0 place e)
+  one_text place t are =
+      let s = have.0 in
       ap (λ (lines : List ℕ). truth_line e.truth ++ lines)
-      (same_lines (instance_name m) place e.truth (graph_of e).dependencies (is_cut s e) (is_cut t e) e.instances.items (sym (is s has).cuts ∙ (is t are).cuts))
+      (same_lines (instance_name m) place e.truth (graph_of e).dependencies (is_cut s e) (is_cut t e) e.instances.items (sym (is s have.1).cuts ∙ (is t are).cuts))

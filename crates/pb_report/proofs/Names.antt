@@ -17,6 +17,7 @@ use Rattle.pb_bytecode.specs.Decoded.{module_contents}
 use Rattle.pb_bytecode.specs.Views.{text_of, sort_contents, equation_contents}
 use Rattle.pb_bytecode.specs.declared.equation.Equation.{Equation}
 use Rattle.pb_bytecode.specs.declared.module.Module.{Module}
+use Rattle.pb_bytecode.specs.declared.sort.Sort.{Sort}
 use Rattle.pb_game_of_trees.proofs.Sizes.{contents_at}
 use Rattle.pb_report.specs.InstanceName.{value_name, next_value, more_values, values_text, arguments, equation_name, name_of, instance_name}
 
@@ -62,7 +63,7 @@ found_in [] k values h = cc
 found_in (e ∷ es) zero values h = record { equation = e; declared = refl; lengths = same_length e.parameters values h }
 found_in (e ∷ es) (suc k) values h = let f = found_in es k values h in record { equation = f.equation; declared = f.declared; lengths = f.lengths }
 
-module _ (m : Contents) (held : Module) (same : module_contents held ≡ m) (n : ℕ) (i : Instance) (at : slice_get (instances (carriers_of (parameters m))) n ≡ Some i) where
+module _ {m : Contents} (held : Module) (same : module_contents held ≡ m) (n : ℕ) {i : Instance} (at : slice_get (instances (carriers_of (parameters m))) n ≡ Some i) where
   equations_same : map equation_contents held.equations.items ≡ m.equations
   equations_same = ap (λ (x : Contents). x.equations) same
 
@@ -78,8 +79,17 @@ module _ (m : Contents) (held : Module) (same : module_contents held ≡ m) (n :
   pub lengths : (e : Equation) → e ≡ get_or held.equations.items i.equation e → length i.values ≡ length e.parameters.items
   lengths e is = found.lengths ∙ ap (λ (x : EquationContents). length x.parameters) (same_Some _ _ (sym found.declared ∙ read e is))
 
-  pub name_is : (e : Equation) → e ≡ get_or held.equations.items i.equation e →
+  spelled : (e : Equation) → e ≡ get_or held.equations.items i.equation e →
       text_of e.name ++ arguments (map sort_contents held.sorts.items) e.parameters.items i.values ≡ instance_name m n
-  name_is e is =
+  spelled e is =
       ap (λ (sorts : List SortContents). text_of e.name ++ arguments sorts e.parameters.items i.values) (ap (λ (x : Contents). x.sorts) same)
       ∙ (sym (ap (λ (o : Option EquationContents). equation_name m o i.values) (read e is)) ∙ sym (ap (name_of m) at))
+
+  -- the name, from parts that are read
+  pub name_is : (e : Equation) → e ≡ get_or held.equations.items i.equation e → (name : List ℕ) (sorts : List Sort) (cs : List Carrier) (vs : Tuple)
+      → name ≡ text_of e.name → sorts ≡ held.sorts.items → cs ≡ e.parameters.items → vs ≡ i.values → name ++ arguments (map sort_contents sorts) cs vs ≡ instance_name m n
+  name_is e is name sorts cs vs names declared parameters values =
+      ap (λ (xs : List ℕ). xs ++ arguments (map sort_contents sorts) cs vs) names
+      ∙ (ap (λ (xs : List Sort). text_of e.name ++ arguments (map sort_contents xs) cs vs) declared
+      ∙ (ap (λ (xs : List Carrier). text_of e.name ++ arguments (map sort_contents held.sorts.items) xs vs) parameters
+      ∙ (ap (λ (xs : Tuple). text_of e.name ++ arguments (map sort_contents held.sorts.items) e.parameters.items xs) values ∙ spelled e is)))

@@ -13,10 +13,10 @@ use Rattle.pb_bytecode.specs.Contents.{Contents}
 use Rattle.pb_bytecode.specs.Meaning.{AreTrees, signature_of}
 use Rattle.pb_strategy.proofs.Winners.{merely_solved}
 use Rattle.pb_game_of_trees.specs.declared.solved.Solved.{Solved}
-use Rattle.pb_game_of_trees.specs.Explored.{IsModuleGame}
+use Rattle.pb_game_of_trees.specs.Explored.{ModuleHasTrees, IsModuleGame}
 use Rattle.pb_report.specs.InstanceName.{instance_name}
 use Rattle.pb_report.specs.SolutionText.{solution_line, solution_text}
-use Rattle.pb_report.specs.ModuleTexts.{module_solution_text}
+use Rattle.pb_report.specs.ModuleTexts.{module_solution_text, IsTextOfTrees}
 
 same_numbers : (s t : ℕ → Tree) (rows : List TokenRow) → map (λ (r : Row). r.number) (rows_of s rows) ≡ map (λ (r : Row). r.number) (rows_of t rows)
 same_numbers s t [] = refl
@@ -55,7 +55,9 @@ module _ (m : Contents) (rows : List TokenRow) (won : Solved) (game : IsModuleGa
       (λ row c. merely_solved won.built.game won.certified won.certificate (v row) signatures trees reached is.game row c refl)
       ∙ ap (map W) (sym is.vertices)
 
-  pub one_solution : (s t : ℕ → Tree) → AreTrees m s → AreTrees m t → module_solution_text m s rows ≡ module_solution_text m t rows
-  one_solution s t has have =
+  -- the text for any trees of the module is the text for all
+  pub one_solution : (some : ModuleHasTrees m) → IsTextOfTrees m (λ trees. module_solution_text m trees rows) (module_solution_text m some.0 rows)
+  one_solution some t have =
       let signatures = map signature_of m.equations in
-      same_text (instance_name m) (solved signatures s) (solved signatures t) (rows_of s rows) (rows_of t rows) (same_numbers s t rows) (truths s has ∙ sym (truths t have))
+      let s = some.0 in
+      same_text (instance_name m) (solved signatures s) (solved signatures t) (rows_of s rows) (rows_of t rows) (same_numbers s t rows) (truths s some.1 ∙ sym (truths t have))

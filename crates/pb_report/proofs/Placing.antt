@@ -7,15 +7,22 @@ use Rattle.pb_fixpoint_trees.specs.Rows as plain
 use Rattle.pb_fixpoint_trees.specs.Game.{vertex_of}
 use Rattle.pb_fixpoint_trees.specs.Laws.{RowsHaveVertices}
 use Rattle.pb_fixpoint_rows.specs.Row.{TokenRow, nothing}
+use Rattle.pb_fixpoint_rows.specs.Reached.{rows_of}
+use Rattle.pb_game.specs.declared.Game.{Game}
+use Rattle.pb_strategy.specs.Meaning.{IsGameOfRows}
 use Rattle.pb_game.specs.Games.{vertex_count}
 use Rattle.pb_game_of_trees.specs.Held.{held}
 use Rattle.pb_game_of_trees.specs.declared.tree_game.TreeGame.{TreeGame}
-use Rattle.pb_game_of_trees.specs.TreeGame.{IsTreeGame}
-use Rattle.pb_game_of_trees.proofs.Reached.{AreReached}
-use Rattle.pb_game_of_trees.proofs.Placed.{row_within}
+use Rattle.pb_game_of_trees.specs.TreeGame.{AreRowsFrom, IsTreeGame}
+use Rattle.pb_game_of_trees.proofs.Reached.{AreReached, found_row, reached_of}
+use Rattle.pb_game_of_trees.proofs.Placed.{count_rows, row_within}
+use Rattle.pb_game_of_trees.proofs.Vertices.{vertices_are}
 use Rattle.pb_evidence.specs.Marks.{IsMarked}
-use Rattle.pb_evidence.specs.Evidence.{AreNumbers}
+use Rattle.pb_evidence.specs.Evidence.{AreNumbers, IsEvidenceAt, Shows}
+use Rattle.pb_evidence.specs.declared.Evidence.{Evidence}
 use Rattle.pb_report.specs.InstanceMarks.{AreMarked}
+use Rattle.pb_report.specs.VertexNames.{AreRising}
+use Rattle.pb_report.proofs.ReachedGames.{vertices_rise}
 
 -- the same marks, otherwise written
 pub moved : (vs ws : List ℕ) (rows : List TokenRow) (done : ℕ) (marks ms : List Bool) (numbers ns : List ℕ) → vs ≡ ws → marks ≡ ms → numbers ≡ ns →
@@ -27,10 +34,22 @@ moved vs ws rows done marks ms numbers ns v m n are =
 abbrev none : plain.Row
 none = record { number = 0; tree = Single No }
 
-module _ (signatures : List Signature) (trees : ℕ → Tree) (rows : List TokenRow) (reached : List plain.Row) (initial : ℕ) (built : TreeGame)
-    (are : AreReached signatures trees rows reached) (is : IsTreeGame signatures trees reached initial built) where
-  pub count : length rows ≡ length reached
+module _ {signatures : List Signature} {trees : ℕ → Tree} {rows : List TokenRow} {initial : ℕ} {built : TreeGame}
+    (from : AreRowsFrom signatures trees rows initial) (is : IsTreeGame signatures trees (rows_of trees rows) initial built) where
+  abbrev reached : List plain.Row
+  reached = rows_of trees rows
+
+  are : AreReached signatures trees rows reached
+  are = reached_of trees signatures rows from.are
+
+  count : length rows ≡ length reached
   count = ap length are.held ∙ length-map reached held
+
+  pub as_many : RowsHaveVertices → length built.vertices.items ≡ length rows
+  as_many law = count_rows law signatures trees reached initial built is ∙ sym count
+
+  pub vertices_rising : AreRising built.vertices.items
+  vertices_rising = subst AreRising (vertices_are reached are.rising ∙ sym is.vertices) (vertices_rise reached 2)
 
   vertex_at : (k : ℕ) (row : plain.Row) → k < length reached → get_or reached k row ≡ row → get_or built.vertices.items k 0 ≡ vertex_of reached row.number
   vertex_at k row l e =
@@ -54,7 +73,7 @@ module _ (signatures : List Signature) (trees : ℕ → Tree) (rows : List Token
       omega (arith, within, vertex_at k row below (there k below))
 
   module _ (marks : List Bool) (numbers : List ℕ) (marked : AreMarked built.vertices.items rows (length rows) marks numbers) where
-    pub numbered : AreNumbers reached marks numbers
+    numbered : AreNumbers reached marks numbers
     numbered = record {
       marked = λ n found.
           let k = found.1.0 in
@@ -77,5 +96,11 @@ module _ (signatures : List Signature) (trees : ℕ → Tree) (rows : List Token
     }
 
     -- the initial instance's vertex is marked
-    pub start_marked : plain.IsReached reached initial → IsMarked marks built.start
-    start_marked found = subst (IsMarked marks) (sym is.start) (numbered.marked initial found)
+    pub start_marked : IsMarked marks built.start
+    start_marked = subst (IsMarked marks) (sym is.start) (numbered.marked initial (found_row trees rows initial from.found))
+
+    -- evidence at its vertex shows its truth
+    pub shown : (g : Game) (e : Evidence) → g ≡ built.game → IsEvidenceAt g marks numbers built.start e → Shows signatures trees initial e
+    shown g e same at =
+        at signatures trees reached (subst (λ (x : Game). IsGameOfRows signatures trees reached x) (sym same) is.game) numbered
+        initial (found_row trees rows initial from.found) (sym is.start)

@@ -96,9 +96,6 @@ module _ (m : Contents) (rows : List in_memory.TokenRow) (built : TreeGame) (tre
   pub same_length : length built.vertices.items ≡ length rows
   same_length = ap length vertices_in ∙ (length-vertices_from reached 2 ∙ (sym (length-map reached held) ∙ sym (ap length are.held)))
 
-  pub are_rising : AreRising built.vertices.items
-  are_rising = subst AreRising (sym vertices_in) (vertices_rise reached 2)
-
   pub are_numbers : (v : ℕ) → IfSome (number_in built.vertices.items rows v) (λ n. n < count_of (parameters m))
   are_numbers v =
       let all : count_of (parameters m) ≡ total (map signature_of m.equations) = count_is_total m in

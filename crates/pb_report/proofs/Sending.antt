@@ -1,5 +1,5 @@
 -- One piece of text after another.
-use Rattle.std.proofs.Common.{◌≡◌, ℕ, ◌+◌, Bool, true, List, [], ◌++◌, length, take, Option, Result, Ok, Err, refl, sym, ap, ◌∙◌, subst, append_assoc, append-nil, length-append, arith}
+use Rattle.std.proofs.Common.{◌≡◌, ℕ, ◌+◌, true, List, [], ◌++◌, length, take, Option, Result, Ok, Err, refl, sym, ap, ◌∙◌, subst, append_assoc, append-nil, length-append, arith}
 use Rattle.std.specs.Prelude.{OnOk, OnErr, IsErr}
 use Rattle.std.specs.Io.KnownBytes.{Appends}
 use Rattle.std.proofs.KnownBytes.{Appends-nil, Appends-trans}
@@ -80,17 +80,17 @@ module _ {S : Type 0} {members : Ghosts S} where
   }
 
   -- one text was sent, and then another one is
-  pub sends_then : {T U : Type 0} {u : U} {r : Result T E02} {a b c : TextWriter S} (A B : List ℕ) → Sends A (Ok u) members a b → Sends B r members b c
+  pub sends_then : {T U : Type 0} {u : U} {r : Result T E02} {a b c : TextWriter S} {A B : List ℕ} → Sends A (Ok u) members a b → Sends B r members b c
       → Sends (A ++ B) r members a c
-  sends_then {T} {U} {u} {r} {a} {b} {c} A B first second = record {
+  sends_then {T} {U} {u} {r} {a} {b} {c} {A} {B} first second = record {
     same_sink = second.same_sink ∙ first.same_sink;
     delivers = passes_then members r a.sink.now b.sink.now c.sink.now _ _ _ A B first.delivers second.delivers;
   }
 
   -- a text is not sent, so neither is what follows it
-  pub sends_err : {T U : Type 0} {e : E02} {r : Result T E02} {a b : TextWriter S} (A B : List ℕ) → IsErr r → Sends {T = U} A (Err e) members a b
+  pub sends_err : {T U : Type 0} {e : E02} {r : Result T E02} {a b : TextWriter S} {A : List ℕ} (B : List ℕ) → IsErr r → Sends {T = U} A (Err e) members a b
       → Sends (A ++ B) r members a b
-  sends_err {T} {U} {e} {r} {a} {b} A B is h = record {
+  sends_err {T} {U} {e} {r} {a} {b} {A} B is h = record {
     same_sink = h.same_sink;
     delivers = passes_err members r a.sink.now b.sink.now _ _ A B is h.delivers;
   }

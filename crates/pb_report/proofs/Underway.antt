@@ -13,23 +13,23 @@ pub record IsUnderway {S : Type 0} (members : Ghosts S) (old new : TextWriter S)
   pub split : done ++ rest ≡ whole
 
 module _ {S : Type 0} {members : Ghosts S} where
-  pub begun : (a : TextWriter S) (whole : List ℕ) → IsUnderway members a a whole whole
-  begun a whole = record { done = []; sent = sends_nothing 0 a; split = refl }
+  pub begun : {a : TextWriter S} {whole : List ℕ} → IsUnderway members a a whole whole
+  begun {a} {whole} = record { done = []; sent = sends_nothing 0 a; split = refl }
 
   -- a piece of the rest was sent
   pub went_on : {U : Type 0} {u : U} {a b c : TextWriter S} {whole rest A more : List ℕ} → rest ≡ A ++ more → IsUnderway members a b whole rest
       → Sends A (Ok u) members b c → IsUnderway members a c whole more
   went_on {U} {u} {a} {b} {c} {whole} {rest} {A} {more} e way h = record {
     done = way.done ++ A;
-    sent = sends_ok (sends_then way.done A way.sent h);
+    sent = sends_ok (sends_then way.sent h);
     split = append_assoc way.done A more ∙ (ap (λ (xs : List ℕ). way.done ++ xs) (sym e) ∙ way.split);
   }
 
   -- a piece of the rest was not sent
-  pub gave_up : {T U : Type 0} {e : E02} {r : Result T E02} {a b c : TextWriter S} {whole rest : List ℕ} (A more : List ℕ) → rest ≡ A ++ more → IsUnderway members a b whole rest
+  pub gave_up : {T U : Type 0} {e : E02} {r : Result T E02} {a b c : TextWriter S} {whole rest A : List ℕ} (more : List ℕ) → rest ≡ A ++ more → IsUnderway members a b whole rest
       → IsErr r → Sends {T = U} A (Err e) members b c → Sends whole r members a c
-  gave_up {T} {U} {e} {r} {a} {b} {c} {whole} {rest} A more step way err h =
-      sends_as (ap (λ (xs : List ℕ). way.done ++ xs) (sym step) ∙ way.split) (sends_then way.done (A ++ more) way.sent (sends_err A more err h))
+  gave_up {T} {U} {e} {r} {a} {b} {c} {whole} {rest} {A} more step way err h =
+      sends_as (ap (λ (xs : List ℕ). way.done ++ xs) (sym step) ∙ way.split) (sends_then way.sent (sends_err more err h))
 
   -- nothing is to come
   pub ended : {U : Type 0} {u : U} {a b : TextWriter S} {whole rest : List ℕ} → rest ≡ [] → IsUnderway members a b whole rest → Sends whole (Ok u) members a b

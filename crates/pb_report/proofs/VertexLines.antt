@@ -5,8 +5,11 @@ use Rattle.std.specs.Option.{is_some}
 use Rattle.std.proofs.lemmas.Bool.{cases_Bool, cases_lt, eqb-true, eqb-false, cond-true, cond-false}
 use Rattle.pb_fixpoint_rows.specs.Row as in_memory
 use Rattle.pb_game.specs.declared.Game.{Game}
-use Rattle.pb_report.specs.GameText.{vertex_at, vertex_line}
-use Rattle.pb_report.specs.VertexNames.{number_in, IsAtRow, AreRising, lines_of}
+use Rattle.pb_game.specs.Games.{owner_of, priority_of, successors_of}
+use Rattle.pb_fixpoint_trees.specs.Players.{parity_of}
+use Rattle.pb_bytecode.specs.Contents.{Contents}
+use Rattle.pb_report.specs.GameText.{head, numbers_text, vertex_at, vertex_line, vertex_text}
+use Rattle.pb_report.specs.VertexNames.{name_by, name_in, number_in, IsAtRow, AreRising, lines_of}
 
 pub number_some : (vs : List ℕ) (rs : List in_memory.TokenRow) (k v : ℕ) (d : in_memory.TokenRow) → length vs ≡ length rs → k < length vs → get_or vs k 0 ≡ v →
     ((j : ℕ) → j < k → get_or vs j 0 < v) → number_in vs rs v ≡ Some (get_or rs k d).number
@@ -57,13 +60,24 @@ module _ (vs : List ℕ) (rising : AreRising vs) (k v : ℕ) (at : IsAtRow vs k 
         (cases_lt v (slice_index vs j));
   }
 
--- of the lines from v on, the first one and the others
-pub next_line : (names : ℕ → Option (List ℕ)) (g : Game) (n v : ℕ) → v < n →
-    lines_of names g v (n - v) ≡ vertex_line v (vertex_at g v) (names v) ++ lines_of names g (v + 1) (n - (v + 1))
-next_line names g n v l =
-    let more : n - v ≡ suc (n - (v + 1)) = omega (arith, l) in
+-- of the lines from v on to the end, the first one and the others
+pub next_line : (m : Contents) (vs : List ℕ) (rows : List in_memory.TokenRow) (g : Game) (n v end : ℕ) (instance : Option ℕ) → v < end → end ≡ n → instance ≡ number_in vs rows v →
+    lines_of (name_in m vs rows) g v (n - v) ≡ vertex_line v (vertex_at g v) (name_by m v instance) ++ lines_of (name_in m vs rows) g (v + 1) (n - (v + 1))
+next_line m vs rows g n v end instance l all is =
+    let names = name_in m vs rows in
+    let more : n - v ≡ suc (n - (v + 1)) = omega (arith, l, all) in
     let next : suc v ≡ v + 1 = omega arith in
-    ap (lines_of names g v) more ∙ ap (λ (u : ℕ). vertex_line v (vertex_at g v) (names v) ++ lines_of names g u (n - (v + 1))) next
+    ap (lines_of names g v) more
+    ∙ (ap (λ (o : Option ℕ). vertex_line v (vertex_at g v) (name_by m v o) ++ lines_of names g (suc v) (n - (v + 1))) (sym is)
+    ∙ ap (λ (u : ℕ). vertex_line v (vertex_at g v) (name_by m v instance) ++ lines_of names g u (n - (v + 1))) next)
+
+-- a vertex's text, from parts that are read
+pub vertex_is : (g : Game) (v priority parity : ℕ) (successors : List ℕ) → priority ≡ priority_of g v → parity ≡ parity_of (owner_of g v) → successors ≡ successors_of g v
+    → head v priority parity ++ numbers_text successors ≡ vertex_text v (vertex_at g v)
+vertex_is g v priority parity successors p o s =
+    ap (λ (n : ℕ). head v n parity ++ numbers_text successors) p
+    ∙ (ap (λ (n : ℕ). head v (priority_of g v) n ++ numbers_text successors) o
+    ∙ ap (λ (ns : List ℕ). head v (priority_of g v) (parity_of (owner_of g v)) ++ numbers_text ns) s)
 
 pub is_there : (o : Option ℕ) → is_some o ≡ true → IsSome o
 is_there None e = cc

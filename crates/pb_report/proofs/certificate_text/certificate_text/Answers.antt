@@ -1,35 +1,14 @@
-use Rattle.std.proofs.Common.{◌≡◌, ℕ, List, Ok, refl, subst, rules}
-use Rattle.pb_report.specs.CertificateText.{certificate_text}
-use Rattle.pb_report.specs.Delivery.{Delivers, is_failed}
+use Rattle.std.proofs.Common.{refl, rules}
 use Rattle.pb_report.proofs.Buffered.{part_written, end_unwritten, all_written}
 use Rattle.pb_report.proofs.certificate_text.certificate_text.Goals as goal
 
 pub returns-in_err-write_certificate : goal.returns-in_err-write_certificate
 returns-in_err-write_certificate g c =
-    let text = certificate_text c.args.game.now c.args.solution.now in
-    let IsWritten : List ℕ → Type 0 = λ t. t ≡ text in
-    let e = c.from_residual-in_err-write_certificate in
-    let same : c.write_certificate.new.writer.sink.now ≡ c.in_err-write_certificate.sink-1-own.given.0 = search rules in
-    subst (λ (s : g.row.S.Denot). Delivers is_failed IsWritten e.result g.S.Sink c.args.sink.now s) same
-    (part_written g.S.Sink IsWritten text refl c.args.sink.now c.in_ok-buffer.buffer.bytes.items c.in_ok-buffer.ensures c.write_certificate.new.writer.sink.now
-    e.result _ e.ensures.1 refl c.in_err-write_certificate.ensures.delivers)
+    part_written _ refl _ _ c.in_err-write_certificate.ensures c.in_ok-buffer.ensures c.from_residual-in_err-write_certificate.ensures.1 refl (search rules)
 
 pub returns-in_err-finish : goal.returns-in_err-finish
 returns-in_err-finish g c =
-    let text = certificate_text c.args.game.now c.args.solution.now in
-    let IsWritten : List ℕ → Type 0 = λ t. t ≡ text in
-    let e = c.from_residual-in_err-finish in
-    let same : c.finish.new.self.sink.now ≡ c.sink-2-1.given.0 = search rules in
-    subst (λ (s : g.row.S.Denot). Delivers is_failed IsWritten e.result g.S.Sink c.args.sink.now s) same
-    (end_unwritten g.S.Sink IsWritten text refl c.args.sink.now c.in_ok-buffer.buffer.bytes.items c.in_ok-buffer.ensures c.write_certificate.new.writer.sink.now
-    c.write_certificate.new.writer.buffer.now.bytes.items c.in_ok-write_certificate.ensures.delivers c.finish.new.self.sink.now e.result _ e.ensures.1 refl
-    c.in_err-finish.ensures.written)
+    end_unwritten _ refl _ _ c.in_ok-write_certificate.ensures c.in_ok-buffer.ensures c.in_err-finish.ensures.written c.from_residual-in_err-finish.ensures.1 refl (search rules)
 
 pub returns : goal.returns
-returns g c =
-    let text = certificate_text c.args.game.now c.args.solution.now in
-    let IsWritten : List ℕ → Type 0 = λ t. t ≡ text in
-    let same : c.finish.new.self.sink.now ≡ c.sink-2-1.given.0 = search rules in
-    subst (λ (s : g.row.S.Denot). Delivers is_failed IsWritten (Ok (tt {0})) g.S.Sink c.args.sink.now s) same
-    (all_written g.S.Sink IsWritten text refl c.args.sink.now c.in_ok-buffer.buffer.bytes.items c.in_ok-buffer.ensures c.write_certificate.new.writer.sink.now
-    c.write_certificate.new.writer.buffer.now.bytes.items c.in_ok-write_certificate.ensures.delivers c.finish.new.self.sink.now (tt {0}) c.in_ok-finish.ensures.written)
+returns g c = all_written _ refl c.in_ok-write_certificate.ensures c.in_ok-buffer.ensures c.in_ok-finish.ensures.written (search rules)

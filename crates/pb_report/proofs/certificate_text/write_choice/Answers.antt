@@ -1,18 +1,12 @@
-use Rattle.std.proofs.Common.{◌++◌, decimal}
-use Rattle.std.specs.Prelude.{codes}
 use Rattle.pb_report.proofs.Sending.{sends_then, sends_err}
 use Rattle.pb_report.proofs.certificate_text.write_choice.Goals as goal
 
 pub returns-in_err-write : goal.returns-in_err-write
-returns-in_err-write g c =
-    sends_err (codes " ") (decimal c.args.choice ++ codes ";\n") c.from_residual.ensures.0 c.in_err-write.ensures
+returns-in_err-write g c = sends_err _ c.from_residual.ensures.0 c.in_err-write.ensures
 
 pub returns-in_err-write_number : goal.returns-in_err-write_number
 returns-in_err-write_number g c =
-    sends_then (codes " ") (decimal c.args.choice ++ codes ";\n") c.in_ok-write.ensures
-    (sends_err (decimal c.args.choice) (codes ";\n") c.from_residual-in_err-write_number.ensures.0 c.in_err-write_number.ensures)
+    sends_then c.in_ok-write.ensures (sends_err _ c.from_residual-in_err-write_number.ensures.0 c.in_err-write_number.ensures)
 
 pub returns : goal.returns
-returns g c =
-    sends_then (codes " ") (decimal c.args.choice ++ codes ";\n") c.in_ok-write.ensures
-    (sends_then (decimal c.args.choice) (codes ";\n") c.in_ok-write_number.ensures c.write-2.ensures)
+returns g c = sends_then c.in_ok-write.ensures (sends_then c.in_ok-write_number.ensures c.write-2.ensures)

@@ -1,19 +1,13 @@
-use Rattle.std.proofs.Common.{ℕ, Bool, false, List, ◌++◌, get_or, ap, ◌∙◌, arith}
+use Rattle.std.proofs.Common.{false, refl, arith}
 use Rattle.std.proofs.lemmas.List.{get_or_read}
-use Rattle.pb_evidence.specs.Evidence.{graph_of}
-use Rattle.pb_report.specs.InstanceName.{instance_name}
 use Rattle.pb_report.proofs.Sending.{sends_then, sends_err, sends_as}
-use Rattle.pb_report.specs.CallPlaces.{placed_names}
-use Rattle.pb_report.specs.Cuts.{is_cut}
-use Rattle.pb_report.specs.EvidenceText.{dependencies_text, line_tail}
-use Rattle.pb_report.proofs.Lines.{instance_below, dependency_below, placed_at, cut_within, cut_at}
+use Rattle.pb_report.proofs.Lines.{instance_below, dependency_below, cut_within, line_is}
 use Rattle.pb_report.proofs.evidence_text.write_line.Goals as goal
 
 pub write_instance_name-requires : goal.write_instance_name-requires
 write_instance_name-requires g c =
-    let x = c.args.placed.now.explanation.now in
-    let read = get_or_read x.evidence.instances.items c.args.k c.index.result.now c.requires.place c.index.ensures 0 in
-    omega (arith, read, instance_below c.args.verified.now c.requires.trees x c.requires.explanation c.args.k c.requires.place)
+    let below = instance_below c.args.verified.now c.requires.trees c.args.placed.now.explanation.now c.requires.explanation c.args.k c.requires.place in
+    omega (arith, get_or_read _ _ _ c.requires.place c.index.ensures 0, below)
 
 pub write_line_end-requires : goal.write_line_end-requires
 write_line_end-requires g c =
@@ -32,34 +26,16 @@ index-requires-3 g c =
 
 pub returns-in_err-write_instance_name : goal.returns-in_err-write_instance_name
 returns-in_err-write_instance_name g c = λ trees have place are.
-    let e = c.args.placed.now.explanation.now.evidence in
-    let name = instance_name c.args.verified.now in
-    let n = get_or e.instances.items c.args.k 0 in
-    let read = get_or_read e.instances.items c.args.k c.index.result.now c.requires.place c.index.ensures 0 in
-    let rest = line_tail e.truth (dependencies_text name (place n) ((graph_of e).dependencies n)) (is_cut trees e n) in
-    sends_as (ap (λ (m : ℕ). name m ++ rest) read)
-    (sends_err (name c.index.result.now) rest c.from_residual.ensures.0 c.in_err-write_instance_name.ensures)
+    let x = c.args.placed.now.explanation.now in
+    let number = get_or_read _ _ _ c.requires.place c.index.ensures 0 in
+    sends_as (line_is c.args.verified.now c.requires.trees x c.requires.explanation trees have place _ are c.args.k c.requires.place _ _ _ _ _ number refl refl refl refl)
+    (sends_err _ c.from_residual.ensures.0 c.in_err-write_instance_name.ensures)
 
 pub returns : goal.returns
 returns g c = λ trees have place are.
-    let m = c.args.verified.now in
     let x = c.args.placed.now.explanation.now in
-    let e = x.evidence in
-    let name = instance_name m in
-    let n = get_or e.instances.items c.args.k 0 in
-    let read = get_or_read e.instances.items c.args.k c.index.result.now c.requires.place c.index.ensures 0 in
-    let within = cut_within m c.requires.trees x c.requires.explanation c.args.k c.requires.place in
-    let cut = get_or_read x.cuts.items c.args.k c.index-3.result.now within c.index-3.ensures false
-    ∙ cut_at m c.requires.trees x c.requires.explanation trees have c.args.k c.requires.place in
-    let first = get_or_read e.places.items c.args.k c.index-2.result.now (omega (arith, c.requires.place, e.divided.sized)) c.index-2.ensures 0 in
-    let names = dependencies_text name (place n) ((graph_of e).dependencies n) in
-    let placed = ap (placed_names name c.dependencies.result.now) c.behind.ensures
-    ∙ placed_at m c.requires.trees x c.requires.explanation place c.args.placed.now.call_places.now are c.args.k c.requires.place
-    c.dependencies.result.now c.dependencies.ensures c.index-2.result.now first in
-    let written = placed_names name c.dependencies.result.now c.behind.result.now in
-    let same = ap (λ (i : ℕ). name i ++ line_tail e.truth written c.index-3.result.now) read
-    ∙ (ap (λ (text : List ℕ). name n ++ line_tail e.truth text c.index-3.result.now) placed
-    ∙ ap (λ (b : Bool). name n ++ line_tail e.truth names b) cut) in
-    sends_as same
-    (sends_then (name c.index.result.now) (line_tail e.truth written c.index-3.result.now)
-    c.in_ok-write_instance_name.ensures c.write_line_end.ensures)
+    let number = get_or_read _ _ _ c.requires.place c.index.ensures 0 in
+    let first = get_or_read x.evidence.places.items c.args.k _ (omega (arith, c.requires.place, x.evidence.divided.sized)) c.index-2.ensures 0 in
+    let cut = get_or_read x.cuts.items c.args.k _ (cut_within c.args.verified.now c.requires.trees x c.requires.explanation c.args.k c.requires.place) c.index-3.ensures false in
+    sends_as (line_is c.args.verified.now c.requires.trees x c.requires.explanation trees have place _ are c.args.k c.requires.place _ _ _ _ _ number c.dependencies.ensures first c.behind.ensures cut)
+    (sends_then c.in_ok-write_instance_name.ensures c.write_line_end.ensures)

@@ -6,20 +6,17 @@ use Rattle.pb_report.proofs.Lines.{next_line}
 use Rattle.pb_report.proofs.evidence_text.write_lines.Goals as goal
 
 pub loop-k-init : goal.loop-k-init
-loop-k-init g c = λ trees have place are. begun _ _
+loop-k-init g c = λ trees have place are. begun
 
 pub returns-in_err-write_line : goal.returns-in_err-write_line
 returns-in_err-write_line g c = λ trees have place are.
-    let e = c.args.placed.now.explanation.now.evidence in
-    let step = next_line c.args.verified.now trees place e e.instances.items c.loop-k.k (omega arith) in
-    gave_up _ _ step (c.loop-k.invariant trees have place are) c.from_residual.ensures.0
-    (c.in_err-write_line.ensures trees have place are)
+    gave_up _ (next_line c.args.verified.now trees place c.args.placed.now.explanation.now.evidence _ c.loop-k.k (omega arith)) (c.loop-k.invariant trees have place are)
+    c.from_residual.ensures.0 (c.in_err-write_line.ensures trees have place are)
 
 pub loop-k-preserved : goal.loop-k-preserved
 loop-k-preserved g c = λ trees have place are.
-    let e = c.args.placed.now.explanation.now.evidence in
-    let step = next_line c.args.verified.now trees place e e.instances.items c.loop-k.k (omega arith) in
-    went_on step (c.loop-k.invariant trees have place are) (c.in_ok-write_line.ensures trees have place are)
+    went_on (next_line c.args.verified.now trees place c.args.placed.now.explanation.now.evidence _ c.loop-k.k (omega arith)) (c.loop-k.invariant trees have place are)
+    (c.in_ok-write_line.ensures trees have place are)
 
 pub returns : goal.returns
 returns g c = λ trees have place are.

@@ -8,7 +8,8 @@ use Rattle.pb_report.specs.Delivery.{is_failed}
 use Rattle.pb_report.specs.ModuleTexts.{module_game_text, IsTextOfTrees}
 use Rattle.pb_report.specs.VertexNames.{memory_text, number_in, AreRising}
 use Rattle.pb_report.proofs.Delivery.{less_delivered}
-use Rattle.pb_report.proofs.ReachedGames.{text_is, some_vertex, same_length, are_rising, are_numbers, are_edges}
+use Rattle.pb_report.proofs.Placing.{vertices_rising}
+use Rattle.pb_report.proofs.ReachedGames.{text_is, some_vertex, same_length, are_numbers, are_edges}
 use Rattle.pb_report.proofs.game_text.game_text.Goals as goal
 
 pub write_text-requires : goal.write_text-requires
@@ -25,7 +26,7 @@ write_text-requires g c =
     record {
       some = some_vertex m rows built trees reached (initial_of m) are is;
       lengths = ap length same ∙ same_length m rows built trees reached (initial_of m) are is;
-      rising = subst AreRising (sym same) (are_rising m rows built trees reached (initial_of m) are is);
+      rising = subst AreRising (sym same) (vertices_rising (c.requires.rows trees have) is);
       edges = are_edges m rows built trees reached (initial_of m) are is c.games_of_rows_are_total.ensures.total;
       numbers = λ v. subst (λ (vs : List ℕ). IfSome (number_in vs rows v) (λ n. n < count_of (parameters m))) (sym same)
           (are_numbers m rows built trees reached (initial_of m) are is v);

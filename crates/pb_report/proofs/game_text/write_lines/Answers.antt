@@ -1,7 +1,6 @@
-use Rattle.std.proofs.Common.{◌≡◌, ℕ, ◌+◌, ◌-◌, ◌<◌, ◌++◌, Option, sym, ap, ◌∙◌, subst, arith}
+use Rattle.std.proofs.Common.{◌≡◌, ℕ, ◌+◌, ◌-◌, sym, ap, ◌∙◌, subst, arith}
 use Rattle.pb_game.specs.Games.{vertex_count}
-use Rattle.pb_report.specs.GameText.{vertex_at, vertex_line}
-use Rattle.pb_report.specs.VertexNames.{name_by, name_in, lines_of, IsAtRow}
+use Rattle.pb_report.specs.VertexNames.{name_in, lines_of, IsAtRow}
 use Rattle.pb_report.proofs.Underway.{begun, went_on, gave_up, ended}
 use Rattle.pb_report.proofs.VertexLines.{next_line, next_row, same_row, is_there, is_absent}
 use Rattle.pb_report.proofs.game_text.write_lines.Goals as goal
@@ -11,38 +10,24 @@ pub loop-vertex-init : goal.loop-vertex-init
 loop-vertex-init g c =
     let all : vertex_count c.args.game.now - 0 ≡ vertex_count c.args.game.now = omega arith in
     record {
-      sent = rw all (begun _ _);
+      sent = rw all begun;
       place = record { before = λ j below. omega arith; behind = λ j from below. omega arith };
     }
 
 pub returns-in_err-write_line : goal.returns-in_err-write_line
 returns-in_err-write_line g c =
-    let m = c.args.verified.now in
-    let game = c.args.game.now in
-    let v = c.loop-vertex.vertex in
-    let n = vertex_count game in
-    let names = name_in m c.args.placed.now.vertices.now c.args.placed.now.rows.now in
-    let below : v < n = omega (arith, c.loop-vertex-test.true, c.len-vertex-end.ensures.value) in
-    let step = next_line names game n v below
-    ∙ ap (λ (o : Option ℕ). vertex_line v (vertex_at game v) (name_by m v o) ++ lines_of names game (v + 1) (n - (v + 1))) (sym c.row_number-instance.ensures.number) in
-    gave_up _ _ step c.loop-vertex.invariant.sent c.from_residual.ensures.0 c.in_err-write_line.ensures
+    gave_up _ (next_line c.args.verified.now _ _ _ _ _ _ _ c.loop-vertex-test.true c.len-vertex-end.ensures.value c.row_number-instance.ensures.number)
+    c.loop-vertex.invariant.sent c.from_residual.ensures.0 c.in_err-write_line.ensures
 
 pub loop-vertex-preserved : goal.loop-vertex-preserved
 loop-vertex-preserved g c =
-    let m = c.args.verified.now in
-    let game = c.args.game.now in
     let vs = c.args.placed.now.vertices.now in
     let k = c.loop-vertex.k in
     let v = c.loop-vertex.vertex in
-    let n = vertex_count game in
-    let names = name_in m c.args.placed.now.vertices.now c.args.placed.now.rows.now in
-    let below : v < n = omega (arith, c.loop-vertex-test.true, c.len-vertex-end.ensures.value) in
-    let step = next_line names game n v below
-    ∙ ap (λ (o : Option ℕ). vertex_line v (vertex_at game v) (name_by m v o) ++ lines_of names game (v + 1) (n - (v + 1))) (sym c.row_number-instance.ensures.number) in
-    let h = c.in_ok-write_line.ensures in
     let some = c.row_number-instance.ensures.some in
     record {
-      sent = went_on step c.loop-vertex.invariant.sent h;
+      sent = went_on (next_line c.args.verified.now _ _ _ _ _ _ _ c.loop-vertex-test.true c.len-vertex-end.ensures.value c.row_number-instance.ensures.number)
+          c.loop-vertex.invariant.sent c.in_ok-write_line.ensures;
       place = elim c.if-is_some.branch [
         | then-is_some w ↦
             let there = some.0 (is_there c.row_number-instance.result (sym c.is_some.ensures ∙ w.if-is_some.true)) in

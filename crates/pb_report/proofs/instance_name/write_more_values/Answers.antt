@@ -8,21 +8,15 @@ use Rattle.pb_report.proofs.Names.{next_at}
 use Rattle.pb_report.proofs.instance_name.write_more_values.Goals as goal
 
 pub loop-k-init : goal.loop-k-init
-loop-k-init g c = begun _ _
+loop-k-init g c = begun
 
 pub returns-in_err-write_next_value : goal.returns-in_err-write_next_value
 returns-in_err-write_next_value g c =
-    let step =
-    next_at (map sort_contents c.args.sorts.now) c.args.carriers.now c.args.values.now c.loop-k.k
-    c.index-carriers-k.result (pos 0) c.loop-k-test.true c.requires.lengths c.index-carriers-k.is in
-    gave_up _ _ step c.loop-k.invariant c.from_residual.ensures.0 c.in_err-write_next_value.ensures
+    gave_up _ (next_at _ _ _ _ _ (pos 0) c.loop-k-test.true c.requires.lengths c.index-carriers-k.is) c.loop-k.invariant c.from_residual.ensures.0 c.in_err-write_next_value.ensures
 
 pub loop-k-preserved : goal.loop-k-preserved
 loop-k-preserved g c =
-    let step =
-    next_at (map sort_contents c.args.sorts.now) c.args.carriers.now c.args.values.now c.loop-k.k
-    c.index-carriers-k.result (pos 0) c.loop-k-test.true c.requires.lengths c.index-carriers-k.is in
-    went_on step c.loop-k.invariant c.in_ok-write_next_value.ensures
+    went_on (next_at _ _ _ _ _ (pos 0) c.loop-k-test.true c.requires.lengths c.index-carriers-k.is) c.loop-k.invariant c.in_ok-write_next_value.ensures
 
 pub returns : goal.returns
 returns g c =

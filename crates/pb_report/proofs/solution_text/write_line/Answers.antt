@@ -1,12 +1,8 @@
-use Rattle.pb_report.specs.InstanceName.{instance_name}
-use Rattle.pb_report.specs.SolutionText.{truth_end}
 use Rattle.pb_report.proofs.Sending.{sends_then, sends_err}
 use Rattle.pb_report.proofs.solution_text.write_line.Goals as goal
 
 pub returns-in_err-write_instance_name : goal.returns-in_err-write_instance_name
-returns-in_err-write_instance_name g c =
-    sends_err (instance_name c.args.verified.now c.args.number) (truth_end c.args.truth) c.from_residual.ensures.0 c.in_err-write_instance_name.ensures
+returns-in_err-write_instance_name g c = sends_err _ c.from_residual.ensures.0 c.in_err-write_instance_name.ensures
 
 pub returns : goal.returns
-returns g c =
-    sends_then (instance_name c.args.verified.now c.args.number) (truth_end c.args.truth) c.in_ok-write_instance_name.ensures c.write_truth.ensures
+returns g c = sends_then c.in_ok-write_instance_name.ensures c.write_truth.ensures

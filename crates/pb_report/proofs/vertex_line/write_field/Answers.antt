@@ -1,7 +1,5 @@
-use Rattle.std.proofs.Common.{decimal}
-use Rattle.std.specs.Prelude.{codes}
 use Rattle.pb_report.proofs.Sending.{sends_then}
 use Rattle.pb_report.proofs.vertex_line.write_field.Goals as goal
 
 pub returns : goal.returns
-returns g c = sends_then (decimal c.args.number) (codes " ") c.in_ok-write_number.ensures c.write.ensures
+returns g c = sends_then c.in_ok-write_number.ensures c.write.ensures

@@ -1,16 +1,9 @@
-use Rattle.std.proofs.Common.{◌++◌}
-use Rattle.pb_report.specs.GameText.{field}
 use Rattle.pb_report.proofs.Sending.{sends_then, sends_err}
 use Rattle.pb_report.proofs.vertex_line.write_head.Goals as goal
 
 pub returns-in_err-write_field-2 : goal.returns-in_err-write_field-2
 returns-in_err-write_field-2 g c =
-    let a = c.args in
-    sends_then (field a.vertex) (field a.priority ++ field a.owner) c.in_ok-write_field.ensures
-    (sends_err (field a.priority) (field a.owner) c.from_residual-in_err-write_field-2.ensures.0 c.in_err-write_field-2.ensures)
+    sends_then c.in_ok-write_field.ensures (sends_err _ c.from_residual-in_err-write_field-2.ensures.0 c.in_err-write_field-2.ensures)
 
 pub returns : goal.returns
-returns g c =
-    let a = c.args in
-    sends_then (field a.vertex) (field a.priority ++ field a.owner) c.in_ok-write_field.ensures
-    (sends_then (field a.priority) (field a.owner) c.in_ok-write_field-2.ensures c.write_field-3.ensures)
+returns g c = sends_then c.in_ok-write_field.ensures (sends_then c.in_ok-write_field-2.ensures c.write_field-3.ensures)

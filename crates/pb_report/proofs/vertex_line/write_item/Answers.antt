@@ -1,7 +1,5 @@
-use Rattle.std.proofs.Common.{decimal}
-use Rattle.std.specs.Prelude.{codes}
 use Rattle.pb_report.proofs.Sending.{sends_then}
 use Rattle.pb_report.proofs.vertex_line.write_item.Goals as goal
 
 pub returns : goal.returns
-returns g c = sends_then (codes ",") (decimal c.args.number) c.in_ok-write.ensures c.write_number.ensures
+returns g c = sends_then c.in_ok-write.ensures c.write_number.ensures

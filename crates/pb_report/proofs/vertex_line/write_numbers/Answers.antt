@@ -1,5 +1,3 @@
-use Rattle.std.proofs.Common.{decimal, ◌-◌, length, take, drop, get_or}
-use Rattle.pb_report.specs.GameText.{more_numbers}
 use Rattle.pb_report.proofs.Sending.{sends_then, sends_as}
 use Rattle.pb_report.proofs.Commas.{first_number}
 use Rattle.pb_report.proofs.vertex_line.write_numbers.Goals as goal
@@ -7,5 +5,4 @@ use Rattle.pb_report.proofs.vertex_line.write_numbers.Goals as goal
 pub returns : goal.returns
 returns g c =
     let ns = c.args.numbers.now in
-    sends_as (first_number ns c.requires)
-    (sends_then (decimal (get_or ns 0 0)) (more_numbers (take (length ns - 1) (drop 1 ns))) c.in_ok-write_number.ensures c.write_more.ensures)
+    sends_as (first_number ns c.requires) (sends_then c.in_ok-write_number.ensures c.write_more.ensures)
