@@ -1,6 +1,6 @@
 //! The texts of a verified module: its report, its game, its solution, a certificate and its
 //! evidence.
-ghost use Rattle.std.specs.Prelude.{◌≤◌, ◌<◌, ℕ, Option, IfOk};
+ghost use Rattle.std.specs.Prelude.{ℕ, Option, IfOk};
 ghost use Rattle.pb_base.specs.OrMemory.{IfRefused};
 ghost use Rattle.pb_command_faults.specs.Errors.{IfInputRefused};
 ghost use Rattle.std.specs.Io.KnownBytes.{Appends};
@@ -17,7 +17,7 @@ ghost use Rattle.pb_command_modules.specs.Writes.{WritesReport, WritesSolution};
 use pb_base::OrMemory;
 use pb_command_faults::{SolveError, SolveFault};
 use pb_command_solver::{
-    Context, SolveOptions, answer_module, build_module, explain_module, solve_module,
+    Context, SolveOptions, Workers, answer_module, build_module, explain_module, solve_module,
 };
 use pb_exploration::Gate;
 use pb_game::Solver;
@@ -61,10 +61,9 @@ pub fn write_report<R: Threads + Sync, G: Gate + Sync, S: Sink>(
 pub fn write_game<R: Threads + Sync, G: Gate + Sync, S: Sink>(
     context: &Context<'_, R, G>,
     verified: &Verified,
-    workers: u32,
+    workers: Workers,
     writer: &mut S,
 ) -> Result<(), SolveError>
-    requires { (0 < workers) × (workers ≤ 16) }
     ensures game { Delivers (WritesGame verified.now) result S.Sink writer.old writer.new }
     ensures refused { IfInputRefused result (IsRefusedModule verified.now) }
 {
@@ -123,9 +122,8 @@ pub fn write_certificate<R: Threads + Sync, G: Gate + Sync, S: Sink>(
 pub fn explained<R: Threads + Sync, G: Gate + Sync>(
     context: &Context<'_, R, G>,
     verified: &Verified,
-    workers: u32,
+    workers: Workers,
 ) -> Result<Explanation, OrMemory<SolveFault>>
-    requires { (0 < workers) × (workers ≤ 16) }
     ensures explanation { IfOk result (IsExplanation verified.now) }
     ensures refused { IfRefused result (IsRefusedModule verified.now) }
 {

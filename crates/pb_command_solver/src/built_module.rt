@@ -1,5 +1,5 @@
 //! Modules whose game is built: what is solved, whether its rows are kept behind it or not.
-ghost use Rattle.std.specs.Prelude.{◌≡◌, ◌<◌, ◌≤◌, IfOk};
+ghost use Rattle.std.specs.Prelude.{◌≡◌, IfOk};
 ghost use Rattle.pb_base.specs.OrMemory.{OnRefused};
 ghost use Rattle.pb_exploration.specs.Rows.{AreExploredRows};
 ghost use Rattle.pb_game.specs.Certificates.{IsCertificate};
@@ -10,6 +10,7 @@ ghost use Rattle.pb_command_solver.specs.Answers.{IsBuiltModule, IsTooLarge};
 use crate::context::Context;
 use crate::options::SolveOptions;
 use crate::solve;
+use crate::workers::Workers;
 use pb_exploration::{Explored, Gate, explore};
 use pb_game_of_trees::{BuildError, Solved, TreeGame, build};
 use pb_machine::instances_have_trees;
@@ -32,13 +33,18 @@ pub struct BuiltModule {
 pub fn build_module<R: Threads + Sync, G: Gate + Sync>(
     context: &Context<'_, R, G>,
     verified: &Verified,
-    workers: u32,
+    workers: Workers,
 ) -> Result<BuiltModule, BuildError>
-    requires { (0 < workers) × (workers ≤ 16) }
     ensures built { IfOk result (IsBuiltModule verified.now) }
     ensures too_many { OnRefused result (IsTooLarge verified.now) }
 {
-    let explored = explore(context.rt, context.alloc, verified, workers, context.gate)?;
+    let explored = explore(
+        context.rt,
+        context.alloc,
+        verified,
+        workers.count,
+        context.gate,
+    )?;
     build_explored(context.alloc, verified, explored)
 }
 
@@ -74,6 +80,6 @@ pub(crate) fn solve_game<R: Threads + Sync, G: Gate + Sync>(
     ensures lifted { options.solver ≡ Lift → IfOk result
         (λ s. IsLiftedOrNone s.built.game s.certified) }
 {
-    let certified = solve(context, &built.game, options.solver, options.workers)?;
+    let certified = solve(context, &built.game, options.solver, options.workers.count)?;
     Ok(Solved::new(built, certified))
 }

@@ -12,6 +12,7 @@ pub mod options;
 mod part;
 pub mod solved_module;
 mod solver;
+mod workers;
 
 pub use answer::answer_module;
 pub use built_module::{BuiltModule, build_explored, build_module};
@@ -21,3 +22,4 @@ pub use explanation::explain_module;
 pub use options::SolveOptions;
 pub use solved_module::{SolvedModule, solve_module};
 pub use solver::solve;
+pub use workers::{MAX_WORKERS, Workers};

@@ -1,6 +1,6 @@
 -- What becomes of the texts of properties, and of those of their negations.
-use Rattle.std.specs.Prelude.{◌≡◌, ⊤, ℕ, Bool, true, false, List, Option, Some, None, IfSome}
-use Rattle.std.specs.Prelude.{Result, Ok, Err}
+use Rattle.std.specs.Prelude.{◌≡◌, ◌<◌, ⊤, ℕ, Bool, true, false, List, Option, Some, None, IfSome}
+use Rattle.std.specs.Prelude.{Result, Ok, Err, length}
 use Rattle.std.specs.List.{slice_get}
 use Rattle.pb_text_tree.specs.Form.{SpecForm, spec_form}
 use Rattle.pb_model_tree.specs.Form.{ModelForm, PropertyForm}
@@ -196,3 +196,8 @@ abbrev pub IsExplainedAt : ModelForm → ℕ → ExplainedText → Type 0
 IsExplainedAt model place explained =
     (q : PropertyForm) → slice_get model.properties place ≡ Some q
     → IsExplainedText model q explained
+
+-- and a property stands at the place
+abbrev pub IsExplainedIn : ModelForm → ℕ → ExplainedText → Type 0
+IsExplainedIn model place explained =
+    (place < length model.properties) × IsExplainedAt model place explained

@@ -7,9 +7,12 @@ use Rattle.pb_model_words.specs.Vocabulary.{Vocabulary}
 use Rattle.pb_model_properties.specs.Reached.{name_of_step, reached_property}
 use Rattle.pb_model_properties.specs.Said.{satisfies}
 use Rattle.pb_model_properties.specs.Verdicts.{refused_line, unreached_line}
+use Rattle.pb_model_properties.specs.Words.{impossible_in, words_in}
+use Rattle.pb_model_properties.specs.declared.solved.SolvedModel.{SolvedModel}
 use Rattle.pb_command_faults.specs.Lines.{property_rule}
 use Rattle.pb_command_faults.specs.declared.solve_fault.SolveFault.{SolveFault}
 use Rattle.pb_command_faults.specs.declared.solve_fault.SolveFault.TheVariants as solve_fault
+use Rattle.pbsolve.specs.declared.check.Checked.{Checked}
 use Rattle.pbsolve.specs.declared.finding.Found.{Found}
 use Rattle.pbsolve.specs.declared.status.Status.{Status}
 use Rattle.pbsolve.specs.declared.status.Status.TheVariants as status
@@ -17,7 +20,8 @@ use Rattle.pbsolve.specs.declared.step_finding.StepFinding.{StepFinding}
 use Rattle.pbsolve.specs.declared.step_finding.StepFinding.TheVariants.{Reached, Never, Refused}
 use Rattle.pbsolve.specs.declared.property_module.PropertyModule.{PropertyModule}
 use Rattle.pbsolve.specs.declared.property_text.PropertyText.{PropertyText}
-use Rattle.pbsolve.specs.Models.{status_of_findings, HasIllTypedStep, IsTooLargeProperty}
+use Rattle.pbsolve.specs.Models.{HasIllTypedStep, IsTooLargeProperty, found_lines, solved_form}
+use Rattle.pbsolve.specs.Models.{status_of_findings}
 use Rattle.pbsolve.specs.Outcomes.{IsPropertyModule, IsPropertyText}
 
 -- ---- what is found of a step
@@ -88,6 +92,14 @@ refuses_step (Refused excess) = true
 abbrev pub status_of_checked : Bool → List Found → List StepFinding → Status
 status_of_checked tells findings steps =
     if list_any refuses_step steps then status.Refused else status_of_findings tells findings
+
+-- the lines of all that is found of a model: of its properties, of its steps, and of the protocol's
+-- steps that come to none in it
+abbrev pub checked_lines : Bool → SolvedModel → Checked → List ℕ
+checked_lines counts solved checked =
+    found_lines counts (solved_form solved) checked.findings.items
+    ++ (step_lines (words_in solved) checked.steps.items
+    ++ impossible_lines counts (impossible_in solved.names))
 
 -- ---- texts
 

@@ -2,7 +2,7 @@
 use Rattle.std.specs.Prelude.{◌≡◌, ◌⊎◌, ◌<◌, ℕ, Bool, true, false, not, ◌||◌, List, [], ◌∷◌, ◌++◌}
 use Rattle.std.specs.Prelude.{if◌then◌else◌, Contains, MatchOption, Option, Some, None}
 use Rattle.std.specs.List.{slice_get}
-use Rattle.pb_text_tree.specs.Form.{SpecForm}
+use Rattle.pb_text_tree.specs.Form.{SpecForm, spec_form}
 use Rattle.pb_text_tree.specs.declared.place.Place.{Place}
 use Rattle.pb_text_meaning.specs.Erase.{erase as erased_text}
 use Rattle.pb_sorts.specs.Instance.{Instance}
@@ -11,7 +11,7 @@ use Rattle.pb_bytecode.specs.Contents.{Contents}
 use Rattle.pb_bytecode.specs.Meaning.{parameters}
 use Rattle.pb_assembler_modules.specs.Module.{IsCompiledModule}
 use Rattle.pb_game_of_trees.specs.Explored.{ModuleHasTrees}
-use Rattle.pb_model_tree.specs.Form.{FormulaForm, ModelForm, PropertyForm, StepForm}
+use Rattle.pb_model_tree.specs.Form.{FormulaForm, ModelForm, PropertyForm, StepForm, model_form}
 use Rattle.pb_model_meaning.specs.Erase.{erase, erased_step}
 use Rattle.pb_model_meaning.specs.Steps.{State, is_state}
 use Rattle.pb_protocol_negation.specs.Negated.{negated}
@@ -24,6 +24,7 @@ use Rattle.pb_protocol_solved.specs.Solved.{StandsFor}
 use Rattle.pb_model_runs.specs.Runs.{Leads}
 use Rattle.pb_model_runs.specs.Exact.{step_at}
 use Rattle.pb_model_words.specs.States.{says}
+use Rattle.pb_model_words.specs.View.{vocabulary_of}
 use Rattle.pb_model_words.specs.Vocabulary.{Vocabulary}
 use Rattle.pb_typing_calls.specs.MadeCalls.{MadeCall, calls_at}
 use Rattle.pb_model_translation.specs.Placed.{placed, every_step_form}
@@ -31,10 +32,11 @@ use Rattle.pb_model_properties.specs.Asked.{IsAskedAt}
 use Rattle.pb_model_properties.specs.Made.{said_where}
 use Rattle.pb_model_properties.specs.Refusals.{LacksProperty}
 use Rattle.pb_model_properties.specs.Said.{protocol_satisfies, satisfies, IsModelOf, IsTextOf}
+use Rattle.pb_model_properties.specs.declared.solved.SolvedModel.{SolvedModel}
 use Rattle.pb_model_properties.specs.declared.verdicts.Verdict.{Verdict}
 use Rattle.pb_model_properties.specs.declared.verdicts.Verdict.TheVariants as verdict
 use Rattle.pb_model_properties.specs.Verdicts.{verdict_line}
-use Rattle.pb_model_properties.specs.Words.{words_of}
+use Rattle.pb_model_properties.specs.Words.{words_in, words_of}
 use Rattle.pb_evidence.specs.declared.Evidence.{Evidence}
 use Rattle.pb_evidence.specs.Evidence.{graph_of}
 use Rattle.pb_report.specs.declared.answer.Answer.{Answer}
@@ -47,7 +49,12 @@ use Rattle.pb_command_faults.specs.declared.solve_fault.SolveFault.{SolveFault}
 use Rattle.pb_command_faults.specs.declared.solve_fault.SolveFault.TheVariants as solve_fault
 use Rattle.pbsolve.specs.Answers.{IsModuleOfForm}
 use Rattle.pb_report.specs.ModuleEvidence.{IsExplanation, IsModuleEvidence}
-use Rattle.pbsolve.specs.Models.{IsPropertyAnswer, IsUnexplained}
+use Rattle.pb_evidence_words.specs.declared.shown.Shown.{Shown}
+use Rattle.pbsolve.specs.declared.explained.ExplainedText.{ExplainedText}
+use Rattle.pbsolve.specs.declared.explained_finding.Asked.{Asked}
+use Rattle.pbsolve.specs.declared.told.ShownParts.{ShownParts}
+use Rattle.pbsolve.specs.declared.told.ToldVerdict.{ToldVerdict}
+use Rattle.pbsolve.specs.Models.{IsPropertyAnswer, IsUnexplained, solved_form}
 
 -- Each call of a property's text at a state is a step of the model: that at whose name it stands,
 -- with the call's own values, at which its guard is true, to the state that the call names. Where
@@ -148,6 +155,40 @@ IsToldText instances always words name verdict text steps m e told =
     IsTextOfTrees m (λ trees. told_text always name verdict
     (lines_of instances (shown_by words text steps m trees e))) told
 
+-- what is shown can be told; so can these parts of it
+abbrev pub IsTellableShown : Shown → Type 0
+IsTellableShown shown =
+    IsTellable (model_form shown.model.now) (spec_form shown.typed.now.spec)
+    (spec_form shown.steps.now.spec) shown.verified.now shown.explanation.now
+
+abbrev pub AreTellable : ShownParts → Type 0
+AreTellable parts =
+    IsTellable (model_form parts.model.now) (spec_form parts.explained.now.typed.spec)
+    (spec_form parts.steps.now.spec) parts.explained.now.verified
+    parts.explained.now.explanation
+
+-- the text tells a verdict on the property of a name, with what is shown; with these parts of it
+abbrev pub IsToldShown : ToldVerdict → List ℕ → Shown → List ℕ → Type 0
+IsToldShown telling name shown told =
+    IsToldText telling.lines telling.always (vocabulary_of shown.vocabulary.now) name
+    telling.verdict (spec_form shown.typed.now.spec) (spec_form shown.steps.now.spec)
+    shown.verified.now shown.explanation.now.evidence told
+
+abbrev pub AreTellingParts : ToldVerdict → Vocabulary → List ℕ → ShownParts → List ℕ → Type 0
+AreTellingParts telling words name parts told =
+    IsToldText telling.lines telling.always words name telling.verdict
+    (spec_form parts.explained.now.typed.spec) (spec_form parts.steps.now.spec)
+    parts.explained.now.verified parts.explained.now.explanation.evidence told
+
+-- the text tells a verdict on the property at the place, whose text is explained, in the words of
+-- the model
+abbrev pub IsToldThere : ToldVerdict → SolvedModel → ℕ → ExplainedText → List ℕ → Type 0
+IsToldThere telling solved place explained told =
+    (q : PropertyForm) → slice_get (solved_form solved).properties place ≡ Some q
+    → IsToldText telling.lines telling.always (words_in solved) q.name.text telling.verdict
+    (spec_form explained.typed.spec) (steps_of (solved_form solved)) explained.verified
+    explained.explanation.evidence told
+
 -- The verdict on a property of the protocol is told. What shows whether the model satisfies it, by
 -- lines of instances or in these words, is evidence of the module of the property's text.
 pub record IsTold (instances always : Bool) (words : Vocabulary) (protocol : ProtocolForm)
@@ -164,6 +205,16 @@ pub record IsTold (instances always : Bool) (words : Vocabulary) (protocol : Pro
   pub exact : evidence.truth ≡ satisfies model q.formula
   pub printed : IsToldText instances always words q.name.text verdict text (steps_of model)
       contents evidence told
+
+-- the property that is asked for is told in the words of the model, of the protocol in whose place
+-- that is solved
+abbrev pub IsToldAsked : Asked → SolvedModel → ProtocolForm → List ℕ → Type 0
+IsToldAsked asked solved protocol told =
+    (p : protocol_form.PropertyForm) (q : PropertyForm)
+    → slice_get protocol.properties asked.place ≡ Some p
+    → slice_get (solved_form solved).properties asked.place ≡ Some q
+    → IsTold asked.options.lines asked.always (words_in solved) protocol (solved_form solved) p q
+    told
 
 -- each of these properties, which are those of the model, is told, in order, and shown where the
 -- verdict isn't true
@@ -192,6 +243,12 @@ TellAsked instances None words protocol model lines =
     AreTold instances words protocol model protocol.properties model.properties lines
 TellAsked instances (Some name) words protocol model lines =
     IsNamedTold instances name words protocol model lines
+
+-- so it is in the words of the model, where the bytes say a protocol in whose place it is solved
+abbrev pub TellWhere : Bool → Option (List ℕ) → List ℕ → SolvedModel → List ℕ → Type 0
+TellWhere instances name bytes solved lines =
+    (said : IsModelOf bytes (solved_form solved))
+    → TellAsked instances name (words_in solved) said.protocol (solved_form solved) lines
 
 -- what is told of the property of a name, or of all where none is named, of the model that is
 -- solved for the bytes, by lines of instances or in the words of the protocol that they say

@@ -1,5 +1,5 @@
 -- Which text each command writes for its input.
-use Rattle.std.specs.Prelude.{◌≡◌, ℕ, Bool, List, ◌++◌, map, option_map, string_bytes}
+use Rattle.std.specs.Prelude.{◌≡◌, ℕ, Bool, List, ◌++◌, option_map, string_bytes}
 use Rattle.std.specs.Prelude.{IfOk, Result}
 use Rattle.pb_model_tree.specs.Form.{ModelForm}
 use Rattle.pb_model_properties.specs.Printed.{IsTranslation}
@@ -25,7 +25,7 @@ use Rattle.pb_command_modules.specs.Writes.{WritesCertificate, WritesGame, Write
 use Rattle.pbsolve.specs.declared.finding.Found.{Found}
 use Rattle.pbsolve.specs.declared.status.Status.{Status}
 use Rattle.pbsolve.specs.declared.step_finding.StepFinding.{StepFinding}
-use Rattle.pbsolve.specs.Models.{AreFound, IsUntranslated, found_lines}
+use Rattle.pbsolve.specs.Models.{AreFound, IsUntranslated, asked_names, found_lines}
 use Rattle.pbsolve.specs.ReachedSteps.{AreStepsFoundWhere, impossible_lines, status_of_checked}
 use Rattle.pbsolve.specs.ReachedSteps.{step_lines}
 use Rattle.pbsolve.specs.Refusals.{IsUncompiled, IsRefused}
@@ -70,8 +70,7 @@ abbrev pub WritesVerdicts : Checking → List ℕ → Status → List ℕ → Ty
 WritesVerdicts options bytes status written =
     (model : ModelForm) × (findings : List Found) × (steps : List StepFinding)
     × (said : IsModelOf bytes model)
-    × AreFound options.counts said.protocol model (map string_bytes options.properties.items)
-    findings
+    × AreFound options.counts said.protocol model (asked_names options) findings
     × AreStepsFoundWhere options.counts model steps
     × (status ≡ status_of_checked options.status findings steps)
     × (written ≡ found_lines options.counts model findings

@@ -1,25 +1,25 @@
 //! The verdicts on the properties of a model.
-ghost use Rattle.std.specs.Prelude.{◌≡◌, ◌≤◌, ◌<◌, ◌≢◌, ◌++◌, [], length, map};
+ghost use Rattle.std.specs.Prelude.{◌≡◌, ◌≤◌, ◌<◌, ◌≢◌, [], length};
 ghost use Rattle.std.specs.Prelude.{Err, IfOk, string_bytes};
 ghost use Rattle.std.specs.List.{All};
 ghost use Rattle.pb_base.specs.OrMemory.{IfRefused};
 ghost use Rattle.pb_base.specs.declared.or_memory.OrMemory.TheVariants.{Refused};
 ghost use Rattle.pb_command_faults.specs.Errors.{IfInputRefused};
 ghost use Rattle.pb_command_faults.specs.declared.solve_fault.SolveFault.TheVariants.{NoProperty};
-ghost use Rattle.pb_model_tree.specs.Form.{model_form};
 ghost use Rattle.pb_model_properties.specs.Said.{IsModelOf};
-ghost use Rattle.pb_model_properties.specs.Words.{impossible_in, words_in};
 ghost use Rattle.pb_command_modules.specs.Delivery.{Delivers};
-ghost use Rattle.pbsolve.specs.Models.{AreFound, IsUnchecked, found_lines};
+ghost use Rattle.pbsolve.specs.Models.{AreFoundWhere, IsUnchecked, asked_names, solved_form};
 ghost use Rattle.pbsolve.specs.Writes.{WithStatus, WritesVerdicts};
-ghost use Rattle.pbsolve.specs.ReachedSteps.{AreStepsFoundWhere, impossible_lines};
-ghost use Rattle.pbsolve.specs.ReachedSteps.{status_of_checked, step_lines};
+ghost use Rattle.pbsolve.specs.ReachedSteps.{AreStepsFoundWhere, checked_lines};
+ghost use Rattle.pbsolve.specs.ReachedSteps.{status_of_checked};
 
 use crate::decision::{DecisionOptions, findings_of};
 use crate::finding::Found;
 use crate::finding_lines::lines_of;
+use crate::options::solve_options;
 use crate::property_text::asked_texts;
 use crate::reached_steps::steps_on;
+use crate::short_input::ShortInput;
 use crate::status::Status;
 use crate::step_finding::StepFinding;
 use crate::step_lines::{push_lines_of_steps, status_of_checked};
@@ -27,7 +27,7 @@ use pb_base::{MAX_INPUT_BYTES, OrMemory};
 use pb_command_faults::{SolveError, SolveFault};
 use pb_command_line::Checking;
 use pb_command_modules::deliver;
-use pb_command_solver::{Context, SolveOptions};
+use pb_command_solver::Context;
 use pb_exploration::Gate;
 use pb_model_properties::{SolvedModel, asked_of, read_protocol};
 use pb_sorts::Sink;
@@ -38,20 +38,16 @@ use std::thread::Threads;
 // are made before the first is solved.
 fn findings_on<R: Threads + Sync, G: Gate + Sync>(
     context: &Context<'_, R, G>,
-    bytes: &[u8],
+    input: ShortInput<'_>,
     solved: &SolvedModel,
     options: &Checking,
 ) -> Result<Vec<Found>, OrMemory<SolveFault>>
-    requires input { length bytes.now ≤ MAX_INPUT_BYTES }
-    requires read { IsModelOf bytes.now (model_form solved.now.typed.model) }
-    ensures found { IfOk result (λ findings.
-        (said : IsModelOf bytes.now (model_form solved.now.typed.model))
-        → AreFound options.now.counts said.protocol (model_form solved.now.typed.model)
-        (map string_bytes options.now.properties.items) findings.items) }
+    requires { IsModelOf input.bytes.now (solved_form solved.now) }
+    ensures found { IfOk result
+        (λ findings. AreFoundWhere options.now input.entry.bytes.now solved.now findings.items) }
     ensures refused { IfRefused result
-        (IsUnchecked (map string_bytes options.now.properties.items) bytes.now) }
-    ensures named { result ≡ Err (Refused NoProperty)
-        → map string_bytes options.now.properties.items ≢ [] }
+        (IsUnchecked (asked_names options.now) input.entry.bytes.now) }
+    ensures named { result ≡ Err (Refused NoProperty) → asked_names options.now ≢ [] }
 {
     let alloc = context.alloc;
     let places = match asked_of(alloc, &solved.typed.model.properties, &options.properties) {
@@ -59,15 +55,11 @@ fn findings_on<R: Threads + Sync, G: Gate + Sync>(
         Err(error) => return Err(error.raise()),
     };
     let texts = asked_texts(alloc, solved, &places)?;
-    let solving = SolveOptions {
-        workers: options.solving.workers,
-        solver: options.solving.solver,
-    };
     let deciding = DecisionOptions {
-        solving,
+        solving: solve_options(options.solving),
         counts: options.counts,
     };
-    findings_of(context, bytes, &texts, deciding)
+    findings_of(context, input, &texts, deciding)
 }
 
 // What is found of the properties that are asked for, and of the steps of the model.
@@ -80,24 +72,20 @@ struct Checked {
 // What is found of a model that was read.
 fn checked_on<R: Threads + Sync, G: Gate + Sync>(
     context: &Context<'_, R, G>,
-    bytes: &[u8],
+    input: ShortInput<'_>,
     solved: &SolvedModel,
     options: &Checking,
 ) -> Result<Checked, OrMemory<SolveFault>>
-    requires input { length bytes.now ≤ MAX_INPUT_BYTES }
-    requires read { IsModelOf bytes.now (model_form solved.now.typed.model) }
-    ensures findings { IfOk result (λ checked.
-        (said : IsModelOf bytes.now (model_form solved.now.typed.model))
-        → AreFound options.now.counts said.protocol (model_form solved.now.typed.model)
-        (map string_bytes options.now.properties.items) checked.findings.items) }
+    requires { IsModelOf input.bytes.now (solved_form solved.now) }
+    ensures findings { IfOk result (λ checked. AreFoundWhere options.now input.entry.bytes.now
+        solved.now checked.findings.items) }
     ensures steps { IfOk result (λ checked. AreStepsFoundWhere options.now.counts
-        (model_form solved.now.typed.model) checked.steps.items) }
+        (solved_form solved.now) checked.steps.items) }
     ensures refused { IfRefused result
-        (IsUnchecked (map string_bytes options.now.properties.items) bytes.now) }
-    ensures named { result ≡ Err (Refused NoProperty)
-        → map string_bytes options.now.properties.items ≢ [] }
+        (IsUnchecked (asked_names options.now) input.entry.bytes.now) }
+    ensures named { result ≡ Err (Refused NoProperty) → asked_names options.now ≢ [] }
 {
-    let findings = findings_on(context, bytes, solved, options)?;
+    let findings = findings_on(context, input, solved, options)?;
     let steps = steps_on(context, solved, options)?;
     Ok(Checked { findings, steps })
 }
@@ -119,10 +107,7 @@ fn report_of(
     requires { All (λ found. found.place < length solved.now.typed.model.properties.items)
         checked.now.findings.items }
     ensures lines { IfOk result (λ report. string_bytes report.lines
-        ≡ found_lines options.now.counts (model_form solved.now.typed.model)
-        checked.now.findings.items
-        ++ (step_lines (words_in solved.now) checked.now.steps.items
-        ++ impossible_lines options.now.counts (impossible_in solved.now.names))) }
+        ≡ checked_lines options.now.counts solved.now checked.now) }
     ensures status { IfOk result (λ report. report.status
         ≡ status_of_checked options.now.status checked.now.findings.items
         checked.now.steps.items) }
@@ -137,22 +122,20 @@ fn report_of(
 // Those of what is found of the model that the bytes say.
 fn checked_report<R: Threads + Sync, G: Gate + Sync>(
     context: &Context<'_, R, G>,
-    bytes: &[u8],
+    input: ShortInput<'_>,
     options: &Checking,
 ) -> Result<CheckReport, OrMemory<SolveFault>>
-    requires input { length bytes.now ≤ MAX_INPUT_BYTES }
-    ensures report { IfOk result (λ report.
-        WritesVerdicts options.now bytes.now report.status (string_bytes report.lines)) }
+    ensures report { IfOk result (λ report. WritesVerdicts options.now input.entry.bytes.now
+        report.status (string_bytes report.lines)) }
     ensures refused { IfRefused result
-        (IsUnchecked (map string_bytes options.now.properties.items) bytes.now) }
-    ensures named { result ≡ Err (Refused NoProperty)
-        → map string_bytes options.now.properties.items ≢ [] }
+        (IsUnchecked (asked_names options.now) input.entry.bytes.now) }
+    ensures named { result ≡ Err (Refused NoProperty) → asked_names options.now ≢ [] }
 {
-    let solved = match read_protocol(context.alloc, bytes) {
+    let solved = match read_protocol(context.alloc, input.bytes) {
         Ok(solved) => solved,
         Err(error) => return Err(error.raise()),
     };
-    let checked = checked_on(context, bytes, &solved, options)?;
+    let checked = checked_on(context, input, &solved, options)?;
     let report = report_of(context.alloc, &solved, &checked, options)?;
     Ok(report)
 }
@@ -189,12 +172,11 @@ pub fn check_text<R: Threads + Sync, G: Gate + Sync, S: Sink>(
     // The status is that of what was found.
     ensures verdicts { Delivers (WithStatus result (WritesVerdicts options.now bytes.now))
         result S.Sink writer.old writer.new }
-    ensures refused { IfInputRefused result
-        (IsUnchecked (map string_bytes options.now.properties.items) bytes.now) }
-    ensures named { result ≡ Err (SolveError.Refused NoProperty)
-        → map string_bytes options.now.properties.items ≢ [] }
+    ensures refused { IfInputRefused result (IsUnchecked (asked_names options.now) bytes.now) }
+    ensures named { result ≡ Err (SolveError.Refused NoProperty) → asked_names options.now ≢ [] }
 {
-    let report = checked_report(context, bytes, options)?;
+    let input = ShortInput { bytes };
+    let report = checked_report(context, input, options)?;
     deliver(report.lines.as_bytes(), writer)?;
     Ok(report.status)
 }

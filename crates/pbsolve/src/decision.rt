@@ -4,7 +4,8 @@ ghost use Rattle.std.specs.List.{All};
 ghost use Rattle.pb_base.specs.OrMemory.{IfRefused};
 ghost use Rattle.pb_model_tree.specs.Form.{ModelForm, PropertyForm};
 ghost use Rattle.pb_model_properties.specs.Said.{IsModelOf};
-ghost use Rattle.pbsolve.specs.Models.{IsFound, IsUnnegated};
+ghost use Rattle.pbsolve.specs.Models.{HasModel, HasPropertyAt, IsFound, IsFoundWhere};
+ghost use Rattle.pbsolve.specs.Models.{IsUnnegated};
 ghost use Rattle.pbsolve.specs.Outcomes.{AreNegations, IsDecision, IsDeniedAt, IsEarlyAt};
 ghost use Rattle.pbsolve.specs.Outcomes.{IsModuleAt, IsOutcomeAt, IsPropertyModule, IsTextAt};
 
@@ -13,7 +14,8 @@ use crate::negation::negation_module;
 use crate::outcome::{AskedOutcome, Outcome, early_of, early_truth, outcome_of};
 use crate::property_module::{AskedModule, PropertyModule, asked_module};
 use crate::property_text::AskedText;
-use pb_base::{MAX_INPUT_BYTES, OrMemory};
+use crate::short_input::ShortInput;
+use pb_base::OrMemory;
 use pb_command_faults::SolveFault;
 use pb_command_solver::{Context, Early, SolveOptions};
 use pb_exploration::Gate;
@@ -37,20 +39,19 @@ pub(crate) struct DecisionOptions {
 /// Memory was refused.
 pub(crate) fn is_denied<R: Threads + Sync, G: Gate + Sync>(
     context: &Context<'_, R, G>,
-    bytes: &[u8],
+    input: ShortInput<'_>,
     negations: &mut Option<SolvedModel>,
     place: usize,
     options: SolveOptions,
 ) -> Result<bool, AllocError>
-    requires input { length bytes.now ≤ MAX_INPUT_BYTES }
-    requires within { (model : ModelForm) × IsModelOf bytes.now model
-        × (place < length model.properties) }
-    requires read { AreNegations bytes.now negations.now }
-    ensures read { AreNegations bytes.now negations.new }
-    ensures denied { IfOk result (λ denied. denied ≡ true → IsDeniedAt bytes.now place) }
+    requires within { HasPropertyAt input.bytes.now place }
+    requires read { AreNegations input.bytes.now negations.now }
+    ensures read { AreNegations input.entry.bytes.now negations.new }
+    ensures denied { IfOk result
+        (λ denied. denied ≡ true → IsDeniedAt input.entry.bytes.now place) }
 {
     negations_erase();
-    match negation_module(context.alloc, bytes, negations, place) {
+    match negation_module(context.alloc, input, negations, place) {
         Ok(negation) => match early_truth(context, &negation.compiled, options)? {
             Some(true) => Ok(true),
             _ => Ok(false),
@@ -64,17 +65,16 @@ pub(crate) fn is_denied<R: Threads + Sync, G: Gate + Sync>(
 // those of its text, and where they show that it isn't satisfied, those of its negation's.
 fn early_at<R: Threads + Sync, G: Gate + Sync>(
     context: &Context<'_, R, G>,
-    bytes: &[u8],
+    input: ShortInput<'_>,
     negations: &mut Option<SolvedModel>,
     asked: &AskedModule,
     options: DecisionOptions,
 ) -> Result<Early, AllocError>
-    requires input { length bytes.now ≤ MAX_INPUT_BYTES }
-    requires given { (model : ModelForm) × IsModelOf bytes.now model × IsModuleAt model asked.now }
-    requires read { AreNegations bytes.now negations.now }
-    ensures read { AreNegations bytes.now negations.new }
+    requires given { HasModel input.bytes.now (λ model. IsModuleAt model asked.now) }
+    requires read { AreNegations input.bytes.now negations.now }
+    ensures read { AreNegations input.entry.bytes.now negations.new }
     ensures told { IfOk result (λ early. (model : ModelForm)
-        → (said : IsModelOf bytes.now model) → IsModuleAt model asked.now
+        → (said : IsModelOf input.entry.bytes.now model) → IsModuleAt model asked.now
         → IsEarlyAt options.counts said.protocol model asked.now.place early) }
 {
     if options.counts {
@@ -86,7 +86,7 @@ fn early_at<R: Threads + Sync, G: Gate + Sync>(
         Early::Whole(answer) => Ok(Early::Whole(answer)),
         Early::Shown(true) => Ok(Early::Shown(true)),
         Early::Shown(false) => {
-            let denied = is_denied(context, bytes, negations, asked.place, options.solving)?;
+            let denied = is_denied(context, input, negations, asked.place, options.solving)?;
             if denied {
                 return Ok(Early::Shown(false));
             }
@@ -125,20 +125,17 @@ fn decision<R: Threads + Sync, G: Gate + Sync>(
 /// `Text` and `Typing` where the negations are refused, or the text of this one isn't well typed.
 pub(crate) fn decided<R: Threads + Sync, G: Gate + Sync>(
     context: &Context<'_, R, G>,
-    bytes: &[u8],
+    input: ShortInput<'_>,
     negations: &mut Option<SolvedModel>,
     asked: AskedOutcome,
     options: SolveOptions,
 ) -> Result<Finding, OrMemory<SolveFault>>
-    requires input { length bytes.now ≤ MAX_INPUT_BYTES }
-    requires given { (model : ModelForm) × IsModelOf bytes.now model × IsOutcomeAt model asked }
-    requires read { AreNegations bytes.now negations.now }
-    ensures read { AreNegations bytes.now negations.new }
-    ensures found { IfOk result (λ finding. (counts : Bool) (model : ModelForm)
-        → (said : IsModelOf bytes.now model) → IsOutcomeAt model asked
-        → IsFound counts said.protocol model
-        (record { place = asked.place; finding = finding })) }
-    ensures refused { IfRefused result (IsUnnegated bytes.now) }
+    requires given { HasModel input.bytes.now (λ model. IsOutcomeAt model asked) }
+    requires read { AreNegations input.bytes.now negations.now }
+    ensures read { AreNegations input.entry.bytes.now negations.new }
+    ensures found { IfOk result (λ finding. (counts : Bool) → IsFoundWhere
+        (λ model. IsOutcomeAt model asked) counts input.entry.bytes.now asked.place finding) }
+    ensures refused { IfRefused result (IsUnnegated input.entry.bytes.now) }
 {
     negations_erase();
     match asked.outcome {
@@ -150,7 +147,7 @@ pub(crate) fn decided<R: Threads + Sync, G: Gate + Sync>(
             if answer.cut == 0 {
                 return Ok(Finding::Decided(Verdict::False, answer));
             }
-            let negation = negation_module(context.alloc, bytes, negations, asked.place)?;
+            let negation = negation_module(context.alloc, input, negations, asked.place)?;
             Ok(decision(context, &negation.compiled, answer, options)?)
         }
     }
@@ -159,78 +156,70 @@ pub(crate) fn decided<R: Threads + Sync, G: Gate + Sync>(
 // What is found of a property, by all instances of its text.
 fn decided_by_all<R: Threads + Sync, G: Gate + Sync>(
     context: &Context<'_, R, G>,
-    bytes: &[u8],
+    input: ShortInput<'_>,
     negations: &mut Option<SolvedModel>,
     asked: &AskedModule,
     options: SolveOptions,
 ) -> Result<Finding, OrMemory<SolveFault>>
-    requires input { length bytes.now ≤ MAX_INPUT_BYTES }
-    requires given { (model : ModelForm) × IsModelOf bytes.now model × IsModuleAt model asked.now }
-    requires read { AreNegations bytes.now negations.now }
-    ensures read { AreNegations bytes.now negations.new }
-    ensures found { IfOk result (λ finding. (counts : Bool) (model : ModelForm)
-        → (said : IsModelOf bytes.now model) → IsModuleAt model asked.now
-        → IsFound counts said.protocol model
-        (record { place = asked.now.place; finding = finding })) }
-    ensures refused { IfRefused result (IsUnnegated bytes.now) }
+    requires given { HasModel input.bytes.now (λ model. IsModuleAt model asked.now) }
+    requires read { AreNegations input.bytes.now negations.now }
+    ensures read { AreNegations input.entry.bytes.now negations.new }
+    ensures found { IfOk result (λ finding. (counts : Bool)
+        → IsFoundWhere (λ model. IsModuleAt model asked.now) counts input.entry.bytes.now
+        asked.now.place finding) }
+    ensures refused { IfRefused result (IsUnnegated input.entry.bytes.now) }
 {
     let outcome = outcome_of(context, &asked.compiled, options)?;
     let place = asked.place;
     let known = AskedOutcome { place, outcome };
-    decided(context, bytes, negations, known, options)
+    decided(context, input, negations, known, options)
 }
 
 // What is found of a property, by the module of its text.
 fn finding_by<R: Threads + Sync, G: Gate + Sync>(
     context: &Context<'_, R, G>,
-    bytes: &[u8],
+    input: ShortInput<'_>,
     negations: &mut Option<SolvedModel>,
     asked: &AskedModule,
     options: DecisionOptions,
 ) -> Result<Finding, OrMemory<SolveFault>>
-    requires input { length bytes.now ≤ MAX_INPUT_BYTES }
-    requires given { (model : ModelForm) × IsModelOf bytes.now model × IsModuleAt model asked.now }
-    requires read { AreNegations bytes.now negations.now }
-    ensures read { AreNegations bytes.now negations.new }
-    ensures found { IfOk result (λ finding. (model : ModelForm)
-        → (said : IsModelOf bytes.now model) → IsModuleAt model asked.now
-        → IsFound options.counts said.protocol model
-        (record { place = asked.now.place; finding = finding })) }
-    ensures refused { IfRefused result (IsUnnegated bytes.now) }
+    requires given { HasModel input.bytes.now (λ model. IsModuleAt model asked.now) }
+    requires read { AreNegations input.bytes.now negations.now }
+    ensures read { AreNegations input.entry.bytes.now negations.new }
+    ensures found { IfOk result (IsFoundWhere (λ model. IsModuleAt model asked.now)
+        options.counts input.entry.bytes.now asked.now.place) }
+    ensures refused { IfRefused result (IsUnnegated input.entry.bytes.now) }
 {
     let place = asked.place;
-    let early = early_at(context, bytes, negations, asked, options)?;
+    let early = early_at(context, input, negations, asked, options)?;
     match early {
         Early::Shown(truth) => Ok(Finding::Shown(truth)),
         Early::Whole(answer) => {
             let outcome = Outcome::Answered(answer);
             let known = AskedOutcome { place, outcome };
-            decided(context, bytes, negations, known, options.solving)
+            decided(context, input, negations, known, options.solving)
         }
-        Early::Unknown => decided_by_all(context, bytes, negations, asked, options.solving),
+        Early::Unknown => decided_by_all(context, input, negations, asked, options.solving),
     }
 }
 
 // What is found of a property, by its text.
 fn finding_of<R: Threads + Sync, G: Gate + Sync>(
     context: &Context<'_, R, G>,
-    bytes: &[u8],
+    input: ShortInput<'_>,
     negations: &mut Option<SolvedModel>,
     asked: &AskedText,
     options: DecisionOptions,
 ) -> Result<Finding, OrMemory<SolveFault>>
-    requires input { length bytes.now ≤ MAX_INPUT_BYTES }
-    requires given { (model : ModelForm) × IsModelOf bytes.now model × IsTextAt model asked.now }
-    requires read { AreNegations bytes.now negations.now }
-    ensures read { AreNegations bytes.now negations.new }
-    ensures found { IfOk result (λ finding. (model : ModelForm)
-        → (said : IsModelOf bytes.now model) → IsTextAt model asked.now
-        → IsFound options.counts said.protocol model
-        (record { place = asked.now.place; finding = finding })) }
-    ensures refused { IfRefused result (IsUnnegated bytes.now) }
+    requires given { HasModel input.bytes.now (λ model. IsTextAt model asked.now) }
+    requires read { AreNegations input.bytes.now negations.now }
+    ensures read { AreNegations input.entry.bytes.now negations.new }
+    ensures found { IfOk result (IsFoundWhere (λ model. IsTextAt model asked.now)
+        options.counts input.entry.bytes.now asked.now.place) }
+    ensures refused { IfRefused result (IsUnnegated input.entry.bytes.now) }
 {
     let made = asked_module(context.alloc, asked)?;
-    finding_by(context, bytes, negations, &made, options)
+    finding_by(context, input, negations, &made, options)
 }
 
 /// What is found of each property, by its text.
@@ -239,24 +228,22 @@ fn finding_of<R: Threads + Sync, G: Gate + Sync>(
 /// `Text` and `Typing` where the negations are refused, or the text of one isn't well typed.
 pub(crate) fn findings_of<R: Threads + Sync, G: Gate + Sync>(
     context: &Context<'_, R, G>,
-    bytes: &[u8],
+    input: ShortInput<'_>,
     texts: &[AskedText],
     options: DecisionOptions,
 ) -> Result<Vec<Found>, OrMemory<SolveFault>>
-    requires input { length bytes.now ≤ MAX_INPUT_BYTES }
-    requires given { (model : ModelForm) × IsModelOf bytes.now model
-        × All (IsTextAt model) texts.now }
+    requires { HasModel input.bytes.now (λ model. All (IsTextAt model) texts.now) }
     ensures places { IfOk result (λ findings. map (λ found. found.place) findings.items
         ≡ map (λ asked. asked.place) texts.now) }
     ensures found { IfOk result (λ findings. (model : ModelForm)
-        → (said : IsModelOf bytes.now model) → All (IsTextAt model) texts.now
+        → (said : IsModelOf input.entry.bytes.now model) → All (IsTextAt model) texts.now
         → All (IsFound options.counts said.protocol model) findings.items) }
-    ensures refused { IfRefused result (IsUnnegated bytes.now) }
+    ensures refused { IfRefused result (IsUnnegated input.entry.bytes.now) }
 {
     let mut negations = None;
     let mut findings = Vec::new(context.alloc);
     for asked in texts {
-        let finding = finding_of(context, bytes, &mut negations, asked, options)?;
+        let finding = finding_of(context, input, &mut negations, asked, options)?;
         findings.push(Found {
             place: asked.place,
             finding,

@@ -1,12 +1,10 @@
 //! Texts, explained, and those of properties.
-ghost use Rattle.std.specs.Prelude.{◌≡◌, ◌<◌, ◌≤◌, ℕ, List, IfOk, length};
+ghost use Rattle.std.specs.Prelude.{◌≡◌, ◌<◌, IfOk, length};
 ghost use Rattle.pb_base.specs.OrMemory.{IfRefused};
 ghost use Rattle.pb_text_tree.specs.Form.{spec_form};
 ghost use Rattle.pb_text_meaning.specs.Erase.{erase};
 ghost use Rattle.pb_typing_rules.specs.WellTyped.{IsWellTyped};
-ghost use Rattle.pb_model_tree.specs.Form.{model_form};
-ghost use Rattle.pb_model_properties.specs.Said.{IsModelOf};
-ghost use Rattle.pbsolve.specs.Models.{IsUnexplained};
+ghost use Rattle.pbsolve.specs.Models.{WhereUnexplained, solved_form};
 ghost use Rattle.pbsolve.specs.Outcomes.{IsExplained, IsExplainedAt};
 ghost use Rattle.pbsolve.specs.Refusals.{IsUnexplainedForm};
 
@@ -16,7 +14,7 @@ use crate::property_faults::{error_of_property, name_place};
 use pb_base::OrMemory;
 use pb_command_faults::SolveFault;
 use pb_command_modules::explained;
-use pb_command_solver::Context;
+use pb_command_solver::{Context, Workers};
 use pb_exploration::Gate;
 use pb_model_properties::{SolvedModel, text_at};
 use pb_report::Explanation;
@@ -39,10 +37,9 @@ pub(crate) struct ExplainedText {
 pub(crate) fn explained_typed<R: Threads + Sync, G: Gate + Sync>(
     context: &Context<'_, R, G>,
     typed: Typed,
-    workers: u32,
+    workers: Workers,
 ) -> Result<ExplainedText, OrMemory<SolveFault>>
-    requires typed { IsWellTyped (erase (spec_form typed.spec)) }
-    requires workers { (0 < workers) × (workers ≤ 16) }
+    requires { IsWellTyped (erase (spec_form typed.spec)) }
     ensures typed { IfOk result (λ explained. explained.typed ≡ typed) }
     ensures explained { IfOk result IsExplained }
     ensures refused { IfRefused result (IsUnexplainedForm (spec_form typed.spec)) }
@@ -67,9 +64,8 @@ pub(crate) fn explained_at<R: Threads + Sync, G: Gate + Sync>(
     options: WhyOptions,
 ) -> Result<ExplainedText, OrMemory<SolveFault>>
     requires { place < length solved.now.typed.model.properties.items }
-    ensures explained { IfOk result (IsExplainedAt (model_form solved.now.typed.model) place) }
-    ensures refused { IfRefused result (λ fault. (bytes : List ℕ)
-        → IsModelOf bytes (model_form solved.now.typed.model) → IsUnexplained bytes fault) }
+    ensures explained { IfOk result (IsExplainedAt (solved_form solved.now) place) }
+    ensures refused { IfRefused result (WhereUnexplained (solved_form solved.now)) }
 {
     let typed = match text_at(context.alloc, solved, place) {
         Ok(typed) => typed,

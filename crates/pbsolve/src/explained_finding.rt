@@ -1,17 +1,16 @@
 //! What is found of properties that are explained.
-ghost use Rattle.std.specs.Prelude.{◌≤◌, ◌<◌, false, length, IfOk};
+ghost use Rattle.std.specs.Prelude.{false, IfOk};
 ghost use Rattle.pb_base.specs.OrMemory.{IfRefused};
-ghost use Rattle.pb_model_tree.specs.Form.{ModelForm};
-ghost use Rattle.pb_model_properties.specs.Said.{IsModelOf};
-ghost use Rattle.pbsolve.specs.Models.{IsFound, IsUnnegated};
-ghost use Rattle.pbsolve.specs.Outcomes.{AreNegations, IsExplainedAt};
+ghost use Rattle.pbsolve.specs.Models.{HasModel, IsFoundWhere, IsUnnegated};
+ghost use Rattle.pbsolve.specs.Outcomes.{AreNegations, IsExplainedIn};
 
 use crate::decision::{decided, is_denied};
 use crate::explained::ExplainedText;
 use crate::finding::Finding;
 use crate::options::WhyOptions;
 use crate::outcome::{AskedOutcome, answered};
-use pb_base::{MAX_INPUT_BYTES, OrMemory};
+use crate::short_input::ShortInput;
+use pb_base::OrMemory;
 use pb_command_faults::SolveFault;
 use pb_command_solver::{Context, SolveOptions};
 use pb_exploration::Gate;
@@ -34,22 +33,18 @@ pub(crate) struct Asked {
 /// `Text` and `Typing` where the negations are refused, or the text of this one isn't well typed.
 pub(crate) fn explained_finding<R: Threads + Sync, G: Gate + Sync>(
     context: &Context<'_, R, G>,
-    bytes: &[u8],
+    input: ShortInput<'_>,
     negations: &mut Option<SolvedModel>,
     explained: &ExplainedText,
     asked: Asked,
 ) -> Result<Finding, OrMemory<SolveFault>>
-    requires input { length bytes.now ≤ MAX_INPUT_BYTES }
-    requires given { (model : ModelForm) × IsModelOf bytes.now model
-        × (asked.place < length model.properties) × IsExplainedAt model asked.place explained.now }
-    requires read { AreNegations bytes.now negations.now }
-    ensures read { AreNegations bytes.now negations.new }
-    ensures found { IfOk result (λ finding. (model : ModelForm)
-        → (said : IsModelOf bytes.now model) → (asked.place < length model.properties)
-        → IsExplainedAt model asked.place explained.now
-        → IsFound false said.protocol model
-        (record { place = asked.place; finding = finding })) }
-    ensures refused { IfRefused result (IsUnnegated bytes.now) }
+    requires given { HasModel input.bytes.now (λ model. IsExplainedIn model asked.place
+        explained.now) }
+    requires read { AreNegations input.bytes.now negations.now }
+    ensures read { AreNegations input.entry.bytes.now negations.new }
+    ensures found { IfOk result (IsFoundWhere (λ model. IsExplainedIn model asked.place
+        explained.now) false input.entry.bytes.now asked.place) }
+    ensures refused { IfRefused result (IsUnnegated input.entry.bytes.now) }
 {
     if explained.explanation.evidence.truth {
         return Ok(Finding::Shown(true));
@@ -58,7 +53,7 @@ pub(crate) fn explained_finding<R: Threads + Sync, G: Gate + Sync>(
         workers: asked.options.workers,
         solver: Solver::Zielonka,
     };
-    let denied = is_denied(context, bytes, negations, asked.place, solving)?;
+    let denied = is_denied(context, input, negations, asked.place, solving)?;
     if denied {
         return Ok(Finding::Shown(false));
     }
@@ -67,5 +62,5 @@ pub(crate) fn explained_finding<R: Threads + Sync, G: Gate + Sync>(
         place: asked.place,
         outcome,
     };
-    decided(context, bytes, negations, asked, solving)
+    decided(context, input, negations, asked, solving)
 }

@@ -1,15 +1,14 @@
 //! The negations of the properties of a protocol, which are read where the first is needed.
-ghost use Rattle.std.specs.Prelude.{◌≡◌, ◌≤◌, ◌<◌, length, IfOk, IsSome};
+ghost use Rattle.std.specs.Prelude.{◌≡◌, ◌≤◌, length, IfOk, IsSome};
 ghost use Rattle.pb_base.specs.OrMemory.{IfRefused};
-ghost use Rattle.pb_model_tree.specs.Form.{ModelForm};
 ghost use Rattle.pb_model_properties.specs.Negations.{IsRefusedNegation};
-ghost use Rattle.pb_model_properties.specs.Said.{IsModelOf};
-ghost use Rattle.pbsolve.specs.Models.{IsUnnegated};
+ghost use Rattle.pbsolve.specs.Models.{HasPropertyAt, IsUnnegated};
 ghost use Rattle.pbsolve.specs.Outcomes.{AreNegations, IsNegationAt};
 
 use crate::property_module::{AskedModule, asked_module};
 use crate::property_text::asked_text;
-use pb_base::{MAX_INPUT_BYTES, OrMemory};
+use crate::short_input::ShortInput;
+use pb_base::OrMemory;
 use pb_command_faults::SolveFault;
 use pb_model_properties::{ModelError, SolvedModel, read_negations};
 use std::alloc::Global;
@@ -17,17 +16,16 @@ use std::alloc::Global;
 // Reads the negations, unless they were read.
 fn read_once(
     alloc: Global,
-    bytes: &[u8],
+    input: ShortInput<'_>,
     negations: &mut Option<SolvedModel>,
 ) -> Result<(), ModelError>
-    requires input { length bytes.now ≤ MAX_INPUT_BYTES }
-    requires read { AreNegations bytes.now negations.now }
-    ensures read { AreNegations bytes.now negations.new }
+    requires read { AreNegations input.bytes.now negations.now }
+    ensures read { AreNegations input.entry.bytes.now negations.new }
     ensures some { IfOk result (λ _. IsSome negations.new) }
-    ensures refused { IfRefused result (IsRefusedNegation bytes.now) }
+    ensures refused { IfRefused result (IsRefusedNegation input.entry.bytes.now) }
 {
     if negations.is_none() {
-        let read = read_negations(alloc, bytes)?;
+        let read = read_negations(alloc, input.bytes)?;
         *negations = Some(read);
     }
     Ok(())
@@ -40,20 +38,18 @@ fn read_once(
 /// another rule than that of limits.
 pub(crate) fn negation_module(
     alloc: Global,
-    bytes: &[u8],
+    input: ShortInput<'_>,
     negations: &mut Option<SolvedModel>,
     place: usize,
 ) -> Result<AskedModule, OrMemory<SolveFault>>
-    requires input { length bytes.now ≤ MAX_INPUT_BYTES }
-    requires within { (model : ModelForm) × IsModelOf bytes.now model
-        × (place < length model.properties) }
-    requires read { AreNegations bytes.now negations.now }
-    ensures read { AreNegations bytes.now negations.new }
+    requires within { HasPropertyAt input.bytes.now place }
+    requires read { AreNegations input.bytes.now negations.now }
+    ensures read { AreNegations input.entry.bytes.now negations.new }
     ensures place { IfOk result (λ asked. asked.place ≡ place) }
-    ensures compiled { IfOk result (IsNegationAt bytes.now) }
-    ensures refused { IfRefused result (IsUnnegated bytes.now) }
+    ensures compiled { IfOk result (IsNegationAt input.entry.bytes.now) }
+    ensures refused { IfRefused result (IsUnnegated input.entry.bytes.now) }
 {
-    match read_once(alloc, bytes, negations) {
+    match read_once(alloc, input, negations) {
         Ok(()) => match &*negations {
             Some(read) => {
                 let asked = asked_text(alloc, read, place)?;

@@ -21,14 +21,13 @@ ghost use Rattle.pbsolve.specs.declared.status.Status.TheVariants as status;
 ghost use Rattle.pb_sorts.specs.Source.{IsLongerThan};
 ghost use Rattle.pb_base.specs.declared.or_memory.OrMemory.TheVariants.{Refused};
 ghost use Rattle.pb_base_input.specs.declared.input.InputFault.TheVariants.{Failed, TooLong};
-ghost use Rattle.pb_base_input.specs.Reading.{ReadsAtMost};
-ghost use Rattle.pbsolve.specs.Program.{IsInputOf, IsRefusedBy, LackProperty, Refuses, Tells};
-ghost use Rattle.pbsolve.specs.Program.{TellsRefusal};
+ghost use Rattle.pbsolve.specs.Program.{FailsReading, IsInputOf, IsRefusedBy, IsUnanswered};
+ghost use Rattle.pbsolve.specs.Program.{LackProperty, LeavesReader, Refuses, Tells, TellsRefusal};
 
 use crate::check::check_text;
 use crate::compile::compile_text;
 use crate::models::translate_text;
-use crate::options::{ExplainOptions, WhyOptions};
+use crate::options::{ExplainOptions, WhyOptions, solve_options};
 use crate::run_error::RunError;
 use crate::solve::{certificate_of, explain_text, game_of, solution_of, solve_text};
 use crate::status::Status;
@@ -37,9 +36,9 @@ use crate::why::why_text;
 use pb_base::MAX_INPUT_BYTES;
 use pb_base_input::{InputError, read_input};
 use pb_command_faults::{ErrorLine, ProgramFault, SolveError};
-use pb_command_line::{Request, Solving, Task, request_of};
+use pb_command_line::{Request, Task, request_of};
 use pb_command_modules::{deliver, list_code, solve_code, verify_code};
-use pb_command_solver::{Context, SolveOptions};
+use pb_command_solver::{Context, Workers};
 use pb_exploration::Gate;
 use pb_sorts::{Sink, Source, put};
 use std::alloc::Global;
@@ -63,15 +62,20 @@ fn task_answer<R: Threads + Sync, G: Gate + Sync, O: Sink>(
             solve_text(context, bytes, solve_options(options), out)?;
             Ok(())
         }
-        Task::Game(options) => game_of(context, bytes, options.workers, out),
+        Task::Game(options) => {
+            let workers = Workers {
+                count: options.workers,
+            };
+            game_of(context, bytes, workers, out)
+        }
         Task::Solution(options) => solution_of(context, bytes, solve_options(options), out),
         Task::Certificate(options) => certificate_of(context, bytes, solve_options(options), out),
         Task::Explain(options) => {
-            let options = ExplainOptions {
-                workers: options.workers,
-                places: options.places,
+            let workers = Workers {
+                count: options.workers,
             };
-            explain_text(context, bytes, options, out)
+            let places = options.places;
+            explain_text(context, bytes, ExplainOptions { workers, places }, out)
         }
         Task::Compile => compile_text(context.alloc, bytes, out),
         Task::Verify => verify_code(context.alloc, bytes, out),
@@ -84,20 +88,13 @@ fn task_answer<R: Threads + Sync, G: Gate + Sync, O: Sink>(
             translate_text(context.alloc, bytes, name_of(&options.property), out)
         }
         Task::Why(options) => {
-            let shown = WhyOptions {
-                workers: options.workers,
-                lines: options.lines,
+            let workers = Workers {
+                count: options.workers,
             };
+            let lines = options.lines;
+            let shown = WhyOptions { workers, lines };
             why_text(context, bytes, name_of(&options.property), shown, out)
         }
-    }
-}
-
-// How is solved.
-fn solve_options(options: Solving) -> SolveOptions {
-    SolveOptions {
-        workers: options.workers,
-        solver: options.solver,
     }
 }
 
@@ -146,9 +143,8 @@ fn input_for<R: Source>(
     ensures input { IfOk result (λ input. IsInputOf request.now (R.left reader.old) input.items) }
     ensures short { IfOk result (λ input. vec_len input ≤ MAX_INPUT_BYTES) }
     ensures read { OnOk result (R.has_failed reader.new ≡ R.has_failed reader.old) }
-    ensures failed { result ≡ Err (Refused Failed) → R.has_failed reader.new ≡ true }
-    ensures failed_within { result ≡ Err (Refused Failed) →
-        ReadsAtMost MAX_INPUT_BYTES (R.left reader.old) (R.left reader.new) }
+    ensures failed { result ≡ Err (Refused Failed) →
+        FailsReading R.Source reader.old reader.new }
     ensures err_failed { IfErr result (λ e. e ≢ Refused Failed →
         R.has_failed reader.new ≡ R.has_failed reader.old) }
     ensures too_long { result ≡ Err (Refused TooLong) →
@@ -175,24 +171,11 @@ fn attempt<T: Threads + Sync, S: AsStr, R: Source, G: Gate + Sync, O: Sink>(
     ensures read { OnOk result (R.has_failed reader.new ≡ R.has_failed reader.old) }
     ensures asked { AskPlainly (map S.text words.now) →
         result ≢ Err (RunError.ProgramFault fault.U01) }
-    ensures unasked { AskNothing (map S.text words.now) →
-        (result ≡ Err (RunError.ProgramFault fault.U01))
-        ⊎ (result ≡ Err (RunError.ProgramFault fault.M01)) }
+    ensures unasked { AskNothing (map S.text words.now) → IsUnanswered result }
     ensures faulty { HaveFault (map S.text words.now) →
-        ((result ≡ Err (RunError.ProgramFault fault.U01))
-        ⊎ (result ≡ Err (RunError.ProgramFault fault.M01))) × (reader.new ≡ reader.old) }
-    ensures understood { result ≡ Err (RunError.ProgramFault fault.U01) →
-        HaveFault (map S.text words.now)
-        ⊎ LackProperty (map S.text words.now) (R.left reader.old) }
-    ensures refused { IfErr result (λ e. IsRefusedBy (map S.text words.now) (R.left reader.old) e) }
-    ensures read_asked { result ≡ Err (RunError.ProgramFault fault.E01) →
-        AskForSomething (map S.text words.now) }
-    ensures read_failed { result ≡ Err (RunError.ProgramFault fault.E01) →
-        R.has_failed reader.new ≡ true }
-    ensures read_within { result ≡ Err (RunError.ProgramFault fault.E01) →
-        ReadsAtMost MAX_INPUT_BYTES (R.left reader.old) (R.left reader.new) }
-    ensures read_refused { IfErr result (λ e. e ≢ RunError.ProgramFault fault.E01 →
-        R.has_failed reader.new ≡ R.has_failed reader.old) }
+        IsUnanswered result × (reader.new ≡ reader.old) }
+    ensures refused { IfErr result (IsRefusedBy (map S.text words.now) (R.left reader.old)) }
+    ensures left { IfErr result (λ e. LeavesReader e R.Source reader.old reader.new) }
 {
     let request = request_of(context.alloc, words)?;
     let input = input_for(context.alloc, &request, reader)?;
@@ -301,8 +284,8 @@ pub fn run<T: Threads + Sync, S: AsStr, G: Gate + Sync, R: Source, O: Sink, E: S
     // read did.
     ensures failed { result ≡ 4 →
         (AskForSomething (map S.text words.now)
-        × (R.has_failed streams.new.input ≡ true) × (streams.new.output ≡ streams.old.output)
-        × ReadsAtMost MAX_INPUT_BYTES (R.left streams.old.input) (R.left streams.new.input)
+        × FailsReading R.Source streams.old.input streams.new.input
+        × (streams.new.output ≡ streams.old.output)
         × Tells (codes "E01\n") E.Sink streams.old.error streams.new.error)
         ⊎ ((R.has_failed streams.new.input ≡ R.has_failed streams.old.input)
         × BeginsAnswer (map S.text words.now) (R.left streams.old.input)

@@ -2,7 +2,7 @@
 ghost use Rattle.std.specs.Prelude.{◌≡◌, ◌<◌, true, length, map, IfOk};
 ghost use Rattle.std.specs.List.{All};
 ghost use Rattle.pb_base.specs.OrMemory.{IfFault, IfRefused};
-ghost use Rattle.pb_model_tree.specs.Form.{model_form};
+ghost use Rattle.pbsolve.specs.Models.{solved_form};
 ghost use Rattle.pbsolve.specs.Outcomes.{IsFault, IsTextAt, IsUntyped, is_limit};
 ghost use Rattle.pb_command_faults.specs.Errors.{fault_of_model};
 
@@ -73,8 +73,8 @@ pub(crate) fn asked_text(
 ) -> Result<AskedText, OrMemory<SolveFault>>
     requires { place < length solved.now.typed.model.properties.items }
     ensures place { IfOk result (λ asked. asked.place ≡ place) }
-    ensures text { IfOk result (IsTextAt (model_form solved.now.typed.model)) }
-    ensures refused { IfRefused result (IsUntyped (model_form solved.now.typed.model)) }
+    ensures text { IfOk result (IsTextAt (solved_form solved.now)) }
+    ensures refused { IfRefused result (IsUntyped (solved_form solved.now)) }
 {
     match text_at(alloc, solved, place) {
         Ok(typed) => Ok(AskedText {
@@ -96,9 +96,8 @@ pub(crate) fn asked_texts(
 ) -> Result<Vec<AskedText>, OrMemory<SolveFault>>
     requires { All (λ place. place < length solved.now.typed.model.properties.items) places.now }
     ensures places { IfOk result (λ texts. map (λ asked. asked.place) texts.items ≡ places.now) }
-    ensures texts { IfOk result
-        (λ texts. All (IsTextAt (model_form solved.now.typed.model)) texts.items) }
-    ensures refused { IfRefused result (IsUntyped (model_form solved.now.typed.model)) }
+    ensures texts { IfOk result (λ texts. All (IsTextAt (solved_form solved.now)) texts.items) }
+    ensures refused { IfRefused result (IsUntyped (solved_form solved.now)) }
 {
     let mut texts = Vec::new(alloc);
     for place in places {

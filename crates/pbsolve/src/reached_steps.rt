@@ -2,10 +2,12 @@
 //! none, which mostly is a mistake.
 ghost use Rattle.std.specs.Prelude.{◌<◌, ℕ, length, IfOk};
 ghost use Rattle.pb_base.specs.OrMemory.{IfRefused};
-ghost use Rattle.pb_model_tree.specs.Form.{ModelForm, model_form};
+ghost use Rattle.pb_model_tree.specs.Form.{ModelForm};
+ghost use Rattle.pbsolve.specs.Models.{solved_form};
 ghost use Rattle.pbsolve.specs.ReachedSteps.{AreStepsFound, AreStepsFoundWhere, IsFoundOfStep};
 ghost use Rattle.pbsolve.specs.ReachedSteps.{IsStepModule, IsStepText, IsUntypedStep};
 
+use crate::options::solve_options;
 use crate::outcome::{Outcome, early_truth, outcome_of};
 use crate::property_module::{PropertyModule, property_module};
 use crate::property_text::{AskedText, PropertyText, untyped};
@@ -26,9 +28,8 @@ fn step_text(
     step: usize,
 ) -> Result<AskedText, OrMemory<SolveFault>>
     requires { step < length solved.now.typed.model.steps.items }
-    ensures text { IfOk result
-        (λ asked. IsStepText (model_form solved.now.typed.model) step asked.text) }
-    ensures refused { IfRefused result (IsUntypedStep (model_form solved.now.typed.model)) }
+    ensures text { IfOk result (λ asked. IsStepText (solved_form solved.now) step asked.text) }
+    ensures refused { IfRefused result (IsUntypedStep (solved_form solved.now)) }
 {
     match reached_text_at(alloc, solved, step) {
         Ok(typed) => Ok(AskedText {
@@ -46,8 +47,8 @@ fn step_module(
     step: usize,
 ) -> Result<PropertyModule, OrMemory<SolveFault>>
     requires { step < length solved.now.typed.model.steps.items }
-    ensures module { IfOk result (IsStepModule (model_form solved.now.typed.model) step) }
-    ensures refused { IfRefused result (IsUntypedStep (model_form solved.now.typed.model)) }
+    ensures module { IfOk result (IsStepModule (solved_form solved.now) step) }
+    ensures refused { IfRefused result (IsUntypedStep (solved_form solved.now)) }
 {
     let asked = step_text(alloc, solved, step)?;
     let compiled = property_module(alloc, &asked.text)?;
@@ -82,8 +83,8 @@ fn step_finding<R: Threads + Sync, G: Gate + Sync>(
     options: SolveOptions,
 ) -> Result<StepFinding, OrMemory<SolveFault>>
     requires { step < length solved.now.typed.model.steps.items }
-    ensures found { IfOk result (IsFoundOfStep (model_form solved.now.typed.model) step) }
-    ensures refused { IfRefused result (IsUntypedStep (model_form solved.now.typed.model)) }
+    ensures found { IfOk result (IsFoundOfStep (solved_form solved.now) step) }
+    ensures refused { IfRefused result (IsUntypedStep (solved_form solved.now)) }
 {
     let compiled = step_module(context.alloc, solved, step)?;
     let finding = finding_by(context, &compiled, options)?;
@@ -97,8 +98,8 @@ fn all_steps<R: Threads + Sync, G: Gate + Sync>(
     options: SolveOptions,
 ) -> Result<Vec<StepFinding>, OrMemory<SolveFault>>
     ensures found { IfOk result
-        (λ findings. AreStepsFound (model_form solved.now.typed.model) findings.items) }
-    ensures refused { IfRefused result (IsUntypedStep (model_form solved.now.typed.model)) }
+        (λ findings. AreStepsFound (solved_form solved.now) findings.items) }
+    ensures refused { IfRefused result (IsUntypedStep (solved_form solved.now)) }
 {
     let mut findings = Vec::new(context.alloc);
     for step in 0..solved.typed.model.steps.len() {
@@ -118,17 +119,12 @@ pub(crate) fn steps_on<R: Threads + Sync, G: Gate + Sync>(
     solved: &SolvedModel,
     options: &Checking,
 ) -> Result<Vec<StepFinding>, OrMemory<SolveFault>>
-    ensures found { IfOk result (λ findings.
-        AreStepsFoundWhere options.now.counts (model_form solved.now.typed.model)
-        findings.items) }
-    ensures refused { IfRefused result (IsUntypedStep (model_form solved.now.typed.model)) }
+    ensures found { IfOk result (λ findings. AreStepsFoundWhere options.now.counts
+        (solved_form solved.now) findings.items) }
+    ensures refused { IfRefused result (IsUntypedStep (solved_form solved.now)) }
 {
     if !options.counts {
         return Ok(Vec::new(context.alloc));
     }
-    let solving = SolveOptions {
-        workers: options.solving.workers,
-        solver: options.solving.solver,
-    };
-    all_steps(context, solved, solving)
+    all_steps(context, solved, solve_options(options.solving))
 }

@@ -1,24 +1,20 @@
 //! What is told of the property at a place: the verdict, and what shows it.
-ghost use Rattle.std.specs.Prelude.{◌≡◌, ◌≤◌, ◌<◌, ℕ, List, false, IfOk};
-ghost use Rattle.std.specs.Prelude.{Some, length, string_bytes};
-ghost use Rattle.std.specs.List.{slice_get};
+ghost use Rattle.std.specs.Prelude.{◌≡◌, ◌≤◌, ◌<◌, IfOk, length, string_bytes};
 ghost use Rattle.pb_base.specs.OrMemory.{IfRefused};
-ghost use Rattle.pb_text_tree.specs.Form.{spec_form};
-ghost use Rattle.pb_model_tree.specs.Form.{PropertyForm, model_form};
-ghost use Rattle.pb_protocol_tree.specs.Form as protocol_form;
 ghost use Rattle.pb_model_properties.specs.Said.{IsModelOf};
-ghost use Rattle.pb_model_properties.specs.Words.{words_in};
 ghost use Rattle.pb_model_words.specs.View.{vocabulary_of};
-ghost use Rattle.pbsolve.specs.Models.{IsFound, IsUnexplained};
+ghost use Rattle.pbsolve.specs.Models.{IsUnexplained, WhereFound, solved_form};
 ghost use Rattle.pbsolve.specs.Outcomes.{AreNegations, IsExplainedAt, verdict_in};
-ghost use Rattle.pbsolve.specs.Why.{IsTellable, IsTold, IsToldText, is_true, steps_of};
+ghost use Rattle.pbsolve.specs.Why.{AreTellable, AreTellingParts, IsTellableShown, IsToldAsked};
+ghost use Rattle.pbsolve.specs.Why.{IsToldShown, IsToldThere, is_true};
 
 use crate::explained::{ExplainedText, explained_at};
 use crate::explained_finding::{Asked, explained_finding};
 use crate::finding::Finding;
 use crate::finding_lines::verdict_of;
 use crate::property_faults::too_large_at;
-use pb_base::{MAX_INPUT_BYTES, OrMemory};
+use crate::short_input::ShortInput;
+use pb_base::OrMemory;
 use pb_command_faults::{PropertyExcess, SolveFault};
 use pb_command_solver::Context;
 use pb_evidence_words::{Shown, push_instance_lines, push_why};
@@ -68,12 +64,8 @@ fn told(
     name: &str,
     shown: &Shown<'_>,
 ) -> Result<String, AllocError>
-    requires { IsTellable (model_form shown.now.model.now) (spec_form shown.now.typed.now.spec)
-        (spec_form shown.now.steps.now.spec) shown.now.verified.now shown.now.explanation.now }
-    ensures { IfOk result (λ told. IsToldText telling.lines telling.always
-        (vocabulary_of shown.now.vocabulary.now) name.now telling.verdict
-        (spec_form shown.now.typed.now.spec) (spec_form shown.now.steps.now.spec)
-        shown.now.verified.now shown.now.explanation.now.evidence (string_bytes told)) }
+    requires { IsTellableShown shown.now }
+    ensures { IfOk result (λ told. IsToldShown telling name.now shown.now (string_bytes told)) }
 {
     let mut told = String::new(alloc);
     push_verdict(&mut told, name, telling.verdict)?;
@@ -104,14 +96,9 @@ fn told_in(
     vocabulary: &Vocabulary<'_>,
     parts: &ShownParts<'_>,
 ) -> Result<String, AllocError>
-    requires { IsTellable (model_form parts.now.model.now)
-        (spec_form parts.now.explained.now.typed.spec) (spec_form parts.now.steps.now.spec)
-        parts.now.explained.now.verified parts.now.explained.now.explanation }
-    ensures { IfOk result (λ told. IsToldText telling.lines telling.always
-        (vocabulary_of vocabulary.now) name.now telling.verdict
-        (spec_form parts.now.explained.now.typed.spec) (spec_form parts.now.steps.now.spec)
-        parts.now.explained.now.verified parts.now.explained.now.explanation.evidence
-        (string_bytes told)) }
+    requires { AreTellable parts.now }
+    ensures { IfOk result (λ told. AreTellingParts telling (vocabulary_of vocabulary.now) name.now
+        parts.now (string_bytes told)) }
 {
     let explained = parts.explained;
     let shown = Shown {
@@ -134,13 +121,9 @@ fn explained_told(
     telling: ToldVerdict,
 ) -> Result<String, AllocError>
     requires within { place < length solved.now.typed.model.properties.items }
-    requires explained { IsExplainedAt (model_form solved.now.typed.model) place explained.now }
-    ensures { IfOk result (λ told. (q : PropertyForm)
-        → slice_get (model_form solved.now.typed.model).properties place ≡ Some q
-        → IsToldText telling.lines telling.always (words_in solved.now) q.name.text
-        telling.verdict (spec_form explained.now.typed.spec)
-        (steps_of (model_form solved.now.typed.model)) explained.now.verified
-        explained.now.explanation.evidence (string_bytes told)) }
+    requires explained { IsExplainedAt (solved_form solved.now) place explained.now }
+    ensures { IfOk result
+        (λ told. IsToldThere telling solved.now place explained.now (string_bytes told)) }
 {
     let model = &solved.typed;
     let steps = steps_text(alloc, model)?;
@@ -163,21 +146,11 @@ fn found_told(
     asked: Asked,
 ) -> Result<String, OrMemory<SolveFault>>
     requires within { asked.place < length solved.now.typed.model.properties.items }
-    requires explained { IsExplainedAt (model_form solved.now.typed.model) asked.place
-        explained.now }
-    ensures told { IfOk result (λ told. (bytes : List ℕ)
-        (said : IsModelOf bytes (model_form solved.now.typed.model))
-        → IsFound false said.protocol (model_form solved.now.typed.model)
-        (record { place = asked.place; finding = finding })
-        → (p : protocol_form.PropertyForm) (q : PropertyForm)
-        → slice_get said.protocol.properties asked.place ≡ Some p
-        → slice_get (model_form solved.now.typed.model).properties asked.place ≡ Some q
-        → IsTold asked.options.lines asked.always (words_in solved.now) said.protocol
-        (model_form solved.now.typed.model) p q (string_bytes told)) }
-    ensures refused { IfRefused result (λ fault. (bytes : List ℕ)
-        (said : IsModelOf bytes (model_form solved.now.typed.model))
-        → IsFound false said.protocol (model_form solved.now.typed.model)
-        (record { place = asked.place; finding = finding }) → IsUnexplained bytes fault) }
+    requires explained { IsExplainedAt (solved_form solved.now) asked.place explained.now }
+    ensures told { IfOk result (λ told. WhereFound (solved_form solved.now) asked.place finding
+        (λ bytes protocol. IsToldAsked asked solved.now protocol (string_bytes told))) }
+    ensures refused { IfRefused result (λ fault. WhereFound (solved_form solved.now) asked.place
+        finding (λ bytes protocol. IsUnexplained bytes fault)) }
 {
     match verdict_in(finding) {
         Err(excess) => Err(too_large_at(&solved.typed, asked.place, excess).into()),
@@ -199,26 +172,21 @@ fn found_told(
 /// of the two isn't well typed. `Text` and `Typing` come too where the negations are refused.
 pub(crate) fn told_at<R: Threads + Sync, G: Gate + Sync>(
     context: &Context<'_, R, G>,
-    bytes: &[u8],
+    input: ShortInput<'_>,
     solved: &SolvedModel,
     negations: &mut Option<SolvedModel>,
     asked: Asked,
 ) -> Result<String, OrMemory<SolveFault>>
-    requires input { length bytes.now ≤ MAX_INPUT_BYTES }
-    requires said { IsModelOf bytes.now (model_form solved.now.typed.model) }
+    requires said { IsModelOf input.bytes.now (solved_form solved.now) }
     requires within { asked.place < length solved.now.typed.model.properties.items }
-    requires read { AreNegations bytes.now negations.now }
-    ensures read { AreNegations bytes.now negations.new }
+    requires read { AreNegations input.bytes.now negations.now }
+    ensures read { AreNegations input.entry.bytes.now negations.new }
     ensures told { IfOk result (λ told.
-        (said : IsModelOf bytes.now (model_form solved.now.typed.model))
-        (p : protocol_form.PropertyForm) (q : PropertyForm)
-        → slice_get said.protocol.properties asked.place ≡ Some p
-        → slice_get (model_form solved.now.typed.model).properties asked.place ≡ Some q
-        → IsTold asked.options.lines asked.always (words_in solved.now) said.protocol
-        (model_form solved.now.typed.model) p q (string_bytes told)) }
-    ensures refused { IfRefused result (IsUnexplained bytes.now) }
+        (said : IsModelOf input.entry.bytes.now (solved_form solved.now))
+        → IsToldAsked asked solved.now said.protocol (string_bytes told)) }
+    ensures refused { IfRefused result (IsUnexplained input.entry.bytes.now) }
 {
     let explained = explained_at(context, solved, asked.place, asked.options)?;
-    let finding = explained_finding(context, bytes, negations, &explained, asked)?;
+    let finding = explained_finding(context, input, negations, &explained, asked)?;
     found_told(context.alloc, solved, &explained, finding, asked)
 }

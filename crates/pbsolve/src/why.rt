@@ -1,22 +1,21 @@
 //! Why the properties of a model hold or don't: the verdicts, with the steps that show them.
-ghost use Rattle.std.specs.Prelude.{◌≡◌, ◌≤◌, ◌<◌, Contains, Err, IfOk, IsSome, Some};
-ghost use Rattle.std.specs.Prelude.{length};
+ghost use Rattle.std.specs.Prelude.{◌≡◌, ◌≤◌, Contains, Err, IfOk, IsSome, None, Some, length};
 ghost use Rattle.std.specs.Prelude.{option_copied, string_bytes};
 ghost use Rattle.pb_base.specs.OrMemory.{IfRefused};
 ghost use Rattle.pb_base.specs.declared.or_memory.OrMemory.TheVariants.{Refused};
 ghost use Rattle.pb_command_faults.specs.Errors.{IfInputRefused};
 ghost use Rattle.pb_command_faults.specs.declared.solve_fault.SolveFault.TheVariants.{NoProperty};
-ghost use Rattle.pb_model_tree.specs.Form.{ModelForm, PropertyForm, model_form};
+ghost use Rattle.pb_model_tree.specs.Form.{ModelForm, PropertyForm};
 ghost use Rattle.pb_model_properties.specs.Said.{IsModelOf};
-ghost use Rattle.pb_model_properties.specs.Words.{words_in};
 ghost use Rattle.pb_command_modules.specs.Delivery.{Delivers};
-ghost use Rattle.pbsolve.specs.Models.{IsUnexplained};
+ghost use Rattle.pbsolve.specs.Models.{IsUnexplained, solved_form};
 ghost use Rattle.pbsolve.specs.Why.{CallsAreMoves, CallsAreSteps, StatesAreTold};
-ghost use Rattle.pbsolve.specs.Why.{AreTold, IsUnshown, TellAsked, WritesWhy};
+ghost use Rattle.pbsolve.specs.Why.{IsUnshown, TellWhere, WritesWhy};
 
 use crate::explained_finding::Asked;
 use crate::laws::told_calls_are_steps;
 use crate::options::WhyOptions;
+use crate::short_input::ShortInput;
 use crate::told::told_at;
 use pb_base::{MAX_INPUT_BYTES, OrMemory};
 use pb_command_faults::{SolveError, SolveFault};
@@ -30,18 +29,14 @@ use std::thread::Threads;
 // What is told of all properties.
 fn all_told<R: Threads + Sync, G: Gate + Sync>(
     context: &Context<'_, R, G>,
-    bytes: &[u8],
+    input: ShortInput<'_>,
     solved: &SolvedModel,
     options: WhyOptions,
 ) -> Result<String, OrMemory<SolveFault>>
-    requires input { length bytes.now ≤ MAX_INPUT_BYTES }
-    requires said { IsModelOf bytes.now (model_form solved.now.typed.model) }
-    ensures told { IfOk result (λ lines.
-        (said : IsModelOf bytes.now (model_form solved.now.typed.model))
-        → AreTold options.lines (words_in solved.now) said.protocol
-        (model_form solved.now.typed.model) said.protocol.properties
-        (model_form solved.now.typed.model).properties (string_bytes lines)) }
-    ensures refused { IfRefused result (IsUnexplained bytes.now) }
+    requires { IsModelOf input.bytes.now (solved_form solved.now) }
+    ensures told { IfOk result (λ lines. TellWhere options.lines None input.entry.bytes.now
+        solved.now (string_bytes lines)) }
+    ensures refused { IfRefused result (IsUnexplained input.entry.bytes.now) }
 {
     let mut negations = None;
     let mut lines = String::new(context.alloc);
@@ -51,7 +46,7 @@ fn all_told<R: Threads + Sync, G: Gate + Sync>(
             always: false,
             options,
         };
-        let told = told_at(context, bytes, solved, &mut negations, asked)?;
+        let told = told_at(context, input, solved, &mut negations, asked)?;
         lines.push_str(told.as_str())?;
     }
     Ok(lines)
@@ -60,18 +55,15 @@ fn all_told<R: Threads + Sync, G: Gate + Sync>(
 // What is told of the property of a name.
 fn named_told<R: Threads + Sync, G: Gate + Sync>(
     context: &Context<'_, R, G>,
-    bytes: &[u8],
+    input: ShortInput<'_>,
     solved: &SolvedModel,
     name: &str,
     options: WhyOptions,
 ) -> Result<String, OrMemory<SolveFault>>
-    requires input { length bytes.now ≤ MAX_INPUT_BYTES }
-    requires said { IsModelOf bytes.now (model_form solved.now.typed.model) }
-    ensures told { IfOk result (λ lines.
-        (said : IsModelOf bytes.now (model_form solved.now.typed.model))
-        → TellAsked options.lines (Some name.now) (words_in solved.now) said.protocol
-        (model_form solved.now.typed.model) (string_bytes lines)) }
-    ensures refused { IfRefused result (IsUnshown (Some name.now) bytes.now) }
+    requires { IsModelOf input.bytes.now (solved_form solved.now) }
+    ensures told { IfOk result (λ lines. TellWhere options.lines (Some name.now)
+        input.entry.bytes.now solved.now (string_bytes lines)) }
+    ensures refused { IfRefused result (IsUnshown (Some name.now) input.entry.bytes.now) }
 {
     let Some(place) = place_of(&solved.typed.model.properties, Some(name)) else {
         return Err(SolveFault::NoProperty.into());
@@ -82,29 +74,27 @@ fn named_told<R: Threads + Sync, G: Gate + Sync>(
         options,
     };
     let mut negations = None;
-    told_at(context, bytes, solved, &mut negations, asked)
+    told_at(context, input, solved, &mut negations, asked)
 }
 
 // What is told of the property of a name, or of all where none is named.
 fn asked_told<R: Threads + Sync, G: Gate + Sync>(
     context: &Context<'_, R, G>,
-    bytes: &[u8],
+    input: ShortInput<'_>,
     solved: &SolvedModel,
     property: Option<&str>,
     options: WhyOptions,
 ) -> Result<String, OrMemory<SolveFault>>
-    requires input { length bytes.now ≤ MAX_INPUT_BYTES }
-    requires said { IsModelOf bytes.now (model_form solved.now.typed.model) }
-    ensures told { IfOk result (λ lines.
-        (said : IsModelOf bytes.now (model_form solved.now.typed.model))
-        → TellAsked options.lines (option_copied property.entry) (words_in solved.now)
-        said.protocol (model_form solved.now.typed.model) (string_bytes lines)) }
-    ensures refused { IfRefused result (IsUnshown (option_copied property.entry) bytes.now) }
+    requires { IsModelOf input.bytes.now (solved_form solved.now) }
+    ensures told { IfOk result (λ lines. TellWhere options.lines (option_copied property.entry)
+        input.entry.bytes.now solved.now (string_bytes lines)) }
+    ensures refused { IfRefused result
+        (IsUnshown (option_copied property.entry) input.entry.bytes.now) }
     ensures named { result ≡ Err (Refused NoProperty) → IsSome property.entry }
 {
     match property {
-        Some(name) => named_told(context, bytes, solved, name, options),
-        None => all_told(context, bytes, solved, options),
+        Some(name) => named_told(context, input, solved, name, options),
+        None => all_told(context, input, solved, options),
     }
 }
 
@@ -153,6 +143,7 @@ pub fn why_text<R: Threads + Sync, G: Gate + Sync, S: Sink>(
 {
     told_calls_are_steps();
     let solved = read_protocol(context.alloc, bytes)?;
-    let lines = asked_told(context, bytes, &solved, property, options)?;
+    let input = ShortInput { bytes };
+    let lines = asked_told(context, input, &solved, property, options)?;
     deliver(lines.as_bytes(), writer)
 }

@@ -12,9 +12,9 @@ use Rattle.pbsolve.proofs.check.checked_on.Goals as goal
 pub returns-in_err-steps-clause-refused : goal.returns-in_err-steps-clause-refused
 returns-in_err-steps-clause-refused g c =
     let names = map string_bytes c.args.options.now.properties.items in
-    let bytes = c.args.bytes.now in
+    let bytes = c.args.input.bytes.now in
     let e = c.in_err-steps.field-0.0 in
-    let h : IfFault e (IsUnchecked names bytes) = if_fault e (step_unchecked bytes names (model_form c.args.solved.now.typed.model) c.requires.read) c.in_err-steps.ensures.refused in
+    let h : IfFault e (IsUnchecked names bytes) = if_fault e (step_unchecked bytes names (model_form c.args.solved.now.typed.model) c.requires) c.in_err-steps.ensures.refused in
     search rules
 
 pub returns-in_err-steps-clause-named : goal.returns-in_err-steps-clause-named

@@ -15,7 +15,7 @@ use Rattle.pbsolve.proofs.check.checked_report.Goals as goal
 
 pub returns-in-Err-clause-refused : goal.returns-in-Err-clause-refused
 returns-in-Err-clause-refused g c =
-    let bytes = c.args.bytes.now in
+    let bytes = c.args.input.bytes.now in
     let names = map string_bytes c.args.options.now.properties.items in
     if_raised c.in-Err.error c.raise.result c.raise.ensures
     (λ fault above same h. subst (IsUnchecked names bytes) (sym same) (untold_unchecked bytes names _ (model_untold bytes fault h)))
@@ -24,7 +24,7 @@ returns-in-Err-clause-refused g c =
 pub returns-in-Err-clause-named : goal.returns-in-Err-clause-named
 returns-in-Err-clause-named g c is =
     let same : c.raise.result ≡ or_memory.Refused solve_fault.NoProperty = cc is in
-    absurd (names_are_read c.args.bytes.now c.in-Err.error c.raise.result c.raise.ensures c.in-Err.ensures.refused same)
+    absurd (names_are_read c.args.input.bytes.now c.in-Err.error c.raise.result c.raise.ensures c.in-Err.ensures.refused same)
 
 pub report_of-requires : goal.report_of-requires
 report_of-requires g c =

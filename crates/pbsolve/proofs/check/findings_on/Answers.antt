@@ -21,10 +21,10 @@ asked_texts-requires g c =
     subst (All (λ (k : ℕ). k < length items)) (sym (c.deref-3.ensures.value ∙ asked))
     (places_within names (map property_form items) (length items) (sym (length-map items property_form)))
 
-pub findings_of-requires-clause-given : goal.findings_of-requires-clause-given
-findings_of-requires-clause-given g c κs within =
+pub findings_of-requires-after_bounds : goal.findings_of-requires-after_bounds
+findings_of-requires-after_bounds g c κs within =
     let model = model_form c.args.solved.now.typed.model in
-    (model, c.requires.read, subst (All (IsTextAt model)) (sym c.deref-4.ensures.value) c.in_ok-texts.ensures.texts)
+    (model, c.requires, subst (All (IsTextAt model)) (sym c.deref-4.ensures.value) c.in_ok-texts.ensures.texts)
 
 pub returns-clause-found : goal.returns-clause-found
 returns-clause-found g c =
@@ -42,8 +42,8 @@ returns-clause-found g c =
 pub returns-clause-refused : goal.returns-clause-refused
 returns-clause-refused g c =
     let names = map string_bytes c.args.options.now.properties.items in
-    let bytes = c.args.bytes.now in
+    let bytes = c.args.input.bytes.now in
     if_refused c.findings_of.result (λ fault h. untold_unchecked bytes names fault (unnegated_untold bytes fault h)) c.findings_of.ensures.refused
 
 pub returns-clause-named : goal.returns-clause-named
-returns-clause-named g c is = absurd (names_no_property c.args.bytes.now c.findings_of.result is c.findings_of.ensures.refused)
+returns-clause-named g c is = absurd (names_no_property c.args.input.bytes.now c.findings_of.result is c.findings_of.ensures.refused)

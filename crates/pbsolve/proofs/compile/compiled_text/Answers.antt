@@ -9,16 +9,16 @@ use Rattle.pbsolve.proofs.compile.compiled_text.Goals as goal
 
 pub returns-in_err-typed-clause-refused : goal.returns-in_err-typed-clause-refused
 returns-in_err-typed-clause-refused c =
-    let P = IsUncompiled c.args.bytes.now in
+    let P = IsUncompiled c.args.input.bytes.now in
     handed_on P P (λ f h. h) c.in_err-typed.field-0.0 c.from_residual.result c.in_err-typed.ensures.refused c.from_residual.ensures.1
 
 pub returns-in_err-module-clause-refused : goal.returns-in_err-module-clause-refused
 returns-in_err-module-clause-refused c =
     let text = spec_form c.in_ok-typed.typed.spec in
     let read = c.in_ok-typed.ensures.read in
-    handed_on (IsUncompiledForm text) (IsUncompiled c.args.bytes.now) (form_uncompiled c.args.bytes.now text read.0 read.1)
+    handed_on (IsUncompiledForm text) (IsUncompiled c.args.input.bytes.now) (form_uncompiled c.args.input.bytes.now text read.0 read.1)
     c.in_err-module.field-0.0 c.from_residual-in_err-module.result c.in_err-module.ensures.refused c.from_residual-in_err-module.ensures.1
 
 pub returns-clause-module : goal.returns-clause-module
 returns-clause-module c =
-    of_bytes c.args.bytes.now (spec_form c.in_ok-typed.typed.spec) (module_contents c.in_ok-module.module) c.in_ok-typed.ensures.read.0 c.in_ok-module.ensures.«module»
+    of_bytes c.args.input.bytes.now (spec_form c.in_ok-typed.typed.spec) (module_contents c.in_ok-module.module) c.in_ok-typed.ensures.read.0 c.in_ok-module.ensures.«module»

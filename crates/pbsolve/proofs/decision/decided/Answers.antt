@@ -28,5 +28,5 @@ returns-in_ok-decision-in-Answered-clause-found g c counts model said at =
     let uncut = c.if-answer-eq0.false in
     let cut : 0 < c.in-Answered.answer.cut = omega (arith, uncut) in
     found_open counts said.protocol model said.is_for c.args.asked.place at.property at.stands c.in-Answered.answer (subst (IsOutcome model at.property) c.in-Answered.is at.outcome)
-    c.negations_erase.ensures.protocols c.negations_erase.ensures.satisfaction c.args.bytes.now said.read c.in_ok-negation-in-Answered.negation c.in_ok-negation-in-Answered.ensures.compiled
+    c.negations_erase.ensures.protocols c.negations_erase.ensures.satisfaction c.args.input.bytes.now said.read c.in_ok-negation-in-Answered.negation c.in_ok-negation-in-Answered.ensures.compiled
     c.in_ok-negation-in-Answered.ensures.place c.if-answer.false cut c.in_ok-decision-in-Answered.field-0 c.in_ok-decision-in-Answered.ensures

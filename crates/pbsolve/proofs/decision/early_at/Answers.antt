@@ -29,7 +29,7 @@ returns-in-Shown-true-clause-told g c model said at = (
 pub returns-then-denied-clause-told : goal.returns-then-denied-clause-told
 returns-then-denied-clause-told g c model said at = (
   c.if-options.false,
-  shown_false c.args.options.counts said.protocol model said.is_for c.args.asked.now.place at.property at.stands c.args.bytes.now said.read
+  shown_false c.args.options.counts said.protocol model said.is_for c.args.asked.now.place at.property at.stands c.args.input.bytes.now said.read
       (c.in_ok-denied-in-Shown-false.ensures.denied c.if-denied.true)
       (subst (λ (b : Bool). b ≡ satisfies model at.property.formula) c.in-Shown-false.field-0-test
       (subst (IsEarlyOf model at.property) c.in-Shown-false.is (c.in_ok-early.ensures model at.property at.compiled))),

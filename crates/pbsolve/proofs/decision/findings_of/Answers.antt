@@ -10,7 +10,7 @@ use Rattle.pbsolve.proofs.decision.findings_of.Goals as goal
 
 pub finding_of-requires-clause-given : goal.finding_of-requires-clause-given
 finding_of-requires-clause-given g c κs within =
-    let given = c.requires.given in
+    let given = c.requires in
     (given.0, given.1, of_item (IsTextAt given.0) c.args.texts.now c.loop-asked.asked-index c.asked-item.result given.2 c.loop-asked-test.true c.asked-item.is)
 
 pub loop-asked-preserved : goal.loop-asked-preserved

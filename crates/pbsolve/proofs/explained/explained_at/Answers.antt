@@ -11,7 +11,8 @@ use Rattle.pb_model_properties.specs.declared.error.ModelFault.TheVariants as mo
 use Rattle.pb_model_properties.specs.declared.solved.SolvedModel.{SolvedModel}
 use Rattle.pb_model_properties.specs.Said.{IsTextOf}
 use Rattle.pb_typing.specs.declared.typed.Typed.{Typed}
-use Rattle.pbsolve.proofs.PropertyVerdicts.{contains_at, some_property, text_at_place, unexplained_property, WhereUnexplained}
+use Rattle.pbsolve.specs.Models.{WhereUnexplained}
+use Rattle.pbsolve.proofs.PropertyVerdicts.{contains_at, some_property, text_at_place, unexplained_property}
 use Rattle.pbsolve.proofs.explained.explained_at.Goals as goal
 
 -- a model with a property whose text isn't well typed isn't explained
@@ -31,8 +32,8 @@ returns-in-Err-clause-refused g c =
     (text_unexplained solved some.0 (contains_at model.properties c.args.place some.0 some.1) fault (h some.0 some.1)))
     c.in-Err.ensures.refused
 
-pub explained_typed-requires-clause-typed : goal.explained_typed-requires-clause-typed
-explained_typed-requires-clause-typed g c κs within =
+pub explained_typed-requires-after_bounds : goal.explained_typed-requires-after_bounds
+explained_typed-requires-after_bounds g c κs within =
     let some = some_property property_form c.args.solved.now.typed.model.properties.items c.args.place c.requires in (c.in-Ok.ensures.text some.0 some.1).typed
 
 pub returns-in-Err-explained_typed-clause-refused : goal.returns-in-Err-explained_typed-clause-refused

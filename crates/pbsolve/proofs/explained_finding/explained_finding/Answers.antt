@@ -12,7 +12,7 @@ use Rattle.pbsolve.proofs.Tellings.{explained_truth, ok_more}
 use Rattle.pbsolve.proofs.explained_finding.explained_finding.Goals as goal
 
 pub is_denied-requires-clause-within : goal.is_denied-requires-clause-within
-is_denied-requires-clause-within g c κs within = (c.requires.given.0, c.requires.given.1, c.requires.given.2)
+is_denied-requires-clause-within g c κs within = (c.requires.given.0, c.requires.given.1, c.requires.given.2.0)
 
 -- what becomes of the module becomes of the property at the place
 outcome_at : (model : ModelForm) (e : ExplainedText) (place : ℕ) → place < length model.properties → IsExplainedAt model place e
@@ -23,25 +23,25 @@ outcome_at model e place within at o becomes =
     record { property = some.0; stands = some.1; outcome = becomes model some.0 (spec_form e.typed.spec, x.text, x.explanation.of_text) }
 
 pub returns-then-explained-clause-found : goal.returns-then-explained-clause-found
-returns-then-explained-clause-found g c model said within at =
+returns-then-explained-clause-found g c model said (within, at) =
     let some = some_at model.properties c.args.asked.place within in
     found_shown false said.protocol model said.is_for c.args.asked.place some.0 some.1 true refl
     (shown_true false said.protocol model said.is_for c.args.asked.place some.0 some.1
     (sym c.if-explained.true ∙ explained_truth model some.0 c.args.explained.now (at some.0 some.1)))
 
 pub returns-then-denied-clause-found : goal.returns-then-denied-clause-found
-returns-then-denied-clause-found g c model said within at =
+returns-then-denied-clause-found g c model said (within, at) =
     let some = some_at model.properties c.args.asked.place within in
     found_shown false said.protocol model said.is_for c.args.asked.place some.0 some.1 false refl
-    (shown_false false said.protocol model said.is_for c.args.asked.place some.0 some.1 c.args.bytes.now said.read (c.in_ok-denied.ensures.denied c.if-denied.true)
+    (shown_false false said.protocol model said.is_for c.args.asked.place some.0 some.1 c.args.input.bytes.now said.read (c.in_ok-denied.ensures.denied c.if-denied.true)
     (sym c.if-explained.false ∙ explained_truth model some.0 c.args.explained.now (at some.0 some.1)))
 
 pub decided-requires-clause-given : goal.decided-requires-clause-given
 decided-requires-clause-given g c κs within =
     let given = c.requires.given in
-    (given.0, given.1, outcome_at given.0 c.args.explained.now c.args.asked.place given.2 given.3 c.in_ok-outcome.outcome c.in_ok-outcome.ensures)
+    (given.0, given.1, outcome_at given.0 c.args.explained.now c.args.asked.place given.2.0 given.2.1 c.in_ok-outcome.outcome c.in_ok-outcome.ensures)
 
 pub returns-clause-found : goal.returns-clause-found
-returns-clause-found g c = ok_more _ _ (λ finding h model said within at. h false model said
+returns-clause-found g c = ok_more _ _ (λ finding h model said (within, at). h false model said
     (outcome_at model c.args.explained.now c.args.asked.place within at c.in_ok-outcome.outcome c.in_ok-outcome.ensures))
     c.decided.result c.decided.ensures.found

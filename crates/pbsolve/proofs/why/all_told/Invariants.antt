@@ -8,8 +8,8 @@ use Rattle.pbsolve.proofs.why.all_told.Given as goal
 
 abbrev pub invariant-loop-place : goal.invariant-loop-place
 invariant-loop-place g l = record {
-  read : AreNegations l.bytes l.negations;
-  told : (said : IsModelOf l.bytes (model_form l.solved.typed.model)) →
+  read : AreNegations l.input.bytes.now l.negations;
+  told : (said : IsModelOf l.input.bytes.now (model_form l.solved.typed.model)) →
       AreTold l.options.lines (words_in l.solved) said.protocol (model_form l.solved.typed.model) (take l.place said.protocol.properties)
       (take l.place (model_form l.solved.typed.model).properties) (string_bytes l.lines);
 }

@@ -25,7 +25,7 @@ returns-clause-told g c =
     c.told_at.result c.told_at.ensures.told
 
 pub returns-clause-refused : goal.returns-clause-refused
-returns-clause-refused g c = if_refused c.told_at.result (unshown (Some c.args.name.now) c.args.bytes.now) c.told_at.ensures.refused
+returns-clause-refused g c = if_refused c.told_at.result (unshown (Some c.args.name.now) c.args.input.bytes.now) c.told_at.ensures.refused
 
 -- what holds where nothing is found
 where_none : {T : Type 0} (Q : Type 0) (r : Option T) → ((x : T) → r ≡ Some x → ⊥) → IfNone r Q → Q
@@ -37,5 +37,5 @@ returns-in_default-clause-refused g c =
     let model = model_form c.args.solved.now.typed.model in
     let name = Some c.args.name.now in
     let none = subst (λ (ps : List _). IfNone c.place_of.result (NoneIsAskedFor name (map property_form ps))) c.deref.ensures.value c.place_of.ensures.none in
-    subst (λ (e : OrMemory SolveFault). IfFault e (IsUnshown name c.args.bytes.now)) (sym c.into.ensures)
-    (model, c.requires.said, where_none (NoneIsAskedFor name model.properties) c.place_of.result c.in_default.not-Some none)
+    subst (λ (e : OrMemory SolveFault). IfFault e (IsUnshown name c.args.input.bytes.now)) (sym c.into.ensures)
+    (model, c.requires, where_none (NoneIsAskedFor name model.properties) c.place_of.result c.in_default.not-Some none)

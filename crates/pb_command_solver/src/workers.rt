@@ -1,0 +1,14 @@
+//! How many workers there may be.
+ghost use Rattle.std.specs.Prelude.{◌<◌, ◌≤◌};
+ghost use Rattle.pb_command_solver.specs.declared.workers.TheConstants.{MAX_WORKERS};
+
+/// How many workers there may be.
+pub const MAX_WORKERS: u32 = 16;
+
+/// So many workers explore a module and, where the solver is lifting, lift its game.
+#[derive(Clone, Copy, Debug, PartialEq, Eq)]
+pub struct Workers {
+    pub count: u32,
+    pub ghost some: { 0 < count },
+    pub ghost few: { count ≤ MAX_WORKERS },
+}
