@@ -3,7 +3,6 @@
 ghost use Rattle.std.specs.Prelude.{◌≡◌, nat_lt, true, false, length, IfOk};
 ghost use Rattle.pb_base.specs.declared.limits.TheConstants.{MAX_PARAMETERS};
 ghost use Rattle.pb_base.specs.OrMemory.{IfRefused};
-ghost use Rattle.pb_model_tree.specs.Form.{model_form};
 ghost use Rattle.pb_protocol_tree.specs.Form.{protocol_form};
 ghost use Rattle.pb_protocol_unfolder.specs.Plain.{is_plain};
 ghost use Rattle.pb_model_properties.specs.Refusals.{IsRefusedProtocol};

@@ -1,5 +1,5 @@
 //! What is found of properties, by what becomes of their texts and of those of their negations.
-ghost use Rattle.std.specs.Prelude.{◌≡◌, ◌≤◌, ◌<◌, Bool, length, map, true, IfOk};
+ghost use Rattle.std.specs.Prelude.{◌≡◌, ◌<◌, Bool, map, true, IfOk};
 ghost use Rattle.std.specs.List.{All};
 ghost use Rattle.pb_base.specs.OrMemory.{IfRefused};
 ghost use Rattle.pb_model_tree.specs.Form.{ModelForm, PropertyForm};

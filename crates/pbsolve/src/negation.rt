@@ -1,5 +1,5 @@
 //! The negations of the properties of a protocol, which are read where the first is needed.
-ghost use Rattle.std.specs.Prelude.{◌≡◌, ◌≤◌, length, IfOk, IsSome};
+ghost use Rattle.std.specs.Prelude.{◌≡◌, IfOk, IsSome};
 ghost use Rattle.pb_base.specs.OrMemory.{IfRefused};
 ghost use Rattle.pb_model_properties.specs.Negations.{IsRefusedNegation};
 ghost use Rattle.pbsolve.specs.Models.{HasPropertyAt, IsUnnegated};
