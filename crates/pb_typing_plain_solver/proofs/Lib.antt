@@ -5,5 +5,6 @@ pub mod Owned
 pub mod Sets
 pub mod Ready
 pub mod Turn
+pub mod Solving
 pub mod Slots
 pub mod Asked

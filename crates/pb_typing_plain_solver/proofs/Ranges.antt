@@ -65,11 +65,21 @@ mixed_ahead start k f old xs m =
     m k ∙ cond-false (is_between start k k) (f k) (get_or old k false)
     (false_from_ne_true (is_between start k k) (λ e. let p = between_bounds start k k e in omega (arith, p.1)))
 
-pub mixed_inside : (start end : ℕ) (f : ℕ → Bool) (old new : List Bool) (n : ℕ) → IsMixed start end f old new → is_between start end n ≡ true → get_or new n false ≡ f n
+mixed_inside : (start end : ℕ) (f : ℕ → Bool) (old new : List Bool) (n : ℕ) → IsMixed start end f old new → is_between start end n ≡ true → get_or new n false ≡ f n
 mixed_inside start end f old new n m e = m n ∙ cond-true (is_between start end n) (f n) (get_or old n false) e
 
-pub mixed_outside : (start end : ℕ) (f : ℕ → Bool) (old new : List Bool) (n : ℕ) → IsMixed start end f old new → is_between start end n ≡ false → get_or new n false ≡ get_or old n false
+mixed_outside : (start end : ℕ) (f : ℕ → Bool) (old new : List Bool) (n : ℕ) → IsMixed start end f old new → is_between start end n ≡ false → get_or new n false ≡ get_or old n false
 mixed_outside start end f old new n m e = m n ∙ cond-false (is_between start end n) (f n) (get_or old n false) e
+
+-- all numbers of a range are reached
+pub record IsWritten (start end : ℕ) (f : ℕ → Bool) (old new : List Bool) : Type 0 where
+  pub inside : (n : ℕ) → is_between start end n ≡ true → get_or new n false ≡ f n
+  pub outside : (n : ℕ) → is_between start end n ≡ false → get_or new n false ≡ get_or old n false
+
+pub written_all : (start k end : ℕ) (f : ℕ → Bool) (old new : List Bool) → k ≡ end → IsMixed start k f old new → IsWritten start end f old new
+written_all start k end f old new last m =
+    let all : IsMixed start end f old new = subst (λ (n : ℕ). IsMixed start n f old new) last m in
+    record { inside = λ n. mixed_inside start end f old new n all; outside = λ n. mixed_outside start end f old new n all }
 
 -- what holds within a range, and at the number behind it
 pub between_grows : (start k : ℕ) (P : ℕ → Type 0) → ((n : ℕ) → is_between start k n ≡ true → P n) → P k → (n : ℕ) → is_between start (k + 1) n ≡ true → P n

@@ -25,6 +25,10 @@ use Rattle.pb_typing_values.proofs.Called.{counted, place_here}
 use Rattle.pb_typing_plain_solver.specs.Side.{side_of, later_truth}
 use Rattle.pb_typing_plain_solver.specs.Step.{ChangesOnly, TakesSet, JoinsRight, right_truth, right_truth_at}
 
+-- the truth that a number of X's set gets
+abbrev pub joined : Spec → List (List Carrier) → Equation → List Bool → List Bool → ℕ → Bool
+joined S layout X below old n = later_truth (side_of X.sign) (get_or old n false) (right_truth_at S (environment_of S below) X layout n)
+
 -- ---- one equation
 
 module _ (S : Spec) (layout : List (List Carrier)) (laid : carriers_of layout ≡ all_carriers S) (apart : AreNamedApart S.equations) (k : ℕ) (X : Equation) (at : slice_get S.equations k ≡ Some X) where

@@ -151,10 +151,10 @@ module _ (S : Spec) (layout : List (List Carrier)) (laid : carriers_of layout �
 
   -- ---- both bounds are the same
 
-  pub fixed_bounds : (truths least new : List Bool) (b : Bool) (u : List Bool) → ChangesOnly layout k truths new
+  pub fixed_bounds : (truths new : List Bool) (b : Bool) (u : List Bool) → ChangesOnly layout k truths new
       → TakesSet layout k u new → AreBounds b (drop k (equations_of S)) (environment_of S truths) (environment_of S u)
       → AreBounds b after (environment_of S new) (environment_of S u)
-  fixed_bounds truths least new b u others takes h =
+  fixed_bounds truths new b u others takes h =
       kept_bounds b read after (environment_of S truths) (environment_of S new) (environment_of S u)
       (changes_only S layout laid able.apart k X at truths new others) (takes_set S layout laid able.apart k X at u new takes)
       (bounds_here b (environment_of S truths) (environment_of S u) h)

@@ -1,23 +1,22 @@
 use Rattle.std.proofs.Common.{◌≡◌, ◌+◌, ◌<◌, ◌∙◌, ℕ, List, Bool, true, false, not, arith, sym, subst, ap, get_or, refl, true≢false, ◌≤◌, length, Some}
 use Rattle.std.specs.Bool.{beq}
 use Rattle.std.specs.List.{slice_get}
-use Rattle.std.proofs.lemmas.Option.{same_Some}
 use Rattle.pb_fixpoint.specs.declared.Sign.{Sign}
-use Rattle.pb_text_tree.specs.declared.spec.Equation as declared_equation
-use Rattle.pb_text_tree.specs.Form.{equation_form, spec_form}
-use Rattle.pb_typing.specs.declared.typed.Typed.{Typed}
+use Rattle.pb_text_tree.specs.Form.{equation_form}
 use Rattle.pb_sorts.specs.Instance.{first_of, size_of}
 use Rattle.pb_sorts.specs.Layout.{carriers_of}
 use Rattle.pb_text_meaning.specs.Syntax.{Equation}
-use Rattle.pb_text_meaning.specs.Erase.{erase, erased_equation}
+use Rattle.pb_text_meaning.specs.Erase.{erased_equation}
 use Rattle.pb_typing_values.specs.Environment.{environment_of}
 use Rattle.pb_typing_plain_solver.specs.Side.{side_of, later_truth}
 use Rattle.pb_typing_plain_solver.specs.Step.{AreSlots, right_truth_at}
-use Rattle.pb_typing_plain_solver.proofs.Ranges.{IsMixed, between_yes, mixed_start, mixed_set, mixed_keep, mixed_ahead, mixed_inside, mixed_outside}
+use Rattle.pb_typing_plain_solver.proofs.Ranges.{IsMixed, IsWritten, between_yes, mixed_start, mixed_set, mixed_keep, mixed_ahead, written_all}
 use Rattle.pb_typing_plain_solver.proofs.Owned.{equation_known, loops_there, parameters_there, typed_length}
+use Rattle.pb_typing_plain_solver.proofs.Ready.{sign_there, text}
+use Rattle.pb_typing_plain_solver.proofs.Sets.{joined}
 use Rattle.pb_typing_plain_solver.proofs.Slots.{slots-begin}
 use Rattle.pb_typing_plain_solver.proofs.set.improve.Goals as goal
-use Rattle.pb_typing_plain_solver.proofs.set.improve.Goals.{then-truths-number+then-holds-start, then-truths-number+else-holds-start, else-truths-number}
+use Rattle.pb_typing_plain_solver.proofs.set.improve.Goals.{After-loop-number, then-truths-number+then-holds-start, then-truths-number+else-holds-start, else-truths-number}
 
 -- a truth that changes
 joins_new : (s start cur r : Bool) → start ≡ not s → beq cur start ≡ true → not (beq r start) ≡ true → not start ≡ later_truth s cur r
@@ -50,32 +49,23 @@ joins_done false false cur r e p = absurd (true≢false (sym e))
 joins_done false true false r e p = refl
 joins_done false true true r e p = absurd (true≢false p)
 
--- the sign in the text is the equation's
-sign_there : (typed : Typed) (k : ℕ) (R : declared_equation.Equation) (X : Equation) → k < length typed.layout
-    → R ≡ get_or typed.spec.equations.items k R → slice_get (erase (spec_form typed.spec)).equations k ≡ Some X → R.sign ≡ X.sign
-sign_there typed k R X lt is at =
-    ap (λ (Y : Equation). Y.sign) (same_Some (erased_equation (equation_form R)) X (sym (equation_known typed.spec typed.layout k R typed.laid_out.values lt is) ∙ at))
-
 pub loop-number-init : goal.loop-number-init
 loop-number-init c =
     let typed = c.args.typed.now in
-    let S = erase (spec_form typed.spec) in
-    let layout = typed.layout in
-    let old = c.args.truths.now in
-    let first = first_of (carriers_of layout) c.args.equation in
+    let first = first_of (carriers_of typed.layout) c.args.equation in
     let R = c.index-2.result.now in
-    let long = typed_length S layout typed.equations.items typed.laid_out.values typed.rights in
+    let long = typed_length (text typed) typed.layout typed.equations.items typed.laid_out.values typed.rights in
     record {
       mixed = λ X at.
-          let f = λ (n : ℕ). later_truth (side_of X.sign) (get_or old n false) (right_truth_at S (environment_of S c.args.below.now) X layout n) in
-          subst (λ (k : ℕ). IsMixed first k f old old) (sym c.numbers_of-numbers.ensures.start) (mixed_start first f old);
+          let f = joined (text typed) typed.layout X c.args.below.now c.args.truths.now in
+          subst (λ (k : ℕ). IsMixed first k f c.args.truths.now c.args.truths.now) (sym c.numbers_of-numbers.ensures.start) (mixed_start first f c.args.truths.now);
       kept = λ e n. refl;
       slots = λ X at.
-          slots-begin S X _ _ (c.as_mut_slice-slots.ensures.value ∙ c.in_ok-memory.ensures.items_if_clones_equal (λ y e. e))
+          slots-begin (text typed) X _ _ (c.as_mut_slice-slots.ensures.value ∙ c.in_ok-memory.ensures.items_if_clones_equal (λ y e. e))
           (omega (
             arith,
-            parameters_there S layout c.args.equation X c.carriers-parameters.result.now typed.laid_out.values at c.carriers-parameters.ensures.list,
-            loops_there S typed.equations.items c.args.equation X R typed.loops at (omega (arith, long, c.requires.known)) c.index-2.ensures,
+            parameters_there (text typed) typed.layout c.args.equation X c.carriers-parameters.result.now typed.laid_out.values at c.carriers-parameters.ensures.list,
+            loops_there (text typed) typed.equations.items c.args.equation X R typed.loops at (omega (arith, long, c.requires.known)) c.index-2.ensures,
             R.loops.ok.0,
             c.len.ensures,
           ));
@@ -94,42 +84,39 @@ right_truth-holds-requires-clause-slots c = c.loop-number.invariant.slots
 
 pub loop-number-preserved : goal.loop-number-preserved
 loop-number-preserved c =
-    let typed = c.args.typed.now in
-    let S = erase (spec_form typed.spec) in
-    let layout = typed.layout in
+    let layout = c.args.typed.now.layout in
     let old = c.args.truths.now in
-    let first = first_of (carriers_of layout) c.args.equation in
+    let start = first_of (carriers_of layout) c.args.equation in
     let k = c.loop-number.number in
     let xs = c.loop-number.truths in
     let inv = c.loop-number.invariant in
-    let numbers = c.numbers_of-numbers.ensures in
-    let from : first ≤ k = omega (arith, numbers.start, c.loop-number.auto.number) in
-    let start = c.starts_full-start.result in
-    let below : k < length xs = omega (arith, numbers.within, c.requires.truths, c.loop-number.auto.truths, c.loop-number-test.true) in
+    let from : start ≤ k = omega (arith, c.numbers_of-numbers.ensures.start, c.loop-number.auto.number) in
+    let full = c.starts_full-start.result in
+    let below : k < length xs = omega (arith, c.numbers_of-numbers.ensures.within, c.requires.truths, c.loop-number.auto.truths, c.loop-number-test.true) in
     record {
       mixed = λ X at.
           let side = side_of X.sign in
-          let right = λ (n : ℕ). right_truth_at S (environment_of S c.args.below.now) X layout n in
-          let f = λ (n : ℕ). later_truth side (get_or old n false) (right n) in
+          let right = right_truth_at (text c.args.typed.now) (environment_of (text c.args.typed.now) c.args.below.now) X layout in
+          let f = joined (text c.args.typed.now) layout X c.args.below.now old in
           let m = inv.mixed X at in
-          let here : get_or xs k false ≡ get_or old k false = mixed_ahead first k f old xs m in
-          let begins : start ≡ not side =
+          let here : get_or xs k false ≡ get_or old k false = mixed_ahead start k f old xs m in
+          let begins : full ≡ not side =
           c.starts_full-start.ensures
           ∙ ap (λ (s : Sign). not (side_of s))
-          (sign_there typed c.args.equation c.index.result.now X c.requires.known c.index.ensures at) in
+          (sign_there c.args.typed.now c.args.equation c.index.result.now X c.requires.known c.index.ensures at) in
           let stays = λ (ys : List Bool) (is : ys ≡ xs) (joins : get_or old k false ≡ f k).
-          let goal_at : IsMixed first (k + 1) f old ys = subst (λ (zs : List Bool). IsMixed first (k + 1) f old zs) (sym is) (mixed_keep first k f old xs from (here ∙ joins) m) in goal_at in
+          let goal_at : IsMixed start (k + 1) f old ys = subst (λ (zs : List Bool). IsMixed start (k + 1) f old zs) (sym is) (mixed_keep start k f old xs from (here ∙ joins) m) in goal_at in
           elim c.if-truths-number.branch [
             | then-truths-number+then-holds-start w ↦
-                let joins : not start ≡ f k = joins_new side start (get_or old k false) (right k) begins
-                (ap (λ b. beq b start) (sym here) ∙ w.if-truths-number.true) (ap (λ b. not (beq b start)) (sym (w.right_truth-holds.ensures.truth X at)) ∙ w.if-holds-start.true) in
-                subst (λ (zs : List Bool). IsMixed first (k + 1) f old zs) (sym w.truths-is) (mixed_set first k f old xs (not start) from below joins m)
+                let joins : not full ≡ f k = joins_new side full (get_or old k false) (right k) begins
+                (ap (λ b. beq b full) (sym here) ∙ w.if-truths-number.true) (ap (λ b. not (beq b full)) (sym (w.right_truth-holds.ensures.truth X at)) ∙ w.if-holds-start.true) in
+                subst (λ (zs : List Bool). IsMixed start (k + 1) f old zs) (sym w.truths-is) (mixed_set start k f old xs (not full) from below joins m)
             | then-truths-number+else-holds-start w ↦
-                stays c.if-truths-number.truths w.truths-is (joins_same side start (get_or old k false) (right k) begins
-                (ap (λ b. beq b start) (sym here) ∙ w.if-truths-number.true) (ap (λ b. not (beq b start)) (sym (w.right_truth-holds.ensures.truth X at)) ∙ w.if-holds-start.false))
+                stays c.if-truths-number.truths w.truths-is (joins_same side full (get_or old k false) (right k) begins
+                (ap (λ b. beq b full) (sym here) ∙ w.if-truths-number.true) (ap (λ b. not (beq b full)) (sym (w.right_truth-holds.ensures.truth X at)) ∙ w.if-holds-start.false))
             | else-truths-number w ↦
-                stays c.if-truths-number.truths w.truths-is (joins_done side start (get_or old k false) (right k) begins
-                (ap (λ b. beq b start) (sym here) ∙ w.if-truths-number.false))
+                stays c.if-truths-number.truths w.truths-is (joins_done side full (get_or old k false) (right k) begins
+                (ap (λ b. beq b full) (sym here) ∙ w.if-truths-number.false))
           ];
       kept = elim c.if-truths-number.branch [
         | then-truths-number+then-holds-start w ↦ λ none. absurd (true≢false (sym w.changed-is ∙ none))
@@ -137,46 +124,33 @@ loop-number-preserved c =
         | else-truths-number w ↦ λ none n. ap (λ (zs : List Bool). get_or zs n false) w.truths-is ∙ inv.kept (sym w.changed-is ∙ none) n
       ];
       slots = λ X at. elim c.if-truths-number.branch [
-        | then-truths-number+then-holds-start w ↦ subst (AreSlots S X) (sym w.slots-is) (w.right_truth-holds.ensures.slots X at)
-        | then-truths-number+else-holds-start w ↦ subst (AreSlots S X) (sym w.slots-is) (w.right_truth-holds.ensures.slots X at)
-        | else-truths-number w ↦ subst (AreSlots S X) (sym w.slots-is) (inv.slots X at)
+        | then-truths-number+then-holds-start w ↦ subst (AreSlots (text c.args.typed.now) X) (sym w.slots-is) (w.right_truth-holds.ensures.slots X at)
+        | then-truths-number+else-holds-start w ↦ subst (AreSlots (text c.args.typed.now) X) (sym w.slots-is) (w.right_truth-holds.ensures.slots X at)
+        | else-truths-number w ↦ subst (AreSlots (text c.args.typed.now) X) (sym w.slots-is) (inv.slots X at)
       ];
     }
 
-pub returns-clause-joins : goal.returns-clause-joins
-returns-clause-joins c =
-    let S = erase (spec_form c.args.typed.now.spec) in
-    let old = c.args.truths.now in
-    let t = environment_of S c.args.below.now in
-    let layout = c.args.typed.now.layout in
-    let css = carriers_of layout in
-    let first = first_of css c.args.equation in
+-- behind the loop the whole set is joined
+whole : (c : After-loop-number) (X : Equation) → slice_get (text c.args.typed.now).equations c.args.equation ≡ Some X →
+    let css = carriers_of c.args.typed.now.layout in
+    let f = joined (text c.args.typed.now) c.args.typed.now.layout X c.args.below.now c.args.truths.now in
+    IsWritten (first_of css c.args.equation) (first_of css c.args.equation + size_of css c.args.equation) f c.args.truths.now c.loop-number.truths
+whole c X at =
+    let css = carriers_of c.args.typed.now.layout in
+    let f = joined (text c.args.typed.now) c.args.typed.now.layout X c.args.below.now c.args.truths.now in
     let numbers = c.numbers_of-numbers.ensures in
-    let all : c.loop-number.number ≡ first + size_of css c.args.equation =
-    omega (arith, numbers.start, numbers.end, c.loop-number.auto.number, c.loop-number.auto.number-end, c.loop-number-test.false) in
-    λ X at n own.
-    let f = λ (m : ℕ). later_truth (side_of X.sign) (get_or old m false) (right_truth_at S t X layout m) in
-    let mixed = subst (λ (k : ℕ). IsMixed first k f old c.loop-number.truths) all (c.loop-number.invariant.mixed X at) in
-    mixed_inside first (first + size_of css c.args.equation) f old c.loop-number.truths n mixed own
+    written_all (first_of css c.args.equation) c.loop-number.number (first_of css c.args.equation + size_of css c.args.equation) f c.args.truths.now c.loop-number.truths
+    (omega (arith, numbers.start, numbers.end, c.loop-number.auto.number, c.loop-number.auto.number-end, c.loop-number-test.false)) (c.loop-number.invariant.mixed X at)
+
+pub returns-clause-joins : goal.returns-clause-joins
+returns-clause-joins c = λ X at. (whole (goal.at.returns-clause-joins c).After-loop-number X at).inside
 
 pub returns-clause-others : goal.returns-clause-others
 returns-clause-others c =
     let typed = c.args.typed.now in
-    let S = erase (spec_form typed.spec) in
     let R = c.index.result.now in
-    let X = erased_equation (equation_form R) in
     let at = equation_known typed.spec typed.layout c.args.equation R typed.laid_out.values c.requires.known c.index.ensures in
-    let old = c.args.truths.now in
-    let t = environment_of S c.args.below.now in
-    let layout = typed.layout in
-    let f = λ (n : ℕ). later_truth (side_of X.sign) (get_or old n false) (right_truth_at S t X layout n) in
-    let css = carriers_of layout in
-    let first = first_of css c.args.equation in
-    let numbers = c.numbers_of-numbers.ensures in
-    let all : c.loop-number.number ≡ first + size_of css c.args.equation =
-    omega (arith, numbers.start, numbers.end, c.loop-number.auto.number, c.loop-number.auto.number-end, c.loop-number-test.false) in
-    let mixed = subst (λ (k : ℕ). IsMixed first k f old c.loop-number.truths) all (c.loop-number.invariant.mixed X at) in
-    λ n other. mixed_outside first (first + size_of css c.args.equation) f old c.loop-number.truths n mixed other
+    (whole (goal.at.returns-clause-others c).After-loop-number (erased_equation (equation_form R)) at).outside
 
 pub returns-clause-unchanged : goal.returns-clause-unchanged
 returns-clause-unchanged c = λ none n own. c.loop-number.invariant.kept none n

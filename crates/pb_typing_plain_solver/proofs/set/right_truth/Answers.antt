@@ -2,14 +2,11 @@ use Rattle.std.proofs.Common.{◌≡◌, ◌∙◌, ◌+◌, ◌≤◌, ◌++◌
 use Rattle.std.specs.List.{slice_get}
 use Rattle.std.proofs.lemmas.List.{length-take-le}
 use Rattle.pb_base_values.specs.Carrier.{Tuple, is_within}
-use Rattle.pb_text_tree.specs.Form.{spec_form}
-use Rattle.pb_typing.specs.declared.typed.Typed.{Typed}
 use Rattle.pb_sorts.specs.Instance.{first_of, size_of}
 use Rattle.pb_sorts.specs.Layout.{carriers_of}
 use Rattle.pb_sorts.proofs.Equations.{length-carriers_of}
 use Rattle.pb_sorts.proofs.Numbers.{first_of-before, first_of-last}
-use Rattle.pb_text_meaning.specs.Erase.{erase}
-use Rattle.pb_text_meaning.specs.Syntax.{Equation, Spec}
+use Rattle.pb_text_meaning.specs.Syntax.{Equation}
 use Rattle.pb_text_meaning.specs.Formula as formula
 use Rattle.pb_typing_tree.specs.declared.formula.Equation as typed_equation
 use Rattle.pb_typing_tree.specs.Elaboration.{elaborated_equation}
@@ -23,7 +20,7 @@ use Rattle.pb_typing_plain_solver.specs.Step as step
 use Rattle.pb_typing_plain_solver.specs.Step.{AreSlots}
 use Rattle.pb_typing_plain_solver.proofs.Ranges.{between_bounds}
 use Rattle.pb_typing_plain_solver.proofs.Owned.{owned_instance, right_there, typed_length}
-use Rattle.pb_typing_plain_solver.proofs.Ready.{laid, well}
+use Rattle.pb_typing_plain_solver.proofs.Ready.{laid, text, well}
 use Rattle.pb_typing_plain_solver.proofs.Slots.{filled, room, slots-filled, right-fits, right-truth}
 use Rattle.pb_typing_plain_solver.proofs.Turn.{equation_exists}
 use Rattle.pb_typing_plain_solver.proofs.set.right_truth.Goals as goal
@@ -39,10 +36,6 @@ instance-instance-requires c =
       first_of-before css k (length css) (omega (arith, length-carriers_of c.args.typed.now.layout, c.requires.known)) (omega arith),
       first_of-last css,
     )
-
--- the equations of the text
-abbrev text : Typed → Spec
-text typed = erase (spec_form typed.spec)
 
 -- the instance's values are those of the equation's parameters
 within : (c : After-len-count) (X : Equation) → slice_get (text c.args.typed.now).equations c.args.equation ≡ Some X
