@@ -44,3 +44,13 @@ length-lists_of {A} vs = map_length (λ (v : Vec Carrier A). v.items) vs
 
 pub slice_get-lists_of : {A : Type 0} (vs : List (Vec Carrier A)) (k : ℕ) (v : Vec Carrier A) → k < length vs → v ≡ get_or vs k v → slice_get (lists_of vs) k ≡ Some v.items
 slice_get-lists_of {A} vs k v below is = slice_get-mapped (λ (u : Vec Carrier A). u.items) vs k v (slice_get_read vs (length vs) k v refl below is)
+
+-- the equation at place k, whose parameters are these: where it ends, and where the next one begins
+pub record IsEquation {A : Type 0} (vs : List (Vec Carrier A)) (k : ℕ) (ps : List Carrier) : Type 0 where
+  pub ends : first_of (carriers_of (lists_of vs)) k + tuple_count (map values_of ps) ≤ count_of (lists_of vs)
+  pub next : first_of (carriers_of (lists_of vs)) (k + 1) ≡ first_of (carriers_of (lists_of vs)) k + tuple_count (map values_of ps)
+
+pub equation_read : {A : Type 0} (vs : List (Vec Carrier A)) (k : ℕ) (v : Vec Carrier A) {ps : List Carrier} → k < length vs → v ≡ get_or vs k v → ps ≡ v.items → IsEquation vs k ps
+equation_read {A} vs k v {ps} below is items =
+    let at : slice_get (lists_of vs) k ≡ Some ps = slice_get-lists_of vs k v below is ∙ ap Some (sym items) in
+    record { ends = ends_within (lists_of vs) k ps at; next = first_of-next_at (lists_of vs) k ps at }

@@ -5,22 +5,25 @@ use Rattle.std.proofs.lemmas.Slice.Zip.{Zip-more, either_empty_from_Zip}
 use Rattle.pb_sorts.specs.Carrier.{values_of}
 use Rattle.pb_sorts.proofs.Reading.{is_within-other_length, reading_goes_on, reading_ends, place_fits, next_fits}
 use Rattle.pb_sorts.proofs.tuple.place_of_tuple.Goals as goal
+use Rattle.pb_sorts.proofs.tuple.place_of_tuple.Goals.{After-size}
 
 pub returns-then-carriers-values-clause-exists : goal.returns-then-carriers-values-clause-exists
 returns-then-carriers-values-clause-exists c = grind (arith, is_within-other_length c.args.carriers.now c.args.values.now c.if-carriers-values.true)
 
+few : (c : After-size) → c.loop-carrier.place < 4194305
+few c = place_fits c.args.carriers.now c.args.values.now c.loop-carrier.place _ _ 4194305 c.loop-carrier.invariant (omega (arith, c.requires))
+
 pub overflow_mul-place : goal.overflow_mul-place
 overflow_mul-place c =
-    let few : c.loop-carrier.place < 4194305 = place_fits c.args.carriers.now c.args.values.now c.loop-carrier.place _ _ 4194305 c.loop-carrier.invariant (omega (arith, c.requires)) in
-    let fits : c.loop-carrier.place * c.size.result + 0 < 2 ^ 64 = next_fits c.loop-carrier.place c.size.result 0 few c.size.ensures.bound c.size.ensures.some in
+    let fits : c.loop-carrier.place * c.size.result + 0 < 2 ^ 64 =
+    next_fits c.loop-carrier.place c.size.result 0 (few (goal.at.overflow_mul-place c).After-size) c.size.ensures.bound c.size.ensures.some in
     omega (arith, fits)
 
 pub overflow_add-place : goal.overflow_add-place
 overflow_add-place c =
-    let few : c.loop-carrier.place < 4194305 = place_fits c.args.carriers.now c.args.values.now c.loop-carrier.place _ _ 4194305 c.loop-carrier.invariant (omega (arith, c.requires)) in
     let digit : c.in_ok-place.field-0 < length (values_of c.in-Some.carrier.now) = slice_get_within (values_of c.in-Some.carrier.now) c.in_ok-place.field-0 _ c.in_ok-place.ensures in
     let fits : c.loop-carrier.place * c.size.result + c.in_ok-place.field-0 < 2 ^ 64 =
-    next_fits c.loop-carrier.place c.size.result c.in_ok-place.field-0 few c.size.ensures.bound
+    next_fits c.loop-carrier.place c.size.result c.in_ok-place.field-0 (few (goal.at.overflow_add-place c).After-size) c.size.ensures.bound
     (omega (arith, digit, c.size.ensures.count)) in
     omega (arith, fits)
 
