@@ -1,16 +1,16 @@
 -- Chains of aliases, followed step by step.
 use Rattle.std.proofs.Common.{◌≡◌, ◌≤◌, ◌<◌, ◌+◌, ◌-◌, ℕ, zero, suc, Bool, true, false, cond, refl, sym, ◌∙◌, ap, subst, arith, bytes_eq, List}
-use Rattle.std.specs.Prelude.{Option, Some, None, MatchOption, Result, Ok, Err, IfOk}
+use Rattle.std.specs.Prelude.{Option, Some, None, MatchOption, Result, Ok, Err, IfOk, codes}
 use Rattle.std.specs.Option.{option_map}
 use Rattle.std.specs.Cmp.Lexicographic.{same_text}
 use denote.Ref.{Bor}
 use Rattle.std.specs.HashMap.{IsEmpty, Updates}
 use Rattle.std.proofs.lemmas.Option.{none-some}
 use Rattle.pb_sorts.specs.declared.carrier.Range.{Range}
-use Rattle.pb_text_meaning.specs.Syntax.{Name}
+use Rattle.pb_text_meaning.specs.Syntax.{Name, same_name}
 use Rattle.pb_typing_declarations.specs.declared.chain.End as chains
 use Rattle.pb_typing_declarations.specs.declared.ends.Chain.{Chain}
-use Rattle.pb_typing_declarations.specs.Shapes.{Definition, Structure, Renaming, Bounds, End, Endless, end_by, end_within}
+use Rattle.pb_typing_declarations.specs.Shapes.{Definition, Structure, Renaming, Bounds, End, Endless, built_in_integers, end_by, end_within}
 use Rattle.pb_typing_declarations.specs.Entries.{end_shown, range_in, range_shown}
 use Rattle.pb_typing_declarations.specs.Tables.{Table, looked_up}
 use Rattle.pb_typing_declarations.specs.Chains.{IsChain, AreChains}
@@ -40,9 +40,17 @@ module _ (B : Name → Option Bounds) (D : Name → Option Definition) where
   abbrev pub Leads : ℕ → Name → Name → Type 0
   Leads w s t = (n : ℕ) → end_within (w + n) B D s ≡ end_within n B D t
 
+  -- what a sort comes to, where `next` says what other sorts come to
+  abbrev pub step : Name → (Name → End) → End
+  step s next = end_by (B s) (same_name s (codes "Bool")) (D s) (built_in_integers s) next
+
   -- t is the target of s
   abbrev pub Steps : Name → Name → Type 0
-  Steps s t = (n : ℕ) → end_within n B D t ≡ end_within (suc n) B D s
+  Steps s t = (next : Name → End) → next t ≡ step s next
+
+  -- this end stands at s itself
+  abbrev pub Stops : Name → chains.End → Type 0
+  Stops s e = (next : Name → End) → end_shown e ≡ step s next
 
   pub no_step : (limit : ℕ) (s : Name) → Leads (limit - limit) s s
   no_step limit s n = let e : (limit - limit) + n ≡ n = omega arith in ap (λ m. end_within m B D s) e
@@ -50,7 +58,7 @@ module _ (B : Name → Option Bounds) (D : Name → Option Definition) where
   pub one_more : (limit left : ℕ) (s t u : Name) → left ≤ limit → 0 < left → Leads (limit - left) s t → Steps t u → Leads (limit - (left - 1)) s u
   one_more limit left s t u below some leads steps n =
       let e : (limit - (left - 1)) + n ≡ (limit - left) + suc n = omega arith in
-      ap (λ m. end_within m B D s) e ∙ (leads (suc n) ∙ sym (steps n))
+      ap (λ m. end_within m B D s) e ∙ (leads (suc n) ∙ sym (steps (end_within n B D)))
 
   -- a chain behind some aliases
   pub longer : (w : ℕ) (s t : Name) (e : chains.End) (k : ℕ) → Leads w s t → IsChain B D t (chain_of e k) → IsChain B D s (chain_of e (w + k))
@@ -61,16 +69,15 @@ module _ (B : Name → Option Bounds) (D : Name → Option Definition) where
     goes_on = leads k ∙ chain.goes_on;
   }
 
-  -- an end that stands at a sort itself
-  pub at_once : (t : Name) (e : chains.End) → ((n : ℕ) → end_shown e ≡ end_within (suc n) B D t) → IsChain B D t (chain_of e 0)
+  pub at_once : (t : Name) (e : chains.End) → Stops t e → IsChain B D t (chain_of e 0)
   at_once t e is = record {
     ends = λ n.
         let same : suc (0 + n) ≡ suc n = omega arith in
-        ap (λ m. end_within m B D t) same ∙ sym (is n);
+        ap (λ m. end_within m B D t) same ∙ sym (is (end_within n B D));
     goes_on = refl;
   }
 
-  pub ended : (w : ℕ) (s t : Name) (e : chains.End) → Leads w s t → ((n : ℕ) → end_shown e ≡ end_within (suc n) B D t) → IsChain B D s (chain_of e w)
+  pub ended : (w : ℕ) (s t : Name) (e : chains.End) → Leads w s t → Stops t e → IsChain B D s (chain_of e w)
   ended w s t e leads is =
       let same : w + 0 ≡ w = omega arith in
       subst (λ k. IsChain B D s (chain_of e k)) same (longer w s t e 0 leads (at_once t e is))
@@ -84,7 +91,7 @@ module _ (B : Name → Option Bounds) (D : Name → Option Definition) where
   pub all_used : (limit left : ℕ) (s t u : Name) → left ≡ 0 → Leads (limit - left) s t → Steps t u → end_within (suc limit) B D s ≡ Endless
   all_used limit left s t u none leads steps =
       let same : suc limit ≡ (limit - left) + 1 = omega arith in
-      ap (λ m. end_within m B D s) same ∙ (leads 1 ∙ sym (steps 0))
+      ap (λ m. end_within m B D s) same ∙ (leads 1 ∙ sym (steps (end_within 0 B D)))
 
   abbrev pub IsLonger : ℕ → ℕ → Chain → Chain → Type 0
   IsLonger limit left kept longer = (longer.end ≡ kept.end) × (longer.aliases ≡ (limit - left) + kept.aliases) × (longer.aliases ≤ limit)
@@ -109,10 +116,10 @@ module _ (B : Name → Option Bounds) (D : Name → Option Definition) where
   behind s t e k some steps chain = record {
     ends = λ n.
         let same : suc (suc ((k - 1) + n)) ≡ suc (k + n) = omega arith in
-        steps (suc ((k - 1) + n)) ∙ (ap (λ m. end_within m B D s) same ∙ chain.ends n);
+        steps (end_within (suc ((k - 1) + n)) B D) ∙ (ap (λ m. end_within m B D s) same ∙ chain.ends n);
     goes_on =
         let same : suc (k - 1) ≡ k = omega arith in
-        steps (k - 1) ∙ (ap (λ m. end_within m B D s) same ∙ chain.goes_on);
+        steps (end_within (k - 1) B D) ∙ (ap (λ m. end_within m B D s) same ∙ chain.goes_on);
   }
 
   -- ---- tables of chains

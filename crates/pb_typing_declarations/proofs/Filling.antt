@@ -37,14 +37,15 @@ module _ {V : Type 0} where
   or_first None o = o
   or_first (Some v) o = Some v
 
-  abbrev pub name_of : Entry V → Named
-  name_of e = record { place = e.place; text = e.name.now }
-
   abbrev pub value_of : Entry V → Name × V
   value_of e = (e.name.now, e.value)
 
-  pub names-drop : (es : List (Entry V)) (k : ℕ) (e : Entry V) → k < length es → e ≡ get_or es k e → entry_names (drop k es) ≡ name_of e ∷ entry_names (drop (k + 1) es)
-  names-drop es k e below at = ap entry_names (drop-at es k e below at)
+  -- the faults from the next entry on, where the code's test says whether its name is new
+  pub faults_next : (old : Table V) (es : List (Entry V)) (k : ℕ) (e : Entry V) (new : Bool) → k < length es → e ≡ get_or es k e → new ≡ not (has old e.name.now)
+      → seen_repeated (has old) (entry_names (drop k es)) ≡ unless new NameTwice e.place ++ seen_repeated (seen_too e.name.now (has old)) (entry_names (drop (k + 1) es))
+  faults_next old es k e new below at is =
+      ap (λ (ds : List (Entry V)). seen_repeated (has old) (entry_names ds)) (drop-at es k e below at)
+      ∙ ap (λ (b : Bool). unless b NameTwice e.place ++ seen_repeated (seen_too e.name.now (has old)) (entry_names (drop (k + 1) es))) (sym is)
 
   pub values-drop : (es : List (Entry V)) (k : ℕ) (e : Entry V) → k < length es → e ≡ get_or es k e → entry_values (drop k es) ≡ value_of e ∷ entry_values (drop (k + 1) es)
   values-drop es k e below at = ap entry_values (drop-at es k e below at)

@@ -1,5 +1,5 @@
 -- The faults and the entries of sorts, sort by sort.
-use Rattle.std.proofs.Common.{◌≡◌, ℕ, zero, suc, ◌+◌, ◌<◌, ◌≤◌, Bool, true, false, refl, List, [], ◌∷◌, ◌++◌, length, get_or, drop, map, sym, ◌∙◌, ap, arith, rules, tests, Vec, Global}
+use Rattle.std.proofs.Common.{◌≡◌, ℕ, zero, suc, ◌+◌, ◌<◌, ◌≤◌, Bool, true, false, refl, List, [], ◌∷◌, ◌++◌, length, get_or, drop, map, sym, ◌∙◌, ap, subst, arith, rules, tests, Vec, Global}
 use Rattle.std.specs.Prelude.{flat_map, nat_lt}
 use Rattle.std.proofs.lemmas.List.{map-append, length-map}
 use Rattle.pb_base.specs.declared.limits.TheConstants.{MAX_STRUCTS, MAX_ENUMERATORS}
@@ -16,12 +16,13 @@ use Rattle.pb_typing_declarations.specs.declared.entry.Entry.{Entry}
 use Rattle.pb_typing_declarations.specs.declared.definition.Definition as declared
 use Rattle.pb_typing_declarations.specs.declared.fault.TypingRule.TheVariants.{Limit}
 use Rattle.pb_typing_declarations.specs.declared.fault.TypingFault.{TypingFault}
-use Rattle.pb_typing_declarations.specs.Faults.{unless}
+use Rattle.pb_base.specs.declared.or_memory.OrMemory.{OrMemory}
+use Rattle.pb_typing_declarations.specs.Faults.{unless, IsAmong}
 use Rattle.pb_typing_declarations.specs.Shapes.{definition_of, number_behind}
 use Rattle.pb_typing_declarations.specs.Tables.{entry_names, entry_values}
 use Rattle.pb_typing_declarations.specs.Entries.{shown, struct_count, shown_entries}
 use Rattle.pb_typing_declarations.specs.Declarations.{stays_within, limit_faults, own_names, struct_faults, structs_faults, enumerator_faults}
-use Rattle.pb_typing_declarations.proofs.Parts.{no_parts, holds_unless}
+use Rattle.pb_typing_declarations.proofs.Parts.{among_left, among_right, no_parts, holds_unless}
 use Rattle.pb_typing_declarations.proofs.Passing.{one_more_stays}
 use Rattle.pb_typing_declarations.proofs.Loops.{one_more, more}
 
@@ -31,15 +32,37 @@ struct_parts n place count few rest = unless (nat_lt n MAX_STRUCTS) Limit place 
 abbrev pub count_faults : List ast.Enumerator → List TypingFault
 count_faults es = limit_faults MAX_ENUMERATORS (own_names (map enumerator_form es))
 
--- the faults of a struct in the code's words
-pub struct_whole : (n : ℕ) (place : Place) (s : sort.Sort) (es : Vec ast.Enumerator Global) (count : ℕ) → n ≤ MAX_STRUCTS → s ≡ sorts.Struct es → count ≡ length es.items
-    → struct_faults n place (sort_form s) ≡ struct_parts n place count (count_faults es.items) (flat_map enumerator_faults (map enumerator_form es.items))
-struct_whole n place s es count low is are =
-    ap (λ (t : sort.Sort). struct_faults n place (sort_form t)) is
-    ∙ (ap (λ (b : Bool). unless b Limit place
-    ++ (unless (nat_lt 0 (length (map enumerator_form es.items))) Limit place
-    ++ (count_faults es.items ++ flat_map enumerator_faults (map enumerator_form es.items)))) (one_more_stays MAX_STRUCTS n low)
-    ∙ ap (λ (k : ℕ). struct_parts n place k (count_faults es.items) (flat_map enumerator_faults (map enumerator_form es.items))) (length-map es.items enumerator_form ∙ sym are))
+-- a struct with so many enumerators, which are these, behind n others: its faults in the code's words
+pub record IsStruct (n : ℕ) (place : Place) (s : sort.Sort) (count : ℕ) (es : List ast.Enumerator) : Type 0 where
+  pub parts : struct_faults n place (sort_form s) ≡ struct_parts n place count (count_faults es) (flat_map enumerator_faults (map enumerator_form es))
+
+pub struct_read : (n : ℕ) (place : Place) (s : sort.Sort) (es : Vec ast.Enumerator Global) (count : ℕ) → n ≤ MAX_STRUCTS → s ≡ sorts.Struct es → count ≡ length es.items
+    → IsStruct n place s count es.items
+struct_read n place s es count low is are = record {
+  parts =
+      ap (λ (t : sort.Sort). struct_faults n place (sort_form t)) is
+      ∙ (ap (λ (b : Bool). unless b Limit place
+      ++ (unless (nat_lt 0 (length (map enumerator_form es.items))) Limit place
+      ++ (count_faults es.items ++ flat_map enumerator_faults (map enumerator_form es.items)))) (one_more_stays MAX_STRUCTS n low)
+      ∙ ap (λ (k : ℕ). struct_parts n place k (count_faults es.items) (flat_map enumerator_faults (map enumerator_form es.items))) (length-map es.items enumerator_form ∙ sym are));
+}
+
+-- a fault that is found in a part
+module _ {n : ℕ} {place : Place} {s : sort.Sort} {count : ℕ} {es : List ast.Enumerator} (read : IsStruct n place s count es) (e : OrMemory TypingFault) where
+  in_parts : IsAmong (struct_parts n place count (count_faults es) (flat_map enumerator_faults (map enumerator_form es))) e → IsAmong (struct_faults n place (sort_form s)) e
+  in_parts h = subst (λ (zs : List TypingFault). IsAmong zs e) (sym read.parts) h
+
+  pub in_count : IsAmong (unless (nat_lt 0 count) Limit place) e → IsAmong (struct_faults n place (sort_form s)) e
+  in_count h = in_parts (among_right (unless (nat_lt n MAX_STRUCTS) Limit place) _ e (among_left (unless (nat_lt 0 count) Limit place) _ e h))
+
+  behind_count : IsAmong (count_faults es ++ flat_map enumerator_faults (map enumerator_form es)) e → IsAmong (struct_faults n place (sort_form s)) e
+  behind_count h = in_parts (among_right (unless (nat_lt n MAX_STRUCTS) Limit place) _ e (among_right (unless (nat_lt 0 count) Limit place) _ e h))
+
+  pub in_limit : {fs : List ast.Enumerator} → fs ≡ es → IsAmong (count_faults fs) e → IsAmong (struct_faults n place (sort_form s)) e
+  in_limit same h = behind_count (among_left (count_faults es) _ e (subst (λ (gs : List ast.Enumerator). IsAmong (count_faults gs) e) same h))
+
+  pub in_enumerators : {fs : List ast.Enumerator} → fs ≡ es → IsAmong (flat_map enumerator_faults (map enumerator_form fs)) e → IsAmong (struct_faults n place (sort_form s)) e
+  in_enumerators same h = behind_count (among_right (count_faults es) _ e (subst (λ (gs : List ast.Enumerator). IsAmong (flat_map enumerator_faults (map enumerator_form gs)) e) same h))
 
 -- the fault of the enumerator that passes the limit
 pub count_at : (es : List ast.Enumerator) (limit : ℕ) (e : ast.Enumerator) → limit < length es → e ≡ get_or es limit e

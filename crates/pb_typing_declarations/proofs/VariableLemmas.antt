@@ -1,6 +1,6 @@
 -- Variables by their entries.
-use Rattle.std.proofs.Common.{◌≡◌, ℕ, zero, suc, ◌<◌, ◌≤◌, true, false, rules, tests, List, get_or, [], ◌∷◌, length, map, refl, sym, ap, arith}
-use Rattle.std.specs.Prelude.{nat_lt}
+use Rattle.std.proofs.Common.{◌≡◌, ℕ, zero, suc, ◌<◌, ◌≤◌, true, false, rules, tests, List, get_or, [], ◌∷◌, length, map, refl, sym, ap, subst, arith}
+use Rattle.std.specs.Prelude.{nat_lt, flat_map}
 use Rattle.std.proofs.lemmas.List.{length-map}
 use denote.Ref.{Bor}
 use Rattle.pb_text_tree.specs.declared.name.Name.{Name}
@@ -13,15 +13,26 @@ use Rattle.pb_text_meaning.specs.Formula.{carriers_of}
 use Rattle.pb_text_meaning.specs.Erase.{erased_variable, erased_variables}
 use Rattle.pb_typing_declarations.specs.declared.entry.Entry.{Entry}
 use Rattle.pb_typing_declarations.specs.declared.fault.TypingRule.TheVariants.{Limit}
-use Rattle.pb_typing_declarations.specs.Faults.{unless}
+use Rattle.pb_base.specs.declared.or_memory.OrMemory.{OrMemory}
+use Rattle.pb_typing_declarations.specs.declared.fault.TypingFault.{TypingFault}
+use Rattle.pb_typing_declarations.specs.Faults.{unless, repeated, IsAmong}
 use Rattle.pb_typing_declarations.specs.Tables.{entry_names}
 use Rattle.pb_typing_declarations.specs.Variables.{variables_of}
-use Rattle.pb_typing_declarations.specs.Declarations.{variable_names, limit_faults}
+use Rattle.pb_typing_declarations.specs.Declarations.{variable_names, variable_faults, variables_faults, limit_faults}
+use Rattle.pb_typing_declarations.proofs.Parts.{among_left, among_right}
 
 -- the names of variables are those of their entries
 pub names-variables_of : (es : List (Entry (Bor Name))) → entry_names es ≡ variable_names (variables_of es)
 names-variables_of [] = refl
 names-variables_of (e ∷ es) = ap (λ xs. record { place = e.place; text = e.name.now } ∷ xs) (names-variables_of es)
+
+-- a fault of their names, or of their sorts
+pub in_names : (S : Spec) (es : List (Entry (Bor Name))) (e : OrMemory TypingFault) → IsAmong (repeated (entry_names es)) e → IsAmong (variables_faults S (variables_of es)) e
+in_names S es e h =
+    among_left (repeated (variable_names (variables_of es))) _ e (subst (λ (xs : List Named). IsAmong (repeated xs) e) (names-variables_of es) h)
+
+pub in_sorts : (S : Spec) (es : List (Entry (Bor Name))) (e : OrMemory TypingFault) → IsAmong (flat_map (variable_faults S) (variables_of es)) e → IsAmong (variables_faults S (variables_of es)) e
+in_sorts S es e h = among_right (repeated (variable_names (variables_of es))) _ e h
 
 -- at most so many where none passes the limit
 pub few_names : (limit : ℕ) (xs : List Named) → limit_faults limit xs ≡ [] → length xs ≤ limit

@@ -1,4 +1,4 @@
-use Rattle.std.proofs.Common.{◌∙◌, ◌++◌, List, map, rules, sym, ap, subst}
+use Rattle.std.proofs.Common.{◌≡◌, ◌∙◌, ◌++◌, List, map, rules, sym, ap, subst}
 use Rattle.std.specs.Prelude.{flat_map}
 use Rattle.std.specs.Option.{option_map}
 use Rattle.pb_text_tree.specs.Form.{Named, SortDeclarationForm, sort_declaration_form}
@@ -24,29 +24,34 @@ module _ (ds : List SortDeclarationForm) where
   abbrev Told : OrMemory TypingFault → Type 0
   Told = IsAmong (structs_faults 0 ds ++ (repeated in_data ++ repeated (sort_names ds)))
 
+  in_structs : (e : OrMemory TypingFault) → IsAmong (structs_faults 0 ds) e → Told e
+  in_structs e h = among_left (structs_faults 0 ds) _ e h
+
+  in_data_names : (e : OrMemory TypingFault) {xs : List Named} → xs ≡ in_data → IsAmong (repeated xs) e → Told e
+  in_data_names e same h =
+      among_right (structs_faults 0 ds) _ e (among_left (repeated in_data) _ e (subst (λ (ys : List Named). IsAmong (repeated ys) e) same h))
+
+  in_sort_names : (e : OrMemory TypingFault) {xs : List Named} → xs ≡ sort_names ds → IsAmong (repeated xs) e → Told e
+  in_sort_names e same h =
+      among_right (structs_faults 0 ds) _ e (among_right (repeated in_data) _ e (subst (λ (ys : List Named). IsAmong (repeated ys) e) same h))
+
 pub returns-in_err-definitions : goal.returns-in_err-definitions
 returns-in_err-definitions c =
-    let ds = map sort_declaration_form c.args.sorts.now in
-    let e = c.in_err-definitions.field-0.0 in
-    let h : Told ds e = among_left (structs_faults 0 ds) _ e c.in_err-definitions.ensures in
+    let h = in_structs (map sort_declaration_form c.args.sorts.now) c.in_err-definitions.field-0.0 c.in_err-definitions.ensures in
     search rules
 
 pub returns-in_err-names : goal.returns-in_err-names
 returns-in_err-names c =
-    let ds = map sort_declaration_form c.args.sorts.now in
-    let e = c.in_err-names.field-0.0 in
-    let h : Told ds e =
-    among_right (structs_faults 0 ds) _ e (among_left (repeated (in_data ds)) _ e
-    (subst (λ (xs : List Named). IsAmong (repeated xs) e) (ap entry_names c.deref.ensures.value ∙ c.in_ok-definitions.ensures.data_names) c.in_err-names.ensures)) in
+    let h =
+    in_data_names (map sort_declaration_form c.args.sorts.now) c.in_err-names.field-0.0
+    (ap entry_names c.deref.ensures.value ∙ c.in_ok-definitions.ensures.data_names) c.in_err-names.ensures in
     search rules
 
 pub returns-in_err-sorts : goal.returns-in_err-sorts
 returns-in_err-sorts c =
-    let ds = map sort_declaration_form c.args.sorts.now in
-    let e = c.in_err-sorts.field-0.0 in
-    let h : Told ds e =
-    among_right (structs_faults 0 ds) _ e (among_right (repeated (in_data ds)) _ e
-    (subst (λ (xs : List Named). IsAmong (repeated xs) e) (ap entry_names (c.deref-2).ensures.value ∙ c.in_ok-definitions.ensures.sort_names) c.in_err-sorts.ensures)) in
+    let h =
+    in_sort_names (map sort_declaration_form c.args.sorts.now) c.in_err-sorts.field-0.0
+    (ap entry_names (c.deref-2).ensures.value ∙ c.in_ok-definitions.ensures.sort_names) c.in_err-sorts.ensures in
     search rules
 
 pub returns : goal.returns

@@ -18,16 +18,12 @@ use Rattle.pb_typing_declarations.proofs.definition.read_definitions.Goals as go
 
 pub returns-in_err-definition : goal.returns-in_err-definition
 returns-in_err-definition c =
-    let ds = c.args.sorts.now in
-    let k = c.loop-declaration.declaration-index in
-    let n = c.loop-declaration.number in
-    let d = c.declaration-item.result in
+    let l = c.loop-declaration in
+    let x = c.declaration-item in
     let e = c.in_err-definition.field-0.0 in
-    let whole = structs_faults 0 (map sort_declaration_form ds) in
-    let h : IsAmong whole e =
-    among_first whole (struct_faults n d.name.place (sort_form d.sort)) _ e
-    (c.loop-declaration.invariant.left ∙ faults_next ds k n d c.loop-declaration-test.true c.declaration-item.is)
-    c.in_err-definition.ensures in
+    let h : IsAmong (structs_faults 0 (map sort_declaration_form c.args.sorts.now)) e =
+    among_first _ (struct_faults l.number x.result.name.place (sort_form x.result.sort)) _ e
+    (l.invariant.left ∙ faults_next c.args.sorts.now l.declaration-index l.number x.result c.loop-declaration-test.true x.is) c.in_err-definition.ensures in
     search rules
 
 pub loop-declaration-preserved : goal.loop-declaration-preserved

@@ -4,7 +4,6 @@ use Rattle.std.specs.Option.{option_copied}
 use Rattle.pb_typing_declarations.specs.Entries.{range_in, definition_in}
 use Rattle.pb_typing_declarations.proofs.ChainLemmas.{no_step, one_more, ended, all_used, lengthened}
 use Rattle.pb_typing_declarations.specs.Tables.{looked_up}
-use Rattle.pb_typing_declarations.specs.Shapes.{end_within}
 use Rattle.pb_typing_declarations.proofs.ends.find_chain.Goals as goal
 
 pub loop-kept-init : goal.loop-kept-init
@@ -17,33 +16,26 @@ loop-kept-init c =
 
 pub returns-in-Some : goal.returns-in-Some
 returns-in-Some c =
-    let B = range_in c.args.ranges.now in
-    let D = definition_in c.args.definitions.now in
     let found : looked_up c.args.chains.now c.loop-kept.sort.now ≡ Some c.in-Some.kept.now = sym c.get.ensures.value ∙ ap option_copied c.in-Some.is in
-    lengthened B D c.args.limit c.loop-kept.left c.args.sort.now c.loop-kept.sort.now c.in-Some.kept.now c.loop-kept.invariant.below c.loop-kept.invariant.behind
-    (c.requires c.loop-kept.sort.now c.in-Some.kept.now found) c.lengthen.result c.lengthen.ensures
+    lengthened (range_in c.args.ranges.now) (definition_in c.args.definitions.now) c.args.limit c.loop-kept.left c.args.sort.now c.loop-kept.sort.now c.in-Some.kept.now
+    c.loop-kept.invariant.below c.loop-kept.invariant.behind (c.requires c.loop-kept.sort.now c.in-Some.kept.now found) c.lengthen.result c.lengthen.ensures
 
 pub returns-in-Ends : goal.returns-in-Ends
-returns-in-Ends c =
-    let B = range_in c.args.ranges.now in
-    let D = definition_in c.args.definitions.now in (
-      ended B D (c.args.limit - c.loop-kept.left) c.args.sort.now c.loop-kept.sort.now c.in-Ends.end c.loop-kept.invariant.behind (λ n. c.in-Ends.ensures (end_within n B D)),
-      omega arith,
-    )
+returns-in-Ends c = (
+  ended (range_in c.args.ranges.now) (definition_in c.args.definitions.now) (c.args.limit - c.loop-kept.left) c.args.sort.now c.loop-kept.sort.now c.in-Ends.end
+      c.loop-kept.invariant.behind c.in-Ends.ensures,
+  omega arith,
+)
 
 pub returns-then-left-eq0 : goal.returns-then-left-eq0
 returns-then-left-eq0 c =
-    let B = range_in c.args.ranges.now in
-    let D = definition_in c.args.definitions.now in
-    all_used B D c.args.limit c.loop-kept.left c.args.sort.now c.loop-kept.sort.now c.in-GoesOn.target.now (omega arith) c.loop-kept.invariant.behind (λ n. c.in-GoesOn.ensures (end_within n B D))
+    all_used (range_in c.args.ranges.now) (definition_in c.args.definitions.now) c.args.limit c.loop-kept.left c.args.sort.now c.loop-kept.sort.now c.in-GoesOn.target.now
+    (omega arith) c.loop-kept.invariant.behind c.in-GoesOn.ensures
 
 pub loop-kept-preserved : goal.loop-kept-preserved
-loop-kept-preserved c =
-    let B = range_in c.args.ranges.now in
-    let D = definition_in c.args.definitions.now in
-    record {
-      utf8 = search rules;
-      below = omega arith;
-      behind = one_more B D c.args.limit c.loop-kept.left c.args.sort.now c.loop-kept.sort.now c.in-GoesOn.target.now
-          c.loop-kept.invariant.below (omega arith) c.loop-kept.invariant.behind (λ n. c.in-GoesOn.ensures (end_within n B D));
-    }
+loop-kept-preserved c = record {
+  utf8 = search rules;
+  below = omega arith;
+  behind = one_more (range_in c.args.ranges.now) (definition_in c.args.definitions.now) c.args.limit c.loop-kept.left c.args.sort.now c.loop-kept.sort.now c.in-GoesOn.target.now
+      c.loop-kept.invariant.below (omega arith) c.loop-kept.invariant.behind c.in-GoesOn.ensures;
+}

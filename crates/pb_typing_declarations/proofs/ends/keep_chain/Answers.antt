@@ -1,6 +1,5 @@
 use Rattle.std.proofs.Common.{arith, rules}
 use Rattle.pb_typing_declarations.specs.Entries.{range_in, definition_in}
-use Rattle.pb_typing_declarations.specs.Shapes.{end_within}
 use Rattle.pb_typing_declarations.proofs.ChainLemmas.{chain_of, one_kept, behind}
 use Rattle.pb_typing_declarations.proofs.ends.keep_chain.Goals as goal
 
@@ -12,5 +11,5 @@ loop-aliases-preserved c =
     record {
       utf8 = search rules;
       kept = one_kept B D c.loop-aliases.chains c.insert.new.self c.loop-aliases.sort (chain_of c.args.chain.end c.loop-aliases.aliases) inv.kept inv.left c.in_ok-insert-in-GoesOn.ensures.updates;
-      left = behind B D c.loop-aliases.sort.now c.in-GoesOn.target.now c.args.chain.end c.loop-aliases.aliases (omega arith) (λ n. c.in-GoesOn.ensures (end_within n B D)) inv.left;
+      left = behind B D c.loop-aliases.sort.now c.in-GoesOn.target.now c.args.chain.end c.loop-aliases.aliases (omega arith) c.in-GoesOn.ensures inv.left;
     }

@@ -1,4 +1,4 @@
-use Rattle.std.proofs.Common.{◌++◌, ◌+◌, Bool, List, [], drop, rules, sym, ap, ◌∙◌, arith}
+use Rattle.std.proofs.Common.{◌+◌, List, [], drop, rules, sym, ap, ◌∙◌, arith}
 use Rattle.std.specs.Prelude.{Option}
 use Rattle.std.proofs.lemmas.List.{drop_all}
 use Rattle.pb_text_meaning.specs.Syntax.{Name}
@@ -8,7 +8,7 @@ use Rattle.pb_typing_declarations.specs.Faults.{unless, repeated, IsAmong}
 use Rattle.pb_typing_declarations.specs.Shapes.{first}
 use Rattle.pb_typing_declarations.specs.Tables.{entry_names, entry_values, looked_up}
 use Rattle.pb_typing_declarations.proofs.Parts.{among_first, first_clear, holds_unless}
-use Rattle.pb_typing_declarations.proofs.Filling.{Seen, seen_repeated, seen_too, repeated_after-seen, has, or_first, names-drop, values-drop, none_in, none_has, put_in, has-put, first_put, or_none, absent, is_new}
+use Rattle.pb_typing_declarations.proofs.Filling.{Seen, seen_repeated, repeated_after-seen, has, or_first, faults_next, values-drop, none_in, none_has, put_in, has-put, first_put, or_none, absent, is_new}
 use Rattle.pb_typing_declarations.proofs.table.table.Goals as goal
 
 pub loop-entry-init : goal.loop-entry-init
@@ -21,16 +21,13 @@ loop-entry-init g c =
 
 pub returns-in_err-require : goal.returns-in_err-require
 returns-in_err-require g c =
-    let E = c.args.entries.now in
-    let old = c.loop-entry.table in
-    let e = c.entry-item.result in
-    let whole = repeated (entry_names E) in
-    let rest = seen_repeated (seen_too e.name.now (has old)) (entry_names (drop (c.loop-entry.entry-index + 1) E)) in
-    let h : IsAmong whole (Refused c.in_err-require.field-0.0) =
-    among_first whole _ rest (Refused c.in_err-require.field-0.0)
-    (c.loop-entry.invariant.left ∙ (ap (seen_repeated (has old)) (names-drop E c.loop-entry.entry-index e c.loop-entry-test.true c.entry-item.is)
-    ∙ ap (λ (b : Bool). unless b NameTwice e.place ++ rest) (sym (is_new c.is_none.result c.in_ok-earlier.earlier (looked_up old e.name.now) c.is_none.ensures c.in_ok-earlier.ensures.old))))
-    c.in_err-require.ensures in
+    let l = c.loop-entry in
+    let x = c.entry-item in
+    let e = Refused c.in_err-require.field-0.0 in
+    let test = is_new c.is_none.result c.in_ok-earlier.earlier (looked_up l.table x.result.name.now) c.is_none.ensures c.in_ok-earlier.ensures.old in
+    let h : IsAmong (repeated (entry_names c.args.entries.now)) e =
+    among_first _ (unless c.is_none.result NameTwice x.result.place) _ e
+    (l.invariant.left ∙ faults_next l.table c.args.entries.now l.entry-index x.result c.is_none.result c.loop-entry-test.true x.is test) c.in_err-require.ensures in
     search rules
 
 pub loop-entry-preserved : goal.loop-entry-preserved
@@ -42,14 +39,10 @@ loop-entry-preserved g c =
     let k = c.loop-entry.entry-index in
     let put = put_in old new e.name e.value c.in_ok-earlier.ensures.updates in
     let test = is_new c.is_none.result c.in_ok-earlier.earlier (looked_up old e.name.now) c.is_none.ensures c.in_ok-earlier.ensures.old in
-    let rest = seen_repeated (seen_too e.name.now (has old)) (entry_names (drop (k + 1) E)) in
     let none = absent (looked_up old e.name.now) (sym test ∙ holds_unless _ _ _ c.in_ok-require.ensures) in
     record {
       left =
-          first_clear _ _ _
-          (c.loop-entry.invariant.left ∙ (ap (seen_repeated (has old)) (names-drop E k e c.loop-entry-test.true c.entry-item.is)
-          ∙ ap (λ (b : Bool). unless b NameTwice e.place ++ rest) (sym test)))
-          c.in_ok-require.ensures
+          first_clear _ _ _ (c.loop-entry.invariant.left ∙ faults_next old E k e c.is_none.result c.loop-entry-test.true c.entry-item.is test) c.in_ok-require.ensures
           ∙ ap (λ (seen : Seen). seen_repeated seen (entry_names (drop (k + 1) E))) (sym (has-put old new e.name e.value put));
       found = λ x.
           c.loop-entry.invariant.found x

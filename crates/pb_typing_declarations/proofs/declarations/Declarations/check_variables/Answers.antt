@@ -15,6 +15,7 @@ use Rattle.pb_typing_declarations.specs.Variables.{variables_of}
 use Rattle.pb_typing_declarations.specs.View.{spec_of, text_of}
 use Rattle.pb_typing_declarations.proofs.DeclaredEnds.{faultless_ends}
 use Rattle.pb_typing_declarations.proofs.declarations.Declarations.check_variables.Goals as goal
+use Rattle.pb_typing_declarations.proofs.declarations.Declarations.check_variables.Goals.{After-deref}
 
 abbrev Found : Spec → List VariableForm → Result (Vec Carrier Global) (OrMemory TypingFault) → Type 0
 Found S xs r = MatchResult r (λ carriers. HasVariables S xs carriers.items) (IsAmong (variables_faults S xs))
@@ -32,16 +33,17 @@ shown S xs (Err e) h = tt
 pub variable_carriers-requires : goal.variable_carriers-requires
 variable_carriers-requires c = faultless_ends (text_of c.args.self.now) c.args.self.now.faultless
 
+-- the variables of the entries are those of the groups
+of_groups : (c : After-deref) (r : Result (Vec Carrier Global) (OrMemory TypingFault)) → Found (spec_of c.args.self.now) (variables_of c.deref.result.now) r
+    → Found (spec_of c.args.self.now) (variable_forms c.args.groups.now) r
+of_groups c r h = subst (λ (xs : List VariableForm). Found (spec_of c.args.self.now) xs r) (ap variables_of c.deref.ensures.value ∙ c.in_ok-variables.ensures) h
+
 pub returns-clause-checked : goal.returns-clause-checked
 returns-clause-checked c =
-    let S = spec_of c.args.self.now in
-    let xs = variable_forms c.args.groups.now in
-    checked S xs c.variable_carriers.result
-    (subst (λ (ys : List VariableForm). Found S ys c.variable_carriers.result) (ap variables_of c.deref.ensures.value ∙ c.in_ok-variables.ensures) c.variable_carriers.ensures)
+    let r = c.variable_carriers in
+    checked (spec_of c.args.self.now) (variable_forms c.args.groups.now) r.result (of_groups (goal.at.returns-clause-checked c).After-deref r.result r.ensures)
 
 pub returns-clause-shapes : goal.returns-clause-shapes
 returns-clause-shapes c =
-    let S = spec_of c.args.self.now in
-    let xs = variable_forms c.args.groups.now in
-    shown S xs c.variable_carriers.result
-    (subst (λ (ys : List VariableForm). Found S ys c.variable_carriers.result) (ap variables_of c.deref.ensures.value ∙ c.in_ok-variables.ensures) c.variable_carriers.ensures)
+    let r = c.variable_carriers in
+    shown (spec_of c.args.self.now) (variable_forms c.args.groups.now) r.result (of_groups (goal.at.returns-clause-shapes c).After-deref r.result r.ensures)

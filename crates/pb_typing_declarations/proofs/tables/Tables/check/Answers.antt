@@ -17,6 +17,7 @@ use Rattle.pb_typing_declarations.specs.Declarations.{sort_faults, range_faults,
 use Rattle.pb_typing_declarations.proofs.DeclaredEnds.{sorts_have_ends}
 use Rattle.pb_typing_declarations.proofs.ReadParts.{sorts, ranges, too_many, in_sorts, in_ranges, in_too_many, in_equations, checks_clear}
 use Rattle.pb_typing_declarations.proofs.tables.Tables.check.Goals as goal
+use Rattle.pb_typing_declarations.proofs.tables.Tables.check.Goals.{After-deref-2}
 
 abbrev Found : SpecForm → List EquationForm → Result (Vec (Vec Carrier Global) Global) (OrMemory TypingFault) → Type 0
 Found text E r = MatchResult r (λ carriers. HasCarriers (erase text) 0 E (lists_of carriers.items)) (IsAmong (equations_faults_behind (erase text) 0 E))
@@ -31,7 +32,7 @@ pub returns-in_err-check_sorts : goal.returns-in_err-check_sorts
 returns-in_err-check_sorts c =
     let text = spec_form c.args.self.now.spec.now in
     let e = Refused c.in_err-check_sorts.field-0.0 in
-    let h : IsAmong (checks_faults text) e =
+    let h =
     in_sorts text e (subst (λ (xs : List SortDeclaration). IsAmong (flat_map (sort_faults (erase text)) (map sort_declaration_form xs)) e) c.deref.ensures.value c.in_err-check_sorts.ensures) in
     search rules
 
@@ -39,37 +40,33 @@ pub returns-in_err-check_ranges : goal.returns-in_err-check_ranges
 returns-in_err-check_ranges c =
     let text = spec_form c.args.self.now.spec.now in
     let e = Refused c.in_err-check_ranges.field-0.0 in
-    let h : IsAmong (checks_faults text) e =
-    in_ranges text e (subst (λ (xs : List Range). IsAmong (flat_map (range_faults (erase text)) (map range_form xs)) e) (c.deref-2).ensures.value c.in_err-check_ranges.ensures) in
+    let h = in_ranges text e (subst (λ (xs : List Range). IsAmong (flat_map (range_faults (erase text)) (map range_form xs)) e) (c.deref-2).ensures.value c.in_err-check_ranges.ensures) in
     search rules
 
 pub returns-in_err-check_equation_count : goal.returns-in_err-check_equation_count
 returns-in_err-check_equation_count c =
-    let text = spec_form c.args.self.now.spec.now in
     let e = Refused c.in_err-check_equation_count.field-0.0 in
-    let h : IsAmong (checks_faults text) e =
-    in_too_many text e
+    let h =
+    in_too_many (spec_form c.args.self.now.spec.now) e
     (subst (λ (xs : List Equation). IsAmong (limit_faults MAX_EQUATIONS (equation_names (map equation_form xs))) e)
     (c.deref-3).ensures.value c.in_err-check_equation_count.ensures) in
     search rules
 
+sorts_clear : (c : After-deref-2) → sorts (spec_form c.args.self.now.spec.now) ≡ []
+sorts_clear c =
+    ap (λ (xs : List SortDeclaration). flat_map (sort_faults (erase (spec_form c.args.self.now.spec.now))) (map sort_declaration_form xs)) (sym c.deref.ensures.value)
+    ∙ c.in_ok-check_sorts.ensures
+
 pub returns : goal.returns
 returns c =
     let text = spec_form c.args.self.now.spec.now in
-    found_last text c.carriers.result
-    (ap (λ (xs : List SortDeclaration). flat_map (sort_faults (erase text)) (map sort_declaration_form xs)) (sym c.deref.ensures.value) ∙ c.in_ok-check_sorts.ensures)
+    found_last text c.carriers.result (sorts_clear (goal.at.returns c).After-deref-2)
     (ap (λ (xs : List Range). flat_map (range_faults (erase text)) (map range_form xs)) (sym (c.deref-2).ensures.value) ∙ c.in_ok-check_ranges.ensures)
     (ap (λ (xs : List Equation). limit_faults MAX_EQUATIONS (equation_names (map equation_form xs))) (sym (c.deref-3).ensures.value) ∙ c.in_ok-check_equation_count.ensures)
     (subst (λ (xs : List Equation). Found text (map equation_form xs) c.carriers.result) (c.deref-4).ensures.value c.carriers.ensures)
 
 pub check_ranges-requires : goal.check_ranges-requires
-check_ranges-requires c =
-    let text = spec_form c.args.self.now.spec.now in
-    sorts_have_ends text
-    (ap (λ (xs : List SortDeclaration). flat_map (sort_faults (erase text)) (map sort_declaration_form xs)) (sym c.deref.ensures.value) ∙ c.in_ok-check_sorts.ensures)
+check_ranges-requires c = sorts_have_ends (spec_form c.args.self.now.spec.now) (sorts_clear (goal.at.check_ranges-requires c).After-deref-2)
 
 pub carriers-requires : goal.carriers-requires
-carriers-requires c =
-    let text = spec_form c.args.self.now.spec.now in
-    sorts_have_ends text
-    (ap (λ (xs : List SortDeclaration). flat_map (sort_faults (erase text)) (map sort_declaration_form xs)) (sym c.deref.ensures.value) ∙ c.in_ok-check_sorts.ensures)
+carriers-requires c = sorts_have_ends (spec_form c.args.self.now.spec.now) (sorts_clear (goal.at.carriers-requires c).After-deref-2)

@@ -9,6 +9,7 @@ use Rattle.pb_typing_declarations.specs.Reading.{AreDefined, IsRangeTable, IsEqu
 use Rattle.pb_typing_declarations.specs.Declarations.{structs_faults, empty_faults, names_of_enumerator, all_enumerator_forms, sort_names, range_name, equation_names, tables_faults}
 use Rattle.pb_typing_declarations.proofs.ReadParts.{in_definitions, in_range_lines, in_equations_twice, tables_clear}
 use Rattle.pb_typing_declarations.proofs.tables.Tables.read.Goals as goal
+use Rattle.pb_typing_declarations.proofs.tables.Tables.read.Goals.{After-all_chains}
 
 pub returns-in_err-definitions : goal.returns-in_err-definitions
 returns-in_err-definitions c =
@@ -35,18 +36,26 @@ returns-in_err-equations c =
     in_equations_twice text e (subst (λ (xs : List Equation). IsAmong (repeated (equation_names (map equation_form xs))) e) (c.deref-3).ensures.value c.in_err-equations.ensures) in
     search rules
 
+sorts_read : (c : After-all_chains) → AreDefined (map sort_declaration_form c.args.spec.now.sorts.items) c.in_ok-definitions.field-0
+sorts_read c = subst (λ (xs : List SortDeclaration). AreDefined (map sort_declaration_form xs) c.in_ok-definitions.field-0) c.deref.ensures.value c.in_ok-definitions.ensures
+
+ranges_read : (c : After-all_chains) → IsRangeTable (map range_form c.args.spec.now.ranges.items) c.in_ok-ranges.ranges
+ranges_read c = subst (λ (xs : List ast.Range). IsRangeTable (map range_form xs) c.in_ok-ranges.ranges) (c.deref-2).ensures.value c.in_ok-ranges.ensures
+
+equations_read : (c : After-all_chains) → IsEquationTable (map equation_form c.args.spec.now.equations.items) c.in_ok-equations.equations
+equations_read c = subst (λ (xs : List Equation). IsEquationTable (map equation_form xs) c.in_ok-equations.equations) (c.deref-3).ensures.value c.in_ok-equations.ensures
+
 pub invariant_of-result : goal.invariant_of-result
 invariant_of-result c =
-    let sorts = subst (λ (xs : List SortDeclaration). AreDefined (map sort_declaration_form xs) c.in_ok-definitions.field-0) c.deref.ensures.value c.in_ok-definitions.ensures in
-    let ranges = subst (λ (xs : List ast.Range). IsRangeTable (map range_form xs) c.in_ok-ranges.ranges) (c.deref-2).ensures.value c.in_ok-ranges.ensures in
-    let equations = subst (λ (xs : List Equation). IsEquationTable (map equation_form xs) c.in_ok-equations.equations) (c.deref-3).ensures.value c.in_ok-equations.ensures in
+    let read = (goal.at.invariant_of-result c).After-all_chains in
+    let sorts = sorts_read read in
     record {
       agrees = record {
         definitions = sorts.definitions;
-        bounds = ranges.bounds;
+        bounds = (ranges_read read).bounds;
         enumerators = sorts.enumerators;
         recognisers = sorts.recognisers;
-        places = equations.places;
+        places = (equations_read read).places;
       };
       chained = c.in_ok-chains.ensures.0;
       based = c.in_ok-chains.ensures.1;
@@ -54,8 +63,7 @@ invariant_of-result c =
 
 pub returns : goal.returns
 returns c =
-    let text = spec_form c.args.spec.now in
-    let sorts = subst (λ (xs : List SortDeclaration). AreDefined (map sort_declaration_form xs) c.in_ok-definitions.field-0) c.deref.ensures.value c.in_ok-definitions.ensures in
-    let ranges = subst (λ (xs : List ast.Range). IsRangeTable (map range_form xs) c.in_ok-ranges.ranges) (c.deref-2).ensures.value c.in_ok-ranges.ensures in
-    let equations = subst (λ (xs : List Equation). IsEquationTable (map equation_form xs) c.in_ok-equations.equations) (c.deref-3).ensures.value c.in_ok-equations.ensures in
-    (refl, tables_clear text sorts.clear ranges.clear sorts.data_apart sorts.sorts_apart ranges.apart equations.apart)
+    let read = (goal.at.returns c).After-all_chains in
+    let sorts = sorts_read read in
+    let ranges = ranges_read read in
+    (refl, tables_clear (spec_form c.args.spec.now) sorts.clear ranges.clear sorts.data_apart sorts.sorts_apart ranges.apart (equations_read read).apart)
