@@ -62,7 +62,7 @@ called S truths x vs k e =
 
 -- ---- numbers
 
-pub wrong_length : (layout : List (List Carrier)) (all : List (List carriers.Carrier)) (truths : List Bool) (k : ℕ)
+wrong_length : (layout : List (List Carrier)) (all : List (List carriers.Carrier)) (truths : List Bool) (k : ℕ)
     (cs : List Carrier) (vs : Tuple) → carriers_of layout ≡ all → slice_get layout k ≡ Some cs → (length cs ≡ length vs → ⊥)
     → truth_at all truths (at_place k vs) ≡ false
 wrong_length layout all truths k cs vs laid at differ =
@@ -78,7 +78,7 @@ counted layout all truths n i laid at =
     ∙ (ap (λ (b : Bool). b && slice_index_or truths (number_of (carriers_of layout) i) false) (is_instance-slice_get (carriers_of layout) n i at)
     ∙ ap (λ (m : ℕ). get_or truths m false) (sym (number_of-slice_get layout n i at)))
 
-pub not_counted : (layout : List (List Carrier)) (all : List (List carriers.Carrier)) (truths : List Bool)
+not_counted : (layout : List (List Carrier)) (all : List (List carriers.Carrier)) (truths : List Bool)
     (i : numbered.Instance) → carriers_of layout ≡ all → is_instance (carriers_of layout) i ≡ false → truth_at all truths i ≡ false
 not_counted layout all truths i laid none =
     ap (λ (css : List (List carriers.Carrier)). truth_at css truths i) (sym laid) ∙ ap (λ (b : Bool). b && slice_index_or truths (number_of (carriers_of layout) i) false) none
@@ -128,7 +128,7 @@ place_known S layout k laid lt =
 abbrev pub argument_values : Slots → List Argument → List Value
 argument_values a xs = map (λ (e : tree.Argument). typed.value a e.term) (map argument_view xs)
 
-pub length-values : (a : Slots) (xs : List Argument) → length (argument_values a xs) ≡ length xs
+length-values : (a : Slots) (xs : List Argument) → length (argument_values a xs) ≡ length xs
 length-values a [] = refl
 length-values a (x ∷ xs) = ap suc (length-values a xs)
 
@@ -151,3 +151,25 @@ values_more a xs k x done more all v lt at is pushed h =
 pub values_all : (a : Slots) (xs : List Argument) (k : ℕ) (done all : List Value) → length xs ≤ k → done ++ argument_values a (drop k xs) ≡ all → done ≡ all
 values_all a xs k done all le h =
     sym (append-nil done) ∙ (ap (λ (ys : List Argument). done ++ argument_values a ys) (sym (drop_all k xs le)) ∙ h)
+
+-- ---- the truth of a call of an equation that there is
+
+module _ {S : Spec} {layout : List (List Carrier)} (laid : IsLaidOut S layout) (truths : List Bool) (a : Slots) (xs : List Argument) (k : ℕ) (known : k < length layout) where
+  abbrev truth_called : Bool
+  truth_called = call_truth S (environment_of S truths) (record { name = name_of (slice_get S.equations k); values = argument_values a xs })
+
+  at_its_place : truth_called ≡ truth_at (all_carriers S) truths (at_place k (argument_values a xs))
+  at_its_place = called S truths (name_of (slice_get S.equations k)) (argument_values a xs) k (place_known S layout k laid known)
+
+  pub other_length : (cs : List Carrier) → slice_get layout k ≡ Some cs → (length cs ≡ length xs → ⊥) → false ≡ truth_called
+  other_length cs at differ = sym (at_its_place ∙ wrong_length layout (all_carriers S) truths k cs (argument_values a xs) laid.carriers at (λ e. differ (e ∙ length-values a xs)))
+
+  pub numbered_truth : (vs : Tuple) (n : ℕ) → vs ≡ argument_values a xs → slice_get (instances (carriers_of layout)) n ≡ Some (at_place k vs) → get_or truths n false ≡ truth_called
+  numbered_truth vs n all at =
+      sym (counted layout (all_carriers S) truths n (at_place k vs) laid.carriers at)
+      ∙ (ap (λ (ws : Tuple). truth_at (all_carriers S) truths (at_place k ws)) all ∙ sym at_its_place)
+
+  pub unnumbered_truth : (vs : Tuple) → vs ≡ argument_values a xs → (is_instance (carriers_of layout) (at_place k vs) ≡ true → ⊥) → false ≡ truth_called
+  unnumbered_truth vs all none =
+      sym (not_counted layout (all_carriers S) truths (at_place k vs) laid.carriers (false_from_ne_true (is_instance (carriers_of layout) (at_place k vs)) none))
+      ∙ (ap (λ (ws : Tuple). truth_at (all_carriers S) truths (at_place k ws)) all ∙ sym at_its_place)

@@ -1,6 +1,6 @@
--- The value of chains, operand by operand, and why the operands fit.
-use Rattle.std.proofs.Common.{◌≡◌, ℕ, zero, suc, ◌+◌, ◌<◌, Bool, List, [], ◌∷◌, length, get_or, drop, refl, sym, ◌∙◌, ap, arith, subst}
-use Rattle.std.specs.Prelude.{⊤}
+-- The value of chains, operand by operand, why the operands fit, and the chains that are read.
+use Rattle.std.proofs.Common.{◌≡◌, ℕ, zero, suc, ◌+◌, ◌<◌, Bool, List, [], ◌∷◌, length, get_or, drop, refl, sym, ◌∙◌, ap, arith, subst, Vec, Global, Box}
+use Rattle.std.specs.Prelude.{⊤, box_value}
 use Rattle.pb_sorts.proofs.Places.{drop-at}
 use Rattle.pb_text_tree.specs.declared.operator.Connective.{Connective}
 use Rattle.pb_text_tree.specs.declared.operator.Connective.TheVariants.{And, Or, Implies}
@@ -9,6 +9,7 @@ use Rattle.pb_text_meaning.specs.Value.{binary, is_true}
 use Rattle.pb_text_meaning.specs.Erase.{of_connective, of_arithmetic}
 use Rattle.pb_text_meaning.specs.Fits.{IsBounded, DivisorFits}
 use Rattle.pb_text_meaning.proofs.Truths.{is_true-of_bool}
+use Rattle.pb_typing_tree.specs.declared.term.Term as term
 use Rattle.pb_typing_tree.specs.declared.term.Term.{Term}
 use Rattle.pb_typing_tree.specs.declared.term.Link.{Link}
 use Rattle.pb_typing_tree.specs.Tree as tree
@@ -16,6 +17,8 @@ use Rattle.pb_typing_tree.specs.Tree.{Binary}
 use Rattle.pb_typing_tree.specs.View.{calculated, chained, link_views, term_view, term_views}
 use Rattle.pb_typing_tree.specs.Meaning.{Slots, value, connected_truth}
 use Rattle.pb_typing_tree.specs.Fits.{Fits}
+use Rattle.pb_typing_tree.proofs.Views.{term-chain, term-arithmetic}
+use Rattle.pb_typing_tree.proofs.Weight.{weight, terms_weight, links_weight, weight-chain, weight-arithmetic}
 
 -- ---- chains of one connective
 
@@ -28,9 +31,14 @@ abbrev pub OperandsFit : ℕ → Slots → List Term → Type 0
 OperandsFit n a [] = ⊤
 OperandsFit n a (x ∷ xs) = Fits n a (term_view x) × OperandsFit n a xs
 
-pub value-chained : (a : Slots) (c : Connective) (first : tree.Term) (xs : List Term) → value a (chained (Binary (of_connective c)) first (term_views xs)) ≡ chain_value a c (value a first) xs
+value-chained : (a : Slots) (c : Connective) (first : tree.Term) (xs : List Term) → value a (chained (Binary (of_connective c)) first (term_views xs)) ≡ chain_value a c (value a first) xs
 value-chained a c first [] = refl
 value-chained a c first (x ∷ xs) = ap (binary (of_connective c) (value a first)) (value-chained a c (term_view x) xs)
+
+-- no operand but the first was read
+pub chain-begun : (a : Slots) (c : Connective) (first : Term) (xs : List Term) {v : Value} → v ≡ value a (term_view first)
+    → chain_value a c v xs ≡ value a (chained (Binary (of_connective c)) (term_view first) (term_views xs))
+chain-begun a c first xs is = ap (λ (u : Value). chain_value a c u xs) is ∙ sym (value-chained a c (term_view first) xs)
 
 -- a chain that fits has operands that do
 pub fits-chained : (n : ℕ) (a : Slots) (c : Connective) (first : tree.Term) (xs : List Term) → Fits n a (chained (Binary (of_connective c)) first (term_views xs)) → Fits n a first × OperandsFit n a xs
@@ -93,7 +101,7 @@ ArithmeticFits n a v (link ∷ links) =
     let w = binary (of_arithmetic link.operator) v x in
     Fits n a (term_view link.operand) × DivisorFits (of_arithmetic link.operator) x × IsBounded w × ArithmeticFits n a w links
 
-pub value-calculated : (a : Slots) (first : tree.Term) (links : List Link) → value a (calculated first (link_views links)) ≡ arithmetic_value a (value a first) links
+value-calculated : (a : Slots) (first : tree.Term) (links : List Link) → value a (calculated first (link_views links)) ≡ arithmetic_value a (value a first) links
 value-calculated a first [] = refl
 value-calculated a first (link ∷ links) = value-calculated a (Binary (of_arithmetic link.operator) first (term_view link.operand)) links
 
@@ -108,6 +116,51 @@ pub arithmetic_next : (n : ℕ) (a : Slots) (v : Value) (links : List Link) (k :
     → ArithmeticFits n a v (link ∷ drop (k + 1) links)
 arithmetic_next n a v links k link lt at f = subst (ArithmeticFits n a v) (drop-at links k link lt at) f
 
-pub arithmetic_value-next : (a : Slots) (v : Value) (links : List Link) (k : ℕ) (link : Link) → k < length links → link ≡ get_or links k link
-    → arithmetic_value a v (drop k links) ≡ arithmetic_value a (binary (of_arithmetic link.operator) v (value a (term_view link.operand))) (drop (k + 1) links)
-arithmetic_value-next a v links k link lt at = ap (arithmetic_value a v) (drop-at links k link lt at)
+-- no operand but the first was read
+pub arithmetic-begun : (n : ℕ) (a : Slots) (first : Term) (links : List Link) {v : Value} → v ≡ value a (term_view first) → Fits n a (calculated (term_view first) (link_views links))
+    → (arithmetic_value a v links ≡ value a (calculated (term_view first) (link_views links))) × ArithmeticFits n a v links
+arithmetic-begun n a first links is f = (
+  ap (λ (u : Value). arithmetic_value a u links) is ∙ sym (value-calculated a (term_view first) links),
+  subst (λ (u : Value). ArithmeticFits n a u links) (sym is) (fits-calculated n a (term_view first) links f).1,
+)
+
+-- the next one was
+pub arithmetic-went_on : (n : ℕ) (a : Slots) (v : Value) (links : List Link) (k : ℕ) (link : Link) → k < length links → link ≡ get_or links k link
+    → {w : Value} → w ≡ binary (of_arithmetic link.operator) v (value a (term_view link.operand)) → ArithmeticFits n a v (drop k links)
+    → (arithmetic_value a w (drop (k + 1) links) ≡ arithmetic_value a v (drop k links)) × ArithmeticFits n a w (drop (k + 1) links)
+arithmetic-went_on n a v links k link lt at is f = (
+  ap (λ (u : Value). arithmetic_value a u (drop (k + 1) links)) is ∙ sym (ap (arithmetic_value a v) (drop-at links k link lt at)),
+  subst (λ (u : Value). ArithmeticFits n a u (drop (k + 1) links)) (sym is) (arithmetic_next n a v links k link lt at f).3,
+)
+
+-- ---- chains and arithmetic, as they are read
+
+-- a term connects a first operand and those linked to it
+pub record IsChain (x : Term) (o : Connective) (first : Term) (links : List Term) : Type 0 where
+  pub view : chained (Binary (of_connective o)) (term_view first) (term_views links) ≡ term_view x
+  pub weighs : weight x ≡ 4 + (weight first + terms_weight links)
+
+pub chain-read : {x first : Term} {links : List Term} (o : Connective) (b : Box Term Global) (v : Vec Term Global)
+    → x ≡ term.Chain o b v → first ≡ box_value b → links ≡ v.items → IsChain x o first links
+chain-read {x} {first} {links} o b v is at behind = record {
+  view =
+      ap (λ (y : Term). chained (Binary (of_connective o)) (term_view y) (term_views links)) at
+      ∙ (ap (λ (xs : List Term). chained (Binary (of_connective o)) (term_view (box_value b)) (term_views xs)) behind
+      ∙ sym (ap term_view is ∙ term-chain o b v));
+  weighs = omega (arith, ap weight is ∙ weight-chain o b v, ap weight at, ap terms_weight behind);
+}
+
+-- a term calculates with a first operand and those linked to it
+pub record IsArithmetic (x first : Term) (links : List Link) : Type 0 where
+  pub view : calculated (term_view first) (link_views links) ≡ term_view x
+  pub weighs : weight x ≡ 4 + (weight first + links_weight links)
+
+pub arithmetic-read : {x first : Term} {links : List Link} (b : Box Term Global) (v : Vec Link Global)
+    → x ≡ term.Arithmetic b v → first ≡ box_value b → links ≡ v.items → IsArithmetic x first links
+arithmetic-read {x} {first} {links} b v is at behind = record {
+  view =
+      ap (λ (y : Term). calculated (term_view y) (link_views links)) at
+      ∙ (ap (λ (ls : List Link). calculated (term_view (box_value b)) (link_views ls)) behind
+      ∙ sym (ap term_view is ∙ term-arithmetic b v));
+  weighs = omega (arith, ap weight is ∙ weight-arithmetic b v, ap weight at, ap links_weight behind);
+}

@@ -1,30 +1,21 @@
-use Rattle.std.proofs.Common.{◌≡◌, ◌<◌, ◌++◌, ◌∙◌, sym, ap, subst, arith, SFits, w64, to_z, of_z, to_z-of_z, List, ℤ, length, map, get_or, true≢false}
+use Rattle.std.proofs.Common.{◌≡◌, ◌<◌, ◌++◌, ◌∙◌, sym, ap, subst, arith, w64, to_z, of_z, List, ℤ, length, map, get_or, true≢false}
 use Rattle.std.proofs.lemmas.List.{length_push}
 use Rattle.std.proofs.lemmas.Option.{slice_get_within}
-use Rattle.std.proofs.lemmas.Bool.{false_from_ne_true}
-use Rattle.std.specs.List.{slice_get}
+use Rattle.pb_base_values.proofs.Ends.{passed_word}
 use Rattle.pb_sorts.specs.Instance.{instances}
 use Rattle.pb_sorts.specs.Layout.{carriers_of}
 use Rattle.pb_typing_tree.specs.declared.formula.Argument.{Argument}
 use Rattle.pb_typing_tree.specs.Fits.{AllFit}
-use Rattle.pb_typing_tree.specs.Meaning.{name_of}
 use Rattle.pb_typing_tree.specs.View.{argument_view}
-use Rattle.pb_typing_values.specs.Environment.{all_carriers, truth_at}
 use Rattle.pb_typing_values.specs.Slots.{slots_of}
-use Rattle.pb_typing_values.proofs.Called.{called, place_known, wrong_length, counted, not_counted, argument_fits, argument_values, length-values, values_more, values_all}
+use Rattle.pb_typing_values.proofs.Called.{argument_fits, argument_values, values_more, values_all, other_length, numbered_truth, unnumbered_truth}
 use Rattle.pb_typing_values.proofs.formula.call_truth.Goals as goal
+use Rattle.pb_typing_values.proofs.formula.call_truth.Goals.{After-loop-argument}
 
 pub returns-then-carriers-len : goal.returns-then-carriers-len
 returns-then-carriers-len c = λ S laid.
-    let a = slots_of c.args.slots.now in
-    let truths = c.args.environment.now.truths.now in
-    let xs = c.args.arguments.now.items in
-    let vs = argument_values a xs in
-    let k = c.args.equation in
-    let layout = c.args.environment.now.layout.now in
-    sym (called S truths (name_of (slice_get S.equations k)) vs k (place_known S layout k laid c.requires.known)
-    ∙ wrong_length layout (all_carriers S) truths k c.carriers.result.now vs laid.carriers c.carriers.ensures.list
-    (λ e. c.if-carriers-len.true (omega (arith, e, length-values a xs, c.args.arguments.now.ok.0, c.len.ensures))))
+    other_length laid c.args.environment.now.truths.now (slots_of c.args.slots.now) c.args.arguments.now.items c.args.equation c.requires.known
+    c.carriers.result.now c.carriers.ensures.list (λ e. c.if-carriers-len.true (omega (arith, e, c.args.arguments.now.ok.0, c.len.ensures)))
 
 pub value-requires : goal.value-requires
 value-requires c =
@@ -48,11 +39,10 @@ loop-argument-preserved c =
     let same = c.deref-argument-items.ensures.value in
     let k = c.loop-argument.argument-index in
     let x = c.argument-item.result in
-    let fits : SFits w64 c.value.result = record { sfits = c.value.type_inv } in
     record {
       so_far = values_more a xs k x c.loop-argument.values.items c.push_reserved.new.self.items (argument_values a xs) (to_z w64 (of_z w64 c.value.result))
           (subst (λ (ys : List Argument). k < length ys) same c.loop-argument-test.true) (subst (λ (ys : List Argument). x ≡ get_or ys k x) same c.argument-item.is)
-          (to_z-of_z fits ∙ c.value.ensures) c.push_reserved.ensures.items c.loop-argument.invariant.so_far;
+          (passed_word _ _ c.value.type_inv c.value.ensures) c.push_reserved.ensures.items c.loop-argument.invariant.so_far;
       count = grind (arith, length_push, c.push_reserved.ensures.items, c.loop-argument.invariant.count);
       room = c.push_reserved.ensures.capacity ∙ c.loop-argument.invariant.room;
     }
@@ -62,31 +52,20 @@ bounds-environment-number c =
     let layout = c.args.environment.now.layout.now in
     omega (arith, slice_get_within (instances (carriers_of layout)) c.in-Some.number _ c.in-Some.ensures.place, c.args.environment.now.complete)
 
+-- the values are those of all arguments
+all_taken : (c : After-loop-argument) → c.loop-argument.values.items ≡ argument_values (slots_of c.args.slots.now) c.args.arguments.now.items
+all_taken c =
+    let xs = c.args.arguments.now.items in
+    let a = slots_of c.args.slots.now in
+    values_all a xs c.loop-argument.argument-index c.loop-argument.values.items (argument_values a xs)
+    (omega (arith, c.loop-argument-test.false, ap length c.deref-argument-items.ensures.value)) c.loop-argument.invariant.so_far
+
 pub returns-in-Some : goal.returns-in-Some
 returns-in-Some c = λ S laid.
-    let a = slots_of c.args.slots.now in
-    let truths = c.args.environment.now.truths.now in
-    let xs = c.args.arguments.now.items in
-    let vs = argument_values a xs in
-    let k = c.args.equation in
-    let layout = c.args.environment.now.layout.now in
-    let all = values_all a xs c.loop-argument.argument-index c.loop-argument.values.items vs
-    (omega (arith, c.loop-argument-test.false, ap length c.deref-argument-items.ensures.value)) c.loop-argument.invariant.so_far in
-    sym (counted layout (all_carriers S) truths c.in-Some.number _ laid.carriers c.in-Some.ensures.place)
-    ∙ (ap (λ (ws : List ℤ). truth_at (all_carriers S) truths (record { equation = k; values = ws })) all
-    ∙ sym (called S truths (name_of (slice_get S.equations k)) vs k (place_known S layout k laid c.requires.known)))
+    numbered_truth laid c.args.environment.now.truths.now (slots_of c.args.slots.now) c.args.arguments.now.items c.args.equation c.requires.known
+    c.loop-argument.values.items c.in-Some.number (all_taken (goal.at.returns-in-Some c).After-loop-argument) c.in-Some.ensures.place
 
 pub returns : goal.returns
 returns c = λ S laid.
-    let a = slots_of c.args.slots.now in
-    let truths = c.args.environment.now.truths.now in
-    let xs = c.args.arguments.now.items in
-    let vs = argument_values a xs in
-    let k = c.args.equation in
-    let layout = c.args.environment.now.layout.now in
-    let all = values_all a xs c.loop-argument.argument-index c.loop-argument.values.items vs
-    (omega (arith, c.loop-argument-test.false, ap length c.deref-argument-items.ensures.value)) c.loop-argument.invariant.so_far in
-    sym (called S truths (name_of (slice_get S.equations k)) vs k (place_known S layout k laid c.requires.known)
-    ∙ (ap (λ (ws : List ℤ). truth_at (all_carriers S) truths (record { equation = k; values = ws })) (sym all)
-    ∙ not_counted layout (all_carriers S) truths (record { equation = k; values = c.loop-argument.values.items })
-    laid.carriers (false_from_ne_true _ (λ h. true≢false (sym (c.in-None.ensures.exists.1 h))))))
+    unnumbered_truth laid c.args.environment.now.truths.now (slots_of c.args.slots.now) c.args.arguments.now.items c.args.equation c.requires.known
+    c.loop-argument.values.items (all_taken (goal.at.returns c).After-loop-argument) (λ h. true≢false (sym (c.in-None.ensures.exists.1 h)))
