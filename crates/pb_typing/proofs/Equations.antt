@@ -13,6 +13,7 @@ use Rattle.pb_text_meaning.specs.Syntax.{Spec}
 use Rattle.pb_text_meaning.specs.Erase.{erased_equation, erased_variables}
 use Rattle.pb_typing_declarations.specs.Entries.{shapes_of}
 use Rattle.pb_typing_declarations.specs.Shapes.{Shape, variable_shapes}
+use Rattle.pb_typing_declarations.proofs.Parts.{first_clear}
 use Rattle.pb_typing_rules.specs.Faults.{right_faults}
 use Rattle.pb_typing_tree.specs.declared.formula.Equation as declared
 use Rattle.pb_typing_tree.specs.Calls.{call_places, calls_in, tree_calls}
@@ -89,8 +90,8 @@ pub record AreDone (S : Spec) (xs : List Equation) (k : ℕ) (done : List declar
   pub loops : map (equation_loops S) (all_erased xs) ≡ loops_of done ++ map (equation_loops S) (all_erased (drop k xs))
   pub calls : map calls_of (map equation_form xs) ≡ tree_calls done ++ map calls_of (map equation_form (drop k xs))
 
-pub done_begun : (S : Spec) (xs : List Equation) (done : List declared.Equation) → done ≡ [] → AreDone S xs 0 done
-done_begun S xs done e = record {
+pub done_begun : (S : Spec) (xs : List Equation) {done : List declared.Equation} → done ≡ [] → AreDone S xs 0 done
+done_begun S xs e = record {
   faults = refl;
   rights = ap (λ (d : List declared.Equation). rights_of d ++ map (elaborated_equation S) (all_erased xs)) (sym e);
   loops = ap (λ (d : List declared.Equation). loops_of d ++ map (equation_loops S) (all_erased xs)) (sym e);
@@ -98,19 +99,20 @@ done_begun S xs done e = record {
 }
 
 -- the faults of the equations that are left are those of the next one, and of those behind it
-pub faults_next : (S : Spec) (xs : List Equation) (k : ℕ) (X : Equation) → k < length xs → X ≡ get_or xs k X
-    → right_faults S (map equation_form (drop k xs)) ≡ own_faults S (equation_form X) ++ right_faults S (map equation_form (drop (k + 1) xs))
-faults_next S xs k X below at = ap (λ (ys : List Equation). right_faults S (map equation_form ys)) (drop-at xs k X below at)
+pub next_parts : {S : Spec} {xs : List Equation} {k : ℕ} {done : List declared.Equation} {X : Equation} → AreDone S xs k done → k < length xs → X ≡ get_or xs k X
+    → right_faults S (map equation_form xs) ≡ own_faults S (equation_form X) ++ right_faults S (map equation_form (drop (k + 1) xs))
+next_parts {S} {xs} {k} {done} {X} h below at = h.faults ∙ ap (λ (ys : List Equation). right_faults S (map equation_form ys)) (drop-at xs k X below at)
 
-pub done_next : (S : Spec) (xs : List Equation) (k : ℕ) (X : Equation) (Y : declared.Equation) (done more : List declared.Equation) → k < length xs → X ≡ get_or xs k X → more ≡ done ++ Y ∷ []
-    → right_faults S (map equation_form (drop k xs)) ≡ right_faults S (map equation_form (drop (k + 1) xs)) → IsRight S (equation_form X) Y → AreDone S xs k done → AreDone S xs (k + 1) more
-done_next S xs k X Y done more below at pushed clear made h =
+pub done_next : {S : Spec} {xs : List Equation} {k : ℕ} {done more : List declared.Equation} {X : Equation} (Y : declared.Equation) → AreDone S xs k done → k < length xs → X ≡ get_or xs k X
+    → more ≡ done ++ Y ∷ [] → (own_faults S (equation_form X) ≡ []) × IsRight S (equation_form X) Y → AreDone S xs (k + 1) more
+done_next {S} {xs} {k} {done} {more} {X} Y h below at pushed checked =
+    let made = checked.1 in
     let left = drop-at xs k X below at in
     let rest = map (elaborated_equation S) (all_erased (drop (k + 1) xs)) in
     let others = map (equation_loops S) (all_erased (drop (k + 1) xs)) in
     let called = map calls_of (map equation_form (drop (k + 1) xs)) in
     record {
-      faults = h.faults ∙ clear;
+      faults = first_clear _ _ _ (next_parts h below at) checked.0;
       rights =
           h.rights
           ∙ (ap (λ (ys : List Equation). rights_of done ++ map (elaborated_equation S) (all_erased ys)) left
@@ -132,11 +134,11 @@ done_next S xs k X Y done more below at pushed clear made h =
     }
 
 -- all equations are checked
-pub faults_ended : (S : Spec) (xs : List Equation) (k : ℕ) (done : List declared.Equation) → length xs ≤ k → AreDone S xs k done → right_faults S (map equation_form xs) ≡ []
-faults_ended S xs k done end h = h.faults ∙ ap (λ (ys : List Equation). right_faults S (map equation_form ys)) (drop_all k xs end)
+pub faults_ended : {S : Spec} {xs : List Equation} {k : ℕ} {done : List declared.Equation} → AreDone S xs k done → length xs ≤ k → right_faults S (map equation_form xs) ≡ []
+faults_ended {S} {xs} {k} h end = h.faults ∙ ap (λ (ys : List Equation). right_faults S (map equation_form ys)) (drop_all k xs end)
 
-pub rights_ended : (S : Spec) (xs : List Equation) (k : ℕ) (done : List declared.Equation) → length xs ≤ k → AreDone S xs k done → AreRights S (map equation_form xs) done
-rights_ended S xs k done end h = record {
+pub rights_ended : {S : Spec} {xs : List Equation} {k : ℕ} {done : List declared.Equation} → AreDone S xs k done → length xs ≤ k → AreRights S (map equation_form xs) done
+rights_ended {S} {xs} {k} {done} h end = record {
   rights = sym (h.rights ∙ (ap (λ (ys : List Equation). rights_of done ++ map (elaborated_equation S) (all_erased ys)) (drop_all k xs end) ∙ append-nil (rights_of done)));
   loops = sym (h.loops ∙ (ap (λ (ys : List Equation). loops_of done ++ map (equation_loops S) (all_erased ys)) (drop_all k xs end) ∙ append-nil (loops_of done)));
   calls = sym (h.calls ∙ (ap (λ (ys : List Equation). tree_calls done ++ map calls_of (map equation_form ys)) (drop_all k xs end) ∙ append-nil (tree_calls done)));

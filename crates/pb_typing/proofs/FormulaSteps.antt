@@ -1,6 +1,6 @@
--- Typed formulas, operand by operand and node by node; calls, argument by argument.
-use Rattle.std.proofs.Common.{◌≡◌, ℕ, zero, suc, ◌+◌, ◌<◌, ◌≤◌, Bool, cond, List, [], ◌∷◌, ◌++◌, map, length, get_or, drop, refl, sym, ◌∙◌, ap, arith, Box, Vec, Global, Result, Ok, Err, IfOk, Option, Some, add-one}
-use Rattle.std.specs.Prelude.{box_value}
+-- Typed formulas, operand by operand; calls, argument by argument.
+use Rattle.std.proofs.Common.{◌≡◌, ℕ, zero, suc, ◌+◌, ◌-◌, ◌<◌, ◌≤◌, Bool, cond, List, [], ◌∷◌, ◌++◌, map, length, get_or, drop, refl, sym, ◌∙◌, ap, subst, arith}
+use Rattle.std.proofs.Common.{Result, Ok, Err, IfOk, Option, Some, add-one}
 use Rattle.std.specs.List.{position_from}
 use Rattle.std.proofs.lemmas.Iterator.Adapters.{position_from-zero}
 use Rattle.std.proofs.lemmas.List.{append-nil, append_assoc, drop_all}
@@ -14,13 +14,17 @@ use Rattle.pb_text_tree.specs.declared.term.Term as term
 use Rattle.pb_text_tree.specs.declared.formula.Formula as ast
 use Rattle.pb_text_tree.specs.declared.formula.Link.{Link}
 use Rattle.pb_text_tree.specs.Form as form
-use Rattle.pb_text_tree.specs.Form.{FormulaForm, formula_form, link_forms, argument_forms, term_form}
-use Rattle.pb_text_tree.proofs.FormLemmas.{formula-chain}
+use Rattle.pb_text_tree.specs.Form.{FormulaForm, InstanceForm, formula_form, link_forms, argument_forms, term_form}
 use Rattle.pb_text_meaning.specs.Syntax as syntax
 use Rattle.pb_text_meaning.specs.Syntax.{Name, same_name, Equation, Spec}
 use Rattle.pb_text_meaning.specs.Erase.{erased_formula, erased_arguments, erased_term, joined}
 use Rattle.pb_typing_declarations.specs.Agreement.{equation_place}
 use Rattle.pb_typing_declarations.specs.Shapes.{Shape}
+use Rattle.pb_typing_declarations.specs.declared.fault.TypingRule.TheVariants as rule
+use Rattle.pb_typing_declarations.specs.Faults.{unless, IsAmong}
+use Rattle.pb_typing_declarations.proofs.Parts.{among_left, among_right, first_clear}
+use Rattle.pb_typing_rules.specs.Shapes.{may_be_alike}
+use Rattle.pb_typing_rules.specs.Faults.{formula_faults, operand_parity}
 use Rattle.pb_typing_rules.specs.Scope.{Scope}
 use Rattle.pb_typing_rules.specs.Term.{shape}
 use Rattle.pb_typing_tree.specs.declared.formula.Argument as declared
@@ -30,18 +34,23 @@ use Rattle.pb_typing_tree.specs.Calls.{call_places, calls, calls_in, places_of}
 use Rattle.pb_typing_tree.proofs.Calls.{data-calls, no_places}
 use Rattle.pb_typing_tree.specs.Loops.{loops}
 use Rattle.pb_typing_tree.specs.Tree as model
-use Rattle.pb_typing_tree.specs.Tree.{Formula, Connected}
+use Rattle.pb_typing_tree.specs.Tree.{Formula}
 use Rattle.pb_typing_tree.specs.Elaboration.{Slotting, arguments, elaborated, place_of, slotted}
-use Rattle.pb_typing.specs.Tree.{formula_of, value_of}
-use Rattle.pb_typing_tree.specs.View.{argument_view, chained, shape_view, term_view, formula_view, formula_views}
+use Rattle.pb_typing_tree.specs.View.{argument_view, term_view, formula_view, formula_views}
 use Rattle.pb_typing_declarations.specs.Entries.{shapes_of}
+use Rattle.pb_typing_nodes.specs.declared.context.Context.{Context}
+use Rattle.pb_typing_nodes.specs.Contexts.{scope_in, slots_in, text_in}
+use Rattle.pb_typing_nodes.specs.Elaborated.{Elaborates}
+use Rattle.pb_typing_terms.proofs.Nodes.{faults_in, shape_in}
+use Rattle.pb_typing.specs.Tree.{formula_of, value_of}
 use Rattle.pb_typing.specs.FormulaLinks.{elaborated_links, link_faults, link_width, links_calls, links_loops}
-use Rattle.pb_typing.proofs.ElaboratedChains.{chained-elaborated}
 use Rattle.pb_typing.specs.Arguments.{faults_against, own_faults}
-use Rattle.pb_typing.specs.Elaborated.{ElaboratesFormula}
+use Rattle.pb_typing.specs.declared.instance.Call.{Call}
+use Rattle.pb_typing.specs.Elaborated.{ElaboratesFormula, IsCall}
 use Rattle.pb_base.specs.declared.or_memory.OrMemory.{OrMemory}
 use Rattle.pb_typing_declarations.specs.declared.fault.TypingFault.{TypingFault}
 use Rattle.pb_typing_declarations.specs.Entries.{shape_of}
+use Rattle.pb_typing.proofs.FormulaLinks.{chain_next}
 use Rattle.pb_typing.proofs.ValueLemmas.{grown, joined-loops}
 
 -- ---- chains
@@ -72,50 +81,55 @@ places-push : (fs : List code.Formula) (f : code.Formula) → places_of (fs ++ f
 places-push [] f = append-nil (call_places f)
 places-push (g ∷ fs) f = ap (λ (ps : List Place). call_places g ++ ps) (places-push fs f) ∙ sym (append_assoc (call_places g) (places_of fs) (call_places f))
 
-form-calls : (o : Connective) (first : FormulaForm) (links : List Link) → calls_in (form.chained (FormulaForm.connected o) first (link_forms links)) ≡ calls_in first ++ links_calls links
+-- the calls of a chain are those of its first operand, then those of the others
+pub form-calls : (o : Connective) (first : FormulaForm) (links : List Link) → calls_in (form.chained (FormulaForm.connected o) first (link_forms links)) ≡ calls_in first ++ links_calls links
 form-calls o first [] = sym (append-nil (calls_in first))
 form-calls o first (l ∷ ls) = ap (λ (ps : List Place). calls_in first ++ ps) (form-calls o (formula_form l.operand) ls)
-
--- the calls of a chain are those of its first operand, then those of the others
-pub chain_calls : (o : Connective) (first : ast.Formula) (links : List Link) (head rest : List Place) → head ≡ calls_in (formula_form first) → rest ≡ links_calls links
-    → head ++ rest ≡ calls_in (form.chained (FormulaForm.connected o) (formula_form first) (link_forms links))
-chain_calls o first links head rest h r =
-    ap (λ (ps : List Place). ps ++ rest) h ∙ (ap (λ (ps : List Place). calls_in (formula_form first) ++ ps) r ∙ sym (form-calls o (formula_form first) links))
 
 views-push : (fs : List code.Formula) (f : code.Formula) → formula_views (fs ++ f ∷ []) ≡ formula_views fs ++ formula_view f ∷ []
 views-push [] f = refl
 views-push (g ∷ fs) f = ap (λ (vs : List Formula). formula_view g ∷ vs) (views-push fs f)
 
 -- so many links are done: their faults, their typed trees, the carriers of their quantifiers and the places of their calls
-pub record AreDone (S : Spec) (a : Scope) (c : Slotting) (o : Connective) (even : Bool) (links : List Link)
-    (before : List Carrier) (k : ℕ) (done : List code.Formula) (now : List Carrier) : Type 0 where
-  pub faults : link_faults S a o even links ≡ link_faults S a o even (drop k links)
+pub record AreDone (X : Context) (o : Connective) (even : Bool) (links : List Link) (before : List Carrier) (k : ℕ) (done : List code.Formula) (now : List Carrier) : Type 0 where
+  pub faults : link_faults (text_in X) (scope_in X) o even links ≡ link_faults (text_in X) (scope_in X) o even (drop k links)
   pub places : places_of done ++ links_calls (drop k links) ≡ links_calls links
-  pub rest : elaborated_links S c a (length before) links ≡ formula_views done ++ elaborated_links S c a (length now) (drop k links)
-  pub carriers : shapes_of now ++ links_loops S (drop k links) ≡ shapes_of before ++ links_loops S links
+  pub rest : elaborated_links (text_in X) (slots_in X) (scope_in X) (length before) links
+      ≡ formula_views done ++ elaborated_links (text_in X) (slots_in X) (scope_in X) (length now) (drop k links)
+  pub carriers : shapes_of now ++ links_loops (text_in X) (drop k links) ≡ shapes_of before ++ links_loops (text_in X) links
 
-pub done_begun : (S : Spec) (a : Scope) (c : Slotting) (o : Connective) (even : Bool) (links : List Link)
-    (before : List Carrier) (done : List code.Formula) → done ≡ [] → AreDone S a c o even links before 0 done before
-done_begun S a c o even links before done none = record {
+pub done_begun : (X : Context) (o : Connective) (even : Bool) (links : List Link) (before : List Carrier) {done : List code.Formula} → done ≡ [] → AreDone X o even links before 0 done before
+done_begun X o even links before none = record {
   faults = refl;
   places = ap (λ (fs : List code.Formula). places_of fs ++ links_calls links) none;
-  rest = ap (λ (fs : List code.Formula). formula_views fs ++ elaborated_links S c a (length before) links) (sym none);
+  rest = ap (λ (fs : List code.Formula). formula_views fs ++ elaborated_links (text_in X) (slots_in X) (scope_in X) (length before) links) (sym none);
   carriers = refl;
 }
 
-pub done_next : (S : Spec) (scope : Scope) (c : Slotting) (o : Connective) (even : Bool) (links : List Link)
-    (before old new : List Carrier) (k : ℕ) (link : Link) (f : code.Formula) (done more : List code.Formula)
-    → k < length links → link ≡ get_or links k link → more ≡ done ++ f ∷ []
-    → link_faults S scope o even (drop k links) ≡ link_faults S scope o even (drop (k + 1) links)
-    → formula_view f ≡ elaborated S c scope (length old) (formula_of link.operand) → shapes_of new ≡ shapes_of old ++ loops S (formula_of link.operand)
-    → call_places f ≡ calls_in (formula_form link.operand)
-    → AreDone S scope c o even links before k done old → AreDone S scope c o even links before (k + 1) more new
-done_next S scope c o even links before old new k link f done more below at pushed clear form shapes called h =
+-- the faults that are left are those of the next operand, then those of the ones behind it
+pub next_parts : {X : Context} {o : Connective} {even p : Bool} {links : List Link} {before now : List Carrier} {k : ℕ} {done : List code.Formula} {link : Link}
+    → AreDone X o even links before k done now → k < length links → link ≡ get_or links k link → p ≡ operand_parity o even (length links - k - 1)
+    → link_faults (text_in X) (scope_in X) o even links
+    ≡ formula_faults (text_in X) p (scope_in X) (formula_form link.operand) ++ link_faults (text_in X) (scope_in X) o even (drop (k + 1) links)
+next_parts {X} {o} {even} {p} {links} {before} {now} {k} {done} {link} h below at parity =
+    h.faults ∙ chain_next (text_in X) (scope_in X) o even links k link (length links) p below at refl parity
+
+pub done_next : {X : Context} {o : Connective} {even p : Bool} {links : List Link} {before old : List Carrier} {k : ℕ} {done more : List code.Formula} {link : Link}
+    (f : code.Formula) (new : List Carrier) → AreDone X o even links before k done old → k < length links → link ≡ get_or links k link
+    → p ≡ operand_parity o even (length links - k - 1) → more ≡ done ++ f ∷ []
+    → ElaboratesFormula (formula_faults (text_in X) p (scope_in X) (formula_form link.operand))
+    (elaborated (text_in X) (slots_in X) (scope_in X) (length old) (formula_of link.operand)) (Ok f)
+    → shapes_of new ≡ shapes_of old ++ loops (text_in X) (formula_of link.operand) → call_places f ≡ calls_in (formula_form link.operand)
+    → AreDone X o even links before (k + 1) more new
+done_next {X} {o} {even} {p} {links} {before} {old} {k} {done} {more} {link} f new h below at parity pushed checked shapes called =
+    let S = text_in X in
+    let c = slots_in X in
+    let scope = scope_in X in
     let left = drop-at links k link below at in
     let others = elaborated_links S c scope (length new) (drop (k + 1) links) in
     let behind = links_calls (drop (k + 1) links) in
     record {
-      faults = h.faults ∙ clear;
+      faults = first_clear _ _ _ (next_parts h below at parity) checked.0;
       places =
           ap (λ (fs : List code.Formula). places_of fs ++ behind) pushed
           ∙ (ap (λ (ps : List Place). ps ++ behind) (places-push done f)
@@ -125,7 +139,7 @@ done_next S scope c o even links before old new k link f done more below at push
       rest =
           h.rest
           ∙ (ap (λ (fs : List Formula). formula_views done ++ fs) (next-elaborated S c scope (length old) links k link below at)
-          ∙ (ap (λ (g : Formula). formula_views done ++ g ∷ elaborated_links S c scope (length old + link_width link) (drop (k + 1) links)) (sym form)
+          ∙ (ap (λ (g : Formula). formula_views done ++ g ∷ elaborated_links S c scope (length old + link_width link) (drop (k + 1) links)) (sym checked.1)
           ∙ (ap (λ (m : ℕ). formula_views done ++ formula_view f ∷ elaborated_links S c scope m (drop (k + 1) links)) (sym (grown S (formula_of link.operand) old new shapes))
           ∙ (sym (append_assoc (formula_views done) (formula_view f ∷ []) others)
           ∙ (ap (λ (fs : List Formula). fs ++ others) (sym (views-push done f)) ∙ ap (λ (fs : List code.Formula). formula_views fs ++ others) (sym pushed))))));
@@ -136,59 +150,30 @@ done_next S scope c o even links before old new k link f done more below at push
     }
 
 -- all links are done
-pub faults_ended : (S : Spec) (a : Scope) (c : Slotting) (o : Connective) (even : Bool) (links : List Link) (before now : List Carrier) (k : ℕ) (done : List code.Formula) → length links ≤ k
-    → AreDone S a c o even links before k done now → link_faults S a o even links ≡ []
-faults_ended S a c o even links before now k done end h = h.faults ∙ ap (link_faults S a o even) (drop_all k links end)
+pub links_ended : {X : Context} {o : Connective} {even : Bool} {links : List Link} {before now : List Carrier} {k : ℕ} {done : List code.Formula}
+    → AreDone X o even links before k done now → length links ≤ k
+    → (link_faults (text_in X) (scope_in X) o even links ≡ []) × (formula_views done ≡ elaborated_links (text_in X) (slots_in X) (scope_in X) (length before) links)
+links_ended {X} {o} {even} {links} {before} {now} {k} {done} h end =
+    let none = drop_all k links end in (
+      h.faults ∙ ap (link_faults (text_in X) (scope_in X) o even) none,
+      sym (h.rest ∙ (ap (λ (ls : List Link). formula_views done ++ elaborated_links (text_in X) (slots_in X) (scope_in X) (length now) ls) none ∙ append-nil (formula_views done))),
+    )
 
-pub places_ended : (S : Spec) (a : Scope) (c : Slotting) (o : Connective) (even : Bool) (links : List Link) (before now : List Carrier) (k : ℕ) (done : List code.Formula) → length links ≤ k
-    → AreDone S a c o even links before k done now → places_of done ≡ links_calls links
-places_ended S a c o even links before now k done end h =
+pub places_ended : {X : Context} {o : Connective} {even : Bool} {links : List Link} {before now : List Carrier} {k : ℕ} {done : List code.Formula}
+    → AreDone X o even links before k done now → length links ≤ k → places_of done ≡ links_calls links
+places_ended {X} {o} {even} {links} {before} {now} {k} {done} h end =
     sym (ap (λ (ls : List Link). places_of done ++ links_calls ls) (drop_all k links end) ∙ append-nil (places_of done)) ∙ h.places
 
-pub shapes_ended : (S : Spec) (a : Scope) (c : Slotting) (o : Connective) (even : Bool) (links : List Link) (before now : List Carrier) (k : ℕ) (done : List code.Formula) → length links ≤ k
-    → AreDone S a c o even links before k done now → shapes_of now ≡ shapes_of before ++ links_loops S links
-shapes_ended S a c o even links before now k done end h =
-    sym (ap (λ (ls : List Link). shapes_of now ++ links_loops S ls) (drop_all k links end) ∙ append-nil (shapes_of now)) ∙ h.carriers
-
-pub views_ended : (S : Spec) (a : Scope) (c : Slotting) (o : Connective) (even : Bool) (links : List Link) (before now : List Carrier) (k : ℕ) (done : List code.Formula) → length links ≤ k
-    → AreDone S a c o even links before k done now → formula_views done ≡ elaborated_links S c a (length before) links
-views_ended S a c o even links before now k done end h =
-    sym (h.rest ∙ (ap (λ (ls : List Link). formula_views done ++ elaborated_links S c a (length now) ls) (drop_all k links end) ∙ append-nil (formula_views done)))
-
--- ---- the first operand, and those behind it
-
-module _ (S : Spec) (o : Connective) (first : ast.Formula) (links : List Link) (before mid : List Carrier) (shapes : shapes_of mid ≡ shapes_of before ++ loops S (formula_of first)) where
-  pub chain-shapes : (now : List Carrier) → shapes_of now ≡ shapes_of mid ++ links_loops S links → shapes_of now ≡ shapes_of before ++ loops S (chain_form o (formula_form first) links)
-  chain-shapes now behind =
-      behind
-      ∙ (ap (λ (ss : List Shape). ss ++ links_loops S links) shapes
-      ∙ (append_assoc (shapes_of before) (loops S (formula_of first)) (links_loops S links)
-      ∙ ap (λ (ss : List Shape). shapes_of before ++ ss) (sym (chain-loops S o first links))))
-
-  pub chain-view : (c : Slotting) (scope : Scope) (f : Formula) (fs : List Formula)
-      → f ≡ elaborated S c scope (length before) (formula_of first) → fs ≡ elaborated_links S c scope (length mid) links
-      → chained (Connected o) f fs ≡ elaborated S c scope (length before) (chain_form o (formula_form first) links)
-  chain-view c scope f fs head behind =
-      ap (λ (g : Formula). chained (Connected o) g fs) head
-      ∙ (ap (chained (Connected o) (elaborated S c scope (length before) (formula_of first)))
-      (behind ∙ ap (λ (n : ℕ). elaborated_links S c scope n links) (grown S (formula_of first) before mid shapes))
-      ∙ sym (chained-elaborated S o c scope (length before) (formula_form first) links))
-
--- ---- nodes
-
-pub chain-node : (t x : ast.Formula) (o : Connective) (first : Box ast.Formula Global) (v : Vec Link Global) (links : List Link) → t ≡ ast.Chain o first v → x ≡ box_value first → links ≡ v.items
-    → formula_form t ≡ form.chained (FormulaForm.connected o) (formula_form x) (link_forms links)
-chain-node t x o first v links is same are =
-    ap formula_form is
-    ∙ (formula-chain o first v
-    ∙ (ap (λ (y : ast.Formula). form.chained (FormulaForm.connected o) (formula_form y) (link_forms v.items)) (sym same)
-    ∙ ap (λ (ls : List Link). form.chained (FormulaForm.connected o) (formula_form x) (link_forms ls)) (sym are)))
+pub shapes_ended : {X : Context} {o : Connective} {even : Bool} {links : List Link} {before now : List Carrier} {k : ℕ} {done : List code.Formula}
+    → AreDone X o even links before k done now → length links ≤ k → shapes_of now ≡ shapes_of before ++ links_loops (text_in X) links
+shapes_ended {X} {o} {even} {links} {before} {now} {k} h end =
+    sym (ap (λ (ls : List Link). shapes_of now ++ links_loops (text_in X) ls) (drop_all k links end) ∙ append-nil (shapes_of now)) ∙ h.carriers
 
 -- what is read as data has no calls
-pub value_places : (S : Spec) (c : Slotting) (a : Scope) (n : ℕ) (x : term.Term) (fs : List TypingFault) (r : Result code.Formula (OrMemory TypingFault))
-    → ElaboratesFormula fs (elaborated S c a n (value_of x)) r → IfOk r (λ (f : code.Formula). call_places f ≡ [])
-value_places S c a n x fs (Ok f) h = no_places f (ap calls h.1 ∙ data-calls S (erased_term (term_form x)) c a n)
-value_places S c a n x fs (Err e) h = tt
+pub value_places : (X : Context) (n : ℕ) (x : term.Term) (fs : List TypingFault) (r : Result code.Formula (OrMemory TypingFault))
+    → ElaboratesFormula fs (elaborated (text_in X) (slots_in X) (scope_in X) n (value_of x)) r → IfOk r (λ (f : code.Formula). call_places f ≡ [])
+value_places X n x fs (Ok f) h = no_places f (ap calls h.1 ∙ data-calls (text_in X) (erased_term (term_form x)) (slots_in X) (scope_in X) n)
+value_places X n x fs (Err e) h = tt
 
 -- ---- calls
 
@@ -200,6 +185,10 @@ place-from n (X ∷ E) x =
 pub place-found : (S : Spec) (x : Name) → equation_place S x ≡ place_of 0 S.equations x
 place-found S x = position_from-zero (λ (X : Equation). same_name X.name x) S.equations ∙ sym (place-from 0 S.equations x)
 
+-- the equation of a call stands at the place that it has
+pub call_placed : {S : Spec} {a : Scope} {c : Slotting} {i : InstanceForm} {call : Call} → IsCall S a c i call → equation_place S i.name.text ≡ Some call.equation
+call_placed {S} {a} {c} {i} h = place-found S i.name.text ∙ h.equation
+
 abbrev pub call_arguments : Spec → Slotting → Scope → List Argument → List model.Argument
 call_arguments S c scope xs = arguments S c scope (erased_arguments (argument_forms xs))
 
@@ -207,15 +196,27 @@ arguments-push : (done : List declared.Argument) (y : declared.Argument) → map
 arguments-push [] y = refl
 arguments-push (e ∷ done) y = ap (λ (es : List model.Argument). argument_view e ∷ es) (arguments-push done y)
 
--- so many arguments are done: their faults and their typed terms
-pub record AreLeft (S : Spec) (a : Scope) (c : Slotting) (xs : List Argument) (ss : List Shape) (k : ℕ) (done : List declared.Argument) : Type 0 where
-  pub faults : faults_against S a xs ss ≡ faults_against S a (drop k xs) (drop k ss)
-  pub rest : call_arguments S c a xs ≡ map argument_view done ++ call_arguments S c a (drop k xs)
+-- a fault of an argument, by itself or against the shape of its parameter
+pub argument_among : (X : Context) (x : Argument) (s : Shape) (e : OrMemory TypingFault) → IsAmong (faults_in X (term_form x.term)) e → IsAmong (own_faults (text_in X) (scope_in X) x s) e
+argument_among X x s e h = among_left (faults_in X (term_form x.term)) _ e h
 
-pub arguments_begun : (S : Spec) (a : Scope) (c : Slotting) (xs : List Argument) (ss : List Shape) (done : List declared.Argument) → done ≡ [] → AreLeft S a c xs ss 0 done
-arguments_begun S a c xs ss done none = record {
+pub argument_kind : (X : Context) (x : Argument) (s : Shape) {b : Bool} (e : OrMemory TypingFault) → b ≡ may_be_alike (shape_in X (term_form x.term)) s
+    → IsAmong (unless b rule.WrongKind x.place) e → IsAmong (own_faults (text_in X) (scope_in X) x s) e
+argument_kind X x s e is h = among_right (faults_in X (term_form x.term)) _ e (subst (λ (b : Bool). IsAmong (unless b rule.WrongKind x.place) e) is h)
+
+pub argument_clear : (X : Context) (x : Argument) (s : Shape) {b : Bool} → faults_in X (term_form x.term) ≡ [] → b ≡ may_be_alike (shape_in X (term_form x.term)) s
+    → unless b rule.WrongKind x.place ≡ [] → own_faults (text_in X) (scope_in X) x s ≡ []
+argument_clear X x s none is clear = first_clear _ (faults_in X (term_form x.term)) _ refl none ∙ (sym (ap (λ (b : Bool). unless b rule.WrongKind x.place) is) ∙ clear)
+
+-- so many arguments are done: their faults and their typed terms
+pub record AreLeft (X : Context) (xs : List Argument) (cs : List Carrier) (k : ℕ) (done : List declared.Argument) : Type 0 where
+  pub faults : faults_against (text_in X) (scope_in X) xs (shapes_of cs) ≡ faults_against (text_in X) (scope_in X) (drop k xs) (drop k (shapes_of cs))
+  pub rest : call_arguments (text_in X) (slots_in X) (scope_in X) xs ≡ map argument_view done ++ call_arguments (text_in X) (slots_in X) (scope_in X) (drop k xs)
+
+pub arguments_begun : (X : Context) (xs : List Argument) (cs : List Carrier) {done : List declared.Argument} → done ≡ [] → AreLeft X xs cs 0 done
+arguments_begun X xs cs none = record {
   faults = refl;
-  rest = ap (λ (es : List declared.Argument). map argument_view es ++ call_arguments S c a xs) (sym none);
+  rest = ap (λ (es : List declared.Argument). map argument_view es ++ call_arguments (text_in X) (slots_in X) (scope_in X) xs) (sym none);
 }
 
 shapes-at : (cs : List Carrier) (k : ℕ) (p : Carrier) → k < length cs → p ≡ get_or cs k p → drop k (shapes_of cs) ≡ shape_of p ∷ drop (k + 1) (shapes_of cs)
@@ -227,37 +228,41 @@ shapes-at cs k p below at = rw add-one (by_suc cs k below at)
     by_suc (d ∷ cs) (suc k) below at = by_suc cs k (omega (arith, below)) at
 
 -- the faults of the arguments that are left are those of the next one, and of those behind it
-pub faults_next : (S : Spec) (a : Scope) (xs : List Argument) (cs : List Carrier) (k : ℕ) (x : Argument) (p : Carrier) → k < length xs → x ≡ get_or xs k x → k < length cs → p ≡ get_or cs k p
-    → faults_against S a (drop k xs) (drop k (shapes_of cs)) ≡ own_faults S a x (shape_of p) ++ faults_against S a (drop (k + 1) xs) (drop (k + 1) (shapes_of cs))
-faults_next S a xs cs k x p below at within here =
-    ap (λ (ys : List Argument). faults_against S a ys (drop k (shapes_of cs))) (drop-at xs k x below at)
-    ∙ ap (faults_against S a (x ∷ drop (k + 1) xs)) (shapes-at cs k p within here)
+pub argument_parts : {X : Context} {xs : List Argument} {cs : List Carrier} {k : ℕ} {done : List declared.Argument} {x : Argument} {p : Carrier}
+    → AreLeft X xs cs k done → length xs ≡ length cs → k < length xs → x ≡ get_or xs k x → p ≡ get_or cs k p
+    → faults_against (text_in X) (scope_in X) xs (shapes_of cs)
+    ≡ own_faults (text_in X) (scope_in X) x (shape_of p) ++ faults_against (text_in X) (scope_in X) (drop (k + 1) xs) (drop (k + 1) (shapes_of cs))
+argument_parts {X} {xs} {cs} {k} {done} {x} {p} h count below at here =
+    let within : k < length cs = omega (arith, count, below) in
+    h.faults
+    ∙ (ap (λ (ys : List Argument). faults_against (text_in X) (scope_in X) ys (drop k (shapes_of cs))) (drop-at xs k x below at)
+    ∙ ap (faults_against (text_in X) (scope_in X) (x ∷ drop (k + 1) xs)) (shapes-at cs k p within here))
 
 -- an argument that is put behind those that are done
-pub argument_next : (S : Spec) (scope : Scope) (c : Slotting) (xs : List Argument) (ss : List Shape) (k : ℕ)
-    (x : Argument) (y : declared.Argument) (done more : List declared.Argument) → k < length xs → x ≡ get_or xs k x
-    → faults_against S scope (drop k xs) (drop k ss) ≡ faults_against S scope (drop (k + 1) xs) (drop (k + 1) ss)
-    → term_view y.term ≡ slotted S c (erased_term (term_form x.term)) → shape_view y.shape ≡ shape S scope (erased_term (term_form x.term)) → more ≡ done ++ y ∷ []
-    → AreLeft S scope c xs ss k done → AreLeft S scope c xs ss (k + 1) more
-argument_next S scope c xs ss k x y done more below at clear term_is shape_is pushed h =
-    let left = drop-at xs k x below at in
+pub argument_next : {X : Context} {xs : List Argument} {cs : List Carrier} {k : ℕ} {done more : List declared.Argument} {x : Argument} {p : Carrier} (y : declared.Argument)
+    → AreLeft X xs cs k done → length xs ≡ length cs → k < length xs → x ≡ get_or xs k x → p ≡ get_or cs k p → more ≡ done ++ y ∷ []
+    → Elaborates (own_faults (text_in X) (scope_in X) x (shape_of p)) (shape (text_in X) (scope_in X) (erased_term (term_form x.term)))
+    (slotted (text_in X) (slots_in X) (erased_term (term_form x.term))) (Ok y) → AreLeft X xs cs (k + 1) more
+argument_next {X} {xs} {cs} {k} {done} {more} {x} {p} y h count below at here pushed checked =
+    let S = text_in X in
+    let c = slots_in X in
+    let scope = scope_in X in
     let rest = call_arguments S c scope (drop (k + 1) xs) in
     record {
-      faults = h.faults ∙ clear;
+      faults = first_clear _ _ _ (argument_parts h count below at here) checked.0;
       rest =
           h.rest
-          ∙ (ap (λ (ys : List Argument). map argument_view done ++ call_arguments S c scope ys) left
-          ∙ (ap (λ (t : model.Term). map argument_view done ++ record { term = t; shape = shape S scope (erased_term (term_form x.term)) } ∷ rest) (sym term_is)
-          ∙ (ap (λ (s : Shape). map argument_view done ++ record { term = term_view y.term; shape = s } ∷ rest) (sym shape_is)
+          ∙ (ap (λ (ys : List Argument). map argument_view done ++ call_arguments S c scope ys) (drop-at xs k x below at)
+          ∙ (ap (λ (t : model.Term). map argument_view done ++ record { term = t; shape = shape S scope (erased_term (term_form x.term)) } ∷ rest) (sym checked.1.1)
+          ∙ (ap (λ (s : Shape). map argument_view done ++ record { term = term_view y.term; shape = s } ∷ rest) (sym checked.1.0)
           ∙ (sym (append_assoc (map argument_view done) (argument_view y ∷ []) rest)
           ∙ (ap (λ (es : List model.Argument). es ++ rest) (sym (arguments-push done y)) ∙ ap (λ (es : List declared.Argument). map argument_view es ++ rest) (sym pushed))))));
     }
 
-pub faults_done : (S : Spec) (a : Scope) (c : Slotting) (xs : List Argument) (ss : List Shape) (k : ℕ)
-    (done : List declared.Argument) → length xs ≤ k → AreLeft S a c xs ss k done → faults_against S a xs ss ≡ []
-faults_done S a c xs ss k done end h = h.faults ∙ ap (λ (ys : List Argument). faults_against S a ys (drop k ss)) (drop_all k xs end)
-
-pub arguments_ended : (S : Spec) (a : Scope) (c : Slotting) (xs : List Argument) (ss : List Shape) (k : ℕ) (done : List declared.Argument) → length xs ≤ k
-    → AreLeft S a c xs ss k done → map argument_view done ≡ call_arguments S c a xs
-arguments_ended S a c xs ss k done end h =
-    sym (h.rest ∙ (ap (λ (ys : List Argument). map argument_view done ++ call_arguments S c a ys) (drop_all k xs end) ∙ append-nil (map argument_view done)))
+pub arguments_ended : {X : Context} {xs : List Argument} {cs : List Carrier} {k : ℕ} {done : List declared.Argument} → AreLeft X xs cs k done → length xs ≤ k
+    → (faults_against (text_in X) (scope_in X) xs (shapes_of cs) ≡ []) × (map argument_view done ≡ call_arguments (text_in X) (slots_in X) (scope_in X) xs)
+arguments_ended {X} {xs} {cs} {k} {done} h end =
+    let none = drop_all k xs end in (
+      h.faults ∙ ap (λ (ys : List Argument). faults_against (text_in X) (scope_in X) ys (drop k (shapes_of cs))) none,
+      sym (h.rest ∙ (ap (λ (ys : List Argument). map argument_view done ++ call_arguments (text_in X) (slots_in X) (scope_in X) ys) none ∙ append-nil (map argument_view done))),
+    )

@@ -1,9 +1,13 @@
 -- The values of the initial instance's arguments, against the carriers of its equation's parameters.
-use Rattle.std.proofs.Common.{◌≡◌, ℕ, zero, suc, Bool, true, false, List, [], ◌∷◌, map, length, Option, Some, None, refl, sym, ◌∙◌, ap, subst, arith, true≢false, ◌<◌}
+use Rattle.std.proofs.Common.{◌≡◌, ℕ, zero, suc, Bool, true, false, List, [], ◌∷◌, map, length, Option, Some, None, refl, sym, ◌∙◌, ap, subst, arith, true≢false, ◌<◌, ◌||◌}
 use Rattle.std.specs.Prelude.{Result, Ok, Err, MatchResult, nat_lt}
 use Rattle.std.specs.List.{slice_get}
 use Rattle.std.proofs.lemmas.Option.{cond_some}
 use Rattle.std.proofs.lemmas.Bool.{ltb-true}
+use Rattle.std.proofs.lemmas.List.{length-map}
+use Rattle.pb_base.specs.declared.limits.TheConstants.{MAX_EQUATIONS}
+use Rattle.pb_base.specs.declared.or_memory.OrMemory.{OrMemory}
+use Rattle.pb_base.specs.declared.or_memory.OrMemory.TheVariants.{Refused, Memory}
 use Rattle.pb_base_values.specs.Carrier as carriers
 use Rattle.pb_base_values.specs.Carrier.{Value, contains}
 use Rattle.pb_sorts.specs.declared.carrier.Carrier.{Carrier}
@@ -11,36 +15,38 @@ use Rattle.pb_sorts.specs.Carrier.{values_of}
 use Rattle.pb_sorts.proofs.Equations.{slice_get-carriers_of}
 use Rattle.pb_sorts.proofs.Counts.{some_values}
 use Rattle.pb_text_tree.specs.declared.term.Argument.{Argument}
-use Rattle.pb_text_tree.specs.Form.{ArgumentForms, no_arguments, argument, InstanceForm, argument_forms, term_form}
-use Rattle.pb_text_meaning.specs.Syntax.{Name, same_name, Variable, Equation, Spec}
+use Rattle.pb_text_tree.specs.Form.{ArgumentForms, InstanceForm, SpecForm, argument_forms, term_form}
+use Rattle.pb_text_meaning.specs.Syntax.{same_name, Equation, Spec, Terms, Variable}
 use Rattle.pb_text_meaning.specs.Sorts.{carrier_of}
 use Rattle.pb_text_meaning.specs.Value.{value}
 use Rattle.pb_text_meaning.specs.Formula.{carriers_of, equation_named}
-use Rattle.pb_text_tree.specs.Form.{SpecForm}
-use Rattle.pb_text_meaning.specs.Erase.{erase}
-use Rattle.pb_base.specs.declared.limits.TheConstants.{MAX_EQUATIONS}
-use Rattle.pb_typing_declarations.specs.Declarations.{declaration_faults}
-use Rattle.pb_typing_declarations.proofs.DeclaredLaw.{declared}
-use Rattle.pb_typing_rules.specs.Formula.{count, IsCalled}
-use Rattle.pb_typing_tree.specs.InitialPlace.{initial_place}
-use Rattle.std.proofs.lemmas.List.{length-map}
 use Rattle.pb_text_meaning.specs.Erase.{erased_arguments, erased_term}
 use Rattle.pb_text_meaning.specs.Fits.{AllFit}
+use Rattle.pb_typing_declarations.specs.declared.declarations.Declarations.{Declarations}
 use Rattle.pb_typing_declarations.specs.declared.fault.TypingFault.{TypingFault}
-use Rattle.pb_base.specs.declared.or_memory.OrMemory.TheVariants.{Refused, Memory}
 use Rattle.pb_typing_declarations.specs.declared.fault.TypingRule.TheVariants.{OutsideCarrier}
-use Rattle.pb_base.specs.declared.or_memory.OrMemory.{OrMemory}
-use Rattle.pb_typing_declarations.specs.Faults.{unless, IsAmong}
 use Rattle.pb_typing_declarations.specs.Agreement.{equation_place}
+use Rattle.pb_typing_declarations.specs.Faults.{unless, IsAmong}
+use Rattle.pb_typing_declarations.specs.View.{spec_of, text_of}
 use Rattle.pb_typing_declarations.specs.WellDeclared.{HaveEnds}
-use Rattle.pb_typing_rules.specs.Faults.{and_then, instance_faults, may_have, parameters_named, value_faults}
-use Rattle.pb_typing_rules.specs.Scope.{outermost}
+use Rattle.pb_typing_declarations.proofs.DeclaredLaw.{declared}
+use Rattle.pb_typing_declarations.proofs.Parts.{among_left, among_right, no_whole}
+use Rattle.pb_typing_rules.specs.Faults.{and_then, initial_faults, instance_faults, may_have, parameters_named, value_faults}
+use Rattle.pb_typing_rules.specs.Formula.{count, IsCalled}
+use Rattle.pb_typing_rules.specs.Scope.{Scope, outermost}
+use Rattle.pb_typing_rules.specs.Term.{AreTyped}
 use Rattle.pb_typing_rules.proofs.Contained.{all_fit, called_typed}
 use Rattle.pb_typing_rules.proofs.Exact.{instance_proper}
-use Rattle.pb_typing_declarations.proofs.Parts.{among_left, among_right, no_whole}
 use Rattle.pb_typing_rules.proofs.WellTypedLemmas.{may_have_of_some}
+use Rattle.pb_typing_tree.specs.Elaboration.{Slotting}
+use Rattle.pb_typing_tree.specs.Expansion.{have_quantifier}
+use Rattle.pb_typing_tree.specs.InitialPlace.{initial_place}
+use Rattle.pb_typing_tree.proofs.Plain.{typed-plain}
+use Rattle.pb_typing.specs.declared.instance.Call.{Call}
+use Rattle.pb_typing.specs.Elaborated.{IsCall}
 use Rattle.pb_typing.specs.Typed.{IsLayout}
-use Rattle.pb_typing.proofs.Found.{found, not_found}
+use Rattle.pb_typing.proofs.FormulaSteps.{call_placed}
+use Rattle.pb_typing.proofs.Found.{found}
 
 abbrev first : List carriers.Carrier → carriers.Carrier
 first [] = []
@@ -75,12 +81,11 @@ tested S c x a v b ec ev eb =
     eb ∙ (ap (contains (values_of c)) ev ∙ (sym (may_have_of_some (values_of c) w (some_values c)) ∙ ap (λ (d : carriers.Carrier). may_have d w) ec))
 
 -- a fault of the first argument
-pub value_fault : (S : Spec) (c : Carrier) (cs : List Carrier) (a : Argument) (es : List Argument) (all : List Argument)
-    (allc : List Carrier) (xs : List Variable) (v : Value) (b : Bool) (e : OrMemory TypingFault)
+pub value_fault : (S : Spec) {c : Carrier} {cs allc : List Carrier} {a : Argument} {es all : List Argument} (xs : List Variable) {v : Value} {b : Bool} (e : OrMemory TypingFault)
     → allc ≡ c ∷ cs → all ≡ a ∷ es → map values_of allc ≡ carriers_of S xs
     → v ≡ value S [] (erased_term (term_form a.term)) → b ≡ contains (values_of c) v → IsAmong (unless b OutsideCarrier a.place) e
     → IsAmong (value_faults S (argument_forms all) xs) e
-value_fault S c cs a es all allc xs v b e ec ea m ev eb h =
+value_fault S {c} {cs} {allc} {a} {es} {all} xs {v} {b} e ec ea m ev eb h =
     let p = headed S c cs xs (sym (ap (map values_of) ec) ∙ m) in
     let same = tested S c p.head a v b p.carrier ev eb in
     let here : IsAmong (value_faults S (argument_forms (a ∷ es)) (p.head ∷ p.rest)) e =
@@ -99,11 +104,10 @@ later : (S : Spec) (a : Argument) (es : List Argument) (x : Variable) (xs : List
 later S a es x xs (Ok u) clear told = no_whole _ _ clear told
 later S a es x xs (Err e) clear told = among_right _ _ e told
 
-pub value_clear : (S : Spec) (c : Carrier) (cs : List Carrier) (a : Argument) (es : List Argument) (all : List Argument)
-    (allc : List Carrier) (xs : List Variable) (v : Value) (b : Bool) (r : Result (Unit {0}) (OrMemory TypingFault))
+pub value_clear : (S : Spec) {c : Carrier} {cs allc : List Carrier} {a : Argument} {es all : List Argument} (xs : List Variable) {v : Value} {b : Bool} (r : Result (Unit {0}) (OrMemory TypingFault))
     → allc ≡ c ∷ cs → all ≡ a ∷ es → map values_of allc ≡ carriers_of S xs → v ≡ value S [] (erased_term (term_form a.term)) → b ≡ contains (values_of c) v → unless b OutsideCarrier a.place ≡ []
     → ((ys : List Variable) → map values_of cs ≡ carriers_of S ys → Tells S es ys r) → Tells S all xs r
-value_clear S c cs a es all allc xs v b r ec ea m ev eb clear told =
+value_clear S {c} {cs} {allc} {a} {es} {all} xs {v} {b} r ec ea m ev eb clear told =
     let p = headed S c cs xs (sym (ap (map values_of) ec) ∙ m) in
     let same = tested S c p.head a v b p.carrier ev eb in
     let here = later S a es p.head p.rest r (ap (λ (t : Bool). unless t OutsideCarrier a.place) (sym same) ∙ clear) (told p.rest p.carriers) in
@@ -124,23 +128,18 @@ same_parameters : (S : Spec) (o : Option Equation) (cs : List carriers.Carrier) 
 same_parameters S None cs e = cc
 same_parameters S (Some X) cs e = cc
 
--- the carriers at the place of a name's equation are those of its parameters
-pub carriers_there : (S : Spec) (layout : List (List Carrier)) (x : Name) (k : ℕ) (cs : List Carrier) → IsLayout S layout → equation_place S x ≡ Some k → slice_get layout k ≡ Some cs
-    → map values_of cs ≡ carriers_of S (parameters_named (equation_named S.equations x))
-carriers_there S layout x k cs laid at there =
-    same_parameters S (equation_named S.equations x) (map values_of cs)
-    (ap (carriers_at S) (found (λ X. same_name X.name x) S.equations k at)
-    ∙ (sym (mapped S S.equations k)
-    ∙ (ap (λ (css : List (List carriers.Carrier)). slice_get css k) (sym laid.values) ∙ slice_get-carriers_of layout k cs there)))
+-- the parameters of an instance's equation
+abbrev pub parameters_of : Spec → InstanceForm → List Variable
+parameters_of S i = parameters_named (equation_named S.equations i.name.text)
 
--- where no equation has the name, no value is out of its carrier
-no_values : (S : Spec) (es : ArgumentForms) → value_faults S es [] ≡ []
-no_values S no_arguments = refl
-no_values S (argument p e es) = refl
-
-pub no_equation : (S : Spec) (x : Name) (es : ArgumentForms) → equation_place S x ≡ None → value_faults S es (parameters_named (equation_named S.equations x)) ≡ []
-no_equation S x es e =
-    ap (λ (o : Option Equation). value_faults S es (parameters_named o)) (not_found (λ X. same_name X.name x) S.equations e) ∙ no_values S es
+-- the carriers at the place of a call's equation are those of its parameters
+pub carriers_there : {S : Spec} {layout : List (List Carrier)} {a : Scope} {d : Slotting} {i : InstanceForm} {call : Call} {cs : List Carrier}
+    → IsLayout S layout → IsCall S a d i call → slice_get layout call.equation ≡ Some cs → map values_of cs ≡ carriers_of S (parameters_of S i)
+carriers_there {S} {layout} {a} {d} {i} {call} {cs} laid called there =
+    same_parameters S (equation_named S.equations i.name.text) (map values_of cs)
+    (ap (carriers_at S) (found (λ X. same_name X.name i.name.text) S.equations call.equation (call_placed called))
+    ∙ (sym (mapped S S.equations call.equation)
+    ∙ (ap (λ (css : List (List carriers.Carrier)). slice_get css call.equation) (sym laid.values) ∙ slice_get-carriers_of layout call.equation cs there)))
 
 -- ---- faults, and where there are none, other faults
 
@@ -155,19 +154,19 @@ arguments_fit S i ends e =
     let proper = instance_proper S ends true outermost i e in
     all_fit S outermost [] (erased_arguments i.arguments) (λ x. tt) (called_typed S outermost (erased_arguments i.arguments) (equation_named S.equations i.name.text) proper.1)
 
--- where it has none, an equation has its name
-pub some_equation : (S : Spec) (i : InstanceForm) → HaveEnds S → instance_faults S true outermost i ≡ [] → equation_place S i.name.text ≡ None → ⊥
-some_equation S i ends e none =
+-- it has no quantifier
+pub none_quantified : (S : Spec) (i : InstanceForm) → HaveEnds S → instance_faults S true outermost i ≡ [] → have_quantifier (erased_arguments i.arguments) ≡ false
+none_quantified S i ends e =
     let proper = instance_proper S ends true outermost i e in
-    not_called (equation_named S.equations i.name.text) (not_found (λ X. same_name X.name i.name.text) S.equations none) proper.1
+    all_plain (erased_arguments i.arguments) (called_typed S outermost (erased_arguments i.arguments) (equation_named S.equations i.name.text) proper.1)
   where
-    not_called : (o : Option Equation) → o ≡ None → IsCalled S outermost (erased_arguments i.arguments) o → ⊥
-    not_called None n h = h
-    not_called (Some X) n h = cc
+    all_plain : (xs : Terms) → AreTyped S outermost xs → have_quantifier xs ≡ false
+    all_plain Terms.NoTerms h = refl
+    all_plain (Terms.Then x xs) h = ap (λ (b : Bool). b || have_quantifier xs) (typed-plain S outermost x h.0) ∙ all_plain xs h.1
 
--- and it has an argument for each of that equation's parameters
-pub counted : (S : Spec) (i : InstanceForm) → HaveEnds S → instance_faults S true outermost i ≡ []
-    → count (erased_arguments i.arguments) ≡ length (parameters_named (equation_named S.equations i.name.text))
+-- and it has an argument for each of its equation's parameters
+counted : (S : Spec) (i : InstanceForm) → HaveEnds S → instance_faults S true outermost i ≡ []
+    → count (erased_arguments i.arguments) ≡ length (parameters_of S i)
 counted S i ends e =
     let proper = instance_proper S ends true outermost i e in
     each_counted (equation_named S.equations i.name.text) proper.1
@@ -176,18 +175,30 @@ counted S i ends e =
     each_counted None h = absurd h
     each_counted (Some X) h = h.0
 
--- as many carriers as parameters
-pub carriers_counted : (S : Spec) (cs : List Carrier) (xs : List Variable) → map values_of cs ≡ carriers_of S xs → length cs ≡ length xs
-carriers_counted S cs xs e =
-    sym (length-map cs values_of) ∙ (ap (λ (ds : List carriers.Carrier). length ds) e ∙ length-map xs (λ (x : Variable). carrier_of S x.sort))
+-- the faults of an instance that has none of its own are those of its values
+pub values_left : (S : Spec) (i : InstanceForm) (es : List Argument) → argument_forms es ≡ i.arguments → instance_faults S true outermost i ≡ []
+    → value_faults S (argument_forms es) (parameters_of S i) ≡ initial_faults S i
+values_left S i es are clear =
+    ap (λ (zs : ArgumentForms). value_faults S zs (parameters_of S i)) are
+    ∙ sym (ap (λ (fs : List TypingFault). and_then fs (value_faults S i.arguments (parameters_of S i))) clear)
+
+-- as many carriers as arguments
+pub carriers_counted : {S : Spec} {layout : List (List Carrier)} {a : Scope} {d : Slotting} {i : InstanceForm} {call : Call} {cs : List Carrier} → IsLayout S layout → IsCall S a d i call
+    → slice_get layout call.equation ≡ Some cs → HaveEnds S → instance_faults S true outermost i ≡ [] → length cs ≡ count (erased_arguments i.arguments)
+carriers_counted {S} {layout} {a} {d} {i} {call} {cs} laid called there ends clear =
+    sym (length-map cs values_of)
+    ∙ (ap (λ (ds : List carriers.Carrier). length ds) (carriers_there laid called there)
+    ∙ (length-map (parameters_of S i) (λ (x : Variable). carrier_of S x.sort) ∙ sym (counted S i ends clear)))
 
 -- ---- its place
 
 -- the place at which its equation is found is the first, and a byte holds it
-pub initial_found : (t : SpecForm) (k : ℕ) → declaration_faults t ≡ [] → equation_place (erase t) (erase t).initial ≡ Some k → (k ≡ initial_place (erase t)) × (k < MAX_EQUATIONS)
-initial_found t k e at =
-    let S = erase t in
-    let found = cond_some (nat_lt (initial_place S) (length S.equations)) (initial_place S) k at in
+pub initial_found : (d : Declarations) {t : SpecForm} {a : Scope} {c : Slotting} {call : Call} → text_of d ≡ t → IsCall (spec_of d) a c t.initial call
+    → (call.equation ≡ initial_place (spec_of d)) × (call.equation < MAX_EQUATIONS)
+initial_found d {t} {a} {c} {call} said called =
+    let S = spec_of d in
+    let at = ap (λ (u : SpecForm). equation_place S u.initial.name.text) said ∙ call_placed called in
+    let found = cond_some (nat_lt (initial_place S) (length S.equations)) (initial_place S) call.equation at in
     let below : initial_place S < length S.equations = ltb-true _ _ found.0 in
-    let few = (declared t e).few_equations in
+    let few = (declared (text_of d) d.faultless).few_equations in
     (sym found.1, omega (arith, below, few, found.1))

@@ -5,6 +5,7 @@ pub mod ValueFold
 pub mod ValueChains
 pub mod ValueMade
 pub mod ValueLemmas
+pub mod Bodies
 pub mod ValueNodes
 pub mod Found
 pub mod Calls

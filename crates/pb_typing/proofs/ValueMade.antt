@@ -1,6 +1,7 @@
 -- What the code builds.
-use Rattle.std.proofs.Common.{◌≡◌, ℕ, List, [], ◌∷◌, ◌++◌, map, length, sym, ◌∙◌, ap, Vec, Box, Global}
-use Rattle.std.specs.Prelude.{box_value, slice_index_or}
+use Rattle.std.proofs.Common.{◌≡◌, ℕ, List, [], ◌∷◌, ◌++◌, map, length, sym, ◌∙◌, ap, subst, Result, Ok, Vec, Box, Global}
+use Rattle.std.specs.Prelude.{box_value, slice_index_or, IfOk}
+use Rattle.std.specs.declared.alloc.AllocError.{AllocError}
 use Rattle.std.proofs.lemmas.List.{append-nil, append_assoc, map-append}
 use Rattle.pb_text_tree.specs.declared.operator.Connective.{Connective}
 use Rattle.pb_text_meaning.specs.Erase.{of_connective}
@@ -50,6 +51,14 @@ head-removed n (z ∷ zs) ys x h len e r = ap (λ y. y ∷ zs) (sym e) ∙ ap (�
 
 abbrev built : List formula.Formula → List term.Term → List Value
 built all none = map Whole (formula_views all) ++ map Data (term_views none)
+
+-- formulas to which tests and a formula were added
+pub tests_made : (old : List tree.Formula) (terms : List term.Term) (f : formula.Formula) {r : Result (Vec formula.Formula Global) AllocError} {all : Vec formula.Formula Global} → r ≡ Ok all
+    → IfOk r (λ (gs : Vec formula.Formula Global). formula_views gs.items ≡ old ++ (map Test (term_views terms) ++ formula_views (f ∷ [])))
+    → formula_views all.items ≡ old ++ (map Test (term_views terms) ++ (formula_view f ∷ []))
+tests_made old terms f is h =
+    subst (λ (s : Result (Vec formula.Formula Global) AllocError).
+    IfOk s (λ (gs : Vec formula.Formula Global). formula_views gs.items ≡ old ++ (map Test (term_views terms) ++ formula_views (f ∷ [])))) is h
 
 pub added-terms : (s : Joined) (v : declared_value.Value) (x : term.Term) (l : Vec term.Term Global) (f : formula.Formula) (old all : List formula.Formula) (none : List term.Term)
     → s ≡ state.Terms x l → v ≡ declared_value.TheVariants.Formula f → old ≡ [] → formula_views all ≡ formula_views old ++ (map Test (term_views l.items) ++ (formula_view f ∷ [])) → none ≡ []

@@ -18,15 +18,17 @@ use Rattle.pb_typing_rules.specs.Faults.{term_faults, terms_faults, function_fau
 use Rattle.pb_text_meaning.specs.Functions.{named_function}
 use Rattle.pb_base.specs.declared.or_memory.OrMemory.{OrMemory}
 use Rattle.pb_typing_tree.specs.declared.formula.Argument as typed
-use Rattle.pb_typing_tree.specs.Elaboration.{Slotting, slotted, applied_to_one, applied_to_two, applied_to_three}
+use Rattle.pb_typing_tree.specs.Elaboration.{applied_to_one, applied_to_two, applied_to_three}
 use Rattle.pb_typing_tree.specs.Tree as tree
 use Rattle.pb_typing_tree.specs.View.{shape_view, term_view}
 use Rattle.pb_typing_nodes.specs.declared.function.FunctionOfOne.{FunctionOfOne}
 use Rattle.pb_typing_nodes.specs.declared.function.Extreme.{Extreme}
-use Rattle.pb_typing_terms.specs.Terms.{ChecksTermIn}
+use Rattle.pb_typing_nodes.specs.declared.context.Context.{Context}
+use Rattle.pb_typing_nodes.specs.Contexts.{scope_in, text_in}
+use Rattle.pb_typing_terms.specs.Terms.{ChecksTerm}
 use Rattle.pb_typing_nodes.specs.Elaborated.{Elaborates}
 use Rattle.pb_typing_nodes.specs.Functions.{IsOfOne, IsOfTwo, IsChoice, view_of_one, term_of_one, extreme_operation, extreme_term}
-use Rattle.pb_typing_terms.proofs.Nodes.{IsChecked, elaborates_as}
+use Rattle.pb_typing_terms.proofs.Nodes.{IsChecked, elaborates_as, term_in}
 use Rattle.pb_typing_terms.proofs.FunctionArguments.{application_faults, arity_of_one, length-shapes}
 
 -- the function is g, and takes so many arguments
@@ -89,63 +91,63 @@ three_applied S a f xs g x y z s t u is these first second third =
 
 -- ---- with the typed terms
 
-pub one_node : (S : Spec) (a : Scope) (c : Slotting) (f : Named) (u : FunctionOfOne) (xs : List Argument) (x : Argument)
-    (y : typed.Argument) (r : Result typed.Argument (OrMemory TypingFault)) → IsOfOne S f.text u
-    → xs ≡ x ∷ [] → IsChecked S a c (term_form x.term) y
+pub one_node : (X : Context) (f : Named) (u : FunctionOfOne) (xs : List Argument) (x : Argument) (y : typed.Argument) (r : Result typed.Argument (OrMemory TypingFault))
+    → IsOfOne (text_in X) f.text u → xs ≡ x ∷ [] → IsChecked X (term_form x.term) y
     → Elaborates (kind_faults (view_of_one u) (shape_view y.shape ∷ []) f.place) (shape_of_one (view_of_one u) (shape_view y.shape)) (term_of_one u (term_view y.term)) r
-    → ChecksTermIn S a c (TermForm.application f (argument_forms xs)) r
-one_node S a c f u xs x y r is these h made =
+    → ChecksTerm X (TermForm.application f (argument_forms xs)) r
+one_node X f u xs x y r is these h made =
+    let S = text_in X in
     let g = view_of_one u in
     let s = shape_view y.shape in
-    let z = erased_term (term_form x.term) in
-    let all = one_applied S a f (x ∷ []) g x s (is.found, arity_of_one u) refl (h.0, h.1.0) in
-    subst (λ (ys : List Argument). ChecksTermIn S a c (TermForm.application f (argument_forms ys)) r) (sym these)
-    (elaborates_as (application_faults S a f (x ∷ [])) (kind_faults g (s ∷ []) f.place) (shape_of_one g s)
-    (applied_shape (function_named S f.text) (shapes S a (erased_arguments (argument_forms (x ∷ [])))))
-    (term_of_one u (term_view y.term)) (applied_to_one S f.text (named_function f.text) (slotted S c z)) r
-    all.faults (sym all.shape) (is.term (slotted S c z) ∙ ap (term_of_one u) (sym h.1.1)) made)
+    let z = term_in X (term_form x.term) in
+    let all = one_applied S (scope_in X) f (x ∷ []) g x s (is.found, arity_of_one u) refl (h.0, h.1.0) in
+    subst (λ (ys : List Argument). ChecksTerm X (TermForm.application f (argument_forms ys)) r) (sym these)
+    (elaborates_as (application_faults S (scope_in X) f (x ∷ [])) (kind_faults g (s ∷ []) f.place) (shape_of_one g s)
+    (applied_shape (function_named S f.text) (shapes S (scope_in X) (erased_arguments (argument_forms (x ∷ [])))))
+    (term_of_one u (term_view y.term)) (applied_to_one S f.text (named_function f.text) z) r
+    all.faults (sym all.shape) (is.term z ∙ ap (term_of_one u) (sym h.1.1)) made)
 
-pub two_node : (S : Spec) (a : Scope) (c : Slotting) (f : Named) (u : Extreme) (xs : List Argument) (x y : Argument)
-    (v w : typed.Argument) (r : Result typed.Argument (OrMemory TypingFault)) → IsOfTwo S f.text u
-    → xs ≡ x ∷ y ∷ [] → IsChecked S a c (term_form x.term) v → IsChecked S a c (term_form y.term) w
+pub two_node : (X : Context) (f : Named) (u : Extreme) (xs : List Argument) (x y : Argument) (v w : typed.Argument) (r : Result typed.Argument (OrMemory TypingFault))
+    → IsOfTwo (text_in X) f.text u → xs ≡ x ∷ y ∷ [] → IsChecked X (term_form x.term) v → IsChecked X (term_form y.term) w
     → Elaborates (kind_faults (OfTwo (extreme_operation u)) (shape_view v.shape ∷ shape_view w.shape ∷ []) f.place)
     (binary_shape (extreme_operation u) (shape_view v.shape) (shape_view w.shape))
     (extreme_term u (term_view v.term) (term_view w.term)) r
-    → ChecksTermIn S a c (TermForm.application f (argument_forms xs)) r
-two_node S a c f u xs x y v w r is these h k made =
+    → ChecksTerm X (TermForm.application f (argument_forms xs)) r
+two_node X f u xs x y v w r is these h k made =
+    let S = text_in X in
     let g = OfTwo (extreme_operation u) in
     let s = shape_view v.shape in
     let t = shape_view w.shape in
-    let X = slotted S c (erased_term (term_form x.term)) in
-    let Y = slotted S c (erased_term (term_form y.term)) in
-    let all = two_applied S a f (x ∷ y ∷ []) g x y s t (is.found, refl) refl (h.0, h.1.0) (k.0, k.1.0) in
-    subst (λ (ys : List Argument). ChecksTermIn S a c (TermForm.application f (argument_forms ys)) r) (sym these)
-    (elaborates_as (application_faults S a f (x ∷ y ∷ [])) (kind_faults g (s ∷ t ∷ []) f.place)
+    let first = term_in X (term_form x.term) in
+    let second = term_in X (term_form y.term) in
+    let all = two_applied S (scope_in X) f (x ∷ y ∷ []) g x y s t (is.found, refl) refl (h.0, h.1.0) (k.0, k.1.0) in
+    subst (λ (ys : List Argument). ChecksTerm X (TermForm.application f (argument_forms ys)) r) (sym these)
+    (elaborates_as (application_faults S (scope_in X) f (x ∷ y ∷ [])) (kind_faults g (s ∷ t ∷ []) f.place)
     (binary_shape (extreme_operation u) s t)
-    (applied_shape (function_named S f.text) (shapes S a (erased_arguments (argument_forms (x ∷ y ∷ [])))))
-    (extreme_term u (term_view v.term) (term_view w.term)) (applied_to_two (named_function f.text) X Y) r
+    (applied_shape (function_named S f.text) (shapes S (scope_in X) (erased_arguments (argument_forms (x ∷ y ∷ [])))))
+    (extreme_term u (term_view v.term) (term_view w.term)) (applied_to_two (named_function f.text) first second) r
     all.faults (sym all.shape)
-    (is.term X Y ∙ (ap (λ (p : tree.Term). extreme_term u p Y) (sym h.1.1) ∙ ap (extreme_term u (term_view v.term)) (sym k.1.1))) made)
+    (is.term first second ∙ (ap (λ (p : tree.Term). extreme_term u p second) (sym h.1.1) ∙ ap (extreme_term u (term_view v.term)) (sym k.1.1))) made)
 
-pub choice_node : (S : Spec) (a : Scope) (c : Slotting) (f : Named) (xs : List Argument) (q x y : Argument)
-    (o v w : typed.Argument) (r : Result typed.Argument (OrMemory TypingFault)) → IsChoice S f.text
-    → xs ≡ q ∷ x ∷ y ∷ [] → IsChecked S a c (term_form q.term) o → IsChecked S a c (term_form x.term) v → IsChecked S a c (term_form y.term) w
+pub choice_node : (X : Context) (f : Named) (xs : List Argument) (q x y : Argument) (o v w : typed.Argument) (r : Result typed.Argument (OrMemory TypingFault))
+    → IsChoice (text_in X) f.text → xs ≡ q ∷ x ∷ y ∷ [] → IsChecked X (term_form q.term) o → IsChecked X (term_form x.term) v → IsChecked X (term_form y.term) w
     → Elaborates (kind_faults Choice (shape_view o.shape ∷ shape_view v.shape ∷ shape_view w.shape ∷ []) f.place)
     (hull (shape_view v.shape) (shape_view w.shape)) (tree.Choice (term_view o.term) (term_view v.term) (term_view w.term)) r
-    → ChecksTermIn S a c (TermForm.application f (argument_forms xs)) r
-choice_node S a c f xs q x y o v w r is these l h k made =
+    → ChecksTerm X (TermForm.application f (argument_forms xs)) r
+choice_node X f xs q x y o v w r is these l h k made =
+    let S = text_in X in
     let b = shape_view o.shape in
     let s = shape_view v.shape in
     let t = shape_view w.shape in
-    let Q = slotted S c (erased_term (term_form q.term)) in
-    let X = slotted S c (erased_term (term_form x.term)) in
-    let Y = slotted S c (erased_term (term_form y.term)) in
-    let all = three_applied S a f (q ∷ x ∷ y ∷ []) Choice q x y b s t (is.found, refl) refl (l.0, l.1.0) (h.0, h.1.0) (k.0, k.1.0) in
-    subst (λ (ys : List Argument). ChecksTermIn S a c (TermForm.application f (argument_forms ys)) r) (sym these)
-    (elaborates_as (application_faults S a f (q ∷ x ∷ y ∷ [])) (kind_faults Choice (b ∷ s ∷ t ∷ []) f.place) (hull s t)
-    (applied_shape (function_named S f.text) (shapes S a (erased_arguments (argument_forms (q ∷ x ∷ y ∷ [])))))
-    (tree.Choice (term_view o.term) (term_view v.term) (term_view w.term)) (applied_to_three (named_function f.text) Q X Y) r
+    let test = term_in X (term_form q.term) in
+    let first = term_in X (term_form x.term) in
+    let second = term_in X (term_form y.term) in
+    let all = three_applied S (scope_in X) f (q ∷ x ∷ y ∷ []) Choice q x y b s t (is.found, refl) refl (l.0, l.1.0) (h.0, h.1.0) (k.0, k.1.0) in
+    subst (λ (ys : List Argument). ChecksTerm X (TermForm.application f (argument_forms ys)) r) (sym these)
+    (elaborates_as (application_faults S (scope_in X) f (q ∷ x ∷ y ∷ [])) (kind_faults Choice (b ∷ s ∷ t ∷ []) f.place) (hull s t)
+    (applied_shape (function_named S f.text) (shapes S (scope_in X) (erased_arguments (argument_forms (q ∷ x ∷ y ∷ [])))))
+    (tree.Choice (term_view o.term) (term_view v.term) (term_view w.term)) (applied_to_three (named_function f.text) test first second) r
     all.faults (sym all.shape)
-    (is.term Q X Y
-    ∙ (ap (λ (p : tree.Term). tree.Choice p X Y) (sym l.1.1)
-    ∙ (ap (λ (p : tree.Term). tree.Choice (term_view o.term) p Y) (sym h.1.1) ∙ ap (tree.Choice (term_view o.term) (term_view v.term)) (sym k.1.1)))) made)
+    (is.term test first second
+    ∙ (ap (λ (p : tree.Term). tree.Choice p first second) (sym l.1.1)
+    ∙ (ap (λ (p : tree.Term). tree.Choice (term_view o.term) p second) (sym h.1.1) ∙ ap (tree.Choice (term_view o.term) (term_view v.term)) (sym k.1.1)))) made)

@@ -1,5 +1,5 @@
 -- A function's arguments.
-use Rattle.std.proofs.Common.{◌≡◌, ℕ, zero, suc, ◌<◌, ◌≤◌, Bool, false, List, [], ◌∷◌, ◌++◌, length, get_or, refl, sym, ◌∙◌, ap, subst, arith, Option, Some}
+use Rattle.std.proofs.Common.{◌≡◌, ℕ, zero, suc, ◌<◌, Bool, false, List, [], ◌∷◌, ◌++◌, length, get_or, refl, sym, ◌∙◌, ap, subst, arith, Option, Some}
 use Rattle.std.specs.Prelude.{◌==◌}
 use Rattle.pb_text_tree.specs.declared.term.Argument.{Argument}
 use Rattle.pb_text_tree.specs.Form.{Named, term_form, argument_forms}
@@ -14,6 +14,8 @@ use Rattle.pb_typing_rules.specs.Scope.{Scope}
 use Rattle.pb_typing_rules.specs.Term.{shapes}
 use Rattle.pb_typing_rules.specs.Faults.{term_faults, terms_faults, function_faults}
 use Rattle.pb_typing_declarations.proofs.Parts.{among_left, among_right}
+use Rattle.pb_typing_nodes.specs.declared.context.Context.{Context}
+use Rattle.pb_typing_nodes.specs.Contexts.{scope_in, text_in}
 use Rattle.pb_typing_nodes.specs.declared.function.Function as declared
 use Rattle.pb_typing_nodes.specs.declared.function.FunctionOfOne.{FunctionOfOne}
 use Rattle.pb_typing_nodes.specs.declared.function.FunctionOfOne.TheVariants as of_one
@@ -23,25 +25,24 @@ pub length-shapes : (S : Spec) (a : Scope) (xs : List Argument) → length (shap
 length-shapes S a [] = refl
 length-shapes S a (x ∷ xs) = ap suc (length-shapes S a xs)
 
-pub one_argument : (xs : List Argument) (x : Argument) → 1 ≤ length xs → length xs < 2 → x ≡ get_or xs 0 x → xs ≡ x ∷ []
-one_argument [] x l b is = absurd (omega (arith, l))
-one_argument (y ∷ []) x l b is = ap (λ (z : Argument). z ∷ []) (sym is)
-one_argument (y ∷ (z ∷ xs)) x l b is = absurd (omega (arith, b))
+-- so many arguments are those at their places
+pub one_argument : (xs : List Argument) (d : Argument) → length xs ≡ 1 → xs ≡ get_or xs 0 d ∷ []
+one_argument [] d count = absurd (omega (arith, count))
+one_argument (x ∷ []) d count = refl
+one_argument (x ∷ (y ∷ xs)) d count = absurd (omega (arith, count))
 
-pub two_arguments : (xs : List Argument) (x y : Argument) → 2 ≤ length xs → length xs < 3 → x ≡ get_or xs 0 x → y ≡ get_or xs 1 y → xs ≡ x ∷ y ∷ []
-two_arguments [] x y l b is at = absurd (omega (arith, l))
-two_arguments (u ∷ []) x y l b is at = absurd (omega (arith, l))
-two_arguments (u ∷ (v ∷ [])) x y l b is at = ap (λ (z : Argument). z ∷ v ∷ []) (sym is) ∙ ap (λ (z : Argument). x ∷ z ∷ []) (sym at)
-two_arguments (u ∷ (v ∷ (w ∷ xs))) x y l b is at = absurd (omega (arith, b))
+pub two_arguments : (xs : List Argument) (d e : Argument) → length xs ≡ 2 → xs ≡ get_or xs 0 d ∷ get_or xs 1 e ∷ []
+two_arguments [] d e count = absurd (omega (arith, count))
+two_arguments (x ∷ []) d e count = absurd (omega (arith, count))
+two_arguments (x ∷ (y ∷ [])) d e count = refl
+two_arguments (x ∷ (y ∷ (z ∷ xs))) d e count = absurd (omega (arith, count))
 
-pub three_arguments : (xs : List Argument) (x y z : Argument) → 3 ≤ length xs → length xs < 4 → x ≡ get_or xs 0 x → y ≡ get_or xs 1 y → z ≡ get_or xs 2 z → xs ≡ x ∷ y ∷ z ∷ []
-three_arguments [] x y z l b is at on = absurd (omega (arith, l))
-three_arguments (u ∷ []) x y z l b is at on = absurd (omega (arith, l))
-three_arguments (u ∷ (v ∷ [])) x y z l b is at on = absurd (omega (arith, l))
-three_arguments (u ∷ (v ∷ (w ∷ []))) x y z l b is at on =
-    ap (λ (s : Argument). s ∷ v ∷ w ∷ []) (sym is)
-    ∙ (ap (λ (s : Argument). x ∷ s ∷ w ∷ []) (sym at) ∙ ap (λ (s : Argument). x ∷ y ∷ s ∷ []) (sym on))
-three_arguments (u ∷ (v ∷ (w ∷ (s ∷ xs)))) x y z l b is at on = absurd (omega (arith, b))
+pub three_arguments : (xs : List Argument) (d e f : Argument) → length xs ≡ 3 → xs ≡ get_or xs 0 d ∷ get_or xs 1 e ∷ get_or xs 2 f ∷ []
+three_arguments [] d e f count = absurd (omega (arith, count))
+three_arguments (x ∷ []) d e f count = absurd (omega (arith, count))
+three_arguments (x ∷ (y ∷ [])) d e f count = absurd (omega (arith, count))
+three_arguments (x ∷ (y ∷ (z ∷ []))) d e f count = refl
+three_arguments (x ∷ (y ∷ (z ∷ (w ∷ xs)))) d e f count = absurd (omega (arith, count))
 
 -- all faults of a function with its arguments
 abbrev pub application_faults : Spec → Scope → Named → List Argument → List TypingFault
@@ -58,10 +59,11 @@ terms_fault S a (y ∷ xs) zero x e below at h =
 terms_fault S a (y ∷ xs) (suc k) x e below at h =
     among_right (term_faults S false a (term_form y.term)) _ e (terms_fault S a xs k x e (omega (arith, below)) at h)
 
-pub argument_fault : (S : Spec) (a : Scope) (f : Named) (xs : List Argument) (k : ℕ) (x : Argument)
-    (e : OrMemory TypingFault) → k < length xs → x ≡ get_or xs k x
-    → IsAmong (term_faults S false a (term_form x.term)) e → IsAmong (application_faults S a f xs) e
-argument_fault S a f xs k x e below at h = among_left (terms_faults S a (argument_forms xs)) _ e (terms_fault S a xs k x e below at h)
+pub argument_among : (X : Context) (f : Named) (xs : List Argument) (k : ℕ) {d : Argument} (e : OrMemory TypingFault) → k < length xs → d ≡ get_or xs k d
+    → IsAmong (term_faults (text_in X) false (scope_in X) (term_form (get_or xs k d).term)) e → IsAmong (application_faults (text_in X) (scope_in X) f xs) e
+argument_among X f xs k {d} e below at h =
+    among_left (terms_faults (text_in X) (scope_in X) (argument_forms xs)) _ e
+    (terms_fault (text_in X) (scope_in X) xs k (get_or xs k d) e below (ap (get_or xs k) at) h)
 
 -- which function it is, and how many arguments it takes
 pub record IsKnown (S : Spec) (x : Name) (n : ℕ) : Type 0 where

@@ -3,4 +3,4 @@ pub mod Links
 pub mod Nodes
 pub mod FunctionArguments
 pub mod Applications
-pub mod DataLemmas
+pub mod OperandSteps

@@ -14,8 +14,10 @@ use Rattle.pb_text_meaning.specs.Syntax.{Spec}
 use Rattle.pb_text_meaning.specs.Erase.{erased_term, of_connective}
 use Rattle.pb_typing_declarations.specs.declared.fault.TypingRule.TheVariants as rule
 use Rattle.pb_typing_declarations.specs.declared.fault.TypingFault.{TypingFault}
-use Rattle.pb_typing_declarations.specs.Faults.{unless}
+use Rattle.pb_base.specs.declared.or_memory.OrMemory.{OrMemory}
+use Rattle.pb_typing_declarations.specs.Faults.{unless, IsAmong}
 use Rattle.pb_typing_declarations.specs.Shapes.{Shape, Truths}
+use Rattle.pb_typing_declarations.proofs.Parts.{among_left, among_right, first_clear}
 use Rattle.pb_typing_rules.specs.Shapes.{may_be_truth, OperatorKind, kind_of, Computed, outcome, binary_shape}
 use Rattle.pb_typing_rules.specs.Scope.{Scope}
 use Rattle.pb_typing_rules.specs.Term.{shape}
@@ -61,6 +63,12 @@ chained-faults spec stands scope c first (l ∷ (m ∷ ls)) =
     ∙ (append-nil (term_faults spec stands scope rest) ∙ chained-faults spec stands scope c (term_form l.operand) (m ∷ ls)))
     ∙ sym (append_assoc u (t ++ []) others ∙ ap (λ (zs : List TypingFault). u ++ zs) (append_assoc t [] others)))
 
+-- where the first operand has no fault, all are those of the others
+pub others_faults : (S : Spec) (stands : Bool) (a : Scope) (c : Connective) (first : TermForm) (links : List TermLink) {s : Shape} → term_faults S stands a first ≡ []
+    → s ≡ shape S a (erased_term first) → term_faults S stands a (chained (TermForm.connected c) first (term_links links)) ≡ link_faults S stands a s links
+others_faults S stands a c first links none is =
+    first_clear _ _ _ (chained-faults S stands a c first links) none ∙ ap (λ (t : Shape). link_faults S stands a t links) (sym is)
+
 -- ---- operand by operand
 
 pub some_left : (links : List TermLink) (n : ℕ) → nat_lt n (length links) ≡ is_some_link (drop n links)
@@ -77,6 +85,12 @@ links_next S st a s links k link below at =
     let rest = link_faults S st a (operand_shape S a link) (drop (k + 1) links) in
     ap (link_faults S st a s) (drop-at links k link below at)
     ∙ ap (λ (b : Bool). own_faults S st a s link b ++ rest) (sym (some_left links (k + 1)))
+
+-- a fault of an operand itself is one of its link
+pub operand_among : (S : Spec) (stands : Bool) (a : Scope) (s : Shape) (link : TermLink) (more : Bool) (e : OrMemory TypingFault)
+    → IsAmong (term_faults S stands a (term_form link.operand)) e → IsAmong (own_faults S stands a s link more) e
+operand_among S stands a s link more e h =
+    among_right (unless (may_be_truth s) rule.WrongKind link.place) _ e (among_left (term_faults S stands a (term_form link.operand)) _ e h)
 
 -- ---- arithmetic
 

@@ -106,7 +106,10 @@ operand_lighter [] k link lt at = absurd (omega arith)
 operand_lighter (l ∷ links) zero link lt at = omega (arith, ap (λ (m : ArithmeticLink). weight m.operand) at)
 operand_lighter (l ∷ links) (suc k) link lt at = omega (arith, operand_lighter links k link (omega arith) at)
 
-pub argument_lighter : (xs : List Argument) (k : ℕ) (x : Argument) → k < length xs → x ≡ get_or xs k x → weight x.term < arguments_weight xs + 1
+argument_lighter : (xs : List Argument) (k : ℕ) (x : Argument) → k < length xs → x ≡ get_or xs k x → weight x.term < arguments_weight xs + 1
 argument_lighter [] k x lt at = absurd (omega arith)
 argument_lighter (y ∷ xs) zero x lt at = omega (arith, ap (λ (z : Argument). weight z.term) at)
 argument_lighter (y ∷ xs) (suc k) x lt at = omega (arith, argument_lighter xs k x (omega arith) at)
+
+pub lighter_at : (xs : List Argument) (k : ℕ) {d : Argument} → k < length xs → d ≡ get_or xs k d → weight (get_or xs k d).term < arguments_weight xs + 1
+lighter_at xs k {d} below at = argument_lighter xs k (get_or xs k d) below (ap (get_or xs k) at)

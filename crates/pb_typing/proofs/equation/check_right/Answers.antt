@@ -43,11 +43,10 @@ counted S groups carriers are =
 
 pub declare_variables-requires : goal.declare_variables-requires
 declare_variables-requires c =
-    let S = spec_of c.args.declarations.now in
-    let groups = c.args.equation.now.parameters.items in
-    let count = counted S groups c.args.parameters.now c.requires.parameters in
-    let forms = length-map (variable_forms groups) erased_variable in
-    let same : length (variable_forms c.deref.result.now) ≡ length (variable_forms groups) = ap (λ (gs : List Variables). length (variable_forms gs)) c.deref.ensures.value in
+    let count = counted (spec_of c.args.declarations.now) c.args.equation.now.parameters.items c.args.parameters.now c.requires.parameters in
+    let forms = length-map (variable_forms c.args.equation.now.parameters.items) erased_variable in
+    let same : length (variable_forms c.deref.result.now) ≡ length (variable_forms c.args.equation.now.parameters.items) =
+    ap (λ (gs : List Variables). length (variable_forms gs)) c.deref.ensures.value in
     omega (arith, count, forms, same)
 
 pub returns : goal.returns

@@ -1,6 +1,4 @@
 use Rattle.std.proofs.Common.{◌+◌, ◌*◌}
-use Rattle.pb_typing_declarations.specs.View.{spec_of}
-use Rattle.pb_typing_nodes.specs.Scopes.{scope_view, slotting}
 use Rattle.pb_typing.specs.View.{is_positive}
 use Rattle.pb_typing.proofs.FormulaSteps.{AreDone}
 use Rattle.pb_typing.proofs.FormulaWeight.{weight, links_weight}
@@ -17,5 +15,4 @@ decreases-check_links l = 2 * links_weight l.links.now + 1
 
 abbrev pub invariant-check_links-loop-index : goal.invariant-check_links-loop-index
 invariant-check_links-loop-index l =
-    AreDone (spec_of l.context.declarations.now) (scope_view l.context.scope.now) (slotting l.context.scope.now)
-    l.connective (is_positive l.polarity) l.links l.fn.carriers.items l.index l.operands.items l.carriers.items
+    AreDone l.context l.connective (is_positive l.polarity) l.links l.fn.carriers.items l.index l.operands.items l.carriers.items

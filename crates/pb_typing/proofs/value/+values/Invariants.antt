@@ -1,7 +1,5 @@
 use Rattle.std.proofs.Common.{◌+◌, ◌*◌}
-use Rattle.pb_typing_declarations.specs.View.{spec_of}
 use Rattle.pb_typing_tree.specs.View.{shape_view}
-use Rattle.pb_typing_nodes.specs.Scopes.{scope_view, slotting}
 use Rattle.pb_typing.proofs.ValueNodes.{AreDone}
 use Rattle.pb_typing_terms.proofs.Weight.{weight, links_weight}
 use Rattle.pb_typing.proofs.value.+values.Given as goal
@@ -26,5 +24,4 @@ decreases-check_link l = 3 * weight l.link.now.operand + 1
 
 abbrev pub invariant-check_links-loop-index : goal.invariant-check_links-loop-index
 invariant-check_links-loop-index l =
-    AreDone (spec_of l.context.declarations.now) (scope_view l.context.scope.now) (slotting l.context.scope.now) l.links
-    (shape_view l.fn.first) (shape_view l.left) l.fn.carriers.items l.index l.operands.items l.carriers.items
+    AreDone l.context l.links (shape_view l.fn.first) (shape_view l.left) l.fn.carriers.items l.index l.operands.items l.carriers.items
