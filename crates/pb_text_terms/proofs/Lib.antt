@@ -2,6 +2,7 @@ pub mod VariableLemmas
 pub mod TermLemmas
 pub mod ReadLemmas
 pub mod LevelLemmas
+pub mod TermSteps
 pub mod CorrectVariable
 pub mod CorrectOperators
 pub mod TermStarts

@@ -1,5 +1,4 @@
-use Rattle.std.proofs.Common.{rules, arith, ◌≡◌, ◌<◌, ◌≤◌, ◌-◌, ◌&&◌, suc, length, map, true, false, vec_len, ◌∙◌, ap, sym, subst, refl, Ok}
-use Rattle.std.proofs.lemmas.Result.{err_from_is_err_and}
+use Rattle.std.proofs.Common.{rules, arith, ◌≡◌, ◌<◌, ◌≤◌, ◌-◌, ℕ, suc, length, map, true, false, vec_len, ◌∙◌, ap, sym, subst, refl, Ok}
 use Rattle.std.proofs.lemmas.Bool.{and_parts}
 use Rattle.std.proofs.lemmas.List.{map_push}
 use Rattle.pb_base.proofs.Faults.{if_fault}
@@ -8,145 +7,151 @@ use Rattle.pb_text_lexer.specs.declared.kind.Kind.TheVariants as k
 use Rattle.pb_text_lexer.specs.Kinds.{same_kind}
 use Rattle.pb_text_lexer.specs.Steps.{kind, take_token, nothing_between}
 use Rattle.pb_text_lexer.specs.Tokens.{tok}
-use Rattle.pb_text_lexer.proofs.LoopLemmas.{gathered-more, gathered-end, gathered-item-fails, resumed-first, resumed-more, resumed-end, resumed-operator-fails, resumed-operand-fails}
+use Rattle.pb_text_lexer.proofs.LoopLemmas.{resumed-first, resumed-more, resumed-end, resumed-operator-fails, resumed-operand-fails}
 use Rattle.pb_text_terms.specs.declared.level.Level.{Level}
-use Rattle.pb_text_terms.specs.declared.level.Operator.TheVariants.{Arithmetic, Relation, Connective}
+use Rattle.pb_text_terms.specs.declared.level.Operator.TheVariants.{Arithmetic, Connective}
 use Rattle.pb_text_terms.specs.Levels.{operator_of, level_of, operand_level, rank, may_quantify, is_related}
-use Rattle.pb_text_terms.specs.Operators.{symbol, is_quantifier, compared_by, arithmetic_of}
-use Rattle.pb_text_terms.specs.Reading.{term, placed, argument_pair, is_comma, is_open, operation, operations, is_among, is_mixed, at}
-use Rattle.pb_text_terms.proofs.ReadLemmas.{sign-fails, right-fails, right-goes-on, both-read, operation-fails, operation-operand-fails, operation-read, arguments-fail, arguments-again, arguments-read, arguments-is, begun-at, inner-fails, name-is, unary-other, placed-fails, placed-read}
-use Rattle.pb_text_terms.proofs.LevelLemmas.{may-above, skips-to, before-operator, operator-fails, lowest-quantified, quantified-fails, first-fails-as, first-or-fails, connects, calculation-fails, calculation-mixed, calculation-read, relation-is, connection-is}
+use Rattle.pb_text_terms.specs.Operators.{symbol, is_quantifier, arithmetic_of}
+use Rattle.pb_text_terms.specs.Reading.{term, placed, argument_list, argument_pair, is_comma, is_open, operation, operations, is_among, is_mixed, at}
+use Rattle.pb_text_terms.proofs.ReadLemmas.{operation-fails, operation-operand-fails, operation-read, arguments-is, begun-at, inner-fails, name-is, unary-other, placed-fails, placed-read}
+use Rattle.pb_text_terms.proofs.LevelLemmas.{may-above, skips-to, before-operator, operator-fails, lowest-quantified, quantified-fails, first-fails-as, first-or-fails, connects}
+use Rattle.pb_text_terms.proofs.LevelLemmas.{calculation-fails, calculation-mixed, calculation-read, connection-is}
+use Rattle.pb_text_terms.proofs.TermSteps.{IsGathering, IsOpened, error-is, read-at, gathering-fails, gathering-ends, gathering-goes-on, opened-fails, opened-closes}
+use Rattle.pb_text_terms.proofs.TermSteps.{relation-sign-fails, relation-right-fails, relation-goes-on, relation-read}
 use Rattle.pb_text_terms.proofs.+terms.Goals as goal
+use Rattle.pb_text_terms.proofs.+terms.Goals.{instance::argument_list-After-place-place, instance::argument_list-After-push, instance::instance-After-argument_list}
+use Rattle.pb_text_terms.proofs.+terms.Goals.{chain::operations-After-take_operator, chain::operations-After-push, chain::connected_by-After-take_operator}
+
+-- ---- names with arguments
+
+arguments_so_far : (t : ℕ) (c : instance::argument_list-After-place-place t)
+    → IsGathering (placed (term c.args.depth)) is_comma take_token (argument_list (term c.args.depth) c.args.input.now) (map argument_pair c.arguments.arguments.items)
+    (suc (length c.args.input.now.tokens) - vec_len c.arguments.arguments) c.arguments.input
+arguments_so_far t c = record { reads = c.arguments.invariant.reads }
+
+argument_read : (t : ℕ) (c : instance::argument_list-After-push t)
+    → placed (term c.args.depth) c.arguments.input ≡ Ok ((c.place-place.result, term_form c.in_ok-term.term), c.term_at.new.input)
+argument_read t c =
+    placed-read (term c.args.depth) c.arguments.input c.term_at.new.input c.place-place.result (term_form c.in_ok-term.term) c.place-place.ensures c.in_ok-term.ensures.reads
 
 pub instance::argument_list-returns-in_err-term-clause-reads : goal.instance::argument_list-returns-in_err-term-clause-reads
 instance::argument_list-returns-in_err-term-clause-reads t c =
-    let p = err_from_is_err_and c.from_residual-in_err-term.result c.from_residual-in_err-term.ensures.1 in
-    rw (p.1, p.2)
+    let g = arguments_so_far t (goal.at.instance::argument_list-returns-in_err-term-clause-reads t c).After-place-place in
+    rw (error-is c.from_residual-in_err-term.result _ c.from_residual-in_err-term.ensures.1)
     (if_fault c.in_err-term.field-0.0
-    (λ bad e. c.arguments.invariant.reads
-    ∙ gathered-item-fails (placed (term c.args.depth)) is_comma take_token
-    (map argument_pair c.arguments.arguments.items)
-    (suc (length c.args.input.now.tokens) - vec_len c.arguments.arguments)
-    (length c.args.input.now.tokens - vec_len c.arguments.arguments) c.arguments.input bad (omega arith)
-    (placed-fails (term c.args.depth) c.arguments.input bad e)) c.in_err-term.ensures.reads)
+    (λ bad e. gathering-fails g (length c.args.input.now.tokens - vec_len c.arguments.arguments) bad (omega arith) (placed-fails (term c.args.depth) c.arguments.input bad e))
+    c.in_err-term.ensures.reads)
 
 pub instance::argument_list-returns-then-not-same_kind-clause-reads : goal.instance::argument_list-returns-then-not-same_kind-clause-reads
 instance::argument_list-returns-then-not-same_kind-clause-reads t c =
+    let place = goal.at.instance::argument_list-returns-then-not-same_kind-clause-reads t c in
     let stops : is_comma (kind c.term_at.new.input) ≡ false = search rules in
-    let end = gathered-end (placed (term c.args.depth)) is_comma take_token
-    (map argument_pair c.arguments.arguments.items)
-    (suc (length c.args.input.now.tokens) - vec_len c.arguments.arguments)
-    (length c.args.input.now.tokens - vec_len c.arguments.arguments) c.arguments.input c.term_at.new.input
-    (c.place-place.result, term_form c.in_ok-term.term) (omega arith)
-    (placed-read (term c.args.depth) c.arguments.input c.term_at.new.input c.place-place.result
-    (term_form c.in_ok-term.term) c.place-place.ensures c.in_ok-term.ensures.reads) stops in
-    rw (c.in_ok-push.ensures.items, map_push) (c.arguments.invariant.reads ∙ end)
+    let left = length c.args.input.now.tokens - vec_len c.arguments.arguments in
+    rw (c.in_ok-push.ensures.items, map_push) (gathering-ends (arguments_so_far t place.After-place-place) left (omega arith) (argument_read t place.After-push) stops)
 
 pub instance::argument_list-arguments-preserved : goal.instance::argument_list-arguments-preserved
 instance::argument_list-arguments-preserved t c =
+    let place = goal.at.instance::argument_list-arguments-preserved t c in
     let goes : is_comma (kind c.term_at.new.input) ≡ true = search rules in
     let more =
-    gathered-more (placed (term c.args.depth)) is_comma take_token (map argument_pair c.arguments.arguments.items)
-    (suc (length c.args.input.now.tokens) - vec_len c.arguments.arguments)
-    (suc (length c.args.input.now.tokens) - vec_len c.push.new.self) c.arguments.input c.term_at.new.input c.take.new.self
-    (c.place-place.result, term_form c.in_ok-term.term) (tok c.take.result)
-    (omega (arith, c.in_ok-push.ensures.len, c.in_ok-term.ensures.fewer))
-    (placed-read (term c.args.depth) c.arguments.input c.term_at.new.input c.place-place.result
-    (term_form c.in_ok-term.term) c.place-place.ensures c.in_ok-term.ensures.reads) goes c.take.ensures.reads in
+    gathering-goes-on (arguments_so_far t place.After-place-place) (suc (length c.args.input.now.tokens) - vec_len c.push.new.self)
+    (omega (arith, c.in_ok-push.ensures.len, c.in_ok-term.ensures.fewer)) (argument_read t place.After-push) goes c.take.ensures.reads in
     record {
-      reads = rw (c.in_ok-push.ensures.items, map_push) (c.arguments.invariant.reads ∙ more);
+      reads = rw (c.in_ok-push.ensures.items, map_push) more;
       room = omega (arith, c.in_ok-push.ensures.len, c.in_ok-term.ensures.fewer, c.take.ensures.fewer);
     }
 
+opened : (t : ℕ) (c : instance::instance-After-argument_list t) → IsOpened c.args.depth c.args.input.now c.enter.new.self (named c.in_ok-name.name)
+opened t c = record {
+  some = c.in_ok-enter.ensures.deeper;
+  between = c.name.new.input;
+  bracket = tok c.in_ok-enter.field-0;
+  named = c.in_ok-name.ensures.reads;
+  opens = search rules;
+  entered = c.in_ok-enter.ensures.reads;
+}
+
 pub instance::instance-returns-in_err-arguments-clause-reads : goal.instance::instance-returns-in_err-arguments-clause-reads
 instance::instance-returns-in_err-arguments-clause-reads t c =
-    let opens : is_open (kind c.name.new.input) ≡ true = search rules in
-    let p = err_from_is_err_and c.from_residual-in_err-arguments.result c.from_residual-in_err-arguments.ensures.1 in
-    rw (p.1, p.2)
-    (if_fault c.in_err-arguments.field-0.0
-    (λ bad e. arguments-fail c.args.depth c.in_ok-enter.ensures.deeper c.args.input.now c.name.new.input
-    c.enter.new.self (named c.in_ok-name.name) (tok c.in_ok-enter.field-0) c.in_ok-name.ensures.reads opens
-    c.in_ok-enter.ensures.reads bad e) c.in_err-arguments.ensures.reads)
+    let h = opened t (goal.at.instance::instance-returns-in_err-arguments-clause-reads t c).After-argument_list in
+    rw (error-is c.from_residual-in_err-arguments.result _ c.from_residual-in_err-arguments.ensures.1)
+    (opened-fails h c.in_err-arguments.field-0.0 c.in_err-arguments.ensures.reads)
 
 pub instance::instance-returns-then-same_kind-clause-reads : goal.instance::instance-returns-then-same_kind-clause-reads
 instance::instance-returns-then-same_kind-clause-reads t c =
-    let opens : is_open (kind c.name.new.input) ≡ true = search rules in
+    let h = opened t (goal.at.instance::instance-returns-then-same_kind-clause-reads t c).After-argument_list in
     let again : is_open (kind c.expect.new.self) ≡ true = search rules in
-    rw c.refuse.ensures (
-    arguments-again c.args.depth c.in_ok-enter.ensures.deeper c.args.input.now c.name.new.input c.enter.new.self
-    (named c.in_ok-name.name) (tok c.in_ok-enter.field-0) c.in_ok-name.ensures.reads opens c.in_ok-enter.ensures.reads
-    c.argument_list.new.input c.expect.new.self (tok c.in_ok-expect.field-0) (map argument_pair c.in_ok-arguments.arguments.items) c.in_ok-arguments.ensures.reads c.in_ok-expect.ensures.reads again)
+    rw c.refuse.ensures (opened-closes h true c.in_ok-arguments.ensures.reads c.in_ok-expect.ensures.reads again)
 
 pub instance::instance-returns-clause-reads : goal.instance::instance-returns-clause-reads
 instance::instance-returns-clause-reads t c =
-    let opens : is_open (kind c.name.new.input) ≡ true = search rules in
+    let h = opened t (goal.at.instance::instance-returns-clause-reads t c).After-argument_list in
     let other : is_open (kind c.expect.new.self) ≡ false = search rules in
-    arguments-read c.args.depth c.in_ok-enter.ensures.deeper c.args.input.now c.name.new.input c.enter.new.self
-    (named c.in_ok-name.name) (tok c.in_ok-enter.field-0) c.in_ok-name.ensures.reads opens c.in_ok-enter.ensures.reads
-    c.argument_list.new.input c.expect.new.self (tok c.in_ok-expect.field-0) (map argument_pair c.in_ok-arguments.arguments.items) c.in_ok-arguments.ensures.reads c.in_ok-expect.ensures.reads other
+    opened-closes h false c.in_ok-arguments.ensures.reads c.in_ok-expect.ensures.reads other
     ∙ ap (λ v. Ok (record { name = named c.in_ok-name.name; arguments = v }, c.expect.new.self)) (arguments-is c.in_ok-arguments.arguments.items)
+
+-- ---- operators of arithmetic with their operands
+
+operations_so_far : (t : ℕ) (c : chain::operations-After-take_operator t)
+    → IsGathering (operation c.args.operators (at c.operand_level-level.result c.args.depth)) (is_among c.args.operators) nothing_between
+    (operations c.args.operators (at c.operand_level-level.result c.args.depth) c.args.input.now) (arithmetic_links c.operations.links.items)
+    (suc (length c.args.input.now.tokens) - vec_len c.operations.links) c.operations.input
+operations_so_far t c = record { reads = c.operations.invariant.reads }
+
+operation_there : (t : ℕ) (c : chain::operations-After-push t)
+    → operation c.args.operators (at c.operand_level-level.result c.args.depth) c.operations.input
+    ≡ Ok ((arithmetic_of c.in_ok-sign.sign.kind, c.in_ok-sign.sign.place, term_form c.in_ok-operand.operand), c.term_at.new.input)
+operation_there t c =
+    operation-read c.args.operators (at c.operand_level-level.result c.args.depth) c.operations.input c.take_operator.new.self c.term_at.new.input
+    (tok c.in_ok-sign.sign) (term_form c.in_ok-operand.operand) c.operations.invariant.stands c.in_ok-sign.ensures.reads c.in_ok-operand.ensures.reads
+
+-- the level is that of the operands
+same_level : (t : ℕ) (c : chain::operations-After-take_operator t)
+    → operations c.args.operators (at (operand_level (Arithmetic c.args.operators)) c.args.depth) c.args.input.now
+    ≡ operations c.args.operators (at c.operand_level-level.result c.args.depth) c.args.input.now
+same_level t c = ap (λ (v : Level). operations c.args.operators (at v c.args.depth) c.args.input.now) (sym c.operand_level-level.ensures)
 
 pub chain::operations-returns-in_err-sign-clause-reads : goal.chain::operations-returns-in_err-sign-clause-reads
 chain::operations-returns-in_err-sign-clause-reads t c =
-    let same = ap (λ (v : Level). operations c.args.operators (at v c.args.depth) c.args.input.now) (sym c.operand_level-level.ensures) in
-    let p = err_from_is_err_and c.from_residual-in_err-sign.result c.from_residual-in_err-sign.ensures.1 in
-    rw (p.1, p.2)
-    (same ∙ c.operations.invariant.reads
-    ∙ gathered-item-fails (operation c.args.operators (at c.operand_level-level.result c.args.depth))
-    (is_among c.args.operators) nothing_between (arithmetic_links c.operations.links.items)
-    (suc (length c.args.input.now.tokens) - vec_len c.operations.links)
-    (length c.args.input.now.tokens - vec_len c.operations.links) c.operations.input c.in_err-sign.field-0.0
-    (omega arith)
-    (operation-fails c.args.operators (at c.operand_level-level.result c.args.depth) c.operations.input
-    c.in_err-sign.field-0.0 c.operations.invariant.stands c.in_err-sign.ensures.reads))
+    let place = (goal.at.chain::operations-returns-in_err-sign-clause-reads t c).After-take_operator in
+    let fails = operation-fails c.args.operators (at c.operand_level-level.result c.args.depth) c.operations.input c.in_err-sign.field-0.0
+    c.operations.invariant.stands c.in_err-sign.ensures.reads in
+    rw (error-is c.from_residual-in_err-sign.result _ c.from_residual-in_err-sign.ensures.1)
+    (same_level t place
+    ∙ gathering-fails (operations_so_far t place) (length c.args.input.now.tokens - vec_len c.operations.links) c.in_err-sign.field-0.0 (omega arith) fails)
 
 pub chain::operations-returns-in_err-operand-clause-reads : goal.chain::operations-returns-in_err-operand-clause-reads
 chain::operations-returns-in_err-operand-clause-reads t c =
-    let same = ap (λ (v : Level). operations c.args.operators (at v c.args.depth) c.args.input.now) (sym c.operand_level-level.ensures) in
-    let p = err_from_is_err_and c.from_residual-in_err-operand.result c.from_residual-in_err-operand.ensures.1 in
-    rw (p.1, p.2)
+    let place = (goal.at.chain::operations-returns-in_err-operand-clause-reads t c).After-take_operator in
+    rw (error-is c.from_residual-in_err-operand.result _ c.from_residual-in_err-operand.ensures.1)
     (if_fault c.in_err-operand.field-0.0
-    (λ bad e. same ∙ c.operations.invariant.reads
-    ∙ gathered-item-fails (operation c.args.operators (at c.operand_level-level.result c.args.depth))
-    (is_among c.args.operators) nothing_between (arithmetic_links c.operations.links.items)
-    (suc (length c.args.input.now.tokens) - vec_len c.operations.links)
-    (length c.args.input.now.tokens - vec_len c.operations.links) c.operations.input bad (omega arith)
-    (operation-operand-fails c.args.operators (at c.operand_level-level.result c.args.depth) c.operations.input
-    c.take_operator.new.self (tok c.in_ok-sign.sign) bad c.operations.invariant.stands c.in_ok-sign.ensures.reads
-    e)) c.in_err-operand.ensures.reads)
+    (λ bad e. same_level t place
+    ∙ gathering-fails (operations_so_far t place) (length c.args.input.now.tokens - vec_len c.operations.links) bad (omega arith)
+    (operation-operand-fails c.args.operators (at c.operand_level-level.result c.args.depth) c.operations.input c.take_operator.new.self (tok c.in_ok-sign.sign) bad
+    c.operations.invariant.stands c.in_ok-sign.ensures.reads e)) c.in_err-operand.ensures.reads)
 
 pub chain::operations-returns-then-not-is_among-clause-reads : goal.chain::operations-returns-then-not-is_among-clause-reads
 chain::operations-returns-then-not-is_among-clause-reads t c =
-    let same = ap (λ (v : Level). operations c.args.operators (at v c.args.depth) c.args.input.now) (sym c.operand_level-level.ensures) in
+    let place = goal.at.chain::operations-returns-then-not-is_among-clause-reads t c in
     let stops : is_among c.args.operators (kind c.term_at.new.input) ≡ false = search rules in
-    let end = gathered-end (operation c.args.operators (at c.operand_level-level.result c.args.depth))
-    (is_among c.args.operators) nothing_between (arithmetic_links c.operations.links.items)
-    (suc (length c.args.input.now.tokens) - vec_len c.operations.links)
-    (length c.args.input.now.tokens - vec_len c.operations.links) c.operations.input c.term_at.new.input
-    (arithmetic_of c.in_ok-sign.sign.kind, c.in_ok-sign.sign.place, term_form c.in_ok-operand.operand) (omega arith)
-    (operation-read c.args.operators (at c.operand_level-level.result c.args.depth) c.operations.input
-    c.take_operator.new.self c.term_at.new.input (tok c.in_ok-sign.sign) (term_form c.in_ok-operand.operand)
-    c.operations.invariant.stands c.in_ok-sign.ensures.reads c.in_ok-operand.ensures.reads) stops in
-    rw (c.in_ok-push.ensures.items, map_push, c.arithmetic.ensures) (same ∙ c.operations.invariant.reads ∙ end)
+    let left = length c.args.input.now.tokens - vec_len c.operations.links in
+    rw (c.in_ok-push.ensures.items, map_push, c.arithmetic.ensures)
+    (same_level t place.After-take_operator ∙ gathering-ends (operations_so_far t place.After-take_operator) left (omega arith) (operation_there t place.After-push) stops)
 
 pub chain::operations-operations-preserved : goal.chain::operations-operations-preserved
 chain::operations-operations-preserved t c =
+    let place = goal.at.chain::operations-operations-preserved t c in
     let goes : is_among c.args.operators (kind c.term_at.new.input) ≡ true = search rules in
     let more =
-    gathered-more (operation c.args.operators (at c.operand_level-level.result c.args.depth))
-    (is_among c.args.operators) nothing_between (arithmetic_links c.operations.links.items)
-    (suc (length c.args.input.now.tokens) - vec_len c.operations.links)
-    (suc (length c.args.input.now.tokens) - vec_len c.push.new.self) c.operations.input c.term_at.new.input
-    c.term_at.new.input (arithmetic_of c.in_ok-sign.sign.kind, c.in_ok-sign.sign.place, term_form c.in_ok-operand.operand) tt
-    (omega (arith, c.in_ok-push.ensures.len, c.in_ok-sign.ensures.fewer, c.in_ok-operand.ensures.fewer))
-    (operation-read c.args.operators (at c.operand_level-level.result c.args.depth) c.operations.input
-    c.take_operator.new.self c.term_at.new.input (tok c.in_ok-sign.sign) (term_form c.in_ok-operand.operand)
-    c.operations.invariant.stands c.in_ok-sign.ensures.reads c.in_ok-operand.ensures.reads) goes refl in
+    gathering-goes-on (operations_so_far t place.After-take_operator) (suc (length c.args.input.now.tokens) - vec_len c.push.new.self)
+    (omega (arith, c.in_ok-push.ensures.len, c.in_ok-sign.ensures.fewer, c.in_ok-operand.ensures.fewer)) (operation_there t place.After-push) goes refl in
     record {
-      reads = rw (c.in_ok-push.ensures.items, map_push, c.arithmetic.ensures) (c.operations.invariant.reads ∙ more);
+      reads = rw (c.in_ok-push.ensures.items, map_push, c.arithmetic.ensures) more;
       room = omega (arith, c.in_ok-push.ensures.len, c.in_ok-sign.ensures.fewer, c.in_ok-operand.ensures.fewer);
       stands = goes;
     }
+
+-- ---- operands that are read first
 
 pub primary::unary-returns-in_ok-instance-in-Name-clause-reads : goal.primary::unary-returns-in_ok-instance-in-Name-clause-reads
 primary::unary-returns-in_ok-instance-in-Name-clause-reads t c =
@@ -165,8 +170,7 @@ primary::unary-returns-in_default t c =
 
 pub primary::bracketed-returns-in_err-inner-clause-reads : goal.primary::bracketed-returns-in_err-inner-clause-reads
 primary::bracketed-returns-in_err-inner-clause-reads t c =
-    let p = err_from_is_err_and c.from_residual-in_err-inner.result c.from_residual-in_err-inner.ensures.1 in
-    rw (p.1, p.2)
+    rw (error-is c.from_residual-in_err-inner.result _ c.from_residual-in_err-inner.ensures.1)
     (if_fault c.in_err-inner.field-0.0
     (λ bad e. inner-fails c.args.depth c.args.input.now c.enter.new.self (tok c.in_ok-enter.field-0) bad
     c.in_ok-enter.ensures.deeper c.requires c.in_ok-enter.ensures.reads e) c.in_err-inner.ensures.reads)
@@ -176,36 +180,29 @@ primary::unary-returns-in_ok-number-in-Number-clause-reads t c = c.in_ok-number-
 
 pub primary::unary-returns-in_err-number-in-Number-clause-reads : goal.primary::unary-returns-in_err-number-in-Number-clause-reads
 primary::unary-returns-in_err-number-in-Number-clause-reads t c =
-    let p = err_from_is_err_and c.from_residual.result c.from_residual.ensures.1 in
-    rw (p.1, p.2) (c.in_err-number-in-Number.ensures.reads c.args.depth)
+    rw (error-is c.from_residual.result _ c.from_residual.ensures.1) (c.in_err-number-in-Number.ensures.reads c.args.depth)
 
 pub primary::unary-returns-in_ok-constant-in-True-clause-reads : goal.primary::unary-returns-in_ok-constant-in-True-clause-reads
 primary::unary-returns-in_ok-constant-in-True-clause-reads t c =
-    let is : kind c.args.input.now ≡ k.True = search rules in
-    rw (begun-at c.args.depth c.args.input.now k.True is) c.in_ok-constant-in-True.ensures.reads
+    rw (begun-at c.args.depth c.args.input.now k.True (search rules)) c.in_ok-constant-in-True.ensures.reads
 
 pub primary::unary-returns-in_err-constant-in-True-clause-reads : goal.primary::unary-returns-in_err-constant-in-True-clause-reads
 primary::unary-returns-in_err-constant-in-True-clause-reads t c =
-    let is : kind c.args.input.now ≡ k.True = search rules in
-    let p = err_from_is_err_and c.from_residual-in_err-constant-in-True.result c.from_residual-in_err-constant-in-True.ensures.1 in
-    rw (p.1, p.2, begun-at c.args.depth c.args.input.now k.True is) c.in_err-constant-in-True.ensures.reads
+    rw (error-is c.from_residual-in_err-constant-in-True.result _ c.from_residual-in_err-constant-in-True.ensures.1, begun-at c.args.depth c.args.input.now k.True (search rules))
+    c.in_err-constant-in-True.ensures.reads
 
 pub primary::unary-returns-in_ok-constant-in-False-clause-reads : goal.primary::unary-returns-in_ok-constant-in-False-clause-reads
 primary::unary-returns-in_ok-constant-in-False-clause-reads t c =
-    let is : kind c.args.input.now ≡ k.False = search rules in
-    rw (begun-at c.args.depth c.args.input.now k.False is) c.in_ok-constant-in-False.ensures.reads
+    rw (begun-at c.args.depth c.args.input.now k.False (search rules)) c.in_ok-constant-in-False.ensures.reads
 
 pub primary::unary-returns-in_err-constant-in-False-clause-reads : goal.primary::unary-returns-in_err-constant-in-False-clause-reads
 primary::unary-returns-in_err-constant-in-False-clause-reads t c =
-    let is : kind c.args.input.now ≡ k.False = search rules in
-    let p = err_from_is_err_and c.from_residual-in_err-constant-in-False.result c.from_residual-in_err-constant-in-False.ensures.1 in
-    rw (p.1, p.2, begun-at c.args.depth c.args.input.now k.False is) c.in_err-constant-in-False.ensures.reads
+    rw (error-is c.from_residual-in_err-constant-in-False.result _ c.from_residual-in_err-constant-in-False.ensures.1, begun-at c.args.depth c.args.input.now k.False (search rules))
+    c.in_err-constant-in-False.ensures.reads
 
 pub chain::calculated_by-returns-in_err-links-clause-reads : goal.chain::calculated_by-returns-in_err-links-clause-reads
 chain::calculated_by-returns-in_err-links-clause-reads t c s h =
-    let item = at (operand_level (Arithmetic c.args.operators)) c.args.depth in
-    let p = err_from_is_err_and c.from_residual.result c.from_residual.ensures.1 in
-    rw (p.1, p.2) (if_fault c.in_err-links.field-0.0
+    rw (error-is c.from_residual.result _ c.from_residual.ensures.1) (if_fault c.in_err-links.field-0.0
     (λ bad e. calculation-fails c.args.depth s c.args.input.now (term_form c.args.first) c.args.operators bad h c.requires e) c.in_err-links.ensures.reads)
 
 pub chain::calculated_by-returns-then-is_mixed-clause-reads : goal.chain::calculated_by-returns-then-is_mixed-clause-reads
@@ -222,47 +219,35 @@ chain::calculated_by-returns-clause-reads t c s h =
     (calculation-read c.args.depth s c.args.input.now (term_form c.args.first) c.args.operators
     (arithmetic_links c.in_ok-links.links.items) c.operations.new.input h c.requires c.in_ok-links.ensures.reads other)
 
+-- ---- comparisons
+
 pub chain::related_by-returns-in_err-sign-clause-reads : goal.chain::related_by-returns-in_err-sign-clause-reads
 chain::related_by-returns-in_err-sign-clause-reads t c s h =
-    let item = at (operand_level (Relation c.args.relation)) c.args.depth in
-    let p = err_from_is_err_and c.from_residual.result c.from_residual.ensures.1 in
-    rw (p.1, p.2)
-    (relation-is c.args.relation c.args.depth s
-    ∙ sign-fails (is_related c.args.relation) compared_by item s c.args.input.now (term_form c.args.left)
-    c.in_err-sign.field-0.0 h c.requires c.in_err-sign.ensures.reads)
+    rw (error-is c.from_residual.result _ c.from_residual.ensures.1)
+    (relation-sign-fails c.args.relation c.args.depth s c.args.input.now (term_form c.args.left) h c.requires c.in_err-sign.field-0.0 c.in_err-sign.ensures.reads)
 
 pub chain::related_by-returns-in_err-right-clause-reads : goal.chain::related_by-returns-in_err-right-clause-reads
 chain::related_by-returns-in_err-right-clause-reads t c s h =
-    let same = ap (λ (v : Level). at v c.args.depth c.take_operator.new.self) (sym c.operand_level-level.ensures) in
-    let item = at (operand_level (Relation c.args.relation)) c.args.depth in
-    let p = err_from_is_err_and c.from_residual-in_err-right.result c.from_residual-in_err-right.ensures.1 in
-    rw (p.1, p.2) (if_fault c.in_err-right.field-0.0
-    (λ bad e. relation-is c.args.relation c.args.depth s
-    ∙ right-fails (is_related c.args.relation) compared_by item s c.args.input.now c.take_operator.new.self
-    (term_form c.args.left) (tok c.in_ok-sign.sign) bad h c.requires c.in_ok-sign.ensures.reads (same ∙ e))
+    let level = c.operand_level-level in
+    rw (error-is c.from_residual-in_err-right.result _ c.from_residual-in_err-right.ensures.1) (if_fault c.in_err-right.field-0.0
+    (λ bad e. relation-right-fails c.args.relation c.args.depth s c.args.input.now (term_form c.args.left) h c.requires level.result level.ensures c.in_ok-sign.ensures.reads bad e)
     c.in_err-right.ensures.reads)
 
 pub chain::related_by-returns-then-is_related-clause-reads : goal.chain::related_by-returns-then-is_related-clause-reads
 chain::related_by-returns-then-is_related-clause-reads t c s h =
-    let same = ap (λ (v : Level). at v c.args.depth c.take_operator.new.self) (sym c.operand_level-level.ensures) in
-    let item = at (operand_level (Relation c.args.relation)) c.args.depth in
     let again : is_related c.args.relation (kind c.term_at.new.input) ≡ true = search rules in
     rw c.refuse.ensures
-    (relation-is c.args.relation c.args.depth s
-    ∙ right-goes-on (is_related c.args.relation) compared_by item s c.args.input.now c.take_operator.new.self
-    c.term_at.new.input (term_form c.args.left) (term_form c.in_ok-right.right) (tok c.in_ok-sign.sign) h c.requires
-    c.in_ok-sign.ensures.reads (same ∙ c.in_ok-right.ensures.reads) again)
+    (relation-goes-on c.args.relation c.args.depth s c.args.input.now (term_form c.args.left) h c.requires c.operand_level-level.result c.operand_level-level.ensures
+    c.in_ok-sign.ensures.reads c.in_ok-right.ensures.reads again)
 
 pub chain::related_by-returns-clause-reads : goal.chain::related_by-returns-clause-reads
 chain::related_by-returns-clause-reads t c s h =
-    let same = ap (λ (v : Level). at v c.args.depth c.take_operator.new.self) (sym c.operand_level-level.ensures) in
-    let item = at (operand_level (Relation c.args.relation)) c.args.depth in
     let other : is_related c.args.relation (kind c.term_at.new.input) ≡ false = search rules in
     rw c.in_ok-compared.ensures
-    (relation-is c.args.relation c.args.depth s
-    ∙ both-read (is_related c.args.relation) compared_by item s c.args.input.now c.take_operator.new.self
-    c.term_at.new.input (term_form c.args.left) (term_form c.in_ok-right.right) (tok c.in_ok-sign.sign) h c.requires
-    c.in_ok-sign.ensures.reads (same ∙ c.in_ok-right.ensures.reads) other)
+    (relation-read c.args.relation c.args.depth s c.args.input.now (term_form c.args.left) h c.requires c.operand_level-level.result c.operand_level-level.ensures
+    c.in_ok-sign.ensures.reads c.in_ok-right.ensures.reads other)
+
+-- ---- chains of a connective
 
 pub chain::connected_by-links-init : goal.chain::connected_by-links-init
 chain::connected_by-links-init t c = record {
@@ -273,46 +258,42 @@ chain::connected_by-links-init t c = record {
   room = omega (arith, c.in_ok-links.ensures.len);
 }
 
+-- the connective stands behind the links that are read
+stands : (t : ℕ) (c : chain::connected_by-After-take_operator t) → same_kind (kind c.links.input) (symbol c.args.connective) ≡ true
+stands t c = search rules
+
 pub chain::connected_by-returns-in_err-place-clause-reads : goal.chain::connected_by-returns-in_err-place-clause-reads
 chain::connected_by-returns-in_err-place-clause-reads t c s h fewer =
-    let item = at (operand_level (Connective c.args.connective)) c.args.depth in
-    let same : same_kind (kind c.links.input) (symbol c.args.connective) ≡ true = search rules in
-    let p = err_from_is_err_and c.from_residual-in_err-place.result c.from_residual-in_err-place.ensures.1 in
-    rw (p.1, p.2)
+    let place = (goal.at.chain::connected_by-returns-in_err-place-clause-reads t c).After-take_operator in
+    rw (error-is c.from_residual-in_err-place.result _ c.from_residual-in_err-place.ensures.1)
     (c.links.invariant.reads s h fewer
-    ∙ resumed-operator-fails (symbol c.args.connective) (TermForm.connected c.args.connective) item
-    (length s.tokens - vec_len c.links.links) _ (term_links c.links.links.items) c.links.input
-    c.in_err-place.field-0.0 same c.in_err-place.ensures.reads)
+    ∙ resumed-operator-fails (symbol c.args.connective) (TermForm.connected c.args.connective) (at (operand_level (Connective c.args.connective)) c.args.depth)
+    (length s.tokens - vec_len c.links.links) _ (term_links c.links.links.items) c.links.input c.in_err-place.field-0.0 (stands t place) c.in_err-place.ensures.reads)
 
 pub chain::connected_by-returns-in_err-operand-clause-reads : goal.chain::connected_by-returns-in_err-operand-clause-reads
 chain::connected_by-returns-in_err-operand-clause-reads t c s h fewer =
-    let found = ap (λ (v : Level). at v c.args.depth c.take_operator.new.self) (sym c.operand_level-level.ensures) in
-    let item = at (operand_level (Connective c.args.connective)) c.args.depth in
-    let same : same_kind (kind c.links.input) (symbol c.args.connective) ≡ true = search rules in
+    let place = (goal.at.chain::connected_by-returns-in_err-operand-clause-reads t c).After-take_operator in
+    let operands = operand_level (Connective c.args.connective) in
     let some : 0 < length s.tokens - vec_len c.links.links = omega arith in
-    let p = err_from_is_err_and c.from_residual-in_err-operand.result c.from_residual-in_err-operand.ensures.1 in
-    rw (p.1, p.2)
-    (if_fault c.in_err-operand.field-0.0
+    rw (error-is c.from_residual-in_err-operand.result _ c.from_residual-in_err-operand.ensures.1) (if_fault c.in_err-operand.field-0.0
     (λ bad e. c.links.invariant.reads s h fewer
-    ∙ resumed-operand-fails (symbol c.args.connective) (TermForm.connected c.args.connective) item
-    (length s.tokens - vec_len c.links.links) _ (term_links c.links.links.items) c.links.input
-    c.take_operator.new.self (tok c.in_ok-place.field-0) bad some same c.in_ok-place.ensures.reads (found ∙ e))
-    c.in_err-operand.ensures.reads)
+    ∙ resumed-operand-fails (symbol c.args.connective) (TermForm.connected c.args.connective) (at operands c.args.depth) (length s.tokens - vec_len c.links.links) _
+    (term_links c.links.links.items) c.links.input c.take_operator.new.self (tok c.in_ok-place.field-0) bad some (stands t place) c.in_ok-place.ensures.reads
+    (read-at c.operand_level-level.result operands c.args.depth c.take_operator.new.self c.operand_level-level.ensures e)) c.in_err-operand.ensures.reads)
 
 pub chain::connected_by-links-preserved : goal.chain::connected_by-links-preserved
 chain::connected_by-links-preserved t c =
-    let found = ap (λ (v : Level). at v c.args.depth c.take_operator.new.self) (sym c.operand_level-level.ensures) in
-    let item = at (operand_level (Connective c.args.connective)) c.args.depth in
-    let same : same_kind (kind c.links.input) (symbol c.args.connective) ≡ true = search rules in
+    let place = (goal.at.chain::connected_by-links-preserved t c).After-take_operator in
+    let operands = operand_level (Connective c.args.connective) in
     record {
       reads = λ s h fewer. rw (c.in_ok-push.ensures.items, map_push)
           (c.links.invariant.reads s h fewer
-          ∙ resumed-more (symbol c.args.connective) (TermForm.connected c.args.connective) item
+          ∙ resumed-more (symbol c.args.connective) (TermForm.connected c.args.connective) (at operands c.args.depth)
           (length s.tokens - vec_len c.links.links) (length s.tokens - vec_len c.push.new.self) _
           (term_links c.links.links.items) c.links.input c.take_operator.new.self c.term_at.new.input
           (tok c.in_ok-place.field-0) (term_form c.in_ok-operand.operand)
-          (omega (arith, c.in_ok-push.ensures.len, c.links.invariant.room)) same c.in_ok-place.ensures.reads
-          (found ∙ c.in_ok-operand.ensures.reads));
+          (omega (arith, c.in_ok-push.ensures.len, c.links.invariant.room)) (stands t place) c.in_ok-place.ensures.reads
+          (read-at c.operand_level-level.result operands c.args.depth c.take_operator.new.self c.operand_level-level.ensures c.in_ok-operand.ensures.reads));
       room = omega (arith, c.in_ok-place.ensures.fewer, c.in_ok-operand.ensures.fewer, c.in_ok-push.ensures.len);
     }
 
@@ -325,6 +306,8 @@ chain::connected_by-returns-clause-reads t c s h fewer =
     ∙ resumed-end (symbol c.args.connective) (TermForm.connected c.args.connective) item
     (length s.tokens - vec_len c.links.links) _ (term_links c.links.links.items) c.links.input other)
 
+-- ---- what an operator makes of a first operand
+
 pub chain::joined_by-returns-in-Arithmetic-clause-reads : goal.chain::joined_by-returns-in-Arithmetic-clause-reads
 chain::joined_by-returns-in-Arithmetic-clause-reads t c = rw c.in-Arithmetic.is (λ s h room. c.calculated_by.ensures.reads s h)
 
@@ -336,29 +319,23 @@ chain::joined_by-returns-in-Connective-clause-reads t c = rw c.in-Connective.is 
 
 pub term::term_at-returns-in_err-whole-clause-reads : goal.term::term_at-returns-in_err-whole-clause-reads
 term::term_at-returns-in_err-whole-clause-reads t c =
-    let begins : (may_quantify c.args.limit && is_quantifier (kind c.args.input.now)) ≡ true = search rules in
-    let p = err_from_is_err_and c.from_residual.result c.from_residual.ensures.1 in
-    rw (p.1, p.2) (if_fault c.in_err-whole.field-0.0
-    (λ bad e. quantified-fails c.args.depth c.args.limit c.args.input.now bad begins e) c.in_err-whole.ensures.reads)
+    rw (error-is c.from_residual.result _ c.from_residual.ensures.1) (if_fault c.in_err-whole.field-0.0
+    (λ bad e. quantified-fails c.args.depth c.args.limit c.args.input.now bad (search rules) e) c.in_err-whole.ensures.reads)
 
 pub term::term_at-returns-then-begins_quantified-clause-reads : goal.term::term_at-returns-then-begins_quantified-clause-reads
 term::term_at-returns-then-begins_quantified-clause-reads t c =
-    let begins : (may_quantify c.args.limit && is_quantifier (kind c.args.input.now)) ≡ true = search rules in
-    let both = and_parts (may_quantify c.args.limit) (is_quantifier (kind c.args.input.now)) begins in
+    let both = and_parts (may_quantify c.args.limit) (is_quantifier (kind c.args.input.now)) (search rules) in
     c.operated.ensures.reads c.args.input.now (lowest-quantified c.args.depth c.args.input.now both.1 ∙ c.in_ok-whole.ensures.reads) (λ q. c.in_ok-whole.ensures.fewer)
 
 pub term::term_at-returns-in-None-clause-reads : goal.term::term_at-returns-in-None-clause-reads
 term::term_at-returns-in-None-clause-reads t c =
-    let begins : (may_quantify c.args.limit && is_quantifier (kind c.args.input.now)) ≡ false = search rules in
-    first-or-fails c.args.depth c.args.limit c.args.input.now c.unary-first.new.input c.unary-first.result begins
+    first-or-fails c.args.depth c.args.limit c.args.input.now c.unary-first.new.input c.unary-first.result (search rules)
     (λ q is above. c.in-None.ensures.none q (ap operator_of c.kind-2.ensures ∙ is) above) c.unary-first.ensures.reads
 
 pub term::term_at-returns-in_err-first-in-Some-clause-reads : goal.term::term_at-returns-in_err-first-in-Some-clause-reads
 term::term_at-returns-in_err-first-in-Some-clause-reads t c =
-    let begins : (may_quantify c.args.limit && is_quantifier (kind c.args.input.now)) ≡ false = search rules in
-    let p = err_from_is_err_and c.from_residual-in_err-first-in-Some.result c.from_residual-in_err-first-in-Some.ensures.1 in
-    rw (p.1, p.2) (if_fault c.in_err-first-in-Some.field-0.0
-    (λ bad e. first-fails-as c.args.depth c.args.limit c.args.input.now bad begins e) c.in_err-first-in-Some.ensures.reads)
+    rw (error-is c.from_residual-in_err-first-in-Some.result _ c.from_residual-in_err-first-in-Some.ensures.1) (if_fault c.in_err-first-in-Some.field-0.0
+    (λ bad e. first-fails-as c.args.depth c.args.limit c.args.input.now bad (search rules) e) c.in_err-first-in-Some.ensures.reads)
 
 pub term::term_at-returns-in_ok-first-in-Some-clause-reads : goal.term::term_at-returns-in_ok-first-in-Some-clause-reads
 term::term_at-returns-in_ok-first-in-Some-clause-reads t c = c.operated-in-Some.ensures.reads c.args.input.now c.in_ok-first-in-Some.ensures.reads (λ q. c.in_ok-first-in-Some.ensures.fewer)
@@ -379,8 +356,7 @@ pub term::operated-returns-in_err-left-clause-reads : goal.term::operated-return
 term::operated-returns-in_err-left-clause-reads t c s h fewer =
     let q = c.in-Some.operator in
     let reads = c.operators.invariant.reads s h fewer in
-    let p = err_from_is_err_and c.from_residual.result c.from_residual.ensures.1 in
-    rw (p.1, p.2) (if_fault c.in_err-left.field-0.0
+    rw (error-is c.from_residual.result _ c.from_residual.ensures.1) (if_fault c.in_err-left.field-0.0
     (λ bad e. operator-fails c.args.depth c.operators.above c.args.levels.limit q s c.operators.input (term_form c.operators.left) bad reads c.in-Some.ensures.above c.in-Some.ensures.within e)
     (c.in_err-left.ensures.reads s
     (before-operator c.args.depth c.operators.above q s c.operators.input (term_form c.operators.left)
