@@ -70,7 +70,7 @@ module _ (s : Scope) where
   chain-fault c f [] = sym (or_else-none (term_fault s f))
   chain-fault c f (l ∷ ls) = ap (λ o. or_else (term_fault s f) (or_else (truth_fault (kind s f) l.place) o)) (tail-fault c l.place (term_form l.operand) ls)
 
-  pub chain-kinds : (t x : Term) (c : Connective) (p : Box Term Global) (v : Vec TermLink Global) (ls : List TermLink) → t ≡ term.Chain c p v → x ≡ box_value p → ls ≡ v.items
+  chain-kinds : (t x : Term) (c : Connective) (p : Box Term Global) (v : Vec TermLink Global) (ls : List TermLink) → t ≡ term.Chain c p v → x ≡ box_value p → ls ≡ v.items
       → kind s (term_form t) ≡ chain_kind (kind s (term_form x)) ls
   chain-kinds t x c p v ls is at same =
       ap (λ u. kind s (term_form u)) is ∙ (ap (kind s) (term-chain c p v) ∙ (chain-kind c (term_form (box_value p)) v.items
@@ -101,7 +101,7 @@ module _ (s : Scope) where
       ∙ (or_else-assoc (term_fault s f) (or_else (term_fault s (term_form l.operand)) test) (operations_fault s Whole ls)
       ∙ ap (or_else (term_fault s f)) (or_else-assoc (term_fault s (term_form l.operand)) test (operations_fault s Whole ls)))
 
-  pub arithmetic-kinds : (t x : Term) (p : Box Term Global) (v : Vec ArithmeticLink Global) (ls : List ArithmeticLink) → t ≡ term.Arithmetic p v → x ≡ box_value p → ls ≡ v.items
+  arithmetic-kinds : (t x : Term) (p : Box Term Global) (v : Vec ArithmeticLink Global) (ls : List ArithmeticLink) → t ≡ term.Arithmetic p v → x ≡ box_value p → ls ≡ v.items
       → kind s (term_form t) ≡ arithmetic_kind (kind s (term_form x)) ls
   arithmetic-kinds t x p v ls is at same =
       ap (λ u. kind s (term_form u)) is ∙ (ap (kind s) (term-arithmetic p v) ∙ (arithmetic-kind (term_form (box_value p)) v.items
@@ -171,18 +171,38 @@ left_both all a b c is none clear = left_out all b c (left_out all a (or_else b 
 
 -- a chain with links, and one without
 
-pub chain-several : (k : Kind) (ls : List TermLink) (l : TermLink) → Some l ≡ slice_get ls 0 → Truth ≡ chain_kind k ls
+chain-several : (k : Kind) (ls : List TermLink) (l : TermLink) → Some l ≡ slice_get ls 0 → Truth ≡ chain_kind k ls
 chain-several k [] l some = cc
 chain-several k (m ∷ ls) l some = refl
 
-pub chain-alone : (k : Kind) (ls : List TermLink) → None ≡ slice_get ls 0 → chain_kind k ls ≡ k
+chain-alone : (k : Kind) (ls : List TermLink) → None ≡ slice_get ls 0 → chain_kind k ls ≡ k
 chain-alone k [] none = refl
 chain-alone k (m ∷ ls) none = cc
 
-pub arithmetic-several : (k : Kind) (ls : List ArithmeticLink) (l : ArithmeticLink) → Some l ≡ slice_get ls 0 → Whole ≡ arithmetic_kind k ls
+arithmetic-several : (k : Kind) (ls : List ArithmeticLink) (l : ArithmeticLink) → Some l ≡ slice_get ls 0 → Whole ≡ arithmetic_kind k ls
 arithmetic-several k [] l some = cc
 arithmetic-several k (m ∷ ls) l some = refl
 
-pub arithmetic-alone : (k : Kind) (ls : List ArithmeticLink) → None ≡ slice_get ls 0 → arithmetic_kind k ls ≡ k
+arithmetic-alone : (k : Kind) (ls : List ArithmeticLink) → None ≡ slice_get ls 0 → arithmetic_kind k ls ≡ k
 arithmetic-alone k [] none = refl
 arithmetic-alone k (m ∷ ls) none = cc
+
+-- the kinds of such chains
+module _ (s : Scope) where
+  pub chain-truth : {t : Term} {c : Connective} {p : Box Term Global} (v : Vec TermLink Global) {ls : List TermLink} {l : TermLink}
+      → t ≡ term.Chain c p v → ls ≡ v.items → Some l ≡ slice_get ls 0 → Truth ≡ kind s (term_form t)
+  chain-truth {t} {c} {p} v {ls} {l} is same some =
+      chain-several (kind s (term_form (box_value p))) ls l some ∙ sym (chain-kinds s t (box_value p) c p v ls is refl same)
+
+  pub chain-first : {t x : Term} {c : Connective} {p : Box Term Global} (v : Vec TermLink Global) {ls : List TermLink}
+      → t ≡ term.Chain c p v → x ≡ box_value p → ls ≡ v.items → None ≡ slice_get ls 0 → kind s (term_form x) ≡ kind s (term_form t)
+  chain-first {t} {x} {c} {p} v {ls} is at same none = sym (chain-kinds s t x c p v ls is at same ∙ chain-alone (kind s (term_form x)) ls none)
+
+  pub arithmetic-whole : {t : Term} {p : Box Term Global} (v : Vec ArithmeticLink Global) {ls : List ArithmeticLink} {l : ArithmeticLink}
+      → t ≡ term.Arithmetic p v → ls ≡ v.items → Some l ≡ slice_get ls 0 → Whole ≡ kind s (term_form t)
+  arithmetic-whole {t} {p} v {ls} {l} is same some =
+      arithmetic-several (kind s (term_form (box_value p))) ls l some ∙ sym (arithmetic-kinds s t (box_value p) p v ls is refl same)
+
+  pub arithmetic-first : {t x : Term} {p : Box Term Global} (v : Vec ArithmeticLink Global) {ls : List ArithmeticLink}
+      → t ≡ term.Arithmetic p v → x ≡ box_value p → ls ≡ v.items → None ≡ slice_get ls 0 → kind s (term_form x) ≡ kind s (term_form t)
+  arithmetic-first {t} {x} {p} v {ls} is at same none = sym (arithmetic-kinds s t x p v ls is at same ∙ arithmetic-alone (kind s (term_form x)) ls none)

@@ -1,5 +1,5 @@
 -- The parts of a protocol's faults and the whole.
-use Rattle.std.proofs.Common.{◌≡◌, List, [], ◌∷◌, ◌++◌, sym, ◌∙◌, ap, subst, rules, Option, Some, None, Result, Ok, Err, MatchResult, OnOk}
+use Rattle.std.proofs.Common.{◌≡◌, List, [], ◌∷◌, ◌++◌, refl, sym, ◌∙◌, ap, subst, rules, Option, Some, None, Result, Ok, Err, MatchResult, OnOk}
 use Rattle.std.specs.Prelude.{Contains}
 use Rattle.pb_typing_declarations.specs.declared.fault.TypingFault.{TypingFault}
 use Rattle.pb_base.specs.declared.or_memory.OrMemory.{OrMemory}
@@ -9,7 +9,10 @@ use Rattle.pb_text_tree.specs.Form.{SpecForm}
 use Rattle.pb_text_meaning.specs.Erase as texts
 use Rattle.pb_typing_declarations.specs.Declarations.{declaration_faults}
 use Rattle.pb_protocol_tree.specs.Form.{ProtocolForm}
-use Rattle.pb_protocol_typing.specs.Faults.{data_form, own_faults, protocol_faults}
+use Rattle.pb_text_meaning.specs.Syntax.{Spec}
+use Rattle.pb_protocol_typing.specs.Faults.{data_form, lists_faults, names_faults, own_faults, parts_fault, protocol_faults, signatures_of, state_of}
+use Rattle.pb_protocol_typing.specs.Scopes.{Signatures}
+use Rattle.pb_protocol_typing.specs.Steps.{definitions_fault}
 use Rattle.pb_typing_declarations.specs.Faults.{IsAmong}
 use Rattle.pb_typing_declarations.proofs.Parts.{among_left, among_right}
 use Rattle.pb_protocol_typing.specs.Fault.{listed}
@@ -20,14 +23,14 @@ alone fault = search rules
 contains_listed : (o : Option TypingFault) (fault : TypingFault) → o ≡ Some fault → Contains (listed o) fault
 contains_listed o fault is = subst (λ (p : Option TypingFault). Contains (listed p) fault) (sym is) (alone fault)
 
-pub listed_among : (o : Option TypingFault) (e : OrMemory TypingFault) → IfFault e (λ fault. o ≡ Some fault) → IsAmong (listed o) e
+listed_among : (o : Option TypingFault) (e : OrMemory TypingFault) → IfFault e (λ fault. o ≡ Some fault) → IsAmong (listed o) e
 listed_among o Memory h = h
 listed_among o (Refused fault) h = contains_listed o fault h
 
-pub second_among : (all names ds rest : List TypingFault) (e : OrMemory TypingFault) → all ≡ names ++ (ds ++ rest) → IsAmong ds e → IsAmong all e
+second_among : (all names ds rest : List TypingFault) (e : OrMemory TypingFault) → all ≡ names ++ (ds ++ rest) → IsAmong ds e → IsAmong all e
 second_among all names ds rest e is h = subst (λ (zs : List TypingFault). IsAmong zs e) (sym is) (among_right names (ds ++ rest) e (among_left ds rest e h))
 
-pub third_among : (all names ds lists rest : List TypingFault) (e : OrMemory TypingFault) → all ≡ names ++ (ds ++ (lists ++ rest)) → IsAmong lists e → IsAmong all e
+third_among : (all names ds lists rest : List TypingFault) (e : OrMemory TypingFault) → all ≡ names ++ (ds ++ (lists ++ rest)) → IsAmong lists e → IsAmong all e
 third_among all names ds lists rest e is h =
     subst (λ (zs : List TypingFault). IsAmong zs e) (sym is) (among_right names (ds ++ (lists ++ rest)) e (among_right ds (lists ++ rest) e (among_left lists rest e h)))
 
@@ -36,7 +39,7 @@ listed_checks : (o : Option TypingFault) (r : Result (Unit {0}) (OrMemory Typing
 listed_checks o (Ok u) h = ap listed h
 listed_checks o (Err e) h = listed_among o e h
 
-pub last_checks : (all names ds lists : List TypingFault) (o : Option TypingFault) (r : Result (Unit {0}) (OrMemory TypingFault)) → all ≡ names ++ (ds ++ (lists ++ listed o))
+last_checks : (all names ds lists : List TypingFault) (o : Option TypingFault) (r : Result (Unit {0}) (OrMemory TypingFault)) → all ≡ names ++ (ds ++ (lists ++ listed o))
     → names ≡ [] → ds ≡ [] → lists ≡ [] → MatchResult r (λ _. o ≡ None) (λ e. IfFault e (λ fault. o ≡ Some fault))
     → MatchResult r (λ _. all ≡ []) (IsAmong all)
 last_checks all names ds lists o r is a b c h =
@@ -44,6 +47,31 @@ last_checks all names ds lists o r is a b c h =
     is ∙ (ap (λ (zs : List TypingFault). zs ++ (ds ++ (lists ++ listed o))) a
     ∙ (ap (λ (zs : List TypingFault). zs ++ (lists ++ listed o)) b ∙ ap (λ (zs : List TypingFault). zs ++ listed o) c)) in
     subst (λ (us : List TypingFault). MatchResult r (λ _. us ≡ []) (IsAmong us)) (sym same) (listed_checks o r h)
+
+-- the rules beside those of sorts and ranges, part by part
+module _ (spec : Spec) (text : ProtocolForm) where
+  abbrev state_fault : Option TypingFault
+  state_fault = definitions_fault spec (state_of spec text) text.definitions
+
+  pub names_among : (e : OrMemory TypingFault) → IsAmong (names_faults text) e → IsAmong (own_faults spec text) e
+  names_among e h = among_left (names_faults text) _ e h
+
+  pub definitions_among : (e : OrMemory TypingFault) → IfFault e (λ fault. state_fault ≡ Some fault) → IsAmong (own_faults spec text) e
+  definitions_among e h = second_among (own_faults spec text) (names_faults text) (listed state_fault) _ e refl (listed_among state_fault e h)
+
+  pub lists_among : (e : OrMemory TypingFault) (known : Signatures) → known ≡ signatures_of spec text → IsAmong (lists_faults spec known text) e → IsAmong (own_faults spec text) e
+  lists_among e known is h =
+      third_among (own_faults spec text) (names_faults text) (listed state_fault) (lists_faults spec (signatures_of spec text) text) _ e refl
+      (subst (λ (k : Signatures). IsAmong (lists_faults spec k text) e) is h)
+
+  pub own_checks : (known : Signatures) (r : Result (Unit {0}) (OrMemory TypingFault)) → known ≡ signatures_of spec text
+      → names_faults text ≡ [] → state_fault ≡ None → lists_faults spec known text ≡ []
+      → MatchResult r (λ _. parts_fault spec known text ≡ None) (λ e. IfFault e (λ fault. parts_fault spec known text ≡ Some fault))
+      → MatchResult r (λ _. own_faults spec text ≡ []) (IsAmong (own_faults spec text))
+  own_checks known r is names state lists parts =
+      last_checks (own_faults spec text) (names_faults text) (listed state_fault) (lists_faults spec known text) (parts_fault spec known text) r
+      (ap (λ (k : Signatures). names_faults text ++ (listed state_fault ++ (lists_faults spec k text ++ listed (parts_fault spec k text)))) (sym is))
+      names (ap listed state) lists parts
 
 -- ---- sorts and ranges, and the rest
 

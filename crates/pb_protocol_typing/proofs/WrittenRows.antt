@@ -19,37 +19,55 @@ abbrev of_operations : Written → List ArithmeticLink → Written
 of_operations w [] = w
 of_operations w (l ∷ ls) = Other
 
-pub links-alone : (w : Written) (ls : List TermLink) → None ≡ slice_get ls 0 → of_links w ls ≡ w
+links-alone : (w : Written) (ls : List TermLink) → None ≡ slice_get ls 0 → of_links w ls ≡ w
 links-alone w [] none = refl
 links-alone w (l ∷ ls) none = cc
 
-pub links-several : (w : Written) (ls : List TermLink) (l : TermLink) → Some l ≡ slice_get ls 0 → of_links w ls ≡ Other
+links-several : (w : Written) (ls : List TermLink) (l : TermLink) → Some l ≡ slice_get ls 0 → of_links w ls ≡ Other
 links-several w [] l some = cc
 links-several w (k ∷ ls) l some = refl
 
-pub operations-alone : (w : Written) (ls : List ArithmeticLink) → None ≡ slice_get ls 0 → of_operations w ls ≡ w
+operations-alone : (w : Written) (ls : List ArithmeticLink) → None ≡ slice_get ls 0 → of_operations w ls ≡ w
 operations-alone w [] none = refl
 operations-alone w (l ∷ ls) none = cc
 
-pub operations-several : (w : Written) (ls : List ArithmeticLink) (l : ArithmeticLink) → Some l ≡ slice_get ls 0 → of_operations w ls ≡ Other
+operations-several : (w : Written) (ls : List ArithmeticLink) (l : ArithmeticLink) → Some l ≡ slice_get ls 0 → of_operations w ls ≡ Other
 operations-several w [] l some = cc
 operations-several w (k ∷ ls) l some = refl
 
--- what is read off a term whose head is no operator
-module _ (read : TermForm → Written) where
-  pub chain-read : ((c : Connective) (f : TermForm) (ls : List TermLink) → read (chained (TermForm.connected c) f (term_links ls)) ≡ of_links (read f) ls)
-      → (t x : Term) (c : Connective) (p : Box Term Global) (v : Vec TermLink Global) (ls : List TermLink) → t ≡ term.Chain c p v → x ≡ box_value p → ls ≡ v.items
+-- what is read off a chain of a connective, if each operand is read so
+module _ (read : TermForm → Written) (node : (c : Connective) (f : TermForm) (ls : List TermLink) → read (chained (TermForm.connected c) f (term_links ls)) ≡ of_links (read f) ls) where
+  chain-read : (t x : Term) (c : Connective) (p : Box Term Global) (v : Vec TermLink Global) (ls : List TermLink) → t ≡ term.Chain c p v → x ≡ box_value p → ls ≡ v.items
       → read (term_form t) ≡ of_links (read (term_form x)) ls
-  chain-read node t x c p v ls is at same =
+  chain-read t x c p v ls is at same =
       ap (λ u. read (term_form u)) is ∙ (ap read (term-chain c p v) ∙ (node c (term_form (box_value p)) v.items
       ∙ (ap (of_links (read (term_form (box_value p)))) (sym same) ∙ ap (λ u. of_links (read (term_form u)) ls) (sym at))))
 
-  pub arithmetic-read : ((f : TermForm) (ls : List ArithmeticLink) → read (calculated f (arithmetic_links ls)) ≡ of_operations (read f) ls)
-      → (t x : Term) (p : Box Term Global) (v : Vec ArithmeticLink Global) (ls : List ArithmeticLink) → t ≡ term.Arithmetic p v → x ≡ box_value p → ls ≡ v.items
+  pub chain-other : {t : Term} {c : Connective} {p : Box Term Global} (v : Vec TermLink Global) {ls : List TermLink} {l : TermLink}
+      → t ≡ term.Chain c p v → ls ≡ v.items → Some l ≡ slice_get ls 0 → Other ≡ read (term_form t)
+  chain-other {t} {c} {p} v {ls} {l} is same some =
+      sym (chain-read t (box_value p) c p v ls is refl same ∙ links-several (read (term_form (box_value p))) ls l some)
+
+  pub chain-same : {t x : Term} {c : Connective} {p : Box Term Global} (v : Vec TermLink Global) {ls : List TermLink}
+      → t ≡ term.Chain c p v → x ≡ box_value p → ls ≡ v.items → None ≡ slice_get ls 0 → read (term_form x) ≡ read (term_form t)
+  chain-same {t} {x} {c} {p} v {ls} is at same none = sym (chain-read t x c p v ls is at same ∙ links-alone (read (term_form x)) ls none)
+
+-- and off one of arithmetic
+module _ (read : TermForm → Written) (node : (f : TermForm) (ls : List ArithmeticLink) → read (calculated f (arithmetic_links ls)) ≡ of_operations (read f) ls) where
+  arithmetic-read : (t x : Term) (p : Box Term Global) (v : Vec ArithmeticLink Global) (ls : List ArithmeticLink) → t ≡ term.Arithmetic p v → x ≡ box_value p → ls ≡ v.items
       → read (term_form t) ≡ of_operations (read (term_form x)) ls
-  arithmetic-read node t x p v ls is at same =
+  arithmetic-read t x p v ls is at same =
       ap (λ u. read (term_form u)) is ∙ (ap read (term-arithmetic p v) ∙ (node (term_form (box_value p)) v.items
       ∙ (ap (of_operations (read (term_form (box_value p)))) (sym same) ∙ ap (λ u. of_operations (read (term_form u)) ls) (sym at))))
+
+  pub arithmetic-other : {t : Term} {p : Box Term Global} (v : Vec ArithmeticLink Global) {ls : List ArithmeticLink} {l : ArithmeticLink}
+      → t ≡ term.Arithmetic p v → ls ≡ v.items → Some l ≡ slice_get ls 0 → Other ≡ read (term_form t)
+  arithmetic-other {t} {p} v {ls} {l} is same some =
+      sym (arithmetic-read t (box_value p) p v ls is refl same ∙ operations-several (read (term_form (box_value p))) ls l some)
+
+  pub arithmetic-same : {t x : Term} {p : Box Term Global} (v : Vec ArithmeticLink Global) {ls : List ArithmeticLink}
+      → t ≡ term.Arithmetic p v → x ≡ box_value p → ls ≡ v.items → None ≡ slice_get ls 0 → read (term_form x) ≡ read (term_form t)
+  arithmetic-same {t} {x} {p} v {ls} is at same none = sym (arithmetic-read t x p v ls is at same ∙ operations-alone (read (term_form x)) ls none)
 
 pub chain-written : (c : Connective) (f : TermForm) (ls : List TermLink) → written (chained (TermForm.connected c) f (term_links ls)) ≡ of_links (written f) ls
 chain-written c f [] = refl

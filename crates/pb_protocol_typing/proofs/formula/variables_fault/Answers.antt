@@ -1,23 +1,28 @@
-use Rattle.std.proofs.Common.{◌∙◌, List, map, ap}
+use Rattle.std.proofs.Common.{◌≡◌, ◌+◌, ◌∙◌, List, drop, map, sym, ap}
 use Rattle.pb_text_tree.specs.declared.name.Name.{Name}
-use Rattle.pb_text_tree.specs.Form.{named}
-use Rattle.pb_protocol_typing.specs.Fault.{first_fault}
-use Rattle.pb_protocol_typing.specs.Formulas.{hidden_fault}
+use Rattle.pb_text_tree.specs.Form.{named, variable_forms}
+use Rattle.pb_protocol_typing.specs.Fault.{first_fault, or_else}
+use Rattle.pb_protocol_typing.specs.Formulas.{hidden_fault, variables_fault}
 use Rattle.pb_protocol_typing.specs.View.{scope_of}
 use Rattle.pb_protocol_typing.proofs.Groups.{group-fault}
 use Rattle.pb_protocol_typing.proofs.Rows.{found, left_out}
 use Rattle.pb_protocol_typing.proofs.formula.variables_fault.Goals as goal
+use Rattle.pb_protocol_typing.proofs.formula.variables_fault.Goals.{After-deref}
+
+-- the fault of a group's names, or of those behind it
+next : (c : After-deref) →
+    let s = scope_of c.args.scope.now in
+    let rest = variables_fault s (variable_forms (drop (c.loop-group.group-index + 1) c.args.groups.now)) in
+    variables_fault s (variable_forms c.args.groups.now) ≡ or_else (first_fault (hidden_fault s) (map named c.deref.result.now)) rest
+next c =
+    let s = scope_of c.args.scope.now in
+    let rest = variables_fault s (variable_forms (drop (c.loop-group.group-index + 1) c.args.groups.now)) in
+    c.loop-group.invariant
+    ∙ (group-fault s c.args.groups.now c.loop-group.group-index c.group-item.result c.loop-group-test.true c.group-item.is
+    ∙ ap (λ (ns : List Name). or_else (first_fault (hidden_fault s) (map named ns)) rest) (sym c.deref.ensures.value))
 
 pub returns-in-Some : goal.returns-in-Some
-returns-in-Some c =
-    let s = scope_of c.args.scope.now in
-    let g = c.group-item.result in
-    found _ _ _ c.in-Some.fault (c.loop-group.invariant ∙ group-fault s c.args.groups.now c.loop-group.group-index g c.loop-group-test.true c.group-item.is)
-    (c.in-Some.ensures ∙ ap (λ (ns : List Name). first_fault (hidden_fault s) (map named ns)) c.deref.ensures.value)
+returns-in-Some c = found _ _ _ c.in-Some.fault (next (goal.at.returns-in-Some c).After-deref) c.in-Some.ensures
 
 pub loop-group-preserved : goal.loop-group-preserved
-loop-group-preserved c =
-    let s = scope_of c.args.scope.now in
-    let g = c.group-item.result in
-    left_out _ _ _ (c.loop-group.invariant ∙ group-fault s c.args.groups.now c.loop-group.group-index g c.loop-group-test.true c.group-item.is)
-    (c.in_default.ensures ∙ ap (λ (ns : List Name). first_fault (hidden_fault s) (map named ns)) c.deref.ensures.value)
+loop-group-preserved c = left_out _ _ _ (next (goal.at.loop-group-preserved c).After-deref) c.in_default.ensures

@@ -1,38 +1,18 @@
-use Rattle.std.proofs.Common.{◌∙◌, refl, sym}
-use Rattle.std.specs.Prelude.{box_value}
-use Rattle.pb_text_tree.specs.Form.{term_form}
+use Rattle.std.proofs.Common.{◌∙◌}
 use Rattle.pb_protocol_typing.specs.Written.{written}
-use Rattle.pb_protocol_typing.proofs.WrittenRows.{chain-read, arithmetic-read, chain-written, arithmetic-written, links-alone, links-several, operations-alone, operations-several}
+use Rattle.pb_protocol_typing.proofs.WrittenRows.{chain-other, chain-same, arithmetic-other, arithmetic-same, chain-written, arithmetic-written}
 use Rattle.pb_protocol_typing.proofs.written.+as_written.Goals as goal
 
 pub returns-in-Some : goal.returns-in-Some
-returns-in-Some t c =
-    let n = c.in-Chain in
-    let ls = c.deref-in-Chain.result.now in
-    sym (chain-read written chain-written c.args.term.now (box_value n.first) n.connective n.first n.links ls n.is refl c.deref-in-Chain.ensures.value
-    ∙ links-several (written (term_form (box_value n.first))) ls c.in-Some.field-0.now c.in-Some.ensures.value)
+returns-in-Some t c = chain-other written chain-written c.in-Chain.links c.in-Chain.is c.deref-in-Chain.ensures.value c.in-Some.ensures.value
 
 pub returns-in-None : goal.returns-in-None
-returns-in-None t c =
-    let n = c.in-Chain in
-    let ls = c.deref-in-Chain.result.now in
-    let x = c.deref-in-None.result.now in
-    c.as_written.ensures
-    ∙ sym (chain-read written chain-written c.args.term.now x n.connective n.first n.links ls n.is c.deref-in-None.ensures c.deref-in-Chain.ensures.value
-    ∙ links-alone (written (term_form x)) ls c.in-None.ensures.value)
+returns-in-None t c = c.as_written.ensures ∙ chain-same written chain-written c.in-Chain.links c.in-Chain.is c.deref-in-None.ensures c.deref-in-Chain.ensures.value c.in-None.ensures.value
 
 pub returns-in-Some-first : goal.returns-in-Some-first
-returns-in-Some-first t c =
-    let n = c.in-Arithmetic in
-    let ls = c.deref-in-Arithmetic.result.now in
-    sym (arithmetic-read written arithmetic-written c.args.term.now (box_value n.first) n.first n.links ls n.is refl c.deref-in-Arithmetic.ensures.value
-    ∙ operations-several (written (term_form (box_value n.first))) ls c.in-Some-first.field-0.now c.in-Some-first.ensures.value)
+returns-in-Some-first t c = arithmetic-other written arithmetic-written c.in-Arithmetic.links c.in-Arithmetic.is c.deref-in-Arithmetic.ensures.value c.in-Some-first.ensures.value
 
 pub returns-in-None-first : goal.returns-in-None-first
 returns-in-None-first t c =
-    let n = c.in-Arithmetic in
-    let ls = c.deref-in-Arithmetic.result.now in
-    let x = c.deref-in-None-first.result.now in
     c.as_written-in-None-first.ensures
-    ∙ sym (arithmetic-read written arithmetic-written c.args.term.now x n.first n.links ls n.is c.deref-in-None-first.ensures c.deref-in-Arithmetic.ensures.value
-    ∙ operations-alone (written (term_form x)) ls c.in-None-first.ensures.value)
+    ∙ arithmetic-same written arithmetic-written c.in-Arithmetic.links c.in-Arithmetic.is c.deref-in-None-first.ensures c.deref-in-Arithmetic.ensures.value c.in-None-first.ensures.value
