@@ -13,7 +13,7 @@ use Rattle.pb_sorts.specs.declared.carrier.Carrier.{Carrier}
 use Rattle.pb_sorts.specs.declared.carrier.Carrier.TheVariants as carrier
 use Rattle.pb_text_meaning.specs.Syntax.{Operator}
 use Rattle.pb_typing_declarations.specs.Shapes.{Shape, Unknown, Truths, Places, Wholes}
-use Rattle.pb_typing_rules.specs.Shapes.{interval}
+use Rattle.pb_typing_rules.specs.Shapes.{between}
 use Rattle.pb_bytecode.specs.Limits.{is_byte, is_u16, enumerator_count, are_bounds, fits_op, fits_carrier}
 use Rattle.pb_bytecode_program.specs.declared.version.Version.TheVariants as version
 use Rattle.pb_bytecode_program.specs.declared.instruction.Leaf.TheVariants as leaf
@@ -156,7 +156,7 @@ module _ (sizes : List ℕ) where
       range_fits (carrier.Range r) Unknown h = tt
       range_fits (carrier.Range r) Truths h = tt
       range_fits (carrier.Range r) (Places s n) h = tt
-      range_fits (carrier.Range r) (Wholes l g) h = by (is_included (interval l g) (interval r.low r.high))
+      range_fits (carrier.Range r) (Wholes l g) h = by (is_included (between l g) (between r.low r.high))
         where
           by : (c : Bool) → RangeFits (if c then None else Some (r.low, r.high))
           by true = tt

@@ -16,7 +16,7 @@ use Rattle.pb_normal.specs.declared.formula.Junction.TheVariants.{And, Or}
 use Rattle.pb_normal.specs.declared.formula.Formula as formula
 use Rattle.pb_normal.specs.declared.formula.Formula.{Formula}
 use Rattle.pb_normal.specs.Normalisation.{dual}
-use Rattle.pb_normal.specs.View.{chained, nested, formula_view, formula_views}
+use Rattle.pb_normal.specs.View.{chained_formula, nested, formula_view, formula_views}
 use Rattle.pb_bytecode_program.specs.declared.instruction.Op.TheVariants as op
 use Rattle.pb_assembler_scheme.specs.Pieces.{Piece, Plain, Then, Unless, Choose, Repeat}
 use Rattle.pb_assembler_scheme.specs.Scheme.{data_piece, neutral, junction_of, test_of, tested_piece, join_piece, under, bracketed, deciding_leaf, formula_piece}
@@ -35,15 +35,15 @@ use Rattle.pb_assembler_measures.proofs.FormulaWeight.{weight, formulas_weight, 
 module _ (callees : List (List Carrier)) where
   -- the code of a chain is that of its test, which guards the chain that is left
   abbrev IsDecided : (m a : Junction) → normal.Formula → Guarded → Type 0
-  IsDecided m a f r = formula_piece callees a f ≡ tested_piece m a r.0 (formula_piece callees a (chained (Join m) r.1.0 r.1.1))
+  IsDecided m a f r = formula_piece callees a f ≡ tested_piece m a r.0 (formula_piece callees a (chained_formula (Join m) r.1.0 r.1.1))
 
-  decided : (m a : Junction) (f : normal.Formula) (gs : List normal.Formula) → IfSome (early_test f gs) (IsDecided m a (chained (Join m) f gs))
+  decided : (m a : Junction) (f : normal.Formula) (gs : List normal.Formula) → IfSome (early_test f gs) (IsDecided m a (chained_formula (Join m) f gs))
   decided m a f [] = tt
   decided m a f (g ∷ gs) = by (test_of f) (test_of g) refl refl gs
     where
-      by : (u v : Option Term) → u ≡ test_of f → v ≡ test_of g → (gs : List normal.Formula) → IfSome (guarded_by u v f g gs) (IsDecided m a (chained (Join m) f (g ∷ gs)))
+      by : (u v : Option Term) → u ≡ test_of f → v ≡ test_of g → (gs : List normal.Formula) → IfSome (guarded_by u v f g gs) (IsDecided m a (chained_formula (Join m) f (g ∷ gs)))
       by (Some t) v e k gs =
-          let R = chained (Join m) g gs in
+          let R = chained_formula (Join m) g gs in
           ap (λ o. join_piece m a o (test_of R) (formula_piece callees a f) (formula_piece callees a R) (formula_piece callees m f) (formula_piece callees m R)) (sym e)
       by None (Some t) e k [] =
           ap (λ o. join_piece m a o (test_of g) (formula_piece callees a f) (formula_piece callees a g) (formula_piece callees m f) (formula_piece callees m g)) (sym e)
@@ -53,21 +53,21 @@ module _ (callees : List (List Carrier)) where
 
   -- where no test comes first, the operands stand one behind the other
   undecided : (m a : Junction) (f g : normal.Formula) (gs : List normal.Formula) → early_test f (g ∷ gs) ≡ None
-      → formula_piece callees a (chained (Join m) f (g ∷ gs)) ≡ under m a (Then (formula_piece callees m f) (formula_piece callees m (chained (Join m) g gs)))
+      → formula_piece callees a (chained_formula (Join m) f (g ∷ gs)) ≡ under m a (Then (formula_piece callees m f) (formula_piece callees m (chained_formula (Join m) g gs)))
   undecided m a f g gs n = by (test_of f) (test_of g) refl refl gs n
     where
       by : (u v : Option Term) → u ≡ test_of f → v ≡ test_of g → (gs : List normal.Formula) → guarded_by u v f g gs ≡ None
-          → formula_piece callees a (chained (Join m) f (g ∷ gs)) ≡ under m a (Then (formula_piece callees m f) (formula_piece callees m (chained (Join m) g gs)))
+          → formula_piece callees a (chained_formula (Join m) f (g ∷ gs)) ≡ under m a (Then (formula_piece callees m f) (formula_piece callees m (chained_formula (Join m) g gs)))
       by (Some t) v e k gs n = cc
       by None (Some t) e k [] n = cc
       by None (Some t) e k (h ∷ hs) n =
-          let R = chained (Join m) g (h ∷ hs) in
+          let R = chained_formula (Join m) g (h ∷ hs) in
           ap (λ o. join_piece m a o None (formula_piece callees a f) (formula_piece callees a R) (formula_piece callees m f) (formula_piece callees m R)) (sym e)
       by None None e k [] n =
           ap (λ o. join_piece m a o (test_of g) (formula_piece callees a f) (formula_piece callees a g) (formula_piece callees m f) (formula_piece callees m g)) (sym e)
           ∙ ap (λ o. join_piece m a None o (formula_piece callees a f) (formula_piece callees a g) (formula_piece callees m f) (formula_piece callees m g)) (sym k)
       by None None e k (h ∷ hs) n =
-          let R = chained (Join m) g (h ∷ hs) in
+          let R = chained_formula (Join m) g (h ∷ hs) in
           ap (λ o. join_piece m a o None (formula_piece callees a f) (formula_piece callees a R) (formula_piece callees m f) (formula_piece callees m R)) (sym e)
 
 under_own : (m : Junction) (x : Piece) → under m m x ≡ x
@@ -95,23 +95,23 @@ small_test (Each q s shape f) h = tt
 small_test (Call X xs) h = tt
 
 abbrev AreSmall : Junction → Guarded → Type 0
-AreSmall m r = (is_small r.0 ≡ true) × (is_small_formula (chained (Join m) r.1.0 r.1.1) ≡ true)
+AreSmall m r = (is_small r.0 ≡ true) × (is_small_formula (chained_formula (Join m) r.1.0 r.1.1) ≡ true)
 
-small_parts : (m : Junction) (f : normal.Formula) (gs : List normal.Formula) → is_small_formula (chained (Join m) f gs) ≡ true → IfSome (early_test f gs) (AreSmall m)
+small_parts : (m : Junction) (f : normal.Formula) (gs : List normal.Formula) → is_small_formula (chained_formula (Join m) f gs) ≡ true → IfSome (early_test f gs) (AreSmall m)
 small_parts m f [] h = tt
 small_parts m f (g ∷ gs) h =
-    let both = and_parts (is_small_formula f) (is_small_formula (chained (Join m) g gs)) h in
+    let both = and_parts (is_small_formula f) (is_small_formula (chained_formula (Join m) g gs)) h in
     by (test_of f) (test_of g) refl refl gs both.0 both.1
   where
     by : (u v : Option Term) → u ≡ test_of f → v ≡ test_of g → (gs : List normal.Formula) → is_small_formula f ≡ true
-        → is_small_formula (chained (Join m) g gs) ≡ true → IfSome (guarded_by u v f g gs) (AreSmall m)
+        → is_small_formula (chained_formula (Join m) g gs) ≡ true → IfSome (guarded_by u v f g gs) (AreSmall m)
     by (Some t) v e k gs h i = (subst (λ o. IfSome o (λ t. is_small t ≡ true)) (sym e) (small_test f h), i)
     by None (Some t) e k [] h i = (subst (λ o. IfSome o (λ t. is_small t ≡ true)) (sym k) (small_test g i), h)
     by None (Some t) e k (x ∷ xs) h i = tt
     by None None e k gs h i = tt
 
-small_rest : (m : Junction) (f g : normal.Formula) (gs : List normal.Formula) → is_small_formula (chained (Join m) f (g ∷ gs)) ≡ true → is_small_formula (chained (Join m) g gs) ≡ true
-small_rest m f g gs h = (and_parts (is_small_formula f) (is_small_formula (chained (Join m) g gs)) h).1
+small_rest : (m : Junction) (f g : normal.Formula) (gs : List normal.Formula) → is_small_formula (chained_formula (Join m) f (g ∷ gs)) ≡ true → is_small_formula (chained_formula (Join m) g gs) ≡ true
+small_rest m f g gs h = (and_parts (is_small_formula f) (is_small_formula (chained_formula (Join m) g gs)) h).1
 
 left_weighs : (first : Formula) (rest : List Formula) (f : Formula) (gs : List Formula) → IsLeft first rest f gs
     → (length gs < length rest) × (weight f + formulas_weight gs < weight first + formulas_weight rest)
@@ -125,7 +125,7 @@ left_weighs first rest f gs (inr (same, none, some)) =
     more (x ∷ xs) l = let p = positive x in omega arith
 
 all_other : (callees : List (List Carrier)) (a : Junction) (f : normal.Formula) (gs : List normal.Formula) → 0 < length gs → early_test f gs ≡ None
-    → formula_piece callees a (chained (Join (dual a)) f gs) ≡ bracketed (dual a) (formula_piece callees (dual a) (chained (Join (dual a)) f gs))
+    → formula_piece callees a (chained_formula (Join (dual a)) f gs) ≡ bracketed (dual a) (formula_piece callees (dual a) (chained_formula (Join (dual a)) f gs))
 all_other callees a f [] l n = absurd (omega arith)
 all_other callees a f (g ∷ gs) l n =
     undecided callees (dual a) a f g gs n ∙ under_other a _
@@ -201,7 +201,7 @@ other_kind Or And b e n = refl
 other_kind Or Or b e n = absurd (true≢false (sym e ∙ n))
 
 pub untested : (callees : List (List Carrier)) (a : Junction) (f : normal.Formula) (gs : List Formula) → 0 < length gs → early_test f (formula_views gs) ≡ None
-    → formula_piece callees a (chained (Join (dual a)) f (formula_views gs)) ≡ bracketed (dual a) (formula_piece callees (dual a) (chained (Join (dual a)) f (formula_views gs)))
+    → formula_piece callees a (chained_formula (Join (dual a)) f (formula_views gs)) ≡ bracketed (dual a) (formula_piece callees (dual a) (chained_formula (Join (dual a)) f (formula_views gs)))
 untested callees a f [] l n = absurd (omega arith)
 untested callees a f (g ∷ gs) l n = all_other callees a f (formula_view g ∷ formula_views gs) (omega arith) n
 
@@ -215,14 +215,14 @@ same_kind Or Or b e is = refl
 
 -- a formula joins a first operand and the rest
 pub record IsJoinOf (t : Formula) (m : Junction) (f : Formula) (fs : List Formula) : Type 0 where
-  pub view : chained (Join m) (formula_view f) (formula_views fs) ≡ formula_view t
+  pub view : chained_formula (Join m) (formula_view f) (formula_views fs) ≡ formula_view t
   pub weighs : weight t ≡ 8 + (weight f + formulas_weight fs)
 
 pub join_read : {t f : Formula} {m : Junction} {fs : List Formula} (k : Junction) (b : Box Formula Global) (v : Vec Formula Global)
     → t ≡ formula.Join k b v → f ≡ box_value b → fs ≡ v.items → k ≡ m → IsJoinOf t m f fs
 join_read {t} {f} {m} {fs} k b v is first rest kind = record {
   view =
-      ap (λ (n : Junction). chained (Join n) (formula_view f) (formula_views fs)) (sym kind)
+      ap (λ (n : Junction). chained_formula (Join n) (formula_view f) (formula_views fs)) (sym kind)
       ∙ join_is t f k b v fs is first rest;
   weighs = join_weighs t f k b v fs is first rest;
 }
@@ -253,12 +253,12 @@ behind_first (g ∷ gs) x l is = ap (λ (y : Formula). y ∷ gs) (sym is)
 
 -- the code of a chain of this kind, in a bracket of the kind a
 abbrev pub operands_piece : List (List Carrier) → (m a : Junction) → Formula → List Formula → Piece
-operands_piece callees m a f fs = formula_piece callees a (chained (Join m) (formula_view f) (formula_views fs))
+operands_piece callees m a f fs = formula_piece callees a (chained_formula (Join m) (formula_view f) (formula_views fs))
 
 -- the whole chain of first and rest awaits the code of these operands, which keep what is asked of them
 pub record AreLeft (callees : List (List Carrier)) (m a : Junction) (first : Formula) (rest : List Formula) (l : ℕ) (d0 d : Draft) (f : Formula) (fs : List Formula) : Type 0 where
   pub awaits : Awaits (operands_piece callees m a first rest) (operands_piece callees m a f fs) l d0 d
-  pub small : is_small_formula (chained (Join m) (formula_view f) (formula_views fs)) ≡ true
+  pub small : is_small_formula (chained_formula (Join m) (formula_view f) (formula_views fs)) ≡ true
   pub lighter : weight f + formulas_weight fs ≤ weight first + formulas_weight rest
 
 -- in the code's words
@@ -270,7 +270,7 @@ are_left {callees} {m} {a} {first} {rest} {l} {d0} {d} {f} fs same h =
 
 -- at the beginning all are
 pub all_left : {callees : List (List Carrier)} {m a : Junction} {first : Formula} {rest : List Formula} {l : ℕ} {d0 d : Draft}
-    → is_small_formula (chained (Join m) (formula_view first) (formula_views rest)) ≡ true
+    → is_small_formula (chained_formula (Join m) (formula_view first) (formula_views rest)) ≡ true
     → l ≡ length d0.places → d ≡ record d0 { places = d0.places ++ None ∷ [] } → AreLeft callees m a first rest l d0 d first rest
 all_left small label made = record { awaits = awaits_all label made; small = small; lighter = omega arith }
 
@@ -285,7 +285,7 @@ module _ {callees : List (List Carrier)} {m a : Junction} {first : Formula} {res
   guarded_left w b t told left same {d1} {d2} tested guarding is goes =
       let other = other_of b f fs in
       let more = drop 1 fs in
-      let step = subst (λ o. IfSome o (IsDecided callees m a (chained (Join m) (formula_view f) (formula_views fs)))) (sym told) (decided callees m a (formula_view f) (formula_views fs)) in
+      let step = subst (λ o. IfSome o (IsDecided callees m a (chained_formula (Join m) (formula_view f) (formula_views fs)))) (sym told) (decided callees m a (formula_view f) (formula_views fs)) in
       let lighter = left_weighs f fs other more left in
       are_left fs same (record {
         awaits = goes _ (awaits_then (subst (λ (q : Piece). Awaits (operands_piece callees m a first rest) q l d0 d)
@@ -310,7 +310,7 @@ module _ {callees : List (List Carrier)} {m : Junction} {first : Formula} {rest 
       ∙ under_own m _ in
       are_left fs refl (record {
         awaits = awaits_then (subst (λ (q : Piece). Awaits (operands_piece callees m m first rest) q l d0 d) same w.awaits) h;
-        small = small_rest m x (formula_view g) gs (subst (λ (zs : List Formula). is_small_formula (chained (Join m) x (formula_views zs)) ≡ true) split w.small);
+        small = small_rest m x (formula_view g) gs (subst (λ (zs : List Formula). is_small_formula (chained_formula (Join m) x (formula_views zs)) ≡ true) split w.small);
         lighter = omega (arith, w.lighter, ap formulas_weight split);
       })
 

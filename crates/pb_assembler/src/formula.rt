@@ -2,7 +2,7 @@
 
 ghost use Rattle.std.specs.Prelude.{◌≡◌, true, drop, option_map, Option, None, IfSome};
 ghost use Rattle.std.specs.Prelude.{OnOk};
-ghost use Rattle.pb_typing_tree.specs.View.{chained};
+ghost use Rattle.pb_typing_tree.specs.View.{chained_formula};
 ghost use Rattle.pb_normal.specs.Normal.{Join};
 ghost use Rattle.pb_normal.specs.Normalisation.{dual};
 ghost use Rattle.pb_normal.specs.View.{formula_view, formula_views, nested};
@@ -234,10 +234,10 @@ fn emit_inside<'t>(
     first: &Formula<'t>,
     rest: &[Formula<'t>],
 ) -> Result<(), AllocError>
-    requires { is_small_formula (chained (Join kind) (formula_view first.now)
+    requires { is_small_formula (chained_formula (Join kind) (formula_view first.now)
         (formula_views rest.now)) ≡ true }
     ensures { OnOk result (Emits (formula_piece layout.now kind
-        (chained (Join kind) (formula_view first.now) (formula_views rest.now)))
+        (chained_formula (Join kind) (formula_view first.now) (formula_views rest.now)))
         nowhere builder.old builder.new) }
 {
     let last = builder.label()?;
@@ -276,10 +276,10 @@ fn emit_outside<'t>(
     first: &Formula<'t>,
     rest: &[Formula<'t>],
 ) -> Result<(), AllocError>
-    requires { is_small_formula (chained (Join (dual around)) (formula_view first.now)
+    requires { is_small_formula (chained_formula (Join (dual around)) (formula_view first.now)
         (formula_views rest.now)) ≡ true }
     ensures { OnOk result (Emits (formula_piece layout.now around
-        (chained (Join (dual around)) (formula_view first.now) (formula_views rest.now)))
+        (chained_formula (Join (dual around)) (formula_view first.now) (formula_views rest.now)))
         nowhere builder.old builder.new) }
 {
     let last = builder.label()?;
@@ -307,11 +307,11 @@ fn emit_untested<'t>(
     first: &Formula<'t>,
     rest: &[Formula<'t>],
 ) -> Result<(), AllocError>
-    requires small { is_small_formula (chained (Join (dual around)) (formula_view first.now)
+    requires small { is_small_formula (chained_formula (Join (dual around)) (formula_view first.now)
         (formula_views rest.now)) ≡ true }
     requires untested { early_test (formula_view first.now) (formula_views rest.now) ≡ None }
     ensures { OnOk result (Emits (formula_piece layout.now around
-        (chained (Join (dual around)) (formula_view first.now) (formula_views rest.now)))
+        (chained_formula (Join (dual around)) (formula_view first.now) (formula_views rest.now)))
         nowhere builder.old builder.new) }
 {
     if rest.is_empty() {

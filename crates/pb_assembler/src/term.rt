@@ -3,7 +3,7 @@
 ghost use Rattle.std.specs.Prelude.{◌≡◌, ◌&&◌, false, true, OnOk};
 ghost use Rattle.pb_text_meaning.specs.Erase.{of_comparison, of_connective};
 ghost use Rattle.pb_typing_tree.specs.Tree.{Binary};
-ghost use Rattle.pb_typing_tree.specs.View.{calculated, chained, link_views, term_view, term_views};
+ghost use Rattle.pb_typing_tree.specs.View.{term_of_operands, chained_formula, link_views, term_view, term_views};
 ghost use Rattle.pb_assembler_scheme.specs.Pieces.{Plain, Then, Choose};
 ghost use Rattle.pb_assembler_scheme.specs.Scheme.{data_piece, in_order};
 ghost use Rattle.pb_assembler_builder.specs.Draft.{has_target};
@@ -205,9 +205,9 @@ fn emit_chain(
     first: &Term,
     links: &[Term],
 ) -> Result<(), AllocError>
-    requires { is_small (chained (Binary (of_connective connective)) (term_view first.now)
+    requires { is_small (chained_formula (Binary (of_connective connective)) (term_view first.now)
         (term_views links.now)) ≡ true }
-    ensures { OnOk result (Emits (data_piece (chained (Binary (of_connective connective))
+    ensures { OnOk result (Emits (data_piece (chained_formula (Binary (of_connective connective))
         (term_view first.now) (term_views links.now))) nowhere builder.old builder.new) }
 {
     if links.is_empty() {
@@ -225,8 +225,8 @@ fn emit_chain(
 /// Operands of arithmetic, the first one first.
 #[cycle(terms)]
 fn emit_arithmetic(builder: &mut Builder, first: &Term, links: &[Link]) -> Result<(), AllocError>
-    requires { is_small (calculated (term_view first.now) (link_views links.now)) ≡ true }
-    ensures { OnOk result (Emits (data_piece (calculated (term_view first.now)
+    requires { is_small (term_of_operands (term_view first.now) (link_views links.now)) ≡ true }
+    ensures { OnOk result (Emits (data_piece (term_of_operands (term_view first.now)
         (link_views links.now))) nowhere builder.old builder.new) }
 {
     emit_term(builder, first)?;

@@ -10,7 +10,7 @@ use Rattle.pb_normal.specs.Normal.{Join}
 use Rattle.pb_normal.specs.declared.formula.Junction.{Junction}
 use Rattle.pb_normal.specs.declared.formula.Formula as formula
 use Rattle.pb_normal.specs.declared.formula.Formula.{Formula, Row_of-Formula, end_of-Formula, more_of-Formula, items-the_row-Formula, items_hidden-the_row-Formula-0}
-use Rattle.pb_normal.specs.View.{formula_view, formula_views, chained, nested}
+use Rattle.pb_normal.specs.View.{formula_view, formula_views, chained_formula, nested}
 use Rattle.pb_normal.proofs.Views.{formula-join}
 use Rattle.pb_assembler_scheme.specs.Scheme.{test_of}
 
@@ -44,10 +44,10 @@ weight-join c first v =
 
 -- in the code's words
 pub join_is : (t x : Formula) (c : Junction) (first : Box Formula Global) (v : Vec Formula Global) (rest : List Formula) → t ≡ formula.Join c first v → x ≡ box_value first → rest ≡ v.items
-    → chained (Join c) (formula_view x) (formula_views rest) ≡ formula_view t
+    → chained_formula (Join c) (formula_view x) (formula_views rest) ≡ formula_view t
 join_is t x c first v rest is same are =
-    ap (λ (y : Formula). chained (Join c) (formula_view y) (formula_views rest)) same
-    ∙ ap (λ (fs : List Formula). chained (Join c) (formula_view (box_value first)) (formula_views fs)) are
+    ap (λ (y : Formula). chained_formula (Join c) (formula_view y) (formula_views rest)) same
+    ∙ ap (λ (fs : List Formula). chained_formula (Join c) (formula_view (box_value first)) (formula_views fs)) are
     ∙ sym (ap formula_view is ∙ formula-join c first v)
 
 pub join_weighs : (t x : Formula) (c : Junction) (first : Box Formula Global) (v : Vec Formula Global) (rest : List Formula) → t ≡ formula.Join c first v → x ≡ box_value first → rest ≡ v.items
@@ -75,7 +75,7 @@ alone t x c first v is same none = join_is t x c first v [] is same (sym (nil_fr
 pub several : (t : Formula) (c : Junction) (first : Box Formula Global) (v : Vec Formula Global) → t ≡ formula.Join c first v → 0 < length v.items → None ≡ test_of (formula_view t)
 several t c first v is some = by v.items some ∙ ap test_of (join_is t (box_value first) c first v v.items is refl refl)
   where
-    by : (fs : List Formula) → 0 < length fs → None ≡ test_of (chained (Join c) (formula_view (box_value first)) (formula_views fs))
+    by : (fs : List Formula) → 0 < length fs → None ≡ test_of (chained_formula (Join c) (formula_view (box_value first)) (formula_views fs))
     by [] l = absurd (omega arith)
     by (f ∷ fs) l = refl
 

@@ -8,11 +8,11 @@ use Rattle.pb_normal.specs.Normal.{Join}
 use Rattle.pb_normal.specs.declared.formula.Junction.{Junction}
 use Rattle.pb_normal.specs.declared.formula.Formula as formula
 use Rattle.pb_normal.specs.declared.formula.Formula.{Formula}
-use Rattle.pb_normal.specs.View.{chained, formula_view, formula_views, nested}
+use Rattle.pb_normal.specs.View.{chained_formula, formula_view, formula_views, nested}
 use Rattle.pb_normal.proofs.Views.{formula-join}
 use Rattle.pb_assembler_scheme.specs.Scheme.{head, junction_of}
 
-chain_head : (m : Junction) (f : normal.Formula) (fs : List Formula) → 0 < length fs → head (chained (Join m) f (formula_views fs)) ≡ m
+chain_head : (m : Junction) (f : normal.Formula) (fs : List Formula) → 0 < length fs → head (chained_formula (Join m) f (formula_views fs)) ≡ m
 chain_head m f [] l = absurd (omega arith)
 chain_head m f (g ∷ gs) l = refl
 

@@ -6,7 +6,7 @@ use Rattle.pb_sorts.specs.declared.carrier.Carrier.{Carrier}
 use Rattle.pb_sorts.specs.declared.carrier.Carrier.TheVariants as carriers
 use Rattle.pb_typing_declarations.specs.Shapes.{Shape, Unknown, Truths, Places, Wholes}
 use Rattle.pb_typing_declarations.specs.Entries.{carrier_shape}
-use Rattle.pb_typing_rules.specs.Shapes.{interval}
+use Rattle.pb_typing_rules.specs.Shapes.{between}
 use Rattle.pb_normal.specs.declared.formula.Junction.{Junction}
 use Rattle.pb_normal.specs.Normal.{Argument, Formula, Test, Join, Each, Call}
 use Rattle.pb_normal.specs.View.{shapes_of}
@@ -31,8 +31,8 @@ tested_same (carriers.Range q) (carriers.Range r) (Places n k) e = refl
 tested_same (carriers.Range q) (carriers.Range r) (Wholes l h) e =
     let low : q.low ≡ r.low = cc in
     let high : q.high ≡ r.high = cc in
-    ap (λ (z : ℤ). is_some {T = ℤ × ℤ} (cond (is_included (interval l h) (interval z q.high)) None (Some (z, q.high)))) low
-    ∙ ap (λ (z : ℤ). is_some {T = ℤ × ℤ} (cond (is_included (interval l h) (interval r.low z)) None (Some (r.low, z)))) high
+    ap (λ (z : ℤ). is_some {T = ℤ × ℤ} (cond (is_included (between l h) (between z q.high)) None (Some (z, q.high)))) low
+    ∙ ap (λ (z : ℤ). is_some {T = ℤ × ℤ} (cond (is_included (between l h) (between r.low z)) None (Some (r.low, z)))) high
 
 any_same : (cs ds : List Carrier) (xs : List Argument) → shapes_of cs ≡ shapes_of ds → any_tested cs xs ≡ any_tested ds xs
 any_same [] [] xs e = refl

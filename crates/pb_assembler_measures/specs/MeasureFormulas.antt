@@ -9,7 +9,7 @@ use Rattle.pb_normal.specs.declared.formula.Junction.{Junction}
 use Rattle.pb_normal.specs.declared.formula.Junction.TheVariants.{And, Or}
 use Rattle.pb_normal.specs.Normal.{Term, Argument, Formula, Test, Join, Each, Call}
 use Rattle.pb_normal.specs.declared.formula.Formula as formula
-use Rattle.pb_normal.specs.View.{chained, formula_view, formula_views}
+use Rattle.pb_normal.specs.View.{chained_formula, formula_view, formula_views}
 use Rattle.pb_assembler_scheme.specs.Scheme.{junction_of, test_of, tested_range, any_tested, parameters}
 use Rattle.pb_assembler_scheme.specs.Limits.{one_kept}
 use Rattle.pb_assembler_measures.specs.declared.measure_load.Load.{Load}
@@ -177,7 +177,7 @@ formula_tally callees around (Call equation xs) =
 -- the operands from one of them on
 abbrev pub form_chain : Junction → List formula.Formula → Formula
 form_chain m [] = Test (Term.Truth true)
-form_chain m (f ∷ fs) = chained (Join m) (formula_view f) (formula_views fs)
+form_chain m (f ∷ fs) = chained_formula (Join m) (formula_view f) (formula_views fs)
 
 -- the kind of the bracket that is open behind an operand of a chain
 abbrev pub kind_by : Option Term → (m around : Junction) → Junction

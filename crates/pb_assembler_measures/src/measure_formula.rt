@@ -2,7 +2,7 @@
 
 ghost use Rattle.std.specs.Prelude.{◌≡◌, ◌<◌, ◌||◌, ℕ, None, length, map};
 ghost use Rattle.std.specs.List.{slice_get};
-ghost use Rattle.pb_typing_tree.specs.View.{argument_view, chained};
+ghost use Rattle.pb_typing_tree.specs.View.{argument_view, chained_formula};
 ghost use Rattle.pb_normal.specs.declared.formula.Junction.{Junction};
 ghost use Rattle.pb_normal.specs.Normal.{Call, Join};
 ghost use Rattle.pb_normal.specs.View.{formula_view, formula_views, nested};
@@ -231,7 +231,7 @@ fn measure_join(
     rest: &[Formula<'_>],
 ) -> Tally
     ensures { result ≡ capped_tally (formula_tally layout.now around
-        (chained (Join junction) (formula_view first.now) (formula_views rest.now))) }
+        (chained_formula (Join junction) (formula_view first.now) (formula_views rest.now))) }
 {
     if rest.is_empty() {
         return measure_formula(layout, around, first);

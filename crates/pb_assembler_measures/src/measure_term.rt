@@ -3,7 +3,7 @@
 ghost use Rattle.std.specs.Prelude.{◌≡◌};
 ghost use Rattle.pb_text_meaning.specs.Erase.{of_comparison, of_connective};
 ghost use Rattle.pb_typing_tree.specs.Tree.{Binary};
-ghost use Rattle.pb_typing_tree.specs.View.{calculated, chained, link_views, term_view, term_views};
+ghost use Rattle.pb_typing_tree.specs.View.{term_of_operands, chained_formula, link_views, term_view, term_views};
 ghost use Rattle.pb_assembler_measures.specs.MeasureTerms.{both, capped_load, choice_load, connective_load};
 ghost use Rattle.pb_assembler_measures.specs.MeasureTerms.{single, term_load, followed};
 
@@ -115,7 +115,7 @@ fn connected(connective: Connective, behind: Load, operand: Load) -> Load
 #[cycle(measures)]
 fn measure_chain(connective: Connective, first: &Term, links: &[Term]) -> Load
     ensures { result ≡ capped_load (term_load
-        (chained (Binary (of_connective connective)) (term_view first.now)
+        (chained_formula (Binary (of_connective connective)) (term_view first.now)
         (term_views links.now))) }
 {
     if links.is_empty() {
@@ -136,7 +136,7 @@ fn measure_chain(connective: Connective, first: &Term, links: &[Term]) -> Load
 #[cycle(measures)]
 fn measure_arithmetic(first: &Term, links: &[Link]) -> Load
     ensures { result ≡ capped_load (term_load
-        (calculated (term_view first.now) (link_views links.now))) }
+        (term_of_operands (term_view first.now) (link_views links.now))) }
 {
     let mut load = measure_term(first);
     for link in links {

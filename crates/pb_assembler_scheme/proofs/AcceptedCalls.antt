@@ -10,7 +10,7 @@ use Rattle.pb_base_values.specs.Interval as intervals
 use Rattle.pb_sorts.specs.declared.carrier.Carrier.{Carrier}
 use Rattle.pb_sorts.specs.declared.carrier.Carrier.TheVariants as carrier
 use Rattle.pb_typing_declarations.specs.Shapes.{Shape, Unknown, Truths, Places, Wholes}
-use Rattle.pb_typing_rules.specs.Shapes.{interval}
+use Rattle.pb_typing_rules.specs.Shapes.{between}
 use Rattle.pb_bytecode_program.specs.Values.{is_inhabited}
 use Rattle.pb_bytecode_program.specs.Abstract.{Covers}
 use Rattle.pb_bytecode_program.specs.declared.domain.AbstractValue.{AbstractValue}
@@ -57,9 +57,9 @@ answered (carrier.Enum n) (Wholes l h) f e = absurd f
 answered (carrier.Range r) Unknown f e = absurd f
 answered (carrier.Range r) Truths f e = absurd f
 answered (carrier.Range r) (Places s n) f e = absurd f
-answered (carrier.Range r) (Wholes l h) f e = by (intervals.is_included (interval l h) (interval r.low r.high)) refl
+answered (carrier.Range r) (Wholes l h) f e = by (intervals.is_included (between l h) (between r.low r.high)) refl
   where
-    by : (b : Bool) → intervals.is_included (interval l h) (interval r.low r.high) ≡ b → Answers (carrier.Range r) (abstract.Int l h) (cond b None (Some (r.low, r.high)))
+    by : (b : Bool) → intervals.is_included (between l h) (between r.low r.high) ≡ b → Answers (carrier.Range r) (abstract.Int l h) (cond b None (Some (r.low, r.high)))
     by true w = w
     by false w = record {
       least = l;

@@ -13,7 +13,7 @@ use Rattle.pb_sorts.specs.Carrier.{values_of}
 use Rattle.pb_fixpoint_trees.specs.declared.Token.{Token}
 use Rattle.pb_fixpoint_trees.specs.declared.Token.TheVariants as token
 use Rattle.pb_typing_declarations.specs.Shapes.{Shape, Unknown, Truths, Places, Wholes}
-use Rattle.pb_typing_rules.specs.Shapes.{interval}
+use Rattle.pb_typing_rules.specs.Shapes.{between}
 use Rattle.pb_bytecode_program.specs.Values.{TaggedValue, IntValue, untagged}
 use Rattle.pb_bytecode_program.specs.Machine
 use Rattle.pb_bytecode_program.specs.Machine.{Program, State, Outcome, MachineFault, argument_fault}
@@ -59,7 +59,7 @@ fails-range (carrier.Enum n) shape tested e z out = cc
 fails-range (carrier.Range r) Unknown tested e z out = cc
 fails-range (carrier.Range r) Truths tested e z out = cc
 fails-range (carrier.Range r) (Places s n) tested e z out = cc
-fails-range (carrier.Range r) (Wholes l h) tested e z out = by (intervals.is_included (interval l h) (interval r.low r.high)) e
+fails-range (carrier.Range r) (Wholes l h) tested e z out = by (intervals.is_included (between l h) (between r.low r.high)) e
   where
     by : (b : Bool) → cond b None (Some (r.low, r.high)) ≡ Some tested → holds (carrier.Range r) z ≡ false
     by true k = cc

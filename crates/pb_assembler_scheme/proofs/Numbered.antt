@@ -28,7 +28,7 @@ use Rattle.pb_bytecode_program.specs.Values.{tagged, untagged, tagged_values}
 use Rattle.pb_bytecode_program.specs.Machine.{Program, carrier_of}
 use Rattle.pb_normal.specs.declared.formula.Junction.{Junction}
 use Rattle.pb_normal.specs.declared.formula.Junction.TheVariants.{Or}
-use Rattle.pb_normal.specs.Normal.{Argument, Formula, Test, Join, Each, Call, Slots, set, value, joined, name_of, called, truth}
+use Rattle.pb_normal.specs.Normal.{Argument, Formula, Test, Join, Each, Call, Slots, set, value, joined, name_of, called_instance, truth}
 use Rattle.pb_assembler_scheme.specs.Scheme.{neutral, junction_of, parameters}
 use Rattle.pb_assembler_scheme.specs.Correct.{IsFullCall, HasFullCalls, Declares, number_in}
 
@@ -148,7 +148,7 @@ module _ (spec : Spec) (p : Program) (declares : Declares spec p.callees) (numbe
       let number : number_in spec i ≡ call_number p k vs =
       ap (λ (j : ℕ). number_of (all_carriers spec) (record { equation = j; values = vs })) (first-named spec.equations k X declares.apart h.at)
       ∙ ap (λ cs. number_of cs (record { equation = k; values = vs })) (sym declares.carriers) in
-      let named : called spec a k xs ≡ i = ap (λ o. record { name = name_of o; values = vs }) h.at in
+      let named : called_instance spec a k xs ≡ i = ap (λ o. record { name = name_of o; values = vs }) h.at in
       both (is_within (map values_of cs) vs) (numbers (call_number p k vs)) (t i)
       (λ w. ap numbers (sym number) ∙ sym (matches i (found ∙ w)))
       ∙ ap (λ b. b && t i) (sym found)

@@ -9,7 +9,7 @@ use Rattle.pb_fixpoint_trees.specs.declared.Token.{Token}
 use Rattle.pb_text_meaning.specs.Syntax.{Operator}
 use Rattle.pb_text_meaning.specs.Value.{is_true}
 use Rattle.pb_text_meaning.proofs.Truths.{is_true-of_bool}
-use Rattle.pb_bytecode_program.specs.Values.{TaggedValue, BoolValue, IntValue, EnumValue, untagged, arithmetic, divides, absolute, compares, equals, answers, connects}
+use Rattle.pb_bytecode_program.specs.Values.{TaggedValue, BoolValue, IntValue, EnumValue, untagged, arithmetic, has_divisor, absolute, compares, equals, answers, connects}
 use Rattle.pb_bytecode_program.specs.Machine
 use Rattle.pb_bytecode_program.specs.Machine.{Program, State}
 use Rattle.pb_bytecode_program.specs.declared.instruction.Arithmetic.{Arithmetic}
@@ -105,7 +105,7 @@ module _ (p : Program) (Q : List Token → Type 0) where
       one p Q (put st q (w ∷ v ∷ vs)) (op.Arithmetic c) h
       (popped_int p Q w (v ∷ vs) _
       (popped_int p Q v vs _
-      (avoids_fault p Q (divides c && int_lt (untagged w) (pos 1)) _ _ (pushed_int p Q (put st q (w ∷ v ∷ vs)) vs _ k))))
+      (avoids_fault p Q (has_divisor c && int_lt (untagged w) (pos 1)) _ _ (pushed_int p Q (put st q (w ∷ v ∷ vs)) vs _ k))))
 
   at_compare : (o : Comparison) (st : State) (q : ℕ) (v w : TaggedValue) (vs : List TaggedValue)
       → slice_get p.code q ≡ Some (op.Compare o)

@@ -14,14 +14,14 @@ use Rattle.pb_text_meaning.specs.declared.function.NamedFunction.TheVariants.{If
 use Rattle.pb_text_meaning.specs.Functions.{named_function}
 use Rattle.pb_typing_declarations.specs.Shapes.{Shape, Unknown, Truths, Places, Wholes}
 use Rattle.pb_typing_declarations.specs.Enumerators.{Position, position_shape, enumerator_of, recogniser_of, recogniser_shape}
-use Rattle.pb_typing_rules.specs.Shapes.{may_be_truth, may_be_whole, may_be_alike, of_interval, interval, unary_shape, unary_is_limited, may_divide, binary_shape, binary_is_limited, hull, kind_of, outcome}
+use Rattle.pb_typing_rules.specs.Shapes.{may_be_truth, may_be_whole, may_be_alike, of_interval, between, unary_shape, unary_is_limited, may_divide, binary_shape, binary_is_limited, shape_hull, kind_of, outcome}
 use Rattle.pb_typing_rules.specs.Functions.{Function, known_function, function_named, OfOne, OfTwo, Conversion, Recogniser, recogniser, kept}
 use Rattle.pb_typing_rules.specs.Functions as functions
-use Rattle.pb_typing_rules.specs.Scope.{Scope, or_else, named_shape}
+use Rattle.pb_typing_rules.specs.Scope.{Scope, shape_or, named_shape}
 use Rattle.pb_typing_rules.specs.Term.{shape, shapes, shape_or_unknown, applied_shape, IsNamed, IsApplied, IsOperation, passes, IsTyped, AreTyped}
 use Rattle.pb_typing_rules.proofs.Operations.{not_or}
 use Rattle.pb_typing_rules.proofs.Functions.{may_follow}
-use Rattle.pb_bytecode_program.specs.Values.{divides, fits64, operation_of}
+use Rattle.pb_bytecode_program.specs.Values.{has_divisor, fits64, operation_of}
 use Rattle.pb_bytecode_program.specs.Abstract.{same_kind, Covers}
 use Rattle.pb_bytecode_program.specs.declared.domain.AbstractValue.{AbstractValue}
 use Rattle.pb_bytecode_program.specs.declared.domain.AbstractValue.TheVariants as abstract
@@ -76,12 +76,12 @@ pub computed : (counts : List ℕ) (c : Arithmetic) (s t : Shape) → IsKnown co
     → (may_be_whole s && may_be_whole t) ≡ true → may_divide (operation_of c) t ≡ true → binary_is_limited (operation_of c) s t ≡ true
     → Computes c (known_of s) (known_of t) (known_of (binary_shape (operation_of c) s t)) × IsKnown counts (binary_shape (operation_of c) s t)
 computed counts c (Wholes l h) (Wholes m k) a b w d e =
-    let i = binary_interval (operation_of c) (interval l h) (interval m k) in
+    let i = binary_interval (operation_of c) (between l h) (between m k) in
     let fits : is_included i literals ≡ true = not_or (may_divide (operation_of c) (Wholes m k)) (is_included i literals) d e in
     subst (λ z. Computes c (abstract.Int l h) (abstract.Int m k)
     (known_of (cond z (of_interval (within literals i)) Unknown))
     × IsKnown counts (cond z (of_interval (within literals i)) Unknown)) (sym d)
-    (limited counts (λ v. Computes c (abstract.Int l h) (abstract.Int m k) v) i fits (no_divisor (divides c) m d, fits_words i fits, refl))
+    (limited counts (λ v. Computes c (abstract.Int l h) (abstract.Int m k) v) i fits (no_divisor (has_divisor c) m d, fits_words i fits, refl))
 computed counts c Unknown t a b w d e = absurd a
 computed counts c Truths t a b w d e = absurd (true≢false (sym w))
 computed counts c (Places s n) t a b w d e = absurd (true≢false (sym w))
@@ -108,7 +108,7 @@ module _ (counts : List ℕ) (ls : List (ℕ × AbstractValue)) (ps : List Abstr
 
   negative : (t : Term) (s : Shape) → Fits t s → may_be_whole s ≡ true → unary_is_limited UnaryOperation.Negation s ≡ true → Fits (Negative t) (unary_shape UnaryOperation.Negation s)
   negative t (Wholes l h) f w e =
-      let i = unary_interval UnaryOperation.Negation (interval l h) in
+      let i = unary_interval UnaryOperation.Negation (between l h) in
       limited counts (λ v. Typed counts ls ps (Negative t) v) i e (record { l = l; h = h; operand = f.0; fits = fits_words i e; result = refl })
   negative t Unknown f w e = absurd f.1
   negative t Truths f w e = absurd (true≢false (sym w))
@@ -116,7 +116,7 @@ module _ (counts : List ℕ) (ls : List (ℕ × AbstractValue)) (ps : List Abstr
 
   absolute : (t : Term) (s : Shape) → Fits t s → may_be_whole s ≡ true → unary_is_limited UnaryOperation.AbsoluteValue s ≡ true → Fits (Absolute t) (unary_shape UnaryOperation.AbsoluteValue s)
   absolute t (Wholes l h) f w e =
-      let i = unary_interval UnaryOperation.AbsoluteValue (interval l h) in
+      let i = unary_interval UnaryOperation.AbsoluteValue (between l h) in
       limited counts (λ v. Typed counts ls ps (Absolute t) v) i e (record { l = l; h = h; operand = f.0; fits = fits_words i e; result = refl })
   absolute t Unknown f w e = absurd f.1
   absolute t Truths f w e = absurd (true≢false (sym w))
@@ -124,7 +124,7 @@ module _ (counts : List ℕ) (ls : List (ℕ × AbstractValue)) (ps : List Abstr
 
   successor : (t : Term) (s : Shape) → Fits t s → may_be_whole s ≡ true → unary_is_limited UnaryOperation.Successor s ≡ true → Fits (Successor t) (unary_shape UnaryOperation.Successor s)
   successor t (Wholes l h) f w e =
-      let i = unary_interval UnaryOperation.Successor (interval l h) in
+      let i = unary_interval UnaryOperation.Successor (between l h) in
       limited counts (λ v. Typed counts ls ps (Successor t) v) i e (abstract.Int l h, f.0, (refl, fits_words i e, refl))
   successor t Unknown f w e = absurd f.1
   successor t Truths f w e = absurd (true≢false (sym w))
@@ -132,7 +132,7 @@ module _ (counts : List ℕ) (ls : List (ℕ × AbstractValue)) (ps : List Abstr
 
   predecessor : (t : Term) (s : Shape) → Fits t s → may_be_whole s ≡ true → unary_is_limited UnaryOperation.Predecessor s ≡ true → Fits (Predecessor t) (unary_shape UnaryOperation.Predecessor s)
   predecessor t (Wholes l h) f w e =
-      let i = unary_interval UnaryOperation.Predecessor (interval l h) in
+      let i = unary_interval UnaryOperation.Predecessor (between l h) in
       limited counts (λ v. Typed counts ls ps (Predecessor t) v) i e (abstract.Int l h, f.0, (refl, fits_words i e, refl))
   predecessor t Unknown f w e = absurd f.1
   predecessor t Truths f w e = absurd (true≢false (sym w))
@@ -186,7 +186,7 @@ module _ (counts : List ℕ) (ls : List (ℕ × AbstractValue)) (ps : List Abstr
   solid_shape : (t : Term) (s : Shape) → Fits t s → Covers (known_of s) (known_of s)
   solid_shape t s f = solid counts ls ps cl cp t (known_of s) f.0
 
-  choice : (c x y : Term) (r s t : Shape) → Fits c r → Fits x s → Fits y t → may_be_truth r ≡ true → may_be_alike s t ≡ true → Fits (Choice c x y) (hull s t)
+  choice : (c x y : Term) (r s t : Shape) → Fits c r → Fits x s → Fits y t → may_be_truth r ≡ true → may_be_alike s t ≡ true → Fits (Choice c x y) (shape_hull s t)
   choice c x y r Truths Truths fc fx fy b e = ((fits_truth c r fc b, (abstract.Bool, fx.0, tt), (abstract.Bool, fy.0, tt)), tt)
   choice c x y r (Wholes l h) (Wholes m k) fc fx fy b e =
       let sx = solid_shape x (Wholes l h) fx in
@@ -366,11 +366,11 @@ module _ (counts : List ℕ) (ls : List (ℕ × AbstractValue)) (ps : List Abstr
 
   abbrev named_by : Option ℕ → Option Position → Term
   named_by (Some i) e = Slot i
-  named_by None e = made.enumerator e
+  named_by None e = made.term_of_enumerator e
 
   named_fits : (spec : Spec) → counts ≡ struct_counts spec.sorts → (x : Name) (n : ℕ) (o : Option ℕ) (s : Option Shape)
-      → InSlot counts ls ps n o s → (e : Option Position) → enumerator_of spec x ≡ e → IsNamed (or_else s (option_map position_shape e))
-      → Fits (named_by o e) (shape_or_unknown (or_else s (option_map position_shape e)))
+      → InSlot counts ls ps n o s → (e : Option Position) → enumerator_of spec x ≡ e → IsNamed (shape_or s (option_map position_shape e))
+      → Fits (named_by o e) (shape_or_unknown (shape_or s (option_map position_shape e)))
   named_fits spec same x n (Some i) (Some s) slot e is h = (slot.1, slot.2)
   named_fits spec same x n None None slot (Some p) is h =
       let known = subst (λ (c : List ℕ). IsPosition 0 c p) (sym same) (enumerator_known spec x p is) in
@@ -379,7 +379,7 @@ module _ (counts : List ℕ) (ls : List (ℕ × AbstractValue)) (ps : List Abstr
   named_fits spec same x n (Some i) None slot e is h = absurd slot
   named_fits spec same x n None (Some s) slot e is h = absurd slot
 
-  named_same : (spec : Spec) (x : Name) (o : Option ℕ) → named_by o (enumerator_of spec x) ≡ made.named spec o x
+  named_same : (spec : Spec) (x : Name) (o : Option ℕ) → named_by o (enumerator_of spec x) ≡ made.term_of_name spec o x
   named_same spec x (Some i) = refl
   named_same spec x None = refl
 

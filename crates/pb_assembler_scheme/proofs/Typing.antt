@@ -5,7 +5,7 @@ use Rattle.std.proofs.lemmas.Bool.{lt-ltb}
 use Rattle.std.proofs.lemmas.Int.{ints}
 use Rattle.pb_text_meaning.specs.Syntax.{Operator}
 use Rattle.pb_bytecode_program.proofs.Covering.{covers_through}
-use Rattle.pb_bytecode_program.specs.Values.{divides, fits64}
+use Rattle.pb_bytecode_program.specs.Values.{has_divisor, fits64}
 use Rattle.pb_bytecode_program.specs.Abstract.{Covers, interval_of, absolute_interval, same_kind}
 use Rattle.pb_bytecode_program.specs.declared.domain.AbstractValue.{AbstractValue}
 use Rattle.pb_bytecode_program.specs.declared.domain.AbstractValue.TheVariants as abstract
@@ -34,7 +34,7 @@ use Rattle.pb_assembler_scheme.proofs.Tables.{Flows, Passes}
 -- two whole numbers, whose result fits
 abbrev pub Computes : Arithmetic → AbstractValue → AbstractValue → AbstractValue → Type 0
 Computes c (abstract.Int l h) (abstract.Int m n) v =
-    ((divides c && int_lt m (pos 1)) ≡ false) × (fits64 (interval_of c l h m n).0 (interval_of c l h m n).1 ≡ true)
+    ((has_divisor c && int_lt m (pos 1)) ≡ false) × (fits64 (interval_of c l h m n).0 (interval_of c l h m n).1 ≡ true)
     × (v ≡ abstract.Int (interval_of c l h m n).0 (interval_of c l h m n).1)
 Computes c a b v = ⊥
 
@@ -137,7 +137,7 @@ computed_solid : (c : Arithmetic) (a b v : AbstractValue) → Covers a a → Cov
 computed_solid c (abstract.Int l h) (abstract.Int m n) v ca cb t =
     let x = ca.1 in
     let y = cb.1 in
-    let w = calc_within c l m l h m n ca.0 x cb.0 y (divisor (divides c) m t.0) in
+    let w = calc_within c l m l h m n ca.0 x cb.0 y (divisor (has_divisor c) m t.0) in
     let u = w.0 in
     let z = w.1 in
     subst (λ s. Covers s s) (sym t.2) (omega (arith, ints), omega (arith, ints), omega (arith, ints))

@@ -8,7 +8,7 @@ use Rattle.pb_text_tree.specs.declared.operator.Quantifier.{Quantifier}
 use Rattle.pb_text_tree.specs.declared.operator.Quantifier.TheVariants.{Forall, Exists}
 use Rattle.pb_text_meaning.specs.Syntax.{Operator}
 use Rattle.pb_typing_declarations.specs.Shapes.{Shape, Wholes}
-use Rattle.pb_typing_rules.specs.Shapes.{interval}
+use Rattle.pb_typing_rules.specs.Shapes.{between}
 use Rattle.pb_bytecode_program.specs.declared.instruction.Arithmetic.TheVariants as arithmetic
 use Rattle.pb_bytecode_program.specs.declared.instruction.Comparison.TheVariants as comparison
 use Rattle.pb_bytecode_program.specs.declared.instruction.Connective.{Connective}
@@ -132,7 +132,7 @@ join_piece m around None None f_around g_around f_own g_own = under m around (Th
 -- argument lies within
 abbrev pub tested_range : Carrier → Shape → Option (ℤ × ℤ)
 tested_range (carrier.Range r) (Wholes l h) =
-    if is_included (interval l h) (interval r.low r.high) then None else Some (r.low, r.high)
+    if is_included (between l h) (between r.low r.high) then None else Some (r.low, r.high)
 tested_range _ _ = None
 
 abbrev pub any_tested : List Carrier → List Argument → Bool

@@ -12,7 +12,7 @@ use Rattle.pb_bytecode.specs.declared.fault.FieldFault.{FieldFault}
 use Rattle.pb_base.specs.OrMemory.{IfFault}
 use Rattle.pb_base.specs.declared.or_memory.OrMemory.{OrMemory}
 use Rattle.pb_base.specs.declared.or_memory.OrMemory.TheVariants as errors
-use Rattle.pb_bytecode.specs.Reading.{◌>>=◌, Field, parameters_at, byte_at, value_at, values_at, initial_at}
+use Rattle.pb_bytecode.specs.Reading.{◌>>=◌, Field, parameters_at, byte_at, value_in_carrier, values_at, initial_at}
 use Rattle.pb_bytecode.proofs.Loop.{with_front, regroup}
 use Rattle.pb_bytecode.specs.declared.equation.Equation.{Equation}
 use Rattle.pb_bytecode.specs.Limits.{instance_count}
@@ -29,27 +29,27 @@ parameters_here (e ∷ es) (suc i) d h = parameters_here es i d (omega arith)
 
 values_fold : (cs : List Carrier) (d : Carrier) (i : ℕ) (bytes : List ℕ) → i < length cs
     → values_at (drop i cs) bytes
-    ≡ (value_at (get_or cs i d) bytes >>= λ z. values_at (drop (i + 1) cs) z.1 >>= λ zs. Ok (z.0 ∷ zs.0, zs.1))
+    ≡ (value_in_carrier (get_or cs i d) bytes >>= λ z. values_at (drop (i + 1) cs) z.1 >>= λ zs. Ok (z.0 ∷ zs.0, zs.1))
 values_fold [] d i bytes h = absurd (omega arith)
 values_fold (c ∷ cs) d zero bytes h = refl
 values_fold (c ∷ cs) d (suc i) bytes h =
     let z : suc i + 1 ≡ suc (i + 1) = omega arith in
-    values_fold cs d i bytes (omega arith) ∙ ap (λ m. value_at (get_or cs i d) bytes >>= λ z. values_at (drop m (c ∷ cs)) z.1 >>= λ zs. Ok (z.0 ∷ zs.0, zs.1)) (sym z)
+    values_fold cs d i bytes (omega arith) ∙ ap (λ m. value_in_carrier (get_or cs i d) bytes >>= λ z. values_at (drop m (c ∷ cs)) z.1 >>= λ zs. Ok (z.0 ∷ zs.0, zs.1)) (sym z)
 
 pub value_read : (front : List ℤ) (cs : List Carrier) (c : Carrier) (i : ℕ) (bytes rest : List ℕ) (z : ℤ)
-    (total : Field (List ℤ)) → i < length cs → c ≡ get_or cs i c → value_at c bytes ≡ Ok (z, rest)
+    (total : Field (List ℤ)) → i < length cs → c ≡ get_or cs i c → value_in_carrier c bytes ≡ Ok (z, rest)
     → with_front front (values_at (drop i cs) bytes) ≡ total → with_front (front ++ z ∷ []) (values_at (drop (i + 1) cs) rest) ≡ total
 value_read front cs c i bytes rest z total h same r so_far =
-    let r' : value_at (get_or cs i c) bytes ≡ Ok (z, rest) = ap (λ x. value_at x bytes) (sym same) ∙ r in
+    let r' : value_in_carrier (get_or cs i c) bytes ≡ Ok (z, rest) = ap (λ x. value_in_carrier x bytes) (sym same) ∙ r in
     let one : with_front front (values_at (drop i cs) bytes) ≡ with_front (front ++ z ∷ []) (values_at (drop (i + 1) cs) rest) =
     ap (with_front front) (values_fold cs c i bytes h) ∙ rw r' (regroup front z (values_at (drop (i + 1) cs) rest)) in
     sym one ∙ so_far
 
 pub value_fails : (e : FieldFault) (front : List ℤ) (cs : List Carrier) (c : Carrier) (i : ℕ) (bytes : List ℕ)
-    (total : Field (List ℤ)) → i < length cs → c ≡ get_or cs i c → value_at c bytes ≡ Err e
+    (total : Field (List ℤ)) → i < length cs → c ≡ get_or cs i c → value_in_carrier c bytes ≡ Err e
     → with_front front (values_at (drop i cs) bytes) ≡ total → total ≡ Err e
 value_fails e front cs c i bytes total h same f so_far =
-    let f' : value_at (get_or cs i c) bytes ≡ Err e = ap (λ x. value_at x bytes) (sym same) ∙ f in
+    let f' : value_in_carrier (get_or cs i c) bytes ≡ Err e = ap (λ x. value_in_carrier x bytes) (sym same) ∙ f in
     sym so_far ∙ ap (with_front front) (values_fold cs c i bytes h) ∙ rw f' refl
 
 pub values_done : (front : List ℤ) (cs : List Carrier) (i : ℕ) (bytes : List ℕ) (total : Field (List ℤ)) → length cs ≤ i

@@ -31,7 +31,7 @@ use Rattle.pb_fixpoint.specs.declared.Sign.{Sign}
 use Rattle.pb_fixpoint.specs.declared.Sign.TheVariants.{Mu, Nu}
 use Rattle.pb_bytecode.specs.Contents.{Text, EquationContents, Contents, counts}
 use Rattle.pb_bytecode.specs.Limits.{fits_equation, instance_count, parameters_if_any, is_tuple, fits_initial, fits_values, fits}
-use Rattle.pb_bytecode.specs.Reading.{sign_of, sign_at, equation_at, equations_at, expect, mark_at, version_of, version_at, value_at, values_at, parameters_at, initial_at, contents_at, all_of}
+use Rattle.pb_bytecode.specs.Reading.{sign_of, sign_at, equation_at, equations_at, expect, mark_at, version_of, version_at, value_in_carrier, values_at, parameters_at, initial_at, contents_at, all_of}
 
 -- ---- signs and versions
 
@@ -186,8 +186,8 @@ mark_reads = record {
 
 -- ---- the initial instance
 
-value_reads : (c : Carrier) → Reads (value_at c) Spelling.i64 (λ z. is_i64 z && carriers.contains (values_of c) z)
-unfolding value_at
+value_reads : (c : Carrier) → Reads (value_in_carrier c) Spelling.i64 (λ z. is_i64 z && carriers.contains (values_of c) z)
+unfolding value_in_carrier
 value_reads c = keep (signed_at w64) Spelling.i64 is_i64 (carriers.contains (values_of c)) rule.Initial i64_reads
 
 -- the test of a value and of those behind it, and the test of all
@@ -209,7 +209,7 @@ values_take [] bytes x fits h =
     subst (λ (y : List ℤ × List ℕ). Took (flat_map Spelling.i64 y.0) (fits_values [] y.0) bytes y.1)
     (ok_is ([], bytes) x h) (record { parts = refl; left = fits; fits = refl })
 values_take (c ∷ cs) bytes x fits h =
-    let a = bind_ok (value_at c bytes) (λ z. values_at cs z.1 >>= λ zs. Ok (z.0 ∷ zs.0, zs.1)) x h in
+    let a = bind_ok (value_in_carrier c bytes) (λ z. values_at cs z.1 >>= λ zs. Ok (z.0 ∷ zs.0, zs.1)) x h in
     let b = bind_ok (values_at cs a.0.1) (λ zs. Ok (a.0.0 ∷ zs.0, zs.1)) x a.2 in
     let t = (value_reads c).takes bytes a.0 fits a.1 in
     let u = values_take cs a.0.1 b.0 t.left b.1 in
@@ -232,7 +232,7 @@ values_again (c ∷ cs) (z ∷ zs) rest h =
 values_within : (cs : List Carrier) (bytes : List ℕ) (e : FieldFault) → IsBytes bytes → values_at cs bytes ≡ Err e → e.left ≤ length bytes
 values_within [] bytes e fits h = absurd cc
 values_within (c ∷ cs) bytes e fits h =
-    bind_err (value_at c bytes) (λ z. values_at cs z.1 >>= λ zs. Ok (z.0 ∷ zs.0, zs.1)) e _ h
+    bind_err (value_in_carrier c bytes) (λ z. values_at cs z.1 >>= λ zs. Ok (z.0 ∷ zs.0, zs.1)) e _ h
     (λ f. (value_reads c).within bytes e fits f)
     (λ x ok f.
     let t = (value_reads c).takes bytes x fits ok in

@@ -261,14 +261,15 @@ unfoldable pub version_at : List ℕ → Field Version
 version_at bytes = checked byte_at version_of rule.Version bytes
 
 -- a value of the carrier; else B07
-unfoldable pub value_at : Carrier → List ℕ → Field ℤ
-value_at c bytes = checked (signed_at w64) (kept (contains (values_of c))) rule.Initial bytes
+unfoldable pub value_in_carrier : Carrier → List ℕ → Field ℤ
+value_in_carrier c bytes =
+    checked (signed_at w64) (kept (contains (values_of c))) rule.Initial bytes
 
 -- a value of each carrier
 abbrev pub values_at : List Carrier → List ℕ → Field Tuple
 values_at [] bytes = Ok ([], bytes)
 values_at (c ∷ cs) bytes =
-    value_at c bytes >>= λ z. values_at cs z.1 >>= λ zs. Ok (z.0 ∷ zs.0, zs.1)
+    value_in_carrier c bytes >>= λ z. values_at cs z.1 >>= λ zs. Ok (z.0 ∷ zs.0, zs.1)
 
 -- the carriers of an equation's parameters
 abbrev pub parameters_at : List EquationContents → ℕ → List Carrier

@@ -6,7 +6,7 @@ use Rattle.std.proofs.lemmas.Bool.{and_parts, and_from}
 use Rattle.pb_base_values.specs.Operation.{UnaryOperation}
 use Rattle.pb_base_values.proofs.Sound.{unary_non_empty, binary_non_empty}
 use Rattle.pb_base_values.proofs.Monotone.{unary_monotone, binary_monotone}
-use Rattle.pb_bytecode_program.specs.Values.{operation_of, divides, fits64, least64, greatest64}
+use Rattle.pb_bytecode_program.specs.Values.{operation_of, has_divisor, fits64, least64, greatest64}
 use Rattle.pb_bytecode_program.specs.Abstract.{between, interval_of, absolute_interval}
 use Rattle.pb_bytecode_program.proofs.Ints.{le_true, from_le}
 use Rattle.pb_bytecode_program.specs.declared.instruction.Arithmetic.{Arithmetic}
@@ -16,7 +16,7 @@ abbrev pub Inside : ℤ → ℤ → ℤ → ℤ → Type 0
 Inside l h m k = (m ≤ℤ l) × (l ≤ℤ h) × (h ≤ℤ k)
 
 pub interval_less : (c : Arithmetic) (l h m k l' h' m' k' : ℤ) → Inside l h l' h' → Inside m k m' k'
-    → (divides c ≡ true → pos 1 ≤ℤ m')
+    → (has_divisor c ≡ true → pos 1 ≤ℤ m')
     → Inside (interval_of c l h m k).0 (interval_of c l h m k).1 (interval_of c l' h' m' k').0 (interval_of c l' h' m' k').1
 interval_less c l h m k l' h' m' k' p q d =
     let within = binary_monotone (between l h) (between m k) (between l' h') (between m' k') p.1 q.1 (p.0, p.2) (q.0, q.2) (operation_of c) d in

@@ -8,7 +8,7 @@ use Rattle.std.specs.List.{AllByRecursion, Contains}
 use Rattle.std.proofs.lemmas.List.Elements.{All-contains_itself, recursion_from_All}
 use Rattle.std.proofs.lemmas.Int.{ints, clamps}
 use Rattle.std.proofs.lemmas.Bool.{and_parts, and_from, eqb-true, eq-eqb, leb-true, le-leb, not_from_false, not_from_true, both_ways, false_from_ne_true}
-use Rattle.pb_bytecode_program.specs.Values.{is_inhabited, divides, fits64}
+use Rattle.pb_bytecode_program.specs.Values.{is_inhabited, has_divisor, fits64}
 use Rattle.pb_bytecode_program.specs.Abstract.{Covers, abstraction_of, same_kind}
 use Rattle.pb_bytecode_program.specs.declared.domain.AbstractValue.{AbstractValue}
 use Rattle.pb_bytecode_program.specs.declared.domain.AbstractValue.TheVariants as abstract
@@ -427,9 +427,9 @@ module _ (P Q : ℕ → AbstractState → Type 0) (down : (to : ℕ) (k m : Abst
     transfer-covers p g h q (op.Arithmetic a) w e x =
         less_int k.operands m.operands _ _ c.operands
         (λ m1 n1 m2 n2 us vs i f y. less_int us vs _ _ f
-        (λ l1 h1 l2 h2 us' vs' j f' y'. less_unless (divides a && int_lt m2 (pos 1)) (divides a && int_lt m1 (pos 1)) _ _
-        (λ z. no_divisor (divides a) m2 m1 z i.0)
-        (λ z z'. less_give_int q us' vs' _ _ _ _ f' (interval_less a l1 h1 m1 n1 l2 h2 m2 n2 j i (λ d. divisor (divides a) m2 z d)) z') y') y) x
+        (λ l1 h1 l2 h2 us' vs' j f' y'. less_unless (has_divisor a && int_lt m2 (pos 1)) (has_divisor a && int_lt m1 (pos 1)) _ _
+        (λ z. no_divisor (has_divisor a) m2 m1 z i.0)
+        (λ z z'. less_give_int q us' vs' _ _ _ _ f' (interval_less a l1 h1 m1 n1 l2 h2 m2 n2 j i (λ d. divisor (has_divisor a) m2 z d)) z') y') y) x
     transfer-covers p g h q op.Negate w e x =
         less_int k.operands m.operands _ _ c.operands
         (λ l h m' n us vs i f y. less_give_int q us vs (neg_ℤ h) (neg_ℤ l) (neg_ℤ n) (neg_ℤ m') f

@@ -6,7 +6,7 @@ use Rattle.std.specs.Int.{int_min, int_max}
 use Rattle.std.proofs.lemmas.Bool.{cond_both}
 use Rattle.pb_fixpoint_trees.specs.declared.Token.{Token}
 use Rattle.pb_fixpoint_trees.specs.declared.Token.TheVariants as token
-use Rattle.pb_bytecode_program.specs.Values.{TaggedValue, BoolValue, IntValue, EnumValue, untagged, arithmetic, divides, absolute, compares, equals, answers, connects, fits64}
+use Rattle.pb_bytecode_program.specs.Values.{TaggedValue, BoolValue, IntValue, EnumValue, untagged, arithmetic, has_divisor, absolute, compares, equals, answers, connects, fits64}
 use Rattle.pb_bytecode_program.specs.Abstract.{IsAbstractedBy, interval_of, absolute_interval, same_kind}
 use Rattle.pb_bytecode_program.specs.declared.domain.AbstractValue.{AbstractValue}
 use Rattle.pb_bytecode_program.specs.declared.domain.AbstractValue.TheVariants as abstract
@@ -155,14 +155,14 @@ module _ (p : Program) (table : Table) (ok : Accepted p table) where
       pub sim_calc : (c : Arithmetic) (vs : List TaggedValue) (ss : List AbstractValue) (a b l h m n : ℤ) → l ≤ℤ a
           → a ≤ℤ h → m ≤ℤ b → b ≤ℤ n → Fits vs ss cov.rest
           → FlowIsCovered table
-          (if divides c && int_lt m (pos 1) then None else Transfer.abstract_push_int st.place k ss
+          (if has_divisor c && int_lt m (pos 1) then None else Transfer.abstract_push_int st.place k ss
           (interval_of c l h m n))
           → IsSafeStep p table st i
-          (if divides c && int_lt b (pos 1) then Faults Machine.Divisor else Machine.push_int st vs (arithmetic c a b))
+          (if has_divisor c && int_lt b (pos 1) then Faults Machine.Divisor else Machine.push_int st vs (arithmetic c a b))
       sim_calc c vs ss a b l h m n p1 p2 p3 p4 f fine =
-          let t = allowed table (divides c && int_lt m (pos 1)) _ fine in
-          let w = calc_within c a b l h m n p1 p2 p3 p4 (λ d. divisor (divides c) m t.0 d) in
-          rw (no_divisor (divides c) m b t.0 p3) (sim_push_int vs ss (arithmetic c a b) (interval_of c l h m n).0 (interval_of c l h m n).1 w.0 w.1 f t.1)
+          let t = allowed table (has_divisor c && int_lt m (pos 1)) _ fine in
+          let w = calc_within c a b l h m n p1 p2 p3 p4 (λ d. divisor (has_divisor c) m t.0 d) in
+          rw (no_divisor (has_divisor c) m b t.0 p3) (sim_push_int vs ss (arithmetic c a b) (interval_of c l h m n).0 (interval_of c l h m n).1 w.0 w.1 f t.1)
 
       pub sim_range : (to : ℕ) (low high z l h : ℤ) (vs : List TaggedValue) (k1 k2 : AbstractState)
           → IsTarget p.code st.place to → l ≤ℤ z → z ≤ℤ h

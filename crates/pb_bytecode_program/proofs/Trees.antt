@@ -12,7 +12,7 @@ use Rattle.pb_fixpoint_trees.specs.Tokens as tokens
 use Rattle.pb_sorts.specs.Carrier.{values_of}
 use Rattle.pb_sorts.specs.Instance.{is_instance}
 use Rattle.pb_sorts.specs.Layout.{carriers_of}
-use Rattle.pb_bytecode_program.specs.Values.{TaggedValue, BoolValue, IntValue, EnumValue, untagged, tagged_values, fits64, answers, arithmetic, absolute, divides}
+use Rattle.pb_bytecode_program.specs.Values.{TaggedValue, BoolValue, IntValue, EnumValue, untagged, tagged_values, fits64, answers, arithmetic, absolute, has_divisor}
 use Rattle.pb_bytecode_program.specs.Machine
 use Rattle.pb_bytecode_program.specs.Machine.{Program, Frame, State, Outcome, Continues, Ends, Faults}
 use Rattle.pb_bytecode_program.specs.Safety.{IsInstance}
@@ -244,7 +244,7 @@ module _ (p : Program) where
     writes_act (op.Arithmetic c) =
         writes_int st.operands _
         (λ b vs. writes_int vs _
-        (λ a ws. cond_both (divides c && int_lt b (pos 1)) (Faults Machine.Divisor) _ Writes (λ e. tt)
+        (λ a ws. cond_both (has_divisor c && int_lt b (pos 1)) (Faults Machine.Divisor) _ Writes (λ e. tt)
         (λ e. writes_push_int ws (arithmetic c a b))))
     writes_act op.Negate = writes_int st.operands _ (λ a vs. writes_push_int vs (neg_ℤ a))
     writes_act op.Absolute = writes_int st.operands _ (λ a vs. writes_push_int vs (absolute a))

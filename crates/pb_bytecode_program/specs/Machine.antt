@@ -7,7 +7,7 @@ use Rattle.pb_sorts.specs.Layout.{carriers_of}
 use Rattle.pb_fixpoint_trees.specs.declared.Token.{Token}
 use Rattle.pb_fixpoint_trees.specs.declared.Token.TheVariants as token
 use Rattle.pb_base.specs.declared.limits.TheConstants.{MAX_OPERANDS, MAX_BRACKETS, MAX_LOOPS}
-use Rattle.pb_bytecode_program.specs.Values.{TaggedValue, BoolValue, IntValue, EnumValue, tagged_values, untagged, arithmetic, divides, absolute, compares, equals, answers, connects, fits64}
+use Rattle.pb_bytecode_program.specs.Values.{TaggedValue, BoolValue, IntValue, EnumValue, tagged_values, untagged, arithmetic, has_divisor, absolute, compares, equals, answers, connects, fits64}
 use Rattle.pb_sorts.specs.declared.carrier.Carrier.{Carrier}
 use Rattle.pb_sorts.specs.declared.carrier.Carrier.TheVariants as carrier
 use Rattle.pb_bytecode_program.specs.declared.instruction.Connective.{Connective}
@@ -245,7 +245,8 @@ execute p (op.Get i) st = with_slot (value_at st.loops st.parameters i) (λ v. p
 execute p op.Pop st = pop_any st.operands (λ v vs. jump_to st (st.place + 1) vs)
 execute p (op.Arithmetic c) st =
     pop_int st.operands (λ b vs. pop_int vs (λ a ws.
-    if divides c && int_lt b (pos 1) then Faults Divisor else push_int st ws (arithmetic c a b)))
+    if has_divisor c && int_lt b (pos 1) then Faults Divisor else push_int st ws
+    (arithmetic c a b)))
 execute p op.Negate st = pop_int st.operands (λ a vs. push_int st vs (neg_ℤ a))
 execute p op.Absolute st = pop_int st.operands (λ a vs. push_int st vs (absolute a))
 execute p (op.Compare o) st =

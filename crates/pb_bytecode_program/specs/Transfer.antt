@@ -3,7 +3,7 @@
 use Rattle.std.specs.Prelude.{ℕ, zero, suc, ◌+◌, Bool, true, false, not, ◌&&◌, ◌||◌, List, [], ◌∷◌, ◌++◌, length, reverse, Option, Some, None, ℤ, pos, neg_ℤ, int_lt, int_le, ◌==◌, nat_lt, nat_le, if◌then◌else◌, slice_get}
 use Rattle.std.specs.Int.{int_min, int_max}
 use Rattle.pb_base.specs.declared.limits.TheConstants.{MAX_OPERANDS, MAX_BRACKETS, MAX_LOOPS}
-use Rattle.pb_bytecode_program.specs.Values.{is_inhabited, divides, fits64}
+use Rattle.pb_bytecode_program.specs.Values.{is_inhabited, has_divisor, fits64}
 use Rattle.pb_bytecode_program.specs.Abstract.{abstraction_of, interval_of, absolute_interval, same_kind}
 use Rattle.pb_bytecode_program.specs.Machine.{Program, carrier_of}
 use Rattle.pb_bytecode_program.specs.declared.domain.AbstractValue.{AbstractValue}
@@ -198,7 +198,7 @@ transfer p home q op.Pop k =
     abstract_pop k.operands (λ s ss. to_next_place q (record k { operands = ss }))
 transfer p home q (op.Arithmetic c) k =
     abstract_pop_int k.operands (λ m n ss. abstract_pop_int ss (λ l h ts.
-    if divides c && int_lt m (pos 1) then None
+    if has_divisor c && int_lt m (pos 1) then None
     else abstract_push_int q k ts (interval_of c l h m n)))
 transfer p home q op.Negate k =
     abstract_pop_int k.operands (λ l h ss. abstract_push_int q k ss (neg_ℤ h, neg_ℤ l))

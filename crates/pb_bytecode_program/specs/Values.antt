@@ -62,8 +62,8 @@ abbrev pub arithmetic : Arithmetic → ℤ → ℤ → ℤ
 arithmetic c a b = binary_value (operation_of c) a b
 
 -- whether the second operand is a divisor
-abbrev pub divides : Arithmetic → Bool
-divides c = operation.divides (operation_of c)
+abbrev pub has_divisor : Arithmetic → Bool
+has_divisor c = operation.divides (operation_of c)
 
 abbrev pub absolute : ℤ → ℤ
 absolute z = unary_value UnaryOperation.AbsoluteValue z

@@ -69,4 +69,4 @@ module_line fault = module_fault.fault_text fault ++ codes "\n"
 
 -- why a module is not accepted
 abbrev pub code_line : CodeFault → List ℕ
-code_line fault = code_fault.fault_text fault ++ codes "\n"
+code_line fault = code_fault.code_fault_text fault ++ codes "\n"

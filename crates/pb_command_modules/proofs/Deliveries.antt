@@ -6,7 +6,7 @@ use Rattle.pb_base.specs.declared.or_memory.OrMemory.TheVariants as or_memory
 use Rattle.pb_sorts.specs.declared.sink.E02.{E02}
 use Rattle.pb_sorts.specs.declared.sink.Sink.{Ghosts}
 use Rattle.pb_report.specs.Delivery as delivery
-use Rattle.pb_report.specs.Delivery.{is_failed, Leaves, SomeText}
+use Rattle.pb_report.specs.Delivery.{was_not_written, Leaves, SomeText}
 use Rattle.pb_report.proofs.Delivery as known
 use Rattle.pb_command_faults.specs.declared.solve_error.SolveError.{SolveError}
 use Rattle.pb_command_faults.specs.declared.solve_error.SolveError.TheVariants as solve_error
@@ -58,12 +58,12 @@ module _ {S : Type 0} (sink : Ghosts S) where
     less_sent h = (known.less_text sink More Less less old new _ h.0, h.1)
 
     -- what the writers of a module's texts deliver
-    pub sent_whole : {T : Type 0} (r : Result T (OrMemory E02)) (v : T) → delivery.Delivers is_failed More r sink old new → r ≡ Ok v
+    pub sent_whole : {T : Type 0} (r : Result T (OrMemory E02)) (v : T) → delivery.Delivers was_not_written More r sink old new → r ≡ Ok v
         → SomeText Less (Appends (sink.taken old) (sink.taken new)) × (sink.has_failed new ≡ sink.has_failed old)
     sent_whole (Ok w) v sent is = less_sent sent
     sent_whole (Err e) v sent is = absurd (cc is)
 
-    pub sent_up : {T U : Type 0} (r : Result T (OrMemory E02)) (x : OrMemory E02) (s : Result U SolveError) → delivery.Delivers is_failed More r sink old new
+    pub sent_up : {T U : Type 0} (r : Result T (OrMemory E02)) (x : OrMemory E02) (s : Result U SolveError) → delivery.Delivers was_not_written More r sink old new
         → r ≡ Err x → IsErrAnd s (λ y. y ≡ write_failure x) → Delivers Less s sink old new
     sent_up r x (Ok u) sent is made = absurd made
     sent_up (Ok v) x (Err e) sent is made = absurd (cc is)

@@ -8,7 +8,7 @@ use Rattle.pb_fixpoint_trees.specs.Equations.{Signature}
 use Rattle.pb_fixpoint_trees.specs.Examples.{mu, nu}
 use Rattle.pb_fixpoint_trees.proofs.Members.{among_of_contains, contains_of_among}
 use Rattle.pb_evidence.specs.ProofGraphs.{RestsThrough, exactly, sign_from, least_of, dominating_sign, supporting, IsProofGraph}
-use Rattle.pb_evidence.specs.Examples.{itself, loop, SelfReference, either, OneOfTwo}
+use Rattle.pb_evidence.specs.Examples.{itself, loop, ProvedSelfReference, either, OneOfTwo}
 use Rattle.pb_evidence.specs.Supports.{HaveSame, IsSupport}
 use Rattle.pb_evidence.proofs.Signs.{in_graph, least_below}
 use Rattle.pb_evidence.proofs.Proving.{proof_graphs_prove}
@@ -43,7 +43,7 @@ module _ (s : Signature) (size : s.size ≡ 1) (b : Bool) (sign : s.sign ≡ sup
     cycles = λ n over h. least_sign n over h ∙ sign;
   }
 
-pub self_reference : SelfReference
+pub self_reference : ProvedSelfReference
 self_reference = record {
   greatest = is_graph (nu 1) refl true refl refl;
   greatest_isnt_false = λ is. true≢false (proof_graphs_prove (nu 1 ∷ []) itself false loop is 0 here);

@@ -17,7 +17,7 @@ loop = record { instances = 0 ∷ []; dependencies = λ n. 0 ∷ [] }
 abbrev pub bare : Graph
 bare = record { instances = 0 ∷ []; dependencies = λ n. [] }
 
-pub record SelfReference : Type 0 where
+pub record ProvedSelfReference : Type 0 where
   pub greatest : IsProofGraph (nu 1 ∷ []) itself true loop
   pub greatest_isnt_false : ¬ IsProofGraph (nu 1 ∷ []) itself false loop
   pub least : IsProofGraph (mu 1 ∷ []) itself false loop

@@ -4,7 +4,7 @@
 
 ghost use Rattle.pb_evidence.specs.ProofGraphs.{ProofGraphsProve};
 ghost use Rattle.pb_evidence.specs.AssumedGraphs.{AssumedGraphsProve, AssumedChoicesHold};
-ghost use Rattle.pb_evidence.specs.Examples.{SelfReference, OneOfTwo};
+ghost use Rattle.pb_evidence.specs.Examples.{ProvedSelfReference, OneOfTwo};
 ghost use Rattle.pb_evidence.specs.Priorities.{PrioritiesSupport};
 ghost use Rattle.pb_evidence.specs.Strategies.{StrategiesChoose, StrategiesProve};
 ghost use Rattle.pb_evidence.specs.Supports.{SupportsSuffice};
@@ -47,6 +47,6 @@ pub fn priorities_support()
 /// An instance that rests on itself is evidence of truth for `nu` alone, and of falsity for `mu`
 /// alone. A disjunction is true by one operand and never by two, and false by all.
 pub fn worked_examples()
-    ensures self_reference { SelfReference }
+    ensures self_reference { ProvedSelfReference }
     ensures one_of_two { OneOfTwo }
 {}

@@ -11,7 +11,7 @@ use Rattle.pb_model_words.specs.Vocabulary.{Vocabulary}
 use Rattle.pb_model_words.specs.Words.{values_text, mark_text}
 use Rattle.pb_typing_calls.specs.MadeCalls.{MadeCall, calls_at}
 use Rattle.pb_report.specs.EvidenceText.{line_tail}
-use Rattle.pb_evidence_words.specs.WhyText.{Told, dependencies_at, formula_text, instance_at, is_call_of}
+use Rattle.pb_evidence_words.specs.WhyText.{Told, dependencies_at, formula_text, shown_instance, is_call_of}
 use Rattle.pb_evidence_words.specs.WhyText.{is_cut_at, line_instance}
 
 -- an equation's name with the values of a state
@@ -28,19 +28,19 @@ abbrev pub mark_among : Vocabulary → List MadeCall → Instance → List ℕ
 mark_among m calls j = call_mark m (find (is_call_of j) calls)
 
 -- the instance n, come to from another one
-abbrev pub dependency_text : Told → Instance → ℕ → List ℕ
-dependency_text t i n =
-    codes " " ++ (instance_text t (instance_at t n)
-    ++ mark_among t.vocabulary (calls_at t.text i) (instance_at t n))
+abbrev pub told_dependency : Told → Instance → ℕ → List ℕ
+told_dependency t i n =
+    codes " " ++ (instance_text t (shown_instance t n)
+    ++ mark_among t.vocabulary (calls_at t.text i) (shown_instance t n))
 
 -- what the line at k rests on
-abbrev pub dependencies_text : Told → ℕ → List ℕ
-dependencies_text t k = flat_map (dependency_text t (line_instance t k)) (dependencies_at t k)
+abbrev pub told_dependencies : Told → ℕ → List ℕ
+told_dependencies t k = flat_map (told_dependency t (line_instance t k)) (dependencies_at t k)
 
 abbrev pub instance_line : Told → ℕ → List ℕ
 instance_line t k =
     instance_text t (line_instance t k)
-    ++ line_tail t.truth (dependencies_text t k) (is_cut_at t k)
+    ++ line_tail t.truth (told_dependencies t k) (is_cut_at t k)
 
 abbrev pub instance_lines : Told → List ℕ
 instance_lines t = flat_map (instance_line t) (range_with_len 0 (length t.graph.instances))

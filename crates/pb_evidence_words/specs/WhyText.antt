@@ -41,20 +41,20 @@ abbrev pub with_cuts : List Bool → Told → Told
 with_cuts cuts t = record t { cuts = cuts }
 
 -- the instance with a number, else an equation without values
-abbrev pub instance_at : Told → ℕ → Instance
-instance_at t n =
+abbrev pub shown_instance : Told → ℕ → Instance
+shown_instance t n =
     unwrap_or (instance_numbered t.layout n) (record { equation = 0; values = [] })
 
 -- the instance that a line is of
 abbrev pub line_instance : Told → ℕ → Instance
-line_instance t k = instance_at t (slice_index t.graph.instances k)
+line_instance t k = shown_instance t (slice_index t.graph.instances k)
 
-abbrev pub equation_name : Option EquationForm → List ℕ
-equation_name None = []
-equation_name (Some X) = X.name.text
+abbrev pub name_of_equation : Option EquationForm → List ℕ
+name_of_equation None = []
+name_of_equation (Some X) = X.name.text
 
 abbrev pub formula_text : Told → Instance → List ℕ
-formula_text t i = equation_name (slice_get t.text.equations i.equation)
+formula_text t i = name_of_equation (slice_get t.text.equations i.equation)
 
 abbrev pub is_empty : {A : Type 0} → List A → Bool
 is_empty [] = true
@@ -62,11 +62,11 @@ is_empty (x ∷ xs) = false
 
 -- ---- moves
 
-abbrev pub is_same : Instance → Instance → Bool
-is_same i j = (i.equation == j.equation) && pointwise int_eq i.values j.values
+abbrev pub is_same_instance : Instance → Instance → Bool
+is_same_instance i j = (i.equation == j.equation) && pointwise int_eq i.values j.values
 
 abbrev pub is_call_of : Instance → MadeCall → Bool
-is_call_of j c = is_same c.instance j
+is_call_of j c = is_same_instance c.instance j
 
 -- by a call; where none is made, which is so where data is tested behind it, by no step
 abbrev pub move_by : Vocabulary → Instance → Instance → Option MadeCall → List ℕ
@@ -113,7 +113,7 @@ target_text t k j =
 -- to the line of the instance n
 abbrev pub to_text : Told → ℕ → ℕ → List ℕ
 to_text t k n =
-    codes "  " ++ (move_between t (line_instance t k) (instance_at t n)
+    codes "  " ++ (move_between t (line_instance t k) (shown_instance t n)
     ++ target_text t k (place_of t.graph n))
 
 -- the same, where that line isn't shown to come from here

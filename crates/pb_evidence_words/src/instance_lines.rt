@@ -6,7 +6,7 @@ ghost use Rattle.pb_typing_calls.specs.MadeCallView.{call_views};
 ghost use Rattle.pb_report.specs.EvidenceText.{cut_mark, truth_mark};
 ghost use Rattle.pb_sorts.specs.Instance.{instance_of};
 ghost use Rattle.pb_model_words.specs.View.{vocabulary_of};
-ghost use Rattle.pb_evidence_words.specs.InstanceLines.{call_mark, dependencies_text, dependency_text};
+ghost use Rattle.pb_evidence_words.specs.InstanceLines.{call_mark, told_dependencies, told_dependency};
 ghost use Rattle.pb_evidence_words.specs.InstanceLines.{instance_line, instance_lines, instance_text};
 ghost use Rattle.pb_evidence_words.specs.InstanceLines.{mark_among};
 ghost use Rattle.pb_evidence_words.specs.Ready.{IsCaller, IsTold, call_said, numbers_of, told_of};
@@ -90,7 +90,7 @@ impl Telling<'_> {
         requires caller { IsCaller self.now.shown.now line caller.now }
         requires number { Contains (numbers_of self.now.shown.now) number }
         ensures { OnOk result (string_bytes text.new ≡ string_bytes text.old
-            ++ dependency_text (told_of self.now.shown.now)
+            ++ told_dependency (told_of self.now.shown.now)
             (line_instance (told_of self.now.shown.now) line) number) }
     {
         let called = self.instance(number);
@@ -109,7 +109,7 @@ impl Telling<'_> {
         requires line { line < length (numbers_of self.now.shown.now) }
         requires caller { IsCaller self.now.shown.now line caller.now }
         ensures { OnOk result (string_bytes text.new ≡ string_bytes text.old
-            ++ dependencies_text (told_of self.now.shown.now) line) }
+            ++ told_dependencies (told_of self.now.shown.now) line) }
     {
         for number in self.shown.explanation.evidence.dependencies(line) {
             self.push_dependency(text, line, caller, *number)?;

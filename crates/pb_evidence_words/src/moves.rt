@@ -7,7 +7,7 @@ ghost use Rattle.pb_model_words.specs.View.{vocabulary_of};
 ghost use Rattle.pb_model_words.specs.Words.{move_text};
 ghost use Rattle.pb_sorts.specs.Instance.{instance_of};
 ghost use Rattle.pb_evidence_words.specs.Ready.{call_said};
-ghost use Rattle.pb_evidence_words.specs.WhyText.{is_call_of, is_same, move_among};
+ghost use Rattle.pb_evidence_words.specs.WhyText.{is_call_of, is_same_instance, move_among};
 
 use crate::caller::Caller;
 use crate::telling::Telling;
@@ -18,7 +18,7 @@ use std::alloc::AllocError;
 
 /// Whether a call names an instance.
 fn names(call: &MadeCall, called: &Instance) -> bool
-    ensures { result ≡ is_same (call_view call.now).instance (instance_of called.now) }
+    ensures { result ≡ is_same_instance (call_view call.now).instance (instance_of called.now) }
 {
     call.equation == usize::from(called.equation)
         && call.values.as_slice() == called.values.as_slice()

@@ -14,7 +14,7 @@ ghost use Rattle.pb_model_translation.specs.Placed.{placed};
 ghost use Rattle.pb_typing_calls.specs.MadeCallView.{call_views};
 ghost use Rattle.pb_report.specs.ModuleEvidence.{IsExplanation};
 ghost use Rattle.pb_evidence_words.specs.Ready.{IsCaller, IsKnown, IsTold, numbers_of, told_of};
-ghost use Rattle.pb_evidence_words.specs.WhyText.{instance_at, is_empty, is_stuck, line_instance};
+ghost use Rattle.pb_evidence_words.specs.WhyText.{shown_instance, is_empty, is_stuck, line_instance};
 
 use crate::caller::Caller;
 use crate::lines::Lines;
@@ -69,7 +69,7 @@ impl Telling<'_> {
     /// The instance with a number.
     pub(crate) fn instance(&self, number: u32) -> Instance
         requires { number < count_of (parameters self.now.shown.now.verified.now) }
-        ensures value { instance_of result ≡ instance_at (told_of self.now.shown.now) number }
+        ensures value { instance_of result ≡ shown_instance (told_of self.now.shown.now) number }
         ensures known { IsKnown self.now.shown.now (instance_of result) }
     {
         self.shown.verified.layout().instance(number)

@@ -14,28 +14,28 @@ use Rattle.pb_game.specs.declared.parts.Parts.{Parts}
 use Rattle.pb_game.specs.Adjacency.{row}
 use Rattle.pb_game.specs.Parts.{AreGame, IsGameOfParts}
 use Rattle.pb_strategy.specs.Vertices.{HasVertices}
-use Rattle.pb_game_of_trees.specs.Draft.{successors, edge_sums, places, ArePartsOf, MakeGame}
+use Rattle.pb_game_of_trees.specs.Draft.{all_successors, edge_sums, places, ArePartsOf, MakeGame}
 
 length-edge_sums : (vs : List Vertex) → length (edge_sums vs) ≡ length vs + 1
 length-edge_sums [] = refl
 length-edge_sums (x ∷ vs) = omega (arith, length-edge_sums vs)
 
-edge_sums-at : (vs : List Vertex) (v d : ℕ) → v ≤ length vs → get_or (edge_sums vs) v d ≡ length (successors (drop v vs))
+edge_sums-at : (vs : List Vertex) (v d : ℕ) → v ≤ length vs → get_or (edge_sums vs) v d ≡ length (all_successors (drop v vs))
 edge_sums-at [] zero d l = refl
 edge_sums-at [] (suc v) d l = absurd (omega arith)
 edge_sums-at (x ∷ vs) zero d l = refl
 edge_sums-at (x ∷ vs) (suc v) d l = edge_sums-at vs v d (omega arith)
 
 -- the successors before v and from v on
-parted : (vs : List Vertex) (v : ℕ) → successors vs ≡ successors (take v vs) ++ successors (drop v vs)
-parted vs v = sym (ap successors (take-append-drop v vs)) ∙ flat_map-append (λ (x : Vertex). x.successors) (take v vs) (drop v vs)
+parted : (vs : List Vertex) (v : ℕ) → all_successors vs ≡ all_successors (take v vs) ++ all_successors (drop v vs)
+parted vs v = sym (ap all_successors (take-append-drop v vs)) ∙ flat_map-append (λ (x : Vertex). x.successors) (take v vs) (drop v vs)
 
-pub place-at : (vs : List Vertex) (v d : ℕ) → v ≤ length vs → get_or (places vs) v d ≡ length (successors (take v vs))
+pub place-at : (vs : List Vertex) (v d : ℕ) → v ≤ length vs → get_or (places vs) v d ≡ length (all_successors (take v vs))
 place-at vs v d l =
-    let at = get_or-map (λ (n : ℕ). length (successors vs) - n) (edge_sums vs) v d d (omega (arith, length-edge_sums vs)) in
+    let at = get_or-map (λ (n : ℕ). length (all_successors vs) - n) (edge_sums vs) v d d (omega (arith, length-edge_sums vs)) in
     let sum = edge_sums-at vs v d l in
     let all = ap length (parted vs v) in
-    let parts = length-append (successors (take v vs)) (successors (drop v vs)) in
+    let parts = length-append (all_successors (take v vs)) (all_successors (drop v vs)) in
     omega arith
 
 at_vertex : (vs : List Vertex) (v : ℕ) (x : Vertex) → slice_get vs v ≡ Some x → drop v vs ≡ x ∷ drop (v + 1) vs
@@ -52,26 +52,26 @@ cut before here behind i j e f =
 
 -- one more vertex before a place
 place-more : (vs : List Vertex) (v : ℕ) (x : Vertex) → slice_get vs v ≡ Some x →
-    length (successors (take (v + 1) vs)) ≡ length (successors (take v vs)) + length x.successors
+    length (all_successors (take (v + 1) vs)) ≡ length (all_successors (take v vs)) + length x.successors
 place-more vs v x e =
     let l = slice_get_within vs v x e in
     let now = ap length (parted vs v) in
-    let now_parts = length-append (successors (take v vs)) (successors (drop v vs)) in
+    let now_parts = length-append (all_successors (take v vs)) (all_successors (drop v vs)) in
     let next = ap length (parted vs (v + 1)) in
-    let next_parts = length-append (successors (take (v + 1) vs)) (successors (drop (v + 1) vs)) in
-    let here = ap (λ (xs : List Vertex). length (successors xs)) (at_vertex vs v x e) in
-    let here_parts = length-append x.successors (successors (drop (v + 1) vs)) in
+    let next_parts = length-append (all_successors (take (v + 1) vs)) (all_successors (drop (v + 1) vs)) in
+    let here = ap (λ (xs : List Vertex). length (all_successors xs)) (at_vertex vs v x e) in
+    let here_parts = length-append x.successors (all_successors (drop (v + 1) vs)) in
     omega arith
 
-pub row_is : (vs : List Vertex) (v : ℕ) (x : Vertex) → slice_get vs v ≡ Some x → row (places vs) (successors vs) v ≡ x.successors
+pub row_is : (vs : List Vertex) (v : ℕ) (x : Vertex) → slice_get vs v ≡ Some x → row (places vs) (all_successors vs) v ≡ x.successors
 row_is vs v x e =
     let l = slice_get_within vs v x e in
     let from = place-at vs v 0 (omega arith) in
     let to = place-at vs (v + 1) 0 (omega arith) ∙ place-more vs v x e in
-    let list : successors vs ≡ successors (take v vs) ++ (x.successors ++ successors (drop (v + 1) vs)) =
-    parted vs v ∙ ap (λ (xs : List Vertex). successors (take v vs) ++ successors xs) (at_vertex vs v x e) in
+    let list : all_successors vs ≡ all_successors (take v vs) ++ (x.successors ++ all_successors (drop (v + 1) vs)) =
+    parted vs v ∙ ap (λ (xs : List Vertex). all_successors (take v vs) ++ all_successors xs) (at_vertex vs v x e) in
     ap (λ (xs : List ℕ). slice_range xs (get_or (places vs) v 0) (get_or (places vs) (v + 1) 0)) list
-    ∙ cut (successors (take v vs)) x.successors (successors (drop (v + 1) vs)) (get_or (places vs) v 0) (get_or (places vs) (v + 1) 0) from to
+    ∙ cut (all_successors (take v vs)) x.successors (all_successors (drop (v + 1) vs)) (get_or (places vs) v 0) (get_or (places vs) (v + 1) 0) from to
 
 abbrev none : Vertex
 none = record { owner = Even; priority = 0; successors = [] }
@@ -81,12 +81,12 @@ vertex_at : (vs : List Vertex) (v : ℕ) → v < length vs → slice_get vs v �
 vertex_at vs v l = slice_get-get_or vs v none l
 
 -- a fact of each vertex's successors holds of all
-each_successor : (P : ℕ → Type 0) (vs : List Vertex) → ((v : ℕ) (x : Vertex) → slice_get vs v ≡ Some x → All P x.successors) → All P (successors vs)
+each_successor : (P : ℕ → Type 0) (vs : List Vertex) → ((v : ℕ) (x : Vertex) → slice_get vs v ≡ Some x → All P x.successors) → All P (all_successors vs)
 each_successor P [] h k d l = absurd (omega arith)
-each_successor P (x ∷ vs) h k d l = All-append P x.successors (successors vs) (h 0 x refl) (each_successor P vs (λ v y e. h (suc v) y e)) k d l
+each_successor P (x ∷ vs) h k d l = All-append P x.successors (all_successors vs) (h 0 x refl) (each_successor P vs (λ v y e. h (suc v) y e)) k d l
 
 length-places : (vs : List Vertex) → length (places vs) ≡ length vs + 1
-length-places vs = length-map (edge_sums vs) (λ (n : ℕ). length (successors vs) - n) ∙ length-edge_sums vs
+length-places vs = length-map (edge_sums vs) (λ (n : ℕ). length (all_successors vs) - n) ∙ length-edge_sums vs
 
 pub parts_are_game : (vs : List Vertex) → MakeGame vs → (p : Parts) → ArePartsOf p vs → AreGame p
 parts_are_game vs make p is =
@@ -109,7 +109,7 @@ parts_are_game vs make p is =
         last =
             let all : take (length vs) vs ≡ vs = take_all (length vs) vs (omega arith) in
             ap (λ (k : ℕ). get_or p.places.items k 0) count ∙ (at_place (length vs) ∙ (place-at vs (length vs) 0 (omega arith)
-            ∙ (ap (λ (xs : List Vertex). length (successors xs)) all ∙ sym (ap length is.successor))));
+            ∙ (ap (λ (xs : List Vertex). length (all_successors xs)) all ∙ sym (ap length is.successor))));
       };
       few_priorities = λ k d l.
           let e = get_or-map (λ (x : Vertex). x.priority) vs k none d (omega arith) in
@@ -117,7 +117,7 @@ parts_are_game vs make p is =
           omega (arith, ap (λ (xs : List ℕ). get_or xs k d) is.priority, e, low);
       successors = record {
         closed =
-            let each : All (λ u. u < length vs) (successors vs) = each_successor (λ u. u < length vs) vs
+            let each : All (λ u. u < length vs) (all_successors vs) = each_successor (λ u. u < length vs) vs
             (λ v x e. λ k d l. (make.each v x e).closed (get_or x.successors k d) (k, l, get_or_default x.successors k (get_or x.successors k d) d l)) in
             λ k d l. omega (arith, each k d (omega arith), ap (λ (xs : List ℕ). get_or xs k d) is.successor);
         rising = λ v l.

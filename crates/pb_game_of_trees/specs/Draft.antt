@@ -16,31 +16,31 @@ abbrev pub priorities : List Vertex → List ℕ
 priorities vertices = map (λ (x : Vertex). x.priority) vertices
 
 -- the successors of all vertices
-abbrev pub successors : List Vertex → List ℕ
-successors vertices = flat_map (λ (x : Vertex). x.successors) vertices
+abbrev pub all_successors : List Vertex → List ℕ
+all_successors vertices = flat_map (λ (x : Vertex). x.successors) vertices
 
 -- how many edges leave each vertex and those behind it, and behind the last one 0
 abbrev pub edge_sums : List Vertex → List ℕ
 edge_sums [] = 0 ∷ []
-edge_sums (x ∷ vertices) = length (successors (x ∷ vertices)) ∷ edge_sums vertices
+edge_sums (x ∷ vertices) = length (all_successors (x ∷ vertices)) ∷ edge_sums vertices
 
 -- the draft holds these vertices, the last first
 pub record IsDraft (draft : Draft) (vertices : List Vertex) : Type 0 where
   pub owner : draft.owners.items ≡ reverse (owners vertices)
   pub priority : draft.priorities.items ≡ reverse (priorities vertices)
   pub edges : draft.edges.items ≡ reverse (edge_sums vertices)
-  pub successor : draft.successors.items ≡ reverse (successors vertices)
+  pub successor : draft.successors.items ≡ reverse (all_successors vertices)
 
 -- where the successors of each vertex begin, and behind these the number of all edges
 abbrev pub places : List Vertex → List ℕ
-places vertices = map (λ n. length (successors vertices) - n) (edge_sums vertices)
+places vertices = map (λ n. length (all_successors vertices) - n) (edge_sums vertices)
 
 -- the parts stand for these vertices
 pub record ArePartsOf (parts : Parts) (vertices : List Vertex) : Type 0 where
   pub owner : parts.owners.items ≡ owners vertices
   pub priority : parts.priorities.items ≡ priorities vertices
   pub place : parts.places.items ≡ places vertices
-  pub successor : parts.successors.items ≡ successors vertices
+  pub successor : parts.successors.items ≡ all_successors vertices
 
 -- the vertices are those of a game, with priorities within their limit
 pub record MakeGame (vertices : List Vertex) : Type 0 where

@@ -16,8 +16,8 @@ use Rattle.pb_lifting.specs.Rule.{known_of, fresh_view}
 abbrev pub LiftSeat : Type 0
 LiftSeat = Seat View (record { marks = λ v. v.known })
 
-abbrev pub view_of : LiftSeat → View
-view_of s = seats.view_of s
+abbrev pub lift_view : LiftSeat → View
+lift_view s = seats.view_of s
 
 -- what the table was told when it was made
 abbrev pub key_at : Ranks → Key
@@ -39,11 +39,11 @@ IsTableOf g player t = (game_at t ≡ g) × (player_at t ≡ player)
 
 -- the least rank of v over what the seat knows
 abbrev pub least_known : Game → Player → LiftSeat → ℕ → ℕ
-least_known g player s v = least_rank g player (view_of s).known v
+least_known g player s v = least_rank g player (lift_view s).known v
 
 -- the rank that the seat knows a word to have reached
 abbrev pub known_by : LiftSeat → ℕ → ℕ
-known_by s n = known_of (view_of s) n
+known_by s n = known_of (lift_view s) n
 
 -- no word is below what the seat knows
 abbrev pub IsBelow : LiftSeat → List ℕ → Type 0
@@ -51,7 +51,7 @@ IsBelow s words = (n : ℕ) → known_by s n ≤ slice_index words n
 
 -- the table that made the seat, and what that was told
 abbrev pub origin_of : LiftSeat → TableId × Option Key
-origin_of s = (seats.table_of s, (view_of s).key)
+origin_of s = (seats.table_of s, (lift_view s).key)
 
 -- the seat was made by this table
 abbrev pub IsSeatOf : Ranks → LiftSeat → Type 0
@@ -62,7 +62,7 @@ IsSameSeat old new = origin_of new ≡ origin_of old
 
 -- how many word steps the seat made
 abbrev pub steps_of : LiftSeat → ℕ
-steps_of s = (view_of s).steps
+steps_of s = (lift_view s).steps
 
 -- how many a lift of v makes: a read of each successor's word, and one raise
 abbrev pub lift_steps : Game → ℕ → ℕ
@@ -70,19 +70,19 @@ lift_steps g v = length (successors_of g v) + 1
 
 -- the vertex of the seat's last step
 abbrev pub step_vertex : LiftSeat → ℕ
-step_vertex s = (view_of s).last.0
+step_vertex s = (lift_view s).last.0
 
 -- the word that the seat's last step found
 abbrev pub found_by : LiftSeat → ℕ
-found_by s = (view_of s).last.1
+found_by s = (lift_view s).last.1
 
-abbrev pub AreSeatsOf : Ranks → List LiftSeat → Type 0
-AreSeatsOf t seats = (k : ℕ) (s : LiftSeat) → slice_get seats k ≡ Some s → IsSeatOf t s
+abbrev pub AreLiftSeats : Ranks → List LiftSeat → Type 0
+AreLiftSeats t seats = (k : ℕ) (s : LiftSeat) → slice_get seats k ≡ Some s → IsSeatOf t s
 
 -- the k-th seat has the k-th seat number, and knows of no word more than 0
 abbrev pub AreFresh : Ranks → List LiftSeat → Type 0
 AreFresh t seats = (k : ℕ) (s : LiftSeat) → slice_get seats k ≡ Some s →
-    view_of s ≡ fresh_view (key_at t) k
+    lift_view s ≡ fresh_view (key_at t) k
 
 -- no word is below what some seat knows
 abbrev pub AreSeatsBelow : List LiftSeat → List ℕ → Type 0

@@ -7,14 +7,14 @@ use Rattle.pb_lifting.specs.declared.open_table.OpenTable.{OpenTable}
 use Rattle.pb_lifting.specs.declared.lifting.InTurn.{InTurn}
 use Rattle.pb_lifting.specs.declared.lifting.Measures.{Measures}
 use Rattle.pb_lifting.specs.Measures.{IsMeasure, IsLeastMeasure}
-use Rattle.pb_lifting.specs.Seats.{IsTableOf, AreSeatsOf}
+use Rattle.pb_lifting.specs.Seats.{IsTableOf, AreLiftSeats}
 use Rattle.pb_lifting.specs.Solutions.{AreMeasured}
 use Rattle.pb_fixpoint_trees.specs.declared.player.Player.TheVariants.{Even, Odd}
 
 -- the table is laid for this game and this player, and these are its seats
 pub record IsOpenFor (g : Game) (player : Player) (t : OpenTable) : Type 0 where
   pub table : IsTableOf g player t.ranks
-  pub seats : AreSeatsOf t.ranks t.seats.items
+  pub seats : AreLiftSeats t.ranks t.seats.items
 
 -- a measure of the player's opponent
 pub record IsOpponents (g : Game) (player : Player) (m : Measured) : Type 0 where

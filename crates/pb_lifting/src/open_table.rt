@@ -1,7 +1,7 @@
 //! A player's table while its workers lift it, and what is left when they have done.
 ghost use Rattle.std.specs.Prelude.{◌≡◌, IfOk};
 ghost use Rattle.pb_lifting.specs.Scales.{IsScaleOf};
-ghost use Rattle.pb_lifting.specs.Seats.{game_at, player_at, IsSeatOf, IsSameSeat, AreSeatsOf};
+ghost use Rattle.pb_lifting.specs.Seats.{game_at, player_at, IsSeatOf, IsSameSeat, AreLiftSeats};
 ghost use Rattle.pb_lifting.specs.Turns.{IsOpenFor, IsOpponents, IsLeastMeasured};
 
 use crate::concede::concede_part;
@@ -67,8 +67,8 @@ pub(crate) fn work_together<G: Gate + Sync, R: Threads + Sync>(
     seats: Vec<LiftSeat>,
 ) -> Result<Vec<LiftSeat>, AllocError>
     requires same_game { lifting.now.game.now ≡ game_at ranks.now }
-    requires seats { AreSeatsOf ranks.now seats.items }
-    ensures { IfOk result (λ v. AreSeatsOf ranks.now v.items) }
+    requires seats { AreLiftSeats ranks.now seats.items }
+    ensures { IfOk result (λ v. AreLiftSeats ranks.now v.items) }
 {
     let done = thread::map_vec(
         rt,
@@ -107,9 +107,9 @@ pub(crate) fn concede_together<G: Gate + Sync, R: Threads + Sync>(
     seats: Vec<LiftSeat>,
 ) -> Result<Vec<LiftSeat>, AllocError>
     requires same_game { lifting.now.game.now ≡ game_at ranks.now }
-    requires seats { AreSeatsOf ranks.now seats.items }
+    requires seats { AreLiftSeats ranks.now seats.items }
     requires opponents { IsOpponents lifting.now.game.now (player_at ranks.now) opponents.now }
-    ensures { IfOk result (λ v. AreSeatsOf ranks.now v.items) }
+    ensures { IfOk result (λ v. AreLiftSeats ranks.now v.items) }
 {
     let done = thread::map_vec(
         rt,

@@ -17,7 +17,7 @@ use Rattle.pb_text.specs.Parsing.{depth_limit, operator_limit}
 use Rattle.pb_model_runs.proofs.Elements.{both-true, some_of, of-some, in-left, in-right}
 use Rattle.pb_model_runs.specs.Exact.{is_among, are_apart}
 use Rattle.pb_model_places.proofs.Tokens.{false-of, parts-apart, first-apart, second-apart, same-turned, tokens-apart, token-columns}
-use Rattle.pb_model_places.specs.Apart.{formula_places, step_places, property_places, stand_apart, ReadProtocolsStandApart, ReadPlacesHaveColumns}
+use Rattle.pb_model_places.specs.Apart.{formula_places, step_places, property_places, protocol_stands_apart, ReadProtocolsStandApart, ReadPlacesHaveColumns}
 use Rattle.pb_model_places.proofs.Keeping.{joined-took, Took, places_of, skips-one, keeps-counted}
 use Rattle.pb_model_places.proofs.Formulas.{no_places}
 use Rattle.pb_model_places.proofs.Steps.{skips-sorts, skips-state, skips-definitions, keeps-steps, skips-initial, keeps-properties, known}
@@ -64,7 +64,7 @@ took-model ranges depth s m z end ends h =
     }
 
 stand-apart : (m : ProtocolForm) (p : PropertyForm) (tokens ts : List Tok) (end : Tok) → tokens ≡ ts ++ end ∷ [] → are_apart (places_of ts) ≡ true
-    → TookModel tokens m → Contains m.properties p → stand_apart m p.formula ≡ true
+    → TookModel tokens m → Contains m.properties p → protocol_stands_apart m p.formula ≡ true
 stand-apart m p tokens ts end are apart took among =
     let same : ts ≡ took.before ++ (took.steps ++ took.behind) = (same_from_push ts (took.before ++ (took.steps ++ took.behind)) end took.end (sym are ∙ took.are)).0 in
     let place_of : Tok → Place = λ t. t.place in

@@ -36,8 +36,8 @@ abbrev pub property_places : PropertyForm → List Place
 property_places p = formula_places p.formula
 
 -- no two steps have their names at one place, and none has it where the formula goes on
-abbrev pub stand_apart : ProtocolForm → FormulaForm → Bool
-stand_apart m f =
+abbrev pub protocol_stands_apart : ProtocolForm → FormulaForm → Bool
+protocol_stands_apart m f =
     are_apart (step_places m.steps)
     && list_all (λ p. not (is_among (step_places m.steps) p)) (formula_places f)
 
@@ -46,13 +46,13 @@ stand_apart m f =
 abbrev pub ReadProtocolsStandApart : Type 0
 ReadProtocolsStandApart =
     (bytes : List ℕ) (m : ProtocolForm) (p : PropertyForm) → IsModelReading bytes m →
-    Contains m.properties p → stand_apart m p.formula ≡ true
+    Contains m.properties p → protocol_stands_apart m p.formula ≡ true
 
 -- so does a model whose steps and formula have the places of a protocol's
 abbrev pub KeptPlacesStandApart : Type 0
 KeptPlacesStandApart =
     (m : ProtocolForm) (f : FormulaForm) (n : flat.ModelForm) (g : flat.FormulaForm) →
-    stand_apart m f ≡ true → model.step_places n.steps ≡ step_places m.steps →
+    protocol_stands_apart m f ≡ true → model.step_places n.steps ≡ step_places m.steps →
     model.formula_places g ≡ formula_places f → model.stand_apart n g ≡ true
 
 -- the names of a protocol's steps, and where its properties go on, stand at columns from 1 on

@@ -36,7 +36,7 @@ use Rattle.pb_protocol_unfolder.specs.declared.fault.UnfoldingRule.TheVariants a
 use Rattle.pb_protocol_unfolder.specs.declared.protocol.Unfolded.{Unfolded}
 use Rattle.pb_protocol_unfolder.specs.Faults.{IsUnfoldingFault}
 use Rattle.pb_protocol_unfolder.specs.Origins.{origin_name}
-use Rattle.pb_protocol_unfolder.specs.Plain.{is_plain}
+use Rattle.pb_protocol_unfolder.specs.Plain.{is_plain_protocol}
 use Rattle.pb_protocol_unfolder.specs.Places as unfolded_places
 use Rattle.pb_protocol_unfolder.specs.Unfolded.{flat_name, property_name}
 use Rattle.pb_protocol_tree.specs.declared.protocol.Property.{Property as DeclaredProperty}
@@ -48,7 +48,7 @@ use Rattle.pb_model_properties.specs.Faults.{as_model_fault}
 use Rattle.pb_model_properties.specs.Flat.{IsFlatModelFor, IsUnfoldedTo}
 use Rattle.pb_model_properties.specs.Laws.{ModelsStandForProtocols}
 use Rattle.pb_model_properties.specs.Refusals.{IsRefusedProtocol, told_at, told_place}
-use Rattle.pb_model_properties.specs.Refusals.{step_place as step_place_of}
+use Rattle.pb_model_properties.specs.Refusals.{told_step_place as step_place_of}
 use Rattle.pb_model_properties.specs.Solvable.{CanBeSolved}
 use Rattle.pb_model_properties.specs.Words.{AreNamesOf, impossible_where, words_where}
 
@@ -143,7 +143,7 @@ unfolded_is_flat laws protocol u solvable is =
     }
 
 -- told by the protocol's names
-pub unfolded_names : (protocol : ProtocolForm) (u : Unfolded) (names : ToldNames) → is_plain protocol ≡ false → IsUnfoldedTo protocol u
+pub unfolded_names : (protocol : ProtocolForm) (u : Unfolded) (names : ToldNames) → is_plain_protocol protocol ≡ false → IsUnfoldedTo protocol u
     → names.variables ≡ u.variables → map string_bytes names.steps.items ≡ map origin_name u.steps.items → names.impossible ≡ u.impossible
     → AreNamesOf protocol (model_form u.model) (Some names)
 unfolded_names protocol u names unfolds is variables steps impossible = record {
@@ -157,7 +157,7 @@ unfolded_names protocol u names unfolds is variables steps impossible = record {
 
 -- ---- refusals
 
-not_unfolded_by : (protocol : ProtocolForm) → is_plain protocol ≡ false → (r : UnfoldingRule) (p : Place) → IsUnfoldingFault protocol (record { rule = r; place = p })
+not_unfolded_by : (protocol : ProtocolForm) → is_plain_protocol protocol ≡ false → (r : UnfoldingRule) (p : Place) → IsUnfoldingFault protocol (record { rule = r; place = p })
     → IsRefusedProtocol protocol (as_model_fault (record { rule = r; place = p }))
 not_unfolded_by protocol unfolds unfolding_rule.Names p is = inr (inr (inl (unfolds, (record { rule = unfolding_rule.Names; place = p }, is, refl))))
 not_unfolded_by protocol unfolds unfolding_rule.Value p is = inr (inr (inl (unfolds, (record { rule = unfolding_rule.Value; place = p }, is, refl))))
@@ -165,7 +165,7 @@ not_unfolded_by protocol unfolds unfolding_rule.Index p is = inr (inr (inl (unfo
 not_unfolded_by protocol unfolds unfolding_rule.Count p is = inr (inr (inl (unfolds, (record { rule = unfolding_rule.Count; place = p }, is, refl))))
 not_unfolded_by protocol unfolds unfolding_rule.Operators p is = (unfolds, (record { rule = unfolding_rule.Operators; place = p }, is, refl))
 
-pub not_unfolded : (protocol : ProtocolForm) → is_plain protocol ≡ false → (e : OrMemory UnfoldingFault) (x : OrMemory ModelFault)
+pub not_unfolded : (protocol : ProtocolForm) → is_plain_protocol protocol ≡ false → (e : OrMemory UnfoldingFault) (x : OrMemory ModelFault)
     → raised (λ f above. above ≡ as_model_fault f) e x → IfFault e (IsUnfoldingFault protocol) → IfFault x (IsRefusedProtocol protocol)
 not_unfolded protocol unfolds (Refused f) (Refused above) made is = subst (IsRefusedProtocol protocol) (sym made) (not_unfolded_by protocol unfolds f.rule f.place is)
 not_unfolded protocol unfolds (Refused f) Memory made is = tt

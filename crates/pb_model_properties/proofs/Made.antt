@@ -18,7 +18,7 @@ use Rattle.pb_protocol_tree.specs.Form as protocol_form
 use Rattle.pb_protocol_tree.specs.Form.{ProtocolForm}
 use Rattle.pb_protocol_meaning.specs.Erase.{erase}
 use Rattle.pb_protocol_unfolding.specs.Plain.{plain, IsPlain}
-use Rattle.pb_protocol_unfolder.specs.Plain.{is_plain, plain_form, plain_formula, plain_property, plain_variable}
+use Rattle.pb_protocol_unfolder.specs.Plain.{is_plain_protocol, plain_form, plain_formula_form, plain_property_form, plain_variable_form}
 use Rattle.pb_model_spelling.specs.Protocols.{ProtocolWritable}
 use Rattle.pb_model_places.specs.Apart.{KeptPlacesStandApart}
 use Rattle.pb_model_places.specs.Apart as places
@@ -38,11 +38,11 @@ use Rattle.pb_model_properties.proofs.SolvedModels.{as_it_is}
 
 -- ---- models of plain protocols
 
-plain_names : (ps : List flat.PropertyForm) → map (λ (p : flat.PropertyForm). p.name) ps ≡ map (λ (p : protocol_form.PropertyForm). p.name) (map plain_property ps)
+plain_names : (ps : List flat.PropertyForm) → map (λ (p : flat.PropertyForm). p.name) ps ≡ map (λ (p : protocol_form.PropertyForm). p.name) (map plain_property_form ps)
 plain_names [] = refl
 plain_names (p ∷ ps) = ap (λ xs. p.name ∷ xs) (plain_names ps)
 
-first_plain : (ps : List flat.PropertyForm) → (p : protocol_form.PropertyForm) × (slice_get (map plain_property ps) 0 ≡ Some p) → (p : flat.PropertyForm) × (slice_get ps 0 ≡ Some p)
+first_plain : (ps : List flat.PropertyForm) → (p : protocol_form.PropertyForm) × (slice_get (map plain_property_form ps) 0 ≡ Some p) → (p : flat.PropertyForm) × (slice_get ps 0 ≡ Some p)
 first_plain [] (p, at) = absurd (cc at)
 first_plain (p ∷ ps) first = (p, refl)
 
@@ -59,20 +59,20 @@ pub record IsPlainFor (protocol : ProtocolForm) (m : ModelForm) : Type 0 where
 pub plain_is_flat : PlainModelsAreSolved → (protocol : ProtocolForm) (m : ModelForm) → IsPlainFor protocol m → IsPlain (model_text.erase m) → IsFlatModelFor protocol m
 plain_is_flat law protocol m is plainly =
     let has : ProtocolWritable (plain (model_text.erase m)) = subst ProtocolWritable is.meaning is.solvable.writable in
-    let apart : (q : protocol_form.PropertyForm) → Contains (plain_form m).properties q → places.stand_apart (plain_form m) q.formula ≡ true =
-    subst (λ (x : ProtocolForm). (q : protocol_form.PropertyForm) → Contains x.properties q → places.stand_apart x q.formula ≡ true) is.words is.solvable.apart in
+    let apart : (q : protocol_form.PropertyForm) → Contains (plain_form m).properties q → places.protocol_stands_apart (plain_form m) q.formula ≡ true =
+    subst (λ (x : ProtocolForm). (q : protocol_form.PropertyForm) → Contains x.properties q → places.protocol_stands_apart x q.formula ≡ true) is.words is.solvable.apart in
     record {
       from = inl is.words;
       solved = law protocol m plainly is.meaning (names_kept protocol m is.words);
       first = first_plain m.properties (subst (λ (x : ProtocolForm). (p : protocol_form.PropertyForm) × (slice_get x.properties 0 ≡ Some p)) is.words is.solvable.first);
-      apart = λ p among. is.kept (plain_form m) (plain_formula p.formula) m p.formula (apart (plain_property p) (property_among m p among)) (plain_steps m.steps)
+      apart = λ p among. is.kept (plain_form m) (plain_formula_form p.formula) m p.formula (apart (plain_property_form p) (property_among m p among)) (plain_steps m.steps)
           (plain_places p.formula);
       writable = model_has (model_text.erase m) has;
       formulas = λ p among. property_has m has p among;
     }
 
 -- and its words are its own
-pub plain_names_of : (protocol : ProtocolForm) (m : ModelForm) → is_plain protocol ≡ true → AreNamesOf protocol m None
+pub plain_names_of : (protocol : ProtocolForm) (m : ModelForm) → is_plain_protocol protocol ≡ true → AreNamesOf protocol m None
 plain_names_of protocol m plainly = record {
   words = ap (λ (b : Bool). words_where b (erase protocol) m) (sym plainly);
   impossible = ap (λ (b : Bool). impossible_where b (erase protocol)) (sym plainly);
@@ -81,7 +81,7 @@ plain_names_of protocol m plainly = record {
 -- it has as many variables as the protocol
 pub plain_few : (protocol : ProtocolForm) (m : ModelForm) → protocol ≡ plain_form m → nat_lt MAX_PARAMETERS (length protocol.variables) ≡ false → has_many_variables m ≡ false
 plain_few protocol m words few =
-    sym (ap (λ (x : ProtocolForm). nat_lt MAX_PARAMETERS (length x.variables)) words ∙ ap (nat_lt MAX_PARAMETERS) (length-map m.variables plain_variable)) ∙ few
+    sym (ap (λ (x : ProtocolForm). nat_lt MAX_PARAMETERS (length x.variables)) words ∙ ap (nat_lt MAX_PARAMETERS) (length-map m.variables plain_variable_form)) ∙ few
 
 -- ---- refusals
 

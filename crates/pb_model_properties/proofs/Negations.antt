@@ -12,7 +12,7 @@ use Rattle.pb_text_printer.specs.Sayable.{Each}
 use Rattle.pb_model_tree.specs.declared.formula.Modality.TheVariants as modality
 use Rattle.pb_model_runs.specs.Exact.{are_apart, is_among}
 use Rattle.pb_model_spelling.specs.Protocols.{FormulaWritable, PropertyWritable, ProtocolWritable}
-use Rattle.pb_model_places.specs.Apart.{formula_places, stand_apart, step_places}
+use Rattle.pb_model_places.specs.Apart.{formula_places, protocol_stands_apart, step_places}
 use Rattle.pb_protocol_tree.specs.Form.{FormulaForm, PropertyForm, ProtocolForm}
 use Rattle.pb_protocol_meaning.specs.Erase.{erase, erased_formula, erased_property}
 use Rattle.pb_protocol_negation.specs.Negated.{negated, negated_property, negated_protocol}
@@ -46,12 +46,12 @@ negation_of_some (p ∷ ps) n (suc k, below, at) =
     let found = negation_of_some ps n (k, omega (arith, below), at) in
     (found.0, Contains-append_right (p ∷ []) ps found.0 found.1, found.2)
 
-apart_negated : (protocol : ProtocolForm) → ((p : PropertyForm) → Contains protocol.properties p → stand_apart protocol p.formula ≡ true)
-    → (n : PropertyForm) → Contains (negated_protocol protocol).properties n → stand_apart (negated_protocol protocol) n.formula ≡ true
+apart_negated : (protocol : ProtocolForm) → ((p : PropertyForm) → Contains protocol.properties p → protocol_stands_apart protocol p.formula ≡ true)
+    → (n : PropertyForm) → Contains (negated_protocol protocol).properties n → protocol_stands_apart (negated_protocol protocol) n.formula ≡ true
 apart_negated protocol apart n among =
     let from = negation_of_some protocol.properties n among in
     let steps = step_places protocol.steps in
-    ap (λ (x : PropertyForm). stand_apart (negated_protocol protocol) x.formula) from.2
+    ap (λ (x : PropertyForm). protocol_stands_apart (negated_protocol protocol) x.formula) from.2
     ∙ (ap (λ (ps : List Place). are_apart steps && list_all (λ p. not (is_among steps p)) ps) (kept_places from.0.formula) ∙ apart from.0 from.1)
 
 -- ---- its words

@@ -62,32 +62,34 @@ property_has m h p among = All-contains HasWords m.properties p (properties_have
 
 -- ---- places
 
-pub plain_steps : (xs : List flat.StepForm) → model_places.step_places xs ≡ step_places (map form.plain_step xs)
+pub plain_steps : (xs : List flat.StepForm) → model_places.step_places xs ≡ step_places (map form.plain_step_form xs)
 plain_steps [] = refl
 plain_steps (x ∷ xs) = ap (λ ps. x.name.place ∷ ps) (plain_steps xs)
 
-pub plain_places : (f : flat.FormulaForm) → model_places.formula_places f ≡ formula_places (form.plain_formula f)
+pub plain_places : (f : flat.FormulaForm) → model_places.formula_places f ≡ formula_places (form.plain_formula_form f)
 plain_places (flat.FormulaForm.constant p b) = refl
 plain_places (flat.FormulaForm.«data» p x) = refl
 plain_places (flat.FormulaForm.variable x) = refl
 plain_places (flat.FormulaForm.negation p f) = plain_places f
 plain_places (flat.FormulaForm.connected c p f g) =
-    ap (λ ps. ps ++ model_places.formula_places g) (plain_places f) ∙ ap (λ ps. formula_places (form.plain_formula f) ++ ps) (plain_places g)
+    ap (λ ps. ps ++ model_places.formula_places g) (plain_places f) ∙ ap (λ ps. formula_places (form.plain_formula_form f) ++ ps) (plain_places g)
 plain_places (flat.FormulaForm.modal k p A f) = plain_places f
 plain_places (flat.FormulaForm.fixpoint sign p x f) = ap (λ ps. p ∷ ps) (plain_places f)
 
 -- a property of the model is one of the protocol
 abbrev AreIn : List flat.PropertyForm → flat.PropertyForm → Type 0
-AreIn ps p = Contains (map form.plain_property ps) (form.plain_property p)
+AreIn ps p = Contains (map form.plain_property_form ps) (form.plain_property_form p)
 
 plain_among : (ps : List flat.PropertyForm) → All (AreIn ps) ps
 plain_among [] = All-nil (AreIn [])
 plain_among (p ∷ ps) =
-    All-cons (AreIn (p ∷ ps)) p ps (Contains-append_left (form.plain_property p ∷ []) (map form.plain_property ps) (form.plain_property p) (Contains-push [] (form.plain_property p)))
+    All-cons (AreIn (p ∷ ps)) p ps
+    (Contains-append_left (form.plain_property_form p ∷ []) (map form.plain_property_form ps) (form.plain_property_form p) (Contains-push [] (form.plain_property_form p)))
     (behind p ps ps (plain_among ps))
   where
     behind : (p : flat.PropertyForm) (ps qs : List flat.PropertyForm) → All (AreIn ps) qs → All (AreIn (p ∷ ps)) qs
-    behind p ps qs h = All-weaker (AreIn ps) (AreIn (p ∷ ps)) (λ q among. Contains-append_right (form.plain_property p ∷ []) (map form.plain_property ps) (form.plain_property q) among) qs h
+    behind p ps qs h = All-weaker (AreIn ps) (AreIn (p ∷ ps))
+        (λ q among. Contains-append_right (form.plain_property_form p ∷ []) (map form.plain_property_form ps) (form.plain_property_form q) among) qs h
 
-pub property_among : (m : flat.ModelForm) (p : flat.PropertyForm) → Contains m.properties p → Contains (form.plain_form m).properties (form.plain_property p)
+pub property_among : (m : flat.ModelForm) (p : flat.PropertyForm) → Contains m.properties p → Contains (form.plain_form m).properties (form.plain_property_form p)
 property_among m p among = All-contains (AreIn m.properties) m.properties p (plain_among m.properties) among

@@ -5,7 +5,7 @@ use Rattle.pb_text_tree.specs.declared.place.Place.{Place}
 use Rattle.pb_model_tree.specs.Form as flat
 use Rattle.pb_model_runs.specs.Exact as model
 use Rattle.pb_model_spelling.specs.Protocols.{ProtocolWritable}
-use Rattle.pb_model_places.specs.Apart.{formula_places, lines_from, stand_apart}
+use Rattle.pb_model_places.specs.Apart.{formula_places, lines_from, protocol_stands_apart}
 use Rattle.pb_protocol_tree.specs.Form.{PropertyForm, ProtocolForm}
 use Rattle.pb_protocol_meaning.specs.Erase.{erase}
 
@@ -24,5 +24,6 @@ pub record CanBeSolved (protocol : ProtocolForm) : Type 0 where
   pub writable : ProtocolWritable (erase protocol)
   pub first : (p : PropertyForm) × (slice_get protocol.properties 0 ≡ Some p)
   pub apart :
-      (p : PropertyForm) → Contains protocol.properties p → stand_apart protocol p.formula ≡ true
+      (p : PropertyForm) → Contains protocol.properties p
+      → protocol_stands_apart protocol p.formula ≡ true
   pub numbered : NumberedStandApart protocol

@@ -7,7 +7,7 @@ use Rattle.pb_model_meaning.specs.Erase as model_text
 use Rattle.pb_protocol_tree.specs.Form.{ProtocolForm}
 use Rattle.pb_protocol_meaning.specs.Syntax.{Protocol}
 use Rattle.pb_protocol_meaning.specs.Erase.{erase}
-use Rattle.pb_protocol_unfolder.specs.Plain.{is_plain}
+use Rattle.pb_protocol_unfolder.specs.Plain.{is_plain_protocol}
 use Rattle.pb_protocol_unfolder.specs.Told as told
 use Rattle.pb_protocol_unfolder.specs.Told.{told_steps, told_variables}
 use Rattle.pb_protocol_packing.specs.Groups.{groups_of}
@@ -28,7 +28,7 @@ words_where false protocol flat =
     told_vocabulary flat (told_variables protocol) (told_steps protocol)
 
 abbrev pub flat_words : ProtocolForm → ModelForm → Vocabulary
-flat_words protocol = words_where (is_plain protocol) (erase protocol)
+flat_words protocol = words_where (is_plain_protocol protocol) (erase protocol)
 
 -- the same words, of states in which the flat model's variables are packed, where they are
 abbrev pub packed_where : Bool → ModelForm → Vocabulary → Vocabulary
@@ -63,8 +63,8 @@ abbrev pub impossible_where : Bool → Protocol → List Name
 impossible_where true protocol = []
 impossible_where false protocol = told.impossible_steps protocol
 
-abbrev pub impossible_steps : ProtocolForm → List Name
-impossible_steps protocol = impossible_where (is_plain protocol) (erase protocol)
+abbrev pub impossible_step_names : ProtocolForm → List Name
+impossible_step_names protocol = impossible_where (is_plain_protocol protocol) (erase protocol)
 
 -- those that are told beside these names
 abbrev pub impossible_in : Option ToldNames → List Name
@@ -75,14 +75,14 @@ impossible_in (Some names) = map string_bytes names.impossible.items
 pub record AreNamesOf (protocol : ProtocolForm) (flat : ModelForm) (names : Option ToldNames)
     : Type 0 where
   pub words : words_with flat names ≡ flat_words protocol flat
-  pub impossible : impossible_in names ≡ impossible_steps protocol
+  pub impossible : impossible_in names ≡ impossible_step_names protocol
 
 -- the model is solved in the protocol's place, and its words are the protocol's
 pub record IsToldModel (protocol : ProtocolForm) (solved : SolvedModel) : Type 0 where
   pub is_for : IsModelFor protocol (model_form solved.typed.model)
   pub words :
       words_in solved ≡ words_of protocol (model_form solved.typed.model) is_for.made
-  pub impossible : impossible_in solved.names ≡ impossible_steps protocol
+  pub impossible : impossible_in solved.names ≡ impossible_step_names protocol
 
 -- so it is with the protocol that the bytes say
 pub record IsToldModelOf (bytes : List ℕ) (solved : SolvedModel) : Type 0 where
@@ -90,7 +90,7 @@ pub record IsToldModelOf (bytes : List ℕ) (solved : SolvedModel) : Type 0 wher
   pub words :
       words_in solved
       ≡ words_of said.protocol (model_form solved.typed.model) said.is_for.made
-  pub impossible : impossible_in solved.names ≡ impossible_steps said.protocol
+  pub impossible : impossible_in solved.names ≡ impossible_step_names said.protocol
 
 -- it is the model for whatever protocol the flat one is for and these names are of
 abbrev pub IsSolvedFlat : ModelForm → Option ToldNames → SolvedModel → Type 0

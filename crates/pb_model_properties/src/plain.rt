@@ -4,7 +4,7 @@ ghost use Rattle.std.specs.Prelude.{◌≡◌, nat_lt, true, false, length, IfOk
 ghost use Rattle.pb_base.specs.declared.limits.TheConstants.{MAX_PARAMETERS};
 ghost use Rattle.pb_base.specs.OrMemory.{IfRefused};
 ghost use Rattle.pb_protocol_tree.specs.Form.{protocol_form};
-ghost use Rattle.pb_protocol_unfolder.specs.Plain.{is_plain};
+ghost use Rattle.pb_protocol_unfolder.specs.Plain.{is_plain_protocol};
 ghost use Rattle.pb_model_properties.specs.Refusals.{IsRefusedProtocol};
 ghost use Rattle.pb_model_properties.specs.Solvable.{CanBeSolved};
 ghost use Rattle.pb_model_properties.specs.Words.{IsToldModel};
@@ -22,7 +22,7 @@ use std::alloc::Global;
 
 /// A plain protocol's own model. What its check accepts keeps the rules of plain models.
 fn as_it_is(alloc: Global, protocol: Protocol) -> Result<SolvedModel, ModelError>
-    requires plain { is_plain (protocol_form protocol) ≡ true }
+    requires plain { is_plain_protocol (protocol_form protocol) ≡ true }
     requires solvable { CanBeSolved (protocol_form protocol) }
     requires few { nat_lt MAX_PARAMETERS (length (protocol_form protocol).variables) ≡ false }
     ensures model { IfOk result (IsToldModel (protocol_form protocol)) }
@@ -43,7 +43,7 @@ fn as_it_is(alloc: Global, protocol: Protocol) -> Result<SolvedModel, ModelError
 /// The model of a plain protocol that keeps the rules, which has too many variables to be solved as
 /// it is.
 fn packed(alloc: Global, protocol: Protocol) -> Result<SolvedModel, ModelError>
-    requires plain { is_plain (protocol_form protocol) ≡ true }
+    requires plain { is_plain_protocol (protocol_form protocol) ≡ true }
     requires solvable { CanBeSolved (protocol_form protocol) }
     ensures model { IfOk result (IsToldModel (protocol_form protocol)) }
     ensures refused { IfRefused result (IsRefusedProtocol (protocol_form protocol)) }
@@ -59,7 +59,7 @@ fn packed(alloc: Global, protocol: Protocol) -> Result<SolvedModel, ModelError>
 
 /// The model that is solved in a plain protocol's place: its own, or that one packed.
 pub(crate) fn plain_solved(alloc: Global, protocol: Protocol) -> Result<SolvedModel, ModelError>
-    requires plain { is_plain (protocol_form protocol) ≡ true }
+    requires plain { is_plain_protocol (protocol_form protocol) ≡ true }
     requires solvable { CanBeSolved (protocol_form protocol) }
     ensures model { IfOk result (IsToldModel (protocol_form protocol)) }
     ensures refused { IfRefused result (IsRefusedProtocol (protocol_form protocol)) }

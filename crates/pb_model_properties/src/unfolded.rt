@@ -3,7 +3,7 @@
 ghost use Rattle.std.specs.Prelude.{◌≡◌, false, IfOk};
 ghost use Rattle.pb_base.specs.OrMemory.{IfRefused};
 ghost use Rattle.pb_protocol_tree.specs.Form.{protocol_form};
-ghost use Rattle.pb_protocol_unfolder.specs.Plain.{is_plain};
+ghost use Rattle.pb_protocol_unfolder.specs.Plain.{is_plain_protocol};
 ghost use Rattle.pb_model_properties.specs.Flat.{IsUnfoldedTo};
 ghost use Rattle.pb_model_properties.specs.Refusals.{IsRefusedProtocol};
 ghost use Rattle.pb_model_properties.specs.Solvable.{CanBeSolved};
@@ -21,7 +21,7 @@ use std::alloc::Global;
 
 /// The flat model of a protocol that keeps the rules.
 fn flat(alloc: Global, protocol: &Protocol) -> Result<Unfolded, ModelError>
-    requires unfolds { is_plain (protocol_form protocol.now) ≡ false }
+    requires unfolds { is_plain_protocol (protocol_form protocol.now) ≡ false }
     ensures flat { IfOk result (IsUnfoldedTo (protocol_form protocol.now)) }
     ensures refused { IfRefused result (IsRefusedProtocol (protocol_form protocol.now)) }
 {
@@ -38,7 +38,7 @@ fn flat(alloc: Global, protocol: &Protocol) -> Result<Unfolded, ModelError>
 
 /// The same, checked.
 pub(crate) fn unfolded_solved(alloc: Global, protocol: &Protocol) -> Result<SolvedModel, ModelError>
-    requires unfolds { is_plain (protocol_form protocol.now) ≡ false }
+    requires unfolds { is_plain_protocol (protocol_form protocol.now) ≡ false }
     requires solvable { CanBeSolved (protocol_form protocol.now) }
     ensures model { IfOk result (IsToldModel (protocol_form protocol.now)) }
     ensures refused { IfRefused result (IsRefusedProtocol (protocol_form protocol.now)) }

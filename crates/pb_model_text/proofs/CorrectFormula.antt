@@ -28,7 +28,7 @@ use Rattle.pb_text_lexer.proofs.CorrectLeft.{unless_next-answers, unless_next-co
 use Rattle.pb_text_lexer.proofs.CorrectEither.{Not, IsBelow, connects, connected-correct}
 use Rattle.pb_text_terms.specs.Grammar.{Name, Instance, applied, Placed, Equated, IsUnary, IsTerm}
 use Rattle.pb_text_terms.specs.Operators.{connected_by, is_quantifier, is_equality, is_order, is_additive, is_times, is_division}
-use Rattle.pb_text_terms.specs.Reading.{is_open, placed, equated, unary}
+use Rattle.pb_text_terms.specs.Reading.{is_open, with_place, equated, unary}
 use Rattle.pb_text_terms.proofs.CorrectVariable.{head-kind-is, head-limited, said-correct, stops-at-kind}
 use Rattle.pb_text_terms.proofs.CorrectOperators.{equated_goes, equateds, unary_goes}
 use Rattle.pb_text_terms.proofs.CorrectInstance.{placed-correct}
@@ -123,7 +123,7 @@ module _ (made : Place → TermForm → FormulaForm) where
   atom-correct : (depth : ℕ) → Correct Always (atom made (data_operand depth)) atoms node_goes depth
   unfolding data_operand
   atom-correct depth =
-      said-correct (λ d. Placed (Equated (IsUnary d))) (λ found. made found.0 found.1) node_goes depth Always (placed (equated (unary depth)))
+      said-correct (λ d. Placed (Equated (IsUnary d))) (λ found. made found.0 found.1) node_goes depth Always (with_place (equated (unary depth)))
       (placed-correct (λ d. Equated (IsUnary d)) node_goes depth equated-some (equated (unary depth)) (equateds (unary depth) IsUnary depth (unary-correct depth)))
 
   atom-answers : (kind : Kind) (depth : ℕ) → Free IsUnary (suc depth) (some-token kind ∷ []) → Answering (HeadIs kind) (atom made (data_operand depth)) (λ d. Beginning kind (atoms d)) node_goes depth

@@ -19,7 +19,7 @@ use Rattle.pb_text_lexer.proofs.CorrectFamilies.{Nowhere, first-correct, own-cor
 use Rattle.pb_text_lexer.proofs.CorrectSeries.{going, Passes, head-at}
 use Rattle.pb_text_lexer.proofs.CorrectPlain.{Always, anywhere, then-plain, nothing-correct}
 use Rattle.pb_text_terms.specs.Grammar.{Name, Placed, arguments_of, IsTerm}
-use Rattle.pb_text_terms.specs.Reading.{name, instance, is_open, placed, argument_list, term}
+use Rattle.pb_text_terms.specs.Reading.{name, instance, is_open, with_place, argument_list, term}
 use Rattle.pb_text_terms.proofs.CorrectVariable.{name-correct, commas, listed-correct, stops-at-kind, said-correct}
 use Rattle.pb_text_terms.proofs.CorrectOperators.{unary_goes, term_goes, comma-apart, list_goes}
 use Rattle.pb_text_terms.proofs.CorrectInstance.{placed-correct}
@@ -62,7 +62,7 @@ pub record IsRead (depth operators : ℕ) (tokens : List Tok) (ranges : List Ran
 
 -- ---- steps
 
-placed_term-correct : (depth : ℕ) → Correct Always (placed (term depth)) (λ d. Placed (IsTerm d)) term_goes depth
+placed_term-correct : (depth : ℕ) → Correct Always (with_place (term depth)) (λ d. Placed (IsTerm d)) term_goes depth
 placed_term-correct depth = placed-correct IsTerm term_goes depth (λ d s y z r. deeper-some (suc d) s y z r) (term depth) (term-correct depth)
 
 assign-stops : unary_goes k.Assign ≡ false
@@ -79,7 +79,7 @@ assignment-correct depth =
     Always (expect k.Assign) _ (expect-correct k.Assign depth refl) (λ assign.
     said-correct (λ d. Placed (IsTerm d))
     (λ value. record { variable = target.name; index = target.arguments; place = value.0; value = value.1 })
-    term_goes depth Always (placed (term depth)) (placed_term-correct depth))))
+    term_goes depth Always (with_place (term depth)) (placed_term-correct depth))))
 
 assignments-correct : (depth : ℕ) → Correct Always (assignments depth) (λ d. Listed (IsAssignment d) (One k.Comma)) list_goes depth
 assignments-correct depth = listed-correct IsAssignment term_goes depth comma-apart (assignment depth) (assignment-correct depth)
@@ -169,7 +169,7 @@ steps-correct depth =
 
 values-correct : (depth : ℕ) → Correct Always (argument_list (term depth)) (λ d. Listed (Placed (IsTerm d)) (One k.Comma)) list_goes depth
 values-correct depth =
-    listed-correct (λ d. Placed (IsTerm d)) term_goes depth comma-apart (placed (term depth)) (placed_term-correct depth)
+    listed-correct (λ d. Placed (IsTerm d)) term_goes depth comma-apart (with_place (term depth)) (placed_term-correct depth)
 
 initial_parts-correct : (depth : ℕ) → Correct Always (initial_parts depth) IsInitialState never depth
 unfolding initial_parts

@@ -24,7 +24,7 @@ use Rattle.pb_text_lexer.specs.Kinds.{same_kind, is_last}
 use Rattle.pb_text_lexer.specs.Steps.{Step, Outcome, Gives, and_then, ◌>>=◌, pure, peek, refuse, refusal, kind, take_token, expect, unless_next, enter, chain}
 use Rattle.pb_text_lexer.specs.Tokens.{Tok, token_at}
 use Rattle.pb_text_lexer.proofs.LoopLemmas.{placed, resumed-first-fails}
-use Rattle.pb_text_terms.specs.Operators.{symbol, is_connective, is_quantifier}
+use Rattle.pb_text_terms.specs.Operators.{symbol_kind, is_connective, is_quantifier}
 use Rattle.pb_text_terms.specs.Reading.{name, variables, quantifier_of, below}
 use Rattle.pb_text_terms.specs.Reading as terms
 use Rattle.pb_text_terms.proofs.ReadLemmas.{below-is, resumed-alone-or-fails, no-connective}
@@ -34,7 +34,7 @@ use Rattle.pb_model_text.specs.Reading.{begun, modal, opening_kind, closing, mod
 
 -- a level is a chain of its operands
 pub level-chain : (c : Connective) (scope : FixpointNames) (depth : ℕ) (s : State)
-    → level c scope depth s ≡ chain (symbol c) (placed (symbol c) (FormulaForm.connected c) (operand c scope depth)) (operand c scope depth) (suc (length s.tokens)) s
+    → level c scope depth s ≡ chain (symbol_kind c) (placed (symbol_kind c) (FormulaForm.connected c) (operand c scope depth)) (operand c scope depth) (suc (length s.tokens)) s
 unfolding plain behind_fair formula fixpoint quantification
 level-chain And scope depth s = refl
 level-chain Or scope depth s = refl
@@ -279,7 +279,7 @@ module _ (scope : FixpointNames) (depth : ℕ) (s : State) (q : Quantifier) (is 
 
 -- where an operand fails, its chain does
 level-fails : (c : Connective) (scope : FixpointNames) (depth : ℕ) (s : State) (bad : Refusal) → operand c scope depth s ≡ Err bad → level c scope depth s ≡ Err bad
-level-fails c scope depth s bad fails = level-chain c scope depth s ∙ resumed-first-fails (symbol c) (FormulaForm.connected c) (operand c scope depth) (length s.tokens) s bad fails
+level-fails c scope depth s bad fails = level-chain c scope depth s ∙ resumed-first-fails (symbol_kind c) (FormulaForm.connected c) (operand c scope depth) (length s.tokens) s bad fails
 
 pub conjunction-fails : (scope : FixpointNames) (depth : ℕ) (s : State) (bad : Refusal) → level And scope depth s ≡ Err bad → formula scope depth s ≡ Err bad
 conjunction-fails scope depth s bad fails = level-fails Implies scope depth s bad (level-fails Or scope depth s bad fails)
@@ -292,11 +292,11 @@ primary-fails scope depth s bad fails = conjunction-fails scope depth s bad (lev
 
 -- an operand behind which the connective doesn't stand
 pub level-alone-or-fails : (c : Connective) (scope : FixpointNames) (depth : ℕ) (s z : State)
-    (r : Result Formula (OrMemory Refusal)) → Gives formula_form (operand c scope depth s) r z → same_kind (kind z) (symbol c) ≡ false
+    (r : Result Formula (OrMemory Refusal)) → Gives formula_form (operand c scope depth s) r z → same_kind (kind z) (symbol_kind c) ≡ false
     → Gives formula_form (level c scope depth s) r z
 level-alone-or-fails c scope depth s z r reads other =
     subst (λ (o : Outcome FormulaForm). Gives formula_form o r z) (sym (level-chain c scope depth s))
-    (resumed-alone-or-fails (symbol c) (FormulaForm.connected c) (operand c scope depth) formula_form (length s.tokens) s z r reads other)
+    (resumed-alone-or-fails (symbol_kind c) (FormulaForm.connected c) (operand c scope depth) formula_form (length s.tokens) s z r reads other)
 
 -- a first part behind which no connective stands
 pub primary-alone-or-fails : (scope : FixpointNames) (depth : ℕ) (s z : State) (r : Result Formula (OrMemory Refusal)) → Gives formula_form (primary scope depth s) r z → is_connective (kind z) ≡ false

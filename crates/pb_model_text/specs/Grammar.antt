@@ -48,13 +48,13 @@ is_any (TermForm.name name) = bytes_eq name.text (codes "_")
 is_any term = false
 
 -- `_` stands for any value of a step's own variable, another term for its own value
-abbrev pub value_of : Place → TermForm → StepValueForm
-value_of place term =
+abbrev pub given_value : Place → TermForm → StepValueForm
+given_value place term =
     if is_any term then StepValueForm.any_value place else StepValueForm.given place term
 
 abbrev pub values_of : ArgumentForms → List StepValueForm
 values_of no_arguments = []
-values_of (argument place term arguments) = value_of place term ∷ values_of arguments
+values_of (argument place term arguments) = given_value place term ∷ values_of arguments
 
 -- a name alone is its step for all values
 abbrev pub named_set : Named → ArgumentForms → StepSetForm

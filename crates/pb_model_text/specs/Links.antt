@@ -3,7 +3,7 @@ use Rattle.std.specs.Prelude.{List, map}
 use Rattle.pb_text_tree.specs.Form.{Named, VariableForm, named, term_form, variable_forms}
 use Rattle.pb_text_tree.specs.declared.term.Argument.{Argument}
 use Rattle.pb_protocol_tree.specs.declared.protocol.StateVariable.{StateVariable}
-use Rattle.pb_model_text.specs.Grammar.{value_of}
+use Rattle.pb_model_text.specs.Grammar.{given_value}
 use Rattle.pb_protocol_tree.specs.Form.{StepValueForm, StepSetForm, step_set_form}
 use Rattle.pb_model_text.specs.declared.processes.Processes.{Processes}
 
@@ -13,7 +13,7 @@ indexed x = (named x.name, variable_forms x.indices.items)
 
 -- what an argument in a set of steps stands for
 abbrev pub step_value_of : Argument → StepValueForm
-step_value_of a = value_of a.place (term_form a.term)
+step_value_of a = given_value a.place (term_form a.term)
 
 -- the sets of `fair`, the first apart
 abbrev pub processes_form : Processes → StepSetForm × List StepSetForm

@@ -20,7 +20,7 @@ use Rattle.pb_text_lexer.specs.Tokens.{Tok}
 use Rattle.pb_text_terms.specs.Operators.{connected_by, is_equality, is_order, is_additive}
 use Rattle.pb_text_terms.specs.Operators.{is_times, is_division, is_quantifier}
 use Rattle.pb_text_terms.specs.Grammar.{arguments_of}
-use Rattle.pb_text_terms.specs.Reading.{name, is_comma, is_open, placed, argument_list, equated}
+use Rattle.pb_text_terms.specs.Reading.{name, is_comma, is_open, with_place, argument_list, equated}
 use Rattle.pb_text_terms.specs.Reading.{unary, term, instance, quantified}
 use Rattle.pb_text_formulas.specs.Reading.{is_name_kind, sort_parts}
 use Rattle.pb_text.specs.Reading.{parameters}
@@ -199,7 +199,7 @@ truth value = unless_next goes_on (do
 
 abbrev pub atom : (Place → TermForm → FormulaForm) → Step TermForm → Step FormulaForm
 atom made operand = do
-  found ← placed (equated operand)
+  found ← with_place (equated operand)
   pure (made found.0 found.1)
 
 abbrev pub modal :
@@ -434,7 +434,7 @@ unfoldable pub assignment : ℕ → Step AssignmentForm
 assignment depth = do
   target ← instance depth
   assign ← expect k.Assign
-  value ← placed (term depth)
+  value ← with_place (term depth)
   pure (record {
     variable = target.name;
     index = target.arguments;

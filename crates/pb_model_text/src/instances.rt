@@ -30,7 +30,7 @@ fn is_any(term: &Term) -> bool
 /// What stands for one of a step's own variables.
 fn step_value(argument: Argument) -> StepValue
     ensures { step_value_form result
-        ≡ grammar.value_of argument.place (term_form argument.term) }
+        ≡ grammar.given_value argument.place (term_form argument.term) }
 {
     if is_any(&argument.term) {
         StepValue::Any {

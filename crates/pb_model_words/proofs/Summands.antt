@@ -7,23 +7,23 @@ use Rattle.pb_protocol_packing.specs.Packing.{capacity}
 use Rattle.pb_protocol_packer.specs.declared.member.Member as declared_member
 use Rattle.pb_protocol_packer.specs.declared.group.Group as declared_group
 use Rattle.pb_protocol_packer.specs.Groups.{group_of, groups_in}
-use Rattle.pb_protocol_packer.specs.Members.{members_of}
+use Rattle.pb_protocol_packer.specs.Members.{members_said}
 use Rattle.pb_model_words.specs.declared.variables.Variable as declared_variable
 use Rattle.pb_model_words.specs.GroupLines.{counted_text, times_text, summands, line_of, variable_count, lines_of}
 use Rattle.pb_model_words.specs.View.{variable_said}
 use Rattle.pb_model_words.proofs.Listed.{drop-at}
 
 pub summands-at : (xs : List declared_variable.Variable) (ps : List declared_member.Member) (k : ℕ) (x : declared_variable.Variable) (p : declared_member.Member) (weight : ℕ)
-    → k < length xs → k < length ps → x ≡ get_or xs k x → p ≡ get_or ps k p → weight ≡ capacity (members_of (drop (k + 1) ps))
-    → summands (map variable_said (drop k xs)) (members_of (drop k ps))
-    ≡ times_text (counted_text (variable_said x).name.text p.low) weight ∷ summands (map variable_said (drop (k + 1) xs)) (members_of (drop (k + 1) ps))
+    → k < length xs → k < length ps → x ≡ get_or xs k x → p ≡ get_or ps k p → weight ≡ capacity (members_said (drop (k + 1) ps))
+    → summands (map variable_said (drop k xs)) (members_said (drop k ps))
+    ≡ times_text (counted_text (variable_said x).name.text p.low) weight ∷ summands (map variable_said (drop (k + 1) xs)) (members_said (drop (k + 1) ps))
 summands-at xs ps k x p weight h h' e e' w =
-    ap (λ (ys : List declared_variable.Variable). summands (map variable_said ys) (members_of (drop k ps))) (drop-at xs k x x h e)
-    ∙ ap (λ (qs : List declared_member.Member). summands (map variable_said (x ∷ drop (k + 1) xs)) (members_of qs)) (drop-at ps k p p h' e')
-    ∙ ap (λ (n : ℕ). times_text (counted_text (variable_said x).name.text p.low) n ∷ summands (map variable_said (drop (k + 1) xs)) (members_of (drop (k + 1) ps))) (sym w)
+    ap (λ (ys : List declared_variable.Variable). summands (map variable_said ys) (members_said (drop k ps))) (drop-at xs k x x h e)
+    ∙ ap (λ (qs : List declared_member.Member). summands (map variable_said (x ∷ drop (k + 1) xs)) (members_said qs)) (drop-at ps k p p h' e')
+    ∙ ap (λ (n : ℕ). times_text (counted_text (variable_said x).name.text p.low) n ∷ summands (map variable_said (drop (k + 1) xs)) (members_said (drop (k + 1) ps))) (sym w)
 
 pub summands-end : (xs : List declared_variable.Variable) (ps : List declared_member.Member) (k : ℕ)
-    → min (length xs) (length ps) ≤ k → summands (map variable_said (drop k xs)) (members_of (drop k ps)) ≡ []
+    → min (length xs) (length ps) ≤ k → summands (map variable_said (drop k xs)) (members_said (drop k ps)) ≡ []
 summands-end [] ps zero h = refl
 summands-end [] ps (suc k) h = refl
 summands-end (x ∷ xs) [] zero h = refl

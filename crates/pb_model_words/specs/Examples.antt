@@ -14,22 +14,22 @@ use Rattle.pb_model_words.specs.Vocabulary.{packed_vocabulary}
 abbrev pub line : ℕ → Place
 line n = record { line = n; column = 1 }
 
-abbrev pub named : ℕ → List ℕ → Named
-named n x = record { place = line n; text = x }
+abbrev pub example_name : ℕ → List ℕ → Named
+example_name n x = record { place = line n; text = x }
 
-abbrev pub variable : List ℕ → List ℕ → VariableForm
-variable x s = record { name = named 4 x; sort = named 4 s }
+abbrev pub example_variable : List ℕ → List ℕ → VariableForm
+example_variable x s = record { name = example_name 4 x; sort = example_name 4 s }
 
-abbrev pub enumerator : List ℕ → EnumeratorForm
-enumerator x = record { name = named 1 x; recogniser = None }
+abbrev pub example_enumerator : List ℕ → EnumeratorForm
+example_enumerator x = record { name = example_name 1 x; recogniser = None }
 
 abbrev pub declaration : List ℕ → SortForm → SortDeclarationForm
-declaration x s = record { name = named 1 x; sort = s }
+declaration x s = record { name = example_name 1 x; sort = s }
 
 -- a step whose name stands in a line; what it does isn't written
-abbrev pub step : ℕ → List ℕ → List VariableForm → StepForm
-step n x variables = record {
-  name = named n x;
+abbrev pub example_step : ℕ → List ℕ → List VariableForm → StepForm
+example_step n x variables = record {
+  name = example_name n x;
   variables = variables;
   guard = TermForm.constant (line n) true;
   assignments = [];
@@ -37,31 +37,32 @@ step n x variables = record {
 
 -- sort Where = struct noncritical | tested | critical; Flag = Bool;
 -- state p, q: Where, flag: Flag, n: Int;
-abbrev pub lock : ModelForm
-lock = record {
+abbrev pub flagged_lock : ModelForm
+flagged_lock = record {
   sorts =
-      declaration (codes "Where") (struct (enumerator (codes "noncritical")
-      ∷ enumerator (codes "tested") ∷ enumerator (codes "critical") ∷ []))
-      ∷ declaration (codes "Flag") (alias (named 1 (codes "Bool"))) ∷ [];
+      declaration (codes "Where") (struct (example_enumerator (codes "noncritical")
+      ∷ example_enumerator (codes "tested") ∷ example_enumerator (codes "critical") ∷ []))
+      ∷ declaration (codes "Flag") (alias (example_name 1 (codes "Bool"))) ∷ [];
   ranges = [];
   variables =
-      variable (codes "p") (codes "Where") ∷ variable (codes "q") (codes "Where")
-      ∷ variable (codes "flag") (codes "Flag") ∷ variable (codes "n") (codes "Int") ∷ [];
+      example_variable (codes "p") (codes "Where") ∷ example_variable (codes "q") (codes "Where")
+      ∷ example_variable (codes "flag") (codes "Flag")
+      ∷ example_variable (codes "n") (codes "Int") ∷ [];
   steps =
-      step 5 (codes "test2") []
-      ∷ step 6 (codes "set") (variable (codes "x") (codes "Where")
-      ∷ variable (codes "m") (codes "Int") ∷ []) ∷ [];
+      example_step 5 (codes "test2") []
+      ∷ example_step 6 (codes "set") (example_variable (codes "x") (codes "Where")
+      ∷ example_variable (codes "m") (codes "Int") ∷ []) ∷ [];
   initial = record { place = line 7; values = no_arguments };
   properties = [];
 }
 
 -- the model in its own words, and in others
 abbrev pub own_words : Vocabulary
-own_words = plain_vocabulary lock
+own_words = plain_vocabulary flagged_lock
 
 abbrev pub other_words : Vocabulary
 other_words =
-    told_vocabulary lock (codes "at(1)" ∷ codes "at(2)" ∷ codes "up" ∷ codes "n" ∷ [])
+    told_vocabulary flagged_lock (codes "at(1)" ∷ codes "at(2)" ∷ codes "up" ∷ codes "n" ∷ [])
     (codes "test(2)" ∷ codes "set" ∷ [])
 
 -- ---- packed states

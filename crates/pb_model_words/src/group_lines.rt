@@ -4,7 +4,7 @@
 ghost use Rattle.std.specs.Prelude.{◌≡◌, ◌++◌, OnOk, string_bytes, [], ◌∷◌, codes, map, drop, true};
 ghost use Rattle.pb_protocol_packing.specs.Packing as packing;
 ghost use Rattle.pb_protocol_packer.specs.Groups.{group_of, groups_in};
-ghost use Rattle.pb_protocol_packer.specs.Members.{are_weighted, members_of, variable_of};
+ghost use Rattle.pb_protocol_packer.specs.Members.{are_weighted, members_said, syntax_variable};
 ghost use Rattle.pb_model_words.specs.GroupLines.{counted_text, group_line, group_lines, line_of};
 ghost use Rattle.pb_model_words.specs.GroupLines.{lines_of, summands, times_text, variable_count};
 ghost use Rattle.pb_model_words.specs.Words.{marked};
@@ -62,7 +62,7 @@ fn push_sum(
 ) -> Result<(), AllocError>
     requires { are_weighted members.now ≡ true }
     ensures { OnOk result (string_bytes text.new ≡ string_bytes text.old ++ marked []
-        (codes " + ") (summands (map variable_said variables.now) (members_of members.now))) }
+        (codes " + ") (summands (map variable_said variables.now) (members_said members.now))) }
 {
     let mut is_first = true;
     for k in 0..variables.len().min(members.len()) {
@@ -79,7 +79,7 @@ fn push_line(
     variables: &[Variable<'_>],
 ) -> Result<(), AllocError>
     ensures { OnOk result (string_bytes text.new ≡ string_bytes text.old
-        ++ group_line (variable_of joined.now.variable) (members_of joined.now.members.items)
+        ++ group_line (syntax_variable joined.now.variable) (members_said joined.now.members.items)
         (map variable_said variables.now)) }
 {
     text.push_str(joined.variable.name.text.as_str())?;

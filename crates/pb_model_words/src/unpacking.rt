@@ -5,7 +5,7 @@ ghost use Rattle.std.specs.Prelude.{slice_index_or};
 ghost use Rattle.pb_protocol_packing.specs.Packing as packing;
 ghost use Rattle.pb_protocol_packing.specs.Unpacked.{unpacked};
 ghost use Rattle.pb_protocol_packer.specs.Groups.{group_of, groups_in};
-ghost use Rattle.pb_protocol_packer.specs.Members.{members_of, variable_of};
+ghost use Rattle.pb_protocol_packer.specs.Members.{members_said, syntax_variable};
 ghost use Rattle.pb_model_words.specs.States.{is_below, number_after, numbers_after};
 
 use pb_protocol_packer::{Group, Joined, unpack};
@@ -19,8 +19,8 @@ fn is_below(count: u32, value: i64) -> bool
 
 /// The number of a group after a move: where its value is none, the one before, or 0.
 fn number_after(joined: &Joined, before: i64, after: i64) -> i64
-    ensures number { result ≡ number_after (packing.Group.Joined (variable_of joined.now.variable)
-        (members_of joined.now.members.items)) before after }
+    ensures number { result ≡ number_after (packing.Group.Joined (syntax_variable
+        joined.now.variable) (members_said joined.now.members.items)) before after }
     ensures small { result <ℤ pos (2 ^ 32) }
 {
     if is_below(joined.capacity, after) {

@@ -63,11 +63,11 @@ module _ (spec : Spec) (slots : ℕ) where
   zero-fits : Fits (Term.Number 0)
   zero-fits = le-leb 0 (2 ^ 62) (omega arith)
 
-  enumerator-fits : (x : Name) (o : Option Position) → enumerator_of spec x ≡ o → Fits (made.enumerator o)
+  enumerator-fits : (x : Name) (o : Option Position) → enumerator_of spec x ≡ o → Fits (made.term_of_enumerator o)
   enumerator-fits x None e = zero-fits
   enumerator-fits x (Some p) e = position-there (struct_counts spec.sorts) p (enumerator_known spec x p e)
 
-  named-fits : (o : Option ℕ) (x : Name) → ((s : ℕ) → o ≡ Some s → s < slots) → Fits (made.named spec o x)
+  named-fits : (o : Option ℕ) (x : Name) → ((s : ℕ) → o ≡ Some s → s < slots) → Fits (made.term_of_name spec o x)
   named-fits None x h = enumerator-fits x (enumerator_of spec x) refl
   named-fits (Some s) x h = lt-ltb s slots (h s refl)
 

@@ -18,11 +18,11 @@ use Rattle.pb_normal.specs.Chains.{joins}
 use Rattle.pb_normal.specs.Normal.{Formula, Join, Each}
 use Rattle.pb_normal.specs.Normalisation.{signed_quantifier}
 use Rattle.pb_normal.specs.SignedForm.{signed_form, signed_operands}
-use Rattle.pb_normal.specs.View.{chained, nested, formula_view, formula_views}
+use Rattle.pb_normal.specs.View.{chained_formula, nested, formula_view, formula_views}
 
 -- a chain of one connective is one node
 pub chained-signed : (o : Connective) (even : Bool) (first : tree.Formula) (fs : List tree.Formula)
-    → signed_form even (chained (Connected o) first fs) ≡ chained (Join (joins o even)) (signed_form (operand_parity o even (length fs)) first) (signed_operands o even fs)
+    → signed_form even (chained_formula (Connected o) first fs) ≡ chained_formula (Join (joins o even)) (signed_form (operand_parity o even (length fs)) first) (signed_operands o even fs)
 chained-signed o even first [] = refl
 chained-signed o even first (f ∷ fs) = ap (Join (joins o even) (signed_form (left_parity o even) first)) (chained-signed o even f fs)
 
@@ -76,10 +76,10 @@ signed_ended o even links k done end h =
 -- the first operand, and those behind it
 pub chain-signed : (o : Connective) (even : Bool) (m : Junction) (first : tree.Formula) (links : List declared.Formula) (f : Formula) (fs : List Formula)
     → m ≡ joins o even → f ≡ signed_form (operand_parity o even (length links)) first → fs ≡ signed_links o even links
-    → chained (Join m) f fs ≡ signed_form even (chained (Connected o) first (typed.formula_views links))
+    → chained_formula (Join m) f fs ≡ signed_form even (chained_formula (Connected o) first (typed.formula_views links))
 chain-signed o even m first links f fs joined head behind =
     let others = typed.formula_views links in
-    ap (λ (n : Junction). chained (Join n) f fs) joined
-    ∙ (ap (λ (g : Formula). chained (Join (joins o even)) g fs) (head ∙ ap (λ (n : ℕ). signed_form (operand_parity o even n) first) (sym (length-map links typed.formula_view)))
-    ∙ (ap (chained (Join (joins o even)) (signed_form (operand_parity o even (length others)) first)) behind
+    ap (λ (n : Junction). chained_formula (Join n) f fs) joined
+    ∙ (ap (λ (g : Formula). chained_formula (Join (joins o even)) g fs) (head ∙ ap (λ (n : ℕ). signed_form (operand_parity o even n) first) (sym (length-map links typed.formula_view)))
+    ∙ (ap (chained_formula (Join (joins o even)) (signed_form (operand_parity o even (length others)) first)) behind
     ∙ sym (chained-signed o even first others)))

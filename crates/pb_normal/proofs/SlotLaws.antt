@@ -83,11 +83,11 @@ either-right : (b c : Bool) → c ≡ true → b || c ≡ true
 either-right true c h = refl
 either-right false c h = h
 
-enumerator-reads : (known : ℕ → Bool) (o : Option Position) → reads_only known (made.enumerator o) ≡ true
+enumerator-reads : (known : ℕ → Bool) (o : Option Position) → reads_only known (made.term_of_enumerator o) ≡ true
 enumerator-reads known None = refl
 enumerator-reads known (Some p) = refl
 
-named-reads : (spec : Spec) (known : ℕ → Bool) (o : Option ℕ) (x : Name) → ((s : ℕ) → o ≡ Some s → known s ≡ true) → reads_only known (made.named spec o x) ≡ true
+named-reads : (spec : Spec) (known : ℕ → Bool) (o : Option ℕ) (x : Name) → ((s : ℕ) → o ≡ Some s → known s ≡ true) → reads_only known (made.term_of_name spec o x) ≡ true
 named-reads spec known None x h = enumerator-reads known (enumerator_of spec x)
 named-reads spec known (Some s) x h = h s refl
 

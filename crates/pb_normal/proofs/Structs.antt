@@ -6,7 +6,7 @@ use Rattle.pb_base.specs.declared.limits.TheConstants.{MAX_ENUMERATORS}
 use Rattle.pb_text_meaning.specs.Syntax.{Name, same_name, Variable, Enumerator, Sort, Struct, Alias, SortDeclaration, Range, Equation, Spec, Formula}
 use Rattle.pb_typing_declarations.specs.Shapes.{Shape, Definition, Structure, Renaming, definition_of, definitions_from, number_behind, first, Bounds, range_bounds, End, Shaped, Unranged, Undeclared, Endless, end_by, end_within, end_of, end_shape, sort_shape, built_in_integers, definitions}
 use Rattle.pb_typing_declarations.specs.Enumerators.{Position, positioned, enumerators_from, enumerators_in, all_enumerators, recogniser_entry, recognisers_from, recognisers_in, all_recognisers, enumerator_of, recogniser_of}
-use Rattle.pb_typing_declarations.specs.WellDeclared.{IsDeclared, IsDefined, IsRanged, has_shape, structs_behind}
+use Rattle.pb_typing_declarations.specs.WellDeclared.{IsDeclared, IsWellDefined, IsRanged, has_shape, structs_behind}
 use Rattle.pb_typing_rules.specs.WellTyped.{parameter_scope, AreProper, IsWellTyped}
 use Rattle.pb_normal.specs.Expansion.{expanded}
 use Rattle.pb_normal.specs.Loops.{AreShaped, IsShaped, loops, variable_shapes}
@@ -116,12 +116,12 @@ definition_behind : (n : ℕ) (s : Sort) (counts : List ℕ) (d : Definition) �
 definition_behind n s counts (Structure k count) h = (struct_behind n s counts k count h.0, h.1)
 definition_behind n s counts (Renaming t) h = tt
 
-sort_defined : (spec : Spec) (n : ℕ) (x : Name) (s : Sort) (counts : List ℕ) → IsDefined spec x s → IsDefinition n (with_count s counts) (definition_of n s)
+sort_defined : (spec : Spec) (n : ℕ) (x : Name) (s : Sort) (counts : List ℕ) → IsWellDefined spec x s → IsDefinition n (with_count s counts) (definition_of n s)
 sort_defined spec n x (Struct es) counts h = (record { index = 0; numbered = omega arith; counted = refl }, h.0)
 sort_defined spec n x (Alias t) counts h = tt
 
 definitions_known : (spec : Spec) (n : ℕ) (ds : List SortDeclaration)
-    → All (λ (d : SortDeclaration). IsDefined spec d.name d.sort) ds → Each (IsDefinition n (struct_counts ds)) (definitions_from n ds)
+    → All (λ (d : SortDeclaration). IsWellDefined spec d.name d.sort) ds → Each (IsDefinition n (struct_counts ds)) (definitions_from n ds)
 definitions_known spec n [] all = tt
 definitions_known spec n (d ∷ ds) all =
     let counts = struct_counts ds in (
@@ -244,11 +244,11 @@ count-first : (n : ℕ) (ns : List ℕ) → IsCount n → All IsCount ns → All
 count-first n ns h rest zero d below = h
 count-first n ns h rest (suc k) d below = rest k d (omega arith)
 
-sort-counts : (spec : Spec) (x : Name) (s : Sort) (ns : List ℕ) → IsDefined spec x s → All IsCount ns → All IsCount (with_count s ns)
+sort-counts : (spec : Spec) (x : Name) (s : Sort) (ns : List ℕ) → IsWellDefined spec x s → All IsCount ns → All IsCount (with_count s ns)
 sort-counts spec x (Struct es) ns h rest = count-first (length es) ns h rest
 sort-counts spec x (Alias t) ns h rest = rest
 
-counts-fit : (spec : Spec) (ds : List SortDeclaration) → All (λ (d : SortDeclaration). IsDefined spec d.name d.sort) ds → All IsCount (struct_counts ds)
+counts-fit : (spec : Spec) (ds : List SortDeclaration) → All (λ (d : SortDeclaration). IsWellDefined spec d.name d.sort) ds → All IsCount (struct_counts ds)
 counts-fit spec [] all = λ k d below. absurd (omega (arith, below))
 counts-fit spec (d ∷ ds) all =
     sort-counts spec d.name d.sort (struct_counts ds) (all 0 d (omega arith)) (counts-fit spec ds (λ k e low. all (suc k) e (omega arith)))

@@ -10,7 +10,7 @@ use Rattle.pb_typing_declarations.specs.Shapes.{Shape, shape_carrier}
 pub use Rattle.pb_typing_tree.specs.Tree.{Term, Number, Slot, Negative, Absolute, Successor}
 pub use Rattle.pb_typing_tree.specs.Tree.{Predecessor, Binary, Maximum, Minimum, Choice, Recognised}
 pub use Rattle.pb_typing_tree.specs.Tree.{Argument}
-pub use Rattle.pb_typing_tree.specs.Meaning.{Slots, set, value, name_of, called}
+pub use Rattle.pb_typing_tree.specs.Meaning.{Slots, set, value, name_of, called_instance}
 use Rattle.pb_normal.specs.declared.formula.Junction.{Junction}
 use Rattle.pb_normal.specs.declared.formula.Junction.TheVariants.{And, Or}
 
@@ -32,4 +32,4 @@ truth spec a t (Test x) = is_true (value a x)
 truth spec a t (Join m f g) = joined m (truth spec a t f) (truth spec a t g)
 truth spec a t (Each q s carrier f) =
     of_values q (λ v. truth spec (set a s v) t f) (shape_carrier carrier)
-truth spec a t (Call X es) = call_truth spec t (called spec a X es)
+truth spec a t (Call X es) = call_truth spec t (called_instance spec a X es)

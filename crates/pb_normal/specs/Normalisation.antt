@@ -11,7 +11,7 @@ use Rattle.pb_normal.specs.declared.formula.Junction.{Junction}
 use Rattle.pb_normal.specs.declared.formula.Junction.TheVariants.{And, Or}
 use Rattle.pb_normal.specs.Normal.{Term, Argument, Formula, Test, Join, Each, Call}
 pub use Rattle.pb_typing_tree.specs.Elaboration.{Slotting, unslotted, with_slot, with_slots}
-pub use Rattle.pb_typing_tree.specs.Elaboration.{enumerator, named, recognised, named_to_one}
+pub use Rattle.pb_typing_tree.specs.Elaboration.{term_of_enumerator, term_of_name, recognised, named_to_one}
 pub use Rattle.pb_typing_tree.specs.Elaboration.{named_to_two, named_to_three, applied_to_one}
 pub use Rattle.pb_typing_tree.specs.Elaboration.{applied_to_two, applied_to_three, applied, slotted}
 pub use Rattle.pb_typing_tree.specs.Elaboration.{slotted_all, width, arguments, place_of}

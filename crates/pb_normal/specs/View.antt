@@ -7,7 +7,7 @@ use Rattle.pb_typing_declarations.specs.Shapes.{Shape}
 use Rattle.pb_typing_declarations.specs.Entries.{shape_of}
 use Rattle.pb_typing.specs.View.{is_positive}
 pub use Rattle.pb_typing_declarations.specs.Entries.{shapes_of}
-pub use Rattle.pb_typing_tree.specs.View.{chained, calculated, term_view, term_views}
+pub use Rattle.pb_typing_tree.specs.View.{chained_formula, term_of_operands, term_view, term_views}
 pub use Rattle.pb_typing_tree.specs.View.{link_views, argument_view}
 use Rattle.pb_normal.specs.Normal as normal
 use Rattle.pb_normal.specs.Normal.{Each, Join, Call}
@@ -27,7 +27,7 @@ abbrev mutual
   pub formula_view : Formula → normal.Formula
   formula_view (formula.Test polarity x) = signed_test (is_positive polarity) (term_view x.now)
   formula_view (formula.Join' junction p first shape row) =
-      chained (Join junction) (formula_view first) (formulas_in row)
+      chained_formula (Join junction) (formula_view first) (formulas_in row)
   formula_view (formula.Each' quantifier slot carriers p body) =
       nested quantifier slot carriers.now (formula_view body)
   formula_view (formula.Call equation arguments) = Call equation (map argument_view arguments.now)

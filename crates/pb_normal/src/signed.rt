@@ -3,7 +3,7 @@
 ghost use Rattle.std.specs.Prelude.{◌≡◌, IfOk};
 ghost use Rattle.pb_typing_tree.specs.Tree.{Connected};
 ghost use Rattle.pb_typing_tree.specs.View as tree;
-ghost use Rattle.pb_typing_tree.specs.View.{chained};
+ghost use Rattle.pb_typing_tree.specs.View.{chained_formula};
 ghost use Rattle.pb_typing.specs.View.{is_positive};
 ghost use Rattle.pb_normal.specs.SignedForm.{signed_form, signed_operands};
 ghost use Rattle.pb_normal.specs.View.{formula_view, formula_views};
@@ -72,7 +72,7 @@ fn signed_chain<'t>(
     links: &'t [pb_typing_tree::Formula],
 ) -> Result<Formula<'t>, AllocError>
     ensures { IfOk result (λ f. formula_view f ≡ signed_form (is_positive polarity)
-        (chained (Connected connective) (tree.formula_view first.now)
+        (chained_formula (Connected connective) (tree.formula_view first.now)
         (tree.formula_views links.now))) }
 {
     let of_first = operand_polarity(connective, polarity, links.len());

@@ -11,16 +11,16 @@ use Rattle.pb_model_meaning.specs.Erase.{joined, model_of}
 use Rattle.pb_protocol_packing.specs.Packable.{bound_in, all_bound_in, bound_in_formula, bound_in_step, all_variables}
 use Rattle.pb_protocol_packer.specs.View.{term_of, terms_of, variables_in, joined_terms, calculated_terms}
 use Rattle.pb_protocol_packer.specs.Steps.{assignments_in, step_of}
-use Rattle.pb_protocol_packer.specs.Properties.{steps_in, properties_in}
+use Rattle.pb_protocol_packer.specs.Properties.{erased_step_list, properties_in}
 use Rattle.pb_protocol_packer.specs.Initial.{variable_name}
 use Rattle.pb_protocol_packer.proofs.Nodes.{erased-all}
 use Rattle.pb_protocol_packer.proofs.AssignmentRows.{assignment-forms}
 use Rattle.pb_protocol_packer.proofs.ModelRows.{step-forms, property-forms}
 use Rattle.pb_protocol_packer.proofs.FormulaRows.{all_joined}
-use Rattle.pb_protocol_groups.specs.Bound.{names_of, bound_names, all_bound_names, formula_bound_names, assigned_bound_names, step_bound_names, property_bound_names, model_bound_names, operation_bound_names}
+use Rattle.pb_protocol_groups.specs.Bound.{names_of_variables, bound_names, all_bound_names, formula_bound_names, assigned_bound_names, step_bound_names, property_bound_names, model_bound_names, operation_bound_names}
 use Rattle.pb_protocol_groups.proofs.Rows.{two-parts}
 
-pub names-append : (xs ys : List Variable) → names_of (xs ++ ys) ≡ names_of xs ++ names_of ys
+pub names-append : (xs ys : List Variable) → names_of_variables (xs ++ ys) ≡ names_of_variables xs ++ names_of_variables ys
 names-append xs ys = map-append variable_name xs ys
 
 -- ---- operands
@@ -46,20 +46,20 @@ bound-formulas-joined c f (g ∷ gs) = by c ∙ ap (λ (ns : List Name). formula
 -- ---- steps and models
 
 pub step-parts : (s : tree_step.Step)
-    → step_bound_names (step_of s) ≡ names_of (variables_in s.variables.items) ++ (bound_names (term_of s.guard) ++ flat_map assigned_bound_names (assignments_in s.assignments.items))
+    → step_bound_names (step_of s) ≡ names_of_variables (variables_in s.variables.items) ++ (bound_names (term_of s.guard) ++ flat_map assigned_bound_names (assignments_in s.assignments.items))
 step-parts s =
-    ap (λ (bs : List Assignment). names_of (variables_in s.variables.items) ++ (bound_names (term_of s.guard) ++ flat_map assigned_bound_names bs)) (assignment-forms s.assignments.items)
+    ap (λ (bs : List Assignment). names_of_variables (variables_in s.variables.items) ++ (bound_names (term_of s.guard) ++ flat_map assigned_bound_names bs)) (assignment-forms s.assignments.items)
 
 abbrev in_parts : List Variable → List Step → Terms → List Property → List Name
-in_parts vs ss ts ps = names_of vs ++ (flat_map step_bound_names ss ++ (all_bound_names ts ++ flat_map property_bound_names ps))
+in_parts vs ss ts ps = names_of_variables vs ++ (flat_map step_bound_names ss ++ (all_bound_names ts ++ flat_map property_bound_names ps))
 
 pub model-parts : (m : tree_model.Model) → model_bound_names (model_of m)
-    ≡ names_of (variables_in m.state.items) ++ (flat_map step_bound_names (steps_in m.steps.items)
+    ≡ names_of_variables (variables_in m.state.items) ++ (flat_map step_bound_names (erased_step_list m.steps.items)
     ++ (all_bound_names (terms_of m.initial.values.items) ++ flat_map property_bound_names (properties_in m.properties.items)))
 model-parts m =
     let M = model_of m in
     let vs = variables_in m.state.items in
-    let ss = steps_in m.steps.items in
+    let ss = erased_step_list m.steps.items in
     let ts = terms_of m.initial.values.items in
     ap (λ (xs : List Step). in_parts vs xs M.initial M.properties) (step-forms m.steps.items)
     ∙ ap (λ (xs : Terms). in_parts vs ss xs M.properties) (erased-all m.initial.values.items)
@@ -78,25 +78,26 @@ four-parts n0 n1 n2 n3 n4 a b d e h h1 h2 h3 h4 =
 -- ---- the names are those of all variables
 
 mutual
-  bound-is : (t : Term) → names_of (bound_in t) ≡ bound_names t
+  bound-is : (t : Term) → names_of_variables (bound_in t) ≡ bound_names t
   bound-is (Term.Truth b) = refl
   bound-is (Term.Number n) = refl
   bound-is (Term.Named x) = refl
   bound-is (Term.Not x) = bound-is x
   bound-is (Term.Negative x) = bound-is x
-  bound-is (Term.Binary o x y) = names-append (bound_in x) (bound_in y) ∙ ap (λ (ns : List Name). ns ++ names_of (bound_in y)) (bound-is x) ∙ ap (λ (ns : List Name). bound_names x ++ ns) (bound-is y)
+  bound-is (Term.Binary o x y) = names-append (bound_in x) (bound_in y) ∙ ap (λ (ns : List Name). ns ++ names_of_variables (bound_in y)) (bound-is x)
+      ∙ ap (λ (ns : List Name). bound_names x ++ ns) (bound-is y)
   bound-is (Term.Apply f xs) = all-bound-is xs
-  bound-is (Term.Quantified q xs x) = names-append xs (bound_in x) ∙ ap (λ (ns : List Name). names_of xs ++ ns) (bound-is x)
+  bound-is (Term.Quantified q xs x) = names-append xs (bound_in x) ∙ ap (λ (ns : List Name). names_of_variables xs ++ ns) (bound-is x)
 
-  all-bound-is : (ts : Terms) → names_of (all_bound_in ts) ≡ all_bound_names ts
+  all-bound-is : (ts : Terms) → names_of_variables (all_bound_in ts) ≡ all_bound_names ts
   all-bound-is Terms.NoTerms = refl
   all-bound-is (Terms.Then x xs) =
-      names-append (bound_in x) (all_bound_in xs) ∙ ap (λ (ns : List Name). ns ++ names_of (all_bound_in xs)) (bound-is x) ∙ ap (λ (ns : List Name). bound_names x ++ ns) (all-bound-is xs)
+      names-append (bound_in x) (all_bound_in xs) ∙ ap (λ (ns : List Name). ns ++ names_of_variables (all_bound_in xs)) (bound-is x) ∙ ap (λ (ns : List Name). bound_names x ++ ns) (all-bound-is xs)
 
-both-is : (f g : List Variable) (x y : List Name) → names_of f ≡ x → names_of g ≡ y → names_of (f ++ g) ≡ x ++ y
-both-is f g x y p q = names-append f g ∙ ap (λ (ns : List Name). ns ++ names_of g) p ∙ ap (λ (ns : List Name). x ++ ns) q
+both-is : (f g : List Variable) (x y : List Name) → names_of_variables f ≡ x → names_of_variables g ≡ y → names_of_variables (f ++ g) ≡ x ++ y
+both-is f g x y p q = names-append f g ∙ ap (λ (ns : List Name). ns ++ names_of_variables g) p ∙ ap (λ (ns : List Name). x ++ ns) q
 
-formula-is : (f : Formula) → names_of (bound_in_formula f) ≡ formula_bound_names f
+formula-is : (f : Formula) → names_of_variables (bound_in_formula f) ≡ formula_bound_names f
 formula-is (Formula.Truth b) = refl
 formula-is (Formula.Data x) = bound-is x
 formula-is (Formula.Named X) = refl
@@ -108,16 +109,16 @@ formula-is (Formula.Box A f) = formula-is f
 formula-is (Formula.Diamond A f) = formula-is f
 formula-is (Formula.Fixpoint sign X f) = formula-is f
 
-flat-is : {A : Type 0} (f : A → List Variable) (g : A → List Name) → ((x : A) → names_of (f x) ≡ g x) → (xs : List A) → names_of (flat_map f xs) ≡ flat_map g xs
+flat-is : {A : Type 0} (f : A → List Variable) (g : A → List Name) → ((x : A) → names_of_variables (f x) ≡ g x) → (xs : List A) → names_of_variables (flat_map f xs) ≡ flat_map g xs
 flat-is f g h [] = refl
 flat-is f g h (x ∷ xs) = both-is (f x) (flat_map f xs) _ _ (h x) (flat-is f g h xs)
 
-step-is : (a : Step) → names_of (bound_in_step a) ≡ step_bound_names a
+step-is : (a : Step) → names_of_variables (bound_in_step a) ≡ step_bound_names a
 step-is a =
     both-is a.variables _ _ _ refl
     (both-is (bound_in a.guard) _ _ _ (bound-is a.guard) (flat-is (λ (b : Assignment). bound_in b.term) assigned_bound_names (λ b. bound-is b.term) a.assignments))
 
-pub all-is : (m : Model) → names_of (all_variables m) ≡ model_bound_names m
+pub all-is : (m : Model) → names_of_variables (all_variables m) ≡ model_bound_names m
 all-is m =
     both-is m.variables _ _ _ refl
     (both-is (flat_map bound_in_step m.steps) _ _ _ (flat-is bound_in_step step_bound_names step-is m.steps)

@@ -20,8 +20,8 @@ use Rattle.pb_model_meaning.specs.Erase.{model_of}
 use Rattle.pb_protocol_packer.specs.View.{terms_of, variables_in}
 use Rattle.pb_protocol_packer.specs.Initial.{name_by, names_by, variable_name}
 use Rattle.pb_protocol_packer.proofs.Nodes.{erased-all}
-use Rattle.pb_protocol_groups.specs.Bound.{names_of}
-use Rattle.pb_protocol_groups.specs.Checks.{are_all_apart, none_among, own_names, has_end, IsTested}
+use Rattle.pb_protocol_groups.specs.Bound.{names_of_variables}
+use Rattle.pb_protocol_groups.specs.Checks.{are_all_apart, none_among, own_variable_names, has_end, IsTested}
 use Rattle.pb_protocol_groups.proofs.Bound.{all-is}
 
 not-true : (b : Bool) → not b ≡ true → b ≡ false
@@ -41,16 +41,16 @@ or-right : (a b : Bool) → (a || b) ≡ false → b ≡ false
 or-right true b h = absurd (true≢false h)
 or-right false b h = h
 
-is-new : (x : Name) (ys : List Variable) → is_among (names_of ys) x ≡ false → IsNew x ys
+is-new : (x : Name) (ys : List Variable) → is_among (names_of_variables ys) x ≡ false → IsNew x ys
 is-new x [] h = tt
 is-new x (y ∷ ys) h =
-    (or-left (same_name y.name x) (is_among (names_of ys) x) h, is-new x ys (or-right (same_name y.name x) (is_among (names_of ys) x) h))
+    (or-left (same_name y.name x) (is_among (names_of_variables ys) x) h, is-new x ys (or-right (same_name y.name x) (is_among (names_of_variables ys) x) h))
 
-are-apart : (xs : List Variable) → are_all_apart (names_of xs) ≡ true → AreApart xs
+are-apart : (xs : List Variable) → are_all_apart (names_of_variables xs) ≡ true → AreApart xs
 are-apart [] h = tt
 are-apart (x ∷ xs) h =
-    let both = and_parts (not (is_among (names_of xs) x.name)) (are_all_apart (names_of xs)) h in
-    (is-new x.name xs (not-true (is_among (names_of xs) x.name) both.0), are-apart xs both.1)
+    let both = and_parts (not (is_among (names_of_variables xs) x.name)) (are_all_apart (names_of_variables xs)) h in
+    (is-new x.name xs (not-true (is_among (names_of_variables xs) x.name) both.0), are-apart xs both.1)
 
 among-front : (xs ys : List Name) (x : Name) → is_among (xs ++ ys) x ≡ false → is_among xs x ≡ false
 among-front [] ys x h = refl
@@ -76,22 +76,25 @@ none-rest xs ys (z ∷ zs) h =
     let both = and_parts (not (is_among (xs ++ ys) z)) (none_among (xs ++ ys) zs) h in
     ap (λ (b : Bool). not b && none_among ys zs) (among-rest xs ys z (not-true (is_among (xs ++ ys) z) both.0)) ∙ none-rest xs ys zs both.1
 
-are-new : (xs ys : List Variable) → none_among (names_of ys) (names_of xs) ≡ true → AreNew xs ys
+are-new : (xs ys : List Variable) → none_among (names_of_variables ys) (names_of_variables xs) ≡ true → AreNew xs ys
 are-new [] ys h = tt
 are-new (x ∷ xs) ys h =
-    let both = and_parts (not (is_among (names_of ys) x.name)) (none_among (names_of ys) (names_of xs)) h in
-    (is-new x.name ys (not-true (is_among (names_of ys) x.name) both.0), are-new xs ys both.1)
+    let both = and_parts (not (is_among (names_of_variables ys) x.name)) (none_among (names_of_variables ys) (names_of_variables xs)) h in
+    (is-new x.name ys (not-true (is_among (names_of_variables ys) x.name) both.0), are-new xs ys both.1)
 
-steps-new : (xs : List Variable) (ss : List Step) → none_among (flat_map own_names ss) (names_of xs) ≡ true → StepsAreNew xs ss
+steps-new : (xs : List Variable) (ss : List Step) → none_among (flat_map own_variable_names ss) (names_of_variables xs) ≡ true → StepsAreNew xs ss
 steps-new xs [] h = tt
-steps-new xs (a ∷ ss) h =
-    (are-new xs a.variables (none-front (own_names a) (flat_map own_names ss) (names_of xs) h), steps-new xs ss (none-rest (own_names a) (flat_map own_names ss) (names_of xs) h))
+steps-new xs (a ∷ ss) h = (
+  are-new xs a.variables (none-front (own_variable_names a) (flat_map own_variable_names ss) (names_of_variables xs) h),
+  steps-new xs ss
+      (none-rest (own_variable_names a) (flat_map own_variable_names ss) (names_of_variables xs) h),
+)
 
 -- no variable has one of these names
-none-each : (es : List Name) (xs : List Variable) → none_among es (names_of xs) ≡ true → Each (λ (x : Variable). is_among es x.name ≡ false) xs
+none-each : (es : List Name) (xs : List Variable) → none_among es (names_of_variables xs) ≡ true → Each (λ (x : Variable). is_among es x.name ≡ false) xs
 none-each es [] h = tt
 none-each es (x ∷ xs) h =
-    let both = and_parts (not (is_among es x.name)) (none_among es (names_of xs)) h in (not-true (is_among es x.name) both.0, none-each es xs both.1)
+    let both = and_parts (not (is_among es x.name)) (none_among es (names_of_variables xs)) h in (not-true (is_among es x.name) both.0, none-each es xs both.1)
 
 -- ---- chains
 
@@ -141,7 +144,7 @@ terms-many : (xs : List Argument) → term_count (terms_of xs) ≡ length xs
 terms-many [] = refl
 terms-many (a ∷ xs) = ap suc (terms-many xs)
 
-pub count-is : (m : tree_model.Model) (state : List (Bor declared_name.Name)) → names_by state ≡ names_of (variables_in m.state.items)
+pub count-is : (m : tree_model.Model) (state : List (Bor declared_name.Name)) → names_by state ≡ names_of_variables (variables_in m.state.items)
     → length m.initial.values.items ≡ length state → term_count (model_of m).initial ≡ length (model_of m).variables
 count-is m state names e =
     ap term_count (erased-all m.initial.values.items) ∙ terms-many m.initial.values.items ∙ e

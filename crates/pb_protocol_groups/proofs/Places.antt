@@ -7,7 +7,7 @@ use Rattle.pb_model_tree.specs.declared.model.Property as tree_property
 use Rattle.pb_model_tree.specs.Form.{FormulaForm, PropertyForm, step_form, property_form, formula_form}
 use Rattle.pb_model_runs.specs.Exact.{formula_places, step_places}
 use Rattle.pb_protocol_packer.specs.Formulas.{without_data}
-use Rattle.pb_protocol_packer.specs.Properties.{step_names, property_name, property_names, property_shape, property_shapes}
+use Rattle.pb_protocol_packer.specs.Properties.{names_of_steps, property_name, property_names, property_shape, property_shapes}
 
 places-kept : (f : FormulaForm) → formula_places (without_data f) ≡ formula_places f
 places-kept (FormulaForm.constant p b) = refl
@@ -29,6 +29,6 @@ pub named-properties : (ps : List tree_property.Property) → map (λ (p : Prope
 named-properties [] = refl
 named-properties (p ∷ ps) = ap (λ (ns : List Named). property_name p ∷ ns) (named-properties ps)
 
-pub step-places : (ss : List tree_step.Step) → step_places (map step_form ss) ≡ map (λ (n : Named). n.place) (step_names ss)
+pub step-places : (ss : List tree_step.Step) → step_places (map step_form ss) ≡ map (λ (n : Named). n.place) (names_of_steps ss)
 step-places [] = refl
 step-places (s ∷ ss) = ap (λ (ps : List Place). s.name.place ∷ ps) (step-places ss)

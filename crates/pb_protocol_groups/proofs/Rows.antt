@@ -11,35 +11,35 @@ use Rattle.pb_model_tree.specs.declared.step.Step as tree_step
 use Rattle.pb_model_tree.specs.declared.model.Model as tree_model
 use Rattle.pb_text_meaning.specs.Erase.{erased_variable, erased_variables}
 use Rattle.pb_protocol_packing.specs.Groups.{variable_names, term_names, all_term_names, formula_names, step_names, sort_names, names_in}
-use Rattle.pb_protocol_packer.specs.View.{text_of, term_of, terms_of, variables_in, joined_terms, calculated_terms}
+use Rattle.pb_protocol_packer.specs.View.{name_bytes, term_of, terms_of, variables_in, joined_terms, calculated_terms}
 use Rattle.pb_model_meaning.specs.Syntax.{Assignment, Step, Property, Formula}
 use Rattle.pb_model_meaning.specs.Erase.{joined, model_of}
 use Rattle.pb_protocol_packer.specs.Declarations.{declarations_in}
 use Rattle.pb_protocol_packer.specs.Steps.{assignments_in, step_of}
-use Rattle.pb_protocol_packer.specs.Properties.{steps_in, properties_in}
+use Rattle.pb_protocol_packer.specs.Properties.{erased_step_list, properties_in}
 use Rattle.pb_protocol_packer.proofs.Nodes.{erased-all}
 use Rattle.pb_protocol_packer.proofs.AssignmentRows.{assignment-forms}
 use Rattle.pb_protocol_packer.proofs.DeclarationRows.{declaration-forms}
 use Rattle.pb_protocol_packer.proofs.ModelRows.{step-forms, property-forms}
 use Rattle.pb_protocol_packer.proofs.FormulaRows.{all_joined}
-use Rattle.pb_protocol_groups.specs.Names.{group_variables, operation_names, assignment_names, property_names}
+use Rattle.pb_protocol_groups.specs.Names.{variables_of_group, operation_names, assignment_names, names_in_property}
 
 -- ---- variables of one sort
 
 abbrev pub variable_by : declared_name.Name → declared_name.Name → Variable
-variable_by s n = record { name = text_of n; sort = text_of s }
+variable_by s n = record { name = name_bytes n; sort = name_bytes s }
 
 abbrev pub variables_by : declared_name.Name → List declared_name.Name → List Variable
 variables_by s ns = map (variable_by s) ns
 
-pub group-variables : (g : Variables) → group_variables g ≡ variables_by g.sort g.names.items
+pub group-variables : (g : Variables) → variables_of_group g ≡ variables_by g.sort g.names.items
 group-variables g = by g.names.items
   where
     by : (ns : List declared_name.Name) → erased_variables (map (λ (n : declared_name.Name). record { name = named n; sort = named g.sort }) ns) ≡ variables_by g.sort ns
     by [] = refl
     by (n ∷ ns) = ap (λ (xs : List Variable). variable_by g.sort n ∷ xs) (by ns)
 
-pub variables-more : (g : Variables) (gs : List Variables) → variables_in (g ∷ gs) ≡ group_variables g ++ variables_in gs
+pub variables-more : (g : Variables) (gs : List Variables) → variables_in (g ∷ gs) ≡ variables_of_group g ++ variables_in gs
 variables-more g gs = map-append erased_variable (variables_form g) (variable_forms gs)
 
 pub variable_names-append : (xs ys : List Variable) → variable_names (xs ++ ys) ≡ variable_names xs ++ variable_names ys
@@ -74,16 +74,16 @@ step-parts s =
     ap (λ (bs : List Assignment). variable_names (variables_in s.variables.items) ++ (term_names (term_of s.guard) ++ flat_map assignment_names bs)) (assignment-forms s.assignments.items)
 
 abbrev in_parts : List Variable → List SortDeclaration → List Step → Terms → List Property → List Name
-in_parts vs ds ss ts ps = variable_names vs ++ (flat_map sort_names ds ++ (flat_map step_names ss ++ (all_term_names ts ++ flat_map property_names ps)))
+in_parts vs ds ss ts ps = variable_names vs ++ (flat_map sort_names ds ++ (flat_map step_names ss ++ (all_term_names ts ++ flat_map names_in_property ps)))
 
 pub model-parts : (m : tree_model.Model) → names_in (model_of m)
-    ≡ variable_names (variables_in m.state.items) ++ (flat_map sort_names (declarations_in m.sorts.items) ++ (flat_map step_names (steps_in m.steps.items)
-    ++ (all_term_names (terms_of m.initial.values.items) ++ flat_map property_names (properties_in m.properties.items))))
+    ≡ variable_names (variables_in m.state.items) ++ (flat_map sort_names (declarations_in m.sorts.items) ++ (flat_map step_names (erased_step_list m.steps.items)
+    ++ (all_term_names (terms_of m.initial.values.items) ++ flat_map names_in_property (properties_in m.properties.items))))
 model-parts m =
     let M = model_of m in
     let vs = variables_in m.state.items in
     let ds = declarations_in m.sorts.items in
-    let ss = steps_in m.steps.items in
+    let ss = erased_step_list m.steps.items in
     let ts = terms_of m.initial.values.items in
     ap (λ (xs : List SortDeclaration). in_parts vs xs M.steps M.initial M.properties) (declaration-forms m.sorts.items)
     ∙ ap (λ (xs : List Step). in_parts vs ds xs M.initial M.properties) (step-forms m.steps.items)

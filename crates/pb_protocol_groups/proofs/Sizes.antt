@@ -6,7 +6,7 @@ use Rattle.std.proofs.lemmas.Bool.{and_from, lt-ltb, eq-eqb, lt-leb, leb-false}
 use Rattle.pb_base.specs.declared.limits.TheConstants.{MAX_INSTANCES}
 use Rattle.pb_protocol_packing.specs.Packing.{Member, capacity}
 use Rattle.pb_protocol_packer.specs.declared.member.Member as declared_member
-use Rattle.pb_protocol_packer.specs.Members.{are_weighted, member_of, members_of}
+use Rattle.pb_protocol_packer.specs.Members.{are_weighted, member_of, members_said}
 use Rattle.std.proofs.lemmas.List.{at_drop_more}
 use Rattle.pb_model_meaning.specs.Syntax.{Model}
 use Rattle.pb_protocol_groups.specs.declared.state_variables.StateVariable.{StateVariable}
@@ -15,7 +15,7 @@ use Rattle.pb_protocol_groups.specs.Variables.{as_member, members_for}
 
 -- members as the program has made them, with how many values they have together
 pub record AreMembers (ps : List Member) (made : List declared_member.Member) (n : ℕ) : Type 0 where
-  pub members : members_of made ≡ ps
+  pub members : members_said made ≡ ps
   pub weighted : are_weighted made ≡ true
   pub counted : n ≡ capacity ps
   pub some : 0 < n
@@ -53,11 +53,11 @@ times-many (suc s) (suc n) h =
 pub more-members : (p : Member) (ps : List Member) (m : declared_member.Member) (made : List declared_member.Member) (n larger : ℕ) → AreMembers ps made n
     → member_of m ≡ p → m.weight ≡ n → larger ≡ p.size * n → 0 < larger → larger ≤ MAX_INSTANCES → AreMembers (p ∷ ps) (m ∷ made) larger
 more-members p ps m made n larger h is weight product some few =
-    let counts : m.weight ≡ capacity (members_of made) = weight ∙ h.counted ∙ sym (ap capacity h.members) in
+    let counts : m.weight ≡ capacity (members_said made) = weight ∙ h.counted ∙ sym (ap capacity h.members) in
     let positive : 0 < m.weight = omega (arith, weight, h.some) in
     record {
-      members = ap (λ (q : Member). q ∷ members_of made) is ∙ ap (λ (qs : List Member). p ∷ qs) h.members;
-      weighted = and_from _ _ (eq-eqb m.weight (capacity (members_of made)) counts) (and_from _ _ (lt-ltb 0 m.weight positive) h.weighted);
+      members = ap (λ (q : Member). q ∷ members_said made) is ∙ ap (λ (qs : List Member). p ∷ qs) h.members;
+      weighted = and_from _ _ (eq-eqb m.weight (capacity (members_said made)) counts) (and_from _ _ (lt-ltb 0 m.weight positive) h.weighted);
       counted = product ∙ ap (λ (k : ℕ). p.size * k) h.counted;
       some = some;
       few = few;

@@ -8,7 +8,7 @@ use Rattle.pb_text_tree.specs.declared.sort.Enumerator as declared_enumerator
 use Rattle.pb_text_tree.specs.Form.{enumerator_form}
 use Rattle.pb_text_meaning.specs.Erase.{erased_enumerator}
 use Rattle.pb_protocol_packing.specs.Groups.{lowest}
-use Rattle.pb_protocol_groups.specs.Names.{enumerators_of}
+use Rattle.pb_protocol_groups.specs.Names.{enumerators_said}
 
 some : (low z : ℤ) → pos 0 <ℤ z → low ≡ lowest (numbers_from low (at_least_none z))
 some low (pos zero) h = absurd (omega (arith, ints, h))
@@ -33,5 +33,5 @@ pub lowest-places : (n : ℕ) → pos 0 ≡ lowest (numbers_from (pos 0) n)
 lowest-places zero = refl
 lowest-places (suc n) = refl
 
-pub length-enumerators : (es : List declared_enumerator.Enumerator) → length es ≡ length (numbers_from (pos 0) (length (enumerators_of es)))
-length-enumerators es = sym (length-numbers_from (pos 0) (length (enumerators_of es)) ∙ length-map (map enumerator_form es) erased_enumerator ∙ length-map es enumerator_form)
+pub length-enumerators : (es : List declared_enumerator.Enumerator) → length es ≡ length (numbers_from (pos 0) (length (enumerators_said es)))
+length-enumerators es = sym (length-numbers_from (pos 0) (length (enumerators_said es)) ∙ length-map (map enumerator_form es) erased_enumerator ∙ length-map es enumerator_form)

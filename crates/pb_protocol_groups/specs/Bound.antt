@@ -4,8 +4,8 @@ use Rattle.pb_text_meaning.specs.Syntax.{Name, Variable, Operator, Term, Terms}
 use Rattle.pb_model_meaning.specs.Syntax.{Assignment, Step, Formula, Property, Model}
 use Rattle.pb_protocol_packer.specs.Initial.{variable_name}
 
-abbrev pub names_of : List Variable → List Name
-names_of = map variable_name
+abbrev pub names_of_variables : List Variable → List Name
+names_of_variables = map variable_name
 
 abbrev mutual
   pub bound_names : Term → List Name
@@ -16,7 +16,7 @@ abbrev mutual
   bound_names (Term.Negative x) = bound_names x
   bound_names (Term.Binary o x y) = bound_names x ++ bound_names y
   bound_names (Term.Apply f xs) = all_bound_names xs
-  bound_names (Term.Quantified q xs x) = names_of xs ++ bound_names x
+  bound_names (Term.Quantified q xs x) = names_of_variables xs ++ bound_names x
 
   pub all_bound_names : Terms → List Name
   all_bound_names Terms.NoTerms = []
@@ -39,7 +39,7 @@ assigned_bound_names b = bound_names b.term
 
 abbrev pub step_bound_names : Step → List Name
 step_bound_names a =
-    names_of a.variables
+    names_of_variables a.variables
     ++ (bound_names a.guard ++ flat_map assigned_bound_names a.assignments)
 
 abbrev pub property_bound_names : Property → List Name
@@ -47,7 +47,8 @@ property_bound_names p = formula_bound_names p.formula
 
 abbrev pub model_bound_names : Model → List Name
 model_bound_names m =
-    names_of m.variables ++ (flat_map step_bound_names m.steps ++ (all_bound_names m.initial
+    names_of_variables m.variables
+    ++ (flat_map step_bound_names m.steps ++ (all_bound_names m.initial
     ++ flat_map property_bound_names m.properties))
 
 -- an operator with the operand behind it

@@ -12,7 +12,7 @@ use Rattle.pb_model_meaning.specs.Syntax.{Step, Model}
 use Rattle.pb_protocol_packing.specs.Apart.{is_among, ends_within, term_count}
 use Rattle.pb_protocol_packing.specs.Groups.{enumerators_in}
 use Rattle.pb_protocol_packing.specs.Packable.{all_enumerators}
-use Rattle.pb_protocol_groups.specs.Bound.{names_of, model_bound_names}
+use Rattle.pb_protocol_groups.specs.Bound.{names_of_variables, model_bound_names}
 
 -- no name stands twice
 abbrev pub are_all_apart : List Name → Bool
@@ -26,16 +26,16 @@ none_among xs ys = list_all (λ y. not (is_among xs y)) ys
 abbrev pub sort_enumerators : SortDeclaration → List Name
 sort_enumerators d = enumerators_in d.sort
 
-abbrev pub own_names : Step → List Name
-own_names a = names_of a.variables
+abbrev pub own_variable_names : Step → List Name
+own_variable_names a = names_of_variables a.variables
 
 -- the chain of aliases from a declared sort has an end
 abbrev pub has_end : Model → SortDeclaration → Bool
 has_end m d = ends_within (suc (length m.sorts)) m d.name
 
 pub record IsTested (m : Model) : Type 0 where
-  pub state : are_all_apart (names_of m.variables) ≡ true
-  pub own : none_among (flat_map own_names m.steps) (names_of m.variables) ≡ true
+  pub state : are_all_apart (names_of_variables m.variables) ≡ true
+  pub own : none_among (flat_map own_variable_names m.steps) (names_of_variables m.variables) ≡ true
   pub enumerators : are_all_apart (all_enumerators m) ≡ true
   pub variables : none_among (all_enumerators m) (model_bound_names m) ≡ true
   pub ends : list_all (has_end m) m.sorts ≡ true

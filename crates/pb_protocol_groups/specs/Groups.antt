@@ -12,5 +12,5 @@ abbrev pub named_variable : Name → Variable
 named_variable x = record { name = x; sort = x }
 
 -- the groups so far, and those of further members
-abbrev pub behind : declared_grouping.Grouping → List (List Member) → List Group
-behind g others = groups_in g.groups.items ++ named_groups (taken_of g.names) others
+abbrev pub grouped_behind : declared_grouping.Grouping → List (List Member) → List Group
+grouped_behind g others = groups_in g.groups.items ++ named_groups (taken_of g.names) others

@@ -3,7 +3,7 @@
 ghost use Rattle.std.specs.Prelude.{◌≡◌, ◌++◌, flat_map, IfOk, OnOk};
 ghost use Rattle.pb_model_meaning.specs.Erase.{model_of};
 ghost use Rattle.pb_protocol_packer.specs.Initial.{names_by};
-ghost use Rattle.pb_protocol_packer.specs.Properties.{properties_in, steps_in};
+ghost use Rattle.pb_protocol_packer.specs.Properties.{properties_in, erased_step_list};
 ghost use Rattle.pb_protocol_packer.specs.Steps.{assignments_in, step_of};
 ghost use Rattle.pb_protocol_groups.specs.Bound.{assigned_bound_names, model_bound_names};
 ghost use Rattle.pb_protocol_groups.specs.Bound.{property_bound_names, step_bound_names};
@@ -38,7 +38,7 @@ fn push_step<'a>(names: &mut Vec<&'a Name>, step: &'a Step) -> Result<(), AllocE
 
 fn push_steps<'a>(names: &mut Vec<&'a Name>, steps: &'a [Step]) -> Result<(), AllocError>
     ensures { OnOk result (names_by names.new.items
-        ≡ names_by names.old.items ++ flat_map step_bound_names (steps_in steps.now)) }
+        ≡ names_by names.old.items ++ flat_map step_bound_names (erased_step_list steps.now)) }
 {
     for step in steps {
         push_step(names, step)?;

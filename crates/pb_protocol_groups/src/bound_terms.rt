@@ -3,16 +3,16 @@
 ghost use Rattle.std.specs.Prelude.{◌≡◌, ◌++◌, flat_map, OnOk};
 ghost use Rattle.pb_protocol_packer.specs.Initial.{names_by};
 ghost use Rattle.pb_protocol_packer.specs.View.{operands_of, operations_of, term_of, terms_of, variables_in};
-ghost use Rattle.pb_protocol_groups.specs.Bound.{all_bound_names, bound_names, names_of};
+ghost use Rattle.pb_protocol_groups.specs.Bound.{all_bound_names, bound_names, names_of_variables};
 ghost use Rattle.pb_protocol_groups.specs.Bound.{operation_bound_names};
-ghost use Rattle.pb_protocol_groups.specs.Names.{group_variables};
+ghost use Rattle.pb_protocol_groups.specs.Names.{variables_of_group};
 
 use pb_text_tree::{Argument, ArithmeticLink, Name, Term, TermLink, Variables};
 use std::alloc::AllocError;
 
 fn push_group<'a>(names: &mut Vec<&'a Name>, group: &'a Variables) -> Result<(), AllocError>
     ensures { OnOk result (names_by names.new.items
-        ≡ names_by names.old.items ++ names_of (group_variables group.now)) }
+        ≡ names_by names.old.items ++ names_of_variables (variables_of_group group.now)) }
 {
     for name in &group.names {
         names.push(name)?;
@@ -26,7 +26,7 @@ pub(crate) fn push_names<'a>(
     groups: &'a [Variables],
 ) -> Result<(), AllocError>
     ensures { OnOk result (names_by names.new.items
-        ≡ names_by names.old.items ++ names_of (variables_in groups.now)) }
+        ≡ names_by names.old.items ++ names_of_variables (variables_in groups.now)) }
 {
     for group in groups {
         push_group(names, group)?;

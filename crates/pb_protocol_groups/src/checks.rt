@@ -7,10 +7,10 @@ ghost use Rattle.pb_protocol_packing.specs.Apart.{ends_within, term_count};
 ghost use Rattle.pb_protocol_packing.specs.Packable.{IsPackable};
 ghost use Rattle.pb_protocol_packer.specs.Declarations.{declaration_of, declarations_in};
 ghost use Rattle.pb_protocol_packer.specs.Initial.{names_by};
-ghost use Rattle.pb_protocol_packer.specs.Properties.{steps_in};
-ghost use Rattle.pb_protocol_packer.specs.View.{terms_of, variables_in, text_of};
-ghost use Rattle.pb_protocol_groups.specs.Bound.{names_of};
-ghost use Rattle.pb_protocol_groups.specs.Checks.{are_all_apart, has_end, none_among, own_names};
+ghost use Rattle.pb_protocol_packer.specs.Properties.{erased_step_list};
+ghost use Rattle.pb_protocol_packer.specs.View.{terms_of, variables_in, name_bytes};
+ghost use Rattle.pb_protocol_groups.specs.Bound.{names_of_variables};
+ghost use Rattle.pb_protocol_groups.specs.Checks.{are_all_apart, has_end, none_among, own_variable_names};
 ghost use Rattle.pb_protocol_groups.specs.Checks.{is_packing_rule, sort_enumerators};
 ghost use Rattle.pb_base.specs.OrMemory.{IfRefused};
 ghost use Rattle.pb_typing_declarations.specs.declared.fault.TypingRule.TheVariants.{NameTwice};
@@ -88,7 +88,8 @@ fn all_enumerators(alloc: Global, sorts: &[SortDeclaration]) -> Result<Vec<&Name
 
 /// The names of the variables of steps.
 fn step_variables(alloc: Global, steps: &[Step]) -> Result<Vec<&Name>, AllocError>
-    ensures { IfOk result (λ v. names_by v.items ≡ flat_map own_names (steps_in steps.now)) }
+    ensures { IfOk result
+        (λ v. names_by v.items ≡ flat_map own_variable_names (erased_step_list steps.now)) }
 {
     let mut names = Vec::new(alloc);
     for step in steps {
@@ -116,7 +117,7 @@ fn check_ends(model: &Model) -> Result<(), TypingFault>
 
 /// There are as many initial values as state variables (T08).
 fn check_count(model: &Model, state: &[&Name]) -> Result<(), TypingFault>
-    requires { names_by state.now ≡ names_of (variables_in model.now.state.items) }
+    requires { names_by state.now ≡ names_of_variables (variables_in model.now.state.items) }
     ensures accepted { OnOk result
         (term_count (model_of model.now).initial ≡ length (model_of model.now).variables) }
     ensures rule { IfErr result (λ f. f.rule ≡ WrongCount) }

@@ -13,12 +13,12 @@ ghost use Rattle.pb_model_meaning.specs.Steps.{data_of};
 ghost use Rattle.pb_protocol_packing.specs.Groups as packing;
 ghost use Rattle.pb_protocol_packing.specs.Numbers as numbers;
 ghost use Rattle.pb_protocol_packer.specs.Declarations.{declarations_in, ranges_in};
-ghost use Rattle.pb_protocol_packer.specs.View.{text_of, texts_of};
+ghost use Rattle.pb_protocol_packer.specs.View.{name_bytes, texts_of};
 ghost use Rattle.pb_protocol_packer.specs.Members as members;
 ghost use Rattle.pb_protocol_groups.specs.Ends.{carrier_at, carrier_behind, kind_at, kind_behind};
 ghost use Rattle.pb_protocol_groups.specs.Ends.{ends_behind, range_by, sort_by};
 ghost use Rattle.pb_protocol_packing.specs.Apart.{ends_by, ends_within};
-ghost use Rattle.pb_protocol_groups.specs.Names.{enumerator_names, enumerators_of};
+ghost use Rattle.pb_protocol_groups.specs.Names.{names_of_enumerators, enumerators_said};
 
 use pb_model_tree::Model;
 use pb_protocol_packer::Kind;
@@ -68,7 +68,7 @@ fn count(range: &Range) -> u64
 /// How many enumerators a struct has.
 fn struct_size(enumerators: &[Enumerator]) -> u64
     ensures { result
-        ≡ length (numbers_from (pos 0) (length (enumerators_of enumerators.now))) }
+        ≡ length (numbers_from (pos 0) (length (enumerators_said enumerators.now))) }
 {
     enumerators.len() as u64
 }
@@ -99,7 +99,7 @@ impl End<'_> {
 
     /// How the values are written.
     pub fn kind(&self, alloc: Global) -> Result<Kind, AllocError>
-        ensures { IfOk result (λ k. members.kind_of k ≡ kind_at self.now) }
+        ensures { IfOk result (λ k. members.kind_said k ≡ kind_at self.now) }
     {
         match self {
             End::Range(_) | End::Nothing => Ok(Kind::Whole),
@@ -112,7 +112,7 @@ impl End<'_> {
 }
 
 fn copy_enumerators(alloc: Global, enumerators: &[Enumerator]) -> Result<Vec<Name>, AllocError>
-    ensures { IfOk result (λ v. texts_of v.items ≡ enumerator_names enumerators.now) }
+    ensures { IfOk result (λ v. texts_of v.items ≡ names_of_enumerators enumerators.now) }
 {
     let mut names = Vec::new(alloc);
     for enumerator in enumerators {
@@ -176,9 +176,9 @@ fn chain_link<'a>(model: &'a Model, sort: &str) -> Link<'a>
 
 /// What stands at the end of a sort's chain of aliases. No chain is longer than the list of sorts.
 pub(crate) fn end_of<'a>(model: &'a Model, sort: &'a Name) -> End<'a>
-    ensures kind { kind_at result ≡ packing.kind_of (model_of model.now) (text_of sort.now) }
+    ensures kind { kind_at result ≡ packing.kind_of (model_of model.now) (name_bytes sort.now) }
     ensures carrier { carrier_at result
-        ≡ carrier_of (data_of (model_of model.now)) (text_of sort.now) }
+        ≡ carrier_of (data_of (model_of model.now)) (name_bytes sort.now) }
 {
     let mut sort = sort;
     for _ in 0..model.sorts.len() + 1 {
@@ -193,7 +193,7 @@ pub(crate) fn end_of<'a>(model: &'a Model, sort: &'a Name) -> End<'a>
 /// Whether a sort's chain of aliases has an end.
 pub(crate) fn has_end<'a>(model: &'a Model, sort: &'a Name) -> bool
     ensures { result ≡ ends_within (suc (length (model_of model.now).sorts)) (model_of model.now)
-        (text_of sort.now) }
+        (name_bytes sort.now) }
 {
     let mut sort = sort;
     for _ in 0..model.sorts.len() + 1 {

@@ -13,7 +13,7 @@ ghost use Rattle.pb_protocol_packer.specs.Members as members;
 ghost use Rattle.pb_protocol_groups.specs.Sizes.{makes_few, size_faults};
 ghost use Rattle.pb_protocol_groups.specs.Taken.{taken_of};
 ghost use Rattle.pb_protocol_groups.specs.Groups.{named_variable};
-ghost use Rattle.pb_protocol_groups.specs.Variables.{members_for, variable_of};
+ghost use Rattle.pb_protocol_groups.specs.Variables.{members_for, variable_of_state};
 
 use crate::members::few_members;
 use crate::model_names::names_in;
@@ -49,10 +49,11 @@ fn group_variable(
     names: &mut Taken<'_>,
     first: &StateVariable<'_>,
 ) -> Result<Variable, AllocError>
-    ensures variable { IfOk result (λ x. members.variable_of x ≡ named_variable
-        (packing.unused_name (taken_of names.old) ((variable_of first.now).name ++ codes "'"))) }
-    ensures taken { OnOk result (taken_of names.new ≡ packing.unused_name
-        (taken_of names.old) ((variable_of first.now).name ++ codes "'") ∷ taken_of names.old) }
+    ensures variable { IfOk result (λ x. members.syntax_variable x ≡ named_variable
+        (packing.unused_name (taken_of names.old)
+        ((variable_of_state first.now).name ++ codes "'"))) }
+    ensures taken { OnOk result (taken_of names.new ≡ packing.unused_name (taken_of names.old)
+        ((variable_of_state first.now).name ++ codes "'") ∷ taken_of names.old) }
 {
     let name = names.unused(alloc, first.name)?;
     names.take(alloc, &name)?;
@@ -68,7 +69,7 @@ struct Grouping<'a> {
 }
 
 impl Grouping<'_> {
-    ghost use Rattle.pb_protocol_groups.specs.Groups.{behind};
+    ghost use Rattle.pb_protocol_groups.specs.Groups.{grouped_behind};
 
     /// Adds the group of these variables, if there are any.
     fn push(
@@ -77,8 +78,8 @@ impl Grouping<'_> {
         model: &Model,
         variables: &[StateVariable<'_>],
     ) -> Result<(), TypeError>
-        ensures made { OnOk result ((others : List (List Member)) → behind self.new others
-            ≡ behind self.old (members_for (model_of model.now) variables.now ∷ others)) }
+        ensures made { OnOk result ((others : List (List Member)) → grouped_behind self.new others
+            ≡ grouped_behind self.old (members_for (model_of model.now) variables.now ∷ others)) }
         ensures few { MatchResult result
             (λ _. unless (makes_few (members_for (model_of model.now) variables.now)) Limit
             model.now.initial.place ≡ [])

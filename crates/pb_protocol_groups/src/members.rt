@@ -4,10 +4,10 @@ ghost use Rattle.std.specs.Prelude.{◌≡◌, ◌≤◌, ◌<◌, map, true, fa
 ghost use Rattle.pb_base.specs.declared.limits.TheConstants.{MAX_INSTANCES};
 ghost use Rattle.pb_model_meaning.specs.Erase.{model_of};
 ghost use Rattle.pb_protocol_packing.specs.Packing as packing;
-ghost use Rattle.pb_protocol_packer.specs.Members.{are_weighted, member_of, members_of};
+ghost use Rattle.pb_protocol_packer.specs.Members.{are_weighted, member_of, members_said};
 ghost use Rattle.pb_protocol_groups.specs.Ends.{carrier_at, member_at};
 ghost use Rattle.pb_protocol_groups.specs.Sizes.{are_few, is_few};
-ghost use Rattle.pb_protocol_groups.specs.Variables.{members_for, variable_of};
+ghost use Rattle.pb_protocol_groups.specs.Variables.{members_for, variable_of_state};
 
 use crate::end::{End, end_of};
 use crate::state_variables::StateVariable;
@@ -25,7 +25,7 @@ pub(crate) struct Members {
     ghost weighted: { are_weighted items.items ≡ true },
     ghost some: { 0 < capacity },
     ghost few: { capacity ≤ MAX_INSTANCES },
-    ghost counted: { capacity ≡ packing.capacity (members_of items.items) },
+    ghost counted: { capacity ≡ packing.capacity (members_said items.items) },
 }
 
 /// The number, if it isn't 0 and not above the limit.
@@ -49,7 +49,7 @@ fn as_member(
 ) -> Result<Member, AllocError>
     requires { size ≡ length (carrier_at end.now) }
     ensures member { IfOk result
-        (λ m. member_of m ≡ member_at end.now (variable_of variable.now)) }
+        (λ m. member_of m ≡ member_at end.now (variable_of_state variable.now)) }
     ensures weight { IfOk result (λ m. m.weight ≡ weight) }
 {
     let name = copy_name(alloc, variable.name)?;
@@ -71,7 +71,7 @@ pub(crate) fn few_members(
 ) -> Result<Option<Members>, AllocError>
     ensures { IfOk result (λ found. MatchOption found
         (are_few (members_for (model_of model.now) variables.now) ≡ false)
-        (λ m. members_of m.items.items ≡ members_for (model_of model.now) variables.now)) }
+        (λ m. members_said m.items.items ≡ members_for (model_of model.now) variables.now)) }
 {
     let mut items = Vec::new(alloc);
     let mut capacity: u32 = 1;

@@ -5,10 +5,10 @@ ghost use Rattle.pb_model_meaning.specs.Erase.{model_of};
 ghost use Rattle.pb_protocol_packing.specs.Groups as packing;
 ghost use Rattle.pb_protocol_packer.specs.Declarations.{declaration_of, declarations_in};
 ghost use Rattle.pb_protocol_packer.specs.Initial.{names_by};
-ghost use Rattle.pb_protocol_packer.specs.Properties.{properties_in, steps_in};
+ghost use Rattle.pb_protocol_packer.specs.Properties.{properties_in, erased_step_list};
 ghost use Rattle.pb_protocol_packer.specs.Steps.{assignments_in, step_of};
-ghost use Rattle.pb_protocol_groups.specs.Names.{assignment_names, enumerator_names};
-ghost use Rattle.pb_protocol_groups.specs.Names.{property_names};
+ghost use Rattle.pb_protocol_groups.specs.Names.{assignment_names, names_of_enumerators};
+ghost use Rattle.pb_protocol_groups.specs.Names.{names_in_property};
 
 use crate::formula_names::push_formula;
 use crate::term_names::{push_arguments, push_term, push_variables};
@@ -21,7 +21,7 @@ pub(crate) fn push_enumerators<'a>(
     enumerators: &'a [Enumerator],
 ) -> Result<(), AllocError>
     ensures { OnOk result (names_by names.new.items
-        ≡ names_by names.old.items ++ enumerator_names enumerators.now) }
+        ≡ names_by names.old.items ++ names_of_enumerators enumerators.now) }
 {
     for enumerator in enumerators {
         names.push(&enumerator.name)?;
@@ -77,7 +77,7 @@ fn push_step<'a>(names: &mut Vec<&'a Name>, step: &'a Step) -> Result<(), AllocE
 
 fn push_steps<'a>(names: &mut Vec<&'a Name>, steps: &'a [Step]) -> Result<(), AllocError>
     ensures { OnOk result (names_by names.new.items
-        ≡ names_by names.old.items ++ flat_map packing.step_names (steps_in steps.now)) }
+        ≡ names_by names.old.items ++ flat_map packing.step_names (erased_step_list steps.now)) }
 {
     for step in steps {
         push_step(names, step)?;
@@ -90,7 +90,7 @@ fn push_properties<'a>(
     properties: &'a [Property],
 ) -> Result<(), AllocError>
     ensures { OnOk result (names_by names.new.items
-        ≡ names_by names.old.items ++ flat_map property_names (properties_in properties.now)) }
+        ≡ names_by names.old.items ++ flat_map names_in_property (properties_in properties.now)) }
 {
     for property in properties {
         push_formula(names, &property.formula)?;

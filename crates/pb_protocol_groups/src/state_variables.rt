@@ -2,8 +2,8 @@
 
 ghost use Rattle.std.specs.Prelude.{◌≡◌, ◌++◌, IfOk, OnOk};
 ghost use Rattle.pb_protocol_packer.specs.View.{variables_in};
-ghost use Rattle.pb_protocol_groups.specs.Names.{group_variables};
-ghost use Rattle.pb_protocol_groups.specs.Variables.{variables_of};
+ghost use Rattle.pb_protocol_groups.specs.Names.{variables_of_group};
+ghost use Rattle.pb_protocol_groups.specs.Variables.{variables_of_state};
 
 use pb_text_tree::{Name, Variables};
 use std::alloc::{AllocError, Global};
@@ -19,8 +19,8 @@ fn push_group<'a>(
     variables: &mut Vec<StateVariable<'a>>,
     group: &'a Variables,
 ) -> Result<(), AllocError>
-    ensures { OnOk result (variables_of variables.new.items
-        ≡ variables_of variables.old.items ++ group_variables group.now) }
+    ensures { OnOk result (variables_of_state variables.new.items
+        ≡ variables_of_state variables.old.items ++ variables_of_group group.now) }
 {
     for name in &group.names {
         variables.push(StateVariable {
@@ -36,7 +36,7 @@ pub(crate) fn state_variables(
     alloc: Global,
     groups: &[Variables],
 ) -> Result<Vec<StateVariable<'_>>, AllocError>
-    ensures { IfOk result (λ v. variables_of v.items ≡ variables_in groups.now) }
+    ensures { IfOk result (λ v. variables_of_state v.items ≡ variables_in groups.now) }
 {
     let mut variables = Vec::new(alloc);
     for group in groups {

@@ -5,7 +5,7 @@ ghost use Rattle.pb_model_translation.specs.Names as translation;
 ghost use Rattle.pb_protocol_packing.specs.Apart.{is_among};
 ghost use Rattle.pb_protocol_packing.specs.Groups as packing;
 ghost use Rattle.pb_protocol_packer.specs.Initial.{names_by};
-ghost use Rattle.pb_protocol_packer.specs.View.{text_of};
+ghost use Rattle.pb_protocol_packer.specs.View.{name_bytes};
 ghost use Rattle.pb_protocol_groups.specs.Taken.{taken_of};
 
 use pb_text_tree::Name;
@@ -64,7 +64,7 @@ fn longest_declared(declared: &[&Name]) -> usize
 #[tactic(auto, using(crate::proofs::Primes::primes_more))]
 fn primed(alloc: Global, name: &Name, more: usize) -> Result<Name, AllocError>
     ensures { IfOk result
-        (λ n. text_of n ≡ text_of name.now ++ translation.primes (suc more)) }
+        (λ n. name_bytes n ≡ name_bytes name.now ++ translation.primes (suc more)) }
 {
     let mut text = name.text.as_str().to_owned(alloc)?;
     text.push('\'')?;
@@ -97,8 +97,8 @@ impl Taken<'_> {
     /// The name of a group whose first variable has this one: with a prime behind it, and where
     /// that is taken with more of them.
     pub fn unused(&self, alloc: Global, first: &Name) -> Result<Name, AllocError>
-        ensures { IfOk result (λ n. text_of n
-            ≡ packing.unused_name (taken_of self.now) (text_of first.now ++ codes "'")) }
+        ensures { IfOk result (λ n. name_bytes n
+            ≡ packing.unused_name (taken_of self.now) (name_bytes first.now ++ codes "'")) }
     {
         let name = primed(alloc, first, 0)?;
         if self.contains(&name.text) {
@@ -109,7 +109,7 @@ impl Taken<'_> {
 
     /// Takes a name.
     pub fn take(&mut self, alloc: Global, name: &Name) -> Result<(), AllocError>
-        ensures { OnOk result (taken_of self.new ≡ text_of name.now ∷ taken_of self.old) }
+        ensures { OnOk result (taken_of self.new ≡ name_bytes name.now ∷ taken_of self.old) }
     {
         let text = name.text.as_str().to_owned(alloc)?;
         self.given.insert(0, text)?;

@@ -4,14 +4,14 @@ ghost use Rattle.std.specs.Prelude.{◌≡◌, ◌++◌, flat_map, OnOk};
 ghost use Rattle.pb_protocol_packing.specs.Groups as packing;
 ghost use Rattle.pb_protocol_packer.specs.Initial.{names_by};
 ghost use Rattle.pb_protocol_packer.specs.View.{operands_of, operations_of, term_of, terms_of, variables_in};
-ghost use Rattle.pb_protocol_groups.specs.Names.{group_variables, operation_names};
+ghost use Rattle.pb_protocol_groups.specs.Names.{variables_of_group, operation_names};
 
 use pb_text_tree::{Argument, ArithmeticLink, Name, Term, TermLink, Variables};
 use std::alloc::AllocError;
 
 fn push_group<'a>(names: &mut Vec<&'a Name>, group: &'a Variables) -> Result<(), AllocError>
     ensures { OnOk result (names_by names.new.items
-        ≡ names_by names.old.items ++ packing.variable_names (group_variables group.now)) }
+        ≡ names_by names.old.items ++ packing.variable_names (variables_of_group group.now)) }
 {
     for name in &group.names {
         names.push(name)?;

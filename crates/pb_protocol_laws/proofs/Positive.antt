@@ -13,7 +13,7 @@ use Rattle.pb_protocol_meaning.specs.Syntax.{StepSet, Formula, Property}
 use Rattle.pb_protocol_meaning.specs.Erase.{erase, erased_formula, erased_property, erased_steps, joined, modal}
 use Rattle.pb_protocol_unfolding.specs.Positive.{HasPositiveCalls}
 use Rattle.pb_protocol_unfolding.specs.Positive as protocol
-use Rattle.pb_protocol_typing.specs.Fault.{fault_unless, or_else, first_fault}
+use Rattle.pb_protocol_typing.specs.Fault.{fault_unless, either_fault, first_fault}
 use Rattle.pb_protocol_typing.specs.Scopes.{Scope, variables, fixpoint, inside, is_fixpoint}
 use Rattle.pb_protocol_typing.specs.Sets.{StepShapes, set_fault}
 use Rattle.pb_protocol_typing.specs.Formulas.{is_constant, fixpoint_fault, variables_fault, formula_fault}
@@ -63,14 +63,14 @@ positive-formula steps s even (FormulaForm.connected c p f g) e =
     positive-joined c even (erased_formula f) (erased_formula g) (positive-formula steps s (left_parity c even) f parts.0) (positive-formula steps s even g parts.1)
 positive-formula steps s even (FormulaForm.modal k p A f) e =
     let inner = formula_fault steps s true f in
-    let parts = no_either (fault_unless (is_constant f || even) OddNegations p) (or_else (set_fault steps s A) inner) e in
+    let parts = no_either (fault_unless (is_constant f || even) OddNegations p) (either_fault (set_fault steps s A) inner) e in
     let others = no_either (set_fault steps s A) inner parts.1 in
     positive-modal k even (erased_steps A) (erased_formula f)
     (λ other. other_true (is_constant f) even (holds (is_constant f || even) OddNegations p parts.0) (sym (constant-erased f) ∙ other))
     (positive-formula steps s true f others.1)
 positive-formula steps s even (FormulaForm.fixpoint sign p x f) e =
     let inner = formula_fault steps (inside (fixpoint x.text) s) true f in
-    let parts = no_either (fault_unless even OddNegations p) (or_else (fixpoint_fault s x) inner) e in
+    let parts = no_either (fault_unless even OddNegations p) (either_fault (fixpoint_fault s x) inner) e in
     let others = no_either (fixpoint_fault s x) inner parts.1 in
     (holds even OddNegations p parts.0, positive-formula steps (inside (fixpoint x.text) s) true f others.1)
 positive-formula steps s even (FormulaForm.quantified q p xs f) e =

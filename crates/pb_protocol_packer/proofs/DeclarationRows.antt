@@ -5,7 +5,7 @@ use Rattle.pb_text_tree.specs.declared.sort.Range as tree_range
 use Rattle.pb_text_tree.specs.Form.{sort_declaration_form, range_form}
 use Rattle.pb_text_meaning.specs.Syntax.{SortDeclaration, Range}
 use Rattle.pb_text_meaning.specs.Erase.{erased_declaration, erased_range}
-use Rattle.pb_protocol_packer.specs.Declarations.{declaration_of, declarations_in, range_of, ranges_in}
+use Rattle.pb_protocol_packer.specs.Declarations.{declaration_of, declarations_in, syntax_range, ranges_in}
 
 pub declaration-forms : (ds : List tree_declaration.SortDeclaration) → map erased_declaration (map sort_declaration_form ds) ≡ declarations_in ds
 declaration-forms [] = refl
@@ -13,4 +13,4 @@ declaration-forms (d ∷ ds) = ap (λ (es : List SortDeclaration). declaration_o
 
 pub range-forms : (rs : List tree_range.Range) → map erased_range (map range_form rs) ≡ ranges_in rs
 range-forms [] = refl
-range-forms (r ∷ rs) = ap (λ (qs : List Range). range_of r ∷ qs) (range-forms rs)
+range-forms (r ∷ rs) = ap (λ (qs : List Range). syntax_range r ∷ qs) (range-forms rs)

@@ -11,7 +11,7 @@ use Rattle.pb_text_meaning.specs.Syntax.{Name, same_name, Variable}
 use Rattle.pb_text_meaning.specs.Erase.{erased_variable, erased_variables}
 use Rattle.pb_protocol_packing.specs.Apart.{is_among}
 use Rattle.pb_protocol_packing.specs.Said.{Digit, Scope, digit_for, hidden}
-use Rattle.pb_protocol_packer.specs.View.{text_of, texts_of, variables_in}
+use Rattle.pb_protocol_packer.specs.View.{name_bytes, texts_of, variables_in}
 use Rattle.pb_protocol_packer.specs.Scopes.{is_named, is_hidden, scope_of}
 use Rattle.pb_protocol_packer.specs.declared.scope.Hiding as declared_hiding
 use Rattle.pb_protocol_packer.specs.declared.scope.Hiding.TheVariants.{Outermost, Inner'}
@@ -45,7 +45,7 @@ digit-within (Inner' groups p outer) σ x =
 of-group : (ns : List declared_name.Name) (s : declared_name.Name) (x : Name)
     → list_any (is_named x) (erased_variables (map (λ (n : declared_name.Name). record { name = named n; sort = named s }) ns)) ≡ is_among (texts_of ns) x
 of-group [] s x = refl
-of-group (n ∷ ns) s x = ap (λ b. same_name (text_of n) x || b) (of-group ns s x)
+of-group (n ∷ ns) s x = ap (λ b. same_name (name_bytes n) x || b) (of-group ns s x)
 
 pub declares-more : (g : Variables) (gs : List Variables) (x : Name)
     → list_any (is_named x) (variables_in (g ∷ gs)) ≡ (is_among (texts_of g.names.items) x || list_any (is_named x) (variables_in gs))

@@ -8,13 +8,13 @@ use Rattle.pb_text_meaning.specs.Syntax.{Name, Variable, Terms}
 use Rattle.pb_text_meaning.specs.Erase.{erased_variable, erased_variables}
 use Rattle.pb_model_meaning.specs.Syntax.{Assignment}
 use Rattle.pb_protocol_packing.specs.Packing.{initial_assignments}
-use Rattle.pb_protocol_packer.specs.View.{text_of, texts_of, variables_in}
+use Rattle.pb_protocol_packer.specs.View.{name_bytes, texts_of, variables_in}
 use Rattle.pb_protocol_packer.specs.Initial.{variable_name, assigned_names}
 
 pub group-names : (ns : List declared_name.Name) (s : declared_name.Name)
     → map variable_name (erased_variables (map (λ (n : declared_name.Name). record { name = named n; sort = named s }) ns)) ≡ texts_of ns
 group-names [] s = refl
-group-names (n ∷ ns) s = ap (λ (xs : List Name). text_of n ∷ xs) (group-names ns s)
+group-names (n ∷ ns) s = ap (λ (xs : List Name). name_bytes n ∷ xs) (group-names ns s)
 
 pub names-more : (g : Variables) (gs : List Variables)
     → map variable_name (variables_in (g ∷ gs)) ≡ map variable_name (erased_variables (variables_form g)) ++ map variable_name (variables_in gs)

@@ -11,12 +11,12 @@ use Rattle.pb_model_meaning.specs.Erase.{erased_step, erased_property}
 use Rattle.pb_model_meaning.specs.Steps.{assigned_term}
 use Rattle.pb_protocol_packing.specs.Packing.{Group, begins_with, initial_assignments, initial_terms}
 use Rattle.pb_protocol_packer.specs.Steps.{assignments_said, step_of}
-use Rattle.pb_protocol_packer.specs.Properties.{steps_in, property_of, properties_in}
+use Rattle.pb_protocol_packer.specs.Properties.{erased_step_list, property_of, properties_in}
 use Rattle.pb_protocol_packer.specs.Initial.{variable_name, assigned_names}
 use Rattle.pb_protocol_packer.proofs.AssignmentRows.{assigned-said}
 use Rattle.pb_protocol_packer.proofs.InitialRows.{initial-names}
 
-pub step-forms : (ss : List tree_step.Step) → map erased_step (map step_form ss) ≡ steps_in ss
+pub step-forms : (ss : List tree_step.Step) → map erased_step (map step_form ss) ≡ erased_step_list ss
 step-forms [] = refl
 step-forms (s ∷ ss) = ap (λ (xs : List Step). step_of s ∷ xs) (step-forms ss)
 

@@ -11,7 +11,7 @@ use Rattle.pb_text_tree.specs.Form.{TermForm, chained, calculated, term_form, te
 use Rattle.pb_text_tree.proofs.FormLemmas.{term-chain, term-arithmetic, term-application}
 use Rattle.pb_text_meaning.specs.Syntax.{Operator, Term, Terms}
 use Rattle.pb_text_meaning.specs.Erase.{erased_term, erased_arguments, of_connective}
-use Rattle.pb_protocol_packer.specs.View.{term_of, operands_of, operation_of, operations_of, terms_of, joined_terms, calculated_terms, text_of}
+use Rattle.pb_protocol_packer.specs.View.{term_of, operands_of, operation_of, operations_of, terms_of, joined_terms, calculated_terms, name_bytes}
 
 erased-chained : (c : Connective) (x : TermForm) (ls : List TermLink) → erased_term (chained (TermForm.connected c) x (term_links ls)) ≡ joined_terms (of_connective c) (erased_term x) (operands_of ls)
 erased-chained c x [] = refl
@@ -31,8 +31,8 @@ pub erased-all : (xs : List Argument) → erased_arguments (argument_forms xs) �
 erased-all [] = refl
 erased-all (a ∷ xs) = ap (Terms.Then (term_of a.term)) (erased-all xs)
 
-pub application-says : (f : declared_name.Name) (v : Vec Argument Global) → term_of (tree.Application f v) ≡ Term.Apply (text_of f) (terms_of v.items)
-application-says f v = ap erased_term (term-application f v) ∙ ap (Term.Apply (text_of f)) (erased-all v.items)
+pub application-says : (f : declared_name.Name) (v : Vec Argument Global) → term_of (tree.Application f v) ≡ Term.Apply (name_bytes f) (terms_of v.items)
+application-says f v = ap erased_term (term-application f v) ∙ ap (Term.Apply (name_bytes f)) (erased-all v.items)
 
 -- ---- as the code meets them
 
@@ -49,8 +49,8 @@ at-arithmetic x p v ls t is at same =
     ∙ ap (λ (ms : List ArithmeticLink). calculated_terms (term_of x) (operations_of ms)) (sym same)
 
 pub at-application : (f : declared_name.Name) (v : Vec Argument Global) (xs : List Argument) (t : tree.Term)
-    → t ≡ tree.Application f v → xs ≡ v.items → term_of t ≡ Term.Apply (text_of f) (terms_of xs)
-at-application f v xs t is same = ap term_of is ∙ application-says f v ∙ ap (λ (ys : List Argument). Term.Apply (text_of f) (terms_of ys)) (sym same)
+    → t ≡ tree.Application f v → xs ≡ v.items → term_of t ≡ Term.Apply (name_bytes f) (terms_of xs)
+at-application f v xs t is same = ap term_of is ∙ application-says f v ∙ ap (λ (ys : List Argument). Term.Apply (name_bytes f) (terms_of ys)) (sym same)
 
 -- one more operand of arithmetic
 pub calculated-more : (x : Term) (os : List (Operator × Term)) (o : Operator) (y : Term) → calculated_terms x (os ++ (o, y) ∷ []) ≡ Term.Binary o (calculated_terms x os) y

@@ -12,8 +12,8 @@ declaration_of d = erased_declaration (sort_declaration_form d)
 abbrev pub declarations_in : List tree_declaration.SortDeclaration → List SortDeclaration
 declarations_in = map declaration_of
 
-abbrev pub range_of : tree_range.Range → Range
-range_of r = erased_range (range_form r)
+abbrev pub syntax_range : tree_range.Range → Range
+syntax_range r = erased_range (range_form r)
 
 abbrev pub ranges_in : List tree_range.Range → List Range
-ranges_in = map range_of
+ranges_in = map syntax_range

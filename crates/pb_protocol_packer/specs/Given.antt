@@ -6,7 +6,7 @@ use Rattle.pb_text_meaning.specs.Syntax.{Name, Term}
 use Rattle.pb_model_meaning.specs.Syntax.{Assignment}
 use Rattle.pb_model_meaning.specs.Steps.{assigned_term}
 use Rattle.pb_protocol_packing.specs.Packing.{Member}
-use Rattle.pb_protocol_packer.specs.View.{term_of, text_of}
+use Rattle.pb_protocol_packer.specs.View.{term_of, name_bytes}
 use Rattle.pb_protocol_packer.specs.declared.given.Given as declared_given
 
 -- terms
@@ -18,7 +18,7 @@ abbrev pub term_by : Bor tree.Term → Term
 term_by t = term_of t.now
 
 abbrev pub given_of : declared_given.Given → Assignment
-given_of g = record { variable = text_of g.name.now; term = term_of g.term }
+given_of g = record { variable = name_bytes g.name.now; term = term_of g.term }
 
 abbrev pub given_in : List declared_given.Given → List Assignment
 given_in = map given_of

@@ -3,14 +3,14 @@ use Rattle.std.specs.Prelude.{List, [], ◌∷◌, map}
 use Rattle.pb_base_values.specs.Carrier.{Value, Tuple, at_least_none}
 use Rattle.pb_protocol_packing.specs.Unpacked.{digits}
 use Rattle.pb_protocol_packing.specs.Packing as packing
-use Rattle.pb_protocol_packer.specs.Members.{members_of, variable_of}
+use Rattle.pb_protocol_packer.specs.Members.{members_said, syntax_variable}
 use Rattle.pb_protocol_packer.specs.declared.group.Group as declared_group
 use Rattle.pb_protocol_packer.specs.declared.group.Group.TheVariants as group
 
 abbrev pub group_of : declared_group.Group → packing.Group
-group_of (group.Alone x) = packing.Group.Alone (variable_of x)
+group_of (group.Alone x) = packing.Group.Alone (syntax_variable x)
 group_of (group.Joined g) =
-    packing.Group.Joined (variable_of g.variable) (members_of g.members.items)
+    packing.Group.Joined (syntax_variable g.variable) (members_said g.members.items)
 
 abbrev pub groups_in : List declared_group.Group → List packing.Group
 groups_in = map group_of

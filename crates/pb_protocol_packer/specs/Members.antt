@@ -4,33 +4,33 @@ use Rattle.pb_text_meaning.specs.Syntax as syntax
 use Rattle.pb_protocol_packing.specs.Numbers as numbers
 use Rattle.pb_protocol_packing.specs.Packing as packing
 use Rattle.pb_protocol_packing.specs.Packing.{capacity}
-use Rattle.pb_protocol_packer.specs.View.{text_of, texts_of}
+use Rattle.pb_protocol_packer.specs.View.{name_bytes, texts_of}
 use Rattle.pb_protocol_packer.specs.declared.member.Kind as declared_kind
 use Rattle.pb_protocol_packer.specs.declared.member.Kind.TheVariants as kind
 use Rattle.pb_protocol_packer.specs.declared.member.Variable as declared_variable
 use Rattle.pb_protocol_packer.specs.declared.member.Member as declared_member
 
-abbrev pub kind_of : declared_kind.Kind → numbers.Kind
-kind_of kind.Boolean = numbers.Kind.Boolean
-kind_of (kind.Enumeration es) = numbers.Kind.Enumeration (texts_of es.items)
-kind_of kind.Whole = numbers.Kind.Whole
+abbrev pub kind_said : declared_kind.Kind → numbers.Kind
+kind_said kind.Boolean = numbers.Kind.Boolean
+kind_said (kind.Enumeration es) = numbers.Kind.Enumeration (texts_of es.items)
+kind_said kind.Whole = numbers.Kind.Whole
 
-abbrev pub variable_of : declared_variable.Variable → syntax.Variable
-variable_of x = record { name = text_of x.name; sort = text_of x.sort }
+abbrev pub syntax_variable : declared_variable.Variable → syntax.Variable
+syntax_variable x = record { name = name_bytes x.name; sort = name_bytes x.sort }
 
 abbrev pub member_of : declared_member.Member → packing.Member
 member_of p = record {
-  variable = variable_of p.variable;
-  kind = kind_of p.kind;
+  variable = syntax_variable p.variable;
+  kind = kind_said p.kind;
   low = p.low;
   size = p.size;
 }
 
-abbrev pub members_of : List declared_member.Member → List packing.Member
-members_of = map member_of
+abbrev pub members_said : List declared_member.Member → List packing.Member
+members_said = map member_of
 
 -- each variable counts as much as those behind it have values together, and they have some
 abbrev pub are_weighted : List declared_member.Member → Bool
 are_weighted [] = true
 are_weighted (p ∷ ps) =
-    nat_eq p.weight (capacity (members_of ps)) && (nat_lt 0 p.weight && are_weighted ps)
+    nat_eq p.weight (capacity (members_said ps)) && (nat_lt 0 p.weight && are_weighted ps)

@@ -11,14 +11,14 @@ use Rattle.pb_protocol_packing.specs.Packing.{formula_said}
 use Rattle.pb_protocol_packer.specs.Formulas.{shape_of}
 use Rattle.pb_protocol_packer.specs.Steps.{step_of}
 
-abbrev pub steps_in : List tree_step.Step → List Step
-steps_in = map step_of
+abbrev pub erased_step_list : List tree_step.Step → List Step
+erased_step_list = map step_of
 
 abbrev pub step_name : tree_step.Step → Named
 step_name a = named a.name
 
-abbrev pub step_names : List tree_step.Step → List Named
-step_names = map step_name
+abbrev pub names_of_steps : List tree_step.Step → List Named
+names_of_steps = map step_name
 
 abbrev pub property_of : tree_property.Property → Property
 property_of p = erased_property (property_form p)

@@ -6,8 +6,8 @@ use Rattle.std.specs.List.{list_any}
 use Rattle.pb_text_meaning.specs.Syntax.{Name, same_name, Variable, Operator, Term}
 use Rattle.pb_protocol_packing.specs.Said as packing
 use Rattle.pb_protocol_packing.specs.Said.{Scope, hidden, said}
-use Rattle.pb_protocol_packer.specs.View.{term_of, text_of, variables_in}
-use Rattle.pb_protocol_packer.specs.Members.{kind_of}
+use Rattle.pb_protocol_packer.specs.View.{term_of, name_bytes, variables_in}
+use Rattle.pb_protocol_packer.specs.Members.{kind_said}
 use Rattle.pb_protocol_packer.specs.declared.scope.Digit as declared_digit
 use Rattle.pb_protocol_packer.specs.declared.scope.Known as declared_known
 use Rattle.pb_protocol_packer.specs.declared.scope.Packing as declared_packing
@@ -16,7 +16,7 @@ use Rattle.pb_protocol_packer.specs.declared.scope.Hiding.TheVariants.{Outermost
 
 abbrev pub digit_of : declared_digit.Digit → packing.Digit
 digit_of d = record {
-  kind = kind_of d.member.now.kind;
+  kind = kind_said d.member.now.kind;
   low = d.member.now.low;
   term = term_of d.term;
 }
@@ -26,7 +26,7 @@ abbrev pub digit_by : Bor declared_digit.Digit → packing.Digit
 digit_by d = digit_of d.now
 
 abbrev pub known_of : declared_known.Known → Name × Option packing.Digit
-known_of k = (text_of k.name.now, option_map digit_of k.digit)
+known_of k = (name_bytes k.name.now, option_map digit_of k.digit)
 
 abbrev pub table_of : List declared_known.Known → Scope
 table_of = map known_of

@@ -46,11 +46,11 @@ calculated_terms x (o ∷ os) = calculated_terms (Term.Binary o.0 x o.1) os
 
 -- ---- names and variables
 
-abbrev pub text_of : declared_name.Name → Name
-text_of n = string_bytes n.text
+abbrev pub name_bytes : declared_name.Name → Name
+name_bytes n = string_bytes n.text
 
 abbrev pub texts_of : List declared_name.Name → List Name
-texts_of = map text_of
+texts_of = map name_bytes
 
 abbrev pub variables_in : List Variables → List Variable
 variables_in groups = erased_variables (variable_forms groups)

@@ -2,7 +2,7 @@
 use Rattle.std.specs.Prelude.{ℕ, Bool, nat_lt, ◌^◌, if◌then◌else◌, Option, Some, None}
 use Rattle.pb_text_meaning.specs.Syntax as syntax
 use Rattle.pb_text_meaning.specs.Syntax.{Name}
-use Rattle.pb_protocol_packer.specs.View.{text_of}
+use Rattle.pb_protocol_packer.specs.View.{name_bytes}
 use Rattle.pb_protocol_packer.specs.declared.seen.Written as declared_written
 use Rattle.pb_protocol_packer.specs.declared.seen.Written.TheVariants as seen
 
@@ -21,7 +21,7 @@ written_in x = Other
 abbrev pub written_of : declared_written.Written → Written
 written_of (seen.Truth b) = Truth b
 written_of (seen.Number n) = Number n
-written_of (seen.Name n) = Named (text_of n.now)
+written_of (seen.Name n) = Named (name_bytes n.now)
 written_of seen.Other = Other
 
 -- a small number that is written

@@ -5,8 +5,8 @@ ghost use Rattle.std.specs.List.{list_any};
 ghost use Rattle.std.specs.Option.{option_map};
 ghost use Rattle.pb_model_meaning.specs.Steps.{assigned_term};
 ghost use Rattle.pb_protocol_packing.specs.Packing as packing;
-ghost use Rattle.pb_protocol_packer.specs.View.{term_of, text_of};
-ghost use Rattle.pb_protocol_packer.specs.Members.{members_of};
+ghost use Rattle.pb_protocol_packer.specs.View.{term_of, name_bytes};
+ghost use Rattle.pb_protocol_packer.specs.Members.{members_said};
 ghost use Rattle.pb_protocol_packer.specs.Groups.{group_of, groups_in};
 ghost use Rattle.pb_protocol_packer.specs.Given.{given_in, is_given};
 ghost use Rattle.pb_protocol_packer.specs.Steps.{assignments_in};
@@ -23,7 +23,7 @@ use std::alloc::AllocError;
 /// Whether one of the variables gets a term.
 fn is_any_given(given: &[Given<'_>], members: &[Member]) -> bool
     ensures { result ≡ list_any (is_given (assigned_term (given_in given.now)))
-        (members_of members.now) }
+        (members_said members.now) }
 {
     for member in members {
         if given_for(given, &member.variable.name.text).is_some() {
@@ -59,7 +59,7 @@ fn group_term(
 
 /// The name of a group's variable.
 fn name_of(group: &Group) -> &Name
-    ensures { text_of result.now ≡ (packing.variable_of (group_of group.now)).name }
+    ensures { name_bytes result.now ≡ (packing.variable_of (group_of group.now)).name }
 {
     match group {
         Group::Alone(variable) => &variable.name,

@@ -4,7 +4,7 @@ ghost use Rattle.std.specs.Prelude.{◌≡◌, IfOk};
 ghost use Rattle.pb_text_meaning.specs.Syntax as syntax;
 ghost use Rattle.pb_text_meaning.specs.Erase.{of_arithmetic, of_comparison, of_connective};
 ghost use Rattle.pb_protocol_packing.specs.Numbers as numbers;
-ghost use Rattle.pb_protocol_packer.specs.View.{term_of, text_of};
+ghost use Rattle.pb_protocol_packer.specs.View.{term_of, name_bytes};
 
 use crate::node::{application, arithmetic, chain};
 use pb_text_tree::{
@@ -57,7 +57,7 @@ impl Builder {
 
     /// A name.
     pub fn name(self, name: &Name) -> Result<Term, AllocError>
-        ensures { IfOk result (λ t. term_of t ≡ syntax.Term.Named (text_of name.now)) }
+        ensures { IfOk result (λ t. term_of t ≡ syntax.Term.Named (name_bytes name.now)) }
     {
         let text = name.text.as_str().to_owned(self.alloc)?;
         Ok(Term::Name(Name {

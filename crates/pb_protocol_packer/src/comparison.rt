@@ -6,7 +6,7 @@ ghost use Rattle.std.specs.Option.{option_map};
 ghost use Rattle.pb_text_meaning.specs.Erase.{of_comparison};
 ghost use Rattle.pb_protocol_packing.specs.Said as digits;
 ghost use Rattle.pb_protocol_packer.specs.View.{term_of};
-ghost use Rattle.pb_protocol_packer.specs.Members.{kind_of};
+ghost use Rattle.pb_protocol_packer.specs.Members.{kind_said};
 ghost use Rattle.pb_protocol_packer.specs.Scopes.{digit_by, digit_of, scope_in};
 
 use crate::builder::Builder;
@@ -34,7 +34,7 @@ pub(crate) fn digit_in<'a>(
 
 /// The place of an enumerator with which a variable is compared.
 fn place_in(kind: &Kind, term: &Term) -> Option<usize>
-    ensures { result ≡ digits.compared_place syntax.Operator.Equal (kind_of kind.now)
+    ensures { result ≡ digits.compared_place syntax.Operator.Equal (kind_said kind.now)
         (term_of term.now) }
 {
     let Kind::Enumeration(enumerators) = kind else {
@@ -48,7 +48,7 @@ fn place_in(kind: &Kind, term: &Term) -> Option<usize>
 
 /// The place of an enumerator, where a comparison needs no more.
 fn compared_place(comparison: Comparison, kind: &Kind, term: &Term) -> Option<usize>
-    ensures { result ≡ digits.compared_place (of_comparison comparison) (kind_of kind.now)
+    ensures { result ≡ digits.compared_place (of_comparison comparison) (kind_said kind.now)
         (term_of term.now) }
 {
     match comparison {

@@ -3,10 +3,10 @@
 ghost use Rattle.std.specs.Prelude.{◌≡◌, map, pos, ◌-ℤ◌, codes, IfOk};
 ghost use Rattle.pb_text_meaning.specs.Syntax as syntax;
 ghost use Rattle.pb_protocol_packing.specs.Packing as packing;
-ghost use Rattle.pb_protocol_packer.specs.Declarations.{declaration_of, declarations_in, range_of};
+ghost use Rattle.pb_protocol_packer.specs.Declarations.{declaration_of, declarations_in, syntax_range};
 ghost use Rattle.pb_protocol_packer.specs.Declarations.{ranges_in};
-ghost use Rattle.pb_protocol_packer.specs.View.{text_of, variables_in};
-ghost use Rattle.pb_protocol_packer.specs.Members.{members_of};
+ghost use Rattle.pb_protocol_packer.specs.View.{name_bytes, variables_in};
+ghost use Rattle.pb_protocol_packer.specs.Members.{members_said};
 ghost use Rattle.pb_protocol_packer.specs.Members as members;
 ghost use Rattle.pb_protocol_packer.specs.Groups.{group_of, groups_in};
 
@@ -19,7 +19,7 @@ use std::alloc::{AllocError, Global};
 
 /// The variable of a group.
 fn variable_of(group: &Group) -> &Variable
-    ensures { members.variable_of result.now ≡ packing.variable_of (group_of group.now) }
+    ensures { members.syntax_variable result.now ≡ packing.variable_of (group_of group.now) }
 {
     match group {
         Group::Alone(variable) => variable,
@@ -46,7 +46,7 @@ pub(crate) fn variables(alloc: Global, groups: &[Group]) -> Result<Vec<Variables
 /// The sort of a group of several: whole numbers.
 fn declaration(alloc: Global, joined: &Joined) -> Result<SortDeclaration, AllocError>
     ensures { IfOk result (λ d. declaration_of d ≡ record {
-      name = text_of joined.now.variable.sort;
+      name = name_bytes joined.now.variable.sort;
       sort = syntax.Sort.Alias (codes "Nat");
     }) }
 {
@@ -61,10 +61,10 @@ fn declaration(alloc: Global, joined: &Joined) -> Result<SortDeclaration, AllocE
 
 /// The range of a group of several.
 fn range(alloc: Global, joined: &Joined) -> Result<Range, AllocError>
-    ensures { IfOk result (λ r. range_of r ≡ record {
-      name = text_of joined.now.variable.sort;
+    ensures { IfOk result (λ r. syntax_range r ≡ record {
+      name = name_bytes joined.now.variable.sort;
       low = pos 0;
-      high = pos (packing.capacity (members_of joined.now.members.items)) -ℤ pos 1;
+      high = pos (packing.capacity (members_said joined.now.members.items)) -ℤ pos 1;
     }) }
 {
     let name = joined.variable.sort.text.as_str().to_owned(alloc)?;

@@ -3,7 +3,7 @@
 ghost use Rattle.std.specs.Prelude.{◌≡◌, IfOk};
 ghost use Rattle.pb_protocol_packing.specs.Numbers as numbers;
 ghost use Rattle.pb_protocol_packer.specs.View.{term_of};
-ghost use Rattle.pb_protocol_packer.specs.Members.{kind_of};
+ghost use Rattle.pb_protocol_packer.specs.Members.{kind_said};
 
 use crate::builder::Builder;
 use crate::enumerators::enumerator_at;
@@ -40,7 +40,7 @@ pub(crate) fn from_number(
     number: Term,
 ) -> Result<Term, AllocError>
     ensures { IfOk result (λ t. term_of t
-        ≡ numbers.from_number (kind_of member.now.kind) member.now.low (term_of number)) }
+        ≡ numbers.from_number (kind_said member.now.kind) member.now.low (term_of number)) }
 {
     match &member.kind {
         Kind::Boolean => builder.compared(Comparison::Equal, number, builder.number(1)),

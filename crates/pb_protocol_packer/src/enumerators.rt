@@ -3,7 +3,7 @@
 ghost use Rattle.std.specs.Prelude.{◌≡◌, IfOk};
 ghost use Rattle.pb_text_meaning.specs.Syntax as syntax;
 ghost use Rattle.pb_protocol_packing.specs.Numbers as numbers;
-ghost use Rattle.pb_protocol_packer.specs.View.{term_of, text_of, texts_of};
+ghost use Rattle.pb_protocol_packer.specs.View.{term_of, name_bytes, texts_of};
 
 use crate::builder::Builder;
 use pb_text_tree::{Comparison, Connective, Name, Term, copy_term};
@@ -33,7 +33,7 @@ fn is_number(builder: Builder, term: &Term, number: usize) -> Result<Term, Alloc
 /// Whether a term has an enumerator as its value.
 fn is_enumerator(builder: Builder, term: &Term, enumerator: &Name) -> Result<Term, AllocError>
     ensures { IfOk result (λ t. term_of t ≡ syntax.Term.Binary syntax.Operator.Equal
-        (term_of term.now) (syntax.Term.Named (text_of enumerator.now))) }
+        (term_of term.now) (syntax.Term.Named (name_bytes enumerator.now))) }
 {
     let left = copy_term(builder.alloc, term)?;
     let right = builder.name(enumerator)?;

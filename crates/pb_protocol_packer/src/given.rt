@@ -6,7 +6,7 @@ ghost use Rattle.pb_model_meaning.specs.Steps.{assigned_term};
 ghost use Rattle.pb_protocol_packing.specs.Numbers as numbers;
 ghost use Rattle.pb_protocol_packing.specs.Packing as packing;
 ghost use Rattle.pb_protocol_packer.specs.View.{term_of};
-ghost use Rattle.pb_protocol_packer.specs.Members.{kind_of, member_of, members_of};
+ghost use Rattle.pb_protocol_packer.specs.Members.{kind_said, member_of, members_said};
 ghost use Rattle.pb_protocol_packer.specs.Given.{given_in, new_in, term_by, terms_in};
 
 use crate::builder::Builder;
@@ -37,7 +37,7 @@ pub(crate) fn given_for<'a>(given: &'a [Given<'_>], name: &str) -> Option<&'a Te
 /// The number of a value that a variable gets, of which the term stays.
 fn number_by(builder: Builder, member: &Member, term: &Term) -> Result<Term, AllocError>
     ensures { IfOk result (λ t. term_of t ≡ numbers.to_number
-        (kind_of member.now.kind) member.now.low (term_of term.now)) }
+        (kind_said member.now.kind) member.now.low (term_of term.now)) }
 {
     let copy = copy_term(builder.alloc, term)?;
     to_number(builder, member, copy)
@@ -84,7 +84,7 @@ pub(crate) fn all_tests(
     members: &[Member],
 ) -> Result<Vec<Term>, AllocError>
     ensures { IfOk result (λ v. terms_in v.items
-        ≡ packing.all_tests (assigned_term (given_in given.now)) (members_of members.now)) }
+        ≡ packing.all_tests (assigned_term (given_in given.now)) (members_said members.now)) }
 {
     let mut tests = Vec::new(builder.alloc);
     for member in members {

@@ -3,7 +3,7 @@
 ghost use Rattle.std.specs.Prelude.{◌≡◌, ◌≤◌, true};
 ghost use Rattle.pb_base.specs.declared.limits.TheConstants.{MAX_INSTANCES};
 ghost use Rattle.pb_protocol_packing.specs.Packing as packing;
-ghost use Rattle.pb_protocol_packer.specs.Members.{are_weighted, members_of};
+ghost use Rattle.pb_protocol_packer.specs.Members.{are_weighted, members_said};
 
 use crate::member::{Member, Variable};
 
@@ -15,7 +15,7 @@ pub struct Joined {
     pub capacity: u32,
     ghost weighted: { are_weighted members.items ≡ true },
     ghost few: { capacity ≤ MAX_INSTANCES },
-    ghost counted: { capacity ≡ packing.capacity (members_of members.items) },
+    ghost counted: { capacity ≡ packing.capacity (members_said members.items) },
 }
 
 /// A variable that stays as it is, or several with the variable that they become.

@@ -6,7 +6,7 @@ ghost use Rattle.pb_protocol_packing.specs.Numbers as numbers;
 ghost use Rattle.pb_protocol_packing.specs.Packing as packing;
 ghost use Rattle.pb_text_meaning.specs.Syntax as syntax;
 ghost use Rattle.pb_protocol_packer.specs.View.{term_of};
-ghost use Rattle.pb_protocol_packer.specs.Members.{are_weighted, member_of, members_of};
+ghost use Rattle.pb_protocol_packer.specs.Members.{are_weighted, member_of, members_said};
 ghost use Rattle.pb_protocol_packer.specs.Given.{given_in, new_in, terms_in};
 
 use crate::builder::Builder;
@@ -68,7 +68,7 @@ fn number_of(
 ) -> Result<Term, AllocError>
     requires { are_weighted members.now ≡ true }
     ensures { IfOk result (λ t. term_of t ≡ packing.number_of
-        (assigned_term (given_in given.now)) (term_of term) (members_of members.now)) }
+        (assigned_term (given_in given.now)) (term_of term) (members_said members.now)) }
 {
     let Some((member, others)) = members.split_first() else {
         return Ok(builder.number(0));
@@ -106,7 +106,8 @@ pub(crate) fn joined_term(
     joined: &Joined,
 ) -> Result<Term, AllocError>
     ensures { IfOk result (λ t. term_of t ≡ packing.joined_term
-        (assigned_term (given_in given.now)) (term_of term) (members_of joined.now.members.items)) }
+        (assigned_term (given_in given.now)) (term_of term)
+        (members_said joined.now.members.items)) }
 {
     let tests = all_tests(builder, given, &joined.members)?;
     let number = number_of(builder, given, term, &joined.members)?;

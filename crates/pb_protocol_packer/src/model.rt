@@ -8,7 +8,7 @@ ghost use Rattle.pb_model_meaning.specs.Erase.{model_of};
 ghost use Rattle.pb_model_meaning.specs.Steps.{assigned_term};
 ghost use Rattle.pb_protocol_packing.specs.Packing as packing;
 ghost use Rattle.pb_protocol_packer.specs.Groups.{groups_in};
-ghost use Rattle.pb_protocol_packer.specs.Properties.{property_names, property_shapes, step_names};
+ghost use Rattle.pb_protocol_packer.specs.Properties.{property_names, property_shapes, names_of_steps};
 ghost use Rattle.pb_protocol_packer.specs.Given.{given_in};
 ghost use Rattle.pb_protocol_packer.specs.Scopes.{table_of};
 ghost use Rattle.pb_protocol_packer.specs.Steps.{assignments_said};
@@ -102,7 +102,7 @@ pub fn packed_by(alloc: Global, model: &Model, groups: &[Group]) -> Result<Model
     ensures meaning { IfOk result
         (λ m. model_of m ≡ packing.packed_by (groups_in groups.now) (model_of model.now)) }
     ensures steps { IfOk result
-        (λ m. step_names m.steps.items ≡ step_names model.now.steps.items) }
+        (λ m. names_of_steps m.steps.items ≡ names_of_steps model.now.steps.items) }
     ensures names { IfOk result
         (λ m. property_names m.properties.items ≡ property_names model.now.properties.items) }
     ensures shapes { IfOk result

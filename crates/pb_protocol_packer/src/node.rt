@@ -4,7 +4,7 @@ ghost use Rattle.std.specs.Prelude.{◌≡◌, IfOk};
 ghost use Rattle.pb_text_meaning.specs.Syntax as syntax;
 ghost use Rattle.pb_text_meaning.specs.Erase.{of_connective};
 ghost use Rattle.pb_protocol_packer.specs.View.{calculated_terms, joined_terms, operands_of};
-ghost use Rattle.pb_protocol_packer.specs.View.{operations_of, term_of, terms_of, text_of};
+ghost use Rattle.pb_protocol_packer.specs.View.{operations_of, term_of, terms_of, name_bytes};
 
 use pb_text_tree::{Argument, ArithmeticLink, Connective, Name, Term, TermLink};
 use std::alloc::{AllocError, Global};
@@ -43,7 +43,7 @@ pub(crate) fn arithmetic(
 /// A function with its arguments.
 pub(crate) fn application(function: Name, arguments: Vec<Argument>) -> Term
     ensures { term_of result
-        ≡ syntax.Term.Apply (text_of function) (terms_of arguments.items) }
+        ≡ syntax.Term.Apply (name_bytes function) (terms_of arguments.items) }
 {
     Term::Application {
         function,

@@ -3,7 +3,7 @@
 
 ghost use Rattle.std.specs.Prelude.{◌≡◌, length, IfOk};
 ghost use Rattle.pb_protocol_packing.specs.Numbers as numbers;
-ghost use Rattle.pb_protocol_packer.specs.View.{chosen_place, term_of, terms_of, text_of, texts_of};
+ghost use Rattle.pb_protocol_packer.specs.View.{chosen_place, term_of, terms_of, name_bytes, texts_of};
 
 use crate::builder::Builder;
 use crate::enumerators::{place_among, place_of};
@@ -36,7 +36,7 @@ fn place_of_name(
     term: &Term,
 ) -> Result<Term, AllocError>
     ensures { IfOk result (λ t. term_of t ≡ numbers.place_or
-        (numbers.place_among 0 (texts_of enumerators.now) (text_of name.now))
+        (numbers.place_among 0 (texts_of enumerators.now) (name_bytes name.now))
         (numbers.place_of 0 (texts_of enumerators.now) (term_of term.now))) }
 {
     match place_among(enumerators, &name.text) {

@@ -6,7 +6,7 @@ ghost use Rattle.pb_protocol_packer.specs.Groups.{groups_in};
 ghost use Rattle.pb_protocol_packer.specs.Scopes.{table_of};
 ghost use Rattle.pb_protocol_packer.specs.Properties.{property_name, property_names, property_of};
 ghost use Rattle.pb_protocol_packer.specs.Properties.{property_said, property_shape, property_shapes};
-ghost use Rattle.pb_protocol_packer.specs.Properties.{properties_in, step_names, steps_in};
+ghost use Rattle.pb_protocol_packer.specs.Properties.{properties_in, names_of_steps, erased_step_list};
 
 use crate::formula::formula_said;
 use crate::group::Group;
@@ -24,8 +24,9 @@ pub(crate) fn packed_steps(
 ) -> Result<Vec<Step>, AllocError>
     requires { table_of packing.now.table.now ≡ with_groups (groups_in groups.now) [] }
     ensures meaning { IfOk result
-        (λ v. steps_in v.items ≡ map (packed_step (groups_in groups.now)) (steps_in steps.now)) }
-    ensures names { IfOk result (λ v. step_names v.items ≡ step_names steps.now) }
+        (λ v. erased_step_list v.items
+        ≡ map (packed_step (groups_in groups.now)) (erased_step_list steps.now)) }
+    ensures names { IfOk result (λ v. names_of_steps v.items ≡ names_of_steps steps.now) }
 {
     let mut packed = Vec::with_capacity(packing.alloc, steps.len())?;
     for step in steps {

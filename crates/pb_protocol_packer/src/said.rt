@@ -2,7 +2,7 @@
 
 ghost use Rattle.std.specs.Prelude.{◌≡◌, map, IfOk, box_value};
 ghost use Rattle.pb_protocol_packing.specs.Said as digits;
-ghost use Rattle.pb_protocol_packer.specs.View.{operands_of, operations_of, term_of, terms_of, text_of};
+ghost use Rattle.pb_protocol_packer.specs.View.{operands_of, operations_of, term_of, terms_of, name_bytes};
 ghost use Rattle.pb_protocol_packer.specs.Scopes.{operation_said, scope_in};
 
 use crate::builder::Builder;
@@ -18,8 +18,8 @@ use std::alloc::AllocError;
 /// What a name says.
 fn said_name(packing: &Packing<'_>, hiding: &Hiding<'_>, name: &Name) -> Result<Term, AllocError>
     ensures { IfOk result (λ t. term_of t ≡ digits.term_for
-        (digits.digit_for (scope_in packing.now hiding.now) (text_of name.now))
-        (text_of name.now)) }
+        (digits.digit_for (scope_in packing.now hiding.now) (name_bytes name.now))
+        (name_bytes name.now)) }
 {
     let Some(digit) = digit_for(packing, hiding, &name.text) else {
         return Ok(Term::Name(copy_name(packing.alloc, name)?));

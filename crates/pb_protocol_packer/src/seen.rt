@@ -3,7 +3,7 @@
 ghost use Rattle.std.specs.Prelude.{◌≡◌, codes};
 ghost use Rattle.pb_text_meaning.specs.Syntax.{same_name};
 ghost use Rattle.pb_protocol_packing.specs.Numbers as numbers;
-ghost use Rattle.pb_protocol_packer.specs.View.{chooses, term_of, terms_of, text_of, texts_of};
+ghost use Rattle.pb_protocol_packer.specs.View.{chooses, term_of, terms_of, name_bytes, texts_of};
 ghost use Rattle.pb_protocol_packer.specs.Written.{written_in, written_of};
 
 use crate::enumerators::place_among;
@@ -40,7 +40,7 @@ pub(crate) fn as_written(term: &Term) -> Written<'_>
 
 /// Whether a function is `if`.
 pub(crate) fn is_choice(function: &Name) -> bool
-    ensures { result ≡ same_name (text_of function.now) (codes "if") }
+    ensures { result ≡ same_name (name_bytes function.now) (codes "if") }
 {
     function.text.as_str() == "if"
 }

@@ -3,7 +3,7 @@
 ghost use Rattle.std.specs.Prelude.{◌≡◌, true, [], IfOk, OnOk};
 ghost use Rattle.pb_protocol_packing.specs.Packing.{with_group, with_groups, with_members};
 ghost use Rattle.pb_protocol_packer.specs.View.{term_of};
-ghost use Rattle.pb_protocol_packer.specs.Members.{are_weighted, members_of};
+ghost use Rattle.pb_protocol_packer.specs.Members.{are_weighted, members_said};
 ghost use Rattle.pb_protocol_packer.specs.Groups.{group_of, groups_in};
 ghost use Rattle.pb_protocol_packer.specs.Scopes.{table_of};
 
@@ -24,7 +24,7 @@ fn put_members<'a>(
 ) -> Result<(), AllocError>
     requires { are_weighted members.now ≡ true }
     ensures { OnOk result (table_of table.new.items
-        ≡ with_members (term_of number) (members_of members.now) (table_of table.old.items)) }
+        ≡ with_members (term_of number) (members_said members.now) (table_of table.old.items)) }
 {
     let mut left = number;
     for member in members {

@@ -4,7 +4,7 @@ ghost use Rattle.std.specs.Prelude.{◌≡◌, pos, ◌-ℤ◌, ◌+ℤ◌, IfOk
 ghost use Rattle.pb_text_meaning.specs.Syntax as syntax;
 ghost use Rattle.pb_protocol_packing.specs.Numbers as numbers;
 ghost use Rattle.pb_protocol_packer.specs.View.{term_of, texts_of};
-ghost use Rattle.pb_protocol_packer.specs.Members.{kind_of};
+ghost use Rattle.pb_protocol_packer.specs.Members.{kind_said};
 ghost use Rattle.pb_protocol_packer.specs.Written.{small_in, written_in};
 
 use crate::builder::Builder;
@@ -59,7 +59,7 @@ fn whole_number(builder: Builder, term: Term, low: i32) -> Result<Term, AllocErr
 /// The number of a value that a variable gets.
 pub(crate) fn to_number(builder: Builder, member: &Member, term: Term) -> Result<Term, AllocError>
     ensures { IfOk result (λ t. term_of t
-        ≡ numbers.to_number (kind_of member.now.kind) member.now.low (term_of term)) }
+        ≡ numbers.to_number (kind_said member.now.kind) member.now.low (term_of term)) }
 {
     match &member.kind {
         Kind::Boolean => truth_number(builder, term),
@@ -83,7 +83,7 @@ fn is_small_within(term: &Term, low: i32, size: u32) -> bool
 
 /// Whether a term is seen to have a value of a variable.
 pub(crate) fn is_surely_within(member: &Member, term: &Term) -> bool
-    ensures { result ≡ numbers.is_surely_within (kind_of member.now.kind) member.now.low
+    ensures { result ≡ numbers.is_surely_within (kind_said member.now.kind) member.now.low
         member.now.size (term_of term.now) }
 {
     match &member.kind {
@@ -144,7 +144,7 @@ fn whole_test(builder: Builder, term: &Term, low: i32, size: u32) -> Result<Term
 
 /// The test whether a term has a value of a variable.
 pub(crate) fn test_of(builder: Builder, member: &Member, term: &Term) -> Result<Term, AllocError>
-    ensures { IfOk result (λ t. term_of t ≡ numbers.test_of (kind_of member.now.kind)
+    ensures { IfOk result (λ t. term_of t ≡ numbers.test_of (kind_said member.now.kind)
         member.now.low member.now.size (term_of term.now)) }
 {
     match &member.kind {

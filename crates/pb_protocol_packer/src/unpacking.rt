@@ -2,7 +2,7 @@
 
 ghost use Rattle.std.specs.Prelude.{◌≡◌, ◌++◌, true, OnOk, All, ◌<ℤ◌, pos, ◌^◌};
 ghost use Rattle.pb_protocol_packing.specs.Unpacked.{digits, unpacked};
-ghost use Rattle.pb_protocol_packer.specs.Members.{are_weighted, members_of};
+ghost use Rattle.pb_protocol_packer.specs.Members.{are_weighted, members_said};
 ghost use Rattle.pb_protocol_packer.specs.Groups.{group_of, groups_in, values_at};
 
 use crate::group::Group;
@@ -13,7 +13,7 @@ use std::alloc::AllocError;
 fn push_digits(state: &mut Vec<i64>, members: &[Member], number: u32) -> Result<(), AllocError>
     requires { are_weighted members.now ≡ true }
     ensures { OnOk result
-        (state.new.items ≡ state.old.items ++ digits (members_of members.now) number) }
+        (state.new.items ≡ state.old.items ++ digits (members_said members.now) number) }
 {
     let mut left = number;
     for member in members {

@@ -14,7 +14,7 @@ use Rattle.pb_model_translation.specs.Names.{primes, longest}
 use Rattle.pb_model_translation.specs.Apart.{IsNew, AreApart, AreNew}
 use Rattle.pb_protocol_packing.specs.Packing.{Member, variable_of}
 use Rattle.pb_protocol_packing.specs.Apart.{Each, is_among, all_members, variables_of, group_variables, new_names, new_sorts, AreAllApart}
-use Rattle.pb_protocol_packing.specs.Groups.{group_sizes, cut, named_groups, unused_name}
+use Rattle.pb_protocol_packing.specs.Groups.{group_sizes, cut_into_groups, named_groups, unused_name}
 use Rattle.pb_protocol_packing.proofs.Lists.{each-same, each-join, each-front, each-rest, same-itself, apart-sym, neither}
 
 -- ---- a new name
@@ -169,7 +169,7 @@ no-places : (ps : List Member) → length ps ≤ 0 → [] ≡ ps
 no-places [] h = refl
 no-places (p ∷ ps) h = absurd (omega arith)
 
-pub cut-all : (ks : List ℕ) (ps : List Member) → length ps ≤ sum_by (λ k. k) ks → flat (cut ks ps) ≡ ps
+pub cut-all : (ks : List ℕ) (ps : List Member) → length ps ≤ sum_by (λ k. k) ks → flat (cut_into_groups ks ps) ≡ ps
 cut-all [] ps h = no-places ps h
 cut-all (k ∷ ks) ps h =
     ap (λ (qs : List Member). take k ps ++ qs) (cut-all ks (drop k ps) (omega (arith, length-drop k ps, h, sum_by-cons (λ (k : ℕ). k) k ks))) ∙ take-append-drop k ps
@@ -193,7 +193,7 @@ few-groups taken ([] ∷ cs) = omega (arith, few-groups taken cs)
 few-groups taken ((p ∷ []) ∷ cs) = omega (arith, few-groups taken cs)
 few-groups taken ((p ∷ r ∷ ps) ∷ cs) = omega (arith, few-groups (unused_name taken (p.variable.name ++ codes "'") ∷ taken) cs)
 
-pub length-cut : (ks : List ℕ) (ps : List Member) → length (cut ks ps) ≡ length ks
+pub length-cut : (ks : List ℕ) (ps : List Member) → length (cut_into_groups ks ps) ≡ length ks
 length-cut [] ps = refl
 length-cut (k ∷ ks) ps = ap suc (length-cut ks (drop k ps))
 

@@ -11,7 +11,7 @@ use Rattle.pb_model_translation.specs.Apart.{IsNew, AreApart, AreNew, StepsAreNe
 use Rattle.pb_model_translation.proofs.Answer.{translations_have_the_answer}
 use Rattle.pb_protocol_packing.specs.Packing.{Member, Group, Alone, Joined, variable_of, packed_step}
 use Rattle.pb_protocol_packing.specs.Apart.{Each, is_among, all_members, variables_of, group_variables, new_names, new_sorts, enumerators_of, used_enumerators, may_bind, is_apart, all_apart, is_apart_step, is_apart_formula, IsMember, AreAllApart, HasOldSort, HasOldTarget, is_old_target, IsPacking}
-use Rattle.pb_protocol_packing.specs.Groups.{member_for, all_members_for, variable_names, term_names, all_term_names, formula_names, step_names, enumerators_in, targets_in, sort_names, names_in, group_sizes, cut, groups_of, packed, said_formula}
+use Rattle.pb_protocol_packing.specs.Groups.{member_for, all_members_for, variable_names, term_names, all_term_names, formula_names, step_names, enumerators_in, targets_in, sort_names, names_in, group_sizes, cut_into_groups, groups_of, packed, said_formula}
 use Rattle.pb_protocol_packing.specs.Packable.{all_enumerators, bound_in, all_bound_in, bound_in_formula, bound_in_step, all_variables, IsPackable}
 use Rattle.pb_protocol_packing.specs.Laws.{PropertiesStay, PackedTranslationsHaveTheAnswer, HaveFewVariables, StatesStandForStates, PackedNamesAreApart}
 use Rattle.pb_protocol_packing.proofs.Lists.{each-same, each-front, each-rest, each-join, each-flat, each-among, each-at}
@@ -137,7 +137,7 @@ each-contains P (y ∷ xs) x (suc k, below, at) each = each-contains P xs x (k, 
 
 module _ (m : Model) (able : IsPackable m) where
   abbrev chunks : List (List Member)
-  chunks = cut (group_sizes (length m.variables)) (all_members_for m)
+  chunks = cut_into_groups (group_sizes (length m.variables)) (all_members_for m)
 
   abbrev gs : List Group
   gs = groups_of m
@@ -286,7 +286,7 @@ packed_translations_have_the_answer m p able among = translations_have_the_answe
 
 pub have_few_variables : HaveFewVariables
 have_few_variables m =
-    let few = few-groups (names_in m) (cut (group_sizes (length m.variables)) (all_members_for m)) in
+    let few = few-groups (names_in m) (cut_into_groups (group_sizes (length m.variables)) (all_members_for m)) in
     omega (arith, few, length-cut (group_sizes (length m.variables)) (all_members_for m), eight-sizes (length m.variables))
 
 pub states_stand_for_states : StatesStandForStates

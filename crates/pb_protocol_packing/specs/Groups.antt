@@ -114,9 +114,9 @@ names_in m =
 abbrev pub group_sizes : ℕ → List ℕ
 group_sizes n = replicate (n % 8) (suc (n / 8)) ++ replicate (8 - n % 8) (n / 8)
 
-abbrev pub cut : List ℕ → List Member → List (List Member)
-cut [] ps = []
-cut (k ∷ ks) ps = take k ps ∷ cut ks (drop k ps)
+abbrev pub cut_into_groups : List ℕ → List Member → List (List Member)
+cut_into_groups [] ps = []
+cut_into_groups (k ∷ ks) ps = take k ps ∷ cut_into_groups ks (drop k ps)
 
 -- the name, and where it is taken the name with more primes than any name has letters
 abbrev pub unused_name : List Name → Name → Name
@@ -134,7 +134,8 @@ named_groups taken ((p ∷ r ∷ ps) ∷ cs) =
 
 abbrev pub groups_of : Model → List Group
 groups_of m =
-    named_groups (names_in m) (cut (group_sizes (length m.variables)) (all_members_for m))
+    named_groups (names_in m)
+    (cut_into_groups (group_sizes (length m.variables)) (all_members_for m))
 
 -- a model over at most eight variables, and what a formula says there
 abbrev pub packed : Model → Model

@@ -14,7 +14,7 @@ use Rattle.pb_protocol_tree.specs.declared.step_set.StepSet as set
 use Rattle.pb_protocol_tree.specs.declared.step_set.StepSet.{StepSet, Row_of-StepSetLink, end_of-StepSetLink, more_of-StepSetLink, items-the_row-StepSetLink, items_hidden-the_row-StepSetLink-0}
 use Rattle.pb_protocol_tree.specs.declared.step_set.StepSetLink.{StepSetLink}
 use Rattle.pb_protocol_tree.specs.Form.{StepSetForm, FormulaForm, step_set_form, step_set_links_in, formula_form, links_in}
-use Rattle.pb_protocol_typing.specs.Fault.{or_else}
+use Rattle.pb_protocol_typing.specs.Fault.{either_fault}
 use Rattle.pb_protocol_typing.specs.Scopes.{Scope}
 use Rattle.pb_protocol_typing.specs.Sets.{StepShapes, set_fault}
 use Rattle.pb_protocol_typing.specs.Formulas.{is_constant, formula_fault}
@@ -35,48 +35,48 @@ module _ (steps : StepShapes) (s : Scope) where
 
   row-set : (A : StepSetForm) (n : _) (row : Row_of-StepSetLink n)
       → set_fault steps s (chained StepSetForm.union A (step_set_links_in row))
-      ≡ or_else (set_fault steps s A) (sets_fault steps s (items-the_row-StepSetLink n row))
+      ≡ either_fault (set_fault steps s A) (sets_fault steps s (items-the_row-StepSetLink n row))
   row-set A n end_of-StepSetLink = sym (or_else-none (set_fault steps s A))
-  row-set A n (more_of-StepSetLink place operand row) = ap (or_else (set_fault steps s A)) (row-set (step_set_form operand) _ row)
+  row-set A n (more_of-StepSetLink place operand row) = ap (either_fault (set_fault steps s A)) (row-set (step_set_form operand) _ row)
 
   pub union-fault : (S A : StepSet) (p : Box StepSet Global) (v : Vec StepSetLink Global) (ls : List StepSetLink) → S ≡ set.Union p v → A ≡ box_value p → ls ≡ v.items
-      → set_fault steps s (step_set_form S) ≡ or_else (set_fault steps s (step_set_form A)) (sets_fault steps s ls)
+      → set_fault steps s (step_set_form S) ≡ either_fault (set_fault steps s (step_set_form A)) (sets_fault steps s ls)
   union-fault S A p v ls is at same =
       let row = set_row (set.Union p v) in
       let first = step_set_form (box_value p) in
       ap (λ (T : StepSet). set_fault steps s (step_set_form T)) is
       ∙ (row-set first row.0 row.1
-      ∙ (ap (λ (ks : List StepSetLink). or_else (set_fault steps s first) (sets_fault steps s ks)) (items_hidden-the_row-StepSetLink-0 v ∙ sym same)
-      ∙ ap (λ (T : StepSet). or_else (set_fault steps s (step_set_form T)) (sets_fault steps s ls)) (sym at)))
+      ∙ (ap (λ (ks : List StepSetLink). either_fault (set_fault steps s first) (sets_fault steps s ks)) (items_hidden-the_row-StepSetLink-0 v ∙ sym same)
+      ∙ ap (λ (T : StepSet). either_fault (set_fault steps s (step_set_form T)) (sets_fault steps s ls)) (sym at)))
 
   -- ---- formulas
 
   row-formula : (c : Connective) (even : Bool) (f : FormulaForm) (n : _) (row : Row_of-Link n)
       → formula_fault steps s even (chained (FormulaForm.connected c) f (links_in row))
-      ≡ or_else (formula_fault steps s (operand_parity c even (length (items-the_row-Link n row))) f) (operands_fault steps s c even (items-the_row-Link n row))
+      ≡ either_fault (formula_fault steps s (operand_parity c even (length (items-the_row-Link n row))) f) (operands_fault steps s c even (items-the_row-Link n row))
   row-formula c even f n end_of-Link = sym (or_else-none (formula_fault steps s even f))
-  row-formula c even f n (more_of-Link place operand row) = ap (or_else (formula_fault steps s (left_parity c even) f)) (row-formula c even (formula_form operand) _ row)
+  row-formula c even f n (more_of-Link place operand row) = ap (either_fault (formula_fault steps s (left_parity c even) f)) (row-formula c even (formula_form operand) _ row)
 
   pub chain-fault : (even : Bool) (f x : Formula) (c : Connective) (p : Box Formula Global) (v : Vec Link Global) (ls : List Link) (n : ℕ) (b : Bool)
       → f ≡ formula.Chain c p v → x ≡ box_value p → ls ≡ v.items → n ≡ length ls → b ≡ operand_parity c even n
-      → formula_fault steps s even (formula_form f) ≡ or_else (formula_fault steps s b (formula_form x)) (operands_fault steps s c even ls)
+      → formula_fault steps s even (formula_form f) ≡ either_fault (formula_fault steps s b (formula_form x)) (operands_fault steps s c even ls)
   chain-fault even f x c p v ls n b is at same are parity =
       let row = formula_row (formula.Chain c p v) in
       let first = formula_form (box_value p) in
       ap (λ (g : Formula). formula_fault steps s even (formula_form g)) is
       ∙ (row-formula c even first row.0 row.1
-      ∙ (ap (λ (ks : List Link). or_else (formula_fault steps s (operand_parity c even (length ks)) first) (operands_fault steps s c even ks)) (items_hidden-the_row-Link-0 v ∙ sym same)
-      ∙ (ap (λ (q : Bool). or_else (formula_fault steps s q first) (operands_fault steps s c even ls)) (ap (operand_parity c even) (sym are) ∙ sym parity)
-      ∙ ap (λ (g : Formula). or_else (formula_fault steps s b (formula_form g)) (operands_fault steps s c even ls)) (sym at))))
+      ∙ (ap (λ (ks : List Link). either_fault (formula_fault steps s (operand_parity c even (length ks)) first) (operands_fault steps s c even ks)) (items_hidden-the_row-Link-0 v ∙ sym same)
+      ∙ (ap (λ (q : Bool). either_fault (formula_fault steps s q first) (operands_fault steps s c even ls)) (ap (operand_parity c even) (sym are) ∙ sym parity)
+      ∙ ap (λ (g : Formula). either_fault (formula_fault steps s b (formula_form g)) (operands_fault steps s c even ls)) (sym at))))
 
   pub operand-next : (c : Connective) (even : Bool) (links : List Link) (k n : ℕ) (link : Link) (b : Bool)
       → k < length links → link ≡ get_or links k link → n ≡ length links - k - 1 → b ≡ operand_parity c even n
-      → operands_fault steps s c even (drop k links) ≡ or_else (formula_fault steps s b (formula_form link.operand)) (operands_fault steps s c even (drop (k + 1) links))
+      → operands_fault steps s c even (drop k links) ≡ either_fault (formula_fault steps s b (formula_form link.operand)) (operands_fault steps s c even (drop (k + 1) links))
   operand-next c even links k n link b below at are parity =
       let rest = operands_fault steps s c even (drop (k + 1) links) in
       let behind : length (drop (k + 1) links) ≡ n = length-drop (k + 1) links ∙ (omega arith) in
       ap (operands_fault steps s c even) (drop-at links k link below at)
-      ∙ ap (λ (q : Bool). or_else (formula_fault steps s q (formula_form link.operand)) rest) (ap (operand_parity c even) behind ∙ sym parity)
+      ∙ ap (λ (q : Bool). either_fault (formula_fault steps s q (formula_form link.operand)) rest) (ap (operand_parity c even) behind ∙ sym parity)
 
 -- ---- constants
 

@@ -11,7 +11,7 @@ use Rattle.pb_typing_declarations.specs.Shapes.{sort_shape}
 use Rattle.pb_typing_declarations.specs.declared.fault.TypingFault.{TypingFault}
 use Rattle.pb_typing_declarations.specs.Faults.{is_among}
 use Rattle.pb_protocol_typing.specs.Names.{name_texts}
-use Rattle.pb_protocol_typing.specs.Fault.{or_else, first_fault}
+use Rattle.pb_protocol_typing.specs.Fault.{either_fault, first_fault}
 use Rattle.pb_protocol_typing.specs.Scopes.{Scope, sort_in}
 use Rattle.pb_protocol_typing.specs.Signatures.{variable_shapes}
 use Rattle.pb_protocol_typing.specs.Formulas.{hidden_fault, variables_fault}
@@ -53,14 +53,14 @@ group-shapes spec sort (n ∷ ns) = ap (λ hs. sort_shape spec sort.text ∷ hs)
 
 -- the first fault of a group's names, and of those behind it
 pub first-names : (fault : Named → Option TypingFault) (sort : Named) (ns : List declared_name.Name) (ys : List VariableForm)
-    → first_fault fault (variable_names (map (λ n. record { name = named n; sort = sort }) ns ++ ys)) ≡ or_else (first_fault fault (map named ns)) (first_fault fault (variable_names ys))
+    → first_fault fault (variable_names (map (λ n. record { name = named n; sort = sort }) ns ++ ys)) ≡ either_fault (first_fault fault (map named ns)) (first_fault fault (variable_names ys))
 first-names fault sort [] ys = refl
 first-names fault sort (n ∷ ns) ys =
-    ap (or_else (fault (named n))) (first-names fault sort ns ys)
+    ap (either_fault (fault (named n))) (first-names fault sort ns ys)
     ∙ sym (or_else-assoc (fault (named n)) (first_fault fault (map named ns)) (first_fault fault (variable_names ys)))
 
 pub group-fault : (s : Scope) (gs : List Variables) (k : ℕ) (g : Variables) → k < length gs → g ≡ get_or gs k g
-    → variables_fault s (variable_forms (drop k gs)) ≡ or_else (first_fault (hidden_fault s) (map named g.names.items)) (variables_fault s (variable_forms (drop (k + 1) gs)))
+    → variables_fault s (variable_forms (drop k gs)) ≡ either_fault (first_fault (hidden_fault s) (map named g.names.items)) (variables_fault s (variable_forms (drop (k + 1) gs)))
 group-fault s gs k g below at =
     ap (λ (hs : List Variables). variables_fault s (variable_forms hs)) (drop-at gs k g below at)
     ∙ first-names (hidden_fault s) (named g.sort) g.names.items (variable_forms (drop (k + 1) gs))

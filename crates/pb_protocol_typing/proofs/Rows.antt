@@ -18,7 +18,7 @@ use Rattle.pb_typing_declarations.specs.declared.fault.TypingFault.{TypingFault}
 use Rattle.pb_typing_declarations.specs.declared.fault.TypingRule.TheVariants.{WrongKind}
 use Rattle.pb_protocol_typing.specs.declared.kind.Kind.{Kind}
 use Rattle.pb_protocol_typing.specs.declared.kind.Kind.TheVariants.{Unknown, Truth, Whole}
-use Rattle.pb_protocol_typing.specs.Fault.{or_else, fault_unless}
+use Rattle.pb_protocol_typing.specs.Fault.{either_fault, fault_unless}
 use Rattle.pb_protocol_typing.specs.Kinds.{agree, are_whole, truth_fault}
 use Rattle.pb_protocol_typing.specs.Scopes.{Scope}
 use Rattle.pb_protocol_typing.specs.Functions.{called, called_kind, called_parameters, naming_fault, taking_fault, second_kind, is_choice}
@@ -27,28 +27,28 @@ use Rattle.pb_protocol_typing.specs.Links.{chain_kind, arithmetic_kind, head_fau
 
 -- ---- faults, the first of which counts
 
-pub or_else-none : (o : Option TypingFault) → or_else o None ≡ o
+pub or_else-none : (o : Option TypingFault) → either_fault o None ≡ o
 or_else-none None = refl
 or_else-none (Some f) = refl
 
-pub or_else-assoc : (a b c : Option TypingFault) → or_else (or_else a b) c ≡ or_else a (or_else b c)
+pub or_else-assoc : (a b c : Option TypingFault) → either_fault (either_fault a b) c ≡ either_fault a (either_fault b c)
 or_else-assoc None b c = refl
 or_else-assoc (Some f) b c = refl
 
 -- what is joined, part by part
-pub joined-two : (result a b x y : Option TypingFault) → result ≡ or_else a b → a ≡ x → b ≡ y → result ≡ or_else x y
-joined-two result a b x y is first second = is ∙ (ap (λ (o : Option TypingFault). or_else o b) first ∙ ap (or_else x) second)
+pub joined-two : (result a b x y : Option TypingFault) → result ≡ either_fault a b → a ≡ x → b ≡ y → result ≡ either_fault x y
+joined-two result a b x y is first second = is ∙ (ap (λ (o : Option TypingFault). either_fault o b) first ∙ ap (either_fault x) second)
 
-pub joined-three : (result inner a b c x y z : Option TypingFault) → result ≡ or_else a inner → inner ≡ or_else b c → a ≡ x → b ≡ y → c ≡ z → result ≡ or_else x (or_else y z)
-joined-three result inner a b c x y z is same first second third = joined-two result a inner x (or_else y z) is first (joined-two inner b c y z same second third)
+pub joined-three : (result inner a b c x y z : Option TypingFault) → result ≡ either_fault a inner → inner ≡ either_fault b c → a ≡ x → b ≡ y → c ≡ z → result ≡ either_fault x (either_fault y z)
+joined-three result inner a b c x y z is same first second third = joined-two result a inner x (either_fault y z) is first (joined-two inner b c y z same second third)
 
 -- a fault that is found
-pub found : (all a b : Option TypingFault) (fault : TypingFault) → all ≡ or_else a b → Some fault ≡ a → Some fault ≡ all
-found all a b fault is h = sym (is ∙ ap (λ o. or_else o b) (sym h))
+pub found : (all a b : Option TypingFault) (fault : TypingFault) → all ≡ either_fault a b → Some fault ≡ a → Some fault ≡ all
+found all a b fault is h = sym (is ∙ ap (λ o. either_fault o b) (sym h))
 
 -- and one that isn't
-pub left_out : (all a b : Option TypingFault) → all ≡ or_else a b → None ≡ a → all ≡ b
-left_out all a b is h = is ∙ ap (λ o. or_else o b) (sym h)
+pub left_out : (all a b : Option TypingFault) → all ≡ either_fault a b → None ≡ a → all ≡ b
+left_out all a b is h = is ∙ ap (λ o. either_fault o b) (sym h)
 
 module _ (s : Scope) where
   -- ---- connectives
@@ -58,17 +58,17 @@ module _ (s : Scope) where
   chain-kind c f (l ∷ ls) = refl
 
   pub tail-fault : (c : Connective) (p : Place) (y : TermForm) (ls : List TermLink)
-      → or_else (term_fault s (chained (TermForm.connected c) y (term_links ls))) (truth_fault (kind s (chained (TermForm.connected c) y (term_links ls))) p)
-      ≡ or_else (term_fault s y) (or_else (truth_fault (kind s y) (next_place p ls)) (links_fault s ls))
-  tail-fault c p y [] = ap (or_else (term_fault s y)) (sym (or_else-none (truth_fault (kind s y) p)))
+      → either_fault (term_fault s (chained (TermForm.connected c) y (term_links ls))) (truth_fault (kind s (chained (TermForm.connected c) y (term_links ls))) p)
+      ≡ either_fault (term_fault s y) (either_fault (truth_fault (kind s y) (next_place p ls)) (links_fault s ls))
+  tail-fault c p y [] = ap (either_fault (term_fault s y)) (sym (or_else-none (truth_fault (kind s y) p)))
   tail-fault c p y (l ∷ ls) =
       or_else-none (term_fault s (chained (TermForm.connected c) y (term_links (l ∷ ls))))
-      ∙ ap (λ o. or_else (term_fault s y) (or_else (truth_fault (kind s y) l.place) o)) (tail-fault c l.place (term_form l.operand) ls)
+      ∙ ap (λ o. either_fault (term_fault s y) (either_fault (truth_fault (kind s y) l.place) o)) (tail-fault c l.place (term_form l.operand) ls)
 
   pub chain-fault : (c : Connective) (f : TermForm) (ls : List TermLink)
-      → term_fault s (chained (TermForm.connected c) f (term_links ls)) ≡ or_else (term_fault s f) (or_else (head_fault (kind s f) ls) (links_fault s ls))
+      → term_fault s (chained (TermForm.connected c) f (term_links ls)) ≡ either_fault (term_fault s f) (either_fault (head_fault (kind s f) ls) (links_fault s ls))
   chain-fault c f [] = sym (or_else-none (term_fault s f))
-  chain-fault c f (l ∷ ls) = ap (λ o. or_else (term_fault s f) (or_else (truth_fault (kind s f) l.place) o)) (tail-fault c l.place (term_form l.operand) ls)
+  chain-fault c f (l ∷ ls) = ap (λ o. either_fault (term_fault s f) (either_fault (truth_fault (kind s f) l.place) o)) (tail-fault c l.place (term_form l.operand) ls)
 
   chain-kinds : (t x : Term) (c : Connective) (p : Box Term Global) (v : Vec TermLink Global) (ls : List TermLink) → t ≡ term.Chain c p v → x ≡ box_value p → ls ≡ v.items
       → kind s (term_form t) ≡ chain_kind (kind s (term_form x)) ls
@@ -77,11 +77,11 @@ module _ (s : Scope) where
       ∙ (ap (chain_kind (kind s (term_form (box_value p)))) (sym same) ∙ ap (λ u. chain_kind (kind s (term_form u)) ls) (sym at))))
 
   pub chain-faults : (t x : Term) (c : Connective) (p : Box Term Global) (v : Vec TermLink Global) (ls : List TermLink) → t ≡ term.Chain c p v → x ≡ box_value p → ls ≡ v.items
-      → term_fault s (term_form t) ≡ or_else (term_fault s (term_form x)) (or_else (head_fault (kind s (term_form x)) ls) (links_fault s ls))
+      → term_fault s (term_form t) ≡ either_fault (term_fault s (term_form x)) (either_fault (head_fault (kind s (term_form x)) ls) (links_fault s ls))
   chain-faults t x c p v ls is at same =
       ap (λ u. term_fault s (term_form u)) is ∙ (ap (term_fault s) (term-chain c p v) ∙ (chain-fault c (term_form (box_value p)) v.items
-      ∙ (ap (λ ks. or_else (term_fault s (term_form (box_value p))) (or_else (head_fault (kind s (term_form (box_value p))) ks) (links_fault s ks))) (sym same)
-      ∙ ap (λ u. or_else (term_fault s (term_form u)) (or_else (head_fault (kind s (term_form u)) ls) (links_fault s ls))) (sym at))))
+      ∙ (ap (λ ks. either_fault (term_fault s (term_form (box_value p))) (either_fault (head_fault (kind s (term_form (box_value p))) ks) (links_fault s ks))) (sym same)
+      ∙ ap (λ u. either_fault (term_fault s (term_form u)) (either_fault (head_fault (kind s (term_form u)) ls) (links_fault s ls))) (sym at))))
 
   -- ---- arithmetic
 
@@ -93,13 +93,13 @@ module _ (s : Scope) where
   arithmetic-kind f [] = refl
   arithmetic-kind f (l ∷ ls) = whole-kind (TermForm.computed l.operator l.place f (term_form l.operand)) ls refl
 
-  pub arithmetic-fault : (f : TermForm) (ls : List ArithmeticLink) → term_fault s (calculated f (arithmetic_links ls)) ≡ or_else (term_fault s f) (operations_fault s (kind s f) ls)
+  pub arithmetic-fault : (f : TermForm) (ls : List ArithmeticLink) → term_fault s (calculated f (arithmetic_links ls)) ≡ either_fault (term_fault s f) (operations_fault s (kind s f) ls)
   arithmetic-fault f [] = sym (or_else-none (term_fault s f))
   arithmetic-fault f (l ∷ ls) =
       let test = fault_unless (are_whole (kind s f) (kind s (term_form l.operand))) WrongKind l.place in
       arithmetic-fault (TermForm.computed l.operator l.place f (term_form l.operand)) ls
-      ∙ (or_else-assoc (term_fault s f) (or_else (term_fault s (term_form l.operand)) test) (operations_fault s Whole ls)
-      ∙ ap (or_else (term_fault s f)) (or_else-assoc (term_fault s (term_form l.operand)) test (operations_fault s Whole ls)))
+      ∙ (or_else-assoc (term_fault s f) (either_fault (term_fault s (term_form l.operand)) test) (operations_fault s Whole ls)
+      ∙ ap (either_fault (term_fault s f)) (or_else-assoc (term_fault s (term_form l.operand)) test (operations_fault s Whole ls)))
 
   arithmetic-kinds : (t x : Term) (p : Box Term Global) (v : Vec ArithmeticLink Global) (ls : List ArithmeticLink) → t ≡ term.Arithmetic p v → x ≡ box_value p → ls ≡ v.items
       → kind s (term_form t) ≡ arithmetic_kind (kind s (term_form x)) ls
@@ -108,11 +108,11 @@ module _ (s : Scope) where
       ∙ (ap (arithmetic_kind (kind s (term_form (box_value p)))) (sym same) ∙ ap (λ u. arithmetic_kind (kind s (term_form u)) ls) (sym at))))
 
   pub arithmetic-faults : (t x : Term) (p : Box Term Global) (v : Vec ArithmeticLink Global) (ls : List ArithmeticLink) → t ≡ term.Arithmetic p v → x ≡ box_value p → ls ≡ v.items
-      → term_fault s (term_form t) ≡ or_else (term_fault s (term_form x)) (operations_fault s (kind s (term_form x)) ls)
+      → term_fault s (term_form t) ≡ either_fault (term_fault s (term_form x)) (operations_fault s (kind s (term_form x)) ls)
   arithmetic-faults t x p v ls is at same =
       ap (λ u. term_fault s (term_form u)) is ∙ (ap (term_fault s) (term-arithmetic p v) ∙ (arithmetic-fault (term_form (box_value p)) v.items
-      ∙ (ap (λ ks. or_else (term_fault s (term_form (box_value p))) (operations_fault s (kind s (term_form (box_value p))) ks)) (sym same)
-      ∙ ap (λ u. or_else (term_fault s (term_form u)) (operations_fault s (kind s (term_form u)) ls)) (sym at))))
+      ∙ (ap (λ ks. either_fault (term_fault s (term_form (box_value p))) (operations_fault s (kind s (term_form (box_value p))) ks)) (sym same)
+      ∙ ap (λ u. either_fault (term_fault s (term_form u)) (operations_fault s (kind s (term_form u)) ls)) (sym at))))
 
   -- ---- applications
 
@@ -123,12 +123,13 @@ module _ (s : Scope) where
       ∙ ap (λ ks. called_kind (called s (named f).text) (kinds s (argument_forms ks))) (sym same))
 
   pub application-faults : (t : Term) (f : declared_name.Name) (v : Vec Argument Global) (es : List Argument) → t ≡ term.Application f v → es ≡ v.items
-      → term_fault s (term_form t) ≡ or_else (naming_fault (called s (named f).text) s.around (named f) (length (kinds s (argument_forms es))))
-      (or_else (arguments_fault s 0 (called_parameters (called s (named f).text)) (argument_forms es)) (taking_fault (called s (named f).text) (named f) (kinds s (argument_forms es))))
+      → term_fault s (term_form t) ≡ either_fault (naming_fault (called s (named f).text) s.around (named f) (length (kinds s (argument_forms es))))
+      (either_fault (arguments_fault s 0 (called_parameters (called s (named f).text)) (argument_forms es)) (taking_fault (called s (named f).text) (named f) (kinds s (argument_forms es))))
   application-faults t f v es is same =
       ap (λ u. term_fault s (term_form u)) is ∙ (ap (term_fault s) (term-application f v)
-      ∙ ap (λ ks. or_else (naming_fault (called s (named f).text) s.around (named f) (length (kinds s (argument_forms ks))))
-      (or_else (arguments_fault s 0 (called_parameters (called s (named f).text)) (argument_forms ks)) (taking_fault (called s (named f).text) (named f) (kinds s (argument_forms ks))))) (sym same))
+      ∙ ap (λ ks. either_fault (naming_fault (called s (named f).text) s.around (named f) (length (kinds s (argument_forms ks))))
+      (either_fault (arguments_fault s 0 (called_parameters (called s (named f).text)) (argument_forms ks)) (taking_fault (called s (named f).text) (named f) (kinds s (argument_forms ks)))))
+      (sym same))
 
   pub length-kinds : (es : List Argument) → length (kinds s (argument_forms es)) ≡ length es
   length-kinds [] = refl
@@ -136,8 +137,8 @@ module _ (s : Scope) where
 
   pub argument-next : (hs : List Shape) (es : List Argument) (k : ℕ) (e : Argument) → k < length es → e ≡ get_or es k e
       → arguments_fault s k hs (argument_forms (drop k es))
-      ≡ or_else (term_fault s (term_form e.term))
-      (or_else (fault_unless (agree (kind s (term_form e.term)) (kind_at hs k)) WrongKind e.place)
+      ≡ either_fault (term_fault s (term_form e.term))
+      (either_fault (fault_unless (agree (kind s (term_form e.term)) (kind_at hs k)) WrongKind e.place)
       (arguments_fault s (k + 1) hs (argument_forms (drop (k + 1) es))))
   argument-next hs es k e below at = ap (λ (xs : List Argument). arguments_fault s k hs (argument_forms xs)) (drop-at es k e below at)
 
@@ -163,11 +164,11 @@ module _ (s : Scope) where
   few-choice (d ∷ (f ∷ [])) few = refl
   few-choice (d ∷ (f ∷ (g ∷ es))) few = absurd (omega arith)
 
-pub found_behind : (all a b c : Option TypingFault) (fault : TypingFault) → all ≡ or_else a (or_else b c) → None ≡ a → Some fault ≡ b → Some fault ≡ all
-found_behind all a b c fault is none h = found all b c fault (left_out all a (or_else b c) is none) h
+pub found_behind : (all a b c : Option TypingFault) (fault : TypingFault) → all ≡ either_fault a (either_fault b c) → None ≡ a → Some fault ≡ b → Some fault ≡ all
+found_behind all a b c fault is none h = found all b c fault (left_out all a (either_fault b c) is none) h
 
-pub left_both : (all a b c : Option TypingFault) → all ≡ or_else a (or_else b c) → None ≡ a → None ≡ b → all ≡ c
-left_both all a b c is none clear = left_out all b c (left_out all a (or_else b c) is none) clear
+pub left_both : (all a b c : Option TypingFault) → all ≡ either_fault a (either_fault b c) → None ≡ a → None ≡ b → all ≡ c
+left_both all a b c is none clear = left_out all b c (left_out all a (either_fault b c) is none) clear
 
 -- a chain with links, and one without
 

@@ -10,7 +10,7 @@ use Rattle.pb_text_meaning.specs.Erase as texts
 use Rattle.pb_typing_declarations.specs.Declarations.{declaration_faults}
 use Rattle.pb_protocol_tree.specs.Form.{ProtocolForm}
 use Rattle.pb_text_meaning.specs.Syntax.{Spec}
-use Rattle.pb_protocol_typing.specs.Faults.{data_form, lists_faults, names_faults, own_faults, parts_fault, protocol_faults, signatures_of, state_of}
+use Rattle.pb_protocol_typing.specs.Faults.{data_form, lists_faults, names_faults, protocol_own_faults, parts_fault, protocol_faults, signatures_of, state_of}
 use Rattle.pb_protocol_typing.specs.Scopes.{Signatures}
 use Rattle.pb_protocol_typing.specs.Steps.{definitions_fault}
 use Rattle.pb_typing_declarations.specs.Faults.{IsAmong}
@@ -53,23 +53,23 @@ module _ (spec : Spec) (text : ProtocolForm) where
   abbrev state_fault : Option TypingFault
   state_fault = definitions_fault spec (state_of spec text) text.definitions
 
-  pub names_among : (e : OrMemory TypingFault) → IsAmong (names_faults text) e → IsAmong (own_faults spec text) e
+  pub names_among : (e : OrMemory TypingFault) → IsAmong (names_faults text) e → IsAmong (protocol_own_faults spec text) e
   names_among e h = among_left (names_faults text) _ e h
 
-  pub definitions_among : (e : OrMemory TypingFault) → IfFault e (λ fault. state_fault ≡ Some fault) → IsAmong (own_faults spec text) e
-  definitions_among e h = second_among (own_faults spec text) (names_faults text) (listed state_fault) _ e refl (listed_among state_fault e h)
+  pub definitions_among : (e : OrMemory TypingFault) → IfFault e (λ fault. state_fault ≡ Some fault) → IsAmong (protocol_own_faults spec text) e
+  definitions_among e h = second_among (protocol_own_faults spec text) (names_faults text) (listed state_fault) _ e refl (listed_among state_fault e h)
 
-  pub lists_among : (e : OrMemory TypingFault) (known : Signatures) → known ≡ signatures_of spec text → IsAmong (lists_faults spec known text) e → IsAmong (own_faults spec text) e
+  pub lists_among : (e : OrMemory TypingFault) (known : Signatures) → known ≡ signatures_of spec text → IsAmong (lists_faults spec known text) e → IsAmong (protocol_own_faults spec text) e
   lists_among e known is h =
-      third_among (own_faults spec text) (names_faults text) (listed state_fault) (lists_faults spec (signatures_of spec text) text) _ e refl
+      third_among (protocol_own_faults spec text) (names_faults text) (listed state_fault) (lists_faults spec (signatures_of spec text) text) _ e refl
       (subst (λ (k : Signatures). IsAmong (lists_faults spec k text) e) is h)
 
   pub own_checks : (known : Signatures) (r : Result (Unit {0}) (OrMemory TypingFault)) → known ≡ signatures_of spec text
       → names_faults text ≡ [] → state_fault ≡ None → lists_faults spec known text ≡ []
       → MatchResult r (λ _. parts_fault spec known text ≡ None) (λ e. IfFault e (λ fault. parts_fault spec known text ≡ Some fault))
-      → MatchResult r (λ _. own_faults spec text ≡ []) (IsAmong (own_faults spec text))
+      → MatchResult r (λ _. protocol_own_faults spec text ≡ []) (IsAmong (protocol_own_faults spec text))
   own_checks known r is names state lists parts =
-      last_checks (own_faults spec text) (names_faults text) (listed state_fault) (lists_faults spec known text) (parts_fault spec known text) r
+      last_checks (protocol_own_faults spec text) (names_faults text) (listed state_fault) (lists_faults spec known text) (parts_fault spec known text) r
       (ap (λ (k : Signatures). names_faults text ++ (listed state_fault ++ (lists_faults spec k text ++ listed (parts_fault spec k text)))) (sym is))
       names (ap listed state) lists parts
 
@@ -77,14 +77,16 @@ module _ (spec : Spec) (text : ProtocolForm) where
 
 pub declared_among : (t : SpecForm) (text : ProtocolForm) (e : OrMemory TypingFault) → t ≡ data_form text → IsAmong (declaration_faults t) e → IsAmong (protocol_faults text) e
 declared_among t text e is h =
-    among_left (declaration_faults (data_form text)) (own_faults (texts.erase (data_form text)) text) e (subst (λ (u : SpecForm). IsAmong (declaration_faults u) e) is h)
+    among_left (declaration_faults (data_form text)) (protocol_own_faults (texts.erase (data_form text)) text) e (subst (λ (u : SpecForm). IsAmong (declaration_faults u) e) is h)
 
 pub all_checks : (t d : SpecForm) (text : ProtocolForm) (r : Result (Unit {0}) (OrMemory TypingFault)) → t ≡ data_form text → d ≡ t → declaration_faults t ≡ []
-    → MatchResult r (λ _. own_faults (texts.erase d) text ≡ []) (IsAmong (own_faults (texts.erase d) text)) → MatchResult r (λ _. protocol_faults text ≡ []) (IsAmong (protocol_faults text))
+    → MatchResult r (λ _. protocol_own_faults (texts.erase d) text ≡ []) (IsAmong (protocol_own_faults (texts.erase d) text))
+    → MatchResult r (λ _. protocol_faults text ≡ []) (IsAmong (protocol_faults text))
 all_checks t d text r is same clear h =
     let clear_data : declaration_faults (data_form text) ≡ [] = subst (λ (u : SpecForm). declaration_faults u ≡ []) is clear in
-    let whole : protocol_faults text ≡ own_faults (texts.erase (data_form text)) text = ap (λ (zs : List TypingFault). zs ++ own_faults (texts.erase (data_form text)) text) clear_data in
-    let own = subst (λ (u : SpecForm). MatchResult r (λ _. own_faults (texts.erase u) text ≡ []) (IsAmong (own_faults (texts.erase u) text))) (same ∙ is) h in
+    let whole : protocol_faults text ≡ protocol_own_faults (texts.erase (data_form text)) text =
+    ap (λ (zs : List TypingFault). zs ++ protocol_own_faults (texts.erase (data_form text)) text) clear_data in
+    let own = subst (λ (u : SpecForm). MatchResult r (λ _. protocol_own_faults (texts.erase u) text ≡ []) (IsAmong (protocol_own_faults (texts.erase u) text))) (same ∙ is) h in
     subst (λ (us : List TypingFault). MatchResult r (λ _. us ≡ []) (IsAmong us)) (sym whole) own
 
 -- ---- what the answer says

@@ -15,13 +15,13 @@ fault_unless true rule place = None
 fault_unless false rule place = fault_at rule place
 
 -- the first of two faults
-abbrev pub or_else : Option TypingFault → Option TypingFault → Option TypingFault
-or_else one other = option_or one other
+abbrev pub either_fault : Option TypingFault → Option TypingFault → Option TypingFault
+either_fault one other = option_or one other
 
 -- the fault of the first item that has one
 abbrev pub first_fault : {X : Type 0} → (X → Option TypingFault) → List X → Option TypingFault
 first_fault fault [] = None
-first_fault fault (x ∷ xs) = or_else (fault x) (first_fault fault xs)
+first_fault fault (x ∷ xs) = either_fault (fault x) (first_fault fault xs)
 
 -- a fault, if there is one, as a list
 abbrev pub listed : Option TypingFault → List TypingFault

@@ -11,7 +11,7 @@ use Rattle.pb_typing_declarations.specs.declared.fault.TypingFault.{TypingFault}
 use Rattle.pb_typing_declarations.specs.declared.fault.TypingRule.TheVariants.{NameTwice}
 use Rattle.pb_protocol_tree.specs.Form.{StateVariableForm, DefinitionForm, StepForm, PropertyForm}
 use Rattle.pb_protocol_tree.specs.Form.{ProtocolForm}
-use Rattle.pb_protocol_typing.specs.Fault.{or_else, first_fault, listed}
+use Rattle.pb_protocol_typing.specs.Fault.{either_fault, first_fault, listed}
 use Rattle.pb_protocol_typing.specs.Scopes.{Signatures, Scope, is_blank, is_reserved}
 use Rattle.pb_protocol_typing.specs.Sets.{StepShapes}
 use Rattle.pb_protocol_typing.specs.Formulas.{formula_fault}
@@ -98,13 +98,13 @@ property_fault steps s p = formula_fault steps s true p.formula
 -- the first fault of its steps, initial values and properties
 abbrev pub parts_fault : Spec → Signatures → ProtocolForm → Option TypingFault
 parts_fault spec known text =
-    or_else (first_fault (step_fault (outermost spec known)) text.steps)
-    (or_else (initial_fault spec text.variables text.initial)
+    either_fault (first_fault (step_fault (outermost spec known)) text.steps)
+    (either_fault (initial_fault spec text.variables text.initial)
     (first_fault (property_fault (steps_of spec text) (outermost spec known)) text.properties))
 
 -- beside those of sorts and ranges; of those of terms and formulas the first
-abbrev pub own_faults : Spec → ProtocolForm → List TypingFault
-own_faults spec text =
+abbrev pub protocol_own_faults : Spec → ProtocolForm → List TypingFault
+protocol_own_faults spec text =
     names_faults text
     ++ (listed (definitions_fault spec (state_of spec text) text.definitions)
     ++ (lists_faults spec (signatures_of spec text) text
@@ -113,4 +113,4 @@ own_faults spec text =
 -- the faults of a protocol
 abbrev pub protocol_faults : ProtocolForm → List TypingFault
 protocol_faults text =
-    declaration_faults (data_form text) ++ own_faults (texts.erase (data_form text)) text
+    declaration_faults (data_form text) ++ protocol_own_faults (texts.erase (data_form text)) text

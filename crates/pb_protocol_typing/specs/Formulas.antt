@@ -8,7 +8,7 @@ use Rattle.pb_typing_declarations.specs.declared.fault.TypingFault.{TypingFault}
 use Rattle.pb_typing_declarations.specs.declared.fault.TypingRule.TheVariants as rule
 use Rattle.pb_typing_rules.specs.Faults.{left_parity}
 use Rattle.pb_protocol_tree.specs.Form.{FormulaForm}
-use Rattle.pb_protocol_typing.specs.Fault.{fault_unless, or_else, first_fault}
+use Rattle.pb_protocol_typing.specs.Fault.{fault_unless, either_fault, first_fault}
 use Rattle.pb_protocol_typing.specs.Scopes.{Scope, variables, fixpoint, inside, is_reserved}
 use Rattle.pb_protocol_typing.specs.Scopes.{sort_around, is_fixpoint}
 use Rattle.pb_protocol_typing.specs.Sets.{StepShapes, set_fault}
@@ -41,16 +41,16 @@ abbrev pub formula_fault : StepShapes → Scope → Bool → FormulaForm → Opt
 formula_fault steps s even (FormulaForm.constant p b) = None
 formula_fault steps s even (FormulaForm.«data» p x) = condition_fault s p x
 formula_fault steps s even (FormulaForm.variable x) =
-    or_else (fault_unless (is_fixpoint s.around x.text) rule.UnknownName x.place)
+    either_fault (fault_unless (is_fixpoint s.around x.text) rule.UnknownName x.place)
     (fault_unless even rule.OddNegations x.place)
 formula_fault steps s even (FormulaForm.negation p f) = formula_fault steps s (not even) f
 formula_fault steps s even (FormulaForm.connected c p f g) =
-    or_else (formula_fault steps s (left_parity c even) f) (formula_fault steps s even g)
+    either_fault (formula_fault steps s (left_parity c even) f) (formula_fault steps s even g)
 formula_fault steps s even (FormulaForm.modal k p A f) =
-    or_else (fault_unless (is_constant f || even) rule.OddNegations p)
-    (or_else (set_fault steps s A) (formula_fault steps s true f))
+    either_fault (fault_unless (is_constant f || even) rule.OddNegations p)
+    (either_fault (set_fault steps s A) (formula_fault steps s true f))
 formula_fault steps s even (FormulaForm.fixpoint sign p x f) =
-    or_else (fault_unless even rule.OddNegations p)
-    (or_else (fixpoint_fault s x) (formula_fault steps (inside (fixpoint x.text) s) true f))
+    either_fault (fault_unless even rule.OddNegations p)
+    (either_fault (fixpoint_fault s x) (formula_fault steps (inside (fixpoint x.text) s) true f))
 formula_fault steps s even (FormulaForm.quantified q p xs f) =
-    or_else (variables_fault s xs) (formula_fault steps (inside (variables xs) s) even f)
+    either_fault (variables_fault s xs) (formula_fault steps (inside (variables xs) s) even f)

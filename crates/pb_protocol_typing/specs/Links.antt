@@ -8,7 +8,7 @@ use Rattle.pb_typing_declarations.specs.declared.fault.TypingFault.{TypingFault}
 use Rattle.pb_typing_declarations.specs.declared.fault.TypingRule.TheVariants.{WrongKind}
 use Rattle.pb_protocol_typing.specs.declared.kind.Kind.{Kind}
 use Rattle.pb_protocol_typing.specs.declared.kind.Kind.TheVariants.{Truth, Whole}
-use Rattle.pb_protocol_typing.specs.Fault.{fault_unless, or_else}
+use Rattle.pb_protocol_typing.specs.Fault.{fault_unless, either_fault}
 use Rattle.pb_protocol_typing.specs.Kinds.{are_whole, truth_fault}
 use Rattle.pb_protocol_typing.specs.Scopes.{Scope}
 use Rattle.pb_protocol_typing.specs.Terms.{kind, term_fault}
@@ -37,16 +37,16 @@ next_place p (link ∷ links) = link.place
 abbrev pub links_fault : Scope → List TermLink → Option TypingFault
 links_fault s [] = None
 links_fault s (link ∷ links) =
-    or_else (term_fault s (term_form link.operand))
-    (or_else (truth_fault (kind s (term_form link.operand)) (next_place link.place links))
+    either_fault (term_fault s (term_form link.operand))
+    (either_fault (truth_fault (kind s (term_form link.operand)) (next_place link.place links))
     (links_fault s links))
 
 -- operands of arithmetic behind one of this kind
 abbrev pub operations_fault : Scope → Kind → List ArithmeticLink → Option TypingFault
 operations_fault s k [] = None
 operations_fault s k (link ∷ links) =
-    or_else (term_fault s (term_form link.operand))
-    (or_else
+    either_fault (term_fault s (term_form link.operand))
+    (either_fault
     (fault_unless (are_whole k (kind s (term_form link.operand))) WrongKind link.place)
     (operations_fault s Whole links))
 

@@ -15,7 +15,7 @@ use Rattle.pb_typing_declarations.specs.declared.fault.TypingRule.TheVariants as
 use Rattle.pb_protocol_tree.specs.Form.{StepValueForm, StepSetForm}
 use Rattle.pb_protocol_typing.specs.declared.kind.Kind.{Kind}
 use Rattle.pb_protocol_typing.specs.declared.kind.Kind.TheVariants as kind
-use Rattle.pb_protocol_typing.specs.Fault.{fault_at, fault_unless, or_else}
+use Rattle.pb_protocol_typing.specs.Fault.{fault_at, fault_unless, either_fault}
 use Rattle.pb_protocol_typing.specs.Kinds.{shape_kind, agree}
 use Rattle.pb_protocol_typing.specs.Scopes.{Scope, sort_around}
 use Rattle.pb_protocol_typing.specs.Terms.{shape_at}
@@ -47,7 +47,7 @@ is_included g h = true
 
 abbrev pub variable_fault : Shape → Shape → Place → Option TypingFault
 variable_fault g h p =
-    or_else (kind_fault (shape_kind g) h p)
+    either_fault (kind_fault (shape_kind g) h p)
     (fault_unless (is_included g h) rule.OutsideCarrier p)
 
 abbrev pub enumerator_fault : Option Position → Shape → Place → Named → Option TypingFault
@@ -62,7 +62,7 @@ alone_fault s (Some sort) e h p x = variable_fault (sort_shape s.spec sort) h p
 abbrev pub written_fault : Scope → Shape → Place → Written → Option TypingFault
 written_fault s h p (Boolean b) = kind_fault kind.Truth h p
 written_fault s h p (Number b n) =
-    or_else (kind_fault kind.Whole h p) (fault_unless (is_within h b n) rule.OutsideCarrier p)
+    either_fault (kind_fault kind.Whole h p) (fault_unless (is_within h b n) rule.OutsideCarrier p)
 written_fault s h p (Alone x) =
     alone_fault s (sort_around s.around x.text) (enumerator_of s.spec x.text) h p x
 written_fault s h p Other = fault_at rule.WrongKind p
@@ -75,7 +75,7 @@ step_value_fault s h (StepValueForm.given p x) = written_fault s h p (written x)
 abbrev pub values_fault : Scope → ℕ → List Shape → List StepValueForm → Option TypingFault
 values_fault s n hs [] = None
 values_fault s n hs (v ∷ vs) =
-    or_else (step_value_fault s (shape_at hs n) v) (values_fault s (n + 1) hs vs)
+    either_fault (step_value_fault s (shape_at hs n) v) (values_fault s (n + 1) hs vs)
 
 -- ---- sets
 
@@ -83,7 +83,7 @@ abbrev pub instances_fault :
     Scope → Option (List Shape) → Named → List StepValueForm → Option TypingFault
 instances_fault s None x vs = fault_at rule.UnknownName x.place
 instances_fault s (Some hs) x vs =
-    or_else (fault_unless (length vs == length hs) rule.WrongCount x.place)
+    either_fault (fault_unless (length vs == length hs) rule.WrongCount x.place)
     (values_fault s 0 hs vs)
 
 abbrev pub set_fault : StepShapes → Scope → StepSetForm → Option TypingFault
@@ -93,4 +93,4 @@ set_fault steps s (StepSetForm.step x) =
 set_fault steps s (StepSetForm.instances x vs) = instances_fault s (steps x.text) x vs
 set_fault steps s (StepSetForm.complement p A) = set_fault steps s A
 set_fault steps s (StepSetForm.union p A B) =
-    or_else (set_fault steps s A) (set_fault steps s B)
+    either_fault (set_fault steps s A) (set_fault steps s B)

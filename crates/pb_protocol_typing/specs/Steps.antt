@@ -10,7 +10,7 @@ use Rattle.pb_typing_declarations.specs.declared.fault.TypingRule.TheVariants as
 use Rattle.pb_model_tree.specs.Form.{InitialForm}
 use Rattle.pb_protocol_tree.specs.Form.{StateVariableForm, DefinitionForm, AssignmentForm, StepForm}
 use Rattle.pb_protocol_typing.specs.declared.step.TheConstants.{MAX_ASSIGNMENTS}
-use Rattle.pb_protocol_typing.specs.Fault.{fault_at, fault_unless, or_else, first_fault}
+use Rattle.pb_protocol_typing.specs.Fault.{fault_at, fault_unless, either_fault, first_fault}
 use Rattle.pb_protocol_typing.specs.Kinds.{sort_kind}
 use Rattle.pb_protocol_typing.specs.Scopes.{variables, Signature, Signatures, Scope, inside}
 use Rattle.pb_protocol_typing.specs.Terms.{kinds, term_fault, arguments_fault, condition_fault}
@@ -24,7 +24,7 @@ abbrev pub definitions_fault :
     Spec → Signatures → List DefinitionForm → Option TypingFault
 definitions_fault spec known [] = None
 definitions_fault spec known (d ∷ ds) =
-    or_else (term_fault (definition_scope spec known d) d.term)
+    either_fault (term_fault (definition_scope spec known d) d.term)
     (definitions_fault spec (with_definition spec known d) ds)
 
 -- ---- assignments
@@ -33,16 +33,16 @@ definitions_fault spec known (d ∷ ds) =
 -- kind (T04)
 abbrev pub element_fault : Scope → Signature → AssignmentForm → Option TypingFault
 element_fault s f b =
-    or_else
+    either_fault
     (fault_unless (length (kinds s b.index) == length f.parameters) rule.WrongCount
     b.variable.place)
-    (or_else (arguments_fault s 0 f.parameters b.index) (value_fault s f.kind b.place b.value))
+    (either_fault (arguments_fault s 0 f.parameters b.index) (value_fault s f.kind b.place b.value))
 
 -- T01: what is assigned is a state variable
 abbrev pub assigned_fault : Scope → Option Signature → AssignmentForm → Option TypingFault
 assigned_fault s None b = fault_at rule.UnknownName b.variable.place
 assigned_fault s (Some f) b =
-    or_else (fault_unless f.is_state rule.UnknownName b.variable.place) (element_fault s f b)
+    either_fault (fault_unless f.is_state rule.UnknownName b.variable.place) (element_fault s f b)
 
 abbrev pub assignment_fault : Scope → AssignmentForm → Option TypingFault
 assignment_fault s b = assigned_fault s (s.signatures b.variable.text) b
@@ -55,17 +55,17 @@ again_fault b d =
 
 abbrev pub twice_fault : List AssignmentForm → Option TypingFault
 twice_fault [] = None
-twice_fault (b ∷ bs) = or_else (first_fault (again_fault b) bs) (twice_fault bs)
+twice_fault (b ∷ bs) = either_fault (first_fault (again_fault b) bs) (twice_fault bs)
 
 -- ---- steps
 
 -- T12: at most MAX_ASSIGNMENTS assignments; the guard is a Boolean (T04 at the step's name)
 abbrev pub own_fault : Scope → StepForm → Option TypingFault
 own_fault s a =
-    or_else
+    either_fault
     (fault_unless (nat_le (length a.assignments) MAX_ASSIGNMENTS) rule.Limit a.name.place)
-    (or_else (condition_fault s a.name.place a.guard)
-    (or_else (first_fault (assignment_fault s) a.assignments) (twice_fault a.assignments)))
+    (either_fault (condition_fault s a.name.place a.guard)
+    (either_fault (first_fault (assignment_fault s) a.assignments) (twice_fault a.assignments)))
 
 abbrev pub step_fault : Scope → StepForm → Option TypingFault
 step_fault s a = own_fault (inside (variables a.variables) s) a
@@ -88,7 +88,7 @@ abbrev pub elements_fault :
     Spec → ℕ → List StateVariableForm → ArgumentForms → Option TypingFault
 elements_fault spec n ys no_arguments = None
 elements_fault spec n ys (argument p x xs) =
-    or_else (element_value_fault spec (slice_get ys n) p x) (elements_fault spec (n + 1) ys xs)
+    either_fault (element_value_fault spec (slice_get ys n) p x) (elements_fault spec (n + 1) ys xs)
 
 abbrev pub count : ArgumentForms → ℕ
 count no_arguments = 0
@@ -97,5 +97,5 @@ count (argument p x xs) = 1 + count xs
 -- T08: a term for each state variable
 abbrev pub initial_fault : Spec → List StateVariableForm → InitialForm → Option TypingFault
 initial_fault spec ys init =
-    or_else (fault_unless (count init.values == length ys) rule.WrongCount init.place)
+    either_fault (fault_unless (count init.values == length ys) rule.WrongCount init.place)
     (elements_fault spec 0 ys init.values)

@@ -11,7 +11,7 @@ use Rattle.pb_typing_declarations.specs.declared.fault.TypingFault.{TypingFault}
 use Rattle.pb_typing_declarations.specs.declared.fault.TypingRule.TheVariants.{WrongKind}
 use Rattle.pb_protocol_typing.specs.declared.kind.Kind.{Kind}
 use Rattle.pb_protocol_typing.specs.declared.kind.Kind.TheVariants.{Truth, Whole}
-use Rattle.pb_protocol_typing.specs.Fault.{fault_unless, or_else}
+use Rattle.pb_protocol_typing.specs.Fault.{fault_unless, either_fault}
 use Rattle.pb_protocol_typing.specs.Kinds.{shape_kind, agree, are_whole, are_compared}
 use Rattle.pb_protocol_typing.specs.Kinds.{truth_fault, whole_fault}
 use Rattle.pb_protocol_typing.specs.Scopes.{Scope, variables, inside, name_meaning, meaning_kind}
@@ -53,38 +53,39 @@ abbrev mutual
   term_fault s (TermForm.constant p b) = None
   term_fault s (TermForm.number p n) = None
   term_fault s (TermForm.name x) = meaning_fault s.around (name_meaning s x.text) x
-  term_fault s (TermForm.not p x) = or_else (term_fault s x) (truth_fault (kind s x) p)
-  term_fault s (TermForm.negative p x) = or_else (term_fault s x) (whole_fault (kind s x) p)
+  term_fault s (TermForm.not p x) = either_fault (term_fault s x) (truth_fault (kind s x) p)
+  term_fault s (TermForm.negative p x) = either_fault (term_fault s x) (whole_fault (kind s x) p)
   term_fault s (TermForm.connected c p x y) =
-      or_else (term_fault s x)
-      (or_else (truth_fault (kind s x) p)
-      (or_else (term_fault s y) (truth_fault (kind s y) p)))
+      either_fault (term_fault s x)
+      (either_fault (truth_fault (kind s x) p)
+      (either_fault (term_fault s y) (truth_fault (kind s y) p)))
   term_fault s (TermForm.compared c p x y) =
-      or_else (term_fault s x)
-      (or_else (term_fault s y) (fault_unless (are_compared c (kind s x) (kind s y)) WrongKind p))
+      either_fault (term_fault s x)
+      (either_fault (term_fault s y)
+      (fault_unless (are_compared c (kind s x) (kind s y)) WrongKind p))
   term_fault s (TermForm.computed o p x y) =
-      or_else (term_fault s x)
-      (or_else (term_fault s y) (fault_unless (are_whole (kind s x) (kind s y)) WrongKind p))
+      either_fault (term_fault s x)
+      (either_fault (term_fault s y) (fault_unless (are_whole (kind s x) (kind s y)) WrongKind p))
   term_fault s (TermForm.application f xs) =
-      or_else (naming_fault (called s f.text) s.around f (length (kinds s xs)))
-      (or_else (arguments_fault s 0 (called_parameters (called s f.text)) xs)
+      either_fault (naming_fault (called s f.text) s.around f (length (kinds s xs)))
+      (either_fault (arguments_fault s 0 (called_parameters (called s f.text)) xs)
       (taking_fault (called s f.text) f (kinds s xs)))
   term_fault s (TermForm.quantified q p xs x) =
-      or_else (term_fault (inside (variables xs) s) x)
+      either_fault (term_fault (inside (variables xs) s) x)
       (truth_fault (kind (inside (variables xs) s) x) p)
 
   -- arguments from the one at n on, each of the kind of the parameter at its place
   pub arguments_fault : Scope → ℕ → List Shape → ArgumentForms → Option TypingFault
   arguments_fault s n parameters no_arguments = None
   arguments_fault s n parameters (argument p x xs) =
-      or_else (term_fault s x)
-      (or_else (fault_unless (agree (kind s x) (kind_at parameters n)) WrongKind p)
+      either_fault (term_fault s x)
+      (either_fault (fault_unless (agree (kind s x) (kind_at parameters n)) WrongKind p)
       (arguments_fault s (n + 1) parameters xs))
 
 -- a condition: a term that is a Boolean (T04 at the place)
 abbrev pub condition_fault : Scope → Place → TermForm → Option TypingFault
-condition_fault s p x = or_else (term_fault s x) (truth_fault (kind s x) p)
+condition_fault s p x = either_fault (term_fault s x) (truth_fault (kind s x) p)
 
 -- a term of a kind (T04 at the place)
 abbrev pub value_fault : Scope → Kind → Place → TermForm → Option TypingFault
-value_fault s k p x = or_else (term_fault s x) (fault_unless (agree (kind s x) k) WrongKind p)
+value_fault s k p x = either_fault (term_fault s x) (fault_unless (agree (kind s x) k) WrongKind p)

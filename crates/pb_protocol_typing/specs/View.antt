@@ -7,7 +7,7 @@ use Rattle.pb_text_tree.specs.declared.variable.Variables as declared_variables
 use Rattle.pb_text_tree.specs.Form.{Named, VariableForm, named, variable_forms}
 use Rattle.pb_text_meaning.specs.Syntax.{Name}
 use Rattle.pb_typing_declarations.specs.Entries.{carrier_shape}
-use Rattle.pb_typing_declarations.specs.Tables.{Table, looked_up}
+use Rattle.pb_typing_declarations.specs.Tables.{Table, entry_of}
 use Rattle.pb_typing_declarations.specs.View.{spec_of}
 use Rattle.pb_typing_declarations.specs.Shapes.{Shape}
 use Rattle.pb_protocol_tree.specs.Form.{StateVariableForm, state_variable_form}
@@ -45,7 +45,7 @@ signature_of f = record {
 }
 
 abbrev pub signatures_in : Table program_signature.Signature → Signatures
-signatures_in table x = option_map signature_of (looked_up table x)
+signatures_in table x = option_map signature_of (entry_of table x)
 
 abbrev pub scope_of : program_scope.Scope → Scope
 scope_of s = record {
@@ -79,7 +79,7 @@ abbrev pub own_shapes : program_own.OwnVariables → List Shape
 own_shapes own = map carrier_shape own.carriers.items
 
 abbrev pub shapes_in : program_steps.Steps → StepShapes
-shapes_in steps x = option_map own_shapes (looked_up steps.table x)
+shapes_in steps x = option_map own_shapes (entry_of steps.table x)
 
 -- a term that is written out
 abbrev pub written_of : program_written.Written → Written

@@ -6,7 +6,7 @@ ghost use Rattle.pb_typing.specs.View.{is_positive};
 ghost use Rattle.pb_protocol_tree.specs.Form.{formula_form};
 ghost use Rattle.pb_typing_declarations.specs.declared.fault.TypingRule.TheVariants.{OddNegations};
 ghost use Rattle.pb_typing_declarations.specs.declared.fault.TypingRule.TheVariants.{UnknownName};
-ghost use Rattle.pb_protocol_typing.specs.Fault.{fault_unless, first_fault, or_else};
+ghost use Rattle.pb_protocol_typing.specs.Fault.{fault_unless, first_fault, either_fault};
 ghost use Rattle.pb_protocol_typing.specs.FormulaLinks.{operands_fault};
 ghost use Rattle.pb_protocol_typing.specs.Formulas.{fixpoint_fault, formula_fault, hidden_fault};
 ghost use Rattle.pb_protocol_typing.specs.Formulas.{is_constant, variables_fault};
@@ -99,7 +99,7 @@ fn call_fault(is_even: bool, place: Place) -> Option<TypingFault>
 
 /// A variable is that of a fixpoint around.
 fn variable_fault(scope: &Scope<'_, '_>, is_even: bool, name: &Name) -> Option<TypingFault>
-    ensures { result ≡ or_else
+    ensures { result ≡ either_fault
         (fault_unless (is_fixpoint (scope_of scope.now).around (named name.now).text) UnknownName
         (named name.now).place)
         (fault_unless is_even OddNegations (named name.now).place) }

@@ -7,7 +7,7 @@ ghost use Rattle.pb_typing_declarations.specs.Faults.{IsAmong};
 ghost use Rattle.pb_typing_declarations.specs.View.{spec_of};
 ghost use Rattle.pb_protocol_tree.specs.Form.{property_form, protocol_form};
 ghost use Rattle.pb_protocol_typing.specs.Fault.{first_fault};
-ghost use Rattle.pb_protocol_typing.specs.Faults.{data_form, own_faults, parts_fault};
+ghost use Rattle.pb_protocol_typing.specs.Faults.{data_form, protocol_own_faults, parts_fault};
 ghost use Rattle.pb_protocol_typing.specs.Faults.{property_fault, protocol_faults, signatures_of};
 ghost use Rattle.pb_protocol_typing.specs.Faults.{state_of};
 ghost use Rattle.pb_protocol_typing.specs.Steps.{definitions_fault};
@@ -126,8 +126,8 @@ fn check_own(
     protocol: &Protocol,
 ) -> Result<(), TypeError>
     ensures { MatchResult result
-        (λ _. own_faults (spec_of declarations.now) (protocol_form protocol.now) ≡ [])
-        (IsAmong (own_faults (spec_of declarations.now) (protocol_form protocol.now))) }
+        (λ _. protocol_own_faults (spec_of declarations.now) (protocol_form protocol.now) ≡ [])
+        (IsAmong (protocol_own_faults (spec_of declarations.now) (protocol_form protocol.now))) }
 {
     check_names(alloc, protocol)?;
     let known = known_names(alloc, declarations, protocol)?;

@@ -35,7 +35,7 @@ use Rattle.pb_protocol_unfolder_terms.specs.declared.written.Written.{Written}
 use Rattle.pb_protocol_unfolder_terms.specs.Values.{tuple_of}
 use Rattle.pb_protocol_unfolder_terms.specs.View.{declarations, ranges_said, variable_of}
 use Rattle.pb_protocol_unfolder_steps.specs.declared.unfolder.Unfolder.{Unfolder}
-use Rattle.pb_protocol_unfolder_steps.specs.Unfolder.{protocol_in, scope_in}
+use Rattle.pb_protocol_unfolder_steps.specs.Unfolder.{protocol_in, scope_within}
 use Rattle.pb_protocol_unfolder.specs.declared.formula.Copies.{Copies}
 use Rattle.pb_protocol_unfolder.specs.Copies.{copy_of, left_operand, tuples_in}
 use Rattle.pb_protocol_unfolder.specs.Left.{left_formula, left_set}
@@ -137,7 +137,7 @@ module _ (u : Unfolder) (scope : declared_scope.TermScope) where
   pub left-quantified : (q : Quantifier) (p : Place) (xs : List VariableForm) (F : FormulaForm)
       → folded_joined_formula q
       (map (λ (ks : List Term). folded_formula (data_of (protocol_in u)) (is_left (unfolded (protocol_in u)))
-      (unfolded_formula (protocol_in u) (standing (erased_variables xs) (terms_of ks) (scope_in u scope)) (erased_formula F)))
+      (unfolded_formula (protocol_in u) (standing (erased_variables xs) (terms_of ks) (scope_within u scope)) (erased_formula F)))
       (written_tuples (data_of (protocol_in u)) (erased_variables xs)))
       ≡ left_formula u scope (FormulaForm.quantified q p xs F)
   left-quantified q p xs F =
@@ -146,9 +146,9 @@ module _ (u : Unfolder) (scope : declared_scope.TermScope) where
       let f : TermScope → Formula = λ σ. unfolded_formula m σ (erased_formula F) in
       let ys = erased_variables xs in
       ap (folded_joined_formula q)
-      (sym (map-twice (folded_formula (data_of m) left) (λ (ks : List Term). f (standing ys (terms_of ks) (scope_in u scope))) (written_tuples (data_of m) ys))
-      ∙ ap (map (folded_formula (data_of m) left)) (sym (copies-of-tuples (data_of m) ys f (scope_in u scope))))
-      ∙ sym (folded-joined (data_of m) left q (copies (data_of m) ys f (scope_in u scope)))
+      (sym (map-twice (folded_formula (data_of m) left) (λ (ks : List Term). f (standing ys (terms_of ks) (scope_within u scope))) (written_tuples (data_of m) ys))
+      ∙ ap (map (folded_formula (data_of m) left)) (sym (copies-of-tuples (data_of m) ys f (scope_within u scope))))
+      ∙ sym (folded-joined (data_of m) left q (copies (data_of m) ys f (scope_within u scope)))
 
   -- the copies are of a quantifier with these variables
   pub record AreCopies (made : Copies) (xs : List syntax.Variable) : Type 0 where
@@ -171,10 +171,10 @@ module _ (u : Unfolder) (scope : declared_scope.TermScope) where
   pub copies-made : (made : Copies) (f : formula.Formula) (xs : List syntax.Variable) → AreCopies made xs
       → map (copy_of u made f) made.tuples.now
       ≡ map (λ (ks : List Term). folded_formula (data_of (protocol_in u)) (is_left (unfolded (protocol_in u)))
-      (unfolded_formula (protocol_in u) (standing xs (terms_of ks) (scope_in u scope)) (erased_formula (formula_form f)))) (tuples_in u xs)
+      (unfolded_formula (protocol_in u) (standing xs (terms_of ks) (scope_within u scope)) (erased_formula (formula_form f)))) (tuples_in u xs)
   copies-made made f xs are =
       let at : List syntax.Variable → declared_scope.TermScope → List Term → Formula =
       λ ys s ks. folded_formula (data_of (protocol_in u)) (is_left (unfolded (protocol_in u)))
-      (unfolded_formula (protocol_in u) (standing ys (terms_of ks) (scope_in u s)) (erased_formula (formula_form f))) in
+      (unfolded_formula (protocol_in u) (standing ys (terms_of ks) (scope_within u s)) (erased_formula (formula_form f))) in
       sym (map-twice (at (map variable_of made.variables.now) made.outer.now) tuple_of made.tuples.now)
       ∙ (λ i. map (at (are.variables i) (are.outer i)) (are.tuples i))

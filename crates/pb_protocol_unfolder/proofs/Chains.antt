@@ -18,7 +18,7 @@ use Rattle.pb_protocol_tree.specs.declared.step_set.StepSet.{StepSet, Row_of-Ste
 use Rattle.pb_protocol_tree.specs.declared.step_set.StepSetLink.{StepSetLink}
 use Rattle.pb_protocol_tree.specs.Form.{StepSetForm, FormulaForm, step_set_form, step_set_links_in, formula_form, links_in}
 use Rattle.pb_protocol_unfolder.specs.View.{link_form, flat_link, linked, set_link_form, flat_set_link, set_linked}
-use Rattle.pb_protocol_unfolder.specs.Plain.{flat_formula, flat_set}
+use Rattle.pb_protocol_unfolder.specs.Plain.{flat_formula_form, flat_set}
 use mathlib.Core.Former.{Count}
 
 -- ---- protocols
@@ -86,17 +86,17 @@ flat-union-form first v =
 -- ---- what stays of chains
 
 flat-chained : (c : Connective) (f : FormulaForm) (ls : List (Place × FormulaForm))
-    → flat_formula (chained (FormulaForm.connected c) f ls) ≡ chained (flat.FormulaForm.connected c) (flat_formula f) (map linked ls)
+    → flat_formula_form (chained (FormulaForm.connected c) f ls) ≡ chained (flat.FormulaForm.connected c) (flat_formula_form f) (map linked ls)
 flat-chained c f [] = refl
-flat-chained c f (l ∷ ls) = ap (flat.FormulaForm.connected c l.0 (flat_formula f)) (flat-chained c l.1 ls)
+flat-chained c f (l ∷ ls) = ap (flat.FormulaForm.connected c l.0 (flat_formula_form f)) (flat-chained c l.1 ls)
 
 pub chain-flat : (c : Connective) (x : Box flat_formula_tree.Formula Global) (xs : Vec flat_formula_link.Link Global)
-    (y : Box Formula Global) (ys : Vec Link Global) → flat.formula_form (box_value x) ≡ flat_formula (formula_form (box_value y))
-    → map flat_link xs.items ≡ map linked (map link_form ys.items) → flat.formula_form (flat_formula_tree.Chain c x xs) ≡ flat_formula (formula_form (formula.Chain c y ys))
+    (y : Box Formula Global) (ys : Vec Link Global) → flat.formula_form (box_value x) ≡ flat_formula_form (formula_form (box_value y))
+    → map flat_link xs.items ≡ map linked (map link_form ys.items) → flat.formula_form (flat_formula_tree.Chain c x xs) ≡ flat_formula_form (formula_form (formula.Chain c y ys))
 chain-flat c x xs y ys first links =
     flat-chain-form c x xs ∙ ap (λ v. chained (flat.FormulaForm.connected c) v (map flat_link xs.items)) first
-    ∙ ap (chained (flat.FormulaForm.connected c) (flat_formula (formula_form (box_value y)))) links
-    ∙ sym (flat-chained c (formula_form (box_value y)) (map link_form ys.items)) ∙ ap flat_formula (sym (chain-form c y ys))
+    ∙ ap (chained (flat.FormulaForm.connected c) (flat_formula_form (formula_form (box_value y)))) links
+    ∙ sym (flat-chained c (formula_form (box_value y)) (map link_form ys.items)) ∙ ap flat_formula_form (sym (chain-form c y ys))
 
 flat-united : (A : StepSetForm) (ls : List (Place × StepSetForm)) → flat_set (chained StepSetForm.union A ls) ≡ chained flat.StepSetForm.union (flat_set A) (map set_linked ls)
 flat-united A [] = refl

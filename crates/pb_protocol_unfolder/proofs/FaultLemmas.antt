@@ -15,7 +15,7 @@ use Rattle.pb_protocol_unfolder.specs.declared.fault.UnfoldingRule.{UnfoldingRul
 use Rattle.pb_protocol_unfolder.specs.declared.fault.UnfoldingRule.TheVariants as rule
 use Rattle.pb_protocol_unfolder_terms.specs.declared.fault.UnfoldRule.{UnfoldRule}
 use Rattle.pb_protocol_unfolder_terms.specs.declared.fault.UnfoldRule.TheVariants as unfold_rule
-use Rattle.pb_protocol_unfolder.specs.Faults.{Breaks, IsFaultOfPart, IsNameFault, IsUnfoldingFault, IsValueFault, OfMany, OfTerm, OfValue, rule_of}
+use Rattle.pb_protocol_unfolder.specs.Faults.{BreaksRule, IsFaultOfPart, IsNameFault, IsUnfoldingFault, IsValueFault, OfMany, OfTerm, OfValue, rule_of}
 use Rattle.pb_protocol_unfolder.specs.Parts.{ByRule, InPart, IsFaultBy, IsFaultIn, IsFaultOfModel, IsOfNames, IsOfSteps, OfManyTuples}
 
 -- ---- members of lists
@@ -151,7 +151,7 @@ of-value-by r e P Q h to is = refused r e (IsFaultIn P) (IsFaultBy Q) h (value-b
 -- ---- what it says of the protocol
 
 pub names-break : (m : ProtocolForm) (P : Place → Type 0) → ((p : Place) → P p → IsNameFault m p) → (f : UnfoldingFault) → IsOfNames P f → IsUnfoldingFault m f
-names-break m P to f is = subst (λ (r : UnfoldingRule). Breaks m r f.place) (sym is.0) (to f.place is.1)
+names-break m P to f is = subst (λ (r : UnfoldingRule). BreaksRule m r f.place) (sym is.0) (to f.place is.1)
 
 -- no rule of a term is that of values
 not-value : (r : UnfoldRule) → rule.Value ≡ rule_of r → ⊥
@@ -172,7 +172,7 @@ part-breaks m f is = by f.rule refl is
     valued (inr (inl o)) = absurd (not-value o.0 o.1)
     valued (inr (inr o)) = o
 
-    by : (r : UnfoldingRule) → f.rule ≡ r → ByRule r (IsFaultOfPart m f) → Breaks m r f.place
+    by : (r : UnfoldingRule) → f.rule ≡ r → ByRule r (IsFaultOfPart m f) → BreaksRule m r f.place
     by rule.Names e is = absurd is
     by rule.Value e is = valued (subst (IsFaultOfPart m) (as-it-is f rule.Value e) is)
     by rule.Index e is = subst (IsFaultOfPart m) (as-it-is f rule.Index e) is

@@ -16,7 +16,7 @@ use Rattle.pb_protocol_tree.specs.Form.{formula_form, step_set_form}
 use Rattle.pb_protocol_meaning.specs.Erase.{erase}
 use Rattle.pb_protocol_unfolder_terms.specs.declared.scope.TermScope.{TermScope}
 use Rattle.pb_protocol_unfolder_steps.specs.declared.unfolder.Unfolder.{Unfolder}
-use Rattle.pb_protocol_unfolder_steps.specs.Unfolder.{form_in, scope_in}
+use Rattle.pb_protocol_unfolder_steps.specs.Unfolder.{form_in, scope_within}
 use Rattle.pb_protocol_unfolder.specs.declared.fault.UnfoldingFault.{UnfoldingFault}
 use Rattle.pb_protocol_unfolder.specs.Copies.{link_operators}
 use Rattle.pb_protocol_unfolder.specs.Faults.{IsFaultOfFormula, OfMany}
@@ -32,7 +32,7 @@ operators_in u scope f = left_operators u scope (formula_form f)
 
 -- of a formula, for which there is so much room, in a part of it
 abbrev pub IsFaultWithin : Unfolder → TermScope → ℕ → Formula → Formula → UnfoldingFault → Type 0
-IsFaultWithin u scope room f x p = IsFaultOfFormula (form_in u) (room < operators_in u scope f) (scope_in u scope) (formula_form x) p
+IsFaultWithin u scope room f x p = IsFaultOfFormula (form_in u) (room < operators_in u scope f) (scope_within u scope) (formula_form x) p
 
 -- it has n operators, and what is a fault of one of two parts is one of it
 pub record HasParts (u : Unfolder) (scope : TermScope) (room : ℕ) (f : Formula) (n : ℕ) (First Second : UnfoldingFault → Type 0) : Type 0 where
@@ -70,19 +70,19 @@ module _ (u : Unfolder) (scope : TermScope) (room : ℕ) (f : Formula) where
   -- a token with a set of steps, and an operand
   pub modal-parts : (x : Formula) (place : Place) (k : Modality) (A : StepSet) (b : Box Formula Global) → f ≡ tree.Modal place k A b → x ≡ box_value b
       → HasParts u scope room f (suc (name_count (left_set u scope (step_set_form A)) + operators_in u scope x))
-      (IsFaultOfModality (erase (form_in u)) IsTooLarge (scope_in u scope) place (step_set_form A)) (IsFault x)
+      (IsFaultOfModality (erase (form_in u)) IsTooLarge (scope_within u scope) place (step_set_form A)) (IsFault x)
   modal-parts x place k A b is at = record {
     counted = ap (operators_in u scope) is ∙ modal-operators u scope k place (step_set_form A) (formula_form (box_value b))
         ∙ ap (λ (g : Formula). suc (name_count (left_set u scope (step_set_form A)) + operators_in u scope g)) (sym at);
-    first = λ p fault. subst (λ (g : Formula). IsFault g p) (sym is) (fault-of-set (form_in u) IsTooLarge (scope_in u scope) p k place (step_set_form A) (formula_form (box_value b)) fault);
+    first = λ p fault. subst (λ (g : Formula). IsFault g p) (sym is) (fault-of-set (form_in u) IsTooLarge (scope_within u scope) p k place (step_set_form A) (formula_form (box_value b)) fault);
     second = λ p fault. subst (λ (g : Formula). IsFault g p) (sym is) (inr (inr (subst (λ (g : Formula). IsFault g p) at fault)));
   }
 
   -- a first operand, and links
   pub chain-parts : (x : Formula) (links : List Link) (c : Connective) (b : Box Formula Global) (v : Vec Link Global) → f ≡ tree.Chain c b v → x ≡ box_value b → links ≡ v.items
-      → HasParts u scope room f (operators_in u scope x + sum_by (link_operators u scope) links) (IsFault x) (IsFaultOfLinks (form_in u) IsTooLarge (scope_in u scope) links)
+      → HasParts u scope room f (operators_in u scope x + sum_by (link_operators u scope) links) (IsFault x) (IsFaultOfLinks (form_in u) IsTooLarge (scope_within u scope) links)
   chain-parts x links c b v is at same =
-      let up = λ (p : UnfoldingFault). fault-of-chain (form_in u) IsTooLarge (scope_in u scope) p c x b v links f is at same in
+      let up = λ (p : UnfoldingFault). fault-of-chain (form_in u) IsTooLarge (scope_within u scope) p c x b v links f is at same in
       record {
         counted = chain-formula u scope c x b v links f is at same;
         first = λ p fault. up p (inl fault);
@@ -103,10 +103,10 @@ pub first-refused : {u : Unfolder} {scope : TermScope} {room n : ℕ} {f : Formu
     (e : OrMemory UnfoldingFault) → HasParts u scope room f n (IsFaultWithin u scope room f x) Second → (left < operators_in u scope x → room < operators_in u scope f) → IsErrAnd r (λ d. d ≡ e)
     → IfFault e (IsFaultBy (IsFaultWithin u scope left x x)) → IfRefused r (IsFaultBy (IsFaultWithin u scope room f f))
 first-refused {u = u} {scope = scope} {room = room} {f = f} x left r e parts more h is =
-    part-of r e (IsFaultWithin u scope left x x) (IsFaultWithin u scope room f f) h is (λ p fault. parts.first p (fault-so (form_in u) _ _ more p (scope_in u scope) (formula_form x) fault))
+    part-of r e (IsFaultWithin u scope left x x) (IsFaultWithin u scope room f f) h is (λ p fault. parts.first p (fault-so (form_in u) _ _ more p (scope_within u scope) (formula_form x) fault))
 
 pub second-refused : {u : Unfolder} {scope : TermScope} {room n : ℕ} {f : Formula} {First : UnfoldingFault → Type 0} {A : Type 0} (x : Formula) (left : ℕ) (r : Result A (OrMemory UnfoldingFault))
     (e : OrMemory UnfoldingFault) → HasParts u scope room f n First (IsFaultWithin u scope room f x) → (left < operators_in u scope x → room < operators_in u scope f) → IsErrAnd r (λ d. d ≡ e)
     → IfFault e (IsFaultBy (IsFaultWithin u scope left x x)) → IfRefused r (IsFaultBy (IsFaultWithin u scope room f f))
 second-refused {u = u} {scope = scope} {room = room} {f = f} x left r e parts more h is =
-    part-of r e (IsFaultWithin u scope left x x) (IsFaultWithin u scope room f f) h is (λ p fault. parts.second p (fault-so (form_in u) _ _ more p (scope_in u scope) (formula_form x) fault))
+    part-of r e (IsFaultWithin u scope left x x) (IsFaultWithin u scope room f f) h is (λ p fault. parts.second p (fault-so (form_in u) _ _ more p (scope_within u scope) (formula_form x) fault))

@@ -21,7 +21,7 @@ use Rattle.pb_protocol_unfolder_steps.specs.declared.instance.Instance as declar
 use Rattle.pb_protocol_unfolder_steps.specs.declared.unfolder.Unfolder.{Unfolder}
 use Rattle.pb_protocol_unfolder_steps.specs.Elements.{instance_said}
 use Rattle.pb_protocol_unfolder_steps.specs.Steps.{is_kept}
-use Rattle.pb_protocol_unfolder_steps.specs.Unfolder.{protocol_in, scope_in}
+use Rattle.pb_protocol_unfolder_steps.specs.Unfolder.{protocol_in, scope_within}
 use Rattle.pb_protocol_unfolder.specs.Sets.{is_each}
 use Rattle.pb_protocol_unfolder.specs.Values.{is_member}
 use Rattle.pb_protocol_unfolder.specs.View.{set_link_form}
@@ -148,7 +148,7 @@ module _ (u : Unfolder) (scope : TermScope) where
       by false e = e
 
   set-named : (A : StepSetForm) → is_each A ≡ false
-      → unfolded_set (protocol_in u) (scope_in u scope) (erased_steps A)
+      → unfolded_set (protocol_in u) (scope_within u scope) (erased_steps A)
       ≡ named_steps (map instance_name (filter (λ (i : Instance). is_member u scope i A) (instances (protocol_in u))))
   set-named (StepSetForm.all p) e = absurd (cc)
   set-named (StepSetForm.step x) e = refl

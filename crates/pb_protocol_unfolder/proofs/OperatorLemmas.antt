@@ -39,7 +39,7 @@ use Rattle.pb_protocol_unfolder_terms.specs.declared.scope.TermScope as declared
 use Rattle.pb_protocol_unfolder_terms.proofs.ChainLemmas.{application-said, chain-means}
 use Rattle.pb_protocol_unfolder_terms.proofs.TermLemmas.{arithmetic-said}
 use Rattle.pb_protocol_unfolder_steps.specs.declared.unfolder.Unfolder.{Unfolder}
-use Rattle.pb_protocol_unfolder_steps.specs.Unfolder.{protocol_in, scope_in}
+use Rattle.pb_protocol_unfolder_steps.specs.Unfolder.{protocol_in, scope_within}
 use Rattle.pb_protocol_unfolder.specs.declared.formula.Copies.{Copies}
 use Rattle.pb_protocol_unfolder.specs.Copies.{copy_operators, link_operators, tuple_operators}
 use Rattle.pb_protocol_unfolder.specs.Left.{left_operators, left_set}
@@ -236,7 +236,7 @@ module _ (u : Unfolder) (scope : declared_scope.TermScope) where
       let left = is_left (unfolded m) in
       let f : TermScope → Formula = λ σ. unfolded_formula m σ (erased_formula F) in
       let ys = erased_variables xs in
-      let ρ = scope_in u scope in
+      let ρ = scope_within u scope in
       joined-counted (data_of m) left q (copies (data_of m) ys f ρ)
       ∙ ap (sum_by (λ g. suc (formula_operators (data_of m) left g))) (copies-of-tuples (data_of m) ys f ρ)
       ∙ sum-mapped (λ g. suc (formula_operators (data_of m) left g)) (λ (ks : List Term). f (standing ys (terms_of ks) ρ)) (written_tuples (data_of m) ys)

@@ -21,15 +21,15 @@ use Rattle.pb_protocol_unfolding.specs.Unfolding.{Instance, instance_name, insta
 use Rattle.pb_protocol_unfolder_steps.specs.Steps.{is_kept, step_said}
 use Rattle.pb_protocol_unfolder_steps.specs.declared.unfolder.Unfolder.{Unfolder}
 use Rattle.pb_protocol_unfolder_steps.specs.Unfolder.{protocol_in}
-use Rattle.pb_protocol_unfolder.specs.Unfolded.{chosen, chosen_one, left_property, property_said}
+use Rattle.pb_protocol_unfolder.specs.Unfolded.{chosen_instances, chosen_one, left_property, property_said}
 
 -- ---- steps that are kept
 
-pub chosen-filter : (p : Instance → Bool) (is : List Instance) → chosen is (map p is) ≡ filter p is
+pub chosen-filter : (p : Instance → Bool) (is : List Instance) → chosen_instances is (map p is) ≡ filter p is
 chosen-filter p [] = refl
 chosen-filter p (i ∷ is) = by (p i) (chosen-filter p is)
   where
-    by : (b : Bool) → chosen is (map p is) ≡ filter p is → chosen_one i b ++ chosen is (map p is) ≡ (if b then i ∷ filter p is else filter p is)
+    by : (b : Bool) → chosen_instances is (map p is) ≡ filter p is → chosen_one i b ++ chosen_instances is (map p is) ≡ (if b then i ∷ filter p is else filter p is)
     by true e = ap (λ v. i ∷ v) e
     by false e = e
 
@@ -78,12 +78,12 @@ model-said u p text steps ps same of-steps of-properties sorts ranges variables 
 pub kept-instances : (u : Unfolder) (p : declared_protocol.Protocol) (is left : List declared_instance.Instance)
     (kept : List Bool) (xs : List declared_instance.Instance) (bs : List Bool) (ys : List declared_instance.Instance)
     → protocol_in u ≡ protocol_of p → xs ≡ is → bs ≡ kept → ys ≡ is → map instance_said is ≡ instances (protocol_of p) → kept ≡ map (is_kept (protocol_in u)) (map instance_said ys)
-    → map instance_said left ≡ chosen (map instance_said xs) bs → map instance_said left ≡ filter (is_kept (protocol_in u)) (instances (protocol_in u))
+    → map instance_said left ≡ chosen_instances (map instance_said xs) bs → map instance_said left ≡ filter (is_kept (protocol_in u)) (instances (protocol_in u))
 kept-instances u p is left kept xs bs ys same at at' at'' all are chosen-are =
     let m = protocol_in u in
     let every : map instance_said is ≡ instances m = all ∙ ap instances (sym same) in
-    chosen-are ∙ ap (λ (v : List declared_instance.Instance). chosen (map instance_said v) bs) at ∙ ap (chosen (map instance_said is)) (at' ∙ are)
-    ∙ ap (λ (v : List declared_instance.Instance). chosen (map instance_said is) (map (is_kept m) (map instance_said v))) at''
+    chosen-are ∙ ap (λ (v : List declared_instance.Instance). chosen_instances (map instance_said v) bs) at ∙ ap (chosen_instances (map instance_said is)) (at' ∙ are)
+    ∙ ap (λ (v : List declared_instance.Instance). chosen_instances (map instance_said is) (map (is_kept m) (map instance_said v))) at''
     ∙ chosen-filter (is_kept m) (map instance_said is) ∙ ap (filter (is_kept m)) every
 
 pub apart-instances : (u : Unfolder) (p : declared_protocol.Protocol) (is xs : List declared_instance.Instance)

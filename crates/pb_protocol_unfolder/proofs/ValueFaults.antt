@@ -28,14 +28,14 @@ use Rattle.pb_protocol_folding.specs.Folding.{written_value}
 use Rattle.pb_protocol_meaning.specs.Steps.{data_of}
 use Rattle.pb_protocol_unfolder_terms.specs.declared.scope.TermScope as declared_scope
 use Rattle.pb_protocol_unfolder_steps.specs.declared.unfolder.Unfolder.{Unfolder}
-use Rattle.pb_protocol_unfolder_steps.specs.Unfolder.{protocol_in, scope_in}
+use Rattle.pb_protocol_unfolder_steps.specs.Unfolder.{protocol_in, scope_within}
 use Rattle.pb_protocol_unfolder.specs.declared.fault.UnfoldingFault.{UnfoldingFault}
 use Rattle.pb_protocol_unfolder.specs.Faults.{HasNoValue, IsFaultOfFormula, IsFaultOfSet, IsFaultOfValue, OfMany, meant}
 use Rattle.pb_protocol_unfolder.specs.Parts.{IsAt, IsFaultIn, IsFaultOfCopies, IsFaultOfLinks, IsFaultOfModality, IsFaultOfSets}
 use Rattle.pb_protocol_unfolder.specs.View.{link_form, set_link_form, set_operand}
 use Rattle.pb_protocol_unfolder.proofs.Chains.{chain-form, union-form}
 use Rattle.pb_protocol_unfolder.proofs.FaultLemmas.{first-or-behind, none-in}
-use Rattle.pb_protocol_unfolder.specs.Values.{named_value, valuation}
+use Rattle.pb_protocol_unfolder.specs.Values.{value_of_named, valuation}
 use Rattle.pb_protocol_unfolder.proofs.ValueLemmas.{is_nameless, nameless-value}
 
 -- ---- what a term in a set of steps says
@@ -63,19 +63,20 @@ said-so m place s t r same is = subst (λ (x : Term). IfRefused r (IsFaultIn (Is
 -- ---- what a call says of the same term, and of one without a name
 
 module _ (u : Unfolder) (scope : declared_scope.TermScope) where
-  pub alone-value : {E : Type 0} (s t : Term) (r : Result Value E) → s ≡ t → IfOk r (λ v. v ≡ named_value u scope s) → IfOk r (λ v. v ≡ named_value u scope t)
-  alone-value s t r same = IfOk-weaker r _ _ (λ v h. h ∙ ap (named_value u scope) same)
+  pub alone-value : {E : Type 0} (s t : Term) (r : Result Value E) → s ≡ t → IfOk r (λ v. v ≡ value_of_named u scope s) → IfOk r (λ v. v ≡ value_of_named u scope t)
+  alone-value s t r same = IfOk-weaker r _ _ (λ v h. h ∙ ap (value_of_named u scope) same)
 
   pub alone-refused : {A : Type 0} (place : Place) (s t : Term) (r : Result A (OrMemory UnfoldingFault)) → s ≡ t
-      → IfRefused r (IsFaultIn (IsAt place (HasNoValue (protocol_in u) (meant (scope_in u scope) s)))) → IfRefused r (IsFaultIn (IsAt place (HasNoValue (protocol_in u) (meant (scope_in u scope) t))))
-  alone-refused place s t r same = said-so (protocol_in u) place (meant (scope_in u scope) s) (meant (scope_in u scope) t) r (ap (meant (scope_in u scope)) same)
+      → IfRefused r (IsFaultIn (IsAt place (HasNoValue (protocol_in u) (meant (scope_within u scope) s))))
+      → IfRefused r (IsFaultIn (IsAt place (HasNoValue (protocol_in u) (meant (scope_within u scope) t))))
+  alone-refused place s t r same = said-so (protocol_in u) place (meant (scope_within u scope) s) (meant (scope_within u scope) t) r (ap (meant (scope_within u scope)) same)
 
-  pub plain-value : {E : Type 0} (t : Term) (r : Result Value E) → is_nameless t ≡ true → IfOk r (λ v. written_value (data_of (protocol_in u)) t ≡ Some v) → IfOk r (λ v. v ≡ named_value u scope t)
+  pub plain-value : {E : Type 0} (t : Term) (r : Result Value E) → is_nameless t ≡ true → IfOk r (λ v. written_value (data_of (protocol_in u)) t ≡ Some v) → IfOk r (λ v. v ≡ value_of_named u scope t)
   plain-value t r nameless = IfOk-weaker r _ _ (λ v h. nameless-value (data_of (protocol_in u)) (valuation u scope) t v nameless h)
 
   pub plain-refused : {A : Type 0} (place : Place) (t : Term) (r : Result A (OrMemory UnfoldingFault)) → is_nameless t ≡ true
-      → IfRefused r (IsFaultIn (IsAt place (HasNoValue (protocol_in u) t))) → IfRefused r (IsFaultIn (IsAt place (HasNoValue (protocol_in u) (meant (scope_in u scope) t))))
-  plain-refused place t r nameless = said-so (protocol_in u) place t (meant (scope_in u scope) t) r (meant-nameless (scope_in u scope) t nameless)
+      → IfRefused r (IsFaultIn (IsAt place (HasNoValue (protocol_in u) t))) → IfRefused r (IsFaultIn (IsAt place (HasNoValue (protocol_in u) (meant (scope_within u scope) t))))
+  plain-refused place t r nameless = said-so (protocol_in u) place t (meant (scope_within u scope) t) r (meant-nameless (scope_within u scope) t nameless)
 
 -- a value, or the error
 pub refused-or : {A : Type 0} (o : Option A) (e : OrMemory UnfoldingFault) (r : Result A (OrMemory UnfoldingFault))

@@ -20,7 +20,7 @@ use Rattle.pb_protocol_unfolder_terms.specs.declared.written.Written.{Written}
 use Rattle.pb_protocol_unfolder_terms.specs.Values.{tuple_of}
 use Rattle.pb_protocol_unfolder_terms.specs.View.{variable_of}
 use Rattle.pb_protocol_unfolder_steps.specs.declared.unfolder.Unfolder.{Unfolder}
-use Rattle.pb_protocol_unfolder_steps.specs.Unfolder.{protocol_in, scope_in}
+use Rattle.pb_protocol_unfolder_steps.specs.Unfolder.{protocol_in, scope_within}
 use Rattle.pb_protocol_unfolder.specs.declared.formula.Copies.{Copies}
 use Rattle.pb_protocol_unfolder.specs.Left.{left_formula, left_operators}
 use Rattle.pb_protocol_unfolder.specs.Operators.{written_operators}
@@ -33,14 +33,15 @@ tuples_in u xs = written_tuples (data_of (protocol_in u)) xs
 abbrev pub data_formula : Unfolder → TermScope → declared_term.Term → flat.Formula
 data_formula u scope x =
     folded_property_formula (unfolded (protocol_in u))
-    (unfolded_formula (protocol_in u) (scope_in u scope) (syntax.Formula.Data (term_of x)))
+    (unfolded_formula (protocol_in u) (scope_within u scope) (syntax.Formula.Data (term_of x)))
 
 -- a formula where the quantifier's variables stand for these values
 abbrev pub copy_at : Unfolder → Copies → FormulaForm → List Term → flat.Formula
 copy_at u copies f ks =
     folded_property_formula (unfolded (protocol_in u))
     (unfolded_formula (protocol_in u)
-    (standing (map variable_of copies.variables.now) (terms_of ks) (scope_in u copies.outer.now))
+    (standing (map variable_of copies.variables.now) (terms_of ks)
+    (scope_within u copies.outer.now))
     (erased_formula f))
 
 abbrev pub copy_of : Unfolder → Copies → Formula → Vec Written Global → flat.Formula
@@ -58,7 +59,7 @@ link_operators u scope link = suc (left_operators u scope (formula_form link.ope
 abbrev pub tuple_operators :
     Unfolder → TermScope → List Variable → FormulaForm → List Term → ℕ
 tuple_operators u scope xs f ks =
-    suc (written_operators (protocol_in u) (standing xs (terms_of ks) (scope_in u scope))
+    suc (written_operators (protocol_in u) (standing xs (terms_of ks) (scope_within u scope))
     (erased_formula f))
 
 abbrev pub copy_operators : Unfolder → Copies → Formula → Vec Written Global → ℕ

@@ -172,8 +172,8 @@ IsFaultOfPart m fault =
     ⊎ (OfTerm (IsFaultAtStart m) fault ⊎ IsFaultOfProperties m m.properties fault)
 
 -- an index there is outside
-abbrev pub IsIndexFault : ProtocolForm → Place → Type 0
-IsIndexFault m p = IsFaultOfPart m (record { rule = rule.Index; place = p })
+abbrev pub IsIndexFaultOf : ProtocolForm → Place → Type 0
+IsIndexFaultOf m p = IsFaultOfPart m (record { rule = rule.Index; place = p })
 
 -- something there, as it is unfolded, is too large
 abbrev pub IsSizeFaultOfPart : ProtocolForm → Place → Type 0
@@ -181,13 +181,13 @@ IsSizeFaultOfPart m p = IsFaultOfPart m (record { rule = rule.Operators; place =
 
 -- ---- faults
 
-abbrev pub Breaks : ProtocolForm → UnfoldingRule → Place → Type 0
-Breaks m rule.Names p = IsNameFault m p
-Breaks m rule.Value p = IsValueFault m p
-Breaks m rule.Index p = IsIndexFault m p
-Breaks m rule.Count p = IsCountFault m p
-Breaks m rule.Operators p = IsSizeFaultOfPart m p
+abbrev pub BreaksRule : ProtocolForm → UnfoldingRule → Place → Type 0
+BreaksRule m rule.Names p = IsNameFault m p
+BreaksRule m rule.Value p = IsValueFault m p
+BreaksRule m rule.Index p = IsIndexFaultOf m p
+BreaksRule m rule.Count p = IsCountFault m p
+BreaksRule m rule.Operators p = IsSizeFaultOfPart m p
 
 -- what the fault says of the protocol
 abbrev pub IsUnfoldingFault : ProtocolForm → UnfoldingFault → Type 0
-IsUnfoldingFault m fault = Breaks m fault.rule fault.place
+IsUnfoldingFault m fault = BreaksRule m fault.rule fault.place

@@ -13,7 +13,7 @@ use Rattle.pb_protocol_unfolder_steps.specs.declared.instance.Instance as declar
 use Rattle.pb_protocol_unfolder_steps.specs.declared.unfolder.Unfolder.{Unfolder}
 use Rattle.pb_protocol_unfolder_steps.specs.Elements.{instance_said}
 use Rattle.pb_protocol_unfolder_steps.specs.Steps.{is_kept}
-use Rattle.pb_protocol_unfolder_steps.specs.Unfolder.{IsUnfolder, protocol_in, scope_in}
+use Rattle.pb_protocol_unfolder_steps.specs.Unfolder.{IsUnfolder, protocol_in, scope_within}
 use Rattle.pb_protocol_unfolder.specs.declared.formula.Formulas.{Formulas}
 use Rattle.pb_protocol_unfolder.specs.Operators.{written_operators}
 use Rattle.pb_protocol_unfolder.specs.Values.{is_member}
@@ -38,14 +38,15 @@ member_names u scope A is = flat_map (member_name u scope A) is
 abbrev pub left_set : Unfolder → TermScope → StepSetForm → flat.StepSet
 left_set u scope A =
     folded_set (is_left (unfolded (protocol_in u)))
-    (unfolded_set (protocol_in u) (scope_in u scope) (erased_steps A))
+    (unfolded_set (protocol_in u) (scope_within u scope) (erased_steps A))
 
 -- a formula, unfolded and folded
 abbrev pub left_formula : Unfolder → TermScope → FormulaForm → flat.Formula
 left_formula u scope f =
     folded_property_formula (unfolded (protocol_in u))
-    (unfolded_formula (protocol_in u) (scope_in u scope) (erased_formula f))
+    (unfolded_formula (protocol_in u) (scope_within u scope) (erased_formula f))
 
 -- how many operators a formula has as it is written out
 abbrev pub left_operators : Unfolder → TermScope → FormulaForm → ℕ
-left_operators u scope f = written_operators (protocol_in u) (scope_in u scope) (erased_formula f)
+left_operators u scope f =
+    written_operators (protocol_in u) (scope_within u scope) (erased_formula f)

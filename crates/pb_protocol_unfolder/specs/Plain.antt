@@ -10,55 +10,56 @@ use Rattle.pb_protocol_tree.specs.Form.{DefinitionForm, PropertyForm, ProtocolFo
 
 -- ---- a flat model as a protocol, word for word
 
-abbrev pub plain_variable : VariableForm → StateVariableForm
-plain_variable x = record { name = x.name; indices = []; sort = x.sort }
+abbrev pub plain_variable_form : VariableForm → StateVariableForm
+plain_variable_form x = record { name = x.name; indices = []; sort = x.sort }
 
-abbrev pub plain_assignment : flat.AssignmentForm → AssignmentForm
-plain_assignment a = record {
+abbrev pub plain_assignment_form : flat.AssignmentForm → AssignmentForm
+plain_assignment_form a = record {
   variable = a.variable;
   index = no_arguments;
   place = a.place;
   value = a.value;
 }
 
-abbrev pub plain_step : flat.StepForm → StepForm
-plain_step a = record {
+abbrev pub plain_step_form : flat.StepForm → StepForm
+plain_step_form a = record {
   name = a.name;
   variables = a.variables;
   guard = a.guard;
-  assignments = map plain_assignment a.assignments;
+  assignments = map plain_assignment_form a.assignments;
 }
 
-abbrev pub plain_set : flat.StepSetForm → StepSetForm
-plain_set (flat.StepSetForm.all p) = StepSetForm.all p
-plain_set (flat.StepSetForm.step x) = StepSetForm.step x
-plain_set (flat.StepSetForm.complement p A) = StepSetForm.complement p (plain_set A)
-plain_set (flat.StepSetForm.union p A B) = StepSetForm.union p (plain_set A) (plain_set B)
+abbrev pub plain_set_form : flat.StepSetForm → StepSetForm
+plain_set_form (flat.StepSetForm.all p) = StepSetForm.all p
+plain_set_form (flat.StepSetForm.step x) = StepSetForm.step x
+plain_set_form (flat.StepSetForm.complement p A) = StepSetForm.complement p (plain_set_form A)
+plain_set_form (flat.StepSetForm.union p A B) =
+    StepSetForm.union p (plain_set_form A) (plain_set_form B)
 
-abbrev pub plain_formula : flat.FormulaForm → FormulaForm
-plain_formula (flat.FormulaForm.constant p b) = FormulaForm.constant p b
-plain_formula (flat.FormulaForm.«data» p x) = FormulaForm.«data» p x
-plain_formula (flat.FormulaForm.variable x) = FormulaForm.variable x
-plain_formula (flat.FormulaForm.negation p f) = FormulaForm.negation p (plain_formula f)
-plain_formula (flat.FormulaForm.connected c p f g) =
-    FormulaForm.connected c p (plain_formula f) (plain_formula g)
-plain_formula (flat.FormulaForm.modal k p A f) =
-    FormulaForm.modal k p (plain_set A) (plain_formula f)
-plain_formula (flat.FormulaForm.fixpoint sign p x f) =
-    FormulaForm.fixpoint sign p x (plain_formula f)
+abbrev pub plain_formula_form : flat.FormulaForm → FormulaForm
+plain_formula_form (flat.FormulaForm.constant p b) = FormulaForm.constant p b
+plain_formula_form (flat.FormulaForm.«data» p x) = FormulaForm.«data» p x
+plain_formula_form (flat.FormulaForm.variable x) = FormulaForm.variable x
+plain_formula_form (flat.FormulaForm.negation p f) = FormulaForm.negation p (plain_formula_form f)
+plain_formula_form (flat.FormulaForm.connected c p f g) =
+    FormulaForm.connected c p (plain_formula_form f) (plain_formula_form g)
+plain_formula_form (flat.FormulaForm.modal k p A f) =
+    FormulaForm.modal k p (plain_set_form A) (plain_formula_form f)
+plain_formula_form (flat.FormulaForm.fixpoint sign p x f) =
+    FormulaForm.fixpoint sign p x (plain_formula_form f)
 
-abbrev pub plain_property : flat.PropertyForm → PropertyForm
-plain_property p = record { name = p.name; formula = plain_formula p.formula }
+abbrev pub plain_property_form : flat.PropertyForm → PropertyForm
+plain_property_form p = record { name = p.name; formula = plain_formula_form p.formula }
 
 abbrev pub plain_form : flat.ModelForm → ProtocolForm
 plain_form m = record {
   sorts = m.sorts;
   ranges = m.ranges;
-  variables = map plain_variable m.variables;
+  variables = map plain_variable_form m.variables;
   definitions = [];
-  steps = map plain_step m.steps;
+  steps = map plain_step_form m.steps;
   initial = m.initial;
-  properties = map plain_property m.properties;
+  properties = map plain_property_form m.properties;
 }
 
 -- ---- a protocol without what flat models don't have
@@ -69,8 +70,8 @@ flat_variable x = record { name = x.name; sort = x.sort }
 abbrev pub flat_assignment : AssignmentForm → flat.AssignmentForm
 flat_assignment a = record { variable = a.variable; place = a.place; value = a.value }
 
-abbrev pub flat_step : StepForm → flat.StepForm
-flat_step a = record {
+abbrev pub flat_step_form : StepForm → flat.StepForm
+flat_step_form a = record {
   name = a.name;
   variables = a.variables;
   guard = a.guard;
@@ -84,27 +85,28 @@ flat_set (StepSetForm.instances x values) = flat.StepSetForm.step x
 flat_set (StepSetForm.complement p A) = flat.StepSetForm.complement p (flat_set A)
 flat_set (StepSetForm.union p A B) = flat.StepSetForm.union p (flat_set A) (flat_set B)
 
-abbrev pub flat_formula : FormulaForm → flat.FormulaForm
-flat_formula (FormulaForm.constant p b) = flat.FormulaForm.constant p b
-flat_formula (FormulaForm.«data» p x) = flat.FormulaForm.«data» p x
-flat_formula (FormulaForm.variable x) = flat.FormulaForm.variable x
-flat_formula (FormulaForm.negation p f) = flat.FormulaForm.negation p (flat_formula f)
-flat_formula (FormulaForm.connected c p f g) =
-    flat.FormulaForm.connected c p (flat_formula f) (flat_formula g)
-flat_formula (FormulaForm.modal k p A f) = flat.FormulaForm.modal k p (flat_set A) (flat_formula f)
-flat_formula (FormulaForm.fixpoint sign p x f) =
-    flat.FormulaForm.fixpoint sign p x (flat_formula f)
-flat_formula (FormulaForm.quantified q p xs f) = flat_formula f
+abbrev pub flat_formula_form : FormulaForm → flat.FormulaForm
+flat_formula_form (FormulaForm.constant p b) = flat.FormulaForm.constant p b
+flat_formula_form (FormulaForm.«data» p x) = flat.FormulaForm.«data» p x
+flat_formula_form (FormulaForm.variable x) = flat.FormulaForm.variable x
+flat_formula_form (FormulaForm.negation p f) = flat.FormulaForm.negation p (flat_formula_form f)
+flat_formula_form (FormulaForm.connected c p f g) =
+    flat.FormulaForm.connected c p (flat_formula_form f) (flat_formula_form g)
+flat_formula_form (FormulaForm.modal k p A f) =
+    flat.FormulaForm.modal k p (flat_set A) (flat_formula_form f)
+flat_formula_form (FormulaForm.fixpoint sign p x f) =
+    flat.FormulaForm.fixpoint sign p x (flat_formula_form f)
+flat_formula_form (FormulaForm.quantified q p xs f) = flat_formula_form f
 
 abbrev pub flat_property : PropertyForm → flat.PropertyForm
-flat_property p = record { name = p.name; formula = flat_formula p.formula }
+flat_property p = record { name = p.name; formula = flat_formula_form p.formula }
 
 abbrev pub flat_form : ProtocolForm → flat.ModelForm
 flat_form m = record {
   sorts = m.sorts;
   ranges = m.ranges;
   variables = map flat_variable m.variables;
-  steps = map flat_step m.steps;
+  steps = map flat_step_form m.steps;
   initial = m.initial;
   properties = map flat_property m.properties;
 }
@@ -173,8 +175,8 @@ abbrev pub has_no_definitions : List DefinitionForm → Bool
 has_no_definitions [] = true
 has_no_definitions (d ∷ ds) = false
 
-abbrev pub is_plain : ProtocolForm → Bool
-is_plain m =
+abbrev pub is_plain_protocol : ProtocolForm → Bool
+is_plain_protocol m =
     list_all is_plain_variable m.variables && has_no_definitions m.definitions
     && list_all is_plain_step m.steps && are_plain_arguments m.initial.values
     && list_all is_plain_property m.properties

@@ -37,7 +37,7 @@ chosen_one i true = i ∷ []
 chosen_one i false = []
 
 -- those beside which `true` stands
-abbrev pub chosen : List Instance → List Bool → List Instance
-chosen [] bs = []
-chosen (i ∷ is) [] = []
-chosen (i ∷ is) (b ∷ bs) = chosen_one i b ++ chosen is bs
+abbrev pub chosen_instances : List Instance → List Bool → List Instance
+chosen_instances [] bs = []
+chosen_instances (i ∷ is) [] = []
+chosen_instances (i ∷ is) (b ∷ bs) = chosen_one i b ++ chosen_instances is bs

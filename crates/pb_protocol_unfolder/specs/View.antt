@@ -13,7 +13,7 @@ use Rattle.pb_protocol_tree.specs.declared.step_set.StepSetLink.{StepSetLink}
 use Rattle.pb_protocol_tree.specs.declared.protocol.StateVariable.{StateVariable}
 use Rattle.pb_protocol_tree.specs.declared.protocol.StateVariables.{StateVariables}
 use Rattle.pb_protocol_tree.specs.Form.{FormulaForm, StepSetForm, formula_form, step_set_form}
-use Rattle.pb_protocol_unfolder.specs.Plain.{flat_formula, flat_set, has_no_variables}
+use Rattle.pb_protocol_unfolder.specs.Plain.{flat_formula_form, flat_set, has_no_variables}
 
 abbrev pub link_form : Link → Place × FormulaForm
 link_form link = (link.place, formula_form link.operand)
@@ -22,7 +22,7 @@ abbrev pub flat_link : flat_formula_link.Link → Place × flat.FormulaForm
 flat_link link = (link.place, flat.formula_form link.operand)
 
 abbrev pub linked : Place × FormulaForm → Place × flat.FormulaForm
-linked link = (link.0, flat_formula link.1)
+linked link = (link.0, flat_formula_form link.1)
 
 abbrev pub set_link_form : StepSetLink → Place × StepSetForm
 set_link_form link = (link.place, step_set_form link.operand)

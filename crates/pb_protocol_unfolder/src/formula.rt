@@ -11,7 +11,7 @@ ghost use Rattle.pb_protocol_folding.specs.Places.{AreAmong, places_of};
 ghost use Rattle.pb_protocol_folding.specs.View.{formula_of};
 ghost use Rattle.pb_protocol_unfolder_terms.specs.View.{spec_of, variable_of};
 ghost use Rattle.pb_protocol_unfolder_terms.specs.Values.{tuple_of};
-ghost use Rattle.pb_protocol_unfolder_steps.specs.Unfolder.{form_in, protocol_in, scope_in};
+ghost use Rattle.pb_protocol_unfolder_steps.specs.Unfolder.{form_in, protocol_in, scope_within};
 ghost use Rattle.pb_protocol_unfolder.specs.Copies.{copy_of, copy_operators, data_formula, left_operand};
 ghost use Rattle.pb_protocol_unfolder.specs.Copies.{link_operators, tuples_in};
 ghost use Rattle.pb_protocol_unfolder.specs.Faults.{IsFaultOfFormula};
@@ -79,7 +79,7 @@ fn unfold_data(
         (IsFaultBy (IsFaultOfFormula (form_in formulas.now.unfolder.now)
         (room.old.operators < left_operators formulas.now.unfolder.now scope.now
         (FormulaForm.«data» place (term_form term.now)))
-        (scope_in formulas.now.unfolder.now scope.now)
+        (scope_within formulas.now.unfolder.now scope.now)
         (FormulaForm.«data» place (term_form term.now)))) }
 {
     match formulas.unfolder.unfold(scope, true, term) {
@@ -135,7 +135,7 @@ fn unfold_copies<'a>(
         (room.old.operators
         < sum_by (copy_operators formulas.now.unfolder.now copies.now (box_value body.now))
         copies.now.tuples.now)
-        (scope_in formulas.now.unfolder.now copies.now.outer.now) copies.now.place
+        (scope_within formulas.now.unfolder.now copies.now.outer.now) copies.now.place
         (map variable_of copies.now.variables.now) (map tuple_of copies.now.tuples.now)
         (formula_form (box_value body.now)))) }
 {
@@ -172,7 +172,7 @@ fn unfold_links<'a>(
         (IsFaultBy (IsFaultOfLinks (form_in formulas.now.unfolder.now)
         (room.old.operators
         < sum_by (link_operators formulas.now.unfolder.now scope.now) links.now)
-        (scope_in formulas.now.unfolder.now scope.now) links.now)) }
+        (scope_within formulas.now.unfolder.now scope.now) links.now)) }
 {
     let mut flat_links = Vec::new(formulas.unfolder.alloc);
     for link in links {
@@ -203,7 +203,7 @@ pub(crate) fn unfold_formula<'a>(
         (IsFaultBy (IsFaultOfFormula (form_in formulas.now.unfolder.now)
         (room.old.operators
         < left_operators formulas.now.unfolder.now scope.now (formula_form formula.now))
-        (scope_in formulas.now.unfolder.now scope.now) (formula_form formula.now))) }
+        (scope_within formulas.now.unfolder.now scope.now) (formula_form formula.now))) }
 {
     let alloc = formulas.unfolder.alloc;
     match formula {

@@ -2,7 +2,7 @@
 
 ghost use Rattle.std.specs.Prelude.{◌≡◌, ◌++◌, map, IfOk, OnOk};
 ghost use Rattle.pb_protocol_unfolder_steps.specs.Elements.{instance_said};
-ghost use Rattle.pb_protocol_unfolder.specs.Unfolded.{chosen, chosen_one};
+ghost use Rattle.pb_protocol_unfolder.specs.Unfolded.{chosen_instances, chosen_one};
 
 use pb_protocol_unfolder_steps::Instance;
 use pb_protocol_unfolder_terms::Written;
@@ -51,7 +51,7 @@ pub(crate) fn left_instances<'a>(
     kept: &[bool],
 ) -> Result<Vec<Instance<'a>>, AllocError>
     ensures { IfOk result (λ v. map instance_said v.items
-        ≡ chosen (map instance_said instances.now) kept.now) }
+        ≡ chosen_instances (map instance_said instances.now) kept.now) }
 {
     let mut left = Vec::new(alloc);
     for place in 0..instances.len().min(kept.len()) {

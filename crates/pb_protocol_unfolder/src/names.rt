@@ -4,7 +4,7 @@ ghost use Rattle.std.specs.Prelude.{◌≡◌, map, IfOk, OnOk};
 ghost use Rattle.pb_base.specs.OrMemory.{IfRefused};
 ghost use Rattle.pb_protocol_folding.specs.Names.{AreDistinct, AreNot, enumerators_in};
 ghost use Rattle.pb_protocol_unfolding.specs.Unfolding as definitions;
-ghost use Rattle.pb_protocol_unfolder_steps.specs.Elements.{element_said, instance_said};
+ghost use Rattle.pb_protocol_unfolder_steps.specs.Elements.{flat_element, instance_said};
 ghost use Rattle.pb_protocol_unfolder_steps.specs.Refusals.{element_place, instance_place};
 ghost use Rattle.pb_protocol_unfolder.specs.Apart.{declarations_said, name_bytes};
 ghost use Rattle.pb_protocol_unfolder.specs.Parts.{IsFaultOfElements, IsFaultOfInstances};
@@ -19,7 +19,7 @@ use std::alloc::{AllocError, Global};
 /// The names of elements in a flat model.
 fn element_names(alloc: Global, elements: &[Element<'_>]) -> Result<Vec<Name>, AllocError>
     ensures { IfOk result (λ v. map name_bytes v.items
-        ≡ map definitions.name_of (map element_said elements.now)) }
+        ≡ map definitions.name_of (map flat_element elements.now)) }
 {
     let mut names = Vec::new(alloc);
     for element in elements {
@@ -48,12 +48,12 @@ pub(crate) fn check_elements(
     elements: &[Element<'_>],
 ) -> Result<(), UnfoldingError>
     ensures distinct { OnOk result
-        (AreDistinct (map definitions.name_of (map element_said elements.now))) }
+        (AreDistinct (map definitions.name_of (map flat_element elements.now))) }
     ensures untaken { OnOk result (AreNot (enumerators_in (declarations_said declarations.now))
-        (map definitions.name_of (map element_said elements.now))) }
+        (map definitions.name_of (map flat_element elements.now))) }
     ensures refused { IfRefused result
         (IsFaultOfElements (enumerators_in (declarations_said declarations.now))
-        (map definitions.name_of (map element_said elements.now))
+        (map definitions.name_of (map flat_element elements.now))
         (map element_place elements.now)) }
 {
     let names = element_names(alloc, elements)?;

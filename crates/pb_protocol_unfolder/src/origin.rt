@@ -1,7 +1,7 @@
 //! Where the variables and steps of a flat model come from, as users are told.
 
 ghost use Rattle.std.specs.Prelude.{◌≡◌, map, IfOk, string_bytes};
-ghost use Rattle.pb_protocol_unfolder_steps.specs.Elements.{element_said, instance_said};
+ghost use Rattle.pb_protocol_unfolder_steps.specs.Elements.{flat_element, instance_said};
 ghost use Rattle.pb_protocol_unfolder.specs.Origins.{origin_name};
 ghost use Rattle.pb_protocol_unfolder.specs.Told.{told_element, told_instance};
 
@@ -20,7 +20,7 @@ pub struct StepOrigin {
 
 /// The name by which users are told of an element.
 fn told_element(alloc: Global, element: &Element<'_>) -> Result<String, AllocError>
-    ensures { IfOk result (λ text. string_bytes text ≡ told_element (element_said element.now)) }
+    ensures { IfOk result (λ text. string_bytes text ≡ told_element (flat_element element.now)) }
 {
     told_name(alloc, element.name.text.as_str(), &element.index)
 }
@@ -31,7 +31,7 @@ pub(crate) fn told_elements(
     elements: &[Element<'_>],
 ) -> Result<Vec<String>, AllocError>
     ensures { IfOk result (λ v. map string_bytes v.items
-        ≡ map told_element (map element_said elements.now)) }
+        ≡ map told_element (map flat_element elements.now)) }
 {
     let mut names = Vec::new(alloc);
     for element in elements {

@@ -9,8 +9,8 @@ ghost use Rattle.pb_protocol_tree.specs.Form.{step_form};
 ghost use Rattle.pb_protocol_meaning.specs.Erase.{protocol_of};
 ghost use Rattle.pb_model_meaning.specs.Erase.{model_of};
 ghost use Rattle.pb_protocol_unfolding.specs.Plain.{plain};
-ghost use Rattle.pb_protocol_unfolder.specs.Plain.{flat_form, flat_property, flat_step, flat_variable};
-ghost use Rattle.pb_protocol_unfolder.specs.Plain.{is_plain, plain_form};
+ghost use Rattle.pb_protocol_unfolder.specs.Plain.{flat_form, flat_property, flat_step_form, flat_variable};
+ghost use Rattle.pb_protocol_unfolder.specs.Plain.{is_plain_protocol, plain_form};
 
 use crate::plain_formula::flat_formula;
 use crate::plain_step::{flat_step, flat_variables};
@@ -35,7 +35,7 @@ fn flat_state(alloc: Global, groups: Vec<StateVariables>) -> Result<Vec<Variable
 /// Steps of named variables.
 fn flat_steps(alloc: Global, steps: Vec<Step>) -> Result<Vec<flat::Step>, AllocError>
     ensures { IfOk result (λ v. map flat.step_form v.items
-        ≡ map flat_step (map step_form steps.items)) }
+        ≡ map flat_step_form (map step_form steps.items)) }
 {
     let mut flat_steps = Vec::new(alloc);
     for step in steps {
@@ -86,7 +86,7 @@ fn flat_model(alloc: Global, protocol: Protocol) -> Result<Model, AllocError>
 /// # Errors
 /// Memory was refused.
 pub fn plain_model(alloc: Global, protocol: Protocol) -> Result<Model, AllocError>
-    requires { is_plain (protocol_form protocol) ≡ true }
+    requires { is_plain_protocol (protocol_form protocol) ≡ true }
     ensures words { IfOk result (λ m. protocol_form protocol ≡ plain_form (flat.model_form m)) }
     ensures meaning { IfOk result (λ m. protocol_of protocol ≡ plain (model_of m)) }
 {

@@ -4,7 +4,7 @@
 ghost use Rattle.std.specs.Prelude.{◌≡◌, map, IfOk, box_value};
 ghost use Rattle.pb_model_tree.specs.Form as flat;
 ghost use Rattle.pb_protocol_tree.specs.Form.{formula_form, step_set_form};
-ghost use Rattle.pb_protocol_unfolder.specs.Plain.{flat_formula, flat_set};
+ghost use Rattle.pb_protocol_unfolder.specs.Plain.{flat_formula_form, flat_set};
 ghost use Rattle.pb_protocol_unfolder.specs.View.{flat_link, flat_set_link, link_form, set_link_form};
 ghost use Rattle.pb_protocol_unfolder.specs.View.{linked, set_linked};
 
@@ -82,7 +82,7 @@ fn flat_boxed_formula(
     formula: Box<Formula>,
 ) -> Result<Box<flat::Formula>, AllocError>
     ensures { IfOk result (λ f. flat.formula_form (box_value f)
-        ≡ flat_formula (formula_form (box_value formula))) }
+        ≡ flat_formula_form (formula_form (box_value formula))) }
 {
     let formula = flat_formula(alloc, Box::into_inner(formula))?;
     Ok(Box::new(alloc, formula)?)
@@ -91,7 +91,7 @@ fn flat_boxed_formula(
 /// A formula without quantifiers over formulas.
 #[cycle(flat_formulas)]
 pub(crate) fn flat_formula(alloc: Global, formula: Formula) -> Result<flat::Formula, AllocError>
-    ensures { IfOk result (λ f. flat.formula_form f ≡ flat_formula (formula_form formula)) }
+    ensures { IfOk result (λ f. flat.formula_form f ≡ flat_formula_form (formula_form formula)) }
 {
     match formula {
         Formula::Constant { place, value } => Ok(flat::Formula::Constant { place, value }),

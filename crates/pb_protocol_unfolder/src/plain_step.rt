@@ -5,7 +5,7 @@ ghost use Rattle.std.specs.Prelude.{◌≡◌, map, IfOk};
 ghost use Rattle.pb_text_tree.specs.Form.{named, variables_form};
 ghost use Rattle.pb_model_tree.specs.Form as flat;
 ghost use Rattle.pb_protocol_tree.specs.Form.{assignment_form, state_variables_form, step_form};
-ghost use Rattle.pb_protocol_unfolder.specs.Plain.{flat_assignment, flat_step, flat_variable};
+ghost use Rattle.pb_protocol_unfolder.specs.Plain.{flat_assignment, flat_step_form, flat_variable};
 ghost use Rattle.pb_protocol_unfolder.specs.View.{variable_name};
 
 use pb_model_tree as flat;
@@ -56,7 +56,7 @@ fn flat_assignments(
 
 /// A step of named variables.
 pub(crate) fn flat_step(alloc: Global, step: Step) -> Result<flat::Step, AllocError>
-    ensures { IfOk result (λ a. flat.step_form a ≡ flat_step (step_form step)) }
+    ensures { IfOk result (λ a. flat.step_form a ≡ flat_step_form (step_form step)) }
 {
     let assignments = flat_assignments(alloc, step.assignments)?;
     Ok(flat::Step {

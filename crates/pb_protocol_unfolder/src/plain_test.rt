@@ -197,7 +197,7 @@ fn has_no_definitions(definitions: &[Definition]) -> bool
 /// Whether nothing in a protocol is unfolded: no array, no definition, no value in a set of steps,
 /// and no quantifier in data or over formulas.
 pub fn is_plain(protocol: &Protocol) -> bool
-    ensures { result ≡ plain.is_plain (protocol_form protocol.now) }
+    ensures { result ≡ plain.is_plain_protocol (protocol_form protocol.now) }
 {
     is_plain_state(&protocol.state)
         && has_no_definitions(&protocol.definitions)

@@ -13,11 +13,11 @@ ghost use Rattle.pb_protocol_meaning.specs.Erase.{protocol_of};
 ghost use Rattle.pb_protocol_meaning.specs.Steps.{data_of};
 ghost use Rattle.pb_protocol_unfolding.specs.Hygiene.{HidesNothing};
 ghost use Rattle.pb_protocol_unfolding.specs.Unfolding as definitions;
-ghost use Rattle.pb_protocol_unfolder_steps.specs.Elements.{element_said, instance_said};
+ghost use Rattle.pb_protocol_unfolder_steps.specs.Elements.{flat_element, instance_said};
 ghost use Rattle.pb_protocol_unfolder_steps.specs.Steps.{is_kept, places_from, step_place, step_said};
 ghost use Rattle.pb_protocol_unfolder_steps.specs.Unfolder.{IsUnfolder, form_in, protocol_in};
 ghost use Rattle.pb_protocol_unfolder_steps.specs.StepFaults.{IsFaultAtStart, IsFaultInSteps};
-ghost use Rattle.pb_protocol_unfolder_steps.specs.StepFaults.{instance_form, placed_instances};
+ghost use Rattle.pb_protocol_unfolder_steps.specs.StepFaults.{placed_instance, placed_instances};
 ghost use Rattle.pb_protocol_unfolder_steps.specs.Refusals.{element_place, element_places};
 ghost use Rattle.pb_protocol_unfolder_steps.specs.Refusals.{instance_place, instance_places};
 ghost use Rattle.pb_protocol_unfolder.specs.Faults.{IsUnfoldingFault, OfTerm};
@@ -47,7 +47,7 @@ use pb_text_tree::{Argument, copy_declarations, copy_ranges};
 use std::alloc::Global;
 
 fn elements_of(alloc: Global, protocol: &Protocol) -> Result<Vec<Element<'_>>, UnfoldingError>
-    ensures elements { IfOk result (λ v. map element_said v.items
+    ensures elements { IfOk result (λ v. map flat_element v.items
         ≡ definitions.all_elements (protocol_of protocol.now)) }
     ensures places { IfOk result
         (λ v. map element_place v.items ≡ element_places (protocol_form protocol.now)) }
@@ -66,7 +66,7 @@ fn instances_of(alloc: Global, protocol: &Protocol) -> Result<Vec<Instance<'_>>,
     ensures places { IfOk result
         (λ v. map instance_place v.items ≡ instance_places (protocol_form protocol.now)) }
     ensures forms { IfOk result
-        (λ v. map instance_form v.items ≡ placed_instances (protocol_form protocol.now)) }
+        (λ v. map placed_instance v.items ≡ placed_instances (protocol_form protocol.now)) }
     ensures few { IfOk result (λ v. length v.items ≤ MAX_WRITTEN_STEPS) }
     ensures refused { IfRefused result (IsUnfoldingFault (protocol_form protocol.now)) }
 {
@@ -95,7 +95,7 @@ fn steps_of(
     instances: &[Instance<'_>],
 ) -> Result<UnfoldedSteps, UnfoldingError>
     requires unfolder { IsUnfolder unfolder.now }
-    requires elements { map element_said elements.now
+    requires elements { map flat_element elements.now
         ≡ definitions.all_elements (protocol_in unfolder.now) }
     requires few { length instances.now ≤ MAX_WRITTEN_STEPS }
     ensures steps { IfOk result (λ u. map step_said u.steps.items
@@ -107,7 +107,7 @@ fn steps_of(
     ensures places { IfOk result (λ u. map step_place u.steps.items
         ≡ places_from 0 (length u.steps.items)) }
     ensures refused { IfRefused result (IsFaultBy (OfTerm
-        (IsFaultInSteps (form_in unfolder.now) (map instance_form instances.now)))) }
+        (IsFaultInSteps (form_in unfolder.now) (map placed_instance instances.now)))) }
 {
     match unfold_steps(unfolder, elements, instances) {
         Ok(steps) => Ok(steps),
@@ -138,7 +138,7 @@ fn flat_model(
 ) -> Result<Model, UnfoldingError>
     requires protocol { protocol_in unfolder.now ≡ protocol_of protocol.now }
     requires left { AreLeft unfolder.now left.now }
-    requires elements { map element_said elements.now
+    requires elements { map flat_element elements.now
         ≡ definitions.all_elements (protocol_in unfolder.now) }
     requires few { length elements.now ≤ MAX_ELEMENTS }
     requires steps { map step_said steps.items

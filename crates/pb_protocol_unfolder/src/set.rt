@@ -7,7 +7,7 @@ ghost use Rattle.pb_protocol_tree.specs.Form.{step_set_form, step_value_form};
 ghost use Rattle.pb_protocol_meaning.specs.Erase.{erased_steps, erased_value};
 ghost use Rattle.pb_protocol_unfolder_terms.specs.Values.{written_term};
 ghost use Rattle.pb_protocol_unfolder_steps.specs.Elements.{instance_said};
-ghost use Rattle.pb_protocol_unfolder_steps.specs.Unfolder.{protocol_in, scope_in};
+ghost use Rattle.pb_protocol_unfolder_steps.specs.Unfolder.{protocol_in, scope_within};
 ghost use Rattle.pb_protocol_unfolder.specs.Faults.{IsFaultOfSet, IsFaultOfValue, IsFaultOfValues};
 ghost use Rattle.pb_protocol_unfolder.specs.Parts.{HasValues, IsFaultIn, IsFaultOfSets};
 ghost use Rattle.pb_protocol_unfolder.specs.Values.{are_values, is_member, is_value};
@@ -30,7 +30,7 @@ fn is_value(
     ensures value { IfOk result (λ is. is ≡ is_value unfolder.now scope.now
         (erased_value (step_value_form named.now)) (written_term own.entry)) }
     ensures refused { IfRefused result (IsFaultIn (IsFaultOfValue (protocol_in unfolder.now)
-        (scope_in unfolder.now scope.now) (written_term own.entry ∷ [])
+        (scope_within unfolder.now scope.now) (written_term own.entry ∷ [])
         (step_value_form named.now))) }
 {
     match named {
@@ -54,7 +54,7 @@ fn are_values(
     ensures values { IfOk result (λ are. are ≡ are_values unfolder.now scope.now
         (map erased_value (map step_value_form named.now)) (map written_term own.now)) }
     ensures refused { IfRefused result (IsFaultIn (IsFaultOfValues (protocol_in unfolder.now)
-        (scope_in unfolder.now scope.now) (map written_term own.now)
+        (scope_within unfolder.now scope.now) (map written_term own.now)
         (map step_value_form named.now))) }
 {
     for place in 0..named.len().min(own.len()) {
@@ -77,7 +77,7 @@ fn is_in_some(
         (is_member unfolder.now scope.now (instance_said instance.now))
         (map set_operand links.now)) }
     ensures refused { IfRefused result (IsFaultIn (IsFaultOfSets (protocol_in unfolder.now)
-        (scope_in unfolder.now scope.now) (instance_said instance.now).own
+        (scope_within unfolder.now scope.now) (instance_said instance.now).own
         (map set_operand links.now))) }
 {
     for link in links {
@@ -100,7 +100,7 @@ pub(crate) fn is_in_set(
     ensures member { IfOk result (λ is. is ≡ is_member unfolder.now scope.now
         (instance_said instance.now) (step_set_form set.now)) }
     ensures refused { IfRefused result (IsFaultIn (IsFaultOfSet (protocol_in unfolder.now)
-        (scope_in unfolder.now scope.now) (instance_said instance.now).own
+        (scope_within unfolder.now scope.now) (instance_said instance.now).own
         (step_set_form set.now))) }
 {
     match set {

@@ -6,7 +6,7 @@ ghost use Rattle.pb_base.specs.OrMemory.{IfRefused};
 ghost use Rattle.pb_protocol_folding.specs.View.{set_of};
 ghost use Rattle.pb_protocol_tree.specs.Form.{step_set_form};
 ghost use Rattle.pb_protocol_unfolder_steps.specs.Elements.{instance_said};
-ghost use Rattle.pb_protocol_unfolder_steps.specs.Unfolder.{protocol_in, scope_in};
+ghost use Rattle.pb_protocol_unfolder_steps.specs.Unfolder.{protocol_in, scope_within};
 ghost use Rattle.pb_protocol_unfolder.specs.Apart.{name_bytes};
 ghost use Rattle.pb_protocol_unfolder.specs.Faults.{IsFaultOfSet, IsFaultOfSteps};
 ghost use Rattle.pb_protocol_unfolder.specs.Left.{AreFormulas, left_set, member_name, member_names};
@@ -55,7 +55,7 @@ fn push_member(
         (instance_said instance.now)) }
     ensures refused { IfRefused result
         (IsFaultIn (IsFaultOfSet (protocol_in formulas.now.unfolder.now)
-        (scope_in formulas.now.unfolder.now scope.now) (instance_said instance.now).own
+        (scope_within formulas.now.unfolder.now scope.now) (instance_said instance.now).own
         (step_set_form set.now))) }
 {
     if is_in_set(formulas.unfolder, scope, set, instance)? {
@@ -76,7 +76,7 @@ fn members(
         scope.now (step_set_form set.now) (map instance_said formulas.now.left.now)) }
     ensures refused { IfRefused result
         (IsFaultIn (IsFaultOfSteps (protocol_in formulas.now.unfolder.now)
-        (scope_in formulas.now.unfolder.now scope.now) (map instance_said formulas.now.left.now)
+        (scope_within formulas.now.unfolder.now scope.now) (map instance_said formulas.now.left.now)
         (step_set_form set.now))) }
 {
     let mut names = Vec::new(formulas.unfolder.alloc);
@@ -105,7 +105,7 @@ pub(crate) fn unfold_set(
         (IsFaultBy (IsFaultOfModality (protocol_in formulas.now.unfolder.now)
         (room.old.operators
         < name_count (left_set formulas.now.unfolder.now scope.now (step_set_form set.now)))
-        (scope_in formulas.now.unfolder.now scope.now) place (step_set_form set.now))) }
+        (scope_within formulas.now.unfolder.now scope.now) place (step_set_form set.now))) }
 {
     if let Some(place) = place_of_all(set) {
         return Ok(flat::StepSet::All { place });

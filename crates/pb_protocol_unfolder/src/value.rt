@@ -7,10 +7,10 @@ ghost use Rattle.pb_protocol_folding.specs.Folding as folding;
 ghost use Rattle.pb_protocol_folding.specs.View.{term_of};
 ghost use Rattle.pb_protocol_meaning.specs.Steps.{data_of};
 ghost use Rattle.pb_protocol_unfolder_terms.specs.Values.{written_term};
-ghost use Rattle.pb_protocol_unfolder_steps.specs.Unfolder.{protocol_in, scope_in};
+ghost use Rattle.pb_protocol_unfolder_steps.specs.Unfolder.{protocol_in, scope_within};
 ghost use Rattle.pb_protocol_unfolder.specs.Faults.{HasNoValue, meant};
 ghost use Rattle.pb_protocol_unfolder.specs.Parts.{HasValues, IsAt, IsFaultIn};
-ghost use Rattle.pb_protocol_unfolder.specs.Values.{named_value};
+ghost use Rattle.pb_protocol_unfolder.specs.Values.{value_of_named};
 
 use crate::bound::bound_value;
 use crate::fault::{UnfoldingError, UnfoldingRule, refused};
@@ -54,9 +54,10 @@ pub(crate) fn value_in_set(
     term: &Term,
 ) -> Result<i32, UnfoldingError>
     requires { HasValues scope.now }
-    ensures value { IfOk result (λ v. v ≡ named_value unfolder.now scope.now (term_of term.now)) }
+    ensures value { IfOk result
+        (λ v. v ≡ value_of_named unfolder.now scope.now (term_of term.now)) }
     ensures refused { IfRefused result (IsFaultIn (IsAt place (HasNoValue (protocol_in unfolder.now)
-        (meant (scope_in unfolder.now scope.now) (term_of term.now))))) }
+        (meant (scope_within unfolder.now scope.now) (term_of term.now))))) }
 {
     match term {
         Term::Name(name) => match bound_value(scope, name.text.as_str()) {

@@ -18,7 +18,7 @@ use Rattle.pb_protocol_meaning.specs.Steps.{data_of}
 use Rattle.pb_protocol_unfolding.specs.Written.{written_tuples}
 use Rattle.pb_protocol_unfolding.specs.PutIn.{no_forms, put_in}
 use Rattle.pb_protocol_unfolding.specs.Unfolding.{Element, all_elements, elements_of, terms_of, unfolded_initial, written}
-use Rattle.pb_protocol_unfolder_steps.specs.Initial.{argument_term, indices_behind, indices_said, indices_of_state, term_at, terms_at, initial_values}
+use Rattle.pb_protocol_unfolder_steps.specs.Initial.{argument_term, indices_behind, indices_said, indices_of_state, term_at, terms_at, initial_terms_of}
 
 -- ---- terms
 
@@ -79,26 +79,26 @@ fused m is x [] = refl
 fused m is x (ks ∷ kss) = ap (λ v. term_at m is x ks ∷ v) (fused m is x kss)
 
 values : (m : Protocol) (ys : List StateVariable) (xs : List Argument)
-    → initial_values m (map indices_in ys) (map argument_term xs)
+    → initial_terms_of m (map indices_in ys) (map argument_term xs)
     ≡ map (folded (data_of m) false) (unfolded_initial (data_of m) ys (terms_of (map argument_term xs)))
 values m [] xs = refl
 values m (y ∷ ys) [] = refl
 values m (y ∷ ys) (x ∷ xs) =
     let f = folded (data_of m) false in
     let us = map (λ (ks : List Term). put_in (data_of m) no_forms (written y.indices ks) (argument_term x)) (written_tuples (data_of m) y.indices) in
-    ap (λ v. v ++ initial_values m (map indices_in ys) (map argument_term xs)) (fused m y.indices (argument_term x) (written_tuples (data_of m) y.indices))
+    ap (λ v. v ++ initial_terms_of m (map indices_in ys) (map argument_term xs)) (fused m y.indices (argument_term x) (written_tuples (data_of m) y.indices))
     ∙ ap (λ v. map f us ++ v) (values m ys xs)
     ∙ sym (map-append f us (unfolded_initial (data_of m) ys (terms_of (map argument_term xs))))
 
 -- the values that the code finds are those of the unfolded model, folded
 pub initial-said : (p : declared_protocol.Protocol) (ts : List Argument)
-    → map argument_term ts ≡ initial_values (protocol_of p) (indices_of_state p.state.items) (map argument_term p.initial.values.items)
+    → map argument_term ts ≡ initial_terms_of (protocol_of p) (indices_of_state p.state.items) (map argument_term p.initial.values.items)
     → erased_arguments (argument_forms ts) ≡ folded_arguments (data_of (protocol_of p)) false (terms_of (unfolded_initial (data_of (protocol_of p)) (protocol_of p).variables (protocol_of p).initial))
 initial-said p ts same =
     let m = protocol_of p in
     let xs = p.initial.values.items in
     sym (arguments-said ts) ∙ ap terms_of same
-    ∙ ap (λ v. terms_of (initial_values m v (map argument_term xs))) (of-state p.state.items)
+    ∙ ap (λ v. terms_of (initial_terms_of m v (map argument_term xs))) (of-state p.state.items)
     ∙ ap terms_of (values m m.variables xs)
     ∙ folded-terms (data_of m) (unfolded_initial (data_of m) m.variables (terms_of (map argument_term xs)))
     ∙ ap (λ v. folded_arguments (data_of m) false (terms_of (unfolded_initial (data_of m) m.variables v))) (arguments-said xs)
@@ -106,21 +106,21 @@ initial-said p ts same =
 -- ---- the loop over variables and terms
 
 abbrev left : Protocol → List (Bor declared_variable.StateVariable) → List Argument → List Term
-left m ys xs = initial_values m (map indices_behind ys) (map argument_term xs)
+left m ys xs = initial_terms_of m (map indices_behind ys) (map argument_term xs)
 
 -- the values of one more variable stand first in what is left
 pub one-more : (m : Protocol) (ys : List (Bor declared_variable.StateVariable)) (xs : List Argument) (k j : ℕ) (y : Bor declared_variable.StateVariable) (x : Argument) → j ≡ suc k
     → k < length ys → k < length xs → y ≡ get_or ys k y → x ≡ get_or xs k x
     → terms_at m (indices_said y.now) (argument_term x)
-    ++ initial_values m (map indices_behind (drop j ys)) (map argument_term (drop j xs))
-    ≡ initial_values m (map indices_behind (drop k ys)) (map argument_term (drop k xs))
+    ++ initial_terms_of m (map indices_behind (drop j ys)) (map argument_term (drop j xs))
+    ≡ initial_terms_of m (map indices_behind (drop k ys)) (map argument_term (drop k xs))
 one-more m ys xs k j y x next in-ys in-xs y-is x-is =
     let e : drop k ys ≡ y ∷ drop (suc k) ys = drop-cons ys k y in-ys ∙ ap (λ v. v ∷ drop (suc k) ys) (sym y-is) in
     let f : drop k xs ≡ x ∷ drop (suc k) xs = drop-cons xs k x in-xs ∙ ap (λ v. v ∷ drop (suc k) xs) (sym x-is) in
     ap (λ (n : ℕ). terms_at m (indices_said y.now) (argument_term x) ++ left m (drop n ys) (drop n xs)) next
     ∙ sym (ap (λ v. left m v (drop k xs)) e ∙ ap (λ v. left m (y ∷ drop (suc k) ys) v) f)
 
-none : (m : Protocol) (iss : List (List Variable)) → initial_values m iss [] ≡ []
+none : (m : Protocol) (iss : List (List Variable)) → initial_terms_of m iss [] ≡ []
 none m [] = refl
 none m (is ∷ iss) = refl
 

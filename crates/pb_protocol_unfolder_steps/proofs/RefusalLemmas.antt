@@ -10,7 +10,7 @@ use Rattle.pb_base.specs.declared.or_memory.OrMemory.TheVariants.{Refused, Memor
 use Rattle.pb_text_tree.specs.declared.place.Place.{Place}
 use Rattle.pb_protocol_unfolder_steps.specs.declared.fault.StepsFault.{StepsFault}
 use Rattle.pb_protocol_unfolder_steps.specs.declared.fault.StepsFault.TheVariants.{Limit, Term}
-use Rattle.pb_protocol_unfolder_steps.specs.Refusals.{IsPassed, IsPassedIn, IsTermOr, placed}
+use Rattle.pb_protocol_unfolder_steps.specs.Refusals.{IsPassed, IsPassedIn, IsTermOr, each_at}
 
 -- the fault of a call is that of its caller
 pub refused : {A : Type 0} (r : Result A (OrMemory StepsFault)) (e : OrMemory StepsFault) (P Q : StepsFault → Type 0)
@@ -31,12 +31,13 @@ refused-so P Q (Err Memory) to p = tt
 -- ---- places
 
 -- at one place as many as there are
-pub placed-along : {A B : Type 0} (p : Place) (f : A → B) (xs : List A) → placed p (map f xs) ≡ placed p xs
+pub placed-along : {A B : Type 0} (p : Place) (f : A → B) (xs : List A) → each_at p (map f xs) ≡ each_at p xs
 placed-along p f [] = refl
 placed-along p f (x ∷ xs) = ap (λ v. p ∷ v) (placed-along p f xs)
 
 -- where one more's pass the limit, the first past it is one of them
-passed-here : {A : Type 0} (limit : ℕ) (now rest : List Place) (p : Place) (ys : List A) → length now ≤ limit → limit < length now + length ys → slice_get (now ++ (placed p ys ++ rest)) limit ≡ Some p
+passed-here : {A : Type 0} (limit : ℕ) (now rest : List Place) (p : Place) (ys : List A) → length now ≤ limit → limit < length now + length ys
+    → slice_get (now ++ (each_at p ys ++ rest)) limit ≡ Some p
 passed-here limit [] rest p [] few more = absurd (omega (arith, more))
 passed-here zero [] rest p (y ∷ ys) few more = refl
 passed-here (suc n) [] rest p (y ∷ ys) few more = passed-here n [] rest p ys (omega arith) (omega (arith, more))
@@ -54,10 +55,10 @@ next-of ys k y h is = drop-cons ys k y h ∙ ap (λ v. v ∷ drop (suc k) ys) (s
 
 -- where those of one more pass the limit
 pub passed-in-all : {X A B : Type 0} (g : X → Place) (f : A → List Place) (limit : ℕ) (now : List X) (all : List Place) (ys : List A) (k : ℕ) (y : A) (p : Place) (zs : List B) (s : StepsFault)
-    → k < length ys → y ≡ get_or ys k y → f y ≡ placed p zs → map g now ++ flat_map f (drop k ys) ≡ all → length now ≤ limit → IsPassed limit (length now + length zs) p s → IsPassedIn limit all s
+    → k < length ys → y ≡ get_or ys k y → f y ≡ each_at p zs → map g now ++ flat_map f (drop k ys) ≡ all → length now ≤ limit → IsPassed limit (length now + length zs) p s → IsPassedIn limit all s
 passed-in-all g f limit now all ys k y p zs s h is of-y added few passed =
     let rest = flat_map f (drop (suc k) ys) in
-    let whole : map g now ++ (placed p zs ++ rest) ≡ all =
+    let whole : map g now ++ (each_at p zs ++ rest) ≡ all =
     ap (λ (v : List Place). map g now ++ (v ++ rest)) (sym of-y) ∙ ap (λ v. map g now ++ flat_map f v) (sym (next-of ys k y h is)) ∙ added in
     let few' : length (map g now) ≤ limit = omega (arith, length-map now g, few) in
     let more : limit < length (map g now) + length zs = omega (arith, length-map now g, passed.1) in

@@ -17,7 +17,7 @@ use Rattle.pb_protocol_tree.specs.declared.protocol.StateVariable as declared_va
 use Rattle.pb_protocol_tree.specs.declared.protocol.StateVariables as declared_state
 use Rattle.pb_protocol_tree.specs.Form.{state_variable_form, state_variables_form}
 use Rattle.pb_protocol_unfolder_steps.specs.Initial.{indices_of_state, indices_said}
-use Rattle.pb_protocol_unfolder_steps.specs.StepFaults.{OnTerm, indices_at, term_error, value_form, value_terms}
+use Rattle.pb_protocol_unfolder_steps.specs.StepFaults.{OnTerm, indices_at, term_error, argument_form, value_terms}
 
 -- the fault of a term is told as one of steps
 pub term-told : (P : UnfoldRule → Place → Type 0) (e : OrMemory UnfoldFault) (r : OrMemory StepsFault) → r ≡ term_error e → IfFaultAt P e → IfFault r (OnTerm P)
@@ -31,9 +31,9 @@ term-in P Q to (Term f) h = to f.rule f.place h
 
 -- ---- the tree
 
-pub values-said : (bs : List Argument) → map value_form bs ≡ value_terms (argument_forms bs)
+pub values-said : (bs : List Argument) → map argument_form bs ≡ value_terms (argument_forms bs)
 values-said [] = refl
-values-said (b ∷ bs) = ap (λ xs. value_form b ∷ xs) (values-said bs)
+values-said (b ∷ bs) = ap (λ xs. argument_form b ∷ xs) (values-said bs)
 
 indices-of-group : (sort : Name) (ys : List declared_variable.StateVariable) → map indices_said ys ≡ map indices_at (map (state_variable_form sort) ys)
 indices-of-group sort [] = refl

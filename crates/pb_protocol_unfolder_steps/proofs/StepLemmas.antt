@@ -19,7 +19,7 @@ use Rattle.pb_protocol_meaning.specs.Syntax.{Assignment, Protocol}
 use Rattle.pb_protocol_meaning.specs.Steps.{data_of}
 use Rattle.pb_protocol_unfolding.specs.PutIn.{TermScope}
 use Rattle.pb_protocol_unfolding.specs.Unfolding.{Element, Instance, name_of, instance_name, all_elements, unfolded_assignment, unfolded_step, unfolded_term}
-use Rattle.pb_protocol_unfolder_steps.specs.Steps.{change_of, changed, changes, kept_step, instance_step, own_scope, assignment_said, is_kept, place_of_step, places_from, step_found, step_place, step_said}
+use Rattle.pb_protocol_unfolder_steps.specs.Steps.{change_of, changed, changes, kept_step, instance_step, own_scope, step_assignment, is_kept, place_of_step, places_from, step_found, step_place, step_said}
 
 -- one assignment that is folded is the change that it makes
 change-of : (spec : Spec) (a : flat.Assignment) → folded_assignments spec (a ∷ []) ≡ change_of a.variable (folded spec false a.term)
@@ -85,9 +85,9 @@ kept-steps m (i ∷ is) =
     ap (λ v. kept_step m i ++ v) (kept-steps m is)
     ∙ sym (filter-both is_possible (instance_step m i ∷ []) (map (folded_step (data_of m)) (map (unfolded_step m) is)))
 
-pub assignments-said : (bs : List declared_assignment.Assignment) → map assignment_said bs ≡ map erased_assignment (map assignment_form bs)
+pub assignments-said : (bs : List declared_assignment.Assignment) → map step_assignment bs ≡ map erased_assignment (map assignment_form bs)
 assignments-said [] = refl
-assignments-said (b ∷ bs) = ap (λ v. assignment_said b ∷ v) (assignments-said bs)
+assignments-said (b ∷ bs) = ap (λ v. step_assignment b ∷ v) (assignments-said bs)
 
 -- ---- places
 
@@ -146,7 +146,7 @@ found-kept m i (Some a) e = by (is_kept m i) e
     by false h = absurd (something (step_said a) h)
 
 -- a step that the code makes
-pub step-made : (a : declared_step.Step) → a.variables.items ≡ [] → step_said a ≡ made (string_bytes a.name.text) (term_of a.guard) (map assignment_said a.assignments.items)
+pub step-made : (a : declared_step.Step) → a.variables.items ≡ [] → step_said a ≡ made (string_bytes a.name.text) (term_of a.guard) (map step_assignment a.assignments.items)
 step-made a empty =
     ap (λ (v : List Variables). with_variables (erased_variables (variable_forms v))) empty
     ∙ ap (made (string_bytes a.name.text) (term_of a.guard)) (sym (assignments-said a.assignments.items))

@@ -19,8 +19,8 @@ abbrev pub element_at : declared_name.Name → declared_name.Name → List Term 
 element_at name sort index =
     record { array = string_bytes name.text; index = index; sort = string_bytes sort.text }
 
-abbrev pub element_said : declared_element.Element → Element
-element_said e = element_at e.name.now e.sort.now (tuple_of e.index)
+abbrev pub flat_element : declared_element.Element → Element
+flat_element e = element_at e.name.now e.sort.now (tuple_of e.index)
 
 abbrev pub elements_of_variable :
     Spec → declared_name.Name → declared_variable.StateVariable → List Element

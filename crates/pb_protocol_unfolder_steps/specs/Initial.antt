@@ -40,7 +40,7 @@ abbrev pub terms_at : Protocol → List Variable → Term → List Term
 terms_at m indices x = map (term_at m indices x) (written_tuples (data_of m) indices)
 
 -- the term of each variable, for each of its elements
-abbrev pub initial_values : Protocol → List (List Variable) → List Term → List Term
-initial_values m [] xs = []
-initial_values m (is ∷ iss) [] = []
-initial_values m (is ∷ iss) (x ∷ xs) = terms_at m is x ++ initial_values m iss xs
+abbrev pub initial_terms_of : Protocol → List (List Variable) → List Term → List Term
+initial_terms_of m [] xs = []
+initial_terms_of m (is ∷ iss) [] = []
+initial_terms_of m (is ∷ iss) (x ∷ xs) = terms_at m is x ++ initial_terms_of m iss xs

@@ -20,19 +20,19 @@ use Rattle.pb_protocol_unfolder_steps.specs.Elements.{elements_of_variable, inst
 -- ---- where what is written out stands
 
 -- each of these at one place
-abbrev pub placed : {A : Type 0} → Place → List A → List Place
-placed p xs = map (λ _. p) xs
+abbrev pub each_at : {A : Type 0} → Place → List A → List Place
+each_at p xs = map (λ _. p) xs
 
 -- an element stands where its state variable's name does
 abbrev pub places_of_elements : Spec → StateVariableForm → List Place
-places_of_elements spec y = placed y.name.place (elements_of spec (erased_state_variable y))
+places_of_elements spec y = each_at y.name.place (elements_of spec (erased_state_variable y))
 
 abbrev pub element_places : ProtocolForm → List Place
 element_places m = flat_map (places_of_elements (data_of (erase m))) m.variables
 
 -- a step with its values stands where the step's name does
 abbrev pub places_of_instances : Spec → StepForm → List Place
-places_of_instances spec a = placed a.name.place (instances_of spec (erased_step a))
+places_of_instances spec a = each_at a.name.place (instances_of spec (erased_step a))
 
 abbrev pub instance_places : ProtocolForm → List Place
 instance_places m = flat_map (places_of_instances (data_of (erase m))) m.steps
@@ -44,7 +44,7 @@ element_place e = e.name.now.place
 
 abbrev pub places_of_variable :
     Spec → declared_name.Name → declared_variable.StateVariable → List Place
-places_of_variable spec sort y = placed y.name.place (elements_of_variable spec sort y)
+places_of_variable spec sort y = each_at y.name.place (elements_of_variable spec sort y)
 
 abbrev pub places_of_group : Spec → declared_state.StateVariables → List Place
 places_of_group spec group =
@@ -57,7 +57,7 @@ abbrev pub instance_place : declared_instance.Instance → Place
 instance_place i = i.step.now.name.place
 
 abbrev pub places_of_step : Spec → declared_step.Step → List Place
-places_of_step spec a = placed a.name.place (instances_of_step spec a)
+places_of_step spec a = each_at a.name.place (instances_of_step spec a)
 
 abbrev pub places_of_steps : Spec → List declared_step.Step → List Place
 places_of_steps spec steps = flat_map (places_of_step spec) steps

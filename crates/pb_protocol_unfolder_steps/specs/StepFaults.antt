@@ -44,8 +44,8 @@ placed_instances m = flat_map (placed_instances_of (data_of (erase m))) m.steps
 
 -- ---- of the trees
 
-abbrev pub instance_form : declared_instance.Instance → PlacedInstance
-instance_form i = placed_at (step_form i.step.now) (tuple_of i.own)
+abbrev pub placed_instance : declared_instance.Instance → PlacedInstance
+placed_instance i = placed_at (step_form i.step.now) (tuple_of i.own)
 
 abbrev pub forms_of_step : Spec → declared_step.Step → List PlacedInstance
 forms_of_step spec a = placed_instances_of spec (step_form a)
@@ -82,8 +82,8 @@ abbrev pub value_terms : ArgumentForms → List TermForm
 value_terms no_arguments = []
 value_terms (argument p x xs) = x ∷ value_terms xs
 
-abbrev pub value_form : declared_argument.Argument → TermForm
-value_form a = term_form a.term
+abbrev pub argument_form : declared_argument.Argument → TermForm
+argument_form a = term_form a.term
 
 -- in the value of a state variable, where its indices stand for these values
 abbrev pub IsFaultAtValues :

@@ -19,11 +19,12 @@ use Rattle.pb_protocol_unfolding.specs.PutIn.{TermScope}
 use Rattle.pb_protocol_unfolding.specs.Unfolding.{Element, Instance, written, unfolded_assignment}
 use Rattle.pb_protocol_unfolding.specs.Unfolding.{unfolded_step}
 
-abbrev pub assignment_said : declared_assignment.Assignment → flat.Assignment
-assignment_said a = erased_assignment (assignment_form a)
+abbrev pub step_assignment : declared_assignment.Assignment → flat.Assignment
+step_assignment a = erased_assignment (assignment_form a)
 
-abbrev pub assignments_said : List protocol_assignment.Assignment → List Assignment
-assignments_said bs = map protocol_erase.erased_assignment (map protocol_form.assignment_form bs)
+abbrev pub protocol_assignments : List protocol_assignment.Assignment → List Assignment
+protocol_assignments bs =
+    map protocol_erase.erased_assignment (map protocol_form.assignment_form bs)
 
 abbrev pub step_said : declared_step.Step → flat.Step
 step_said a = erased_step (step_form a)
@@ -33,8 +34,9 @@ abbrev pub change_of : Name → Term → List flat.Assignment
 change_of x t = if is_name x t then [] else record { variable = x; term = t } ∷ []
 
 -- what an element gets in a step, folded
-abbrev pub assigned : Protocol → TermScope → List Assignment → Element → Term
-assigned m ρ assignments e = folded (data_of m) false (unfolded_assignment m ρ assignments e).term
+abbrev pub element_assigned : Protocol → TermScope → List Assignment → Element → Term
+element_assigned m ρ assignments e =
+    folded (data_of m) false (unfolded_assignment m ρ assignments e).term
 
 -- and unless it keeps its value
 abbrev pub changed : Protocol → TermScope → List Assignment → Element → List flat.Assignment

@@ -23,8 +23,8 @@ pub record IsUnfolder (u : declared_unfolder.Unfolder) : Type 0 where
   pub surroundings : surroundings_in u.context ≡ surroundings_of (form_in u)
 
 -- the innermost first
-abbrev pub scope_in : declared_unfolder.Unfolder → declared_scope.TermScope → TermScope
-scope_in u scope = terms.scope_in (protocol_in u) scope
+abbrev pub scope_within : declared_unfolder.Unfolder → declared_scope.TermScope → TermScope
+scope_within u scope = terms.scope_in (protocol_in u) scope
 
 -- the initial state is unfolded without state variables and definitions
 pub record IsInitial (i : declared_initial.Initial) : Type 0 where

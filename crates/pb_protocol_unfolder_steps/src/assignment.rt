@@ -5,13 +5,13 @@ ghost use Rattle.pb_base.specs.OrMemory.{IfRefused};
 ghost use Rattle.pb_protocol_folding.specs.View.{term_of};
 ghost use Rattle.pb_protocol_tree.specs.Form.{assignment_form};
 ghost use Rattle.pb_protocol_unfolder_terms.specs.TermFaults.{HasValues, IsFaultInElement, surroundings_of};
-ghost use Rattle.pb_protocol_unfolder_steps.specs.Elements.{element_said};
+ghost use Rattle.pb_protocol_unfolder_steps.specs.Elements.{flat_element};
 ghost use Rattle.pb_protocol_unfolder_steps.specs.StepFaults.{IsFaultInElements, OnTerm};
 ghost use Rattle.pb_protocol_unfolder_steps.specs.Refusals.{IsTermOr};
-ghost use Rattle.pb_protocol_unfolder_steps.specs.Steps.{assignment_said, assignments_said, change_of};
+ghost use Rattle.pb_protocol_unfolder_steps.specs.Steps.{step_assignment, protocol_assignments, change_of};
 ghost use Rattle.pb_protocol_unfolder_steps.specs.Steps.{changed, changes};
 ghost use Rattle.pb_protocol_unfolder_steps.specs.Unfolder.{IsUnfolder, form_in, protocol_in};
-ghost use Rattle.pb_protocol_unfolder_steps.specs.Unfolder.{scope_in};
+ghost use Rattle.pb_protocol_unfolder_steps.specs.Unfolder.{scope_within};
 
 use crate::element::Element;
 use crate::fault::StepsError;
@@ -38,8 +38,8 @@ fn push_change(
     place: Place,
     term: Term,
 ) -> Result<(), AllocError>
-    ensures { OnOk result (map assignment_said assignments.new.items
-        ≡ map assignment_said assignments.old.items
+    ensures { OnOk result (map step_assignment assignments.new.items
+        ≡ map step_assignment assignments.old.items
         ++ change_of (string_bytes variable.text) (term_of term)) }
 {
     if is_itself(variable.text.as_str(), &term) {
@@ -58,16 +58,16 @@ fn push_assignment(
     element: &Element<'_>,
 ) -> Result<(), StepsError>
     requires unfolder { IsUnfolder unfolder.now }
-    ensures assignments { OnOk result (map assignment_said assignments.new.items
-        ≡ map assignment_said assignments.old.items
+    ensures assignments { OnOk result (map step_assignment assignments.new.items
+        ≡ map step_assignment assignments.old.items
         ++ changed (protocol_in unfolder.now)
-        (scope_in unfolder.now assigning.now.scope.now)
-        (assignments_said assigning.now.assignments.now) (element_said element.now)) }
+        (scope_within unfolder.now assigning.now.scope.now)
+        (protocol_assignments assigning.now.assignments.now) (flat_element element.now)) }
     ensures refused { IfRefused result (IsTermOr ⊥) }
     ensures faults { HasValues assigning.now.scope.now → IfRefused result (OnTerm
         (IsFaultInElement (surroundings_of (form_in unfolder.now))
-        (scope_in unfolder.now assigning.now.scope.now)
-        (map assignment_form assigning.now.assignments.now) (element_said element.now))) }
+        (scope_within unfolder.now assigning.now.scope.now)
+        (map assignment_form assigning.now.assignments.now) (flat_element element.now))) }
 {
     let variable = element_name(unfolder.alloc, element.name, &element.index)?;
     let term = unfolder.unfold_assigned(assigning.scope, assigning.assignments, element)?;
@@ -82,14 +82,15 @@ pub(crate) fn unfold_assignments(
     elements: &[Element<'_>],
 ) -> Result<Vec<flat::Assignment>, StepsError>
     requires unfolder { IsUnfolder unfolder.now }
-    ensures assignments { IfOk result (λ v. map assignment_said v.items
+    ensures assignments { IfOk result (λ v. map step_assignment v.items
         ≡ changes (protocol_in unfolder.now)
-        (scope_in unfolder.now assigning.now.scope.now)
-        (assignments_said assigning.now.assignments.now) (map element_said elements.now)) }
+        (scope_within unfolder.now assigning.now.scope.now)
+        (protocol_assignments assigning.now.assignments.now) (map flat_element elements.now)) }
     ensures refused { IfRefused result (IsTermOr ⊥) }
     ensures faults { HasValues assigning.now.scope.now → IfRefused result (OnTerm
-        (IsFaultInElements (form_in unfolder.now) (scope_in unfolder.now assigning.now.scope.now)
-        (map assignment_form assigning.now.assignments.now) (map element_said elements.now))) }
+        (IsFaultInElements (form_in unfolder.now)
+        (scope_within unfolder.now assigning.now.scope.now)
+        (map assignment_form assigning.now.assignments.now) (map flat_element elements.now))) }
 {
     let mut assignments = Vec::new(unfolder.alloc);
     for element in elements {

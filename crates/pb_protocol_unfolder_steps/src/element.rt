@@ -7,10 +7,10 @@ ghost use Rattle.pb_protocol_meaning.specs.Erase.{protocol_of};
 ghost use Rattle.pb_protocol_unfolding.specs.Unfolding as definitions;
 ghost use Rattle.pb_protocol_unfolder_terms.specs.View.{spec_of};
 ghost use Rattle.pb_protocol_unfolder_terms.specs.Values.{tuple_of};
-ghost use Rattle.pb_protocol_unfolder_steps.specs.Elements.{element_at, element_said, elements_of_group};
+ghost use Rattle.pb_protocol_unfolder_steps.specs.Elements.{element_at, flat_element, elements_of_group};
 ghost use Rattle.pb_protocol_unfolder_steps.specs.Elements.{elements_of_state, elements_of_variable};
 ghost use Rattle.pb_protocol_unfolder_steps.specs.Refusals.{IsPassed, IsPassedIn, element_place};
-ghost use Rattle.pb_protocol_unfolder_steps.specs.Refusals.{element_places, placed, places_of_group};
+ghost use Rattle.pb_protocol_unfolder_steps.specs.Refusals.{element_places, each_at, places_of_group};
 ghost use Rattle.pb_protocol_unfolder_steps.specs.Refusals.{places_of_state, places_of_variable};
 
 use crate::fault::StepsError;
@@ -38,11 +38,11 @@ fn push_at<'a>(
     sort: &'a Name,
     indices: Vec<Vec<Written<'a>>>,
 ) -> Result<(), AllocError>
-    ensures elements { OnOk result (map element_said elements.new.items
-        ≡ map element_said elements.old.items
+    ensures elements { OnOk result (map flat_element elements.new.items
+        ≡ map flat_element elements.old.items
         ++ map (element_at name.now sort.now) (map tuple_of indices.entry.items)) }
     ensures places { OnOk result (map element_place elements.new.items
-        ≡ map element_place elements.old.items ++ placed name.now.place indices.entry.items) }
+        ≡ map element_place elements.old.items ++ each_at name.now.place indices.entry.items) }
 {
     for index in indices {
         elements.push(Element { name, index, sort })?;
@@ -58,8 +58,8 @@ fn push_elements<'a>(
     variable: &'a StateVariable,
     sort: &'a Name,
 ) -> Result<(), StepsError>
-    ensures elements { OnOk result (map element_said elements.new.items
-        ≡ map element_said elements.old.items
+    ensures elements { OnOk result (map flat_element elements.new.items
+        ≡ map flat_element elements.old.items
         ++ elements_of_variable (spec_of sorts.entry) sort.now variable.now) }
     ensures places { OnOk result (map element_place elements.new.items
         ≡ map element_place elements.old.items
@@ -83,8 +83,8 @@ fn push_group<'a>(
     group: &'a StateVariables,
 ) -> Result<(), StepsError>
     requires few { length elements.old.items ≤ MAX_ELEMENTS }
-    ensures elements { OnOk result (map element_said elements.new.items
-        ≡ map element_said elements.old.items
+    ensures elements { OnOk result (map flat_element elements.new.items
+        ≡ map flat_element elements.old.items
         ++ elements_of_group (spec_of sorts.entry) group.now) }
     ensures places { OnOk result (map element_place elements.new.items
         ≡ map element_place elements.old.items
@@ -107,7 +107,7 @@ fn elements_of<'a>(
     state: &'a [StateVariables],
 ) -> Result<Vec<Element<'a>>, StepsError>
     ensures elements { IfOk result
-        (λ v. map element_said v.items ≡ elements_of_state (spec_of sorts.entry) state.now) }
+        (λ v. map flat_element v.items ≡ elements_of_state (spec_of sorts.entry) state.now) }
     ensures places { IfOk result
         (λ v. map element_place v.items ≡ places_of_state (spec_of sorts.entry) state.now) }
     ensures few { IfOk result (λ v. length v.items ≤ MAX_ELEMENTS) }
@@ -127,7 +127,7 @@ fn elements_of<'a>(
 /// There are more than 64 elements (T12, at the name of the state variable that passes the limit),
 /// or memory was refused.
 pub fn elements<'a>(alloc: Global, protocol: &'a Protocol) -> Result<Vec<Element<'a>>, StepsError>
-    ensures elements { IfOk result (λ v. map element_said v.items
+    ensures elements { IfOk result (λ v. map flat_element v.items
         ≡ definitions.all_elements (protocol_of protocol.now)) }
     ensures places { IfOk result
         (λ v. map element_place v.items ≡ element_places (protocol_form protocol.now)) }

@@ -17,10 +17,10 @@ ghost use Rattle.pb_protocol_unfolder_terms.specs.View.{variable_of};
 ghost use Rattle.pb_protocol_unfolder_steps.specs.Unfolder.{IsInitial};
 ghost use Rattle.pb_protocol_unfolder_steps.specs.Initial.{argument_term, indices_behind, indices_of_group};
 ghost use Rattle.pb_protocol_unfolder_steps.specs.Initial.{indices_of_state, indices_said};
-ghost use Rattle.pb_protocol_unfolder_steps.specs.Initial.{initial_values, term_at, terms_at};
+ghost use Rattle.pb_protocol_unfolder_steps.specs.Initial.{initial_terms_of, term_at, terms_at};
 ghost use Rattle.pb_protocol_unfolder_steps.specs.StepFaults.{IsFaultAtValues, IsFaultAtSome, IsFaultAtStart};
 ghost use Rattle.pb_protocol_unfolder_steps.specs.StepFaults.{IsFaultInValue, IsFaultInValues, OnTerm};
-ghost use Rattle.pb_protocol_unfolder_steps.specs.StepFaults.{value_form};
+ghost use Rattle.pb_protocol_unfolder_steps.specs.StepFaults.{argument_form};
 ghost use Rattle.pb_protocol_unfolder_steps.specs.Refusals.{IsTermOr};
 
 use crate::fault::{StepsError, of_term};
@@ -112,7 +112,7 @@ impl Initial<'_> {
         ensures refused { IfRefused result (IsTermOr ⊥) }
         ensures faults { IfRefused result (OnTerm (IsFaultAtSome
             (protocol_form self.now.protocol.now) (map variable_of indices.now)
-            (value_form value.now) (map tuple_of tuples.now))) }
+            (argument_form value.now) (map tuple_of tuples.now))) }
     {
         let place = value.place;
         for values in tuples {
@@ -139,7 +139,7 @@ impl Initial<'_> {
             (indices_said variable.now)))) }
         ensures faults { IfRefused result (OnTerm (IsFaultInValue
             (protocol_form self.now.protocol.now) (indices_said variable.now)
-            (value_form value.now))) }
+            (argument_form value.now))) }
     {
         let indices = variables_of(self.alloc, &variable.indices)?;
         let sorts = sorts_of(self.protocol);
@@ -155,14 +155,14 @@ impl Initial<'_> {
     ) -> Result<Vec<Argument>, StepsError>
         requires initial { IsInitial self.now }
         ensures terms { IfOk result (λ v. map argument_term v.items
-            ≡ initial_values (protocol_of self.now.protocol.now)
+            ≡ initial_terms_of (protocol_of self.now.protocol.now)
             (map indices_behind variables.now) (map argument_term values.now)) }
         ensures refused { IfRefused result (IsTermOr (MAX_OPERATORS
             < length (flat_map (written_tuples (data_of (protocol_of self.now.protocol.now)))
             (map indices_behind variables.now)))) }
         ensures faults { IfRefused result (OnTerm (IsFaultInValues
             (protocol_form self.now.protocol.now) (map indices_behind variables.now)
-            (map value_form values.now))) }
+            (map argument_form values.now))) }
     {
         let mut terms = Vec::new(self.alloc);
         for at in 0..variables.len().min(values.len()) {

@@ -10,10 +10,10 @@ ghost use Rattle.pb_protocol_unfolder_terms.specs.View.{spec_of};
 ghost use Rattle.pb_protocol_unfolder_terms.specs.Values.{tuple_of};
 ghost use Rattle.pb_protocol_unfolder_steps.specs.Elements.{instance_at, instance_said};
 ghost use Rattle.pb_protocol_unfolder_steps.specs.Elements.{instances_of_step, instances_of_steps};
-ghost use Rattle.pb_protocol_unfolder_steps.specs.StepFaults.{forms_of_step, forms_of_steps, instance_form};
+ghost use Rattle.pb_protocol_unfolder_steps.specs.StepFaults.{forms_of_step, forms_of_steps, placed_instance};
 ghost use Rattle.pb_protocol_unfolder_steps.specs.StepFaults.{placed_at, placed_instances};
 ghost use Rattle.pb_protocol_unfolder_steps.specs.Refusals.{IsPassed, IsPassedIn, instance_place};
-ghost use Rattle.pb_protocol_unfolder_steps.specs.Refusals.{instance_places, placed, places_of_step};
+ghost use Rattle.pb_protocol_unfolder_steps.specs.Refusals.{instance_places, each_at, places_of_step};
 ghost use Rattle.pb_protocol_unfolder_steps.specs.Refusals.{places_of_steps};
 
 use crate::fault::StepsError;
@@ -43,9 +43,9 @@ fn push_with<'a>(
         ++ map (instance_at step.now) (map tuple_of tuples.entry.items)) }
     ensures places { OnOk result (map instance_place instances.new.items
         ≡ map instance_place instances.old.items
-        ++ placed step.now.name.place tuples.entry.items) }
-    ensures forms { OnOk result (map instance_form instances.new.items
-        ≡ map instance_form instances.old.items
+        ++ each_at step.now.name.place tuples.entry.items) }
+    ensures forms { OnOk result (map placed_instance instances.new.items
+        ≡ map placed_instance instances.old.items
         ++ map (placed_at (step_form step.now)) (map tuple_of tuples.entry.items)) }
 {
     for own in tuples {
@@ -67,8 +67,8 @@ fn push_instances<'a>(
     ensures places { OnOk result (map instance_place instances.new.items
         ≡ map instance_place instances.old.items
         ++ places_of_step (spec_of sorts.entry) step.now) }
-    ensures forms { OnOk result (map instance_form instances.new.items
-        ≡ map instance_form instances.old.items
+    ensures forms { OnOk result (map placed_instance instances.new.items
+        ≡ map placed_instance instances.old.items
         ++ forms_of_step (spec_of sorts.entry) step.now) }
     ensures few { OnOk result (length instances.new.items ≤ MAX_WRITTEN_STEPS) }
     ensures refused { IfRefused result (IsPassed MAX_WRITTEN_STEPS (length instances.old.items
@@ -91,7 +91,7 @@ fn instances_of<'a>(
     ensures places { IfOk result
         (λ v. map instance_place v.items ≡ places_of_steps (spec_of sorts.entry) steps.now) }
     ensures forms { IfOk result
-        (λ v. map instance_form v.items ≡ forms_of_steps (spec_of sorts.entry) steps.now) }
+        (λ v. map placed_instance v.items ≡ forms_of_steps (spec_of sorts.entry) steps.now) }
     ensures few { IfOk result (λ v. length v.items ≤ MAX_WRITTEN_STEPS) }
     ensures refused { IfRefused result
         (IsPassedIn MAX_WRITTEN_STEPS (places_of_steps (spec_of sorts.entry) steps.now)) }
@@ -114,7 +114,7 @@ pub fn instances<'a>(alloc: Global, protocol: &'a Protocol) -> Result<Vec<Instan
     ensures places { IfOk result
         (λ v. map instance_place v.items ≡ instance_places (protocol_form protocol.now)) }
     ensures forms { IfOk result
-        (λ v. map instance_form v.items ≡ placed_instances (protocol_form protocol.now)) }
+        (λ v. map placed_instance v.items ≡ placed_instances (protocol_form protocol.now)) }
     ensures few { IfOk result (λ v. length v.items ≤ MAX_WRITTEN_STEPS) }
     ensures refused { IfRefused result
         (IsPassedIn MAX_WRITTEN_STEPS (instance_places (protocol_form protocol.now))) }

@@ -4,7 +4,7 @@ ghost use Rattle.std.specs.Prelude.{◌≡◌, [], ◌∷◌, map, IfOk};
 ghost use Rattle.pb_text_tree.specs.Form.{variable_forms};
 ghost use Rattle.pb_text_meaning.specs.Erase.{erased_variables};
 ghost use Rattle.pb_protocol_unfolding.specs.Unfolding as definitions;
-ghost use Rattle.pb_protocol_unfolder_steps.specs.Elements.{element_said};
+ghost use Rattle.pb_protocol_unfolder_steps.specs.Elements.{flat_element};
 ghost use Rattle.pb_protocol_unfolder_steps.specs.Groups.{group_said, groups_said};
 
 use crate::element::Element;
@@ -16,7 +16,7 @@ use std::alloc::{AllocError, Global};
 /// is named.
 fn flat_variable(alloc: Global, element: &Element<'_>) -> Result<Variables, AllocError>
     ensures { IfOk result
-        (λ v. group_said v ≡ definitions.variable_of (element_said element.now) ∷ []) }
+        (λ v. group_said v ≡ definitions.variable_of (flat_element element.now) ∷ []) }
 {
     let mut names = Vec::new(alloc);
     names.push(element_name(alloc, element.name, &element.index)?)?;
@@ -27,7 +27,7 @@ fn flat_variable(alloc: Global, element: &Element<'_>) -> Result<Variables, Allo
 /// The groups of the elements' variables.
 fn flat_groups(alloc: Global, elements: &[Element<'_>]) -> Result<Vec<Variables>, AllocError>
     ensures { IfOk result
-        (λ v. groups_said v.items ≡ map definitions.variable_of (map element_said elements.now)) }
+        (λ v. groups_said v.items ≡ map definitions.variable_of (map flat_element elements.now)) }
 {
     let mut groups = Vec::new(alloc);
     for element in elements {
@@ -43,7 +43,7 @@ fn flat_groups(alloc: Global, elements: &[Element<'_>]) -> Result<Vec<Variables>
 /// Memory was refused.
 pub fn flat_state(alloc: Global, elements: &[Element<'_>]) -> Result<Vec<Variables>, AllocError>
     ensures { IfOk result (λ v. erased_variables (variable_forms v.items)
-        ≡ map definitions.variable_of (map element_said elements.now)) }
+        ≡ map definitions.variable_of (map flat_element elements.now)) }
 {
     flat_groups(alloc, elements)
 }

@@ -9,14 +9,14 @@ ghost use Rattle.pb_protocol_folding.specs.View.{term_of};
 ghost use Rattle.pb_protocol_meaning.specs.Erase.{protocol_of};
 ghost use Rattle.pb_protocol_meaning.specs.Steps.{data_of};
 ghost use Rattle.pb_protocol_unfolding.specs.Unfolding as definitions;
-ghost use Rattle.pb_protocol_unfolder_steps.specs.Elements.{element_said};
+ghost use Rattle.pb_protocol_unfolder_steps.specs.Elements.{flat_element};
 ghost use Rattle.pb_protocol_unfolder_terms.specs.TermFaults.{HasValues, IsFaultInElement, IsFaultInTerm};
 ghost use Rattle.pb_protocol_unfolder_terms.specs.TermFaults.{surroundings_of};
 ghost use Rattle.pb_protocol_unfolder_steps.specs.StepFaults.{OnTerm};
 ghost use Rattle.pb_protocol_unfolder_steps.specs.Refusals.{IsTermOr};
-ghost use Rattle.pb_protocol_unfolder_steps.specs.Steps.{assigned, assignments_said};
+ghost use Rattle.pb_protocol_unfolder_steps.specs.Steps.{element_assigned, protocol_assignments};
 ghost use Rattle.pb_protocol_unfolder_steps.specs.Unfolder.{IsUnfolder, form_in, protocol_in};
-ghost use Rattle.pb_protocol_unfolder_steps.specs.Unfolder.{scope_in};
+ghost use Rattle.pb_protocol_unfolder_steps.specs.Unfolder.{scope_within};
 
 use crate::element::Element;
 use crate::fault::{StepsError, of_term};
@@ -65,11 +65,11 @@ impl<'a> Unfolder<'a> {
     ) -> Result<Term, StepsError>
         requires unfolder { IsUnfolder self.now }
         ensures term { IfOk result (λ t. term_of t ≡ folded (data_of (protocol_in self.now)) truth
-            (definitions.unfolded_term (protocol_in self.now) (scope_in self.now scope.now)
+            (definitions.unfolded_term (protocol_in self.now) (scope_within self.now scope.now)
             (term_of term.now))) }
         ensures refused { IfRefused result (IsTermOr ⊥) }
         ensures faults { HasValues scope.now → IfRefused result (OnTerm (IsFaultInTerm
-            (surroundings_of (form_in self.now)) (scope_in self.now scope.now)
+            (surroundings_of (form_in self.now)) (scope_within self.now scope.now)
             (term_form term.now))) }
     {
         match unfold_term(&self.context, scope, truth, term) {
@@ -86,13 +86,13 @@ impl<'a> Unfolder<'a> {
         element: &Element<'_>,
     ) -> Result<Term, StepsError>
         requires unfolder { IsUnfolder self.now }
-        ensures term { IfOk result (λ t. term_of t ≡ assigned (protocol_in self.now)
-            (scope_in self.now scope.now) (assignments_said assignments.now)
-            (element_said element.now)) }
+        ensures term { IfOk result (λ t. term_of t ≡ element_assigned (protocol_in self.now)
+            (scope_within self.now scope.now) (protocol_assignments assignments.now)
+            (flat_element element.now)) }
         ensures refused { IfRefused result (IsTermOr ⊥) }
         ensures faults { HasValues scope.now → IfRefused result (OnTerm (IsFaultInElement
-            (surroundings_of (form_in self.now)) (scope_in self.now scope.now)
-            (map assignment_form assignments.now) (element_said element.now))) }
+            (surroundings_of (form_in self.now)) (scope_within self.now scope.now)
+            (map assignment_form assignments.now) (flat_element element.now))) }
     {
         let element = terms::Element {
             array: element.name,

@@ -138,16 +138,16 @@ abbrev pub written_interval : Spec → Term → Option IntegerInterval
 written_interval spec t = option_map singleton (written_value spec t)
 
 -- where it isn't, else
-abbrev pub or_else : Option IntegerInterval → Option IntegerInterval → Option IntegerInterval
-or_else None j = j
-or_else (Some i) j = Some i
+abbrev pub interval_or : Option IntegerInterval → Option IntegerInterval → Option IntegerInterval
+interval_or None j = j
+interval_or (Some i) j = Some i
 
 abbrev mutual
   pub interval : Spec → List StateVariable → Term → Option IntegerInterval
   interval spec ys (Term.Truth b) = written_interval spec (Term.Truth b)
   interval spec ys (Term.Number n) = written_interval spec (Term.Number n)
   interval spec ys (Term.Named x) =
-      or_else (written_interval spec (Term.Named x)) (variable_interval spec ys x)
+      interval_or (written_interval spec (Term.Named x)) (variable_interval spec ys x)
   interval spec ys (Term.Not x) = Some truths
   interval spec ys (Term.Negative x) = of_one Negation (interval spec ys x)
   interval spec ys (Term.Binary o x y) =

@@ -32,6 +32,6 @@ Delivers is_failed_write IsWritten (Err error) sink old new =
     Leaves (is_failed_write error) IsWritten sink old new
 
 -- whether a text was not written since a write failed
-abbrev pub is_failed : OrMemory E02 → Bool
-is_failed Memory = false
-is_failed (Refused _) = true
+abbrev pub was_not_written : OrMemory E02 → Bool
+was_not_written Memory = false
+was_not_written (Refused _) = true

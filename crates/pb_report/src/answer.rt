@@ -1,6 +1,6 @@
 //! The answer to a system, and its report.
 ghost use Rattle.std.specs.Prelude.{◌≡◌};
-ghost use Rattle.pb_report.specs.Delivery.{Delivers, is_failed};
+ghost use Rattle.pb_report.specs.Delivery.{Delivers, was_not_written};
 ghost use Rattle.pb_report.specs.Sending.{Sends};
 ghost use Rattle.pb_report.specs.Report.{truth_line, counted_line, counts_text, report_text};
 
@@ -58,7 +58,7 @@ fn write_report<S: Sink>(writer: &mut TextWriter<'_, S>, answer: &Answer) -> Res
 /// `Memory` before the first byte. After `E02` a part that begins the report, and not the whole of
 /// it, went out.
 pub fn report<S: Sink>(alloc: Global, answer: &Answer, sink: &mut S) -> Result<(), WriteError>
-    ensures { Delivers is_failed (λ text. text ≡ report_text answer.now) result
+    ensures { Delivers was_not_written (λ text. text ≡ report_text answer.now) result
         S.Sink sink.old sink.new }
 {
     let mut buffer = TextBuffer::new(alloc)?;

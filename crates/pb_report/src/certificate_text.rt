@@ -3,7 +3,7 @@
 ghost use Rattle.std.specs.Prelude.{◌≡◌, ◌<◌, Some};
 ghost use Rattle.pb_game.specs.Games.{vertex_count};
 ghost use Rattle.pb_game.specs.Solutions.{HasLengths};
-ghost use Rattle.pb_report.specs.Delivery.{Delivers, is_failed};
+ghost use Rattle.pb_report.specs.Delivery.{Delivers, was_not_written};
 ghost use Rattle.pb_report.specs.Sending.{Sends};
 ghost use Rattle.pb_report.specs.CertificateText.{strategy_at, strategy_part, winner_line};
 ghost use Rattle.pb_report.specs.CertificateText.{winner_lines, certificate_head};
@@ -112,8 +112,8 @@ pub fn certificate_text<S: Sink>(
     sink: &mut S,
 ) -> Result<(), WriteError>
     requires lengths { HasLengths game.now solution.now }
-    ensures { Delivers is_failed (λ text. text ≡ certificate_text game.now solution.now) result
-        S.Sink sink.old sink.new }
+    ensures { Delivers was_not_written (λ text. text ≡ certificate_text game.now solution.now)
+        result S.Sink sink.old sink.new }
 {
     let mut buffer = TextBuffer::new(alloc)?;
     let mut writer = TextWriter {

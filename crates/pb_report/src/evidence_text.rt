@@ -8,7 +8,7 @@ ghost use Rattle.pb_fixpoint_trees.specs.Tree.{Tree};
 ghost use Rattle.pb_bytecode.specs.Meaning.{AreTrees, parameters};
 ghost use Rattle.pb_game_of_trees.specs.Explored.{ModuleHasTrees};
 ghost use Rattle.pb_report.specs.InstanceName.{instance_name};
-ghost use Rattle.pb_report.specs.Delivery.{Delivers, is_failed};
+ghost use Rattle.pb_report.specs.Delivery.{Delivers, was_not_written};
 ghost use Rattle.pb_report.specs.Sending.{Sends};
 ghost use Rattle.pb_report.specs.EvidenceText.{truth_mark, place_mark, dependency_text};
 ghost use Rattle.pb_report.specs.EvidenceText.{cut_mark, line_tail};
@@ -229,7 +229,7 @@ pub fn evidence_text<S: Sink>(
         × AreCallPlaces place placed.now.explanation.now.evidence placed.now.call_places.now }
     ensures { (place : ℕ → ℕ → Option Place)
         → AreCallPlaces place placed.now.explanation.now.evidence placed.now.call_places.now
-        → Delivers is_failed (IsTextOfTrees verified.now (λ trees.
+        → Delivers was_not_written (IsTextOfTrees verified.now (λ trees.
         module_evidence_text verified.now trees place placed.now.explanation.now.evidence)) result
         S.Sink sink.old sink.new }
 {

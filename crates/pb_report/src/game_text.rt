@@ -6,7 +6,7 @@ ghost use Rattle.pb_bytecode.specs.Meaning.{parameters};
 ghost use Rattle.pb_game.specs.Games.{vertex_count, successors_of};
 ghost use Rattle.pb_game_of_trees.specs.Explored.{ModuleHasTrees, AreModuleRows, IsModuleGame};
 ghost use Rattle.pb_report.specs.ModuleTexts.{module_game_text, IsTextOfTrees};
-ghost use Rattle.pb_report.specs.Delivery.{Delivers, is_failed};
+ghost use Rattle.pb_report.specs.Delivery.{Delivers, was_not_written};
 ghost use Rattle.pb_report.specs.Sending.{Sends};
 ghost use Rattle.pb_report.specs.InstanceName.{instance_name};
 ghost use Rattle.pb_report.specs.GameText.{name_part, vertex_at, vertex_line};
@@ -177,7 +177,7 @@ fn write_text<S: Sink>(
     requires edges { (v : ℕ) → v < vertex_count game.now → 0 < length (successors_of game.now v) }
     requires numbers { (v : ℕ) → IfSome (number_in placed.now.vertices.now placed.now.rows.now v)
         (λ n. n < count_of (parameters verified.now)) }
-    ensures { Delivers is_failed (λ text. text
+    ensures { Delivers was_not_written (λ text. text
         ≡ memory_text verified.now game.now placed.now.vertices.now placed.now.rows.now)
         result S.Sink sink.old sink.new }
 {
@@ -207,7 +207,7 @@ pub fn game_text<S: Sink>(
     requires trees { ModuleHasTrees verified.now }
     requires rows { AreModuleRows verified.now rows.now }
     requires game { IsModuleGame verified.now rows.now built.now }
-    ensures { Delivers is_failed
+    ensures { Delivers was_not_written
         (IsTextOfTrees verified.now (λ trees. module_game_text verified.now trees rows.now)) result
         S.Sink sink.old sink.new }
 {

@@ -4,7 +4,7 @@ ghost use Rattle.pb_fixpoint_trees.specs.Tree.{Tree};
 ghost use Rattle.pb_sorts.specs.Layout.{count_of};
 ghost use Rattle.pb_bytecode.specs.Meaning.{parameters, AreTrees};
 ghost use Rattle.pb_game_of_trees.specs.Explored.{ModuleHasTrees, AreModuleRows, IsModuleGame};
-ghost use Rattle.pb_report.specs.Delivery.{Delivers, is_failed};
+ghost use Rattle.pb_report.specs.Delivery.{Delivers, was_not_written};
 ghost use Rattle.pb_report.specs.Sending.{Sends};
 ghost use Rattle.pb_report.specs.InstanceName.{instance_name};
 ghost use Rattle.pb_report.specs.SolutionText.{truth_end, solution_line};
@@ -78,7 +78,7 @@ pub fn solution_text<S: Sink>(
     requires trees { ModuleHasTrees verified.now }
     requires rows { AreModuleRows verified.now rows.now }
     requires game { IsModuleGame verified.now rows.now solved.now.built }
-    ensures { Delivers is_failed
+    ensures { Delivers was_not_written
         (IsTextOfTrees verified.now (λ trees. module_solution_text verified.now trees rows.now))
         result S.Sink sink.old sink.new }
 {

@@ -16,14 +16,14 @@ use Rattle.pb_text_lexer.specs.Kinds.{same_kind}
 use Rattle.pb_text_lexer.specs.Steps.{Step, Outcome, Gives, refuse, refusal, kind, take_token, chain}
 use Rattle.pb_text_lexer.specs.Tokens.{Tok}
 use Rattle.pb_text_lexer.proofs.LoopLemmas.{placed, resumed-first-fails}
-use Rattle.pb_text_terms.specs.Operators.{symbol, is_connective}
+use Rattle.pb_text_terms.specs.Operators.{symbol_kind, is_connective}
 use Rattle.pb_text_terms.proofs.ReadLemmas.{resumed-alone-or-fails, no-connective}
 use Rattle.pb_text_terms.specs.Reading as expressions
 use Rattle.pb_text_formulas.specs.Reading.{begun, data_term, node, formula, quantification, primary, operand, level}
 
 -- a level is a chain of its operands
 pub level-chain : (c : Connective) (depth : ℕ) (s : State)
-    → level c depth s ≡ chain (symbol c) (placed (symbol c) (FormulaForm.connected c) (operand c depth)) (operand c depth) (suc (length s.tokens)) s
+    → level c depth s ≡ chain (symbol_kind c) (placed (symbol_kind c) (FormulaForm.connected c) (operand c depth)) (operand c depth) (suc (length s.tokens)) s
 unfolding node formula quantification
 level-chain And depth s = refl
 level-chain Or depth s = refl
@@ -54,7 +54,7 @@ node-other (suc depth) s a b c d e f =
 
 -- where an operand fails, its chain does
 level-fails : (c : Connective) (depth : ℕ) (s : State) (bad : Refusal) → operand c depth s ≡ Err bad → level c depth s ≡ Err bad
-level-fails c depth s bad fails = level-chain c depth s ∙ resumed-first-fails (symbol c) (FormulaForm.connected c) (operand c depth) (length s.tokens) s bad fails
+level-fails c depth s bad fails = level-chain c depth s ∙ resumed-first-fails (symbol_kind c) (FormulaForm.connected c) (operand c depth) (length s.tokens) s bad fails
 
 pub conjunction-fails : (depth : ℕ) (s : State) (bad : Refusal) → level And depth s ≡ Err bad → formula depth s ≡ Err bad
 conjunction-fails depth s bad fails = level-fails Implies depth s bad (level-fails Or depth s bad fails)
@@ -66,11 +66,11 @@ pub primary-fails : (depth : ℕ) (s : State) (bad : Refusal) → primary depth 
 primary-fails depth s bad fails = conjunction-fails depth s bad (level-fails And depth s bad fails)
 
 -- an operand behind which the connective doesn't stand
-pub level-alone-or-fails : (c : Connective) (depth : ℕ) (s z : State) (r : Result Formula (OrMemory Refusal)) → Gives formula_form (operand c depth s) r z → same_kind (kind z) (symbol c) ≡ false
+pub level-alone-or-fails : (c : Connective) (depth : ℕ) (s z : State) (r : Result Formula (OrMemory Refusal)) → Gives formula_form (operand c depth s) r z → same_kind (kind z) (symbol_kind c) ≡ false
     → Gives formula_form (level c depth s) r z
 level-alone-or-fails c depth s z r reads other =
     subst (λ (o : Outcome FormulaForm). Gives formula_form o r z) (sym (level-chain c depth s))
-    (resumed-alone-or-fails (symbol c) (FormulaForm.connected c) (operand c depth) formula_form (length s.tokens) s z r reads other)
+    (resumed-alone-or-fails (symbol_kind c) (FormulaForm.connected c) (operand c depth) formula_form (length s.tokens) s z r reads other)
 
 -- a first part behind which no connective stands
 pub primary-alone-or-fails : (depth : ℕ) (s z : State) (r : Result Formula (OrMemory Refusal)) → Gives formula_form (primary depth s) r z → is_connective (kind z) ≡ false

@@ -18,7 +18,7 @@ use Rattle.pb_text_lexer.proofs.CorrectPlain.{Always, anywhere, then-plain, is-c
 use Rattle.pb_text_lexer.proofs.CorrectLeft.{unless_next-answers, extended-correct}
 use Rattle.pb_text_lexer.proofs.CorrectChained.{is-symbol-at, head-of-passes}
 use Rattle.pb_text_terms.specs.Grammar.{Name, Placed, arguments_of, Arguments, Instance, IsTerm}
-use Rattle.pb_text_terms.specs.Reading.{name, is_open, placed, argument_list, arguments, instance, term}
+use Rattle.pb_text_terms.specs.Reading.{name, is_open, with_place, argument_list, arguments, instance, term}
 use Rattle.pb_text_terms.proofs.CorrectVariable.{head-kind-is, head-limited, name-correct, said-correct, listed-correct, stops-at-kind}
 use Rattle.pb_text_terms.proofs.CorrectOperators.{comma-apart, list-closes, list_goes, term_goes, unary_goes}
 use Rattle.pb_text_terms.proofs.TermStarts.{deeper-some, readable-term}
@@ -47,7 +47,7 @@ goes-placed fam level n some ts c = record {
 }
 
 pub placed-correct : {X : Type 0} (fam : Family X) (g : Kind → Bool) (depth : ℕ) → ((d : ℕ) (s : State) (y : X) (z : State) → fam d s y z → Passes (λ kind. true) s.tokens)
-    → (p : Step X) → Correct Always p fam g depth → Correct Always (placed p) (λ d. Placed (fam d)) g depth
+    → (p : Step X) → Correct Always p fam g depth → Correct Always (with_place p) (λ d. Placed (fam d)) g depth
 placed-correct {X} fam g depth some p right = record {
   answers = λ s end u. went s (p s) (right.answers s end u);
   here = readable-placed fam depth some right.here;
@@ -160,7 +160,7 @@ module _ (depth : ℕ) (right-term : Correct Always (term depth) IsTerm term_goe
   inner-term = deeper-correct Always (term depth) IsTerm term_goes depth right-term
 
   lists : Correct Always (argument_list (term depth)) (λ d. Listed (Placed (deeper IsTerm d)) (One k.Comma)) list_goes (suc depth)
-  lists = listed-correct (λ d. Placed (deeper IsTerm d)) term_goes (suc depth) comma-apart (placed (term depth))
+  lists = listed-correct (λ d. Placed (deeper IsTerm d)) term_goes (suc depth) comma-apart (with_place (term depth))
       (placed-correct (deeper IsTerm) term_goes (suc depth) deeper-some (term depth) inner-term)
 
   arguments-correct : Correct (Passes is_open) (arguments take_token (term depth)) (λ d. Arguments (deeper IsTerm d)) never (suc depth)

@@ -27,8 +27,8 @@ use Rattle.pb_text_terms.specs.declared.level.Relation.{Relation}
 use Rattle.pb_text_terms.specs.declared.level.Relation.TheVariants as relation
 use Rattle.pb_text_terms.specs.declared.level.Operator.{Operator}
 use Rattle.pb_text_terms.specs.declared.level.Operator.TheVariants as o
-use Rattle.pb_text_terms.specs.Levels.{operator_of, level_of, operand_level, rank, may_quantify, is_related}
-use Rattle.pb_text_terms.specs.Operators.{symbol, is_times, is_division, is_additive, is_order, is_equality, is_quantifier, compared_by}
+use Rattle.pb_text_terms.specs.Levels.{operator_of_token, level_of, operand_level, rank, may_quantify, is_related}
+use Rattle.pb_text_terms.specs.Operators.{symbol_kind, is_times, is_division, is_additive, is_order, is_equality, is_quantifier, compared_by}
 use Rattle.pb_text_terms.specs.Reading.{begun, unary, lowest, sum, ordered, equated, operand, operations, is_among, is_mixed, at, below, term, quantified_term}
 use Rattle.pb_text_terms.proofs.TermLemmas.{lowest-is}
 use Rattle.pb_text_terms.proofs.ReadLemmas.{left-alone, left-fails, begun-at, lowest-node, sum-first-fails, sum-alone, sum-fails, sum-read, product-first-fails, product-alone, times-fail, times-mixed, times-read, division-fails, division-mixed, division-read, equated-first-fails}
@@ -125,7 +125,7 @@ may-above m n le h = may-rank n (let low = rank-may m h in omega arith)
 -- ---- no operator of a level stands next
 
 abbrev Not : Level → Kind → Type 0
-Not m kind = (q : Operator) → operator_of kind ≡ Some q → level_of q ≡ m → ⊥
+Not m kind = (q : Operator) → operator_of_token kind ≡ Some q → level_of q ≡ m → ⊥
 
 not-times : (kind : Kind) → Not l.Product kind → is_times kind ≡ false
 not-times k.Times h = absurd (h (o.Arithmetic Times) refl refl)
@@ -153,21 +153,21 @@ not-equality k.Equal h = absurd (h (o.Relation relation.Equality) refl refl)
 not-equality k.NotEqual h = absurd (h (o.Relation relation.Equality) refl refl)
 not-equality _ h = refl
 
-connective-stands : (c : Connective) → operator_of (symbol c) ≡ Some (o.Connective c)
+connective-stands : (c : Connective) → operator_of_token (symbol_kind c) ≡ Some (o.Connective c)
 connective-stands And = refl
 connective-stands Or = refl
 connective-stands Implies = refl
 
-not-symbol : (c : Connective) (kind : Kind) → Not (level_of (o.Connective c)) kind → same_kind kind (symbol c) ≡ false
-not-symbol c kind h = by (same_kind kind (symbol c)) refl
+not-symbol : (c : Connective) (kind : Kind) → Not (level_of (o.Connective c)) kind → same_kind kind (symbol_kind c) ≡ false
+not-symbol c kind h = by (same_kind kind (symbol_kind c)) refl
   where
-    by : (v : Bool) → same_kind kind (symbol c) ≡ v → same_kind kind (symbol c) ≡ false
-    by true same = absurd (h (o.Connective c) (ap operator_of (kind-same kind (symbol c) same) ∙ connective-stands c) refl)
+    by : (v : Bool) → same_kind kind (symbol_kind c) ≡ v → same_kind kind (symbol_kind c) ≡ false
+    by true same = absurd (h (o.Connective c) (ap operator_of_token (kind-same kind (symbol_kind c) same) ∙ connective-stands c) refl)
     by false same = same
 
 -- ---- operators, where they stand
 
-pub among-stands : (a : Operators) (kind : Kind) → operator_of kind ≡ Some (o.Arithmetic a) → is_among a kind ≡ true
+pub among-stands : (a : Operators) (kind : Kind) → operator_of_token kind ≡ Some (o.Arithmetic a) → is_among a kind ≡ true
 among-stands a k.Plus h = let is : a ≡ Additive = cc in subst (λ v. is_among v k.Plus ≡ true) (sym is) refl
 among-stands a k.Minus h = let is : a ≡ Additive = cc in subst (λ v. is_among v k.Minus ≡ true) (sym is) refl
 among-stands a k.Times h = let is : a ≡ Times = cc in subst (λ v. is_among v k.Times ≡ true) (sym is) refl
@@ -175,7 +175,7 @@ among-stands a k.Div h = let is : a ≡ Division = cc in subst (λ v. is_among v
 among-stands a k.Mod h = let is : a ≡ Division = cc in subst (λ v. is_among v k.Mod ≡ true) (sym is) refl
 among-stands a _ h = absurd (let no : ⊥ = cc in no)
 
-pub related-stands : (r : Relation) (kind : Kind) → operator_of kind ≡ Some (o.Relation r) → is_related r kind ≡ true
+pub related-stands : (r : Relation) (kind : Kind) → operator_of_token kind ≡ Some (o.Relation r) → is_related r kind ≡ true
 related-stands r k.Less h = let is : r ≡ relation.Order = cc in subst (λ v. is_related v k.Less ≡ true) (sym is) refl
 related-stands r k.LessOrEqual h = let is : r ≡ relation.Order = cc in subst (λ v. is_related v k.LessOrEqual ≡ true) (sym is) refl
 related-stands r k.Greater h = let is : r ≡ relation.Order = cc in subst (λ v. is_related v k.Greater ≡ true) (sym is) refl
@@ -218,10 +218,10 @@ module _ (depth : ℕ) where
 
   -- ---- from one level to the next
 
-  chain-alone : (c : Connective) (item : Step TermForm) (n : ℕ) (s s1 : State) (x : TermForm) → item s ≡ Ok (x, s1) → same_kind (kind s1) (symbol c) ≡ false
-      → chain (symbol c) (λ x t y. TermForm.connected c t.place x y) item (suc n) s ≡ Ok (x, s1)
+  chain-alone : (c : Connective) (item : Step TermForm) (n : ℕ) (s s1 : State) (x : TermForm) → item s ≡ Ok (x, s1) → same_kind (kind s1) (symbol_kind c) ≡ false
+      → chain (symbol_kind c) (λ x t y. TermForm.connected c t.place x y) item (suc n) s ≡ Ok (x, s1)
   chain-alone c item n s s1 x reads other =
-      resumed-first (symbol c) (TermForm.connected c) item n s s1 x reads ∙ resumed-end (symbol c) (TermForm.connected c) item (n - 0) x [] s1 other
+      resumed-first (symbol_kind c) (TermForm.connected c) item n s s1 x reads ∙ resumed-end (symbol_kind c) (TermForm.connected c) item (n - 0) x [] s1 other
 
   alone : (m : Level) (s s1 : State) (x : TermForm) → at (tighter m) depth s ≡ Ok (x, s1) → Not m (kind s1) → at m depth s ≡ Ok (x, s1)
   unfolding ordered equated
@@ -253,7 +253,7 @@ module _ (depth : ℕ) where
   -- ---- from a level to any above it
 
   pub skips : (n : ℕ) (low high : Level) (s s1 : State) (x : TermForm) → rank high ≡ n + rank low
-      → ((q : Operator) → operator_of (kind s1) ≡ Some q → rank low < rank (level_of q) → rank (level_of q) ≤ rank high → ⊥)
+      → ((q : Operator) → operator_of_token (kind s1) ≡ Some q → rank low < rank (level_of q) → rank (level_of q) ≤ rank high → ⊥)
       → at low depth s ≡ Ok (x, s1) → at high depth s ≡ Ok (x, s1)
   skips zero low high s s1 x e none reads = subst (λ v. at v depth s ≡ Ok (x, s1)) (same-rank low high (omega arith)) reads
   skips (suc n) low high s s1 x e none reads =
@@ -269,12 +269,12 @@ module _ (depth : ℕ) where
       fails high s bad (λ five. plain (omega arith) (omega arith)) (fails-up n low (tighter high) s bad less (λ a b. plain a (omega arith)) reads)
 
   pub skips-to : (low high : Level) (s s1 : State) (x : TermForm) → rank low ≤ rank high
-      → ((q : Operator) → operator_of (kind s1) ≡ Some q → rank low < rank (level_of q) → rank high < rank (level_of q))
+      → ((q : Operator) → operator_of_token (kind s1) ≡ Some q → rank low < rank (level_of q) → rank high < rank (level_of q))
       → at low depth s ≡ Ok (x, s1) → at high depth s ≡ Ok (x, s1)
   skips-to low high s s1 x le none reads = skips (rank high - rank low) low high s s1 x (omega arith) (λ q is above within. let out = none q is above in omega arith) reads
 
   -- a term of a lower level in front of an operator is an operand of it
-  pub before-operator : (low : Level) (q : Operator) (s s1 : State) (x : TermForm) → operator_of (kind s1) ≡ Some q → rank low < rank (level_of q)
+  pub before-operator : (low : Level) (q : Operator) (s s1 : State) (x : TermForm) → operator_of_token (kind s1) ≡ Some q → rank low < rank (level_of q)
       → at low depth s ≡ Ok (x, s1) → at (operand_level q) depth s ≡ Ok (x, s1)
   before-operator low q s s1 x is above reads =
       let r = operand-rank q in
@@ -307,7 +307,7 @@ module _ (depth : ℕ) where
   first-fails-as high s bad other reads = fails-up (rank high) l.Unary high s bad (let g : rank high ≡ rank high + 0 = omega arith in g) (λ a b. plain-first high s other b) reads
 
   pub first-or-fails : (high : Level) (s z : State) (r : Result Term (OrMemory Refusal)) → (may_quantify high && is_quantifier (kind s)) ≡ false
-      → ((q : Operator) → operator_of (kind z) ≡ Some q → 0 < rank (level_of q) → rank high < rank (level_of q))
+      → ((q : Operator) → operator_of_token (kind z) ≡ Some q → 0 < rank (level_of q) → rank high < rank (level_of q))
       → Gives term_form (unary depth s) r z → Gives term_form (at high depth s) r z
   first-or-fails high s z (Ok x) other none reads = skips-to l.Unary high s z (term_form x) (let g : 0 ≤ rank high = omega arith in g) none reads
   first-or-fails high s z (Err fault) other none reads = if_fault fault (λ bad e. first-fails-as high s bad other e) reads
@@ -352,7 +352,7 @@ relation-is relation.Order depth s = refl
 relation-is relation.Equality depth s = refl
 
 pub connection-is : (c : Connective) (depth : ℕ) (s : State)
-    → at (level_of (o.Connective c)) depth s ≡ chain (symbol c) (λ x t y. TermForm.connected c t.place x y) (at (operand_level (o.Connective c)) depth) (suc (length s.tokens)) s
+    → at (level_of (o.Connective c)) depth s ≡ chain (symbol_kind c) (λ x t y. TermForm.connected c t.place x y) (at (operand_level (o.Connective c)) depth) (suc (length s.tokens)) s
 connection-is And depth s = refl
 connection-is Or depth s = refl
 connection-is Implies depth s = refl

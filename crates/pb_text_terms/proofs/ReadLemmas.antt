@@ -22,7 +22,7 @@ use Rattle.pb_text_terms.specs.declared.operator.Operators.{Operators}
 use Rattle.pb_text_terms.specs.declared.operator.Operators.TheVariants.{Additive, Times, Division}
 use Rattle.pb_text_terms.specs.Operators.{computed_by, arithmetic_of, is_connective, is_times, is_division, is_additive, is_order, is_equality, is_operator, is_quantifier, compared_by}
 use Rattle.pb_text_terms.specs.Grammar.{arguments_of, applied}
-use Rattle.pb_text_terms.specs.Reading.{name, placed, closed, is_open, is_among, operation, operations, product, sum, ordered, unary, begun, lowest, equated, term, below, instance, argument_list, argument_pair}
+use Rattle.pb_text_terms.specs.Reading.{name, with_place, closed, is_open, is_among, operation, operations, product, sum, ordered, unary, begun, lowest, equated, term, below, instance, argument_list, argument_pair}
 use Rattle.pb_text_terms.proofs.TermLemmas.{unary-is, lowest-is}
 
 -- ---- a comparison
@@ -222,10 +222,10 @@ module _ (u : Step TermForm) where
 -- ---- names with arguments
 
 module _ {X : Type 0} (p : Step X) where
-  pub placed-fails : (s : State) (bad : Refusal) → p s ≡ Err bad → placed p s ≡ Err bad
+  pub placed-fails : (s : State) (bad : Refusal) → p s ≡ Err bad → with_place p s ≡ Err bad
   placed-fails s bad reads = rw reads refl
 
-  pub placed-read : (s z : State) (at : Place) (x : X) → at ≡ place s → p s ≡ Ok (x, z) → placed p s ≡ Ok ((at, x), z)
+  pub placed-read : (s z : State) (at : Place) (x : X) → at ≡ place s → p s ≡ Ok (x, z) → with_place p s ≡ Ok ((at, x), z)
   placed-read s z at x here reads = rw reads (ap (λ v. Ok ((v, x), z)) (sym here))
 
 pub below-is : {X : Type 0} (p : ℕ → Step X) (depth : ℕ) → 0 < depth → below p depth ≡ p (depth - 1)

@@ -13,22 +13,22 @@ use Rattle.pb_text_terms.specs.declared.level.Operator.{Operator}
 use Rattle.pb_text_terms.specs.declared.level.Operator.TheVariants as o
 use Rattle.pb_text_terms.specs.Operators.{is_order, is_equality}
 
-abbrev pub operator_of : Kind → Option Operator
-operator_of k.Times = Some (o.Arithmetic Times)
-operator_of k.Div = Some (o.Arithmetic Division)
-operator_of k.Mod = Some (o.Arithmetic Division)
-operator_of k.Plus = Some (o.Arithmetic Additive)
-operator_of k.Minus = Some (o.Arithmetic Additive)
-operator_of k.Less = Some (o.Relation relation.Order)
-operator_of k.LessOrEqual = Some (o.Relation relation.Order)
-operator_of k.Greater = Some (o.Relation relation.Order)
-operator_of k.GreaterOrEqual = Some (o.Relation relation.Order)
-operator_of k.Equal = Some (o.Relation relation.Equality)
-operator_of k.NotEqual = Some (o.Relation relation.Equality)
-operator_of k.And = Some (o.Connective And)
-operator_of k.Or = Some (o.Connective Or)
-operator_of k.Implies = Some (o.Connective Implies)
-operator_of _ = None
+abbrev pub operator_of_token : Kind → Option Operator
+operator_of_token k.Times = Some (o.Arithmetic Times)
+operator_of_token k.Div = Some (o.Arithmetic Division)
+operator_of_token k.Mod = Some (o.Arithmetic Division)
+operator_of_token k.Plus = Some (o.Arithmetic Additive)
+operator_of_token k.Minus = Some (o.Arithmetic Additive)
+operator_of_token k.Less = Some (o.Relation relation.Order)
+operator_of_token k.LessOrEqual = Some (o.Relation relation.Order)
+operator_of_token k.Greater = Some (o.Relation relation.Order)
+operator_of_token k.GreaterOrEqual = Some (o.Relation relation.Order)
+operator_of_token k.Equal = Some (o.Relation relation.Equality)
+operator_of_token k.NotEqual = Some (o.Relation relation.Equality)
+operator_of_token k.And = Some (o.Connective And)
+operator_of_token k.Or = Some (o.Connective Or)
+operator_of_token k.Implies = Some (o.Connective Implies)
+operator_of_token _ = None
 
 -- the level at which operators stand
 abbrev pub level_of : Operator → Level

@@ -15,10 +15,10 @@ use Rattle.pb_text_lexer.specs.Tokens.{Tok}
 -- ---- connectives
 
 -- the token of a connective
-abbrev pub symbol : Connective → Kind
-symbol connective.And = k.And
-symbol connective.Or = k.Or
-symbol connective.Implies = k.Implies
+abbrev pub symbol_kind : Connective → Kind
+symbol_kind connective.And = k.And
+symbol_kind connective.Or = k.Or
+symbol_kind connective.Implies = k.Implies
 
 -- the connective of a token; only of `&&`, `||` and `=>` it is asked for
 abbrev pub connective_of : Kind → Connective

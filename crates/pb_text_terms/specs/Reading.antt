@@ -19,7 +19,7 @@ use Rattle.pb_text_terms.specs.declared.operator.Operators.{Operators}
 use Rattle.pb_text_terms.specs.declared.operator.Operators.TheVariants.{Additive, Times, Division}
 use Rattle.pb_text_terms.specs.declared.level.Level.{Level}
 use Rattle.pb_text_terms.specs.declared.level.Level.TheVariants as l
-use Rattle.pb_text_terms.specs.Operators.{symbol, connected_by, is_quantifier, is_equality, is_order, compared_by, is_additive, is_times, is_division, arithmetic_of, computed_by}
+use Rattle.pb_text_terms.specs.Operators.{symbol_kind, connected_by, is_quantifier, is_equality, is_order, compared_by, is_additive, is_times, is_division, arithmetic_of, computed_by}
 use Rattle.pb_text_terms.specs.Grammar.{arguments_of, applied}
 
 -- ---- names, variables, quantifiers
@@ -79,15 +79,15 @@ abbrev pub is_open : Kind → Bool
 is_open kind = same_kind kind k.Open
 
 -- what is read, with the place of its first token
-abbrev pub placed : {X : Type 0} → Step X → Step (Place × X)
-placed p = λ s. (p >>= (λ x. pure (place s, x))) s
+abbrev pub with_place : {X : Type 0} → Step X → Step (Place × X)
+with_place p = λ s. (p >>= (λ x. pure (place s, x))) s
 
 -- an argument of a tree
 abbrev pub argument_pair : Argument → Place × TermForm
 argument_pair a = (a.place, term_form a.term)
 
 abbrev pub argument_list : Step TermForm → Step (List (Place × TermForm))
-argument_list term = λ s. listed (placed term) is_comma take_token (suc (length s.tokens)) s
+argument_list term = λ s. listed (with_place term) is_comma take_token (suc (length s.tokens)) s
 
 -- The first step takes a token that opens a level.
 abbrev pub arguments : Step Tok → Step TermForm → Step ArgumentForms
@@ -187,7 +187,7 @@ operand make Implies node = disjunction (connected_by make) node
 abbrev pub level : {X : Type 0} → (Connective → Place → X → X → X) → Connective → Step X → Step X
 level make c node =
     λ s. chain
-    (symbol c) (λ x t y. make c t.place x y) (operand make c node) (suc (length s.tokens)) s
+    (symbol_kind c) (λ x t y. make c t.place x y) (operand make c node) (suc (length s.tokens)) s
 
 -- what a token begins, where a level may open and where none may
 abbrev pub unary_over : Step Tok → Step TermForm → Step TermForm → Step TermForm

@@ -28,7 +28,7 @@ pub(crate) fn joined_by(
     operator: Operator,
     first: Term,
 ) -> Result<Term, ReadingError>
-    requires { levels.operator_of (steps.kind input.old) ≡ Some operator }
+    requires { levels.operator_of_token (steps.kind input.old) ≡ Some operator }
     ensures reads { (s : State) → reading.at (levels.operand_level operator) depth s
         ≡ Ok (term_form first, input.old)
         → (levels.may_quantify (levels.level_of operator) ≡ true

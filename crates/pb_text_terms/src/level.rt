@@ -62,7 +62,7 @@ pub enum Operator {
 
 /// The operator of a token, if it is one.
 pub fn operator_of(kind: Kind) -> Option<Operator>
-    ensures { result ≡ spec.operator_of kind }
+    ensures { result ≡ spec.operator_of_token kind }
 {
     let operator = match kind {
         Kind::Times => Operator::Arithmetic(Operators::Times),
@@ -140,10 +140,10 @@ pub fn begins_quantified(level: Level, kind: Kind) -> bool
 
 /// The operator of a token, if it is one of these levels.
 pub fn next_operator(levels: Levels, kind: Kind) -> Option<Operator>
-    ensures stands { IfSome result (λ o. spec.operator_of kind ≡ Some o) }
+    ensures stands { IfSome result (λ o. spec.operator_of_token kind ≡ Some o) }
     ensures above { IfSome result (λ o. spec.rank levels.above < spec.rank (spec.level_of o)) }
     ensures within { IfSome result (λ o. spec.rank (spec.level_of o) ≤ spec.rank levels.limit) }
-    ensures none { IfNone result ((o : Operator) → spec.operator_of kind ≡ Some o
+    ensures none { IfNone result ((o : Operator) → spec.operator_of_token kind ≡ Some o
         → spec.rank levels.above < spec.rank (spec.level_of o)
         → spec.rank levels.limit < spec.rank (spec.level_of o)) }
 {

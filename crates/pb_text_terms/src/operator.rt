@@ -9,7 +9,7 @@ use pb_text_tree::{Arithmetic, Comparison, Connective, Quantifier};
 
 /// The token of a connective.
 pub fn symbol(connective: Connective) -> Kind
-    ensures { result ≡ spec.symbol connective }
+    ensures { result ≡ spec.symbol_kind connective }
 {
     match connective {
         Connective::And => Kind::And,

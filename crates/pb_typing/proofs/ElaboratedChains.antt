@@ -17,14 +17,14 @@ use Rattle.pb_typing_tree.specs.Expansion.{expanded}
 use Rattle.pb_typing_tree.specs.Tree.{Formula, Connected, Quantified}
 use Rattle.pb_typing_tree.specs.Elaboration.{Slotting, with_slot, with_slots, each, elaborated, width}
 use Rattle.pb_typing_tree.specs.Loops.{variable_shapes}
-use Rattle.pb_typing_tree.specs.View.{chained, nested}
+use Rattle.pb_typing_tree.specs.View.{chained_formula, nested}
 use Rattle.pb_typing_declarations.specs.Entries.{shapes_of}
 
 -- ---- formulas
 
 pub chained-elaborated : (S : Spec) (o : Connective) (c : Slotting) (scope : Scope) (n : ℕ) (first : FormulaForm) (links : List Link)
     → elaborated S c scope n (expanded (erased_formula (form.chained (FormulaForm.connected o) first (link_forms links))))
-    ≡ chained (Connected o) (elaborated S c scope n (expanded (erased_formula first))) (elaborated_links S c scope (n + width (expanded (erased_formula first))) links)
+    ≡ chained_formula (Connected o) (elaborated S c scope n (expanded (erased_formula first))) (elaborated_links S c scope (n + width (expanded (erased_formula first))) links)
 chained-elaborated S o c scope n first [] = refl
 chained-elaborated S And c scope n first (l ∷ ls) =
     ap (Connected And (elaborated S c scope n (expanded (erased_formula first))))

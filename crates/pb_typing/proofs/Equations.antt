@@ -21,7 +21,7 @@ use Rattle.pb_typing_tree.specs.Elaboration.{elaborated_equation}
 use Rattle.pb_typing_tree.specs.Loops.{equation_loops}
 use Rattle.pb_typing_tree.specs.Tree.{Formula}
 use Rattle.pb_typing_tree.specs.View.{formula_view}
-use Rattle.pb_typing.specs.Rights.{AreRights, IsRight, own_faults}
+use Rattle.pb_typing.specs.Rights.{AreRights, IsRight, right_own_faults}
 use Rattle.pb_typing.specs.Typed.{IsLayout}
 
 abbrev pub erased : Equation → syntax.Equation
@@ -100,11 +100,11 @@ done_begun S xs e = record {
 
 -- the faults of the equations that are left are those of the next one, and of those behind it
 pub next_parts : {S : Spec} {xs : List Equation} {k : ℕ} {done : List declared.Equation} {X : Equation} → AreDone S xs k done → k < length xs → X ≡ get_or xs k X
-    → right_faults S (map equation_form xs) ≡ own_faults S (equation_form X) ++ right_faults S (map equation_form (drop (k + 1) xs))
+    → right_faults S (map equation_form xs) ≡ right_own_faults S (equation_form X) ++ right_faults S (map equation_form (drop (k + 1) xs))
 next_parts {S} {xs} {k} {done} {X} h below at = h.faults ∙ ap (λ (ys : List Equation). right_faults S (map equation_form ys)) (drop-at xs k X below at)
 
 pub done_next : {S : Spec} {xs : List Equation} {k : ℕ} {done more : List declared.Equation} {X : Equation} (Y : declared.Equation) → AreDone S xs k done → k < length xs → X ≡ get_or xs k X
-    → more ≡ done ++ Y ∷ [] → (own_faults S (equation_form X) ≡ []) × IsRight S (equation_form X) Y → AreDone S xs (k + 1) more
+    → more ≡ done ++ Y ∷ [] → (right_own_faults S (equation_form X) ≡ []) × IsRight S (equation_form X) Y → AreDone S xs (k + 1) more
 done_next {S} {xs} {k} {done} {more} {X} Y h below at pushed checked =
     let made = checked.1 in
     let left = drop-at xs k X below at in

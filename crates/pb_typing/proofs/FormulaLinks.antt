@@ -12,10 +12,10 @@ use Rattle.pb_text_meaning.specs.Syntax.{Spec}
 use Rattle.pb_typing_declarations.specs.declared.fault.TypingFault.{TypingFault}
 use Rattle.pb_typing_rules.specs.Scope.{Scope}
 use Rattle.pb_typing_rules.specs.Faults.{formula_faults, left_parity, operand_parity}
-use Rattle.pb_typing.specs.FormulaLinks.{link_faults}
+use Rattle.pb_typing.specs.FormulaLinks.{formula_link_faults}
 
 pub chained-faults : (S : Spec) (a : Scope) (c : Connective) (even : Bool) (first : FormulaForm) (links : List Link)
-    → formula_faults S even a (chained (FormulaForm.connected c) first (link_forms links)) ≡ formula_faults S (operand_parity c even (length links)) a first ++ link_faults S a c even links
+    → formula_faults S even a (chained (FormulaForm.connected c) first (link_forms links)) ≡ formula_faults S (operand_parity c even (length links)) a first ++ formula_link_faults S a c even links
 chained-faults S a c even first [] = sym (append-nil (formula_faults S even a first))
 chained-faults S a c even first (link ∷ links) =
     ap (λ (xs : List TypingFault). formula_faults S (left_parity c even) a first ++ xs) (chained-faults S a c even (formula_form link.operand) links)
@@ -23,12 +23,12 @@ chained-faults S a c even first (link ∷ links) =
 -- in the code's words: the first operand has the parity p, as n links stand behind it
 pub chain_first : (S : Spec) (a : Scope) (even : Bool) (chain operand : ast.Formula) (c : Connective) (first : Box ast.Formula Global) (links : Vec Link Global) (n : ℕ) (p : Bool)
     → chain ≡ ast.Chain c first links → operand ≡ box_value first → n ≡ length links.items → p ≡ operand_parity c even n
-    → formula_faults S even a (formula_form chain) ≡ formula_faults S p a (formula_form operand) ++ link_faults S a c even links.items
+    → formula_faults S even a (formula_form chain) ≡ formula_faults S p a (formula_form operand) ++ formula_link_faults S a c even links.items
 chain_first S a even chain operand c first links n p is is_first are parity =
     ap (formula_faults S even a) (ap formula_form is ∙ formula-chain c first links)
     ∙ (chained-faults S a c even (formula_form (box_value first)) links.items
-    ∙ (ap (λ (f : ast.Formula). formula_faults S (operand_parity c even (length links.items)) a (formula_form f) ++ link_faults S a c even links.items) (sym is_first)
-    ∙ ap (λ (q : Bool). formula_faults S q a (formula_form operand) ++ link_faults S a c even links.items) (sym (parity ∙ ap (operand_parity c even) are))))
+    ∙ (ap (λ (f : ast.Formula). formula_faults S (operand_parity c even (length links.items)) a (formula_form f) ++ formula_link_faults S a c even links.items) (sym is_first)
+    ∙ ap (λ (q : Bool). formula_faults S q a (formula_form operand) ++ formula_link_faults S a c even links.items) (sym (parity ∙ ap (operand_parity c even) are))))
 
 length-drop_next : (links : List Link) (k : ℕ) → k < length links → length (drop (k + 1) links) ≡ length links - k - 1
 length-drop_next links k below = length-drop (k + 1) links ∙ omega arith
@@ -36,9 +36,9 @@ length-drop_next links k below = length-drop (k + 1) links ∙ omega arith
 -- and the operand of the link at k has the parity p
 pub chain_next : (S : Spec) (a : Scope) (c : Connective) (even : Bool) (links : List Link) (k : ℕ) (link : Link) (n : ℕ) (p : Bool)
     → k < length links → link ≡ get_or links k link → n ≡ length links → p ≡ operand_parity c even (n - k - 1)
-    → link_faults S a c even (drop k links) ≡ formula_faults S p a (formula_form link.operand) ++ link_faults S a c even (drop (k + 1) links)
+    → formula_link_faults S a c even (drop k links) ≡ formula_faults S p a (formula_form link.operand) ++ formula_link_faults S a c even (drop (k + 1) links)
 chain_next S a c even links k link n p below at are parity =
-    let rest = link_faults S a c even (drop (k + 1) links) in
-    ap (link_faults S a c even) (drop-at links k link below at)
+    let rest = formula_link_faults S a c even (drop (k + 1) links) in
+    ap (formula_link_faults S a c even) (drop-at links k link below at)
     ∙ (ap (λ (m : ℕ). formula_faults S (operand_parity c even m) a (formula_form link.operand) ++ rest) (length-drop_next links k below ∙ ap (λ (m : ℕ). m - k - 1) (sym are))
     ∙ ap (λ (q : Bool). formula_faults S q a (formula_form link.operand) ++ rest) (sym parity))

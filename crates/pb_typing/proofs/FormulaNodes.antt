@@ -30,12 +30,12 @@ use Rattle.pb_typing_tree.specs.Elaboration.{elaborated}
 use Rattle.pb_typing_tree.specs.Expansion.{expanded}
 use Rattle.pb_typing_tree.specs.Loops.{loops}
 use Rattle.pb_typing_tree.specs.Tree.{Connected, Formula}
-use Rattle.pb_typing_tree.specs.View.{chained, formula_views}
+use Rattle.pb_typing_tree.specs.View.{chained_formula, formula_views}
 use Rattle.pb_typing_nodes.specs.declared.context.Context.{Context}
 use Rattle.pb_typing_nodes.specs.Contexts.{scope_in, slots_in, text_in}
 use Rattle.pb_typing_nodes.proofs.SlotLemmas.{variables_of}
 use Rattle.pb_typing.specs.Contexts.{AddsLoops, ChecksFormula}
-use Rattle.pb_typing.specs.FormulaLinks.{elaborated_links, link_faults, links_calls, links_loops}
+use Rattle.pb_typing.specs.FormulaLinks.{elaborated_links, formula_link_faults, links_calls, links_loops}
 use Rattle.pb_typing.specs.Tree.{formula_of}
 use Rattle.pb_typing.proofs.Bodies.{IsQuantifier}
 use Rattle.pb_typing.proofs.ElaboratedChains.{chained-elaborated}
@@ -128,7 +128,7 @@ quantified-calls p q vs body is same = ap (λ (g : ast.Formula). calls_in (formu
 
 -- a chain of a first operand, which has a polarity of its own, and those linked to it
 pub record IsChain (X : Context) (even first_even : Bool) (f x : ast.Formula) (o : Connective) (links : List Link) : Type 0 where
-  pub faults : formula_faults_in X even f ≡ formula_faults_in X first_even x ++ link_faults (text_in X) (scope_in X) o even links
+  pub faults : formula_faults_in X even f ≡ formula_faults_in X first_even x ++ formula_link_faults (text_in X) (scope_in X) o even links
   pub node : formula_form f ≡ form.chained (FormulaForm.connected o) (formula_form x) (link_forms links)
 
 pub chain-read : (X : Context) (even : Bool) {first_even : Bool} {f x : ast.Formula} (o : Connective) (first : Box ast.Formula Global) (v : Vec Link Global) (n : ℕ) {links : List Link}
@@ -136,7 +136,7 @@ pub chain-read : (X : Context) (even : Bool) {first_even : Bool} {f x : ast.Form
 chain-read X even {first_even} {f} {x} o first v n is same are count parity = record {
   faults =
       chain_first (text_in X) (scope_in X) even f x o first v n first_even is same count parity
-      ∙ ap (λ (ls : List Link). formula_faults_in X first_even x ++ link_faults (text_in X) (scope_in X) o even ls) (sym are);
+      ∙ ap (λ (ls : List Link). formula_faults_in X first_even x ++ formula_link_faults (text_in X) (scope_in X) o even ls) (sym are);
   node =
       ap formula_form is
       ∙ (formula-chain o first v
@@ -147,8 +147,8 @@ chain-read X even {first_even} {f} {x} o first v n is same are count parity = re
 -- what is found of the operands behind the first
 abbrev pub ChecksLinks : Context → Connective → Bool → ℕ → List Link → Result (Vec code.Formula Global) (OrMemory TypingFault) → Type 0
 ChecksLinks X o even n links r =
-    MatchResult r (λ fs. (link_faults (text_in X) (scope_in X) o even links ≡ []) × (formula_views fs.items ≡ links_in X n links))
-    (IsAmong (link_faults (text_in X) (scope_in X) o even links))
+    MatchResult r (λ fs. (formula_link_faults (text_in X) (scope_in X) o even links ≡ []) × (formula_views fs.items ≡ links_in X n links))
+    (IsAmong (formula_link_faults (text_in X) (scope_in X) o even links))
 
 -- where the first has no fault
 pub others_among : {X : Context} {even first_even : Bool} {f x : ast.Formula} {o : Connective} {links : List Link} {r : Result (Vec code.Formula Global) (OrMemory TypingFault)}
@@ -167,10 +167,10 @@ others_clear {X} {even} {first_even} {f} {x} {o} {links} n read none found h =
 -- the first operand's typed formula, and those of the others
 pub chain-view : {X : Context} {even first_even : Bool} {f x : ast.Formula} {o : Connective} {links : List Link} {g : Formula} {gs : List Formula} (before mid : List Carrier)
     → IsChain X even first_even f x o links → AddsLoops X before mid (formula_of x) → g ≡ formula_in X (length before) x → gs ≡ links_in X (length mid) links
-    → chained (Connected o) g gs ≡ formula_in X (length before) f
+    → chained_formula (Connected o) g gs ≡ formula_in X (length before) f
 chain-view {X} {even} {first_even} {f} {x} {o} {links} {g} {gs} before mid read shapes head behind =
-    ap (λ (h : Formula). chained (Connected o) h gs) head
-    ∙ (ap (chained (Connected o) (formula_in X (length before) x)) (behind ∙ ap (λ (n : ℕ). links_in X n links) (grown (text_in X) (formula_of x) before mid shapes))
+    ap (λ (h : Formula). chained_formula (Connected o) h gs) head
+    ∙ (ap (chained_formula (Connected o) (formula_in X (length before) x)) (behind ∙ ap (λ (n : ℕ). links_in X n links) (grown (text_in X) (formula_of x) before mid shapes))
     ∙ (sym (chained-elaborated (text_in X) o (slots_in X) (scope_in X) (length before) (formula_form x) links)
     ∙ sym (ap (λ (z : FormulaForm). elaborated (text_in X) (slots_in X) (scope_in X) (length before) (expanded (erased_formula z))) read.node)))
 

@@ -42,9 +42,9 @@ use Rattle.pb_typing_nodes.specs.declared.context.Context.{Context}
 use Rattle.pb_typing_nodes.specs.Contexts.{scope_in, slots_in, text_in}
 use Rattle.pb_typing_nodes.specs.Elaborated.{Elaborates}
 use Rattle.pb_typing_terms.proofs.Nodes.{faults_in, shape_in}
-use Rattle.pb_typing.specs.Tree.{formula_of, value_of}
-use Rattle.pb_typing.specs.FormulaLinks.{elaborated_links, link_faults, link_width, links_calls, links_loops}
-use Rattle.pb_typing.specs.Arguments.{faults_against, own_faults}
+use Rattle.pb_typing.specs.Tree.{formula_of, as_value}
+use Rattle.pb_typing.specs.FormulaLinks.{elaborated_links, formula_link_faults, link_width, links_calls, links_loops}
+use Rattle.pb_typing.specs.Arguments.{faults_against, argument_own_faults}
 use Rattle.pb_typing.specs.declared.instance.Call.{Call}
 use Rattle.pb_typing.specs.Elaborated.{ElaboratesFormula, IsCall}
 use Rattle.pb_base.specs.declared.or_memory.OrMemory.{OrMemory}
@@ -92,7 +92,7 @@ views-push (g ∷ fs) f = ap (λ (vs : List Formula). formula_view g ∷ vs) (vi
 
 -- so many links are done: their faults, their typed trees, the carriers of their quantifiers and the places of their calls
 pub record AreDone (X : Context) (o : Connective) (even : Bool) (links : List Link) (before : List Carrier) (k : ℕ) (done : List code.Formula) (now : List Carrier) : Type 0 where
-  pub faults : link_faults (text_in X) (scope_in X) o even links ≡ link_faults (text_in X) (scope_in X) o even (drop k links)
+  pub faults : formula_link_faults (text_in X) (scope_in X) o even links ≡ formula_link_faults (text_in X) (scope_in X) o even (drop k links)
   pub places : places_of done ++ links_calls (drop k links) ≡ links_calls links
   pub rest : elaborated_links (text_in X) (slots_in X) (scope_in X) (length before) links
       ≡ formula_views done ++ elaborated_links (text_in X) (slots_in X) (scope_in X) (length now) (drop k links)
@@ -109,8 +109,8 @@ done_begun X o even links before none = record {
 -- the faults that are left are those of the next operand, then those of the ones behind it
 pub next_parts : {X : Context} {o : Connective} {even p : Bool} {links : List Link} {before now : List Carrier} {k : ℕ} {done : List code.Formula} {link : Link}
     → AreDone X o even links before k done now → k < length links → link ≡ get_or links k link → p ≡ operand_parity o even (length links - k - 1)
-    → link_faults (text_in X) (scope_in X) o even links
-    ≡ formula_faults (text_in X) p (scope_in X) (formula_form link.operand) ++ link_faults (text_in X) (scope_in X) o even (drop (k + 1) links)
+    → formula_link_faults (text_in X) (scope_in X) o even links
+    ≡ formula_faults (text_in X) p (scope_in X) (formula_form link.operand) ++ formula_link_faults (text_in X) (scope_in X) o even (drop (k + 1) links)
 next_parts {X} {o} {even} {p} {links} {before} {now} {k} {done} {link} h below at parity =
     h.faults ∙ chain_next (text_in X) (scope_in X) o even links k link (length links) p below at refl parity
 
@@ -152,10 +152,10 @@ done_next {X} {o} {even} {p} {links} {before} {old} {k} {done} {more} {link} f n
 -- all links are done
 pub links_ended : {X : Context} {o : Connective} {even : Bool} {links : List Link} {before now : List Carrier} {k : ℕ} {done : List code.Formula}
     → AreDone X o even links before k done now → length links ≤ k
-    → (link_faults (text_in X) (scope_in X) o even links ≡ []) × (formula_views done ≡ elaborated_links (text_in X) (slots_in X) (scope_in X) (length before) links)
+    → (formula_link_faults (text_in X) (scope_in X) o even links ≡ []) × (formula_views done ≡ elaborated_links (text_in X) (slots_in X) (scope_in X) (length before) links)
 links_ended {X} {o} {even} {links} {before} {now} {k} {done} h end =
     let none = drop_all k links end in (
-      h.faults ∙ ap (link_faults (text_in X) (scope_in X) o even) none,
+      h.faults ∙ ap (formula_link_faults (text_in X) (scope_in X) o even) none,
       sym (h.rest ∙ (ap (λ (ls : List Link). formula_views done ++ elaborated_links (text_in X) (slots_in X) (scope_in X) (length now) ls) none ∙ append-nil (formula_views done))),
     )
 
@@ -171,7 +171,7 @@ shapes_ended {X} {o} {even} {links} {before} {now} {k} h end =
 
 -- what is read as data has no calls
 pub value_places : (X : Context) (n : ℕ) (x : term.Term) (fs : List TypingFault) (r : Result code.Formula (OrMemory TypingFault))
-    → ElaboratesFormula fs (elaborated (text_in X) (slots_in X) (scope_in X) n (value_of x)) r → IfOk r (λ (f : code.Formula). call_places f ≡ [])
+    → ElaboratesFormula fs (elaborated (text_in X) (slots_in X) (scope_in X) n (as_value x)) r → IfOk r (λ (f : code.Formula). call_places f ≡ [])
 value_places X n x fs (Ok f) h = no_places f (ap calls h.1 ∙ data-calls (text_in X) (erased_term (term_form x)) (slots_in X) (scope_in X) n)
 value_places X n x fs (Err e) h = tt
 
@@ -197,15 +197,15 @@ arguments-push [] y = refl
 arguments-push (e ∷ done) y = ap (λ (es : List model.Argument). argument_view e ∷ es) (arguments-push done y)
 
 -- a fault of an argument, by itself or against the shape of its parameter
-pub argument_among : (X : Context) (x : Argument) (s : Shape) (e : OrMemory TypingFault) → IsAmong (faults_in X (term_form x.term)) e → IsAmong (own_faults (text_in X) (scope_in X) x s) e
+pub argument_among : (X : Context) (x : Argument) (s : Shape) (e : OrMemory TypingFault) → IsAmong (faults_in X (term_form x.term)) e → IsAmong (argument_own_faults (text_in X) (scope_in X) x s) e
 argument_among X x s e h = among_left (faults_in X (term_form x.term)) _ e h
 
 pub argument_kind : (X : Context) (x : Argument) (s : Shape) {b : Bool} (e : OrMemory TypingFault) → b ≡ may_be_alike (shape_in X (term_form x.term)) s
-    → IsAmong (unless b rule.WrongKind x.place) e → IsAmong (own_faults (text_in X) (scope_in X) x s) e
+    → IsAmong (unless b rule.WrongKind x.place) e → IsAmong (argument_own_faults (text_in X) (scope_in X) x s) e
 argument_kind X x s e is h = among_right (faults_in X (term_form x.term)) _ e (subst (λ (b : Bool). IsAmong (unless b rule.WrongKind x.place) e) is h)
 
 pub argument_clear : (X : Context) (x : Argument) (s : Shape) {b : Bool} → faults_in X (term_form x.term) ≡ [] → b ≡ may_be_alike (shape_in X (term_form x.term)) s
-    → unless b rule.WrongKind x.place ≡ [] → own_faults (text_in X) (scope_in X) x s ≡ []
+    → unless b rule.WrongKind x.place ≡ [] → argument_own_faults (text_in X) (scope_in X) x s ≡ []
 argument_clear X x s none is clear = first_clear _ (faults_in X (term_form x.term)) _ refl none ∙ (sym (ap (λ (b : Bool). unless b rule.WrongKind x.place) is) ∙ clear)
 
 -- so many arguments are done: their faults and their typed terms
@@ -231,7 +231,7 @@ shapes-at cs k p below at = rw add-one (by_suc cs k below at)
 pub argument_parts : {X : Context} {xs : List Argument} {cs : List Carrier} {k : ℕ} {done : List declared.Argument} {x : Argument} {p : Carrier}
     → AreLeft X xs cs k done → length xs ≡ length cs → k < length xs → x ≡ get_or xs k x → p ≡ get_or cs k p
     → faults_against (text_in X) (scope_in X) xs (shapes_of cs)
-    ≡ own_faults (text_in X) (scope_in X) x (shape_of p) ++ faults_against (text_in X) (scope_in X) (drop (k + 1) xs) (drop (k + 1) (shapes_of cs))
+    ≡ argument_own_faults (text_in X) (scope_in X) x (shape_of p) ++ faults_against (text_in X) (scope_in X) (drop (k + 1) xs) (drop (k + 1) (shapes_of cs))
 argument_parts {X} {xs} {cs} {k} {done} {x} {p} h count below at here =
     let within : k < length cs = omega (arith, count, below) in
     h.faults
@@ -241,7 +241,7 @@ argument_parts {X} {xs} {cs} {k} {done} {x} {p} h count below at here =
 -- an argument that is put behind those that are done
 pub argument_next : {X : Context} {xs : List Argument} {cs : List Carrier} {k : ℕ} {done more : List declared.Argument} {x : Argument} {p : Carrier} (y : declared.Argument)
     → AreLeft X xs cs k done → length xs ≡ length cs → k < length xs → x ≡ get_or xs k x → p ≡ get_or cs k p → more ≡ done ++ y ∷ []
-    → Elaborates (own_faults (text_in X) (scope_in X) x (shape_of p)) (shape (text_in X) (scope_in X) (erased_term (term_form x.term)))
+    → Elaborates (argument_own_faults (text_in X) (scope_in X) x (shape_of p)) (shape (text_in X) (scope_in X) (erased_term (term_form x.term)))
     (slotted (text_in X) (slots_in X) (erased_term (term_form x.term))) (Ok y) → AreLeft X xs cs (k + 1) more
 argument_next {X} {xs} {cs} {k} {done} {more} {x} {p} y h count below at here pushed checked =
     let S = text_in X in

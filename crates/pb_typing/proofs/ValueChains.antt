@@ -9,11 +9,11 @@ use Rattle.pb_typing_rules.specs.Scope.{Scope}
 use Rattle.pb_typing_tree.specs.Tree.{Term, Binary, Formula, Test, Connected}
 use Rattle.pb_typing_tree.specs.Elaboration.{Slotting, slotted, elaborated, width}
 use Rattle.pb_typing_tree.specs.Expansion.{has_quantifier, expanded_term}
-use Rattle.pb_typing_tree.specs.View.{chained}
-use Rattle.pb_typing.specs.Value.{Whole, as_formula, joined, chosen, value_of, values_of}
+use Rattle.pb_typing_tree.specs.View.{chained_formula}
+use Rattle.pb_typing.specs.Value.{Whole, as_formula, joined, chosen, term_value, term_values}
 
 abbrev pub chain : Connective → syntax.Term → List syntax.Term → syntax.Term
-chain o x xs = chained (syntax.Term.Binary (of_connective o)) x xs
+chain o x xs = chained_formula (syntax.Term.Binary (of_connective o)) x xs
 
 pub split : (o : Connective) (x y : syntax.Term) → (has_quantifier x || has_quantifier y) ≡ true
     → expanded_term (syntax.Term.Binary (of_connective o) x y) ≡ formula_joined o (expanded_term x) (expanded_term y)
@@ -56,7 +56,7 @@ same-chosen true f g x h = ap Whole (h refl)
 same-chosen false f g x h = refl
 
 two : (S : Spec) (c : Slotting) (scope : Scope) (o : Connective) (x y : syntax.Term) (n : ℕ)
-    → value_of S c scope n (syntax.Term.Binary (of_connective o) x y) ≡ joined o (value_of S c scope n x) (value_of S c scope (n + width (expanded_term x)) y)
+    → term_value S c scope n (syntax.Term.Binary (of_connective o) x y) ≡ joined o (term_value S c scope n x) (term_value S c scope (n + width (expanded_term x)) y)
 two S c scope o x y n =
     let m = n + width (expanded_term x) in
     same-chosen (has_quantifier x || has_quantifier y) _ (Connected o (elaborated S c scope n (expanded_term x)) (elaborated S c scope m (expanded_term y))) _
@@ -64,14 +64,14 @@ two S c scope o x y n =
     ∙ join-chosen o (has_quantifier x) (has_quantifier y) _ _ (slotted S c x) (slotted S c y) (elaborated-plain S c scope n x) (elaborated-plain S c scope m y)
 
 pub chain-value : (S : Spec) (c : Slotting) (scope : Scope) (o : Connective) (x : syntax.Term) (xs : List syntax.Term) (n : ℕ)
-    → value_of S c scope n (chain o x xs) ≡ chained (joined o) (value_of S c scope n x) (values_of S c scope (n + width (expanded_term x)) xs)
+    → term_value S c scope n (chain o x xs) ≡ chained_formula (joined o) (term_value S c scope n x) (term_values S c scope (n + width (expanded_term x)) xs)
 chain-value S c scope o x [] n = refl
 chain-value S c scope o x (y ∷ ys) n =
-    two S c scope o x (chain o y ys) n ∙ ap (joined o (value_of S c scope n x)) (chain-value S c scope o y ys (n + width (expanded_term x)))
+    two S c scope o x (chain o y ys) n ∙ ap (joined o (term_value S c scope n x)) (chain-value S c scope o y ys (n + width (expanded_term x)))
 
 chosen-formula : (b : Bool) (f : Formula) (x : Term) → (b ≡ false → f ≡ Test x) → as_formula (chosen b f x) ≡ f
 chosen-formula true f x h = refl
 chosen-formula false f x h = sym (h refl)
 
-pub value-formula : (S : Spec) (c : Slotting) (scope : Scope) (x : syntax.Term) (n : ℕ) → as_formula (value_of S c scope n x) ≡ elaborated S c scope n (expanded_term x)
+pub value-formula : (S : Spec) (c : Slotting) (scope : Scope) (x : syntax.Term) (n : ℕ) → as_formula (term_value S c scope n x) ≡ elaborated S c scope n (expanded_term x)
 value-formula S c scope x n = chosen-formula (has_quantifier x) _ _ (elaborated-plain S c scope n x)

@@ -19,9 +19,9 @@ use Rattle.pb_typing_rules.specs.Scope.{Scope}
 use Rattle.pb_typing_tree.specs.Expansion.{has_quantifier, have_quantifier, expanded_term}
 use Rattle.pb_typing_tree.specs.Loops.{loops}
 use Rattle.pb_typing_tree.specs.Elaboration.{Slotting, width}
-use Rattle.pb_typing_tree.specs.View.{chained}
+use Rattle.pb_typing_tree.specs.View.{chained_formula}
 use Rattle.pb_typing.specs.Tree.{operand_terms}
-use Rattle.pb_typing.specs.Value.{value_of, values_of}
+use Rattle.pb_typing.specs.Value.{term_value, term_values}
 use Rattle.pb_typing.specs.Value as values
 use Rattle.pb_typing.specs.ValueLinks.{operand, value_loops}
 use Rattle.pb_typing.proofs.LoopCount.{length-loops}
@@ -117,7 +117,7 @@ form-chain o first (l ∷ ls) = ap (syntax.Term.Binary (of_connective o) (erased
 
 -- the value of a chain is its operands' values joined
 pub form-value : (S : Spec) (c : Slotting) (a : Scope) (o : Connective) (first : TermForm) (links : List TermLink) (n : ℕ)
-    → value_of S c a n (chain_form o first links)
-    ≡ chained (values.joined o) (value_of S c a n (erased_term first))
-    (values_of S c a (n + width (expanded_term (erased_term first))) (operand_terms links))
-form-value S c a o first links n = ap (value_of S c a n) (form-chain o first links) ∙ chain-value S c a o (erased_term first) (operand_terms links) n
+    → term_value S c a n (chain_form o first links)
+    ≡ chained_formula (values.joined o) (term_value S c a n (erased_term first))
+    (term_values S c a (n + width (expanded_term (erased_term first))) (operand_terms links))
+form-value S c a o first links n = ap (term_value S c a n) (form-chain o first links) ∙ chain-value S c a o (erased_term first) (operand_terms links) n

@@ -7,13 +7,13 @@ use Rattle.pb_text_tree.specs.declared.operator.Connective.{Connective}
 use Rattle.pb_text_meaning.specs.Erase.{of_connective}
 use Rattle.pb_typing_tree.specs.Tree as tree
 use Rattle.pb_typing_tree.specs.Tree.{Binary, Test, Connected}
-use Rattle.pb_typing_tree.specs.View.{chained, term_view, term_views, formula_view, formula_views}
+use Rattle.pb_typing_tree.specs.View.{chained_formula, term_view, term_views, formula_view, formula_views}
 use Rattle.pb_typing_tree.specs.declared.term.Term as term
 use Rattle.pb_typing_tree.specs.declared.formula.Formula as formula
 use Rattle.pb_typing_tree.proofs.Views.{term-chain, formula-chain as formula-chain-view}
 use Rattle.pb_typing.specs.declared.joined.Joined.{Joined}
 use Rattle.pb_typing.specs.declared.joined.Joined.TheVariants as state
-use Rattle.pb_typing.specs.Value.{Value, Data, Whole, folded, tail}
+use Rattle.pb_typing.specs.Value.{TermValue, Data, Whole, folded, tail}
 use Rattle.pb_typing.specs.ValueView.{pieces, value_view}
 use Rattle.pb_typing.specs.declared.joined.Value as declared_value
 use Rattle.std.proofs.Common.{false, true≢false, arith}
@@ -22,8 +22,8 @@ use Rattle.std.specs.List.{remove}
 use Rattle.pb_typing.proofs.ValueFold.{data-chain, formula-chain, as-tests, lists}
 
 pub chain-made : (o : Connective) (x : term.Term) (b : Box term.Term Global) (v : Vec term.Term Global) → box_value b ≡ x
-    → term_view (term.Chain o b v) ≡ chained (Binary (of_connective o)) (term_view x) (term_views v.items)
-chain-made o x b v is = term-chain o b v ∙ ap (λ (y : term.Term). chained (Binary (of_connective o)) (term_view y) (term_views v.items)) is
+    → term_view (term.Chain o b v) ≡ chained_formula (Binary (of_connective o)) (term_view x) (term_views v.items)
+chain-made o x b v is = term-chain o b v ∙ ap (λ (y : term.Term). chained_formula (Binary (of_connective o)) (term_view y) (term_views v.items)) is
 
 pub terms-made : (o : Connective) (s : Joined) (x : term.Term) (b : Box term.Term Global) (v : Vec term.Term Global) → s ≡ state.Terms x v → box_value b ≡ x
     → Data (term_view (term.Chain o b v)) ≡ folded o (pieces s)
@@ -35,8 +35,8 @@ pub formulas-made : (o : Connective) (s : Joined) (f : formula.Formula) (fs all 
     → Whole (formula_view (formula.Chain o b all)) ≡ folded o (pieces s)
 formulas-made o s f fs all v b is boxed made =
     ap Whole (formula-chain-view o b all
-    ∙ (ap (λ (g : formula.Formula). chained (Connected o) (formula_view g) (formula_views all.items)) boxed
-    ∙ ap (chained (Connected o) (formula_view f)) made))
+    ∙ (ap (λ (g : formula.Formula). chained_formula (Connected o) (formula_view g) (formula_views all.items)) boxed
+    ∙ ap (chained_formula (Connected o) (formula_view f)) made))
     ∙ (sym (formula-chain o (formula_view f) (formula_views fs.items) (term_views v.items)) ∙ sym (ap (λ (t : Joined). folded o (pieces t)) is))
 
 pub tail-made : (o : Connective) (fs all : List formula.Formula) (xs : List term.Term) (x : term.Term) (b : Box term.Term Global) (v : Vec term.Term Global)
@@ -49,7 +49,7 @@ pub head-removed : {A : Type 0} (n : ℕ) (xs ys : List A) (x : A) → ((n == 0)
 head-removed n [] ys x h len e r = absurd (true≢false (ap (λ m. m == 0) len ∙ h))
 head-removed n (z ∷ zs) ys x h len e r = ap (λ y. y ∷ zs) (sym e) ∙ ap (λ y. x ∷ y) (sym r)
 
-abbrev built : List formula.Formula → List term.Term → List Value
+abbrev built : List formula.Formula → List term.Term → List TermValue
 built all none = map Whole (formula_views all) ++ map Data (term_views none)
 
 -- formulas to which tests and a formula were added
@@ -62,7 +62,7 @@ tests_made old terms f is h =
 
 pub added-terms : (s : Joined) (v : declared_value.Value) (x : term.Term) (l : Vec term.Term Global) (f : formula.Formula) (old all : List formula.Formula) (none : List term.Term)
     → s ≡ state.Terms x l → v ≡ declared_value.TheVariants.Formula f → old ≡ [] → formula_views all ≡ formula_views old ++ (map Test (term_views l.items) ++ (formula_view f ∷ [])) → none ≡ []
-    → (o : Connective) (xs : List Value) → folded o (Whole (Test (term_view x)) ∷ (built all none ++ xs)) ≡ folded o (pieces s ++ (value_view v ∷ xs))
+    → (o : Connective) (xs : List TermValue) → folded o (Whole (Test (term_view x)) ∷ (built all none ++ xs)) ≡ folded o (pieces s ++ (value_view v ∷ xs))
 added-terms s v x l f old all none is-s is-v is-old made is-none o xs =
     ap (λ ts. folded o (Whole (Test (term_view x)) ∷ ((map Whole (formula_views all) ++ map Data (term_views ts)) ++ xs))) is-none
     ∙ (ap (λ fs. folded o (Whole (Test (term_view x)) ∷ ((map Whole fs ++ []) ++ xs)))
@@ -75,7 +75,7 @@ added-terms s v x l f old all none is-s is-v is-old made is-none o xs =
 pub added-formulas : (s : Joined) (v : declared_value.Value) (x : formula.Formula) (fs : Vec formula.Formula Global)
     (l : Vec term.Term Global) (f : formula.Formula) (all : List formula.Formula) (none : List term.Term)
     → s ≡ state.Formulas x fs l → v ≡ declared_value.TheVariants.Formula f → formula_views all ≡ formula_views fs.items ++ (map Test (term_views l.items) ++ (formula_view f ∷ [])) → none ≡ []
-    → (o : Connective) (xs : List Value) → folded o (Whole (formula_view x) ∷ (built all none ++ xs)) ≡ folded o (pieces s ++ (value_view v ∷ xs))
+    → (o : Connective) (xs : List TermValue) → folded o (Whole (formula_view x) ∷ (built all none ++ xs)) ≡ folded o (pieces s ++ (value_view v ∷ xs))
 added-formulas s v x fs l f all none is-s is-v made is-none o xs =
     ap (λ ts. folded o (Whole (formula_view x) ∷ ((map Whole (formula_views all) ++ map Data (term_views ts)) ++ xs))) is-none
     ∙ (ap (λ gs. folded o (Whole (formula_view x) ∷ ((map Whole gs ++ []) ++ xs))) made

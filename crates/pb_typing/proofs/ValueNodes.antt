@@ -53,7 +53,7 @@ use Rattle.pb_typing.specs.Elaborated.{ElaboratesValue, truth_faults}
 use Rattle.pb_typing.specs.Tree as texts
 use Rattle.pb_typing.specs.Tree.{operand_terms}
 use Rattle.pb_typing.specs.Value as values
-use Rattle.pb_typing.specs.Value.{Data, Whole, as_formula, chosen, value_of, values_of}
+use Rattle.pb_typing.specs.Value.{Data, Whole, as_formula, chosen, term_value, term_values}
 use Rattle.pb_typing.specs.ValueLinks.{operand, value_loops}
 use Rattle.pb_typing.specs.ValueView.{value_shape, value_view, value_views}
 use Rattle.pb_typing.proofs.Bodies.{IsQuantifier}
@@ -65,26 +65,26 @@ use Rattle.pb_typing.proofs.ValueLemmas.{form-value, form-loops, grown, negated-
 abbrev pub faults_in : Context → TermForm → List TypingFault
 faults_in X x = term_faults (text_in X) true (scope_in X) x
 
-abbrev pub value_in : Context → ℕ → TermForm → values.Value
-value_in X n x = value_of (text_in X) (slots_in X) (scope_in X) n (erased_term x)
+abbrev pub value_in : Context → ℕ → TermForm → values.TermValue
+value_in X n x = term_value (text_in X) (slots_in X) (scope_in X) n (erased_term x)
 
-abbrev pub values_in : Context → ℕ → List TermLink → List values.Value
-values_in X n links = values_of (text_in X) (slots_in X) (scope_in X) n (operand_terms links)
+abbrev pub values_in : Context → ℕ → List TermLink → List values.TermValue
+values_in X n links = term_values (text_in X) (slots_in X) (scope_in X) n (operand_terms links)
 
 abbrev pub loops_in : Context → ast.Term → List Shape
-loops_in X x = loops (text_in X) (texts.value_of x)
+loops_in X x = loops (text_in X) (texts.as_value x)
 
 -- a part without faults, and its value
 abbrev pub IsValue : Context → ℕ → TermForm → Value → Type 0
 IsValue X n x v = (faults_in X x ≡ []) × (value_shape v ≡ shape_in X x) × (value_view v ≡ value_in X n x)
 
 -- what is found of the faults that are left, where those before are none
-value_as : (all rest : List TypingFault) (s t : Shape) (x y : values.Value)
+value_as : (all rest : List TypingFault) (s t : Shape) (x y : values.TermValue)
     (r : Result Value (OrMemory TypingFault)) → all ≡ rest → t ≡ s → y ≡ x → ElaboratesValue rest s x r → ElaboratesValue all t y r
 value_as all rest s t x y r e f g h =
     subst (λ (zs : List TypingFault). ElaboratesValue zs t y r) (sym e)
     (subst (λ (u : Shape). ElaboratesValue rest u y r) (sym f)
-    (subst (λ (z : values.Value). ElaboratesValue rest s z r) (sym g) h))
+    (subst (λ (z : values.TermValue). ElaboratesValue rest s z r) (sym g) h))
 
 -- a term is checked as what it is read as is
 pub value_node : (X : Context) (n : ℕ) {x y : TermForm} (r : Result Value (OrMemory TypingFault)) → x ≡ y → ChecksValue X n y r → ChecksValue X n x r
@@ -98,7 +98,7 @@ loops_node X old new r is h = subst (λ (z : TermForm). OnOk r (AddsLoops X old 
 
 pub data_value : (S : Spec) (a : Scope) (c : Slotting) (n : ℕ) (x : TermForm) (y : Argument)
     → term_faults S false a x ≡ [] → term_view y.term ≡ slotted S c (erased_term x)
-    → value_view (declared.Data y) ≡ value_of S c a n (erased_term x)
+    → value_view (declared.Data y) ≡ term_value S c a n (erased_term x)
 data_value S a c n x y none is =
     ap Data is ∙ sym (ap (λ (b : Bool). chosen b (elaborated S c a n (expanded_term (erased_term x))) (slotted S c (erased_term x))) (no_quantifier S a x none))
 
@@ -114,7 +114,7 @@ data_node X n t r same h = subst (λ (fs : List TypingFault). ElaboratesValue fs
 
 -- it adds no carrier
 pub data_grows : (X : Context) (t : ast.Term) (old : List Carrier) (r : Result Value (OrMemory TypingFault))
-    → IfOk r (λ _. has_quantifier (erased_term (term_form t)) ≡ false) → OnOk r (AddsLoops X old old (texts.value_of t))
+    → IfOk r (λ _. has_quantifier (erased_term (term_form t)) ≡ false) → OnOk r (AddsLoops X old old (texts.as_value t))
 data_grows X t old (Ok v) h = plain_grows (text_in X) (erased_term (term_form t)) old h
 data_grows X t old (Err e) h = tt
 
@@ -128,7 +128,7 @@ application-same X f v is =
 
 -- ---- negations
 
-negated-value : (S : Spec) (a : Scope) (c : Slotting) (n : ℕ) (x : syntax.Term) → value_of S c a n (syntax.Term.Not x) ≡ values.negated (value_of S c a n x)
+negated-value : (S : Spec) (a : Scope) (c : Slotting) (n : ℕ) (x : syntax.Term) → term_value S c a n (syntax.Term.Not x) ≡ values.negated (term_value S c a n x)
 negated-value S a c n x = by_test (has_quantifier x)
   where
     by_test : (b : Bool)
@@ -147,7 +147,7 @@ not_value X n p operand v r is same h made =
     let others = unless (may_be_truth (shape_in X z)) rule.WrongKind p in
     subst (λ (u : ast.Term). ChecksValue X n (term_form u) r) (sym is)
     (value_as (faults_in X z ++ others) (unless (may_be_truth (value_shape v)) rule.WrongKind p) Truths Truths
-    (values.negated (value_view v)) (value_of (text_in X) (slots_in X) (scope_in X) n (syntax.Term.Not (erased_term z))) r
+    (values.negated (value_view v)) (term_value (text_in X) (slots_in X) (scope_in X) n (syntax.Term.Not (erased_term z))) r
     (first_clear _ (faults_in X z) others refl part.0 ∙ ap (λ (s : Shape). unless (may_be_truth s) rule.WrongKind p) (sym part.1)) refl
     (negated-value (text_in X) (scope_in X) (slots_in X) n (erased_term z) ∙ ap values.negated (sym part.2)) made)
 
@@ -186,7 +186,7 @@ truth_kind X x p e is h = among_right (faults_in X x) _ e (subst (λ (b : Bool).
 
 abbrev pub IsTermQuantifier : Context → ast.Term → Place → Quantifier → List Variables → ast.Term → Type 0
 IsTermQuantifier X t p q groups x =
-    IsQuantifier (text_in X) (scope_in X) q groups (faults_in X (term_form t)) (λ (i : Scope). truth_faults (text_in X) i (term_form x) p) (texts.value_of t) (texts.value_of x)
+    IsQuantifier (text_in X) (scope_in X) q groups (faults_in X (term_form t)) (λ (i : Scope). truth_faults (text_in X) i (term_form x) p) (texts.as_value t) (texts.as_value x)
 
 pub quantifier-read : (X : Context) {t : ast.Term} (p : Place) (q : Quantifier) (vs : Vec Variables Global) (body : Box ast.Term Global) (x : ast.Term) {groups : List Variables}
     → t ≡ ast.Quantified p q vs body → x ≡ box_value body → groups ≡ vs.items → IsTermQuantifier X t p q groups x
@@ -199,19 +199,19 @@ quantifier-read X p q vs body x is same are =
           ∙ sym (ap (λ (gs : List Variables). variables_faults S (variable_forms gs) ++ truth_faults S (bound S (variables_of gs) a) (term_form x) p) are
           ∙ ap (λ (u : ast.Term). variables_faults S (variable_forms vs.items) ++ truth_faults S (bound S (variables_of vs.items) a) (term_form u) p) same);
       node =
-          ap texts.value_of is
-          ∙ sym (ap (λ (gs : List Variables). syntax.Formula.Quantified q (variables_of gs) (texts.value_of x)) are
-          ∙ ap (λ (u : ast.Term). syntax.Formula.Quantified q (variables_of vs.items) (texts.value_of u)) same);
+          ap texts.as_value is
+          ∙ sym (ap (λ (gs : List Variables). syntax.Formula.Quantified q (variables_of gs) (texts.as_value x)) are
+          ∙ ap (λ (u : ast.Term). syntax.Formula.Quantified q (variables_of vs.items) (texts.as_value u)) same);
     }
 
 -- it is a Boolean, which is read as a formula
 pub quantified-shape : (X : Context) {t u : ast.Term} → t ≡ u → Truths ≡ shape_in X (term_form u) → Truths ≡ shape_in X (term_form t)
 quantified-shape X is made = made ∙ sym (ap (λ (z : ast.Term). shape_in X (term_form z)) is)
 
-pub quantified-value : (X : Context) (n : ℕ) {t u : ast.Term} {f : tree.Formula} → t ≡ u → f ≡ elaborated (text_in X) (slots_in X) (scope_in X) n (texts.value_of t)
-    → Whole (elaborated (text_in X) (slots_in X) (scope_in X) n (texts.value_of u)) ≡ value_in X n (term_form u) → Whole f ≡ value_in X n (term_form t)
+pub quantified-value : (X : Context) (n : ℕ) {t u : ast.Term} {f : tree.Formula} → t ≡ u → f ≡ elaborated (text_in X) (slots_in X) (scope_in X) n (texts.as_value t)
+    → Whole (elaborated (text_in X) (slots_in X) (scope_in X) n (texts.as_value u)) ≡ value_in X n (term_form u) → Whole f ≡ value_in X n (term_form t)
 quantified-value X n is shown made =
-    ap Whole shown ∙ subst (λ (z : ast.Term). Whole (elaborated (text_in X) (slots_in X) (scope_in X) n (texts.value_of z)) ≡ value_in X n (term_form z)) (sym is) made
+    ap Whole shown ∙ subst (λ (z : ast.Term). Whole (elaborated (text_in X) (slots_in X) (scope_in X) n (texts.as_value z)) ≡ value_in X n (term_form z)) (sym is) made
 
 -- ---- chains
 
@@ -245,7 +245,7 @@ others_clear X n o first links {u} none is made h =
 
 -- the carriers of the first operand, and of those behind it
 pub chain-loops : (X : Context) (o : Connective) (first : ast.Term) (links : List TermLink) (before mid now : List Carrier)
-    {r : Result (Vec Value Global) (OrMemory TypingFault)} {vs : Vec Value Global} → AddsLoops X before mid (texts.value_of first)
+    {r : Result (Vec Value Global) (OrMemory TypingFault)} {vs : Vec Value Global} → AddsLoops X before mid (texts.as_value first)
     → r ≡ Ok vs → OnOk r (shapes_of now ≡ shapes_of mid ++ value_loops (text_in X) links) → AddsLoops X before now (expanded_term (texts.chain_of o first links))
 chain-loops X o first links before mid now shapes made behind =
     let grows : shapes_of now ≡ shapes_of mid ++ value_loops (text_in X) links =
@@ -256,14 +256,14 @@ chain-loops X o first links before mid now shapes made behind =
     ∙ ap (λ (ss : List Shape). shapes_of before ++ ss) (sym (form-loops (text_in X) o (term_form first) links))))
 
 -- the values of the first operand and of those behind it, joined
-pub chain-value : (X : Context) (o : Connective) (first : ast.Term) (links : List TermLink) (before mid : List Carrier) (v : Value) (vs : List Value) {w : values.Value}
-    → AddsLoops X before mid (texts.value_of first) → value_view v ≡ value_in X (length before) (term_form first) → value_views vs ≡ values_in X (length mid) links
-    → w ≡ view.chained (values.joined o) (value_view v) (value_views vs) → w ≡ value_in X (length before) (chain_form o first links)
+pub chain-value : (X : Context) (o : Connective) (first : ast.Term) (links : List TermLink) (before mid : List Carrier) (v : Value) (vs : List Value) {w : values.TermValue}
+    → AddsLoops X before mid (texts.as_value first) → value_view v ≡ value_in X (length before) (term_form first) → value_views vs ≡ values_in X (length mid) links
+    → w ≡ view.chained_formula (values.joined o) (value_view v) (value_views vs) → w ≡ value_in X (length before) (chain_form o first links)
 chain-value X o first links before mid v vs shapes head others made =
     made
-    ∙ (ap (λ (u : values.Value). view.chained (values.joined o) u (value_views vs)) head
-    ∙ (ap (view.chained (values.joined o) (value_in X (length before) (term_form first)))
-    (others ∙ ap (λ (m : ℕ). values_in X m links) (grown (text_in X) (texts.value_of first) before mid shapes))
+    ∙ (ap (λ (u : values.TermValue). view.chained_formula (values.joined o) u (value_views vs)) head
+    ∙ (ap (view.chained_formula (values.joined o) (value_in X (length before) (term_form first)))
+    (others ∙ ap (λ (m : ℕ). values_in X m links) (grown (text_in X) (texts.as_value first) before mid shapes))
     ∙ sym (form-value (text_in X) (slots_in X) (scope_in X) o (term_form first) links (length before))))
 
 -- ---- operand by operand
@@ -302,9 +302,9 @@ done_next {X} {links} {first} {old_left} {left} {before} {old} {k} {done} {more}
           h.rest
           ∙ (ap (λ (ls : List TermLink). value_views done ++ values_in X (length old) ls) here
           ∙ (ap (λ (m : ℕ). value_views done ++ value_in X (length old) (term_form link.operand) ∷ values_in X m (drop (k + 1) links)) (sym (grown (text_in X) (operand link) old new shapes))
-          ∙ (ap (λ (u : values.Value). value_views done ++ u ∷ others) (sym checked.2)
+          ∙ (ap (λ (u : values.TermValue). value_views done ++ u ∷ others) (sym checked.2)
           ∙ (sym (append_assoc (value_views done) (value_view v ∷ []) others)
-          ∙ (ap (λ (vs : List values.Value). vs ++ others) (sym (map-append value_view done (v ∷ []))) ∙ ap (λ (vs : List Value). value_views vs ++ others) (sym pushed))))));
+          ∙ (ap (λ (vs : List values.TermValue). vs ++ others) (sym (map-append value_view done (v ∷ []))) ∙ ap (λ (vs : List Value). value_views vs ++ others) (sym pushed))))));
       carriers =
           ap (λ (ss : List Shape). ss ++ value_loops (text_in X) (drop (k + 1) links)) shapes
           ∙ (append_assoc (shapes_of old) (loops (text_in X) (operand link)) (value_loops (text_in X) (drop (k + 1) links))

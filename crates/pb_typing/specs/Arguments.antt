@@ -14,8 +14,8 @@ use Rattle.pb_typing_rules.specs.Term.{shape}
 use Rattle.pb_typing_rules.specs.Faults.{term_faults}
 
 -- the faults of an argument of a parameter of this shape
-abbrev pub own_faults : Spec → Scope → Argument → Shape → List TypingFault
-own_faults spec scope x s =
+abbrev pub argument_own_faults : Spec → Scope → Argument → Shape → List TypingFault
+argument_own_faults spec scope x s =
     term_faults spec false scope (term_form x.term)
     ++ unless (may_be_alike (shape spec scope (erased_term (term_form x.term))) s) WrongKind x.place
 
@@ -24,4 +24,4 @@ abbrev pub faults_against : Spec → Scope → List Argument → List Shape → 
 faults_against spec scope [] ss = []
 faults_against spec scope (x ∷ xs) [] = []
 faults_against spec scope (x ∷ xs) (s ∷ ss) =
-    own_faults spec scope x s ++ faults_against spec scope xs ss
+    argument_own_faults spec scope x s ++ faults_against spec scope xs ss

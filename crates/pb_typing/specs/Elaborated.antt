@@ -21,12 +21,12 @@ use Rattle.pb_typing_tree.specs.Tree.{Formula}
 use Rattle.pb_typing_tree.specs.View.{argument_view, formula_view}
 use Rattle.pb_typing.specs.declared.instance.Call.{Call}
 use Rattle.pb_typing.specs.declared.joined.Value as program
-use Rattle.pb_typing.specs.Value.{Value, value_of}
+use Rattle.pb_typing.specs.Value.{TermValue, term_value}
 use Rattle.pb_typing.specs.ValueView.{value_shape, value_view}
 
 -- ---- data below val
 
-abbrev pub ElaboratesValue : List TypingFault → Shape → Value
+abbrev pub ElaboratesValue : List TypingFault → Shape → TermValue
     → Result program.Value (OrMemory TypingFault) → Type 0
 ElaboratesValue all s v result =
     MatchResult result (λ r. (all ≡ []) × (value_shape r ≡ s) × (value_view r ≡ v)) (IsAmong all)
@@ -36,7 +36,7 @@ abbrev pub ChecksValueIn : Spec → Scope → Slotting → ℕ → TermForm
     → Result program.Value (OrMemory TypingFault) → Type 0
 ChecksValueIn S a c n x result =
     ElaboratesValue (term_faults S true a x) (shape S a (erased_term x))
-    (value_of S c a n (erased_term x)) result
+    (term_value S c a n (erased_term x)) result
 
 -- ---- formulas
 

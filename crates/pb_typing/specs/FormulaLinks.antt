@@ -31,11 +31,11 @@ links_loops S [] = []
 links_loops S (link ∷ links) = loops S (formula_of link.operand) ++ links_loops S links
 
 -- the faults of the operands behind the first, each by how many stand behind it
-abbrev pub link_faults : Spec → Scope → Connective → Bool → List Link → List TypingFault
-link_faults S a c even [] = []
-link_faults S a c even (link ∷ links) =
+abbrev pub formula_link_faults : Spec → Scope → Connective → Bool → List Link → List TypingFault
+formula_link_faults S a c even [] = []
+formula_link_faults S a c even (link ∷ links) =
     formula_faults S (operand_parity c even (length links)) a (formula_form link.operand)
-    ++ link_faults S a c even links
+    ++ formula_link_faults S a c even links
 
 abbrev pub links_calls : List Link → List Place
 links_calls links = flat_map (λ (link : Link). calls_in (formula_form link.operand)) links

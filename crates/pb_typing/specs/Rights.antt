@@ -17,8 +17,8 @@ use Rattle.pb_typing_tree.specs.View.{formula_view, loop_shapes, right_views}
 use Rattle.pb_typing.specs.Tree.{formula_of}
 
 -- the faults of a right side, under its equation's parameters
-abbrev pub own_faults : Spec → EquationForm → List TypingFault
-own_faults spec X =
+abbrev pub right_own_faults : Spec → EquationForm → List TypingFault
+right_own_faults spec X =
     formula_faults spec true (bound spec (erased_variables X.parameters) outermost) X.right
 
 -- a right side in a scope, where so many slots are taken

@@ -10,8 +10,8 @@ use Rattle.pb_text_meaning.specs.Erase.{erased_formula, erased_term}
 use Rattle.pb_typing_tree.specs.Expansion.{expanded, expanded_term}
 
 -- a data term of kind Bool
-abbrev pub value_of : ast.Term → Formula
-value_of x = expanded_term (erased_term (term_form x))
+abbrev pub as_value : ast.Term → Formula
+as_value x = expanded_term (erased_term (term_form x))
 
 -- operands of one connective in data
 abbrev pub chain_of : Connective → ast.Term → List TermLink → Term

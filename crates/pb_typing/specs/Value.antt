@@ -9,46 +9,46 @@ use Rattle.pb_typing_rules.specs.Scope.{Scope}
 use Rattle.pb_typing_tree.specs.Tree.{Term, Binary, Formula, Test, Connected, Negation}
 use Rattle.pb_typing_tree.specs.Elaboration.{Slotting, slotted, elaborated, width}
 use Rattle.pb_typing_tree.specs.Expansion.{has_quantifier, expanded_term}
-use Rattle.pb_typing_tree.specs.View.{chained}
+use Rattle.pb_typing_tree.specs.View.{chained_formula}
 
-pub data Value : Type 0 where
-  Data : Term → Value
-  Whole : Formula → Value
+pub data TermValue : Type 0 where
+  Data : Term → TermValue
+  Whole : Formula → TermValue
 
-abbrev pub as_formula : Value → Formula
+abbrev pub as_formula : TermValue → Formula
 as_formula (Data x) = Test x
 as_formula (Whole f) = f
 
-abbrev pub negated : Value → Value
+abbrev pub negated : TermValue → TermValue
 negated (Data x) = Data (Term.Not x)
 negated (Whole f) = Whole (Negation f)
 
 -- two operands: data where both are
-abbrev pub joined : Connective → Value → Value → Value
+abbrev pub joined : Connective → TermValue → TermValue → TermValue
 joined o (Data x) (Data y) = Data (Binary (of_connective o) x y)
 joined o (Data x) (Whole g) = Whole (Connected o (Test x) g)
 joined o (Whole f) y = Whole (Connected o f (as_formula y))
 
-abbrev pub folded : Connective → List Value → Value
+abbrev pub folded : Connective → List TermValue → TermValue
 folded o [] = Data (Term.Truth false)
-folded o (x ∷ xs) = chained (joined o) x xs
+folded o (x ∷ xs) = chained_formula (joined o) x xs
 
 -- data behind the last formula is one test, if there is any
 abbrev pub tail : Connective → List Term → List Formula
 tail o [] = []
-tail o (x ∷ xs) = Test (chained (Binary (of_connective o)) x xs) ∷ []
+tail o (x ∷ xs) = Test (chained_formula (Binary (of_connective o)) x xs) ∷ []
 
-abbrev pub chosen : Bool → Formula → Term → Value
+abbrev pub chosen : Bool → Formula → Term → TermValue
 chosen true f x = Whole f
 chosen false f x = Data x
 
 -- which value a term of the text has
-abbrev pub value_of : Spec → Slotting → Scope → ℕ → syntax.Term → Value
-value_of spec c scope n x =
+abbrev pub term_value : Spec → Slotting → Scope → ℕ → syntax.Term → TermValue
+term_value spec c scope n x =
     chosen (has_quantifier x) (elaborated spec c scope n (expanded_term x)) (slotted spec c x)
 
 -- each takes its slots
-abbrev pub values_of : Spec → Slotting → Scope → ℕ → List syntax.Term → List Value
-values_of spec c scope n [] = []
-values_of spec c scope n (x ∷ xs) =
-    value_of spec c scope n x ∷ values_of spec c scope (n + width (expanded_term x)) xs
+abbrev pub term_values : Spec → Slotting → Scope → ℕ → List syntax.Term → List TermValue
+term_values spec c scope n [] = []
+term_values spec c scope n (x ∷ xs) =
+    term_value spec c scope n x ∷ term_values spec c scope (n + width (expanded_term x)) xs

@@ -5,10 +5,10 @@ use Rattle.pb_text_meaning.specs.Syntax as syntax
 use Rattle.pb_text_meaning.specs.Syntax.{Spec}
 use Rattle.pb_typing_declarations.specs.Shapes.{Shape}
 use Rattle.pb_typing_tree.specs.Loops.{loops}
-use Rattle.pb_typing.specs.Tree.{value_of}
+use Rattle.pb_typing.specs.Tree.{as_value}
 
 abbrev pub operand : TermLink → syntax.Formula
-operand link = value_of link.operand
+operand link = as_value link.operand
 
 abbrev pub value_loops : Spec → List TermLink → List Shape
 value_loops S [] = []

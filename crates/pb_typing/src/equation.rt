@@ -9,7 +9,7 @@ ghost use Rattle.pb_typing_declarations.specs.View.{spec_of, text_of};
 ghost use Rattle.pb_typing_rules.specs.Faults.{formula_faults, right_faults};
 ghost use Rattle.pb_typing_tree.specs.Loops.{variable_shapes};
 ghost use Rattle.pb_typing_nodes.specs.Contexts.{scope_in, slots_in, text_in};
-ghost use Rattle.pb_typing.specs.Rights.{AreRights, IsRight, IsRightIn, own_faults};
+ghost use Rattle.pb_typing.specs.Rights.{AreRights, IsRight, IsRightIn, right_own_faults};
 ghost use Rattle.pb_typing.specs.Typed.{IsLayout};
 
 use crate::formula::check_formula;
@@ -59,9 +59,9 @@ fn check_right(
     requires parameters { shapes_of parameters.now ≡ variable_shapes (spec_of declarations.now)
         (erased_variables (equation_form equation.now).parameters) }
     ensures { MatchResult result
-        (λ X. (own_faults (spec_of declarations.now) (equation_form equation.now) ≡ [])
+        (λ X. (right_own_faults (spec_of declarations.now) (equation_form equation.now) ≡ [])
         × IsRight (spec_of declarations.now) (equation_form equation.now) X)
-        (IsAmong (own_faults (spec_of declarations.now) (equation_form equation.now))) }
+        (IsAmong (right_own_faults (spec_of declarations.now) (equation_form equation.now))) }
 {
     let table = declare_variables(alloc, &equation.parameters, parameters, 0)?;
     let scope = Scope::Inner(&table, &Scope::Outermost);

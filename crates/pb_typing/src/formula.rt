@@ -9,7 +9,7 @@ ghost use Rattle.pb_typing_tree.specs.View.{formula_views};
 ghost use Rattle.pb_typing.specs.Contexts.{AddsLoops, ChecksFormula};
 ghost use Rattle.pb_typing_nodes.specs.Contexts.{scope_in, slots_in, text_in};
 ghost use Rattle.pb_typing.specs.Elaborated.{ChecksFormulaIn};
-ghost use Rattle.pb_typing.specs.FormulaLinks.{elaborated_links, link_faults, links_calls};
+ghost use Rattle.pb_typing.specs.FormulaLinks.{elaborated_links, formula_link_faults, links_calls};
 ghost use Rattle.pb_typing.specs.FormulaLinks.{links_loops};
 ghost use Rattle.pb_typing_nodes.specs.Scopes.{inner_slots, inner_view};
 ghost use Rattle.pb_typing.specs.Tree.{formula_of};
@@ -116,11 +116,11 @@ fn check_links<'t>(
 ) -> Result<Vec<Formula>, TypeError>
     requires { IsLayout (text_in context.now) context.now.layout.now }
     ensures checked { MatchResult result
-        (λ fs. (link_faults (text_in context.now) (scope_in context.now) connective
+        (λ fs. (formula_link_faults (text_in context.now) (scope_in context.now) connective
         (is_positive polarity) links.now ≡ [])
         × (formula_views fs.items ≡ elaborated_links (text_in context.now) (slots_in context.now)
         (scope_in context.now) (length carriers.old.items) links.now))
-        (IsAmong (link_faults (text_in context.now) (scope_in context.now) connective
+        (IsAmong (formula_link_faults (text_in context.now) (scope_in context.now) connective
         (is_positive polarity) links.now)) }
     ensures carriers { OnOk result (shapes_of carriers.new.items
         ≡ shapes_of carriers.old.items ++ links_loops (text_in context.now) links.now) }

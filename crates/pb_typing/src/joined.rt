@@ -5,7 +5,7 @@ ghost use Rattle.std.specs.Prelude.{◌≡◌, ◌++◌, ◌∷◌, [], List, If
 ghost use Rattle.pb_text_tree.specs.declared.operator.Connective as connectives;
 ghost use Rattle.pb_typing_declarations.specs.Shapes as model;
 ghost use Rattle.pb_typing_tree.specs.Tree.{Test};
-ghost use Rattle.pb_typing_tree.specs.View.{chained, formula_view, formula_views, shape_view};
+ghost use Rattle.pb_typing_tree.specs.View.{chained_formula, formula_view, formula_views, shape_view};
 ghost use Rattle.pb_typing_tree.specs.View.{term_views};
 ghost use Rattle.pb_typing.specs.Value as values;
 ghost use Rattle.pb_typing.specs.Value.{as_formula, folded, joined};
@@ -73,7 +73,7 @@ pub(crate) fn joined_values(
 ) -> Result<Value, AllocError>
     ensures shape { IfOk result (λ v. value_shape v ≡ model.Truths) }
     ensures value { IfOk result (λ v. value_view v
-        ≡ chained (joined connective) (value_view first) (value_views rest.items)) }
+        ≡ chained_formula (joined connective) (value_view first) (value_views rest.items)) }
 {
     let mut state = started(alloc, first);
     for value in rest {
@@ -100,7 +100,7 @@ fn started(alloc: Global, value: Value) -> Joined
 
 /// One operand more.
 fn added(alloc: Global, state: Joined, value: Value) -> Result<Joined, AllocError>
-    ensures { IfOk result (λ after. (o : connectives.Connective) (xs : List values.Value)
+    ensures { IfOk result (λ after. (o : connectives.Connective) (xs : List values.TermValue)
         → folded o (pieces after ++ xs) ≡ folded o (pieces state ++ (value_view value ∷ xs))) }
 {
     match (state, value) {

@@ -19,9 +19,9 @@ ghost use Rattle.pb_typing_nodes.specs.Contexts.{scope_in};
 ghost use Rattle.pb_typing_nodes.specs.Contexts.{slots_in, text_in};
 ghost use Rattle.pb_typing.specs.Elaborated.{ChecksTruthIn, ElaboratesValue};
 ghost use Rattle.pb_typing_nodes.specs.Scopes.{inner_slots, inner_view};
-ghost use Rattle.pb_typing.specs.Tree.{chain_of, operand_terms, value_of};
+ghost use Rattle.pb_typing.specs.Tree.{chain_of, operand_terms, as_value};
 ghost use Rattle.pb_typing.specs.Value as values;
-ghost use Rattle.pb_typing.specs.Value.{values_of};
+ghost use Rattle.pb_typing.specs.Value.{term_values};
 ghost use Rattle.pb_typing.specs.ValueLinks.{operand, value_loops};
 ghost use Rattle.pb_typing.specs.ValueView.{value_shape, value_view, value_views};
 ghost use Rattle.pb_typing_tree.specs.Expansion.{expanded_term};
@@ -53,7 +53,7 @@ pub(crate) fn check_truth<'t>(
     ensures checked { ChecksTruth context.now (length carriers.old.items) (term_form term.now)
         place result }
     ensures carriers { OnOk result (AddsLoops context.now carriers.old.items carriers.new.items
-        (value_of term.now)) }
+        (as_value term.now)) }
 {
     let found = check_value(context, carriers, term)?;
     let test = is_truth(&found.shape());
@@ -71,7 +71,7 @@ fn check_value<'t>(
     ensures checked { ChecksValue context.now (length carriers.old.items) (term_form term.now)
         result }
     ensures carriers { OnOk result (AddsLoops context.now carriers.old.items carriers.new.items
-        (value_of term.now)) }
+        (as_value term.now)) }
 {
     match term {
         Term::Not { place, operand } => {
@@ -115,7 +115,7 @@ fn check_data(context: &Context<'_, '_, '_>, term: &Term) -> Result<Value, TypeE
     ensures checked { (n : ℕ) → ElaboratesValue
         (term_faults (text_in context.now) false (scope_in context.now) (term_form term.now))
         (shape (text_in context.now) (scope_in context.now) (erased_term (term_form term.now)))
-        (values.value_of (text_in context.now) (slots_in context.now) (scope_in context.now) n
+        (values.term_value (text_in context.now) (slots_in context.now) (scope_in context.now) n
         (erased_term (term_form term.now))) result }
     ensures plain { IfOk result (λ _. has_quantifier (erased_term (term_form term.now)) ≡ false) }
 {
@@ -154,7 +154,7 @@ fn check_body<'a, 't>(
         (inner_view table.now (scope_in outer.now)) (inner_slots table.now (slots_in outer.now))
         (length carriers.old.items) (term_form body.now) place result }
     ensures carriers { OnOk result (AddsLoops outer.now carriers.old.items carriers.new.items
-        (value_of body.now)) }
+        (as_value body.now)) }
 {
     let scope = Scope::Inner(table, outer.scope);
     let context = Context {
@@ -202,7 +202,7 @@ fn check_links<'t>(
     ensures checked { MatchResult result
         (λ vs. (link_faults (text_in context.now) true (scope_in context.now) (shape_view first)
         links.now ≡ [])
-        × (value_views vs.items ≡ values_of (text_in context.now) (slots_in context.now)
+        × (value_views vs.items ≡ term_values (text_in context.now) (slots_in context.now)
         (scope_in context.now) (length carriers.old.items) (operand_terms links.now)))
         (IsAmong (link_faults (text_in context.now) true (scope_in context.now)
         (shape_view first) links.now)) }
@@ -232,7 +232,7 @@ fn check_link<'t>(
         (own_faults (text_in context.now) true (scope_in context.now) (shape_view left) link.now
         more)
         (operand_shape (text_in context.now) (scope_in context.now) link.now)
-        (values.value_of (text_in context.now) (slots_in context.now) (scope_in context.now)
+        (values.term_value (text_in context.now) (slots_in context.now) (scope_in context.now)
         (length carriers.old.items) (erased_term (term_form link.now.operand))) result }
     ensures carriers { OnOk result (AddsLoops context.now carriers.old.items carriers.new.items
         (operand link.now)) }

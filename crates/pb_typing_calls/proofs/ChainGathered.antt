@@ -13,7 +13,7 @@ use Rattle.pb_typing_tree.specs.Calls.{call_places, calls, places_of}
 use Rattle.pb_typing_tree.specs.Meaning.{Slots}
 use Rattle.pb_typing_tree.specs.Tree as tree
 use Rattle.pb_typing_tree.specs.Tree.{Connected}
-use Rattle.pb_typing_tree.specs.View.{chained, formula_view, formula_views}
+use Rattle.pb_typing_tree.specs.View.{chained_formula, formula_view, formula_views}
 use Rattle.pb_typing_tree.specs.declared.formula.Formula.{Formula}
 use Rattle.pb_typing_tree.proofs.Calls.{calls-counted}
 use Rattle.pb_typing_tree.proofs.FormulaWeight.{links_weight, weight}
@@ -28,7 +28,7 @@ use Rattle.pb_typing_calls.proofs.Nodes.{IsChainOf}
 -- ---- each operand fits
 
 fit-each : (s : Scope) (vs : Tuple) (o : Connective) (first : Formula) (fs : List Formula)
-    → FitsAt s vs (chained (Connected o) (formula_view first) (formula_views fs))
+    → FitsAt s vs (chained_formula (Connected o) (formula_view first) (formula_views fs))
     → FitsAt s vs (formula_view first) × FitAt s vs fs
 fit-each s vs o first [] h = (h, tt)
 fit-each s vs o first (f ∷ fs) h = (h.0, fit-each s vs o f fs h.1)
@@ -44,14 +44,14 @@ module _ (spec : Spec) (s : Scope) (a : Slots) (o : Connective) where
   formula_calls t ps = gathered spec s.own.now a t ps
 
   gathered-chained : (first : Formula) (fs : List Formula)
-      → formula_calls (chained (Connected o) (formula_view first) (formula_views fs))
+      → formula_calls (chained_formula (Connected o) (formula_view first) (formula_views fs))
       (call_places first ++ places_of fs)
       ≡ chain_calls spec s a o first fs
   gathered-chained first [] =
       ap (formula_calls (formula_view first)) (append-nil (call_places first))
   gathered-chained first (f ∷ fs) =
       let t = formula_view first in
-      let u = chained (Connected o) (formula_view f) (formula_views fs) in
+      let u = chained_formula (Connected o) (formula_view f) (formula_views fs) in
       let ps = call_places first in
       let qs = call_places f ++ places_of fs in
       let count : calls t ≡ length ps = sym (calls-counted first) in
@@ -70,7 +70,7 @@ module _ (spec : Spec) (s : Scope) (a : Slots) (o : Connective) where
       → calls_of spec s a f ≡ chain_calls spec s a o first links
   gathered-chain {f} {first} {links} read =
       ap (λ (t : tree.Formula). formula_calls t (call_places f)) read.view
-      ∙ (ap (formula_calls (chained (Connected o) (formula_view first) (formula_views links))) read.places
+      ∙ (ap (formula_calls (chained_formula (Connected o) (formula_view first) (formula_views links))) read.places
       ∙ gathered-chained first links)
 
   -- behind an operand that decides no call is made

@@ -15,7 +15,7 @@ use Rattle.pb_typing_tree.specs.Calls.{call_places, calls, places_of}
 use Rattle.pb_typing_tree.specs.Meaning.{Slots}
 use Rattle.pb_typing_tree.specs.Tree as tree
 use Rattle.pb_typing_tree.specs.Tree.{Test, Negation, Connected, Quantified, Call}
-use Rattle.pb_typing_tree.specs.View.{chained, formula_view, formula_views}
+use Rattle.pb_typing_tree.specs.View.{chained_formula, formula_view, formula_views}
 use Rattle.pb_typing_tree.specs.declared.formula.Formula.{Formula}
 use Rattle.pb_typing_tree.proofs.Calls.{calls-counted}
 use Rattle.pb_typing_tree.proofs.FormulaWeight.{links_weight, weight}
@@ -29,7 +29,7 @@ use Rattle.pb_typing_calls.proofs.Nodes.{IsChainOf}
 -- ---- each operand fits
 
 fits-each : (s : Sought) (vs : Tuple) (o : Connective) (first : Formula) (fs : List Formula)
-    → FitsValues s vs (chained (Connected o) (formula_view first) (formula_views fs))
+    → FitsValues s vs (chained_formula (Connected o) (formula_view first) (formula_views fs))
     → FitsValues s vs (formula_view first) × FitValues s vs fs
 fits-each s vs o first [] h = (h, tt)
 fits-each s vs o first (f ∷ fs) h = (h.0, fits-each s vs o f fs h.1)
@@ -55,19 +55,19 @@ module _ (spec : Spec) (s : Sought) (a : Slots) (o : Connective) where
   formula_makes t ps = made spec (instance_of s.called.now) s.place a t ps
 
   rest-chained : (t : tree.Formula) (ts : List tree.Formula)
-      → is_deciding spec a o Right (chained (Connected o) t ts) ≡ rest_decides spec a o (t ∷ ts)
+      → is_deciding spec a o Right (chained_formula (Connected o) t ts) ≡ rest_decides spec a o (t ∷ ts)
   rest-chained t [] = refl
   rest-chained t (u ∷ ts) = refl
 
   made-chained : (first : Formula) (fs : List Formula)
-      → formula_makes (chained (Connected o) (formula_view first) (formula_views fs))
+      → formula_makes (chained_formula (Connected o) (formula_view first) (formula_views fs))
       (call_places first ++ places_of fs)
       ≡ chain_makes spec s a o first fs
   made-chained first [] =
       ap (formula_makes (formula_view first)) (append-nil (call_places first))
   made-chained first (f ∷ fs) =
       let t = formula_view first in
-      let u = chained (Connected o) (formula_view f) (formula_views fs) in
+      let u = chained_formula (Connected o) (formula_view f) (formula_views fs) in
       let ps = call_places first in
       let qs = call_places f ++ places_of fs in
       let count : calls t ≡ length ps = sym (calls-counted first) in
@@ -90,7 +90,7 @@ module _ (spec : Spec) (s : Sought) (a : Slots) (o : Connective) where
       → is_made spec s a f ≡ chain_makes spec s a o first links
   made-chain {f} {first} {links} read =
       ap (λ (t : tree.Formula). formula_makes t (call_places f)) read.view
-      ∙ (ap (formula_makes (chained (Connected o) (formula_view first) (formula_views links))) read.places
+      ∙ (ap (formula_makes (chained_formula (Connected o) (formula_view first) (formula_views links))) read.places
       ∙ made-chained first links)
 
   -- ---- one operand of a chain, and those behind it

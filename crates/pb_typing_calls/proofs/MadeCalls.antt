@@ -37,7 +37,7 @@ use Rattle.pb_typing_tree.proofs.Truth.{agree-with, free-with, more-free}
 use Rattle.pb_typing_calls.specs.Calls.{decides}
 use Rattle.pb_typing_calls.specs.Gathered.{AreSlots, decides_first, gathered}
 use Rattle.pb_typing_calls.specs.Made.{argument_values}
-use Rattle.pb_typing_calls.specs.MadeCalls.{MadeCall, decides_alone, equation_of, for_values}
+use Rattle.pb_typing_calls.specs.MadeCalls.{MadeCall, decides_alone, equation_position, for_values}
 use Rattle.pb_typing_calls.specs.MadeCalls.{has_no_call, made_calls, with_value}
 use Rattle.pb_typing_calls.specs.declared.side.Side.TheVariants.{Left}
 use Rattle.pb_typing_calls.proofs.Elaborated.{argument-values, behind, calls-kept, keeps-truth}
@@ -290,7 +290,7 @@ module _ (spec : Spec) where
       let x = call.name.text in
       let plain = expanded-plain spec even scope (syntax.Formula.Call x ts) h in
       call-gathers call.name.place (arguments spec c scope ts) own a (values spec g ts)
-      (equation_of spec x) (place_of 0 spec.equations x)
+      (equation_position spec x) (place_of 0 spec.equations x)
       (found spec spec.equations x 0 scope ts h.1 ∙ ap Some (omega arith))
       (argument-values spec c scope a ts ∙ slotted-values spec c a g agree ts plain)
   elaborated-gathers (FormulaForm.negation p f) even scope h c n a g own free agree below =

@@ -10,7 +10,7 @@ use Rattle.pb_typing_tree.specs.Fits.{FormulaFits}
 use Rattle.pb_typing_tree.specs.Meaning.{Slots, set}
 use Rattle.pb_typing_tree.specs.Tree as tree
 use Rattle.pb_typing_tree.specs.Tree.{Connected}
-use Rattle.pb_typing_tree.specs.View.{chained, formula_view, formula_views, nested}
+use Rattle.pb_typing_tree.specs.View.{chained_formula, formula_view, formula_views, nested}
 use Rattle.pb_typing_tree.specs.declared.formula.Formula as formula
 use Rattle.pb_typing_tree.specs.declared.formula.Formula.{Formula}
 use Rattle.pb_typing_tree.proofs.Calls.{chain-places}
@@ -21,7 +21,7 @@ use Rattle.pb_typing_tree.proofs.Views.{formula-chain}
 
 -- a chain of a first operand and those linked to it
 pub record IsChainOf (f : Formula) (o : Connective) (first : Formula) (links : List Formula) : Type 0 where
-  pub view : formula_view f ≡ chained (Connected o) (formula_view first) (formula_views links)
+  pub view : formula_view f ≡ chained_formula (Connected o) (formula_view first) (formula_views links)
   pub places : call_places f ≡ call_places first ++ places_of links
   pub weighs : weight f ≡ 8 + (weight first + links_weight links)
 
@@ -30,8 +30,8 @@ pub chain-read : {f first : Formula} {links : List Formula} (o : Connective) (b 
 chain-read {f} {first} {links} o b v is at behind = record {
   view =
       ap formula_view is ∙ (formula-chain o b v
-      ∙ (ap (λ (g : Formula). chained (Connected o) (formula_view g) (formula_views v.items)) (sym at)
-      ∙ ap (λ (gs : List Formula). chained (Connected o) (formula_view first) (formula_views gs)) (sym behind)));
+      ∙ (ap (λ (g : Formula). chained_formula (Connected o) (formula_view g) (formula_views v.items)) (sym at)
+      ∙ ap (λ (gs : List Formula). chained_formula (Connected o) (formula_view first) (formula_views gs)) (sym behind)));
   places =
       ap call_places is ∙ (chain-places o b v
       ∙ (ap (λ (g : Formula). call_places g ++ places_of v.items) (sym at)

@@ -14,7 +14,7 @@ use Rattle.pb_sorts.proofs.Places.{drop-at}
 use Rattle.pb_typing_tree.specs.Calls.{call_places, places_of}
 use Rattle.pb_typing_tree.specs.Tree as tree
 use Rattle.pb_typing_tree.specs.Tree.{Connected}
-use Rattle.pb_typing_tree.specs.View.{chained, formula_view, formula_views, nested}
+use Rattle.pb_typing_tree.specs.View.{chained_formula, formula_view, formula_views, nested}
 use Rattle.pb_typing_tree.specs.declared.formula.Formula as formula
 use Rattle.pb_typing_tree.specs.declared.formula.Formula.{Formula}
 use Rattle.pb_typing_tree.proofs.Calls.{chain-places}
@@ -57,7 +57,7 @@ chain-test f c first v is =
     ∙ (ap is_test (formula-chain c first v) ∙ by v.items)
   where
     by : (fs : List Formula)
-        → is_test (chained (Connected c) (formula_view (box_value first)) (formula_views fs))
+        → is_test (chained_formula (Connected c) (formula_view (box_value first)) (formula_views fs))
         ≡ (length fs == 0) && is_test (formula_view (box_value first))
     by [] = refl
     by (g ∷ gs) =

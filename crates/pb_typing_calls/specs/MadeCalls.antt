@@ -38,13 +38,13 @@ abbrev pub decides_alone : Spec → Assignment → Connective → FormulaForm �
 decides_alone spec a c f = has_no_call f && decides c Left (truth spec a empty (erased_formula f))
 
 -- the place of the first equation of a name; where there is none, of one behind the last
-abbrev pub equation_of : Spec → Name → ℕ
-equation_of spec x = position_or_len (λ (X : Equation). same_name X.name x) spec.equations
+abbrev pub equation_position : Spec → Name → ℕ
+equation_position spec x = position_or_len (λ (X : Equation). same_name X.name x) spec.equations
 
 -- the instance that a call names
 abbrev pub instance_of_call : Spec → Assignment → InstanceForm → Instance
 instance_of_call spec a call = record {
-  equation = equation_of spec call.name.text;
+  equation = equation_position spec call.name.text;
   values = values spec a (erased_arguments call.arguments);
 }
 

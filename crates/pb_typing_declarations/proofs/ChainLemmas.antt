@@ -12,7 +12,7 @@ use Rattle.pb_typing_declarations.specs.declared.chain.End as chains
 use Rattle.pb_typing_declarations.specs.declared.ends.Chain.{Chain}
 use Rattle.pb_typing_declarations.specs.Shapes.{Definition, Structure, Renaming, Bounds, End, Endless, built_in_integers, end_by, end_within}
 use Rattle.pb_typing_declarations.specs.Entries.{end_shown, range_in, range_shown}
-use Rattle.pb_typing_declarations.specs.Tables.{Table, looked_up}
+use Rattle.pb_typing_declarations.specs.Tables.{Table, entry_of}
 use Rattle.pb_typing_declarations.specs.Chains.{IsChain, AreChains}
 use Rattle.pb_typing_declarations.proofs.Filling.{none_in, put_in}
 
@@ -132,7 +132,7 @@ module _ (B : Name → Option Bounds) (D : Name → Option Definition) where
   one_kept old new key chain kept is updates = λ s other found.
       by_case s other (bytes_eq key.now s) refl (sym (ap (λ (look : Name → Option Chain). look s) (put_in old new key chain updates)) ∙ found)
     where
-      by_case : (s : Name) (other : Chain) (b : Bool) → bytes_eq key.now s ≡ b → cond b (Some chain) (looked_up old s) ≡ Some other → IsChain B D s other
+      by_case : (s : Name) (other : Chain) (b : Bool) → bytes_eq key.now s ≡ b → cond b (Some chain) (entry_of old s) ≡ Some other → IsChain B D s other
       by_case s other true same found =
           let here : chain ≡ other = cc in
           subst (λ (c : Chain). IsChain B D s c) here (subst (λ (x : Name). IsChain B D x chain) (same_text key.now s (sym same)) is)

@@ -14,7 +14,7 @@ use Rattle.pb_typing_declarations.specs.declared.sorts.Integers.TheVariants as i
 use Rattle.pb_typing_declarations.specs.Faults.{unless}
 use Rattle.pb_typing_declarations.specs.Shapes.{Definition, Structure, Renaming, definition_of, definitions_from, definitions, number_behind, first, Bounds, range_bounds, End, Shaped, Unranged, Undeclared, Endless, built_in_integers, end_by, end_within, end_of, base_of, is_built_in, is_sort}
 use Rattle.pb_typing_declarations.specs.Declarations.{is_endless, is_faulty, definition_faults, sort_faults, declaration_faults, tables_faults, checks_faults}
-use Rattle.pb_typing_declarations.specs.WellDeclared.{IsDefined, HaveEnds}
+use Rattle.pb_typing_declarations.specs.WellDeclared.{IsWellDefined, HaveEnds}
 use Rattle.pb_typing_declarations.proofs.Parts.{no_parts, holds_unless}
 use Rattle.pb_typing_declarations.proofs.Exact.{each}
 
@@ -174,9 +174,9 @@ faultless_ends t e =
 
 -- ---- where it is declared as it must be
 
-linked_of_defined : (S : Spec) (s : Name) (sort : Sort) → IsDefined S s sort → IsLinked S s sort
+linked_of_defined : (S : Spec) (s : Name) (sort : Sort) → IsWellDefined S s sort → IsLinked S s sort
 linked_of_defined S s (Struct es) h = tt
 linked_of_defined S s (Alias t) h = h
 
-pub defined_have_ends : (S : Spec) → All (λ (d : SortDeclaration). IsDefined S d.name d.sort) S.sorts → HaveEnds S
+pub defined_have_ends : (S : Spec) → All (λ (d : SortDeclaration). IsWellDefined S d.name d.sort) S.sorts → HaveEnds S
 defined_have_ends S all = have_ends S (λ k d below. linked_of_defined S (get_or S.sorts k d).name (get_or S.sorts k d).sort (all k d below))

@@ -16,7 +16,7 @@ use Rattle.pb_typing_declarations.specs.Faults.{unless, repeated, length_faults}
 use Rattle.pb_typing_declarations.specs.Shapes.{End, Shaped, Unranged, Undeclared, Endless, end_of, base_of, is_sort, is_built_in, number_behind}
 use Rattle.pb_typing_declarations.specs.Instances.{instance_count, all_instances}
 use Rattle.pb_typing_declarations.specs.Declarations.{stays_within, is_integer, is_named_function, is_faulty, end_faults, variable_names, variable_faults, variables_faults, limit_faults, own_names, equation_faults, equations_faults_behind, recogniser_faults, recogniser_name, names_of_enumerator, enumerator_faults, enumerators_of_sort, all_enumerator_forms, struct_faults, structs_faults, definition_faults, sort_faults, range_faults, empty_faults}
-use Rattle.pb_typing_declarations.specs.WellDeclared.{AreApart, has_shape, AreVariables, HaveEnds, IsDefined, structs_behind, IsRanged, enumerators, name_if_any, enumerator_names, every_enumerator}
+use Rattle.pb_typing_declarations.specs.WellDeclared.{AreApart, has_shape, AreVariables, HaveEnds, IsWellDefined, structs_behind, IsRanged, enumerators, name_if_any, enumerator_names, every_enumerator}
 use Rattle.pb_typing_declarations.proofs.Parts.{no_parts, no_whole, holds_unless, unless_holds}
 use Rattle.pb_typing_declarations.proofs.Passing.{stays, one_more_stays}
 use Rattle.pb_typing_declarations.proofs.VariableLemmas.{few_names, limit_clear}
@@ -130,11 +130,11 @@ abbrev pub NewSort : SortDeclaration → Type 0
 NewSort d = is_built_in d.name ≡ false
 
 abbrev pub Defined : Spec → SortDeclaration → Type 0
-Defined S d = IsDefined S d.name d.sort
+Defined S d = IsWellDefined S d.name d.sort
 
 -- what no fault says of one sort, where n structs stand before it
 record SortHolds (S : Spec) (n : ℕ) (s : Named) (sort : SortForm) : Type 0 where
-  defined : IsDefined S s.text (erased_sort sort)
+  defined : IsWellDefined S s.text (erased_sort sort)
   few : number_behind n (erased_sort sort) ≤ MAX_STRUCTS
   enumerators : flat_map enumerator_faults (enumerators_of_sort sort) ≡ []
 

@@ -12,7 +12,7 @@ use Rattle.pb_typing_declarations.specs.declared.entry.Entry.{Entry}
 use Rattle.pb_typing_declarations.specs.declared.fault.TypingRule.TheVariants.{NameTwice}
 use Rattle.pb_typing_declarations.specs.declared.fault.TypingFault.{TypingFault}
 use Rattle.pb_typing_declarations.specs.Faults.{unless, is_among, repeated_after}
-use Rattle.pb_typing_declarations.specs.Tables.{Table, looked_up, entry_names, entry_values}
+use Rattle.pb_typing_declarations.specs.Tables.{Table, entry_of, entry_names, entry_values}
 
 abbrev pub Seen : Type 0
 Seen = Name → Bool
@@ -31,7 +31,7 @@ repeated_after-seen before (x ∷ xs) = ap (λ (rest : List TypingFault). unless
 
 module _ {V : Type 0} where
   abbrev pub has : Table V → Seen
-  has table = λ x. is_some (looked_up table x)
+  has table = λ x. is_some (entry_of table x)
 
   abbrev pub or_first : Option V → Option V → Option V
   or_first None o = o
@@ -50,7 +50,7 @@ module _ {V : Type 0} where
   pub values-drop : (es : List (Entry V)) (k : ℕ) (e : Entry V) → k < length es → e ≡ get_or es k e → entry_values (drop k es) ≡ value_of e ∷ entry_values (drop (k + 1) es)
   values-drop es k e below at = ap entry_values (drop-at es k e below at)
 
-  pub none_in : (table : Table V) → IsEmpty table → looked_up table ≡ (λ x. None)
+  pub none_in : (table : Table V) → IsEmpty table → entry_of table ≡ (λ x. None)
   none_in table e = fun_ext (λ x. rw e refl)
 
   pub none_has : (table : Table V) → IsEmpty table → has table ≡ is_among []
@@ -58,15 +58,15 @@ module _ {V : Type 0} where
 
   -- after an entry was put in, the table has that entry and those it had
   pub put_in : (old new : Table V) (key : Bor (List ℕ)) (v : V) → Updates (λ x y. bytes_eq x.now y.now) old new key (Some v)
-      → looked_up new ≡ (λ x. cond (bytes_eq key.now x) (Some v) (looked_up old x))
+      → entry_of new ≡ (λ x. cond (bytes_eq key.now x) (Some v) (entry_of old x))
   put_in old new key v u = fun_ext (λ x. u.0 (record { ref_ptr = (0, 0); now = x }))
 
   some_cond : (b : Bool) (v : V) (o : Option V) → is_some (cond b (Some v) o) ≡ (b || is_some o)
   some_cond true v o = refl
   some_cond false v o = refl
 
-  pub has-put : (old new : Table V) (key : Bor (List ℕ)) (v : V) → looked_up new ≡ (λ x. cond (bytes_eq key.now x) (Some v) (looked_up old x)) → has new ≡ seen_too key.now (has old)
-  has-put old new key v is = ap (λ (look : Name → Option V). λ x. is_some (look x)) is ∙ fun_ext (λ x. some_cond (bytes_eq key.now x) v (looked_up old x))
+  pub has-put : (old new : Table V) (key : Bor (List ℕ)) (v : V) → entry_of new ≡ (λ x. cond (bytes_eq key.now x) (Some v) (entry_of old x)) → has new ≡ seen_too key.now (has old)
+  has-put old new key v is = ap (λ (look : Name → Option V). λ x. is_some (look x)) is ∙ fun_ext (λ x. some_cond (bytes_eq key.now x) v (entry_of old x))
 
   -- the first of old entries and then of these is the first of the new entries and then of the rest
   pub first_put : (old : Name → Option V) (name x : Name) (v : V) (rest : Option V) → old name ≡ None

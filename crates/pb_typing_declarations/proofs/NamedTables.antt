@@ -10,7 +10,7 @@ use Rattle.pb_base.specs.declared.or_memory.OrMemory.{OrMemory}
 use Rattle.pb_typing_declarations.specs.declared.fault.TypingFault.{TypingFault}
 use Rattle.pb_typing_declarations.specs.Faults.{repeated, IsAmong}
 use Rattle.pb_typing_declarations.specs.Shapes.{first}
-use Rattle.pb_typing_declarations.specs.Tables.{Table, entry_names, entry_values, looked_up}
+use Rattle.pb_typing_declarations.specs.Tables.{Table, entry_names, entry_values, entry_of}
 use Rattle.pb_typing_declarations.specs.Entries.{range_shown}
 use Rattle.pb_typing_declarations.specs.Reading.{AreRanges, IsRangeTable, AreEquations, IsEquationTable}
 use Rattle.pb_typing_declarations.specs.Declarations.{empty_faults, range_name, equation_names}
@@ -21,7 +21,7 @@ use Rattle.pb_typing_declarations.proofs.Parts.{among_right}
 abbrev pub IsTabled : {V : Type 0} → Result (Table V) (OrMemory TypingFault) → List (Entry V) → Type 0
 IsTabled r entries =
     MatchResult r
-    (λ table. (repeated (entry_names entries) ≡ []) × ((x : Name) → looked_up table x ≡ first (entry_values entries) x))
+    (λ table. (repeated (entry_names entries) ≡ []) × ((x : Name) → entry_of table x ≡ first (entry_values entries) x))
     (IsAmong (repeated (entry_names entries)))
 
 pub ranges_tabled : (rs : List RangeForm) (entries : List (Entry Range)) (r : Result (Table Range) (OrMemory TypingFault)) → AreRanges rs entries → IsTabled r entries

@@ -5,7 +5,7 @@ use Rattle.pb_text_meaning.specs.Syntax.{Name}
 use Rattle.pb_typing_declarations.specs.declared.ends.Chain.{Chain}
 use Rattle.pb_typing_declarations.specs.Shapes.{Definition, Bounds, Endless, end_within}
 use Rattle.pb_typing_declarations.specs.Entries.{end_shown}
-use Rattle.pb_typing_declarations.specs.Tables.{Table, looked_up}
+use Rattle.pb_typing_declarations.specs.Tables.{Table, entry_of}
 
 -- the chain from a sort has this end behind so many aliases, and none through fewer sorts
 pub record IsChain (bounds : Name → Option Bounds) (definition : Name → Option Definition)
@@ -17,4 +17,4 @@ pub record IsChain (bounds : Name → Option Bounds) (definition : Name → Opti
 -- each chain of a table is one
 abbrev pub AreChains : (Name → Option Bounds) → (Name → Option Definition) → Table Chain → Type 0
 AreChains bounds definition chains =
-    (s : Name) → ForSome (looked_up chains s) (IsChain bounds definition s)
+    (s : Name) → ForSome (entry_of chains s) (IsChain bounds definition s)

@@ -17,7 +17,7 @@ use Rattle.pb_typing_declarations.specs.Shapes.{Shape, Unknown, Truths, Places, 
 use Rattle.pb_typing_declarations.specs.Shapes.{Structure, Renaming, End, Shaped, Unranged}
 use Rattle.pb_typing_declarations.specs.Shapes.{Undeclared, Endless, Bounds, number_behind}
 use Rattle.pb_typing_declarations.specs.Enumerators.{Position, positioned}
-use Rattle.pb_typing_declarations.specs.Tables.{Table, looked_up}
+use Rattle.pb_typing_declarations.specs.Tables.{Table, entry_of}
 
 -- ---- sorts
 
@@ -34,13 +34,13 @@ abbrev pub shown_entries : List (Name × definition.Definition) → List (Name �
 shown_entries = map (λ e. (e.0, shown e.1))
 
 abbrev pub definition_in : Table definition.Definition → Name → Option Definition
-definition_in table x = option_map shown (looked_up table x)
+definition_in table x = option_map shown (entry_of table x)
 
 abbrev pub range_shown : range.Range → Bounds
 range_shown r = (r.low, r.high)
 
 abbrev pub range_in : Table range.Range → Name → Option Bounds
-range_in table x = option_map range_shown (looked_up table x)
+range_in table x = option_map range_shown (entry_of table x)
 
 abbrev pub carrier_shape : Option carriers.Carrier → Shape
 carrier_shape None = Unknown

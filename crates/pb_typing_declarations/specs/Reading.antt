@@ -28,7 +28,7 @@ use Rattle.pb_typing_declarations.specs.declared.fault.TypingRule.TheVariants.{L
 use Rattle.pb_typing_declarations.specs.Faults.{unless, repeated}
 use Rattle.pb_typing_declarations.specs.Enumerators.{Position, all_enumerators}
 use Rattle.pb_typing_declarations.specs.Enumerators.{all_recognisers}
-use Rattle.pb_typing_declarations.specs.Tables.{Table, entry_names, entry_values, looked_up}
+use Rattle.pb_typing_declarations.specs.Tables.{Table, entry_names, entry_values, entry_of}
 use Rattle.pb_typing_declarations.specs.Entries.{shape_of, shapes_of, shown, shown_entries}
 use Rattle.pb_typing_declarations.specs.Entries.{range_shown, data_of_recogniser, data_from}
 use Rattle.pb_typing_declarations.specs.Entries.{data_in, all_data, definition_in, range_in}
@@ -88,9 +88,9 @@ pub record AreDefined (ds : List SortDeclarationForm) (tables : DefinitionTables
   pub sorts_apart : repeated (sort_names ds) ≡ []
   pub definitions : (x : Name) → definition_in tables.sorts x
       ≡ first (definitions_from 0 (map erased_declaration ds)) x
-  pub enumerators : (x : Name) → as_enumerator (looked_up tables.names x)
+  pub enumerators : (x : Name) → as_enumerator (entry_of tables.names x)
       ≡ first (all_enumerators 0 (map erased_declaration ds)) x
-  pub recognisers : (x : Name) → as_recogniser (looked_up tables.names x)
+  pub recognisers : (x : Name) → as_recogniser (entry_of tables.names x)
       ≡ first (all_recognisers 0 (map erased_declaration ds)) x
 
 -- the ranges
@@ -116,7 +116,7 @@ pub record AreEquations (E : List EquationForm) (entries : List (Entry ℕ)) : T
 
 pub record IsEquationTable (E : List EquationForm) (table : Table ℕ) : Type 0 where
   pub apart : repeated (equation_names E) ≡ []
-  pub places : (x : Name) → looked_up table x
+  pub places : (x : Name) → entry_of table x
       ≡ position (λ (X : Equation). same_name X.name x) (map erased_equation E)
 
 -- ---- carriers

@@ -12,8 +12,8 @@ abbrev pub Table : Type 0 → Type 0
 Table V = HashMap (Bor (List ℕ)) V (BuildHasherDefault FoldHasher)
 
 -- the value at a name
-abbrev pub looked_up : {V : Type 0} → Table V → Name → Option V
-looked_up table x = get_by (λ (k : Bor (List ℕ)). bytes_eq x k.now) table
+abbrev pub entry_of : {V : Type 0} → Table V → Name → Option V
+entry_of table x = get_by (λ (k : Bor (List ℕ)). bytes_eq x k.now) table
 
 abbrev pub entry_names : {V : Type 0} → List (Entry V) → List Named
 entry_names entries = map (λ e. record { place = e.place; text = e.name.now }) entries

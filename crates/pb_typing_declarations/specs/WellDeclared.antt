@@ -20,9 +20,9 @@ AreApart xs = AllPairs (λ (x y : Name). x ≢ y) xs
 
 -- a struct has 1 to MAX_ENUMERATORS enumerators; an alias's target is a sort, and its chain has an
 -- end
-abbrev pub IsDefined : Spec → Name → Sort → Type 0
-IsDefined spec s (Struct es) = (0 < length es) × (length es ≤ MAX_ENUMERATORS)
-IsDefined spec s (Alias target) =
+abbrev pub IsWellDefined : Spec → Name → Sort → Type 0
+IsWellDefined spec s (Struct es) = (0 < length es) × (length es ≤ MAX_ENUMERATORS)
+IsWellDefined spec s (Alias target) =
     (is_sort spec target ≡ true) × (is_endless (base_of spec s) ≡ false)
 
 -- each sort that is declared has an end, with its ranges and without
@@ -79,7 +79,7 @@ pub record AreVariables (spec : Spec) (xs : List Variable) : Type 0 where
 pub record IsDeclared (spec : Spec) : Type 0 where
   pub sorts : AreApart (map (λ (d : SortDeclaration). d.name) spec.sorts)
   pub new_sorts : All (λ (d : SortDeclaration). is_built_in d.name ≡ false) spec.sorts
-  pub defined : All (λ (d : SortDeclaration). IsDefined spec d.name d.sort) spec.sorts
+  pub defined : All (λ (d : SortDeclaration). IsWellDefined spec d.name d.sort) spec.sorts
   pub few_structs : structs_behind 0 spec.sorts ≤ MAX_STRUCTS
   pub ranges : AreApart (map (λ (r : Range). r.name) spec.ranges)
   pub ranged : All (IsRanged spec) spec.ranges

@@ -4,7 +4,7 @@ ghost use Rattle.std.specs.Prelude.{◌≡◌, [], MatchResult};
 ghost use Rattle.pb_text_meaning.specs.Syntax.{Name};
 ghost use Rattle.pb_typing_declarations.specs.Faults.{repeated, IsAmong};
 ghost use Rattle.pb_typing_declarations.specs.Shapes.{first};
-ghost use Rattle.pb_typing_declarations.specs.Tables.{entry_names, entry_values, looked_up};
+ghost use Rattle.pb_typing_declarations.specs.Tables.{entry_names, entry_values, entry_of};
 
 use crate::entry::Entry;
 use crate::fault::{TypeError, TypingRule, require};
@@ -18,7 +18,7 @@ pub(crate) fn table<'a, V: Copy>(
 ) -> Result<HashMap<&'a str, V>, TypeError>
     ensures { MatchResult result
         (λ table. (repeated (entry_names entries.now) ≡ [])
-        × ((x : Name) → looked_up table x ≡ first (entry_values entries.now) x))
+        × ((x : Name) → entry_of table x ≡ first (entry_values entries.now) x))
         (IsAmong (repeated (entry_names entries.now))) }
 {
     let mut table = HashMap::new(alloc);

@@ -16,7 +16,7 @@ use Rattle.pb_text_meaning.specs.Sorts.{or_else}
 use Rattle.pb_text_meaning.specs.Erase.{erased_variables}
 use Rattle.pb_typing_declarations.specs.Shapes.{Shape, sort_shape}
 use Rattle.pb_typing_declarations.specs.Entries.{shape_of}
-use Rattle.pb_typing_declarations.specs.Tables.{Table, looked_up}
+use Rattle.pb_typing_declarations.specs.Tables.{Table, entry_of}
 use Rattle.pb_typing_declarations.proofs.Filling.{none_in}
 use Rattle.pb_typing_tree.specs.Loops.{variable_shapes}
 use Rattle.pb_typing_tree.specs.Elaboration.{Slotting, unslotted, with_slot, with_slots}
@@ -33,21 +33,21 @@ mapped f true v o = refl
 mapped f false v o = refl
 
 view-put : (y : Name) (v : program.Variable) (old new : Table program.Variable)
-    → ((x : Name) → looked_up new x ≡ with_entry y v (looked_up old) x) → table_view new ≡ declare y (shape_view v.shape) (table_view old)
+    → ((x : Name) → entry_of new x ≡ with_entry y v (entry_of old) x) → table_view new ≡ declare y (shape_view v.shape) (table_view old)
 view-put y v old new put =
     let f = λ (w : program.Variable). shape_view w.shape in
-    fun_ext (λ x. ap (λ (o : Option program.Variable). option_map f o) (put x) ∙ mapped f (same_name y x) v (looked_up old x))
+    fun_ext (λ x. ap (λ (o : Option program.Variable). option_map f o) (put x) ∙ mapped f (same_name y x) v (entry_of old x))
 
 slots-put : (y : Name) (v : program.Variable) (old new : Table program.Variable)
-    → ((x : Name) → looked_up new x ≡ with_entry y v (looked_up old) x) → table_slots new ≡ with_slot y v.slot (table_slots old)
+    → ((x : Name) → entry_of new x ≡ with_entry y v (entry_of old) x) → table_slots new ≡ with_slot y v.slot (table_slots old)
 slots-put y v old new put =
     let f = λ (w : program.Variable). w.slot in
-    fun_ext (λ x. ap (λ (o : Option program.Variable). option_map f o) (put x) ∙ mapped f (same_name y x) v (looked_up old x))
+    fun_ext (λ x. ap (λ (o : Option program.Variable). option_map f o) (put x) ∙ mapped f (same_name y x) v (entry_of old x))
 
 -- a name that is put into a table
 pub shapes_next : (names : List ast.Name) (k : ℕ) (n : ast.Name) (carriers : List Carrier) (slot : ℕ)
     (carrier : Carrier) (old new : Table program.Variable) (v : program.Variable) → k < length names → n ≡ get_or names k n
-    → slot < length carriers → carrier ≡ get_or carriers slot carrier → shape_view v.shape ≡ shape_of carrier → ((x : Name) → looked_up new x ≡ with_entry (string_bytes n.text) v (looked_up old) x)
+    → slot < length carriers → carrier ≡ get_or carriers slot carrier → shape_view v.shape ≡ shape_of carrier → ((x : Name) → entry_of new x ≡ with_entry (string_bytes n.text) v (entry_of old) x)
     → named_shapes (drop (k + 1) names) (shapes_of (drop (slot + 1) carriers)) (table_view new) ≡ named_shapes (drop k names) (shapes_of (drop slot carriers)) (table_view old)
 shapes_next names k n carriers slot carrier old new v below at within here is put =
     let shapes = shapes_of (drop (slot + 1) carriers) in
@@ -56,7 +56,7 @@ shapes_next names k n carriers slot carrier old new v below at within here is pu
     ∙ sym (ap (λ (cs : List Carrier). named_shapes (drop k names) (shapes_of cs) (table_view old)) (drop-at carriers slot carrier within here)))
 
 pub slots_next : (names : List ast.Name) (k : ℕ) (n : ast.Name) (old new : Table program.Variable) (v : program.Variable) (slot : ℕ) → k < length names → n ≡ get_or names k n → v.slot ≡ slot
-    → ((x : Name) → looked_up new x ≡ with_entry (string_bytes n.text) v (looked_up old) x)
+    → ((x : Name) → entry_of new x ≡ with_entry (string_bytes n.text) v (entry_of old) x)
     → named_slots (drop (k + 1) names) (suc slot) (table_slots new) ≡ named_slots (drop k names) slot (table_slots old)
 slots_next names k n old new v slot below at is put =
     ap (named_slots (drop (k + 1) names) (suc slot)) (slots-put (string_bytes n.text) v old new put ∙ ap (λ (m : ℕ). with_slot (string_bytes n.text) m (table_slots old)) is)
@@ -215,18 +215,18 @@ pub inner_slotting : (xs : List Variable) (n : ℕ) (table : Table program.Varia
 inner_slotting xs n table outer h = ap (λ (look : Slotting). λ (x : Name). or_else (look x) (outer x)) h ∙ with-slots-over xs n unslotted outer
 
 -- the variables of a list hide those of an outer scope
-bound-outer : (S : Spec) (xs : List Variable) (inner outer : Scope) → bound S xs (λ x. scopes.or_else (inner x) (outer x)) ≡ (λ x. scopes.or_else (bound S xs inner x) (outer x))
+bound-outer : (S : Spec) (xs : List Variable) (inner outer : Scope) → bound S xs (λ x. scopes.shape_or (inner x) (outer x)) ≡ (λ x. scopes.shape_or (bound S xs inner x) (outer x))
 bound-outer S [] inner outer = refl
 bound-outer S (x ∷ xs) inner outer =
     ap (bound S xs) (fun_ext (λ y. by_name y (same_name x.name y)))
     ∙ bound-outer S xs (declare x.name (sort_shape S x.sort) inner) outer
   where
-    by_name : (y : Name) (b : Bool) → cond b (Some (sort_shape S x.sort)) (scopes.or_else (inner y) (outer y)) ≡ scopes.or_else (cond b (Some (sort_shape S x.sort)) (inner y)) (outer y)
+    by_name : (y : Name) (b : Bool) → cond b (Some (sort_shape S x.sort)) (scopes.shape_or (inner y) (outer y)) ≡ scopes.shape_or (cond b (Some (sort_shape S x.sort)) (inner y)) (outer y)
     by_name y true = refl
     by_name y false = refl
 
 pub inner_scope : (S : Spec) (xs : List Variable) (table : Table program.Variable) (outer : Scope) → table_view table ≡ bound S xs outermost → inner_view table outer ≡ bound S xs outer
-inner_scope S xs table outer same = ap (λ (look : Scope). λ (x : Name). scopes.or_else (look x) (outer x)) same ∙ sym (bound-outer S xs outermost outer)
+inner_scope S xs table outer same = ap (λ (look : Scope). λ (x : Name). scopes.shape_or (look x) (outer x)) same ∙ sym (bound-outer S xs outermost outer)
 
 -- ---- the carriers of one list of variables
 

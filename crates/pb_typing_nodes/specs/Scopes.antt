@@ -6,8 +6,8 @@ use Rattle.pb_text_meaning.specs.Sorts as slots
 use Rattle.pb_text_meaning.specs.Syntax as syntax
 use Rattle.pb_text_meaning.specs.Syntax.{same_name}
 use Rattle.pb_typing_declarations.specs.Shapes.{Shape}
-use Rattle.pb_typing_declarations.specs.Tables.{Table, looked_up}
-use Rattle.pb_typing_rules.specs.Scope.{Scope, declare, outermost, or_else}
+use Rattle.pb_typing_declarations.specs.Tables.{Table, entry_of}
+use Rattle.pb_typing_rules.specs.Scope.{Scope, declare, outermost, shape_or}
 use Rattle.pb_typing_tree.specs.Elaboration.{Slotting, unslotted, with_slot}
 use Rattle.pb_typing_tree.specs.View.{shape_view}
 use Rattle.pb_typing_nodes.specs.declared.scope.Variable.{Variable}
@@ -22,15 +22,15 @@ with_entry y v look = λ x. if same_name y x then Some v else look x
 -- ---- one list of variables
 
 abbrev pub table_view : Table Variable → Scope
-table_view table = λ x. option_map (λ (v : Variable). shape_view v.shape) (looked_up table x)
+table_view table = λ x. option_map (λ (v : Variable). shape_view v.shape) (entry_of table x)
 
 abbrev pub table_slots : Table Variable → Slotting
-table_slots table = λ x. option_map (λ (v : Variable). v.slot) (looked_up table x)
+table_slots table = λ x. option_map (λ (v : Variable). v.slot) (entry_of table x)
 
 -- ---- its variables, and outer ones
 
 abbrev pub inner_view : Table Variable → Scope → Scope
-inner_view table outer = λ x. or_else (table_view table x) (outer x)
+inner_view table outer = λ x. shape_or (table_view table x) (outer x)
 
 abbrev pub inner_slots : Table Variable → Slotting → Slotting
 inner_slots table outer = λ x. slots.or_else (table_slots table x) (outer x)

@@ -4,7 +4,7 @@ ghost use Rattle.std.specs.Prelude.{◌≡◌, [], ◌∷◌, box_value};
 ghost use Rattle.pb_text_meaning.specs.Erase.{of_comparison};
 ghost use Rattle.pb_typing_rules.specs.Faults.{kind_faults, operator_faults};
 ghost use Rattle.pb_typing_rules.specs.Functions as functions;
-ghost use Rattle.pb_typing_rules.specs.Shapes.{binary_shape, hull, kind_of, may_be_truth};
+ghost use Rattle.pb_typing_rules.specs.Shapes.{binary_shape, shape_hull, kind_of, may_be_truth};
 ghost use Rattle.pb_typing_rules.specs.Shapes.{unary_shape};
 ghost use Rattle.pb_typing_declarations.specs.Enumerators.{position_shape};
 ghost use Rattle.pb_typing_declarations.specs.Faults.{unless};
@@ -244,7 +244,7 @@ pub fn choose(
     ensures { Elaborates
         (kind_faults functions.Choice
         (shape_view condition.shape ∷ shape_view x.shape ∷ shape_view y.shape ∷ []) place)
-        (hull (shape_view x.shape) (shape_view y.shape))
+        (shape_hull (shape_view x.shape) (shape_view y.shape))
         (tree.Choice (term_view condition.term) (term_view x.term) (term_view y.term)) result }
 {
     let shape = choice_shape(condition.shape, x.shape, y.shape, place);
@@ -268,7 +268,7 @@ fn choice_shape(
 ) -> Result<Shape, TypingFault>
     ensures { Finds (kind_faults functions.Choice
         (shape_view condition ∷ shape_view left ∷ shape_view right ∷ []) place)
-        (hull (shape_view left) (shape_view right)) result }
+        (shape_hull (shape_view left) (shape_view right)) result }
 {
     require(is_truth(&condition), TypingRule::WrongKind, place)?;
     match hull(left, right) {

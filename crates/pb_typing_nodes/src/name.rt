@@ -34,7 +34,7 @@ pub fn check_name(context: &Context<'_, '_, '_>, name: &Name) -> Result<TypedTer
         (named name.now))
         (shape_or_unknown (named_shape (text_in context.now) (scope_in context.now)
         (named name.now).text))
-        (elaboration.named (text_in context.now) (slots_in context.now (named name.now).text)
+        (elaboration.term_of_name (text_in context.now) (slots_in context.now (named name.now).text)
         (named name.now).text) result }
 {
     if let Some(variable) = find_variable(context.scope, &name.text) {

@@ -68,7 +68,7 @@ pub(crate) fn hull(left: Shape, right: Shape) -> Option<Shape>
     ensures { MatchOption result
         (shapes.may_be_alike (shape_view left) (shape_view right) ≡ false)
         (λ s. (shapes.may_be_alike (shape_view left) (shape_view right) ≡ true)
-        × (shape_view s ≡ shapes.hull (shape_view left) (shape_view right))) }
+        × (shape_view s ≡ shapes.shape_hull (shape_view left) (shape_view right))) }
 {
     match left {
         Shape::Truths => match right {

@@ -8,7 +8,7 @@ ghost use Rattle.pb_text_meaning.specs.Syntax as syntax;
 ghost use Rattle.pb_typing_declarations.specs.Declarations.{variables_faults};
 ghost use Rattle.pb_typing_declarations.specs.Entries.{shapes_of};
 ghost use Rattle.pb_typing_declarations.specs.Faults.{IsAmong};
-ghost use Rattle.pb_typing_declarations.specs.Tables.{looked_up};
+ghost use Rattle.pb_typing_declarations.specs.Tables.{entry_of};
 ghost use Rattle.pb_typing_rules.specs.Scope.{bound, outermost};
 ghost use Rattle.pb_typing_tree.specs.Calls.{call_places};
 ghost use Rattle.pb_typing_tree.specs.Elaboration.{unslotted, with_slots};
@@ -122,8 +122,8 @@ fn with_name<'t, V: Copy>(
     name: &'t Name,
     value: V,
 ) -> Result<HashMap<&'t str, V>, AllocError>
-    ensures { IfOk result (λ more. (x : syntax.Name) → looked_up {V = V} more x
-        ≡ with_entry (string_bytes name.now.text) value (looked_up {V = V} table.entry) x) }
+    ensures { IfOk result (λ more. (x : syntax.Name) → entry_of {V = V} more x
+        ≡ with_entry (string_bytes name.now.text) value (entry_of {V = V} table.entry) x) }
 {
     table.insert(name.text.as_str(), value)?;
     Ok(table)

@@ -10,7 +10,7 @@ use Rattle.pb_text_meaning.specs.Sorts.{is_recogniser, place_in}
 use Rattle.pb_text_meaning.specs.Value.{is_true, is_place, function_of_one, function_of_two, function_of_three, function_value}
 use Rattle.pb_typing_declarations.specs.Shapes.{Shape, Unknown, Truths, Places, Wholes}
 use Rattle.pb_typing_declarations.specs.Enumerators.{recogniser_shape}
-use Rattle.pb_typing_rules.specs.Shapes.{may_be_truth, may_be_whole, may_be_alike, hull, may_divide}
+use Rattle.pb_typing_rules.specs.Shapes.{may_be_truth, may_be_whole, may_be_alike, shape_hull, may_divide}
 use Rattle.pb_typing_rules.specs.Functions.{Function, Choice, Conversion, OfOne, OfTwo, Recogniser, known_function, function_named, kept}
 use Rattle.pb_typing_rules.specs.Term.{applied_shape, IsApplied}
 use Rattle.pb_typing_rules.proofs.Values.{Contained, truth_value}
@@ -81,7 +81,7 @@ three (Some If) r q s t u v w h k m =
     let alike = (and_parts (may_be_truth q) (may_be_alike s t) h.1).1 in
     either (is_true u) (hull_left s t v w alike m.value k) (hull_right s t w v alike k.value m)
   where
-    either : (x : Bool) → Contained (hull s t) v → Contained (hull s t) w → Contained (hull s t) (cond x v w)
+    either : (x : Bool) → Contained (shape_hull s t) v → Contained (shape_hull s t) w → Contained (shape_hull s t) (cond x v w)
     either true p q = p
     either false p q = q
 three (Some Succ) r q s t u v w h k m = absurd (omega (arith, h.0))

@@ -13,7 +13,7 @@ use Rattle.pb_typing_declarations.specs.Shapes.{Shape, Places, first, number_beh
 use Rattle.pb_typing_declarations.specs.Enumerators.{Position, positioned, enumerators_from, enumerators_in, all_enumerators, enumerator_of, position_shape, enumerator_shape}
 use Rattle.pb_typing_declarations.proofs.ShapeLaws.{shape_carrier-sort_shape}
 use Rattle.pb_typing_rules.specs.Shapes.{IsValueOf}
-use Rattle.pb_typing_rules.specs.Scope.{Scope, declare, bound, or_else, named_shape, AgreeWithShape, IsWithinScope}
+use Rattle.pb_typing_rules.specs.Scope.{Scope, declare, bound, shape_or, named_shape, AgreeWithShape, IsWithinScope}
 use Rattle.pb_typing_rules.specs.Term.{shape_or_unknown, IsNamed}
 use Rattle.pb_typing_rules.proofs.Values.{Contained, bounded_value, carrier_value}
 
@@ -65,7 +65,7 @@ enumerator_value spec x s e = placed_value (enumerator_of spec x) (place_in (λ 
 -- ---- names
 
 by_agreement : (spec : Spec) (x : Name) (v : Option ℤ) (s e : Option Shape) → e ≡ enumerator_shape spec x
-    → AgreeWithShape v s → IsNamed (or_else s e) → Contained (shape_or_unknown (or_else s e)) (named_value spec v x)
+    → AgreeWithShape v s → IsNamed (shape_or s e) → Contained (shape_or_unknown (shape_or s e)) (named_value spec v x)
 by_agreement spec x (Some v) (Some s) e is h k = record { value = h; bounded = bounded_value s v k h }
 by_agreement spec x None None (Some s) is h k = let p = enumerator_value spec x s (sym is) in record { value = p; bounded = bounded_value s _ k p }
 by_agreement spec x None None None is h k = absurd k

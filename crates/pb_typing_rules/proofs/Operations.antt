@@ -12,7 +12,7 @@ use Rattle.pb_text_meaning.specs.Syntax.{Operator}
 use Rattle.pb_text_meaning.specs.Value.{binary}
 use Rattle.pb_text_meaning.specs.Fits.{DivisorFits}
 use Rattle.pb_typing_declarations.specs.Shapes.{Shape, Unknown, Truths, Places, Wholes}
-use Rattle.pb_typing_rules.specs.Shapes.{may_be_whole, may_be_alike, IsValueOf, interval, of_interval, hull, unary_shape, unary_is_limited, may_divide, binary_shape, binary_is_limited, kind_of, outcome}
+use Rattle.pb_typing_rules.specs.Shapes.{may_be_whole, may_be_alike, IsValueOf, between, of_interval, shape_hull, unary_shape, unary_is_limited, may_divide, binary_shape, binary_is_limited, kind_of, outcome}
 use Rattle.pb_typing_rules.specs.Term.{IsOperation}
 use Rattle.pb_typing_rules.proofs.Values.{Contained, whole_value, truth_value}
 
@@ -24,19 +24,19 @@ pub unary_contained : (o : UnaryOperation) (s : Shape) (v : ℤ) → may_be_whol
 unary_contained o Unknown v w e h = absurd h
 unary_contained o Truths v w e h = absurd (true≢false (sym w))
 unary_contained o (Places s n) v w e h = absurd (true≢false (sym w))
-unary_contained o (Wholes l k) v w e h = whole_value (unary_interval o (interval l k)) (unary_value o v) e (unary_sound o (interval l k) v h)
+unary_contained o (Wholes l k) v w e h = whole_value (unary_interval o (between l k)) (unary_value o v) e (unary_sound o (between l k) v h)
 
-defined : (o : BinaryOperation) (m k : ℤ) → may_divide o (Wholes m k) ≡ true → IsDefined o (interval m k)
+defined : (o : BinaryOperation) (m k : ℤ) → may_divide o (Wholes m k) ≡ true → IsDefined o (between m k)
 defined o m k e = λ d. le_true (pos 1) m (not_or (divides o) (int_le (pos 1) m) d e)
 
 wholes_contained : (o : BinaryOperation) (l h m k u v : ℤ) → may_divide o (Wholes m k) ≡ true
     → binary_is_limited o (Wholes l h) (Wholes m k) ≡ true → IsValueOf (Wholes l h) u → IsValueOf (Wholes m k) v
     → Contained (binary_shape o (Wholes l h) (Wholes m k)) (binary_value o u v)
 wholes_contained o l h m k u v d e p q =
-    let i = binary_interval o (interval l h) (interval m k) in
+    let i = binary_interval o (between l h) (between m k) in
     let limited = not_or (may_divide o (Wholes m k)) (is_included i literals) d e in
     subst (λ (b : Bool). Contained (cond b (of_interval (within literals i)) Unknown) (binary_value o u v)) (sym d)
-    (whole_value i (binary_value o u v) limited (binary_sound o (interval l h) (interval m k) u v (defined o m k d) p q))
+    (whole_value i (binary_value o u v) limited (binary_sound o (between l h) (between m k) u v (defined o m k d) p q))
 
 pub binary_contained : (o : BinaryOperation) (s t : Shape) (u v : ℤ) → (may_be_whole s && may_be_whole t) ≡ true
     → may_divide o t ≡ true → binary_is_limited o s t ≡ true → IsValueOf s u → IsValueOf t v
@@ -100,7 +100,7 @@ places_right : (s t n m : ℕ) (v : ℤ) (b : Bool) → b ≡ true → Contained
 places_right s t n m v true e h = let x = h.value.0 in let y = h.value.1 in record { value = (x, omega (arith, ints)); bounded = h.bounded }
 places_right s t n m v false e h = absurd (true≢false (sym e))
 
-pub hull_left : (s t : Shape) (v w : ℤ) → may_be_alike s t ≡ true → IsValueOf t w → Contained s v → Contained (hull s t) v
+pub hull_left : (s t : Shape) (v w : ℤ) → may_be_alike s t ≡ true → IsValueOf t w → Contained s v → Contained (shape_hull s t) v
 hull_left Unknown t v w e k h = absurd h.value
 hull_left Truths Unknown v w e k h = absurd k
 hull_left Truths Truths v w e k h = h
@@ -113,9 +113,9 @@ hull_left (Places s n) (Wholes m o) v w e k h = absurd (true≢false (sym e))
 hull_left (Wholes l o) Unknown v w e k h = absurd k
 hull_left (Wholes l o) Truths v w e k h = absurd (true≢false (sym e))
 hull_left (Wholes l o) (Places s n) v w e k h = absurd (true≢false (sym e))
-hull_left (Wholes l o) (Wholes m n) v w e k h = record { value = hull_sound (interval l o) (interval m n) v (inl h.value); bounded = h.bounded }
+hull_left (Wholes l o) (Wholes m n) v w e k h = record { value = hull_sound (between l o) (between m n) v (inl h.value); bounded = h.bounded }
 
-pub hull_right : (s t : Shape) (v w : ℤ) → may_be_alike s t ≡ true → IsValueOf s w → Contained t v → Contained (hull s t) v
+pub hull_right : (s t : Shape) (v w : ℤ) → may_be_alike s t ≡ true → IsValueOf s w → Contained t v → Contained (shape_hull s t) v
 hull_right Unknown t v w e k h = absurd k
 hull_right Truths Unknown v w e k h = absurd h.value
 hull_right Truths Truths v w e k h = h
@@ -128,4 +128,4 @@ hull_right (Places s n) (Wholes m o) v w e k h = absurd (true≢false (sym e))
 hull_right (Wholes l o) Unknown v w e k h = absurd h.value
 hull_right (Wholes l o) Truths v w e k h = absurd (true≢false (sym e))
 hull_right (Wholes l o) (Places s n) v w e k h = absurd (true≢false (sym e))
-hull_right (Wholes l o) (Wholes m n) v w e k h = record { value = hull_sound (interval l o) (interval m n) v (inr h.value); bounded = h.bounded }
+hull_right (Wholes l o) (Wholes m n) v w e k h = record { value = hull_sound (between l o) (between m n) v (inr h.value); bounded = h.bounded }

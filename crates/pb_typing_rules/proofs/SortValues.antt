@@ -11,7 +11,7 @@ use Rattle.pb_text_meaning.specs.Sorts.{carrier_of}
 use Rattle.pb_typing_declarations.specs.declared.sorts.Integers.{Integers}
 use Rattle.pb_typing_declarations.specs.declared.sorts.Integers.TheVariants as integers
 use Rattle.pb_typing_declarations.specs.Shapes.{shape_carrier, Definition, Structure, Renaming, definition_of, definitions_from, definitions, number_behind, first, Bounds, range_bounds, End, Unranged, Undeclared, built_in_integers, end_by, end_within, end_of, end_shape}
-use Rattle.pb_typing_declarations.specs.WellDeclared.{IsDeclared, IsDefined, IsRanged, has_shape}
+use Rattle.pb_typing_declarations.specs.WellDeclared.{IsDeclared, IsWellDefined, IsRanged, has_shape}
 use Rattle.pb_typing_declarations.proofs.ShapeLaws.{shape_carrier-sort_shape}
 
 -- ---- what is declared
@@ -32,9 +32,9 @@ ordered_bounds spec (r ∷ rs) s all = by_test (same_name r.name s) (ordered_bou
     by_test false rest = rest
 
 abbrev Defined : Spec → SortDeclaration → Type 0
-Defined spec d = IsDefined spec d.name d.sort
+Defined spec d = IsWellDefined spec d.name d.sort
 
-some_enumerators : (spec : Spec) (n : ℕ) (s : Name) (sort : Sort) → IsDefined spec s sort → HasEnumerators (definition_of n sort)
+some_enumerators : (spec : Spec) (n : ℕ) (s : Name) (sort : Sort) → IsWellDefined spec s sort → HasEnumerators (definition_of n sort)
 some_enumerators spec n s (Struct es) h = h.0
 some_enumerators spec n s (Alias t) h = tt
 

@@ -9,7 +9,7 @@ use Rattle.pb_base_values.specs.Interval.{IntegerInterval, Includes, is_included
 use Rattle.pb_base_values.proofs.Ends.{le_true}
 use Rattle.pb_text_meaning.specs.Fits.{IsBounded}
 use Rattle.pb_typing_declarations.specs.Shapes.{Shape, Unknown, Truths, Places, Wholes, shape_carrier}
-use Rattle.pb_typing_rules.specs.Shapes.{IsValueOf, is_limited, interval, of_interval}
+use Rattle.pb_typing_rules.specs.Shapes.{IsValueOf, is_limited, between, of_interval}
 
 -- the value is one of the shape's and within the limits
 pub record Contained (s : Shape) (v : ℤ) : Type 0 where
@@ -29,8 +29,8 @@ bounded_in i v e p =
 pub bounded_value : (s : Shape) (v : ℤ) → is_limited s ≡ true → IsValueOf s v → IsBounded v
 bounded_value Unknown v e h = absurd h
 bounded_value Truths v e h = let x = h.0 in let y = h.1 in record { low = omega (arith, ints); high = omega (arith, ints) }
-bounded_value (Places s n) v e h = bounded_in (interval (pos 0) (pos n -ℤ pos 1)) v e h
-bounded_value (Wholes low high) v e h = bounded_in (interval low high) v e h
+bounded_value (Places s n) v e h = bounded_in (between (pos 0) (pos n -ℤ pos 1)) v e h
+bounded_value (Wholes low high) v e h = bounded_in (between low high) v e h
 
 pub truth_value : (b : Bool) → Contained Truths (of_bool b)
 truth_value true = record { value = (omega (arith, ints), omega (arith, ints)); bounded = record { low = omega (arith, ints); high = omega (arith, ints) } }

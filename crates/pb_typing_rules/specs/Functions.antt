@@ -10,7 +10,7 @@ use Rattle.pb_text_meaning.specs.Functions.{named_function}
 use Rattle.pb_base_values.specs.Operation.{UnaryOperation, Successor, Predecessor, AbsoluteValue, BinaryOperation, Maximum, Minimum}
 use Rattle.pb_typing_declarations.specs.Shapes.{Shape, Unknown, Truths, Wholes}
 use Rattle.pb_typing_declarations.specs.Enumerators.{recogniser_shape}
-use Rattle.pb_typing_rules.specs.Shapes.{may_be_truth, may_be_whole, may_be_alike, hull, unary_shape, unary_is_limited, binary_shape, binary_is_limited}
+use Rattle.pb_typing_rules.specs.Shapes.{may_be_truth, may_be_whole, may_be_alike, shape_hull, unary_shape, unary_is_limited, binary_shape, binary_is_limited}
 
 -- a choice between two, an operation on one or two whole numbers, a conversion, which keeps its
 -- number, and the recogniser of an enumerator whose struct has this shape
@@ -88,7 +88,7 @@ shape_of_two (OfTwo o) s t = binary_shape o s t
 shape_of_two _ s t = Unknown
 
 abbrev pub shape_of_three : Function → Shape → Shape → Shape → Shape
-shape_of_three Choice c s t = hull s t
+shape_of_three Choice c s t = shape_hull s t
 shape_of_three _ c s t = Unknown
 
 abbrev pub result_shape : Function → List Shape → Shape

@@ -22,12 +22,12 @@ bound spec [] scope = scope
 bound spec (x ∷ xs) scope = bound spec xs (declare x.name (sort_shape spec x.sort) scope)
 
 -- a variable's shape, else that of an enumerator, which a variable hides
-abbrev pub or_else : Option Shape → Option Shape → Option Shape
-or_else None o = o
-or_else (Some s) o = Some s
+abbrev pub shape_or : Option Shape → Option Shape → Option Shape
+shape_or None o = o
+shape_or (Some s) o = Some s
 
 abbrev pub named_shape : Spec → Scope → Name → Option Shape
-named_shape spec scope x = or_else (scope x) (enumerator_shape spec x)
+named_shape spec scope x = shape_or (scope x) (enumerator_shape spec x)
 
 -- ---- assignments
 

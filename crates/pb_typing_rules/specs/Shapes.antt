@@ -37,22 +37,22 @@ may_be_alike (Wholes l h) t = may_be_whole t
 
 -- ---- values
 
-abbrev pub interval : ℤ → ℤ → IntegerInterval
-interval l h = record { low = l; high = h }
+abbrev pub between : ℤ → ℤ → IntegerInterval
+between l h = record { low = l; high = h }
 
 -- the value is one that a term of this shape may have; nothing is known to have an unknown shape
 abbrev pub IsValueOf : Shape → ℤ → Type 0
 IsValueOf Unknown v = ⊥
-IsValueOf Truths v = Includes (interval (pos 0) (pos 1)) v
-IsValueOf (Places s n) v = Includes (interval (pos 0) (pos n -ℤ pos 1)) v
-IsValueOf (Wholes l h) v = Includes (interval l h) v
+IsValueOf Truths v = Includes (between (pos 0) (pos 1)) v
+IsValueOf (Places s n) v = Includes (between (pos 0) (pos n -ℤ pos 1)) v
+IsValueOf (Wholes l h) v = Includes (between l h) v
 
 -- all its values lie from -2^62 to 2^62, the limits of what is computed
 abbrev pub is_limited : Shape → Bool
 is_limited Unknown = true
 is_limited Truths = true
-is_limited (Places s n) = is_included (interval (pos 0) (pos n -ℤ pos 1)) literals
-is_limited (Wholes l h) = is_included (interval l h) literals
+is_limited (Places s n) = is_included (between (pos 0) (pos n -ℤ pos 1)) literals
+is_limited (Wholes l h) = is_included (between l h) literals
 
 -- whole numbers of this interval, if there is one
 abbrev pub of_interval : Option IntegerInterval → Shape
@@ -64,22 +64,22 @@ abbrev pub literal_shape : ℕ → Shape
 literal_shape n = of_interval (within literals (singleton (pos n)))
 
 -- either of two values of one kind
-abbrev pub hull : Shape → Shape → Shape
-hull (Wholes l h) (Wholes m k) =
-    of_interval (Some (intervals.hull (interval l h) (interval m k)))
-hull Truths Truths = Truths
-hull (Places s n) (Places t m) = if s == t then Places s (max n m) else Unknown
-hull _ _ = Unknown
+abbrev pub shape_hull : Shape → Shape → Shape
+shape_hull (Wholes l h) (Wholes m k) =
+    of_interval (Some (intervals.hull (between l h) (between m k)))
+shape_hull Truths Truths = Truths
+shape_hull (Places s n) (Places t m) = if s == t then Places s (max n m) else Unknown
+shape_hull _ _ = Unknown
 
 -- ---- operations on whole numbers
 
 -- the interval of an operation within the limits
 abbrev pub unary_shape : UnaryOperation → Shape → Shape
-unary_shape o (Wholes l h) = of_interval (within literals (unary_interval o (interval l h)))
+unary_shape o (Wholes l h) = of_interval (within literals (unary_interval o (between l h)))
 unary_shape o _ = Unknown
 
 abbrev pub unary_is_limited : UnaryOperation → Shape → Bool
-unary_is_limited o (Wholes l h) = is_included (unary_interval o (interval l h)) literals
+unary_is_limited o (Wholes l h) = is_included (unary_interval o (between l h)) literals
 unary_is_limited o _ = true
 
 -- no divisor is below 1
@@ -90,14 +90,14 @@ may_divide o _ = true
 abbrev pub binary_shape : BinaryOperation → Shape → Shape → Shape
 binary_shape o (Wholes l h) (Wholes m k) =
     if may_divide o (Wholes m k)
-    then of_interval (within literals (binary_interval o (interval l h) (interval m k)))
+    then of_interval (within literals (binary_interval o (between l h) (between m k)))
     else Unknown
 binary_shape o _ _ = Unknown
 
 abbrev pub binary_is_limited : BinaryOperation → Shape → Shape → Bool
 binary_is_limited o (Wholes l h) (Wholes m k) =
     not (may_divide o (Wholes m k))
-    || is_included (binary_interval o (interval l h) (interval m k)) literals
+    || is_included (binary_interval o (between l h) (between m k)) literals
 binary_is_limited o _ _ = true
 
 -- ---- operators

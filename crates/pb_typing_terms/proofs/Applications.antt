@@ -11,7 +11,7 @@ use Rattle.pb_typing_declarations.specs.Faults.{unless}
 use Rattle.pb_typing_declarations.specs.Shapes as model
 use Rattle.pb_typing_declarations.proofs.Parts.{no_whole}
 use Rattle.pb_typing_rules.specs.Functions.{Function, Choice, OfTwo, function_named, arity, result_shape, shape_of_one}
-use Rattle.pb_typing_rules.specs.Shapes.{binary_shape, hull}
+use Rattle.pb_typing_rules.specs.Shapes.{binary_shape, shape_hull}
 use Rattle.pb_typing_rules.specs.Scope.{Scope}
 use Rattle.pb_typing_rules.specs.Term.{shape, shapes, applied_shape}
 use Rattle.pb_typing_rules.specs.Faults.{term_faults, terms_faults, function_faults, kind_faults}
@@ -132,7 +132,7 @@ two_node X f u xs x y v w r is these h k made =
 pub choice_node : (X : Context) (f : Named) (xs : List Argument) (q x y : Argument) (o v w : typed.Argument) (r : Result typed.Argument (OrMemory TypingFault))
     → IsChoice (text_in X) f.text → xs ≡ q ∷ x ∷ y ∷ [] → IsChecked X (term_form q.term) o → IsChecked X (term_form x.term) v → IsChecked X (term_form y.term) w
     → Elaborates (kind_faults Choice (shape_view o.shape ∷ shape_view v.shape ∷ shape_view w.shape ∷ []) f.place)
-    (hull (shape_view v.shape) (shape_view w.shape)) (tree.Choice (term_view o.term) (term_view v.term) (term_view w.term)) r
+    (shape_hull (shape_view v.shape) (shape_view w.shape)) (tree.Choice (term_view o.term) (term_view v.term) (term_view w.term)) r
     → ChecksTerm X (TermForm.application f (argument_forms xs)) r
 choice_node X f xs q x y o v w r is these l h k made =
     let S = text_in X in
@@ -144,7 +144,7 @@ choice_node X f xs q x y o v w r is these l h k made =
     let second = term_in X (term_form y.term) in
     let all = three_applied S (scope_in X) f (q ∷ x ∷ y ∷ []) Choice q x y b s t (is.found, refl) refl (l.0, l.1.0) (h.0, h.1.0) (k.0, k.1.0) in
     subst (λ (ys : List Argument). ChecksTerm X (TermForm.application f (argument_forms ys)) r) (sym these)
-    (elaborates_as (application_faults S (scope_in X) f (q ∷ x ∷ y ∷ [])) (kind_faults Choice (b ∷ s ∷ t ∷ []) f.place) (hull s t)
+    (elaborates_as (application_faults S (scope_in X) f (q ∷ x ∷ y ∷ [])) (kind_faults Choice (b ∷ s ∷ t ∷ []) f.place) (shape_hull s t)
     (applied_shape (function_named S f.text) (shapes S (scope_in X) (erased_arguments (argument_forms (q ∷ x ∷ y ∷ [])))))
     (tree.Choice (term_view o.term) (term_view v.term) (term_view w.term)) (applied_to_three (named_function f.text) test first second) r
     all.faults (sym all.shape)

@@ -42,7 +42,8 @@ use Rattle.pb_typing_terms.proofs.Nodes.{IsChecked, chain_form, faults_in, shape
 
 -- a chain over slots
 chained-slotted : (S : Spec) (c : Slotting) (o : Connective) (first : TermForm) (links : List TermLink)
-    → slotted S c (erased_term (form.chained (TermForm.connected o) first (term_links links))) ≡ view.chained (Binary (of_connective o)) (slotted S c (erased_term first)) (link_terms S c links)
+    → slotted S c (erased_term (form.chained (TermForm.connected o) first (term_links links)))
+    ≡ view.chained_formula (Binary (of_connective o)) (slotted S c (erased_term first)) (link_terms S c links)
 chained-slotted S c o first [] = refl
 chained-slotted S c o first (l ∷ ls) = ap (Binary (of_connective o) (slotted S c (erased_term first))) (chained-slotted S c o (term_form l.operand) ls)
 
@@ -109,17 +110,17 @@ others_clear X o first links {u} none is found h =
     (others_faults (text_in X) false (scope_in X) o (term_form first) links none is ∙ others.0, others.1)
 
 pub chain_term : (X : Context) (o : Connective) (first : Term) (links : List TermLink) {x : tree.Term} {xs : List tree.Term} → x ≡ term_in X (term_form first)
-    → xs ≡ link_terms (text_in X) (slots_in X) links → view.chained (Binary (of_connective o)) x xs ≡ term_in X (chain_form o first links)
+    → xs ≡ link_terms (text_in X) (slots_in X) links → view.chained_formula (Binary (of_connective o)) x xs ≡ term_in X (chain_form o first links)
 chain_term X o first links {x} {xs} head others =
-    ap (λ (y : tree.Term). view.chained (Binary (of_connective o)) y xs) head
-    ∙ (ap (view.chained (Binary (of_connective o)) (term_in X (term_form first))) others
+    ap (λ (y : tree.Term). view.chained_formula (Binary (of_connective o)) y xs) head
+    ∙ (ap (view.chained_formula (Binary (of_connective o)) (term_in X (term_form first))) others
     ∙ sym (chained-slotted (text_in X) (slots_in X) o (term_form first) links))
 
 -- ---- arithmetic
 
 -- arithmetic over slots
 calculated-slotted : (S : Spec) (c : Slotting) (first : TermForm) (links : List ArithmeticLink)
-    → slotted S c (erased_term (calculated first (arithmetic_links links))) ≡ view.calculated (slotted S c (erased_term first)) (arithmetic_terms S c links)
+    → slotted S c (erased_term (calculated first (arithmetic_links links))) ≡ view.term_of_operands (slotted S c (erased_term first)) (arithmetic_terms S c links)
 calculated-slotted S c first [] = refl
 calculated-slotted S c first (l ∷ ls) = calculated-slotted S c (TermForm.computed l.operator l.place first (term_form l.operand)) ls
 
@@ -220,7 +221,7 @@ calculated_by X first links is =
     ap (λ (s : model.Shape). calculated_shape (text_in X) (scope_in X) s links) is ∙ sym (calculated-shape (text_in X) (scope_in X) (term_form first) links)
 
 pub calculated_term : (X : Context) (first : Term) (links : List ArithmeticLink) {x : tree.Term} {xs : List (Arithmetic × tree.Term)} → x ≡ term_in X (term_form first)
-    → xs ≡ arithmetic_terms (text_in X) (slots_in X) links → view.calculated x xs ≡ term_in X (calculated_form first links)
+    → xs ≡ arithmetic_terms (text_in X) (slots_in X) links → view.term_of_operands x xs ≡ term_in X (calculated_form first links)
 calculated_term X first links {x} {xs} head others =
-    ap (λ (y : tree.Term). view.calculated y xs) head
-    ∙ (ap (view.calculated (term_in X (term_form first))) others ∙ sym (calculated-slotted (text_in X) (slots_in X) (term_form first) links))
+    ap (λ (y : tree.Term). view.term_of_operands y xs) head
+    ∙ (ap (view.term_of_operands (term_in X (term_form first))) others ∙ sym (calculated-slotted (text_in X) (slots_in X) (term_form first) links))

@@ -17,7 +17,7 @@ use Rattle.pb_typing_tree.specs.declared.formula.Formula.{Formula, Row_of-Formul
 use Rattle.pb_typing_tree.specs.Calls.{call_places, places_in, places_of, calls}
 use Rattle.pb_typing_tree.specs.Elaboration.{Slotting, with_slot, each, elaborated, width}
 use Rattle.pb_typing_tree.specs.Expansion.{connected, expanded_term, has_quantifier}
-use Rattle.pb_typing_tree.specs.View.{chained, nested, formula_view, formulas_in, formula_views}
+use Rattle.pb_typing_tree.specs.View.{chained_formula, nested, formula_view, formulas_in, formula_views}
 
 -- ---- the operands of a chain
 
@@ -49,7 +49,7 @@ mutual
   calls-counted (formula.Call place X es) = refl
 
   chain-counted : {m : _} (c : Connective) (ps : List Place) (f : tree.Formula) → length ps ≡ calls f
-      → (row : Row_of-Formula m) → length (ps ++ places_in row) ≡ calls (chained (Connected c) f (formulas_in row))
+      → (row : Row_of-Formula m) → length (ps ++ places_in row) ≡ calls (chained_formula (Connected c) f (formulas_in row))
   chain-counted c ps f counted end_of-Formula = ap length (append-nil ps) ∙ counted
   chain-counted c ps f counted (more_of-Formula g row) =
       omega (arith, length-append ps (call_places g ++ places_in row), counted, chain-counted c (call_places g) (formula_view g) (calls-counted g) row)

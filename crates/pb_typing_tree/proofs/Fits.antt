@@ -26,11 +26,11 @@ use Rattle.pb_typing_tree.proofs.Truth.{HasCarriers, more-free, free-with, agree
 
 -- ---- names and functions
 
-enumerator-fits : (n : ℕ) (a : Slots) (o : Option Position) → IsBounded (value a (made.enumerator o)) → Fits n a (made.enumerator o)
+enumerator-fits : (n : ℕ) (a : Slots) (o : Option Position) → IsBounded (value a (made.term_of_enumerator o)) → Fits n a (made.term_of_enumerator o)
 enumerator-fits n a None b = b
 enumerator-fits n a (Some p) b = b
 
-named-fits : (spec : Spec) (n : ℕ) (a : Slots) (o : Option ℕ) (x : Name) → ((s : ℕ) → o ≡ Some s → s < n) → IsBounded (value a (made.named spec o x)) → Fits n a (made.named spec o x)
+named-fits : (spec : Spec) (n : ℕ) (a : Slots) (o : Option ℕ) (x : Name) → ((s : ℕ) → o ≡ Some s → s < n) → IsBounded (value a (made.term_of_name spec o x)) → Fits n a (made.term_of_name spec o x)
 named-fits spec n a (Some s) x below b = (below s refl, b)
 named-fits spec n a None x below b = enumerator-fits n a (enumerator_of spec x) b
 

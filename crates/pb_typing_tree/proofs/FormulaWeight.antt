@@ -6,7 +6,7 @@ use Rattle.pb_text_tree.specs.declared.operator.Connective.{Connective}
 use Rattle.pb_typing_tree.specs.Tree.{Connected}
 use Rattle.pb_typing_tree.specs.declared.formula.Formula as formula
 use Rattle.pb_typing_tree.specs.declared.formula.Formula.{Formula, Row_of-Formula, end_of-Formula, more_of-Formula, items-the_row-Formula, items_hidden-the_row-Formula-0}
-use Rattle.pb_typing_tree.specs.View.{formula_view, formula_views, chained}
+use Rattle.pb_typing_tree.specs.View.{formula_view, formula_views, chained_formula}
 use Rattle.pb_typing_tree.proofs.Views.{formula-chain}
 
 abbrev mutual
@@ -46,8 +46,8 @@ operand_lighter (y ∷ xs) (suc k) x below at = omega (arith, operand_lighter xs
 
 -- what the code's words for a chain say
 pub chain_is : (t x : Formula) (c : Connective) (first : Box Formula Global) (v : Vec Formula Global) (rest : List Formula) → t ≡ formula.Chain c first v → x ≡ box_value first → rest ≡ v.items
-    → chained (Connected c) (formula_view x) (formula_views rest) ≡ formula_view t
+    → chained_formula (Connected c) (formula_view x) (formula_views rest) ≡ formula_view t
 chain_is t x c first v rest is same are =
-    ap (λ (y : Formula). chained (Connected c) (formula_view y) (formula_views rest)) same
-    ∙ (ap (λ (fs : List Formula). chained (Connected c) (formula_view (box_value first)) (formula_views fs)) are
+    ap (λ (y : Formula). chained_formula (Connected c) (formula_view y) (formula_views rest)) same
+    ∙ (ap (λ (fs : List Formula). chained_formula (Connected c) (formula_view (box_value first)) (formula_views fs)) are
     ∙ sym (ap formula_view is ∙ formula-chain c first v))

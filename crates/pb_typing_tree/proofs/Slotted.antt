@@ -23,11 +23,11 @@ use Rattle.pb_typing_tree.specs.Elaboration.{Slotting, applied_to_one, applied_t
 abbrev place : Position → ℕ
 place p = p.place
 
-enumerator-value : (a : Slots) (o : Option Position) → value a (made.enumerator o) ≡ pos (unwrap_or (option_map place o) 0)
+enumerator-value : (a : Slots) (o : Option Position) → value a (made.term_of_enumerator o) ≡ pos (unwrap_or (option_map place o) 0)
 enumerator-value a None = refl
 enumerator-value a (Some p) = refl
 
-named-value : (spec : Spec) (a : Slots) (o : Option ℕ) (x : Name) → value a (made.named spec o x) ≡ named_value spec (option_map a o) x
+named-value : (spec : Spec) (a : Slots) (o : Option ℕ) (x : Name) → value a (made.term_of_name spec o x) ≡ named_value spec (option_map a o) x
 named-value spec a (Some s) x = refl
 named-value spec a None x =
     enumerator-value a (enumerator_of spec x)

@@ -38,14 +38,14 @@ with_slots (x ∷ xs) n c = with_slots xs (suc n) (with_slot x.name n c)
 -- ---- data terms
 
 -- an enumerator, by its struct and its place there
-abbrev pub enumerator : Option Position → Term
-enumerator None = Number 0
-enumerator (Some p) = Term.Enumerator p.sort p.place
+abbrev pub term_of_enumerator : Option Position → Term
+term_of_enumerator None = Number 0
+term_of_enumerator (Some p) = Term.Enumerator p.sort p.place
 
 -- a variable, else an enumerator
-abbrev pub named : Spec → Option ℕ → Name → Term
-named spec (Some s) x = Slot s
-named spec None x = enumerator (enumerator_of spec x)
+abbrev pub term_of_name : Spec → Option ℕ → Name → Term
+term_of_name spec (Some s) x = Slot s
+term_of_name spec None x = term_of_enumerator (enumerator_of spec x)
 
 abbrev pub recognised : Option Position → Term → Term
 recognised None x = Term.Truth false
@@ -94,7 +94,7 @@ abbrev mutual
   pub slotted : Spec → Slotting → syntax.Term → Term
   slotted spec c (syntax.Term.Truth b) = Term.Truth b
   slotted spec c (syntax.Term.Number n) = Number n
-  slotted spec c (syntax.Term.Named x) = named spec (c x) x
+  slotted spec c (syntax.Term.Named x) = term_of_name spec (c x) x
   slotted spec c (syntax.Term.Not x) = Term.Not (slotted spec c x)
   slotted spec c (syntax.Term.Negative x) = Negative (slotted spec c x)
   slotted spec c (syntax.Term.Binary o x y) = Binary o (slotted spec c x) (slotted spec c y)

@@ -46,8 +46,8 @@ name_of None = []
 name_of (Some X) = X.name
 
 -- the instance that a call names
-abbrev pub called : Spec → Slots → ℕ → List Argument → Instance
-called spec a X es =
+abbrev pub called_instance : Spec → Slots → ℕ → List Argument → Instance
+called_instance spec a X es =
     record { name = name_of (slice_get spec.equations X); values = map (λ e. value a e.term) es }
 
 abbrev pub truth : Spec → Slots → Environment Instance → Formula → Bool
@@ -56,4 +56,4 @@ truth spec a t (Negation f) = not (truth spec a t f)
 truth spec a t (Connected c f g) = connected_truth c (truth spec a t f) (truth spec a t g)
 truth spec a t (Quantified q s shape f) =
     of_values q (λ v. truth spec (set a s v) t f) (shape_carrier shape)
-truth spec a t (Call X es) = call_truth spec t (called spec a X es)
+truth spec a t (Call X es) = call_truth spec t (called_instance spec a X es)

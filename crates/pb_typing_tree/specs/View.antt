@@ -25,14 +25,14 @@ shape_view (shape.Places sort count) = shapes.Places sort count
 shape_view (shape.Wholes i) = shapes.Wholes i.low i.high
 
 -- operands read to the right: first o (operand o (operand ..))
-abbrev pub chained : {F : Type 0} → (F → F → F) → F → List F → F
-chained join first [] = first
-chained join first (x ∷ xs) = join first (chained join x xs)
+abbrev pub chained_formula : {F : Type 0} → (F → F → F) → F → List F → F
+chained_formula join first [] = first
+chained_formula join first (x ∷ xs) = join first (chained_formula join x xs)
 
 -- operands of arithmetic, read to the left
-abbrev pub calculated : tree.Term → List (Arithmetic × tree.Term) → tree.Term
-calculated first [] = first
-calculated first ((o, x) ∷ links) = calculated (Binary (of_arithmetic o) first x) links
+abbrev pub term_of_operands : tree.Term → List (Arithmetic × tree.Term) → tree.Term
+term_of_operands first [] = first
+term_of_operands first ((o, x) ∷ links) = term_of_operands (Binary (of_arithmetic o) first x) links
 
 abbrev mutual
   pub term_view : Term → tree.Term
@@ -46,10 +46,10 @@ abbrev mutual
   term_view (term.Successor' p x) = tree.Successor (term_view x)
   term_view (term.Predecessor' p x) = tree.Predecessor (term_view x)
   term_view (term.Chain' connective p first shape row) =
-      chained (Binary (of_connective connective)) (term_view first) (terms_in row)
+      chained_formula (Binary (of_connective connective)) (term_view first) (terms_in row)
   term_view (term.Comparison' comparison p left q right) =
       Binary (of_comparison comparison) (term_view left) (term_view right)
-  term_view (term.Arithmetic' p first shape row) = calculated (term_view first) (links_in row)
+  term_view (term.Arithmetic' p first shape row) = term_of_operands (term_view first) (links_in row)
   term_view (term.Maximum' p x q y) = tree.Maximum (term_view x) (term_view y)
   term_view (term.Minimum' p x q y) = tree.Minimum (term_view x) (term_view y)
   term_view (term.Choice' p c q x r y) = tree.Choice (term_view c) (term_view x) (term_view y)
@@ -87,7 +87,7 @@ abbrev mutual
   formula_view (formula.Test x) = tree.Test (term_view x)
   formula_view (formula.Negation' p f) = tree.Negation (formula_view f)
   formula_view (formula.Chain' connective p first shape row) =
-      chained (tree.Connected connective) (formula_view first) (formulas_in row)
+      chained_formula (tree.Connected connective) (formula_view first) (formulas_in row)
   formula_view (formula.Quantified' quantifier slot carriers p body) =
       nested quantifier slot carriers.items (formula_view body)
   formula_view (formula.Call place equation arguments) =

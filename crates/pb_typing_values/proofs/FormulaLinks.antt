@@ -9,7 +9,7 @@ use Rattle.pb_typing_tree.specs.declared.formula.Formula as formula
 use Rattle.pb_typing_tree.specs.declared.formula.Formula.{Formula}
 use Rattle.pb_typing_tree.specs.Tree as tree
 use Rattle.pb_typing_tree.specs.Tree.{Connected}
-use Rattle.pb_typing_tree.specs.View.{chained, formula_view, formula_views}
+use Rattle.pb_typing_tree.specs.View.{chained_formula, formula_view, formula_views}
 use Rattle.pb_typing_tree.specs.Meaning.{Slots, connected_truth, truth}
 use Rattle.pb_typing_tree.specs.Fits.{FormulaFits}
 use Rattle.pb_typing_tree.proofs.FormulaWeight.{weight, links_weight, weight-chain, operand_lighter, chain_is}
@@ -24,12 +24,12 @@ OperandsFit k n a [] = ⊤
 OperandsFit k n a (f ∷ fs) = FormulaFits k n a (formula_view f) × OperandsFit k n a fs
 
 truth-chained : (S : Spec) (a : Slots) (t : Environment Instance) (c : Connective) (first : tree.Formula)
-    (fs : List Formula) → truth S a t (chained (Connected c) first (formula_views fs)) ≡ chain_truth S a t c (truth S a t first) fs
+    (fs : List Formula) → truth S a t (chained_formula (Connected c) first (formula_views fs)) ≡ chain_truth S a t c (truth S a t first) fs
 truth-chained S a t c first [] = refl
 truth-chained S a t c first (f ∷ fs) = ap (connected_truth c (truth S a t first)) (truth-chained S a t c (formula_view f) fs)
 
 fits-chained : (k n : ℕ) (a : Slots) (c : Connective) (first : tree.Formula) (fs : List Formula)
-    → FormulaFits k n a (chained (Connected c) first (formula_views fs)) → FormulaFits k n a first × OperandsFit k n a fs
+    → FormulaFits k n a (chained_formula (Connected c) first (formula_views fs)) → FormulaFits k n a first × OperandsFit k n a fs
 fits-chained k n a c first [] h = (h, tt)
 fits-chained k n a c first (f ∷ fs) h = (h.0, fits-chained k n a c (formula_view f) fs h.1)
 
@@ -42,7 +42,7 @@ operand_fits k n a (g ∷ fs) (suc i) f h lt at = operand_fits k n a fs i f h.1 
 
 -- a formula connects a first operand and those linked to it
 pub record IsChain (f : Formula) (o : Connective) (first : Formula) (links : List Formula) : Type 0 where
-  pub view : chained (Connected o) (formula_view first) (formula_views links) ≡ formula_view f
+  pub view : chained_formula (Connected o) (formula_view first) (formula_views links) ≡ formula_view f
   pub weighs : weight f ≡ 8 + (weight first + links_weight links)
 
 pub chain-read : {f first : Formula} (o : Connective) (b : Box Formula Global) (v : Vec Formula Global) → f ≡ formula.Chain o b v → first ≡ box_value b → IsChain f o first v.items

@@ -14,7 +14,7 @@ use Rattle.pb_typing_tree.specs.declared.term.Term.{Term}
 use Rattle.pb_typing_tree.specs.declared.term.Link.{Link}
 use Rattle.pb_typing_tree.specs.Tree as tree
 use Rattle.pb_typing_tree.specs.Tree.{Binary}
-use Rattle.pb_typing_tree.specs.View.{calculated, chained, link_views, term_view, term_views}
+use Rattle.pb_typing_tree.specs.View.{term_of_operands, chained_formula, link_views, term_view, term_views}
 use Rattle.pb_typing_tree.specs.Meaning.{Slots, value, connected_truth}
 use Rattle.pb_typing_tree.specs.Fits.{Fits}
 use Rattle.pb_typing_tree.proofs.Views.{term-chain, term-arithmetic}
@@ -31,17 +31,18 @@ abbrev pub OperandsFit : ℕ → Slots → List Term → Type 0
 OperandsFit n a [] = ⊤
 OperandsFit n a (x ∷ xs) = Fits n a (term_view x) × OperandsFit n a xs
 
-value-chained : (a : Slots) (c : Connective) (first : tree.Term) (xs : List Term) → value a (chained (Binary (of_connective c)) first (term_views xs)) ≡ chain_value a c (value a first) xs
+value-chained : (a : Slots) (c : Connective) (first : tree.Term) (xs : List Term) → value a (chained_formula (Binary (of_connective c)) first (term_views xs)) ≡ chain_value a c (value a first) xs
 value-chained a c first [] = refl
 value-chained a c first (x ∷ xs) = ap (binary (of_connective c) (value a first)) (value-chained a c (term_view x) xs)
 
 -- no operand but the first was read
 pub chain-begun : (a : Slots) (c : Connective) (first : Term) (xs : List Term) {v : Value} → v ≡ value a (term_view first)
-    → chain_value a c v xs ≡ value a (chained (Binary (of_connective c)) (term_view first) (term_views xs))
+    → chain_value a c v xs ≡ value a (chained_formula (Binary (of_connective c)) (term_view first) (term_views xs))
 chain-begun a c first xs is = ap (λ (u : Value). chain_value a c u xs) is ∙ sym (value-chained a c (term_view first) xs)
 
 -- a chain that fits has operands that do
-pub fits-chained : (n : ℕ) (a : Slots) (c : Connective) (first : tree.Term) (xs : List Term) → Fits n a (chained (Binary (of_connective c)) first (term_views xs)) → Fits n a first × OperandsFit n a xs
+pub fits-chained : (n : ℕ) (a : Slots) (c : Connective) (first : tree.Term) (xs : List Term) → Fits n a (chained_formula (Binary (of_connective c)) first (term_views xs))
+    → Fits n a first × OperandsFit n a xs
 fits-chained n a c first [] f = (f, tt)
 fits-chained n a c first (x ∷ xs) f = (f.0, fits-chained n a c (term_view x) xs f.1)
 
@@ -101,11 +102,11 @@ ArithmeticFits n a v (link ∷ links) =
     let w = binary (of_arithmetic link.operator) v x in
     Fits n a (term_view link.operand) × DivisorFits (of_arithmetic link.operator) x × IsBounded w × ArithmeticFits n a w links
 
-value-calculated : (a : Slots) (first : tree.Term) (links : List Link) → value a (calculated first (link_views links)) ≡ arithmetic_value a (value a first) links
+value-calculated : (a : Slots) (first : tree.Term) (links : List Link) → value a (term_of_operands first (link_views links)) ≡ arithmetic_value a (value a first) links
 value-calculated a first [] = refl
 value-calculated a first (link ∷ links) = value-calculated a (Binary (of_arithmetic link.operator) first (term_view link.operand)) links
 
-pub fits-calculated : (n : ℕ) (a : Slots) (first : tree.Term) (links : List Link) → Fits n a (calculated first (link_views links)) → Fits n a first × ArithmeticFits n a (value a first) links
+pub fits-calculated : (n : ℕ) (a : Slots) (first : tree.Term) (links : List Link) → Fits n a (term_of_operands first (link_views links)) → Fits n a first × ArithmeticFits n a (value a first) links
 fits-calculated n a first [] f = (f, tt)
 fits-calculated n a first (link ∷ links) f =
     let rest = fits-calculated n a (Binary (of_arithmetic link.operator) first (term_view link.operand)) links f in
@@ -117,8 +118,8 @@ pub arithmetic_next : (n : ℕ) (a : Slots) (v : Value) (links : List Link) (k :
 arithmetic_next n a v links k link lt at f = subst (ArithmeticFits n a v) (drop-at links k link lt at) f
 
 -- no operand but the first was read
-pub arithmetic-begun : (n : ℕ) (a : Slots) (first : Term) (links : List Link) {v : Value} → v ≡ value a (term_view first) → Fits n a (calculated (term_view first) (link_views links))
-    → (arithmetic_value a v links ≡ value a (calculated (term_view first) (link_views links))) × ArithmeticFits n a v links
+pub arithmetic-begun : (n : ℕ) (a : Slots) (first : Term) (links : List Link) {v : Value} → v ≡ value a (term_view first) → Fits n a (term_of_operands (term_view first) (link_views links))
+    → (arithmetic_value a v links ≡ value a (term_of_operands (term_view first) (link_views links))) × ArithmeticFits n a v links
 arithmetic-begun n a first links is f = (
   ap (λ (u : Value). arithmetic_value a u links) is ∙ sym (value-calculated a (term_view first) links),
   subst (λ (u : Value). ArithmeticFits n a u links) (sym is) (fits-calculated n a (term_view first) links f).1,
@@ -137,30 +138,30 @@ arithmetic-went_on n a v links k link lt at is f = (
 
 -- a term connects a first operand and those linked to it
 pub record IsChain (x : Term) (o : Connective) (first : Term) (links : List Term) : Type 0 where
-  pub view : chained (Binary (of_connective o)) (term_view first) (term_views links) ≡ term_view x
+  pub view : chained_formula (Binary (of_connective o)) (term_view first) (term_views links) ≡ term_view x
   pub weighs : weight x ≡ 4 + (weight first + terms_weight links)
 
 pub chain-read : {x first : Term} {links : List Term} (o : Connective) (b : Box Term Global) (v : Vec Term Global)
     → x ≡ term.Chain o b v → first ≡ box_value b → links ≡ v.items → IsChain x o first links
 chain-read {x} {first} {links} o b v is at behind = record {
   view =
-      ap (λ (y : Term). chained (Binary (of_connective o)) (term_view y) (term_views links)) at
-      ∙ (ap (λ (xs : List Term). chained (Binary (of_connective o)) (term_view (box_value b)) (term_views xs)) behind
+      ap (λ (y : Term). chained_formula (Binary (of_connective o)) (term_view y) (term_views links)) at
+      ∙ (ap (λ (xs : List Term). chained_formula (Binary (of_connective o)) (term_view (box_value b)) (term_views xs)) behind
       ∙ sym (ap term_view is ∙ term-chain o b v));
   weighs = omega (arith, ap weight is ∙ weight-chain o b v, ap weight at, ap terms_weight behind);
 }
 
 -- a term calculates with a first operand and those linked to it
 pub record IsArithmetic (x first : Term) (links : List Link) : Type 0 where
-  pub view : calculated (term_view first) (link_views links) ≡ term_view x
+  pub view : term_of_operands (term_view first) (link_views links) ≡ term_view x
   pub weighs : weight x ≡ 4 + (weight first + links_weight links)
 
 pub arithmetic-read : {x first : Term} {links : List Link} (b : Box Term Global) (v : Vec Link Global)
     → x ≡ term.Arithmetic b v → first ≡ box_value b → links ≡ v.items → IsArithmetic x first links
 arithmetic-read {x} {first} {links} b v is at behind = record {
   view =
-      ap (λ (y : Term). calculated (term_view y) (link_views links)) at
-      ∙ (ap (λ (ls : List Link). calculated (term_view (box_value b)) (link_views ls)) behind
+      ap (λ (y : Term). term_of_operands (term_view y) (link_views links)) at
+      ∙ (ap (λ (ls : List Link). term_of_operands (term_view (box_value b)) (link_views ls)) behind
       ∙ sym (ap term_view is ∙ term-arithmetic b v));
   weighs = omega (arith, ap weight is ∙ weight-arithmetic b v, ap weight at, ap links_weight behind);
 }

@@ -4,7 +4,7 @@ ghost use Rattle.std.specs.Prelude.{◌≡◌, ◌<◌, length, map};
 ghost use Rattle.pb_text_meaning.specs.Formula.{call_truth};
 ghost use Rattle.pb_text_meaning.specs.Syntax.{Spec};
 ghost use Rattle.pb_typing_tree.specs.Fits.{AllFit, FormulaFits};
-ghost use Rattle.pb_typing_tree.specs.Meaning.{called, truth};
+ghost use Rattle.pb_typing_tree.specs.Meaning.{called_instance, truth};
 ghost use Rattle.pb_typing_tree.specs.Tree as tree;
 ghost use Rattle.pb_typing_tree.specs.View.{argument_view, formula_view, nested};
 ghost use Rattle.pb_typing_values.specs.Environment.{IsLaidOut, environment_of};
@@ -126,7 +126,8 @@ fn call_truth(
         (map argument_view arguments.now.items) }
     ensures { (spec : Spec) → IsLaidOut spec environment.now.layout.now
         → result ≡ call_truth spec (environment_of spec environment.now.truths.now)
-        (called spec (slots_of slots.now) equation (map argument_view arguments.now.items)) }
+        (called_instance spec (slots_of slots.now) equation
+        (map argument_view arguments.now.items)) }
 {
     let known = equation < environment.layout.equation_count();
     prove!(known);

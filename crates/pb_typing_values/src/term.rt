@@ -5,7 +5,7 @@ ghost use Rattle.pb_text_meaning.specs.Erase.{of_connective};
 ghost use Rattle.pb_typing_tree.specs.Fits.{Fits};
 ghost use Rattle.pb_typing_tree.specs.Meaning as meaning;
 ghost use Rattle.pb_typing_tree.specs.Tree.{Binary};
-ghost use Rattle.pb_typing_tree.specs.View.{calculated, chained, link_views, term_view};
+ghost use Rattle.pb_typing_tree.specs.View.{term_of_operands, chained_formula, link_views, term_view};
 ghost use Rattle.pb_typing_tree.specs.View.{term_views};
 ghost use Rattle.pb_typing_values.specs.Slots.{slots_of};
 
@@ -67,10 +67,10 @@ pub fn value(term: &Term, slots: &[i64]) -> i64
 #[cycle(terms)]
 fn chain_value(connective: Connective, first: &Term, links: &[Term], slots: &[i64]) -> i64
     requires { Fits (length slots.now) (slots_of slots.now)
-        (chained (Binary (of_connective connective)) (term_view first.now)
+        (chained_formula (Binary (of_connective connective)) (term_view first.now)
         (term_views links.now)) }
     ensures { result ≡ meaning.value (slots_of slots.now)
-        (chained (Binary (of_connective connective)) (term_view first.now)
+        (chained_formula (Binary (of_connective connective)) (term_view first.now)
         (term_views links.now)) }
 {
     let mut current = value(first, slots);
@@ -87,9 +87,9 @@ fn chain_value(connective: Connective, first: &Term, links: &[Term], slots: &[i6
 #[cycle(terms)]
 fn arithmetic_value(first: &Term, links: &[Link], slots: &[i64]) -> i64
     requires { Fits (length slots.now) (slots_of slots.now)
-        (calculated (term_view first.now) (link_views links.now)) }
+        (term_of_operands (term_view first.now) (link_views links.now)) }
     ensures { result ≡ meaning.value (slots_of slots.now)
-        (calculated (term_view first.now) (link_views links.now)) }
+        (term_of_operands (term_view first.now) (link_views links.now)) }
 {
     let mut current = value(first, slots);
     for link in links {

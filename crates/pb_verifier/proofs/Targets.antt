@@ -2,7 +2,7 @@
 use Rattle.std.proofs.Common.{ℕ, zero, suc, ◌+◌, Bool, true, false, cond, not, ◌&&◌, List, [], ◌∷◌, ◌++◌, length, Option, Some, None}
 use Rattle.std.specs.Prelude.{ℤ, int_le, int_lt, slice_get, nat_lt, nat_le, ◌==◌, reverse}
 use Rattle.std.specs.Prelude.{pos, neg_ℤ}
-use Rattle.pb_bytecode_program.specs.Values.{fits64, is_inhabited, divides}
+use Rattle.pb_bytecode_program.specs.Values.{fits64, is_inhabited, has_divisor}
 use Rattle.pb_bytecode_program.specs.Abstract.{abstraction_of, interval_of, absolute_interval, same_kind}
 use Rattle.pb_bytecode_program.specs.Machine.{Program, carrier_of}
 use Rattle.pb_bytecode_program.specs.Transfer
@@ -131,7 +131,7 @@ module _ (P : ℕ → Type 0) (q : ℕ) (next : P (q + 1)) where
   transfer_goes p home (op.Arithmetic a) k h =
       by_int k.operands _
       (λ m n ss. by_int ss _
-      (λ l u ts. by_no_test (divides a && int_lt m (pos 1)) (Transfer.abstract_push_int q k ts (interval_of a l u m n))
+      (λ l u ts. by_no_test (has_divisor a && int_lt m (pos 1)) (Transfer.abstract_push_int q k ts (interval_of a l u m n))
       (by_push_int k ts (interval_of a l u m n))))
   transfer_goes p home op.Negate k h = by_int k.operands _ (λ l u ss. by_push_int k ss (neg_ℤ u, neg_ℤ l))
   transfer_goes p home op.Absolute k h = by_int k.operands _ (λ l u ss. by_push_int k ss (absolute_interval l u))

@@ -21,9 +21,9 @@ pub type VerifyError = OrMemory<CodeFault>;
 
 impl fmt::Display for CodeFault {
     ghost use Rattle.std.specs.Prelude.{Some};
-    ghost use Rattle.pb_verifier.specs.FaultText.{fault_text};
+    ghost use Rattle.pb_verifier.specs.FaultText.{code_fault_text};
 
-    ghost output = { λ fault. Some (fault_text fault) };
+    ghost output = { λ fault. Some (code_fault_text fault) };
 
     fn fmt<W: fmt::Write>(&self, f: &mut fmt::Formatter<W>) -> fmt::Result {
         let CodeFault {

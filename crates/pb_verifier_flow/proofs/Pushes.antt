@@ -3,7 +3,7 @@ use Rattle.std.proofs.Common.{◌≡◌, ◌+◌, ℕ, Bool, true, false, cond, 
 use Rattle.std.proofs.lemmas.Grind.{common_steps}
 use Rattle.std.specs.Prelude.{ℤ, nat_lt, int_lt, pos, ◌&&◌}
 use Rattle.std.proofs.lemmas.Bool.{cond-true, cond-false}
-use Rattle.pb_bytecode_program.specs.Values.{fits64, divides}
+use Rattle.pb_bytecode_program.specs.Values.{fits64, has_divisor}
 use Rattle.pb_bytecode_program.specs.Abstract.{interval_of}
 use Rattle.pb_bytecode_program.specs.Transfer.{AbstractState, abstract_pop_bool, abstract_push, abstract_push_int, to_next_place}
 use Rattle.pb_bytecode_program.specs.declared.domain.AbstractValue.{AbstractValue}
@@ -32,7 +32,7 @@ fitting_push q k ss j i e r = by (fits64 j.0 j.1) e
 pub arithmetic_goes_on : (o : Arithmetic) (k k1 k2 k3 : AbstractState) (b a i : IntegerInterval)
     → k ≡ record k1 { operands = abstract.Int b.low b.high ∷ k1.operands }
     → k1 ≡ record k2 { operands = abstract.Int a.low a.high ∷ k2.operands }
-    → (divides o && int_lt b.low (pos 1)) ≡ false → Some i ≡ fitting (interval_of o a.low a.high b.low b.high)
+    → (has_divisor o && int_lt b.low (pos 1)) ≡ false → Some i ≡ fitting (interval_of o a.low a.high b.low b.high)
     → nat_lt (length k2.operands + k2.operands_below) 32 ≡ true
     → k3 ≡ record k2 { operands = abstract.Int i.low i.high ∷ k2.operands } → GoesOn (op.Arithmetic o) k k3
 arithmetic_goes_on o k k1 k2 k3 b a i e f d j r g = λ p home q. rw (e, f, g) (cond-false _ _ _ d ∙ fitting_push q k2 k2.operands (interval_of o a.low a.high b.low b.high) i j r)
@@ -40,7 +40,7 @@ arithmetic_goes_on o k k1 k2 k3 b a i e f d j r g = λ p home q. rw (e, f, g) (c
 -- a second operand that may be below 1 where it divides
 pub divisor_fails : (o : Arithmetic) (k k1 k2 : AbstractState) (b a : IntegerInterval)
     → k ≡ record k1 { operands = abstract.Int b.low b.high ∷ k1.operands }
-    → k1 ≡ record k2 { operands = abstract.Int a.low a.high ∷ k2.operands } → (divides o && int_lt b.low (pos 1)) ≡ true
+    → k1 ≡ record k2 { operands = abstract.Int a.low a.high ∷ k2.operands } → (has_divisor o && int_lt b.low (pos 1)) ≡ true
     → Fails (op.Arithmetic o) k
 divisor_fails o k k1 k2 b a e f d = λ p home q. rw (e, f) (cond-true _ _ _ d)
 
@@ -55,7 +55,7 @@ unfitting q k ss j e = by (fits64 j.0 j.1) e
 pub overflow_fails : (o : Arithmetic) (k k1 k2 : AbstractState) (b a : IntegerInterval)
     → k ≡ record k1 { operands = abstract.Int b.low b.high ∷ k1.operands }
     → k1 ≡ record k2 { operands = abstract.Int a.low a.high ∷ k2.operands }
-    → (divides o && int_lt b.low (pos 1)) ≡ false → None ≡ fitting (interval_of o a.low a.high b.low b.high) → Fails (op.Arithmetic o) k
+    → (has_divisor o && int_lt b.low (pos 1)) ≡ false → None ≡ fitting (interval_of o a.low a.high b.low b.high) → Fails (op.Arithmetic o) k
 overflow_fails o k k1 k2 b a e f d n = λ p home q. rw (e, f) (cond-false _ _ _ d ∙ unfitting q k2 k2.operands (interval_of o a.low a.high b.low b.high) n)
 
 pub two_on_top : (k k1 k2 : AbstractState) (b a : IntegerInterval)

@@ -2,7 +2,7 @@
 
 ghost use Rattle.std.specs.Prelude.{◌≡◌, ◌≤ℤ◌, pos, true, neg_ℤ};
 ghost use Rattle.pb_bytecode_program.specs.Abstract.{absolute_interval, interval_of};
-ghost use Rattle.pb_bytecode_program.specs.Values.{divides};
+ghost use Rattle.pb_bytecode_program.specs.Values.{has_divisor};
 ghost use Rattle.pb_verifier_flow.specs.Edges.{fitting};
 
 use pb_base_values::Interval;
@@ -11,7 +11,7 @@ use pb_bytecode_program::Arithmetic;
 /// The results for a first operand in `a` and a second one in `b`, or `None` where an end lies
 /// outside 64 bits. A divisor is at least 1.
 pub(crate) fn results(operator: Arithmetic, a: Interval, b: Interval) -> Option<Interval>
-    requires { divides operator ≡ true → pos 1 ≤ℤ b.low }
+    requires { has_divisor operator ≡ true → pos 1 ≤ℤ b.low }
     ensures { result ≡ fitting (interval_of operator a.low a.high b.low b.high) }
 {
     let words = Interval::words();

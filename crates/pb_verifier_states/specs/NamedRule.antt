@@ -5,7 +5,7 @@
 use Rattle.std.specs.Prelude.{◌≡◌, ℕ, Bool, not, ◌&&◌, List, [], ◌∷◌, length, reverse, Option, Some, None, is_some, nat_lt, nat_le, if◌then◌else◌, slice_get}
 use Rattle.pb_base.specs.declared.limits.TheConstants.{MAX_BRACKETS}
 use Rattle.pb_bytecode_program.specs.declared.domain.AbstractValue.{AbstractValue}
-use Rattle.pb_bytecode_program.specs.Values.{divides}
+use Rattle.pb_bytecode_program.specs.Values.{has_divisor}
 use Rattle.pb_bytecode_program.specs.Transfer.{AbstractState, abstract_slot, enum_fits}
 use Rattle.pb_bytecode_program.specs.declared.instruction.Op.{Op}
 use Rattle.pb_bytecode_program.specs.declared.instruction.Op.TheVariants as op
@@ -75,7 +75,7 @@ named_rule sorts callees (op.Get i) k =
     first_broken ((is_some (abstract_slot k.loops k.parameters i), rule.UnknownName) ∷ [])
     rule.TooManyOperands
 named_rule sorts callees op.Pop k = rule.MissingOperand
-named_rule sorts callees (op.Arithmetic c) k = named_at_numbers (divides c) k.operands
+named_rule sorts callees (op.Arithmetic c) k = named_at_numbers (has_divisor c) k.operands
 named_rule sorts callees op.Negate k = named_at_number k.operands
 named_rule sorts callees op.Absolute k = named_at_number k.operands
 named_rule sorts callees (op.Compare o) k = named_at_two k.operands

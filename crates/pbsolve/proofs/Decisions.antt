@@ -22,7 +22,7 @@ use Rattle.pb_model_properties.specs.declared.verdicts.Verdict.TheVariants.{True
 use Rattle.pb_model_properties.specs.declared.solved.SolvedModel.{SolvedModel}
 use Rattle.pb_model_properties.specs.Negations.{IsNegatedModelOf}
 use Rattle.pb_model_properties.specs.Asked.{asked_from, asked_places, is_asked}
-use Rattle.pb_model_properties.specs.Said.{protocol_satisfies, satisfies, IsModelFor, IsModelOf, IsTheReading}
+use Rattle.pb_model_properties.specs.Said.{protocol_satisfies, tree_satisfies, IsModelFor, IsModelOf, IsTheReading}
 use Rattle.pbsolve.proofs.PropertyVerdicts.{some_at}
 use Rattle.pbsolve.specs.declared.finding.Finding.{Finding}
 use Rattle.pbsolve.specs.declared.finding.Finding.TheVariants.{Decided, Refused, Shown}
@@ -33,7 +33,7 @@ use Rattle.pbsolve.specs.declared.property_module.AskedModule.{AskedModule}
 use Rattle.pbsolve.specs.declared.property_module.PropertyModule.{PropertyModule}
 use Rattle.pb_command_faults.specs.declared.solve_fault.SolveFault.{SolveFault}
 use Rattle.pb_command_faults.specs.declared.solve_fault.SolveFault.TheVariants as solve_fault
-use Rattle.pbsolve.specs.Models.{IsFinding, IsFound, IsPropertyAnswer, IsShown, IsTooLargeNegation, IsTooLargeProperty, IsUnexplained}
+use Rattle.pbsolve.specs.Models.{IsFinding, IsPropertyFound, IsPropertyAnswer, IsShown, IsTooLargeNegation, IsTooLargeProperty, IsUnexplained}
 use Rattle.pbsolve.specs.Outcomes.{IsDecision, IsDeniedAt, IsEarlyAt, IsNegationAt, IsOutcome, IsOutcomeAt, IsPropertyModule, IsShownAt, verdict_in}
 use Rattle.pbsolve.specs.Why.{IsVerdict}
 
@@ -76,13 +76,13 @@ module _ (erased : NegationsErase) (kept : SatisfactionIsKept) (protocol : Proto
   negated_at k p at = slice_get-map negated_property protocol.properties k ∙ ap (option_map negated_property) at
 
   told_negation : (k : ℕ) (p : protocol_form.PropertyForm) (n : PropertyForm) → slice_get protocol.properties k ≡ Some p
-      → slice_get negations.properties k ≡ Some n → satisfies negations n.formula ≡ protocol_satisfies protocol (negated p.formula)
+      → slice_get negations.properties k ≡ Some n → tree_satisfies negations n.formula ≡ protocol_satisfies protocol (negated p.formula)
   told_negation k p n at there =
       let same = same_at (negated_protocol protocol) negations (negated_protocol protocol).properties negations.properties k n are_for.solved.properties there in
       let both : Some same.0 ≡ Some (negated_property p) = sym same.1 ∙ negated_at k p at in
       let is : same.0 ≡ negated_property p = cc both in
       let f = erased_formula (negated p.formula) in
-      let of_negated : satisfies negations n.formula ≡ protocol_meaning.satisfies (erase (negated_protocol protocol)) f =
+      let of_negated : tree_satisfies negations n.formula ≡ protocol_meaning.satisfies (erase (negated_protocol protocol)) f =
       same.2.satisfied ∙ ap (λ (x : protocol_form.PropertyForm). protocol_meaning.satisfies (erase (negated_protocol protocol)) (erased_formula x.formula)) is in
       let of_protocol : protocol_meaning.satisfies (erase (negated_protocol protocol)) f ≡ protocol_meaning.satisfies (erase protocol) f =
       ap (λ (m : Protocol). protocol_meaning.satisfies m f) (erased protocol) ∙ kept (erase protocol) f in
@@ -112,7 +112,7 @@ pub record HasNegation (protocol : ProtocolForm) (place : ℕ) (p : protocol_for
   pub negation : PropertyForm
   pub stands : slice_get model.properties place ≡ Some negation
   pub of_negation : IsPropertyModule model negation compiled
-  pub says : satisfies model negation.formula ≡ protocol_satisfies protocol (negated p.formula)
+  pub says : tree_satisfies model negation.formula ≡ protocol_satisfies protocol (negated p.formula)
 
 pub has_negation : NegationsErase → SatisfactionIsKept → (bytes : List ℕ) (protocol : ProtocolForm) → IsTheReading bytes protocol → (asked : AskedModule) → IsNegationAt bytes asked
     → (place : ℕ) → asked.place ≡ place → (p : protocol_form.PropertyForm) → slice_get protocol.properties place ≡ Some p → HasNegation protocol place p asked.compiled
@@ -155,7 +155,7 @@ module _ (counts : Bool) (protocol : ProtocolForm) (model : ModelForm) (is_for :
   found_by : (finding : Finding)
       → ((p : protocol_form.PropertyForm) → slice_get protocol.properties place ≡ Some p → IsSameProperty protocol model p q
       → IsFinding counts protocol p model q place finding)
-      → IsFound counts protocol model (record { place = place; finding = finding })
+      → IsPropertyFound counts protocol model (record { place = place; finding = finding })
   found_by finding h = record {
     asked = asked_here.0;
     stands = asked_here.1;
@@ -165,23 +165,23 @@ module _ (counts : Bool) (protocol : ProtocolForm) (model : ModelForm) (is_for :
   }
 
   -- the protocol satisfies the property exactly where the model does
-  told_truth : (p : protocol_form.PropertyForm) (b : Bool) → IsSameProperty protocol model p q → b ≡ satisfies model q.formula
+  told_truth : (p : protocol_form.PropertyForm) (b : Bool) → IsSameProperty protocol model p q → b ≡ tree_satisfies model q.formula
       → protocol_satisfies protocol p.formula ≡ b
   told_truth p b same truth = sym same.satisfied ∙ sym truth
 
   -- ---- by what becomes of its text
 
-  pub found_large : (excess : PropertyExcess) → IsTooLargeProperty model q excess → IsFound counts protocol model (record { place = place; finding = Refused excess })
+  pub found_large : (excess : PropertyExcess) → IsTooLargeProperty model q excess → IsPropertyFound counts protocol model (record { place = place; finding = Refused excess })
   found_large excess large = found_by (Refused excess) (λ p stands same. inl large)
 
   module _ (a : Answer) (answered : IsPropertyAnswer model q a) where
     told_answer : (p : protocol_form.PropertyForm) (b : Bool) → IsSameProperty protocol model p q → a.truth ≡ b → protocol_satisfies protocol p.formula ≡ b
     told_answer p b same truth = told_truth p b same (sym truth ∙ answered.exact)
 
-    pub found_true : a.truth ≡ true → IsFound counts protocol model (record { place = place; finding = Decided True a })
+    pub found_true : a.truth ≡ true → IsPropertyFound counts protocol model (record { place = place; finding = Decided True a })
     found_true truth = found_by (Decided True a) (λ p stands same. (told_answer p true same truth, answered))
 
-    pub found_false : a.truth ≡ false → a.cut ≡ 0 → IsFound counts protocol model (record { place = place; finding = Decided False a })
+    pub found_false : a.truth ≡ false → a.cut ≡ 0 → IsPropertyFound counts protocol model (record { place = place; finding = Decided False a })
     found_false truth cut = found_by (Decided False a) (λ p stands same. ((told_answer p false same truth, inl cut), answered))
 
     module _ (erased : NegationsErase) (kept : SatisfactionIsKept) (bytes : List ℕ) (read : IsTheReading bytes protocol) (negation : AskedModule) (is_negation : IsNegationAt bytes negation)
@@ -191,7 +191,7 @@ module _ (counts : Bool) (protocol : ProtocolForm) (model : ModelForm) (is_for :
 
       -- by what the negation decides
       pub found_open : (finding : Finding) → OfModule negation.compiled (λ m x. IsDecision m x a finding)
-          → IsFound counts protocol model (record { place = place; finding = finding })
+          → IsPropertyFound counts protocol model (record { place = place; finding = finding })
       found_open (Refused excess) decides = found_by (Refused excess) (λ p stands same.
           let n = negation_here p stands in
           inr (n.model, n.is_for, (n.negation, n.stands, decides n.model n.negation n.of_negation)))
@@ -210,14 +210,14 @@ module _ (counts : Bool) (protocol : ProtocolForm) (model : ModelForm) (is_for :
 
   -- ---- by what is shown
 
-  pub shown_true : true ≡ satisfies model q.formula → IsShownAt protocol place true
+  pub shown_true : true ≡ tree_satisfies model q.formula → IsShownAt protocol place true
   shown_true truth = (asked_here.0, asked_here.1, told_truth asked_here.0 true asked_here.2 truth)
 
-  pub shown_false : (bytes : List ℕ) → IsTheReading bytes protocol → IsDeniedAt bytes place → false ≡ satisfies model q.formula → IsShownAt protocol place false
+  pub shown_false : (bytes : List ℕ) → IsTheReading bytes protocol → IsDeniedAt bytes place → false ≡ tree_satisfies model q.formula → IsShownAt protocol place false
   shown_false bytes read denied truth =
       (asked_here.0, asked_here.1, (told_truth asked_here.0 false asked_here.2 truth, denied protocol read asked_here.0 asked_here.1))
 
-  pub found_shown : (b : Bool) → counts ≡ false → IsShownAt protocol place b → IsFound counts protocol model (record { place = place; finding = Shown b })
+  pub found_shown : (b : Bool) → counts ≡ false → IsShownAt protocol place b → IsPropertyFound counts protocol model (record { place = place; finding = Shown b })
   found_shown b uncounted (x, there, shown) = found_by (Shown b) (λ p stands same.
       let both : Some x ≡ Some p = sym there ∙ stands in
       let is : x ≡ p = cc both in
@@ -230,7 +230,7 @@ told_here counts protocol model place e a is told = subst (IsEarlyAt counts prot
 
 -- the negation is satisfied
 pub denied_at : NegationsErase → SatisfactionIsKept → (bytes : List ℕ) (negation : AskedModule) → IsNegationAt bytes negation → (place : ℕ) → negation.place ≡ place
-    → OfModule negation.compiled (λ m q. true ≡ satisfies m q.formula) → IsDeniedAt bytes place
+    → OfModule negation.compiled (λ m q. true ≡ tree_satisfies m q.formula) → IsDeniedAt bytes place
 denied_at erased kept bytes negation is_negation place here truth = λ protocol read p stands.
     let n = has_negation erased kept bytes protocol read negation is_negation place here p stands in
     sym n.says ∙ sym (truth n.model n.negation n.of_negation)
@@ -253,7 +253,7 @@ found_verdict protocol model place p q stands at (Shown false) h v is =
 found_verdict protocol model place p q stands at (Refused excess) h v is = absurd (cc is)
 
 -- what is found of the properties at a place
-pub finding_at : (counts : Bool) (protocol : ProtocolForm) (model : ModelForm) (place : ℕ) (finding : Finding) → IsFound counts protocol model (record { place = place; finding = finding })
+pub finding_at : (counts : Bool) (protocol : ProtocolForm) (model : ModelForm) (place : ℕ) (finding : Finding) → IsPropertyFound counts protocol model (record { place = place; finding = finding })
     → (p : protocol_form.PropertyForm) (q : PropertyForm) → slice_get protocol.properties place ≡ Some p → slice_get model.properties place ≡ Some q
     → IsFinding counts protocol p model q place finding
 finding_at counts protocol model place finding found p q stands at =
@@ -266,7 +266,7 @@ finding_at counts protocol model place finding found p q stands at =
 
 -- what is too large for one is a fault of the property
 pub found_unexplained : (bytes : List ℕ) (model : ModelForm) (said : IsModelOf bytes model) (place : ℕ) (q : PropertyForm) → slice_get model.properties place ≡ Some q
-    → (finding : Finding) → IsFound false said.protocol model (record { place = place; finding = finding }) → (excess : PropertyExcess) → verdict_in finding ≡ Err excess
+    → (finding : Finding) → IsPropertyFound false said.protocol model (record { place = place; finding = finding }) → (excess : PropertyExcess) → verdict_in finding ≡ Err excess
     → (f : SolveFault) → f ≡ solve_fault.Property (record { excess = excess; place = q.name.place }) → IsUnexplained bytes f
 found_unexplained bytes model said place q at (Decided v a) found excess is f same = absurd (cc is)
 found_unexplained bytes model said place q at (Shown b) found excess is f same = absurd (cc is)
@@ -297,8 +297,8 @@ pub places_within : (names : List (List ℕ)) (ps : List PropertyForm) (bound : 
 places_within names ps bound long = asked_within names ps 0 bound (omega (arith, long))
 
 -- what is found stands at a place of a property
-pub found_within : (counts : Bool) (protocol : ProtocolForm) (model : ModelForm) (bound : ℕ) → length model.properties ≡ bound → (fs : List Found) → All (IsFound counts protocol model) fs
+pub found_within : (counts : Bool) (protocol : ProtocolForm) (model : ModelForm) (bound : ℕ) → length model.properties ≡ bound → (fs : List Found) → All (IsPropertyFound counts protocol model) fs
     → All (λ found. found.place < bound) fs
 found_within counts protocol model bound long fs all =
-    All-weaker (IsFound counts protocol model) (λ found. found.place < bound)
+    All-weaker (IsPropertyFound counts protocol model) (λ found. found.place < bound)
     (λ found is. let within = slice_get_within model.properties found.place is.solved is.in_model in omega (arith, within, long)) fs all

@@ -10,7 +10,7 @@ use Rattle.pb_model_words.specs.Vocabulary.{Vocabulary}
 use Rattle.pb_protocol_tree.specs.Form.{ProtocolForm}
 use Rattle.pb_protocol_meaning.specs.Syntax.{Protocol}
 use Rattle.pb_protocol_meaning.specs.Erase as protocol_text
-use Rattle.pb_protocol_unfolder.specs.Plain.{is_plain}
+use Rattle.pb_protocol_unfolder.specs.Plain.{is_plain_protocol}
 use Rattle.pb_model_properties.specs.Made.{IsPackedWhere, said_where}
 use Rattle.pb_model_properties.specs.Said.{IsModelOf}
 use Rattle.pb_model_properties.specs.Words.{flat_words, packed_where, words_where}
@@ -29,5 +29,5 @@ said_as law m flat words none true (able, meaning) t is = (law (erase flat) word
 pub states_are_told : StatesSayTheirValues → (bytes : _) (m : ModelForm) (said : IsModelOf bytes m) → StatesAreTold bytes m said
 states_are_told law bytes m said t is =
     let made = said.is_for.made in
-    said_as law m made.flat (flat_words said.protocol made.flat) (no_groups (is_plain said.protocol) (protocol_text.erase said.protocol) made.flat)
+    said_as law m made.flat (flat_words said.protocol made.flat) (no_groups (is_plain_protocol said.protocol) (protocol_text.erase said.protocol) made.flat)
     made.is_packed made.made t is

@@ -20,7 +20,7 @@ use Rattle.pb_model_properties.specs.declared.error.ModelFault.TheVariants as mo
 use Rattle.pb_model_properties.specs.declared.solved.SolvedModel.{SolvedModel}
 use Rattle.pb_model_properties.specs.Reached.{name_of_step, reached_property}
 use Rattle.pb_model_properties.specs.Refusals.{IsRefusedText, told_places}
-use Rattle.pb_model_properties.specs.Said.{satisfies}
+use Rattle.pb_model_properties.specs.Said.{tree_satisfies}
 use Rattle.pb_report.specs.declared.answer.Answer.{Answer}
 use Rattle.pbsolve.specs.declared.outcome.Outcome.{Outcome}
 use Rattle.pbsolve.specs.declared.outcome.Outcome.TheVariants as outcome
@@ -100,11 +100,11 @@ module _ (model : ModelForm) (place : ℕ) (compiled : PropertyModule) (made : I
 
   -- by the nearest instances
   pub step_shown : (early : Option Bool) (b : Bool) (finding : StepFinding) → early ≡ Some b
-      → IfSome early (λ truth. (m : ModelForm) (p : PropertyForm) → IsPropertyModule m p compiled → truth ≡ satisfies m p.formula)
+      → IfSome early (λ truth. (m : ModelForm) (p : PropertyForm) → IsPropertyModule m p compiled → truth ≡ tree_satisfies m p.formula)
       → finding ≡ by_truth b → IsFoundOfStep model place finding
   step_shown early b finding is shows same =
-      let known : (m : ModelForm) (p : PropertyForm) → IsPropertyModule m p compiled → b ≡ satisfies m p.formula =
-      subst (λ (o : Option Bool). IfSome o (λ truth. (m : ModelForm) (p : PropertyForm) → IsPropertyModule m p compiled → truth ≡ satisfies m p.formula)) is shows in
+      let known : (m : ModelForm) (p : PropertyForm) → IsPropertyModule m p compiled → b ≡ tree_satisfies m p.formula =
+      subst (λ (o : Option Bool). IfSome o (λ truth. (m : ModelForm) (p : PropertyForm) → IsPropertyModule m p compiled → truth ≡ tree_satisfies m p.formula)) is shows in
       subst (IsFoundOfStep model place) (sym same) (step_known b (λ a at. known model (reached_property model a) (made a at)))
 
   -- by all of them

@@ -10,7 +10,7 @@ use Rattle.pb_text_tree.specs.Form.{spec_form}
 use Rattle.pb_model_tree.specs.Form.{ModelForm, PropertyForm}
 use Rattle.pb_protocol_tree.specs.Form as protocol_form
 use Rattle.pb_protocol_tree.specs.Form.{ProtocolForm}
-use Rattle.pb_model_properties.specs.Said.{satisfies, IsModelFor}
+use Rattle.pb_model_properties.specs.Said.{tree_satisfies, IsModelFor}
 use Rattle.pb_model_properties.specs.declared.verdicts.Verdict.{Verdict}
 use Rattle.pb_base.specs.OrMemory.{IfFault, IfRefused}
 use Rattle.pb_base.specs.declared.or_memory.OrMemory.{OrMemory}
@@ -28,12 +28,12 @@ use Rattle.pb_model_words.specs.Vocabulary.{Vocabulary}
 use Rattle.pbsolve.specs.declared.explained.ExplainedText.{ExplainedText}
 use Rattle.pbsolve.specs.Models.{IsUnexplained}
 use Rattle.pbsolve.specs.Outcomes.{IsExplainedText}
-use Rattle.pbsolve.specs.Why.{AreTold, IsTold, IsToldText, IsUnshown, IsVerdict, steps_of, TellAsked}
+use Rattle.pbsolve.specs.Why.{AreTold, IsVerdictTold, IsToldText, IsUnshown, IsVerdict, steps_of, TellAsked}
 use Rattle.pbsolve.proofs.Decisions.{same_at}
 
 -- its truth is that of the property
 pub explained_truth : (model : ModelForm) (q : PropertyForm) (e : ExplainedText) → IsExplainedText model q e
-    → e.explanation.evidence.truth ≡ satisfies model q.formula
+    → e.explanation.evidence.truth ≡ tree_satisfies model q.formula
 explained_truth model q e explained =
     let some = explained.explanation.of_text.trees in
     (explained.explanation.explains some.0 some.1).shown.truth ∙ ((explained.explanation.of_text.says some.0 some.1).answer ∙ explained.text.decides)
@@ -41,7 +41,8 @@ explained_truth model q e explained =
 pub property_told : (instances always : Bool) (words : Vocabulary) (protocol : ProtocolForm) (model : ModelForm) (p : protocol_form.PropertyForm) (q : PropertyForm)
     → (verdict : Verdict) → IsVerdict protocol p.formula model q verdict → (e : ExplainedText) → IsExplainedText model q e
     → (told : List ℕ) →
-    IsToldText instances always words q.name.text verdict (spec_form e.typed.spec) (steps_of model) e.verified e.explanation.evidence told → IsTold instances always words protocol model p q told
+    IsToldText instances always words q.name.text verdict (spec_form e.typed.spec) (steps_of model) e.verified e.explanation.evidence told
+    → IsVerdictTold instances always words protocol model p q told
 property_told instances always words protocol model p q verdict is e explained told printed = record {
   verdict = verdict;
   of_verdict = is;
@@ -61,7 +62,7 @@ ok_more A B less (Ok x) h = less x h
 ok_more A B less (Err e) h = tt
 
 told_push : (instances : Bool) (words : Vocabulary) (protocol : ProtocolForm) (model : ModelForm) (ps : List protocol_form.PropertyForm) (qs : List PropertyForm)
-    → (p : protocol_form.PropertyForm) (q : PropertyForm) (told lines : List ℕ) → AreTold instances words protocol model ps qs lines → IsTold instances false words protocol model p q told
+    → (p : protocol_form.PropertyForm) (q : PropertyForm) (told lines : List ℕ) → AreTold instances words protocol model ps qs lines → IsVerdictTold instances false words protocol model p q told
     → AreTold instances words protocol model (ps ++ p ∷ []) (qs ++ q ∷ []) (lines ++ told)
 told_push instances words protocol model [] [] p q told lines none is = (told, [], is, ap (λ (xs : List ℕ). xs ++ told) none ∙ sym (append-nil told), refl)
 told_push instances words protocol model [] (y ∷ qs) p q told lines none is = absurd none
@@ -75,7 +76,7 @@ one_more xs k x at =
 
 -- what is told of the property at the next place
 pub next_told : (instances : Bool) (words : Vocabulary) (protocol : ProtocolForm) (model : ModelForm) (place : ℕ) (p : protocol_form.PropertyForm) (q : PropertyForm) (told old new : List ℕ)
-    → slice_get protocol.properties place ≡ Some p → slice_get model.properties place ≡ Some q → IsTold instances false words protocol model p q told
+    → slice_get protocol.properties place ≡ Some p → slice_get model.properties place ≡ Some q → IsVerdictTold instances false words protocol model p q told
     → AreTold instances words protocol model (take place protocol.properties) (take place model.properties) old → new ≡ old ++ told
     → AreTold instances words protocol model (take (place + 1) protocol.properties) (take (place + 1) model.properties) new
 next_told instances words protocol model place p q told old new stands at is are same =
@@ -121,7 +122,7 @@ within_mapped f xs ys k y same at =
 pub named_is_told : (instances : Bool) (name : List ℕ) (words : Vocabulary) (protocol : ProtocolForm) (model : ModelForm) → IsModelFor protocol model
     → (place : ℕ) → IsAskedAt (Some name) model.properties place → (lines : List ℕ)
     → ((p : protocol_form.PropertyForm) (q : PropertyForm) → slice_get protocol.properties place ≡ Some p → slice_get model.properties place ≡ Some q
-    → IsTold instances true words protocol model p q lines)
+    → IsVerdictTold instances true words protocol model p q lines)
     → TellAsked instances (Some name) words protocol model lines
 named_is_told instances name words protocol model is_for place at lines h =
     let same = same_at protocol model protocol.properties model.properties place at.property is_for.solved.properties at.stands in

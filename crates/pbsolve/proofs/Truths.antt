@@ -3,7 +3,7 @@ use Rattle.std.proofs.Common.{◌≡◌, ◌∙◌, Bool, subst}
 use Rattle.std.specs.Prelude.{Result, Ok, Err, IfOk, IfSome}
 use Rattle.pb_bytecode.specs.Contents.{Contents}
 use Rattle.pb_model_tree.specs.Form.{ModelForm, PropertyForm}
-use Rattle.pb_model_properties.specs.Said.{satisfies}
+use Rattle.pb_model_properties.specs.Said.{tree_satisfies}
 use Rattle.pb_command_solver.specs.declared.early.Early.{Early}
 use Rattle.pb_command_solver.specs.declared.early.Early.TheVariants as early
 use Rattle.pb_command_solver.specs.Answers.{IsEarly, IsTruthOf, truth_in}
@@ -13,7 +13,7 @@ use Rattle.pbsolve.specs.Outcomes.{IsEarlyOf, IsPropertyModule}
 use Rattle.pbsolve.proofs.PropertyVerdicts.{property_verdict}
 
 module _ (compiled : PropertyModule) (m : Contents) (same : compiled ≡ property_module.Verified m) where
-  pub property_truth : (b : Bool) → IsTruthOf m b → (model : ModelForm) (p : PropertyForm) → IsPropertyModule model p compiled → b ≡ satisfies model p.formula
+  pub property_truth : (b : Bool) → IsTruthOf m b → (model : ModelForm) (p : PropertyForm) → IsPropertyModule model p compiled → b ≡ tree_satisfies model p.formula
   property_truth b is model p h =
       let text = subst (IsPropertyModule model p) same h in
       let some = text.2.trees in
@@ -31,7 +31,7 @@ module _ (compiled : PropertyModule) (m : Contents) (same : compiled ≡ propert
 
 -- the truth that is told is the property's
 pub told_truth : (A : ModelForm → PropertyForm → Type 0) (e : Early) → ((model : ModelForm) (p : PropertyForm) → A model p → IsEarlyOf model p e)
-    → IfSome (truth_in e) (λ b. (model : ModelForm) (p : PropertyForm) → A model p → b ≡ satisfies model p.formula)
+    → IfSome (truth_in e) (λ b. (model : ModelForm) (p : PropertyForm) → A model p → b ≡ tree_satisfies model p.formula)
 told_truth A early.Unknown h = tt
 told_truth A (early.Shown b) h = h
 told_truth A (early.Whole a) h = λ model p is. (h model p is).exact

@@ -11,7 +11,7 @@ use Rattle.pb_model_properties.specs.declared.solved.SolvedModel.{SolvedModel}
 use Rattle.pb_model_properties.specs.declared.verdicts.Verdict.{Verdict}
 use Rattle.pb_model_properties.specs.declared.verdicts.Verdict.TheVariants.{True, False, Unknown}
 use Rattle.pb_model_properties.specs.Negations.{IsNegatedModelOf}
-use Rattle.pb_model_properties.specs.Said.{protocol_satisfies, satisfies, IsModelFor}
+use Rattle.pb_model_properties.specs.Said.{protocol_satisfies, tree_satisfies, IsModelFor}
 use Rattle.pb_model_properties.specs.Said.{IsTextOf, IsTheReading}
 use Rattle.pb_report.specs.declared.answer.Answer.{Answer}
 use Rattle.pb_report.specs.ModuleEvidence.{IsExplanation}
@@ -157,7 +157,7 @@ IsShownAt protocol place b =
 -- what is told early of the property p: nothing, whether it is satisfied, or its answer
 abbrev pub IsEarlyOf : ModelForm → PropertyForm → Early → Type 0
 IsEarlyOf model p early.Unknown = ⊤
-IsEarlyOf model p (early.Shown b) = b ≡ satisfies model p.formula
+IsEarlyOf model p (early.Shown b) = b ≡ tree_satisfies model p.formula
 IsEarlyOf model p (early.Whole answer) = IsPropertyAnswer model p answer
 
 -- what is told early of the property at a place
@@ -172,9 +172,9 @@ IsEarlyAt counts protocol model place (early.Whole answer) =
 abbrev pub IsDecision : ModelForm → PropertyForm → Answer → Finding → Type 0
 IsDecision model q answer (Decided True a) = ⊥
 IsDecision model q answer (Decided False a) =
-    (a ≡ answer) × (satisfies model q.formula ≡ true)
+    (a ≡ answer) × (tree_satisfies model q.formula ≡ true)
 IsDecision model q answer (Decided Unknown a) =
-    (a ≡ answer) × (satisfies model q.formula ≡ false)
+    (a ≡ answer) × (tree_satisfies model q.formula ≡ false)
 IsDecision model q answer (Shown b) = ⊥
 IsDecision model q answer (Refused excess) = IsTooLargeProperty model q excess
 

@@ -5,7 +5,7 @@ use Rattle.std.specs.List.{list_any, slice_get}
 use Rattle.pb_model_tree.specs.Form.{ModelForm, StepForm}
 use Rattle.pb_model_words.specs.Vocabulary.{Vocabulary}
 use Rattle.pb_model_properties.specs.Reached.{name_of_step, reached_property}
-use Rattle.pb_model_properties.specs.Said.{satisfies}
+use Rattle.pb_model_properties.specs.Said.{tree_satisfies}
 use Rattle.pb_model_properties.specs.Verdicts.{refused_line, unreached_line}
 use Rattle.pb_model_properties.specs.Words.{impossible_in, words_in}
 use Rattle.pb_model_properties.specs.declared.solved.SolvedModel.{SolvedModel}
@@ -28,7 +28,7 @@ use Rattle.pbsolve.specs.Outcomes.{IsPropertyModule, IsPropertyText}
 
 -- some run of the model within the ranges leads to a state in which the step can be taken
 abbrev pub can_be_taken : ModelForm → StepForm → Bool
-can_be_taken model a = satisfies model (reached_property model a).formula
+can_be_taken model a = tree_satisfies model (reached_property model a).formula
 
 -- whether it can; or that the text that asks so is too large
 abbrev pub IsStepFinding : ModelForm → StepForm → StepFinding → Type 0

@@ -31,7 +31,7 @@ use Rattle.pb_model_translation.specs.Placed.{placed, every_step_form}
 use Rattle.pb_model_properties.specs.Asked.{IsAskedAt}
 use Rattle.pb_model_properties.specs.Made.{said_where}
 use Rattle.pb_model_properties.specs.Refusals.{LacksProperty}
-use Rattle.pb_model_properties.specs.Said.{protocol_satisfies, satisfies, IsModelOf, IsTextOf}
+use Rattle.pb_model_properties.specs.Said.{protocol_satisfies, tree_satisfies, IsModelOf, IsTextOf}
 use Rattle.pb_model_properties.specs.declared.solved.SolvedModel.{SolvedModel}
 use Rattle.pb_model_properties.specs.declared.verdicts.Verdict.{Verdict}
 use Rattle.pb_model_properties.specs.declared.verdicts.Verdict.TheVariants as verdict
@@ -191,7 +191,7 @@ IsToldThere telling solved place explained told =
 
 -- The verdict on a property of the protocol is told. What shows whether the model satisfies it, by
 -- lines of instances or in these words, is evidence of the module of the property's text.
-pub record IsTold (instances always : Bool) (words : Vocabulary) (protocol : ProtocolForm)
+pub record IsVerdictTold (instances always : Bool) (words : Vocabulary) (protocol : ProtocolForm)
     (model : ModelForm) (p : protocol_form.PropertyForm) (q : PropertyForm) (told : List ℕ)
     : Type 0 where
   pub verdict : Verdict
@@ -202,7 +202,7 @@ pub record IsTold (instances always : Bool) (words : Vocabulary) (protocol : Pro
   pub of_text : IsModuleOfForm text contents
   pub evidence : Evidence
   pub shown : IsModuleEvidence contents evidence
-  pub exact : evidence.truth ≡ satisfies model q.formula
+  pub exact : evidence.truth ≡ tree_satisfies model q.formula
   pub printed : IsToldText instances always words q.name.text verdict text (steps_of model)
       contents evidence told
 
@@ -213,7 +213,8 @@ IsToldAsked asked solved protocol told =
     (p : protocol_form.PropertyForm) (q : PropertyForm)
     → slice_get protocol.properties asked.place ≡ Some p
     → slice_get (solved_form solved).properties asked.place ≡ Some q
-    → IsTold asked.options.lines asked.always (words_in solved) protocol (solved_form solved) p q
+    → IsVerdictTold asked.options.lines asked.always (words_in solved) protocol
+    (solved_form solved) p q
     told
 
 -- each of these properties, which are those of the model, is told, in order, and shown where the
@@ -222,7 +223,7 @@ abbrev pub AreTold : Bool → Vocabulary → ProtocolForm → ModelForm →
     List protocol_form.PropertyForm → List PropertyForm → List ℕ → Type 0
 AreTold instances words protocol model [] [] lines = lines ≡ []
 AreTold instances words protocol model (p ∷ ps) (q ∷ qs) lines =
-    (told : List ℕ) × (rest : List ℕ) × IsTold instances false words protocol model p q told
+    (told : List ℕ) × (rest : List ℕ) × IsVerdictTold instances false words protocol model p q told
     × (lines ≡ told ++ rest) × AreTold instances words protocol model ps qs rest
 AreTold instances words protocol model [] (q ∷ qs) lines = ⊥
 AreTold instances words protocol model (p ∷ ps) [] lines = ⊥
@@ -234,7 +235,7 @@ pub record IsNamedTold (instances : Bool) (name : List ℕ) (words : Vocabulary)
   pub named : IsAskedAt (Some name) model.properties place
   pub asked : protocol_form.PropertyForm
   pub stands : slice_get protocol.properties place ≡ Some asked
-  pub told : IsTold instances true words protocol model asked named.property lines
+  pub told : IsVerdictTold instances true words protocol model asked named.property lines
 
 -- so it is with that of a name, or all are told where none is named
 abbrev pub TellAsked :

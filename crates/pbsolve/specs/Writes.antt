@@ -4,7 +4,7 @@ use Rattle.std.specs.Prelude.{IfOk, Result}
 use Rattle.pb_model_tree.specs.Form.{ModelForm}
 use Rattle.pb_model_properties.specs.Printed.{IsTranslation}
 use Rattle.pb_model_properties.specs.Said.{IsModelOf}
-use Rattle.pb_model_properties.specs.Words.{impossible_steps, words_of}
+use Rattle.pb_model_properties.specs.Words.{impossible_step_names, words_of}
 use Rattle.pb_bytecode.specs.Contents.{Contents}
 use Rattle.pb_bytecode.specs.Meaning.{parameters}
 use Rattle.pb_bytecode.specs.Spelling.{spelling}
@@ -25,7 +25,7 @@ use Rattle.pb_command_modules.specs.Writes.{WritesCertificate, WritesGame, Write
 use Rattle.pbsolve.specs.declared.finding.Found.{Found}
 use Rattle.pbsolve.specs.declared.status.Status.{Status}
 use Rattle.pbsolve.specs.declared.step_finding.StepFinding.{StepFinding}
-use Rattle.pbsolve.specs.Models.{AreFound, IsUntranslated, asked_names, found_lines}
+use Rattle.pbsolve.specs.Models.{ArePropertiesFound, IsUntranslated, asked_names, found_lines}
 use Rattle.pbsolve.specs.ReachedSteps.{AreStepsFoundWhere, impossible_lines, status_of_checked}
 use Rattle.pbsolve.specs.ReachedSteps.{step_lines}
 use Rattle.pbsolve.specs.Refusals.{IsUncompiled, IsRefused}
@@ -62,7 +62,7 @@ abbrev pub lines_of_steps : {bytes : List ℕ} {model : ModelForm} → Bool → 
     List StepFinding → List ℕ
 lines_of_steps {bytes} {model} counts said steps =
     step_lines (words_of said.protocol model said.is_for.made) steps
-    ++ impossible_lines counts (impossible_steps said.protocol)
+    ++ impossible_lines counts (impossible_step_names said.protocol)
 
 -- the exit status and the lines that tell what is found of each property that is asked for, of the
 -- protocol that the bytes say, and of each step, where counts are asked for
@@ -70,7 +70,7 @@ abbrev pub WritesVerdicts : Checking → List ℕ → Status → List ℕ → Ty
 WritesVerdicts options bytes status written =
     (model : ModelForm) × (findings : List Found) × (steps : List StepFinding)
     × (said : IsModelOf bytes model)
-    × AreFound options.counts said.protocol model (asked_names options) findings
+    × ArePropertiesFound options.counts said.protocol model (asked_names options) findings
     × AreStepsFoundWhere options.counts model steps
     × (status ≡ status_of_checked options.status findings steps)
     × (written ≡ found_lines options.counts model findings

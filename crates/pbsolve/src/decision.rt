@@ -4,7 +4,7 @@ ghost use Rattle.std.specs.List.{All};
 ghost use Rattle.pb_base.specs.OrMemory.{IfRefused};
 ghost use Rattle.pb_model_tree.specs.Form.{ModelForm, PropertyForm};
 ghost use Rattle.pb_model_properties.specs.Said.{IsModelOf};
-ghost use Rattle.pbsolve.specs.Models.{HasModel, HasPropertyAt, IsFound, IsFoundWhere};
+ghost use Rattle.pbsolve.specs.Models.{HasModel, HasPropertyAt, IsPropertyFound, IsFoundWhere};
 ghost use Rattle.pbsolve.specs.Models.{IsUnnegated};
 ghost use Rattle.pbsolve.specs.Outcomes.{AreNegations, IsDecision, IsDeniedAt, IsEarlyAt};
 ghost use Rattle.pbsolve.specs.Outcomes.{IsModuleAt, IsOutcomeAt, IsPropertyModule, IsTextAt};
@@ -237,7 +237,7 @@ pub(crate) fn findings_of<R: Threads + Sync, G: Gate + Sync>(
         ≡ map (λ asked. asked.place) texts.now) }
     ensures found { IfOk result (λ findings. (model : ModelForm)
         → (said : IsModelOf input.entry.bytes.now model) → All (IsTextAt model) texts.now
-        → All (IsFound options.counts said.protocol model) findings.items) }
+        → All (IsPropertyFound options.counts said.protocol model) findings.items) }
     ensures refused { IfRefused result (IsUnnegated input.entry.bytes.now) }
 {
     let mut negations = None;

@@ -1,7 +1,7 @@
 //! What becomes of the texts of properties.
 ghost use Rattle.std.specs.Prelude.{◌≡◌, IfOk, IfSome};
 ghost use Rattle.pb_model_tree.specs.Form.{ModelForm, PropertyForm};
-ghost use Rattle.pb_model_properties.specs.Said.{satisfies};
+ghost use Rattle.pb_model_properties.specs.Said.{tree_satisfies};
 ghost use Rattle.pbsolve.specs.Outcomes.{IsEarlyOf, IsOutcome, IsPropertyModule};
 
 use crate::property_module::PropertyModule;
@@ -57,7 +57,7 @@ pub(crate) fn early_truth<R: Threads + Sync, G: Gate + Sync>(
     options: SolveOptions,
 ) -> Result<Option<bool>, AllocError>
     ensures { IfOk result (λ found. IfSome found (λ truth. (model : ModelForm) (p : PropertyForm)
-        → IsPropertyModule model p property.now → truth ≡ satisfies model p.formula)) }
+        → IsPropertyModule model p property.now → truth ≡ tree_satisfies model p.formula)) }
 {
     let early = early_of(context, property, options)?;
     Ok(early.truth())

@@ -22,7 +22,7 @@ ghost use Rattle.pb_sorts.specs.Source.{IsLongerThan};
 ghost use Rattle.pb_base.specs.declared.or_memory.OrMemory.TheVariants.{Refused};
 ghost use Rattle.pb_base_input.specs.declared.input.InputFault.TheVariants.{Failed, TooLong};
 ghost use Rattle.pbsolve.specs.Program.{FailsReading, IsInputOf, IsRefusedBy, IsUnanswered};
-ghost use Rattle.pbsolve.specs.Program.{LackProperty, LeavesReader, Refuses, Tells, TellsRefusal};
+ghost use Rattle.pbsolve.specs.Program.{LackProperty, LeavesReader, RefusesBytes, Tells, TellsRefusal};
 
 use crate::check::check_text;
 use crate::compile::compile_text;
@@ -118,7 +118,7 @@ fn answer<R: Threads + Sync, G: Gate + Sync, O: Sink>(
     requires { length bytes.now ≤ MAX_INPUT_BYTES }
     ensures written { Delivers (WithStatus result (Answers request bytes.now)) result
         O.Sink out.old out.new }
-    ensures refused { IfInputRefused result (Refuses request bytes.now) }
+    ensures refused { IfInputRefused result (RefusesBytes request bytes.now) }
     ensures named { result ≡ Err (SolveError.Refused NoProperty) → property_names request ≢ [] }
 {
     match request {

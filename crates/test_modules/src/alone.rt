@@ -2,8 +2,8 @@
 ghost use Rattle.std.specs.Prelude.{◌≡◌, IfOk};
 ghost use Rattle.pb_sorts.specs.Layout.{count_of};
 ghost use Rattle.pb_bytecode.specs.Meaning.{parameters};
-ghost use Rattle.pb_instances.specs.Explored.{IsEnd};
-ghost use Rattle.pb_instances.specs.Seats.{words_of};
+ghost use Rattle.pb_instances.specs.Explored.{IsClosedEnd};
+ghost use Rattle.pb_instances.specs.Seats.{words_of_statuses};
 
 use crate::steps::close;
 use pb_exploration::{Crew, Hints, Limit, NoGate, Site, Worker, work};
@@ -19,7 +19,7 @@ fn work_branded<B: Limit>(
     verified: &Verified,
 ) -> Result<(Result<Rows, AllocError>, Statuses), AllocError>
     requires { B.limit ≡ count_of (parameters verified.now) }
-    ensures { IfOk result (λ done. IsEnd verified.now (words_of done.1)) }
+    ensures { IfOk result (λ done. IsClosedEnd verified.now (words_of_statuses done.1)) }
 {
     let (table, mut seats) = Table::start(alloc, verified, 1)?;
     let mut hints = Hints::<B>::start(alloc, verified.initial(), 1)?;
@@ -48,7 +48,7 @@ pub fn work_alone(
     alloc: Global,
     verified: &Verified,
 ) -> Result<(Result<Rows, AllocError>, Statuses), AllocError>
-    ensures { IfOk result (λ done. IsEnd verified.now (words_of done.1)) }
+    ensures { IfOk result (λ done. IsClosedEnd verified.now (words_of_statuses done.1)) }
 {
     work_branded::<Brand>(alloc, verified)
 }

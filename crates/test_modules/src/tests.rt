@@ -1,7 +1,7 @@
 //! The tests.
 ghost use Rattle.std.specs.Prelude.{◌≡◌};
 ghost use Rattle.pb_machine.specs.InstanceTree.{IsTreeAt};
-ghost use Rattle.pb_instances.specs.Seats.{module_of, IsSeatOf};
+ghost use Rattle.pb_instances.specs.Seats.{module_of_table, IsSeatOf};
 
 use crate::alone::work_alone;
 use crate::modules::all_others;
@@ -104,9 +104,9 @@ fn first_is_finished(
     b: &mut Seat,
     tree: &[Token],
 )
-    requires contents { module_of table.now ≡ verified.now }
+    requires contents { module_of_table table.now ≡ verified.now }
     requires seats { IsSeatOf table.now a.old × IsSeatOf table.now b.old }
-    requires tree { IsTreeAt (module_of table.now) 0 tree.now }
+    requires tree { IsTreeAt (module_of_table table.now) 0 tree.now }
     ensures { IsSeatOf table.now a.new × IsSeatOf table.now b.new }
 {
     if !take(verified, table, a, 0) {
@@ -129,9 +129,9 @@ fn second_is_given_back(
     b: &mut Seat,
     tree: &[Token],
 )
-    requires contents { module_of table.now ≡ verified.now }
+    requires contents { module_of_table table.now ≡ verified.now }
     requires seats { IsSeatOf table.now a.old × IsSeatOf table.now b.old }
-    requires tree { IsTreeAt (module_of table.now) 1 tree.now }
+    requires tree { IsTreeAt (module_of_table table.now) 1 tree.now }
     ensures { IsSeatOf table.now a.new × IsSeatOf table.now b.new }
 {
     assert!(rt; status(verified, table, b, 0) == Some(Status::Done));
@@ -151,8 +151,8 @@ fn second_is_finished(
     seat: &mut Seat,
     tree: &[Token],
 )
-    requires seat { IsSeatOf table.now seat.old × (module_of table.now ≡ verified.now) }
-    requires tree { IsTreeAt (module_of table.now) 1 tree.now }
+    requires seat { IsSeatOf table.now seat.old × (module_of_table table.now ≡ verified.now) }
+    requires tree { IsTreeAt (module_of_table table.now) 1 tree.now }
     ensures { IsSeatOf table.now seat.new }
 {
     if !take(verified, table, seat, 1) {

@@ -3,7 +3,7 @@ ghost use Rattle.std.specs.Prelude.{◌≡◌, map, nat_le, sum_by};
 ghost use Rattle.pb_bytecode.specs.Limits.{instance_count};
 ghost use Rattle.pb_bytecode.specs.Reading.{Gives, IsRead, counted_at, equation_at};
 ghost use Rattle.pb_bytecode.specs.Reading.{equations_at, initial_at, items_at, parameters_at};
-ghost use Rattle.pb_bytecode.specs.Reading.{sign_at, value_at, values_at};
+ghost use Rattle.pb_bytecode.specs.Reading.{sign_at, value_in_carrier, values_at};
 ghost use Rattle.pb_bytecode.specs.Views.{equation_contents, initial_contents};
 
 use super::carriers::carriers_at;
@@ -105,9 +105,9 @@ pub(crate) fn equations_at<'a>(
 }
 
 /// A value of the carrier; else B07.
-#[tactic(auto, unfolding(crate::specs::Reading::value_at))]
+#[tactic(auto, unfolding(crate::specs::Reading::value_in_carrier))]
 fn value_at<'a>(carrier: &Carrier, bytes: &'a [u8]) -> Result<(i64, &'a [u8]), FieldFault>
-    ensures { IsRead (λ x. (x.0, x.1.now)) result (value_at carrier.now bytes.now) }
+    ensures { IsRead (λ x. (x.0, x.1.now)) result (value_in_carrier carrier.now bytes.now) }
 {
     let (value, rest) = i64_at(bytes)?;
     if carrier.contains(value) {

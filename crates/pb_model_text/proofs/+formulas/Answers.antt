@@ -11,7 +11,7 @@ use Rattle.pb_text_lexer.specs.declared.kind.Kind.TheVariants as k
 use Rattle.pb_text_lexer.specs.Steps.{Outcome, Gives, kind}
 use Rattle.pb_text_lexer.specs.Tokens.{tok}
 use Rattle.pb_text_lexer.proofs.LoopLemmas.{resumed-first, resumed-first-fails, resumed-end, resumed-more, resumed-operator-fails, resumed-operand-fails}
-use Rattle.pb_text_terms.specs.Operators.{symbol, is_connective}
+use Rattle.pb_text_terms.specs.Operators.{symbol_kind, is_connective}
 use Rattle.pb_text_terms.proofs.ReadLemmas.{on-fewer}
 use Rattle.pb_model_text.specs.Grammar.{within, within_fair, leading_within}
 use Rattle.pb_model_text.specs.Reading.{node, names_of, formula, operand, level, plain, wordless}
@@ -40,19 +40,19 @@ formula::level-returns-in_err-first-clause-reads t c =
     let p = err_from_is_err_and c.from_residual.result c.from_residual.ensures.1 in
     rw (p.1, p.2) (if_fault c.in_err-first.field-0.0
     (λ bad e. level-chain c.args.connective (names_of c.args.scope.names.now) c.args.scope.depth c.args.input.now
-    ∙ resumed-first-fails (symbol c.args.connective) (FormulaForm.connected c.args.connective)
+    ∙ resumed-first-fails (symbol_kind c.args.connective) (FormulaForm.connected c.args.connective)
     (operand c.args.connective (names_of c.args.scope.names.now) c.args.scope.depth)
     (length c.args.input.now.tokens) c.args.input.now bad e) c.in_err-first.ensures.reads)
 
 pub formula::level-returns-then-not-same_kind-clause-reads : goal.formula::level-returns-then-not-same_kind-clause-reads
 formula::level-returns-then-not-same_kind-clause-reads t c =
-    let other : same_kind (kind c.operand-first.new.input) (symbol c.args.connective) ≡ false = search rules in
+    let other : same_kind (kind c.operand-first.new.input) (symbol_kind c.args.connective) ≡ false = search rules in
     level-alone-or-fails c.args.connective (names_of c.args.scope.names.now) c.args.scope.depth c.args.input.now c.operand-first.new.input c.operand-first.result c.operand-first.ensures.reads other
 
 pub formula::links_behind-links-init : goal.formula::links_behind-links-init
 formula::links_behind-links-init t c = record {
   reads = λ s x h fewer. rw (c.in_ok-links.ensures.items, c.in_ok-links.ensures.len) (level-chain c.args.connective (names_of c.args.scope.names.now) c.args.scope.depth s
-      ∙ resumed-first (symbol c.args.connective) (FormulaForm.connected c.args.connective)
+      ∙ resumed-first (symbol_kind c.args.connective) (FormulaForm.connected c.args.connective)
       (operand c.args.connective (names_of c.args.scope.names.now) c.args.scope.depth) (length s.tokens) s c.args.input.now x h);
   room = omega (arith, c.in_ok-links.ensures.len);
 }
@@ -60,32 +60,32 @@ formula::links_behind-links-init t c = record {
 pub formula::links_behind-returns-in_err-place-clause-reads : goal.formula::links_behind-returns-in_err-place-clause-reads
 formula::links_behind-returns-in_err-place-clause-reads t c s x h fewer =
     let p = err_from_is_err_and c.from_residual-in_err-place.result c.from_residual-in_err-place.ensures.1 in
-    let same : same_kind (kind c.links.input) (symbol c.args.connective) ≡ true = search rules in
+    let same : same_kind (kind c.links.input) (symbol_kind c.args.connective) ≡ true = search rules in
     rw (p.1, p.2)
     (c.links.invariant.reads s x h fewer
-    ∙ resumed-operator-fails (symbol c.args.connective) (FormulaForm.connected c.args.connective)
+    ∙ resumed-operator-fails (symbol_kind c.args.connective) (FormulaForm.connected c.args.connective)
     (operand c.args.connective (names_of c.args.scope.names.now) c.args.scope.depth)
     (length s.tokens - vec_len c.links.links) _ (link_forms c.links.links.items) c.links.input c.in_err-place.field-0.0 same c.in_err-place.ensures.reads)
 
 pub formula::links_behind-returns-in_err-operand-clause-reads : goal.formula::links_behind-returns-in_err-operand-clause-reads
 formula::links_behind-returns-in_err-operand-clause-reads t c s x h fewer =
     let p = err_from_is_err_and c.from_residual-in_err-operand.result c.from_residual-in_err-operand.ensures.1 in
-    let same : same_kind (kind c.links.input) (symbol c.args.connective) ≡ true = search rules in
+    let same : same_kind (kind c.links.input) (symbol_kind c.args.connective) ≡ true = search rules in
     let some : 0 < length s.tokens - vec_len c.links.links = omega arith in
     rw (p.1, p.2) (if_fault c.in_err-operand.field-0.0
     (λ bad e. c.links.invariant.reads s x h fewer
-    ∙ resumed-operand-fails (symbol c.args.connective) (FormulaForm.connected c.args.connective)
+    ∙ resumed-operand-fails (symbol_kind c.args.connective) (FormulaForm.connected c.args.connective)
     (operand c.args.connective (names_of c.args.scope.names.now) c.args.scope.depth)
     (length s.tokens - vec_len c.links.links) _ (link_forms c.links.links.items)
     c.links.input c.take_operator.new.self (tok c.in_ok-place.field-0) bad some same c.in_ok-place.ensures.reads e) c.in_err-operand.ensures.reads)
 
 pub formula::links_behind-links-preserved : goal.formula::links_behind-links-preserved
 formula::links_behind-links-preserved t c =
-    let same : same_kind (kind c.links.input) (symbol c.args.connective) ≡ true = search rules in
+    let same : same_kind (kind c.links.input) (symbol_kind c.args.connective) ≡ true = search rules in
     record {
       reads = λ s x h fewer. rw (c.in_ok-push.ensures.items, links-last)
           (c.links.invariant.reads s x h fewer
-          ∙ resumed-more (symbol c.args.connective) (FormulaForm.connected c.args.connective)
+          ∙ resumed-more (symbol_kind c.args.connective) (FormulaForm.connected c.args.connective)
           (operand c.args.connective (names_of c.args.scope.names.now) c.args.scope.depth) (length s.tokens - vec_len c.links.links)
           (length s.tokens - vec_len c.push.new.self) _ (link_forms c.links.links.items) c.links.input c.take_operator.new.self c.operand.new.input
           (tok c.in_ok-place.field-0) (formula_form c.in_ok-operand.operand)
@@ -96,9 +96,9 @@ formula::links_behind-links-preserved t c =
 
 pub formula::links_behind-returns-clause-reads : goal.formula::links_behind-returns-clause-reads
 formula::links_behind-returns-clause-reads t c s x h fewer =
-    let other : same_kind (kind c.links.input) (symbol c.args.connective) ≡ false = search rules in
+    let other : same_kind (kind c.links.input) (symbol_kind c.args.connective) ≡ false = search rules in
     c.links.invariant.reads s x h fewer
-    ∙ resumed-end (symbol c.args.connective) (FormulaForm.connected c.args.connective)
+    ∙ resumed-end (symbol_kind c.args.connective) (FormulaForm.connected c.args.connective)
     (operand c.args.connective (names_of c.args.scope.names.now) c.args.scope.depth)
     (length s.tokens - vec_len c.links.links) _ (link_forms c.links.links.items) c.links.input other
 
@@ -133,7 +133,7 @@ formula::level-returns-clause-fewer t c = on-fewer c.chain.result _ _ _ c.chain.
 
 pub formula::chain_behind-returns-then-not-same_kind-clause-reads : goal.formula::chain_behind-returns-then-not-same_kind-clause-reads
 formula::chain_behind-returns-then-not-same_kind-clause-reads t c s h fewer =
-    let other : same_kind (kind c.args.input.now) (symbol c.args.connective) ≡ false = search rules in
+    let other : same_kind (kind c.args.input.now) (symbol_kind c.args.connective) ≡ false = search rules in
     level-alone-or-fails c.args.connective (names_of c.args.scope.names.now) c.args.scope.depth s c.args.input.now (Ok c.args.first) h other
 
 pub formula::chain_behind-returns-clause-reads : goal.formula::chain_behind-returns-clause-reads

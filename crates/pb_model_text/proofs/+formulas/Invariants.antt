@@ -5,7 +5,7 @@ use Rattle.pb_protocol_tree.specs.Form.{FormulaForm}
 use Rattle.pb_protocol_copies.specs.Links.{link_forms}
 use Rattle.pb_text_lexer.specs.Grammar.{State}
 use Rattle.pb_text_lexer.proofs.LoopLemmas.{resumed}
-use Rattle.pb_text_terms.specs.Operators.{symbol}
+use Rattle.pb_text_terms.specs.Operators.{symbol_kind}
 use Rattle.pb_model_text.specs.Reading.{names_of, operand, level}
 use Rattle.pb_model_text.proofs.+formulas.Given as goal
 
@@ -84,7 +84,7 @@ abbrev pub invariant-formula::links_behind-links : goal.invariant-formula::links
 invariant-formula::links_behind-links l = record {
   reads : (s : State) (x : FormulaForm) → operand l.connective (names_of l.scope.names.now) l.scope.depth s ≡ Ok (x, l.fn.input) → length l.fn.input.tokens < length s.tokens
       → level l.connective (names_of l.scope.names.now) l.scope.depth s ≡
-      resumed (symbol l.connective) (FormulaForm.connected l.connective)
+      resumed (symbol_kind l.connective) (FormulaForm.connected l.connective)
       (operand l.connective (names_of l.scope.names.now) l.scope.depth) (length s.tokens - vec_len l.links) x
       (link_forms l.links.items) l.input;
   room : vec_len l.links + length l.input.tokens ≤ length l.fn.input.tokens;

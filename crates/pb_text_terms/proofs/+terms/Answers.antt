@@ -10,9 +10,9 @@ use Rattle.pb_text_lexer.specs.Tokens.{tok}
 use Rattle.pb_text_lexer.proofs.LoopLemmas.{resumed-first, resumed-more, resumed-end, resumed-operator-fails, resumed-operand-fails}
 use Rattle.pb_text_terms.specs.declared.level.Level.{Level}
 use Rattle.pb_text_terms.specs.declared.level.Operator.TheVariants.{Arithmetic, Connective}
-use Rattle.pb_text_terms.specs.Levels.{operator_of, level_of, operand_level, rank, may_quantify, is_related}
-use Rattle.pb_text_terms.specs.Operators.{symbol, is_quantifier, arithmetic_of}
-use Rattle.pb_text_terms.specs.Reading.{term, placed, argument_list, argument_pair, is_comma, is_open, operation, operations, is_among, is_mixed, at}
+use Rattle.pb_text_terms.specs.Levels.{operator_of_token, level_of, operand_level, rank, may_quantify, is_related}
+use Rattle.pb_text_terms.specs.Operators.{symbol_kind, is_quantifier, arithmetic_of}
+use Rattle.pb_text_terms.specs.Reading.{term, with_place, argument_list, argument_pair, is_comma, is_open, operation, operations, is_among, is_mixed, at}
 use Rattle.pb_text_terms.proofs.ReadLemmas.{operation-fails, operation-operand-fails, operation-read, arguments-is, begun-at, inner-fails, name-is, unary-other, placed-fails, placed-read}
 use Rattle.pb_text_terms.proofs.LevelLemmas.{may-above, skips-to, before-operator, operator-fails, lowest-quantified, quantified-fails, first-fails-as, first-or-fails, connects}
 use Rattle.pb_text_terms.proofs.LevelLemmas.{calculation-fails, calculation-mixed, calculation-read, connection-is}
@@ -25,12 +25,12 @@ use Rattle.pb_text_terms.proofs.+terms.Goals.{chain::operations-After-take_opera
 -- ---- names with arguments
 
 arguments_so_far : (t : ℕ) (c : instance::argument_list-After-place-place t)
-    → IsGathering (placed (term c.args.depth)) is_comma take_token (argument_list (term c.args.depth) c.args.input.now) (map argument_pair c.arguments.arguments.items)
+    → IsGathering (with_place (term c.args.depth)) is_comma take_token (argument_list (term c.args.depth) c.args.input.now) (map argument_pair c.arguments.arguments.items)
     (suc (length c.args.input.now.tokens) - vec_len c.arguments.arguments) c.arguments.input
 arguments_so_far t c = record { reads = c.arguments.invariant.reads }
 
 argument_read : (t : ℕ) (c : instance::argument_list-After-push t)
-    → placed (term c.args.depth) c.arguments.input ≡ Ok ((c.place-place.result, term_form c.in_ok-term.term), c.term_at.new.input)
+    → with_place (term c.args.depth) c.arguments.input ≡ Ok ((c.place-place.result, term_form c.in_ok-term.term), c.term_at.new.input)
 argument_read t c =
     placed-read (term c.args.depth) c.arguments.input c.term_at.new.input c.place-place.result (term_form c.in_ok-term.term) c.place-place.ensures c.in_ok-term.ensures.reads
 
@@ -253,13 +253,13 @@ pub chain::connected_by-links-init : goal.chain::connected_by-links-init
 chain::connected_by-links-init t c = record {
   reads = λ s h fewer. rw (c.in_ok-links.ensures.items, c.in_ok-links.ensures.len)
       (connection-is c.args.connective c.args.depth s
-      ∙ resumed-first (symbol c.args.connective) (TermForm.connected c.args.connective)
+      ∙ resumed-first (symbol_kind c.args.connective) (TermForm.connected c.args.connective)
       (at (operand_level (Connective c.args.connective)) c.args.depth) (length s.tokens) s c.args.input.now (term_form c.args.first) h);
   room = omega (arith, c.in_ok-links.ensures.len);
 }
 
 -- the connective stands behind the links that are read
-stands : (t : ℕ) (c : chain::connected_by-After-take_operator t) → same_kind (kind c.links.input) (symbol c.args.connective) ≡ true
+stands : (t : ℕ) (c : chain::connected_by-After-take_operator t) → same_kind (kind c.links.input) (symbol_kind c.args.connective) ≡ true
 stands t c = search rules
 
 pub chain::connected_by-returns-in_err-place-clause-reads : goal.chain::connected_by-returns-in_err-place-clause-reads
@@ -267,7 +267,7 @@ chain::connected_by-returns-in_err-place-clause-reads t c s h fewer =
     let place = (goal.at.chain::connected_by-returns-in_err-place-clause-reads t c).After-take_operator in
     rw (error-is c.from_residual-in_err-place.result _ c.from_residual-in_err-place.ensures.1)
     (c.links.invariant.reads s h fewer
-    ∙ resumed-operator-fails (symbol c.args.connective) (TermForm.connected c.args.connective) (at (operand_level (Connective c.args.connective)) c.args.depth)
+    ∙ resumed-operator-fails (symbol_kind c.args.connective) (TermForm.connected c.args.connective) (at (operand_level (Connective c.args.connective)) c.args.depth)
     (length s.tokens - vec_len c.links.links) _ (term_links c.links.links.items) c.links.input c.in_err-place.field-0.0 (stands t place) c.in_err-place.ensures.reads)
 
 pub chain::connected_by-returns-in_err-operand-clause-reads : goal.chain::connected_by-returns-in_err-operand-clause-reads
@@ -277,7 +277,7 @@ chain::connected_by-returns-in_err-operand-clause-reads t c s h fewer =
     let some : 0 < length s.tokens - vec_len c.links.links = omega arith in
     rw (error-is c.from_residual-in_err-operand.result _ c.from_residual-in_err-operand.ensures.1) (if_fault c.in_err-operand.field-0.0
     (λ bad e. c.links.invariant.reads s h fewer
-    ∙ resumed-operand-fails (symbol c.args.connective) (TermForm.connected c.args.connective) (at operands c.args.depth) (length s.tokens - vec_len c.links.links) _
+    ∙ resumed-operand-fails (symbol_kind c.args.connective) (TermForm.connected c.args.connective) (at operands c.args.depth) (length s.tokens - vec_len c.links.links) _
     (term_links c.links.links.items) c.links.input c.take_operator.new.self (tok c.in_ok-place.field-0) bad some (stands t place) c.in_ok-place.ensures.reads
     (read-at c.operand_level-level.result operands c.args.depth c.take_operator.new.self c.operand_level-level.ensures e)) c.in_err-operand.ensures.reads)
 
@@ -288,7 +288,7 @@ chain::connected_by-links-preserved t c =
     record {
       reads = λ s h fewer. rw (c.in_ok-push.ensures.items, map_push)
           (c.links.invariant.reads s h fewer
-          ∙ resumed-more (symbol c.args.connective) (TermForm.connected c.args.connective) (at operands c.args.depth)
+          ∙ resumed-more (symbol_kind c.args.connective) (TermForm.connected c.args.connective) (at operands c.args.depth)
           (length s.tokens - vec_len c.links.links) (length s.tokens - vec_len c.push.new.self) _
           (term_links c.links.links.items) c.links.input c.take_operator.new.self c.term_at.new.input
           (tok c.in_ok-place.field-0) (term_form c.in_ok-operand.operand)
@@ -300,10 +300,10 @@ chain::connected_by-links-preserved t c =
 pub chain::connected_by-returns-clause-reads : goal.chain::connected_by-returns-clause-reads
 chain::connected_by-returns-clause-reads t c s h fewer =
     let item = at (operand_level (Connective c.args.connective)) c.args.depth in
-    let other : same_kind (kind c.links.input) (symbol c.args.connective) ≡ false = search rules in
+    let other : same_kind (kind c.links.input) (symbol_kind c.args.connective) ≡ false = search rules in
     rw c.in_ok-joined.ensures
     (c.links.invariant.reads s h fewer
-    ∙ resumed-end (symbol c.args.connective) (TermForm.connected c.args.connective) item
+    ∙ resumed-end (symbol_kind c.args.connective) (TermForm.connected c.args.connective) item
     (length s.tokens - vec_len c.links.links) _ (term_links c.links.links.items) c.links.input other)
 
 -- ---- what an operator makes of a first operand
@@ -330,7 +330,7 @@ term::term_at-returns-then-begins_quantified-clause-reads t c =
 pub term::term_at-returns-in-None-clause-reads : goal.term::term_at-returns-in-None-clause-reads
 term::term_at-returns-in-None-clause-reads t c =
     first-or-fails c.args.depth c.args.limit c.args.input.now c.unary-first.new.input c.unary-first.result (search rules)
-    (λ q is above. c.in-None.ensures.none q (ap operator_of c.kind-2.ensures ∙ is) above) c.unary-first.ensures.reads
+    (λ q is above. c.in-None.ensures.none q (ap operator_of_token c.kind-2.ensures ∙ is) above) c.unary-first.ensures.reads
 
 pub term::term_at-returns-in_err-first-in-Some-clause-reads : goal.term::term_at-returns-in_err-first-in-Some-clause-reads
 term::term_at-returns-in_err-first-in-Some-clause-reads t c =
@@ -345,7 +345,7 @@ term::operated-operators-preserved t c = record {
   reads = λ s h fewer. ap (λ (v : Level). at v c.args.depth s) c.level_of-above.ensures
       ∙ c.in_ok-left.ensures.reads s
       (before-operator c.args.depth c.operators.above c.in-Some.operator s c.operators.input
-      (term_form c.operators.left) (ap operator_of (sym c.kind.ensures) ∙ c.in-Some.ensures.stands)
+      (term_form c.operators.left) (ap operator_of_token (sym c.kind.ensures) ∙ c.in-Some.ensures.stands)
       c.in-Some.ensures.above (c.operators.invariant.reads s h fewer))
       (λ may. let less = fewer (may-above (level_of c.in-Some.operator) c.args.levels.limit c.in-Some.ensures.within may) in omega (arith, c.operators.invariant.room));
   within = subst (λ (v : Level). rank v ≤ rank c.args.levels.limit) (sym c.level_of-above.ensures) c.in-Some.ensures.within;
@@ -360,11 +360,11 @@ term::operated-returns-in_err-left-clause-reads t c s h fewer =
     (λ bad e. operator-fails c.args.depth c.operators.above c.args.levels.limit q s c.operators.input (term_form c.operators.left) bad reads c.in-Some.ensures.above c.in-Some.ensures.within e)
     (c.in_err-left.ensures.reads s
     (before-operator c.args.depth c.operators.above q s c.operators.input (term_form c.operators.left)
-    (ap operator_of (sym c.kind.ensures) ∙ c.in-Some.ensures.stands) c.in-Some.ensures.above reads)
+    (ap operator_of_token (sym c.kind.ensures) ∙ c.in-Some.ensures.stands) c.in-Some.ensures.above reads)
     (λ may. let less = fewer (may-above (level_of q) c.args.levels.limit c.in-Some.ensures.within may) in omega (arith, c.operators.invariant.room))))
 
 pub term::operated-returns-clause-reads : goal.term::operated-returns-clause-reads
 term::operated-returns-clause-reads t c s h fewer =
     skips-to c.args.depth c.operators.above c.args.levels.limit s c.operators.input (term_form c.operators.left)
     c.operators.invariant.within
-    (λ q is above. c.in_default.ensures.none q (ap operator_of c.kind.ensures ∙ is) above) (c.operators.invariant.reads s h fewer)
+    (λ q is above. c.in_default.ensures.none q (ap operator_of_token c.kind.ensures ∙ is) above) (c.operators.invariant.reads s h fewer)

@@ -5,8 +5,8 @@ use Rattle.pb_text_lexer.specs.Steps.{kind, take_token, nothing_between}
 use Rattle.pb_text_lexer.proofs.LoopLemmas.{gathered, resumed}
 use Rattle.pb_text_terms.specs.declared.level.Operator.TheVariants.{Arithmetic, Relation, Connective}
 use Rattle.pb_text_terms.specs.Levels.{rank, level_of, operand_level, may_quantify}
-use Rattle.pb_text_terms.specs.Operators.{symbol}
-use Rattle.pb_text_terms.specs.Reading.{term, at, placed, argument_pair, argument_list, is_comma, operation, operations, is_among}
+use Rattle.pb_text_terms.specs.Operators.{symbol_kind}
+use Rattle.pb_text_terms.specs.Reading.{term, at, with_place, argument_pair, argument_list, is_comma, operation, operations, is_among}
 use Rattle.pb_text_terms.proofs.+terms.Given as goal
 
 -- the functions that read at one number of levels, each above those that it calls
@@ -56,7 +56,7 @@ decreases-chain::connected_by l = l.depth * 64 + rank (level_of (Connective l.co
 abbrev pub invariant-instance::argument_list-arguments : goal.invariant-instance::argument_list-arguments
 invariant-instance::argument_list-arguments l = record {
   reads : argument_list (term l.depth) l.fn.input ≡
-      gathered (placed (term l.depth)) is_comma take_token (map argument_pair l.arguments.items) (suc (length l.fn.input.tokens) - vec_len l.arguments) l.input;
+      gathered (with_place (term l.depth)) is_comma take_token (map argument_pair l.arguments.items) (suc (length l.fn.input.tokens) - vec_len l.arguments) l.input;
   room : vec_len l.arguments + length l.input.tokens ≤ length l.fn.input.tokens;
 }
 
@@ -79,7 +79,7 @@ abbrev pub invariant-chain::connected_by-links : goal.invariant-chain::connected
 invariant-chain::connected_by-links l = record {
   reads : (s : State) → at (operand_level (Connective l.connective)) l.depth s ≡ Ok (term_form l.fn.first, l.fn.input) → length l.fn.input.tokens < length s.tokens
       → at (level_of (Connective l.connective)) l.depth s ≡
-      resumed (symbol l.connective) (TermForm.connected l.connective) (at (operand_level (Connective l.connective)) l.depth) (length s.tokens - vec_len l.links)
+      resumed (symbol_kind l.connective) (TermForm.connected l.connective) (at (operand_level (Connective l.connective)) l.depth) (length s.tokens - vec_len l.links)
       (term_form l.first) (term_links l.links.items) l.input;
   room : vec_len l.links + length l.input.tokens ≤ length l.fn.input.tokens;
 }

@@ -4,7 +4,7 @@ ghost use Rattle.std.specs.Prelude.{◌≡◌, ◌&&◌, IfErr, OnErr, OnOk, int
 ghost use Rattle.pb_verifier_flow.specs.Flows.{Fails, GoesOn};
 ghost use Rattle.pb_verifier_states.specs.NamedRule.{IsNamed};
 ghost use Rattle.pb_base.specs.OrMemory.{IfRefused, OnRefused};
-ghost use Rattle.pb_bytecode_program.specs.Values.{divides};
+ghost use Rattle.pb_bytecode_program.specs.Values.{has_divisor};
 ghost use Rattle.pb_bytecode_program.specs.declared.instruction.Op.TheVariants as op;
 
 use crate::interval::{absolute_values, negatives, results};
@@ -45,7 +45,7 @@ pub(crate) fn arithmetic(state: &mut AbstractState, operator: Arithmetic) -> Res
 
 // Whether the second operand is a divisor that may be below 1 (V03).
 fn may_be_no_divisor(operator: Arithmetic, b: Interval) -> bool
-    ensures { result ≡ (divides operator && int_lt b.low (pos 1)) }
+    ensures { result ≡ (has_divisor operator && int_lt b.low (pos 1)) }
 {
     matches!(operator, Arithmetic::Div | Arithmetic::Mod) && b.low() < 1
 }

@@ -1,7 +1,7 @@
 use Rattle.std.proofs.Common.{◌≡◌, ℕ, ◌-◌, ◌<◌, suc, sym, ap, ◌∙◌, subst, arith, add-one, length, drop, take, OnOk}
 use Rattle.pb_text_tree.specs.declared.operator.Connective.{Connective}
 use Rattle.pb_normal.specs.Normal as normal
-use Rattle.pb_normal.specs.View.{calculated, link_views, term_view}
+use Rattle.pb_normal.specs.View.{term_of_operands, link_views, term_view}
 use Rattle.pb_assembler_scheme.specs.Pieces.{Piece, Then}
 use Rattle.pb_assembler_scheme.specs.Scheme.{data_piece}
 use Rattle.pb_assembler.specs.Emitted.{Emits, connected_behind, nowhere}
@@ -55,10 +55,10 @@ emit_arithmetic-loop-link-preserved t c =
     let links = c.args.links.now in
     let k = c.loop-link.link-index in
     let l = c.link-item.result in
-    let x = data_piece (calculated first (link_views (take k links))) in
+    let x = data_piece (term_of_operands first (link_views (take k links))) in
     let y = data_piece (term_view l.operand) in
     let same =
-    ap (λ n. data_piece (calculated first (link_views (take n links)))) (add-one k)
+    ap (λ n. data_piece (term_of_operands first (link_views (take n links)))) (add-one k)
     ∙ ap data_piece (calculated_more first links k l c.loop-link-test.true c.link-item.is) ∙ sym (c.arithmetic_op.ensures.order x y) in
     subst (λ (q : Piece). Emits q nowhere c.args.builder.now c.emit_one.new.builder) (sym same)
     (emits_then c.loop-link.invariant c.in_ok-emit_one.ensures)

@@ -1,5 +1,5 @@
 use Rattle.std.proofs.Common.{◌+◌, ◌<◌, length, drop, take}
-use Rattle.pb_normal.specs.View.{calculated, link_views, term_view}
+use Rattle.pb_normal.specs.View.{term_of_operands, link_views, term_view}
 use Rattle.pb_assembler_scheme.specs.Scheme.{data_piece}
 use Rattle.pb_assembler.specs.Emitted.{Emits, nowhere}
 use Rattle.pb_assembler_measures.proofs.Views.{chain_from}
@@ -44,4 +44,4 @@ invariant-emit_chain-loop-left l =
 -- the operands before this one are emitted
 abbrev pub invariant-emit_arithmetic-loop-link : goal.invariant-emit_arithmetic-loop-link
 invariant-emit_arithmetic-loop-link l =
-    Emits (data_piece (calculated (term_view l.first) (link_views (take l.link-index l.links)))) nowhere l.fn.builder l.builder
+    Emits (data_piece (term_of_operands (term_view l.first) (link_views (take l.link-index l.links)))) nowhere l.fn.builder l.builder

@@ -1,5 +1,5 @@
 use Rattle.std.proofs.Common.{◌-◌, ◌<◌, sym, ap, ◌∙◌, arith, add-one, length, take}
-use Rattle.pb_normal.specs.View.{calculated, link_views, term_view}
+use Rattle.pb_normal.specs.View.{term_of_operands, link_views, term_view}
 use Rattle.pb_assembler_measures.specs.MeasureTerms.{capped_load, followed, term_load}
 use Rattle.pb_assembler_measures.proofs.Views.{calculated_more, chain_is, arithmetic_is}
 use Rattle.pb_typing_tree.proofs.Weight.{weight, terms_weight, links_weight, weight-chain, weight-arithmetic, term_lighter, link_lighter}
@@ -17,9 +17,9 @@ measure_arithmetic-loop-link-preserved t c =
     let k = c.loop-link.link-index in
     let l = c.link-item.result in
     c.followed-load.ensures ∙ ap (λ k. capped_load (followed k)) c.both.ensures
-    ∙ arithmetic_capped l.operator (calculated first (link_views (take k links))) (term_view l.operand)
+    ∙ arithmetic_capped l.operator (term_of_operands first (link_views (take k links))) (term_view l.operand)
     c.loop-link.load c.measure_term-operand.result c.loop-link.invariant c.measure_term-operand.ensures
-    ∙ sym (ap (λ n. capped_load (term_load (calculated first (link_views (take n links))))) (add-one k)
+    ∙ sym (ap (λ n. capped_load (term_load (term_of_operands first (link_views (take n links))))) (add-one k)
     ∙ ap (λ t. capped_load (term_load t)) (calculated_more first links k l c.loop-link-test.true c.link-item.is))
 
 pub measure_chain-measure_term-load-requires : goal.measure_chain-measure_term-load-requires

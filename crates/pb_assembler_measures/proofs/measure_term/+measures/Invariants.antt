@@ -1,5 +1,5 @@
 use Rattle.std.proofs.Common.{◌≡◌, ◌+◌, ◌<◌, length, drop, take}
-use Rattle.pb_normal.specs.View.{calculated, link_views, term_view}
+use Rattle.pb_normal.specs.View.{term_of_operands, link_views, term_view}
 use Rattle.pb_assembler_measures.specs.MeasureTerms.{capped_load, term_load}
 use Rattle.pb_assembler_measures.proofs.Views.{chain_from}
 use Rattle.pb_typing_tree.proofs.Weight.{weight, terms_weight, links_weight}
@@ -40,4 +40,4 @@ invariant-measure_chain-loop-left l =
 -- the operands before this one are counted
 abbrev pub invariant-measure_arithmetic-loop-link : goal.invariant-measure_arithmetic-loop-link
 invariant-measure_arithmetic-loop-link l =
-    l.load ≡ capped_load (term_load (calculated (term_view l.first) (link_views (take l.link-index l.links))))
+    l.load ≡ capped_load (term_load (term_of_operands (term_view l.first) (link_views (take l.link-index l.links))))

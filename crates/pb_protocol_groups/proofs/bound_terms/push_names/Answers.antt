@@ -2,10 +2,10 @@ use Rattle.std.proofs.Common.{◌+◌, ◌∙◌, ◌++◌, List, ◌∷◌, dro
 use Rattle.std.proofs.lemmas.List.{at_drop_more}
 use Rattle.pb_text_tree.specs.declared.variable.Variables.{Variables}
 use Rattle.pb_text_meaning.specs.Syntax.{Name}
-use Rattle.pb_protocol_groups.specs.Bound.{names_of}
+use Rattle.pb_protocol_groups.specs.Bound.{names_of_variables}
 use Rattle.pb_protocol_packer.specs.View.{variables_in}
 use Rattle.pb_protocol_packer.specs.Initial.{names_by}
-use Rattle.pb_protocol_groups.specs.Names.{group_variables}
+use Rattle.pb_protocol_groups.specs.Names.{variables_of_group}
 use Rattle.pb_protocol_groups.proofs.Rows.{variables-more}
 use Rattle.pb_protocol_groups.proofs.Bound.{names-append}
 use Rattle.pb_protocol_groups.proofs.bound_terms.push_names.Goals as goal
@@ -18,8 +18,8 @@ loop-group-preserved c =
     let more = variables_in (drop (k + 1) gs) in
     c.loop-group.invariant
     ∙ ap (λ (ns : List Name). names_by c.loop-group.names.items ++ ns)
-    (at_drop_more (λ (hs : List Variables). names_of (variables_in hs)) gs k g c.loop-group-test.true
-    ∙ ap (λ (h : Variables). names_of (variables_in (h ∷ drop (k + 1) gs))) (sym c.group-item.is)
-    ∙ ap names_of (variables-more g (drop (k + 1) gs)) ∙ names-append (group_variables g) more)
-    ∙ sym (append_assoc (names_by c.loop-group.names.items) (names_of (group_variables g)) (names_of more))
-    ∙ ap (λ (ns : List Name). ns ++ names_of more) (sym c.in_ok-push_group.ensures)
+    (at_drop_more (λ (hs : List Variables). names_of_variables (variables_in hs)) gs k g c.loop-group-test.true
+    ∙ ap (λ (h : Variables). names_of_variables (variables_in (h ∷ drop (k + 1) gs))) (sym c.group-item.is)
+    ∙ ap names_of_variables (variables-more g (drop (k + 1) gs)) ∙ names-append (variables_of_group g) more)
+    ∙ sym (append_assoc (names_by c.loop-group.names.items) (names_of_variables (variables_of_group g)) (names_of_variables more))
+    ∙ ap (λ (ns : List Name). ns ++ names_of_variables more) (sym c.in_ok-push_group.ensures)

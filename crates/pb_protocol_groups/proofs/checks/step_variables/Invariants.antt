@@ -1,8 +1,8 @@
 use Rattle.std.proofs.Common.{◌≡◌, ◌++◌, drop, flat_map}
-use Rattle.pb_protocol_packer.specs.Properties.{steps_in}
+use Rattle.pb_protocol_packer.specs.Properties.{erased_step_list}
 use Rattle.pb_protocol_packer.specs.Initial.{names_by}
-use Rattle.pb_protocol_groups.specs.Checks.{own_names}
+use Rattle.pb_protocol_groups.specs.Checks.{own_variable_names}
 use Rattle.pb_protocol_groups.proofs.checks.step_variables.Given as goal
 
 abbrev pub invariant-loop-step : goal.invariant-loop-step
-invariant-loop-step l = names_by l.names.items ++ flat_map own_names (steps_in (drop l.step-index l.steps)) ≡ flat_map own_names (steps_in l.steps)
+invariant-loop-step l = names_by l.names.items ++ flat_map own_variable_names (erased_step_list (drop l.step-index l.steps)) ≡ flat_map own_variable_names (erased_step_list l.steps)

@@ -3,7 +3,7 @@ use Rattle.pb_text_meaning.specs.Sorts.{carrier_by, carrier_of, carrier_within}
 use Rattle.pb_model_meaning.specs.Erase.{model_of}
 use Rattle.pb_model_meaning.specs.Steps.{data_of}
 use Rattle.pb_protocol_packing.specs.Groups.{kind_by, kind_of, kind_within}
-use Rattle.pb_protocol_packer.specs.View.{text_of}
+use Rattle.pb_protocol_packer.specs.View.{name_bytes}
 use Rattle.pb_protocol_groups.specs.declared.end.Link as declared_link
 use Rattle.pb_protocol_groups.specs.Ends.{kind_behind, carrier_behind}
 use Rattle.pb_protocol_groups.proofs.Links.{chain-link, sort_count, sorts-many}
@@ -14,7 +14,7 @@ few : (c : After-chain_link) → c.loop.counter ≤ sort_count c.args.model.now
 few c = let count = sorts-many c.args.model.now in omega (arith, count, c.len-end.ensures, c.loop-test.true, c.args.model.now.sorts.ok.0)
 
 kinds : (c : After-chain_link) → kind_behind c.chain_link.result (kind_within (sort_count c.args.model.now - c.loop.counter) (model_of c.args.model.now)) ≡ kind_of (model_of c.args.model.now)
-    (text_of c.args.sort.now)
+    (name_bytes c.args.sort.now)
 kinds c =
     let m = model_of c.args.model.now in
     chain-link c.args.model.now kind_behind kind_by (λ n. kind_within n m) (λ j s. refl) c.chain_link.result c.deref.result.now c.loop.counter (few c) c.chain_link.ensures.kind
@@ -22,7 +22,7 @@ kinds c =
 
 carriers : (c : After-chain_link) →
     let spec = data_of (model_of c.args.model.now) in carrier_behind c.chain_link.result (carrier_within (sort_count c.args.model.now - c.loop.counter) spec)
-    ≡ carrier_of spec (text_of c.args.sort.now)
+    ≡ carrier_of spec (name_bytes c.args.sort.now)
 carriers c =
     let spec = data_of (model_of c.args.model.now) in
     chain-link c.args.model.now carrier_behind carrier_by (λ n. carrier_within n spec) (λ j s. refl) c.chain_link.result c.deref.result.now c.loop.counter (few c) c.chain_link.ensures.carrier
@@ -42,7 +42,7 @@ pub loop-preserved : goal.loop-preserved
 loop-preserved c =
     let model = c.args.model.now in
     let j = sort_count model - c.loop.counter in
-    let t = text_of c.in-GoesOn.target.now in
+    let t = name_bytes c.in-GoesOn.target.now in
     let before = (goal.at.loop-preserved c).After-chain_link in
     let low = few before in
     let same : suc (sort_count model) - (c.loop.counter + 1) ≡ j = omega (arith, low) in (

@@ -1,7 +1,7 @@
 use Rattle.std.proofs.Common.{◌≡◌, ◌∙◌, ℕ, suc, ◌-◌, ◌+◌, ◌≤◌, ap, sym, refl, arith}
 use Rattle.pb_model_meaning.specs.Erase.{model_of}
 use Rattle.pb_protocol_packing.specs.Apart.{ends_by, ends_within}
-use Rattle.pb_protocol_packer.specs.View.{text_of}
+use Rattle.pb_protocol_packer.specs.View.{name_bytes}
 use Rattle.pb_protocol_groups.specs.declared.end.Link as declared_link
 use Rattle.pb_protocol_groups.specs.Ends.{ends_behind}
 use Rattle.pb_protocol_groups.proofs.Links.{chain-link, sort_count, sorts-many}
@@ -12,7 +12,7 @@ use Rattle.pb_protocol_groups.proofs.end.has_end.Goals as goal
 ends : (c : After-chain_link) →
     let m = model_of c.args.model.now in
     (c.loop.counter ≤ sort_count c.args.model.now)
-    × (ends_behind c.chain_link.result (ends_within (sort_count c.args.model.now - c.loop.counter) m) ≡ ends_within (suc (sort_count c.args.model.now)) m (text_of c.args.sort.now))
+    × (ends_behind c.chain_link.result (ends_within (sort_count c.args.model.now - c.loop.counter) m) ≡ ends_within (suc (sort_count c.args.model.now)) m (name_bytes c.args.sort.now))
 ends c =
     let m = model_of c.args.model.now in
     let count = sorts-many c.args.model.now in
@@ -34,4 +34,4 @@ loop-preserved c =
     let before = ends (goal.at.loop-preserved c).After-chain_link in
     let few = before.0 in
     let same : suc (sort_count c.args.model.now) - (c.loop.counter + 1) ≡ j = omega (arith, few) in
-    ap (λ (n : ℕ). ends_within n m (text_of c.in-GoesOn.target.now)) same ∙ ap (λ (k : declared_link.Link). ends_behind k (ends_within j m)) (sym c.in-GoesOn.is) ∙ before.1
+    ap (λ (n : ℕ). ends_within n m (name_bytes c.in-GoesOn.target.now)) same ∙ ap (λ (k : declared_link.Link). ends_behind k (ends_within j m)) (sym c.in-GoesOn.is) ∙ before.1

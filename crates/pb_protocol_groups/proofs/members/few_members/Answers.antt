@@ -4,7 +4,7 @@ use Rattle.pb_model_meaning.specs.Erase.{model_of}
 use Rattle.pb_protocol_packing.specs.Packing.{Member}
 use Rattle.pb_protocol_packer.specs.declared.member.Member as declared_member
 use Rattle.pb_protocol_groups.specs.Sizes.{is_few}
-use Rattle.pb_protocol_groups.specs.Variables.{as_member, members_for, variable_of}
+use Rattle.pb_protocol_groups.specs.Variables.{as_member, members_for, variable_of_state}
 use Rattle.pb_protocol_groups.proofs.Links.{member-at-end}
 use Rattle.pb_protocol_groups.proofs.Sizes.{AreMembers, many-times, more-members, refused-at, next-member}
 use Rattle.pb_protocol_groups.proofs.members.few_members.Goals.{After-from-in-loop-index, After-size}
@@ -32,7 +32,7 @@ loop-index-preserved c =
     let made = c.loop-index.items.items in
     let y = c.in_ok-as_member.field-0 in
     let larger = c.in-Some-few.larger in
-    let is = c.in_ok-as_member.ensures.member ∙ member-at-end m c.end_of-end.result (variable_of x) c.end_of-end.ensures.kind c.end_of-end.ensures.carrier in
+    let is = c.in_ok-as_member.ensures.member ∙ member-at-end m c.end_of-end.result (variable_of_state x) c.end_of-end.ensures.kind c.end_of-end.ensures.carrier in
     let h : AreMembers (as_member m x ∷ ps) (y ∷ made) larger =
     more-members (as_member m x) ps y made c.loop-index.capacity larger c.loop-index.invariant is c.in_ok-as_member.ensures.weight (c.in-Some-few.ensures.0 ∙ product) c.in-Some-few.ensures.1
     c.in-Some-few.ensures.2 in

@@ -1,7 +1,7 @@
 use Rattle.std.proofs.Common.{◌+◌, ◌-◌, ◌∙◌, ℕ, drop, ap, sym, refl, arith, ◌≡◌}
 use Rattle.pb_text_meaning.specs.Syntax.{Operator, Term}
 use Rattle.pb_protocol_packing.specs.Numbers.{either, enumerator_at}
-use Rattle.pb_protocol_packer.specs.View.{term_of, text_of, texts_of}
+use Rattle.pb_protocol_packer.specs.View.{term_of, name_bytes, texts_of}
 use Rattle.pb_protocol_packer.proofs.EnumeratorRows.{next-at}
 use Rattle.pb_protocol_packer.proofs.enumerators.enumerator_at.Goals as goal
 
@@ -18,7 +18,7 @@ loop-index-preserved c =
     c.in_ok-term-2.ensures
     ∙ ap (λ (t : Term). either t chosen old) c.in_ok-condition.ensures
     ∙ ap (λ (t : Term). either E t old) c.in_ok-chosen.ensures
-    ∙ ap (either E (Term.Named (text_of n))) c.loop-index.invariant
-    ∙ ap (λ (j : ℕ). either E (Term.Named (text_of n)) (enumerator_at j (texts_of (drop j es)) X)) back
+    ∙ ap (either E (Term.Named (name_bytes n))) c.loop-index.invariant
+    ∙ ap (λ (j : ℕ). either E (Term.Named (name_bytes n)) (enumerator_at j (texts_of (drop j es)) X)) back
     ∙ sym (next-at (λ j ns. enumerator_at j ns X) (λ j e t. either (Term.Binary Operator.Equal X (Term.Number j)) (Term.Named e) t) (λ j e f ns. refl) (k - 1) es n
     (omega (arith, c.loop-index-test.true, c.loop-index.auto.index)) c.index-enumerators-index.is)

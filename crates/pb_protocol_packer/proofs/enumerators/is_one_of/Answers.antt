@@ -1,7 +1,7 @@
 use Rattle.std.proofs.Common.{◌+◌, ◌-◌, ◌∙◌, ℕ, drop, ap, sym, refl, arith, ◌≡◌}
 use Rattle.pb_text_meaning.specs.Syntax.{Operator, Term}
 use Rattle.pb_protocol_packing.specs.Numbers.{is_one_of}
-use Rattle.pb_protocol_packer.specs.View.{term_of, text_of, texts_of}
+use Rattle.pb_protocol_packer.specs.View.{term_of, name_bytes, texts_of}
 use Rattle.pb_protocol_packer.proofs.EnumeratorRows.{next-at}
 use Rattle.pb_protocol_packer.proofs.enumerators.is_one_of.Goals as goal
 
@@ -12,7 +12,7 @@ loop-index-preserved c =
     let k = c.loop-index.index in
     let n = c.index-enumerators-index.result in
     let old = term_of c.loop-index.term in
-    let E : Term = Term.Binary Operator.Equal X (Term.Named (text_of n)) in
+    let E : Term = Term.Binary Operator.Equal X (Term.Named (name_bytes n)) in
     let back : k ≡ k - 1 + 1 = omega (arith, c.loop-index-test.true) in
     c.in_ok-term-2.ensures
     ∙ ap (λ (t : Term). Term.Binary Operator.Or t old) c.in_ok-test.ensures

@@ -4,7 +4,7 @@ use Rattle.pb_model_meaning.specs.Steps.{assigned_term}
 use Rattle.pb_protocol_packing.specs.Packing.{number_of}
 use Rattle.pb_protocol_packer.specs.declared.member.Member.{Member}
 use Rattle.pb_protocol_packer.specs.View.{term_of}
-use Rattle.pb_protocol_packer.specs.Members.{are_weighted, members_of}
+use Rattle.pb_protocol_packer.specs.Members.{are_weighted, members_said}
 use Rattle.pb_protocol_packer.specs.Given.{given_in}
 use Rattle.pb_protocol_packer.proofs.Weights.{first-weighted}
 use Rattle.pb_protocol_packer.proofs.GroupNumbers.{Parts, number-more}
@@ -34,5 +34,5 @@ returns t c =
     } in
     subst (λ (z : Term). IfOk c.computed.result (λ u. term_of u ≡ z))
     (number-more new (term_of c.args.term) p ps weighted.weight some parts
-    ∙ ap (λ (ms : List Member). number_of new (term_of c.args.term) (members_of ms)) (sym c.in-Some.ensures.cases.0))
+    ∙ ap (λ (ms : List Member). number_of new (term_of c.args.term) (members_said ms)) (sym c.in-Some.ensures.cases.0))
     c.computed.ensures

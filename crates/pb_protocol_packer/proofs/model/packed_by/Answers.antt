@@ -10,7 +10,7 @@ use Rattle.pb_protocol_packer.specs.View.{terms_of}
 use Rattle.pb_protocol_packer.specs.Groups.{groups_in}
 use Rattle.pb_protocol_packer.specs.Scopes.{table_of}
 use Rattle.pb_protocol_packer.specs.Declarations.{declarations_in, ranges_in}
-use Rattle.pb_protocol_packer.specs.Properties.{steps_in, properties_in, property_said}
+use Rattle.pb_protocol_packer.specs.Properties.{erased_step_list, properties_in, property_said}
 use Rattle.pb_protocol_packer.proofs.Nodes.{erased-all}
 use Rattle.pb_protocol_packer.proofs.DeclarationRows.{declaration-forms, range-forms}
 use Rattle.pb_protocol_packer.proofs.ModelRows.{step-forms, property-forms, initial-same, model-same}
@@ -31,7 +31,7 @@ returns-clause-meaning c =
     ∙ ap (with_ranges gs) (sym (range-forms model.ranges.items)))
     c.in_ok-state.ensures
     (step-forms c.in_ok-steps.steps.items ∙ c.in_ok-steps.ensures.meaning
-    ∙ ap (λ (ss : List tree_step.Step). map (packed_step gs) (steps_in ss)) c.deref-2.ensures.value
+    ∙ ap (λ (ss : List tree_step.Step). map (packed_step gs) (erased_step_list ss)) c.deref-2.ensures.value
     ∙ ap (map (packed_step gs)) (sym (step-forms model.steps.items)))
     (erased-all c.in_ok-initial.initial.values.items ∙ c.in_ok-initial.ensures
     ∙ initial-same m gs (terms_of model.initial.values.items) (sym (erased-all model.initial.values.items)))

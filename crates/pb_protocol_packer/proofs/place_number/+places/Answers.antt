@@ -3,7 +3,7 @@ use Rattle.std.specs.Prelude.{codes}
 use Rattle.pb_text_tree.specs.declared.term.Argument.{Argument}
 use Rattle.pb_text_meaning.specs.Syntax.{same_name}
 use Rattle.pb_protocol_packing.specs.Numbers.{place_of, place_number}
-use Rattle.pb_protocol_packer.specs.View.{terms_of, text_of, texts_of, chosen_place}
+use Rattle.pb_protocol_packer.specs.View.{terms_of, name_bytes, texts_of, chosen_place}
 use Rattle.pb_protocol_packer.proofs.Nodes.{at-application, says-so}
 use Rattle.pb_protocol_packer.proofs.Tokens.{alone, alone-computed, chain-as, computed-as, place-choice, place-no-choice}
 use Rattle.pb_protocol_packer.proofs.place_number.+places.Goals as goal
@@ -47,7 +47,7 @@ place_number-returns-then-len-ne3 t c =
     let is = at-application f v v.items c.args.term.now c.in-Application.is refl in
     let other : length v.items ≡ 3 → ⊥ = λ e. omega (arith, e, c.if-len-ne3.true, c.len.ensures, v.ok.0) in
     says-so c.place_of-then-len-ne3.result _ _
-    (ap (place_of 0 (texts_of c.args.enumerators.now)) is ∙ place-no-choice (texts_of c.args.enumerators.now) (text_of f) v.items (inr other)
+    (ap (place_of 0 (texts_of c.args.enumerators.now)) is ∙ place-no-choice (texts_of c.args.enumerators.now) (name_bytes f) v.items (inr other)
     ∙ ap (place_number (texts_of c.args.enumerators.now)) (sym is))
     c.place_of-then-len-ne3.ensures
 
@@ -55,10 +55,10 @@ pub place_number-returns-else-len-ne3 : goal.place_number-returns-else-len-ne3
 place_number-returns-else-len-ne3 t c =
     let f = c.in-Application.function in
     let v = c.in-Application.arguments in
-    let chooses : same_name (text_of f) (codes "if") ≡ true = sym c.is_choice.ensures ∙ c.if-not-is_choice.false in
+    let chooses : same_name (name_bytes f) (codes "if") ≡ true = sym c.is_choice.ensures ∙ c.if-not-is_choice.false in
     let three : length v.items ≡ 3 = omega (arith, c.if-len-ne3.false, c.len.ensures, v.ok.0) in
     says-so c.chosen_place.result _ _
     (ap (λ (xs : List Argument). chosen_place (texts_of c.args.enumerators.now) (terms_of xs)) c.deref-in-Application.ensures.value
-    ∙ place-choice (texts_of c.args.enumerators.now) (text_of f) v.items chooses three
+    ∙ place-choice (texts_of c.args.enumerators.now) (name_bytes f) v.items chooses three
     ∙ ap (place_number (texts_of c.args.enumerators.now)) (sym (at-application f v v.items c.args.term.now c.in-Application.is refl)))
     c.chosen_place.ensures

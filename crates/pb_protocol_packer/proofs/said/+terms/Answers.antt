@@ -8,7 +8,7 @@ use Rattle.pb_text_tree.specs.Form.{Named}
 use Rattle.pb_text_meaning.specs.Syntax.{Operator, Term}
 use Rattle.pb_text_meaning.specs.Erase.{of_connective, of_arithmetic, of_comparison}
 use Rattle.pb_protocol_packing.specs.Said.{Digit, compared, digit_in, said, all_said}
-use Rattle.pb_protocol_packer.specs.View.{term_of, text_of, operand_of, operands_of, operation_of, operations_of, terms_of, joined_terms, calculated_terms}
+use Rattle.pb_protocol_packer.specs.View.{term_of, name_bytes, operand_of, operands_of, operation_of, operations_of, terms_of, joined_terms, calculated_terms}
 use Rattle.pb_protocol_packer.specs.Scopes.{operation_said, scope_in}
 use Rattle.pb_protocol_packer.proofs.Nodes.{at-chain, at-arithmetic, at-application, says-so}
 use Rattle.pb_protocol_packer.proofs.SaidNodes.{said-joined, said-calculated, terms_behind, terms-behind-none}
@@ -46,7 +46,7 @@ said-returns-in_ok-arguments-in-Application t c =
     let xs = c.deref-in-Application.result.now in
     c.application.ensures
     ∙ ap (λ (f : Named). Term.Apply f.text (terms_of c.in_ok-arguments-in-Application.arguments.items)) c.in_ok-function-in-Application.ensures
-    ∙ ap (Term.Apply (text_of c.in-Application.function)) c.in_ok-arguments-in-Application.ensures
+    ∙ ap (Term.Apply (name_bytes c.in-Application.function)) c.in_ok-arguments-in-Application.ensures
     ∙ ap (said σ) (sym (at-application c.in-Application.function c.in-Application.arguments xs c.args.term.now c.in-Application.is c.deref-in-Application.ensures.value))
 
 abbrev with_operator : Operator → Term → Operator × Term

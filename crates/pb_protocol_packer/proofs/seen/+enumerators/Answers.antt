@@ -1,6 +1,6 @@
 use Rattle.std.proofs.Common.{◌∙◌, ap, sym, false, refl}
 use Rattle.pb_protocol_packing.specs.Numbers.{is_enumerator}
-use Rattle.pb_protocol_packer.specs.View.{text_of, texts_of}
+use Rattle.pb_protocol_packer.specs.View.{name_bytes, texts_of}
 use Rattle.pb_protocol_packer.proofs.Nodes.{at-application}
 use Rattle.pb_protocol_packer.proofs.Tokens.{alone, alone-computed, chain-as, computed-as, not-three, enumerator-choice}
 use Rattle.pb_protocol_packer.proofs.seen.+enumerators.Goals as goal
@@ -37,7 +37,7 @@ are_enumerators-returns-then-arguments-ne3 t c = not-three (is_enumerator (texts
 
 pub is_enumerator-returns-else-not-is_choice : goal.is_enumerator-returns-else-not-is_choice
 is_enumerator-returns-else-not-is_choice t c =
-    let f = text_of c.in-Application.function in
+    let f = name_bytes c.in-Application.function in
     let xs = c.deref-in-Application.result.now in
     let es = texts_of c.args.enumerators.now in
     c.are_enumerators.ensures ∙ enumerator-choice es f xs (sym c.is_choice.ensures ∙ c.if-not-is_choice.false)

@@ -1,6 +1,6 @@
 use Rattle.std.proofs.Common.{◌∙◌, ap, sym}
 use Rattle.pb_protocol_packing.specs.Numbers.{is_truth}
-use Rattle.pb_protocol_packer.specs.View.{text_of}
+use Rattle.pb_protocol_packer.specs.View.{name_bytes}
 use Rattle.pb_protocol_packer.proofs.Nodes.{at-application}
 use Rattle.pb_protocol_packer.proofs.Tokens.{alone, alone-computed, several, several-computed, not-three, truth-choice}
 use Rattle.pb_protocol_packer.proofs.seen.+truths.Goals as goal
@@ -34,7 +34,7 @@ are_truths-returns-then-arguments-ne3 t c = not-three is_truth c.args.arguments.
 
 pub is_truth-returns-else-not-is_choice : goal.is_truth-returns-else-not-is_choice
 is_truth-returns-else-not-is_choice t c =
-    let f = text_of c.in-Application.function in
+    let f = name_bytes c.in-Application.function in
     let xs = c.deref-in-Application.result.now in
     c.are_truths.ensures ∙ truth-choice f xs (sym c.is_choice.ensures ∙ c.if-not-is_choice.false)
     ∙ ap is_truth (sym (at-application c.in-Application.function c.in-Application.arguments xs c.args.term.now c.in-Application.is c.deref-in-Application.ensures.value))

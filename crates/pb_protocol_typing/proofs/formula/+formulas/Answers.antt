@@ -3,7 +3,7 @@ use Rattle.std.specs.Prelude.{box_value}
 use Rattle.pb_typing.specs.View.{is_positive}
 use Rattle.pb_protocol_tree.specs.declared.formula.Formula.{Formula}
 use Rattle.pb_protocol_tree.specs.Form.{formula_form}
-use Rattle.pb_protocol_typing.specs.Fault.{or_else}
+use Rattle.pb_protocol_typing.specs.Fault.{either_fault}
 use Rattle.pb_protocol_typing.specs.FormulaLinks.{operands_fault}
 use Rattle.pb_protocol_typing.specs.Formulas.{formula_fault}
 use Rattle.pb_protocol_typing.specs.View.{scope_of, shapes_in}
@@ -34,7 +34,7 @@ next_operand : (t : ℕ) (c : operands_fault-After-operand_polarity-of_link t) �
     let s = scope_of c.args.scope.now in
     let even = is_positive c.args.polarity in
     operands_fault steps s c.args.connective even c.args.links.now
-    ≡ or_else (formula_fault steps s (is_positive c.operand_polarity-of_link.result) (formula_form c.index-links-index.result.operand))
+    ≡ either_fault (formula_fault steps s (is_positive c.operand_polarity-of_link.result) (formula_form c.index-links-index.result.operand))
     (operands_fault steps s c.args.connective even (drop (c.loop-index.index + 1) c.args.links.now))
 next_operand t c =
     let links = c.args.links.now in

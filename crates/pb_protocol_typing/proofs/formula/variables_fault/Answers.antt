@@ -1,7 +1,7 @@
 use Rattle.std.proofs.Common.{◌≡◌, ◌+◌, ◌∙◌, List, drop, map, sym, ap}
 use Rattle.pb_text_tree.specs.declared.name.Name.{Name}
 use Rattle.pb_text_tree.specs.Form.{named, variable_forms}
-use Rattle.pb_protocol_typing.specs.Fault.{first_fault, or_else}
+use Rattle.pb_protocol_typing.specs.Fault.{first_fault, either_fault}
 use Rattle.pb_protocol_typing.specs.Formulas.{hidden_fault, variables_fault}
 use Rattle.pb_protocol_typing.specs.View.{scope_of}
 use Rattle.pb_protocol_typing.proofs.Groups.{group-fault}
@@ -13,13 +13,13 @@ use Rattle.pb_protocol_typing.proofs.formula.variables_fault.Goals.{After-deref}
 next : (c : After-deref) →
     let s = scope_of c.args.scope.now in
     let rest = variables_fault s (variable_forms (drop (c.loop-group.group-index + 1) c.args.groups.now)) in
-    variables_fault s (variable_forms c.args.groups.now) ≡ or_else (first_fault (hidden_fault s) (map named c.deref.result.now)) rest
+    variables_fault s (variable_forms c.args.groups.now) ≡ either_fault (first_fault (hidden_fault s) (map named c.deref.result.now)) rest
 next c =
     let s = scope_of c.args.scope.now in
     let rest = variables_fault s (variable_forms (drop (c.loop-group.group-index + 1) c.args.groups.now)) in
     c.loop-group.invariant
     ∙ (group-fault s c.args.groups.now c.loop-group.group-index c.group-item.result c.loop-group-test.true c.group-item.is
-    ∙ ap (λ (ns : List Name). or_else (first_fault (hidden_fault s) (map named ns)) rest) (sym c.deref.ensures.value))
+    ∙ ap (λ (ns : List Name). either_fault (first_fault (hidden_fault s) (map named ns)) rest) (sym c.deref.ensures.value))
 
 pub returns-in-Some : goal.returns-in-Some
 returns-in-Some c = found _ _ _ c.in-Some.fault (next (goal.at.returns-in-Some c).After-deref) c.in-Some.ensures

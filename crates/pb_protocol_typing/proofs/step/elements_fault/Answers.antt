@@ -2,7 +2,7 @@ use Rattle.std.proofs.Common.{◌≡◌, ◌+◌, ◌∙◌, drop}
 use Rattle.std.specs.List.{slice_get}
 use Rattle.pb_text_tree.specs.Form.{argument_forms, term_form}
 use Rattle.pb_typing_declarations.specs.View.{spec_of}
-use Rattle.pb_protocol_typing.specs.Fault.{or_else}
+use Rattle.pb_protocol_typing.specs.Fault.{either_fault}
 use Rattle.pb_protocol_typing.specs.Steps.{element_value_fault, elements_fault}
 use Rattle.pb_protocol_typing.specs.View.{state_forms}
 use Rattle.pb_protocol_typing.proofs.Rows.{found, left_out}
@@ -17,7 +17,7 @@ next : (c : After-index-values-index) →
     let k = c.loop-index.index in
     let e = c.index-values-index.result in
     elements_fault spec 0 ys (argument_forms c.args.values.now)
-    ≡ or_else (element_value_fault spec (slice_get ys k) e.place (term_form e.term)) (elements_fault spec (k + 1) ys (argument_forms (drop (k + 1) c.args.values.now)))
+    ≡ either_fault (element_value_fault spec (slice_get ys k) e.place (term_form e.term)) (elements_fault spec (k + 1) ys (argument_forms (drop (k + 1) c.args.values.now)))
 next c =
     c.loop-index.invariant
     ∙ element-next (spec_of c.args.declarations.now) (state_forms c.args.entries.now) c.args.values.now

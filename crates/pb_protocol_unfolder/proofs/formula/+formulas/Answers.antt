@@ -19,7 +19,7 @@ use Rattle.pb_protocol_unfolding.specs.Unfolding.{terms_of}
 use Rattle.pb_text_tree.specs.Form.{term_form}
 use Rattle.pb_protocol_meaning.specs.Erase.{erase, erased_formula}
 use Rattle.pb_protocol_unfolder_steps.specs.declared.unfolder.Unfolder.{Unfolder}
-use Rattle.pb_protocol_unfolder_steps.specs.Unfolder.{form_in, protocol_in, scope_in}
+use Rattle.pb_protocol_unfolder_steps.specs.Unfolder.{form_in, protocol_in, scope_within}
 use Rattle.pb_protocol_unfolder.specs.declared.fault.UnfoldingFault.{UnfoldingFault}
 use Rattle.pb_protocol_unfolder.specs.declared.formula.Copies.{Copies}
 use Rattle.pb_protocol_unfolder.specs.Copies.{copy_operators, link_operators, tuples_in}
@@ -112,7 +112,7 @@ unfold_formula-returns-in_ok-new-in-Fixpoint-clause-places t c =
 -- how many operators a copy of the formula has, by its values
 abbrev counted : Unfolder → Copies → List Written → tree.Formula → ℕ
 counted u a vs g =
-    written_operators (protocol_in u) (standing (map variable_of a.variables.now) (terms_of (map written_term vs)) (scope_in u a.outer.now)) (erased_formula (formula_form g))
+    written_operators (protocol_in u) (standing (map variable_of a.variables.now) (terms_of (map written_term vs)) (scope_within u a.outer.now)) (erased_formula (formula_form g))
 
 same-counted : (u : Unfolder) (a : Copies) (vs ws : List Written) (f g : tree.Formula) → vs ≡ ws → f ≡ g → counted u a vs f ≡ counted u a ws g
 same-counted u a vs ws f g values same = ap (λ (xs : List Written). counted u a xs f) values ∙ ap (counted u a ws) same
@@ -186,7 +186,7 @@ unfold_copies-returns-in_err-take-clause-refused t c =
     let a = c.args.copies.now in
     let body = box_value c.args.body.now in
     of-many-by c.from_residual.result c.in_err-take.field-0.0 (c.loop-values.room.operators < 1) a.place
-    (IsFaultOfCopies (form_in u) (c.args.room.now.operators < sum_by (copy_operators u a body) a.tuples.now) (scope_in u a.outer.now) a.place (map variable_of a.variables.now)
+    (IsFaultOfCopies (form_in u) (c.args.room.now.operators < sum_by (copy_operators u a body) a.tuples.now) (scope_within u a.outer.now) a.place (map variable_of a.variables.now)
     (map tuple_of a.tuples.now) (formula_form body)) c.from_residual.ensures.1
     (λ f o. inl (item-over (copy_operators u a body) _ _ _ _ _ c.loop-values-test.true c.values-item.is c.loop-values.invariant.room (one-over _ _ o.0), o.1))
     c.in_err-take.ensures.refused
@@ -196,7 +196,7 @@ unfold_copies-returns-in_err-unfold_formula-clause-refused t c =
     let u = c.args.formulas.now.unfolder.now in
     let a = c.args.copies.now in
     let m = form_in u in
-    let ρ = scope_in u a.outer.now in
+    let ρ = scope_within u a.outer.now in
     let xs = map variable_of a.variables.now in
     let ks = c.values-item.result in
     let whole = box_value c.args.body.now in
@@ -222,7 +222,7 @@ unfold_links-returns-in_err-take-clause-refused t c =
     let s = c.args.scope.now in
     let l = c.link-item.result in
     of-many-by c.from_residual.result c.in_err-take.field-0.0 (c.loop-link.room.operators < 1) l.place
-    (IsFaultOfLinks (form_in u) (c.args.room.now.operators < sum_by (link_operators u s) c.args.links.now) (scope_in u s) c.args.links.now) c.from_residual.ensures.1
+    (IsFaultOfLinks (form_in u) (c.args.room.now.operators < sum_by (link_operators u s) c.args.links.now) (scope_within u s) c.args.links.now) c.from_residual.ensures.1
     (λ f o. (
       l,
       item-in c.args.links.now c.loop-link.link-index l c.loop-link-test.true c.link-item.is,
@@ -235,14 +235,14 @@ unfold_links-returns-in_err-operand-clause-refused t c =
     let s = c.args.scope.now in
     let l = c.link-item.result in
     let Many = c.args.room.now.operators < sum_by (link_operators u s) c.args.links.now in
-    part-of c.from_residual-in_err-operand.result c.in_err-operand.field-0.0 _ (IsFaultOfLinks (form_in u) Many (scope_in u s) c.args.links.now) c.from_residual-in_err-operand.ensures.1
+    part-of c.from_residual-in_err-operand.result c.in_err-operand.field-0.0 _ (IsFaultOfLinks (form_in u) Many (scope_within u s) c.args.links.now) c.from_residual-in_err-operand.ensures.1
     c.in_err-operand.ensures.refused
     (λ p is. (
       l,
       item-in c.args.links.now c.loop-link.link-index l c.loop-link-test.true c.link-item.is,
       inr (fault-so (form_in u) (c.take.new.self.operators < left_operators u s (formula_form l.operand)) Many
           (λ h. item-over (link_operators u s) _ _ _ _ _ c.loop-link-test.true c.link-item.is c.loop-link.invariant.room (more-over _ _ _ _ c.in_ok-take.ensures.taken refl h))
-          p (scope_in u s) (formula_form l.operand) is),
+          p (scope_within u s) (formula_form l.operand) is),
     ))
 
 pub unfold_formula-returns-in-Data-clause-refused : goal.unfold_formula-returns-in-Data-clause-refused
@@ -250,7 +250,7 @@ unfold_formula-returns-in-Data-clause-refused t c =
     let u = c.args.formulas.now.unfolder.now in
     let m = form_in u in
     let s = c.args.scope.now in
-    let fault : FormulaForm → UnfoldingFault → Type 0 = λ g. IsFaultOfFormula m (c.args.room.now.operators < left_operators u s g) (scope_in u s) g in
+    let fault : FormulaForm → UnfoldingFault → Type 0 = λ g. IsFaultOfFormula m (c.args.room.now.operators < left_operators u s g) (scope_within u s) g in
     part-by-so (fault (FormulaForm.«data» c.in-Data.place (term_form c.in-Data.term))) (fault (formula_form c.args.formula.now)) c.unfold_data.result
     (λ f is. subst (λ (g : tree.Formula). fault (formula_form g) f) (sym c.in-Data.is) is) (c.unfold_data.ensures.refused c.requires.scope)
 
@@ -275,7 +275,7 @@ unfold_formula-returns-in_err-first-in-Chain-clause-refused t c =
 pub unfold_formula-returns-in_err-links-in-Chain-clause-refused : goal.unfold_formula-returns-in_err-links-in-Chain-clause-refused
 unfold_formula-returns-in_err-links-in-Chain-clause-refused t c =
     let m = form_in c.args.formulas.now.unfolder.now in
-    let ρ = scope_in c.args.formulas.now.unfolder.now c.args.scope.now in
+    let ρ = scope_within c.args.formulas.now.unfolder.now c.args.scope.now in
     let parts = chain-parts c.args.formulas.now.unfolder.now c.args.scope.now c.args.room.now.operators _ _ _ _ _ _ c.in-Chain.is c.deref-in-Chain.ensures c.deref-in-Chain-2.ensures.value in
     part-of c.from_residual-in_err-links-in-Chain.result c.in_err-links-in-Chain.field-0.0 _ _ c.from_residual-in_err-links-in-Chain.ensures.1 c.in_err-links-in-Chain.ensures.refused
     (λ p is. parts.second p (links-so m _ _ (rest-over _ _ _ _ _ c.in_ok-first-in-Chain.ensures.room parts.counted) p ρ c.deref-in-Chain-2.result.now is))
@@ -290,7 +290,7 @@ unfold_formula-returns-in_err-take-in-Modal-clause-refused t c =
 pub unfold_formula-returns-in_err-steps-in-Modal-clause-refused : goal.unfold_formula-returns-in_err-steps-in-Modal-clause-refused
 unfold_formula-returns-in_err-steps-in-Modal-clause-refused t c =
     let m = erase (form_in c.args.formulas.now.unfolder.now) in
-    let ρ = scope_in c.args.formulas.now.unfolder.now c.args.scope.now in
+    let ρ = scope_within c.args.formulas.now.unfolder.now c.args.scope.now in
     let parts = modal-parts c.args.formulas.now.unfolder.now c.args.scope.now c.args.room.now.operators _ _ _ _ _ _ c.in-Modal.is refl in
     part-of c.from_residual-in_err-steps-in-Modal.result c.in_err-steps-in-Modal.field-0.0 _ _ c.from_residual-in_err-steps-in-Modal.ensures.1 c.in_err-steps-in-Modal.ensures.refused
     (λ p is. parts.first p (modality-so m _ _ (set-over _ _ _ _ _ c.in_ok-take-in-Modal.ensures.taken parts.counted) p ρ c.in-Modal.place (step_set_form c.in-Modal.steps) is))
@@ -339,11 +339,11 @@ unfold_formula-returns-in_err-operands-in-Quantified-clause-refused t c =
     let Many = c.args.room.now.operators < operators_in u c.args.scope.now c.args.formula.now in
     let IsFault = IsFaultWithin u c.args.scope.now c.args.room.now.operators c.args.formula.now in
     let IsOfCopies : List syntax.Variable → List (List syntax.Term) → UnfoldingFault → Type 0 =
-    λ xs kss. IsFaultOfCopies (form_in u) Many (scope_in u c.args.scope.now) place xs kss (formula_form body) in
+    λ xs kss. IsFaultOfCopies (form_in u) Many (scope_within u c.args.scope.now) place xs kss (formula_form body) in
     part-of c.from_residual-in_err-operands-in-Quantified.result c.in_err-operands-in-Quantified.field-0.0 _ (IsFault c.args.formula.now) c.from_residual-in_err-operands-in-Quantified.ensures.1
     c.in_err-operands-in-Quantified.ensures.refused
     (λ p is. subst (λ (g : tree.Formula). IsFault g p) (sym c.in-Quantified.is)
     (inr (subst (λ (xs : List syntax.Variable). IsOfCopies xs (tuples_in u (erased_variables groups)) p) are.variables
     (subst (λ (kss : List (List syntax.Term)). IsOfCopies (map variable_of made.variables.now) kss p) are.tuples
-    (copies-so (form_in u) _ Many (same-over _ _ _ whole) p (scope_in u c.args.scope.now) place (map variable_of made.variables.now) (map tuple_of c.deref-in-Quantified-4.result.now)
+    (copies-so (form_in u) _ Many (same-over _ _ _ whole) p (scope_within u c.args.scope.now) place (map variable_of made.variables.now) (map tuple_of c.deref-in-Quantified-4.result.now)
     (formula_form body) is)))))

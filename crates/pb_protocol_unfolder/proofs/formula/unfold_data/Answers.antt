@@ -6,7 +6,7 @@ use Rattle.pb_protocol_unfolder_terms.specs.TermFaults.{IsFaultInTerm, surroundi
 use Rattle.pb_protocol_unfolder_terms.specs.Unfolding.{operator_count}
 use Rattle.pb_protocol_unfolder_steps.specs.StepFaults.{OnTerm}
 use Rattle.pb_protocol_unfolder_steps.specs.Refusals.{IsTermOr}
-use Rattle.pb_protocol_unfolder_steps.specs.Unfolder.{form_in, scope_in}
+use Rattle.pb_protocol_unfolder_steps.specs.Unfolder.{form_in, scope_within}
 use Rattle.pb_protocol_unfolder.specs.Faults.{IsFaultOfFormula, OfTerm}
 use Rattle.pb_protocol_unfolder.specs.Left.{left_operators}
 use Rattle.pb_protocol_unfolder.specs.Parts.{IsFaultBy}
@@ -18,7 +18,7 @@ use Rattle.pb_protocol_unfolder.proofs.formula.unfold_data.Goals as goal
 pub returns-in-Err-clause-refused : goal.returns-in-Err-clause-refused
 returns-in-Err-clause-refused c =
     let m = form_in c.args.formulas.now.unfolder.now in
-    let ρ = scope_in c.args.formulas.now.unfolder.now c.args.scope.now in
+    let ρ = scope_within c.args.formulas.now.unfolder.now c.args.scope.now in
     let x = term_form c.args.term.now in
     let Many = c.args.room.now.operators < left_operators c.args.formulas.now.unfolder.now c.args.scope.now (FormulaForm.«data» c.args.place x) in
     let P = IsFaultInTerm (surroundings_of m) ρ x in
@@ -35,6 +35,6 @@ returns-in_err-take_term-in-Ok-clause-refused c =
     let u = c.args.formulas.now.unfolder.now in
     let whole = FormulaForm.«data» c.args.place (term_form c.args.term.now) in
     let Many = c.args.room.now.operators < left_operators u c.args.scope.now whole in
-    let Q = IsFaultOfFormula (form_in u) Many (scope_in u c.args.scope.now) whole in
+    let Q = IsFaultOfFormula (form_in u) Many (scope_within u c.args.scope.now) whole in
     λ v. of-many-by c.from_residual.result c.in_err-take_term-in-Ok.field-0.0 (c.args.room.now.operators < operator_count (tree.term_of c.in-Ok.term)) c.args.place Q c.from_residual.ensures.1
     (λ f o. inr (same-over _ _ _ (ap operator_count c.in-Ok.ensures.term) o.0, o.1)) c.in_err-take_term-in-Ok.ensures.refused

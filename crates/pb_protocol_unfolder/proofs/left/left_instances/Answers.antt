@@ -2,15 +2,15 @@ use Rattle.std.proofs.Common.{◌≡◌, ◌∙◌, ◌++◌, ◌<◌, ℕ, zero
 use Rattle.pb_protocol_unfolding.specs.Unfolding.{Instance}
 use Rattle.pb_protocol_unfolder_steps.specs.declared.instance.Instance as declared_instance
 use Rattle.pb_protocol_unfolder_steps.specs.Elements.{instance_said}
-use Rattle.pb_protocol_unfolder.specs.Unfolded.{chosen}
+use Rattle.pb_protocol_unfolder.specs.Unfolded.{chosen_instances}
 use Rattle.pb_protocol_unfolder.proofs.left.left_instances.Goals as goal
 
-chosen-none : (is : List Instance) → chosen is [] ≡ []
+chosen-none : (is : List Instance) → chosen_instances is [] ≡ []
 chosen-none [] = refl
 chosen-none (i ∷ is) = refl
 
 -- past the end of one of them
-chosen-end : (is : List declared_instance.Instance) (bs : List Bool) (p : ℕ) → ((q : ℕ) → q < length is → q < length bs → q < p) → chosen (map instance_said (drop p is)) (drop p bs) ≡ []
+chosen-end : (is : List declared_instance.Instance) (bs : List Bool) (p : ℕ) → ((q : ℕ) → q < length is → q < length bs → q < p) → chosen_instances (map instance_said (drop p is)) (drop p bs) ≡ []
 chosen-end [] bs zero past = refl
 chosen-end [] bs (suc p) past = refl
 chosen-end (i ∷ is) [] zero past = refl

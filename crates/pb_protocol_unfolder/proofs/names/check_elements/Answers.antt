@@ -6,7 +6,7 @@ use Rattle.pb_text_meaning.specs.Syntax.{Name}
 use Rattle.pb_protocol_folding.specs.Names.{AreDistinct, AreNot, enumerators_in}
 use Rattle.pb_protocol_unfolding.specs.Unfolding.{name_of}
 use Rattle.pb_protocol_unfolder_steps.specs.declared.element.Element.{Element}
-use Rattle.pb_protocol_unfolder_steps.specs.Elements.{element_said}
+use Rattle.pb_protocol_unfolder_steps.specs.Elements.{flat_element}
 use Rattle.pb_protocol_unfolder_steps.specs.Refusals.{element_place}
 use Rattle.pb_protocol_unfolder.specs.declared.fault.UnfoldingFault.{UnfoldingFault}
 use Rattle.pb_protocol_unfolder.specs.Apart.{IsTakenAt, RepeatsAt, declarations_said, name_bytes}
@@ -28,15 +28,15 @@ taken c =
 
 pub bounds-elements-index : goal.bounds-elements-index
 bounds-elements-index c =
-    within name_of element_said c.args.elements.now (map name_bytes c.in_ok-names.names.items) c.in-Some.index c.in_ok-names.ensures (repeats (goal.at.bounds-elements-index c).In-Some).0
+    within name_of flat_element c.args.elements.now (map name_bytes c.in_ok-names.names.items) c.in-Some.index c.in_ok-names.ensures (repeats (goal.at.bounds-elements-index c).In-Some).0
 
 pub returns-in-Some-clause-refused : goal.returns-in-Some-clause-refused
 returns-in-Some-clause-refused c =
     let es = c.args.elements.now in
-    let names = map name_of (map element_said es) in
+    let names = map name_of (map flat_element es) in
     let others = enumerators_in (declarations_said c.args.declarations.now) in
     let again = repeats (goal.at.returns-in-Some-clause-refused c).In-Some in
-    let low = within name_of element_said es _ c.in-Some.index c.in_ok-names.ensures again.0 in
+    let low = within name_of flat_element es _ c.in-Some.index c.in_ok-names.ensures again.0 in
     subst (λ (e : OrMemory UnfoldingFault). IfFault e (IsFaultOfElements others names (map element_place es))) (sym c.refused.ensures) (
       refl,
       subst (λ (y : Element). IsElementClash others names (map element_place es) (element_place y))
@@ -46,16 +46,16 @@ returns-in-Some-clause-refused c =
 
 pub bounds-elements-index-in-Some-first_taken : goal.bounds-elements-index-in-Some-first_taken
 bounds-elements-index-in-Some-first_taken c =
-    within name_of element_said c.args.elements.now (map name_bytes c.in_ok-names.names.items) c.in-Some-first_taken.index c.in_ok-names.ensures
+    within name_of flat_element c.args.elements.now (map name_bytes c.in_ok-names.names.items) c.in-Some-first_taken.index c.in_ok-names.ensures
     (taken (goal.at.bounds-elements-index-in-Some-first_taken c).In-Some-first_taken).0
 
 pub returns-in-Some-first_taken-clause-refused : goal.returns-in-Some-first_taken-clause-refused
 returns-in-Some-first_taken-clause-refused c =
     let es = c.args.elements.now in
-    let names = map name_of (map element_said es) in
+    let names = map name_of (map flat_element es) in
     let others = enumerators_in (declarations_said c.args.declarations.now) in
     let clash = taken (goal.at.returns-in-Some-first_taken-clause-refused c).In-Some-first_taken in
-    let low = within name_of element_said es _ c.in-Some-first_taken.index c.in_ok-names.ensures clash.0 in
+    let low = within name_of flat_element es _ c.in-Some-first_taken.index c.in_ok-names.ensures clash.0 in
     subst (λ (e : OrMemory UnfoldingFault). IfFault e (IsFaultOfElements others names (map element_place es))) (sym c.refused-in-Some-first_taken.ensures) (
       refl,
       subst (λ (y : Element). IsElementClash others names (map element_place es) (element_place y))

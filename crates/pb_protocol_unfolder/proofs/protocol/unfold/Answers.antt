@@ -8,11 +8,11 @@ use Rattle.pb_protocol_unfolding.specs.Unfolding as definitions
 use Rattle.pb_protocol_unfolding.specs.Unfolding.{name_of}
 use Rattle.pb_protocol_unfolder_steps.specs.declared.instance.Instance as declared
 use Rattle.pb_protocol_unfolder_steps.specs.declared.element.Element as declared_element
-use Rattle.pb_protocol_unfolder_steps.specs.Elements.{element_said, instance_said}
+use Rattle.pb_protocol_unfolder_steps.specs.Elements.{flat_element, instance_said}
 use Rattle.pb_protocol_unfolder_steps.specs.Refusals.{element_place, instance_place}
 use Rattle.pb_protocol_unfolder_steps.specs.Steps.{is_kept}
 use Rattle.pb_protocol_tree.specs.Form.{ProtocolForm}
-use Rattle.pb_protocol_unfolder_steps.specs.StepFaults.{IsFaultInSteps, PlacedInstance, instance_form, placed_instances}
+use Rattle.pb_protocol_unfolder_steps.specs.StepFaults.{IsFaultInSteps, PlacedInstance, placed_instance, placed_instances}
 use Rattle.pb_protocol_unfolder_steps.specs.Unfolder.{form_in, protocol_in}
 use Rattle.pb_protocol_unfolder.specs.Apart.{declarations_said}
 use Rattle.pb_protocol_unfolder.specs.Faults.{IsUnfoldingFault, OfTerm}
@@ -49,12 +49,12 @@ pub returns-in_err-check_elements-clause-refused : goal.returns-in_err-check_ele
 returns-in_err-check_elements-clause-refused c =
     let m = protocol_form c.args.protocol.now in
     let others = enumerators_in (declarations_said c.deref.result.now) in
-    let names = map name_of (map element_said c.deref-2.result.now) in
+    let names = map name_of (map flat_element c.deref-2.result.now) in
     let places = map element_place c.deref-2.result.now in
     refused c.from_residual-in_err-check_elements.result c.in_err-check_elements.field-0.0 (IsFaultOfElements others names places) (IsUnfoldingFault m) c.from_residual-in_err-check_elements.ensures.1
     (elements-clash m others names places
     (ap (λ (ds : List SortDeclaration). enumerators_in (declarations_said ds)) c.deref.ensures.value)
-    (ap (map name_of) (ap (λ (es : List declared_element.Element). map element_said es) c.deref-2.ensures.value ∙ c.in_ok-elements.ensures.elements))
+    (ap (map name_of) (ap (λ (es : List declared_element.Element). map flat_element es) c.deref-2.ensures.value ∙ c.in_ok-elements.ensures.elements))
     (ap (λ (es : List declared_element.Element). map element_place es) c.deref-2.ensures.value ∙ c.in_ok-elements.ensures.places))
     c.in_err-check_elements.ensures.refused
 
@@ -73,8 +73,8 @@ pub returns-in_err-steps-clause-refused : goal.returns-in_err-steps-clause-refus
 returns-in_err-steps-clause-refused c =
     let m = protocol_form c.args.protocol.now in
     let F = form_in c.in_ok-unfolder.unfolder in
-    let is = map instance_form c.deref-5.result.now in
-    let steps : is ≡ placed_instances m = ap (map instance_form) c.deref-5.ensures.value ∙ c.in_ok-instances.ensures.forms in
+    let is = map placed_instance c.deref-5.result.now in
+    let steps : is ≡ placed_instances m = ap (map placed_instance) c.deref-5.ensures.value ∙ c.in_ok-instances.ensures.forms in
     let P = IsFaultInSteps F is in
     refused c.from_residual-in_err-steps.result c.in_err-steps.field-0.0 (IsFaultBy (OfTerm P)) (IsUnfoldingFault m) c.from_residual-in_err-steps.ensures.1
     (term-breaks m P

@@ -5,7 +5,7 @@ use Rattle.pb_text_tree.specs.declared.place.Place.{Place}
 use Rattle.pb_protocol_tree.specs.declared.step_set.StepSet.{StepSet}
 use Rattle.pb_protocol_tree.specs.Form.{step_set_form}
 use Rattle.pb_protocol_unfolder_steps.specs.Elements.{instance_said}
-use Rattle.pb_protocol_unfolder_steps.specs.Unfolder.{protocol_in, scope_in}
+use Rattle.pb_protocol_unfolder_steps.specs.Unfolder.{protocol_in, scope_within}
 use Rattle.pb_protocol_unfolder.specs.Faults.{IsFaultOfSet}
 use Rattle.pb_protocol_unfolder.specs.Parts.{IsFaultOfSets}
 use Rattle.pb_protocol_unfolder.specs.Values.{is_member}
@@ -42,7 +42,7 @@ is_in_set-returns-else-branch-clause-member t c =
 pub is_in_some-returns-in_err-is_in_set-clause-refused : goal.is_in_some-returns-in_err-is_in_set-clause-refused
 is_in_some-returns-in_err-is_in_set-clause-refused t c =
     let m = protocol_in c.args.unfolder.now in
-    let ρ = scope_in c.args.unfolder.now c.args.scope.now in
+    let ρ = scope_within c.args.unfolder.now c.args.scope.now in
     let own = (instance_said c.args.instance.now).own in
     let ls = c.args.links.now in
     let l = c.link-item.result in
@@ -52,7 +52,7 @@ is_in_some-returns-in_err-is_in_set-clause-refused t c =
 pub is_in_set-returns-in_err-is_in-in-Complement-clause-refused : goal.is_in_set-returns-in_err-is_in-in-Complement-clause-refused
 is_in_set-returns-in_err-is_in-in-Complement-clause-refused t c =
     let fault : StepSet → Place → Type 0 =
-    λ A. IsFaultOfSet (protocol_in c.args.unfolder.now) (scope_in c.args.unfolder.now c.args.scope.now)
+    λ A. IsFaultOfSet (protocol_in c.args.unfolder.now) (scope_within c.args.unfolder.now c.args.scope.now)
     (instance_said c.args.instance.now).own (step_set_form A) in
     part c.from_residual.result c.in_err-is_in-in-Complement.field-0.0 (fault c.deref-in-Complement.result.now) (fault c.args.set.now) c.from_residual.ensures.1
     (λ p is. subst (λ (A : StepSet). fault A p) (sym c.in-Complement.is) (subst (λ (A : StepSet). fault A p) c.deref-in-Complement.ensures is)) c.in_err-is_in-in-Complement.ensures.refused
@@ -60,7 +60,7 @@ is_in_set-returns-in_err-is_in-in-Complement-clause-refused t c =
 pub is_in_set-returns-in_err-is_in_set-in-Union-clause-refused : goal.is_in_set-returns-in_err-is_in_set-in-Union-clause-refused
 is_in_set-returns-in_err-is_in_set-in-Union-clause-refused t c =
     let m = protocol_in c.args.unfolder.now in
-    let ρ = scope_in c.args.unfolder.now c.args.scope.now in
+    let ρ = scope_within c.args.unfolder.now c.args.scope.now in
     let own = (instance_said c.args.instance.now).own in
     let x = c.deref-in-Union.result.now in
     let A = c.args.set.now in
@@ -72,7 +72,7 @@ is_in_set-returns-in_err-is_in_set-in-Union-clause-refused t c =
 pub is_in_set-returns-else-branch-clause-refused : goal.is_in_set-returns-else-branch-clause-refused
 is_in_set-returns-else-branch-clause-refused t c =
     let m = protocol_in c.args.unfolder.now in
-    let ρ = scope_in c.args.unfolder.now c.args.scope.now in
+    let ρ = scope_within c.args.unfolder.now c.args.scope.now in
     let own = (instance_said c.args.instance.now).own in
     let x = c.deref-in-Union.result.now in
     let ls = c.deref-in-Union-2.result.now in

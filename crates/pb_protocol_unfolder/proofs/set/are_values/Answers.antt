@@ -1,7 +1,7 @@
 use Rattle.std.proofs.Common.{◌∙◌, ◌<◌, refl, arith, length, map, [], ◌∷◌}
 use Rattle.pb_protocol_tree.specs.Form.{step_value_form}
 use Rattle.pb_protocol_unfolder_terms.specs.Values.{written_term}
-use Rattle.pb_protocol_unfolder_steps.specs.Unfolder.{protocol_in, scope_in}
+use Rattle.pb_protocol_unfolder_steps.specs.Unfolder.{protocol_in, scope_within}
 use Rattle.pb_protocol_unfolder.specs.Faults.{IsFaultOfValue, IsFaultOfValues}
 use Rattle.pb_protocol_unfolder.proofs.FaultLemmas.{at-item, part}
 use Rattle.pb_protocol_unfolder.proofs.ValueFaults.{own-value}
@@ -18,7 +18,7 @@ returns-clause-values c =
 pub returns-in_err-is_value-clause-refused : goal.returns-in_err-is_value-clause-refused
 returns-in_err-is_value-clause-refused c =
     let m = protocol_in c.args.unfolder.now in
-    let ρ = scope_in c.args.unfolder.now c.args.scope.now in
+    let ρ = scope_within c.args.unfolder.now c.args.scope.now in
     let named = c.args.named.now in
     let own = c.args.own.now in
     let at = c.loop-place.place in

@@ -3,7 +3,7 @@ use Rattle.pb_protocol_folding.specs.View.{term_of}
 use Rattle.pb_protocol_tree.specs.declared.step_set.StepValue.{StepValue}
 use Rattle.pb_protocol_tree.specs.Form.{step_value_form}
 use Rattle.pb_protocol_unfolder_terms.specs.Values.{written_term}
-use Rattle.pb_protocol_unfolder_steps.specs.Unfolder.{protocol_in, scope_in}
+use Rattle.pb_protocol_unfolder_steps.specs.Unfolder.{protocol_in, scope_within}
 use Rattle.pb_protocol_unfolder.specs.Faults.{HasNoValue, IsFaultOfValue, meant}
 use Rattle.pb_protocol_unfolder.specs.Parts.{IsAt}
 use Rattle.pb_protocol_unfolder.proofs.FaultLemmas.{first-in, part}
@@ -12,7 +12,7 @@ use Rattle.pb_protocol_unfolder.proofs.set.is_value.Goals as goal
 pub returns-in_err-value-in-Value-clause-refused : goal.returns-in_err-value-in-Value-clause-refused
 returns-in_err-value-in-Value-clause-refused c =
     let m = protocol_in c.args.unfolder.now in
-    let ρ = scope_in c.args.unfolder.now c.args.scope.now in
+    let ρ = scope_within c.args.unfolder.now c.args.scope.now in
     let k = written_term c.args.own in
     let a = c.in-Value.argument in
     part c.from_residual.result c.in_err-value-in-Value.field-0.0
@@ -23,7 +23,7 @@ returns-in_err-value-in-Value-clause-refused c =
 pub returns-in_err-own-in-Value-clause-refused : goal.returns-in_err-own-in-Value-clause-refused
 returns-in_err-own-in-Value-clause-refused c =
     let m = protocol_in c.args.unfolder.now in
-    let ρ = scope_in c.args.unfolder.now c.args.scope.now in
+    let ρ = scope_within c.args.unfolder.now c.args.scope.now in
     let k = written_term c.args.own in
     let a = c.in-Value.argument in
     part c.from_residual-in_err-own-in-Value.result c.in_err-own-in-Value.field-0.0 (IsAt a.place (HasNoValue m k))

@@ -1,7 +1,7 @@
 use Rattle.std.proofs.Common.{map}
 use Rattle.pb_protocol_tree.specs.Form.{step_set_form}
 use Rattle.pb_protocol_unfolder_steps.specs.Elements.{instance_said}
-use Rattle.pb_protocol_unfolder_steps.specs.Unfolder.{protocol_in, scope_in}
+use Rattle.pb_protocol_unfolder_steps.specs.Unfolder.{protocol_in, scope_within}
 use Rattle.pb_protocol_unfolder.specs.Faults.{IsFaultOfSet, IsFaultOfSteps}
 use Rattle.pb_protocol_unfolder.proofs.FaultLemmas.{at-item, part}
 use Rattle.pb_protocol_unfolder.proofs.step_set.members.Goals as goal
@@ -10,7 +10,7 @@ pub returns-in_err-push_member-clause-refused : goal.returns-in_err-push_member-
 returns-in_err-push_member-clause-refused c =
     let u = c.args.formulas.now.unfolder.now in
     let m = protocol_in u in
-    let ρ = scope_in u c.args.scope.now in
+    let ρ = scope_within u c.args.scope.now in
     let left = c.args.formulas.now.left.now in
     let A = step_set_form c.args.set.now in
     let x = c.instance-item.result in

@@ -5,7 +5,7 @@ use Rattle.pb_protocol_tree.specs.Form.{step_set_form}
 use Rattle.pb_protocol_unfolding.specs.Unfolding.{Instance, instances, named_steps}
 use Rattle.pb_protocol_unfolder_steps.specs.Elements.{instance_said}
 use Rattle.pb_protocol_unfolder_steps.specs.Steps.{is_kept}
-use Rattle.pb_protocol_unfolder_steps.specs.Unfolder.{protocol_in, scope_in}
+use Rattle.pb_protocol_unfolder_steps.specs.Unfolder.{protocol_in, scope_within}
 use Rattle.pb_protocol_unfolder.specs.Apart.{name_bytes}
 use Rattle.pb_protocol_unfolder.specs.Faults.{IsFaultOfSteps}
 use Rattle.pb_protocol_unfolder.specs.Left.{left_set, member_names}
@@ -48,7 +48,7 @@ pub returns-in_err-names-clause-refused : goal.returns-in_err-names-clause-refus
 returns-in_err-names-clause-refused c =
     let u = c.args.formulas.now.unfolder.now in
     let m = protocol_in u in
-    let ρ = scope_in u c.args.scope.now in
+    let ρ = scope_within u c.args.scope.now in
     let left = map instance_said c.args.formulas.now.left.now in
     let A = step_set_form c.args.set.now in
     let Many = c.args.room.now.operators < name_count (left_set u c.args.scope.now A) in
@@ -60,5 +60,5 @@ returns-in_err-take-clause-refused c =
     let u = c.args.formulas.now.unfolder.now in
     let A = step_set_form c.args.set.now in
     of-many-by c.from_residual-in_err-take.result c.in_err-take.field-0.0 (c.args.room.now.operators < c.len.result) c.args.place
-    (IsFaultOfModality (protocol_in u) (c.args.room.now.operators < name_count (left_set u c.args.scope.now A)) (scope_in u c.args.scope.now) c.args.place A) c.from_residual-in_err-take.ensures.1
+    (IsFaultOfModality (protocol_in u) (c.args.room.now.operators < name_count (left_set u c.args.scope.now A)) (scope_within u c.args.scope.now) c.args.place A) c.from_residual-in_err-take.ensures.1
     (λ f o. inl (same-over _ _ _ (many (goal.at.returns-in_err-take-clause-refused c).After-take) o.0, o.1)) c.in_err-take.ensures.refused

@@ -12,9 +12,9 @@ use Rattle.pb_protocol_unfolding.specs.PutIn as put
 use Rattle.pb_protocol_unfolding.specs.Unfolding.{valued}
 use Rattle.pb_protocol_unfolder_terms.specs.Values.{written_term}
 use Rattle.pb_protocol_unfolder_terms.specs.Contexts.{forms_by}
-use Rattle.pb_protocol_unfolder_steps.specs.Unfolder.{protocol_in, scope_in}
+use Rattle.pb_protocol_unfolder_steps.specs.Unfolder.{protocol_in, scope_within}
 use Rattle.pb_protocol_unfolder.specs.Faults.{meant}
-use Rattle.pb_protocol_unfolder.specs.Values.{named_value}
+use Rattle.pb_protocol_unfolder.specs.Values.{value_of_named}
 use Rattle.pb_protocol_unfolder.proofs.ValueLemmas.{bound-value, is_nameless, named-value}
 use Rattle.pb_protocol_unfolder.proofs.ValueFaults.{alone-refused, alone-value, meant-bound, meant-free, plain-refused, plain-value, said-so}
 use Rattle.pb_protocol_unfolder.proofs.value.+value_in_set.Goals as goal
@@ -23,12 +23,12 @@ pub returns-in-Some : goal.returns-in-Some
 returns-in-Some t c =
     let m = protocol_in c.args.unfolder.now in
     let spec = data_of m in
-    let ρ = scope_in c.args.unfolder.now c.args.scope.now in
+    let ρ = scope_within c.args.unfolder.now c.args.scope.now in
     let k = written_term c.in-Some.written in
     let x = string_bytes c.in-Name.name.text in
     let found : Some k ≡ put.term_of ρ x = c.in-Some.ensures spec (forms_by m) ∙ ap (put.term_of ρ) c.as_str.ensures.value in
     record {
-      value = IfOk-weaker c.value_of_written.result (λ (v : Value). v ≡ value spec [] k) (λ (v : Value). v ≡ named_value c.args.unfolder.now c.args.scope.now (term_of c.args.term.now))
+      value = IfOk-weaker c.value_of_written.result (λ (v : Value). v ≡ value spec [] k) (λ (v : Value). v ≡ value_of_named c.args.unfolder.now c.args.scope.now (term_of c.args.term.now))
           (λ v h. bound-value spec ρ x k v found h ∙ ap (λ (s : tree.Term). meaning spec no_functions (valued spec [] ρ) (term_of s)) (sym c.in-Name.is)) c.value_of_written.ensures.value;
       refused = said-so m c.args.place k (meant ρ (term_of c.args.term.now)) c.value_of_written.result
           (meant-bound ρ x k found ∙ ap (λ (s : tree.Term). meant ρ (term_of s)) (sym c.in-Name.is)) c.value_of_written.ensures.refused;
@@ -38,12 +38,12 @@ pub returns-in-None : goal.returns-in-None
 returns-in-None t c =
     let m = protocol_in c.args.unfolder.now in
     let spec = data_of m in
-    let ρ = scope_in c.args.unfolder.now c.args.scope.now in
+    let ρ = scope_within c.args.unfolder.now c.args.scope.now in
     let x = string_bytes c.in-Name.name.text in
     let s = term_of c.args.term.now in
     let found : None ≡ put.term_of ρ x = c.in-None.ensures spec (forms_by m) ∙ ap (put.term_of ρ) c.as_str.ensures.value in
     record {
-      value = IfOk-weaker c.plain_value.result (λ (v : Value). folding.written_value spec s ≡ Some v) (λ (v : Value). v ≡ named_value c.args.unfolder.now c.args.scope.now s)
+      value = IfOk-weaker c.plain_value.result (λ (v : Value). folding.written_value spec s ≡ Some v) (λ (v : Value). v ≡ value_of_named c.args.unfolder.now c.args.scope.now s)
           (λ v h. named-value spec ρ x v found (ap (λ (r : tree.Term). folding.written_value spec (term_of r)) (sym c.in-Name.is) ∙ h)
           ∙ ap (λ (r : tree.Term). meaning spec no_functions (valued spec [] ρ) (term_of r)) (sym c.in-Name.is)) c.plain_value.ensures.value;
       refused = said-so m c.args.place s (meant ρ s) c.plain_value.result

@@ -8,7 +8,7 @@ use Rattle.pb_protocol_unfolding.specs.Written.{written_tuples}
 use Rattle.pb_protocol_unfolder_terms.specs.View.{spec_of}
 use Rattle.pb_protocol_unfolder_terms.specs.Values.{tuple_of}
 use Rattle.pb_protocol_unfolder_steps.specs.Elements.{element_at}
-use Rattle.pb_protocol_unfolder_steps.specs.Refusals.{element_place, placed}
+use Rattle.pb_protocol_unfolder_steps.specs.Refusals.{element_place, each_at}
 use Rattle.pb_protocol_unfolder_steps.proofs.RefusalLemmas.{placed-along}
 use Rattle.pb_protocol_unfolder_steps.proofs.element.push_elements.Goals as goal
 
@@ -20,5 +20,5 @@ returns-clause-places c =
     c.in_ok-push_at.ensures.places
     ∙ ap (λ (v : List Place). map element_place c.args.elements.now.items ++ v)
     (sym (placed-along p tuple_of c.in_ok-indices.indices.items)
-    ∙ ap (λ (v : List (List Term)). placed p v) (c.in_ok-indices.ensures ∙ ap tuples c.deref.ensures.value)
+    ∙ ap (λ (v : List (List Term)). each_at p v) (c.in_ok-indices.ensures ∙ ap tuples c.deref.ensures.value)
     ∙ sym (placed-along p (element_at y.name c.args.sort.now) (tuples y.indices.items)))

@@ -8,7 +8,7 @@ use Rattle.pb_protocol_unfolding.specs.Written.{written_tuples}
 use Rattle.pb_protocol_unfolder_terms.specs.View.{spec_of}
 use Rattle.pb_protocol_unfolder_terms.specs.Values.{tuple_of}
 use Rattle.pb_protocol_unfolder_steps.specs.Elements.{instance_at}
-use Rattle.pb_protocol_unfolder_steps.specs.Refusals.{instance_place, placed}
+use Rattle.pb_protocol_unfolder_steps.specs.Refusals.{instance_place, each_at}
 use Rattle.pb_protocol_unfolder_steps.proofs.RefusalLemmas.{placed-along}
 use Rattle.pb_protocol_unfolder_steps.proofs.instance.push_instances.Goals as goal
 
@@ -20,5 +20,5 @@ returns-clause-places c =
     c.in_ok-push_with.ensures.places
     ∙ ap (λ (v : List Place). map instance_place c.args.instances.now.items ++ v)
     (sym (placed-along p tuple_of c.in_ok-tuples.tuples.items)
-    ∙ ap (λ (v : List (List Term)). placed p v) (c.in_ok-tuples.ensures ∙ ap tuples c.deref.ensures.value)
+    ∙ ap (λ (v : List (List Term)). each_at p v) (c.in_ok-tuples.ensures ∙ ap tuples c.deref.ensures.value)
     ∙ sym (placed-along p (instance_at a) (tuples a.variables.items)))

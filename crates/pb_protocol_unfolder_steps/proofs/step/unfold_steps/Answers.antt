@@ -3,7 +3,7 @@ use Rattle.std.proofs.lemmas.List.{append-nil, drop_all}
 use Rattle.std.specs.Prelude.{IfSome}
 use Rattle.pb_protocol_unfolder_steps.specs.Elements.{instance_said}
 use Rattle.pb_protocol_unfolder_steps.specs.Steps.{is_kept, kept_step, place_of_step, step_found, step_place, step_said}
-use Rattle.pb_protocol_unfolder_steps.specs.StepFaults.{IsFaultInStep, IsFaultInSteps, OnTerm, instance_form}
+use Rattle.pb_protocol_unfolder_steps.specs.StepFaults.{IsFaultInStep, IsFaultInSteps, OnTerm, placed_instance}
 use Rattle.pb_protocol_unfolder_steps.specs.Unfolder.{form_in, protocol_in}
 use Rattle.pb_protocol_unfolder_steps.proofs.StepFaultLemmas.{term-in}
 use Rattle.pb_protocol_unfolder_terms.proofs.MetLemmas.{item-in, mapped-in}
@@ -48,8 +48,8 @@ returns-in_err-unfold_step-clause-faults c =
     let F = form_in c.args.unfolder.now in
     let is = c.args.instances.now in
     let x = c.instance-item.result in
-    let P = IsFaultInStep F (instance_form x) in
-    let Q = IsFaultInSteps F (map instance_form is) in
-    let there = mapped-in instance_form is x (item-in is c.loop-instance.instance-index x c.loop-instance-test.true c.instance-item.is) in
+    let P = IsFaultInStep F (placed_instance x) in
+    let Q = IsFaultInSteps F (map placed_instance is) in
+    let there = mapped-in placed_instance is x (item-in is c.loop-instance.instance-index x c.loop-instance-test.true c.instance-item.is) in
     refused c.from_residual.result c.in_err-unfold_step.field-0.0 (OnTerm P) (OnTerm Q) c.from_residual.ensures.1
-    (term-in P Q (λ r p o. (instance_form x, there, o))) c.in_err-unfold_step.ensures.faults
+    (term-in P Q (λ r p o. (placed_instance x, there, o))) c.in_err-unfold_step.ensures.faults

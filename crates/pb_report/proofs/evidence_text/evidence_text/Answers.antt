@@ -3,7 +3,7 @@ use Rattle.pb_text_tree.specs.declared.place.Place.{Place}
 use Rattle.pb_fixpoint_trees.specs.Tree.{Tree}
 use Rattle.pb_report.specs.ModuleEvidence.{module_evidence_text}
 use Rattle.pb_report.specs.ModuleTexts.{IsTextOfTrees}
-use Rattle.pb_report.specs.Delivery.{is_failed}
+use Rattle.pb_report.specs.Delivery.{was_not_written}
 use Rattle.pb_report.proofs.Lines.{one_text}
 use Rattle.pb_report.proofs.Buffered.{part_written, end_unwritten, all_written}
 use Rattle.pb_report.proofs.Delivery.{left_nothing}
@@ -20,7 +20,7 @@ is_text g c place = one_text c.args.verified.now c.requires.trees c.args.placed.
 pub returns-in_err-buffer : goal.returns-in_err-buffer
 returns-in_err-buffer g c = λ place are.
     let at = (goal.at.returns-in_err-buffer g c).Start in
-    left_nothing is_failed g.S.Sink (IsTextOfTrees c.args.verified.now (text g at place)) c.args.sink.now c.from_residual.result _ c.from_residual.ensures.1 refl
+    left_nothing was_not_written g.S.Sink (IsTextOfTrees c.args.verified.now (text g at place)) c.args.sink.now c.from_residual.result _ c.from_residual.ensures.1 refl
 
 pub returns-in_err-write_evidence : goal.returns-in_err-write_evidence
 returns-in_err-write_evidence g c = λ place are.

@@ -4,7 +4,7 @@ use Rattle.pb_bytecode.specs.Meaning.{parameters, signature_of, initial_of}
 use Rattle.pb_sorts.specs.Layout.{count_of}
 use Rattle.pb_fixpoint_rows.specs.Reached.{rows_of}
 use Rattle.pb_game_of_trees.proofs.Reached.{reached_of}
-use Rattle.pb_report.specs.Delivery.{is_failed}
+use Rattle.pb_report.specs.Delivery.{was_not_written}
 use Rattle.pb_report.specs.ModuleTexts.{module_game_text, IsTextOfTrees}
 use Rattle.pb_report.specs.VertexNames.{memory_text, number_in, AreRising}
 use Rattle.pb_report.proofs.Delivery.{less_delivered}
@@ -38,7 +38,7 @@ returns g c =
     let rows = c.args.rows.now in
     let built = c.args.built.now in
     let same = ap (λ (vs : List ℕ). memory_text m built.game vs rows) c.deref.ensures.value in
-    less_delivered is_failed g.S.Sink (λ (text : List ℕ). text ≡ memory_text m built.game c.deref.result.now rows) (IsTextOfTrees m (λ trees. module_game_text m trees rows))
+    less_delivered was_not_written g.S.Sink (λ (text : List ℕ). text ≡ memory_text m built.game c.deref.result.now rows) (IsTextOfTrees m (λ trees. module_game_text m trees rows))
     (λ text is trees have.
     let are = reached_of trees (map signature_of m.equations) rows (c.requires.rows trees have).are in
     is ∙ (same ∙ text_is m rows built trees (rows_of trees rows) (initial_of m) are (c.requires.game trees have)))

@@ -1,7 +1,7 @@
 use Rattle.std.proofs.Common.{ℕ, List, refl, rules}
 use Rattle.pb_fixpoint_trees.specs.Tree.{Tree}
 use Rattle.pb_report.specs.ModuleTexts.{module_solution_text, IsTextOfTrees}
-use Rattle.pb_report.specs.Delivery.{is_failed}
+use Rattle.pb_report.specs.Delivery.{was_not_written}
 use Rattle.pb_report.proofs.OneSolution.{one_solution}
 use Rattle.pb_report.proofs.Buffered.{part_written, end_unwritten, all_written}
 use Rattle.pb_report.proofs.Delivery.{left_nothing}
@@ -18,7 +18,7 @@ is_text g c = one_solution c.args.verified.now c.args.rows.now c.args.solved.now
 pub returns-in_err-buffer : goal.returns-in_err-buffer
 returns-in_err-buffer g c =
     let at = (goal.at.returns-in_err-buffer g c).Start in
-    left_nothing is_failed g.S.Sink (IsTextOfTrees c.args.verified.now (text g at)) c.args.sink.now c.from_residual.result _ c.from_residual.ensures.1 refl
+    left_nothing was_not_written g.S.Sink (IsTextOfTrees c.args.verified.now (text g at)) c.args.sink.now c.from_residual.result _ c.from_residual.ensures.1 refl
 
 pub returns-in_err-write_lines : goal.returns-in_err-write_lines
 returns-in_err-write_lines g c =

@@ -4,7 +4,7 @@ use Rattle.pb_text_tree.specs.declared.operator.Connective.TheVariants.{And, Or,
 use Rattle.pb_text_tree.specs.Form.{FormulaForm, formula_form, link_forms}
 use Rattle.pb_text_lexer.specs.Grammar.{State}
 use Rattle.pb_text_lexer.proofs.LoopLemmas.{resumed}
-use Rattle.pb_text_terms.specs.Operators.{symbol}
+use Rattle.pb_text_terms.specs.Operators.{symbol_kind}
 use Rattle.pb_text_formulas.specs.Reading.{operand, level}
 use Rattle.pb_text_formulas.proofs.formula.+formulas.Given as goal
 
@@ -47,7 +47,8 @@ abbrev pub invariant-chain-links : goal.invariant-chain-links
 invariant-chain-links l = record {
   reads : (s : State) → operand l.connective l.depth s ≡ Ok (formula_form l.fn.first, l.fn.input) → length l.fn.input.tokens < length s.tokens
       → level l.connective l.depth s ≡
-      resumed (symbol l.connective) (FormulaForm.connected l.connective) (operand l.connective l.depth) (length s.tokens - vec_len l.links) (formula_form l.first) (link_forms l.links.items) l.input;
+      resumed (symbol_kind l.connective) (FormulaForm.connected l.connective) (operand l.connective l.depth) (length s.tokens - vec_len l.links) (formula_form l.first)
+      (link_forms l.links.items) l.input;
   room : vec_len l.links + length l.input.tokens ≤ length l.fn.input.tokens;
 }
 

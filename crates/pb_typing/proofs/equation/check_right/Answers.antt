@@ -18,7 +18,7 @@ use Rattle.pb_typing_rules.specs.Scope.{Scope, bound, outermost}
 use Rattle.pb_typing_tree.specs.declared.formula.Equation.{Equation}
 use Rattle.pb_typing_tree.specs.Elaboration.{Slotting, unslotted, with_slots}
 use Rattle.pb_typing_tree.specs.Loops.{variable_shapes}
-use Rattle.pb_typing.specs.Rights.{IsRight, IsRightIn, own_faults}
+use Rattle.pb_typing.specs.Rights.{IsRight, IsRightIn, right_own_faults}
 use Rattle.pb_typing_nodes.specs.Scopes.{inner_slots}
 use Rattle.pb_typing_nodes.proofs.SlotLemmas.{inner_scope, inner_slotting, length-shapes, length-variables, variables_of}
 use Rattle.pb_typing.proofs.equation.check_right.Goals as goal
@@ -30,7 +30,7 @@ Found S f r a c n = MatchResult r (λ X. (formula_faults S true a (formula_form 
 -- under an equation's parameters it is the equation's
 made : (S : Spec) (X : declared.Equation) (r : Result Equation (OrMemory TypingFault))
     → Found S X.right r (bound S (variables_of X.parameters.items) outermost) (with_slots (variables_of X.parameters.items) 0 unslotted) (length (variables_of X.parameters.items))
-    → MatchResult r (λ Y. (own_faults S (equation_form X) ≡ []) × IsRight S (equation_form X) Y) (IsAmong (own_faults S (equation_form X)))
+    → MatchResult r (λ Y. (right_own_faults S (equation_form X) ≡ []) × IsRight S (equation_form X) Y) (IsAmong (right_own_faults S (equation_form X)))
 made S X (Ok Y) h = (h.0, record { right = h.1.right; loops = h.1.loops; calls = h.1.calls })
 made S X (Err e) h = h
 

@@ -9,7 +9,7 @@ use Rattle.pb_typing_declarations.specs.declared.fault.TypingFault.{TypingFault}
 use Rattle.pb_typing_declarations.specs.Faults.{repeated, IsAmong}
 use Rattle.pb_typing_declarations.specs.Shapes as shapes
 use Rattle.pb_typing_declarations.specs.Shapes.{first}
-use Rattle.pb_typing_declarations.specs.Tables.{entry_names, entry_values, looked_up}
+use Rattle.pb_typing_declarations.specs.Tables.{entry_names, entry_values, entry_of}
 use Rattle.pb_typing_declarations.specs.Entries.{shown, shown_entries}
 use Rattle.pb_typing_declarations.specs.Declarations.{structs_faults, names_of_enumerator, all_enumerator_forms, sort_names}
 use Rattle.pb_typing_declarations.proofs.Parts.{among_left, among_right}
@@ -69,6 +69,6 @@ returns c =
           ap (option_map shown) (sorts.1 x)
           ∙ (sym (first-map shown (entry_values (c.deref-2).result.now) x)
           ∙ ap (λ (es : List (Name × shapes.Definition)). first es x) (ap (λ es. shown_entries (entry_values es)) (c.deref-2).ensures.value ∙ read.sorts));
-      enumerators = enumerators_agree c.deref.result.now (map erased_declaration ds) (looked_up c.in_ok-names.names) names.0 names.1 in_names;
-      recognisers = recognisers_agree c.deref.result.now (map erased_declaration ds) (looked_up c.in_ok-names.names) names.0 names.1 in_names;
+      enumerators = enumerators_agree c.deref.result.now (map erased_declaration ds) (entry_of c.in_ok-names.names) names.0 names.1 in_names;
+      recognisers = recognisers_agree c.deref.result.now (map erased_declaration ds) (entry_of c.in_ok-names.names) names.0 names.1 in_names;
     }

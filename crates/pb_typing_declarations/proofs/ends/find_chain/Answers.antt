@@ -3,7 +3,7 @@ use Rattle.std.specs.Prelude.{Some}
 use Rattle.std.specs.Option.{option_copied}
 use Rattle.pb_typing_declarations.specs.Entries.{range_in, definition_in}
 use Rattle.pb_typing_declarations.proofs.ChainLemmas.{no_step, one_more, ended, all_used, lengthened}
-use Rattle.pb_typing_declarations.specs.Tables.{looked_up}
+use Rattle.pb_typing_declarations.specs.Tables.{entry_of}
 use Rattle.pb_typing_declarations.proofs.ends.find_chain.Goals as goal
 
 pub loop-kept-init : goal.loop-kept-init
@@ -16,7 +16,7 @@ loop-kept-init c =
 
 pub returns-in-Some : goal.returns-in-Some
 returns-in-Some c =
-    let found : looked_up c.args.chains.now c.loop-kept.sort.now ≡ Some c.in-Some.kept.now = sym c.get.ensures.value ∙ ap option_copied c.in-Some.is in
+    let found : entry_of c.args.chains.now c.loop-kept.sort.now ≡ Some c.in-Some.kept.now = sym c.get.ensures.value ∙ ap option_copied c.in-Some.is in
     lengthened (range_in c.args.ranges.now) (definition_in c.args.definitions.now) c.args.limit c.loop-kept.left c.args.sort.now c.loop-kept.sort.now c.in-Some.kept.now
     c.loop-kept.invariant.below c.loop-kept.invariant.behind (c.requires c.loop-kept.sort.now c.in-Some.kept.now found) c.lengthen.result c.lengthen.ensures
 

@@ -1,7 +1,7 @@
 -- What is told of the property, by its text and by that of its negation.
 use Rattle.std.proofs.Common.{◌≡◌, Bool, subst}
 use Rattle.std.proofs.lemmas.Option.{slice_get_within}
-use Rattle.pb_model_properties.specs.Said.{satisfies}
+use Rattle.pb_model_properties.specs.Said.{tree_satisfies}
 use Rattle.pbsolve.specs.Outcomes.{IsEarlyOf}
 use Rattle.pbsolve.proofs.Decisions.{shown_false, shown_true}
 use Rattle.pbsolve.proofs.decision.early_at.Goals as goal
@@ -22,7 +22,7 @@ pub returns-in-Shown-true-clause-told : goal.returns-in-Shown-true-clause-told
 returns-in-Shown-true-clause-told g c model said at = (
   c.if-options.false,
   shown_true c.args.options.counts said.protocol model said.is_for c.args.asked.now.place at.property at.stands
-      (subst (λ (b : Bool). b ≡ satisfies model at.property.formula) c.in-Shown-true.field-0-test
+      (subst (λ (b : Bool). b ≡ tree_satisfies model at.property.formula) c.in-Shown-true.field-0-test
       (subst (IsEarlyOf model at.property) c.in-Shown-true.is (c.in_ok-early.ensures model at.property at.compiled))),
 )
 
@@ -31,6 +31,6 @@ returns-then-denied-clause-told g c model said at = (
   c.if-options.false,
   shown_false c.args.options.counts said.protocol model said.is_for c.args.asked.now.place at.property at.stands c.args.input.bytes.now said.read
       (c.in_ok-denied-in-Shown-false.ensures.denied c.if-denied.true)
-      (subst (λ (b : Bool). b ≡ satisfies model at.property.formula) c.in-Shown-false.field-0-test
+      (subst (λ (b : Bool). b ≡ tree_satisfies model at.property.formula) c.in-Shown-false.field-0-test
       (subst (IsEarlyOf model at.property) c.in-Shown-false.is (c.in_ok-early.ensures model at.property at.compiled))),
 )

@@ -3,7 +3,7 @@ use Rattle.std.proofs.Common.{map, refl}
 use Rattle.pb_model_tree.specs.Form.{ModelForm}
 use Rattle.pbsolve.specs.declared.finding.Found.{Found}
 use Rattle.pbsolve.specs.declared.property_text.AskedText.{AskedText}
-use Rattle.pbsolve.specs.Models.{IsFound}
+use Rattle.pbsolve.specs.Models.{IsPropertyFound}
 use Rattle.pbsolve.specs.Outcomes.{IsTextAt}
 use Rattle.pbsolve.proofs.Orders.{all_pushed, next_made, of_item}
 use Rattle.pbsolve.proofs.decision.findings_of.Goals as goal
@@ -27,6 +27,6 @@ loop-asked-preserved g c =
           pushed c.loop-asked-test.true c.asked-item.is refl loop.invariant.places;
       found = λ (model : ModelForm) said all.
           let at = of_item (IsTextAt model) texts loop.asked-index asked all c.loop-asked-test.true c.asked-item.is in
-          all_pushed (IsFound c.args.options.counts said.protocol model) new loop.findings.items found pushed (loop.invariant.found model said all)
+          all_pushed (IsPropertyFound c.args.options.counts said.protocol model) new loop.findings.items found pushed (loop.invariant.found model said all)
           (c.in_ok-finding.ensures.found model said at);
     }

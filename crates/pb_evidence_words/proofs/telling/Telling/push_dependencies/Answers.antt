@@ -1,7 +1,7 @@
 use Rattle.std.proofs.Common.{◌≡◌, ◌++◌, ℕ, List, flat_map, string_bytes, take, sym, ap, ◌∙◌, arith}
 use Rattle.std.proofs.lemmas.List.{take_all}
 use Rattle.pb_evidence_words.specs.Ready.{told_of}
-use Rattle.pb_evidence_words.specs.InstanceLines.{dependency_text}
+use Rattle.pb_evidence_words.specs.InstanceLines.{told_dependency}
 use Rattle.pb_evidence_words.specs.WhyText.{dependencies_at, line_instance}
 use Rattle.pb_evidence_words.proofs.Reached.{child-contained}
 use Rattle.pb_evidence_words.proofs.Pushed.{elements-more}
@@ -15,7 +15,7 @@ push_dependency-requires-clause-number c =
 pub loop-number-preserved : goal.loop-number-preserved
 loop-number-preserved c =
     let t = told_of c.args.self.now.shown.now in
-    elements-more (dependency_text t (line_instance t c.args.line)) c.dependencies-number-items.result.now c.loop-number.number-index
+    elements-more (told_dependency t (line_instance t c.args.line)) c.dependencies-number-items.result.now c.loop-number.number-index
     (string_bytes c.args.text.now) (string_bytes c.loop-number.text) (string_bytes c.push_dependency.new.text) c.loop-number-test.true
     c.loop-number.invariant c.in_ok-push_dependency.ensures
 
@@ -27,4 +27,4 @@ returns c =
     let all : take c.loop-number.number-index xs ≡ dependencies_at t k =
     take_all c.loop-number.number-index xs (omega (arith, c.loop-number-test.false))
     ∙ (c.dependencies-number-items.ensures ∙ sym (c.requires.told.evidence.each k c.requires.line)) in
-    c.loop-number.invariant ∙ ap (λ (ys : List ℕ). string_bytes c.args.text.now ++ flat_map (dependency_text t (line_instance t k)) ys) all
+    c.loop-number.invariant ∙ ap (λ (ys : List ℕ). string_bytes c.args.text.now ++ flat_map (told_dependency t (line_instance t k)) ys) all

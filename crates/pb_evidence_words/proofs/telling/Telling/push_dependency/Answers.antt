@@ -5,7 +5,7 @@ use Rattle.pb_typing_calls.specs.MadeCalls.{MadeCall, calls_at}
 use Rattle.pb_typing_calls.specs.MadeCallView.{call_views}
 use Rattle.pb_evidence_words.specs.Ready.{told_of}
 use Rattle.pb_evidence_words.specs.InstanceLines.{instance_text, mark_among}
-use Rattle.pb_evidence_words.specs.WhyText.{instance_at, line_instance}
+use Rattle.pb_evidence_words.specs.WhyText.{shown_instance, line_instance}
 use Rattle.pb_evidence_words.proofs.Pushed.{and_then, said_as}
 use Rattle.pb_evidence_words.proofs.telling.Telling.push_dependency.Goals as goal
 
@@ -15,7 +15,7 @@ returns c =
     let t = told_of s in
     let m = vocabulary_of s.vocabulary.now in
     let i = line_instance t c.args.line in
-    let j = instance_at t c.args.number in
+    let j = shown_instance t c.args.number in
     let found = instance_of c.instance-called.result in
     let is : found ≡ j = c.instance-called.ensures.value in
     let r = c.push_mark_to.result in

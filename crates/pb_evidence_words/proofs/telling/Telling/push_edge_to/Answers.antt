@@ -2,7 +2,7 @@ use Rattle.std.proofs.Common.{◌≡◌, ◌++◌, ℕ, List, codes, string_byte
 use Rattle.pb_sorts.specs.Instance.{instance_of}
 use Rattle.pb_evidence_words.specs.Order.{place_of}
 use Rattle.pb_evidence_words.specs.Ready.{told_of}
-use Rattle.pb_evidence_words.specs.WhyText.{instance_at, line_instance, move_between, target_text}
+use Rattle.pb_evidence_words.specs.WhyText.{shown_instance, line_instance, move_between, target_text}
 use Rattle.pb_evidence_words.proofs.Pushed.{and_then, said_as}
 use Rattle.pb_evidence_words.proofs.Told.{move-said}
 use Rattle.pb_evidence_words.proofs.telling.Telling.push_edge_to.Goals as goal
@@ -18,9 +18,9 @@ returns c =
     let s1 = string_bytes c.push_str.new.self in
     let s2 = string_bytes c.push_move_to.new.text in
     let s3 = string_bytes c.push_target.new.text in
-    let move = move_between t (line_instance t k) (instance_at t n) in
+    let move = move_between t (line_instance t k) (shown_instance t n) in
     let moved : s2 ≡ s1 ++ move = c.in_ok-push_move_to.ensures ∙ ap (λ (x : List ℕ). s1 ++ x)
-    (move-said s k k c.args.caller.now c.requires.caller refl (instance_of c.instance-called.result) (instance_at t n) c.instance-called.ensures.value) in
+    (move-said s k k c.args.caller.now c.requires.caller refl (instance_of c.instance-called.result) (shown_instance t n) c.instance-called.ensures.value) in
     let target = target_text t k (place_of t.graph n) in
     and_then r s0 s1 s3 (codes "  ") (move ++ target) c.in_ok-push_str.ensures.bytes
     (and_then r s1 s2 s3 move target moved

@@ -2,7 +2,7 @@ use Rattle.std.proofs.Common.{◌≡◌, ◌++◌, Bool, codes, string_bytes, ap
 use Rattle.pb_sorts.specs.Instance.{Instance}
 use Rattle.pb_report.specs.EvidenceText.{cut_mark, truth_mark}
 use Rattle.pb_evidence_words.specs.Ready.{told_of}
-use Rattle.pb_evidence_words.specs.InstanceLines.{dependencies_text, instance_text}
+use Rattle.pb_evidence_words.specs.InstanceLines.{told_dependencies, instance_text}
 use Rattle.pb_evidence_words.specs.WhyText.{is_cut_at, line_instance}
 use Rattle.pb_evidence_words.proofs.Pushed.{and_then, pushed}
 use Rattle.pb_evidence_words.proofs.telling.Telling.push_instance_line.Goals as goal
@@ -20,7 +20,7 @@ returns c =
     let s5 = string_bytes c.push_str.new.self in
     let name = instance_text t (line_instance t k) in
     let truth = truth_mark t.truth in
-    let rests = dependencies_text t k in
+    let rests = told_dependencies t k in
     let cut = cut_mark (is_cut_at t k) in
     let named : s1 ≡ s0 ++ name = c.in_ok-push_instance.ensures
     ∙ ap (λ (i : Instance). s0 ++ instance_text t i) c.in_ok-caller.ensures.caller in

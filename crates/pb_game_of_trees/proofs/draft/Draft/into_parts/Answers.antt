@@ -2,7 +2,7 @@ use Rattle.std.proofs.Common.{◌≡◌, ℕ, ◌-◌, List, map, length, get_or
 use Rattle.std.specs.Vec.{with_items}
 use Rattle.std.proofs.lemmas.List.{length-map, reverse-reverse, with_items_is}
 use Rattle.pb_fixpoint_trees.specs.Game.{Vertex}
-use Rattle.pb_game_of_trees.specs.Draft.{IsDraft, owners, priorities, successors, edge_sums}
+use Rattle.pb_game_of_trees.specs.Draft.{IsDraft, owners, priorities, all_successors, edge_sums}
 use Rattle.pb_game_of_trees.proofs.Sums.{edge_sums-le}
 use Rattle.pb_game_of_trees.proofs.draft.Draft.into_parts.Goals.{After-deref_mut}
 use Rattle.pb_game_of_trees.proofs.draft.Draft.into_parts.Goals as goal
@@ -12,10 +12,10 @@ module _ (c : After-deref_mut) {vs : List Vertex} (is : IsDraft c.args.self vs) 
   sums : c.deref_mut.result.now ≡ edge_sums vs
   sums = c.deref_mut.ensures.value ∙ (c.reverse-4.ensures.items ∙ (ap reverse is.edges ∙ reverse-reverse (edge_sums vs)))
 
-  all : c.reverse-3.new.self.items ≡ successors vs
-  all = c.reverse-3.ensures.items ∙ (ap reverse is.successor ∙ reverse-reverse (successors vs))
+  all : c.reverse-3.new.self.items ≡ all_successors vs
+  all = c.reverse-3.ensures.items ∙ (ap reverse is.successor ∙ reverse-reverse (all_successors vs))
 
-  size : c.len.result ≡ length (successors vs)
+  size : c.len.result ≡ length (all_successors vs)
   size = omega (arith, ap length all, c.len.ensures, c.reverse-3.new.self.ok.0)
 
 pub subtract_from-requires : goal.subtract_from-requires

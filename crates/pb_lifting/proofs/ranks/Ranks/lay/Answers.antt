@@ -3,7 +3,7 @@ use Rattle.pb_exploration_words.specs.Views.{dealt, MayDeal}
 use Rattle.pb_lifting.specs.declared.view.Key.{Key}
 use Rattle.pb_lifting.specs.declared.view.View.{View}
 use Rattle.pb_lifting.specs.Rule.{first_view, rest_view, kept_view, given_view}
-use Rattle.pb_lifting.specs.Seats.{view_of}
+use Rattle.pb_lifting.specs.Seats.{lift_view}
 use Rattle.pb_lifting.proofs.Seating.{rule, marks, may_deal, first_rest, fresh_at}
 use Rattle.pb_lifting.proofs.ranks.Ranks.lay.Goals as goal
 
@@ -11,7 +11,7 @@ pub deal-requires-clause-parts : goal.deal-requires-clause-parts
 deal-requires-clause-parts c =
     let key = c.in_ok-words.words.inner.shared.key in
     let workers : key.workers ≡ c.args.workers = ap (λ (k : Key). k.workers) c.in_ok-words.ensures.key in
-    let first : view_of c.in_ok-words.first ≡ rest_view key 0 = c.in_ok-words.ensures.view ∙ (ap first_view (sym c.in_ok-words.ensures.key) ∙ first_rest key) in
+    let first : lift_view c.in_ok-words.first ≡ rest_view key 0 = c.in_ok-words.ensures.view ∙ (ap first_view (sym c.in_ok-words.ensures.key) ∙ first_rest key) in
     let some = c.requires.workers in
     subst (MayDeal (rule key) marks kept_view given_view (c.args.workers - 1)) (sym first) (may_deal key (c.args.workers - 1) 0 (omega arith))
 
@@ -19,7 +19,7 @@ pub returns-clause-zeros : goal.returns-clause-zeros
 returns-clause-zeros c k s e =
     let key = c.in_ok-words.words.inner.shared.key in
     let workers : key.workers ≡ c.args.workers = ap (λ (k : Key). k.workers) c.in_ok-words.ensures.key in
-    let first : view_of c.in_ok-words.first ≡ rest_view key 0 = c.in_ok-words.ensures.view ∙ (ap first_view (sym c.in_ok-words.ensures.key) ∙ first_rest key) in
+    let first : lift_view c.in_ok-words.first ≡ rest_view key 0 = c.in_ok-words.ensures.view ∙ (ap first_view (sym c.in_ok-words.ensures.key) ∙ first_rest key) in
     let some = c.requires.workers in
     fresh_at key c.in_ok-seats.seats.items (omega arith)
     (c.in_ok-seats.ensures.views ∙ (λ i. dealt kept_view given_view (sym workers i - 1) (first i))) k s e

@@ -3,7 +3,7 @@ use Rattle.pb_protocol_tree.specs.Form.{protocol_form}
 use Rattle.pb_protocol_unfolder_terms.specs.declared.written.Written.{Written}
 use Rattle.pb_protocol_unfolder_terms.specs.Values.{tuple_of, written_term}
 use Rattle.pb_protocol_unfolder_terms.specs.View.{variable_of}
-use Rattle.pb_protocol_unfolder_steps.specs.StepFaults.{IsFaultAtValues, IsFaultAtSome, OnTerm, value_form}
+use Rattle.pb_protocol_unfolder_steps.specs.StepFaults.{IsFaultAtValues, IsFaultAtSome, OnTerm, argument_form}
 use Rattle.pb_protocol_unfolder_steps.proofs.StepFaultLemmas.{term-in}
 use Rattle.pb_protocol_unfolder_terms.proofs.MetLemmas.{item-in, mapped-in}
 use Rattle.pb_protocol_unfolder_steps.proofs.RefusalLemmas.{refused}
@@ -13,7 +13,7 @@ pub returns-in_err-term-clause-faults : goal.returns-in_err-term-clause-faults
 returns-in_err-term-clause-faults c =
     let F = protocol_form c.args.self.now.protocol.now in
     let is = map variable_of c.args.indices.now in
-    let x = value_form c.args.value.now in
+    let x = argument_form c.args.value.now in
     let ts = c.args.tuples.now in
     let v = c.values-item.result in
     let P = IsFaultAtValues F is x (map written_term c.deref.result.now) in

@@ -5,12 +5,12 @@ use Rattle.pb_text_meaning.specs.Syntax.{Term, Variable}
 use Rattle.pb_protocol_meaning.specs.Erase.{protocol_of}
 use Rattle.pb_protocol_meaning.specs.Steps.{data_of}
 use Rattle.pb_protocol_unfolding.specs.Written.{written_tuples}
-use Rattle.pb_protocol_unfolder_steps.specs.Initial.{argument_term, indices_behind, indices_said, initial_values, terms_at}
+use Rattle.pb_protocol_unfolder_steps.specs.Initial.{argument_term, indices_behind, indices_said, initial_terms_of, terms_at}
 use Rattle.pb_protocol_unfolder_steps.specs.Refusals.{IsTermOr}
 use Rattle.pb_protocol_unfolder_steps.proofs.RefusalLemmas.{part-of-all, refused, term-or}
 use Rattle.pb_protocol_unfolder_steps.proofs.InitialLemmas.{one-more, nothing-left}
 use Rattle.pb_protocol_tree.specs.Form.{protocol_form}
-use Rattle.pb_protocol_unfolder_steps.specs.StepFaults.{IsFaultInValue, IsFaultInValues, OnTerm, value_form}
+use Rattle.pb_protocol_unfolder_steps.specs.StepFaults.{IsFaultInValue, IsFaultInValues, OnTerm, argument_form}
 use Rattle.pb_protocol_unfolder_steps.proofs.StepFaultLemmas.{term-in}
 use Rattle.std.proofs.Common.{Some}
 use Rattle.std.specs.Prelude.{option_map}
@@ -28,7 +28,7 @@ loop-at-preserved c =
     let in-ys : k < length ys = omega (arith, c.loop-at-test.true, c.min-at-end.ensures) in
     let in-xs : k < length xs = omega (arith, c.loop-at-test.true, c.min-at-end.ensures) in
     let next : k + 1 ≡ suc k = omega arith in
-    let rest = initial_values m (map indices_behind (drop (k + 1) ys)) (map argument_term (drop (k + 1) xs)) in
+    let rest = initial_terms_of m (map indices_behind (drop (k + 1) ys)) (map argument_term (drop (k + 1) xs)) in
     ap (λ v. v ++ rest) c.in_ok-push_values.ensures.terms
     ∙ append_assoc (map argument_term c.loop-at.terms.items) (terms_at m (indices_said y.now) (argument_term x)) rest
     ∙ ap (λ v. map argument_term c.loop-at.terms.items ++ v) (one-more m ys xs k (k + 1) y x next in-ys in-xs c.index-variables-at.is c.index-values-at.is)
@@ -76,8 +76,8 @@ returns-in_err-push_values-clause-faults c =
     let in-ys : k < length ys = omega (arith, c.loop-at-test.true, c.min-at-end.ensures) in
     let in-xs : k < length xs = omega (arith, c.loop-at-test.true, c.min-at-end.ensures) in
     let of-ys = slice_get-map indices_behind ys k ∙ ap (option_map indices_behind) (slice_get-get_or ys k y in-ys ∙ ap Some (sym c.index-variables-at.is)) in
-    let of-xs = slice_get-map value_form xs k ∙ ap (option_map value_form) (slice_get-get_or xs k x in-xs ∙ ap Some (sym c.index-values-at.is)) in
-    let P = IsFaultInValue F (indices_said y.now) (value_form x) in
-    let Q = IsFaultInValues F (map indices_behind ys) (map value_form xs) in
+    let of-xs = slice_get-map argument_form xs k ∙ ap (option_map argument_form) (slice_get-get_or xs k x in-xs ∙ ap Some (sym c.index-values-at.is)) in
+    let P = IsFaultInValue F (indices_said y.now) (argument_form x) in
+    let Q = IsFaultInValues F (map indices_behind ys) (map argument_form xs) in
     refused c.from_residual.result c.in_err-push_values.field-0.0 (OnTerm P) (OnTerm Q) c.from_residual.ensures.1
-    (term-in P Q (λ r p o. (k, indices_said y.now, value_form x, of-ys, of-xs, o))) c.in_err-push_values.ensures.faults
+    (term-in P Q (λ r p o. (k, indices_said y.now, argument_form x, of-ys, of-xs, o))) c.in_err-push_values.ensures.faults

@@ -1,6 +1,6 @@
 use Rattle.pb_text_tree.specs.Form.{term_form}
 use Rattle.pb_protocol_unfolder_terms.specs.TermFaults.{IsFaultInTerm, surroundings_of}
-use Rattle.pb_protocol_unfolder_steps.specs.Unfolder.{form_in, protocol_in, scope_in}
+use Rattle.pb_protocol_unfolder_steps.specs.Unfolder.{form_in, protocol_in, scope_within}
 use Rattle.pb_protocol_unfolder_steps.proofs.StepFaultLemmas.{term-told}
 use Rattle.pb_protocol_unfolder_steps.proofs.unfolder.Unfolder.unfold.Goals as goal
 
@@ -11,5 +11,5 @@ pub returns-in-Err-clause-faults : goal.returns-in-Err-clause-faults
 returns-in-Err-clause-faults c =
     let u = c.args.self.now in
     let M = surroundings_of (form_in u) in
-    λ v. term-told (IsFaultInTerm M (scope_in u c.args.scope.now) (term_form c.args.term.now)) c.in-Err.error c.of_term.result c.of_term.ensures.error
+    λ v. term-told (IsFaultInTerm M (scope_within u c.args.scope.now) (term_form c.args.term.now)) c.in-Err.error c.of_term.result c.of_term.ensures.error
     (c.in-Err.ensures.faults M c.requires.unfolder.surroundings v)

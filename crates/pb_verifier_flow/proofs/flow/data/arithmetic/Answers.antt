@@ -1,5 +1,5 @@
 use Rattle.std.proofs.Common.{◌≡◌, List, sym, subst, ◌∙◌}
-use Rattle.pb_bytecode_program.specs.Values.{divides}
+use Rattle.pb_bytecode_program.specs.Values.{has_divisor}
 use Rattle.pb_bytecode_program.specs.declared.domain.AbstractValue.{AbstractValue}
 use Rattle.pb_verifier_states.specs.NamedRule.{named_at_numbers}
 use Rattle.pb_verifier_states.specs.declared.rule.AcceptanceRule.TheVariants as rule
@@ -20,9 +20,9 @@ returns-then-may_be_no_divisor-clause-refused c =
 
 pub returns-then-may_be_no_divisor-clause-rule : goal.returns-then-may_be_no_divisor-clause-rule
 returns-then-may_be_no_divisor-clause-rule c = λ sorts callees.
-    subst (λ (ss : List AbstractValue). rule.Divisor ≡ named_at_numbers (divides c.args.operator) ss)
+    subst (λ (ss : List AbstractValue). rule.Divisor ≡ named_at_numbers (has_divisor c.args.operator) ss)
     (sym (two_on_top c.args.state.now c.pop_int.new.self c.pop_int-2.new.self c.in_ok-b.b c.in_ok-a.a c.in_ok-b.ensures.ok c.in_ok-a.ensures.ok))
-    (divisor_named (divides c.args.operator) c.in_ok-b.b c.in_ok-a.a c.pop_int-2.new.self.operands (sym c.may_be_no_divisor.ensures ∙ c.if-may_be_no_divisor.true))
+    (divisor_named (has_divisor c.args.operator) c.in_ok-b.b c.in_ok-a.a c.pop_int-2.new.self.operands (sym c.may_be_no_divisor.ensures ∙ c.if-may_be_no_divisor.true))
 
 pub returns-in_default-clause-refused : goal.returns-in_default-clause-refused
 returns-in_default-clause-refused c =
@@ -31,6 +31,6 @@ returns-in_default-clause-refused c =
 
 pub returns-in_default-clause-rule : goal.returns-in_default-clause-rule
 returns-in_default-clause-rule c = λ sorts callees.
-    subst (λ (ss : List AbstractValue). rule.Overflow ≡ named_at_numbers (divides c.args.operator) ss)
+    subst (λ (ss : List AbstractValue). rule.Overflow ≡ named_at_numbers (has_divisor c.args.operator) ss)
     (sym (two_on_top c.args.state.now c.pop_int.new.self c.pop_int-2.new.self c.in_ok-b.b c.in_ok-a.a c.in_ok-b.ensures.ok c.in_ok-a.ensures.ok))
-    (overflow_named (divides c.args.operator) c.in_ok-b.b c.in_ok-a.a c.pop_int-2.new.self.operands (sym c.may_be_no_divisor.ensures ∙ c.if-may_be_no_divisor.false))
+    (overflow_named (has_divisor c.args.operator) c.in_ok-b.b c.in_ok-a.a c.pop_int-2.new.self.operands (sym c.may_be_no_divisor.ensures ∙ c.if-may_be_no_divisor.false))
