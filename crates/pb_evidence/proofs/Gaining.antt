@@ -7,12 +7,12 @@ use Rattle.pb_game.specs.declared.Game.{Game}
 use Rattle.pb_game.specs.Games.{successors_of}
 use Rattle.pb_game.specs.declared.certificate.Solution.{Solution}
 use Rattle.pb_game.specs.Certificates.{IsKept}
-use Rattle.pb_evidence.specs.declared.found.Found.{Found}
+use Rattle.pb_evidence.specs.declared.found.FoundVertices.{FoundVertices}
 use Rattle.pb_evidence.specs.Finding.{Gains}
 use Rattle.pb_evidence.proofs.Finding.{place_of}
 
 -- the same property in other words
-pub gains_as : (P Q : ℕ → Type 0) (old new : Found) → Gains P old new → ((u : ℕ) → P u → Q u) → ((u : ℕ) → Q u → P u) → Gains Q old new
+pub gains_as : (P Q : ℕ → Type 0) (old new : FoundVertices) → Gains P old new → ((u : ℕ) → P u → Q u) → ((u : ℕ) → Q u → P u) → Gains Q old new
 gains_as P Q old new gains to from = record {
   found = gains.found;
   width = gains.width;
@@ -23,7 +23,7 @@ gains_as P Q old new gains to from = record {
 }
 
 -- what was there stays there
-pub still_there : (P : ℕ → Type 0) (old new : Found) → Gains P old new → (u : ℕ) → Contains old.vertices.items u → Contains new.vertices.items u
+pub still_there : (P : ℕ → Type 0) (old new : FoundVertices) → Gains P old new → (u : ℕ) → Contains old.vertices.items u → Contains new.vertices.items u
 still_there P old new gains u h =
     let at = place_of old.vertices.items u h in
     let longer = gains.longer in
@@ -31,7 +31,7 @@ still_there P old new gains u h =
     subst (λ x. Contains new.vertices.items x) (gains.same at.place at.within ∙ at.there)
     (Contains-get_or new.vertices.items at.place 0 (omega arith))
 
-pub gains_then : (P Q R : ℕ → Type 0) (a b c : Found) → Gains P a b → Gains Q b c →
+pub gains_then : (P Q R : ℕ → Type 0) (a b c : FoundVertices) → Gains P a b → Gains Q b c →
     ((u : ℕ) → P u → R u) → ((u : ℕ) → Q u → R u) → ((u : ℕ) → R u → P u ⊎ Q u) → Gains R a c
 gains_then P Q R a b c first second of_first of_second cases = record {
   found = second.found;
@@ -60,7 +60,7 @@ pub record IsKeptBefore (g : Game) (s : Solution) (v k u : ℕ) : Type 0 where
 later : (g : Game) (s : Solution) (v k u : ℕ) → IsKeptBefore g s v k u → IsKeptBefore g s v (k + 1) u
 later g s v k u h = record { place = h.place; before = (let b = h.before in omega arith); there = h.there; kept = h.kept }
 
-pub kept_more : (g : Game) (s : Solution) (v k u : ℕ) (old f new : Found) → get_or (successors_of g v) k 0 ≡ u → IsKept g s v u →
+pub kept_more : (g : Game) (s : Solution) (v k u : ℕ) (old f new : FoundVertices) → get_or (successors_of g v) k 0 ≡ u → IsKept g s v u →
     Gains (IsKeptBefore g s v k) old f → Gains (λ w. w ≡ u) f new → Gains (IsKeptBefore g s v (k + 1)) old new
 kept_more g s v k u old f new at kept gains one =
     gains_then (IsKeptBefore g s v k) (λ w. w ≡ u) (IsKeptBefore g s v (k + 1)) old f new gains one
@@ -71,7 +71,7 @@ kept_more g s v k u old f new at kept gains one =
       | inr other ↦ inl (record { place = h.place; before = (let b = h.before in omega arith); there = h.there; kept = h.kept })
     ])
 
-pub kept_skip : (g : Game) (s : Solution) (v k u : ℕ) (old f : Found) → get_or (successors_of g v) k 0 ≡ u → (IsKept g s v u → ⊥) →
+pub kept_skip : (g : Game) (s : Solution) (v k u : ℕ) (old f : FoundVertices) → get_or (successors_of g v) k 0 ≡ u → (IsKept g s v u → ⊥) →
     Gains (IsKeptBefore g s v k) old f → Gains (IsKeptBefore g s v (k + 1)) old f
 kept_skip g s v k u old f at lost gains =
     gains_as (IsKeptBefore g s v k) (IsKeptBefore g s v (k + 1)) old f gains (λ w h. later g s v k w h)
@@ -80,7 +80,7 @@ kept_skip g s v k u old f at lost gains =
       | inr other ↦ record { place = h.place; before = (let b = h.before in omega arith); there = h.there; kept = h.kept }
     ])
 
-pub kept_all : (g : Game) (s : Solution) (v k : ℕ) (old f : Found) → length (successors_of g v) ≤ k →
+pub kept_all : (g : Game) (s : Solution) (v k : ℕ) (old f : FoundVertices) → length (successors_of g v) ≤ k →
     Gains (IsKeptBefore g s v k) old f → Gains (λ u. IsKept g s v u) old f
 kept_all g s v k old f end gains =
     gains_as (IsKeptBefore g s v k) (λ u. IsKept g s v u) old f gains (λ u h. h.kept)

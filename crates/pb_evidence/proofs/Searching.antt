@@ -9,14 +9,14 @@ use Rattle.pb_game.specs.declared.certificate.Solution.{Solution}
 use Rattle.pb_game.specs.Certificates.{IsKept}
 use Rattle.pb_evidence.specs.Strategies.{IsKeptPath}
 use Rattle.pb_evidence.proofs.Strategies.{path_then}
-use Rattle.pb_evidence.specs.declared.found.Found.{Found}
+use Rattle.pb_evidence.specs.declared.found.FoundVertices.{FoundVertices}
 use Rattle.pb_evidence.specs.Finding.{IsFound, Gains}
 use Rattle.pb_evidence.specs.Searching.{IsOpen, LeadsTo, IsSearched}
 use Rattle.pb_evidence.proofs.Finding.{place_of, listed_within}
 use Rattle.pb_evidence.proofs.Gaining.{still_there}
 
 -- the first k of what was found were looked at
-pub record IsSearching (g : Game) (s : Solution) (marks : List Bool) (v k : ℕ) (f : Found) : Type 0 where
+pub record IsSearching (g : Game) (s : Solution) (marks : List Bool) (v k : ℕ) (f : FoundVertices) : Type 0 where
   pub found : IsFound f
   pub width : length f.marks.items ≡ vertex_count g
   pub bound : k ≤ length f.vertices.items
@@ -25,7 +25,7 @@ pub record IsSearching (g : Game) (s : Solution) (marks : List Bool) (v k : ℕ)
   pub done : (j : ℕ) → j < k → IsOpen g marks (get_or f.vertices.items j 0) → (w : ℕ) → IsKept g s (get_or f.vertices.items j 0) w → Contains f.vertices.items w
 
 module _ (g : Game) (s : Solution) (marks : List Bool) (v : ℕ) where
-  pub search_start : (old new : Found) → old.vertices.items ≡ [] → length old.marks.items ≡ vertex_count g →
+  pub search_start : (old new : FoundVertices) → old.vertices.items ≡ [] → length old.marks.items ≡ vertex_count g →
       Gains (λ u. IsKept g s v u) old new → IsSearching g s marks v 0 new
   search_start old new none width gains = record {
     found = gains.found;
@@ -43,14 +43,14 @@ module _ (g : Game) (s : Solution) (marks : List Bool) (v : ℕ) where
     done = λ j none' open' w kept. absurd (omega arith);
   }
 
-  module _ (k : ℕ) (f : Found) (is : IsSearching g s marks v k f) (below : k < length f.vertices.items) where
+  module _ (k : ℕ) (f : FoundVertices) (is : IsSearching g s marks v k f) (below : k < length f.vertices.items) where
     abbrev u : ℕ
     u = get_or f.vertices.items k 0
 
     pub looked_within : u < vertex_count g
     looked_within = let within = listed_within f is.found k below in let width = is.width in omega arith
 
-    pub search_more : (new : Found) → IsOpen g marks u → Gains (λ w. IsKept g s u w) f new → IsSearching g s marks v (k + 1) new
+    pub search_more : (new : FoundVertices) → IsOpen g marks u → Gains (λ w. IsKept g s u w) f new → IsSearching g s marks v (k + 1) new
     search_more new is_open gains =
         let same_at = gains.same in
         record {
@@ -86,7 +86,7 @@ module _ (g : Game) (s : Solution) (marks : List Bool) (v : ℕ) where
       ];
     }
 
-  module _ (k : ℕ) (f : Found) (is : IsSearching g s marks v k f) (end : length f.vertices.items ≤ k) where
+  module _ (k : ℕ) (f : FoundVertices) (is : IsSearching g s marks v k f) (end : length f.vertices.items ≤ k) where
     next_found : (x w : ℕ) → Contains f.vertices.items x → IsOpen g marks x → IsKept g s x w → Contains f.vertices.items w
     next_found x w h is_open kept =
         let at = place_of f.vertices.items x h in

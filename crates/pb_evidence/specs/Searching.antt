@@ -5,7 +5,7 @@ use Rattle.pb_game.specs.declared.Game.{Game}
 use Rattle.pb_game.specs.Games.{vertex_count, priority_of}
 use Rattle.pb_game.specs.declared.certificate.Solution.{Solution}
 use Rattle.pb_evidence.specs.Strategies.{IsKeptPath}
-use Rattle.pb_evidence.specs.declared.found.Found.{Found}
+use Rattle.pb_evidence.specs.declared.found.FoundVertices.{FoundVertices}
 use Rattle.pb_evidence.specs.Marks.{IsMarked}
 use Rattle.pb_evidence.specs.Finding.{IsFound}
 
@@ -19,7 +19,7 @@ abbrev pub LeadsTo : Game → Solution → List Bool → ℕ → ℕ → Type 0
 LeadsTo g s marks v u = (over : List ℕ) × IsKeptPath g s (IsOpen g marks) v over u
 
 -- the vertices to which v leads are found, and no others
-pub record IsSearched (g : Game) (s : Solution) (marks : List Bool) (v : ℕ) (f : Found)
+pub record IsSearched (g : Game) (s : Solution) (marks : List Bool) (v : ℕ) (f : FoundVertices)
     : Type 0 where
   pub found : IsFound f
   pub width : length f.marks.items ≡ vertex_count g

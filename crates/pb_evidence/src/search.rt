@@ -7,7 +7,7 @@ ghost use Rattle.pb_game.specs.Certificates.{IsKept};
 ghost use Rattle.pb_evidence.specs.Finding.{IsFound, Gains};
 ghost use Rattle.pb_evidence.specs.Searching.{IsOpen, IsSearched};
 
-use crate::found::Found;
+use crate::found::FoundVertices;
 use pb_game::{Game, Solution};
 use std::alloc::AllocError;
 
@@ -18,7 +18,7 @@ pub(crate) fn search(
     solution: &Solution,
     marks: &[bool],
     v: u32,
-    found: &mut Found,
+    found: &mut FoundVertices,
 ) -> Result<(), AllocError>
     requires lengths { HasLengths game.now solution.now }
     requires marks { length marks.now ≡ vertex_count game.now }
@@ -41,7 +41,12 @@ pub(crate) fn search(
 }
 
 /// Finds where the kept edges from `v` lead.
-fn find_next(game: &Game, solution: &Solution, v: u32, found: &mut Found) -> Result<(), AllocError>
+fn find_next(
+    game: &Game,
+    solution: &Solution,
+    v: u32,
+    found: &mut FoundVertices,
+) -> Result<(), AllocError>
     requires lengths { HasLengths game.now solution.now }
     requires vertex { v < vertex_count game.now }
     requires found { IsFound found.old }
@@ -49,7 +54,7 @@ fn find_next(game: &Game, solution: &Solution, v: u32, found: &mut Found) -> Res
     ensures { OnOk result (Gains (λ u. IsKept game.now solution.now v u) found.old found.new) }
 {
     for &u in game.successors(v) {
-        if is_kept(game, solution, v, u) {
+        if keeps_edge(game, solution, v, u) {
             found.add(u)?;
         }
     }
@@ -57,7 +62,7 @@ fn find_next(game: &Game, solution: &Solution, v: u32, found: &mut Found) -> Res
 }
 
 /// Whether the winner of `v` keeps its edge to `u`.
-fn is_kept(game: &Game, solution: &Solution, v: u32, u: u32) -> bool
+fn keeps_edge(game: &Game, solution: &Solution, v: u32, u: u32) -> bool
     requires lengths { HasLengths game.now solution.now }
     requires vertex { v < vertex_count game.now }
     ensures { IsTrue result ↔ (owner_of game.now v ≡ winner_of solution.now v

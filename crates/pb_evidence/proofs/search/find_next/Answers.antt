@@ -5,7 +5,7 @@ use Rattle.pb_evidence.specs.Finding.{Gains}
 use Rattle.pb_strategy.proofs.Kept.{edge_at}
 use Rattle.pb_evidence.proofs.Gaining.{IsKeptBefore, kept_more, kept_skip, kept_all}
 use Rattle.pb_evidence.proofs.search.find_next.Goals as goal
-use Rattle.pb_evidence.proofs.search.find_next.Goals.{then-is_kept+in_ok-add, else-is_kept}
+use Rattle.pb_evidence.proofs.search.find_next.Goals.{then-keeps_edge+in_ok-add, else-keeps_edge}
 
 pub loop-u-preserved : goal.loop-u-preserved
 loop-u-preserved c =
@@ -14,15 +14,15 @@ loop-u-preserved c =
     let k = c.loop-u.u-index in
     let u = get_or c.successors-u-items.result.now k 0 in
     let at : get_or (successors_of g c.args.v) k 0 ≡ u = ap (λ (xs : List ℕ). get_or xs k 0) (sym c.successors-u-items.ensures.list) in
-    elim c.if-is_kept.branch [
-      | then-is_kept+in_ok-add w ↦
+    elim c.if-keeps_edge.branch [
+      | then-keeps_edge+in_ok-add w ↦
           let kept : IsKept g s c.args.v u = record {
             edge = edge_at g c.args.v k c.successors-u-items.ensures.list c.loop-u-test.true;
-            choice = c.is_kept.ensures.0 w.if-is_kept.true;
+            choice = c.keeps_edge.ensures.0 w.if-keeps_edge.true;
           } in
           subst (λ f. Gains (IsKeptBefore g s c.args.v (k + 1)) c.args.found.now f) (sym w.found-is)
           (kept_more g s c.args.v k u c.args.found.now c.loop-u.found _ at kept c.loop-u.invariant w.in_ok-add.ensures)
-      | else-is_kept w ↦
+      | else-keeps_edge w ↦
           subst (λ f. Gains (IsKeptBefore g s c.args.v (k + 1)) c.args.found.now f) (sym w.found-is)
           (kept_skip g s c.args.v k u c.args.found.now c.loop-u.found at (λ kept. search (rules, kept.choice)) c.loop-u.invariant)
     ]
