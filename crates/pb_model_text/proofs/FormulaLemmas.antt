@@ -278,7 +278,7 @@ module _ (scope : FixpointNames) (depth : ℕ) (s : State) (q : Quantifier) (is 
 -- ---- chains over chains
 
 -- where an operand fails, its chain does
-level-fails : (c : Connective) (scope : FixpointNames) (depth : ℕ) (s : State) (bad : Refusal) → operand c scope depth s ≡ Err bad → level c scope depth s ≡ Err bad
+pub level-fails : (c : Connective) (scope : FixpointNames) (depth : ℕ) (s : State) (bad : Refusal) → operand c scope depth s ≡ Err bad → level c scope depth s ≡ Err bad
 level-fails c scope depth s bad fails = level-chain c scope depth s ∙ resumed-first-fails (symbol_kind c) (FormulaForm.connected c) (operand c scope depth) (length s.tokens) s bad fails
 
 pub conjunction-fails : (scope : FixpointNames) (depth : ℕ) (s : State) (bad : Refusal) → level And scope depth s ≡ Err bad → formula scope depth s ≡ Err bad

@@ -162,7 +162,7 @@ named-state s is bad fails = at s.tokens s.operators is fails
     at (t ∷ ts) n is fails = let e : Ok (t, record { tokens = ts; operators = n }) ≡ Err bad =
         sym (ap (λ b. cond b (take_from (t ∷ ts) n) (refuse Unexpected (record { tokens = t ∷ ts; operators = n }))) is) ∙ fails in cc
 
-module _ (s s1 : State) (place : Place) (text : List ℕ) (taken : expect k.Name s ≡ Ok (token_at place k.Name text, s1)) where
+module _ (s : State) {s1 : State} {place : Place} {text : List ℕ} (taken : expect k.Name s ≡ Ok (token_at place k.Name text, s1)) where
   stands : s ≡ Before (token_at place k.Name text) s1
   stands = taken-first s s1 (token_at place k.Name text) taken
 
@@ -221,5 +221,6 @@ module _ (s s1 : State) (place : Place) (text : List ℕ) (taken : expect k.Name
           (sym stands) (joined-read place text s1 operand x word tells y z reads other)
 
 -- its text is owned
-pub name-owned : (s s1 : State) (place : Place) (text owned : List ℕ) → expect k.Name s ≡ Ok (token_at place k.Name text, s1) → owned ≡ text → name s ≡ Ok (record { place = place; text = owned }, s1)
-name-owned s s1 place text owned taken same = name-read s s1 place text taken ∙ ap (λ (v : List ℕ). Ok (record { place = place; text = v }, s1)) (sym same)
+pub name-owned : (s : State) {s1 : State} {place : Place} {text owned : List ℕ} → expect k.Name s ≡ Ok (token_at place k.Name text, s1) → owned ≡ text
+    → name s ≡ Ok (record { place = place; text = owned }, s1)
+name-owned s {s1} {place} {text} {owned} taken same = name-read s s1 place text taken ∙ ap (λ (v : List ℕ). Ok (record { place = place; text = v }, s1)) (sym same)

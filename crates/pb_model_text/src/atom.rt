@@ -1,13 +1,12 @@
 //! Reads data in formulas, and the variables of fixpoints.
 
-ghost use Rattle.std.specs.Prelude.{◌≡◌, ◌<◌, ◌≤◌, true, false, length, Ok, OnOk, MatchResult};
+ghost use Rattle.std.specs.Prelude.{◌≡◌, true, false, Ok, MatchResult};
 ghost use Rattle.pb_base.specs.Names.{is_spelled};
 ghost use Rattle.pb_text_tree.specs.Form.{term_form, argument_forms, instance_form, named};
-ghost use Rattle.pb_text_lexer.specs.Grammar.{State};
 ghost use Rattle.pb_text_lexer.specs.Kinds.{is_last};
 ghost use Rattle.pb_text_lexer.specs.Tokens.{tok, token_at};
 ghost use Rattle.pb_text_lexer.specs.Steps as spec;
-ghost use Rattle.pb_text_lexer.specs.Steps.{Gives};
+ghost use Rattle.pb_text_terms.specs.Readers.{ReadsOn, ReadsSome};
 ghost use Rattle.pb_text_terms.specs.Grammar as terms;
 ghost use Rattle.pb_text_terms.specs.Reading as terms_reading;
 ghost use Rattle.pb_protocol_tree.specs.Form.{FormulaForm, formula_form};
@@ -54,9 +53,8 @@ pub fn unless_going_on(input: &Input<'_>) -> Result<(), Refusal>
 /// `)`, behind which data doesn't go on.
 #[inline(never)]
 pub fn close<'a>(input: &mut Input<'a>) -> Result<Token<'a>, ReadingError>
-    ensures reads { Gives tok (spec.unless_next reading.goes_on (spec.expect Kind.Close) input.old)
-        result input.new }
-    ensures fewer { OnOk result (length input.new.tokens < length input.old.tokens) }
+    ensures { ReadsSome tok (spec.unless_next reading.goes_on (spec.expect Kind.Close))
+        input.old result input.new }
 {
     let bracket = input.expect(Kind::Close)?;
     unless_going_on(input)?;
@@ -77,8 +75,7 @@ pub fn unexpected_name(place: Place) -> Refusal
 /// An operand of data, in which so many levels may open.
 #[tactic(auto, unfolding(crate::specs::Reading::data_operand))]
 pub fn data_operand(input: &mut Input<'_>, alloc: Global, depth: u32) -> Result<Term, ReadingError>
-    ensures reads { Gives term_form (reading.data_operand depth input.old) result input.new }
-    ensures fewer { OnOk result (length input.new.tokens < length input.old.tokens) }
+    ensures { ReadsSome term_form (reading.data_operand depth) input.old result input.new }
 {
     unary(input, alloc, depth)
 }
@@ -90,9 +87,8 @@ pub fn instance_behind(
     depth: u32,
     name: Name,
 ) -> Result<Instance, ReadingError>
-    ensures reads { (s : State) → terms_reading.name s ≡ Ok (named name, input.old)
-        → Gives instance_form (terms_reading.instance depth s) result input.new }
-    ensures fewer { OnOk result (length input.new.tokens ≤ length input.old.tokens) }
+    ensures { ReadsOn instance_form (terms_reading.instance depth)
+        (λ s. terms_reading.name s ≡ Ok (named name, input.old)) input.old result input.new }
 {
     if !same_kind(input.kind(), Kind::Open) {
         let arguments = Vec::new(alloc);
@@ -131,11 +127,11 @@ pub fn name_atom<'a>(
     text: &'a str,
 ) -> Result<Formula, ReadingError>
     requires { is_spelled text.now ≡ true }
-    ensures reads { (s : State) → spec.kind s ≡ Kind.Name
-        → spec.expect Kind.Name s ≡ Ok (token_at place Kind.Name text.now, input.old)
-        → Gives formula_form (reading.atom (grammar.atom_of (names_of scope.entry.names.now))
-        (reading.data_operand scope.entry.depth) s) result input.new }
-    ensures fewer { OnOk result (length input.new.tokens ≤ length input.old.tokens) }
+    ensures { ReadsOn formula_form (reading.atom
+        (grammar.atom_of (names_of scope.entry.names.now)) (reading.data_operand scope.entry.depth))
+        (λ s. (spec.kind s ≡ Kind.Name)
+        × (spec.expect Kind.Name s ≡ Ok (token_at place Kind.Name text.now, input.old)))
+        input.old result input.new }
 {
     let text = text.to_owned(alloc)?;
     let instance = instance_behind(input, alloc, scope.depth, Name { place, text })?;
@@ -150,9 +146,8 @@ pub fn name_atom<'a>(
 #[inline(never)]
 #[tactic(auto, unfolding(crate::specs::Reading::data_operand))]
 pub fn data_atom(input: &mut Input<'_>, alloc: Global, depth: u32) -> Result<Formula, ReadingError>
-    ensures reads { Gives formula_form (reading.atom FormulaForm.«data»
-        (reading.data_operand depth) input.old) result input.new }
-    ensures fewer { OnOk result (length input.new.tokens < length input.old.tokens) }
+    ensures { ReadsSome formula_form (reading.atom FormulaForm.«data» (reading.data_operand depth))
+        input.old result input.new }
 {
     let place = input.place();
     let term = equated(input, alloc, depth)?;
@@ -168,9 +163,9 @@ pub fn value<'a>(
     scope: Scope<'_, 'a>,
 ) -> Result<Formula, ReadingError>
     requires { spec.kind input.old ≡ Kind.Val }
-    ensures reads { Gives formula_form (reading.plain (names_of scope.entry.names.now)
-        scope.entry.depth input.old) result input.new }
-    ensures fewer { OnOk result (length input.new.tokens < length input.old.tokens) }
+    ensures { ReadsSome formula_form
+        (reading.plain (names_of scope.entry.names.now) scope.entry.depth)
+        input.old result input.new }
 {
     let place = input.take().place;
     let term = data_operand(input, alloc, scope.depth)?;
@@ -182,8 +177,7 @@ pub fn value<'a>(
 #[inline(never)]
 pub fn constant(input: &mut Input<'_>, value: bool) -> Result<Formula, ReadingError>
     requires { is_last (spec.kind input.old) ≡ false }
-    ensures reads { Gives formula_form (reading.truth value input.old) result input.new }
-    ensures fewer { OnOk result (length input.new.tokens < length input.old.tokens) }
+    ensures { ReadsSome formula_form (reading.truth value) input.old result input.new }
 {
     let place = input.take().place;
     unless_going_on(input)?;

@@ -1,8 +1,9 @@
 //! Reads definitions: names for terms, between the state and the steps.
 
-ghost use Rattle.std.specs.Prelude.{◌≡◌, ◌<◌, ◌≤◌, length, OnOk, map};
+ghost use Rattle.std.specs.Prelude.{◌≡◌, map};
 ghost use Rattle.pb_text_lexer.specs.Steps as spec;
 ghost use Rattle.pb_text_lexer.specs.Steps.{Gives};
+ghost use Rattle.pb_text_terms.specs.Readers.{ReadsSome};
 ghost use Rattle.pb_text.specs.Parsing.{depth_limit};
 ghost use Rattle.pb_protocol_tree.specs.Form.{definition_form};
 ghost use Rattle.pb_model_text.specs.Reading as reading;
@@ -20,9 +21,8 @@ use std::alloc::Global;
 /// A name with its parameters, `=`, a term and `;`.
 #[tactic(auto, unfolding(crate::specs::Reading::definition_parts))]
 fn definition_parts(input: &mut Input<'_>, alloc: Global) -> Result<Definition, ReadingError>
-    ensures reads { Gives definition_form
-        (reading.definition_parts depth_limit input.old) result input.new }
-    ensures fewer { OnOk result (length input.new.tokens < length input.old.tokens) }
+    ensures { ReadsSome definition_form (reading.definition_parts depth_limit)
+        input.old result input.new }
 {
     let name = name(input, alloc)?;
     let parameters = parameters(input, alloc)?;
@@ -39,9 +39,8 @@ fn definition_parts(input: &mut Input<'_>, alloc: Global) -> Result<Definition, 
 /// A definition, with all the operators that one may have.
 #[tactic(auto, unfolding(crate::specs::Reading::definition))]
 fn definition(input: &mut Input<'_>, alloc: Global) -> Result<Definition, ReadingError>
-    ensures reads { Gives definition_form
-        (reading.definition depth_limit input.old) result input.new }
-    ensures fewer { OnOk result (length input.new.tokens < length input.old.tokens) }
+    ensures { ReadsSome definition_form (reading.definition depth_limit)
+        input.old result input.new }
 {
     let allowed = input.operators();
     let definition = definition_parts(input, alloc)?;

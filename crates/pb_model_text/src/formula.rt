@@ -6,6 +6,7 @@ ghost use Rattle.pb_text_tree.specs.Form.{chained};
 ghost use Rattle.pb_text_lexer.specs.Grammar.{State};
 ghost use Rattle.pb_text_lexer.specs.Steps as spec;
 ghost use Rattle.pb_text_lexer.specs.Steps.{Gives};
+ghost use Rattle.pb_text_terms.specs.Readers.{HasRead, ReadsOn, ReadsSome};
 ghost use Rattle.pb_text_terms.specs.Reading as terms;
 ghost use Rattle.pb_text_formulas.specs.Reading.{is_name_kind};
 ghost use Rattle.pb_protocol_tree.specs.Form.{FormulaForm, formula_form};
@@ -41,9 +42,9 @@ fn negation<'a>(
     scope: Scope<'_, 'a>,
 ) -> Result<Formula, ReadingError>
     requires { spec.kind input.old ≡ Kind.Not }
-    ensures reads { Gives formula_form (reading.plain (names_of scope.entry.names.now)
-        scope.entry.depth input.old) result input.new }
-    ensures fewer { OnOk result (length input.new.tokens < length input.old.tokens) }
+    ensures { ReadsSome formula_form
+        (reading.plain (names_of scope.entry.names.now) scope.entry.depth)
+        input.old result input.new }
 {
     let Scope { names, depth } = scope;
     let place = input.enter(depth)?.place;
@@ -62,9 +63,9 @@ fn bracketed<'a>(
     scope: Scope<'_, 'a>,
 ) -> Result<Formula, ReadingError>
     requires { spec.kind input.old ≡ Kind.Open }
-    ensures reads { Gives formula_form (reading.plain (names_of scope.entry.names.now)
-        scope.entry.depth input.old) result input.new }
-    ensures fewer { OnOk result (length input.new.tokens < length input.old.tokens) }
+    ensures { ReadsSome formula_form
+        (reading.plain (names_of scope.entry.names.now) scope.entry.depth)
+        input.old result input.new }
 {
     let Scope { names, depth } = scope;
     input.enter(depth)?;
@@ -83,9 +84,9 @@ fn modal<'a>(
     modality: Modality,
 ) -> Result<Formula, ReadingError>
     requires { spec.kind input.old ≡ reading.opening_kind modality }
-    ensures reads { Gives formula_form (reading.plain (names_of scope.entry.names.now)
-        scope.entry.depth input.old) result input.new }
-    ensures fewer { OnOk result (length input.new.tokens < length input.old.tokens) }
+    ensures { ReadsSome formula_form
+        (reading.plain (names_of scope.entry.names.now) scope.entry.depth)
+        input.old result input.new }
 {
     let Scope { names, depth } = scope;
     let place = input.enter(depth)?.place;
@@ -105,9 +106,9 @@ pub fn nameless<'a>(
     scope: Scope<'_, 'a>,
 ) -> Result<Formula, ReadingError>
     requires { is_name_kind (spec.kind input.old) ≡ false }
-    ensures reads { Gives formula_form (reading.plain (names_of scope.entry.names.now)
-        scope.entry.depth input.old) result input.new }
-    ensures fewer { OnOk result (length input.new.tokens < length input.old.tokens) }
+    ensures { ReadsSome formula_form
+        (reading.plain (names_of scope.entry.names.now) scope.entry.depth)
+        input.old result input.new }
 {
     match input.kind() {
         Kind::Not => negation(input, alloc, scope),
@@ -132,10 +133,9 @@ fn body<'a>(
     scope: Scope<'_, 'a>,
     name: &'a str,
 ) -> Result<Formula, ReadingError>
-    ensures reads { Gives formula_form (reading.formula
-        (grammar.within (names_of scope.entry.names.now) name.now) scope.entry.depth input.old)
-        result input.new }
-    ensures fewer { OnOk result (length input.new.tokens < length input.old.tokens) }
+    ensures { ReadsSome formula_form
+        (reading.formula (grammar.within
+        (names_of scope.entry.names.now) name.now) scope.entry.depth) input.old result input.new }
 {
     let depth = scope.depth;
     let names = extended(alloc, scope.names, name)?;
@@ -154,9 +154,9 @@ fn fixpoint<'a>(
     sign: Sign,
 ) -> Result<Formula, ReadingError>
     requires { reading.sign_of (spec.kind input.old) ≡ Some sign }
-    ensures reads { Gives formula_form (reading.fixpoint (names_of scope.entry.names.now)
-        scope.entry.depth input.old) result input.new }
-    ensures fewer { OnOk result (length input.new.tokens < length input.old.tokens) }
+    ensures { ReadsSome formula_form
+        (reading.fixpoint (names_of scope.entry.names.now) scope.entry.depth)
+        input.old result input.new }
 {
     let Scope { names, depth } = scope;
     let place = input.enter(depth)?.place;
@@ -188,9 +188,9 @@ fn quantified<'a>(
     quantifier: Quantifier,
 ) -> Result<Formula, ReadingError>
     requires { terms.quantifier_of (spec.kind input.old) ≡ Some quantifier }
-    ensures reads { Gives formula_form (reading.quantification (names_of scope.entry.names.now)
-        scope.entry.depth input.old) result input.new }
-    ensures fewer { OnOk result (length input.new.tokens < length input.old.tokens) }
+    ensures { ReadsSome formula_form
+        (reading.quantification (names_of scope.entry.names.now) scope.entry.depth)
+        input.old result input.new }
 {
     let Scope { names, depth } = scope;
     let place = input.enter(depth)?.place;
@@ -215,9 +215,9 @@ fn operand<'a>(
     connective: Connective,
     scope: Scope<'_, 'a>,
 ) -> Result<Formula, ReadingError>
-    ensures reads { Gives formula_form (reading.operand connective (names_of scope.entry.names.now)
-        scope.entry.depth input.old) result input.new }
-    ensures fewer { OnOk result (length input.new.tokens < length input.old.tokens) }
+    ensures { ReadsSome formula_form
+        (reading.operand connective (names_of scope.entry.names.now) scope.entry.depth)
+        input.old result input.new }
 {
     match connective {
         Connective::And => match sign(input.kind()) {
@@ -268,12 +268,10 @@ fn chain<'a>(
     scope: Scope<'_, 'a>,
     first: Formula,
 ) -> Result<Formula, ReadingError>
-    ensures reads { (s : State) → reading.operand connective (names_of scope.entry.names.now)
-        scope.entry.depth s ≡ Ok (formula_form first, input.old)
-        → length input.old.tokens < length s.tokens
-        → Gives formula_form (reading.level connective (names_of scope.entry.names.now)
-        scope.entry.depth s) result input.new }
-    ensures fewer { OnOk result (length input.new.tokens ≤ length input.old.tokens) }
+    ensures { ReadsOn formula_form
+        (reading.level connective (names_of scope.entry.names.now) scope.entry.depth)
+        (HasRead (reading.operand connective (names_of scope.entry.names.now) scope.entry.depth)
+        (formula_form first) input.old) input.old result input.new }
 {
     let links = links_behind(input, alloc, connective, scope);
     let (start, links) = both(first, links)?;
@@ -290,12 +288,10 @@ fn chain_behind<'a>(
     scope: Scope<'_, 'a>,
     first: Formula,
 ) -> Result<Formula, ReadingError>
-    ensures reads { (s : State) → reading.operand connective (names_of scope.entry.names.now)
-        scope.entry.depth s ≡ Ok (formula_form first, input.old)
-        → length input.old.tokens < length s.tokens
-        → Gives formula_form (reading.level connective (names_of scope.entry.names.now)
-        scope.entry.depth s) result input.new }
-    ensures fewer { OnOk result (length input.new.tokens ≤ length input.old.tokens) }
+    ensures { ReadsOn formula_form
+        (reading.level connective (names_of scope.entry.names.now) scope.entry.depth)
+        (HasRead (reading.operand connective (names_of scope.entry.names.now) scope.entry.depth)
+        (formula_form first) input.old) input.old result input.new }
 {
     if !same_kind(input.kind(), symbol(connective)) {
         return Ok(first);
@@ -311,9 +307,9 @@ fn level<'a>(
     connective: Connective,
     scope: Scope<'_, 'a>,
 ) -> Result<Formula, ReadingError>
-    ensures reads { Gives formula_form (reading.level connective (names_of scope.entry.names.now)
-        scope.entry.depth input.old) result input.new }
-    ensures fewer { OnOk result (length input.new.tokens < length input.old.tokens) }
+    ensures { ReadsSome formula_form
+        (reading.level connective (names_of scope.entry.names.now) scope.entry.depth)
+        input.old result input.new }
 {
     let first = operand(input, alloc, connective, scope);
     if !same_kind(input.kind(), symbol(connective)) {
@@ -331,12 +327,10 @@ fn connectives_behind<'a>(
     scope: Scope<'_, 'a>,
     first: Formula,
 ) -> Result<Formula, ReadingError>
-    ensures reads { (s : State) → reading.primary (names_of scope.entry.names.now)
-        scope.entry.depth s ≡ Ok (formula_form first, input.old)
-        → length input.old.tokens < length s.tokens
-        → Gives formula_form (reading.formula (names_of scope.entry.names.now)
-        scope.entry.depth s) result input.new }
-    ensures fewer { OnOk result (length input.new.tokens ≤ length input.old.tokens) }
+    ensures { ReadsOn formula_form
+        (reading.formula (names_of scope.entry.names.now) scope.entry.depth)
+        (HasRead (reading.primary (names_of scope.entry.names.now) scope.entry.depth)
+        (formula_form first) input.old) input.old result input.new }
 {
     let conjunction = chain_behind(input, alloc, Connective::And, scope, first)?;
     let disjunction = chain_behind(input, alloc, Connective::Or, scope, conjunction)?;
@@ -350,9 +344,9 @@ pub fn formula<'a>(
     alloc: Global,
     scope: Scope<'_, 'a>,
 ) -> Result<Formula, ReadingError>
-    ensures reads { Gives formula_form (reading.formula (names_of scope.entry.names.now)
-        scope.entry.depth input.old) result input.new }
-    ensures fewer { OnOk result (length input.new.tokens < length input.old.tokens) }
+    ensures { ReadsSome formula_form
+        (reading.formula (names_of scope.entry.names.now) scope.entry.depth)
+        input.old result input.new }
 {
     let first = operand(input, alloc, Connective::And, scope);
     if !is_connective(input.kind()) {

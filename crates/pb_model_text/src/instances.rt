@@ -1,8 +1,8 @@
 //! Reads the step of a name in a set of steps, for all values of its own variables or for some.
 
-ghost use Rattle.std.specs.Prelude.{◌≡◌, ◌<◌, length, OnOk, IfOk, map};
+ghost use Rattle.std.specs.Prelude.{◌≡◌, IfOk, map};
+ghost use Rattle.pb_text_terms.specs.Readers.{ReadsSome};
 ghost use Rattle.pb_text_tree.specs.Form.{argument_forms, instance_form, term_form};
-ghost use Rattle.pb_text_lexer.specs.Steps.{Gives};
 ghost use Rattle.pb_protocol_tree.specs.Form.{step_set_form, step_value_form};
 ghost use Rattle.pb_model_text.specs.Grammar as grammar;
 ghost use Rattle.pb_model_text.specs.Reading as reading;
@@ -74,8 +74,7 @@ pub fn step_instances(
     alloc: Global,
     depth: u32,
 ) -> Result<StepSet, ReadingError>
-    ensures reads { Gives step_set_form (reading.instances depth input.old) result input.new }
-    ensures fewer { OnOk result (length input.new.tokens < length input.old.tokens) }
+    ensures { ReadsSome step_set_form (reading.instances depth) input.old result input.new }
 {
     let instance = instance(input, alloc, depth)?;
     Ok(set_of(alloc, instance)?)

@@ -1,8 +1,8 @@
 //! What stands in the brackets of a modality, and its node.
 
-ghost use Rattle.std.specs.Prelude.{◌≡◌, ◌<◌, length, IfOk, OnOk};
+ghost use Rattle.std.specs.Prelude.{◌≡◌, IfOk};
+ghost use Rattle.pb_text_terms.specs.Readers.{ReadsSome};
 ghost use Rattle.pb_protocol_tree.specs.Form.{FormulaForm, formula_form, step_set_form};
-ghost use Rattle.pb_text_lexer.specs.Steps.{Gives};
 ghost use Rattle.pb_model_text.specs.Reading as reading;
 
 use crate::step_set::step_set;
@@ -52,9 +52,8 @@ pub fn modal_steps(
     depth: u32,
     modality: Modality,
 ) -> Result<StepSet, ReadingError>
-    ensures reads { Gives step_set_form
-        (reading.modal_steps modality (reading.step_set depth) input.old) result input.new }
-    ensures fewer { OnOk result (length input.new.tokens < length input.old.tokens) }
+    ensures { ReadsSome step_set_form (reading.modal_steps modality (reading.step_set depth))
+        input.old result input.new }
 {
     let steps = step_set(input, alloc, depth)?;
     input.expect(closing(modality))?;

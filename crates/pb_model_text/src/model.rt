@@ -1,7 +1,8 @@
 //! Reads the initial state, properties and whole models.
 
-ghost use Rattle.std.specs.Prelude.{◌≡◌, ◌<◌, length, OnOk, map, []};
+ghost use Rattle.std.specs.Prelude.{map, []};
 ghost use Rattle.pb_text_lexer.specs.Steps.{Gives};
+ghost use Rattle.pb_text_terms.specs.Readers.{ReadsSome};
 ghost use Rattle.pb_text.specs.Parsing.{depth_limit};
 ghost use Rattle.pb_model_tree.specs.Form.{initial_form};
 ghost use Rattle.pb_protocol_tree.specs.Form.{property_form, protocol_form};
@@ -48,9 +49,8 @@ fn initial(input: &mut Input<'_>, alloc: Global) -> Result<InitialState, Reading
 /// `property`, a name, `=`, a formula and `;`.
 #[tactic(auto, unfolding(crate::specs::Reading::property_parts))]
 fn property_parts(input: &mut Input<'_>, alloc: Global) -> Result<Property, ReadingError>
-    ensures reads { Gives property_form
-        (reading.property_parts depth_limit input.old) result input.new }
-    ensures fewer { OnOk result (length input.new.tokens < length input.old.tokens) }
+    ensures { ReadsSome property_form (reading.property_parts depth_limit)
+        input.old result input.new }
 {
     input.expect(Kind::Property)?;
     let name = name(input, alloc)?;
@@ -67,8 +67,7 @@ fn property_parts(input: &mut Input<'_>, alloc: Global) -> Result<Property, Read
 /// A property, with all the operators that one may have.
 #[tactic(auto, unfolding(crate::specs::Reading::property))]
 fn property(input: &mut Input<'_>, alloc: Global) -> Result<Property, ReadingError>
-    ensures reads { Gives property_form (reading.property depth_limit input.old) result input.new }
-    ensures fewer { OnOk result (length input.new.tokens < length input.old.tokens) }
+    ensures { ReadsSome property_form (reading.property depth_limit) input.old result input.new }
 {
     let allowed = input.operators();
     let property = property_parts(input, alloc)?;

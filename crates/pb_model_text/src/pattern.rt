@@ -1,10 +1,10 @@
 //! Makes the formulas that words stand for. What a word inserts stands at its place.
 
-ghost use Rattle.std.specs.Prelude.{◌≡◌, ◌≤◌, true, length, map, IfOk, OnOk};
+ghost use Rattle.std.specs.Prelude.{◌≡◌, true, map, IfOk};
 ghost use Rattle.pb_base.specs.Names.{is_spelled};
 ghost use Rattle.pb_text_tree.specs.Form.{named};
 ghost use Rattle.pb_text_lexer.specs.Steps as spec;
-ghost use Rattle.pb_text_lexer.specs.Steps.{Gives};
+ghost use Rattle.pb_text_terms.specs.Readers.{MayRead};
 ghost use Rattle.pb_protocol_tree.specs.Form.{formula_form, step_set_form};
 ghost use Rattle.pb_protocol_copies.specs.Links.{link_forms};
 ghost use Rattle.pb_model_text.specs.Links.{processes_form};
@@ -291,9 +291,8 @@ pub fn constant_word(
     alloc: Global,
     place: Place,
 ) -> Result<Formula, ReadingError>
-    ensures reads { Gives formula_form (spec.unless_next reading.goes_on
-        (spec.pure (words.no_deadlock place)) input.old) result input.new }
-    ensures fewer { OnOk result (length input.new.tokens ≤ length input.old.tokens) }
+    ensures { MayRead formula_form (spec.unless_next reading.goes_on
+        (spec.pure (words.no_deadlock place))) input.old result input.new }
 {
     unless_going_on(input)?;
     Ok(no_deadlock(alloc, place)?)

@@ -1,8 +1,8 @@
 //! Reads the sets of steps behind `fair`, each of which is a process.
 
-ghost use Rattle.std.specs.Prelude.{◌≡◌, ◌<◌, ◌≤◌, length, map, OnOk};
+ghost use Rattle.std.specs.Prelude.{◌<◌, map, OnOk};
+ghost use Rattle.pb_text_terms.specs.Readers.{MayRead, ReadsSome};
 ghost use Rattle.pb_protocol_tree.specs.Form.{step_set_form};
-ghost use Rattle.pb_text_lexer.specs.Steps.{Gives};
 ghost use Rattle.pb_model_text.specs.Grammar as grammar;
 ghost use Rattle.pb_model_text.specs.Links.{processes_form};
 ghost use Rattle.pb_model_text.specs.Reading as reading;
@@ -34,10 +34,9 @@ fn other_sets(
     alloc: Global,
     depth: u32,
 ) -> Result<Vec<StepSet>, ReadingError>
-    ensures reads { Gives (λ v. map step_set_form v.items)
-        (reading.other_sets grammar.most_others (reading.step_set depth) input.old)
-        result input.new }
-    ensures fewer { OnOk result (length input.new.tokens ≤ length input.old.tokens) }
+    ensures { MayRead (λ v. map step_set_form v.items)
+        (reading.other_sets grammar.most_others (reading.step_set depth))
+        input.old result input.new }
 {
     let mut others = Vec::new(alloc);
     'others: while same_kind(input.kind(), Kind::Comma) {
@@ -53,9 +52,8 @@ fn other_sets(
 
 /// `inevitably`, which stands at this place.
 fn fairly(input: &mut Input<'_>) -> Result<Place, ReadingError>
-    ensures reads { Gives (λ place. (tt, place)) (reading.take_word words.fairly_of input.old)
-        result input.new }
-    ensures fewer { OnOk result (length input.new.tokens < length input.old.tokens) }
+    ensures { ReadsSome (λ place. (tt, place)) (reading.take_word words.fairly_of)
+        input.old result input.new }
 {
     let (place, text) = input.expect_name()?;
     if !is_fairly(text.as_bytes()) {
@@ -70,9 +68,8 @@ fn processes_behind(
     alloc: Global,
     depth: u32,
 ) -> Result<Processes, ReadingError>
-    ensures reads { Gives processes_form
-        (reading.processes_behind (reading.step_set depth) input.old) result input.new }
-    ensures fewer { OnOk result (length input.new.tokens < length input.old.tokens) }
+    ensures { ReadsSome processes_form (reading.processes_behind (reading.step_set depth))
+        input.old result input.new }
 {
     let first = step_set(input, alloc, depth)?;
     let others = other_sets(input, alloc, depth)?;
@@ -88,9 +85,8 @@ pub fn process_sets(
     alloc: Global,
     depth: u32,
 ) -> Result<Processes, ReadingError>
-    ensures reads { Gives processes_form (reading.processes depth input.old) result input.new }
+    ensures reads { ReadsSome processes_form (reading.processes depth) input.old result input.new }
     ensures deeper { OnOk result (0 < depth) }
-    ensures fewer { OnOk result (length input.new.tokens < length input.old.tokens) }
 {
     if !same_kind(input.kind(), Kind::Open) {
         return Err(ReadingError::Refused(input.refuse(ReadingRule::Unexpected)));

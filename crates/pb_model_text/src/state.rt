@@ -1,7 +1,7 @@
 //! Reads the state variables of a protocol, with the indices of arrays.
 
-ghost use Rattle.std.specs.Prelude.{◌≡◌, ◌<◌, length, OnOk, map, flat_map};
-ghost use Rattle.pb_text_lexer.specs.Steps.{Gives};
+ghost use Rattle.std.specs.Prelude.{map, flat_map};
+ghost use Rattle.pb_text_terms.specs.Readers.{ReadsSome};
 ghost use Rattle.pb_text.specs.Parsing.{depth_limit};
 ghost use Rattle.pb_protocol_tree.specs.Form.{state_variables_form};
 ghost use Rattle.pb_model_text.specs.Links.{indexed};
@@ -18,8 +18,7 @@ use std::alloc::Global;
 /// A name, with indices in brackets where it is an array.
 #[tactic(auto, unfolding(crate::specs::Reading::indexed_name))]
 fn state_variable(input: &mut Input<'_>, alloc: Global) -> Result<StateVariable, ReadingError>
-    ensures reads { Gives indexed (reading.indexed_name depth_limit input.old) result input.new }
-    ensures fewer { OnOk result (length input.new.tokens < length input.old.tokens) }
+    ensures { ReadsSome indexed (reading.indexed_name depth_limit) input.old result input.new }
 {
     let name = name(input, alloc)?;
     let indices = parameters(input, alloc)?;
@@ -28,9 +27,8 @@ fn state_variable(input: &mut Input<'_>, alloc: Global) -> Result<StateVariable,
 
 /// State variables with commas between them.
 fn variable_list(input: &mut Input<'_>, alloc: Global) -> Result<Vec<StateVariable>, ReadingError>
-    ensures reads { Gives (λ v. map indexed v.items)
-        (reading.indexed_names depth_limit input.old) result input.new }
-    ensures fewer { OnOk result (length input.new.tokens < length input.old.tokens) }
+    ensures { ReadsSome (λ v. map indexed v.items) (reading.indexed_names depth_limit)
+        input.old result input.new }
 {
     let mut variables = Vec::with_capacity(alloc, 1)?;
     'variables: loop {
@@ -46,9 +44,8 @@ fn variable_list(input: &mut Input<'_>, alloc: Global) -> Result<Vec<StateVariab
 /// State variables with commas between them, a colon and their sort.
 #[tactic(auto, unfolding(crate::specs::Reading::state_group))]
 fn state_group(input: &mut Input<'_>, alloc: Global) -> Result<StateVariables, ReadingError>
-    ensures reads { Gives state_variables_form
-        (reading.state_group depth_limit input.old) result input.new }
-    ensures fewer { OnOk result (length input.new.tokens < length input.old.tokens) }
+    ensures { ReadsSome state_variables_form (reading.state_group depth_limit)
+        input.old result input.new }
 {
     let variables = variable_list(input, alloc)?;
     input.expect(Kind::Colon)?;
@@ -61,9 +58,8 @@ pub fn state_variables(
     input: &mut Input<'_>,
     alloc: Global,
 ) -> Result<Vec<StateVariables>, ReadingError>
-    ensures reads { Gives (λ v. flat_map state_variables_form v.items)
-        (reading.state_variables depth_limit input.old) result input.new }
-    ensures fewer { OnOk result (length input.new.tokens < length input.old.tokens) }
+    ensures { ReadsSome (λ v. flat_map state_variables_form v.items)
+        (reading.state_variables depth_limit) input.old result input.new }
 {
     let mut variables = Vec::with_capacity(alloc, 1)?;
     'groups: loop {

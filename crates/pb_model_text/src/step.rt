@@ -1,8 +1,9 @@
 //! Reads steps: their names, variables, guards and assignments.
 
-ghost use Rattle.std.specs.Prelude.{◌≡◌, ◌<◌, length, OnOk, map};
+ghost use Rattle.std.specs.Prelude.{◌≡◌, map};
 ghost use Rattle.pb_text_lexer.specs.Steps as spec;
 ghost use Rattle.pb_text_lexer.specs.Steps.{Gives};
+ghost use Rattle.pb_text_terms.specs.Readers.{ReadsSome};
 ghost use Rattle.pb_text.specs.Parsing.{depth_limit};
 ghost use Rattle.pb_protocol_tree.specs.Form.{assignment_form, step_form};
 ghost use Rattle.pb_model_text.specs.Reading as reading;
@@ -21,9 +22,8 @@ use std::alloc::Global;
 /// A state variable, with its index where it is an array, `:=` and the term whose value it gets.
 #[tactic(auto, unfolding(crate::specs::Reading::assignment))]
 fn assignment(input: &mut Input<'_>, alloc: Global) -> Result<Assignment, ReadingError>
-    ensures reads { Gives assignment_form
-        (reading.assignment depth_limit input.old) result input.new }
-    ensures fewer { OnOk result (length input.new.tokens < length input.old.tokens) }
+    ensures { ReadsSome assignment_form (reading.assignment depth_limit)
+        input.old result input.new }
 {
     let assigned = instance(input, alloc, MAX_DEPTH as u32)?;
     input.expect(Kind::Assign)?;
@@ -38,9 +38,8 @@ fn assignment(input: &mut Input<'_>, alloc: Global) -> Result<Assignment, Readin
 
 /// Assignments with commas between them.
 fn assignments(input: &mut Input<'_>, alloc: Global) -> Result<Vec<Assignment>, ReadingError>
-    ensures reads { Gives (λ v. map assignment_form v.items)
-        (reading.assignments depth_limit input.old) result input.new }
-    ensures fewer { OnOk result (length input.new.tokens < length input.old.tokens) }
+    ensures { ReadsSome (λ v. map assignment_form v.items) (reading.assignments depth_limit)
+        input.old result input.new }
 {
     let mut assignments = Vec::with_capacity(alloc, 1)?;
     'assignments: loop {
@@ -57,9 +56,8 @@ fn assignments(input: &mut Input<'_>, alloc: Global) -> Result<Vec<Assignment>, 
 #[inline(never)]
 #[tactic(auto, unfolding(crate::specs::Reading::assigned_by))]
 fn some_assigned(input: &mut Input<'_>, alloc: Global) -> Result<Vec<Assignment>, ReadingError>
-    ensures reads { Gives (λ v. map assignment_form v.items)
-        (reading.assigned_by depth_limit Kind.Name input.old) result input.new }
-    ensures fewer { OnOk result (length input.new.tokens < length input.old.tokens) }
+    ensures { ReadsSome (λ v. map assignment_form v.items)
+        (reading.assigned_by depth_limit Kind.Name) input.old result input.new }
 {
     let assignments = assignments(input, alloc)?;
     input.expect(Kind::Semicolon)?;
@@ -71,9 +69,8 @@ fn some_assigned(input: &mut Input<'_>, alloc: Global) -> Result<Vec<Assignment>
 #[tactic(auto, unfolding(crate::specs::Reading::assigned_by))]
 fn none_assigned(input: &mut Input<'_>, alloc: Global) -> Result<Vec<Assignment>, ReadingError>
     requires { spec.kind input.old ≡ Kind.Skip }
-    ensures reads { Gives (λ v. map assignment_form v.items)
-        (reading.assigned_by depth_limit Kind.Skip input.old) result input.new }
-    ensures fewer { OnOk result (length input.new.tokens < length input.old.tokens) }
+    ensures { ReadsSome (λ v. map assignment_form v.items)
+        (reading.assigned_by depth_limit Kind.Skip) input.old result input.new }
 {
     input.take();
     input.expect(Kind::Semicolon)?;
@@ -83,9 +80,8 @@ fn none_assigned(input: &mut Input<'_>, alloc: Global) -> Result<Vec<Assignment>
 /// `skip`, or assignments, and `;`.
 #[tactic(auto, unfolding(crate::specs::Reading::assigned, crate::specs::Reading::assigned_by))]
 fn assigned(input: &mut Input<'_>, alloc: Global) -> Result<Vec<Assignment>, ReadingError>
-    ensures reads { Gives (λ v. map assignment_form v.items)
-        (reading.assigned depth_limit input.old) result input.new }
-    ensures fewer { OnOk result (length input.new.tokens < length input.old.tokens) }
+    ensures { ReadsSome (λ v. map assignment_form v.items) (reading.assigned depth_limit)
+        input.old result input.new }
 {
     match input.kind() {
         Kind::Skip => none_assigned(input, alloc),
@@ -97,8 +93,7 @@ fn assigned(input: &mut Input<'_>, alloc: Global) -> Result<Vec<Assignment>, Rea
 /// A name with its variables, `:`, a guard, `->`, what is assigned and `;`.
 #[tactic(auto, unfolding(crate::specs::Reading::step_parts))]
 fn step_parts(input: &mut Input<'_>, alloc: Global) -> Result<Step, ReadingError>
-    ensures reads { Gives step_form (reading.step_parts depth_limit input.old) result input.new }
-    ensures fewer { OnOk result (length input.new.tokens < length input.old.tokens) }
+    ensures { ReadsSome step_form (reading.step_parts depth_limit) input.old result input.new }
 {
     let name = name(input, alloc)?;
     let variables = parameters(input, alloc)?;
@@ -117,8 +112,7 @@ fn step_parts(input: &mut Input<'_>, alloc: Global) -> Result<Step, ReadingError
 /// A step, with all the operators that one may have.
 #[tactic(auto, unfolding(crate::specs::Reading::step))]
 fn step(input: &mut Input<'_>, alloc: Global) -> Result<Step, ReadingError>
-    ensures reads { Gives step_form (reading.step depth_limit input.old) result input.new }
-    ensures fewer { OnOk result (length input.new.tokens < length input.old.tokens) }
+    ensures { ReadsSome step_form (reading.step depth_limit) input.old result input.new }
 {
     let allowed = input.operators();
     let step = step_parts(input, alloc)?;

@@ -1,11 +1,11 @@
 //! Reads sets of steps, by recursive descent. Sets with `||` between them are read by a loop, so
 //! that the recursion is as deep as brackets and `!` nest.
 
-ghost use Rattle.std.specs.Prelude.{◌≡◌, ◌<◌, length, OnOk, IfOk};
+ghost use Rattle.std.specs.Prelude.{◌≡◌, IfOk};
 ghost use Rattle.pb_text_tree.specs.Form.{chained};
 ghost use Rattle.pb_protocol_tree.specs.Form.{StepSetForm, step_set_form};
 ghost use Rattle.pb_text_lexer.specs.Steps as spec;
-ghost use Rattle.pb_text_lexer.specs.Steps.{Gives};
+ghost use Rattle.pb_text_terms.specs.Readers.{ReadsSome};
 ghost use Rattle.pb_protocol_copies.specs.Links.{step_set_links};
 ghost use Rattle.pb_model_text.specs.Reading as reading;
 
@@ -36,8 +36,7 @@ fn joined(alloc: Global, first: StepSet, links: Vec<StepSetLink>) -> Result<Step
 #[tactic(auto, unfolding(crate::specs::Reading::set))]
 fn complement(input: &mut Input<'_>, alloc: Global, depth: u32) -> Result<StepSet, ReadingError>
     requires { spec.kind input.old ≡ Kind.Not }
-    ensures reads { Gives step_set_form (reading.set depth input.old) result input.new }
-    ensures fewer { OnOk result (length input.new.tokens < length input.old.tokens) }
+    ensures { ReadsSome step_set_form (reading.set depth) input.old result input.new }
 {
     let place = input.enter(depth)?.place;
     let operand = set(input, alloc, depth - 1)?;
@@ -51,8 +50,7 @@ fn complement(input: &mut Input<'_>, alloc: Global, depth: u32) -> Result<StepSe
 #[tactic(auto, unfolding(crate::specs::Reading::set))]
 fn bracketed(input: &mut Input<'_>, alloc: Global, depth: u32) -> Result<StepSet, ReadingError>
     requires { spec.kind input.old ≡ Kind.Open }
-    ensures reads { Gives step_set_form (reading.set depth input.old) result input.new }
-    ensures fewer { OnOk result (length input.new.tokens < length input.old.tokens) }
+    ensures { ReadsSome step_set_form (reading.set depth) input.old result input.new }
 {
     input.enter(depth)?;
     let inner = step_set(input, alloc, depth - 1)?;
@@ -66,8 +64,7 @@ fn bracketed(input: &mut Input<'_>, alloc: Global, depth: u32) -> Result<StepSet
 #[cycle(step_sets)]
 #[tactic(auto, unfolding(crate::specs::Reading::set))]
 fn set(input: &mut Input<'_>, alloc: Global, depth: u32) -> Result<StepSet, ReadingError>
-    ensures reads { Gives step_set_form (reading.set depth input.old) result input.new }
-    ensures fewer { OnOk result (length input.new.tokens < length input.old.tokens) }
+    ensures { ReadsSome step_set_form (reading.set depth) input.old result input.new }
 {
     match input.kind() {
         Kind::True => {
@@ -85,8 +82,7 @@ fn set(input: &mut Input<'_>, alloc: Global, depth: u32) -> Result<StepSet, Read
 /// Sets of steps with `||` between them, in which so many levels may open.
 #[cycle(step_sets)]
 pub fn step_set(input: &mut Input<'_>, alloc: Global, depth: u32) -> Result<StepSet, ReadingError>
-    ensures reads { Gives step_set_form (reading.step_set depth input.old) result input.new }
-    ensures fewer { OnOk result (length input.new.tokens < length input.old.tokens) }
+    ensures { ReadsSome step_set_form (reading.step_set depth) input.old result input.new }
 {
     let first = set(input, alloc, depth)?;
     let mut links = Vec::new(alloc);

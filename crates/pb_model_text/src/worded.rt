@@ -1,8 +1,8 @@
 //! Reads operands of formulas, with the words that stand before them or between two.
 
-ghost use Rattle.std.specs.Prelude.{◌≡◌, ◌<◌, ◌≤◌, length, OnOk};
+ghost use Rattle.std.specs.Prelude.{◌≡◌};
 ghost use Rattle.pb_text_lexer.specs.Steps as spec;
-ghost use Rattle.pb_text_lexer.specs.Steps.{Gives};
+ghost use Rattle.pb_text_terms.specs.Readers.{MayRead, ReadsSome};
 ghost use Rattle.pb_text_formulas.specs.Reading.{is_name_kind};
 ghost use Rattle.pb_protocol_tree.specs.Form.{formula_form};
 ghost use Rattle.pb_model_text.specs.Grammar as grammar;
@@ -32,9 +32,9 @@ fn wordless<'a>(
     alloc: Global,
     scope: Scope<'_, 'a>,
 ) -> Result<Formula, ReadingError>
-    ensures reads { Gives formula_form (reading.wordless (reading.plain
-        (names_of scope.entry.names.now) scope.entry.depth) input.old) result input.new }
-    ensures fewer { OnOk result (length input.new.tokens < length input.old.tokens) }
+    ensures { ReadsSome formula_form
+        (reading.wordless (reading.plain (names_of scope.entry.names.now) scope.entry.depth))
+        input.old result input.new }
 {
     if !same_kind(input.kind(), Kind::Name) {
         return nameless(input, alloc, scope);
@@ -54,9 +54,9 @@ fn fair_operand<'a>(
     alloc: Global,
     scope: Scope<'_, 'a>,
 ) -> Result<Formula, ReadingError>
-    ensures reads { Gives formula_form (reading.wordless (reading.plain (grammar.within_fair
-        (names_of scope.entry.names.now)) scope.entry.depth) input.old) result input.new }
-    ensures fewer { OnOk result (length input.new.tokens < length input.old.tokens) }
+    ensures { ReadsSome formula_form
+        (reading.wordless (reading.plain (grammar.within_fair
+        (names_of scope.entry.names.now)) scope.entry.depth)) input.old result input.new }
 {
     let depth = scope.depth;
     let names = extended(alloc, scope.names, "fair")?;
@@ -73,9 +73,9 @@ fn behind_fair<'a>(
     scope: Scope<'_, 'a>,
     place: Place,
 ) -> Result<Formula, ReadingError>
-    ensures reads { Gives formula_form (reading.behind_fair (names_of scope.entry.names.now)
-        scope.entry.depth place input.old) result input.new }
-    ensures fewer { OnOk result (length input.new.tokens < length input.old.tokens) }
+    ensures { ReadsSome formula_form
+        (reading.behind_fair (names_of scope.entry.names.now) scope.entry.depth place)
+        input.old result input.new }
 {
     let Scope { names, depth } = scope;
     let sets = process_sets(input, alloc, depth)?;
@@ -95,11 +95,10 @@ fn led<'a>(
     word: Leading,
     place: Place,
 ) -> Result<Formula, ReadingError>
-    ensures reads { Gives formula_form (reading.led_by
+    ensures { MayRead formula_form (reading.led_by
         (reading.behind_fair (names_of scope.entry.names.now) scope.entry.depth)
         (reading.wordless (reading.plain (names_of scope.entry.names.now) scope.entry.depth))
-        word place input.old) result input.new }
-    ensures fewer { OnOk result (length input.new.tokens ≤ length input.old.tokens) }
+        word place) input.old result input.new }
 {
     match word {
         Leading::NoDeadlock => constant_word(input, alloc, place),
@@ -120,9 +119,9 @@ fn named<'a>(
     scope: Scope<'_, 'a>,
 ) -> Result<Formula, ReadingError>
     requires { spec.kind input.old ≡ Kind.Name }
-    ensures reads { Gives formula_form (reading.node (names_of scope.entry.names.now)
-        scope.entry.depth input.old) result input.new }
-    ensures fewer { OnOk result (length input.new.tokens < length input.old.tokens) }
+    ensures { ReadsSome formula_form
+        (reading.node (names_of scope.entry.names.now) scope.entry.depth)
+        input.old result input.new }
 {
     let (place, text) = input.expect_name()?;
     if !is_word(text.as_bytes()) {
@@ -141,9 +140,9 @@ pub fn node<'a>(
     alloc: Global,
     scope: Scope<'_, 'a>,
 ) -> Result<Formula, ReadingError>
-    ensures reads { Gives formula_form (reading.node (names_of scope.entry.names.now)
-        scope.entry.depth input.old) result input.new }
-    ensures fewer { OnOk result (length input.new.tokens < length input.old.tokens) }
+    ensures { ReadsSome formula_form
+        (reading.node (names_of scope.entry.names.now) scope.entry.depth)
+        input.old result input.new }
 {
     if same_kind(input.kind(), Kind::Name) {
         named(input, alloc, scope)
@@ -163,10 +162,10 @@ fn joined_behind<'a>(
     first: Formula,
 ) -> Result<Formula, ReadingError>
     requires { spec.kind input.old ≡ Kind.Name }
-    ensures reads { Gives formula_form (spec.unless_next is_name_kind (reading.joined_by
-        (reading.node (names_of scope.entry.names.now) scope.entry.depth) (formula_form first))
-        input.old) result input.new }
-    ensures fewer { OnOk result (length input.new.tokens < length input.old.tokens) }
+    ensures { ReadsSome formula_form
+        (spec.unless_next is_name_kind (reading.joined_by (reading.node
+        (names_of scope.entry.names.now) scope.entry.depth) (formula_form first)))
+        input.old result input.new }
 {
     let (place, text) = input.expect_name()?;
     let Some(word) = infix_word(text.as_bytes()) else {
@@ -186,9 +185,9 @@ pub fn item<'a>(
     alloc: Global,
     scope: Scope<'_, 'a>,
 ) -> Result<Formula, ReadingError>
-    ensures reads { Gives formula_form (reading.item (names_of scope.entry.names.now)
-        scope.entry.depth input.old) result input.new }
-    ensures fewer { OnOk result (length input.new.tokens < length input.old.tokens) }
+    ensures { ReadsSome formula_form
+        (reading.item (names_of scope.entry.names.now) scope.entry.depth)
+        input.old result input.new }
 {
     let first = node(input, alloc, scope)?;
     if !same_kind(input.kind(), Kind::Name) {

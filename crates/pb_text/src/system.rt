@@ -1,9 +1,10 @@
 //! Reads equations and whole texts.
 
-ghost use Rattle.std.specs.Prelude.{◌≡◌, ◌<◌, ◌≤◌, length, OnOk, map, []};
+ghost use Rattle.std.specs.Prelude.{◌≡◌, map, []};
 ghost use Rattle.pb_text_tree.specs.Form.{formula_form, variable_forms, equation_form};
 ghost use Rattle.pb_text_tree.specs.Form.{instance_form, range_form, spec_form};
-ghost use Rattle.pb_text_lexer.specs.Steps.{Gives, GivesExactly};
+ghost use Rattle.pb_text_lexer.specs.Steps.{Gives};
+ghost use Rattle.pb_text_terms.specs.Readers.{MayRead, ReadsSome, ReadsSomeExactly};
 ghost use Rattle.pb_text.specs.Parsing.{depth_limit};
 ghost use Rattle.pb_text.specs.Reading as reading;
 
@@ -30,8 +31,7 @@ fn begins_equation(kind: Kind) -> bool
 /// `mu` or `nu`. Another token is refused as `ReadingRule::Unexpected`, which is the one error.
 #[tactic(auto, unfolding(crate::specs::Reading::sign_of))]
 pub fn sign(input: &mut Input<'_>) -> Result<Sign, Refusal>
-    ensures reads { GivesExactly (λ x. x) (reading.sign_of input.old) result input.new }
-    ensures fewer { OnOk result (length input.new.tokens < length input.old.tokens) }
+    ensures { ReadsSomeExactly (λ x. x) reading.sign_of input.old result input.new }
 {
     match input.kind() {
         Kind::Mu => {
@@ -49,9 +49,8 @@ pub fn sign(input: &mut Input<'_>) -> Result<Sign, Refusal>
 /// The parameters of an equation, in brackets, if it has any.
 #[tactic(auto, unfolding(crate::specs::Reading::parameters))]
 pub fn parameters(input: &mut Input<'_>, alloc: Global) -> Result<Vec<Variables>, ReadingError>
-    ensures reads { Gives (λ v. variable_forms v.items)
-        (reading.parameters depth_limit input.old) result input.new }
-    ensures fewer { OnOk result (length input.new.tokens ≤ length input.old.tokens) }
+    ensures { MayRead (λ v. variable_forms v.items) (reading.parameters depth_limit)
+        input.old result input.new }
 {
     if !same_kind(input.kind(), Kind::Open) {
         return Ok(Vec::new(alloc));
@@ -66,8 +65,7 @@ pub fn parameters(input: &mut Input<'_>, alloc: Global) -> Result<Vec<Variables>
 /// The right side of an equation, with all the levels and operators that one may have (P04).
 #[tactic(auto, unfolding(crate::specs::Reading::right_side))]
 fn right_side(input: &mut Input<'_>, alloc: Global) -> Result<Formula, ReadingError>
-    ensures reads { Gives formula_form (reading.right_side depth_limit input.old) result input.new }
-    ensures fewer { OnOk result (length input.new.tokens < length input.old.tokens) }
+    ensures { ReadsSome formula_form (reading.right_side depth_limit) input.old result input.new }
 {
     let allowed = input.operators();
     let formula = formula(input, alloc, MAX_DEPTH as u32)?;
@@ -78,8 +76,7 @@ fn right_side(input: &mut Input<'_>, alloc: Global) -> Result<Formula, ReadingEr
 /// A sign, a name with its parameters, `=`, a formula and `;`.
 #[tactic(auto, unfolding(crate::specs::Reading::equation))]
 fn equation(input: &mut Input<'_>, alloc: Global) -> Result<Equation, ReadingError>
-    ensures reads { Gives equation_form (reading.equation depth_limit input.old) result input.new }
-    ensures fewer { OnOk result (length input.new.tokens < length input.old.tokens) }
+    ensures { ReadsSome equation_form (reading.equation depth_limit) input.old result input.new }
 {
     let sign = sign(input)?;
     let name = name(input, alloc)?;

@@ -53,7 +53,7 @@ node-other (suc depth) s a b c d e f =
 -- ---- chains over chains
 
 -- where an operand fails, its chain does
-level-fails : (c : Connective) (depth : ℕ) (s : State) (bad : Refusal) → operand c depth s ≡ Err bad → level c depth s ≡ Err bad
+pub level-fails : (c : Connective) (depth : ℕ) (s : State) (bad : Refusal) → operand c depth s ≡ Err bad → level c depth s ≡ Err bad
 level-fails c depth s bad fails = level-chain c depth s ∙ resumed-first-fails (symbol_kind c) (FormulaForm.connected c) (operand c depth) (length s.tokens) s bad fails
 
 pub conjunction-fails : (depth : ℕ) (s : State) (bad : Refusal) → level And depth s ≡ Err bad → formula depth s ≡ Err bad

@@ -1,13 +1,12 @@
 //! Reads formulas, by recursive descent. A chain of one connective is read by a loop, so that the
 //! recursion is as deep as brackets, negations and quantifiers nest.
 
-ghost use Rattle.std.specs.Prelude.{◌≡◌, ◌<◌, ◌≤◌, length, Ok, OnOk, IfOk};
+ghost use Rattle.std.specs.Prelude.{◌≡◌, IfOk};
 ghost use Rattle.pb_text_tree.specs.Form.{FormulaForm, formula_form, term_form, chained};
 ghost use Rattle.pb_text_tree.specs.Form.{link_forms};
-ghost use Rattle.pb_text_lexer.specs.Grammar.{State};
 ghost use Rattle.pb_text_lexer.specs.Steps as spec;
-ghost use Rattle.pb_text_lexer.specs.Steps.{Gives};
 ghost use Rattle.pb_text_terms.specs.Operators as operators;
+ghost use Rattle.pb_text_terms.specs.Readers.{ReadsSome, ReadsOn, HasRead};
 ghost use Rattle.pb_text_terms.specs.Reading as expressions;
 ghost use Rattle.pb_text_formulas.specs.Reading as reading;
 
@@ -46,8 +45,7 @@ fn joined(
 /// The data term behind `val`, in which so many levels may open.
 #[tactic(auto, unfolding(crate::specs::Reading::data_term))]
 fn data_term(input: &mut Input<'_>, alloc: Global, depth: u32) -> Result<Term, ReadingError>
-    ensures reads { Gives term_form (reading.data_term depth input.old) result input.new }
-    ensures fewer { OnOk result (length input.new.tokens < length input.old.tokens) }
+    ensures { ReadsSome term_form (reading.data_term depth) input.old result input.new }
 {
     term(input, alloc, depth)
 }
@@ -58,8 +56,7 @@ fn data_term(input: &mut Input<'_>, alloc: Global, depth: u32) -> Result<Term, R
 #[tactic(auto, unfolding(crate::specs::Reading::node))]
 fn negation(input: &mut Input<'_>, alloc: Global, depth: u32) -> Result<Formula, ReadingError>
     requires { spec.kind input.old ≡ Kind.Not }
-    ensures reads { Gives formula_form (reading.node depth input.old) result input.new }
-    ensures fewer { OnOk result (length input.new.tokens < length input.old.tokens) }
+    ensures { ReadsSome formula_form (reading.node depth) input.old result input.new }
 {
     let place = input.enter(depth)?.place;
     let operand = node(input, alloc, depth - 1)?;
@@ -73,8 +70,7 @@ fn negation(input: &mut Input<'_>, alloc: Global, depth: u32) -> Result<Formula,
 #[tactic(auto, unfolding(crate::specs::Reading::node))]
 fn bracketed(input: &mut Input<'_>, alloc: Global, depth: u32) -> Result<Formula, ReadingError>
     requires { spec.kind input.old ≡ Kind.Open }
-    ensures reads { Gives formula_form (reading.node depth input.old) result input.new }
-    ensures fewer { OnOk result (length input.new.tokens < length input.old.tokens) }
+    ensures { ReadsSome formula_form (reading.node depth) input.old result input.new }
 {
     input.enter(depth)?;
     let inner = formula(input, alloc, depth - 1)?;
@@ -88,8 +84,7 @@ fn bracketed(input: &mut Input<'_>, alloc: Global, depth: u32) -> Result<Formula
 #[tactic(auto, unfolding(crate::specs::Reading::node))]
 fn value(input: &mut Input<'_>, alloc: Global, depth: u32) -> Result<Formula, ReadingError>
     requires { spec.kind input.old ≡ Kind.Val }
-    ensures reads { Gives formula_form (reading.node depth input.old) result input.new }
-    ensures fewer { OnOk result (length input.new.tokens < length input.old.tokens) }
+    ensures { ReadsSome formula_form (reading.node depth) input.old result input.new }
 {
     let place = input.take().place;
     open(input, depth)?;
@@ -104,8 +99,7 @@ fn value(input: &mut Input<'_>, alloc: Global, depth: u32) -> Result<Formula, Re
 #[cycle(formulas)]
 #[tactic(auto, unfolding(crate::specs::Reading::node))]
 fn node(input: &mut Input<'_>, alloc: Global, depth: u32) -> Result<Formula, ReadingError>
-    ensures reads { Gives formula_form (reading.node depth input.old) result input.new }
-    ensures fewer { OnOk result (length input.new.tokens < length input.old.tokens) }
+    ensures { ReadsSome formula_form (reading.node depth) input.old result input.new }
 {
     match input.kind() {
         Kind::Not => negation(input, alloc, depth),
@@ -140,8 +134,7 @@ fn quantified(
     depth: u32,
 ) -> Result<Formula, ReadingError>
     requires { expressions.quantifier_of (spec.kind input.old) ≡ Some quantifier }
-    ensures reads { Gives formula_form (reading.quantification depth input.old) result input.new }
-    ensures fewer { OnOk result (length input.new.tokens < length input.old.tokens) }
+    ensures { ReadsSome formula_form (reading.quantification depth) input.old result input.new }
 {
     let place = input.enter(depth)?.place;
     let variables = variables(input, alloc)?;
@@ -164,9 +157,7 @@ fn operand(
     connective: Connective,
     depth: u32,
 ) -> Result<Formula, ReadingError>
-    ensures reads { Gives formula_form
-        (reading.operand connective depth input.old) result input.new }
-    ensures fewer { OnOk result (length input.new.tokens < length input.old.tokens) }
+    ensures { ReadsSome formula_form (reading.operand connective depth) input.old result input.new }
 {
     match connective {
         Connective::And => match quantifier(input.kind()) {
@@ -188,10 +179,9 @@ fn chain(
     depth: u32,
     first: Formula,
 ) -> Result<Formula, ReadingError>
-    ensures reads { (s : State) → reading.operand connective depth s
-        ≡ Ok (formula_form first, input.old) → length input.old.tokens < length s.tokens
-        → Gives formula_form (reading.level connective depth s) result input.new }
-    ensures fewer { OnOk result (length input.new.tokens ≤ length input.old.tokens) }
+    ensures { ReadsOn formula_form (reading.level connective depth)
+        (HasRead (reading.operand connective depth) (formula_form first) input.old)
+        input.old result input.new }
 {
     let mut links = Vec::with_capacity(alloc, 1)?;
     'links: while same_kind(input.kind(), symbol(connective)) {
@@ -212,10 +202,9 @@ fn chain_behind(
     depth: u32,
     first: Formula,
 ) -> Result<Formula, ReadingError>
-    ensures reads { (s : State) → reading.operand connective depth s
-        ≡ Ok (formula_form first, input.old) → length input.old.tokens < length s.tokens
-        → Gives formula_form (reading.level connective depth s) result input.new }
-    ensures fewer { OnOk result (length input.new.tokens ≤ length input.old.tokens) }
+    ensures { ReadsOn formula_form (reading.level connective depth)
+        (HasRead (reading.operand connective depth) (formula_form first) input.old)
+        input.old result input.new }
 {
     if !same_kind(input.kind(), symbol(connective)) {
         return Ok(first);
@@ -231,8 +220,7 @@ fn level(
     connective: Connective,
     depth: u32,
 ) -> Result<Formula, ReadingError>
-    ensures reads { Gives formula_form (reading.level connective depth input.old) result input.new }
-    ensures fewer { OnOk result (length input.new.tokens < length input.old.tokens) }
+    ensures { ReadsSome formula_form (reading.level connective depth) input.old result input.new }
 {
     let first = operand(input, alloc, connective, depth);
     if !same_kind(input.kind(), symbol(connective)) {
@@ -250,10 +238,9 @@ fn connectives_behind(
     depth: u32,
     first: Formula,
 ) -> Result<Formula, ReadingError>
-    ensures reads { (s : State) → reading.primary depth s ≡ Ok (formula_form first, input.old)
-        → length input.old.tokens < length s.tokens
-        → Gives formula_form (reading.formula depth s) result input.new }
-    ensures fewer { OnOk result (length input.new.tokens ≤ length input.old.tokens) }
+    ensures { ReadsOn formula_form (reading.formula depth)
+        (HasRead (reading.primary depth) (formula_form first) input.old)
+        input.old result input.new }
 {
     let conjunction = chain_behind(input, alloc, Connective::And, depth, first)?;
     let disjunction = chain_behind(input, alloc, Connective::Or, depth, conjunction)?;
@@ -267,8 +254,7 @@ fn connectives_behind(
 /// that opens a level or is an operator more than may be as `ReadingRule::Limit`.
 #[cycle(formulas)]
 pub fn formula(input: &mut Input<'_>, alloc: Global, depth: u32) -> Result<Formula, ReadingError>
-    ensures reads { Gives formula_form (reading.formula depth input.old) result input.new }
-    ensures fewer { OnOk result (length input.new.tokens < length input.old.tokens) }
+    ensures { ReadsSome formula_form (reading.formula depth) input.old result input.new }
 {
     let first = operand(input, alloc, Connective::And, depth);
     if !is_connective(input.kind()) {

@@ -1,10 +1,10 @@
 //! What the next token must be, or must not be.
 
-ghost use Rattle.std.specs.Prelude.{◌≡◌, ◌<◌, true, false, length, OnOk, MatchResult};
+ghost use Rattle.std.specs.Prelude.{◌≡◌, ◌<◌, true, false, OnOk, MatchResult};
 ghost use Rattle.pb_text_lexer.specs.Kinds.{same_kind};
 ghost use Rattle.pb_text_lexer.specs.Steps as spec;
-ghost use Rattle.pb_text_lexer.specs.Steps.{GivesExactly};
 ghost use Rattle.pb_text_lexer.specs.Tokens.{tok};
+ghost use Rattle.pb_text_terms.specs.Readers.{ReadsSomeExactly};
 ghost use Rattle.pb_text_formulas.specs.Reading as reading;
 
 use pb_text_lexer::fault::{ReadingRule, Refusal};
@@ -18,9 +18,8 @@ use pb_text_lexer::token::Token;
 /// as `ReadingRule::Limit`.
 #[tactic(auto, unfolding(crate::specs::Reading::opening))]
 pub fn open<'a>(input: &mut Input<'a>, depth: u32) -> Result<Token<'a>, Refusal>
-    ensures reads { GivesExactly tok (reading.opening
-        (spec.enter depth) input.old) result input.new }
-    ensures fewer { OnOk result (length input.new.tokens < length input.old.tokens) }
+    ensures reads { ReadsSomeExactly tok (reading.opening (spec.enter depth))
+        input.old result input.new }
     ensures deeper { OnOk result (0 < depth) }
 {
     if same_kind(input.kind(), Kind::Open) {

@@ -1,8 +1,9 @@
 //! Reads declarations of sorts.
 
-ghost use Rattle.std.specs.Prelude.{◌≡◌, ◌≤◌, ◌<◌, length, OnOk, map};
+ghost use Rattle.std.specs.Prelude.{map};
 ghost use Rattle.pb_text_tree.specs.Form.{enumerator_form, sort_form, sort_declaration_form};
 ghost use Rattle.pb_text_lexer.specs.Steps.{Gives};
+ghost use Rattle.pb_text_terms.specs.Readers.{ReadsSome};
 ghost use Rattle.pb_text_formulas.specs.Reading as reading;
 
 use crate::next::unless;
@@ -16,8 +17,7 @@ use std::alloc::Global;
 /// A name, and perhaps a recogniser behind it.
 #[tactic(auto, unfolding(crate::specs::Reading::enumerator))]
 fn enumerator(input: &mut Input<'_>, alloc: Global) -> Result<Enumerator, ReadingError>
-    ensures reads { Gives enumerator_form (reading.enumerator input.old) result input.new }
-    ensures fewer { OnOk result (length input.new.tokens < length input.old.tokens) }
+    ensures { ReadsSome enumerator_form reading.enumerator input.old result input.new }
 {
     let enumerator = name(input, alloc)?;
     if !same_kind(input.kind(), Kind::Question) {
@@ -37,9 +37,8 @@ fn enumerator(input: &mut Input<'_>, alloc: Global) -> Result<Enumerator, Readin
 
 /// Enumerators with `|` between them.
 fn enumerators(input: &mut Input<'_>, alloc: Global) -> Result<Vec<Enumerator>, ReadingError>
-    ensures reads { Gives (λ v. map enumerator_form v.items)
-        (reading.enumerators input.old) result input.new }
-    ensures fewer { OnOk result (length input.new.tokens < length input.old.tokens) }
+    ensures { ReadsSome (λ v. map enumerator_form v.items) reading.enumerators
+        input.old result input.new }
 {
     let mut enumerators = Vec::new(alloc);
     'enumerators: loop {
@@ -55,8 +54,7 @@ fn enumerators(input: &mut Input<'_>, alloc: Global) -> Result<Vec<Enumerator>, 
 /// What a sort is declared to be, a struct or another name, and `;`.
 #[tactic(auto, unfolding(crate::specs::Reading::sort))]
 fn sort(input: &mut Input<'_>, alloc: Global) -> Result<Sort, ReadingError>
-    ensures reads { Gives sort_form (reading.sort input.old) result input.new }
-    ensures fewer { OnOk result (length input.new.tokens < length input.old.tokens) }
+    ensures { ReadsSome sort_form reading.sort input.old result input.new }
 {
     match input.kind() {
         Kind::Struct => {
@@ -77,8 +75,7 @@ fn sort(input: &mut Input<'_>, alloc: Global) -> Result<Sort, ReadingError>
 /// A name, `=`, and what the sort is declared to be.
 #[tactic(auto, unfolding(crate::specs::Reading::declaration))]
 fn declaration(input: &mut Input<'_>, alloc: Global) -> Result<SortDeclaration, ReadingError>
-    ensures reads { Gives sort_declaration_form (reading.declaration input.old) result input.new }
-    ensures fewer { OnOk result (length input.new.tokens < length input.old.tokens) }
+    ensures { ReadsSome sort_declaration_form reading.declaration input.old result input.new }
 {
     let name = name(input, alloc)?;
     input.expect(Kind::Is)?;
@@ -88,9 +85,8 @@ fn declaration(input: &mut Input<'_>, alloc: Global) -> Result<SortDeclaration, 
 
 /// One declaration or more.
 fn declarations(input: &mut Input<'_>, alloc: Global) -> Result<Vec<SortDeclaration>, ReadingError>
-    ensures reads { Gives (λ v. map sort_declaration_form v.items)
-        (reading.declarations input.old) result input.new }
-    ensures fewer { OnOk result (length input.new.tokens < length input.old.tokens) }
+    ensures { ReadsSome (λ v. map sort_declaration_form v.items) reading.declarations
+        input.old result input.new }
 {
     let mut declarations = Vec::new(alloc);
     'declarations: loop {
@@ -105,9 +101,8 @@ fn declarations(input: &mut Input<'_>, alloc: Global) -> Result<Vec<SortDeclarat
 /// `sort` and its declarations.
 #[tactic(auto, unfolding(crate::specs::Reading::sort_part))]
 fn sort_part(input: &mut Input<'_>, alloc: Global) -> Result<Vec<SortDeclaration>, ReadingError>
-    ensures reads { Gives (λ v. map sort_declaration_form v.items)
-        (reading.sort_part input.old) result input.new }
-    ensures fewer { OnOk result (length input.new.tokens < length input.old.tokens) }
+    ensures { ReadsSome (λ v. map sort_declaration_form v.items) reading.sort_part
+        input.old result input.new }
 {
     input.expect(Kind::Sort)?;
     declarations(input, alloc)

@@ -1,3 +1,5 @@
+pub mod ReaderLemmas
+pub mod ListLemmas
 pub mod VariableLemmas
 pub mod TermLemmas
 pub mod ReadLemmas

@@ -22,7 +22,7 @@ use Rattle.pb_text_terms.specs.declared.operator.Operators.{Operators}
 use Rattle.pb_text_terms.specs.declared.operator.Operators.TheVariants.{Additive, Times, Division}
 use Rattle.pb_text_terms.specs.Operators.{computed_by, arithmetic_of, is_connective, is_times, is_division, is_additive, is_order, is_equality, is_operator, is_quantifier, compared_by}
 use Rattle.pb_text_terms.specs.Grammar.{arguments_of, applied}
-use Rattle.pb_text_terms.specs.Reading.{name, with_place, closed, is_open, is_among, operation, operations, product, sum, ordered, unary, begun, lowest, equated, term, below, instance, argument_list, argument_pair}
+use Rattle.pb_text_terms.specs.Reading.{name, with_place, closed, is_open, is_among, operation, operations, numeral, product, sum, ordered, unary, begun, lowest, equated, term, below, instance, argument_list, argument_pair}
 use Rattle.pb_text_terms.proofs.TermLemmas.{unary-is, lowest-is}
 
 -- ---- a comparison
@@ -264,10 +264,9 @@ text-of-taken : (ts : List Tok) (n : ℕ) (t : Tok) (s1 : State) → take_from t
 text-of-taken [] n t s1 taken = cc
 text-of-taken (u ∷ ts) n t s1 taken = ap (λ r. (token_or u r).text) taken
 
-pub number-is : (depth : ℕ) (s s1 : State) (t : Tok) → kind s ≡ k.Number → take_token s ≡ Ok (t, s1) → unary depth s ≡ closed (TermForm.number t.place (digits_value 10 (head_text s.tokens))) s1
+pub number-is : (s s1 : State) (t : Tok) → take_token s ≡ Ok (t, s1) → numeral s ≡ closed (TermForm.number t.place (digits_value 10 (head_text s.tokens))) s1
 unfolding take_token
-number-is depth s s1 t is taken =
-    begun-at depth s k.Number is ∙ rw taken (ap (λ text. closed (TermForm.number t.place (digits_value 10 text)) s1) (sym (text-of-taken s.tokens s.operators t s1 taken)))
+number-is s s1 t taken = rw taken (ap (λ text. closed (TermForm.number t.place (digits_value 10 text)) s1) (sym (text-of-taken s.tokens s.operators t s1 taken)))
 
 pub name-is : (depth : ℕ) (s z : State) (i : InstanceForm) → kind s ≡ k.Name → instance depth s ≡ Ok (i, z) → unary depth s ≡ Ok (applied i.name i.arguments, z)
 name-is depth s z i is reads = begun-at depth s k.Name is ∙ rw reads refl

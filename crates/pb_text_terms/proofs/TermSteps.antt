@@ -1,19 +1,13 @@
--- What the code has read of a list, a comparison or a name with arguments, and what one step more makes of it.
-use Rattle.std.proofs.Common.{◌≡◌, ℕ, suc, ◌-◌, ◌<◌, Bool, true, false, cond, List, [], ◌∷◌, ◌++◌, sym, ap, ◌∙◌, Result, Ok, Err}
-use Rattle.std.specs.Prelude.{IsErrAnd}
-use Rattle.pb_base.specs.OrMemory.{IfFault}
-use Rattle.pb_base.specs.declared.or_memory.OrMemory.{OrMemory}
-use Rattle.pb_base.proofs.Faults.{if_fault}
+-- What the code has read of a comparison or a name with arguments, and what one step more makes of it.
+use Rattle.std.proofs.Common.{◌≡◌, ℕ, ◌-◌, ◌<◌, Bool, true, false, cond, List, sym, ap, ◌∙◌, Ok, Err}
 use Rattle.pb_text_tree.specs.declared.place.Place.{Place}
 use Rattle.pb_text_tree.specs.Form.{Named, TermForm}
 use Rattle.pb_text_lexer.specs.declared.fault.ReadingRule.TheVariants.{Unexpected}
 use Rattle.pb_text_lexer.specs.declared.fault.Refusal.{Refusal}
-use Rattle.pb_text_lexer.specs.declared.kind.Kind.{Kind}
 use Rattle.pb_text_lexer.specs.declared.kind.Kind.TheVariants as k
 use Rattle.pb_text_lexer.specs.Grammar.{State}
 use Rattle.pb_text_lexer.specs.Steps.{Step, Outcome, enter, expect, kind, refusal, take_operator}
 use Rattle.pb_text_lexer.specs.Tokens.{Tok}
-use Rattle.pb_text_lexer.proofs.LoopLemmas.{gathered, gathered-more, gathered-end, gathered-item-fails}
 use Rattle.pb_text_terms.specs.declared.level.Level.{Level}
 use Rattle.pb_text_terms.specs.declared.level.Operator.TheVariants as o
 use Rattle.pb_text_terms.specs.declared.level.Relation.{Relation}
@@ -24,31 +18,9 @@ use Rattle.pb_text_terms.specs.Reading.{at, argument_list, instance, is_open, na
 use Rattle.pb_text_terms.proofs.ReadLemmas.{sign-fails, right-fails, right-goes-on, both-read, arguments-fail, arguments-again, arguments-read}
 use Rattle.pb_text_terms.proofs.LevelLemmas.{relation-is}
 
--- what a `?` gives at an error
-pub error-is : {A E : Type 0} (r : Result A E) (error : E) → IsErrAnd r (λ (y : E). y ≡ error) → r ≡ Err error
-error-is (Ok x) error h = absurd h
-error-is (Err y) error h = ap Err h
-
 -- a level by which the code reads is that of an operator's operands
 pub read-at : {r : Outcome TermForm} (m n : Level) (depth : ℕ) (s : State) → m ≡ n → at m depth s ≡ r → at n depth s ≡ r
 read-at m n depth s same reads = ap (λ (v : Level). at v depth s) (sym same) ∙ reads
-
--- ---- lists
-
--- some items are read, and what is read of the others is what the whole gives
-pub record IsGathering {X T : Type 0} (item : Step X) (test : Kind → Bool) (between : Step T) (whole : Outcome (List X)) (xs : List X) (n : ℕ) (s : State) : Type 0 where
-  pub reads : whole ≡ gathered item test between xs n s
-
-module _ {X T : Type 0} {item : Step X} {test : Kind → Bool} {between : Step T} {whole : Outcome (List X)} {xs : List X} {n : ℕ} {s : State} (g : IsGathering item test between whole xs n s) where
-  pub gathering-fails : (m : ℕ) (bad : Refusal) → n ≡ suc m → item s ≡ Err bad → whole ≡ Err bad
-  gathering-fails m bad count fails = g.reads ∙ gathered-item-fails item test between xs n m s bad count fails
-
-  pub gathering-ends : {x : X} {s1 : State} (m : ℕ) → n ≡ suc m → item s ≡ Ok (x, s1) → test (kind s1) ≡ false → whole ≡ Ok (xs ++ x ∷ [], s1)
-  gathering-ends {x} {s1} m count reads stops = g.reads ∙ gathered-end item test between xs n m s s1 x count reads stops
-
-  pub gathering-goes-on : {x : X} {s1 s2 : State} {t : T} (m : ℕ) → n ≡ suc m → item s ≡ Ok (x, s1) → test (kind s1) ≡ true → between s1 ≡ Ok (t, s2)
-      → whole ≡ gathered item test between (xs ++ x ∷ []) m s2
-  gathering-goes-on {x} {s1} {s2} {t} m count reads goes stands = g.reads ∙ gathered-more item test between xs n m s s1 s2 x t count reads goes stands
 
 -- ---- comparisons
 
@@ -87,8 +59,8 @@ pub record IsOpened (depth : ℕ) (s s2 : State) (found : Named) : Type 0 where
   pub entered : enter depth between ≡ Ok (bracket, s2)
 
 module _ {depth : ℕ} {s s2 : State} {found : Named} (h : IsOpened depth s s2 found) where
-  pub opened-fails : (error : OrMemory Refusal) → IfFault error (λ bad. argument_list (term (depth - 1)) s2 ≡ Err bad) → IfFault error (λ bad. instance depth s ≡ Err bad)
-  opened-fails error fails = if_fault error (λ bad e. arguments-fail depth h.some s h.between s2 found h.bracket h.named h.opens h.entered bad e) fails
+  pub opened-fails : (bad : Refusal) → argument_list (term (depth - 1)) s2 ≡ Err bad → instance depth s ≡ Err bad
+  opened-fails bad fails = arguments-fail depth h.some s h.between s2 found h.bracket h.named h.opens h.entered bad fails
 
   -- no bracket may open behind the arguments
   pub opened-closes : {s3 s4 : State} {c : Tok} {arguments : List (Place × TermForm)} (again : Bool)

@@ -115,6 +115,10 @@ closed x = do
 abbrev pub truth : Bool → Step TermForm
 truth value = take_token >>= (λ word. closed (TermForm.constant word.place value))
 
+abbrev pub numeral : Step TermForm
+numeral =
+    take_token >>= (λ token. closed (TermForm.number token.place (digits_value 10 token.text)))
+
 abbrev pub begun : Step Tok → Step TermForm → Step TermForm → Kind → Step TermForm
 begun enter unary term k.Not = do
   sign ← enter
@@ -129,8 +133,7 @@ begun enter unary term k.Open = do
   inner ← term
   close_bracket ← expect k.Close
   closed inner
-begun enter unary term k.Number =
-    take_token >>= (λ token. closed (TermForm.number token.place (digits_value 10 token.text)))
+begun enter unary term k.Number = numeral
 begun enter unary term k.True = truth true
 begun enter unary term k.False = truth false
 begun enter unary term k.Name =

@@ -1,12 +1,11 @@
 //! Reads what stands behind a first operand: chains of arithmetic, a comparison, and chains of
 //! connectives.
 
-ghost use Rattle.std.specs.Prelude.{◌≡◌, ◌<◌, ◌≤◌, true, length, Some, Ok, OnOk, IsTrue};
+ghost use Rattle.std.specs.Prelude.{◌≡◌, true, Some, Ok, IsTrue};
 ghost use Rattle.pb_text_tree.specs.Form.{term_form, arithmetic_links};
-ghost use Rattle.pb_text_lexer.specs.Grammar.{State};
 ghost use Rattle.pb_text_lexer.specs.Steps as steps;
-ghost use Rattle.pb_text_lexer.specs.Steps.{Gives};
 ghost use Rattle.pb_text_terms.specs.Levels as levels;
+ghost use Rattle.pb_text_terms.specs.Readers.{ReadsSome, ReadsOn, HasRead, BeginsAt};
 ghost use Rattle.pb_text_terms.specs.Reading as reading;
 
 use crate::level::{Operator, Relation, is_related, operand_level};
@@ -29,12 +28,9 @@ pub(crate) fn joined_by(
     first: Term,
 ) -> Result<Term, ReadingError>
     requires { levels.operator_of_token (steps.kind input.old) ≡ Some operator }
-    ensures reads { (s : State) → reading.at (levels.operand_level operator) depth s
-        ≡ Ok (term_form first, input.old)
-        → (levels.may_quantify (levels.level_of operator) ≡ true
-        → length input.old.tokens < length s.tokens)
-        → Gives term_form (reading.at (levels.level_of operator) depth s) result input.new }
-    ensures fewer { OnOk result (length input.new.tokens ≤ length input.old.tokens) }
+    ensures { ReadsOn term_form (reading.at (levels.level_of operator) depth)
+        (BeginsAt (levels.operand_level operator) (levels.level_of operator) depth
+        (term_form first) input.old) input.old result input.new }
 {
     match operator {
         Operator::Arithmetic(operators) => calculated_by(input, alloc, depth, operators, first),
@@ -54,11 +50,10 @@ fn calculated_by(
     first: Term,
 ) -> Result<Term, ReadingError>
     requires { IsTrue (reading.is_among operators (steps.kind input.old)) }
-    ensures reads { (s : State)
-        → reading.at (levels.operand_level (Operator.Arithmetic operators)) depth s
-        ≡ Ok (term_form first, input.old) → Gives term_form
-        (reading.at (levels.level_of (Operator.Arithmetic operators)) depth s) result input.new }
-    ensures fewer { OnOk result (length input.new.tokens ≤ length input.old.tokens) }
+    ensures { ReadsOn term_form
+        (reading.at (levels.level_of (Operator.Arithmetic operators)) depth)
+        (λ s. reading.at (levels.operand_level (Operator.Arithmetic operators)) depth s
+        ≡ Ok (term_form first, input.old)) input.old result input.new }
 {
     let links = operations(input, alloc, depth, operators)?;
     if is_mixed(operators, input.kind()) {
@@ -76,11 +71,9 @@ fn operations(
     operators: Operators,
 ) -> Result<Vec<ArithmeticLink>, ReadingError>
     requires { IsTrue (reading.is_among operators (steps.kind input.old)) }
-    ensures reads { Gives (λ v. arithmetic_links v.items)
-        (reading.operations operators
-        (reading.at (levels.operand_level (Operator.Arithmetic operators)) depth) input.old)
-        result input.new }
-    ensures fewer { OnOk result (length input.new.tokens < length input.old.tokens) }
+    ensures { ReadsSome (λ v. arithmetic_links v.items)
+        (reading.operations operators (reading.at (levels.operand_level
+        (Operator.Arithmetic operators)) depth)) input.old result input.new }
 {
     let level = operand_level(Operator::Arithmetic(operators));
     let mut links = Vec::with_capacity(alloc, 1)?;
@@ -109,11 +102,10 @@ fn related_by(
     left: Term,
 ) -> Result<Term, ReadingError>
     requires { levels.is_related relation (steps.kind input.old) ≡ true }
-    ensures reads { (s : State)
-        → reading.at (levels.operand_level (Operator.Relation relation)) depth s
-        ≡ Ok (term_form left, input.old) → Gives term_form
-        (reading.at (levels.level_of (Operator.Relation relation)) depth s) result input.new }
-    ensures fewer { OnOk result (length input.new.tokens ≤ length input.old.tokens) }
+    ensures { ReadsOn term_form
+        (reading.at (levels.level_of (Operator.Relation relation)) depth)
+        (λ s. reading.at (levels.operand_level (Operator.Relation relation)) depth s
+        ≡ Ok (term_form left, input.old)) input.old result input.new }
 {
     let sign = input.take_operator()?;
     let level = operand_level(Operator::Relation(relation));
@@ -134,12 +126,10 @@ fn connected_by(
     connective: Connective,
     first: Term,
 ) -> Result<Term, ReadingError>
-    ensures reads { (s : State)
-        → reading.at (levels.operand_level (Operator.Connective connective)) depth s
-        ≡ Ok (term_form first, input.old)
-        → length input.old.tokens < length s.tokens → Gives term_form
-        (reading.at (levels.level_of (Operator.Connective connective)) depth s) result input.new }
-    ensures fewer { OnOk result (length input.new.tokens ≤ length input.old.tokens) }
+    ensures { ReadsOn term_form
+        (reading.at (levels.level_of (Operator.Connective connective)) depth)
+        (HasRead (reading.at (levels.operand_level (Operator.Connective connective)) depth)
+        (term_form first) input.old) input.old result input.new }
 {
     let level = operand_level(Operator::Connective(connective));
     let mut links = Vec::with_capacity(alloc, 1)?;

@@ -1,8 +1,8 @@
 //! Reads names with arguments.
 
-ghost use Rattle.std.specs.Prelude.{◌≡◌, ◌<◌, length, map, OnOk};
+ghost use Rattle.std.specs.Prelude.{map};
 ghost use Rattle.pb_text_tree.specs.Form.{instance_form};
-ghost use Rattle.pb_text_lexer.specs.Steps.{Gives};
+ghost use Rattle.pb_text_terms.specs.Readers.{ReadsSome};
 ghost use Rattle.pb_text_terms.specs.Reading as reading;
 ghost use Rattle.pb_text_terms.specs.Reading.{argument_pair};
 
@@ -23,9 +23,8 @@ pub fn argument_list(
     alloc: Global,
     depth: u32,
 ) -> Result<Vec<Argument>, ReadingError>
-    ensures reads { Gives (λ v. map argument_pair v.items)
-        (reading.argument_list (reading.term depth) input.old) result input.new }
-    ensures fewer { OnOk result (length input.new.tokens < length input.old.tokens) }
+    ensures { ReadsSome (λ v. map argument_pair v.items)
+        (reading.argument_list (reading.term depth)) input.old result input.new }
 {
     let mut arguments = Vec::with_capacity(alloc, 1)?;
     'arguments: loop {
@@ -43,8 +42,7 @@ pub fn argument_list(
 /// bracket may open.
 #[cycle(terms)]
 pub fn instance(input: &mut Input<'_>, alloc: Global, depth: u32) -> Result<Instance, ReadingError>
-    ensures reads { Gives instance_form (reading.instance depth input.old) result input.new }
-    ensures fewer { OnOk result (length input.new.tokens < length input.old.tokens) }
+    ensures { ReadsSome instance_form (reading.instance depth) input.old result input.new }
 {
     let name = name(input, alloc)?;
     if !same_kind(input.kind(), Kind::Open) {

@@ -1,6 +1,6 @@
 //! Nodes of data terms, and the terms that are one token.
 
-ghost use Rattle.std.specs.Prelude.{◌≡◌, ◌<◌, ℕ, false, length, OnOk, IfOk};
+ghost use Rattle.std.specs.Prelude.{◌≡◌, false, IfOk};
 ghost use Rattle.pb_text_tree.specs.Form as form;
 ghost use Rattle.pb_text_tree.specs.Form.{TermForm, term_form, term_links, arithmetic_links};
 ghost use Rattle.pb_text_tree.specs.Form.{argument_forms};
@@ -10,6 +10,7 @@ ghost use Rattle.pb_text_lexer.specs.Steps.{GivesExactly};
 ghost use Rattle.pb_text_lexer.specs.Tokens.{tok};
 ghost use Rattle.pb_text_terms.specs.Grammar as grammar;
 ghost use Rattle.pb_text_terms.specs.Operators as operators;
+ghost use Rattle.pb_text_terms.specs.Readers.{ReadsSomeExactly};
 ghost use Rattle.pb_text_terms.specs.Reading as reading;
 
 use crate::operator::comparison;
@@ -104,9 +105,7 @@ pub fn closed(input: &Input<'_>, term: Term) -> Result<Term, Refusal>
 #[inline(never)]
 pub fn number(input: &mut Input<'_>) -> Result<Term, Refusal>
     requires { steps.kind input.old ≡ Kind.Number }
-    ensures reads { (depth : ℕ) → GivesExactly term_form
-        (reading.unary depth input.old) result input.new }
-    ensures fewer { OnOk result (length input.new.tokens < length input.old.tokens) }
+    ensures { ReadsSomeExactly term_form reading.numeral input.old result input.new }
 {
     let value = input.number();
     let place = input.take().place;
@@ -119,8 +118,7 @@ pub fn number(input: &mut Input<'_>) -> Result<Term, Refusal>
 #[inline(never)]
 pub fn constant(input: &mut Input<'_>, value: bool) -> Result<Term, Refusal>
     requires { is_last (steps.kind input.old) ≡ false }
-    ensures reads { GivesExactly term_form (reading.truth value input.old) result input.new }
-    ensures fewer { OnOk result (length input.new.tokens < length input.old.tokens) }
+    ensures { ReadsSomeExactly term_form (reading.truth value) input.old result input.new }
 {
     let place = input.take().place;
     closed(input, Term::Constant { place, value })

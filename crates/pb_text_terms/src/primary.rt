@@ -1,10 +1,10 @@
 //! Reads what stands between operators: signs and their operands, brackets, numbers, constants,
 //! names and quantifiers.
 
-ghost use Rattle.std.specs.Prelude.{◌≡◌, ◌<◌, true, length, OnOk};
+ghost use Rattle.std.specs.Prelude.{◌≡◌};
 ghost use Rattle.pb_text_tree.specs.Form.{term_form};
 ghost use Rattle.pb_text_lexer.specs.Steps as steps;
-ghost use Rattle.pb_text_lexer.specs.Steps.{Gives};
+ghost use Rattle.pb_text_terms.specs.Readers.{ReadsSome};
 ghost use Rattle.pb_text_terms.specs.Reading as reading;
 
 use crate::instance::instance;
@@ -22,8 +22,7 @@ use std::alloc::Global;
 /// A sign, a bracket, a number, a constant or a name, in which so many levels may open.
 #[cycle(terms)]
 pub fn unary(input: &mut Input<'_>, alloc: Global, depth: u32) -> Result<Term, ReadingError>
-    ensures reads { Gives term_form (reading.unary depth input.old) result input.new }
-    ensures fewer { OnOk result (length input.new.tokens < length input.old.tokens) }
+    ensures { ReadsSome term_form (reading.unary depth) input.old result input.new }
 {
     match input.kind() {
         Kind::Not => negation(input, alloc, depth),
@@ -45,8 +44,7 @@ pub fn unary(input: &mut Input<'_>, alloc: Global, depth: u32) -> Result<Term, R
 #[inline(never)]
 fn negation(input: &mut Input<'_>, alloc: Global, depth: u32) -> Result<Term, ReadingError>
     requires { steps.kind input.old ≡ Kind.Not }
-    ensures reads { Gives term_form (reading.unary depth input.old) result input.new }
-    ensures fewer { OnOk result (length input.new.tokens < length input.old.tokens) }
+    ensures { ReadsSome term_form (reading.unary depth) input.old result input.new }
 {
     let place = input.enter(depth)?.place;
     let operand = unary(input, alloc, depth - 1)?;
@@ -59,8 +57,7 @@ fn negation(input: &mut Input<'_>, alloc: Global, depth: u32) -> Result<Term, Re
 #[inline(never)]
 fn negative(input: &mut Input<'_>, alloc: Global, depth: u32) -> Result<Term, ReadingError>
     requires { steps.kind input.old ≡ Kind.Minus }
-    ensures reads { Gives term_form (reading.unary depth input.old) result input.new }
-    ensures fewer { OnOk result (length input.new.tokens < length input.old.tokens) }
+    ensures { ReadsSome term_form (reading.unary depth) input.old result input.new }
 {
     let place = input.enter(depth)?.place;
     let operand = unary(input, alloc, depth - 1)?;
@@ -73,8 +70,7 @@ fn negative(input: &mut Input<'_>, alloc: Global, depth: u32) -> Result<Term, Re
 #[inline(never)]
 fn bracketed(input: &mut Input<'_>, alloc: Global, depth: u32) -> Result<Term, ReadingError>
     requires { steps.kind input.old ≡ Kind.Open }
-    ensures reads { Gives term_form (reading.unary depth input.old) result input.new }
-    ensures fewer { OnOk result (length input.new.tokens < length input.old.tokens) }
+    ensures { ReadsSome term_form (reading.unary depth) input.old result input.new }
 {
     input.enter(depth)?;
     let inner = term_at(input, alloc, depth - 1, Level::Implication)?;
@@ -90,8 +86,7 @@ pub(crate) fn quantified(
     alloc: Global,
     depth: u32,
 ) -> Result<Term, ReadingError>
-    ensures reads { Gives term_form (reading.quantified_term depth input.old) result input.new }
-    ensures fewer { OnOk result (length input.new.tokens < length input.old.tokens) }
+    ensures { ReadsSome term_form (reading.quantified_term depth) input.old result input.new }
 {
     let Some(quantifier) = quantifier(input.kind()) else {
         return Err(ReadingError::Refused(input.refuse(ReadingRule::Unexpected)));

@@ -1,11 +1,10 @@
 //! Reads data terms: an operand, and then operators by the table of their levels. The recursion is
 //! as deep as brackets, signs and quantifiers nest.
 
-ghost use Rattle.std.specs.Prelude.{◌≡◌, ◌<◌, ◌≤◌, true, length, Ok, OnOk};
+ghost use Rattle.std.specs.Prelude.{◌≡◌, ◌≤◌, Ok};
 ghost use Rattle.pb_text_tree.specs.Form.{term_form};
-ghost use Rattle.pb_text_lexer.specs.Grammar.{State};
-ghost use Rattle.pb_text_lexer.specs.Steps.{Gives};
-ghost use Rattle.pb_text_terms.specs.Levels.{rank, may_quantify};
+ghost use Rattle.pb_text_terms.specs.Levels.{rank};
+ghost use Rattle.pb_text_terms.specs.Readers.{ReadsSome, ReadsOn, BeginsAt};
 ghost use Rattle.pb_text_terms.specs.Reading as reading;
 
 use crate::chain::joined_by;
@@ -26,8 +25,7 @@ pub fn term_at(
     depth: u32,
     limit: Level,
 ) -> Result<Term, ReadingError>
-    ensures reads { Gives term_form (reading.at limit depth input.old) result input.new }
-    ensures fewer { OnOk result (length input.new.tokens < length input.old.tokens) }
+    ensures { ReadsSome term_form (reading.at limit depth) input.old result input.new }
 {
     if begins_quantified(limit, input.kind()) {
         let whole = quantified(input, alloc, depth)?;
@@ -53,10 +51,9 @@ fn operated(
     first: Term,
 ) -> Result<Term, ReadingError>
     requires { rank levels.above ≤ rank levels.limit }
-    ensures reads { (s : State) → reading.at levels.above depth s ≡ Ok (term_form first, input.old)
-        → (may_quantify levels.limit ≡ true → length input.old.tokens < length s.tokens)
-        → Gives term_form (reading.at levels.limit depth s) result input.new }
-    ensures fewer { OnOk result (length input.new.tokens ≤ length input.old.tokens) }
+    ensures { ReadsOn term_form (reading.at levels.limit depth)
+        (BeginsAt levels.above levels.limit depth (term_form first) input.old)
+        input.old result input.new }
 {
     let Levels { mut above, limit } = levels;
     let mut left = first;
@@ -75,9 +72,9 @@ pub fn operators_behind(
     depth: u32,
     first: Term,
 ) -> Result<Term, ReadingError>
-    ensures reads { (s : State) → reading.unary depth s ≡ Ok (term_form first, input.old)
-        → Gives term_form (reading.equated (reading.unary depth) s) result input.new }
-    ensures fewer { OnOk result (length input.new.tokens ≤ length input.old.tokens) }
+    ensures { ReadsOn term_form (reading.equated (reading.unary depth))
+        (λ s. reading.unary depth s ≡ Ok (term_form first, input.old))
+        input.old result input.new }
 {
     let levels = Levels {
         above: Level::Unary,
@@ -88,17 +85,15 @@ pub fn operators_behind(
 
 /// One term without connectives, or two that are compared for equality.
 pub fn equated(input: &mut Input<'_>, alloc: Global, depth: u32) -> Result<Term, ReadingError>
-    ensures reads { Gives term_form (reading.equated
-        (reading.unary depth) input.old) result input.new }
-    ensures fewer { OnOk result (length input.new.tokens < length input.old.tokens) }
+    ensures { ReadsSome term_form (reading.equated (reading.unary depth))
+        input.old result input.new }
 {
     term_at(input, alloc, depth, Level::Equality)
 }
 
 /// A data term, in which so many levels may open.
 pub fn term(input: &mut Input<'_>, alloc: Global, depth: u32) -> Result<Term, ReadingError>
-    ensures reads { Gives term_form (reading.term depth input.old) result input.new }
-    ensures fewer { OnOk result (length input.new.tokens < length input.old.tokens) }
+    ensures { ReadsSome term_form (reading.term depth) input.old result input.new }
 {
     term_at(input, alloc, depth, Level::Implication)
 }

@@ -1,8 +1,8 @@
 //! Reads names, and data variables with their sorts.
 
-ghost use Rattle.std.specs.Prelude.{◌≡◌, ◌<◌, length, map, OnOk};
+ghost use Rattle.std.specs.Prelude.{map};
 ghost use Rattle.pb_text_tree.specs.Form.{named, variables_form, variable_forms};
-ghost use Rattle.pb_text_lexer.specs.Steps.{Gives};
+ghost use Rattle.pb_text_terms.specs.Readers.{ReadsSome};
 ghost use Rattle.pb_text_terms.specs.Reading as reading;
 
 use pb_text_lexer::fault::ReadingError;
@@ -14,8 +14,7 @@ use std::alloc::Global;
 /// A name, where one must stand.
 #[tactic(auto, unfolding(crate::specs::Reading::name))]
 pub fn name(input: &mut Input<'_>, alloc: Global) -> Result<Name, ReadingError>
-    ensures reads { Gives named (reading.name input.old) result input.new }
-    ensures fewer { OnOk result (length input.new.tokens < length input.old.tokens) }
+    ensures { ReadsSome named reading.name input.old result input.new }
 {
     let (place, text) = input.expect_name()?;
     let text = text.to_owned(alloc)?;
@@ -24,8 +23,7 @@ pub fn name(input: &mut Input<'_>, alloc: Global) -> Result<Name, ReadingError>
 
 /// Names with commas between them.
 fn names(input: &mut Input<'_>, alloc: Global) -> Result<Vec<Name>, ReadingError>
-    ensures reads { Gives (λ v. map named v.items) (reading.names input.old) result input.new }
-    ensures fewer { OnOk result (length input.new.tokens < length input.old.tokens) }
+    ensures { ReadsSome (λ v. map named v.items) reading.names input.old result input.new }
 {
     let mut names = Vec::with_capacity(alloc, 1)?;
     'names: loop {
@@ -41,8 +39,7 @@ fn names(input: &mut Input<'_>, alloc: Global) -> Result<Vec<Name>, ReadingError
 /// Names with commas between them, a colon and their sort.
 #[tactic(auto, unfolding(crate::specs::Reading::group))]
 fn group(input: &mut Input<'_>, alloc: Global) -> Result<Variables, ReadingError>
-    ensures reads { Gives variables_form (reading.group input.old) result input.new }
-    ensures fewer { OnOk result (length input.new.tokens < length input.old.tokens) }
+    ensures { ReadsSome variables_form reading.group input.old result input.new }
 {
     let names = names(input, alloc)?;
     input.expect(Kind::Colon)?;
@@ -52,9 +49,7 @@ fn group(input: &mut Input<'_>, alloc: Global) -> Result<Variables, ReadingError
 
 /// Data variables with their sorts, of one sort or of several.
 pub fn variables(input: &mut Input<'_>, alloc: Global) -> Result<Vec<Variables>, ReadingError>
-    ensures reads { Gives (λ v. variable_forms v.items)
-        (reading.variables input.old) result input.new }
-    ensures fewer { OnOk result (length input.new.tokens < length input.old.tokens) }
+    ensures { ReadsSome (λ v. variable_forms v.items) reading.variables input.old result input.new }
 {
     let mut variables = Vec::with_capacity(alloc, 1)?;
     'groups: loop {

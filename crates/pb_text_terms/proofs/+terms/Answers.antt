@@ -1,65 +1,56 @@
-use Rattle.std.proofs.Common.{rules, arith, ◌≡◌, ◌<◌, ◌≤◌, ◌-◌, ℕ, suc, length, map, true, false, vec_len, ◌∙◌, ap, sym, subst, refl, Ok}
+use Rattle.std.proofs.Common.{rules, arith, ◌≡◌, ◌<◌, ◌≤◌, ◌-◌, ℕ, length, true, false, vec_len, ◌∙◌, ap, sym, subst, refl, Ok}
 use Rattle.std.proofs.lemmas.Bool.{and_parts}
 use Rattle.std.proofs.lemmas.List.{map_push}
 use Rattle.pb_base.proofs.Faults.{if_fault}
 use Rattle.pb_text_tree.specs.Form.{TermForm, instance_form, named, term_form, term_links, arithmetic_links}
 use Rattle.pb_text_lexer.specs.declared.kind.Kind.TheVariants as k
 use Rattle.pb_text_lexer.specs.Kinds.{same_kind}
-use Rattle.pb_text_lexer.specs.Steps.{kind, take_token, nothing_between}
+use Rattle.pb_text_lexer.specs.Steps.{kind}
 use Rattle.pb_text_lexer.specs.Tokens.{tok}
 use Rattle.pb_text_lexer.proofs.LoopLemmas.{resumed-first, resumed-more, resumed-end, resumed-operator-fails, resumed-operand-fails}
 use Rattle.pb_text_terms.specs.declared.level.Level.{Level}
 use Rattle.pb_text_terms.specs.declared.level.Operator.TheVariants.{Arithmetic, Connective}
 use Rattle.pb_text_terms.specs.Levels.{operator_of_token, level_of, operand_level, rank, may_quantify, is_related}
 use Rattle.pb_text_terms.specs.Operators.{symbol_kind, is_quantifier, arithmetic_of}
-use Rattle.pb_text_terms.specs.Reading.{term, with_place, argument_list, argument_pair, is_comma, is_open, operation, operations, is_among, is_mixed, at}
+use Rattle.pb_text_terms.specs.Reading.{term, with_place, is_comma, is_open, operation, operations, is_among, is_mixed, at}
+use Rattle.pb_text_terms.proofs.ReaderLemmas.{refused, refuses, fails-on, error-on, as-read}
+use Rattle.pb_text_terms.proofs.ListLemmas.{listed-fails, listed-ends, listed-goes-on}
 use Rattle.pb_text_terms.proofs.ReadLemmas.{operation-fails, operation-operand-fails, operation-read, arguments-is, begun-at, inner-fails, name-is, unary-other, placed-fails, placed-read}
 use Rattle.pb_text_terms.proofs.LevelLemmas.{may-above, skips-to, before-operator, operator-fails, lowest-quantified, quantified-fails, first-fails-as, first-or-fails, connects}
 use Rattle.pb_text_terms.proofs.LevelLemmas.{calculation-fails, calculation-mixed, calculation-read, connection-is}
-use Rattle.pb_text_terms.proofs.TermSteps.{IsGathering, IsOpened, error-is, read-at, gathering-fails, gathering-ends, gathering-goes-on, opened-fails, opened-closes}
+use Rattle.pb_text_terms.proofs.TermSteps.{IsOpened, read-at, opened-fails, opened-closes}
 use Rattle.pb_text_terms.proofs.TermSteps.{relation-sign-fails, relation-right-fails, relation-goes-on, relation-read}
 use Rattle.pb_text_terms.proofs.+terms.Goals as goal
-use Rattle.pb_text_terms.proofs.+terms.Goals.{instance::argument_list-After-place-place, instance::argument_list-After-push, instance::instance-After-argument_list}
+use Rattle.pb_text_terms.proofs.+terms.Goals.{instance::argument_list-After-push, instance::instance-After-argument_list}
 use Rattle.pb_text_terms.proofs.+terms.Goals.{chain::operations-After-take_operator, chain::operations-After-push, chain::connected_by-After-take_operator}
 
 -- ---- names with arguments
 
-arguments_so_far : (t : ℕ) (c : instance::argument_list-After-place-place t)
-    → IsGathering (with_place (term c.args.depth)) is_comma take_token (argument_list (term c.args.depth) c.args.input.now) (map argument_pair c.arguments.arguments.items)
-    (suc (length c.args.input.now.tokens) - vec_len c.arguments.arguments) c.arguments.input
-arguments_so_far t c = record { reads = c.arguments.invariant.reads }
+pub instance::argument_list-returns-in_err-term : goal.instance::argument_list-returns-in_err-term
+instance::argument_list-returns-in_err-term t c =
+    fails-on c.from_residual-in_err-term.result c.from_residual-in_err-term.ensures.1 c.in_err-term.ensures
+    (λ bad e. listed-fails c.arguments.invariant bad (placed-fails (term c.args.depth) c.arguments.input bad e))
 
 argument_read : (t : ℕ) (c : instance::argument_list-After-push t)
     → with_place (term c.args.depth) c.arguments.input ≡ Ok ((c.place-place.result, term_form c.in_ok-term.term), c.term_at.new.input)
 argument_read t c =
     placed-read (term c.args.depth) c.arguments.input c.term_at.new.input c.place-place.result (term_form c.in_ok-term.term) c.place-place.ensures c.in_ok-term.ensures.reads
 
-pub instance::argument_list-returns-in_err-term-clause-reads : goal.instance::argument_list-returns-in_err-term-clause-reads
-instance::argument_list-returns-in_err-term-clause-reads t c =
-    let g = arguments_so_far t (goal.at.instance::argument_list-returns-in_err-term-clause-reads t c).After-place-place in
-    rw (error-is c.from_residual-in_err-term.result _ c.from_residual-in_err-term.ensures.1)
-    (if_fault c.in_err-term.field-0.0
-    (λ bad e. gathering-fails g (length c.args.input.now.tokens - vec_len c.arguments.arguments) bad (omega arith) (placed-fails (term c.args.depth) c.arguments.input bad e))
-    c.in_err-term.ensures.reads)
-
-pub instance::argument_list-returns-then-not-same_kind-clause-reads : goal.instance::argument_list-returns-then-not-same_kind-clause-reads
-instance::argument_list-returns-then-not-same_kind-clause-reads t c =
-    let place = goal.at.instance::argument_list-returns-then-not-same_kind-clause-reads t c in
+pub instance::argument_list-returns-then-not-same_kind : goal.instance::argument_list-returns-then-not-same_kind
+instance::argument_list-returns-then-not-same_kind t c =
+    let read = argument_read t (goal.at.instance::argument_list-returns-then-not-same_kind t c).After-push in
     let stops : is_comma (kind c.term_at.new.input) ≡ false = search rules in
-    let left = length c.args.input.now.tokens - vec_len c.arguments.arguments in
-    rw (c.in_ok-push.ensures.items, map_push) (gathering-ends (arguments_so_far t place.After-place-place) left (omega arith) (argument_read t place.After-push) stops)
+    record {
+      reads = rw (c.in_ok-push.ensures.items, map_push) (listed-ends c.arguments.invariant read stops);
+      fewer = search rules;
+    }
 
 pub instance::argument_list-arguments-preserved : goal.instance::argument_list-arguments-preserved
 instance::argument_list-arguments-preserved t c =
-    let place = goal.at.instance::argument_list-arguments-preserved t c in
+    let read = argument_read t (goal.at.instance::argument_list-arguments-preserved t c).After-push in
     let goes : is_comma (kind c.term_at.new.input) ≡ true = search rules in
-    let more =
-    gathering-goes-on (arguments_so_far t place.After-place-place) (suc (length c.args.input.now.tokens) - vec_len c.push.new.self)
-    (omega (arith, c.in_ok-push.ensures.len, c.in_ok-term.ensures.fewer)) (argument_read t place.After-push) goes c.take.ensures.reads in
-    record {
-      reads = rw (c.in_ok-push.ensures.items, map_push) more;
-      room = omega (arith, c.in_ok-push.ensures.len, c.in_ok-term.ensures.fewer, c.take.ensures.fewer);
-    }
+    rw (c.in_ok-push.ensures.items, map_push)
+    (listed-goes-on c.arguments.invariant read goes c.take.ensures.reads c.in_ok-push.ensures.len (omega (arith, c.in_ok-term.ensures.fewer, c.take.ensures.fewer)))
 
 opened : (t : ℕ) (c : instance::instance-After-argument_list t) → IsOpened c.args.depth c.args.input.now c.enter.new.self (named c.in_ok-name.name)
 opened t c = record {
@@ -71,32 +62,27 @@ opened t c = record {
   entered = c.in_ok-enter.ensures.reads;
 }
 
-pub instance::instance-returns-in_err-arguments-clause-reads : goal.instance::instance-returns-in_err-arguments-clause-reads
-instance::instance-returns-in_err-arguments-clause-reads t c =
-    let h = opened t (goal.at.instance::instance-returns-in_err-arguments-clause-reads t c).After-argument_list in
-    rw (error-is c.from_residual-in_err-arguments.result _ c.from_residual-in_err-arguments.ensures.1)
-    (opened-fails h c.in_err-arguments.field-0.0 c.in_err-arguments.ensures.reads)
+pub instance::instance-returns-in_err-arguments : goal.instance::instance-returns-in_err-arguments
+instance::instance-returns-in_err-arguments t c =
+    fails-on c.from_residual-in_err-arguments.result c.from_residual-in_err-arguments.ensures.1 c.in_err-arguments.ensures
+    (opened-fails (opened t (goal.at.instance::instance-returns-in_err-arguments t c).After-argument_list))
 
-pub instance::instance-returns-then-same_kind-clause-reads : goal.instance::instance-returns-then-same_kind-clause-reads
-instance::instance-returns-then-same_kind-clause-reads t c =
-    let h = opened t (goal.at.instance::instance-returns-then-same_kind-clause-reads t c).After-argument_list in
+pub instance::instance-returns-then-same_kind : goal.instance::instance-returns-then-same_kind
+instance::instance-returns-then-same_kind t c =
+    let h = opened t (goal.at.instance::instance-returns-then-same_kind t c).After-argument_list in
     let again : is_open (kind c.expect.new.self) ≡ true = search rules in
-    rw c.refuse.ensures (opened-closes h true c.in_ok-arguments.ensures.reads c.in_ok-expect.ensures.reads again)
+    refused (rw c.refuse.ensures (opened-closes h true c.in_ok-arguments.ensures.reads c.in_ok-expect.ensures.reads again))
 
-pub instance::instance-returns-clause-reads : goal.instance::instance-returns-clause-reads
-instance::instance-returns-clause-reads t c =
-    let h = opened t (goal.at.instance::instance-returns-clause-reads t c).After-argument_list in
-    let other : is_open (kind c.expect.new.self) ≡ false = search rules in
-    opened-closes h false c.in_ok-arguments.ensures.reads c.in_ok-expect.ensures.reads other
-    ∙ ap (λ v. Ok (record { name = named c.in_ok-name.name; arguments = v }, c.expect.new.self)) (arguments-is c.in_ok-arguments.arguments.items)
+pub instance::instance-returns : goal.instance::instance-returns
+instance::instance-returns t c = record {
+  reads = let h = opened t (goal.at.instance::instance-returns t c).After-argument_list in
+      let other : is_open (kind c.expect.new.self) ≡ false = search rules in
+      opened-closes h false c.in_ok-arguments.ensures.reads c.in_ok-expect.ensures.reads other
+      ∙ ap (λ v. Ok (record { name = named c.in_ok-name.name; arguments = v }, c.expect.new.self)) (arguments-is c.in_ok-arguments.arguments.items);
+  fewer = search rules;
+}
 
 -- ---- operators of arithmetic with their operands
-
-operations_so_far : (t : ℕ) (c : chain::operations-After-take_operator t)
-    → IsGathering (operation c.args.operators (at c.operand_level-level.result c.args.depth)) (is_among c.args.operators) nothing_between
-    (operations c.args.operators (at c.operand_level-level.result c.args.depth) c.args.input.now) (arithmetic_links c.operations.links.items)
-    (suc (length c.args.input.now.tokens) - vec_len c.operations.links) c.operations.input
-operations_so_far t c = record { reads = c.operations.invariant.reads }
 
 operation_there : (t : ℕ) (c : chain::operations-After-push t)
     → operation c.args.operators (at c.operand_level-level.result c.args.depth) c.operations.input
@@ -111,52 +97,51 @@ same_level : (t : ℕ) (c : chain::operations-After-take_operator t)
     ≡ operations c.args.operators (at c.operand_level-level.result c.args.depth) c.args.input.now
 same_level t c = ap (λ (v : Level). operations c.args.operators (at v c.args.depth) c.args.input.now) (sym c.operand_level-level.ensures)
 
-pub chain::operations-returns-in_err-sign-clause-reads : goal.chain::operations-returns-in_err-sign-clause-reads
-chain::operations-returns-in_err-sign-clause-reads t c =
-    let place = (goal.at.chain::operations-returns-in_err-sign-clause-reads t c).After-take_operator in
-    let fails = operation-fails c.args.operators (at c.operand_level-level.result c.args.depth) c.operations.input c.in_err-sign.field-0.0
-    c.operations.invariant.stands c.in_err-sign.ensures.reads in
-    rw (error-is c.from_residual-in_err-sign.result _ c.from_residual-in_err-sign.ensures.1)
-    (same_level t place
-    ∙ gathering-fails (operations_so_far t place) (length c.args.input.now.tokens - vec_len c.operations.links) c.in_err-sign.field-0.0 (omega arith) fails)
+pub chain::operations-returns-in_err-sign : goal.chain::operations-returns-in_err-sign
+chain::operations-returns-in_err-sign t c =
+    refuses c.from_residual-in_err-sign.result c.from_residual-in_err-sign.ensures.1
+    (same_level t (goal.at.chain::operations-returns-in_err-sign t c).After-take_operator
+    ∙ listed-fails c.operations.invariant.listed c.in_err-sign.field-0.0
+    (operation-fails c.args.operators (at c.operand_level-level.result c.args.depth) c.operations.input c.in_err-sign.field-0.0
+    c.operations.invariant.stands c.in_err-sign.ensures.reads))
 
-pub chain::operations-returns-in_err-operand-clause-reads : goal.chain::operations-returns-in_err-operand-clause-reads
-chain::operations-returns-in_err-operand-clause-reads t c =
-    let place = (goal.at.chain::operations-returns-in_err-operand-clause-reads t c).After-take_operator in
-    rw (error-is c.from_residual-in_err-operand.result _ c.from_residual-in_err-operand.ensures.1)
-    (if_fault c.in_err-operand.field-0.0
-    (λ bad e. same_level t place
-    ∙ gathering-fails (operations_so_far t place) (length c.args.input.now.tokens - vec_len c.operations.links) bad (omega arith)
+pub chain::operations-returns-in_err-operand : goal.chain::operations-returns-in_err-operand
+chain::operations-returns-in_err-operand t c =
+    fails-on c.from_residual-in_err-operand.result c.from_residual-in_err-operand.ensures.1 c.in_err-operand.ensures
+    (λ bad e. same_level t (goal.at.chain::operations-returns-in_err-operand t c).After-take_operator
+    ∙ listed-fails c.operations.invariant.listed bad
     (operation-operand-fails c.args.operators (at c.operand_level-level.result c.args.depth) c.operations.input c.take_operator.new.self (tok c.in_ok-sign.sign) bad
-    c.operations.invariant.stands c.in_ok-sign.ensures.reads e)) c.in_err-operand.ensures.reads)
+    c.operations.invariant.stands c.in_ok-sign.ensures.reads e))
 
-pub chain::operations-returns-then-not-is_among-clause-reads : goal.chain::operations-returns-then-not-is_among-clause-reads
-chain::operations-returns-then-not-is_among-clause-reads t c =
-    let place = goal.at.chain::operations-returns-then-not-is_among-clause-reads t c in
+pub chain::operations-returns-then-not-is_among : goal.chain::operations-returns-then-not-is_among
+chain::operations-returns-then-not-is_among t c =
+    let place = goal.at.chain::operations-returns-then-not-is_among t c in
     let stops : is_among c.args.operators (kind c.term_at.new.input) ≡ false = search rules in
-    let left = length c.args.input.now.tokens - vec_len c.operations.links in
-    rw (c.in_ok-push.ensures.items, map_push, c.arithmetic.ensures)
-    (same_level t place.After-take_operator ∙ gathering-ends (operations_so_far t place.After-take_operator) left (omega arith) (operation_there t place.After-push) stops)
+    record {
+      reads = rw (c.in_ok-push.ensures.items, map_push, c.arithmetic.ensures)
+          (same_level t place.After-take_operator ∙ listed-ends c.operations.invariant.listed (operation_there t place.After-push) stops);
+      fewer = search rules;
+    }
 
 pub chain::operations-operations-preserved : goal.chain::operations-operations-preserved
 chain::operations-operations-preserved t c =
-    let place = goal.at.chain::operations-operations-preserved t c in
+    let read = operation_there t (goal.at.chain::operations-operations-preserved t c).After-push in
     let goes : is_among c.args.operators (kind c.term_at.new.input) ≡ true = search rules in
-    let more =
-    gathering-goes-on (operations_so_far t place.After-take_operator) (suc (length c.args.input.now.tokens) - vec_len c.push.new.self)
-    (omega (arith, c.in_ok-push.ensures.len, c.in_ok-sign.ensures.fewer, c.in_ok-operand.ensures.fewer)) (operation_there t place.After-push) goes refl in
     record {
-      reads = rw (c.in_ok-push.ensures.items, map_push, c.arithmetic.ensures) more;
-      room = omega (arith, c.in_ok-push.ensures.len, c.in_ok-sign.ensures.fewer, c.in_ok-operand.ensures.fewer);
+      listed = rw (c.in_ok-push.ensures.items, map_push, c.arithmetic.ensures)
+          (listed-goes-on c.operations.invariant.listed read goes refl c.in_ok-push.ensures.len (omega (arith, c.in_ok-sign.ensures.fewer, c.in_ok-operand.ensures.fewer)));
       stands = goes;
     }
 
 -- ---- operands that are read first
 
-pub primary::unary-returns-in_ok-instance-in-Name-clause-reads : goal.primary::unary-returns-in_ok-instance-in-Name-clause-reads
-primary::unary-returns-in_ok-instance-in-Name-clause-reads t c =
+pub primary::unary-returns-in_ok-instance-in-Name : goal.primary::unary-returns-in_ok-instance-in-Name
+primary::unary-returns-in_ok-instance-in-Name t c =
     let is : kind c.args.input.now ≡ k.Name = search rules in
-    rw c.applied.ensures (name-is c.args.depth c.args.input.now c.instance.new.input (instance_form c.in_ok-instance-in-Name.instance) is c.in_ok-instance-in-Name.ensures.reads)
+    record {
+      reads = rw c.applied.ensures (name-is c.args.depth c.args.input.now c.instance.new.input (instance_form c.in_ok-instance-in-Name.instance) is c.in_ok-instance-in-Name.ensures.reads);
+      fewer = c.in_ok-instance-in-Name.ensures.fewer;
+    }
 
 pub primary::unary-returns-in_default : goal.primary::unary-returns-in_default
 primary::unary-returns-in_default t c =
@@ -168,84 +153,91 @@ primary::unary-returns-in_default t c =
       fewer = tt;
     })
 
-pub primary::bracketed-returns-in_err-inner-clause-reads : goal.primary::bracketed-returns-in_err-inner-clause-reads
-primary::bracketed-returns-in_err-inner-clause-reads t c =
-    rw (error-is c.from_residual-in_err-inner.result _ c.from_residual-in_err-inner.ensures.1)
-    (if_fault c.in_err-inner.field-0.0
+pub primary::bracketed-returns-in_err-inner : goal.primary::bracketed-returns-in_err-inner
+primary::bracketed-returns-in_err-inner t c =
+    fails-on c.from_residual-in_err-inner.result c.from_residual-in_err-inner.ensures.1 c.in_err-inner.ensures
     (λ bad e. inner-fails c.args.depth c.args.input.now c.enter.new.self (tok c.in_ok-enter.field-0) bad
-    c.in_ok-enter.ensures.deeper c.requires c.in_ok-enter.ensures.reads e) c.in_err-inner.ensures.reads)
+    c.in_ok-enter.ensures.deeper c.requires c.in_ok-enter.ensures.reads e)
 
-pub primary::unary-returns-in_ok-number-in-Number-clause-reads : goal.primary::unary-returns-in_ok-number-in-Number-clause-reads
-primary::unary-returns-in_ok-number-in-Number-clause-reads t c = c.in_ok-number-in-Number.ensures.reads c.args.depth
+pub primary::unary-returns-in_ok-number-in-Number : goal.primary::unary-returns-in_ok-number-in-Number
+primary::unary-returns-in_ok-number-in-Number t c = as-read (begun-at c.args.depth c.args.input.now k.Number (search rules)) c.in_ok-number-in-Number.ensures
 
-pub primary::unary-returns-in_err-number-in-Number-clause-reads : goal.primary::unary-returns-in_err-number-in-Number-clause-reads
-primary::unary-returns-in_err-number-in-Number-clause-reads t c =
-    rw (error-is c.from_residual.result _ c.from_residual.ensures.1) (c.in_err-number-in-Number.ensures.reads c.args.depth)
+pub primary::unary-returns-in_err-number-in-Number : goal.primary::unary-returns-in_err-number-in-Number
+primary::unary-returns-in_err-number-in-Number t c =
+    refuses c.from_residual.result c.from_residual.ensures.1 (begun-at c.args.depth c.args.input.now k.Number (search rules) ∙ c.in_err-number-in-Number.ensures.reads)
 
-pub primary::unary-returns-in_ok-constant-in-True-clause-reads : goal.primary::unary-returns-in_ok-constant-in-True-clause-reads
-primary::unary-returns-in_ok-constant-in-True-clause-reads t c =
-    rw (begun-at c.args.depth c.args.input.now k.True (search rules)) c.in_ok-constant-in-True.ensures.reads
+pub primary::unary-returns-in_ok-constant-in-True : goal.primary::unary-returns-in_ok-constant-in-True
+primary::unary-returns-in_ok-constant-in-True t c = as-read (begun-at c.args.depth c.args.input.now k.True (search rules)) c.in_ok-constant-in-True.ensures
 
-pub primary::unary-returns-in_err-constant-in-True-clause-reads : goal.primary::unary-returns-in_err-constant-in-True-clause-reads
-primary::unary-returns-in_err-constant-in-True-clause-reads t c =
-    rw (error-is c.from_residual-in_err-constant-in-True.result _ c.from_residual-in_err-constant-in-True.ensures.1, begun-at c.args.depth c.args.input.now k.True (search rules))
-    c.in_err-constant-in-True.ensures.reads
+pub primary::unary-returns-in_err-constant-in-True : goal.primary::unary-returns-in_err-constant-in-True
+primary::unary-returns-in_err-constant-in-True t c =
+    refuses c.from_residual-in_err-constant-in-True.result c.from_residual-in_err-constant-in-True.ensures.1
+    (begun-at c.args.depth c.args.input.now k.True (search rules) ∙ c.in_err-constant-in-True.ensures.reads)
 
-pub primary::unary-returns-in_ok-constant-in-False-clause-reads : goal.primary::unary-returns-in_ok-constant-in-False-clause-reads
-primary::unary-returns-in_ok-constant-in-False-clause-reads t c =
-    rw (begun-at c.args.depth c.args.input.now k.False (search rules)) c.in_ok-constant-in-False.ensures.reads
+pub primary::unary-returns-in_ok-constant-in-False : goal.primary::unary-returns-in_ok-constant-in-False
+primary::unary-returns-in_ok-constant-in-False t c = as-read (begun-at c.args.depth c.args.input.now k.False (search rules)) c.in_ok-constant-in-False.ensures
 
-pub primary::unary-returns-in_err-constant-in-False-clause-reads : goal.primary::unary-returns-in_err-constant-in-False-clause-reads
-primary::unary-returns-in_err-constant-in-False-clause-reads t c =
-    rw (error-is c.from_residual-in_err-constant-in-False.result _ c.from_residual-in_err-constant-in-False.ensures.1, begun-at c.args.depth c.args.input.now k.False (search rules))
-    c.in_err-constant-in-False.ensures.reads
+pub primary::unary-returns-in_err-constant-in-False : goal.primary::unary-returns-in_err-constant-in-False
+primary::unary-returns-in_err-constant-in-False t c =
+    refuses c.from_residual-in_err-constant-in-False.result c.from_residual-in_err-constant-in-False.ensures.1
+    (begun-at c.args.depth c.args.input.now k.False (search rules) ∙ c.in_err-constant-in-False.ensures.reads)
 
-pub chain::calculated_by-returns-in_err-links-clause-reads : goal.chain::calculated_by-returns-in_err-links-clause-reads
-chain::calculated_by-returns-in_err-links-clause-reads t c s h =
-    rw (error-is c.from_residual.result _ c.from_residual.ensures.1) (if_fault c.in_err-links.field-0.0
+pub chain::calculated_by-returns-in_err-links : goal.chain::calculated_by-returns-in_err-links
+chain::calculated_by-returns-in_err-links t c =
+    error-on c.from_residual.result _ c.from_residual.ensures.1
+    (λ s h. if_fault c.in_err-links.field-0.0
     (λ bad e. calculation-fails c.args.depth s c.args.input.now (term_form c.args.first) c.args.operators bad h c.requires e) c.in_err-links.ensures.reads)
 
-pub chain::calculated_by-returns-then-is_mixed-clause-reads : goal.chain::calculated_by-returns-then-is_mixed-clause-reads
-chain::calculated_by-returns-then-is_mixed-clause-reads t c s h =
-    let mixed : is_mixed c.args.operators (kind c.operations.new.input) ≡ true = search rules in
-    rw c.refuse.ensures
-    (calculation-mixed c.args.depth s c.args.input.now (term_form c.args.first) c.args.operators
-    (arithmetic_links c.in_ok-links.links.items) c.operations.new.input h c.requires c.in_ok-links.ensures.reads mixed)
+pub chain::calculated_by-returns-then-is_mixed : goal.chain::calculated_by-returns-then-is_mixed
+chain::calculated_by-returns-then-is_mixed t c = record {
+  reads = λ s h. let mixed : is_mixed c.args.operators (kind c.operations.new.input) ≡ true = search rules in
+      rw c.refuse.ensures
+      (calculation-mixed c.args.depth s c.args.input.now (term_form c.args.first) c.args.operators
+      (arithmetic_links c.in_ok-links.links.items) c.operations.new.input h c.requires c.in_ok-links.ensures.reads mixed);
+  fewer = search rules;
+}
 
-pub chain::calculated_by-returns-clause-reads : goal.chain::calculated_by-returns-clause-reads
-chain::calculated_by-returns-clause-reads t c s h =
-    let other : is_mixed c.args.operators (kind c.operations.new.input) ≡ false = search rules in
-    rw c.in_ok-calculated.ensures
-    (calculation-read c.args.depth s c.args.input.now (term_form c.args.first) c.args.operators
-    (arithmetic_links c.in_ok-links.links.items) c.operations.new.input h c.requires c.in_ok-links.ensures.reads other)
+pub chain::calculated_by-returns : goal.chain::calculated_by-returns
+chain::calculated_by-returns t c = record {
+  reads = λ s h. let other : is_mixed c.args.operators (kind c.operations.new.input) ≡ false = search rules in
+      rw c.in_ok-calculated.ensures
+      (calculation-read c.args.depth s c.args.input.now (term_form c.args.first) c.args.operators
+      (arithmetic_links c.in_ok-links.links.items) c.operations.new.input h c.requires c.in_ok-links.ensures.reads other);
+  fewer = search rules;
+}
 
 -- ---- comparisons
 
-pub chain::related_by-returns-in_err-sign-clause-reads : goal.chain::related_by-returns-in_err-sign-clause-reads
-chain::related_by-returns-in_err-sign-clause-reads t c s h =
-    rw (error-is c.from_residual.result _ c.from_residual.ensures.1)
-    (relation-sign-fails c.args.relation c.args.depth s c.args.input.now (term_form c.args.left) h c.requires c.in_err-sign.field-0.0 c.in_err-sign.ensures.reads)
+pub chain::related_by-returns-in_err-sign : goal.chain::related_by-returns-in_err-sign
+chain::related_by-returns-in_err-sign t c =
+    error-on c.from_residual.result _ c.from_residual.ensures.1
+    (λ s h. relation-sign-fails c.args.relation c.args.depth s c.args.input.now (term_form c.args.left) h c.requires c.in_err-sign.field-0.0 c.in_err-sign.ensures.reads)
 
-pub chain::related_by-returns-in_err-right-clause-reads : goal.chain::related_by-returns-in_err-right-clause-reads
-chain::related_by-returns-in_err-right-clause-reads t c s h =
-    let level = c.operand_level-level in
-    rw (error-is c.from_residual-in_err-right.result _ c.from_residual-in_err-right.ensures.1) (if_fault c.in_err-right.field-0.0
+pub chain::related_by-returns-in_err-right : goal.chain::related_by-returns-in_err-right
+chain::related_by-returns-in_err-right t c =
+    error-on c.from_residual-in_err-right.result _ c.from_residual-in_err-right.ensures.1
+    (λ s h. let level = c.operand_level-level in
+    if_fault c.in_err-right.field-0.0
     (λ bad e. relation-right-fails c.args.relation c.args.depth s c.args.input.now (term_form c.args.left) h c.requires level.result level.ensures c.in_ok-sign.ensures.reads bad e)
     c.in_err-right.ensures.reads)
 
-pub chain::related_by-returns-then-is_related-clause-reads : goal.chain::related_by-returns-then-is_related-clause-reads
-chain::related_by-returns-then-is_related-clause-reads t c s h =
-    let again : is_related c.args.relation (kind c.term_at.new.input) ≡ true = search rules in
-    rw c.refuse.ensures
-    (relation-goes-on c.args.relation c.args.depth s c.args.input.now (term_form c.args.left) h c.requires c.operand_level-level.result c.operand_level-level.ensures
-    c.in_ok-sign.ensures.reads c.in_ok-right.ensures.reads again)
+pub chain::related_by-returns-then-is_related : goal.chain::related_by-returns-then-is_related
+chain::related_by-returns-then-is_related t c = record {
+  reads = λ s h. let again : is_related c.args.relation (kind c.term_at.new.input) ≡ true = search rules in
+      rw c.refuse.ensures
+      (relation-goes-on c.args.relation c.args.depth s c.args.input.now (term_form c.args.left) h c.requires c.operand_level-level.result c.operand_level-level.ensures
+      c.in_ok-sign.ensures.reads c.in_ok-right.ensures.reads again);
+  fewer = search rules;
+}
 
-pub chain::related_by-returns-clause-reads : goal.chain::related_by-returns-clause-reads
-chain::related_by-returns-clause-reads t c s h =
-    let other : is_related c.args.relation (kind c.term_at.new.input) ≡ false = search rules in
-    rw c.in_ok-compared.ensures
-    (relation-read c.args.relation c.args.depth s c.args.input.now (term_form c.args.left) h c.requires c.operand_level-level.result c.operand_level-level.ensures
-    c.in_ok-sign.ensures.reads c.in_ok-right.ensures.reads other)
+pub chain::related_by-returns : goal.chain::related_by-returns
+chain::related_by-returns t c = record {
+  reads = λ s h. let other : is_related c.args.relation (kind c.term_at.new.input) ≡ false = search rules in
+      rw c.in_ok-compared.ensures
+      (relation-read c.args.relation c.args.depth s c.args.input.now (term_form c.args.left) h c.requires c.operand_level-level.result c.operand_level-level.ensures
+      c.in_ok-sign.ensures.reads c.in_ok-right.ensures.reads other);
+  fewer = search rules;
+}
 
 -- ---- chains of a connective
 
@@ -262,21 +254,22 @@ chain::connected_by-links-init t c = record {
 stands : (t : ℕ) (c : chain::connected_by-After-take_operator t) → same_kind (kind c.links.input) (symbol_kind c.args.connective) ≡ true
 stands t c = search rules
 
-pub chain::connected_by-returns-in_err-place-clause-reads : goal.chain::connected_by-returns-in_err-place-clause-reads
-chain::connected_by-returns-in_err-place-clause-reads t c s h fewer =
-    let place = (goal.at.chain::connected_by-returns-in_err-place-clause-reads t c).After-take_operator in
-    rw (error-is c.from_residual-in_err-place.result _ c.from_residual-in_err-place.ensures.1)
-    (c.links.invariant.reads s h fewer
+pub chain::connected_by-returns-in_err-place : goal.chain::connected_by-returns-in_err-place
+chain::connected_by-returns-in_err-place t c =
+    error-on c.from_residual-in_err-place.result _ c.from_residual-in_err-place.ensures.1
+    (λ s h. let place = (goal.at.chain::connected_by-returns-in_err-place t c).After-take_operator in
+    c.links.invariant.reads s h.reads h.fewer
     ∙ resumed-operator-fails (symbol_kind c.args.connective) (TermForm.connected c.args.connective) (at (operand_level (Connective c.args.connective)) c.args.depth)
     (length s.tokens - vec_len c.links.links) _ (term_links c.links.links.items) c.links.input c.in_err-place.field-0.0 (stands t place) c.in_err-place.ensures.reads)
 
-pub chain::connected_by-returns-in_err-operand-clause-reads : goal.chain::connected_by-returns-in_err-operand-clause-reads
-chain::connected_by-returns-in_err-operand-clause-reads t c s h fewer =
-    let place = (goal.at.chain::connected_by-returns-in_err-operand-clause-reads t c).After-take_operator in
+pub chain::connected_by-returns-in_err-operand : goal.chain::connected_by-returns-in_err-operand
+chain::connected_by-returns-in_err-operand t c =
+    error-on c.from_residual-in_err-operand.result _ c.from_residual-in_err-operand.ensures.1
+    (λ s h. let place = (goal.at.chain::connected_by-returns-in_err-operand t c).After-take_operator in
     let operands = operand_level (Connective c.args.connective) in
     let some : 0 < length s.tokens - vec_len c.links.links = omega arith in
-    rw (error-is c.from_residual-in_err-operand.result _ c.from_residual-in_err-operand.ensures.1) (if_fault c.in_err-operand.field-0.0
-    (λ bad e. c.links.invariant.reads s h fewer
+    if_fault c.in_err-operand.field-0.0
+    (λ bad e. c.links.invariant.reads s h.reads h.fewer
     ∙ resumed-operand-fails (symbol_kind c.args.connective) (TermForm.connected c.args.connective) (at operands c.args.depth) (length s.tokens - vec_len c.links.links) _
     (term_links c.links.links.items) c.links.input c.take_operator.new.self (tok c.in_ok-place.field-0) bad some (stands t place) c.in_ok-place.ensures.reads
     (read-at c.operand_level-level.result operands c.args.depth c.take_operator.new.self c.operand_level-level.ensures e)) c.in_err-operand.ensures.reads)
@@ -297,74 +290,94 @@ chain::connected_by-links-preserved t c =
       room = omega (arith, c.in_ok-place.ensures.fewer, c.in_ok-operand.ensures.fewer, c.in_ok-push.ensures.len);
     }
 
-pub chain::connected_by-returns-clause-reads : goal.chain::connected_by-returns-clause-reads
-chain::connected_by-returns-clause-reads t c s h fewer =
-    let item = at (operand_level (Connective c.args.connective)) c.args.depth in
-    let other : same_kind (kind c.links.input) (symbol_kind c.args.connective) ≡ false = search rules in
-    rw c.in_ok-joined.ensures
-    (c.links.invariant.reads s h fewer
-    ∙ resumed-end (symbol_kind c.args.connective) (TermForm.connected c.args.connective) item
-    (length s.tokens - vec_len c.links.links) _ (term_links c.links.links.items) c.links.input other)
+pub chain::connected_by-returns : goal.chain::connected_by-returns
+chain::connected_by-returns t c = record {
+  reads = λ s h. let item = at (operand_level (Connective c.args.connective)) c.args.depth in
+      let other : same_kind (kind c.links.input) (symbol_kind c.args.connective) ≡ false = search rules in
+      rw c.in_ok-joined.ensures
+      (c.links.invariant.reads s h.reads h.fewer
+      ∙ resumed-end (symbol_kind c.args.connective) (TermForm.connected c.args.connective) item
+      (length s.tokens - vec_len c.links.links) _ (term_links c.links.links.items) c.links.input other);
+  fewer = search rules;
+}
 
 -- ---- what an operator makes of a first operand
 
-pub chain::joined_by-returns-in-Arithmetic-clause-reads : goal.chain::joined_by-returns-in-Arithmetic-clause-reads
-chain::joined_by-returns-in-Arithmetic-clause-reads t c = rw c.in-Arithmetic.is (λ s h room. c.calculated_by.ensures.reads s h)
+pub chain::joined_by-returns-in-Arithmetic : goal.chain::joined_by-returns-in-Arithmetic
+chain::joined_by-returns-in-Arithmetic t c = rw c.in-Arithmetic.is (record { reads = λ s h. c.calculated_by.ensures.reads s h.reads; fewer = c.calculated_by.ensures.fewer })
 
-pub chain::joined_by-returns-in-Relation-clause-reads : goal.chain::joined_by-returns-in-Relation-clause-reads
-chain::joined_by-returns-in-Relation-clause-reads t c = rw c.in-Relation.is (λ s h room. c.related_by.ensures.reads s h)
+pub chain::joined_by-returns-in-Relation : goal.chain::joined_by-returns-in-Relation
+chain::joined_by-returns-in-Relation t c = rw c.in-Relation.is (record { reads = λ s h. c.related_by.ensures.reads s h.reads; fewer = c.related_by.ensures.fewer })
 
-pub chain::joined_by-returns-in-Connective-clause-reads : goal.chain::joined_by-returns-in-Connective-clause-reads
-chain::joined_by-returns-in-Connective-clause-reads t c = rw c.in-Connective.is (λ s h room. c.connected_by.ensures.reads s h (room (connects c.in-Connective.connective)))
+pub chain::joined_by-returns-in-Connective : goal.chain::joined_by-returns-in-Connective
+chain::joined_by-returns-in-Connective t c =
+    rw c.in-Connective.is (record {
+      reads = λ s h. c.connected_by.ensures.reads s (record { reads = h.reads; fewer = h.fewer (connects c.in-Connective.connective) });
+      fewer = c.connected_by.ensures.fewer;
+    })
 
-pub term::term_at-returns-in_err-whole-clause-reads : goal.term::term_at-returns-in_err-whole-clause-reads
-term::term_at-returns-in_err-whole-clause-reads t c =
-    rw (error-is c.from_residual.result _ c.from_residual.ensures.1) (if_fault c.in_err-whole.field-0.0
-    (λ bad e. quantified-fails c.args.depth c.args.limit c.args.input.now bad (search rules) e) c.in_err-whole.ensures.reads)
+pub term::term_at-returns-in_err-whole : goal.term::term_at-returns-in_err-whole
+term::term_at-returns-in_err-whole t c =
+    fails-on c.from_residual.result c.from_residual.ensures.1 c.in_err-whole.ensures
+    (λ bad e. quantified-fails c.args.depth c.args.limit c.args.input.now bad (search rules) e)
 
-pub term::term_at-returns-then-begins_quantified-clause-reads : goal.term::term_at-returns-then-begins_quantified-clause-reads
-term::term_at-returns-then-begins_quantified-clause-reads t c =
-    let both = and_parts (may_quantify c.args.limit) (is_quantifier (kind c.args.input.now)) (search rules) in
-    c.operated.ensures.reads c.args.input.now (lowest-quantified c.args.depth c.args.input.now both.1 ∙ c.in_ok-whole.ensures.reads) (λ q. c.in_ok-whole.ensures.fewer)
+pub term::term_at-returns-then-begins_quantified : goal.term::term_at-returns-then-begins_quantified
+term::term_at-returns-then-begins_quantified t c = record {
+  reads = let both = and_parts (may_quantify c.args.limit) (is_quantifier (kind c.args.input.now)) (search rules) in
+      c.operated.ensures.reads c.args.input.now (record { reads = lowest-quantified c.args.depth c.args.input.now both.1 ∙ c.in_ok-whole.ensures.reads; fewer = λ q. c.in_ok-whole.ensures.fewer });
+  fewer = search rules;
+}
 
-pub term::term_at-returns-in-None-clause-reads : goal.term::term_at-returns-in-None-clause-reads
-term::term_at-returns-in-None-clause-reads t c =
-    first-or-fails c.args.depth c.args.limit c.args.input.now c.unary-first.new.input c.unary-first.result (search rules)
-    (λ q is above. c.in-None.ensures.none q (ap operator_of_token c.kind-2.ensures ∙ is) above) c.unary-first.ensures.reads
+pub term::term_at-returns-in-None : goal.term::term_at-returns-in-None
+term::term_at-returns-in-None t c = record {
+  reads = first-or-fails c.args.depth c.args.limit c.args.input.now c.unary-first.new.input c.unary-first.result (search rules)
+      (λ q is above. c.in-None.ensures.none q (ap operator_of_token c.kind-2.ensures ∙ is) above) c.unary-first.ensures.reads;
+  fewer = search rules;
+}
 
-pub term::term_at-returns-in_err-first-in-Some-clause-reads : goal.term::term_at-returns-in_err-first-in-Some-clause-reads
-term::term_at-returns-in_err-first-in-Some-clause-reads t c =
-    rw (error-is c.from_residual-in_err-first-in-Some.result _ c.from_residual-in_err-first-in-Some.ensures.1) (if_fault c.in_err-first-in-Some.field-0.0
-    (λ bad e. first-fails-as c.args.depth c.args.limit c.args.input.now bad (search rules) e) c.in_err-first-in-Some.ensures.reads)
+pub term::term_at-returns-in_err-first-in-Some : goal.term::term_at-returns-in_err-first-in-Some
+term::term_at-returns-in_err-first-in-Some t c =
+    fails-on c.from_residual-in_err-first-in-Some.result c.from_residual-in_err-first-in-Some.ensures.1 c.in_err-first-in-Some.ensures
+    (λ bad e. first-fails-as c.args.depth c.args.limit c.args.input.now bad (search rules) e)
 
-pub term::term_at-returns-in_ok-first-in-Some-clause-reads : goal.term::term_at-returns-in_ok-first-in-Some-clause-reads
-term::term_at-returns-in_ok-first-in-Some-clause-reads t c = c.operated-in-Some.ensures.reads c.args.input.now c.in_ok-first-in-Some.ensures.reads (λ q. c.in_ok-first-in-Some.ensures.fewer)
+pub term::term_at-returns-in_ok-first-in-Some : goal.term::term_at-returns-in_ok-first-in-Some
+term::term_at-returns-in_ok-first-in-Some t c = record {
+  reads = c.operated-in-Some.ensures.reads c.args.input.now (record { reads = c.in_ok-first-in-Some.ensures.reads; fewer = λ q. c.in_ok-first-in-Some.ensures.fewer });
+  fewer = search rules;
+}
 
 pub term::operated-operators-preserved : goal.term::operated-operators-preserved
 term::operated-operators-preserved t c = record {
   reads = λ s h fewer. ap (λ (v : Level). at v c.args.depth s) c.level_of-above.ensures
       ∙ c.in_ok-left.ensures.reads s
-      (before-operator c.args.depth c.operators.above c.in-Some.operator s c.operators.input
-      (term_form c.operators.left) (ap operator_of_token (sym c.kind.ensures) ∙ c.in-Some.ensures.stands)
-      c.in-Some.ensures.above (c.operators.invariant.reads s h fewer))
-      (λ may. let less = fewer (may-above (level_of c.in-Some.operator) c.args.levels.limit c.in-Some.ensures.within may) in omega (arith, c.operators.invariant.room));
+      (record {
+        reads = before-operator c.args.depth c.operators.above c.in-Some.operator s c.operators.input
+            (term_form c.operators.left) (ap operator_of_token (sym c.kind.ensures) ∙ c.in-Some.ensures.stands)
+            c.in-Some.ensures.above (c.operators.invariant.reads s h fewer);
+        fewer = λ may. let less = fewer (may-above (level_of c.in-Some.operator) c.args.levels.limit c.in-Some.ensures.within may) in omega (arith, c.operators.invariant.room);
+      });
   within = subst (λ (v : Level). rank v ≤ rank c.args.levels.limit) (sym c.level_of-above.ensures) c.in-Some.ensures.within;
   room = omega (arith, c.operators.invariant.room, c.in_ok-left.ensures.fewer);
 }
 
-pub term::operated-returns-in_err-left-clause-reads : goal.term::operated-returns-in_err-left-clause-reads
-term::operated-returns-in_err-left-clause-reads t c s h fewer =
-    let q = c.in-Some.operator in
-    let reads = c.operators.invariant.reads s h fewer in
-    rw (error-is c.from_residual.result _ c.from_residual.ensures.1) (if_fault c.in_err-left.field-0.0
+pub term::operated-returns-in_err-left : goal.term::operated-returns-in_err-left
+term::operated-returns-in_err-left t c =
+    error-on c.from_residual.result _ c.from_residual.ensures.1
+    (λ s h. let q = c.in-Some.operator in
+    let reads = c.operators.invariant.reads s h.reads h.fewer in
+    if_fault c.in_err-left.field-0.0
     (λ bad e. operator-fails c.args.depth c.operators.above c.args.levels.limit q s c.operators.input (term_form c.operators.left) bad reads c.in-Some.ensures.above c.in-Some.ensures.within e)
     (c.in_err-left.ensures.reads s
-    (before-operator c.args.depth c.operators.above q s c.operators.input (term_form c.operators.left)
-    (ap operator_of_token (sym c.kind.ensures) ∙ c.in-Some.ensures.stands) c.in-Some.ensures.above reads)
-    (λ may. let less = fewer (may-above (level_of q) c.args.levels.limit c.in-Some.ensures.within may) in omega (arith, c.operators.invariant.room))))
+    (record {
+      reads = before-operator c.args.depth c.operators.above q s c.operators.input (term_form c.operators.left)
+          (ap operator_of_token (sym c.kind.ensures) ∙ c.in-Some.ensures.stands) c.in-Some.ensures.above reads;
+      fewer = λ may. let less = h.fewer (may-above (level_of q) c.args.levels.limit c.in-Some.ensures.within may) in omega (arith, c.operators.invariant.room);
+    })))
 
-pub term::operated-returns-clause-reads : goal.term::operated-returns-clause-reads
-term::operated-returns-clause-reads t c s h fewer =
-    skips-to c.args.depth c.operators.above c.args.levels.limit s c.operators.input (term_form c.operators.left)
-    c.operators.invariant.within
-    (λ q is above. c.in_default.ensures.none q (ap operator_of_token c.kind.ensures ∙ is) above) (c.operators.invariant.reads s h fewer)
+pub term::operated-returns : goal.term::operated-returns
+term::operated-returns t c = record {
+  reads = λ s h. skips-to c.args.depth c.operators.above c.args.levels.limit s c.operators.input (term_form c.operators.left)
+      c.operators.invariant.within
+      (λ q is above. c.in_default.ensures.none q (ap operator_of_token c.kind.ensures ∙ is) above) (c.operators.invariant.reads s h.reads h.fewer);
+  fewer = search rules;
+}

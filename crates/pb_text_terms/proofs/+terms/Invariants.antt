@@ -1,12 +1,13 @@
-use Rattle.std.proofs.Common.{◌≡◌, ◌+◌, ◌*◌, ◌-◌, ◌≤◌, suc, ◌<◌, true, length, map, vec_len, Ok}
+use Rattle.std.proofs.Common.{◌≡◌, ◌+◌, ◌*◌, ◌-◌, ◌≤◌, ◌<◌, true, length, map, vec_len, Ok}
 use Rattle.pb_text_tree.specs.Form.{TermForm, term_form, term_links, arithmetic_links}
 use Rattle.pb_text_lexer.specs.Grammar.{State}
 use Rattle.pb_text_lexer.specs.Steps.{kind, take_token, nothing_between}
-use Rattle.pb_text_lexer.proofs.LoopLemmas.{gathered, resumed}
+use Rattle.pb_text_lexer.proofs.LoopLemmas.{resumed}
 use Rattle.pb_text_terms.specs.declared.level.Operator.TheVariants.{Arithmetic, Relation, Connective}
 use Rattle.pb_text_terms.specs.Levels.{rank, level_of, operand_level, may_quantify}
 use Rattle.pb_text_terms.specs.Operators.{symbol_kind}
 use Rattle.pb_text_terms.specs.Reading.{term, at, with_place, argument_pair, argument_list, is_comma, operation, operations, is_among}
+use Rattle.pb_text_terms.proofs.ListLemmas.{IsListed}
 use Rattle.pb_text_terms.proofs.+terms.Given as goal
 
 -- the functions that read at one number of levels, each above those that it calls
@@ -54,21 +55,16 @@ abbrev pub decreases-chain::connected_by : goal.decreases-chain::connected_by
 decreases-chain::connected_by l = l.depth * 64 + rank (level_of (Connective l.connective)) * 6 + 2
 
 abbrev pub invariant-instance::argument_list-arguments : goal.invariant-instance::argument_list-arguments
-invariant-instance::argument_list-arguments l = record {
-  reads : argument_list (term l.depth) l.fn.input ≡
-      gathered (with_place (term l.depth)) is_comma take_token (map argument_pair l.arguments.items) (suc (length l.fn.input.tokens) - vec_len l.arguments) l.input;
-  room : vec_len l.arguments + length l.input.tokens ≤ length l.fn.input.tokens;
-}
+invariant-instance::argument_list-arguments l =
+    IsListed (with_place (term l.depth)) is_comma take_token (argument_list (term l.depth) l.fn.input) (map argument_pair l.arguments.items) (vec_len l.arguments) (length l.fn.input.tokens) l.input
 
 abbrev pub decreases-instance::argument_list-arguments : goal.decreases-instance::argument_list-arguments
 decreases-instance::argument_list-arguments l = length l.input.tokens
 
 abbrev pub invariant-chain::operations-operations : goal.invariant-chain::operations-operations
 invariant-chain::operations-operations l = record {
-  reads : operations l.operators (at l.level l.depth) l.fn.input ≡
-      gathered (operation l.operators (at l.level l.depth)) (is_among l.operators) nothing_between (arithmetic_links l.links.items)
-      (suc (length l.fn.input.tokens) - vec_len l.links) l.input;
-  room : vec_len l.links + length l.input.tokens ≤ length l.fn.input.tokens;
+  listed : IsListed (operation l.operators (at l.level l.depth)) (is_among l.operators) nothing_between (operations l.operators (at l.level l.depth) l.fn.input)
+      (arithmetic_links l.links.items) (vec_len l.links) (length l.fn.input.tokens) l.input;
   stands : is_among l.operators (kind l.input) ≡ true;
 }
 

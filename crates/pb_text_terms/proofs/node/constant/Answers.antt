@@ -1,4 +1,8 @@
+use Rattle.std.proofs.Common.{rules}
 use Rattle.pb_text_terms.proofs.node.constant.Goals as goal
 
-pub returns-clause-reads : goal.returns-clause-reads
-returns-clause-reads c = rw c.take.ensures.reads c.closed.ensures
+pub returns : goal.returns
+returns c = record {
+  reads = rw c.take.ensures.reads c.closed.ensures;
+  fewer = search rules;
+}

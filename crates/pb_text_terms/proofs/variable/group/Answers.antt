@@ -1,11 +1,13 @@
-use Rattle.std.proofs.Common.{ap, Ok}
+use Rattle.std.proofs.Common.{rules, ap, Ok}
 use Rattle.pb_text_tree.specs.Form.{named}
 use Rattle.pb_text_terms.specs.Reading.{group}
 use Rattle.pb_text_terms.proofs.VariableLemmas.{names-of-sort}
 use Rattle.pb_text_terms.proofs.variable.group.Goals as goal
 
-pub returns-clause-reads : goal.returns-clause-reads
+pub returns : goal.returns
 unfolding group
-returns-clause-reads c =
-    rw (c.in_ok-names.ensures.reads, c.in_ok-expect.ensures.reads, c.in_ok-sort.ensures.reads)
-    (ap (λ v. Ok (v, c.name.new.input)) (names-of-sort (named c.in_ok-sort.sort) c.in_ok-names.names.items))
+returns c = record {
+  reads = rw (c.in_ok-names.ensures.reads, c.in_ok-expect.ensures.reads, c.in_ok-sort.ensures.reads)
+      (ap (λ v. Ok (v, c.name.new.input)) (names-of-sort (named c.in_ok-sort.sort) c.in_ok-names.names.items));
+  fewer = search rules;
+}
