@@ -84,6 +84,13 @@ abbrev pub AreFresh : Ranks → List LiftSeat → Type 0
 AreFresh t seats = (k : ℕ) (s : LiftSeat) → slice_get seats k ≡ Some s →
     lift_view s ≡ fresh_view (key_at t) k
 
+-- the table is laid for this game and this player, with these new seats of all its numbers
+pub record IsLaid (g : Game) (player : Player) (t : Ranks) (new : List LiftSeat) : Type 0 where
+  pub table : IsTableOf g player t
+  pub of_table : AreLiftSeats t new
+  pub numbered : seats.AreNumbered new
+  pub zeros : AreFresh t new
+
 -- no word is below what some seat knows
 abbrev pub AreSeatsBelow : List LiftSeat → List ℕ → Type 0
 AreSeatsBelow seats words = (k : ℕ) (s : LiftSeat) → slice_get seats k ≡ Some s → IsBelow s words

@@ -1,64 +1,72 @@
 //! What a player concedes: the vertices that the opponent wins by a measure.
 
-ghost use Rattle.std.specs.Prelude.{◌≡◌, ◌<◌, ◌↔◌, IsTrue, slice_index};
+ghost use Rattle.std.specs.Prelude.{◌<◌, ◌↔◌, IsTrue, slice_index};
 ghost use Rattle.pb_game.specs.Games.{vertex_count};
 ghost use Rattle.pb_lifting.specs.Measures.{top_of};
-ghost use Rattle.pb_lifting.specs.Seats.{game_at, player_at, IsSeatOf, IsSameSeat};
+ghost use Rattle.pb_lifting.specs.Seats.{player_at, IsSeatOf, IsSameSeat};
 ghost use Rattle.pb_lifting.specs.Solutions.{AreMeasured};
 ghost use Rattle.pb_lifting.specs.Turns.{IsOpponents};
 
 use crate::measured::Measured;
-use crate::ranks::{LiftSeat, Ranks};
-use crate::work::{Lifting, part};
+use crate::ranking::{RankedVertex, Ranking};
+use crate::ranks::LiftSeat;
+use crate::work::LiftSite;
 use pb_exploration_words::Gate;
-use pb_game::{Game, Player};
 
 /// Concedes each of the worker's vertices that the opponent wins by a measure, with the gate's
 /// calls round it.
 pub(crate) fn concede_part<G: Gate>(
-    lifting: &Lifting<'_, G>,
+    site: &LiftSite<'_, G>,
     opponents: &Measured,
-    ranks: &Ranks,
     seat: &mut LiftSeat,
 )
-    requires same_game { lifting.now.game.now ≡ game_at ranks.now }
-    requires seat { IsSeatOf ranks.now seat.old }
-    requires opponents { IsOpponents lifting.now.game.now (player_at ranks.now) opponents.now }
+    requires seat { IsSeatOf site.now.ranks.now seat.old }
+    requires opponents { IsOpponents site.now.lifting.now.game.now
+        (player_at site.now.ranks.now) opponents.now }
     ensures { IsSameSeat seat.old seat.new }
 {
-    let (first, end) = part(lifting.game.len(), seat.worker, lifting.workers);
+    let (first, end) = site.lifting.part(seat.worker);
     for v in first..end {
-        concede_one(lifting, opponents, ranks, seat, v);
+        concede_one(site, opponents, seat, v);
     }
 }
 
 /// Concedes a vertex, if the opponent wins it by the measure.
-fn concede_one<G: Gate>(
-    lifting: &Lifting<'_, G>,
-    opponents: &Measured,
-    ranks: &Ranks,
-    seat: &mut LiftSeat,
-    v: u32,
-)
-    requires same_game { lifting.now.game.now ≡ game_at ranks.now }
-    requires seat { IsSeatOf ranks.now seat.old }
-    requires opponents { IsOpponents lifting.now.game.now (player_at ranks.now) opponents.now }
-    requires vertex { v < vertex_count lifting.now.game.now }
+fn concede_one<G: Gate>(site: &LiftSite<'_, G>, opponents: &Measured, seat: &mut LiftSeat, v: u32)
+    requires seat { IsSeatOf site.now.ranks.now seat.old }
+    requires opponents { IsOpponents site.now.lifting.now.game.now
+        (player_at site.now.ranks.now) opponents.now }
+    requires vertex { v < vertex_count site.now.lifting.now.game.now }
     ensures { IsSameSeat seat.old seat.new }
 {
-    if !is_won(lifting.game, ranks.player.opponent(), opponents, v) {
+    let game = site.lifting.game;
+    let ranks = site.ranks;
+    let opponents_vertex = RankedVertex {
+        ranking: Ranking {
+            game,
+            player: ranks.player.opponent(),
+            scale: &opponents.scale,
+        },
+        number: v,
+    };
+    if !is_won(&opponents_vertex, opponents) {
         return;
     }
-    lifting.gate.enter(seat.worker, v);
-    ranks.concede(lifting.game, seat, v);
-    lifting.gate.answered(seat.worker, v, true);
+    let ranking = Ranking {
+        game,
+        player: ranks.player,
+        scale: &ranks.scale,
+    };
+    site.lifting.gate.enter(seat.worker, v);
+    ranks.raise(seat, v, ranking.top());
+    site.lifting.gate.answered(seat.worker, v, true);
 }
 
 /// Whether a player wins a vertex by its measure.
-fn is_won(game: &Game, player: Player, measured: &Measured, v: u32) -> bool
-    requires measured { AreMeasured game.now player measured.now }
-    requires vertex { v < vertex_count game.now }
-    ensures { IsTrue result ↔ (slice_index measured.now.words.items v < top_of game.now player) }
+fn is_won(at: &RankedVertex<'_>, measured: &Measured) -> bool
+    requires { AreMeasured at.now.ranking.game.now at.now.ranking.player measured.now }
+    ensures { IsTrue result ↔ (slice_index measured.now.words.items at.now.number
+        < top_of at.now.ranking.game.now at.now.ranking.player) }
 {
-    measured.words[v as usize] < measured.scale.top(game, player)
+    measured.words[at.number as usize] < at.ranking.top()
 }

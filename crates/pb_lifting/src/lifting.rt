@@ -5,7 +5,7 @@
 //! where they aren't top the other player's words are top at once: no vertex has ranks below top
 //! for both. So a player who loses much by ranks that rise one by one doesn't have to lift them.
 
-ghost use Rattle.std.specs.Prelude.{◌≡◌, ◌<◌, ◌↔◌, IfOk};
+ghost use Rattle.std.specs.Prelude.{◌<◌, ◌↔◌, IfOk};
 ghost use Rattle.pb_fixpoint_trees.specs.Players.{opponent_of};
 ghost use Rattle.pb_lifting.specs.Scales.{AreScalesOf};
 ghost use Rattle.pb_lifting.specs.Measures.{SomeHasTooManyRanks};
@@ -20,7 +20,7 @@ use crate::open_table::{OpenTable, concede_together, work_together};
 use crate::scale::Scales;
 use crate::solution::solution_of;
 use crate::turn::Turn;
-use crate::work::Lifting;
+use crate::work::{LiftSite, Lifting};
 use pb_exploration_words::Gate;
 use pb_game::{Game, Player, Solution};
 use std::alloc::{AllocError, Global};
@@ -56,8 +56,8 @@ pub fn lift<G: Gate + Sync, R: Threads + Sync>(
         workers,
         gate,
     };
-    let Measures { even, odd } = lift_both(rt, alloc, &lifting, &scales)?;
-    Ok(solution_of(alloc, game, &even, &odd)?)
+    let measures = lift_both(rt, alloc, &lifting, &scales)?;
+    Ok(solution_of(alloc, game, &measures)?)
 }
 
 /// The least measures of both players.
@@ -158,7 +158,11 @@ fn take_turn<G: Gate + Sync, R: Threads + Sync>(
         first: OpenTable { ranks, seats },
         second,
     } = tables;
-    let seats = work_together(rt, lifting, turn, &ranks, seats)?;
+    let site = LiftSite {
+        lifting,
+        ranks: &ranks,
+    };
+    let seats = work_together(rt, &site, turn, seats)?;
     Ok(InTurn {
         player,
         first: OpenTable { ranks, seats },
@@ -196,7 +200,11 @@ fn lift_rest<G: Gate + Sync, R: Threads + Sync>(
     ensures { IfOk result (IsOpenFor lifting.now.game.now player) }
 {
     let OpenTable { ranks, seats } = table;
-    let seats = concede_together(rt, lifting, opponents, &ranks, seats)?;
-    let seats = work_together(rt, lifting, &Turn::of(u64::MAX), &ranks, seats)?;
+    let site = LiftSite {
+        lifting,
+        ranks: &ranks,
+    };
+    let seats = concede_together(rt, &site, opponents, seats)?;
+    let seats = work_together(rt, &site, &Turn::of(u64::MAX), seats)?;
     Ok(OpenTable { ranks, seats })
 }

@@ -1,16 +1,17 @@
 //! A player's table while its workers lift it, and what is left when they have done.
-ghost use Rattle.std.specs.Prelude.{◌≡◌, IfOk};
+ghost use Rattle.std.specs.Prelude.{IfOk};
 ghost use Rattle.pb_lifting.specs.Scales.{IsScaleOf};
-ghost use Rattle.pb_lifting.specs.Seats.{game_at, player_at, IsSeatOf, IsSameSeat, AreLiftSeats};
+ghost use Rattle.pb_lifting.specs.Seats.{player_at, IsSeatOf, IsSameSeat, AreLiftSeats};
 ghost use Rattle.pb_lifting.specs.Turns.{IsOpenFor, IsOpponents, IsLeastMeasured};
 
 use crate::concede::concede_part;
 use crate::measured::Measured;
+use crate::ranking::Ranking;
 use crate::ranks::{LiftSeat, Ranks};
 use crate::scale::Scale;
 use crate::sweep::sweep;
 use crate::turn::Turn;
-use crate::work::{Lifting, work};
+use crate::work::{LiftSite, Lifting, work};
 use pb_exploration_words::Gate;
 use pb_game::{Game, Player};
 use std::alloc::{AllocError, Global};
@@ -53,7 +54,12 @@ impl OpenTable {
         let OpenTable { ranks, seats } = self;
         let scale = ranks.scale;
         let mut words = ranks.close(alloc, seats)?;
-        sweep(game, player, &scale, &mut words);
+        let ranking = Ranking {
+            game,
+            player,
+            scale: &scale,
+        };
+        sweep(&ranking, &mut words);
         Ok(Measured { scale, words })
     }
 }
@@ -61,81 +67,54 @@ impl OpenTable {
 /// Each worker takes its turn, in a thread of its own where one can be made.
 pub(crate) fn work_together<G: Gate + Sync, R: Threads + Sync>(
     rt: &R,
-    lifting: &Lifting<'_, G>,
+    site: &LiftSite<'_, G>,
     turn: &Turn,
-    ranks: &Ranks,
     seats: Vec<LiftSeat>,
 ) -> Result<Vec<LiftSeat>, AllocError>
-    requires same_game { lifting.now.game.now ≡ game_at ranks.now }
-    requires seats { AreLiftSeats ranks.now seats.items }
-    ensures { IfOk result (λ v. AreLiftSeats ranks.now v.items) }
+    requires { AreLiftSeats site.now.ranks.now seats.items }
+    ensures { IfOk result (λ v. AreLiftSeats site.now.ranks.now v.items) }
 {
     let done = thread::map_vec(
         rt,
         seats,
         &|seat: LiftSeat| -> LiftSeat
-            requires { IsSeatOf ranks.now seat
-                × (lifting.now.game.now ≡ game_at ranks.now) }
+            requires { IsSeatOf site.now.ranks.now seat }
             ensures { IsSameSeat seat result }
-        { work_with(lifting, turn, ranks, seat) },
+        {
+            let mut seat = seat;
+            work(site, turn, &mut seat);
+            seat
+        },
     )?;
     Ok(done)
-}
-
-/// A worker's turn, with its seat, which it gives back.
-fn work_with<G: Gate>(
-    lifting: &Lifting<'_, G>,
-    turn: &Turn,
-    ranks: &Ranks,
-    mut seat: LiftSeat,
-) -> LiftSeat
-    requires same_game { lifting.now.game.now ≡ game_at ranks.now }
-    requires seat { IsSeatOf ranks.now seat }
-    ensures { IsSameSeat seat result }
-{
-    work(lifting, turn, ranks, &mut seat);
-    seat
 }
 
 /// Each worker concedes the vertices that the opponent wins by a measure, in a thread of its own
 /// where one can be made.
 pub(crate) fn concede_together<G: Gate + Sync, R: Threads + Sync>(
     rt: &R,
-    lifting: &Lifting<'_, G>,
+    site: &LiftSite<'_, G>,
     opponents: &Measured,
-    ranks: &Ranks,
     seats: Vec<LiftSeat>,
 ) -> Result<Vec<LiftSeat>, AllocError>
-    requires same_game { lifting.now.game.now ≡ game_at ranks.now }
-    requires seats { AreLiftSeats ranks.now seats.items }
-    requires opponents { IsOpponents lifting.now.game.now (player_at ranks.now) opponents.now }
-    ensures { IfOk result (λ v. AreLiftSeats ranks.now v.items) }
+    requires seats { AreLiftSeats site.now.ranks.now seats.items }
+    requires opponents { IsOpponents site.now.lifting.now.game.now
+        (player_at site.now.ranks.now) opponents.now }
+    ensures { IfOk result (λ v. AreLiftSeats site.now.ranks.now v.items) }
 {
     let done = thread::map_vec(
         rt,
         seats,
         &|seat: LiftSeat| -> LiftSeat
-            requires { IsSeatOf ranks.now seat
-                × (lifting.now.game.now ≡ game_at ranks.now)
-                × IsOpponents lifting.now.game.now (player_at ranks.now) opponents.now }
+            requires { IsSeatOf site.now.ranks.now seat
+                × IsOpponents site.now.lifting.now.game.now (player_at site.now.ranks.now)
+                opponents.now }
             ensures { IsSameSeat seat result }
-        { concede_with(lifting, opponents, ranks, seat) },
+        {
+            let mut seat = seat;
+            concede_part(site, opponents, &mut seat);
+            seat
+        },
     )?;
     Ok(done)
-}
-
-/// What a worker concedes, with its seat, which it gives back.
-fn concede_with<G: Gate>(
-    lifting: &Lifting<'_, G>,
-    opponents: &Measured,
-    ranks: &Ranks,
-    mut seat: LiftSeat,
-) -> LiftSeat
-    requires same_game { lifting.now.game.now ≡ game_at ranks.now }
-    requires seat { IsSeatOf ranks.now seat }
-    requires opponents { IsOpponents lifting.now.game.now (player_at ranks.now) opponents.now }
-    ensures { IsSameSeat seat result }
-{
-    concede_part(lifting, opponents, ranks, &mut seat);
-    seat
 }

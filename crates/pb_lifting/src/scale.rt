@@ -2,10 +2,9 @@
 
 ghost use Rattle.std.specs.Prelude.{◌≡◌, ℕ, ◌+◌, ◌*◌, ◌<◌, ◌≤◌, ◌==◌, if◌then◌else◌, ◌%◌};
 ghost use Rattle.std.specs.Prelude.{slice_index, MatchOption};
-ghost use Rattle.pb_game.specs.Games.{vertex_count, priority_count};
+ghost use Rattle.pb_game.specs.Games.{priority_count};
 ghost use Rattle.pb_fixpoint_trees.specs.Players.{parity_of};
 ghost use Rattle.pb_lifting.specs.Radix.{step_up, better};
-ghost use Rattle.pb_lifting.specs.Measures.{top_of, asked, counts_of};
 ghost use Rattle.pb_lifting.specs.Measures.{HasTooManyRanks, SomeHasTooManyRanks};
 ghost use Rattle.pb_lifting.specs.Scales.{AreCountsOf, IsScaleOf, AreScalesOf};
 ghost use Rattle.pb_base.specs.declared.limits.TheConstants.{MAX_PRIORITIES};
@@ -29,7 +28,7 @@ pub(crate) struct Scales {
 }
 
 /// What an edge asks for, where the top rank is a multiple of the place value.
-fn step(place: u64, top: u64, more: u64, rank: u64) -> u64
+pub(crate) fn step(place: u64, top: u64, more: u64, rank: u64) -> u64
     requires place { 0 < place }
     requires more { more ≤ 1 }
     requires multiple { (m : ℕ) × (top ≡ m * place) }
@@ -97,46 +96,11 @@ impl Scale {
     }
 
     /// The place value of a priority.
-    fn at(&self, priority: usize) -> u64
+    pub(crate) fn at(&self, priority: usize) -> u64
         requires { priority ≤ MAX_PRIORITIES }
         ensures { result ≡ slice_index self.now.places priority }
     {
         self.places[priority]
-    }
-
-    /// The rank above all others, of a vertex that the player does not win.
-    pub(crate) fn top(&self, game: &Game, player: Player) -> u64
-        requires scale { IsScaleOf game.now player self.now }
-        ensures { result ≡ top_of game.now player }
-    {
-        self.at(width(game))
-    }
-
-    /// The least rank of `v` on an edge to a vertex of this rank.
-    pub(crate) fn asked(&self, game: &Game, player: Player, v: u32, rank: u64) -> u64
-        requires vertex { v < vertex_count game.now }
-        requires scale { IsScaleOf game.now player self.now }
-        ensures { result ≡ asked game.now player v rank }
-    {
-        let priority = game.priority(v);
-        let more = if priority % 2 == player.parity() {
-            0
-        } else {
-            1
-        };
-        let place = self.at(priority as usize);
-        let top = self.top(game, player);
-        step(place, top, more, rank)
-    }
-
-    pub(crate) fn count(&self, game: &Game, player: Player, rank: u64, priority: u32) -> u64
-        requires scale { IsScaleOf game.now player self.now }
-        requires priority { priority < priority_count game.now }
-        ensures { result ≡ counts_of game.now player rank priority }
-    {
-        let place = self.at(priority as usize);
-        let above = self.at(priority as usize + 1);
-        rank % above / place
     }
 }
 

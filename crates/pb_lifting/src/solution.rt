@@ -3,29 +3,36 @@
 ghost use Rattle.std.specs.Prelude.{◌≡◌, ◌<◌, ◌↔◌, IsTrue, IfOk, OnOk};
 ghost use Rattle.std.specs.Prelude.{Some, ◌==◌, if◌then◌else◌};
 ghost use Rattle.pb_game.specs.Games.{vertex_count, priority_count};
-ghost use Rattle.pb_fixpoint_trees.specs.declared.player.Player.TheVariants.{Even, Odd};
-ghost use Rattle.pb_lifting.specs.Scales.{IsScaleOf};
 ghost use Rattle.pb_lifting.specs.Solutions.{Meets, IsMeeting, IsLeastSuccessor, IsChoice};
-ghost use Rattle.pb_lifting.specs.Solutions.{winner_by, count_by_rank, lesser_of, AddsRow};
+ghost use Rattle.pb_lifting.specs.Solutions.{count_by_rank, lesser_of, AddsRow};
 ghost use Rattle.pb_lifting.specs.Solutions.{AddsMeasured, AddsWinner, IsSolutionByMeasures};
 ghost use Rattle.pb_lifting.specs.Solutions.{AreMeasured};
+ghost use Rattle.pb_lifting.specs.Turns.{AreLeastMeasured};
 
+use crate::lifting::Measures;
 use crate::measured::Measured;
-use crate::scale::{Scale, width};
+use crate::ranking::{RankedVertex, Ranking};
+use crate::scale::width;
 use pb_game::{Game, Player, Solution};
 use std::alloc::{AllocError, Global};
+
+/// A vertex, with the final words of a player.
+#[derive(Clone, Copy)]
+struct MeasuredVertex<'a> {
+    at: RankedVertex<'a>,
+    measured: &'a Measured,
+    ghost of_words: { AreMeasured at.ranking.game.now at.ranking.player measured.now },
+}
 
 /// The solution that the final words of both players say.
 pub(crate) fn solution_of(
     alloc: Global,
     game: &Game,
-    even: &Measured,
-    odd: &Measured,
+    measures: &Measures,
 ) -> Result<Solution, AllocError>
-    requires even { AreMeasured game.now Even even.now }
-    requires odd { AreMeasured game.now Odd odd.now }
-    ensures { IfOk result
-        (λ s. IsSolutionByMeasures game.now even.now.words.items odd.now.words.items s) }
+    requires { AreLeastMeasured game.now measures.now }
+    ensures { IfOk result (λ s. IsSolutionByMeasures game.now measures.now.even.words.items
+        measures.now.odd.words.items s) }
 {
     let vertices = game.len() as usize;
     let mut solution = Solution {
@@ -34,7 +41,7 @@ pub(crate) fn solution_of(
         counts: Vec::with_capacity(alloc, vertices * width(game))?,
     };
     for v in 0..game.len() {
-        push_at(game, even, odd, v, &mut solution)?;
+        push_at(game, measures, v, &mut solution)?;
     }
     Ok(solution)
 }
@@ -42,100 +49,93 @@ pub(crate) fn solution_of(
 /// Puts the entries of `v` behind the others.
 fn push_at(
     game: &Game,
-    even: &Measured,
-    odd: &Measured,
+    measures: &Measures,
     v: u32,
     solution: &mut Solution,
 ) -> Result<(), AllocError>
-    requires even { AreMeasured game.now Even even.now }
-    requires odd { AreMeasured game.now Odd odd.now }
+    requires measures { AreLeastMeasured game.now measures.now }
     requires vertex { v < vertex_count game.now }
-    ensures { OnOk result (AddsWinner game.now even.now odd.now v solution.old solution.new) }
+    ensures { OnOk result (AddsWinner game.now measures.now.even measures.now.odd v solution.old
+        solution.new) }
 {
-    if wins_even(game, even, v) {
-        push_vertex(game, Player::Even, even, v, solution)
-    } else {
-        push_vertex(game, Player::Odd, odd, v, solution)
+    let Measures { even, odd } = measures;
+    let by_even = Ranking {
+        game,
+        player: Player::Even,
+        scale: &even.scale,
+    };
+    if even.words[v as usize] != by_even.top() {
+        let at = RankedVertex {
+            ranking: by_even,
+            number: v,
+        };
+        return push_vertex(&MeasuredVertex { at, measured: even }, solution);
     }
+    let at = RankedVertex {
+        ranking: Ranking {
+            game,
+            player: Player::Odd,
+            scale: &odd.scale,
+        },
+        number: v,
+    };
+    push_vertex(&MeasuredVertex { at, measured: odd }, solution)
 }
 
-/// Whether Even wins `v`.
-fn wins_even(game: &Game, even: &Measured, v: u32) -> bool
-    requires even { AreMeasured game.now Even even.now }
-    requires vertex { v < vertex_count game.now }
-    ensures { IsTrue result ↔ (winner_by game.now even.now.words.items v ≡ Even) }
+/// Puts the entries of a vertex, which this player wins, behind the others.
+fn push_vertex(vertex: &MeasuredVertex<'_>, solution: &mut Solution) -> Result<(), AllocError>
+    ensures { OnOk result (AddsMeasured vertex.now.at.ranking.game.now vertex.now.at.ranking.player
+        vertex.now.measured.now vertex.now.at.number solution.old solution.new) }
 {
-    even.words[v as usize] != even.scale.top(game, Player::Even)
-}
-
-/// Puts the entries of `v`, which this player wins, behind the others.
-fn push_vertex(
-    game: &Game,
-    player: Player,
-    measured: &Measured,
-    v: u32,
-    solution: &mut Solution,
-) -> Result<(), AllocError>
-    requires measured { AreMeasured game.now player measured.now }
-    requires vertex { v < vertex_count game.now }
-    ensures { OnOk result (AddsMeasured game.now player measured.now v solution.old solution.new) }
-{
-    let rank = measured.words[v as usize];
-    let choice = choice_at(game, player, measured, v);
-    solution.winner.push(player)?;
+    let ranking = &vertex.at.ranking;
+    let rank = vertex.measured.words[vertex.at.number as usize];
+    let choice = choice_at(vertex);
+    solution.winner.push(ranking.player)?;
     solution.choice.push(choice)?;
-    push_counts(game, player, &measured.scale, rank, &mut solution.counts)
+    push_counts(ranking, rank, &mut solution.counts)
 }
 
 /// Puts a vertex's counts behind the others.
-fn push_counts(
-    game: &Game,
-    player: Player,
-    scale: &Scale,
-    rank: u64,
-    counts: &mut Vec<u64>,
-) -> Result<(), AllocError>
-    requires scale { IsScaleOf game.now player scale.now }
-    ensures { OnOk result (AddsRow game.now player rank counts.old.items counts.new.items) }
+fn push_counts(ranking: &Ranking<'_>, rank: u64, counts: &mut Vec<u64>) -> Result<(), AllocError>
+    ensures { OnOk result (AddsRow ranking.now.game.now ranking.now.player rank counts.old.items
+        counts.new.items) }
 {
-    for priority in 0..=game.greatest_priority() {
-        counts.push(count_at(game, player, scale, rank, priority))?;
+    for priority in 0..=ranking.game.greatest_priority() {
+        counts.push(count_at(ranking, rank, priority))?;
     }
     Ok(())
 }
 
 /// The count of a rank at a priority, and 0 where the rank is top.
-fn count_at(game: &Game, player: Player, scale: &Scale, rank: u64, priority: u32) -> u64
-    requires scale { IsScaleOf game.now player scale.now }
-    requires priority { priority < priority_count game.now }
-    ensures { result ≡ count_by_rank game.now player rank priority }
+fn count_at(ranking: &Ranking<'_>, rank: u64, priority: u32) -> u64
+    requires { priority < priority_count ranking.now.game.now }
+    ensures { result ≡ count_by_rank ranking.now.game.now ranking.now.player rank priority }
 {
-    if rank == scale.top(game, player) {
+    if rank == ranking.top() {
         return 0;
     }
-    scale.count(game, player, rank, priority)
+    ranking.count(rank, priority)
 }
 
-/// The choice at `v`, which this player wins.
-fn choice_at(game: &Game, player: Player, measured: &Measured, v: u32) -> u32
-    requires measured { AreMeasured game.now player measured.now }
-    requires vertex { v < vertex_count game.now }
-    ensures { IsChoice game.now player measured.now.words.items v result }
+/// The choice at a vertex, which this player wins.
+fn choice_at(vertex: &MeasuredVertex<'_>) -> u32
+    ensures { IsChoice vertex.now.at.ranking.game.now vertex.now.at.ranking.player
+        vertex.now.measured.now.words.items vertex.now.at.number result }
 {
-    if game.owner(v) != player {
-        return least_successor(game, v);
+    let Ranking { game, player, .. } = vertex.at.ranking;
+    if game.owner(vertex.at.number) != player {
+        return least_successor(&vertex.at);
     }
-    match least_meeting(game, player, measured, v) {
+    match least_meeting(vertex) {
         Some(u) => u,
-        None => least_successor(game, v),
+        None => least_successor(&vertex.at),
     }
 }
 
-fn least_successor(game: &Game, v: u32) -> u32
-    requires vertex { v < vertex_count game.now }
-    ensures { IsLeastSuccessor game.now v result }
+fn least_successor(at: &RankedVertex<'_>) -> u32
+    ensures { IsLeastSuccessor at.now.ranking.game.now at.now.number result }
 {
-    let successors = game.successors(v);
+    let successors = at.ranking.game.successors(at.number);
     let mut least = successors[0];
     for target in successors {
         if *target < least {
@@ -145,15 +145,14 @@ fn least_successor(game: &Game, v: u32) -> u32
     least
 }
 
-/// The least successor to which an edge from `v` meets the edge condition.
-fn least_meeting(game: &Game, player: Player, measured: &Measured, v: u32) -> Option<u32>
-    requires measured { AreMeasured game.now player measured.now }
-    requires vertex { v < vertex_count game.now }
-    ensures { IsMeeting game.now player measured.now.words.items v result }
+/// The least successor to which an edge from the vertex meets the edge condition.
+fn least_meeting(vertex: &MeasuredVertex<'_>) -> Option<u32>
+    ensures { IsMeeting vertex.now.at.ranking.game.now vertex.now.at.ranking.player
+        vertex.now.measured.now.words.items vertex.now.at.number result }
 {
     let mut least: Option<u32> = None;
-    for target in game.successors(v) {
-        if meets(game, player, measured, v, *target) {
+    for target in vertex.at.ranking.game.successors(vertex.at.number) {
+        if meets(vertex, *target) {
             least = lesser(least, *target);
         }
     }
@@ -170,20 +169,19 @@ fn lesser(least: Option<u32>, u: u32) -> Option<u32>
     }
 }
 
-/// Whether an edge from `v` to `u` meets the edge condition.
-fn meets(game: &Game, player: Player, measured: &Measured, v: u32, u: u32) -> bool
-    requires measured { AreMeasured game.now player measured.now }
-    requires vertex { v < vertex_count game.now }
-    requires to { u < vertex_count game.now }
-    ensures { IsTrue result ↔ Meets game.now player measured.now.words.items v u }
+/// Whether an edge from the vertex to `u` meets the edge condition.
+fn meets(vertex: &MeasuredVertex<'_>, u: u32) -> bool
+    requires { u < vertex_count vertex.now.at.ranking.game.now }
+    ensures { IsTrue result ↔ Meets vertex.now.at.ranking.game.now vertex.now.at.ranking.player
+        vertex.now.measured.now.words.items vertex.now.at.number u }
 {
-    let top = measured.scale.top(game, player);
-    let rank = measured.words[u as usize];
+    let top = vertex.at.ranking.top();
+    let rank = vertex.measured.words[u as usize];
     if rank >= top {
         return false;
     }
-    let own = counted_rank(measured.words[v as usize], top);
-    measured.scale.asked(game, player, v, rank) <= own
+    let own = counted_rank(vertex.measured.words[vertex.at.number as usize], top);
+    vertex.at.asked(rank) <= own
 }
 
 /// A rank with the counts of this one: those of top are all 0.

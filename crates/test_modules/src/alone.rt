@@ -11,7 +11,7 @@ use pb_fixpoint_rows::Rows;
 use pb_instances::{Statuses, Table};
 use pb_verifier::Verified;
 use std::alloc::{AllocError, Global};
-use std::marker::Brand;
+use std::marker::{Brand, PhantomData};
 
 /// What one worker does alone, the hints having a brand.
 fn work_branded<B: Limit>(
@@ -34,6 +34,7 @@ fn work_branded<B: Limit>(
         verified,
         table: &table,
         crew: &Crew::of(1),
+        marker: PhantomData,
     };
     let rows = work(alloc, &site, &mut worker, &NoGate);
     Ok((rows, close(verified, table, Vec::new(alloc))))

@@ -6,9 +6,9 @@ use Rattle.pb_lifting.proofs.sweep.sweep_down.Given as goal
 
 abbrev pub invariant-loop-v : goal.invariant-loop-v
 invariant-loop-v l = record {
-  words : AreWords l.game l.player l.words.items;
-  falls : slack (top_of l.game l.player) l.words.items ≤ slack (top_of l.game l.player) l.fn.words.items;
-  within : l.v ≤ vertex_count l.game;
+  words : AreWords l.ranking.game.now l.ranking.player l.words.items;
+  falls : slack (top_of l.ranking.game.now l.ranking.player) l.words.items ≤ slack (top_of l.ranking.game.now l.ranking.player) l.fn.words.items;
+  within : l.v ≤ vertex_count l.ranking.game.now;
 }
 
 abbrev pub decreases-loop-v : goal.decreases-loop-v

@@ -1,4 +1,4 @@
-use Rattle.std.proofs.Common.{◌≡◌, ◌-◌, sym, ap, ◌∙◌, subst, arith}
+use Rattle.std.proofs.Common.{◌≡◌, ◌-◌, refl, sym, ap, ◌∙◌, subst, arith}
 use Rattle.pb_exploration_words.specs.Views.{dealt, MayDeal}
 use Rattle.pb_lifting.specs.declared.view.Key.{Key}
 use Rattle.pb_lifting.specs.declared.view.View.{View}
@@ -15,15 +15,17 @@ deal-requires-clause-parts c =
     let some = c.requires.workers in
     subst (MayDeal (rule key) marks kept_view given_view (c.args.workers - 1)) (sym first) (may_deal key (c.args.workers - 1) 0 (omega arith))
 
-pub returns-clause-zeros : goal.returns-clause-zeros
-returns-clause-zeros c k s e =
+pub returns-clause-laid : goal.returns-clause-laid
+returns-clause-laid c =
     let key = c.in_ok-words.words.inner.shared.key in
     let workers : key.workers ≡ c.args.workers = ap (λ (k : Key). k.workers) c.in_ok-words.ensures.key in
     let first : lift_view c.in_ok-words.first ≡ rest_view key 0 = c.in_ok-words.ensures.view ∙ (ap first_view (sym c.in_ok-words.ensures.key) ∙ first_rest key) in
     let some = c.requires.workers in
-    fresh_at key c.in_ok-seats.seats.items (omega arith)
-    (c.in_ok-seats.ensures.views ∙ (λ i. dealt kept_view given_view (sym workers i - 1) (first i))) k s e
-
-pub returns-clause-seats : goal.returns-clause-seats
-returns-clause-seats c k s e =
-    λ i. (c.in_ok-seats.ensures.seats k s e i, ap (λ (v : View). v.key) (returns-clause-zeros c k s e) i)
+    let zeros = fresh_at key c.in_ok-seats.seats.items (omega arith)
+    (c.in_ok-seats.ensures.views ∙ (λ i. dealt kept_view given_view (sym workers i - 1) (first i))) in
+    record {
+      table = (ap (λ (k : Key). k.game.value) c.in_ok-words.ensures.key ∙ c.of.ensures, refl);
+      of_table = λ k s e i. (c.in_ok-seats.ensures.seats k s e i, ap (λ (v : View). v.key) (zeros k s e) i);
+      numbered = c.in_ok-seats.ensures.workers;
+      zeros = zeros;
+    }
