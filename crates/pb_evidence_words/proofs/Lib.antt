@@ -1,4 +1,5 @@
 pub mod Children
+pub mod ParentRead
 pub mod Parents
 pub mod Pushed
 pub mod Reached

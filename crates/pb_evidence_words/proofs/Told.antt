@@ -18,6 +18,7 @@ use Rattle.pb_report.specs.Cuts.{cuts_of}
 use Rattle.pb_report.specs.ModuleEvidence.{IsExplanation}
 use Rattle.pb_evidence_words.specs.declared.shown.Shown.{Shown}
 use Rattle.pb_evidence_words.specs.declared.caller.Caller.{Caller}
+use Rattle.pb_evidence_words.specs.declared.telling.Telling.{Telling}
 use Rattle.pb_evidence_words.specs.Lines.{HasLines}
 use Rattle.pb_evidence_words.specs.Order.{parent_at}
 use Rattle.pb_evidence_words.specs.Ready.{IsCaller, told_of}
@@ -50,12 +51,13 @@ pub arrival-later : (t : Told) (k : ℕ) → (k ≡ 0 → ⊥)
 arrival-later t k other = sym (ap (λ b. if b then first-arrival t else later-arrival t k) (ne_eqb k 0 other))
 
 -- the move from a line whose calls are known
-pub move-said : (s : Shown) (p q : ℕ) (x : Caller) → IsCaller s p x → p ≡ q → (i j : Instance) → i ≡ j
-    → move_among (vocabulary_of s.vocabulary.now) (call_views x.calls.items) (instance_of x.instance) i
-    ≡ move_between (told_of s) (line_instance (told_of s) q) j
-move-said s p q x is same i j to =
+pub move-said : (t : Telling) (p q : ℕ) (x : Caller) → IsCaller t p x → p ≡ q → (i j : Instance) → i ≡ j
+    → (let s = t.shown.now in move_among (vocabulary_of s.vocabulary.now) (call_views x.calls.items) (instance_of x.instance) i
+    ≡ move_between (told_of s) (line_instance (told_of s) q) j)
+move-said t p q x is same i j to =
+    let s = t.shown.now in
     ap (λ calls. move_among (vocabulary_of s.vocabulary.now) calls (instance_of x.instance) i) is.calls
-    ∙ (ap (λ from. move_among (vocabulary_of s.vocabulary.now) (calls_at (spec_form s.typed.now.spec) (line_instance (told_of s) p)) from i) is.caller
+    ∙ (ap (λ from. move_among (vocabulary_of s.vocabulary.now) (calls_at (spec_form s.typed.now.spec) (line_instance (told_of s) p)) from i) is.instance
     ∙ (ap (λ n. move_between (told_of s) (line_instance (told_of s) n) i) same
     ∙ ap (λ n. move_between (told_of s) (line_instance (told_of s) q) n) to))
 

@@ -54,11 +54,17 @@ pub record IsReady (s : Shown) (calls steps : CallPlaces) (lines : Lines) : Type
 abbrev pub IsTold : Telling → Type 0
 IsTold x = IsReady x.shown.now x.calls x.steps x.lines
 
+-- the line at k is one of those that are told
+pub record IsLine (x : Telling) (k : ℕ) : Type 0 where
+  pub told : IsTold x
+  pub inside : k < length (numbers_of x.shown.now)
+
 -- the instance of the line at k, with the calls that it makes
-pub record IsCaller (s : Shown) (k : ℕ) (x : Caller) : Type 0 where
-  pub caller : instance_of x.instance ≡ line_instance (told_of s) k
-  pub calls : call_views x.calls.items
-      ≡ calls_at (spec_form s.typed.now.spec) (line_instance (told_of s) k)
+pub record IsCaller (x : Telling) (k : ℕ) (caller : Caller) : Type 0 where
+  pub line : IsLine x k
+  pub instance : instance_of caller.instance ≡ line_instance (told_of x.shown.now) k
+  pub calls : call_views caller.calls.items
+      ≡ calls_at (spec_form x.shown.now.typed.now.spec) (line_instance (told_of x.shown.now) k)
 
 -- a call that was found
 abbrev pub call_said : Option (Bor declared_call.MadeCall) → Option MadeCall

@@ -3,7 +3,7 @@
 
 ghost use Rattle.std.specs.Prelude.{◌≡◌, ◌<◌, ◌==◌, ◌||◌, ◌++◌};
 ghost use Rattle.std.specs.Prelude.{not, Contains, OnOk, codes, decimal, flat_map};
-ghost use Rattle.std.specs.Prelude.{◌+◌, IfOk, length, map, string_bytes};
+ghost use Rattle.std.specs.Prelude.{◌+◌, length, map, string_bytes};
 ghost use Rattle.pb_typing_calls.specs.MadeCallView.{call_view, call_views};
 ghost use Rattle.pb_base_values.specs.Carrier.{is_within};
 ghost use Rattle.pb_evidence.specs.Evidence.{graph_of};
@@ -12,7 +12,7 @@ ghost use Rattle.pb_sorts.specs.Instance.{instance_of, is_instance};
 ghost use Rattle.pb_sorts.specs.Layout.{carriers_of};
 ghost use Rattle.pb_bytecode.specs.Meaning.{parameters};
 ghost use Rattle.pb_evidence_words.specs.Order.{has_edge, leads_back, place_of};
-ghost use Rattle.pb_evidence_words.specs.Ready.{IsCaller, IsTold, numbers_of, told_of};
+ghost use Rattle.pb_evidence_words.specs.Ready.{IsCaller, IsLine, IsTold, numbers_of, told_of};
 ghost use Rattle.pb_evidence_words.specs.WhyText.{below_text, cut_text, cuts_text, dependencies_at};
 ghost use Rattle.pb_evidence_words.specs.WhyText.{edge_text, end_text, here_text, is_cut_at, reason_text};
 ghost use Rattle.pb_evidence_words.specs.WhyText.{target_text, to_text};
@@ -70,8 +70,7 @@ fn push_on(alloc: Global, text: &mut String, line: usize) -> Result<(), AllocErr
 
 impl Telling<'_> {
     fn leads_back(&self, line: usize, target: usize) -> bool
-        requires told { IsTold self.now }
-        requires line { line < length (numbers_of self.now.shown.now) }
+        requires line { IsLine self.now line }
         ensures { result
             ≡ leads_back (graph_of self.now.shown.now.explanation.now.evidence) line target }
     {
@@ -79,8 +78,7 @@ impl Telling<'_> {
     }
 
     fn push_target(&self, text: &mut String, line: usize, target: usize) -> Result<(), AllocError>
-        requires told { IsTold self.now }
-        requires line { line < length (numbers_of self.now.shown.now) }
+        requires line { IsLine self.now line }
         ensures { OnOk result (string_bytes text.new ≡ string_bytes text.old
             ++ target_text (told_of self.now.shown.now) line target) }
     {
@@ -121,9 +119,7 @@ impl Telling<'_> {
         caller: &Caller,
         number: u32,
     ) -> Result<(), AllocError>
-        requires told { IsTold self.now }
-        requires line { line < length (numbers_of self.now.shown.now) }
-        requires caller { IsCaller self.now.shown.now line caller.now }
+        requires caller { IsCaller self.now line caller.now }
         requires number { Contains (numbers_of self.now.shown.now) number }
         ensures { OnOk result (string_bytes text.new ≡ string_bytes text.old
             ++ to_text (told_of self.now.shown.now) line number) }
@@ -143,9 +139,7 @@ impl Telling<'_> {
         caller: &Caller,
         number: u32,
     ) -> Result<(), AllocError>
-        requires told { IsTold self.now }
-        requires line { line < length (numbers_of self.now.shown.now) }
-        requires caller { IsCaller self.now.shown.now line caller.now }
+        requires caller { IsCaller self.now line caller.now }
         requires number { Contains (numbers_of self.now.shown.now) number }
         ensures { OnOk result (string_bytes text.new ≡ string_bytes text.old
             ++ edge_text (told_of self.now.shown.now) line number) }
@@ -158,9 +152,7 @@ impl Telling<'_> {
     }
 
     fn push_edges(&self, text: &mut String, line: usize, caller: &Caller) -> Result<(), AllocError>
-        requires told { IsTold self.now }
-        requires line { line < length (numbers_of self.now.shown.now) }
-        requires caller { IsCaller self.now.shown.now line caller.now }
+        requires caller { IsCaller self.now line caller.now }
         ensures { OnOk result (string_bytes text.new ≡ string_bytes text.old
             ++ flat_map (edge_text (told_of self.now.shown.now) line)
             (dependencies_at (told_of self.now.shown.now) line)) }
@@ -227,7 +219,7 @@ impl Telling<'_> {
         line: usize,
         caller: &Caller,
     ) -> Result<(), AllocError>
-        requires { IsCaller self.now.shown.now line caller.now }
+        requires { IsCaller self.now line caller.now }
         ensures { OnOk result (string_bytes text.new ≡ string_bytes text.old
             ++ cuts_text (told_of self.now.shown.now) line) }
     {
@@ -240,8 +232,7 @@ impl Telling<'_> {
 
     /// Why a line rests on no other.
     fn push_reason(&self, text: &mut String, line: usize) -> Result<(), AllocError>
-        requires told { IsTold self.now }
-        requires line { line < length (numbers_of self.now.shown.now) }
+        requires line { IsLine self.now line }
         ensures { OnOk result (string_bytes text.new ≡ string_bytes text.old
             ++ reason_text (told_of self.now.shown.now) line) }
     {
@@ -259,8 +250,7 @@ impl Telling<'_> {
     }
 
     fn push_here(&self, text: &mut String, line: usize) -> Result<(), AllocError>
-        requires told { IsTold self.now }
-        requires line { line < length (numbers_of self.now.shown.now) }
+        requires line { IsLine self.now line }
         ensures { OnOk result (string_bytes text.new ≡ string_bytes text.old
             ++ here_text (told_of self.now.shown.now) line) }
     {
@@ -274,8 +264,7 @@ impl Telling<'_> {
     }
 
     fn push_end(&self, text: &mut String, line: usize) -> Result<(), AllocError>
-        requires told { IsTold self.now }
-        requires line { line < length (numbers_of self.now.shown.now) }
+        requires line { IsLine self.now line }
         ensures { OnOk result (string_bytes text.new ≡ string_bytes text.old
             ++ end_text (told_of self.now.shown.now) line) }
     {
@@ -294,8 +283,7 @@ impl Telling<'_> {
 
     /// Puts what stands below a line behind a text.
     pub(crate) fn push_below(&self, text: &mut String, line: usize) -> Result<(), AllocError>
-        requires told { IsTold self.now }
-        requires line { line < length (numbers_of self.now.shown.now) }
+        requires line { IsLine self.now line }
         ensures { OnOk result (string_bytes text.new ≡ string_bytes text.old
             ++ below_text (told_of self.now.shown.now) line) }
     {

@@ -1,7 +1,7 @@
 //! Lines of instances, each with those that it rests on and the steps that lead to them: for
 //! programs that read evidence.
 
-ghost use Rattle.std.specs.Prelude.{◌≡◌, ◌<◌, ◌++◌, Contains, OnOk, length, string_bytes};
+ghost use Rattle.std.specs.Prelude.{◌≡◌, ◌<◌, ◌++◌, Contains, OnOk, string_bytes};
 ghost use Rattle.pb_typing_calls.specs.MadeCallView.{call_views};
 ghost use Rattle.pb_report.specs.EvidenceText.{cut_mark, truth_mark};
 ghost use Rattle.pb_sorts.specs.Instance.{instance_of};
@@ -9,8 +9,8 @@ ghost use Rattle.pb_model_words.specs.View.{vocabulary_of};
 ghost use Rattle.pb_evidence_words.specs.InstanceLines.{call_mark, told_dependencies, told_dependency};
 ghost use Rattle.pb_evidence_words.specs.InstanceLines.{instance_line, instance_lines, instance_text};
 ghost use Rattle.pb_evidence_words.specs.InstanceLines.{mark_among};
-ghost use Rattle.pb_evidence_words.specs.Ready.{IsCaller, IsTold, call_said, numbers_of, told_of};
-ghost use Rattle.pb_evidence_words.specs.WhyText.{is_cut_at, line_instance};
+ghost use Rattle.pb_evidence_words.specs.Ready.{IsCaller, IsLine, IsTold, call_said, numbers_of, told_of};
+ghost use Rattle.pb_evidence_words.specs.WhyText.{line_instance};
 
 use crate::caller::Caller;
 use crate::moves::first_call;
@@ -85,9 +85,7 @@ impl Telling<'_> {
         caller: &Caller,
         number: u32,
     ) -> Result<(), AllocError>
-        requires told { IsTold self.now }
-        requires line { line < length (numbers_of self.now.shown.now) }
-        requires caller { IsCaller self.now.shown.now line caller.now }
+        requires caller { IsCaller self.now line caller.now }
         requires number { Contains (numbers_of self.now.shown.now) number }
         ensures { OnOk result (string_bytes text.new ≡ string_bytes text.old
             ++ told_dependency (told_of self.now.shown.now)
@@ -105,9 +103,7 @@ impl Telling<'_> {
         line: usize,
         caller: &Caller,
     ) -> Result<(), AllocError>
-        requires told { IsTold self.now }
-        requires line { line < length (numbers_of self.now.shown.now) }
-        requires caller { IsCaller self.now.shown.now line caller.now }
+        requires caller { IsCaller self.now line caller.now }
         ensures { OnOk result (string_bytes text.new ≡ string_bytes text.old
             ++ told_dependencies (told_of self.now.shown.now) line) }
     {
@@ -118,8 +114,7 @@ impl Telling<'_> {
     }
 
     fn push_instance_line(&self, text: &mut String, line: usize) -> Result<(), AllocError>
-        requires told { IsTold self.now }
-        requires line { line < length (numbers_of self.now.shown.now) }
+        requires line { IsLine self.now line }
         ensures { OnOk result (string_bytes text.new ≡ string_bytes text.old
             ++ instance_line (told_of self.now.shown.now) line) }
     {

@@ -1,10 +1,10 @@
 //! The line of an instance: its number, its formula, and how it is come to.
 
-ghost use Rattle.std.specs.Prelude.{◌≡◌, ◌<◌, ◌++◌, OnOk, length, string_bytes};
+ghost use Rattle.std.specs.Prelude.{◌≡◌, ◌<◌, ◌++◌, OnOk, string_bytes};
 ghost use Rattle.pb_sorts.specs.Instance.{instance_of};
 ghost use Rattle.pb_evidence.specs.Evidence.{graph_of};
 ghost use Rattle.pb_evidence_words.specs.Order.{parent_at};
-ghost use Rattle.pb_evidence_words.specs.Ready.{IsCaller, IsTold, numbers_of, told_of};
+ghost use Rattle.pb_evidence_words.specs.Ready.{IsCaller, IsLine, told_of};
 ghost use Rattle.pb_evidence_words.specs.WhyText.{arrival_text, formula_text, from_text, line_text};
 
 use crate::caller::Caller;
@@ -33,9 +33,8 @@ impl Telling<'_> {
 
     /// The line that a line comes from, where it isn't the one before.
     fn push_from(&self, text: &mut String, line: usize) -> Result<(), AllocError>
-        requires told { IsTold self.now }
         requires first { 0 < line }
-        requires line { line < length (numbers_of self.now.shown.now) }
+        requires line { IsLine self.now line }
         ensures { OnOk result (string_bytes text.new ≡ string_bytes text.old
             ++ from_text (told_of self.now.shown.now) line) }
     {
@@ -55,9 +54,8 @@ impl Telling<'_> {
         line: usize,
         parent: &Caller,
     ) -> Result<(), AllocError>
-        requires told { IsTold self.now }
-        requires line { line < length (numbers_of self.now.shown.now) }
-        requires parent { 0 < line → IsCaller self.now.shown.now
+        requires line { IsLine self.now line }
+        requires parent { 0 < line → IsCaller self.now
             (parent_at (graph_of self.now.shown.now.explanation.now.evidence) line) parent.now }
         ensures { OnOk result (string_bytes text.new ≡ string_bytes text.old
             ++ arrival_text (told_of self.now.shown.now) line) }
@@ -80,9 +78,8 @@ impl Telling<'_> {
         line: usize,
         parent: &Caller,
     ) -> Result<(), AllocError>
-        requires told { IsTold self.now }
-        requires line { line < length (numbers_of self.now.shown.now) }
-        requires parent { 0 < line → IsCaller self.now.shown.now
+        requires line { IsLine self.now line }
+        requires parent { 0 < line → IsCaller self.now
             (parent_at (graph_of self.now.shown.now.explanation.now.evidence) line) parent.now }
         ensures { OnOk result (string_bytes text.new ≡ string_bytes text.old
             ++ line_text (told_of self.now.shown.now) line) }

@@ -1,6 +1,6 @@
 //! All that is needed to write the lines, made ready once.
 
-ghost use Rattle.std.specs.Prelude.{◌≡◌, ◌<◌, ℕ, IfOk, length};
+ghost use Rattle.std.specs.Prelude.{◌≡◌, ◌<◌, ℕ, IfOk};
 ghost use Rattle.pb_text_tree.specs.declared.place.Place.{Place};
 ghost use Rattle.pb_text_tree.specs.Form.{spec_form};
 ghost use Rattle.pb_text_meaning.specs.Erase.{erase};
@@ -13,7 +13,7 @@ ghost use Rattle.pb_model_tree.specs.Form.{FormulaForm, model_form};
 ghost use Rattle.pb_model_translation.specs.Placed.{placed};
 ghost use Rattle.pb_typing_calls.specs.MadeCallView.{call_views};
 ghost use Rattle.pb_report.specs.ModuleEvidence.{IsExplanation};
-ghost use Rattle.pb_evidence_words.specs.Ready.{IsCaller, IsKnown, IsTold, numbers_of, told_of};
+ghost use Rattle.pb_evidence_words.specs.Ready.{IsCaller, IsKnown, IsLine, IsTold, told_of};
 ghost use Rattle.pb_evidence_words.specs.WhyText.{shown_instance, is_empty, is_stuck, line_instance};
 
 use crate::caller::Caller;
@@ -77,8 +77,7 @@ impl Telling<'_> {
 
     /// The instance of a line.
     pub(crate) fn line_instance(&self, line: usize) -> Instance
-        requires told { IsTold self.now }
-        requires line { line < length (numbers_of self.now.shown.now) }
+        requires line { IsLine self.now line }
         ensures value { instance_of result ≡ line_instance (told_of self.now.shown.now) line }
         ensures known { IsKnown self.now.shown.now (instance_of result) }
     {
@@ -87,9 +86,8 @@ impl Telling<'_> {
 
     /// The instance of a line with its calls.
     pub(crate) fn caller(&self, line: usize) -> Result<Caller, AllocError>
-        requires told { IsTold self.now }
-        requires line { line < length (numbers_of self.now.shown.now) }
-        ensures { IfOk result (λ caller. IsCaller self.now.shown.now line caller) }
+        requires line { IsLine self.now line }
+        ensures { IfOk result (λ caller. IsCaller self.now line caller) }
     {
         let instance = self.line_instance(line);
         let calls = self.calls.calls(self.alloc, &instance)?;
@@ -98,8 +96,7 @@ impl Telling<'_> {
 
     /// Whether no step leads away from the state of a line.
     pub(crate) fn is_stuck(&self, line: usize) -> Result<bool, AllocError>
-        requires told { IsTold self.now }
-        requires line { line < length (numbers_of self.now.shown.now) }
+        requires line { IsLine self.now line }
         ensures { IfOk result (λ stuck. stuck ≡ is_stuck (told_of self.now.shown.now)
             (line_instance (told_of self.now.shown.now) line)) }
     {

@@ -1,6 +1,6 @@
 //! All lines of evidence.
 
-ghost use Rattle.std.specs.Prelude.{◌≡◌, ◌<◌, ◌++◌, ℕ, IfOk, OnOk, length, string_bytes};
+ghost use Rattle.std.specs.Prelude.{◌≡◌, ◌<◌, ◌++◌, ℕ, IfOk, OnOk, string_bytes};
 ghost use Rattle.pb_text_tree.specs.declared.place.Place.{Place};
 ghost use Rattle.pb_text_tree.specs.Form.{spec_form};
 ghost use Rattle.pb_text_meaning.specs.Erase.{erase};
@@ -14,7 +14,7 @@ ghost use Rattle.pb_report.specs.ModuleEvidence.{IsExplanation};
 ghost use Rattle.pb_evidence_words.specs.InstanceLines.{instance_lines};
 ghost use Rattle.pb_evidence.specs.Evidence.{graph_of};
 ghost use Rattle.pb_evidence_words.specs.Order.{parent_at};
-ghost use Rattle.pb_evidence_words.specs.Ready.{IsCaller, IsTold, numbers_of, told_of};
+ghost use Rattle.pb_evidence_words.specs.Ready.{IsCaller, IsLine, IsTold, told_of};
 ghost use Rattle.pb_evidence_words.specs.WhyText.{with_cuts, why_lines};
 
 use crate::caller::Parent;
@@ -26,11 +26,10 @@ impl Telling<'_> {
     /// The line that a line comes from: that of the line before, where it is the same. The first
     /// line comes from none.
     fn parent(&self, line: usize, last: Parent) -> Result<Parent, AllocError>
-        requires told { IsTold self.now }
-        requires line { line < length (numbers_of self.now.shown.now) }
-        requires last { IsCaller self.now.shown.now last.line last.caller }
+        requires line { IsLine self.now line }
+        requires last { IsCaller self.now last.line last.caller }
         ensures caller { IfOk result
-            (λ parent. IsCaller self.now.shown.now parent.line parent.caller) }
+            (λ parent. IsCaller self.now parent.line parent.caller) }
         ensures line { IfOk result (λ parent. 0 < line → parent.line
             ≡ parent_at (graph_of self.now.shown.now.explanation.now.evidence) line) }
     {

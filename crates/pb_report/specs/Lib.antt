@@ -6,12 +6,14 @@ pub mod EvidenceText
 pub mod CallPlaces
 pub mod ModuleLines
 pub mod ModuleEvidence
+pub mod PlacedEvidence
 pub mod Delivery
 pub mod Sending
 pub mod Report
 pub mod GameText
 pub mod InstanceName
 pub mod VertexNames
+pub mod PlacedRows
 pub mod CutCalls
 pub mod SolutionText
 pub mod CertificateText

@@ -15,6 +15,7 @@ ghost use Rattle.pb_report.specs.EvidenceText.{cut_mark, line_tail};
 ghost use Rattle.pb_report.specs.CallPlaces.{AreCallPlaces, placed_names};
 ghost use Rattle.pb_report.specs.ModuleLines.{evidence_line_at, evidence_lines_of};
 ghost use Rattle.pb_report.specs.ModuleEvidence.{IsExplanation, module_evidence_text};
+ghost use Rattle.pb_report.specs.PlacedEvidence.{IsPlacedEvidence};
 ghost use Rattle.pb_report.specs.ModuleTexts.{IsTextOfTrees};
 
 use crate::answer::write_answer;
@@ -153,8 +154,8 @@ fn write_line<S: Sink>(
     k: usize,
 ) -> Result<(), E02>
     requires place { k < length placed.now.explanation.now.evidence.instances.items }
-    requires trees { ModuleHasTrees verified.now }
-    requires explanation { IsExplanation verified.now placed.now.explanation.now }
+    requires placed { IsPlacedEvidence verified.now placed.now.explanation.now
+        placed.now.call_places.now }
     ensures { (trees : ℕ → Tree) → AreTrees verified.now trees → (place : ℕ → ℕ → Option Place)
         → AreCallPlaces place placed.now.explanation.now.evidence placed.now.call_places.now
         → Sends (evidence_line_at verified.now trees place placed.now.explanation.now.evidence k)
@@ -176,10 +177,8 @@ fn write_lines<S: Sink>(
     verified: &Verified,
     placed: &PlacedExplanation<'_>,
 ) -> Result<(), E02>
-    requires trees { ModuleHasTrees verified.now }
-    requires explanation { IsExplanation verified.now placed.now.explanation.now }
-    requires places { (place : ℕ → ℕ → Option Place)
-        × AreCallPlaces place placed.now.explanation.now.evidence placed.now.call_places.now }
+    requires placed { IsPlacedEvidence verified.now placed.now.explanation.now
+        placed.now.call_places.now }
     ensures { (trees : ℕ → Tree) → AreTrees verified.now trees → (place : ℕ → ℕ → Option Place)
         → AreCallPlaces place placed.now.explanation.now.evidence placed.now.call_places.now
         → Sends (evidence_lines_of verified.now trees place placed.now.explanation.now.evidence
@@ -196,10 +195,8 @@ fn write_evidence<S: Sink>(
     verified: &Verified,
     placed: &PlacedExplanation<'_>,
 ) -> Result<(), E02>
-    requires trees { ModuleHasTrees verified.now }
-    requires explanation { IsExplanation verified.now placed.now.explanation.now }
-    requires places { (place : ℕ → ℕ → Option Place)
-        × AreCallPlaces place placed.now.explanation.now.evidence placed.now.call_places.now }
+    requires placed { IsPlacedEvidence verified.now placed.now.explanation.now
+        placed.now.call_places.now }
     ensures { (trees : ℕ → Tree) → AreTrees verified.now trees → (place : ℕ → ℕ → Option Place)
         → AreCallPlaces place placed.now.explanation.now.evidence placed.now.call_places.now
         → Sends (module_evidence_text verified.now trees place placed.now.explanation.now.evidence)

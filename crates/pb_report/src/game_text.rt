@@ -1,5 +1,5 @@
 //! The text of a game of reached instances, in the form that PGSolver reads.
-ghost use Rattle.std.specs.Prelude.{◌≡◌, ◌<◌, ◌-◌, ◌↔◌, ℕ, IfSome, IsSome, Some};
+ghost use Rattle.std.specs.Prelude.{◌≡◌, ◌<◌, ◌-◌, ◌↔◌, IfSome, IsSome, Some};
 ghost use Rattle.std.specs.Prelude.{None, length, slice_index};
 ghost use Rattle.pb_sorts.specs.Layout.{count_of};
 ghost use Rattle.pb_bytecode.specs.Meaning.{parameters};
@@ -12,6 +12,7 @@ ghost use Rattle.pb_report.specs.InstanceName.{instance_name};
 ghost use Rattle.pb_report.specs.GameText.{name_part, vertex_at, vertex_line};
 ghost use Rattle.pb_report.specs.VertexNames.{name_by, number_in, IsAtRow, AreRising};
 ghost use Rattle.pb_report.specs.VertexNames.{lines_text, first_line, memory_text};
+ghost use Rattle.pb_report.specs.PlacedRows.{ArePlacedRows};
 
 use crate::buffer::{TextBuffer, TextWriter, WriteError};
 use crate::instance_name::write_instance_name;
@@ -117,11 +118,8 @@ fn write_lines<S: Sink>(
     game: &Game,
     placed: &PlacedRows<'_>,
 ) -> Result<(), E02>
-    requires lengths { length placed.now.vertices.now ≡ length placed.now.rows.now }
-    requires rising { AreRising placed.now.vertices.now }
-    requires edges { (v : ℕ) → v < vertex_count game.now → 0 < length (successors_of game.now v) }
-    requires numbers { (v : ℕ) → IfSome (number_in placed.now.vertices.now placed.now.rows.now v)
-        (λ n. n < count_of (parameters verified.now)) }
+    requires placed { ArePlacedRows verified.now game.now placed.now.vertices.now
+        placed.now.rows.now }
     ensures { Sends (lines_text verified.now game.now placed.now.vertices.now placed.now.rows.now)
         result S.Sink writer.old writer.new }
 {
@@ -151,12 +149,8 @@ fn write_game<S: Sink>(
     game: &Game,
     placed: &PlacedRows<'_>,
 ) -> Result<(), E02>
-    requires some { 0 < vertex_count game.now }
-    requires lengths { length placed.now.vertices.now ≡ length placed.now.rows.now }
-    requires rising { AreRising placed.now.vertices.now }
-    requires edges { (v : ℕ) → v < vertex_count game.now → 0 < length (successors_of game.now v) }
-    requires numbers { (v : ℕ) → IfSome (number_in placed.now.vertices.now placed.now.rows.now v)
-        (λ n. n < count_of (parameters verified.now)) }
+    requires placed { ArePlacedRows verified.now game.now placed.now.vertices.now
+        placed.now.rows.now }
     ensures { Sends (memory_text verified.now game.now placed.now.vertices.now placed.now.rows.now)
         result S.Sink writer.old writer.new }
 {
@@ -171,12 +165,8 @@ fn write_text<S: Sink>(
     placed: &PlacedRows<'_>,
     sink: &mut S,
 ) -> Result<(), WriteError>
-    requires some { 0 < vertex_count game.now }
-    requires lengths { length placed.now.vertices.now ≡ length placed.now.rows.now }
-    requires rising { AreRising placed.now.vertices.now }
-    requires edges { (v : ℕ) → v < vertex_count game.now → 0 < length (successors_of game.now v) }
-    requires numbers { (v : ℕ) → IfSome (number_in placed.now.vertices.now placed.now.rows.now v)
-        (λ n. n < count_of (parameters verified.now)) }
+    requires placed { ArePlacedRows verified.now game.now placed.now.vertices.now
+        placed.now.rows.now }
     ensures { Delivers was_not_written (λ text. text
         ≡ memory_text verified.now game.now placed.now.vertices.now placed.now.rows.now)
         result S.Sink sink.old sink.new }

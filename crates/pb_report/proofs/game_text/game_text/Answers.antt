@@ -24,12 +24,14 @@ write_text-requires g c =
     let is = c.requires.game trees have in
     let same = c.deref.ensures.value in
     record {
-      some = some_vertex m rows built trees reached (initial_of m) are is;
-      lengths = ap length same ∙ same_length m rows built trees reached (initial_of m) are is;
-      rising = subst AreRising (sym same) (vertices_rising (c.requires.rows trees have) is);
-      edges = are_edges m rows built trees reached (initial_of m) are is c.games_of_rows_are_total.ensures.total;
-      numbers = λ v. subst (λ (vs : List ℕ). IfSome (number_in vs rows v) (λ n. n < count_of (parameters m))) (sym same)
-          (are_numbers m rows built trees reached (initial_of m) are is v);
+      placed = record {
+        some = some_vertex m rows built trees reached (initial_of m) are is;
+        lengths = ap length same ∙ same_length m rows built trees reached (initial_of m) are is;
+        rising = subst AreRising (sym same) (vertices_rising (c.requires.rows trees have) is);
+        edges = are_edges m rows built trees reached (initial_of m) are is c.games_of_rows_are_total.ensures.total;
+        numbers = λ v. subst (λ (vs : List ℕ). IfSome (number_in vs rows v) (λ n. n < count_of (parameters m))) (sym same)
+            (are_numbers m rows built trees reached (initial_of m) are is v);
+      };
     }
 
 pub returns : goal.returns

@@ -31,10 +31,10 @@ loop-vertex-preserved g c =
       place = elim c.if-is_some.branch [
         | then-is_some w ↦
             let there = some.0 (is_there c.row_number-instance.result (sym c.is_some.ensures ∙ w.if-is_some.true)) in
-            subst (λ (j : ℕ). IsAtRow vs j (v + 1)) (sym w.k-is) (next_row vs c.requires.rising k v c.loop-vertex.invariant.place there.0 there.1)
+            subst (λ (j : ℕ). IsAtRow vs j (v + 1)) (sym w.k-is) (next_row vs c.requires.placed.rising k v c.loop-vertex.invariant.place there.0 there.1)
         | else-is_some w ↦
             subst (λ (j : ℕ). IsAtRow vs j (v + 1)) (sym w.k-is)
-            (same_row vs c.requires.rising k v c.loop-vertex.invariant.place (λ l e. is_absent c.row_number-instance.result (sym c.is_some.ensures ∙ w.if-is_some.false) (some.1 (l, e))))
+            (same_row vs c.requires.placed.rising k v c.loop-vertex.invariant.place (λ l e. is_absent c.row_number-instance.result (sym c.is_some.ensures ∙ w.if-is_some.false) (some.1 (l, e))))
       ];
     }
 

@@ -8,7 +8,7 @@ use Rattle.pb_evidence_words.specs.WhyText.{is_empty}
 use Rattle.pb_evidence_words.proofs.telling.Telling.is_stuck.Goals as goal
 
 pub calls-requires : goal.calls-requires
-calls-requires c = c.requires.told.states (instance_of c.line_instance-state.result) c.line_instance-state.ensures.known
+calls-requires c = c.requires.line.told.states (instance_of c.line_instance-state.result) c.line_instance-state.ensures.known
 
 pub returns : goal.returns
 returns c =
@@ -16,6 +16,6 @@ returns c =
     c.are_none.ensures
     ∙ (ap (λ (cs : List declared_call.MadeCall). is_empty (call_views cs)) c.deref.ensures.value
     ∙ (ap is_empty c.in_ok-calls.ensures
-    ∙ (ap (λ (t : SpecForm). is_empty (calls_at t (record { equation = 0; values = i.values }))) c.requires.told.steps_text
+    ∙ (ap (λ (t : SpecForm). is_empty (calls_at t (record { equation = 0; values = i.values }))) c.requires.line.told.steps_text
     ∙ ap (λ (j : Instance). is_empty (calls_at (spec_form c.args.self.now.shown.now.steps.now.spec) (record { equation = 0; values = j.values })))
     c.line_instance-state.ensures.value)))

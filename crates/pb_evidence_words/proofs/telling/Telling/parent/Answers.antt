@@ -1,34 +1,26 @@
-use Rattle.std.proofs.Common.{◌<◌, length, sym, ◌∙◌, arith}
-use Rattle.std.proofs.lemmas.List.{get_or_read}
+use Rattle.std.proofs.Common.{◌≡◌, sym, ◌∙◌, arith}
+use Rattle.pb_evidence.specs.Evidence.{graph_of}
+use Rattle.pb_evidence_words.specs.Order.{parent_at}
+use Rattle.pb_evidence_words.proofs.ParentRead.{parent-read}
 use Rattle.pb_evidence_words.proofs.Reached.{parent-within}
 use Rattle.pb_evidence_words.proofs.telling.Telling.parent.Goals as goal
+use Rattle.pb_evidence_words.proofs.telling.Telling.parent.Goals.{After-index-place}
+
+-- the place that was read is that of the line's parent
+place_is : (c : After-index-place) → c.index-place.result.now ≡ parent_at (graph_of c.args.self.now.shown.now.explanation.now.evidence) c.args.line
+place_is c = parent-read c.args.self.now c.args.line c.requires.line c.index-place.result.now c.index-place.ensures
 
 pub returns-then-line-eq0-clause-line : goal.returns-then-line-eq0-clause-line
 returns-then-line-eq0-clause-line c = λ later. absurd (omega (arith, later, c.if-line-eq0.true))
 
 pub returns-then-place-last-clause-line : goal.returns-then-place-last-clause-line
-returns-then-place-last-clause-line c = λ later.
-    let told = c.requires.told in
-    let parents = c.args.self.now.lines.parents.items in
-    let within : c.args.line < length parents = omega (arith, told.ordered.parents_sized, c.requires.line) in
-    sym c.if-place-last.true
-    ∙ (get_or_read parents c.args.line c.index-place.result.now within c.index-place.ensures 0
-    ∙ told.ordered.parents c.args.line c.requires.line)
+returns-then-place-last-clause-line c = λ later. sym c.if-place-last.true ∙ place_is (goal.at.returns-then-place-last-clause-line c).After-index-place
 
-pub caller-requires-clause-line : goal.caller-requires-clause-line
-caller-requires-clause-line c =
-    let told = c.requires.told in
-    let parents = c.args.self.now.lines.parents.items in
-    let within : c.args.line < length parents = omega (arith, told.ordered.parents_sized, c.requires.line) in
-    let is = get_or_read parents c.args.line c.index-place.result.now within c.index-place.ensures 0
-    ∙ told.ordered.parents c.args.line c.requires.line in
-    let less = parent-within c.args.self.now.shown.now.explanation.now.evidence told.evidence c.args.line (omega (arith, c.if-line-eq0.false)) c.requires.line in
-    omega (arith, is, less)
+pub caller-requires : goal.caller-requires
+caller-requires c =
+    let line = c.requires.line in
+    let less = parent-within c.args.self.now.shown.now.explanation.now.evidence line.told.evidence c.args.line (omega (arith, c.if-line-eq0.false)) line.inside in
+    record { line = record { told = line.told; inside = omega (arith, place_is (goal.at.caller-requires c).After-index-place, less) } }
 
 pub returns-clause-line : goal.returns-clause-line
-returns-clause-line c = λ later.
-    let told = c.requires.told in
-    let parents = c.args.self.now.lines.parents.items in
-    let within : c.args.line < length parents = omega (arith, told.ordered.parents_sized, c.requires.line) in
-    get_or_read parents c.args.line c.index-place.result.now within c.index-place.ensures 0
-    ∙ told.ordered.parents c.args.line c.requires.line
+returns-clause-line c = λ later. place_is (goal.at.returns-clause-line c).After-index-place

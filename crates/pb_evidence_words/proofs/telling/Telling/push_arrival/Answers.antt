@@ -25,7 +25,7 @@ returns c =
     let is = c.requires.parent (omega (arith, c.if-line-eq0.false)) in
     let moved = said_as r s2 s3 (move_among (vocabulary_of s.vocabulary.now) (call_views parent.calls.items)
     (instance_of parent.instance) (instance_of c.line_instance-instance.result)) move
-    (move-said s (parent_at t.graph k) (parent_at t.graph k) parent is refl
+    (move-said c.args.self.now (parent_at t.graph k) (parent_at t.graph k) parent is refl
     (instance_of c.line_instance-instance.result) (line_instance t k) c.line_instance-instance.ensures.value) c.push_move_to.ensures in
     said_as r s0 s3 (codes " " ++ (from ++ move)) (arrival_text t k) (arrival-later t k (λ e. omega (arith, e, c.if-line-eq0.false)))
     (and_then r s0 s1 s3 (codes " ") (from ++ move) c.in_ok-push_str-2.ensures.bytes

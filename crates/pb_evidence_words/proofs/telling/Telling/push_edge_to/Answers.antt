@@ -20,7 +20,7 @@ returns c =
     let s3 = string_bytes c.push_target.new.text in
     let move = move_between t (line_instance t k) (shown_instance t n) in
     let moved : s2 ≡ s1 ++ move = c.in_ok-push_move_to.ensures ∙ ap (λ (x : List ℕ). s1 ++ x)
-    (move-said s k k c.args.caller.now c.requires.caller refl (instance_of c.instance-called.result) (shown_instance t n) c.instance-called.ensures.value) in
+    (move-said c.args.self.now k k c.args.caller.now c.requires.caller refl (instance_of c.instance-called.result) (shown_instance t n) c.instance-called.ensures.value) in
     let target = target_text t k (place_of t.graph n) in
     and_then r s0 s1 s3 (codes "  ") (move ++ target) c.in_ok-push_str.ensures.bytes
     (and_then r s1 s2 s3 move target moved

@@ -8,7 +8,7 @@ use Rattle.pb_evidence_words.proofs.telling.Telling.push_edges.Goals as goal
 
 pub push_edge-requires-clause-number : goal.push_edge-requires-clause-number
 push_edge-requires-clause-number c =
-    child-contained c.args.self.now.shown.now.explanation.now.evidence c.requires.told.evidence c.args.line c.requires.line
+    child-contained c.args.self.now.shown.now.explanation.now.evidence c.requires.caller.line.told.evidence c.args.line c.requires.caller.line.inside
     c.dependencies-number-items.result.now c.dependencies-number-items.ensures c.loop-number.number-index c.loop-number-test.true
 
 pub loop-number-preserved : goal.loop-number-preserved
@@ -24,5 +24,5 @@ returns c =
     let xs = c.dependencies-number-items.result.now in
     let all : take c.loop-number.number-index xs ≡ dependencies_at t k =
     take_all c.loop-number.number-index xs (omega (arith, c.loop-number-test.false))
-    ∙ (c.dependencies-number-items.ensures ∙ sym (c.requires.told.evidence.each k c.requires.line)) in
+    ∙ (c.dependencies-number-items.ensures ∙ sym (c.requires.caller.line.told.evidence.each k c.requires.caller.line.inside)) in
     c.loop-number.invariant ∙ ap (λ (ys : List ℕ). string_bytes c.args.text.now ++ flat_map (edge_text t k) ys) all

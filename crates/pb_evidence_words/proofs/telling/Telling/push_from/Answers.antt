@@ -1,30 +1,22 @@
-use Rattle.std.proofs.Common.{◌<◌, ◌+◌, ◌++◌, ℕ, List, length, codes, decimal, string_bytes, sym, ap, ◌∙◌, append-nil, arith}
-use Rattle.std.proofs.lemmas.List.{get_or_read}
+use Rattle.std.proofs.Common.{◌+◌, ◌++◌, ℕ, List, codes, decimal, string_bytes, sym, ap, ◌∙◌, append-nil, arith}
 use Rattle.pb_evidence_words.specs.Ready.{told_of}
 use Rattle.pb_evidence_words.specs.WhyText.{from_text}
+use Rattle.pb_evidence_words.proofs.ParentRead.{parent-read}
 use Rattle.pb_evidence_words.proofs.Pushed.{and_then, pushed, said_as}
 use Rattle.pb_evidence_words.proofs.Told.{from-none, from-some}
 use Rattle.pb_evidence_words.proofs.telling.Telling.push_from.Goals as goal
 
 pub returns-then-parent-line : goal.returns-then-parent-line
 returns-then-parent-line c =
-    let told = c.requires.told in
-    let parents = c.args.self.now.lines.parents.items in
-    let within : c.args.line < length parents = omega (arith, told.ordered.parents_sized, c.requires.line) in
-    let read = get_or_read parents c.args.line c.index-parent.result.now within c.index-parent.ensures 0 in
-    let is = read ∙ told.ordered.parents c.args.line c.requires.line in
+    let is = parent-read c.args.self.now c.args.line c.requires.line c.index-parent.result.now c.index-parent.ensures in
     let s0 = string_bytes c.args.text.now in
     sym (append-nil s0) ∙ ap (λ (x : List ℕ). s0 ++ x)
     (sym (from-none (told_of c.args.self.now.shown.now) c.args.line (omega (arith, is, c.if-parent-line.true, c.requires.first))))
 
 pub returns : goal.returns
 returns c =
-    let told = c.requires.told in
-    let parents = c.args.self.now.lines.parents.items in
-    let within : c.args.line < length parents = omega (arith, told.ordered.parents_sized, c.requires.line) in
     let parent = c.index-parent.result.now in
-    let read = get_or_read parents c.args.line parent within c.index-parent.ensures 0 in
-    let is = read ∙ told.ordered.parents c.args.line c.requires.line in
+    let is = parent-read c.args.self.now c.args.line c.requires.line parent c.index-parent.ensures in
     let s0 = string_bytes c.args.text.now in
     let s1 = string_bytes c.push_str.new.self in
     let s2 = string_bytes c.push_line_number.new.text in

@@ -23,7 +23,7 @@ returns c =
     let rests = told_dependencies t k in
     let cut = cut_mark (is_cut_at t k) in
     let named : s1 ≡ s0 ++ name = c.in_ok-push_instance.ensures
-    ∙ ap (λ (i : Instance). s0 ++ instance_text t i) c.in_ok-caller.ensures.caller in
+    ∙ ap (λ (i : Instance). s0 ++ instance_text t i) c.in_ok-caller.ensures.instance in
     let marked : s4 ≡ s3 ++ cut = c.in_ok-push_cut_mark.ensures ∙ ap (λ (b : Bool). s3 ++ cut_mark b) c.is_cut.ensures in
     and_then r s0 s1 s5 name (truth ++ (rests ++ (cut ++ codes "\n"))) named
     (and_then r s1 s2 s5 truth (rests ++ (cut ++ codes "\n")) c.in_ok-push_truth.ensures

@@ -8,4 +8,4 @@ abbrev pub invariant-loop-line : goal.invariant-loop-line
 invariant-loop-line l =
     (string_bytes l.text ≡ string_bytes l.fn.text
     ++ flat_map (λ k. line_text (told_of l.self.shown.now) k ++ below_text (told_of l.self.shown.now) k) (range_with_len 0 l.line))
-    × IsCaller l.self.shown.now l.parent.line l.parent.caller
+    × IsCaller l.self l.parent.line l.parent.caller
