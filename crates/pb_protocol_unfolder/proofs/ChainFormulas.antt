@@ -6,13 +6,11 @@ use Rattle.pb_text_tree.specs.declared.place.Place.{Place}
 use Rattle.pb_text_tree.specs.declared.operator.Connective.{Connective}
 use Rattle.pb_text_tree.specs.declared.operator.Connective.TheVariants as connective
 use Rattle.pb_text_tree.specs.declared.operator.Quantifier.{Quantifier}
-use Rattle.pb_text_tree.specs.declared.sort.Range.{Range}
-use Rattle.pb_text_tree.specs.declared.sort.SortDeclaration.{SortDeclaration}
 use Rattle.pb_text_tree.specs.declared.variable.Variables.{Variables}
-use Rattle.pb_text_tree.specs.Form.{VariableForm, chained, sort_declaration_form, variable_forms}
+use Rattle.pb_text_tree.specs.Form.{VariableForm, chained, variable_forms}
 use Rattle.pb_text_meaning.specs.Syntax as syntax
-use Rattle.pb_text_meaning.specs.Syntax.{Spec, NoTerms, Term}
-use Rattle.pb_text_meaning.specs.Erase.{erased_declaration, erased_variables}
+use Rattle.pb_text_meaning.specs.Syntax.{Term}
+use Rattle.pb_text_meaning.specs.Erase.{erased_variables}
 use Rattle.pb_model_tree.specs.declared.formula.Link as flat_link
 use Rattle.pb_model_tree.specs.declared.formula.Modality.{Modality}
 use Rattle.pb_model_tree.specs.declared.formula.Modality.TheVariants as modality
@@ -20,11 +18,9 @@ use Rattle.pb_model_meaning.specs.Syntax.{Formula}
 use Rattle.pb_model_meaning.specs.Erase as flat_erase
 use Rattle.pb_protocol_tree.specs.declared.formula.Formula as formula
 use Rattle.pb_protocol_tree.specs.declared.formula.Link.{Link}
-use Rattle.pb_protocol_tree.specs.declared.protocol.Protocol as declared_protocol
 use Rattle.pb_protocol_tree.specs.Form.{FormulaForm, StepSetForm, formula_form}
-use Rattle.pb_protocol_meaning.specs.Erase.{protocol_of, erased_formula}
+use Rattle.pb_protocol_meaning.specs.Erase.{erased_formula}
 use Rattle.pb_protocol_meaning.specs.Steps.{data_of}
-use Rattle.pb_protocol_folding.specs.View.{declaration_of}
 use Rattle.pb_protocol_folding.specs.FoldedModels.{folded_formula, folded_joined_formula, is_left}
 use Rattle.pb_protocol_unfolding.specs.Written.{written_tuples}
 use Rattle.pb_protocol_unfolding.specs.PutIn.{TermScope, copies, standing}
@@ -33,7 +29,7 @@ use Rattle.pb_protocol_unfolder_terms.specs.declared.scope.TermScope as declared
 use Rattle.pb_protocol_unfolder_terms.specs.declared.sorts.Variable.{Variable}
 use Rattle.pb_protocol_unfolder_terms.specs.declared.written.Written.{Written}
 use Rattle.pb_protocol_unfolder_terms.specs.Values.{tuple_of}
-use Rattle.pb_protocol_unfolder_terms.specs.View.{declarations, ranges_said, variable_of}
+use Rattle.pb_protocol_unfolder_terms.specs.View.{variable_of}
 use Rattle.pb_protocol_unfolder_steps.specs.declared.unfolder.Unfolder.{Unfolder}
 use Rattle.pb_protocol_unfolder_steps.specs.Unfolder.{protocol_in, scope_within}
 use Rattle.pb_protocol_unfolder.specs.declared.formula.Copies.{Copies}
@@ -43,29 +39,6 @@ use Rattle.pb_protocol_unfolder.specs.Links.{folded_chain, folded_connected, lin
 use Rattle.pb_protocol_unfolder.specs.View.{link_form}
 use Rattle.pb_protocol_unfolder.proofs.Chains.{chain-form}
 use Rattle.pb_protocol_unfolder.proofs.FormulaLemmas.{copies-of-tuples, folded-joined}
-
--- ---- sorts
-
-sorts-said : (ds : List SortDeclaration) → declarations ds ≡ map erased_declaration (map sort_declaration_form ds)
-sorts-said [] = refl
-sorts-said (d ∷ ds) = ap (λ v. declaration_of d ∷ v) (sorts-said ds)
-
-abbrev spec_with : List syntax.SortDeclaration → List syntax.Range → Spec
-spec_with sorts ranges = record {
-  sorts = sorts;
-  ranges = ranges;
-  equations = [];
-  initial = [];
-  arguments = NoTerms;
-}
-
--- the sorts of a tree are those of its protocol
-pub spec-said : (p : declared_protocol.Protocol) (ds : List SortDeclaration) (rs : List Range) → ds ≡ p.sorts.items
-    → rs ≡ p.ranges.items → spec_with (declarations ds) (ranges_said rs) ≡ data_of (protocol_of p)
-spec-said p ds rs sorts ranges =
-    ap (λ (v : List SortDeclaration). spec_with (declarations v) (ranges_said rs)) sorts
-    ∙ ap (λ (v : List syntax.SortDeclaration). spec_with v (ranges_said rs)) (sorts-said p.sorts.items)
-    ∙ ap (λ (v : List Range). spec_with (map erased_declaration (map sort_declaration_form p.sorts.items)) (ranges_said v)) ranges
 
 -- ---- chains that are joined from the last link on
 
@@ -153,10 +126,10 @@ module _ (u : Unfolder) (scope : declared_scope.TermScope) where
   -- the copies are of a quantifier with these variables
   pub record AreCopies (made : Copies) (xs : List syntax.Variable) : Type 0 where
     pub variables : map variable_of made.variables.now ≡ xs
-    pub outer : made.outer.now ≡ scope
+    pub outer : made.outer.now.names ≡ scope
     pub tuples : map tuple_of made.tuples.now ≡ tuples_in u xs
 
-  pub are-copies : (made : Copies) (vs ws : List Variable) (ts : List (Vec Written Global)) (gs groups : List Variables) → made.outer.now ≡ scope → made.variables.now ≡ vs → made.tuples.now ≡ ts
+  pub are-copies : (made : Copies) (vs ws : List Variable) (ts : List (Vec Written Global)) (gs groups : List Variables) → made.outer.now.names ≡ scope → made.variables.now ≡ vs → made.tuples.now ≡ ts
       → map variable_of vs ≡ erased_variables (variable_forms gs) → gs ≡ groups → map tuple_of ts ≡ tuples_in u (map variable_of ws) → ws
       ≡ vs → AreCopies made (erased_variables (variable_forms groups))
   are-copies made vs ws ts gs groups outer variables tuples said same are given =
@@ -176,5 +149,5 @@ module _ (u : Unfolder) (scope : declared_scope.TermScope) where
       let at : List syntax.Variable → declared_scope.TermScope → List Term → Formula =
       λ ys s ks. folded_formula (data_of (protocol_in u)) (is_left (unfolded (protocol_in u)))
       (unfolded_formula (protocol_in u) (standing ys (terms_of ks) (scope_within u s)) (erased_formula (formula_form f))) in
-      sym (map-twice (at (map variable_of made.variables.now) made.outer.now) tuple_of made.tuples.now)
+      sym (map-twice (at (map variable_of made.variables.now) made.outer.now.names) tuple_of made.tuples.now)
       ∙ (λ i. map (at (are.variables i) (are.outer i)) (are.tuples i))

@@ -192,8 +192,3 @@ raised-so P Q (Refused s) (Refused f) to gives is = to s f gives is
 raised-so P Q (Refused s) Memory to gives is = tt
 raised-so P Q Memory (Refused f) to gives is = absurd gives
 raised-so P Q Memory Memory to gives is = tt
-
--- both of what a call says of an error
-pub both-of : (P Q : StepsFault → Type 0) (e : OrMemory StepsFault) → IfFault e P → IfFault e Q → IfFault e (λ s. P s × Q s)
-both-of P Q (Refused s) p q = (p, q)
-both-of P Q Memory p q = tt

@@ -1,5 +1,5 @@
 -- Names and limits for which a protocol is refused.
-use Rattle.std.proofs.Common.{◌≡◌, ◌<◌, ◌∙◌, ℕ, inl, inr, refl, sym, ap, subst, arith, List, map, length, get_or, Some}
+use Rattle.std.proofs.Common.{◌≡◌, ◌<◌, ◌∙◌, ℕ, true, inl, inr, refl, sym, ap, subst, arith, List, map, length, get_or, Some}
 use Rattle.std.specs.Prelude.{option_map}
 use Rattle.std.specs.List.{slice_get}
 use Rattle.std.proofs.lemmas.List.{length-map}
@@ -19,8 +19,13 @@ use Rattle.pb_protocol_unfolder_terms.specs.declared.fault.UnfoldFault.{UnfoldFa
 use Rattle.pb_protocol_unfolder_terms.specs.declared.fault.UnfoldRule.{UnfoldRule}
 use Rattle.pb_protocol_unfolder_terms.specs.declared.fault.UnfoldRule.TheVariants as unfold_rule
 use Rattle.pb_protocol_unfolder_terms.specs.Values.{IsTooLong}
-use Rattle.pb_protocol_unfolder_steps.specs.StepFaults.{OnTerm}
-use Rattle.pb_protocol_unfolder_steps.specs.Refusals.{IsPassedIn, IsTermOr, element_places, instance_places}
+use Rattle.pb_protocol_unfolder_terms.specs.declared.scope.TermScope.{TermScope}
+use Rattle.pb_protocol_unfolder_terms.specs.declared.scope.TermScope.TheVariants as scope
+use Rattle.pb_protocol_unfolder_terms.specs.TermFaults.{HasValues}
+use Rattle.pb_protocol_unfolder.specs.ValueScopes.{has_values}
+use Rattle.std.proofs.lemmas.Bool.{false≢true}
+use Rattle.pb_protocol_unfolder_steps.specs.StepFaults.{IsTermOr, OnTerm, WithValues}
+use Rattle.pb_protocol_unfolder_steps.specs.Refusals.{IsPassedIn, element_places, instance_places}
 use Rattle.pb_protocol_unfolder.specs.declared.fault.UnfoldingFault.{UnfoldingFault}
 use Rattle.pb_protocol_unfolder.specs.Apart.{IsTakenAt, RepeatsAt}
 use Rattle.pb_protocol_unfolder.specs.Faults.{IsElementClash, IsRepeated, IsTaken, IsUnfoldingFault, OfTerm, OfToken, rule_of}
@@ -76,15 +81,26 @@ instances-passed m (steps_fault.Limit p) f gives at = subst (IsUnfoldingFault m)
 instances-passed m (steps_fault.Term t) f gives at = absurd at
 
 -- no limit is passed, so it is the fault of a term
-pub of-steps-term : (X : Type 0) → (X → ⊥) → (P : UnfoldRule → Place → Type 0) (s : StepsFault) (f : UnfoldingFault) → IsOfSteps s f → IsTermOr X s × OnTerm P s → IsFaultBy (OfTerm P) f
-of-steps-term X never P (steps_fault.Limit p) f gives is = absurd (never is.0)
-of-steps-term X never P (steps_fault.Term t) f gives is = subst (IsFaultBy (OfTerm P)) (sym gives) (by t.rule is.1)
+pub of-steps-term : (X : Type 0) → (X → ⊥) → (P : UnfoldRule → Place → Type 0) (s : StepsFault) (f : UnfoldingFault) → IsOfSteps s f → IsTermOr X P s → IsFaultBy (OfTerm P) f
+of-steps-term X never P (steps_fault.Limit p) f gives is = absurd (never is)
+of-steps-term X never P (steps_fault.Term t) f gives is = subst (IsFaultBy (OfTerm P)) (sym gives) (by t.rule is)
   where
     by : (r : UnfoldRule) → P r t.place → IsFaultBy (OfTerm P) (record { rule = rule_of r; place = t.place })
     by unfold_rule.Index o = (unfold_rule.Index, refl, o)
     by unfold_rule.Operators o = (unfold_rule.Operators, refl, o)
     by unfold_rule.Depth o = (unfold_rule.Depth, refl, o)
     by unfold_rule.Values o = (unfold_rule.Values, refl, o)
+
+-- names stand for values
+pub only-values : (scope : TermScope) → has_values scope ≡ true → HasValues scope
+only-values scope.Empty e = tt
+only-values (scope.Values' variables values p outer) e = only-values outer e
+only-values (scope.Arguments' parameters arguments definitions p user) e = absurd (false≢true e)
+
+-- where names stand for values, what holds there holds
+pub with-values : (scope : TermScope) (P : UnfoldRule → Place → Type 0) → HasValues scope → (s : StepsFault) → OnTerm (WithValues scope P) s → OnTerm P s
+with-values scope P v (steps_fault.Limit p) is = is
+with-values scope P v (steps_fault.Term t) is = is v
 
 -- too many values are too large
 pub too-many-told : {A : Type 0} (xs : List A) (place : Place) (e : OrMemory UnfoldFault) (above : OrMemory UnfoldingFault) → raised IsOfTerm e above → IsTooLong xs place e

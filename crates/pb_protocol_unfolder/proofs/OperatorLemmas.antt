@@ -245,5 +245,5 @@ module _ (u : Unfolder) (scope : declared_scope.TermScope) where
   pub copies-counted : (made : Copies) (f : formula.Formula) (q : Quantifier) (place : Place) (xs : List VariableForm) → AreCopies u scope made (erased_variables xs)
       → sum_by (copy_operators u made f) made.tuples.now ≡ left_operators u scope (FormulaForm.quantified q place xs (formula_form f))
   copies-counted made f q place xs are =
-      sym (sum-mapped (tuple_operators u made.outer.now (map variable_of made.variables.now) (formula_form f)) tuple_of made.tuples.now)
+      sym (sum-mapped (tuple_operators u made.outer.now.names (map variable_of made.variables.now) (formula_form f)) tuple_of made.tuples.now)
       ∙ (λ i. sum_by (tuple_operators u (are.outer i) (are.variables i) (formula_form f)) (are.tuples i)) ∙ sym (quantified-operators q place xs (formula_form f))

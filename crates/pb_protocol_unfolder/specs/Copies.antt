@@ -41,7 +41,7 @@ copy_at u copies f ks =
     folded_property_formula (unfolded (protocol_in u))
     (unfolded_formula (protocol_in u)
     (standing (map variable_of copies.variables.now) (terms_of ks)
-    (scope_within u copies.outer.now))
+    (scope_within u copies.outer.now.names))
     (erased_formula f))
 
 abbrev pub copy_of : Unfolder → Copies → Formula → Vec Written Global → flat.Formula
@@ -64,5 +64,5 @@ tuple_operators u scope xs f ks =
 
 abbrev pub copy_operators : Unfolder → Copies → Formula → Vec Written Global → ℕ
 copy_operators u copies f values =
-    tuple_operators u copies.outer.now (map variable_of copies.variables.now) (formula_form f)
+    tuple_operators u copies.outer.now.names (map variable_of copies.variables.now) (formula_form f)
     (tuple_of values)

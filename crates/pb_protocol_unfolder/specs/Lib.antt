@@ -12,5 +12,6 @@ pub mod Plain
 pub mod Sets
 pub mod Told
 pub mod Unfolded
+pub mod ValueScopes
 pub mod Values
 pub mod View

@@ -5,19 +5,17 @@ ghost use Rattle.std.specs.Prelude.{box_value, sum_by};
 ghost use Rattle.pb_base.specs.OrMemory.{IfRefused};
 ghost use Rattle.pb_text_tree.specs.Form.{term_form};
 ghost use Rattle.pb_protocol_tree.specs.Form.{FormulaForm, formula_form};
-ghost use Rattle.pb_protocol_meaning.specs.Erase.{protocol_of};
-ghost use Rattle.pb_protocol_meaning.specs.Steps.{data_of};
 ghost use Rattle.pb_protocol_folding.specs.Places.{AreAmong, places_of};
 ghost use Rattle.pb_protocol_folding.specs.View.{formula_of};
-ghost use Rattle.pb_protocol_unfolder_terms.specs.View.{spec_of, variable_of};
+ghost use Rattle.pb_protocol_unfolder_terms.specs.View.{variable_of};
 ghost use Rattle.pb_protocol_unfolder_terms.specs.Values.{tuple_of};
 ghost use Rattle.pb_protocol_unfolder_steps.specs.Unfolder.{form_in, protocol_in, scope_within};
-ghost use Rattle.pb_protocol_unfolder.specs.Copies.{copy_of, copy_operators, data_formula, left_operand};
-ghost use Rattle.pb_protocol_unfolder.specs.Copies.{link_operators, tuples_in};
+ghost use Rattle.pb_protocol_unfolder.specs.Copies.{copy_of, copy_operators, data_formula};
+ghost use Rattle.pb_protocol_unfolder.specs.Copies.{left_operand, link_operators, tuples_in};
 ghost use Rattle.pb_protocol_unfolder.specs.Faults.{IsFaultOfFormula};
 ghost use Rattle.pb_protocol_unfolder.specs.Left.{AreFormulas, left_formula, left_operators};
 ghost use Rattle.pb_protocol_unfolder.specs.Links.{linked_formula};
-ghost use Rattle.pb_protocol_unfolder.specs.Parts.{HasValues, IsFaultBy, IsFaultOfCopies, IsFaultOfLinks};
+ghost use Rattle.pb_protocol_unfolder.specs.Parts.{IsFaultBy, IsFaultOfCopies, IsFaultOfLinks};
 ghost use Rattle.pb_protocol_unfolder.specs.Parts.{OfManyTuples};
 ghost use Rattle.pb_protocol_unfolder.specs.Places.{flat_link_places, link_places, places_in};
 
@@ -25,13 +23,12 @@ use crate::chain::joined;
 use crate::fault::{UnfoldingError, of_steps, of_term};
 use crate::room::Room;
 use crate::step_set::unfold_set;
+use crate::value_scope::ValueScope;
 use pb_model_tree as flat;
 use pb_protocol_folding::{joined_formula, not_formula};
-use pb_protocol_tree::{Formula, Link, Protocol};
-use pb_protocol_unfolder_steps::{Instance, Unfolder};
-use pb_protocol_unfolder_terms::{
-    Sorts, TermScope, Variable, Written, variables_of, written_tuples,
-};
+use pb_protocol_tree::{Formula, Link};
+use pb_protocol_unfolder_steps::{Instance, Unfolder, sorts_of};
+use pb_protocol_unfolder_terms::{TermScope, Variable, Written, variables_of, written_tuples};
 use pb_text_tree::{Place, Term, copy_name};
 
 /// What formulas are unfolded by: the protocol, and the steps with their values that are left.
@@ -47,42 +44,32 @@ struct Copies<'a> {
     place: Place,
     variables: &'a [Variable<'a>],
     tuples: &'a [Vec<Written<'a>>],
-    outer: &'a TermScope<'a>,
-}
-
-/// The sorts that a protocol declares, and their ranges.
-fn sorts_of(protocol: &Protocol) -> Sorts<'_>
-    ensures { spec_of result ≡ data_of (protocol_of protocol.now) }
-{
-    Sorts {
-        declarations: &protocol.sorts,
-        ranges: &protocol.ranges,
-    }
+    outer: &'a ValueScope<'a>,
 }
 
 /// A data term as a formula.
 fn unfold_data(
     formulas: &Formulas<'_>,
-    scope: &TermScope<'_>,
+    scope: &ValueScope<'_>,
     room: &mut Room,
     place: Place,
     term: &Term,
 ) -> Result<flat::Formula, UnfoldingError>
     requires { AreFormulas formulas.now }
     ensures formula { IfOk result (λ f. formula_of f
-        ≡ data_formula formulas.now.unfolder.now scope.now term.now) }
+        ≡ data_formula formulas.now.unfolder.now scope.now.names term.now) }
     ensures places { IfOk result (λ f. places_of f ≡ []) }
     ensures room { OnOk result (room.old.operators ≡ room.new.operators
-        + left_operators formulas.now.unfolder.now scope.now
+        + left_operators formulas.now.unfolder.now scope.now.names
         (FormulaForm.«data» place (term_form term.now))) }
-    ensures refused { HasValues scope.now → IfRefused result
+    ensures refused { IfRefused result
         (IsFaultBy (IsFaultOfFormula (form_in formulas.now.unfolder.now)
-        (room.old.operators < left_operators formulas.now.unfolder.now scope.now
+        (room.old.operators < left_operators formulas.now.unfolder.now scope.now.names
         (FormulaForm.«data» place (term_form term.now)))
-        (scope_within formulas.now.unfolder.now scope.now)
+        (scope_within formulas.now.unfolder.now scope.now.names)
         (FormulaForm.«data» place (term_form term.now)))) }
 {
-    match formulas.unfolder.unfold(scope, true, term) {
+    match formulas.unfolder.unfold(&scope.names, true, term) {
         Ok(term) => {
             room.take_term(&term, place)?;
             Ok(flat::Formula::Data { place, term })
@@ -121,7 +108,6 @@ fn unfold_copies<'a>(
     body: &'a Box<Formula>,
 ) -> Result<Vec<flat::Formula>, UnfoldingError>
     requires formulas { AreFormulas formulas.now }
-    requires scope { HasValues copies.now.outer.now }
     ensures formulas { IfOk result (λ v. map formula_of v.items
         ≡ map (copy_of formulas.now.unfolder.now copies.now (box_value body.now))
         copies.now.tuples.now) }
@@ -135,7 +121,7 @@ fn unfold_copies<'a>(
         (room.old.operators
         < sum_by (copy_operators formulas.now.unfolder.now copies.now (box_value body.now))
         copies.now.tuples.now)
-        (scope_within formulas.now.unfolder.now copies.now.outer.now) copies.now.place
+        (scope_within formulas.now.unfolder.now copies.now.outer.now.names) copies.now.place
         (map variable_of copies.now.variables.now) (map tuple_of copies.now.tuples.now)
         (formula_form (box_value body.now)))) }
 {
@@ -143,10 +129,12 @@ fn unfold_copies<'a>(
     let mut unfolded = Vec::new(formulas.unfolder.alloc);
     for values in tuples {
         room.take(1, copies.place)?;
-        let scope = TermScope::Values {
-            variables: copies.variables,
-            values,
-            outer: copies.outer,
+        let scope = ValueScope {
+            names: TermScope::Values {
+                variables: copies.variables,
+                values,
+                outer: &copies.outer.names,
+            },
         };
         unfolded.push(unfold_formula(formulas, &scope, room, body)?)?;
     }
@@ -156,23 +144,22 @@ fn unfold_copies<'a>(
 #[cycle(formulas)]
 fn unfold_links<'a>(
     formulas: &'a Formulas<'a>,
-    scope: &'a TermScope<'a>,
+    scope: &'a ValueScope<'a>,
     room: &mut Room,
     links: &'a [Link],
 ) -> Result<Vec<flat::Link>, UnfoldingError>
     requires formulas { AreFormulas formulas.now }
-    requires scope { HasValues scope.now }
     ensures formulas { IfOk result (λ v. map linked_formula v.items
-        ≡ map (left_operand formulas.now.unfolder.now scope.now) links.now) }
+        ≡ map (left_operand formulas.now.unfolder.now scope.now.names) links.now) }
     ensures places { IfOk result (λ v. AreAmong (flat_map flat_link_places v.items)
         (flat_map link_places links.now)) }
     ensures room { OnOk result (room.old.operators ≡ room.new.operators
-        + sum_by (link_operators formulas.now.unfolder.now scope.now) links.now) }
+        + sum_by (link_operators formulas.now.unfolder.now scope.now.names) links.now) }
     ensures refused { IfRefused result
         (IsFaultBy (IsFaultOfLinks (form_in formulas.now.unfolder.now)
         (room.old.operators
-        < sum_by (link_operators formulas.now.unfolder.now scope.now) links.now)
-        (scope_within formulas.now.unfolder.now scope.now) links.now)) }
+        < sum_by (link_operators formulas.now.unfolder.now scope.now.names) links.now)
+        (scope_within formulas.now.unfolder.now scope.now.names) links.now)) }
 {
     let mut flat_links = Vec::new(formulas.unfolder.alloc);
     for link in links {
@@ -188,22 +175,21 @@ fn unfold_links<'a>(
 #[cycle(formulas)]
 pub(crate) fn unfold_formula<'a>(
     formulas: &'a Formulas<'a>,
-    scope: &'a TermScope<'a>,
+    scope: &'a ValueScope<'a>,
     room: &mut Room,
     formula: &'a Formula,
 ) -> Result<flat::Formula, UnfoldingError>
     requires formulas { AreFormulas formulas.now }
-    requires scope { HasValues scope.now }
     ensures formula { IfOk result (λ f. formula_of f
-        ≡ left_formula formulas.now.unfolder.now scope.now (formula_form formula.now)) }
+        ≡ left_formula formulas.now.unfolder.now scope.now.names (formula_form formula.now)) }
     ensures places { IfOk result (λ f. AreAmong (places_of f) (places_in formula.now)) }
     ensures room { OnOk result (room.old.operators ≡ room.new.operators
-        + left_operators formulas.now.unfolder.now scope.now (formula_form formula.now)) }
+        + left_operators formulas.now.unfolder.now scope.now.names (formula_form formula.now)) }
     ensures refused { IfRefused result
         (IsFaultBy (IsFaultOfFormula (form_in formulas.now.unfolder.now)
         (room.old.operators
-        < left_operators formulas.now.unfolder.now scope.now (formula_form formula.now))
-        (scope_within formulas.now.unfolder.now scope.now) (formula_form formula.now))) }
+        < left_operators formulas.now.unfolder.now scope.now.names (formula_form formula.now))
+        (scope_within formulas.now.unfolder.now scope.now.names) (formula_form formula.now))) }
 {
     let alloc = formulas.unfolder.alloc;
     match formula {

@@ -26,6 +26,7 @@ mod set;
 mod step_set;
 mod told;
 mod value;
+mod value_scope;
 
 pub use fault::{UnfoldingError, UnfoldingFault, UnfoldingRule};
 pub use laws::impossible_steps_lead_nowhere;

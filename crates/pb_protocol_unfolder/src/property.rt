@@ -16,6 +16,7 @@ ghost use Rattle.pb_protocol_unfolder.specs.Unfolded.{property_said};
 use crate::fault::UnfoldingError;
 use crate::formula::{Formulas, unfold_formula};
 use crate::room::Room;
+use crate::value_scope::ValueScope;
 use pb_model_tree as flat;
 use pb_protocol_tree::Property;
 use pb_protocol_unfolder_terms::TermScope;
@@ -38,7 +39,10 @@ fn unfold_property(
 {
     let name = copy_name(formulas.unfolder.alloc, &property.name)?;
     let mut room = Room::whole();
-    let formula = unfold_formula(formulas, &TermScope::Empty, &mut room, &property.formula)?;
+    let scope = ValueScope {
+        names: TermScope::Empty,
+    };
+    let formula = unfold_formula(formulas, &scope, &mut room, &property.formula)?;
     Ok(flat::Property { name, formula })
 }
 

@@ -15,7 +15,7 @@ ghost use Rattle.pb_protocol_unfolding.specs.Hygiene.{HidesNothing};
 ghost use Rattle.pb_protocol_unfolding.specs.Unfolding as definitions;
 ghost use Rattle.pb_protocol_unfolder_steps.specs.Elements.{flat_element, instance_said};
 ghost use Rattle.pb_protocol_unfolder_steps.specs.Steps.{is_kept, places_from, step_place, step_said};
-ghost use Rattle.pb_protocol_unfolder_steps.specs.Unfolder.{IsUnfolder, form_in, protocol_in};
+ghost use Rattle.pb_protocol_unfolder_steps.specs.Unfolder.{HasElements, form_in, protocol_in};
 ghost use Rattle.pb_protocol_unfolder_steps.specs.StepFaults.{IsFaultAtStart, IsFaultInSteps};
 ghost use Rattle.pb_protocol_unfolder_steps.specs.StepFaults.{placed_instance, placed_instances};
 ghost use Rattle.pb_protocol_unfolder_steps.specs.Refusals.{element_place, element_places};
@@ -94,9 +94,7 @@ fn steps_of(
     elements: &[Element<'_>],
     instances: &[Instance<'_>],
 ) -> Result<UnfoldedSteps, UnfoldingError>
-    requires unfolder { IsUnfolder unfolder.now }
-    requires elements { map flat_element elements.now
-        ≡ definitions.all_elements (protocol_in unfolder.now) }
+    requires elements { HasElements unfolder.now elements.now }
     requires few { length instances.now ≤ MAX_WRITTEN_STEPS }
     ensures steps { IfOk result (λ u. map step_said u.steps.items
         ≡ folded_steps (data_of (protocol_in unfolder.now))

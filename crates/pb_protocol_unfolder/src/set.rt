@@ -9,28 +9,28 @@ ghost use Rattle.pb_protocol_unfolder_terms.specs.Values.{written_term};
 ghost use Rattle.pb_protocol_unfolder_steps.specs.Elements.{instance_said};
 ghost use Rattle.pb_protocol_unfolder_steps.specs.Unfolder.{protocol_in, scope_within};
 ghost use Rattle.pb_protocol_unfolder.specs.Faults.{IsFaultOfSet, IsFaultOfValue, IsFaultOfValues};
-ghost use Rattle.pb_protocol_unfolder.specs.Parts.{HasValues, IsFaultIn, IsFaultOfSets};
+ghost use Rattle.pb_protocol_unfolder.specs.Parts.{IsFaultIn, IsFaultOfSets};
 ghost use Rattle.pb_protocol_unfolder.specs.Values.{are_values, is_member, is_value};
 ghost use Rattle.pb_protocol_unfolder.specs.View.{set_operand};
 
 use crate::fault::UnfoldingError;
 use crate::value::{value_in_set, value_of_written};
+use crate::value_scope::ValueScope;
 use pb_protocol_tree::{StepSet, StepSetLink, StepValue};
 use pb_protocol_unfolder_steps::{Instance, Unfolder};
-use pb_protocol_unfolder_terms::{TermScope, Written};
+use pb_protocol_unfolder_terms::Written;
 
 /// Whether a step's own value is the one that is named, if one is.
 fn is_value(
     unfolder: &Unfolder<'_>,
-    scope: &TermScope<'_>,
+    scope: &ValueScope<'_>,
     named: &StepValue,
     own: Written<'_>,
 ) -> Result<bool, UnfoldingError>
-    requires { HasValues scope.now }
-    ensures value { IfOk result (λ is. is ≡ is_value unfolder.now scope.now
+    ensures value { IfOk result (λ is. is ≡ is_value unfolder.now scope.now.names
         (erased_value (step_value_form named.now)) (written_term own.entry)) }
     ensures refused { IfRefused result (IsFaultIn (IsFaultOfValue (protocol_in unfolder.now)
-        (scope_within unfolder.now scope.now) (written_term own.entry ∷ [])
+        (scope_within unfolder.now scope.now.names) (written_term own.entry ∷ [])
         (step_value_form named.now))) }
 {
     match named {
@@ -46,15 +46,14 @@ fn is_value(
 /// Whether a step's own values are those that are named.
 fn are_values(
     unfolder: &Unfolder<'_>,
-    scope: &TermScope<'_>,
+    scope: &ValueScope<'_>,
     named: &[StepValue],
     own: &[Written<'_>],
 ) -> Result<bool, UnfoldingError>
-    requires { HasValues scope.now }
-    ensures values { IfOk result (λ are. are ≡ are_values unfolder.now scope.now
+    ensures values { IfOk result (λ are. are ≡ are_values unfolder.now scope.now.names
         (map erased_value (map step_value_form named.now)) (map written_term own.now)) }
     ensures refused { IfRefused result (IsFaultIn (IsFaultOfValues (protocol_in unfolder.now)
-        (scope_within unfolder.now scope.now) (map written_term own.now)
+        (scope_within unfolder.now scope.now.names) (map written_term own.now)
         (map step_value_form named.now))) }
 {
     for place in 0..named.len().min(own.len()) {
@@ -68,16 +67,15 @@ fn are_values(
 #[cycle(members)]
 fn is_in_some(
     unfolder: &Unfolder<'_>,
-    scope: &TermScope<'_>,
+    scope: &ValueScope<'_>,
     links: &[StepSetLink],
     instance: &Instance<'_>,
 ) -> Result<bool, UnfoldingError>
-    requires { HasValues scope.now }
     ensures member { IfOk result (λ is. is ≡ list_any
-        (is_member unfolder.now scope.now (instance_said instance.now))
+        (is_member unfolder.now scope.now.names (instance_said instance.now))
         (map set_operand links.now)) }
     ensures refused { IfRefused result (IsFaultIn (IsFaultOfSets (protocol_in unfolder.now)
-        (scope_within unfolder.now scope.now) (instance_said instance.now).own
+        (scope_within unfolder.now scope.now.names) (instance_said instance.now).own
         (map set_operand links.now))) }
 {
     for link in links {
@@ -92,15 +90,14 @@ fn is_in_some(
 #[cycle(members)]
 pub(crate) fn is_in_set(
     unfolder: &Unfolder<'_>,
-    scope: &TermScope<'_>,
+    scope: &ValueScope<'_>,
     set: &StepSet,
     instance: &Instance<'_>,
 ) -> Result<bool, UnfoldingError>
-    requires { HasValues scope.now }
-    ensures member { IfOk result (λ is. is ≡ is_member unfolder.now scope.now
+    ensures member { IfOk result (λ is. is ≡ is_member unfolder.now scope.now.names
         (instance_said instance.now) (step_set_form set.now)) }
     ensures refused { IfRefused result (IsFaultIn (IsFaultOfSet (protocol_in unfolder.now)
-        (scope_within unfolder.now scope.now) (instance_said instance.now).own
+        (scope_within unfolder.now scope.now.names) (instance_said instance.now).own
         (step_set_form set.now))) }
 {
     match set {

@@ -11,7 +11,7 @@ ghost use Rattle.pb_protocol_unfolder.specs.Apart.{name_bytes};
 ghost use Rattle.pb_protocol_unfolder.specs.Faults.{IsFaultOfSet, IsFaultOfSteps};
 ghost use Rattle.pb_protocol_unfolder.specs.Left.{AreFormulas, left_set, member_name, member_names};
 ghost use Rattle.pb_protocol_unfolder.specs.Operators.{name_count};
-ghost use Rattle.pb_protocol_unfolder.specs.Parts.{HasValues, IsFaultBy, IsFaultIn, IsFaultOfModality};
+ghost use Rattle.pb_protocol_unfolder.specs.Parts.{IsFaultBy, IsFaultIn, IsFaultOfModality};
 ghost use Rattle.pb_protocol_unfolder.specs.Sets.{is_each};
 
 use crate::fault::UnfoldingError;
@@ -19,10 +19,10 @@ use crate::formula::Formulas;
 use crate::named_steps::named_steps;
 use crate::room::Room;
 use crate::set::is_in_set;
+use crate::value_scope::ValueScope;
 use pb_model_tree as flat;
 use pb_protocol_tree::StepSet;
 use pb_protocol_unfolder_steps::{Instance, instance_name};
-use pb_protocol_unfolder_terms::TermScope;
 use pb_text_tree::{Name, Place};
 
 /// Where a set of all steps stands, if it is one.
@@ -45,17 +45,16 @@ fn place_of_all(set: &StepSet) -> Option<Place>
 fn push_member(
     names: &mut Vec<Name>,
     formulas: &Formulas<'_>,
-    scope: &TermScope<'_>,
+    scope: &ValueScope<'_>,
     set: &StepSet,
     instance: &Instance<'_>,
 ) -> Result<(), UnfoldingError>
-    requires { HasValues scope.now }
     ensures names { OnOk result (map name_bytes names.new.items ≡ map name_bytes names.old.items
-        ++ member_name formulas.now.unfolder.now scope.now (step_set_form set.now)
+        ++ member_name formulas.now.unfolder.now scope.now.names (step_set_form set.now)
         (instance_said instance.now)) }
     ensures refused { IfRefused result
         (IsFaultIn (IsFaultOfSet (protocol_in formulas.now.unfolder.now)
-        (scope_within formulas.now.unfolder.now scope.now) (instance_said instance.now).own
+        (scope_within formulas.now.unfolder.now scope.now.names) (instance_said instance.now).own
         (step_set_form set.now))) }
 {
     if is_in_set(formulas.unfolder, scope, set, instance)? {
@@ -67,17 +66,16 @@ fn push_member(
 /// The names of the steps in a set that are left.
 fn members(
     formulas: &Formulas<'_>,
-    scope: &TermScope<'_>,
+    scope: &ValueScope<'_>,
     set: &StepSet,
 ) -> Result<Vec<Name>, UnfoldingError>
-    requires { HasValues scope.now }
     ensures names { IfOk result
         (λ v. map name_bytes v.items ≡ member_names formulas.now.unfolder.now
-        scope.now (step_set_form set.now) (map instance_said formulas.now.left.now)) }
+        scope.now.names (step_set_form set.now) (map instance_said formulas.now.left.now)) }
     ensures refused { IfRefused result
         (IsFaultIn (IsFaultOfSteps (protocol_in formulas.now.unfolder.now)
-        (scope_within formulas.now.unfolder.now scope.now) (map instance_said formulas.now.left.now)
-        (step_set_form set.now))) }
+        (scope_within formulas.now.unfolder.now scope.now.names)
+        (map instance_said formulas.now.left.now) (step_set_form set.now))) }
 {
     let mut names = Vec::new(formulas.unfolder.alloc);
     let left = formulas.left;
@@ -90,22 +88,21 @@ fn members(
 /// A set of steps as that of the steps in it that are left; it stands at the place.
 pub(crate) fn unfold_set(
     formulas: &Formulas<'_>,
-    scope: &TermScope<'_>,
+    scope: &ValueScope<'_>,
     room: &mut Room,
     place: Place,
     set: &StepSet,
 ) -> Result<flat::StepSet, UnfoldingError>
     requires formulas { AreFormulas formulas.now }
-    requires scope { HasValues scope.now }
     ensures set { IfOk result (λ A. set_of A
-        ≡ left_set formulas.now.unfolder.now scope.now (step_set_form set.now)) }
+        ≡ left_set formulas.now.unfolder.now scope.now.names (step_set_form set.now)) }
     ensures room { OnOk result (room.old.operators ≡ room.new.operators
-        + name_count (left_set formulas.now.unfolder.now scope.now (step_set_form set.now))) }
+        + name_count (left_set formulas.now.unfolder.now scope.now.names (step_set_form set.now))) }
     ensures refused { IfRefused result
         (IsFaultBy (IsFaultOfModality (protocol_in formulas.now.unfolder.now)
         (room.old.operators
-        < name_count (left_set formulas.now.unfolder.now scope.now (step_set_form set.now)))
-        (scope_within formulas.now.unfolder.now scope.now) place (step_set_form set.now))) }
+        < name_count (left_set formulas.now.unfolder.now scope.now.names (step_set_form set.now)))
+        (scope_within formulas.now.unfolder.now scope.now.names) place (step_set_form set.now))) }
 {
     if let Some(place) = place_of_all(set) {
         return Ok(flat::StepSet::All { place });

@@ -9,14 +9,15 @@ ghost use Rattle.pb_protocol_meaning.specs.Steps.{data_of};
 ghost use Rattle.pb_protocol_unfolder_terms.specs.Values.{written_term};
 ghost use Rattle.pb_protocol_unfolder_steps.specs.Unfolder.{protocol_in, scope_within};
 ghost use Rattle.pb_protocol_unfolder.specs.Faults.{HasNoValue, meant};
-ghost use Rattle.pb_protocol_unfolder.specs.Parts.{HasValues, IsAt, IsFaultIn};
+ghost use Rattle.pb_protocol_unfolder.specs.Parts.{IsAt, IsFaultIn};
 ghost use Rattle.pb_protocol_unfolder.specs.Values.{value_of_named};
 
 use crate::bound::bound_value;
 use crate::fault::{UnfoldingError, UnfoldingRule, refused};
+use crate::value_scope::ValueScope;
 use pb_protocol_folding::written_value;
 use pb_protocol_unfolder_steps::Unfolder;
-use pb_protocol_unfolder_terms::{TermScope, Written};
+use pb_protocol_unfolder_terms::Written;
 use pb_text_tree::{Place, Term};
 
 /// The value of a term that is written as one; another is refused at the place.
@@ -49,18 +50,17 @@ pub(crate) fn value_of_written(
 /// number or a truth value. Another term is refused at the place.
 pub(crate) fn value_in_set(
     unfolder: &Unfolder<'_>,
-    scope: &TermScope<'_>,
+    scope: &ValueScope<'_>,
     place: Place,
     term: &Term,
 ) -> Result<i32, UnfoldingError>
-    requires { HasValues scope.now }
     ensures value { IfOk result
-        (λ v. v ≡ value_of_named unfolder.now scope.now (term_of term.now)) }
+        (λ v. v ≡ value_of_named unfolder.now scope.now.names (term_of term.now)) }
     ensures refused { IfRefused result (IsFaultIn (IsAt place (HasNoValue (protocol_in unfolder.now)
-        (meant (scope_within unfolder.now scope.now) (term_of term.now))))) }
+        (meant (scope_within unfolder.now scope.now.names) (term_of term.now))))) }
 {
     match term {
-        Term::Name(name) => match bound_value(scope, name.text.as_str()) {
+        Term::Name(name) => match bound_value(&scope.names, name.text.as_str()) {
             Some(written) => value_of_written(unfolder, place, written),
             None => plain_value(unfolder, place, term),
         },

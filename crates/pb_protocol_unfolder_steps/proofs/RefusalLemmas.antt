@@ -10,7 +10,7 @@ use Rattle.pb_base.specs.declared.or_memory.OrMemory.TheVariants.{Refused, Memor
 use Rattle.pb_text_tree.specs.declared.place.Place.{Place}
 use Rattle.pb_protocol_unfolder_steps.specs.declared.fault.StepsFault.{StepsFault}
 use Rattle.pb_protocol_unfolder_steps.specs.declared.fault.StepsFault.TheVariants.{Limit, Term}
-use Rattle.pb_protocol_unfolder_steps.specs.Refusals.{IsPassed, IsPassedIn, IsTermOr, each_at}
+use Rattle.pb_protocol_unfolder_steps.specs.Refusals.{IsPassed, IsPassedIn, each_at}
 
 -- the fault of a call is that of its caller
 pub refused : {A : Type 0} (r : Result A (OrMemory StepsFault)) (e : OrMemory StepsFault) (P Q : StepsFault → Type 0)
@@ -74,15 +74,7 @@ passed-in-part g f limit now all ys k y (Limit p) h is added at =
     subst (λ (v : List Place). slice_get v limit ≡ Some p) whole (passed-before limit (map g now ++ f y) rest p at)
 passed-in-part g f limit now all ys k y (Term f') h is added at = at
 
--- ---- terms
-
-pub term-or : (P Q : Type 0) → (P → Q) → (s : StepsFault) → IsTermOr P s → IsTermOr Q s
-term-or P Q to (Limit p) is = to is
-term-or P Q to (Term f) is = tt
-
--- an excess, or none
-pub excess : (limit count : ℕ) (p : Place) (s : StepsFault) → IsPassed limit count p s → IsTermOr (limit < count) s
-excess limit count p s passed = subst (IsTermOr (limit < count)) (sym passed.0) passed.1
+-- ---- counts
 
 -- those of one are no more than those of all
 pub part-of-all : {A B : Type 0} (f : A → List B) (ys : List A) (k : ℕ) (y : A) → k < length ys → y ≡ get_or ys k y → length (f y) ≤ length (flat_map f ys)

@@ -72,8 +72,3 @@ IsPassed limit count place f = (f ≡ fault.Limit place) × (limit < count)
 abbrev pub IsPassedIn : ℕ → List Place → StepsFault → Type 0
 IsPassedIn limit places (fault.Limit place) = slice_get places limit ≡ Some place
 IsPassedIn limit places (fault.Term f) = ⊥
-
--- a term isn't unfolded, or P
-abbrev pub IsTermOr : Type 0 → StepsFault → Type 0
-IsTermOr P (fault.Limit place) = P
-IsTermOr P (fault.Term f) = Unit {0}

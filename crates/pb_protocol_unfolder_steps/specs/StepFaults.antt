@@ -17,9 +17,11 @@ use Rattle.pb_protocol_meaning.specs.Steps.{data_of}
 use Rattle.pb_protocol_unfolding.specs.PutIn.{TermScope}
 use Rattle.pb_protocol_unfolding.specs.Unfolding.{Element, all_elements, written}
 use Rattle.pb_protocol_unfolding.specs.Written.{written_tuples}
+use Rattle.pb_protocol_unfolder_terms.specs.declared.scope.TermScope as declared_scope
 use Rattle.pb_protocol_unfolder_terms.specs.declared.fault.UnfoldFault.{UnfoldFault}
 use Rattle.pb_protocol_unfolder_terms.specs.declared.fault.UnfoldRule.{UnfoldRule}
-use Rattle.pb_protocol_unfolder_terms.specs.TermFaults.{IsFaultAt, IsFaultInElement, IsFaultInTerm}
+use Rattle.pb_protocol_unfolder_terms.specs.TermFaults.{HasValues, IsFaultAt, IsFaultInElement}
+use Rattle.pb_protocol_unfolder_terms.specs.TermFaults.{IsFaultInTerm}
 use Rattle.pb_protocol_unfolder_terms.specs.TermFaults.{surroundings_at_start, surroundings_of}
 use Rattle.pb_protocol_unfolder_terms.specs.Values.{tuple_of}
 use Rattle.pb_protocol_unfolder_steps.specs.declared.fault.StepsFault.{StepsFault}
@@ -115,10 +117,19 @@ IsFaultAtStart m = IsFaultInValues m (map indices_at m.variables) (value_terms m
 
 -- ---- what a fault says
 
--- of a term's fault P holds, of the rule and the place
+-- a limit is passed, and Passed holds, or a term isn't unfolded, and P holds of rule and place
+abbrev pub IsTermOr : Type 0 → (UnfoldRule → Place → Type 0) → StepsFault → Type 0
+IsTermOr Passed P (fault.Limit place) = Passed
+IsTermOr Passed P (fault.Term f) = IsFaultAt P f
+
+-- a term isn't unfolded
 abbrev pub OnTerm : (UnfoldRule → Place → Type 0) → StepsFault → Type 0
-OnTerm P (fault.Limit place) = Unit {0}
-OnTerm P (fault.Term f) = IsFaultAt P f
+OnTerm P f = IsTermOr ⊥ P f
+
+-- where names stand for values alone
+abbrev pub WithValues :
+    declared_scope.TermScope → (UnfoldRule → Place → Type 0) → UnfoldRule → Place → Type 0
+WithValues scope P r p = HasValues scope → P r p
 
 -- the error of a term, as one of steps
 abbrev pub term_error : OrMemory UnfoldFault → OrMemory StepsFault

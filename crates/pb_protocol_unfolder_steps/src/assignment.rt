@@ -4,10 +4,9 @@ ghost use Rattle.std.specs.Prelude.{◌≡◌, ◌++◌, map, IfOk, OnOk, string
 ghost use Rattle.pb_base.specs.OrMemory.{IfRefused};
 ghost use Rattle.pb_protocol_folding.specs.View.{term_of};
 ghost use Rattle.pb_protocol_tree.specs.Form.{assignment_form};
-ghost use Rattle.pb_protocol_unfolder_terms.specs.TermFaults.{HasValues, IsFaultInElement, surroundings_of};
+ghost use Rattle.pb_protocol_unfolder_terms.specs.TermFaults.{IsFaultInElement, surroundings_of};
 ghost use Rattle.pb_protocol_unfolder_steps.specs.Elements.{flat_element};
-ghost use Rattle.pb_protocol_unfolder_steps.specs.StepFaults.{IsFaultInElements, OnTerm};
-ghost use Rattle.pb_protocol_unfolder_steps.specs.Refusals.{IsTermOr};
+ghost use Rattle.pb_protocol_unfolder_steps.specs.StepFaults.{IsFaultInElements, OnTerm, WithValues};
 ghost use Rattle.pb_protocol_unfolder_steps.specs.Steps.{step_assignment, protocol_assignments, change_of};
 ghost use Rattle.pb_protocol_unfolder_steps.specs.Steps.{changed, changes};
 ghost use Rattle.pb_protocol_unfolder_steps.specs.Unfolder.{IsUnfolder, form_in, protocol_in};
@@ -63,11 +62,10 @@ fn push_assignment(
         ++ changed (protocol_in unfolder.now)
         (scope_within unfolder.now assigning.now.scope.now)
         (protocol_assignments assigning.now.assignments.now) (flat_element element.now)) }
-    ensures refused { IfRefused result (IsTermOr ⊥) }
-    ensures faults { HasValues assigning.now.scope.now → IfRefused result (OnTerm
+    ensures refused { IfRefused result (OnTerm (WithValues assigning.now.scope.now
         (IsFaultInElement (surroundings_of (form_in unfolder.now))
         (scope_within unfolder.now assigning.now.scope.now)
-        (map assignment_form assigning.now.assignments.now) (flat_element element.now))) }
+        (map assignment_form assigning.now.assignments.now) (flat_element element.now)))) }
 {
     let variable = element_name(unfolder.alloc, element.name, &element.index)?;
     let term = unfolder.unfold_assigned(assigning.scope, assigning.assignments, element)?;
@@ -86,11 +84,10 @@ pub(crate) fn unfold_assignments(
         ≡ changes (protocol_in unfolder.now)
         (scope_within unfolder.now assigning.now.scope.now)
         (protocol_assignments assigning.now.assignments.now) (map flat_element elements.now)) }
-    ensures refused { IfRefused result (IsTermOr ⊥) }
-    ensures faults { HasValues assigning.now.scope.now → IfRefused result (OnTerm
+    ensures refused { IfRefused result (OnTerm (WithValues assigning.now.scope.now
         (IsFaultInElements (form_in unfolder.now)
         (scope_within unfolder.now assigning.now.scope.now)
-        (map assignment_form assigning.now.assignments.now) (map flat_element elements.now))) }
+        (map assignment_form assigning.now.assignments.now) (map flat_element elements.now)))) }
 {
     let mut assignments = Vec::new(unfolder.alloc);
     for element in elements {

@@ -1,9 +1,7 @@
 //! Why the state or the steps of a protocol aren't unfolded.
 
 ghost use Rattle.std.specs.Prelude.{◌≡◌};
-ghost use Rattle.pb_base.specs.OrMemory.{IfFault};
 ghost use Rattle.pb_protocol_unfolder_steps.specs.StepFaults.{term_error};
-ghost use Rattle.pb_protocol_unfolder_steps.specs.Refusals.{IsTermOr};
 
 use pb_base::{Fault, OrMemory};
 use pb_protocol_unfolder_terms::{UnfoldError, UnfoldFault};
@@ -26,8 +24,7 @@ pub type StepsError = OrMemory<StepsFault>;
 
 /// The fault of a term.
 pub(crate) fn of_term(error: UnfoldError) -> StepsError
-    ensures refused { IfFault result (IsTermOr ⊥) }
-    ensures error { result ≡ term_error error }
+    ensures { result ≡ term_error error }
 {
     match error {
         OrMemory::Refused(fault) => OrMemory::Refused(StepsFault::Term(fault)),

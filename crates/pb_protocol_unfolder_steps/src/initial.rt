@@ -19,9 +19,8 @@ ghost use Rattle.pb_protocol_unfolder_steps.specs.Initial.{argument_term, indice
 ghost use Rattle.pb_protocol_unfolder_steps.specs.Initial.{indices_of_state, indices_said};
 ghost use Rattle.pb_protocol_unfolder_steps.specs.Initial.{initial_terms_of, term_at, terms_at};
 ghost use Rattle.pb_protocol_unfolder_steps.specs.StepFaults.{IsFaultAtValues, IsFaultAtSome, IsFaultAtStart};
-ghost use Rattle.pb_protocol_unfolder_steps.specs.StepFaults.{IsFaultInValue, IsFaultInValues, OnTerm};
-ghost use Rattle.pb_protocol_unfolder_steps.specs.StepFaults.{argument_form};
-ghost use Rattle.pb_protocol_unfolder_steps.specs.Refusals.{IsTermOr};
+ghost use Rattle.pb_protocol_unfolder_steps.specs.StepFaults.{IsFaultInValue, IsFaultInValues};
+ghost use Rattle.pb_protocol_unfolder_steps.specs.StepFaults.{IsTermOr, OnTerm, argument_form};
 
 use crate::fault::{StepsError, of_term};
 use crate::sorts::sorts_of;
@@ -80,8 +79,7 @@ impl Initial<'_> {
         requires initial { IsInitial self.now }
         ensures term { IfOk result (λ t. term_of t ≡ term_at (protocol_of self.now.protocol.now)
             (map variable_of indices.now) (term_of term.now) (map written_term values.now)) }
-        ensures refused { IfRefused result (IsTermOr ⊥) }
-        ensures faults { IfRefused result (OnTerm (IsFaultAtValues
+        ensures refused { IfRefused result (OnTerm (IsFaultAtValues
             (protocol_form self.now.protocol.now) (map variable_of indices.now)
             (term_form term.now) (map written_term values.now))) }
     {
@@ -109,8 +107,7 @@ impl Initial<'_> {
             ≡ map argument_term terms.old.items
             ++ map (term_at (protocol_of self.now.protocol.now) (map variable_of indices.now)
             (argument_term value.now)) (map tuple_of tuples.now)) }
-        ensures refused { IfRefused result (IsTermOr ⊥) }
-        ensures faults { IfRefused result (OnTerm (IsFaultAtSome
+        ensures refused { IfRefused result (OnTerm (IsFaultAtSome
             (protocol_form self.now.protocol.now) (map variable_of indices.now)
             (argument_form value.now) (map tuple_of tuples.now))) }
     {
@@ -136,9 +133,8 @@ impl Initial<'_> {
             (argument_term value.now)) }
         ensures refused { IfRefused result (IsTermOr (MAX_OPERATORS
             < length (written_tuples (data_of (protocol_of self.now.protocol.now))
-            (indices_said variable.now)))) }
-        ensures faults { IfRefused result (OnTerm (IsFaultInValue
-            (protocol_form self.now.protocol.now) (indices_said variable.now)
+            (indices_said variable.now)))
+            (IsFaultInValue (protocol_form self.now.protocol.now) (indices_said variable.now)
             (argument_form value.now))) }
     {
         let indices = variables_of(self.alloc, &variable.indices)?;
@@ -159,10 +155,9 @@ impl Initial<'_> {
             (map indices_behind variables.now) (map argument_term values.now)) }
         ensures refused { IfRefused result (IsTermOr (MAX_OPERATORS
             < length (flat_map (written_tuples (data_of (protocol_of self.now.protocol.now)))
-            (map indices_behind variables.now)))) }
-        ensures faults { IfRefused result (OnTerm (IsFaultInValues
-            (protocol_form self.now.protocol.now) (map indices_behind variables.now)
-            (map argument_form values.now))) }
+            (map indices_behind variables.now)))
+            (IsFaultInValues (protocol_form self.now.protocol.now)
+            (map indices_behind variables.now) (map argument_form values.now))) }
     {
         let mut terms = Vec::new(self.alloc);
         for at in 0..variables.len().min(values.len()) {
@@ -184,8 +179,8 @@ pub fn initial_terms(alloc: Global, protocol: &Protocol) -> Result<Vec<Argument>
         (definitions.terms_of (definitions.unfolded_initial (data_of (protocol_of protocol.now))
         (protocol_of protocol.now).variables (protocol_of protocol.now).initial))) }
     ensures refused { IfRefused result (IsTermOr
-        (MAX_OPERATORS < length (definitions.all_elements (protocol_of protocol.now)))) }
-    ensures faults { IfRefused result (OnTerm (IsFaultAtStart (protocol_form protocol.now))) }
+        (MAX_OPERATORS < length (definitions.all_elements (protocol_of protocol.now)))
+        (IsFaultAtStart (protocol_form protocol.now))) }
 {
     let variables = state_variables(alloc, &protocol.state)?;
     let initial = Initial {

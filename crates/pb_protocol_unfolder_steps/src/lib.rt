@@ -20,6 +20,7 @@ pub use fault::{StepsError, StepsFault};
 pub use initial::initial_terms;
 pub use instance::{Instance, instance_name, instances};
 pub use limits::{MAX_ELEMENTS, MAX_WRITTEN_STEPS};
+pub use sorts::sorts_of;
 pub use state::flat_state;
 pub use step::{UnfoldedSteps, unfold_steps};
 pub use unfolder::Unfolder;

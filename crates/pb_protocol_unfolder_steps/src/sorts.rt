@@ -9,7 +9,7 @@ use pb_protocol_tree::Protocol;
 use pb_protocol_unfolder_terms::Sorts;
 
 /// The sorts that a protocol declares, and their ranges.
-pub(crate) fn sorts_of(protocol: &Protocol) -> Sorts<'_>
+pub fn sorts_of(protocol: &Protocol) -> Sorts<'_>
     ensures { spec_of result ≡ data_of (protocol_of protocol.now) }
 {
     Sorts {

@@ -7,15 +7,13 @@ ghost use Rattle.pb_base.specs.OrMemory.{IfRefused};
 ghost use Rattle.pb_protocol_folding.specs.FoldedModels.{folded_steps};
 ghost use Rattle.pb_protocol_meaning.specs.Steps.{data_of};
 ghost use Rattle.pb_protocol_unfolding.specs.Unfolding as definitions;
-ghost use Rattle.pb_protocol_unfolder_steps.specs.Elements.{flat_element, instance_said};
-ghost use Rattle.pb_protocol_unfolder_terms.specs.TermFaults.{HasValues};
+ghost use Rattle.pb_protocol_unfolder_steps.specs.Elements.{instance_said};
 ghost use Rattle.pb_protocol_unfolder_steps.specs.StepFaults.{IsFaultInStep, IsFaultInSteps, OnTerm};
-ghost use Rattle.pb_protocol_unfolder_steps.specs.StepFaults.{placed_instance};
-ghost use Rattle.pb_protocol_unfolder_steps.specs.Refusals.{IsTermOr};
+ghost use Rattle.pb_protocol_unfolder_steps.specs.StepFaults.{WithValues, placed_instance};
 ghost use Rattle.pb_protocol_unfolder_steps.specs.Steps.{is_kept, kept_step, own_scope, place_of_step};
 ghost use Rattle.pb_protocol_unfolder_steps.specs.Steps.{places_from};
 ghost use Rattle.pb_protocol_unfolder_steps.specs.Steps.{step_found, step_place, step_said};
-ghost use Rattle.pb_protocol_unfolder_steps.specs.Unfolder.{IsUnfolder, form_in, protocol_in};
+ghost use Rattle.pb_protocol_unfolder_steps.specs.Unfolder.{HasElements, form_in, protocol_in};
 ghost use Rattle.pb_protocol_unfolder_steps.specs.Unfolder.{scope_within};
 
 use crate::assignment::{Assigning, unfold_assignments};
@@ -59,17 +57,14 @@ fn unfold_in_scope(
     scope: &TermScope<'_>,
     place: Place,
 ) -> Result<Option<flat::Step>, StepsError>
-    requires unfolder { IsUnfolder unfolder.now }
-    requires elements { map flat_element elements.now
-        ≡ definitions.all_elements (protocol_in unfolder.now) }
+    requires elements { HasElements unfolder.now elements.now }
     requires scope { scope_within unfolder.now scope.now
         ≡ own_scope (instance_said instance.now) }
     ensures step { IfOk result (λ found. step_found found
         ≡ kept_step (protocol_in unfolder.now) (instance_said instance.now)) }
     ensures place { IfOk result (λ found. IfSome found (λ a. step_place a ≡ place)) }
-    ensures refused { IfRefused result (IsTermOr ⊥) }
-    ensures faults { HasValues scope.now → IfRefused result (OnTerm
-        (IsFaultInStep (form_in unfolder.now) (placed_instance instance.now))) }
+    ensures refused { IfRefused result (OnTerm (WithValues scope.now
+        (IsFaultInStep (form_in unfolder.now) (placed_instance instance.now)))) }
 {
     let step = instance.step;
     let guard = unfolder.unfold(scope, true, &step.guard)?;
@@ -98,14 +93,11 @@ fn unfold_step(
     instance: &Instance<'_>,
     place: Place,
 ) -> Result<Option<flat::Step>, StepsError>
-    requires unfolder { IsUnfolder unfolder.now }
-    requires elements { map flat_element elements.now
-        ≡ definitions.all_elements (protocol_in unfolder.now) }
+    requires elements { HasElements unfolder.now elements.now }
     ensures step { IfOk result (λ found. step_found found
         ≡ kept_step (protocol_in unfolder.now) (instance_said instance.now)) }
     ensures place { IfOk result (λ found. IfSome found (λ a. step_place a ≡ place)) }
-    ensures refused { IfRefused result (IsTermOr ⊥) }
-    ensures faults { IfRefused result (OnTerm
+    ensures refused { IfRefused result (OnTerm
         (IsFaultInStep (form_in unfolder.now) (placed_instance instance.now))) }
 {
     let variables = variables_of(unfolder.alloc, &instance.step.variables)?;
@@ -149,9 +141,7 @@ pub fn unfold_steps(
     elements: &[Element<'_>],
     instances: &[Instance<'_>],
 ) -> Result<UnfoldedSteps, StepsError>
-    requires unfolder { IsUnfolder unfolder.now }
-    requires elements { map flat_element elements.now
-        ≡ definitions.all_elements (protocol_in unfolder.now) }
+    requires elements { HasElements unfolder.now elements.now }
     requires few { length instances.now ≤ MAX_WRITTEN_STEPS }
     ensures steps { IfOk result (λ u. map step_said u.steps.items
         ≡ folded_steps (data_of (protocol_in unfolder.now))
@@ -161,8 +151,7 @@ pub fn unfold_steps(
         ≡ map (is_kept (protocol_in unfolder.now)) (map instance_said instances.now)) }
     ensures places { IfOk result (λ u. map step_place u.steps.items
         ≡ places_from 0 (length u.steps.items)) }
-    ensures refused { IfRefused result (IsTermOr ⊥) }
-    ensures faults { IfRefused result (OnTerm
+    ensures refused { IfRefused result (OnTerm
         (IsFaultInSteps (form_in unfolder.now) (map placed_instance instances.now))) }
 {
     let mut unfolded = UnfoldedSteps {

@@ -10,10 +10,9 @@ ghost use Rattle.pb_protocol_meaning.specs.Erase.{protocol_of};
 ghost use Rattle.pb_protocol_meaning.specs.Steps.{data_of};
 ghost use Rattle.pb_protocol_unfolding.specs.Unfolding as definitions;
 ghost use Rattle.pb_protocol_unfolder_steps.specs.Elements.{flat_element};
-ghost use Rattle.pb_protocol_unfolder_terms.specs.TermFaults.{HasValues, IsFaultInElement, IsFaultInTerm};
+ghost use Rattle.pb_protocol_unfolder_terms.specs.TermFaults.{IsFaultInElement, IsFaultInTerm};
 ghost use Rattle.pb_protocol_unfolder_terms.specs.TermFaults.{surroundings_of};
-ghost use Rattle.pb_protocol_unfolder_steps.specs.StepFaults.{OnTerm};
-ghost use Rattle.pb_protocol_unfolder_steps.specs.Refusals.{IsTermOr};
+ghost use Rattle.pb_protocol_unfolder_steps.specs.StepFaults.{OnTerm, WithValues};
 ghost use Rattle.pb_protocol_unfolder_steps.specs.Steps.{element_assigned, protocol_assignments};
 ghost use Rattle.pb_protocol_unfolder_steps.specs.Unfolder.{IsUnfolder, form_in, protocol_in};
 ghost use Rattle.pb_protocol_unfolder_steps.specs.Unfolder.{scope_within};
@@ -67,10 +66,9 @@ impl<'a> Unfolder<'a> {
         ensures term { IfOk result (λ t. term_of t ≡ folded (data_of (protocol_in self.now)) truth
             (definitions.unfolded_term (protocol_in self.now) (scope_within self.now scope.now)
             (term_of term.now))) }
-        ensures refused { IfRefused result (IsTermOr ⊥) }
-        ensures faults { HasValues scope.now → IfRefused result (OnTerm (IsFaultInTerm
+        ensures refused { IfRefused result (OnTerm (WithValues scope.now (IsFaultInTerm
             (surroundings_of (form_in self.now)) (scope_within self.now scope.now)
-            (term_form term.now))) }
+            (term_form term.now)))) }
     {
         match unfold_term(&self.context, scope, truth, term) {
             Ok(unfolded) => Ok(unfolded.term),
@@ -89,10 +87,9 @@ impl<'a> Unfolder<'a> {
         ensures term { IfOk result (λ t. term_of t ≡ element_assigned (protocol_in self.now)
             (scope_within self.now scope.now) (protocol_assignments assignments.now)
             (flat_element element.now)) }
-        ensures refused { IfRefused result (IsTermOr ⊥) }
-        ensures faults { HasValues scope.now → IfRefused result (OnTerm (IsFaultInElement
+        ensures refused { IfRefused result (OnTerm (WithValues scope.now (IsFaultInElement
             (surroundings_of (form_in self.now)) (scope_within self.now scope.now)
-            (map assignment_form assignments.now) (flat_element element.now))) }
+            (map assignment_form assignments.now) (flat_element element.now)))) }
     {
         let element = terms::Element {
             array: element.name,

@@ -1,5 +1,5 @@
 -- The bounds of names, of arguments and of operators.
-use Rattle.std.proofs.Common.{◌≡◌, ◌∙◌, ◌<◌, ◌≤◌, ℕ, zero, suc, Bool, true, false, List, [], ◌∷◌, Option, Some, None, length, map, drop, get_or, refl, sym, ap, arith}
+use Rattle.std.proofs.Common.{◌≡◌, ◌∙◌, ◌<◌, ◌≤◌, ℕ, zero, suc, List, [], ◌∷◌, Option, Some, None, length, map, drop, get_or, refl, ap, arith}
 use Rattle.std.specs.Prelude.{if◌then◌else◌}
 use Rattle.pb_base_values.specs.Interval.{IntegerInterval}
 use Rattle.pb_text_tree.specs.declared.operator.Connective.{Connective}
@@ -17,23 +17,20 @@ use Rattle.pb_protocol_unfolder_terms.specs.Contexts.{interval_in, intervals_in,
 abbrev pub variables-from : Spec → List StateVariable → Name → ℕ → Option IntegerInterval
 variables-from S ys x k = variable_interval S (map state_variable_of (drop k ys)) x
 
+-- the one at a place, and those behind it
 pub variables-next : (S : Spec) (ys : List StateVariable) (x : Name) (k : ℕ) (y : StateVariable) → k < length ys → y ≡ get_or ys k y
-    → (if may_be_of (state_variable_of y) x then either (sort_interval S y.sort.now) (variables-from S ys x (suc k)) else variables-from S ys x (suc k)) ≡ variables-from S ys x k
-variables-next S [] x k y within is = absurd (omega (arith, within))
-variables-next S (z ∷ ys) x zero y within is =
-    ap (λ (v : StateVariable). if may_be_of (state_variable_of v) x then either (sort_interval S v.sort.now)
-    (variable_interval S (map state_variable_of ys) x) else variable_interval S (map state_variable_of ys) x) is
-variables-next S (z ∷ ys) x (suc k) y within is = variables-next S ys x k y (omega (arith, within)) is
-
-pub variables-take : (S : Spec) (ys : List StateVariable) (x : Name) (k : ℕ) (y : StateVariable) → k < length ys → y ≡ get_or ys k y → may_be_of (state_variable_of y) x ≡ true
-    → either (sort_interval S y.sort.now) (variables-from S ys x (suc k)) ≡ variables-from S ys x k
-variables-take S ys x k y within is e =
-    ap (λ (b : Bool). if b then either (sort_interval S y.sort.now) (variables-from S ys x (suc k)) else variables-from S ys x (suc k)) (sym e) ∙ variables-next S ys x k y within is
-
-pub variables-pass : (S : Spec) (ys : List StateVariable) (x : Name) (k : ℕ) (y : StateVariable) → k < length ys → y ≡ get_or ys k y → may_be_of (state_variable_of y) x ≡ false
-    → variables-from S ys x (suc k) ≡ variables-from S ys x k
-variables-pass S ys x k y within is e =
-    ap (λ (b : Bool). if b then either (sort_interval S y.sort.now) (variables-from S ys x (suc k)) else variables-from S ys x (suc k)) (sym e) ∙ variables-next S ys x k y within is
+    → {behind : Option IntegerInterval} → behind ≡ variables-from S ys x (suc k)
+    → (if may_be_of (state_variable_of y) x then either (sort_interval S y.sort.now) behind else behind) ≡ variables-from S ys x k
+variables-next S ys x k y within is same =
+    ap (λ i. if may_be_of (state_variable_of y) x then either (sort_interval S y.sort.now) i else i) same ∙ by ys k within is
+  where
+    by : (ys : List StateVariable) (k : ℕ) → k < length ys → y ≡ get_or ys k y
+        → (if may_be_of (state_variable_of y) x then either (sort_interval S y.sort.now) (variables-from S ys x (suc k)) else variables-from S ys x (suc k)) ≡ variables-from S ys x k
+    by [] k within is = absurd (omega (arith, within))
+    by (z ∷ ys) zero within is =
+        ap (λ (v : StateVariable). if may_be_of (state_variable_of v) x then either (sort_interval S v.sort.now)
+        (variable_interval S (map state_variable_of ys) x) else variable_interval S (map state_variable_of ys) x) is
+    by (z ∷ ys) (suc k) within is = by ys k (omega (arith, within)) is
 
 pub variables-none : (S : Spec) (ys : List StateVariable) (x : Name) → None ≡ variables-from S ys x (length ys)
 variables-none S [] x = refl

@@ -3,7 +3,7 @@ use Rattle.std.proofs.Common.{◌≡◌, ℕ, zero, suc, ◌+◌, ◌<◌, ◌==
 use Rattle.std.specs.Prelude.{◌&&◌, is_some, string_bytes}
 use Rattle.std.specs.List.{slice_get}
 use Rattle.std.proofs.Math.Dec.{eqb-zero-suc, eqb-suc-zero, eqb-suc-suc}
-use Rattle.pb_text_meaning.specs.Syntax.{Name, same_name, Term, Terms, Spec, Enumerator}
+use Rattle.pb_text_meaning.specs.Syntax.{Name, same_name, Terms, Spec, Enumerator}
 use Rattle.pb_text_meaning.specs.Sorts.{place_from}
 use Rattle.pb_protocol_meaning.specs.Syntax.{Definition}
 use Rattle.pb_text_tree.specs.declared.term.Argument.{Argument}
@@ -50,67 +50,37 @@ one-more sorts base (e ∷ ds) zero d is = ap (with_definition sorts base) (same
     same h = cc
 one-more sorts base (e ∷ ds) (suc k) d is = one-more sorts (with_definition sorts base e) ds k d is
 
-chosen : (b : Bool) (t s u : Option Term) → b ≡ true → t ≡ u → (if b then t else s) ≡ u
-chosen true t s u e h = h
-chosen false t s u e h = absurd (no e)
-  where
-    no : false ≡ true → ⊥
-    no x = cc
-
-passed : (b : Bool) (t s : Option Term) → b ≡ false → (if b then t else s) ≡ s
-passed false t s e = refl
-passed true t s e = absurd (no e)
-  where
-    no : true ≡ false → ⊥
-    no x = cc
-
--- the definition at a place, where it is meant
-pub definition-meant : (sorts : Spec) (base : Forms) (ds : List Definition) (p k : ℕ) (d : Definition) (x : Name) (ts : Terms) → p ≡ suc k → slice_get ds k ≡ Some d
-    → (same_name d.name x && are_as_many d.parameters ts) ≡ true → with_definitions sorts base (take p ds) x ts ≡ defined_term sorts (with_definitions sorts base (take k ds)) (slice_get ds k) ts
-definition-meant sorts base ds p k d x ts next is meant =
+-- the definition at a place, if it is meant, else those before it
+pub definition-next : (sorts : Spec) (base : Forms) (ds : List Definition) (p k : ℕ) (d : Definition) (x : Name) (ts : Terms) → p ≡ suc k → slice_get ds k ≡ Some d
+    → {truth : Bool} → (same_name d.name x && are_as_many d.parameters ts) ≡ truth → with_definitions sorts base (take p ds) x ts
+    ≡ (if truth then defined_term sorts (with_definitions sorts base (take k ds)) (slice_get ds k) ts else with_definitions sorts base (take k ds) x ts)
+definition-next sorts base ds p k d x ts next is {truth = truth} meant =
     let f = with_definitions sorts base (take k ds) in
     ap (λ (q : ℕ). with_definitions sorts base (take q ds) x ts) next
     ∙ ap (λ (g : Forms). g x ts) (one-more sorts base ds k d is)
-    ∙ chosen (same_name d.name x && are_as_many d.parameters ts) (Some (put_in sorts f (standing d.parameters ts []) d.term)) (f x ts) (defined_term sorts f (slice_get ds k) ts) meant
-    (ap (λ o. defined_term sorts f o ts) (sym is))
-
--- and where it isn't
-pub definition-passed : (sorts : Spec) (base : Forms) (ds : List Definition) (p k : ℕ) (d : Definition) (x : Name) (ts : Terms) → p ≡ suc k → slice_get ds k ≡ Some d
-    → (same_name d.name x && are_as_many d.parameters ts) ≡ false → with_definitions sorts base (take p ds) x ts ≡ with_definitions sorts base (take k ds) x ts
-definition-passed sorts base ds p k d x ts next is meant =
-    let f = with_definitions sorts base (take k ds) in
-    ap (λ (q : ℕ). with_definitions sorts base (take q ds) x ts) next
-    ∙ ap (λ (g : Forms). g x ts) (one-more sorts base ds k d is)
-    ∙ passed (same_name d.name x && are_as_many d.parameters ts) (Some (put_in sorts f (standing d.parameters ts []) d.term)) (f x ts) meant
+    ∙ ap (λ (b : Bool). if b then Some (put_in sorts f (standing d.parameters ts []) d.term) else f x ts) meant
+    ∙ ap (λ o. if truth then defined_term sorts f o ts else f x ts) (sym is)
 
 -- ---- state variables
 
--- the state variable at a place, where it is meant
-pub variable-meant : (sorts : Spec) (ys : List StateVariable) (k : ℕ) (y : StateVariable) (x : Name) (ts : Terms) → k < length ys → y ≡ get_or ys k y
-    → (same_name (state_variable_of y).name x && are_as_many (state_variable_of y).indices ts) ≡ true
-    → reads sorts (map state_variable_of (drop k ys)) x ts ≡ Some (read sorts (state_variable_of y).name (state_variable_of y).indices ts)
-variable-meant sorts [] k y x ts within is meant = absurd (omega (arith, within))
-variable-meant sorts (z ∷ ys) zero y x ts within is meant =
-    ap (λ w. reads sorts (map state_variable_of (w ∷ ys)) x ts) (sym is)
-    ∙ chosen (same_name (state_variable_of y).name x && are_as_many (state_variable_of y).indices ts)
-    (Some (read sorts (state_variable_of y).name (state_variable_of y).indices ts)) (reads sorts (map state_variable_of ys) x ts)
-    (Some (read sorts (state_variable_of y).name (state_variable_of y).indices ts)) meant refl
-variable-meant sorts (z ∷ ys) (suc k) y x ts within is meant = variable-meant sorts ys k y x ts (omega (arith, within)) is meant
-
--- and where it isn't
-pub variable-passed : (sorts : Spec) (ys : List StateVariable) (k : ℕ) (y : StateVariable) (x : Name) (ts : Terms) → k < length ys → y ≡ get_or ys k y
-    → (same_name (state_variable_of y).name x && are_as_many (state_variable_of y).indices ts) ≡ false
-    → reads sorts (map state_variable_of (drop k ys)) x ts ≡ reads sorts (map state_variable_of (drop (k + 1) ys)) x ts
-variable-passed sorts ys k y x ts within is meant = skip ys k within is ∙ ap (λ (q : ℕ). reads sorts (map state_variable_of (drop q ys)) x ts) (sym (add-one k))
+-- the state variable at a place, if it is meant, else those behind it
+pub variable-next : (sorts : Spec) (ys : List StateVariable) (k : ℕ) (y : StateVariable) (x : Name) (ts : Terms) → k < length ys → y ≡ get_or ys k y
+    → {truth : Bool} → (same_name (state_variable_of y).name x && are_as_many (state_variable_of y).indices ts) ≡ truth
+    → reads sorts (map state_variable_of (drop k ys)) x ts
+    ≡ (if truth then Some (read sorts (state_variable_of y).name (state_variable_of y).indices ts) else reads sorts (map state_variable_of (drop (k + 1) ys)) x ts)
+variable-next sorts ys k y x ts within is {truth = truth} meant =
+    by ys k within is
+    ∙ ap (λ (b : Bool). if b then Some (read sorts (state_variable_of y).name (state_variable_of y).indices ts) else reads sorts (map state_variable_of (drop (suc k) ys)) x ts) meant
+    ∙ ap (λ (q : ℕ). if truth then Some (read sorts (state_variable_of y).name (state_variable_of y).indices ts) else reads sorts (map state_variable_of (drop q ys)) x ts) (sym (add-one k))
   where
-    skip : (ys : List StateVariable) (k : ℕ) → k < length ys → y ≡ get_or ys k y → reads sorts (map state_variable_of (drop k ys)) x ts ≡ reads sorts (map state_variable_of (drop (suc k) ys)) x ts
-    skip [] k within is = absurd (omega (arith, within))
-    skip (z ∷ ys) zero within is =
+    by : (ys : List StateVariable) (k : ℕ) → k < length ys → y ≡ get_or ys k y
+        → reads sorts (map state_variable_of (drop k ys)) x ts
+        ≡ (if same_name (state_variable_of y).name x && are_as_many (state_variable_of y).indices ts
+        then Some (read sorts (state_variable_of y).name (state_variable_of y).indices ts) else reads sorts (map state_variable_of (drop (suc k) ys)) x ts)
+    by [] k within is = absurd (omega (arith, within))
+    by (z ∷ ys) zero within is =
         ap (λ w. reads sorts (map state_variable_of (w ∷ ys)) x ts) (sym is)
-        ∙ passed (same_name (state_variable_of y).name x && are_as_many (state_variable_of y).indices ts)
-        (Some (read sorts (state_variable_of y).name (state_variable_of y).indices ts))
-        (reads sorts (map state_variable_of ys) x ts) meant
-    skip (z ∷ ys) (suc k) within is = skip ys k (omega (arith, within)) is
+    by (z ∷ ys) (suc k) within is = by ys k (omega (arith, within)) is
 
 -- ---- enumerators
 

@@ -14,6 +14,7 @@ use Rattle.pb_text_tree.specs.Form.{Named, TermForm, argument_forms, arithmetic_
 use Rattle.pb_text_meaning.specs.Syntax.{Name, same_name, Spec, Term}
 use Rattle.pb_text_meaning.specs.Erase.{erased_term}
 use Rattle.pb_protocol_folding.specs.Folding.{folded}
+use Rattle.pb_protocol_folding.specs.View as tree
 use Rattle.pb_protocol_unfolding.specs.PutIn.{TermScope, put_in}
 use Rattle.pb_protocol_unfolder_terms.specs.declared.connectives.Chain.{Chain}
 use Rattle.pb_protocol_unfolder_terms.specs.declared.context.Context.{Context}
@@ -23,15 +24,17 @@ use Rattle.pb_protocol_unfolder_terms.specs.declared.sorts.Variable.{Variable}
 use Rattle.pb_protocol_unfolder_terms.specs.declared.scope.TermScope as declared_scope
 use Rattle.pb_protocol_unfolder_terms.specs.Large.{HasManyValues, IsValuesFault}
 use Rattle.pb_protocol_unfolder_terms.specs.Met.{HaveOutside, IsArgument, IsCalculated, IsChained, IsIndex, IsIndexFault, IsOutside, IsPart, Itself, Occurrence, Operand, Surroundings, all_index_levels, at, index_levels}
+use Rattle.pb_protocol_unfolder_terms.specs.Puts.{put}
 use Rattle.pb_protocol_unfolder_terms.specs.Scopes.{looked}
 use Rattle.pb_protocol_unfolder_terms.specs.Tells.{AreArgumentsMet, AreIndices, AreIndicesMet, AreMetAt, IsArrayMet, IsFaultOf, IsMetAt, IsReadMet, IsScopeMet, IsTermMet, Tells, scope_said, surroundings_in}
 use Rattle.pb_protocol_unfolder_terms.specs.TermFaults.{Breaks, HasValues, IfFaultAt}
 use Rattle.pb_protocol_unfolder_terms.specs.Bounds.{IsSeenWithin, sort_interval}
-use Rattle.pb_protocol_unfolder_terms.specs.Contexts.{IsSeenInside, forms_in, interval_in, spec_in, state_variable_of}
+use Rattle.pb_protocol_unfolder_terms.specs.Contexts.{IsSeenInside, folding_in, forms_in, interval_in, spec_in, state_variable_of}
 use Rattle.pb_protocol_unfolder_terms.specs.declared.fault.UnfoldRule.{UnfoldRule}
 use Rattle.pb_protocol_unfolder_terms.specs.declared.scope.TermScope.TheVariants.{Empty, Values', Arguments'}
 use Rattle.pb_protocol_unfolder_terms.specs.View.{variable_of}
 use Rattle.pb_protocol_unfolder_terms.proofs.ReadLemmas.{not-none, some-is}
+use Rattle.pb_protocol_unfolder_terms.proofs.SortsLemmas.{same-folded}
 
 -- ---- members of lists
 
@@ -140,8 +143,9 @@ module _ (c : Context) (l n : ℕ) (ρ : TermScope) (whole : Occurrence) where
   other-arguments-met given h = λ a in-it. h a (left-in given a in-it)
 
 -- the same term is met
-pub same-met : (k : Context) (l n : ℕ) (s : declared_scope.TermScope) {x y : TermForm} → x ≡ y → (whole : Occurrence) → IsTermMet k l n s x whole → IsTermMet k l n s y whole
-same-met k l n s same whole h = (subst (λ (z : TermForm). IsMetAt k l n (scope_said k s) z whole) same h.0, h.1)
+pub same-met : (k : Context) (v : Level) (s : declared_scope.TermScope) {x y : TermForm} → x ≡ y
+    → (whole : Occurrence) → IsTermMet k (suc v.depth) v.definitions s x whole → IsTermMet k (suc v.depth) v.definitions s y whole
+same-met k v s same whole h = (subst (λ (z : TermForm). IsMetAt k (suc v.depth) v.definitions (scope_said k s) z whole) same h.0, h.1)
 
 -- ---- the parts of a term that is met, with a level less
 
@@ -205,6 +209,15 @@ module _ (c : Context) (n : ℕ) (ρ : TermScope) (whole : Occurrence) where
   others-outside [] (a ∷ []) p h = absurd h
   others-outside [] (a ∷ b ∷ given) p h = absurd h
   others-outside (i ∷ is) (a ∷ given) p h = inr h
+
+-- the first argument isn't seen to stay inside: so the array is read outside
+pub index-outside : (c : Context) (n : ℕ) (scope : declared_scope.TermScope) (whole : Occurrence) (is : List Variable) (given : List Argument) (i : Variable) (a : Argument) {p : Place} {t : Term}
+    → Some i ≡ slice_get is 0 → Some a ≡ slice_get given 0 → t ≡ folded (folding_in c) false (put c n scope (tree.term_of a.term))
+    → (IsSeenWithin (interval_in c t) (sort_interval (spec_in c) i.sort.now) → ⊥) → IsReadMet c n scope p given is whole → IsIndexFault (surroundings_in c) whole a.place
+index-outside c n scope whole is given i a there first term unseen h =
+    let same = term ∙ same-folded (folding_in c) (spec_in c) refl false (put c n scope (tree.term_of a.term)) in
+    h.outside a.place (first-outside c n (scope_said c scope) whole is given i a there first
+    (λ seen. unseen (subst (λ (u : Term). IsSeenWithin (interval_in c u) (sort_interval (spec_in c) i.sort.now)) (sym same) seen)))
 
 others-many : (S : Spec) (is : List Variable) → HasManyValues S (map variable_of (drop 1 is)) → HasManyValues S (map variable_of is)
 others-many S [] v = v

@@ -24,6 +24,7 @@ use Rattle.pb_protocol_unfolder_terms.specs.declared.level.Level.{Level}
 use Rattle.pb_protocol_unfolder_terms.specs.declared.operands.Operands as declared_operands
 use Rattle.pb_protocol_unfolder_terms.specs.declared.scope.TermScope.{TermScope}
 use Rattle.pb_protocol_unfolder_terms.specs.declared.unfolded.Unfolded.{Unfolded}
+use Rattle.pb_protocol_unfolder_terms.specs.Contexts.{folding_in}
 use Rattle.pb_protocol_unfolder_terms.specs.Chains.{chain_term, deciding, operand_of, operands_of, outcome}
 use Rattle.pb_protocol_unfolder_terms.specs.Forms.{is_plain}
 use Rattle.pb_protocol_unfolder_terms.specs.Operands.{AreOperands, IsLeft, behind}
@@ -169,20 +170,30 @@ chain-next c x ls k l within is =
 chain-end : (c : Connective) (x : Term) (ls : List TermLink) (k : ℕ) → (k < length ls → ⊥) → chain_term c x (operands_of (drop k ls)) ≡ x
 chain-end c x ls k end = ap (λ ms. chain_term c x (operands_of ms)) (past ls k end)
 
--- what is left of a chain, with the operand that comes next, and with the last one
-module _ {S : Spec} {truth : Bool} {n room : ℕ} {whole : Term} {before : List Term} (k : Context) (v : Level) (s : TermScope) (chain : Chain) (x : declared_term.Term) (i : ℕ) where
-  pub chain-left : (l : TermLink) → i < length chain.links.now → l ≡ get_or chain.links.now i l
-      → IsLeft S chain.connective truth n whole (put k v.definitions s (chain_term chain.connective (tree.term_of x) (operands_of (drop i chain.links.now)))) before room
-      → IsLeft S chain.connective truth n whole (Term.Binary (of_connective chain.connective) (put k v.definitions s (tree.term_of x))
-      (put k v.definitions s (chain_term chain.connective (operand_of l) (operands_of (drop (i + 1) chain.links.now))))) before room
-  chain-left l within is =
-      subst (λ (z : Term). IsLeft S chain.connective truth n whole z before room) (ap (put k v.definitions s) (chain-next chain.connective (tree.term_of x) chain.links.now i l within is))
+-- what is left of a chain behind so many operands
+abbrev pub IsRestOf : Context → Level → TermScope → Chain → Term → List Term → ℕ → Type 0
+IsRestOf k v s chain rest before room =
+    IsLeft (folding_in k) chain.connective v.truth v.room (put k v.definitions s (chain_term chain.connective (tree.term_of chain.first.now) (operands_of chain.links.now))) rest before room
 
+-- the operand that comes next, and those behind it
+abbrev pub IsChainLeft : Context → Level → TermScope → Chain → declared_term.Term → ℕ → TermLink → List Term → ℕ → Type 0
+IsChainLeft k v s chain x i l before room =
+    IsRestOf k v s chain (Term.Binary (of_connective chain.connective) (put k v.definitions s (tree.term_of x))
+    (put k v.definitions s (chain_term chain.connective (operand_of l) (operands_of (drop (i + 1) chain.links.now))))) before room
+
+module _ (k : Context) (v : Level) (s : TermScope) (chain : Chain) (x : declared_term.Term) (i : ℕ) {before : List Term} {room : ℕ} where
+  pub chain-left : (l : TermLink) → i < length chain.links.now → l ≡ get_or chain.links.now i l
+      → IsRestOf k v s chain (put k v.definitions s (chain_term chain.connective (tree.term_of x) (operands_of (drop i chain.links.now)))) before room
+      → IsChainLeft k v s chain x i l before room
+  chain-left l within is =
+      subst (λ (z : Term). IsRestOf k v s chain z before room) (ap (put k v.definitions s) (chain-next chain.connective (tree.term_of x) chain.links.now i l within is))
+
+  -- the last operand
   pub chain-over : length chain.links.now ≤ i
-      → IsLeft S chain.connective truth n whole (put k v.definitions s (chain_term chain.connective (tree.term_of x) (operands_of (drop i chain.links.now)))) before room
-      → IsLeft S chain.connective truth n whole (put k v.definitions s (tree.term_of x)) before room
+      → IsRestOf k v s chain (put k v.definitions s (chain_term chain.connective (tree.term_of x) (operands_of (drop i chain.links.now)))) before room
+      → IsRestOf k v s chain (put k v.definitions s (tree.term_of x)) before room
   chain-over end =
-      subst (λ (z : Term). IsLeft S chain.connective truth n whole z before room)
+      subst (λ (z : Term). IsRestOf k v s chain z before room)
       (ap (put k v.definitions s) (chain-end chain.connective (tree.term_of x) chain.links.now i (λ h. omega (arith, h, end))))
 
 joined-first : (q : Quantifier) (t : Term) (ts : List Term) → joined q (t ∷ ts) ≡ Term.Binary (of_connective (joining q)) t (joined q ts)

@@ -1,5 +1,5 @@
 -- Unfolded terms over equal sorts, of equal terms.
-use Rattle.std.proofs.Common.{◌≡◌, ℕ, Bool, List, [], ◌∷◌, length, map, refl, suc, false, sym, ◌∙◌, ap, subst, arith, Box, Global}
+use Rattle.std.proofs.Common.{◌≡◌, ℕ, Bool, List, [], ◌∷◌, Option, Some, None, length, map, refl, suc, false, sym, ◌∙◌, ap, subst, arith, Box, Global}
 use Rattle.std.specs.Prelude.{Result, IsErrAnd, box_value}
 use Rattle.pb_base.specs.declared.or_memory.OrMemory.{OrMemory}
 use Rattle.pb_text_tree.specs.declared.operator.Comparison.{Comparison}
@@ -8,21 +8,55 @@ use Rattle.pb_text_tree.specs.declared.term.Term as declared_term
 use Rattle.pb_text_tree.specs.declared.sort.SortDeclaration.{SortDeclaration}
 use Rattle.pb_text_meaning.specs.Syntax.{Name, Operator, Variable, Term, Terms, Spec}
 use Rattle.pb_text_meaning.specs.Erase.{of_comparison}
+use Rattle.pb_text_meaning.specs.Functions.{named_function}
+use Rattle.pb_protocol_folding.specs.Folding.{is_if}
 use Rattle.pb_protocol_folding.specs.View as tree
-use Rattle.pb_protocol_unfolding.specs.PutIn.{TermScope, standing, read}
+use Rattle.pb_protocol_unfolding.specs.PutIn.{TermScope, named_term, standing, read, term_of}
 use Rattle.pb_protocol_unfolder_terms.specs.declared.context.Context.{Context}
+use Rattle.pb_protocol_unfolder_terms.specs.declared.arguments.UnfoldedArguments.{UnfoldedArguments}
 use Rattle.pb_protocol_unfolder_terms.specs.declared.fault.UnfoldFault.{UnfoldFault}
+use Rattle.pb_protocol_unfolder_terms.specs.declared.level.Level.{Level}
+use Rattle.pb_protocol_unfolder_terms.specs.declared.scope.TermScope as declared_scope
+use Rattle.pb_protocol_unfolder_terms.specs.declared.written.Written.{Written}
 use Rattle.pb_protocol_unfolder_terms.specs.declared.unfolded.Unfolded.{Unfolded}
 use Rattle.pb_protocol_unfolder_terms.specs.declared.sorts.Variable as declared_variable
 use Rattle.pb_protocol_unfolder_terms.specs.View.{variable_of}
-use Rattle.pb_protocol_unfolder_terms.specs.Contexts.{folding_in}
+use Rattle.pb_protocol_unfolder_terms.specs.Contexts.{folding_in, forms_in, spec_in}
+use Rattle.pb_protocol_unfolder_terms.specs.Puts.{AreArguments, put}
+use Rattle.pb_protocol_unfolder_terms.specs.Scopes.{scope_of}
+use Rattle.pb_protocol_unfolder_terms.specs.Values.{written_term}
 use Rattle.pb_protocol_unfolder_terms.specs.Unfolding.{IsRefusal, IsUnfolded, Unfolds}
 use Rattle.pb_protocol_unfolder_terms.proofs.ChainLemmas.{err-kept, refusal-behind}
 
-pub carried : (b : Bool) (r : Unfolded) (D E : List SortDeclaration) (n m : ℕ) (x y : Term) → D ≡ E → n ≡ m → x ≡ y → IsUnfolded (tree.spec_of D) b n x r → IsUnfolded (tree.spec_of E) b m y r
-carried b r D E n m x y d e f h =
-    subst (λ (ds : List SortDeclaration). IsUnfolded (tree.spec_of ds) b m y r) d
-    (subst (λ (k : ℕ). IsUnfolded (tree.spec_of D) b k y r) e (subst (λ (z : Term). IsUnfolded (tree.spec_of D) b n z r) f h))
+-- ---- names and functions
+
+-- a name that stands for a value
+pub value-unfolded : (k : Context) (v : Level) (s : declared_scope.TermScope) (value : Written) (r : Unfolded) {D : List SortDeclaration} {shown x : Name} → shown ≡ x
+    → Some (written_term value) ≡ term_of (scope_of (spec_in k) (forms_in k) s) shown → D ≡ k.declarations.now → IsUnfolded (tree.spec_of D) v.truth v.room (written_term value) r
+    → IsUnfolded (folding_in k) v.truth v.room (put k v.definitions s (Term.Named x)) r
+value-unfolded k v s value r {x = x} shows found sorts h =
+    subst (λ (o : Option Term). IsUnfolded (folding_in k) v.truth v.room (named_term (spec_in k) o (forms_in k v.definitions x Terms.NoTerms) x) r)
+    (found ∙ ap (term_of (scope_of (spec_in k) (forms_in k) s)) shows)
+    (subst (λ (ds : List SortDeclaration). IsUnfolded (tree.spec_of ds) v.truth v.room (written_term value) r) sorts h)
+
+-- one that stands for nothing
+pub name-unfolded : (k : Context) (v : Level) (r : Unfolded) {shown x : Name} {o : Option Term} → shown ≡ x → forms_in k v.definitions shown Terms.NoTerms ≡ o
+    → IsUnfolded (folding_in k) v.truth v.room (named_term (spec_in k) None o x) r
+    → IsUnfolded (folding_in k) v.truth v.room (named_term (spec_in k) None (forms_in k v.definitions x Terms.NoTerms) x) r
+name-unfolded k v r {x = x} shows means =
+    subst (λ (o : Option Term). IsUnfolded (folding_in k) v.truth v.room (named_term (spec_in k) None o x) r)
+    (sym means ∙ ap (λ (y : Name). forms_in k v.definitions y Terms.NoTerms) shows)
+
+-- a function of unfolded arguments
+pub function-unfolded : (k : Context) (b : Bool) (f : Name) (xs : Terms) {D : List SortDeclaration} {n m : ℕ} {truth : Bool} {u : UnfoldedArguments} {r : Unfolded} → D ≡ k.declarations.now → m ≡ suc n
+    → truth ≡ is_if (named_function f) → AreArguments (folding_in k) truth n xs u
+    → ((ys : Terms) (j : ℕ) (c : Bool) → AreArguments (tree.spec_of D) (is_if (named_function f)) j ys u → IsUnfolded (tree.spec_of D) c (suc j) (Term.Apply f ys) r)
+    → IsUnfolded (folding_in k) b m (Term.Apply f xs) r
+function-unfolded k b f xs {n = n} {u = u} {r = r} sorts one counts h function =
+    subst (λ (j : ℕ). IsUnfolded (folding_in k) b j (Term.Apply f xs) r) (sym one)
+    (subst (λ (ds : List SortDeclaration). (ys : Terms) (j : ℕ) (c : Bool) → AreArguments (tree.spec_of ds) (is_if (named_function f)) j ys u
+    → IsUnfolded (tree.spec_of ds) c (suc j) (Term.Apply f ys) r) sorts function xs n b
+    (subst (λ (t : Bool). AreArguments (folding_in k) t n xs u) counts h))
 
 -- ---- operators and comparisons
 

@@ -1,50 +1,46 @@
-use Rattle.std.proofs.Common.{◌≡◌, ◌∙◌, suc, true, false, List, [], Option, Some, None, map, sym, ap, subst, refl, drop, string_bytes, length, arith, ◌<◌, Bool, vec_len, ℕ, inl, inr}
+use Rattle.std.proofs.Common.{◌≡◌, ◌∙◌, suc, true, false, List, [], Some, map, sym, ap, subst, refl, drop, string_bytes, length, arith, ◌<◌, vec_len, ℕ, inl, inr}
 use Rattle.std.proofs.lemmas.Bool.Decides.{nat_tests}
-use Rattle.pb_protocol_unfolder_terms.specs.declared.sorts.Variable as declared_variable
-use Rattle.pb_text_tree.specs.declared.sort.SortDeclaration.{SortDeclaration}
+use Rattle.pb_protocol_unfolder_terms.specs.declared.array.Choices.{Choices}
 use Rattle.pb_text_tree.specs.declared.place.Place.{Place}
 use Rattle.pb_text_meaning.specs.Syntax.{Name, Term, Terms}
 use Rattle.pb_text_meaning.specs.Erase.{erased_term}
 use Rattle.pb_protocol_unfolder_terms.specs.Chains.{HasLinks, deciding, operands_of, outcome}
 use Rattle.pb_protocol_unfolder_terms.proofs.ChainLemmas.{arithmetic-links, chain-links, err-kept, chain-is, chain-means, application-is, application-means}
 use Rattle.pb_protocol_folding.specs.View as tree
-use Rattle.pb_protocol_unfolding.specs.PutIn.{TermScope, term_of, named_term, put_in, standing, choices, read}
+use Rattle.pb_protocol_unfolding.specs.PutIn.{choices, read}
 use Rattle.pb_protocol_unfolder_terms.specs.View.{spec_of, variable_of}
 use Rattle.pb_protocol_unfolder_terms.specs.Scopes.{scope_of}
-use Rattle.pb_protocol_unfolder_terms.specs.Contexts.{forms_in, folding_in, spec_in, interval_in, state_variable_of}
+use Rattle.pb_protocol_unfolder_terms.specs.Contexts.{forms_in, folding_in, spec_in}
 use Rattle.pb_protocol_unfolder_terms.specs.Unfolding.{IsRefusal, IsUnfolded, Unfolds}
 use Rattle.pb_protocol_unfolder_terms.specs.Values.{written_term, tuple_of}
-use Rattle.pb_protocol_unfolder_terms.proofs.UnfoldLemmas.{carried, standing-none, operator-unfolded, comparison-means, comparison-unfolded, comparison-refused}
-use Rattle.pb_text_tree.specs.Form.{Named, variable_forms, TermForm, argument_forms, named, term_form}
+use Rattle.pb_protocol_unfolder_terms.proofs.UnfoldLemmas.{comparison-means, comparison-refused, comparison-unfolded, function-unfolded, name-unfolded, operator-unfolded, value-unfolded}
+use Rattle.pb_text_tree.specs.Form.{Named, variable_forms, TermForm, chained, named, term_form, term_links}
 use Rattle.pb_text_meaning.specs.Functions.{named_function}
-use Rattle.pb_protocol_folding.specs.Folding.{folded, is_if}
+use Rattle.pb_protocol_folding.specs.Folding.{is_if}
 use Rattle.pb_protocol_folding.specs.Kept.{truth_counts}
 use Rattle.pb_protocol_unfolding.specs.Written.{written_tuples, written_values}
-use Rattle.pb_protocol_unfolder_terms.specs.Puts.{AreArguments, element_by, put, puts}
+use Rattle.pb_protocol_unfolder_terms.specs.Puts.{element_by, put, puts}
 use Rattle.pb_protocol_unfolder_terms.proofs.ArgumentLemmas.{none-of}
 use Rattle.pb_protocol_unfolder_terms.proofs.ChoiceLemmas.{if-named}
-use Rattle.pb_protocol_unfolder_terms.proofs.OperandLemmas.{chain-form, last-refused, left-decided, left-further, left-last, left-refused, left-without-room, operands-more, chain-left, chain-over}
+use Rattle.pb_protocol_unfolder_terms.proofs.OperandLemmas.{IsChainLeft, IsRestOf, chain-form, last-refused, left-decided, left-further, left-last, left-refused, left-without-room, operands-more, chain-left, chain-over}
 use Rattle.pb_protocol_unfolder_terms.proofs.ReadLemmas.{choices-none, choices-one, read-itself, read-nothing, are-others, unwritten-by, written-read, chosen-read}
 use Rattle.pb_protocol_unfolder_terms.proofs.TermLemmas.{arithmetic-is, arithmetic-means, quantified-means}
 use Rattle.std.proofs.lemmas.Bool.{false≢true}
-use Rattle.pb_protocol_unfolder_terms.specs.Bounds.{IsSeenWithin, sort_interval}
-use Rattle.pb_protocol_unfolder_terms.specs.Large.{HasManyValues}
-use Rattle.pb_protocol_unfolder_terms.specs.Met.{Given, HaveOutside, Index, IsIndex, IsOutside, all_index_levels, at}
-use Rattle.pb_protocol_unfolder_terms.specs.Tells.{IsArrayMet, IsFaultOf, IsMetAt, placed_term, scope_said, surroundings_in}
-use Rattle.pb_protocol_unfolder_terms.proofs.SortsLemmas.{same-folded}
+use Rattle.pb_protocol_unfolder_terms.specs.Met.{Occurrence, at}
+use Rattle.pb_protocol_unfolder_terms.specs.Tells.{AreChoicesMet, IsArrayMet, IsFaultOf, IsMetAt, IsTermMet, scope_said, surroundings_in}
 use Rattle.pb_protocol_unfolder_terms.proofs.LargeLemmas.{arithmetic-token, chain-token, depth-told, first-many, room-told, values-told, token-met, name-met}
-use Rattle.pb_protocol_unfolder_terms.proofs.MetLemmas.{argument-at-met, arguments-met, array-first, first-outside, item-in, mapped-in, told, part-met, first-part-met, link-part-met, chain-part-met, given-met, argument-part-met, same-met}
+use Rattle.pb_protocol_unfolder_terms.proofs.MetLemmas.{argument-at-met, array-first, err-told, index-outside, item-in, told, part-met, first-part-met, link-part-met, chain-part-met, given-met, argument-part-met, same-met}
 use Rattle.pb_protocol_unfolder_terms.proofs.DeepLemmas.{array-deep, choice-first, choices-deep, choices-further, choices-met, element-met, unwritten-levels}
 use Rattle.pb_protocol_unfolder_terms.proofs.ProtocolLemmas.{mapped-length}
 use Rattle.pb_protocol_unfolder_terms.proofs.ConditionalLemmas.{IsConditional, conditional, branch-unfolded, branch-refused, second-refused, both-unfolded}
-use Rattle.pb_protocol_unfolder_terms.proofs.ChoosingLemmas.{IsChoosing, choosing, decided-unfolded, decided-refused, first-refused, further-refused, further-unfolded}
+use Rattle.pb_protocol_unfolder_terms.proofs.ChoosingLemmas.{IsChoosing, choosing, further_values, decided-unfolded, decided-refused, first-refused, further-refused, further-unfolded}
 use Rattle.pb_protocol_unfolder_terms.proofs.CalculationLemmas.{first-operand-refused, first-calculated, operator-without-room, operand-refused, further-calculated, all-calculated}
 use Rattle.pb_protocol_unfolder_terms.proofs.CopyLemmas.{AreAllCopies, IsCopyLeft, copies-form, copy-left, tuples-written, copied-said, none-said, copies-met, copy-met}
 use Rattle.pb_protocol_unfolder_terms.specs.declared.context.Meant.TheVariants as meant
-use Rattle.pb_protocol_unfolder_terms.proofs.MeantLemmas.{definition-met, meant-unfolded}
+use Rattle.pb_protocol_unfolder_terms.proofs.MeantLemmas.{applied-definition-met, applied-variable-met, argument-term-met, bare-definition-met, bare-definition-unfolded, definition-unfolded, meant-unfolded, variable-unfolded}
 use Rattle.pb_protocol_unfolder_terms.proofs.GivenLemmas.{none-unfolded, next-argument-refused, next-argument-unfolded, all-unfolded}
 use Rattle.pb_protocol_unfolder_terms.proofs.+unfolding.Goals as goal
-use Rattle.pb_protocol_unfolder_terms.proofs.+unfolding.Goals.{applications::unfold_choice-After-truth_value, connectives::unfold_copies-After-behind_one, connectives::unfold_quantified-After-unfold_copies, reads::unfold_choices-After-truth_value}
+use Rattle.pb_protocol_unfolder_terms.proofs.+unfolding.Goals.{applications::unfold_choice-After-truth_value, connectives::unfold_copies-After-behind_one, connectives::unfold_operands-After-behind_one, connectives::unfold_operands-After-truth_counts-truth, connectives::unfold_quantified-After-unfold_copies, reads::unfold_choices-After-truth_value}
 
 pub unfold::unfold_opened-returns-in_ok-negation-in-Not-clause-term : goal.unfold::unfold_opened-returns-in_ok-negation-in-Not-clause-term
 unfold::unfold_opened-returns-in_ok-negation-in-Not-clause-term t c =
@@ -62,39 +58,23 @@ unfold::unfold_opened-returns-in_ok-negative-in-Negative-clause-term t c =
 
 pub unfold::unfold_free-returns-in-Definition-clause-term : goal.unfold::unfold_free-returns-in-Definition-clause-term
 unfold::unfold_free-returns-in-Definition-clause-term t c =
-    let k = c.args.context.now in
-    let x : Name = string_bytes c.args.name.now.text in
-    let d = c.in-Definition.definition.now in
-    let f = forms_in k c.in-Definition.before in
-    let e : forms_in k c.args.level.definitions x Terms.NoTerms ≡ Some (put_in (spec_in k) f [] (tree.term_of d.term.now)) =
-    ap (λ (y : Name). forms_in k c.args.level.definitions y Terms.NoTerms) (sym c.as_str.ensures.value) ∙ c.in-Definition.ensures.meant Terms.NoTerms refl
-    ∙ ap (λ (ρ : TermScope). Some (put_in (spec_in k) f ρ (tree.term_of d.term.now))) (standing-none (map variable_of d.parameters.items) []) in
-    subst (λ (o : Option Term). Unfolds (folding_in k) c.args.level.truth c.args.level.room (named_term (spec_in k) None o x) c.unfold.result) (sym e) c.unfold.ensures.term
+    bare-definition-unfolded c.args.context.now c.args.level c.in-Definition.definition c.in-Definition.before c.unfold.result c.as_str.ensures.value
+    (c.in-Definition.ensures.meant Terms.NoTerms refl) c.unfold.ensures.term
 
 pub unfold::unfold_free-returns-in_ok-bare_variable-in-Variable-clause-term : goal.unfold::unfold_free-returns-in_ok-bare_variable-in-Variable-clause-term
 unfold::unfold_free-returns-in_ok-bare_variable-in-Variable-clause-term t c =
-    subst (λ (o : Option Term). IsUnfolded (folding_in c.args.context.now) c.args.level.truth c.args.level.room (named_term (spec_in c.args.context.now) None o (string_bytes c.args.name.now.text))
-    c.in_ok-bare_variable-in-Variable.field-0)
-    (sym (rw c.as_str.ensures.value at c.in-Variable.ensures.meant Terms.NoTerms refl))
+    name-unfolded c.args.context.now c.args.level c.in_ok-bare_variable-in-Variable.field-0 c.as_str.ensures.value (c.in-Variable.ensures.meant Terms.NoTerms refl)
     (c.in_ok-bare_variable-in-Variable.ensures (folding_in c.args.context.now) (spec_in c.args.context.now) c.args.level.truth)
 
 pub unfold::unfold_free-returns-in_ok-own_name-in-Neither-clause-term : goal.unfold::unfold_free-returns-in_ok-own_name-in-Neither-clause-term
 unfold::unfold_free-returns-in_ok-own_name-in-Neither-clause-term t c =
-    subst (λ (o : Option Term). IsUnfolded (folding_in c.args.context.now) c.args.level.truth c.args.level.room (named_term (spec_in c.args.context.now) None o (string_bytes c.args.name.now.text))
-    c.in_ok-own_name-in-Neither.field-0)
-    (sym (rw c.as_str.ensures.value at c.in-Neither.ensures.meant Terms.NoTerms refl)) (c.in_ok-own_name-in-Neither.ensures c.args.level.truth)
+    name-unfolded c.args.context.now c.args.level c.in_ok-own_name-in-Neither.field-0 c.as_str.ensures.value (c.in-Neither.ensures.meant Terms.NoTerms refl)
+    (c.in_ok-own_name-in-Neither.ensures c.args.level.truth)
 
 pub unfold::unfold_name-returns-in_ok-value_term-in-Value-clause-term : goal.unfold::unfold_name-returns-in_ok-value_term-in-Value-clause-term
 unfold::unfold_name-returns-in_ok-value_term-in-Value-clause-term t c =
-    let k = c.args.context.now in
-    let x : Name = string_bytes c.args.name.now.text in
-    let ρ = scope_of (spec_in k) (forms_in k) c.args.scope.now in
-    let e = c.in-Value.ensures.term (spec_in k) (forms_in k) ∙ ap (λ (y : Name). term_of ρ y) c.as_str.ensures.value in
-    subst (λ (o : Option Term). IsUnfolded (folding_in k) c.args.level.truth c.args.level.room
-    (named_term (spec_in k) o (forms_in k c.args.level.definitions x Terms.NoTerms) x) c.in_ok-value_term-in-Value.field-0) e
-    (subst (λ (ds : List SortDeclaration). IsUnfolded (tree.spec_of ds) c.args.level.truth c.args.level.room
-    (written_term c.in-Value.value) c.in_ok-value_term-in-Value.field-0) c.folding.ensures
-    (c.in_ok-value_term-in-Value.ensures c.args.level.truth))
+    value-unfolded c.args.context.now c.args.level c.args.scope.now c.in-Value.value c.in_ok-value_term-in-Value.field-0 c.as_str.ensures.value
+    (c.in-Value.ensures.term (spec_in c.args.context.now) (forms_in c.args.context.now)) c.folding.ensures (c.in_ok-value_term-in-Value.ensures c.args.level.truth)
 
 pub unfold::unfold_opened-returns-in_ok-comparison-in-Comparison-clause-term : goal.unfold::unfold_opened-returns-in_ok-comparison-in-Comparison-clause-term
 unfold::unfold_opened-returns-in_ok-comparison-in-Comparison-clause-term t c =
@@ -111,13 +91,8 @@ unfold::unfold_opened-returns-in_err-right-in-Comparison-clause-term t c =
 
 pub applications::unfold_application-returns-in-Definition-clause-term : goal.applications::unfold_application-returns-in-Definition-clause-term
 applications::unfold_application-returns-in-Definition-clause-term t c =
-    let k = c.args.context.now in
-    let d = c.in-Definition in
-    meant-unfolded k c.args.level c.args.scope.now (string_bytes c.args.function.now.text) c.args.arguments.now (meant.Definition d.definition d.before) c.unfold.result (grind (arith, nat_tests))
-    c.as_str.ensures.value d.ensures.meant
-    (subst (λ (vs : List declared_variable.Variable). Unfolds (folding_in k) c.args.level.truth c.args.level.room (put_in (spec_in k) (forms_in k d.before)
-    (standing (map variable_of vs) (puts k c.args.level.definitions c.args.scope.now (tree.terms_of c.args.arguments.now)) []) (tree.term_of d.definition.now.term.now)) c.unfold.result)
-    c.deref.ensures.value c.unfold.ensures.term)
+    definition-unfolded c.args.context.now c.args.level c.args.scope.now (string_bytes c.args.function.now.text) c.args.arguments.now c.in-Definition.definition c.in-Definition.before c.unfold.result
+    (grind (arith, nat_tests)) c.as_str.ensures.value c.in-Definition.ensures.meant c.deref.ensures.value c.unfold.ensures.term
 
 pub unfold::unfold_opened-returns-in-Application-clause-term : goal.unfold::unfold_opened-returns-in-Application-clause-term
 unfold::unfold_opened-returns-in-Application-clause-term t c =
@@ -125,10 +100,15 @@ unfold::unfold_opened-returns-in-Application-clause-term t c =
     c.unfold_application.result)
     (application-means c.in-Application.arguments c.in-Application.is c.deref-in-Application.ensures.value) c.unfold_application.ensures.term
 
+-- the operand that comes next
+operand-here : (t : ℕ) (c : connectives::unfold_operands-After-behind_one t)
+    → IsChainLeft c.args.context.now c.args.level c.args.scope.now c.args.chain c.loop-link.term.now c.loop-link.link-index c.link-item.result (operands_of c.loop-link.before.items) c.loop-link.room
+operand-here t c =
+    chain-left c.args.context.now c.args.level c.args.scope.now c.args.chain c.loop-link.term.now c.loop-link.link-index c.link-item.result c.loop-link-test.true c.link-item.is c.loop-link.invariant.0
+
 pub connectives::unfold_operands-loop-link-preserved : goal.connectives::unfold_operands-loop-link-preserved
 connectives::unfold_operands-loop-link-preserved t c = (
-  left-further (chain-left c.args.context.now c.args.level c.args.scope.now c.args.chain c.loop-link.term.now c.loop-link.link-index c.link-item.result c.loop-link-test.true c.link-item.is
-      c.loop-link.invariant.0)
+  left-further (operand-here t (goal.at.connectives::unfold_operands-loop-link-preserved t c).After-behind_one)
       c.in_ok-behind_one.ensures c.in_ok-unfolded.ensures.term (ap operands_of c.in_ok-push.ensures.items ∙ operands-more c.loop-link.before.items _),
   inr (c.link-item.result, item-in c.args.chain.links.now c.loop-link.link-index c.link-item.result c.loop-link-test.true c.link-item.is, refl),
 )
@@ -136,23 +116,28 @@ connectives::unfold_operands-loop-link-preserved t c = (
 pub connectives::unfold_operands-returns-then-decides-clause-operands : goal.connectives::unfold_operands-returns-then-decides-clause-operands
 connectives::unfold_operands-returns-then-decides-clause-operands t c =
     left-decided (record { before = c.loop-link.before; last = c.decided-last.result; room = c.in_ok-unfolded.unfolded.room })
-    (chain-left c.args.context.now c.args.level c.args.scope.now c.args.chain c.loop-link.term.now c.loop-link.link-index c.link-item.result c.loop-link-test.true c.link-item.is
-    c.loop-link.invariant.0)
-    c.in_ok-behind_one.ensures c.in_ok-unfolded.ensures.term (c.decides.ensures c.if-decides.true) c.decided-last.ensures refl
-    (chain-form c.args.context.now c.args.level c.args.scope.now c.args.chain c.requires)
+    (operand-here t (goal.at.connectives::unfold_operands-returns-then-decides-clause-operands t c).After-behind_one)
+    c.in_ok-behind_one.ensures c.in_ok-unfolded.ensures.term (c.decides.ensures c.if-decides.true)
+    c.decided-last.ensures refl (chain-form c.args.context.now c.args.level c.args.scope.now c.args.chain c.requires)
+
+-- the last operand is left
+last-here : (t : ℕ) (c : connectives::unfold_operands-After-truth_counts-truth t)
+    → IsRestOf c.args.context.now c.args.level c.args.scope.now c.args.chain (put c.args.context.now c.args.level.definitions c.args.scope.now (tree.term_of c.loop-link.term.now))
+    (operands_of c.loop-link.before.items) c.loop-link.room
+last-here t c =
+    chain-over c.args.context.now c.args.level c.args.scope.now c.args.chain c.loop-link.term.now c.loop-link.link-index (omega (arith, c.loop-link-test.false)) c.loop-link.invariant.0
 
 pub connectives::unfold_operands-returns-clause-operands : goal.connectives::unfold_operands-returns-clause-operands
 connectives::unfold_operands-returns-clause-operands t c =
     left-last (record { before = c.loop-link.before; last = c.in_ok-unfolded-2.unfolded.term; room = c.in_ok-unfolded-2.unfolded.room })
-    (chain-over c.args.context.now c.args.level c.args.scope.now c.args.chain c.loop-link.term.now c.loop-link.link-index (omega (arith, c.loop-link-test.false)) c.loop-link.invariant.0)
+    (last-here t (goal.at.connectives::unfold_operands-returns-clause-operands t c).After-truth_counts-truth)
     (c.truth_counts-truth.ensures ∙ ap (λ xs. truth_counts c.args.level.truth (operands_of xs)) c.deref.ensures.value)
     c.in_ok-unfolded-2.ensures.term.term c.in_ok-unfolded-2.ensures.term.room
     (chain-form c.args.context.now c.args.level c.args.scope.now c.args.chain c.requires)
 
 pub connectives::unfold_operands-returns-in_err-unfolded-2-clause-operands : goal.connectives::unfold_operands-returns-in_err-unfolded-2-clause-operands
 connectives::unfold_operands-returns-in_err-unfolded-2-clause-operands t c =
-    last-refused
-    (chain-over c.args.context.now c.args.level c.args.scope.now c.args.chain c.loop-link.term.now c.loop-link.link-index (omega (arith, c.loop-link-test.false)) c.loop-link.invariant.0)
+    last-refused (last-here t (goal.at.connectives::unfold_operands-returns-in_err-unfolded-2-clause-operands t c).After-truth_counts-truth)
     c.from_residual-in_err-unfolded-2.result c.in_err-unfolded-2.field-0.0 c.from_residual-in_err-unfolded-2.ensures.1 c.in_err-unfolded-2.ensures.term
 
 -- the copy that comes next
@@ -224,15 +209,9 @@ connectives::unfold_quantified-returns-in_err-operands-clause-term t c =
 
 pub applications::unfold_application-returns-in_ok-name-in-Variable-clause-term : goal.applications::unfold_application-returns-in_ok-name-in-Variable-clause-term
 applications::unfold_application-returns-in_ok-name-in-Variable-clause-term t c =
-    let k = c.args.context.now in
-    let y = c.in-Variable.variable in
-    let read_of : Name → List declared_variable.Variable → Term =
-    λ x is. read (spec_in k) x (map variable_of is) (puts k c.args.level.definitions c.args.scope.now (tree.terms_of c.args.arguments.now)) in
-    meant-unfolded k c.args.level c.args.scope.now (string_bytes c.args.function.now.text) c.args.arguments.now (meant.Variable y) c.unfold_read.result (grind (arith, nat_tests))
-    c.as_str.ensures.value c.in-Variable.ensures.meant
-    (subst (λ (x : Name). Unfolds (folding_in k) c.args.level.truth c.args.level.room (read_of x y.now.indices.items) c.unfold_read.result) c.in_ok-name-in-Variable.ensures.text
-    (subst (λ (is : List declared_variable.Variable). Unfolds (folding_in k) c.args.level.truth c.args.level.room (read_of (string_bytes c.in_ok-name-in-Variable.name.text) is) c.unfold_read.result)
-    c.deref-in-Variable.ensures.value (c.unfold_read.ensures.term c.args.level.truth)))
+    variable-unfolded c.args.context.now c.args.level c.args.scope.now (string_bytes c.args.function.now.text) c.args.arguments.now c.in-Variable.variable c.unfold_read.result
+    (grind (arith, nat_tests)) c.as_str.ensures.value c.in-Variable.ensures.meant c.in_ok-name-in-Variable.ensures.text c.deref-in-Variable.ensures.value
+    (c.unfold_read.ensures.term c.args.level.truth)
 
 pub applications::unfold_application-returns-in-Neither-clause-term : goal.applications::unfold_application-returns-in-Neither-clause-term
 applications::unfold_application-returns-in-Neither-clause-term t c =
@@ -251,8 +230,7 @@ applications::unfold_arithmetic-loop-link-init t c =
 pub applications::unfold_arithmetic-returns-in_err-room-clause-term : goal.applications::unfold_arithmetic-returns-in_err-room-clause-term
 applications::unfold_arithmetic-returns-in_err-room-clause-term t c =
     operator-without-room c.args.context.now c.args.level c.args.scope.now (tree.term_of c.args.first.now) c.args.links.now c.loop-link.link-index c.link-item.result c.loop-link-test.true
-    c.link-item.is c.loop-link.invariant
-    c.from_residual-in_err-room.result c.in_err-room.field-0.0 c.from_residual-in_err-room.ensures.1 c.in_err-room.ensures.0 c.in_err-room.ensures.1
+    c.link-item.is c.loop-link.invariant c.from_residual-in_err-room.result c.in_err-room.field-0.0 c.from_residual-in_err-room.ensures.1 c.in_err-room.ensures.0 c.in_err-room.ensures.1
 
 pub applications::unfold_arithmetic-returns-in_err-right-clause-term : goal.applications::unfold_arithmetic-returns-in_err-right-clause-term
 applications::unfold_arithmetic-returns-in_err-right-clause-term t c =
@@ -273,20 +251,9 @@ applications::unfold_arithmetic-returns-clause-term t c =
 
 pub applications::unfold_function-returns-clause-term : goal.applications::unfold_function-returns-clause-term
 applications::unfold_function-returns-clause-term t c =
-    let k = c.args.context.now in
-    let n = c.args.level.definitions in
-    let b = c.args.level.truth in
-    let room = c.args.level.room in
-    let p : Term → Term = λ x. put k n c.args.scope.now x in
-    let f : Name = string_bytes c.args.function.now.text in
-    let xs : Terms = puts k n c.args.scope.now (tree.terms_of c.args.arguments.now) in
-    let inner = c.in_ok-room.room in
-    let back = sym c.folding.ensures in
-    let truth : c.is_choice-truth.result ≡ is_if (named_function f) = c.is_choice-truth.ensures ∙ ap (λ (g : Name). is_if (named_function g)) c.as_str.ensures.value in
-    carried b c.in_ok-function_term.field-0 c.folding.result.sorts.now k.declarations.now (suc inner) room (Term.Apply f xs) (Term.Apply f xs) c.folding.ensures (sym c.in_ok-room.ensures) refl
-    (c.in_ok-function_term.ensures xs inner b
-    (subst (λ (ds : List SortDeclaration). AreArguments (tree.spec_of ds) (is_if (named_function f)) inner xs c.in_ok-unfolded.unfolded) back
-    (subst (λ (t : Bool). AreArguments (folding_in k) t inner xs c.in_ok-unfolded.unfolded) truth c.in_ok-unfolded.ensures.term)))
+    function-unfolded c.args.context.now c.args.level.truth (string_bytes c.args.function.now.text)
+    (puts c.args.context.now c.args.level.definitions c.args.scope.now (tree.terms_of c.args.arguments.now)) c.folding.ensures c.in_ok-room.ensures
+    (c.is_choice-truth.ensures ∙ ap (λ (g : Name). is_if (named_function g)) c.as_str.ensures.value) c.in_ok-unfolded.ensures.term c.in_ok-function_term.ensures
 
 -- the condition of an `if` is unfolded
 condition-here : (t : ℕ) (c : applications::unfold_choice-After-truth_value t)
@@ -297,58 +264,48 @@ condition-here t c =
 
 pub applications::unfold_choice-returns-in-Some-true-clause-term : goal.applications::unfold_choice-returns-in-Some-true-clause-term
 applications::unfold_choice-returns-in-Some-true-clause-term t c =
-    branch-unfolded
-    (condition-here t (goal.at.applications::unfold_choice-returns-in-Some-true-clause-term t c).After-truth_value)
+    branch-unfolded (condition-here t (goal.at.applications::unfold_choice-returns-in-Some-true-clause-term t c).After-truth_value)
     true c.index-arguments-1.result (ap Some (sym c.in-Some-true.field-0-test) ∙ c.in-Some-true.ensures) c.in_ok-unfold-in-Some-true.ensures.term c.chosen.ensures
 
 pub applications::unfold_choice-returns-in_err-unfold-in-Some-true-clause-term : goal.applications::unfold_choice-returns-in_err-unfold-in-Some-true-clause-term
 applications::unfold_choice-returns-in_err-unfold-in-Some-true-clause-term t c =
-    branch-refused
-    (condition-here t (goal.at.applications::unfold_choice-returns-in_err-unfold-in-Some-true-clause-term t c).After-truth_value)
+    branch-refused (condition-here t (goal.at.applications::unfold_choice-returns-in_err-unfold-in-Some-true-clause-term t c).After-truth_value)
     true c.index-arguments-1.result c.from_residual-in_err-unfold-in-Some-true.result c.in_err-unfold-in-Some-true.field-0.0 c.from_residual-in_err-unfold-in-Some-true.ensures.1
     c.in_err-unfold-in-Some-true.ensures.term
 
 pub applications::unfold_choice-returns-in-Some-false-clause-term : goal.applications::unfold_choice-returns-in-Some-false-clause-term
 applications::unfold_choice-returns-in-Some-false-clause-term t c =
-    branch-unfolded
-    (condition-here t (goal.at.applications::unfold_choice-returns-in-Some-false-clause-term t c).After-truth_value)
+    branch-unfolded (condition-here t (goal.at.applications::unfold_choice-returns-in-Some-false-clause-term t c).After-truth_value)
     false c.index-arguments-2.result (ap Some (sym c.in-Some-false.field-0-test) ∙ c.in-Some-false.ensures) c.in_ok-unfold-in-Some-false.ensures.term c.chosen-in-Some-false.ensures
 
 pub applications::unfold_choice-returns-in_err-unfold-in-Some-false-clause-term : goal.applications::unfold_choice-returns-in_err-unfold-in-Some-false-clause-term
 applications::unfold_choice-returns-in_err-unfold-in-Some-false-clause-term t c =
-    branch-refused
-    (condition-here t (goal.at.applications::unfold_choice-returns-in_err-unfold-in-Some-false-clause-term t c).After-truth_value)
+    branch-refused (condition-here t (goal.at.applications::unfold_choice-returns-in_err-unfold-in-Some-false-clause-term t c).After-truth_value)
     false c.index-arguments-2.result c.from_residual-in_err-unfold-in-Some-false.result c.in_err-unfold-in-Some-false.field-0.0 c.from_residual-in_err-unfold-in-Some-false.ensures.1
     c.in_err-unfold-in-Some-false.ensures.term
 
 pub applications::unfold_choice-returns-in_err-left-in-None-clause-term : goal.applications::unfold_choice-returns-in_err-left-in-None-clause-term
 applications::unfold_choice-returns-in_err-left-in-None-clause-term t c =
-    branch-refused
-    (condition-here t (goal.at.applications::unfold_choice-returns-in_err-left-in-None-clause-term t c).After-truth_value)
+    branch-refused (condition-here t (goal.at.applications::unfold_choice-returns-in_err-left-in-None-clause-term t c).After-truth_value)
     true c.index-arguments-1-in-None.result c.from_residual-in_err-left-in-None.result c.in_err-left-in-None.field-0.0 c.from_residual-in_err-left-in-None.ensures.1
     c.in_err-left-in-None.ensures.term
 
 pub applications::unfold_choice-returns-in_err-right-in-None-clause-term : goal.applications::unfold_choice-returns-in_err-right-in-None-clause-term
 applications::unfold_choice-returns-in_err-right-in-None-clause-term t c =
-    second-refused
-    (condition-here t (goal.at.applications::unfold_choice-returns-in_err-right-in-None-clause-term t c).After-truth_value)
+    second-refused (condition-here t (goal.at.applications::unfold_choice-returns-in_err-right-in-None-clause-term t c).After-truth_value)
     c.index-arguments-1-in-None.result c.index-arguments-2-in-None.result c.from_residual-in_err-right-in-None.result c.in_err-right-in-None.field-0.0 c.from_residual-in_err-right-in-None.ensures.1
     c.in_ok-left-in-None.ensures.term c.in_err-right-in-None.ensures.term
 
 pub applications::unfold_choice-returns-clause-term : goal.applications::unfold_choice-returns-clause-term
 applications::unfold_choice-returns-clause-term t c =
-    both-unfolded
-    (condition-here t (goal.at.applications::unfold_choice-returns-clause-term t c).After-truth_value)
+    both-unfolded (condition-here t (goal.at.applications::unfold_choice-returns-clause-term t c).After-truth_value)
     c.index-arguments-1-in-None.result c.index-arguments-2-in-None.result c.in_ok-name-in-None.name c.folding.ensures (ap (λ (r : Named). r.text) c.in_ok-name-in-None.ensures)
     c.in_ok-left-in-None.ensures.term c.in_ok-right-in-None.ensures.term c.in_ok-choice-in-None.ensures
 
 pub reads::unfold_element-returns-clause-term : goal.reads::unfold_element-returns-clause-term
 reads::unfold_element-returns-clause-term t c =
-    let k = c.args.context.now in
-    let n = c.args.level.definitions in
-    λ truth. subst (λ (x : Name). Unfolds (folding_in k) truth c.args.level.room
-    (read (spec_in k) x (map variable_of c.args.others.indices.now) (puts k n c.args.scope.now (tree.terms_of c.args.others.arguments.now))) c.unfold_read.result)
-    c.in_ok-name.ensures.text (c.unfold_read.ensures.term truth)
+    λ truth. subst (λ (x : Name). Unfolds (folding_in c.args.context.now) truth c.args.level.room (read (spec_in c.args.context.now) x (map variable_of c.args.others.indices.now)
+    (puts c.args.context.now c.args.level.definitions c.args.scope.now (tree.terms_of c.args.others.arguments.now))) c.unfold_read.result) c.in_ok-name.ensures.text (c.unfold_read.ensures.term truth)
 
 pub reads::unfold_read-returns-in_default-clause-term : goal.reads::unfold_read-returns-in_default-clause-term
 reads::unfold_read-returns-in_default-clause-term t c =
@@ -361,8 +318,8 @@ pub reads::unfold_read-returns-in_default-first-clause-term : goal.reads::unfold
 reads::unfold_read-returns-in_default-first-clause-term t c =
     λ truth. subst (λ (z : Term). IsUnfolded (folding_in c.args.context.now) truth c.args.level.room z c.nothing.result)
     (sym (read-nothing (spec_in c.args.context.now) (forms_in c.args.context.now c.args.level.definitions) (scope_of (spec_in c.args.context.now) (forms_in c.args.context.now) c.args.scope.now)
-    (string_bytes c.args.array.name.now.text) c.args.array.indices.now c.args.array.arguments.now c.in-Some.index.now c.in-Some.ensures.value c.in_default-first.ensures.value))
-    (c.nothing.ensures (folding_in c.args.context.now) truth)
+    (string_bytes c.args.array.name.now.text) c.args.array.indices.now c.args.array.arguments.now c.in-Some.index.now c.in-Some.ensures.value
+    c.in_default-first.ensures.value)) (c.nothing.ensures (folding_in c.args.context.now) truth)
 
 pub reads::unfold_read-returns-in-Some-written_as-clause-term : goal.reads::unfold_read-returns-in-Some-written_as-clause-term
 reads::unfold_read-returns-in-Some-written_as-clause-term t c =
@@ -407,42 +364,36 @@ choosing-here t c =
 
 pub reads::unfold_choices-returns-in-Some-true-clause-term : goal.reads::unfold_choices-returns-in-Some-true-clause-term
 reads::unfold_choices-returns-in-Some-true-clause-term t c =
-    decided-unfolded
-    (choosing-here t (goal.at.reads::unfold_choices-returns-in-Some-true-clause-term t c).After-truth_value)
+    decided-unfolded (choosing-here t (goal.at.reads::unfold_choices-returns-in-Some-true-clause-term t c).After-truth_value)
     true (ap Some (sym c.in-Some-true.field-0-test) ∙ c.in-Some-true.ensures) c.chosen.ensures (λ t said within. c.in_ok-unfold_element-in-Some-true.ensures.term false)
 
 pub reads::unfold_choices-returns-in-Some-false-clause-term : goal.reads::unfold_choices-returns-in-Some-false-clause-term
 reads::unfold_choices-returns-in-Some-false-clause-term t c =
-    decided-unfolded
-    (choosing-here t (goal.at.reads::unfold_choices-returns-in-Some-false-clause-term t c).After-truth_value)
+    decided-unfolded (choosing-here t (goal.at.reads::unfold_choices-returns-in-Some-false-clause-term t c).After-truth_value)
     false (ap Some (sym c.in-Some-false.field-0-test) ∙ c.in-Some-false.ensures) c.chosen-in-Some-false.ensures
     (λ t said within. c.in_ok-unfold_choices-in-Some-false.ensures.term t false said within)
 
 pub reads::unfold_choices-returns-in_err-unfold_element-in-Some-true-clause-term : goal.reads::unfold_choices-returns-in_err-unfold_element-in-Some-true-clause-term
 reads::unfold_choices-returns-in_err-unfold_element-in-Some-true-clause-term t c =
-    decided-refused
-    (choosing-here t (goal.at.reads::unfold_choices-returns-in_err-unfold_element-in-Some-true-clause-term t c).After-truth_value)
+    decided-refused (choosing-here t (goal.at.reads::unfold_choices-returns-in_err-unfold_element-in-Some-true-clause-term t c).After-truth_value)
     true c.from_residual-in_err-unfold_element-in-Some-true.result c.in_err-unfold_element-in-Some-true.field-0.0 c.from_residual-in_err-unfold_element-in-Some-true.ensures.1
     (λ t truth said within. c.in_err-unfold_element-in-Some-true.ensures.term truth)
 
 pub reads::unfold_choices-returns-in_err-unfold_choices-in-Some-false-clause-term : goal.reads::unfold_choices-returns-in_err-unfold_choices-in-Some-false-clause-term
 reads::unfold_choices-returns-in_err-unfold_choices-in-Some-false-clause-term t c =
-    decided-refused
-    (choosing-here t (goal.at.reads::unfold_choices-returns-in_err-unfold_choices-in-Some-false-clause-term t c).After-truth_value)
+    decided-refused (choosing-here t (goal.at.reads::unfold_choices-returns-in_err-unfold_choices-in-Some-false-clause-term t c).After-truth_value)
     false c.from_residual-in_err-unfold_choices-in-Some-false.result c.in_err-unfold_choices-in-Some-false.field-0.0 c.from_residual-in_err-unfold_choices-in-Some-false.ensures.1
     c.in_err-unfold_choices-in-Some-false.ensures.term
 
 pub reads::unfold_choices-returns-in_err-left-in-None-clause-term : goal.reads::unfold_choices-returns-in_err-left-in-None-clause-term
 reads::unfold_choices-returns-in_err-left-in-None-clause-term t c =
-    first-refused
-    (choosing-here t (goal.at.reads::unfold_choices-returns-in_err-left-in-None-clause-term t c).After-truth_value)
+    first-refused (choosing-here t (goal.at.reads::unfold_choices-returns-in_err-left-in-None-clause-term t c).After-truth_value)
     c.in_ok-room-in-None-2.room c.from_residual-in_err-left-in-None.result c.in_err-left-in-None.field-0.0 (omega (arith, c.in_ok-room-in-None.ensures, c.in_ok-room-in-None-2.ensures))
     c.from_residual-in_err-left-in-None.ensures.1 c.in_err-left-in-None.ensures.term
 
 pub reads::unfold_choices-returns-in_err-right-in-None-clause-term : goal.reads::unfold_choices-returns-in_err-right-in-None-clause-term
 reads::unfold_choices-returns-in_err-right-in-None-clause-term t c =
-    further-refused
-    (choosing-here t (goal.at.reads::unfold_choices-returns-in_err-right-in-None-clause-term t c).After-truth_value)
+    further-refused (choosing-here t (goal.at.reads::unfold_choices-returns-in_err-right-in-None-clause-term t c).After-truth_value)
     c.in_ok-room-in-None-2.room c.from_residual-in_err-right-in-None.result c.in_err-right-in-None.field-0.0 (omega (arith, c.in_ok-room-in-None.ensures, c.in_ok-room-in-None-2.ensures))
     c.from_residual-in_err-right-in-None.ensures.1 c.in_ok-left-in-None.ensures.term c.in_err-right-in-None.ensures.term
 
@@ -452,8 +403,7 @@ reads::unfold_choices-choice-requires t c =
 
 pub reads::unfold_choices-returns-clause-term : goal.reads::unfold_choices-returns-clause-term
 reads::unfold_choices-returns-clause-term t c =
-    further-unfolded
-    (choosing-here t (goal.at.reads::unfold_choices-returns-clause-term t c).After-truth_value)
+    further-unfolded (choosing-here t (goal.at.reads::unfold_choices-returns-clause-term t c).After-truth_value)
     c.in_ok-room-in-None-2.room c.in_ok-name-in-None.name (omega (arith, c.in_ok-room-in-None.ensures, c.in_ok-room-in-None-2.ensures)) c.folding-in-None.ensures c.in_ok-name-in-None.ensures
     c.in_ok-left-in-None.ensures.term c.in_ok-right-in-None.ensures.term c.in_ok-choice-in-None.ensures
 
@@ -507,97 +457,36 @@ unfold::unfold_opened-returns-in_err-right-in-Comparison-clause-faults t c =
 pub unfold::unfold_opened-returns-in_err-operands-in-Chain-clause-faults : goal.unfold::unfold_opened-returns-in_err-operands-in-Chain-clause-faults
 unfold::unfold_opened-returns-in_err-operands-in-Chain-clause-faults t c =
     told c.args.context.now c.from_residual-in_err-operands-in-Chain.result _ c.from_residual-in_err-operands-in-Chain.ensures.1 c.in_err-operands-in-Chain.ensures.faults
-    (same-met c.args.context.now (suc c.args.level.depth) c.args.level.definitions c.args.scope.now
-    (chain-is c.in-Chain.links c.in-Chain.is c.deref-in-Chain.ensures c.deref-in-Chain-2.ensures.value))
+    (same-met c.args.context.now c.args.level c.args.scope.now (chain-is c.in-Chain.links c.in-Chain.is c.deref-in-Chain.ensures c.deref-in-Chain-2.ensures.value))
 
 pub unfold::unfold_opened-returns-in-Application-clause-faults : goal.unfold::unfold_opened-returns-in-Application-clause-faults
 unfold::unfold_opened-returns-in-Application-clause-faults t c =
     λ w h. c.unfold_application.ensures.faults w
-    (same-met c.args.context.now (suc c.args.level.depth) c.args.level.definitions c.args.scope.now
-    (application-is c.in-Application.arguments c.in-Application.is c.deref-in-Application.ensures.value) w h)
+    (same-met c.args.context.now c.args.level c.args.scope.now (application-is c.in-Application.arguments c.in-Application.is c.deref-in-Application.ensures.value) w h)
 
 pub unfold::unfold_opened-returns-in-Arithmetic-clause-faults : goal.unfold::unfold_opened-returns-in-Arithmetic-clause-faults
 unfold::unfold_opened-returns-in-Arithmetic-clause-faults t c =
     λ w h. c.unfold_arithmetic.ensures.faults w
-    (same-met c.args.context.now (suc c.args.level.depth) c.args.level.definitions c.args.scope.now
-    (arithmetic-is c.in-Arithmetic.links c.in-Arithmetic.is c.deref-in-Arithmetic.ensures c.deref-in-Arithmetic-2.ensures.value) w h)
+    (same-met c.args.context.now c.args.level c.args.scope.now (arithmetic-is c.in-Arithmetic.links c.in-Arithmetic.is c.deref-in-Arithmetic.ensures c.deref-in-Arithmetic-2.ensures.value) w h)
 
 pub unfold::unfold_free-returns-in-Definition-clause-faults : goal.unfold::unfold_free-returns-in-Definition-clause-faults
 unfold::unfold_free-returns-in-Definition-clause-faults t c =
-    let k = c.args.context.now in
-    let d = c.in-Definition.definition.now in
-    let is = c.in-Definition.ensures.named in
     λ ρ w h. c.unfold.ensures.faults w (
-      subst (λ (σ : TermScope). IsMetAt k c.args.level.depth c.in-Definition.before σ (placed_term d) w) (standing-none (map variable_of d.parameters.items) [])
-          (definition-met k c.args.level.depth c.args.level.definitions ρ (TermForm.name (named c.args.name.now)) d c.in-Definition.before is.0 is.1 (is.2 ∙ c.as_str.ensures.value) refl w h),
+      bare-definition-met c.args.context.now c.args.level ρ (named c.args.name.now) c.in-Definition.definition c.in-Definition.before c.as_str.ensures.value c.in-Definition.ensures.named w h,
       tt,
     )
 
 pub applications::unfold_application-returns-in-Definition-clause-faults : goal.applications::unfold_application-returns-in-Definition-clause-faults
 applications::unfold_application-returns-in-Definition-clause-faults t c =
-    let k = c.args.context.now in
-    let n = c.args.level.definitions in
-    let l = c.args.level.depth in
-    let σ = scope_said k c.args.scope.now in
-    let given = c.args.arguments.now in
-    let d = c.in-Definition.definition.now in
-    let m = c.in-Definition.before in
-    let is = c.in-Definition.ensures.named in
-    λ w h. c.unfold.ensures.faults w (
-      subst (λ (vs : List declared_variable.Variable). IsMetAt k l m (standing (map variable_of vs) (puts k n c.args.scope.now (tree.terms_of given)) []) (placed_term d) w) (sym c.deref.ensures.value)
-          (definition-met k l n σ (TermForm.application (named c.args.function.now) (argument_forms given)) d m is.0 is.1 (is.2 ∙ c.as_str.ensures.value) refl w h.0),
-      ((l, arguments-met k l n σ w (named c.args.function.now) given h.0), h.1),
-    )
+    λ w h. c.unfold.ensures.faults w
+    (applied-definition-met c.args.context.now c.args.level c.args.scope.now (named c.args.function.now) c.args.arguments.now c.in-Definition.definition c.in-Definition.before c.as_str.ensures.value
+    c.in-Definition.ensures.named c.deref.ensures.value w h)
 
 pub applications::unfold_application-returns-in_ok-name-in-Variable-clause-faults : goal.applications::unfold_application-returns-in_ok-name-in-Variable-clause-faults
 applications::unfold_application-returns-in_ok-name-in-Variable-clause-faults t c =
-    let k = c.args.context.now in
-    let n = c.args.level.definitions in
-    let l = c.args.level.depth in
-    let σ = scope_said k c.args.scope.now in
-    let given = c.args.arguments.now in
-    let x = TermForm.application (named c.args.function.now) (argument_forms given) in
-    let y = c.in-Variable.variable.now in
-    let is = c.in-Variable.ensures.named in
-    let name : string_bytes y.name.now.text ≡ (named c.args.function.now).text = is.1 ∙ c.as_str.ensures.value in
-    let there = mapped-in state_variable_of k.variables.items y is.0 in
-    let at-name = c.in_ok-name-in-Variable.ensures.place in
-    let is-those = c.deref-in-Variable.ensures.value in
-    λ w h. c.unfold_read.ensures.faults w (record {
-      read = record {
-        scope_met = h.1;
-        outside = λ p o. (
-          at (suc l) n σ x,
-          h.0,
-          (
-            state_variable_of y,
-            there,
-            name,
-            subst (λ (vs : List declared_variable.Variable). HaveOutside (surroundings_in k) n σ (argument_forms given) (map variable_of vs) p) is-those o,
-          ),
-        );
-        token = (at (suc l) n σ x, h.0, inl at-name);
-        values = λ many. (
-          at (suc l) n σ x,
-          h.0,
-          (at-name, state_variable_of y, there, name, subst (λ (vs : List declared_variable.Variable). HasManyValues (spec_in k) (map variable_of vs)) is-those many),
-        );
-      };
-      index = λ j d z same o. Index j d n σ (named c.args.function.now) (argument_forms given) (state_variable_of y) z
-          (subst (λ (i : ℕ). IsMetAt k (suc i) n σ x w) same h.0) there name
-          (subst (λ (vs : List declared_variable.Variable). IsIndex (surroundings_in k) n σ (argument_forms given) (map variable_of vs) d z) is-those o);
-      deep = λ less. inl (
-        at (suc l) n σ x,
-        h.0,
-        inr (
-          state_variable_of y,
-          there,
-          name,
-          subst (λ (vs : List declared_variable.Variable). l < all_index_levels (surroundings_in k) n σ (argument_forms given) (map variable_of vs)) is-those less,
-        ),
-        at-name,
-      );
-    })
+    λ w h. c.unfold_read.ensures.faults w
+    (applied-variable-met c.args.context.now c.args.level c.args.scope.now (named c.args.function.now) c.args.arguments.now c.in-Variable.variable c.as_str.ensures.value c.in-Variable.ensures.named
+    c.in_ok-name-in-Variable.ensures.place c.deref-in-Variable.ensures.value w h)
 
 pub applications::unfold_application-returns-in-Neither-clause-faults : goal.applications::unfold_application-returns-in-Neither-clause-faults
 applications::unfold_application-returns-in-Neither-clause-faults t c =
@@ -619,10 +508,17 @@ connectives::unfold_copies-returns-in_err-unfolded-clause-faults t c =
     (copy-met c.args.context.now c.args.level c.args.scope.now c.args.quantified.place c.args.copies (term_form c.args.quantified.body.now) c.loop-values.values-index c.values-item.result
     c.loop-values-test.true c.values-item.is c.deref.ensures.value)
 
+-- the operand that comes next is met
+operand-met : (t : ℕ) (c : connectives::unfold_operands-After-behind_one t) → (whole : Occurrence)
+    → IsTermMet c.args.context.now (suc c.args.level.depth) c.args.level.definitions c.args.scope.now
+    (chained (TermForm.connected c.args.chain.connective) (term_form c.args.chain.first.now) (term_links c.args.chain.links.now)) whole
+    → IsTermMet c.args.context.now c.args.level.depth c.args.level.definitions c.args.scope.now (term_form c.loop-link.term.now) whole
+operand-met t c = chain-part-met c.args.context.now c.args.level c.args.scope.now c.args.chain (term_form c.loop-link.term.now) c.requires c.loop-link.invariant.1
+
 pub connectives::unfold_operands-returns-in_err-unfolded-clause-faults : goal.connectives::unfold_operands-returns-in_err-unfolded-clause-faults
-connectives::unfold_operands-returns-in_err-unfolded-clause-faults t c =
-    told c.args.context.now c.from_residual-in_err-unfolded.result _ c.from_residual-in_err-unfolded.ensures.1 c.in_err-unfolded.ensures.faults
-    (chain-part-met c.args.context.now c.args.level c.args.scope.now c.args.chain (term_form c.loop-link.term.now) c.requires c.loop-link.invariant.1)
+connectives::unfold_operands-returns-in_err-unfolded-clause-faults t c = λ w h.
+    err-told c.from_residual-in_err-unfolded.result _ _ c.from_residual-in_err-unfolded.ensures.1
+    (c.in_err-unfolded.ensures.faults w (operand-met t (goal.at.connectives::unfold_operands-returns-in_err-unfolded-clause-faults t c).After-behind_one w h))
 
 pub connectives::unfold_operands-returns-in_err-unfolded-2-clause-faults : goal.connectives::unfold_operands-returns-in_err-unfolded-2-clause-faults
 connectives::unfold_operands-returns-in_err-unfolded-2-clause-faults t c =
@@ -636,18 +532,9 @@ connectives::unfold_quantified-returns-in_err-operands-clause-faults t c =
 
 pub reads::unfold_read-returns-then-not-is_within-clause-faults : goal.reads::unfold_read-returns-then-not-is_within-clause-faults
 reads::unfold_read-returns-then-not-is_within-clause-faults t c =
-    let k = c.args.context.now in
-    let n = c.args.level.definitions in
-    let l = c.args.level.depth in
-    let σ = scope_said k c.args.scope.now in
-    let i = c.in-Some.index.now in
-    let a = c.in-Some-first.argument.now in
-    let x = put k n c.args.scope.now (tree.term_of a.term) in
-    let folded-by : tree.term_of c.in-Ok.unfolded.term ≡ folded (spec_in k) false x = c.in-Ok.ensures.term.term ∙ same-folded (folding_in k) (spec_in k) refl false x in
-    let outside : IsOutside (surroundings_in k) n σ (term_form a.term) i.sort.now =
-    λ seen. false≢true (c.if-not-is_within.ensures.1 (subst (λ (t : Term). IsSeenWithin (interval_in k t) (sort_interval (spec_in k) i.sort.now)) (sym folded-by) seen)) in
-    λ w h. subst (IsFaultOf (surroundings_in k) w) (sym c.refused-then-not-is_within.ensures)
-    (h.read.outside a.place (first-outside k n σ w c.args.array.indices.now c.args.array.arguments.now i a c.in-Some.ensures.value c.in-Some-first.ensures.value outside))
+    λ w h. subst (IsFaultOf (surroundings_in c.args.context.now) w) (sym c.refused-then-not-is_within.ensures)
+    (index-outside c.args.context.now c.args.level.definitions c.args.scope.now w c.args.array.indices.now c.args.array.arguments.now c.in-Some.index.now c.in-Some-first.argument.now
+    c.in-Some.ensures.value c.in-Some-first.ensures.value c.in-Ok.ensures.term.term (λ seen. false≢true (c.if-not-is_within.ensures.1 seen)) h.read)
 
 -- ---- what is too large
 
@@ -674,8 +561,8 @@ applications::unfold_arithmetic-returns-in_err-room-clause-faults t c =
 
 pub applications::unfold_function-returns-in_err-room-clause-faults : goal.applications::unfold_function-returns-in_err-room-clause-faults
 applications::unfold_function-returns-in_err-room-clause-faults t c =
-    room-told c.args.context.now c.from_residual.result _ c.from_residual.ensures.1 c.in_err-room.ensures.0
-    (name-met c.args.context.now c.args.level c.args.scope.now (named c.args.function.now) c.args.arguments.now)
+    room-told c.args.context.now c.from_residual.result _ c.from_residual.ensures.1 c.in_err-room.ensures.0 (λ w h.
+    name-met c.args.context.now c.args.level c.args.scope.now (named c.args.function.now) c.args.arguments.now w h)
 
 pub applications::unfold_function-returns-in_err-unfolded-clause-faults : goal.applications::unfold_function-returns-in_err-unfolded-clause-faults
 applications::unfold_function-returns-in_err-unfolded-clause-faults t c =
@@ -689,13 +576,12 @@ applications::unfold_choice-returns-in_err-room-clause-faults t c =
 
 pub connectives::unfold_copies-returns-in_err-behind_one-clause-faults : goal.connectives::unfold_copies-returns-in_err-behind_one-clause-faults
 connectives::unfold_copies-returns-in_err-behind_one-clause-faults t c =
-    room-told c.args.context.now c.from_residual.result _ c.from_residual.ensures.1 c.in_err-behind_one.ensures.0
-    (λ w h. h.2)
+    room-told c.args.context.now c.from_residual.result _ c.from_residual.ensures.1 c.in_err-behind_one.ensures.0 (λ w h. h.2)
 
 pub connectives::unfold_operands-returns-in_err-behind_one-clause-faults : goal.connectives::unfold_operands-returns-in_err-behind_one-clause-faults
 connectives::unfold_operands-returns-in_err-behind_one-clause-faults t c =
-    room-told c.args.context.now c.from_residual.result _ c.from_residual.ensures.1 c.in_err-behind_one.ensures.0
-    (λ w h. chain-token c.args.context.now (suc c.args.level.depth) c.args.level.definitions (scope_said c.args.context.now c.args.scope.now) w c.args.chain.connective
+    room-told c.args.context.now c.from_residual.result _ c.from_residual.ensures.1 c.in_err-behind_one.ensures.0 (λ w h.
+    chain-token c.args.context.now (suc c.args.level.depth) c.args.level.definitions (scope_said c.args.context.now c.args.scope.now) w c.args.chain.connective
     (term_form c.args.chain.first.now) c.args.chain.links.now c.loop-link.link-index c.link-item.result c.loop-link-test.true c.link-item.is h.0)
 
 pub connectives::unfold_quantified-returns-in_err-tuples-clause-faults : goal.connectives::unfold_quantified-returns-in_err-tuples-clause-faults
@@ -713,10 +599,10 @@ connectives::unfold_quantified-returns-in_err-tuples-clause-faults t c =
 
 pub reads::unfold_read-returns-in_err-values-clause-faults : goal.reads::unfold_read-returns-in_err-values-clause-faults
 reads::unfold_read-returns-in_err-values-clause-faults t c =
-    let i = c.in-Some.index.now in
-    values-told c.args.context.now (written_values (spec_of c.sorts.result) i.sort.now) c.from_residual-in_err-values.result _ c.from_residual-in_err-values.ensures.1 c.in_err-values.ensures
-    (λ w h many. h.read.values (first-many (spec_in c.args.context.now) c.args.array.indices.now i c.in-Some.ensures.value
-    (subst (λ S. 8192 < length (written_values S i.sort.now)) c.sorts.ensures many)))
+    values-told c.args.context.now (written_values (spec_of c.sorts.result) c.in-Some.index.now.sort.now) c.from_residual-in_err-values.result _ c.from_residual-in_err-values.ensures.1
+    c.in_err-values.ensures
+    (λ w h many. h.read.values (first-many (spec_in c.args.context.now) c.args.array.indices.now c.in-Some.index.now c.in-Some.ensures.value
+    (subst (λ S. 8192 < length (written_values S c.in-Some.index.now.sort.now)) c.sorts.ensures many)))
 
 pub applications::unfold_choice-returns-in_err-condition-clause-faults : goal.applications::unfold_choice-returns-in_err-condition-clause-faults
 applications::unfold_choice-returns-in_err-condition-clause-faults t c =
@@ -750,13 +636,11 @@ applications::unfold_choice-returns-in_err-right-in-None-clause-faults t c =
 
 pub reads::unfold_choices-returns-in_err-room-in-None-clause-faults : goal.reads::unfold_choices-returns-in_err-room-in-None-clause-faults
 reads::unfold_choices-returns-in_err-room-in-None-clause-faults t c =
-    room-told c.args.context.now c.from_residual-in_err-room-in-None.result _ c.from_residual-in_err-room-in-None.ensures.1 c.in_err-room-in-None.ensures.0
-    (λ w h. h.token)
+    room-told c.args.context.now c.from_residual-in_err-room-in-None.result _ c.from_residual-in_err-room-in-None.ensures.1 c.in_err-room-in-None.ensures.0 (λ w h. h.token)
 
 pub reads::unfold_choices-returns-in_err-room-in-None-2-clause-faults : goal.reads::unfold_choices-returns-in_err-room-in-None-2-clause-faults
 reads::unfold_choices-returns-in_err-room-in-None-2-clause-faults t c =
-    room-told c.args.context.now c.from_residual-in_err-room-in-None-2.result _ c.from_residual-in_err-room-in-None-2.ensures.1 c.in_err-room-in-None-2.ensures.0
-    (λ w h. h.token)
+    room-told c.args.context.now c.from_residual-in_err-room-in-None-2.result _ c.from_residual-in_err-room-in-None-2.ensures.1 c.in_err-room-in-None-2.ensures.0 (λ w h. h.token)
 
 -- ---- arguments one after another
 
@@ -773,10 +657,9 @@ applications::unfold_arguments-returns-in_err-next-clause-faults t c =
 
 pub reads::unfold_element-returns-clause-faults : goal.reads::unfold_element-returns-clause-faults
 reads::unfold_element-returns-clause-faults t c =
-    let k = c.args.context.now in
-    let n = c.args.level.definitions in
-    let others = c.args.others in
-    λ w h. c.unfold_read.ensures.faults w (subst (λ (p : Place). IsArrayMet k c.args.level.depth n c.args.scope.now p others.arguments.now others.indices.now w) (sym c.in_ok-name.ensures.place) h)
+    λ w h. c.unfold_read.ensures.faults w
+    (subst (λ (p : Place). IsArrayMet c.args.context.now c.args.level.depth c.args.level.definitions c.args.scope.now p c.args.others.arguments.now c.args.others.indices.now w)
+    (sym c.in_ok-name.ensures.place) h)
 
 -- ---- what nests too deep
 
@@ -822,17 +705,8 @@ unfold::unfold-returns-in_default-clause-faults t c =
 
 pub unfold::unfold_name-returns-in-Argument-clause-faults : goal.unfold::unfold_name-returns-in-Argument-clause-faults
 unfold::unfold_name-returns-in-Argument-clause-faults t c =
-    let k = c.args.context.now in
-    let n = c.args.level.definitions in
-    let l = c.args.level.depth in
-    let σ = scope_said k c.args.scope.now in
-    let f = c.in-Argument in
-    λ w h. let met = f.ensures.met k w h.1 in
-    c.unfold.ensures.faults w (
-      Given l n σ (named c.args.name.now) met.0.0 f.definitions (scope_said k f.user.now) (term_form f.term.now) h.0 met.0.1
-          (sym (f.ensures.term (spec_in k) (forms_in k) ∙ ap (λ (y : Name). term_of σ y) c.as_str.ensures.value)),
-      met.1,
-    )
+    λ w h. c.unfold.ensures.faults w (argument-term-met c.args.context.now c.args.level c.args.scope.now (named c.args.name.now) c.in-Argument.term.now c.in-Argument.definitions c.in-Argument.user.now
+    c.as_str.ensures.value (c.in-Argument.ensures.term (spec_in c.args.context.now) (forms_in c.args.context.now)) w h (c.in-Argument.ensures.met c.args.context.now w h.1))
 
 pub reads::unfold_read-returns-in_default-checked_sub-clause-faults : goal.reads::unfold_read-returns-in_default-checked_sub-clause-faults
 reads::unfold_read-returns-in_default-checked_sub-clause-faults t c =
@@ -842,11 +716,12 @@ reads::unfold_read-returns-in_default-checked_sub-clause-faults t c =
 
 pub reads::unfold_read-returns-in-Err-clause-faults : goal.reads::unfold_read-returns-in-Err-clause-faults
 reads::unfold_read-returns-in-Err-clause-faults t c =
-    let a = c.in-Some-first.argument.now in
     λ w h. let met = array-first c.args.context.now c.args.level.definitions c.args.scope.now w c.args.array.name.now.place c.args.array.indices.now c.args.array.arguments.now c.args.level.depth
-    c.in-Some.index.now a c.in-Some.ensures.value c.in-Some-first.ensures.value h in
-    c.of_index.ensures.faults (surroundings_in c.args.context.now) w 8192 (put c.args.context.now c.args.level.definitions c.args.scope.now (tree.term_of a.term)) c.in-Err.ensures.term
-    (λ many. (at c.args.level.depth c.args.level.definitions (scope_said c.args.context.now c.args.scope.now) (term_form a.term), met, many)) (c.in-Err.ensures.faults w (met, h.read.scope_met))
+    c.in-Some.index.now c.in-Some-first.argument.now c.in-Some.ensures.value c.in-Some-first.ensures.value h in
+    c.of_index.ensures.faults (surroundings_in c.args.context.now) w 8192 (put c.args.context.now c.args.level.definitions c.args.scope.now (tree.term_of c.in-Some-first.argument.now.term))
+    c.in-Err.ensures.term
+    (λ many. (at c.args.level.depth c.args.level.definitions (scope_said c.args.context.now c.args.scope.now) (term_form c.in-Some-first.argument.now.term), met, many))
+    (c.in-Err.ensures.faults w (met, h.read.scope_met))
 
 pub reads::unfold_read-returns-in-Some-written_as-clause-faults : goal.reads::unfold_read-returns-in-Some-written_as-clause-faults
 reads::unfold_read-returns-in-Some-written_as-clause-faults t c =
@@ -878,27 +753,40 @@ pub reads::unfold_choices-returns-then-is_empty-clause-faults : goal.reads::unfo
 reads::unfold_choices-returns-then-is_empty-clause-faults t c =
     λ w h. c.unfold_element.ensures.faults w (choice-first c.in-Some.ensures.value h (omega (arith, c.in-Some-checked_sub.ensures.0, c.in-Some-checked_sub.ensures.1)))
 
+-- the first choice and the further ones are met
+first-choice : (t : ℕ) (c : reads::unfold_choices-After-truth_value t) → (whole : Occurrence)
+    → AreChoicesMet c.args.context.now c.args.level.depth c.args.level.definitions c.args.scope.now c.args.choices whole
+    → IsArrayMet c.args.context.now c.in-Some-checked_sub.depth c.args.level.definitions c.args.scope.now c.args.choices.others.name.now.place c.args.choices.others.arguments.now
+    c.args.choices.others.indices.now whole
+first-choice t c whole h = choice-first c.in-Some.ensures.value h (omega (arith, c.in-Some-checked_sub.ensures.0, c.in-Some-checked_sub.ensures.1))
+
+further-choices : (t : ℕ) (c : reads::unfold_choices-After-truth_value t) {further : Choices} → further.others ≡ c.args.choices.others → further.values.now ≡ further_values c.args.choices
+    → (whole : Occurrence) → AreChoicesMet c.args.context.now c.args.level.depth c.args.level.definitions c.args.scope.now c.args.choices whole
+    → AreChoicesMet c.args.context.now c.in-Some-checked_sub.depth c.args.level.definitions c.args.scope.now further whole
+further-choices t c others values whole h =
+    choices-further c.in-Some.ensures.value h _ others values (omega (arith, c.in-Some-checked_sub.ensures.0, c.in-Some-checked_sub.ensures.1))
+
 pub reads::unfold_choices-returns-in_err-unfold_element-in-Some-true-clause-faults : goal.reads::unfold_choices-returns-in_err-unfold_element-in-Some-true-clause-faults
 reads::unfold_choices-returns-in_err-unfold_element-in-Some-true-clause-faults t c =
     told c.args.context.now c.from_residual-in_err-unfold_element-in-Some-true.result _ c.from_residual-in_err-unfold_element-in-Some-true.ensures.1
     c.in_err-unfold_element-in-Some-true.ensures.faults
-    (λ w h. choice-first c.in-Some.ensures.value h (omega (arith, c.in-Some-checked_sub.ensures.0, c.in-Some-checked_sub.ensures.1)))
+    (first-choice t (goal.at.reads::unfold_choices-returns-in_err-unfold_element-in-Some-true-clause-faults t c).After-truth_value)
 
 pub reads::unfold_choices-returns-in_err-left-in-None-clause-faults : goal.reads::unfold_choices-returns-in_err-left-in-None-clause-faults
 reads::unfold_choices-returns-in_err-left-in-None-clause-faults t c =
     told c.args.context.now c.from_residual-in_err-left-in-None.result _ c.from_residual-in_err-left-in-None.ensures.1 c.in_err-left-in-None.ensures.faults
-    (λ w h. choice-first c.in-Some.ensures.value h (omega (arith, c.in-Some-checked_sub.ensures.0, c.in-Some-checked_sub.ensures.1)))
+    (first-choice t (goal.at.reads::unfold_choices-returns-in_err-left-in-None-clause-faults t c).After-truth_value)
 
 pub reads::unfold_choices-returns-in_err-unfold_choices-in-Some-false-clause-faults : goal.reads::unfold_choices-returns-in_err-unfold_choices-in-Some-false-clause-faults
 reads::unfold_choices-returns-in_err-unfold_choices-in-Some-false-clause-faults t c =
     told c.args.context.now c.from_residual-in_err-unfold_choices-in-Some-false.result _ c.from_residual-in_err-unfold_choices-in-Some-false.ensures.1
     c.in_err-unfold_choices-in-Some-false.ensures.faults
-    (λ w h. choices-further c.in-Some.ensures.value h _ refl refl (omega (arith, c.in-Some-checked_sub.ensures.0, c.in-Some-checked_sub.ensures.1)))
+    (further-choices t (goal.at.reads::unfold_choices-returns-in_err-unfold_choices-in-Some-false-clause-faults t c).After-truth_value refl refl)
 
 pub reads::unfold_choices-returns-in_err-right-in-None-clause-faults : goal.reads::unfold_choices-returns-in_err-right-in-None-clause-faults
 reads::unfold_choices-returns-in_err-right-in-None-clause-faults t c =
     told c.args.context.now c.from_residual-in_err-right-in-None.result _ c.from_residual-in_err-right-in-None.ensures.1 c.in_err-right-in-None.ensures.faults
-    (λ w h. choices-further c.in-Some.ensures.value h _ refl refl (omega (arith, c.in-Some-checked_sub.ensures.0, c.in-Some-checked_sub.ensures.1)))
+    (further-choices t (goal.at.reads::unfold_choices-returns-in_err-right-in-None-clause-faults t c).After-truth_value refl refl)
 
 pub applications::unfold_arguments-loop-argument-init : goal.applications::unfold_arguments-loop-argument-init
 applications::unfold_arguments-loop-argument-init t c =

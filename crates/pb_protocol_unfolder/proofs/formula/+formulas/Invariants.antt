@@ -17,8 +17,8 @@ invariant-unfold_copies-loop-values l = record {
 
 abbrev pub invariant-unfold_links-loop-link : goal.invariant-unfold_links-loop-link
 invariant-unfold_links-loop-link l = record {
-  formulas : map linked_formula l.flat_links.items ≡ map (left_operand l.formulas.unfolder.now l.scope) (take l.link-index l.links);
+  formulas : map linked_formula l.flat_links.items ≡ map (left_operand l.formulas.unfolder.now l.scope.names) (take l.link-index l.links);
   places : AreAmong (flat_map flat_link_places l.flat_links.items) (flat_map link_places (take l.link-index l.links));
-  room : l.initial.room.operators + sum_by (link_operators l.formulas.unfolder.now l.scope) (drop l.link-index l.links)
-      ≡ l.room.operators + sum_by (link_operators l.formulas.unfolder.now l.scope) l.links;
+  room : l.initial.room.operators + sum_by (link_operators l.formulas.unfolder.now l.scope.names) (drop l.link-index l.links)
+      ≡ l.room.operators + sum_by (link_operators l.formulas.unfolder.now l.scope.names) l.links;
 }

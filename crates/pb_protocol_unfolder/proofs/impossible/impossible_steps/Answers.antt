@@ -12,26 +12,26 @@ use Rattle.pb_protocol_unfolder.proofs.impossible.impossible_steps.Goals as goal
 
 pub loop-step-preserved : goal.loop-step-preserved
 loop-step-preserved c =
-    let m = protocol_in c.args.unfolder.now in
     let steps = c.deref-step-items.result.now in
     let k = c.loop-step.step-index in
-    let a = c.step-item.result in
     let rest = c.loop-step.rest.now in
     let count = c.in_ok-count.count in
     record {
-      kept = rest-behind m steps k a rest c.split_at.result.1.now count c.loop-step-test.true c.step-item.is c.loop-step.invariant.kept c.in_ok-count.ensures.count c.split_at.ensures.back;
-      names = named-so-far m steps k a rest c.split_at.result.0.now count (map string_bytes c.loop-step.names.items) (map string_bytes c.push_unless_kept.new.names.items) (names_of m steps)
+      kept = rest-behind (protocol_in c.args.unfolder.now) steps k c.step-item.result rest c.split_at.result.1.now count c.loop-step-test.true c.step-item.is c.loop-step.invariant.kept
+          c.in_ok-count.ensures.count
+          c.split_at.ensures.back;
+      names = named-so-far (protocol_in c.args.unfolder.now) steps k c.step-item.result rest c.split_at.result.0.now count (map string_bytes c.loop-step.names.items)
+          (map string_bytes c.push_unless_kept.new.names.items) (names_of (protocol_in c.args.unfolder.now) steps)
           c.loop-step-test.true c.step-item.is c.loop-step.invariant.kept c.in_ok-count.ensures.count c.split_at.ensures.front c.in_ok-push_unless_kept.ensures c.loop-step.invariant.names;
     }
 
 pub returns-in_err-count-clause-refused : goal.returns-in_err-count-clause-refused
 returns-in_err-count-clause-refused c =
     let m = protocol_in c.args.unfolder.now in
-    let steps = c.deref-step-items.result.now in
     let a = c.step-item.result in
     let own = own_instances m a in
     let few : length own ≤ length (flat_map (instances_of (data_of m)) m.steps) =
     subst (λ (ss : List Step). length own ≤ length (flat_map (instances_of (data_of m)) (map erased_step (map step_form ss)))) c.deref-step-items.ensures.value
-    (no-more-than-all m steps c.loop-step.step-index a c.loop-step-test.true c.step-item.is) in
+    (no-more-than-all m c.deref-step-items.result.now c.loop-step.step-index a c.loop-step-test.true c.step-item.is) in
     refused c.from_residual.result c.in_err-count.field-0.0 (OfManyTuples a.name.place own) (λ f. ⊥)
     c.from_residual.ensures.1 (λ f o. omega (arith, o.1, few, c.requires.few)) c.in_err-count.ensures.refused

@@ -23,8 +23,8 @@ repeats c = subst (λ (v : List declared_name.Name). RepeatsAt (map name_bytes v
 
 taken : (c : In-Some-first_taken) → IsTakenAt (enumerators_in (declarations_said c.args.declarations.now)) (map name_bytes c.in_ok-names.names.items) c.in-Some-first_taken.index
 taken c =
-    let others = enumerators_in (declarations_said c.args.declarations.now) in
-    subst (λ (v : List declared_name.Name). IsTakenAt others (map name_bytes v) c.in-Some-first_taken.index) c.deref-2.ensures.value c.in-Some-first_taken.ensures
+    subst (λ (v : List declared_name.Name). IsTakenAt (enumerators_in (declarations_said c.args.declarations.now)) (map name_bytes v) c.in-Some-first_taken.index) c.deref-2.ensures.value
+    c.in-Some-first_taken.ensures
 
 pub bounds-elements-index : goal.bounds-elements-index
 bounds-elements-index c =
@@ -32,16 +32,15 @@ bounds-elements-index c =
 
 pub returns-in-Some-clause-refused : goal.returns-in-Some-clause-refused
 returns-in-Some-clause-refused c =
-    let es = c.args.elements.now in
-    let names = map name_of (map flat_element es) in
-    let others = enumerators_in (declarations_said c.args.declarations.now) in
+    let names = map name_of (map flat_element c.args.elements.now) in
     let again = repeats (goal.at.returns-in-Some-clause-refused c).In-Some in
-    let low = within name_of flat_element es _ c.in-Some.index c.in_ok-names.ensures again.0 in
-    subst (λ (e : OrMemory UnfoldingFault). IfFault e (IsFaultOfElements others names (map element_place es))) (sym c.refused.ensures) (
+    let low = within name_of flat_element c.args.elements.now _ c.in-Some.index c.in_ok-names.ensures again.0 in
+    subst (λ (e : OrMemory UnfoldingFault). IfFault e (IsFaultOfElements (enumerators_in (declarations_said c.args.declarations.now)) names (map element_place c.args.elements.now)))
+    (sym c.refused.ensures) (
       refl,
-      subst (λ (y : Element). IsElementClash others names (map element_place es) (element_place y))
+      subst (λ (y : Element). IsElementClash (enumerators_in (declarations_said c.args.declarations.now)) names (map element_place c.args.elements.now) (element_place y))
           c.index-elements-index.is
-          (inl (repeated-at element_place es c.in-Some.index c.index-elements-index.result _ names low c.index-elements-index.is c.in_ok-names.ensures again)),
+          (inl (repeated-at element_place c.args.elements.now c.in-Some.index c.index-elements-index.result _ names low c.index-elements-index.is c.in_ok-names.ensures again)),
     )
 
 pub bounds-elements-index-in-Some-first_taken : goal.bounds-elements-index-in-Some-first_taken

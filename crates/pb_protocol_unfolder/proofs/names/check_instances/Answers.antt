@@ -17,9 +17,8 @@ use Rattle.pb_protocol_unfolder.proofs.names.check_instances.Goals as goal
 
 pub bounds-instances-index : goal.bounds-instances-index
 bounds-instances-index c =
-    let ns = map name_bytes c.in_ok-names.names.items in
     let repeats = subst (λ (v : List declared_name.Name). RepeatsAt (map name_bytes v) c.in-Some.index) c.deref.ensures.value c.in-Some.ensures in
-    within instance_name instance_said c.args.instances.now ns c.in-Some.index c.in_ok-names.ensures repeats.0
+    within instance_name instance_said c.args.instances.now (map name_bytes c.in_ok-names.names.items) c.in-Some.index c.in_ok-names.ensures repeats.0
 
 pub returns-in-Some-clause-refused : goal.returns-in-Some-clause-refused
 returns-in-Some-clause-refused c =

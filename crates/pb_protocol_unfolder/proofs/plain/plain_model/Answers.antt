@@ -18,6 +18,5 @@ returns-clause-words c =
 
 pub returns-clause-meaning : goal.returns-clause-meaning
 returns-clause-meaning c =
-    let p = protocol_form c.args.protocol in
-    IfOk-weaker c.flat_model.result (λ m. flat.model_form m ≡ flat_form p) (λ m. protocol_of c.args.protocol ≡ plain (model_of m))
-    (λ m h. ap erase (sym (ap plain_form h ∙ protocol-same p c.requires)) ∙ plain-says (flat.model_form m)) c.flat_model.ensures
+    IfOk-weaker c.flat_model.result (λ m. flat.model_form m ≡ flat_form (protocol_form c.args.protocol)) (λ m. protocol_of c.args.protocol ≡ plain (model_of m))
+    (λ m h. ap erase (sym (ap plain_form h ∙ protocol-same (protocol_form c.args.protocol) c.requires)) ∙ plain-says (flat.model_form m)) c.flat_model.ensures

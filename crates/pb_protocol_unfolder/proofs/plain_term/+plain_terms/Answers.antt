@@ -8,9 +8,8 @@ use Rattle.pb_protocol_unfolder.proofs.plain_term.+plain_terms.Goals as goal
 
 pub is_plain_term-returns-then-not-is_plain_term : goal.is_plain_term-returns-then-not-is_plain_term
 is_plain_term-returns-then-not-is_plain_term t c =
-    let x = c.deref-in-Chain.result.now in
-    let whole = term-chained c.in-Chain.connective x c.in-Chain.first c.in-Chain.links c.in-Chain.links.items c.args.term.now c.in-Chain.is c.deref-in-Chain.ensures refl in
-    at-false (is_plain_term (term_form x)) (list_all is_plain_term (map operand_form c.in-Chain.links.items)) (is_plain_term (term_form c.args.term.now)) whole
+    let whole = term-chained c.in-Chain.connective c.deref-in-Chain.result.now c.in-Chain.first c.in-Chain.links c.in-Chain.links.items c.args.term.now c.in-Chain.is c.deref-in-Chain.ensures refl in
+    at-false (is_plain_term (term_form c.deref-in-Chain.result.now)) (list_all is_plain_term (map operand_form c.in-Chain.links.items)) (is_plain_term (term_form c.args.term.now)) whole
     (sym c.is_plain_term-in-Chain.ensures ∙ c.if-not-is_plain_term.true)
 
 pub is_plain_term-returns-else-not-is_plain_term : goal.is_plain_term-returns-else-not-is_plain_term
@@ -23,9 +22,9 @@ is_plain_term-returns-else-not-is_plain_term t c =
 
 pub is_plain_term-returns-then-not-is_plain_term-3 : goal.is_plain_term-returns-then-not-is_plain_term-3
 is_plain_term-returns-then-not-is_plain_term-3 t c =
-    let x = c.deref-in-Arithmetic.result.now in
-    let whole = term-calculated x c.in-Arithmetic.first c.in-Arithmetic.links c.in-Arithmetic.links.items c.args.term.now c.in-Arithmetic.is c.deref-in-Arithmetic.ensures refl in
-    at-false (is_plain_term (term_form x)) (list_all is_plain_term (map operation_form c.in-Arithmetic.links.items)) (is_plain_term (term_form c.args.term.now)) whole
+    let whole = term-calculated c.deref-in-Arithmetic.result.now c.in-Arithmetic.first c.in-Arithmetic.links c.in-Arithmetic.links.items c.args.term.now c.in-Arithmetic.is
+    c.deref-in-Arithmetic.ensures refl in
+    at-false (is_plain_term (term_form c.deref-in-Arithmetic.result.now)) (list_all is_plain_term (map operation_form c.in-Arithmetic.links.items)) (is_plain_term (term_form c.args.term.now)) whole
     (sym c.is_plain_term-in-Arithmetic.ensures ∙ c.if-not-is_plain_term-3.true)
 
 pub is_plain_term-returns-else-not-is_plain_term-3 : goal.is_plain_term-returns-else-not-is_plain_term-3

@@ -8,9 +8,10 @@ use Rattle.pb_protocol_unfolder.proofs.plain_test.+plain_formulas.Goals as goal
 
 pub is_plain_formula-returns-then-not-is_plain_formula : goal.is_plain_formula-returns-then-not-is_plain_formula
 is_plain_formula-returns-then-not-is_plain_formula t c =
-    let x = c.deref-in-Chain.result.now in
-    let whole = formula-chained c.in-Chain.connective x c.in-Chain.first c.in-Chain.links c.in-Chain.links.items c.args.formula.now c.in-Chain.is c.deref-in-Chain.ensures refl in
-    at-false (is_plain_formula (formula_form x)) (list_all is_plain_formula (map formula_operand c.in-Chain.links.items)) (is_plain_formula (formula_form c.args.formula.now)) whole
+    let whole = formula-chained c.in-Chain.connective c.deref-in-Chain.result.now c.in-Chain.first c.in-Chain.links c.in-Chain.links.items c.args.formula.now c.in-Chain.is c.deref-in-Chain.ensures
+    refl in
+    at-false (is_plain_formula (formula_form c.deref-in-Chain.result.now)) (list_all is_plain_formula (map formula_operand c.in-Chain.links.items))
+    (is_plain_formula (formula_form c.args.formula.now)) whole
     (sym c.is_plain_formula-in-Chain.ensures ∙ c.if-not-is_plain_formula.true)
 
 pub is_plain_formula-returns-else-not-is_plain_formula : goal.is_plain_formula-returns-else-not-is_plain_formula

@@ -53,8 +53,7 @@ returns-in_err-values-clause-refused c =
 pub returns-in_err-properties-clause-refused : goal.returns-in_err-properties-clause-refused
 returns-in_err-properties-clause-refused c =
     let m = form_in c.args.unfolder.now in
-    let p = c.args.protocol.now in
     part-by c.from_residual-in_err-properties.result c.in_err-properties.field-0.0
     (IsFaultOfProperties m (map property_form c.deref-3.result.now))
-    (IsFaultOfModel (protocol_form p) m (map property_form p.properties.items)) c.from_residual-in_err-properties.ensures.1
+    (IsFaultOfModel (protocol_form c.args.protocol.now) m (map property_form c.args.protocol.now.properties.items)) c.from_residual-in_err-properties.ensures.1
     (λ f is. inr (subst (λ (ps : List Property). IsFaultOfProperties m (map property_form ps) f) c.deref-3.ensures.value is)) c.in_err-properties.ensures.refused

@@ -1,4 +1,4 @@
-use Rattle.std.proofs.Common.{◌≡◌, ◌∙◌, inl, ap, arith, length, subst, sym, List, map}
+use Rattle.std.proofs.Common.{◌≡◌, ◌∙◌, inl, ap, arith, length, subst, sym, List, map, rules}
 use Rattle.std.specs.Prelude.{filter}
 use Rattle.std.proofs.lemmas.List.{length-map}
 use Rattle.pb_text_tree.specs.declared.sort.SortDeclaration.{SortDeclaration}
@@ -32,6 +32,9 @@ left c =
     c.deref-6.result.now c.deref-7.result.now c.deref-5.result.now c.in_ok-unfolder.ensures.protocol c.deref-6.ensures.value c.deref-7.ensures.value c.deref-5.ensures.value
     c.in_ok-instances.ensures.instances c.in_ok-steps.ensures.kept c.in_ok-left.ensures
 
+pub steps_of-requires-clause-elements : goal.steps_of-requires-clause-elements
+steps_of-requires-clause-elements c = record { unfolder = c.in_ok-unfolder.ensures.unfolder; all = search rules }
+
 pub flat_model-requires-clause-left : goal.flat_model-requires-clause-left
 flat_model-requires-clause-left c = record {
   unfolder = c.in_ok-unfolder.ensures.unfolder;
@@ -47,12 +50,12 @@ returns-clause-told_steps c =
 
 pub returns-in_err-check_elements-clause-refused : goal.returns-in_err-check_elements-clause-refused
 returns-in_err-check_elements-clause-refused c =
-    let m = protocol_form c.args.protocol.now in
     let others = enumerators_in (declarations_said c.deref.result.now) in
     let names = map name_of (map flat_element c.deref-2.result.now) in
     let places = map element_place c.deref-2.result.now in
-    refused c.from_residual-in_err-check_elements.result c.in_err-check_elements.field-0.0 (IsFaultOfElements others names places) (IsUnfoldingFault m) c.from_residual-in_err-check_elements.ensures.1
-    (elements-clash m others names places
+    refused c.from_residual-in_err-check_elements.result c.in_err-check_elements.field-0.0 (IsFaultOfElements others names places) (IsUnfoldingFault (protocol_form c.args.protocol.now))
+    c.from_residual-in_err-check_elements.ensures.1
+    (elements-clash (protocol_form c.args.protocol.now) others names places
     (ap (λ (ds : List SortDeclaration). enumerators_in (declarations_said ds)) c.deref.ensures.value)
     (ap (map name_of) (ap (λ (es : List declared_element.Element). map flat_element es) c.deref-2.ensures.value ∙ c.in_ok-elements.ensures.elements))
     (ap (λ (es : List declared_element.Element). map element_place es) c.deref-2.ensures.value ∙ c.in_ok-elements.ensures.places))
@@ -60,26 +63,24 @@ returns-in_err-check_elements-clause-refused c =
 
 pub returns-in_err-check_instances-clause-refused : goal.returns-in_err-check_instances-clause-refused
 returns-in_err-check_instances-clause-refused c =
-    let m = protocol_form c.args.protocol.now in
     let names = map definitions.instance_name (map instance_said c.deref-3.result.now) in
     let places = map instance_place c.deref-3.result.now in
-    refused c.from_residual-in_err-check_instances.result c.in_err-check_instances.field-0.0 (IsFaultOfInstances names places) (IsUnfoldingFault m) c.from_residual-in_err-check_instances.ensures.1
-    (instances-clash m names places
+    refused c.from_residual-in_err-check_instances.result c.in_err-check_instances.field-0.0 (IsFaultOfInstances names places) (IsUnfoldingFault (protocol_form c.args.protocol.now))
+    c.from_residual-in_err-check_instances.ensures.1
+    (instances-clash (protocol_form c.args.protocol.now) names places
     (ap (map definitions.instance_name) (ap (λ (is : List declared.Instance). map instance_said is) c.deref-3.ensures.value ∙ c.in_ok-instances.ensures.instances))
     (ap (λ (is : List declared.Instance). map instance_place is) c.deref-3.ensures.value ∙ c.in_ok-instances.ensures.places))
     c.in_err-check_instances.ensures.refused
 
 pub returns-in_err-steps-clause-refused : goal.returns-in_err-steps-clause-refused
 returns-in_err-steps-clause-refused c =
-    let m = protocol_form c.args.protocol.now in
-    let F = form_in c.in_ok-unfolder.unfolder in
     let is = map placed_instance c.deref-5.result.now in
-    let steps : is ≡ placed_instances m = ap (map placed_instance) c.deref-5.ensures.value ∙ c.in_ok-instances.ensures.forms in
-    let P = IsFaultInSteps F is in
-    refused c.from_residual-in_err-steps.result c.in_err-steps.field-0.0 (IsFaultBy (OfTerm P)) (IsUnfoldingFault m) c.from_residual-in_err-steps.ensures.1
-    (term-breaks m P
+    let steps : is ≡ placed_instances (protocol_form c.args.protocol.now) = ap (map placed_instance) c.deref-5.ensures.value ∙ c.in_ok-instances.ensures.forms in
+    let P = IsFaultInSteps (form_in c.in_ok-unfolder.unfolder) is in
+    refused c.from_residual-in_err-steps.result c.in_err-steps.field-0.0 (IsFaultBy (OfTerm P)) (IsUnfoldingFault (protocol_form c.args.protocol.now)) c.from_residual-in_err-steps.ensures.1
+    (term-breaks (protocol_form c.args.protocol.now) P
     (λ f o. inl
-    (subst (λ (js : List PlacedInstance). OfTerm (IsFaultInSteps m js) f) steps
+    (subst (λ (js : List PlacedInstance). OfTerm (IsFaultInSteps (protocol_form c.args.protocol.now) js) f) steps
     (subst (λ (G : ProtocolForm). OfTerm (IsFaultInSteps G is) f) c.in_ok-unfolder.ensures.form o)))) c.in_err-steps.ensures.refused
 
 pub returns-in_err-model-clause-refused : goal.returns-in_err-model-clause-refused
@@ -114,6 +115,5 @@ returns-clause-impossible c = c.in_ok-impossible.ensures.names ∙ ap impossible
 
 pub returns-in_err-impossible-clause-refused : goal.returns-in_err-impossible-clause-refused
 returns-in_err-impossible-clause-refused c =
-    let m = protocol_form c.args.protocol.now in
-    refused c.from_residual-in_err-impossible.result c.in_err-impossible.field-0.0 (λ f. ⊥) (IsUnfoldingFault m)
+    refused c.from_residual-in_err-impossible.result c.in_err-impossible.field-0.0 (λ f. ⊥) (IsUnfoldingFault (protocol_form c.args.protocol.now))
     c.from_residual-in_err-impossible.ensures.1 (λ f none. absurd none) c.in_err-impossible.ensures.refused

@@ -7,5 +7,5 @@ use Rattle.pb_protocol_unfolder.proofs.set.+members.Given as goal
 
 abbrev pub invariant-is_in_some-loop-link : goal.invariant-is_in_some-loop-link
 invariant-is_in_some-loop-link l =
-    list_any (is_member l.unfolder l.scope (instance_said l.instance)) (map set_operand (drop l.link-index l.links))
-    ≡ list_any (is_member l.unfolder l.scope (instance_said l.instance)) (map set_operand l.links)
+    list_any (is_member l.unfolder l.scope.names (instance_said l.instance)) (map set_operand (drop l.link-index l.links))
+    ≡ list_any (is_member l.unfolder l.scope.names (instance_said l.instance)) (map set_operand l.links)

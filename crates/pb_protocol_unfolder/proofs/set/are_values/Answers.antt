@@ -10,7 +10,7 @@ use Rattle.pb_protocol_unfolder.proofs.set.are_values.Goals as goal
 
 pub returns-clause-values : goal.returns-clause-values
 returns-clause-values c =
-    fits-end c.args.unfolder.now c.args.scope.now c.args.named.now c.args.own.now c.loop-place.place _ refl
+    fits-end c.args.unfolder.now c.args.scope.now.names c.args.named.now c.args.own.now c.loop-place.place _ refl
     (λ q h k. omega (arith, h, k, c.loop-place-test.false, c.min-place-end.ensures))
     (omega (arith, c.min-place-end.ensures)) (omega (arith, c.min-place-end.ensures))
     ∙ c.loop-place.invariant
@@ -18,7 +18,7 @@ returns-clause-values c =
 pub returns-in_err-is_value-clause-refused : goal.returns-in_err-is_value-clause-refused
 returns-in_err-is_value-clause-refused c =
     let m = protocol_in c.args.unfolder.now in
-    let ρ = scope_within c.args.unfolder.now c.args.scope.now in
+    let ρ = scope_within c.args.unfolder.now c.args.scope.now.names in
     let named = c.args.named.now in
     let own = c.args.own.now in
     let at = c.loop-place.place in

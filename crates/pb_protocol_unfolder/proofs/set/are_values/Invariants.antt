@@ -8,6 +8,6 @@ use Rattle.pb_protocol_unfolder.proofs.set.are_values.Given as goal
 -- those in front are the named ones
 abbrev pub invariant-loop-place : goal.invariant-loop-place
 invariant-loop-place l =
-    are_values l.unfolder l.scope (map erased_value (map step_value_form (drop l.place l.named)))
+    are_values l.unfolder l.scope.names (map erased_value (map step_value_form (drop l.place l.named)))
     (map written_term (drop l.place l.own))
-    ≡ are_values l.unfolder l.scope (map erased_value (map step_value_form l.named)) (map written_term l.own)
+    ≡ are_values l.unfolder l.scope.names (map erased_value (map step_value_form l.named)) (map written_term l.own)

@@ -10,7 +10,7 @@ pub returns-in_err-push_member-clause-refused : goal.returns-in_err-push_member-
 returns-in_err-push_member-clause-refused c =
     let u = c.args.formulas.now.unfolder.now in
     let m = protocol_in u in
-    let ρ = scope_within u c.args.scope.now in
+    let ρ = scope_within u c.args.scope.now.names in
     let left = c.args.formulas.now.left.now in
     let A = step_set_form c.args.set.now in
     let x = c.instance-item.result in

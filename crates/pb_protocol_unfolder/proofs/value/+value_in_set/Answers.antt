@@ -15,35 +15,41 @@ use Rattle.pb_protocol_unfolder_terms.specs.Contexts.{forms_by}
 use Rattle.pb_protocol_unfolder_steps.specs.Unfolder.{protocol_in, scope_within}
 use Rattle.pb_protocol_unfolder.specs.Faults.{meant}
 use Rattle.pb_protocol_unfolder.specs.Values.{value_of_named}
+use Rattle.pb_protocol_unfolder.proofs.NameFaults.{only-values}
 use Rattle.pb_protocol_unfolder.proofs.ValueLemmas.{bound-value, is_nameless, named-value}
 use Rattle.pb_protocol_unfolder.proofs.ValueFaults.{alone-refused, alone-value, meant-bound, meant-free, plain-refused, plain-value, said-so}
 use Rattle.pb_protocol_unfolder.proofs.value.+value_in_set.Goals as goal
 
+pub bound_value-requires : goal.bound_value-requires
+bound_value-requires t c = only-values c.args.scope.now.names c.args.scope.now.values
+
 pub returns-in-Some : goal.returns-in-Some
 returns-in-Some t c =
-    let m = protocol_in c.args.unfolder.now in
-    let spec = data_of m in
-    let ρ = scope_within c.args.unfolder.now c.args.scope.now in
+    let spec = data_of (protocol_in c.args.unfolder.now) in
     let k = written_term c.in-Some.written in
-    let x = string_bytes c.in-Name.name.text in
-    let found : Some k ≡ put.term_of ρ x = c.in-Some.ensures spec (forms_by m) ∙ ap (put.term_of ρ) c.as_str.ensures.value in
+    let found : Some k ≡ put.term_of (scope_within c.args.unfolder.now c.args.scope.now.names) (string_bytes c.in-Name.name.text) =
+    c.in-Some.ensures spec (forms_by (protocol_in c.args.unfolder.now)) ∙ ap
+    (put.term_of (scope_within c.args.unfolder.now c.args.scope.now.names)) c.as_str.ensures.value in
     record {
-      value = IfOk-weaker c.value_of_written.result (λ (v : Value). v ≡ value spec [] k) (λ (v : Value). v ≡ value_of_named c.args.unfolder.now c.args.scope.now (term_of c.args.term.now))
-          (λ v h. bound-value spec ρ x k v found h ∙ ap (λ (s : tree.Term). meaning spec no_functions (valued spec [] ρ) (term_of s)) (sym c.in-Name.is)) c.value_of_written.ensures.value;
-      refused = said-so m c.args.place k (meant ρ (term_of c.args.term.now)) c.value_of_written.result
-          (meant-bound ρ x k found ∙ ap (λ (s : tree.Term). meant ρ (term_of s)) (sym c.in-Name.is)) c.value_of_written.ensures.refused;
+      value = IfOk-weaker c.value_of_written.result (λ (v : Value). v ≡ value spec [] k) (λ (v : Value). v ≡ value_of_named c.args.unfolder.now c.args.scope.now.names (term_of c.args.term.now))
+          (λ v h. bound-value spec (scope_within c.args.unfolder.now c.args.scope.now.names) (string_bytes c.in-Name.name.text) k v found h ∙ ap (λ (s : tree.Term). meaning spec no_functions
+          (valued spec [] (scope_within c.args.unfolder.now c.args.scope.now.names)) (term_of s)) (sym c.in-Name.is)) c.value_of_written.ensures.value;
+      refused = said-so (protocol_in c.args.unfolder.now) c.args.place k (meant (scope_within c.args.unfolder.now c.args.scope.now.names) (term_of c.args.term.now)) c.value_of_written.result
+          (meant-bound (scope_within c.args.unfolder.now c.args.scope.now.names) (string_bytes c.in-Name.name.text) k found ∙ ap
+          (λ (s : tree.Term). meant (scope_within c.args.unfolder.now c.args.scope.now.names) (term_of s)) (sym c.in-Name.is))
+          c.value_of_written.ensures.refused;
     }
 
 pub returns-in-None : goal.returns-in-None
 returns-in-None t c =
     let m = protocol_in c.args.unfolder.now in
     let spec = data_of m in
-    let ρ = scope_within c.args.unfolder.now c.args.scope.now in
+    let ρ = scope_within c.args.unfolder.now c.args.scope.now.names in
     let x = string_bytes c.in-Name.name.text in
     let s = term_of c.args.term.now in
     let found : None ≡ put.term_of ρ x = c.in-None.ensures spec (forms_by m) ∙ ap (put.term_of ρ) c.as_str.ensures.value in
     record {
-      value = IfOk-weaker c.plain_value.result (λ (v : Value). folding.written_value spec s ≡ Some v) (λ (v : Value). v ≡ value_of_named c.args.unfolder.now c.args.scope.now s)
+      value = IfOk-weaker c.plain_value.result (λ (v : Value). folding.written_value spec s ≡ Some v) (λ (v : Value). v ≡ value_of_named c.args.unfolder.now c.args.scope.now.names s)
           (λ v h. named-value spec ρ x v found (ap (λ (r : tree.Term). folding.written_value spec (term_of r)) (sym c.in-Name.is) ∙ h)
           ∙ ap (λ (r : tree.Term). meaning spec no_functions (valued spec [] ρ) (term_of r)) (sym c.in-Name.is)) c.plain_value.ensures.value;
       refused = said-so m c.args.place s (meant ρ s) c.plain_value.result
@@ -56,30 +62,30 @@ pub returns-then-is_empty : goal.returns-then-is_empty
 returns-then-is_empty t c =
     let same = chain-alone _ _ _ _ _ _ c.in-Chain.is c.is_empty.ensures c.if-is_empty.true c.deref.ensures in
     record {
-      value = alone-value c.args.unfolder.now c.args.scope.now _ _ c.value_in_set.result same c.value_in_set.ensures.value;
-      refused = alone-refused c.args.unfolder.now c.args.scope.now c.args.place _ _ c.value_in_set.result same c.value_in_set.ensures.refused;
+      value = alone-value c.args.unfolder.now c.args.scope.now.names _ _ c.value_in_set.result same c.value_in_set.ensures.value;
+      refused = alone-refused c.args.unfolder.now c.args.scope.now.names c.args.place _ _ c.value_in_set.result same c.value_in_set.ensures.refused;
     }
 
 pub returns-else-is_empty : goal.returns-else-is_empty
 returns-else-is_empty t c =
     let nameless = sym (chain-many is_nameless true c.in-Chain.connective (λ l r. refl) _ _ _ _ c.in-Chain.is c.is_empty.ensures c.if-is_empty.false) in
     record {
-      value = plain-value c.args.unfolder.now c.args.scope.now _ c.plain_value-in-Chain.result nameless c.plain_value-in-Chain.ensures.value;
-      refused = plain-refused c.args.unfolder.now c.args.scope.now c.args.place _ c.plain_value-in-Chain.result nameless c.plain_value-in-Chain.ensures.refused;
+      value = plain-value c.args.unfolder.now c.args.scope.now.names _ c.plain_value-in-Chain.result nameless c.plain_value-in-Chain.ensures.value;
+      refused = plain-refused c.args.unfolder.now c.args.scope.now.names c.args.place _ c.plain_value-in-Chain.result nameless c.plain_value-in-Chain.ensures.refused;
     }
 
 pub returns-then-is_empty-2 : goal.returns-then-is_empty-2
 returns-then-is_empty-2 t c =
     let same = arithmetic-alone _ _ _ _ _ c.in-Arithmetic.is c.is_empty-in-Arithmetic.ensures c.if-is_empty-2.true c.deref-then-is_empty-2.ensures in
     record {
-      value = alone-value c.args.unfolder.now c.args.scope.now _ _ c.value_in_set-then-is_empty-2.result same c.value_in_set-then-is_empty-2.ensures.value;
-      refused = alone-refused c.args.unfolder.now c.args.scope.now c.args.place _ _ c.value_in_set-then-is_empty-2.result same c.value_in_set-then-is_empty-2.ensures.refused;
+      value = alone-value c.args.unfolder.now c.args.scope.now.names _ _ c.value_in_set-then-is_empty-2.result same c.value_in_set-then-is_empty-2.ensures.value;
+      refused = alone-refused c.args.unfolder.now c.args.scope.now.names c.args.place _ _ c.value_in_set-then-is_empty-2.result same c.value_in_set-then-is_empty-2.ensures.refused;
     }
 
 pub returns-else-is_empty-2 : goal.returns-else-is_empty-2
 returns-else-is_empty-2 t c =
     let nameless = sym (arithmetic-many is_nameless true (λ o l r. refl) _ _ _ _ c.in-Arithmetic.is c.is_empty-in-Arithmetic.ensures c.if-is_empty-2.false) in
     record {
-      value = plain-value c.args.unfolder.now c.args.scope.now _ c.plain_value-in-Arithmetic.result nameless c.plain_value-in-Arithmetic.ensures.value;
-      refused = plain-refused c.args.unfolder.now c.args.scope.now c.args.place _ c.plain_value-in-Arithmetic.result nameless c.plain_value-in-Arithmetic.ensures.refused;
+      value = plain-value c.args.unfolder.now c.args.scope.now.names _ c.plain_value-in-Arithmetic.result nameless c.plain_value-in-Arithmetic.ensures.value;
+      refused = plain-refused c.args.unfolder.now c.args.scope.now.names c.args.place _ c.plain_value-in-Arithmetic.result nameless c.plain_value-in-Arithmetic.ensures.refused;
     }

@@ -16,9 +16,9 @@ use Rattle.pb_protocol_unfolder.proofs.value.plain_value.Goals as goal
 pub returns-clause-value : goal.returns-clause-value
 returns-clause-value c =
     let spec = data_of (protocol_in c.args.unfolder.now) in
-    let t = term_of c.args.term.now in
-    from-ok c.ok_or.result c.written_value.result (folding.written_value spec t) c.ok_or.ensures.ok_part
-    (c.written_value.ensures ∙ ap (λ (ds : List SortDeclaration). folding.written_value (spec_of ds) t) c.deref.ensures.value ∙ written-by spec c.args.unfolder.now.protocol.now.sorts.items t refl)
+    from-ok c.ok_or.result c.written_value.result (folding.written_value spec (term_of c.args.term.now)) c.ok_or.ensures.ok_part
+    (c.written_value.ensures ∙ ap (λ (ds : List SortDeclaration). folding.written_value (spec_of ds) (term_of c.args.term.now)) c.deref.ensures.value ∙ written-by spec
+    c.args.unfolder.now.protocol.now.sorts.items (term_of c.args.term.now) refl)
 
 pub returns-clause-refused : goal.returns-clause-refused
 returns-clause-refused c =

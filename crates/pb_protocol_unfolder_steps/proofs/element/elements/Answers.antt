@@ -10,16 +10,19 @@ use Rattle.pb_protocol_unfolder_steps.proofs.element.elements.Goals as goal
 
 pub returns-clause-elements : goal.returns-clause-elements
 returns-clause-elements c =
-    let spec = spec_of c.sorts_of.result in
-    if-ok c.elements_of.result (λ v same. same ∙ ap (elements_of_state spec) c.deref.ensures.value ∙ elements-said spec c.args.protocol.now c.sorts_of.ensures) c.elements_of.ensures.elements
+    if-ok c.elements_of.result (λ v same. same ∙ ap (elements_of_state (spec_of c.sorts_of.result)) c.deref.ensures.value
+    ∙ elements-said (spec_of c.sorts_of.result) c.args.protocol.now c.sorts_of.ensures)
+    c.elements_of.ensures.elements
 
 pub returns-clause-places : goal.returns-clause-places
 returns-clause-places c =
-    let spec = spec_of c.sorts_of.result in
-    if-ok c.elements_of.result (λ v same. same ∙ ap (places_of_state spec) c.deref.ensures.value ∙ element-places-said spec c.args.protocol.now c.sorts_of.ensures) c.elements_of.ensures.places
+    if-ok c.elements_of.result (λ v same. same ∙ ap (places_of_state (spec_of c.sorts_of.result)) c.deref.ensures.value
+    ∙ element-places-said (spec_of c.sorts_of.result) c.args.protocol.now c.sorts_of.ensures)
+    c.elements_of.ensures.places
 
 pub returns-clause-refused : goal.returns-clause-refused
 returns-clause-refused c =
-    let spec = spec_of c.sorts_of.result in
     subst (λ (v : List Place). IfRefused c.elements_of.result (IsPassedIn 64 v))
-    (ap (places_of_state spec) c.deref.ensures.value ∙ element-places-said spec c.args.protocol.now c.sorts_of.ensures) c.elements_of.ensures.refused
+    (ap (places_of_state (spec_of c.sorts_of.result)) c.deref.ensures.value
+    ∙ element-places-said (spec_of c.sorts_of.result) c.args.protocol.now c.sorts_of.ensures)
+    c.elements_of.ensures.refused

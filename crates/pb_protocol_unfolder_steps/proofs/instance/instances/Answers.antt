@@ -11,21 +11,25 @@ use Rattle.pb_protocol_unfolder_steps.proofs.instance.instances.Goals as goal
 
 pub returns-clause-instances : goal.returns-clause-instances
 returns-clause-instances c =
-    let spec = spec_of c.sorts_of.result in
-    if-ok c.instances_of.result (λ v same. same ∙ ap (instances_of_steps spec) c.deref.ensures.value ∙ instances-said spec c.args.protocol.now c.sorts_of.ensures) c.instances_of.ensures.instances
+    if-ok c.instances_of.result (λ v same. same ∙ ap (instances_of_steps (spec_of c.sorts_of.result)) c.deref.ensures.value
+    ∙ instances-said (spec_of c.sorts_of.result) c.args.protocol.now c.sorts_of.ensures)
+    c.instances_of.ensures.instances
 
 pub returns-clause-places : goal.returns-clause-places
 returns-clause-places c =
-    let spec = spec_of c.sorts_of.result in
-    if-ok c.instances_of.result (λ v same. same ∙ ap (places_of_steps spec) c.deref.ensures.value ∙ instance-places-said spec c.args.protocol.now c.sorts_of.ensures) c.instances_of.ensures.places
+    if-ok c.instances_of.result (λ v same. same ∙ ap (places_of_steps (spec_of c.sorts_of.result)) c.deref.ensures.value
+    ∙ instance-places-said (spec_of c.sorts_of.result) c.args.protocol.now c.sorts_of.ensures)
+    c.instances_of.ensures.places
 
 pub returns-clause-refused : goal.returns-clause-refused
 returns-clause-refused c =
-    let spec = spec_of c.sorts_of.result in
     subst (λ (v : List Place). IfRefused c.instances_of.result (IsPassedIn 1024 v))
-    (ap (places_of_steps spec) c.deref.ensures.value ∙ instance-places-said spec c.args.protocol.now c.sorts_of.ensures) c.instances_of.ensures.refused
+    (ap (places_of_steps (spec_of c.sorts_of.result)) c.deref.ensures.value
+    ∙ instance-places-said (spec_of c.sorts_of.result) c.args.protocol.now c.sorts_of.ensures)
+    c.instances_of.ensures.refused
 
 pub returns-clause-forms : goal.returns-clause-forms
 returns-clause-forms c =
-    let spec = spec_of c.sorts_of.result in
-    if-ok c.instances_of.result (λ v same. same ∙ ap (forms_of_steps spec) c.deref.ensures.value ∙ instance-forms-said spec c.args.protocol.now c.sorts_of.ensures) c.instances_of.ensures.forms
+    if-ok c.instances_of.result (λ v same. same ∙ ap (forms_of_steps (spec_of c.sorts_of.result)) c.deref.ensures.value
+    ∙ instance-forms-said (spec_of c.sorts_of.result) c.args.protocol.now c.sorts_of.ensures)
+    c.instances_of.ensures.forms

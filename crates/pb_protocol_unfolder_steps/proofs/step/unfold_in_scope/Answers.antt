@@ -10,9 +10,11 @@ use Rattle.pb_protocol_unfolder_steps.specs.Elements.{flat_element, instance_sai
 use Rattle.pb_protocol_unfolder_steps.specs.Steps.{step_assignment, protocol_assignments, changes, own_scope}
 use Rattle.std.proofs.Common.{inl, inr, subst}
 use Rattle.pb_text_tree.specs.Form.{term_form}
-use Rattle.pb_protocol_tree.specs.Form.{assignment_form, step_form}
+use Rattle.pb_protocol_tree.specs.Form.{AssignmentForm, assignment_form, step_form}
+use Rattle.pb_text_tree.specs.declared.place.Place.{Place}
+use Rattle.pb_protocol_unfolder_terms.specs.declared.fault.UnfoldRule.{UnfoldRule}
 use Rattle.pb_protocol_unfolder_terms.specs.TermFaults.{IsFaultInTerm, surroundings_of}
-use Rattle.pb_protocol_unfolder_steps.specs.StepFaults.{IsFaultInElements, IsFaultInStep, OnTerm, placed_instance}
+use Rattle.pb_protocol_unfolder_steps.specs.StepFaults.{IsFaultInElements, IsFaultInStep, OnTerm, WithValues, placed_instance}
 use Rattle.pb_protocol_unfolder_steps.specs.Unfolder.{form_in, protocol_in, scope_within}
 use Rattle.pb_protocol_unfolder_steps.proofs.StepFaultLemmas.{term-in}
 use Rattle.pb_protocol_unfolder_steps.proofs.RefusalLemmas.{refused}
@@ -21,42 +23,40 @@ use Rattle.pb_protocol_unfolder_steps.proofs.step.unfold_in_scope.Goals as goal
 
 pub returns-clause-step : goal.returns-clause-step
 returns-clause-step c =
-    let u = c.args.unfolder.now in
-    let m = protocol_in u in
+    let m = protocol_in c.args.unfolder.now in
     let i = instance_said c.args.instance.now in
     let g = c.in_ok-guard.guard in
     let bs = c.in_ok-assignments.assignments in
-    let ρ = scope_within u c.args.scope.now in
+    let ρ = scope_within c.args.unfolder.now c.args.scope.now in
     let es = map flat_element c.args.elements.now in
     let guard = c.in_ok-guard.ensures.term ∙ ap (λ (σ : TermScope). folded (data_of m) true (unfolded_term m σ i.step.guard)) c.requires.scope in
     let assigned = c.in_ok-assignments.ensures.assignments
     ∙ ap (λ (v : List Assignment). changes m ρ (protocol_assignments v) es) c.deref.ensures.value
     ∙ ap (λ (σ : TermScope). changes m σ i.step.assignments es) c.requires.scope
-    ∙ ap (λ (v : List Element). changes m (own_scope i) i.step.assignments v) c.requires.elements in
+    ∙ ap (λ (v : List Element). changes m (own_scope i) i.step.assignments v) c.requires.elements.all in
     ap (λ (a : flat.Step). a ∷ []) (step-made (record { name = c.in_ok-name.name; variables = c.new.result; guard = g; assignments = bs }) c.new.ensures.items)
     ∙ step-kept m i _ (term_of g) (map step_assignment bs.items) c.in_ok-name.ensures.text guard assigned (sym c.is_possible.ensures ∙ c.if-not-is_possible.false)
 
-pub returns-in_err-guard-clause-faults : goal.returns-in_err-guard-clause-faults
-returns-in_err-guard-clause-faults c =
-    let u = c.args.unfolder.now in
+pub returns-in_err-guard-clause-refused : goal.returns-in_err-guard-clause-refused
+returns-in_err-guard-clause-refused c =
     let a = c.args.instance.now.step.now in
-    let M = surroundings_of (form_in u) in
-    let P = IsFaultInTerm M (scope_within u c.args.scope.now) (term_form a.guard) in
-    let Q = IsFaultInStep (form_in u) (placed_instance c.args.instance.now) in
-    λ v. refused c.from_residual.result c.in_err-guard.field-0.0 (OnTerm P) (OnTerm Q) c.from_residual.ensures.1
-    (term-in P Q (λ r p o. inl (subst (λ (σ : TermScope). IsFaultInTerm M σ (term_form a.guard) r p) c.requires.scope o))) (c.in_err-guard.ensures.faults v)
+    let M = surroundings_of (form_in c.args.unfolder.now) in
+    let P = WithValues c.args.scope.now (IsFaultInTerm M (scope_within c.args.unfolder.now c.args.scope.now) (term_form a.guard)) in
+    let Q = WithValues c.args.scope.now (IsFaultInStep (form_in c.args.unfolder.now) (placed_instance c.args.instance.now)) in
+    refused c.from_residual.result c.in_err-guard.field-0.0 (OnTerm P) (OnTerm Q) c.from_residual.ensures.1
+    (term-in P Q (λ r p o v. inl (subst (λ (σ : TermScope). IsFaultInTerm M σ (term_form a.guard) r p) c.requires.scope (o v)))) c.in_err-guard.ensures.refused
 
-pub returns-in_err-assignments-clause-faults : goal.returns-in_err-assignments-clause-faults
-returns-in_err-assignments-clause-faults c =
+pub returns-in_err-assignments-clause-refused : goal.returns-in_err-assignments-clause-refused
+returns-in_err-assignments-clause-refused c =
     let u = c.args.unfolder.now in
     let F = form_in u in
-    let es = map flat_element c.args.elements.now in
-    let P = IsFaultInElements F (scope_within u c.args.scope.now) (map assignment_form c.deref.result.now) es in
-    let Q = IsFaultInStep F (placed_instance c.args.instance.now) in
-    λ v. refused c.from_residual-in_err-assignments.result c.in_err-assignments.field-0.0 (OnTerm P) (OnTerm Q) c.from_residual-in_err-assignments.ensures.1
+    let IsFault : TermScope → List AssignmentForm → List Element → UnfoldRule → Place → Type 0 = IsFaultInElements F in
+    let elements = map flat_element c.args.elements.now in
+    let P = WithValues c.args.scope.now (IsFault (scope_within u c.args.scope.now) (map assignment_form c.deref.result.now) elements) in
+    let Q = WithValues c.args.scope.now (IsFaultInStep F (placed_instance c.args.instance.now)) in
+    refused c.from_residual-in_err-assignments.result c.in_err-assignments.field-0.0 (OnTerm P) (OnTerm Q) c.from_residual-in_err-assignments.ensures.1
     (term-in P Q
-    (λ r p o. inr
-    (subst (λ (ds : List Element). IsFaultInElements F (own_scope (instance_said c.args.instance.now))
-    (step_form c.args.instance.now.step.now).assignments ds r p) c.requires.elements
-    (subst (λ (σ : TermScope). IsFaultInElements F σ (step_form c.args.instance.now.step.now).assignments es r p) c.requires.scope
-    (subst (λ (bs : List Assignment). IsFaultInElements F (scope_within u c.args.scope.now) (map assignment_form bs) es r p) c.deref.ensures.value o))))) (c.in_err-assignments.ensures.faults v)
+    (λ r p o v. inr
+    (subst (λ (ds : List Element). IsFault (own_scope (instance_said c.args.instance.now)) (step_form c.args.instance.now.step.now).assignments ds r p) c.requires.elements.all
+    (subst (λ (σ : TermScope). IsFault σ (step_form c.args.instance.now.step.now).assignments elements r p) c.requires.scope
+    (subst (λ (bs : List Assignment). IsFault (scope_within u c.args.scope.now) (map assignment_form bs) elements r p) c.deref.ensures.value (o v)))))) c.in_err-assignments.ensures.refused

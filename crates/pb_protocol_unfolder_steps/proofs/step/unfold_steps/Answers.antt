@@ -36,20 +36,18 @@ loop-instance-preserved c =
 
 pub returns-clause-steps : goal.returns-clause-steps
 returns-clause-steps c =
-    let m = protocol_in c.args.unfolder.now in
-    let is = c.args.instances.now in
     let ss = map step_said c.loop-instance.unfolded.steps.items in
-    let end : drop c.loop-instance.instance-index is ≡ [] = drop_all c.loop-instance.instance-index is c.loop-instance-test.false in
-    sym (append-nil ss) ∙ ap (λ v. ss ++ flat_map (kept_step m) (map instance_said v)) (sym end)
-    ∙ c.loop-instance.invariant.steps ∙ kept-steps m (map instance_said is)
+    let end : drop c.loop-instance.instance-index c.args.instances.now ≡ [] = drop_all c.loop-instance.instance-index c.args.instances.now c.loop-instance-test.false in
+    sym (append-nil ss) ∙ ap (λ v. ss ++ flat_map (kept_step (protocol_in c.args.unfolder.now)) (map instance_said v)) (sym end)
+    ∙ c.loop-instance.invariant.steps ∙ kept-steps (protocol_in c.args.unfolder.now) (map instance_said c.args.instances.now)
 
-pub returns-in_err-unfold_step-clause-faults : goal.returns-in_err-unfold_step-clause-faults
-returns-in_err-unfold_step-clause-faults c =
+pub returns-in_err-unfold_step-clause-refused : goal.returns-in_err-unfold_step-clause-refused
+returns-in_err-unfold_step-clause-refused c =
     let F = form_in c.args.unfolder.now in
-    let is = c.args.instances.now in
-    let x = c.instance-item.result in
-    let P = IsFaultInStep F (placed_instance x) in
-    let Q = IsFaultInSteps F (map placed_instance is) in
-    let there = mapped-in placed_instance is x (item-in is c.loop-instance.instance-index x c.loop-instance-test.true c.instance-item.is) in
+    let all = c.args.instances.now in
+    let here = c.instance-item.result in
+    let P = IsFaultInStep F (placed_instance here) in
+    let Q = IsFaultInSteps F (map placed_instance all) in
+    let there = mapped-in placed_instance all here (item-in all c.loop-instance.instance-index here c.loop-instance-test.true c.instance-item.is) in
     refused c.from_residual.result c.in_err-unfold_step.field-0.0 (OnTerm P) (OnTerm Q) c.from_residual.ensures.1
-    (term-in P Q (λ r p o. (placed_instance x, there, o))) c.in_err-unfold_step.ensures.faults
+    (term-in P Q (λ r p o. (placed_instance here, there, o))) c.in_err-unfold_step.ensures.refused

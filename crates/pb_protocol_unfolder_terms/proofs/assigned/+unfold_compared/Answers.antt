@@ -18,11 +18,10 @@ use Rattle.pb_protocol_unfolder_terms.proofs.assigned.+unfold_compared.Goals.{Af
 
 pub returns-in_default-clause-term : goal.returns-in_default-clause-term
 returns-in_default-clause-term t c =
-    let k = c.args.context.now in
-    subst (λ (z : Term). IsUnfolded (folding_in k) true c.args.level.room z c.truth.result)
-    (compared-none (spec_in k) (forms_in k c.args.level.definitions) (scope_of (spec_in k) (forms_in k) c.args.scope.now) c.args.compared.arguments.now c.args.compared.index.now
-    c.is_empty.result c.in_default.ensures.value c.is_empty.ensures)
-    (c.truth.ensures (folding_in k) true)
+    subst (λ (z : Term). IsUnfolded (folding_in c.args.context.now) true c.args.level.room z c.truth.result)
+    (compared-none (spec_in c.args.context.now) (forms_in c.args.context.now c.args.level.definitions)
+    (scope_of (spec_in c.args.context.now) (forms_in c.args.context.now) c.args.scope.now) c.args.compared.arguments.now c.args.compared.index.now
+    c.is_empty.result c.in_default.ensures.value c.is_empty.ensures) (c.truth.ensures (folding_in c.args.context.now) true)
 
 pub returns-in_default-first-clause-term : goal.returns-in_default-first-clause-term
 returns-in_default-first-clause-term t c =

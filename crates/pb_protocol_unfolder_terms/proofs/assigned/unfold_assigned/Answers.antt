@@ -16,8 +16,8 @@ use Rattle.pb_protocol_unfolder_terms.proofs.assigned.unfold_assigned.Goals as g
 
 pub returns-clause-term : goal.returns-clause-term
 returns-clause-term c = λ m sort is.
-    let e = element_said c.args.element.now sort in
-    unfolds-of-protocol m c.args.context.now is c.args.scope.now (λ S F ρ. term_after S F ρ (assignments_said c.args.assignments.now) e (Term.Named (name_of e))) false 8192
+    unfolds-of-protocol m c.args.context.now is c.args.scope.now (λ S F ρ. term_after S F ρ (assignments_said c.args.assignments.now) (element_said c.args.element.now sort)
+    (Term.Named (name_of (element_said c.args.element.now sort)))) false 8192
     c.unfold_assigned_by.result (c.unfold_assigned_by.ensures.term sort)
 
 pub returns-clause-faults : goal.returns-clause-faults

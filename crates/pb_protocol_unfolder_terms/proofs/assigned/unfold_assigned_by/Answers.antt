@@ -8,17 +8,20 @@ use Rattle.pb_protocol_tree.specs.Form.{assignment_form}
 use Rattle.pb_protocol_unfolder_terms.specs.Tells.{scope_said, surroundings_in}
 use Rattle.pb_protocol_unfolder_terms.specs.TermFaults.{IfFaultAt, IsFaultInAssignments}
 use Rattle.pb_protocol_unfolder_terms.proofs.assigned.unfold_assigned_by.Goals as goal
+use Rattle.pb_protocol_unfolder_terms.proofs.assigned.unfold_assigned_by.Goals.{After-len}
+
+-- so many definitions as there are
+counted : (c : After-len) → c.len.result ≡ length c.args.context.now.definitions.items
+counted c = omega (arith, c.len.ensures, c.args.context.now.definitions.ok.0)
 
 pub returns-clause-term : goal.returns-clause-term
 returns-clause-term c = λ sort.
-    let k = c.args.context.now in
-    let counted : c.len.result ≡ length k.definitions.items = omega (arith, c.len.ensures, k.definitions.ok.0) in
-    subst (λ (n : ℕ). Unfolds (folding_in k) false 8192 (after_by k n c.args.scope.now c.args.assignments.now (element_said c.args.element sort)) c.unfold_after.result)
-    counted (c.unfold_after.ensures.term sort)
+    subst (λ (n : ℕ). Unfolds (folding_in c.args.context.now) false 8192 (after_by c.args.context.now n c.args.scope.now c.args.assignments.now (element_said c.args.element sort))
+    c.unfold_after.result)
+    (counted (goal.at.returns-clause-term c).After-len) (c.unfold_after.ensures.term sort)
 
 pub returns-clause-faults : goal.returns-clause-faults
 returns-clause-faults c =
-    let k = c.args.context.now in
-    let counted : c.len.result ≡ length k.definitions.items = omega (arith, c.len.ensures, k.definitions.ok.0) in
-    λ v. subst (λ (n : ℕ). IfErr c.unfold_after.result (IfFaultAt (IsFaultInAssignments (surroundings_in k) 200 n (scope_said k c.args.scope.now) (map assignment_form c.args.assignments.now))))
-    counted (c.unfold_after.ensures.faults v)
+    λ v. subst (λ (n : ℕ). IfErr c.unfold_after.result
+    (IfFaultAt (IsFaultInAssignments (surroundings_in c.args.context.now) 200 n (scope_said c.args.context.now c.args.scope.now) (map assignment_form c.args.assignments.now))))
+    (counted (goal.at.returns-clause-faults c).After-len) (c.unfold_after.ensures.faults v)

@@ -36,22 +36,20 @@ bounds_of-returns-else-is_empty t c =
 
 pub bounds_of-returns-in-Arithmetic : goal.bounds_of-returns-in-Arithmetic
 bounds_of-returns-in-Arithmetic t c =
-    let k = c.args.context.now in
     let said : calculated_term (term_of c.deref-in-Arithmetic.result.now) c.deref-in-Arithmetic-2.result.now ≡ term_of c.args.term.now =
     ap (λ y. calculated_term (term_of y) c.deref-in-Arithmetic-2.result.now) c.deref-in-Arithmetic.ensures
     ∙ ap (calculated_term (term_of (box_value c.in-Arithmetic.first))) c.deref-in-Arithmetic-2.ensures.value
     ∙ sym (arithmetic-said c.in-Arithmetic.first c.in-Arithmetic.links) ∙ ap term_of (sym c.in-Arithmetic.is) in
-    c.bounds_of_links.ensures (term_of c.deref-in-Arithmetic.result.now) c.bounds_of-first.ensures ∙ ap (interval_in k) said
+    c.bounds_of_links.ensures (term_of c.deref-in-Arithmetic.result.now) c.bounds_of-first.ensures ∙ ap (interval_in c.args.context.now) said
 
 pub bounds_of-returns-in-Application : goal.bounds_of-returns-in-Application
 bounds_of-returns-in-Application t c =
-    let k = c.args.context.now in
     let f = c.in-Application.function in
     let said : syntax.Term.Apply (string_bytes f.text) (terms_of c.deref-in-Application.result.now) ≡ term_of c.args.term.now =
     ap (λ ls. syntax.Term.Apply (string_bytes f.text) (terms_of ls)) c.deref-in-Application.ensures.value
     ∙ sym (application-said f c.in-Application.arguments) ∙ ap term_of (sym c.in-Application.is) in
-    c.bounds_of_function.ensures ∙ ap (λ (x : _). function_interval (named_function x) (intervals_in k (terms_of c.deref-in-Application.result.now))) c.as_str-in-Application.ensures.value
-    ∙ ap (interval_in k) said
+    c.bounds_of_function.ensures ∙ ap (λ (x : _). function_interval (named_function x) (intervals_in c.args.context.now (terms_of c.deref-in-Application.result.now)))
+    c.as_str-in-Application.ensures.value ∙ ap (interval_in c.args.context.now) said
 
 pub bounds_of_links-loop-link-preserved : goal.bounds_of_links-loop-link-preserved
 bounds_of_links-loop-link-preserved t c = λ x e.

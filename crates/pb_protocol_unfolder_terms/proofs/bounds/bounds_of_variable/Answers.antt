@@ -1,47 +1,41 @@
-use Rattle.std.proofs.Common.{◌≡◌, ◌∙◌, ◌-◌, ℕ, suc, zero, true, sym, ap, arith}
-use Rattle.pb_protocol_unfolder_terms.specs.Bounds.{either, may_be_of, sort_interval}
-use Rattle.pb_protocol_unfolder_terms.specs.Contexts.{spec_in, state_variable_of}
-use Rattle.pb_protocol_unfolder_terms.proofs.BoundsLemmas.{variables-from, variables-none, variables-pass, variables-take}
+use Rattle.std.proofs.Common.{◌≡◌, ◌∙◌, ◌-◌, ℕ, suc, zero, ap, arith}
+use Rattle.std.specs.Prelude.{if◌then◌else◌}
+use Rattle.pb_protocol_unfolder_terms.specs.Bounds.{either, sort_interval}
+use Rattle.pb_protocol_unfolder_terms.specs.Contexts.{spec_in}
+use Rattle.pb_protocol_unfolder_terms.proofs.BoundsLemmas.{variables-from, variables-next, variables-none}
 use Rattle.pb_protocol_unfolder_terms.proofs.bounds.bounds_of_variable.Goals as goal
+use Rattle.pb_protocol_unfolder_terms.proofs.bounds.bounds_of_variable.Goals.{After-may_be_of}
 
 pub loop-place-init : goal.loop-place-init
 loop-place-init c =
+    variables-none (spec_in c.args.context.now) c.args.context.now.variables.items c.args.name.now
+    ∙ ap (variables-from (spec_in c.args.context.now) c.args.context.now.variables.items c.args.name.now) (omega (arith, c.len-place.ensures, c.args.context.now.variables.ok.0))
+
+-- the bounds by the variable at hand and those behind it
+variable-here : (c : After-may_be_of)
+    → (if c.may_be_of.result then either (sort_interval (spec_in c.args.context.now) c.index-variable.result.now.sort.now) c.loop-place.bounds else c.loop-place.bounds)
+    ≡ variables-from (spec_in c.args.context.now) c.args.context.now.variables.items c.args.name.now (c.loop-place.place - 1)
+variable-here c =
     let ys = c.args.context.now.variables.items in
     let S = spec_in c.args.context.now in
-    variables-none S ys c.args.name.now ∙ ap (variables-from S ys c.args.name.now) (omega (arith, c.len-place.ensures, c.args.context.now.variables.ok.0))
+    let y = c.index-variable.result.now in
+    let j : ℕ = c.loop-place.place - 1 in
+    let next : c.loop-place.place ≡ suc j = omega (arith, c.loop-place-test.true) in
+    ap (λ b. if b then either (sort_interval S y.sort.now) c.loop-place.bounds else c.loop-place.bounds) c.may_be_of.ensures
+    ∙ variables-next S ys c.args.name.now j y (omega (arith, c.loop-place.auto.place, c.loop-place-test.true, c.len-place.ensures, c.args.context.now.variables.ok.0)) c.index-variable.ensures
+    (c.loop-place.invariant ∙ ap (variables-from S ys c.args.name.now) next)
 
 pub loop-place-preserved-then-may_be_of : goal.loop-place-preserved-then-may_be_of
 loop-place-preserved-then-may_be_of c =
-    let k = c.args.context.now in
-    let ys = k.variables.items in
-    let S = spec_in k in
-    let x = c.args.name.now in
-    let j : ℕ = c.loop-place.place - 1 in
-    let y = c.index-variable.result.now in
-    let next : c.loop-place.place ≡ suc j = omega (arith, c.loop-place-test.true) in
-    let taken : may_be_of (state_variable_of y) x ≡ true = sym c.may_be_of.ensures ∙ c.if-may_be_of.true in
     c.of_either-bounds.ensures
-    ∙ ap (λ i. either i c.loop-place.bounds) (c.bounds_of_sort.ensures ∙ ap (λ T. sort_interval T y.sort.now) c.sorts.ensures)
-    ∙ ap (either (sort_interval S y.sort.now)) (c.loop-place.invariant ∙ ap (variables-from S ys x) next)
-    ∙ variables-take S ys x j y (omega (arith, c.loop-place.auto.place, c.loop-place-test.true, c.len-place.ensures, k.variables.ok.0)) c.index-variable.ensures taken
+    ∙ ap (λ i. either i c.loop-place.bounds) (c.bounds_of_sort.ensures ∙ ap (λ T. sort_interval T c.index-variable.result.now.sort.now) c.sorts.ensures)
+    ∙ rw c.if-may_be_of.true at (variable-here (goal.at.loop-place-preserved-then-may_be_of c).After-may_be_of)
 
 pub loop-place-preserved : goal.loop-place-preserved
 loop-place-preserved c =
-    let k = c.args.context.now in
-    let ys = k.variables.items in
-    let S = spec_in k in
-    let x = c.args.name.now in
-    let j : ℕ = c.loop-place.place - 1 in
-    let y = c.index-variable.result.now in
-    let next : c.loop-place.place ≡ suc j = omega (arith, c.loop-place-test.true) in
-    c.loop-place.invariant ∙ ap (variables-from S ys x) next
-    ∙ variables-pass S ys x j y
-    (omega (arith, c.loop-place.auto.place, c.loop-place-test.true, c.len-place.ensures, k.variables.ok.0))
-    c.index-variable.ensures (sym c.may_be_of.ensures ∙ c.if-may_be_of.false)
+    rw c.if-may_be_of.false at (variable-here (goal.at.loop-place-preserved c).After-may_be_of)
 
 pub returns : goal.returns
 returns c =
-    let ys = c.args.context.now.variables.items in
-    let S = spec_in c.args.context.now in
     let done : c.loop-place.place ≡ zero = omega (arith, c.loop-place-test.false) in
-    c.loop-place.invariant ∙ ap (variables-from S ys c.args.name.now) done
+    c.loop-place.invariant ∙ ap (variables-from (spec_in c.args.context.now) c.args.context.now.variables.items c.args.name.now) done

@@ -8,8 +8,7 @@ use Rattle.pb_protocol_unfolder_terms.proofs.level.+operated.Goals as goal
 pub returns-then-is_empty-clause-form : goal.returns-then-is_empty-clause-form
 returns-then-is_empty-clause-form t c =
     let v = c.in-Chain.links in
-    let counted : vec_len v ≡ length v.items = omega (arith, v.ok.0) in
-    let none : v.items ≡ [] = none-of v.items (vec_len v) counted (sym c.is_empty.ensures ∙ c.if-is_empty.true) in
+    let none : v.items ≡ [] = none-of v.items (vec_len v) (omega (arith, v.ok.0)) (sym c.is_empty.ensures ∙ c.if-is_empty.true) in
     let o = c.in-Chain.connective in
     let said : term_form c.args.term.now ≡ term_form c.deref.result.now =
     ap term_form c.in-Chain.is ∙ term-chain o c.in-Chain.first v ∙ ap (λ ls. chained (TermForm.connected o) (term_form (box_value c.in-Chain.first)) (term_links ls)) none

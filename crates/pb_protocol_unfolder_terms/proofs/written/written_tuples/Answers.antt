@@ -10,17 +10,14 @@ use Rattle.pb_protocol_unfolder_terms.proofs.written.written_tuples.Goals as goa
 
 pub returns-in_err-values : goal.returns-in_err-values
 returns-in_err-values c =
-    let spec = spec_of c.args.sorts in
-    let vs = c.args.variables.now in
-    let j = c.loop-index.index in
     let none : declared_variable.Variable = record { name = record { ref_ptr = (0, 0); now = [] }; sort = record { ref_ptr = (0, 0); now = [] } } in
-    let next : j ≡ (j - 1) + 1 = omega arith in
-    let within : j - 1 < length vs = omega arith in
-    let some : 0 < tuple_count spec vs = search rules in
-    let all = written_tuples spec (map variable_of vs) in
+    let next : c.loop-index.index ≡ (c.loop-index.index - 1) + 1 = omega arith in
+    let within : c.loop-index.index - 1 < length c.args.variables.now = omega arith in
+    let some : 0 < tuple_count (spec_of c.args.sorts) c.args.variables.now = search rules in
+    let all = written_tuples (spec_of c.args.sorts) (map variable_of c.args.variables.now) in
     too-long c.from_residual-in_err-values.result c.in_err-values.field-0.0 _ all c.args.place c.from_residual-in_err-values.ensures.1
-    (longer (written_values spec (variable_of (get_or vs (j - 1) none)).sort) all c.args.place c.in_err-values.field-0.0
-    (values-of-all spec vs (j - 1) j none next within some) c.in_err-values.ensures)
+    (longer (written_values (spec_of c.args.sorts) (variable_of (get_or c.args.variables.now (c.loop-index.index - 1) none)).sort) all c.args.place c.in_err-values.field-0.0
+    (values-of-all (spec_of c.args.sorts) c.args.variables.now (c.loop-index.index - 1) c.loop-index.index none next within some) c.in_err-values.ensures)
 
 pub returns-then-not-is_within_limit : goal.returns-then-not-is_within_limit
 returns-then-not-is_within_limit c =

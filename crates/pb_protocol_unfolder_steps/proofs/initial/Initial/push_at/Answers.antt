@@ -9,8 +9,8 @@ use Rattle.pb_protocol_unfolder_terms.proofs.MetLemmas.{item-in, mapped-in}
 use Rattle.pb_protocol_unfolder_steps.proofs.RefusalLemmas.{refused}
 use Rattle.pb_protocol_unfolder_steps.proofs.initial.Initial.push_at.Goals as goal
 
-pub returns-in_err-term-clause-faults : goal.returns-in_err-term-clause-faults
-returns-in_err-term-clause-faults c =
+pub returns-in_err-term-clause-refused : goal.returns-in_err-term-clause-refused
+returns-in_err-term-clause-refused c =
     let F = protocol_form c.args.self.now.protocol.now in
     let is = map variable_of c.args.indices.now in
     let x = argument_form c.args.value.now in
@@ -20,4 +20,4 @@ returns-in_err-term-clause-faults c =
     let Q = IsFaultAtSome F is x (map tuple_of ts) in
     let there = mapped-in tuple_of ts v (item-in ts c.loop-values.values-index v c.loop-values-test.true c.values-item.is) in
     refused c.from_residual.result c.in_err-term.field-0.0 (OnTerm P) (OnTerm Q) c.from_residual.ensures.1
-    (term-in P Q (λ r p o. (tuple_of v, there, subst (λ (ws : List Written). IsFaultAtValues F is x (map written_term ws) r p) c.deref.ensures.value o))) c.in_err-term.ensures.faults
+    (term-in P Q (λ r p o. (tuple_of v, there, subst (λ (ws : List Written). IsFaultAtValues F is x (map written_term ws) r p) c.deref.ensures.value o))) c.in_err-term.ensures.refused

@@ -13,8 +13,8 @@ use Rattle.pb_protocol_unfolder_steps.proofs.initial.Initial.unfold_at.Goals as 
 pub returns-in-Ok-clause-term : goal.returns-in-Ok-clause-term
 returns-in-Ok-clause-term c = (c.in-Ok.ensures.term (without_state (protocol_of c.args.self.now.protocol.now)) c.requires.initial.context).term
 
-pub returns-in-Err-clause-faults : goal.returns-in-Err-clause-faults
-returns-in-Err-clause-faults c =
+pub returns-in-Err-clause-refused : goal.returns-in-Err-clause-refused
+returns-in-Err-clause-refused c =
     let F = protocol_form c.args.self.now.protocol.now in
-    term-told (IsFaultAtValues F (map variable_of c.args.indices.now) (term_form c.args.term.now) (map written_term c.args.values.now)) c.in-Err.error c.of_term.result c.of_term.ensures.error
+    term-told (IsFaultAtValues F (map variable_of c.args.indices.now) (term_form c.args.term.now) (map written_term c.args.values.now)) c.in-Err.error c.of_term.result c.of_term.ensures
     (c.in-Err.ensures.faults (surroundings_at_start F) c.requires.initial.surroundings tt)

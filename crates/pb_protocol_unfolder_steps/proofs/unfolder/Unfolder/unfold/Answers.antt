@@ -1,15 +1,15 @@
 use Rattle.pb_text_tree.specs.Form.{term_form}
-use Rattle.pb_protocol_unfolder_terms.specs.TermFaults.{IsFaultInTerm, surroundings_of}
+use Rattle.pb_protocol_unfolder_terms.specs.TermFaults.{HasValues, IsFaultInTerm, surroundings_of}
 use Rattle.pb_protocol_unfolder_steps.specs.Unfolder.{form_in, protocol_in, scope_within}
-use Rattle.pb_protocol_unfolder_steps.proofs.StepFaultLemmas.{term-told}
+use Rattle.pb_protocol_unfolder_steps.proofs.StepFaultLemmas.{term-told-so}
 use Rattle.pb_protocol_unfolder_steps.proofs.unfolder.Unfolder.unfold.Goals as goal
 
 pub returns-in-Ok-clause-term : goal.returns-in-Ok-clause-term
 returns-in-Ok-clause-term c = (c.in-Ok.ensures.term (protocol_in c.args.self.now) c.requires.unfolder.context).term
 
-pub returns-in-Err-clause-faults : goal.returns-in-Err-clause-faults
-returns-in-Err-clause-faults c =
+pub returns-in-Err-clause-refused : goal.returns-in-Err-clause-refused
+returns-in-Err-clause-refused c =
     let u = c.args.self.now in
     let M = surroundings_of (form_in u) in
-    λ v. term-told (IsFaultInTerm M (scope_within u c.args.scope.now) (term_form c.args.term.now)) c.in-Err.error c.of_term.result c.of_term.ensures.error
-    (c.in-Err.ensures.faults M c.requires.unfolder.surroundings v)
+    term-told-so (HasValues c.args.scope.now) (IsFaultInTerm M (scope_within u c.args.scope.now) (term_form c.args.term.now)) c.in-Err.error c.of_term.result c.of_term.ensures
+    (c.in-Err.ensures.faults M c.requires.unfolder.surroundings)

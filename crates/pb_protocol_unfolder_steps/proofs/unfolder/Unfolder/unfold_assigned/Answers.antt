@@ -9,27 +9,25 @@ use Rattle.pb_protocol_unfolder_steps.specs.Elements.{element_at}
 use Rattle.pb_protocol_unfolder_steps.specs.Steps.{element_assigned, protocol_assignments}
 use Rattle.pb_protocol_unfolder_steps.specs.Unfolder.{form_in, protocol_in, scope_within}
 use Rattle.pb_protocol_tree.specs.Form.{assignment_form}
-use Rattle.pb_protocol_unfolder_terms.specs.TermFaults.{IsFaultInElement, surroundings_of}
-use Rattle.pb_protocol_unfolder_steps.specs.StepFaults.{OnTerm}
-use Rattle.pb_protocol_unfolder_steps.proofs.StepFaultLemmas.{term-told}
+use Rattle.pb_protocol_unfolder_terms.specs.TermFaults.{HasValues, IsFaultInElement, surroundings_of}
+use Rattle.pb_protocol_unfolder_steps.specs.StepFaults.{OnTerm, WithValues}
+use Rattle.pb_protocol_unfolder_steps.proofs.StepFaultLemmas.{term-told-so}
 use Rattle.pb_protocol_unfolder_steps.proofs.unfolder.Unfolder.unfold_assigned.Goals as goal
 
 pub returns-in-Ok-clause-term : goal.returns-in-Ok-clause-term
 returns-in-Ok-clause-term c =
-    let u = c.args.self.now in
     let e = c.args.element.now in
-    let ρ = scope_within u c.args.scope.now in
-    let bs = protocol_assignments c.args.assignments.now in
-    (c.in-Ok.ensures.term (protocol_in u) (string_bytes e.sort.now.text) c.requires.unfolder.context).term
-    ∙ ap (λ (ks : List Written). element_assigned (protocol_in u) ρ bs (element_at e.name.now e.sort.now (map written_term ks))) c.deref.ensures.value
+    let assigned_at : List Written → Term = λ ks. element_assigned (protocol_in c.args.self.now) (scope_within c.args.self.now c.args.scope.now) (protocol_assignments c.args.assignments.now)
+    (element_at e.name.now e.sort.now (map written_term ks)) in
+    (c.in-Ok.ensures.term (protocol_in c.args.self.now) (string_bytes e.sort.now.text) c.requires.unfolder.context).term ∙ ap assigned_at c.deref.ensures.value
 
-pub returns-in-Err-clause-faults : goal.returns-in-Err-clause-faults
-returns-in-Err-clause-faults c =
+pub returns-in-Err-clause-refused : goal.returns-in-Err-clause-refused
+returns-in-Err-clause-refused c =
     let u = c.args.self.now in
-    let e = c.args.element.now in
-    let M = surroundings_of (form_in u) in
-    let P : List Term → UnfoldRule → Place → Type 0 = λ ks. IsFaultInElement M (scope_within u c.args.scope.now) (map assignment_form c.args.assignments.now) (element_at e.name.now e.sort.now ks) in
+    let P : List Term → UnfoldRule → Place → Type 0 =
+    λ ks. IsFaultInElement (surroundings_of (form_in u)) (scope_within u c.args.scope.now) (map assignment_form c.args.assignments.now)
+    (element_at c.args.element.now.name.now c.args.element.now.sort.now ks) in
     let same = ap (λ (ks : List Written). map written_term ks) c.deref.ensures.value in
-    λ v. subst (λ (ks : List Term). IfFault c.of_term.result (OnTerm (P ks))) same
-    (term-told (P (map written_term c.deref.result.now)) c.in-Err.error c.of_term.result c.of_term.ensures.error
-    (c.in-Err.ensures.faults M (string_bytes e.sort.now.text) c.requires.unfolder.surroundings v))
+    subst (λ (ks : List Term). IfFault c.of_term.result (OnTerm (WithValues c.args.scope.now (P ks)))) same
+    (term-told-so (HasValues c.args.scope.now) (P (map written_term c.deref.result.now)) c.in-Err.error c.of_term.result c.of_term.ensures
+    (c.in-Err.ensures.faults (surroundings_of (form_in u)) (string_bytes c.args.element.now.sort.now.text) c.requires.unfolder.surroundings))
