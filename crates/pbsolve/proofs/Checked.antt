@@ -1,8 +1,6 @@
 -- What a fault says of a model that is checked or explained, whichever layer finds it.
-use Rattle.std.proofs.Common.{◌≡◌, ℕ, false, List, sym, subst, inl, inr}
-use Rattle.pb_base.specs.OrMemory.{IfFault, raised}
-use Rattle.pb_base.specs.declared.or_memory.OrMemory.{OrMemory}
-use Rattle.pb_base.specs.declared.or_memory.OrMemory.TheVariants as or_memory
+use Rattle.std.proofs.Common.{◌≡◌, ◌≢◌, ℕ, true, false, List, [], sym, subst, inl, inr}
+use Rattle.std.specs.Prelude.{Result, Err}
 use Rattle.pb_model_tree.specs.Form.{ModelForm}
 use Rattle.pb_protocol_negation.specs.Negated.{negated_protocol}
 use Rattle.pb_protocol_tree.specs.Form.{ProtocolForm}
@@ -12,10 +10,12 @@ use Rattle.pb_model_properties.specs.Asked.{have_properties}
 use Rattle.pb_model_properties.specs.Negations.{IsRefusedNegation}
 use Rattle.pb_model_properties.specs.Refusals.{IsRefusedModel}
 use Rattle.pb_model_properties.specs.Said.{IsModelFor, IsModelOf, IsTheReading}
-use Rattle.pb_command_faults.specs.Errors.{fault_of_model}
+use Rattle.pb_command_faults.specs.Errors.{IfInputRefused, fault_of_model}
+use Rattle.pb_command_faults.specs.declared.solve_error.SolveError.{SolveError}
+use Rattle.pb_command_faults.specs.declared.solve_error.SolveError.TheVariants as solve_error
 use Rattle.pb_command_faults.specs.declared.solve_fault.SolveFault.{SolveFault}
 use Rattle.pb_command_faults.specs.declared.solve_fault.SolveFault.TheVariants as solve_fault
-use Rattle.pbsolve.specs.Models.{IsUnchecked, IsUnexplained, IsUnnegated, IsUntold}
+use Rattle.pbsolve.specs.Models.{IsUnchecked, IsUnexplained, IsUnnegated, IsUntold, LacksProperties}
 use Rattle.pbsolve.specs.Outcomes.{IsUntyped}
 use Rattle.pbsolve.specs.ReachedSteps.{IsUntypedStep}
 
@@ -65,16 +65,6 @@ module _ (bytes : List ℕ) where
   model_untold (model_fault.Typing fault) h = inl (inl h)
   model_untold model_fault.NoProperty h = absurd h
 
-  -- what is refused of a model isn't want of a property
-  pub names_are_read : (e : OrMemory ModelFault) (x : OrMemory SolveFault) → raised (λ f above. above ≡ fault_of_model f) e x → IfFault e (IsRefusedModel bytes)
-      → x ≡ or_memory.Refused solve_fault.NoProperty → ⊥
-  names_are_read (or_memory.Refused (model_fault.Text fault)) (or_memory.Refused above) made h is = absurd (cc (made, is))
-  names_are_read (or_memory.Refused (model_fault.Typing fault)) (or_memory.Refused above) made h is = absurd (cc (made, is))
-  names_are_read (or_memory.Refused model_fault.NoProperty) (or_memory.Refused above) made h is = absurd h
-  names_are_read (or_memory.Refused fault) or_memory.Memory made h is = absurd (cc is)
-  names_are_read or_memory.Memory (or_memory.Refused above) made h is = absurd made
-  names_are_read or_memory.Memory or_memory.Memory made h is = absurd (cc is)
-
   pub untold_unexplained : (f : SolveFault) → IsUntold bytes f → IsUnexplained bytes f
   untold_unexplained (solve_fault.Text fault) h = h
   untold_unexplained (solve_fault.Typing fault) h = h
@@ -112,3 +102,12 @@ module _ (bytes : List ℕ) where
         → (f ≡ model_fault.NoProperty) × (have_properties names model.properties ≡ false) → IsUnchecked names bytes (fault_of_model f)
     names_unchecked model said f h =
         subst (λ (x : ModelFault). IsUnchecked names bytes (fault_of_model x)) (sym h.0) (model, said, h.1)
+
+-- what is refused for want of a property was asked by a name
+pub lacked_names : {T : Type 0} (names : List (List ℕ)) (bytes : List ℕ) (r : Result T SolveError) → IfInputRefused r (IsUnchecked names bytes)
+    → r ≡ Err (solve_error.Refused solve_fault.NoProperty) → names ≢ []
+lacked_names names bytes r h is none =
+    let lack : LacksProperties names bytes = subst (λ x. IfInputRefused x (IsUnchecked names bytes)) is h in
+    let missing = subst (λ ns. LacksProperties ns bytes) none lack in
+    let no : true ≡ false = missing.2 in
+    absurd (cc no)

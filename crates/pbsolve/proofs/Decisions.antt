@@ -33,9 +33,13 @@ use Rattle.pbsolve.specs.declared.property_module.AskedModule.{AskedModule}
 use Rattle.pbsolve.specs.declared.property_module.PropertyModule.{PropertyModule}
 use Rattle.pb_command_faults.specs.declared.solve_fault.SolveFault.{SolveFault}
 use Rattle.pb_command_faults.specs.declared.solve_fault.SolveFault.TheVariants as solve_fault
-use Rattle.pbsolve.specs.Models.{IsFinding, IsPropertyFound, IsPropertyAnswer, IsShown, IsTooLargeNegation, IsTooLargeProperty, IsUnexplained}
+use Rattle.pbsolve.specs.Models.{HasModel, IsFinding, IsPropertyFound, IsPropertyAnswer, IsShown, IsTooLargeNegation, IsTooLargeProperty, IsUnexplained}
 use Rattle.pbsolve.specs.Outcomes.{IsDecision, IsDeniedAt, IsEarlyAt, IsNegationAt, IsOutcome, IsOutcomeAt, IsPropertyModule, IsShownAt, verdict_in}
 use Rattle.pbsolve.specs.Why.{IsVerdict}
+
+-- the bytes that are kept say what they said
+pub still_has : {new old : List ℕ} (P : ModelForm → Type 0) → new ≡ old → HasModel old P → HasModel new P
+still_has P same h = subst (λ bytes. HasModel bytes P) (sym same) h
 
 -- ---- properties of a protocol and of the model that is solved in its place
 

@@ -9,13 +9,8 @@ use Rattle.std.proofs.lemmas.List.Elements.{All-get_or}
 use Rattle.std.proofs.lemmas.Option.{slice_get-map, slice_get-get_or}
 use Rattle.pb_model_tree.specs.declared.model.Property.{Property}
 use Rattle.pb_model_tree.specs.Form.{ModelForm, PropertyForm, property_form}
-use Rattle.pb_base.specs.OrMemory.{IfRefused}
-use Rattle.pb_base.specs.declared.or_memory.OrMemory.{OrMemory}
-use Rattle.pb_base.specs.declared.or_memory.OrMemory.TheVariants as or_memory
-use Rattle.pb_command_faults.specs.declared.solve_fault.SolveFault.{SolveFault}
-use Rattle.pb_command_faults.specs.declared.solve_fault.SolveFault.TheVariants as solve_fault
 use Rattle.pbsolve.specs.declared.finding.Found.{Found}
-use Rattle.pbsolve.specs.Models.{IsUnnegated, finding_lines, found_lines, name_at}
+use Rattle.pbsolve.specs.Models.{finding_lines, found_lines, name_at}
 
 -- what holds of all holds of the one at a place
 pub at_place : {X : Type 0} (P : X → Type 0) (xs : List X) (k : ℕ) (x d : X) → k < length xs → x ≡ get_or xs k d → All P xs → P x
@@ -48,16 +43,6 @@ name_there model ps k p d same below is =
     let name = λ (o : Option PropertyForm). option_map_or (λ (q : PropertyForm). q.name.text) o [] in
     ap (λ (qs : List PropertyForm). name (slice_get qs k)) same
     ∙ ap name (slice_get-map property_form ps k ∙ ap (option_map property_form) (slice_get-get_or ps k d below ∙ ap Some (sym is)))
-
--- two things hold of an answer, so a third does
-pub all_found : {T E : Type 0} (A B C : T → Type 0) → ((v : T) → A v → B v → C v) → (r : Result T E) → IfOk r A → IfOk r B → IfOk r C
-all_found A B C both (Ok v) a b = both v a b
-all_found A B C both (Err e) a b = tt
-
--- what is refused of a negation isn't want of a property
-pub names_no_property : {T : Type 0} (bytes : List ℕ) (r : Result T (OrMemory SolveFault)) → r ≡ Err (or_memory.Refused solve_fault.NoProperty)
-    → IfRefused r (IsUnnegated bytes) → ⊥
-names_no_property bytes r is h = subst (λ x. IfRefused x (IsUnnegated bytes)) is h
 
 -- ---- what is written
 

@@ -1,8 +1,6 @@
 -- The calls that are told are moves of the protocol.
-use Rattle.std.proofs.Common.{◌≡◌, true, List, [], ◌∷◌, ◌++◌, ℕ, Option, Some, filter, refl, sym, ap, subst}
+use Rattle.std.proofs.Common.{◌≡◌, true, List, [], ◌∷◌, ℕ, Option, Some, filter, refl, sym, ap, subst}
 use Rattle.std.specs.Prelude.{Contains, MatchOption}
-use Rattle.pb_sorts.specs.Instance.{Instance}
-use Rattle.pb_typing_calls.specs.MadeCalls.{MadeCall, calls_at}
 use Rattle.pb_model_tree.specs.Form.{ModelForm, PropertyForm, StepForm}
 use Rattle.pb_model_meaning.specs.Erase.{erase, erased_step}
 use Rattle.pb_model_meaning.specs.Syntax as model

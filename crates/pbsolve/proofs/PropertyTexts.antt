@@ -1,8 +1,8 @@
 -- The text of a property that isn't well typed: it is too large, or the model is refused.
-use Rattle.std.proofs.Common.{◌≡◌, ℕ, true, false, List, Some, refl, sym, subst}
+use Rattle.std.proofs.Common.{◌≡◌, ℕ, true, Some, refl, sym, subst}
 use Rattle.std.specs.Prelude.{Contains, IfOk, Result, Ok, Err}
 use Rattle.std.specs.List.{slice_get}
-use Rattle.pb_model_tree.specs.Form.{ModelForm, PropertyForm, model_form}
+use Rattle.pb_model_tree.specs.Form.{PropertyForm, model_form}
 use Rattle.pb_typing_declarations.specs.declared.fault.TypingRule.{TypingRule}
 use Rattle.pb_typing_declarations.specs.declared.fault.TypingRule.TheVariants as rule
 use Rattle.pb_model_properties.specs.declared.error.ModelFault.{ModelFault}

@@ -7,7 +7,6 @@ use Rattle.pb_model_meaning.specs.Steps.{State, is_state}
 use Rattle.pb_model_words.specs.Laws.{StatesSayTheirValues}
 use Rattle.pb_model_words.specs.States.{says, says_by}
 use Rattle.pb_model_words.specs.Vocabulary.{Vocabulary}
-use Rattle.pb_protocol_tree.specs.Form.{ProtocolForm}
 use Rattle.pb_protocol_meaning.specs.Syntax.{Protocol}
 use Rattle.pb_protocol_meaning.specs.Erase as protocol_text
 use Rattle.pb_protocol_unfolder.specs.Plain.{is_plain_protocol}

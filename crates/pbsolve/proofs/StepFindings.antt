@@ -1,7 +1,6 @@
 -- What is found of the steps of a model, and what is told of them.
 use Rattle.std.proofs.Common.{◌≡◌, ◌∙◌, ◌++◌, ◌+◌, ◌<◌, ℕ, zero, suc, Bool, true, false, List, [], ◌∷◌, Some, length, drop, get_or, refl, sym, ap, subst, arith}
 use Rattle.std.specs.Prelude.{Contains, IfOk, IfSome, Option, Result, Ok, Err}
-use Rattle.std.specs.Result.{IsErrAnd}
 use Rattle.std.specs.List.{slice_get}
 use Rattle.std.proofs.lemmas.List.{append_assoc, drop_more}
 use Rattle.std.proofs.lemmas.Option.{slice_get_within, get_or_from_slice_get}
@@ -12,7 +11,6 @@ use Rattle.pb_base.proofs.Faults.{if_fault, if_refused}
 use Rattle.pb_command_faults.specs.Errors.{fault_of_model}
 use Rattle.pb_command_faults.specs.declared.property_fault.PropertyExcess.{PropertyExcess}
 use Rattle.pb_command_faults.specs.declared.solve_fault.SolveFault.{SolveFault}
-use Rattle.pb_command_faults.specs.declared.solve_fault.SolveFault.TheVariants as solve_fault
 use Rattle.pb_model_tree.specs.Form.{ModelForm, PropertyForm, StepForm, model_form}
 use Rattle.pb_model_words.specs.Vocabulary.{Vocabulary}
 use Rattle.pb_model_properties.specs.declared.error.ModelFault.{ModelFault}
@@ -29,7 +27,7 @@ use Rattle.pbsolve.specs.declared.property_text.AskedText.{AskedText}
 use Rattle.pbsolve.specs.declared.property_text.PropertyText.{PropertyText}
 use Rattle.pbsolve.specs.declared.property_text.PropertyText.TheVariants as property_text
 use Rattle.pbsolve.specs.declared.step_finding.StepFinding.{StepFinding}
-use Rattle.pbsolve.specs.declared.step_finding.StepFinding.TheVariants.{Reached, Never, Refused}
+use Rattle.pbsolve.specs.declared.step_finding.StepFinding.TheVariants.{Refused}
 use Rattle.pbsolve.specs.Models.{IsPropertyAnswer}
 use Rattle.pbsolve.specs.Outcomes.{IsFault, IsOutcome, IsPropertyModule, IsPropertyText, is_limit}
 use Rattle.pbsolve.specs.ReachedSteps.{IsFoundOfStep, IsStepModule, IsStepText, IsUntypedStep, by_truth, can_be_taken, step_line, step_lines_from}
@@ -78,13 +76,6 @@ module _ (solved : SolvedModel) where
   pub untyped_step : {A : Type 0} (place : ℕ) (error : OrMemory ModelFault) (r : Result A (OrMemory SolveFault)) → place < length (model_form solved.typed.model).steps
       → IfRefused r (λ made. IfFault error (λ fault. made ≡ fault_of_model fault) × IsFault error) → IfFault error (IsRefusedStep place) → IfRefused r (IsUntypedStep (model_form solved.typed.model))
   untyped_step place error r below made h = if_refused r (λ fault was. untyped_told place error fault below was.1 was.0 h) made
-
--- what is refused of a step's text isn't want of a property
-pub no_property_of_step : {T : Type 0} (model : ModelForm) (e : OrMemory SolveFault) (r : Result T (OrMemory SolveFault)) → IsErrAnd r (λ x. x ≡ e)
-    → r ≡ Err (or_memory.Refused solve_fault.NoProperty) → IfFault e (IsUntypedStep model) → ⊥
-no_property_of_step model e (Ok x) made is h = absurd made
-no_property_of_step model e (Err x) made is h =
-    let same : e ≡ or_memory.Refused solve_fault.NoProperty = cc in subst (λ (y : OrMemory SolveFault). IfFault y (IsUntypedStep model)) same h
 
 -- ---- what is found of the step at a place
 

@@ -1,7 +1,7 @@
 -- What becomes of the texts of properties, and of those of their negations.
 use Rattle.std.specs.Prelude.{◌≡◌, ◌<◌, ⊤, ℕ, Bool, true, false, List, Option, Some, None, IfSome}
-use Rattle.std.specs.Prelude.{Result, Ok, Err, length}
-use Rattle.std.specs.List.{slice_get}
+use Rattle.std.specs.Prelude.{Result, Ok, Err, length, map}
+use Rattle.std.specs.List.{All, slice_get}
 use Rattle.pb_text_tree.specs.Form.{SpecForm, spec_form}
 use Rattle.pb_model_tree.specs.Form.{ModelForm, PropertyForm}
 use Rattle.pb_protocol_negation.specs.Negated.{negated, negated_protocol}
@@ -11,7 +11,7 @@ use Rattle.pb_model_properties.specs.declared.solved.SolvedModel.{SolvedModel}
 use Rattle.pb_model_properties.specs.declared.verdicts.Verdict.{Verdict}
 use Rattle.pb_model_properties.specs.declared.verdicts.Verdict.TheVariants.{True, False, Unknown}
 use Rattle.pb_model_properties.specs.Negations.{IsNegatedModelOf}
-use Rattle.pb_model_properties.specs.Said.{protocol_satisfies, tree_satisfies, IsModelFor}
+use Rattle.pb_model_properties.specs.Said.{protocol_satisfies, tree_satisfies, IsModelFor, IsModelOf}
 use Rattle.pb_model_properties.specs.Said.{IsTextOf, IsTheReading}
 use Rattle.pb_report.specs.declared.answer.Answer.{Answer}
 use Rattle.pb_report.specs.ModuleEvidence.{IsExplanation}
@@ -29,6 +29,7 @@ use Rattle.pb_command_faults.specs.declared.solve_fault.SolveFault.{SolveFault}
 use Rattle.pb_command_faults.specs.declared.solve_fault.SolveFault.TheVariants as solve_fault
 use Rattle.pbsolve.specs.declared.finding.Finding.{Finding}
 use Rattle.pbsolve.specs.declared.finding.Finding.TheVariants.{Decided, Refused, Shown}
+use Rattle.pbsolve.specs.declared.finding.Found.{Found}
 use Rattle.pbsolve.specs.declared.explained.ExplainedText.{ExplainedText}
 use Rattle.pbsolve.specs.declared.outcome.AskedOutcome.{AskedOutcome}
 use Rattle.pbsolve.specs.declared.outcome.Outcome.{Outcome}
@@ -40,7 +41,8 @@ use Rattle.pbsolve.specs.declared.property_text.AskedText.{AskedText}
 use Rattle.pbsolve.specs.declared.property_text.PropertyText.{PropertyText}
 use Rattle.pbsolve.specs.declared.property_text.PropertyText.TheVariants as property_text
 use Rattle.pbsolve.specs.Answers.{IsModuleOfForm}
-use Rattle.pbsolve.specs.Models.{HasIllTyped, IsOverTextLimit, IsPropertyAnswer, IsShown}
+use Rattle.pbsolve.specs.Models.{HasIllTyped, IsPropertyFound, IsOverTextLimit, IsPropertyAnswer}
+use Rattle.pbsolve.specs.Models.{IsShown}
 use Rattle.pbsolve.specs.Models.{IsTooLargeProperty, verdict_of}
 
 -- ---- texts
@@ -80,6 +82,15 @@ pub record IsTextAt (model : ModelForm) (asked : AskedText) : Type 0 where
   pub property : PropertyForm
   pub stands : slice_get model.properties asked.place ≡ Some property
   pub text : IsPropertyText model property asked.text
+
+-- these are found of the properties at the places of the texts, in order, where the bytes say a
+-- protocol in whose place a model is solved whose properties' texts these are
+pub record AreFoundByTexts (counts : Bool) (bytes : List ℕ) (texts : List AskedText)
+    (findings : List Found) : Type 0 where
+  pub places :
+      map (λ (f : Found). f.place) findings ≡ map (λ (asked : AskedText). asked.place) texts
+  pub found : (model : ModelForm) (said : IsModelOf bytes model) → All (IsTextAt model) texts
+      → All (IsPropertyFound counts said.protocol model) findings
 
 -- the text of a property of the model isn't well typed
 abbrev pub IsUntyped : ModelForm → SolveFault → Type 0

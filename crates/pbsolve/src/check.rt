@@ -1,17 +1,15 @@
 //! The verdicts on the properties of a model.
-ghost use Rattle.std.specs.Prelude.{◌≡◌, ◌≤◌, ◌<◌, ◌≢◌, [], length};
+ghost use Rattle.std.specs.Prelude.{◌≡◌, ◌<◌, ◌≢◌, [], length};
 ghost use Rattle.std.specs.Prelude.{Err, IfOk, string_bytes};
 ghost use Rattle.std.specs.List.{All};
 ghost use Rattle.pb_base.specs.OrMemory.{IfRefused};
-ghost use Rattle.pb_base.specs.declared.or_memory.OrMemory.TheVariants.{Refused};
 ghost use Rattle.pb_command_faults.specs.Errors.{IfInputRefused};
 ghost use Rattle.pb_command_faults.specs.declared.solve_fault.SolveFault.TheVariants.{NoProperty};
 ghost use Rattle.pb_model_properties.specs.Said.{IsModelOf};
 ghost use Rattle.pb_command_modules.specs.Delivery.{Delivers};
 ghost use Rattle.pbsolve.specs.Models.{AreFoundWhere, IsUnchecked, asked_names, solved_form};
 ghost use Rattle.pbsolve.specs.Writes.{WithStatus, WritesVerdicts};
-ghost use Rattle.pbsolve.specs.ReachedSteps.{AreStepsFoundWhere, checked_lines};
-ghost use Rattle.pbsolve.specs.ReachedSteps.{status_of_checked};
+ghost use Rattle.pbsolve.specs.ReachedSteps.{checked_lines, status_of_checked};
 
 use crate::decision::{DecisionOptions, findings_of};
 use crate::finding::Found;
@@ -23,7 +21,7 @@ use crate::short_input::ShortInput;
 use crate::status::Status;
 use crate::step_finding::StepFinding;
 use crate::step_lines::{push_lines_of_steps, status_of_checked};
-use pb_base::{MAX_INPUT_BYTES, OrMemory};
+use pb_base::OrMemory;
 use pb_command_faults::{SolveError, SolveFault};
 use pb_command_line::Checking;
 use pb_command_modules::deliver;
@@ -47,7 +45,6 @@ fn findings_on<R: Threads + Sync, G: Gate + Sync>(
         (λ findings. AreFoundWhere options.now input.entry.bytes.now solved.now findings.items) }
     ensures refused { IfRefused result
         (IsUnchecked (asked_names options.now) input.entry.bytes.now) }
-    ensures named { result ≡ Err (Refused NoProperty) → asked_names options.now ≢ [] }
 {
     let alloc = context.alloc;
     let places = match asked_of(alloc, &solved.typed.model.properties, &options.properties) {
@@ -59,7 +56,7 @@ fn findings_on<R: Threads + Sync, G: Gate + Sync>(
         solving: solve_options(options.solving),
         counts: options.counts,
     };
-    findings_of(context, input, &texts, deciding)
+    findings_of(context, input, texts, deciding)
 }
 
 // What is found of the properties that are asked for, and of the steps of the model.
@@ -67,27 +64,6 @@ fn findings_on<R: Threads + Sync, G: Gate + Sync>(
 struct Checked {
     findings: Vec<Found>,
     steps: Vec<StepFinding>,
-}
-
-// What is found of a model that was read.
-fn checked_on<R: Threads + Sync, G: Gate + Sync>(
-    context: &Context<'_, R, G>,
-    input: ShortInput<'_>,
-    solved: &SolvedModel,
-    options: &Checking,
-) -> Result<Checked, OrMemory<SolveFault>>
-    requires { IsModelOf input.bytes.now (solved_form solved.now) }
-    ensures findings { IfOk result (λ checked. AreFoundWhere options.now input.entry.bytes.now
-        solved.now checked.findings.items) }
-    ensures steps { IfOk result (λ checked. AreStepsFoundWhere options.now.counts
-        (solved_form solved.now) checked.steps.items) }
-    ensures refused { IfRefused result
-        (IsUnchecked (asked_names options.now) input.entry.bytes.now) }
-    ensures named { result ≡ Err (Refused NoProperty) → asked_names options.now ≢ [] }
-{
-    let findings = findings_on(context, input, solved, options)?;
-    let steps = steps_on(context, solved, options)?;
-    Ok(Checked { findings, steps })
 }
 
 // The lines that tell what is found, and how the run ends.
@@ -129,13 +105,14 @@ fn checked_report<R: Threads + Sync, G: Gate + Sync>(
         report.status (string_bytes report.lines)) }
     ensures refused { IfRefused result
         (IsUnchecked (asked_names options.now) input.entry.bytes.now) }
-    ensures named { result ≡ Err (Refused NoProperty) → asked_names options.now ≢ [] }
 {
     let solved = match read_protocol(context.alloc, input.bytes) {
         Ok(solved) => solved,
         Err(error) => return Err(error.raise()),
     };
-    let checked = checked_on(context, input, &solved, options)?;
+    let findings = findings_on(context, input, &solved, options)?;
+    let steps = steps_on(context, &solved, options)?;
+    let checked = Checked { findings, steps };
     let report = report_of(context.alloc, &solved, &checked, options)?;
     Ok(report)
 }
@@ -164,18 +141,18 @@ fn checked_report<R: Threads + Sync, G: Gate + Sync>(
 /// for `Limit` and `TooManyVertices`.
 pub fn check_text<R: Threads + Sync, G: Gate + Sync, S: Sink>(
     context: &Context<'_, R, G>,
-    bytes: &[u8],
+    input: ShortInput<'_>,
     options: &Checking,
     writer: &mut S,
 ) -> Result<Status, SolveError>
-    requires input { length bytes.now ≤ MAX_INPUT_BYTES }
     // The status is that of what was found.
-    ensures verdicts { Delivers (WithStatus result (WritesVerdicts options.now bytes.now))
-        result S.Sink writer.old writer.new }
-    ensures refused { IfInputRefused result (IsUnchecked (asked_names options.now) bytes.now) }
+    ensures verdicts { Delivers
+        (WithStatus result (WritesVerdicts options.now input.entry.bytes.now)) result
+        S.Sink writer.old writer.new }
+    ensures refused { IfInputRefused result
+        (IsUnchecked (asked_names options.now) input.entry.bytes.now) }
     ensures named { result ≡ Err (SolveError.Refused NoProperty) → asked_names options.now ≢ [] }
 {
-    let input = ShortInput { bytes };
     let report = checked_report(context, input, options)?;
     deliver(report.lines.as_bytes(), writer)?;
     Ok(report.status)

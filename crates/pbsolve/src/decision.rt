@@ -1,16 +1,16 @@
 //! What is found of properties, by what becomes of their texts and of those of their negations.
-ghost use Rattle.std.specs.Prelude.{◌≡◌, ◌<◌, Bool, map, true, IfOk};
+ghost use Rattle.std.specs.Prelude.{◌≡◌, Bool, true, IfOk};
 ghost use Rattle.std.specs.List.{All};
 ghost use Rattle.pb_base.specs.OrMemory.{IfRefused};
 ghost use Rattle.pb_model_tree.specs.Form.{ModelForm, PropertyForm};
 ghost use Rattle.pb_model_properties.specs.Said.{IsModelOf};
-ghost use Rattle.pbsolve.specs.Models.{HasModel, HasPropertyAt, IsPropertyFound, IsFoundWhere};
+ghost use Rattle.pbsolve.specs.Models.{HasModel, HasPropertyAt, IsFoundWhere};
 ghost use Rattle.pbsolve.specs.Models.{IsUnnegated};
-ghost use Rattle.pbsolve.specs.Outcomes.{AreNegations, IsDecision, IsDeniedAt, IsEarlyAt};
+ghost use Rattle.pbsolve.specs.Outcomes.{AreFoundByTexts, IsDecision, IsDeniedAt, IsEarlyAt};
 ghost use Rattle.pbsolve.specs.Outcomes.{IsModuleAt, IsOutcomeAt, IsPropertyModule, IsTextAt};
 
 use crate::finding::{Finding, Found};
-use crate::negation::negation_module;
+use crate::negation::{InputWithNegations, negation_module};
 use crate::outcome::{AskedOutcome, Outcome, early_of, early_truth, outcome_of};
 use crate::property_module::{AskedModule, PropertyModule, asked_module};
 use crate::property_text::AskedText;
@@ -19,7 +19,7 @@ use pb_base::OrMemory;
 use pb_command_faults::SolveFault;
 use pb_command_solver::{Context, Early, SolveOptions};
 use pb_exploration::Gate;
-use pb_model_properties::{SolvedModel, Verdict};
+use pb_model_properties::Verdict;
 use pb_protocol_negation::negations_erase;
 use pb_report::Answer;
 use std::alloc::AllocError;
@@ -39,19 +39,16 @@ pub(crate) struct DecisionOptions {
 /// Memory was refused.
 pub(crate) fn is_denied<R: Threads + Sync, G: Gate + Sync>(
     context: &Context<'_, R, G>,
-    input: ShortInput<'_>,
-    negations: &mut Option<SolvedModel>,
+    input: &mut InputWithNegations<'_>,
     place: usize,
     options: SolveOptions,
 ) -> Result<bool, AllocError>
-    requires within { HasPropertyAt input.bytes.now place }
-    requires read { AreNegations input.bytes.now negations.now }
-    ensures read { AreNegations input.entry.bytes.now negations.new }
-    ensures denied { IfOk result
-        (λ denied. denied ≡ true → IsDeniedAt input.entry.bytes.now place) }
+    requires { HasPropertyAt input.now place }
+    ensures same { input.new ≡ input.old }
+    ensures denied { IfOk result (λ denied. denied ≡ true → IsDeniedAt input.old place) }
 {
     negations_erase();
-    match negation_module(context.alloc, input, negations, place) {
+    match negation_module(context.alloc, input, place) {
         Ok(negation) => match early_truth(context, &negation.compiled, options)? {
             Some(true) => Ok(true),
             _ => Ok(false),
@@ -65,16 +62,14 @@ pub(crate) fn is_denied<R: Threads + Sync, G: Gate + Sync>(
 // those of its text, and where they show that it isn't satisfied, those of its negation's.
 fn early_at<R: Threads + Sync, G: Gate + Sync>(
     context: &Context<'_, R, G>,
-    input: ShortInput<'_>,
-    negations: &mut Option<SolvedModel>,
+    input: &mut InputWithNegations<'_>,
     asked: &AskedModule,
     options: DecisionOptions,
 ) -> Result<Early, AllocError>
-    requires given { HasModel input.bytes.now (λ model. IsModuleAt model asked.now) }
-    requires read { AreNegations input.bytes.now negations.now }
-    ensures read { AreNegations input.entry.bytes.now negations.new }
-    ensures told { IfOk result (λ early. (model : ModelForm)
-        → (said : IsModelOf input.entry.bytes.now model) → IsModuleAt model asked.now
+    requires { HasModel input.now (λ model. IsModuleAt model asked.now) }
+    ensures same { input.new ≡ input.old }
+    ensures told { IfOk result (λ early. (model : ModelForm) → (said : IsModelOf input.old model)
+        → IsModuleAt model asked.now
         → IsEarlyAt options.counts said.protocol model asked.now.place early) }
 {
     if options.counts {
@@ -86,7 +81,7 @@ fn early_at<R: Threads + Sync, G: Gate + Sync>(
         Early::Whole(answer) => Ok(Early::Whole(answer)),
         Early::Shown(true) => Ok(Early::Shown(true)),
         Early::Shown(false) => {
-            let denied = is_denied(context, input, negations, asked.place, options.solving)?;
+            let denied = is_denied(context, input, asked.place, options.solving)?;
             if denied {
                 return Ok(Early::Shown(false));
             }
@@ -125,17 +120,15 @@ fn decision<R: Threads + Sync, G: Gate + Sync>(
 /// `Text` and `Typing` where the negations are refused, or the text of this one isn't well typed.
 pub(crate) fn decided<R: Threads + Sync, G: Gate + Sync>(
     context: &Context<'_, R, G>,
-    input: ShortInput<'_>,
-    negations: &mut Option<SolvedModel>,
+    input: &mut InputWithNegations<'_>,
     asked: AskedOutcome,
     options: SolveOptions,
 ) -> Result<Finding, OrMemory<SolveFault>>
-    requires given { HasModel input.bytes.now (λ model. IsOutcomeAt model asked) }
-    requires read { AreNegations input.bytes.now negations.now }
-    ensures read { AreNegations input.entry.bytes.now negations.new }
+    requires { HasModel input.now (λ model. IsOutcomeAt model asked) }
+    ensures same { input.new ≡ input.old }
     ensures found { IfOk result (λ finding. (counts : Bool) → IsFoundWhere
-        (λ model. IsOutcomeAt model asked) counts input.entry.bytes.now asked.place finding) }
-    ensures refused { IfRefused result (IsUnnegated input.entry.bytes.now) }
+        (λ model. IsOutcomeAt model asked) counts input.old asked.place finding) }
+    ensures refused { IfRefused result (IsUnnegated input.old) }
 {
     negations_erase();
     match asked.outcome {
@@ -147,7 +140,7 @@ pub(crate) fn decided<R: Threads + Sync, G: Gate + Sync>(
             if answer.cut == 0 {
                 return Ok(Finding::Decided(Verdict::False, answer));
             }
-            let negation = negation_module(context.alloc, input, negations, asked.place)?;
+            let negation = negation_module(context.alloc, input, asked.place)?;
             Ok(decision(context, &negation.compiled, answer, options)?)
         }
     }
@@ -156,70 +149,46 @@ pub(crate) fn decided<R: Threads + Sync, G: Gate + Sync>(
 // What is found of a property, by all instances of its text.
 fn decided_by_all<R: Threads + Sync, G: Gate + Sync>(
     context: &Context<'_, R, G>,
-    input: ShortInput<'_>,
-    negations: &mut Option<SolvedModel>,
+    input: &mut InputWithNegations<'_>,
     asked: &AskedModule,
     options: SolveOptions,
 ) -> Result<Finding, OrMemory<SolveFault>>
-    requires given { HasModel input.bytes.now (λ model. IsModuleAt model asked.now) }
-    requires read { AreNegations input.bytes.now negations.now }
-    ensures read { AreNegations input.entry.bytes.now negations.new }
-    ensures found { IfOk result (λ finding. (counts : Bool)
-        → IsFoundWhere (λ model. IsModuleAt model asked.now) counts input.entry.bytes.now
-        asked.now.place finding) }
-    ensures refused { IfRefused result (IsUnnegated input.entry.bytes.now) }
+    requires { HasModel input.now (λ model. IsModuleAt model asked.now) }
+    ensures same { input.new ≡ input.old }
+    ensures found { IfOk result (λ finding. (counts : Bool) → IsFoundWhere
+        (λ model. IsModuleAt model asked.now) counts input.old asked.now.place finding) }
+    ensures refused { IfRefused result (IsUnnegated input.old) }
 {
     let outcome = outcome_of(context, &asked.compiled, options)?;
     let place = asked.place;
     let known = AskedOutcome { place, outcome };
-    decided(context, input, negations, known, options)
+    decided(context, input, known, options)
 }
 
 // What is found of a property, by the module of its text.
 fn finding_by<R: Threads + Sync, G: Gate + Sync>(
     context: &Context<'_, R, G>,
-    input: ShortInput<'_>,
-    negations: &mut Option<SolvedModel>,
+    input: &mut InputWithNegations<'_>,
     asked: &AskedModule,
     options: DecisionOptions,
 ) -> Result<Finding, OrMemory<SolveFault>>
-    requires given { HasModel input.bytes.now (λ model. IsModuleAt model asked.now) }
-    requires read { AreNegations input.bytes.now negations.now }
-    ensures read { AreNegations input.entry.bytes.now negations.new }
+    requires { HasModel input.now (λ model. IsModuleAt model asked.now) }
+    ensures same { input.new ≡ input.old }
     ensures found { IfOk result (IsFoundWhere (λ model. IsModuleAt model asked.now)
-        options.counts input.entry.bytes.now asked.now.place) }
-    ensures refused { IfRefused result (IsUnnegated input.entry.bytes.now) }
+        options.counts input.old asked.now.place) }
+    ensures refused { IfRefused result (IsUnnegated input.old) }
 {
     let place = asked.place;
-    let early = early_at(context, input, negations, asked, options)?;
+    let early = early_at(context, input, asked, options)?;
     match early {
         Early::Shown(truth) => Ok(Finding::Shown(truth)),
         Early::Whole(answer) => {
             let outcome = Outcome::Answered(answer);
             let known = AskedOutcome { place, outcome };
-            decided(context, input, negations, known, options.solving)
+            decided(context, input, known, options.solving)
         }
-        Early::Unknown => decided_by_all(context, input, negations, asked, options.solving),
+        Early::Unknown => decided_by_all(context, input, asked, options.solving),
     }
-}
-
-// What is found of a property, by its text.
-fn finding_of<R: Threads + Sync, G: Gate + Sync>(
-    context: &Context<'_, R, G>,
-    input: ShortInput<'_>,
-    negations: &mut Option<SolvedModel>,
-    asked: &AskedText,
-    options: DecisionOptions,
-) -> Result<Finding, OrMemory<SolveFault>>
-    requires given { HasModel input.bytes.now (λ model. IsTextAt model asked.now) }
-    requires read { AreNegations input.bytes.now negations.now }
-    ensures read { AreNegations input.entry.bytes.now negations.new }
-    ensures found { IfOk result (IsFoundWhere (λ model. IsTextAt model asked.now)
-        options.counts input.entry.bytes.now asked.now.place) }
-    ensures refused { IfRefused result (IsUnnegated input.entry.bytes.now) }
-{
-    let made = asked_module(context.alloc, asked)?;
-    finding_by(context, input, negations, &made, options)
 }
 
 /// What is found of each property, by its text.
@@ -229,25 +198,21 @@ fn finding_of<R: Threads + Sync, G: Gate + Sync>(
 pub(crate) fn findings_of<R: Threads + Sync, G: Gate + Sync>(
     context: &Context<'_, R, G>,
     input: ShortInput<'_>,
-    texts: &[AskedText],
+    texts: Vec<AskedText>,
     options: DecisionOptions,
 ) -> Result<Vec<Found>, OrMemory<SolveFault>>
-    requires { HasModel input.bytes.now (λ model. All (IsTextAt model) texts.now) }
-    ensures places { IfOk result (λ findings. map (λ found. found.place) findings.items
-        ≡ map (λ asked. asked.place) texts.now) }
-    ensures found { IfOk result (λ findings. (model : ModelForm)
-        → (said : IsModelOf input.entry.bytes.now model) → All (IsTextAt model) texts.now
-        → All (IsPropertyFound options.counts said.protocol model) findings.items) }
+    requires { HasModel input.bytes.now (λ model. All (IsTextAt model) texts.items) }
+    ensures found { IfOk result (λ findings. AreFoundByTexts options.counts input.entry.bytes.now
+        texts.items findings.items) }
     ensures refused { IfRefused result (IsUnnegated input.entry.bytes.now) }
 {
-    let mut negations = None;
+    let mut asked_input = InputWithNegations::new(input);
     let mut findings = Vec::new(context.alloc);
-    for asked in texts {
-        let finding = finding_of(context, input, &mut negations, asked, options)?;
-        findings.push(Found {
-            place: asked.place,
-            finding,
-        })?;
+    'texts: for asked in texts {
+        let made = asked_module(context.alloc, asked)?;
+        let finding = finding_by(context, &mut asked_input, &made, options)?;
+        let place = made.place;
+        findings.push(Found { place, finding })?;
     }
     Ok(findings)
 }

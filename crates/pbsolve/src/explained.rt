@@ -2,8 +2,6 @@
 ghost use Rattle.std.specs.Prelude.{◌≡◌, ◌<◌, IfOk, length};
 ghost use Rattle.pb_base.specs.OrMemory.{IfRefused};
 ghost use Rattle.pb_text_tree.specs.Form.{spec_form};
-ghost use Rattle.pb_text_meaning.specs.Erase.{erase};
-ghost use Rattle.pb_typing_rules.specs.WellTyped.{IsWellTyped};
 ghost use Rattle.pbsolve.specs.Models.{WhereUnexplained, solved_form};
 ghost use Rattle.pbsolve.specs.Outcomes.{IsExplained, IsExplainedAt};
 ghost use Rattle.pbsolve.specs.Refusals.{IsUnexplainedForm};
@@ -39,7 +37,6 @@ pub(crate) fn explained_typed<R: Threads + Sync, G: Gate + Sync>(
     typed: Typed,
     workers: Workers,
 ) -> Result<ExplainedText, OrMemory<SolveFault>>
-    requires { IsWellTyped (erase (spec_form typed.spec)) }
     ensures typed { IfOk result (λ explained. explained.typed ≡ typed) }
     ensures explained { IfOk result IsExplained }
     ensures refused { IfRefused result (IsUnexplainedForm (spec_form typed.spec)) }

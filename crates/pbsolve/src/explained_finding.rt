@@ -1,21 +1,20 @@
 //! What is found of properties that are explained.
-ghost use Rattle.std.specs.Prelude.{false, IfOk};
+ghost use Rattle.std.specs.Prelude.{◌≡◌, false, IfOk};
 ghost use Rattle.pb_base.specs.OrMemory.{IfRefused};
 ghost use Rattle.pbsolve.specs.Models.{HasModel, IsFoundWhere, IsUnnegated};
-ghost use Rattle.pbsolve.specs.Outcomes.{AreNegations, IsExplainedIn};
+ghost use Rattle.pbsolve.specs.Outcomes.{IsExplainedIn};
 
 use crate::decision::{decided, is_denied};
 use crate::explained::ExplainedText;
 use crate::finding::Finding;
+use crate::negation::InputWithNegations;
 use crate::options::WhyOptions;
 use crate::outcome::{AskedOutcome, answered};
-use crate::short_input::ShortInput;
 use pb_base::OrMemory;
 use pb_command_faults::SolveFault;
 use pb_command_solver::{Context, SolveOptions};
 use pb_exploration::Gate;
 use pb_game::Solver;
-use pb_model_properties::SolvedModel;
 use std::thread::Threads;
 
 /// The property at a place is told with these options; it is shown always, or where the verdict
@@ -33,18 +32,15 @@ pub(crate) struct Asked {
 /// `Text` and `Typing` where the negations are refused, or the text of this one isn't well typed.
 pub(crate) fn explained_finding<R: Threads + Sync, G: Gate + Sync>(
     context: &Context<'_, R, G>,
-    input: ShortInput<'_>,
-    negations: &mut Option<SolvedModel>,
+    input: &mut InputWithNegations<'_>,
     explained: &ExplainedText,
     asked: Asked,
 ) -> Result<Finding, OrMemory<SolveFault>>
-    requires given { HasModel input.bytes.now (λ model. IsExplainedIn model asked.place
-        explained.now) }
-    requires read { AreNegations input.bytes.now negations.now }
-    ensures read { AreNegations input.entry.bytes.now negations.new }
-    ensures found { IfOk result (IsFoundWhere (λ model. IsExplainedIn model asked.place
-        explained.now) false input.entry.bytes.now asked.place) }
-    ensures refused { IfRefused result (IsUnnegated input.entry.bytes.now) }
+    requires { HasModel input.now (λ model. IsExplainedIn model asked.place explained.now) }
+    ensures same { input.new ≡ input.old }
+    ensures found { IfOk result (IsFoundWhere
+        (λ model. IsExplainedIn model asked.place explained.now) false input.old asked.place) }
+    ensures refused { IfRefused result (IsUnnegated input.old) }
 {
     if explained.explanation.evidence.truth {
         return Ok(Finding::Shown(true));
@@ -53,7 +49,7 @@ pub(crate) fn explained_finding<R: Threads + Sync, G: Gate + Sync>(
         workers: asked.options.workers,
         solver: Solver::Zielonka,
     };
-    let denied = is_denied(context, input, negations, asked.place, solving)?;
+    let denied = is_denied(context, input, asked.place, solving)?;
     if denied {
         return Ok(Finding::Shown(false));
     }
@@ -62,5 +58,5 @@ pub(crate) fn explained_finding<R: Threads + Sync, G: Gate + Sync>(
         place: asked.place,
         outcome,
     };
-    decided(context, input, negations, asked, solving)
+    decided(context, input, asked, solving)
 }

@@ -40,6 +40,7 @@ pub use pb_command_line::Checking;
 pub use pb_command_modules::{list_code, solve_code, verify_code};
 pub use pb_command_solver::{Context, SolveOptions, Workers};
 pub use program::{run, tell_fault};
+pub use short_input::ShortInput;
 pub use solve::{certificate_of, explain_text, game_of, solution_of, solve_text};
 pub use status::Status;
 pub use step_finding::StepFinding;

@@ -12,6 +12,36 @@ use pb_base::OrMemory;
 use pb_command_faults::SolveFault;
 use pb_model_properties::{ModelError, SolvedModel, read_negations};
 use std::alloc::Global;
+use std::marker::Model;
+
+/// An input with the negations of the properties of the protocol that it says, where they were
+/// read. Contracts see its bytes.
+#[derive(Drop)]
+pub(crate) struct InputWithNegations<'a> {
+    input: ShortInput<'a>,
+    negations: Option<SolvedModel>,
+}
+
+impl<'a> Model for InputWithNegations<'a> {
+    ghost use Rattle.std.specs.Prelude.{ℕ, List};
+    ghost use Rattle.pbsolve.specs.Outcomes.{AreNegations};
+
+    ghost Value = { List ℕ };
+
+    ghost view = { λ asked. asked.input.bytes.now };
+
+    ghost invariant = { λ asked. AreNegations asked.input.bytes.now asked.negations };
+}
+
+impl<'a> InputWithNegations<'a> {
+    /// An input whose negations weren't read.
+    pub(crate) fn new(input: ShortInput<'a>) -> InputWithNegations<'a>
+        ensures { result ≡ input.entry.bytes.now }
+    {
+        let negations = None;
+        InputWithNegations { input, negations }
+    }
+}
 
 // Reads the negations, unless they were read.
 fn read_once(
@@ -38,25 +68,23 @@ fn read_once(
 /// another rule than that of limits.
 pub(crate) fn negation_module(
     alloc: Global,
-    input: ShortInput<'_>,
-    negations: &mut Option<SolvedModel>,
+    input: &mut InputWithNegations<'_>,
     place: usize,
 ) -> Result<AskedModule, OrMemory<SolveFault>>
-    requires within { HasPropertyAt input.bytes.now place }
-    requires read { AreNegations input.bytes.now negations.now }
-    ensures read { AreNegations input.entry.bytes.now negations.new }
+    requires { HasPropertyAt input.now place }
+    ensures same { input.new ≡ input.old }
     ensures place { IfOk result (λ asked. asked.place ≡ place) }
-    ensures compiled { IfOk result (IsNegationAt input.entry.bytes.now) }
-    ensures refused { IfRefused result (IsUnnegated input.entry.bytes.now) }
+    ensures compiled { IfOk result (IsNegationAt input.old) }
+    ensures refused { IfRefused result (IsUnnegated input.old) }
 {
-    match read_once(alloc, input, negations) {
-        Ok(()) => match &*negations {
-            Some(read) => {
-                let asked = asked_text(alloc, read, place)?;
-                asked_module(alloc, &asked)
-            }
-            None => unreachable!(),
-        },
-        Err(error) => Err(error.raise()),
+    match read_once(alloc, input.input, &mut input.negations) {
+        Ok(()) => (),
+        Err(error) => return Err(error.raise()),
     }
+    let Some(read) = &input.negations else {
+        unreachable!();
+    };
+    let asked = asked_text(alloc, read, place)?;
+    let made = asked_module(alloc, asked)?;
+    Ok(made)
 }

@@ -29,6 +29,7 @@ use crate::compile::compile_text;
 use crate::models::translate_text;
 use crate::options::{ExplainOptions, WhyOptions, solve_options};
 use crate::run_error::RunError;
+use crate::short_input::ShortInput;
 use crate::solve::{certificate_of, explain_text, game_of, solution_of, solve_text};
 use crate::status::Status;
 use crate::streams::Streams;
@@ -49,43 +50,43 @@ use std::thread::Threads;
 fn task_answer<R: Threads + Sync, G: Gate + Sync, O: Sink>(
     context: &Context<'_, R, G>,
     task: Task,
-    bytes: &[u8],
+    input: ShortInput<'_>,
     out: &mut O,
 ) -> Result<(), SolveError>
-    requires { length bytes.now ≤ MAX_INPUT_BYTES }
-    ensures written { Delivers (Writes task bytes.now) result O.Sink out.old out.new }
-    ensures refused { IfInputRefused result (IsRefusedFor task bytes.now) }
+    ensures written { Delivers (Writes task input.entry.bytes.now) result
+        O.Sink out.old out.new }
+    ensures refused { IfInputRefused result (IsRefusedFor task input.entry.bytes.now) }
     ensures named { result ≡ Err (SolveError.Refused NoProperty) → task_names task ≢ [] }
 {
     match task {
         Task::Solve(options) => {
-            solve_text(context, bytes, solve_options(options), out)?;
+            solve_text(context, input, solve_options(options), out)?;
             Ok(())
         }
         Task::Game(options) => {
             let workers = Workers {
                 count: options.workers,
             };
-            game_of(context, bytes, workers, out)
+            game_of(context, input, workers, out)
         }
-        Task::Solution(options) => solution_of(context, bytes, solve_options(options), out),
-        Task::Certificate(options) => certificate_of(context, bytes, solve_options(options), out),
+        Task::Solution(options) => solution_of(context, input, solve_options(options), out),
+        Task::Certificate(options) => certificate_of(context, input, solve_options(options), out),
         Task::Explain(options) => {
             let workers = Workers {
                 count: options.workers,
             };
             let places = options.places;
-            explain_text(context, bytes, ExplainOptions { workers, places }, out)
+            explain_text(context, input, ExplainOptions { workers, places }, out)
         }
-        Task::Compile => compile_text(context.alloc, bytes, out),
-        Task::Verify => verify_code(context.alloc, bytes, out),
-        Task::List => list_code(context.alloc, bytes, out),
+        Task::Compile => compile_text(context.alloc, input, out),
+        Task::Verify => verify_code(context.alloc, input.bytes, out),
+        Task::List => list_code(context.alloc, input.bytes, out),
         Task::SolveCode(options) => {
-            solve_code(context, bytes, solve_options(options), out)?;
+            solve_code(context, input.bytes, solve_options(options), out)?;
             Ok(())
         }
         Task::Translate(options) => {
-            translate_text(context.alloc, bytes, name_of(&options.property), out)
+            translate_text(context.alloc, input, name_of(&options.property), out)
         }
         Task::Why(options) => {
             let workers = Workers {
@@ -93,7 +94,7 @@ fn task_answer<R: Threads + Sync, G: Gate + Sync, O: Sink>(
             };
             let lines = options.lines;
             let shown = WhyOptions { workers, lines };
-            why_text(context, bytes, name_of(&options.property), shown, out)
+            why_text(context, input, name_of(&options.property), shown, out)
         }
     }
 }
@@ -112,13 +113,12 @@ fn name_of(property: &Option<String>) -> Option<&str>
 fn answer<R: Threads + Sync, G: Gate + Sync, O: Sink>(
     context: &Context<'_, R, G>,
     request: Request,
-    bytes: &[u8],
+    input: ShortInput<'_>,
     out: &mut O,
 ) -> Result<Status, SolveError>
-    requires { length bytes.now ≤ MAX_INPUT_BYTES }
-    ensures written { Delivers (WithStatus result (Answers request bytes.now)) result
+    ensures written { Delivers (WithStatus result (Answers request input.entry.bytes.now)) result
         O.Sink out.old out.new }
-    ensures refused { IfInputRefused result (RefusesBytes request bytes.now) }
+    ensures refused { IfInputRefused result (RefusesBytes request input.entry.bytes.now) }
     ensures named { result ≡ Err (SolveError.Refused NoProperty) → property_names request ≢ [] }
 {
     match request {
@@ -126,9 +126,9 @@ fn answer<R: Threads + Sync, G: Gate + Sync, O: Sink>(
             deliver(rule.words().as_bytes(), out)?;
             Ok(Status::Answered)
         }
-        Request::Check(options) => check_text(context, bytes, &options, out),
+        Request::Check(options) => check_text(context, input, &options, out),
         Request::Input(task) => {
-            task_answer(context, task, bytes, out)?;
+            task_answer(context, task, input, out)?;
             Ok(Status::Answered)
         }
     }
@@ -179,7 +179,8 @@ fn attempt<T: Threads + Sync, S: AsStr, R: Source, G: Gate + Sync, O: Sink>(
 {
     let request = request_of(context.alloc, words)?;
     let input = input_for(context.alloc, &request, reader)?;
-    let status = answer(context, request, input.as_slice(), out)?;
+    let bytes = input.as_slice();
+    let status = answer(context, request, ShortInput { bytes }, out)?;
     Ok(status)
 }
 

@@ -1,16 +1,15 @@
 //! The modules of the texts of properties.
 ghost use Rattle.std.specs.Prelude.{◌≡◌, IfOk};
-ghost use Rattle.pb_base.specs.OrMemory.{IfFault, IfRefused, OnRefused};
 ghost use Rattle.pb_model_tree.specs.Form.{ModelForm, PropertyForm};
-ghost use Rattle.pbsolve.specs.Outcomes.{IsExcess, IsModuleAt, IsPropertyModule, IsPropertyText};
-ghost use Rattle.pbsolve.specs.Outcomes.{IsTextAt, excess_of};
+ghost use Rattle.pbsolve.specs.Outcomes.{IsModuleAt, IsPropertyModule, IsPropertyText, IsTextAt};
+ghost use Rattle.pbsolve.specs.Outcomes.{excess_of};
 
-use crate::compile::verified;
+use crate::compile::verified_laid_out;
 use crate::property_text::{AskedText, PropertyText};
 use pb_base::OrMemory;
 use pb_command_faults::{PropertyExcess, SolveFault};
 use pb_verifier::Verified;
-use std::alloc::Global;
+use std::alloc::{AllocError, Global};
 
 /// The module of the text of a property, or what of the text is too large.
 #[derive(Drop)]
@@ -36,43 +35,28 @@ fn excess_of(fault: SolveFault) -> Option<PropertyExcess>
     }
 }
 
-// What of a property is too large whose text isn't compiled by this error.
-fn excess_by(error: OrMemory<SolveFault>) -> Result<PropertyModule, OrMemory<SolveFault>>
-    ensures compiled { IfOk result (λ made. (model : ModelForm) (p : PropertyForm)
-        → IfFault error (λ fault. IsExcess model p (excess_of fault))
-        → IsPropertyModule model p made) }
-    ensures refused { IfRefused result (λ fault. (model : ModelForm) (p : PropertyForm)
-        → IfFault error (λ fault. IsExcess model p (excess_of fault)) → ⊥) }
-{
-    match error {
-        OrMemory::Memory => Err(OrMemory::Memory),
-        OrMemory::Refused(fault) => match excess_of(fault) {
-            Some(excess) => Ok(PropertyModule::TooLarge(excess)),
-            None => Err(OrMemory::Refused(fault)),
-        },
-    }
-}
-
 /// The module of a property's text.
 ///
 /// # Errors
 /// Memory was refused.
 pub(crate) fn property_module(
     alloc: Global,
-    text: &PropertyText,
-) -> Result<PropertyModule, OrMemory<SolveFault>>
-    requires { (model : ModelForm) × (p : PropertyForm) × IsPropertyText model p text.now }
-    ensures compiled { IfOk result (λ made. (model : ModelForm) (p : PropertyForm)
-        → IsPropertyText model p text.now → IsPropertyModule model p made) }
-    ensures refused { OnRefused result ⊥ }
+    text: PropertyText,
+) -> Result<PropertyModule, AllocError>
+    ensures { IfOk result (λ made. (model : ModelForm) (p : PropertyForm)
+        → IsPropertyText model p text → IsPropertyModule model p made) }
 {
     let typed = match text {
         PropertyText::Typed(typed) => typed,
         PropertyText::TooLarge => return Ok(PropertyModule::TooLarge(PropertyExcess::Text)),
     };
-    match verified(alloc, typed) {
+    match verified_laid_out(alloc, typed) {
         Ok(verified) => Ok(PropertyModule::Verified(verified)),
-        Err(error) => excess_by(error),
+        Err(OrMemory::Memory) => Err(AllocError),
+        Err(OrMemory::Refused(fault)) => match excess_of(fault) {
+            Some(excess) => Ok(PropertyModule::TooLarge(excess)),
+            None => unreachable!(),
+        },
     }
 }
 
@@ -80,19 +64,12 @@ pub(crate) fn property_module(
 ///
 /// # Errors
 /// Memory was refused.
-pub(crate) fn asked_module(
-    alloc: Global,
-    asked: &AskedText,
-) -> Result<AskedModule, OrMemory<SolveFault>>
-    requires { (model : ModelForm) × IsTextAt model asked.now }
-    ensures place { IfOk result (λ made. made.place ≡ asked.now.place) }
+pub(crate) fn asked_module(alloc: Global, asked: AskedText) -> Result<AskedModule, AllocError>
+    ensures place { IfOk result (λ made. made.place ≡ asked.place) }
     ensures compiled { IfOk result
-        (λ made. (model : ModelForm) → IsTextAt model asked.now → IsModuleAt model made) }
-    ensures refused { OnRefused result ⊥ }
+        (λ made. (model : ModelForm) → IsTextAt model asked → IsModuleAt model made) }
 {
-    let compiled = property_module(alloc, &asked.text)?;
-    Ok(AskedModule {
-        place: asked.place,
-        compiled,
-    })
+    let AskedText { place, text } = asked;
+    let compiled = property_module(alloc, text)?;
+    Ok(AskedModule { place, compiled })
 }

@@ -51,7 +51,7 @@ fn step_module(
     ensures refused { IfRefused result (IsUntypedStep (solved_form solved.now)) }
 {
     let asked = step_text(alloc, solved, step)?;
-    let compiled = property_module(alloc, &asked.text)?;
+    let compiled = property_module(alloc, asked.text)?;
     Ok(compiled)
 }
 

@@ -4,7 +4,7 @@ ghost use Rattle.pb_base.specs.declared.limits.TheConstants.{MAX_INPUT_BYTES};
 
 /// The bytes of an input.
 #[derive(Clone, Copy)]
-pub(crate) struct ShortInput<'a> {
+pub struct ShortInput<'a> {
     pub bytes: &'a [u8],
     pub ghost short: { length bytes.now ≤ MAX_INPUT_BYTES },
 }

@@ -4,7 +4,7 @@ ghost use Rattle.pb_base.specs.OrMemory.{IfRefused};
 ghost use Rattle.pb_model_properties.specs.Said.{IsModelOf};
 ghost use Rattle.pb_model_words.specs.View.{vocabulary_of};
 ghost use Rattle.pbsolve.specs.Models.{IsUnexplained, WhereFound, solved_form};
-ghost use Rattle.pbsolve.specs.Outcomes.{AreNegations, IsExplainedAt, verdict_in};
+ghost use Rattle.pbsolve.specs.Outcomes.{IsExplainedAt, verdict_in};
 ghost use Rattle.pbsolve.specs.Why.{AreTellable, AreTellingParts, IsTellableShown, IsToldAsked};
 ghost use Rattle.pbsolve.specs.Why.{IsToldShown, IsToldThere, is_true};
 
@@ -12,8 +12,8 @@ use crate::explained::{ExplainedText, explained_at};
 use crate::explained_finding::{Asked, explained_finding};
 use crate::finding::Finding;
 use crate::finding_lines::verdict_of;
+use crate::negation::InputWithNegations;
 use crate::property_faults::too_large_at;
-use crate::short_input::ShortInput;
 use pb_base::OrMemory;
 use pb_command_faults::{PropertyExcess, SolveFault};
 use pb_command_solver::Context;
@@ -172,21 +172,18 @@ fn found_told(
 /// of the two isn't well typed. `Text` and `Typing` come too where the negations are refused.
 pub(crate) fn told_at<R: Threads + Sync, G: Gate + Sync>(
     context: &Context<'_, R, G>,
-    input: ShortInput<'_>,
+    input: &mut InputWithNegations<'_>,
     solved: &SolvedModel,
-    negations: &mut Option<SolvedModel>,
     asked: Asked,
 ) -> Result<String, OrMemory<SolveFault>>
-    requires said { IsModelOf input.bytes.now (solved_form solved.now) }
+    requires said { IsModelOf input.now (solved_form solved.now) }
     requires within { asked.place < length solved.now.typed.model.properties.items }
-    requires read { AreNegations input.bytes.now negations.now }
-    ensures read { AreNegations input.entry.bytes.now negations.new }
-    ensures told { IfOk result (λ told.
-        (said : IsModelOf input.entry.bytes.now (solved_form solved.now))
+    ensures same { input.new ≡ input.old }
+    ensures told { IfOk result (λ told. (said : IsModelOf input.old (solved_form solved.now))
         → IsToldAsked asked solved.now said.protocol (string_bytes told)) }
-    ensures refused { IfRefused result (IsUnexplained input.entry.bytes.now) }
+    ensures refused { IfRefused result (IsUnexplained input.old) }
 {
     let explained = explained_at(context, solved, asked.place, asked.options)?;
-    let finding = explained_finding(context, input, negations, &explained, asked)?;
+    let finding = explained_finding(context, input, &explained, asked)?;
     found_told(context.alloc, solved, &explained, finding, asked)
 }

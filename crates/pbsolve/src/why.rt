@@ -1,5 +1,5 @@
 //! Why the properties of a model hold or don't: the verdicts, with the steps that show them.
-ghost use Rattle.std.specs.Prelude.{◌≡◌, ◌≤◌, Contains, Err, IfOk, IsSome, None, Some, length};
+ghost use Rattle.std.specs.Prelude.{◌≡◌, Contains, Err, IfOk, IsSome, None, Some};
 ghost use Rattle.std.specs.Prelude.{option_copied, string_bytes};
 ghost use Rattle.pb_base.specs.OrMemory.{IfRefused};
 ghost use Rattle.pb_base.specs.declared.or_memory.OrMemory.TheVariants.{Refused};
@@ -14,10 +14,11 @@ ghost use Rattle.pbsolve.specs.Why.{IsUnshown, TellWhere, WritesWhy};
 
 use crate::explained_finding::Asked;
 use crate::laws::told_calls_are_steps;
+use crate::negation::InputWithNegations;
 use crate::options::WhyOptions;
 use crate::short_input::ShortInput;
 use crate::told::told_at;
-use pb_base::{MAX_INPUT_BYTES, OrMemory};
+use pb_base::OrMemory;
 use pb_command_faults::{SolveError, SolveFault};
 use pb_command_modules::deliver;
 use pb_command_solver::Context;
@@ -38,7 +39,7 @@ fn all_told<R: Threads + Sync, G: Gate + Sync>(
         solved.now (string_bytes lines)) }
     ensures refused { IfRefused result (IsUnexplained input.entry.bytes.now) }
 {
-    let mut negations = None;
+    let mut asked_input = InputWithNegations::new(input);
     let mut lines = String::new(context.alloc);
     for place in 0..solved.typed.model.properties.len() {
         let asked = Asked {
@@ -46,7 +47,7 @@ fn all_told<R: Threads + Sync, G: Gate + Sync>(
             always: false,
             options,
         };
-        let told = told_at(context, input, solved, &mut negations, asked)?;
+        let told = told_at(context, &mut asked_input, solved, asked)?;
         lines.push_str(told.as_str())?;
     }
     Ok(lines)
@@ -73,8 +74,7 @@ fn named_told<R: Threads + Sync, G: Gate + Sync>(
         always: true,
         options,
     };
-    let mut negations = None;
-    told_at(context, input, solved, &mut negations, asked)
+    told_at(context, &mut InputWithNegations::new(input), solved, asked)
 }
 
 // What is told of the property of a name, or of all where none is named.
@@ -121,29 +121,30 @@ fn asked_told<R: Threads + Sync, G: Gate + Sync>(
 /// something of a property or of its negation is too large. Others are as with `check_text`.
 pub fn why_text<R: Threads + Sync, G: Gate + Sync, S: Sink>(
     context: &Context<'_, R, G>,
-    bytes: &[u8],
+    input: ShortInput<'_>,
     property: Option<&str>,
     options: WhyOptions,
     writer: &mut S,
 ) -> Result<(), SolveError>
-    requires input { length bytes.now ≤ MAX_INPUT_BYTES }
-    ensures told { Delivers (WritesWhy options.lines (option_copied property.entry) bytes.now)
-        result S.Sink writer.old writer.new }
+    ensures told { Delivers
+        (WritesWhy options.lines (option_copied property.entry) input.entry.bytes.now) result
+        S.Sink writer.old writer.new }
     // The calls that the lines tell are steps of the model.
-    ensures steps { (model : ModelForm) (p : PropertyForm) → IsModelOf bytes.now model
+    ensures steps { (model : ModelForm) (p : PropertyForm) → IsModelOf input.entry.bytes.now model
         → Contains model.properties p → CallsAreSteps model p }
     // And moves of the protocol.
-    ensures moves { (model : ModelForm) (p : PropertyForm) → (said : IsModelOf bytes.now model)
-        → Contains model.properties p → CallsAreMoves bytes.now model said p }
+    ensures moves { (model : ModelForm) (p : PropertyForm)
+        → (said : IsModelOf input.entry.bytes.now model)
+        → Contains model.properties p → CallsAreMoves input.entry.bytes.now model said p }
     // Of states of the protocol: that is what a state is told as.
-    ensures states { (model : ModelForm) → (said : IsModelOf bytes.now model)
-        → StatesAreTold bytes.now model said }
-    ensures refused { IfInputRefused result (IsUnshown (option_copied property.entry) bytes.now) }
+    ensures states { (model : ModelForm) → (said : IsModelOf input.entry.bytes.now model)
+        → StatesAreTold input.entry.bytes.now model said }
+    ensures refused { IfInputRefused result
+        (IsUnshown (option_copied property.entry) input.entry.bytes.now) }
     ensures named { result ≡ Err (SolveError.Refused NoProperty) → IsSome property.entry }
 {
     told_calls_are_steps();
-    let solved = read_protocol(context.alloc, bytes)?;
-    let input = ShortInput { bytes };
+    let solved = read_protocol(context.alloc, input.bytes)?;
     let lines = asked_told(context, input, &solved, property, options)?;
     deliver(lines.as_bytes(), writer)
 }

@@ -5,22 +5,27 @@ use Rattle.pb_command_modules.proofs.Deliveries.{less_left_on, less_sent, nothin
 use Rattle.pbsolve.specs.declared.status.Status.{Status}
 use Rattle.pbsolve.specs.Models.{IsUnchecked}
 use Rattle.pbsolve.specs.Writes.{WithStatus, WritesVerdicts}
+use Rattle.pbsolve.proofs.Checked.{lacked_names}
 use Rattle.pbsolve.proofs.Findings.{no_status}
 use Rattle.pbsolve.proofs.check.check_text.Goals as goal
 
 pub returns-in_err-report-clause-verdicts : goal.returns-in_err-report-clause-verdicts
 returns-in_err-report-clause-verdicts g c =
-    nothing_written g.S.Sink _ (WithStatus c.from_residual.result (WritesVerdicts c.args.options.now c.args.bytes.now)) c.args.writer.now
+    nothing_written g.S.Sink _ (WithStatus c.from_residual.result (WritesVerdicts c.args.options.now c.args.input.bytes.now)) c.args.writer.now
     c.in_err-report.field-0.0 c.from_residual.result c.from_residual.ensures.1
 
 pub returns-in_err-report-clause-refused : goal.returns-in_err-report-clause-refused
 returns-in_err-report-clause-refused g c =
-    let P = IsUnchecked (map string_bytes c.args.options.now.properties.items) c.args.bytes.now in
+    let P = IsUnchecked (map string_bytes c.args.options.now.properties.items) c.args.input.bytes.now in
     handed_up P P (λ f h. h) c.in_err-report.field-0.0 c.from_residual.result c.in_err-report.ensures.refused c.from_residual.ensures.1
+
+pub returns-in_err-report-clause-named : goal.returns-in_err-report-clause-named
+returns-in_err-report-clause-named g c =
+    lacked_names (map string_bytes c.args.options.now.properties.items) c.args.input.bytes.now c.from_residual.result (returns-in_err-report-clause-refused g c)
 
 pub returns-in_err-deliver-clause-verdicts : goal.returns-in_err-deliver-clause-verdicts
 returns-in_err-deliver-clause-verdicts g c =
-    let verdicts = WritesVerdicts c.args.options.now c.args.bytes.now in
+    let verdicts = WritesVerdicts c.args.options.now c.args.input.bytes.now in
     let report = c.in_ok-report.report in
     let r = c.from_residual-in_err-deliver.result in
     less_left_on g.S.Sink (λ (t : List ℕ). t ≡ c.as_bytes.result.now) (WithStatus r verdicts)
@@ -32,7 +37,7 @@ returns-in_err-deliver-clause-verdicts g c =
 
 pub returns-clause-verdicts : goal.returns-clause-verdicts
 returns-clause-verdicts g c =
-    let verdicts = WritesVerdicts c.args.options.now c.args.bytes.now in
+    let verdicts = WritesVerdicts c.args.options.now c.args.input.bytes.now in
     let report = c.in_ok-report.report in
     let Verdicts : List ℕ → Type 0 = λ t. (status : Status) × (report.status ≡ status) × verdicts status t in
     less_sent g.S.Sink (λ (t : List ℕ). t ≡ c.as_bytes.result.now) Verdicts

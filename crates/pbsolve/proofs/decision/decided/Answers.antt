@@ -5,10 +5,10 @@ use Rattle.pbsolve.specs.Outcomes.{IsOutcome}
 use Rattle.pbsolve.proofs.Decisions.{found_false, found_large, found_open, found_true}
 use Rattle.pbsolve.proofs.decision.decided.Goals as goal
 
-pub negation_module-requires-clause-within : goal.negation_module-requires-clause-within
-negation_module-requires-clause-within g c =
-    let at = c.requires.given.2 in
-    (c.requires.given.0, c.requires.given.1, slice_get_within c.requires.given.0.properties c.args.asked.place at.property at.stands)
+pub negation_module-requires : goal.negation_module-requires
+negation_module-requires g c =
+    let at = c.requires.2 in
+    (c.requires.0, c.requires.1, slice_get_within c.requires.0.properties c.args.asked.place at.property at.stands)
 
 pub returns-in-TooLarge-clause-found : goal.returns-in-TooLarge-clause-found
 returns-in-TooLarge-clause-found g c counts model said at =
@@ -28,5 +28,5 @@ returns-in_ok-decision-in-Answered-clause-found g c counts model said at =
     let uncut = c.if-answer-eq0.false in
     let cut : 0 < c.in-Answered.answer.cut = omega (arith, uncut) in
     found_open counts said.protocol model said.is_for c.args.asked.place at.property at.stands c.in-Answered.answer (subst (IsOutcome model at.property) c.in-Answered.is at.outcome)
-    c.negations_erase.ensures.protocols c.negations_erase.ensures.satisfaction c.args.input.bytes.now said.read c.in_ok-negation-in-Answered.negation c.in_ok-negation-in-Answered.ensures.compiled
+    c.negations_erase.ensures.protocols c.negations_erase.ensures.satisfaction c.args.input.now said.read c.in_ok-negation-in-Answered.negation c.in_ok-negation-in-Answered.ensures.compiled
     c.in_ok-negation-in-Answered.ensures.place c.if-answer.false cut c.in_ok-decision-in-Answered.field-0 c.in_ok-decision-in-Answered.ensures

@@ -16,9 +16,9 @@ outcome_at model asked at o becomes = record {
   outcome = becomes model at.property at.compiled;
 }
 
-pub decided-requires-clause-given : goal.decided-requires-clause-given
-decided-requires-clause-given g c κs within =
-    let given = c.requires.given in (given.0, given.1, outcome_at given.0 c.args.asked.now given.2 c.in_ok-outcome.outcome c.in_ok-outcome.ensures)
+pub decided-requires-after_bounds : goal.decided-requires-after_bounds
+decided-requires-after_bounds g c κs within =
+    let given = c.requires in (given.0, given.1, outcome_at given.0 c.args.asked.now given.2 c.in_ok-outcome.outcome c.in_ok-outcome.ensures)
 
 pub returns-clause-found : goal.returns-clause-found
 returns-clause-found g c = ok_more _ _ (λ finding h counts model said at. h counts model said (outcome_at model c.args.asked.now at c.in_ok-outcome.outcome c.in_ok-outcome.ensures))

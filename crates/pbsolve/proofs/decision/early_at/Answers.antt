@@ -6,10 +6,10 @@ use Rattle.pbsolve.specs.Outcomes.{IsEarlyOf}
 use Rattle.pbsolve.proofs.Decisions.{shown_false, shown_true}
 use Rattle.pbsolve.proofs.decision.early_at.Goals as goal
 
-pub is_denied-requires-clause-within : goal.is_denied-requires-clause-within
-is_denied-requires-clause-within g c κs within =
-    let at = c.requires.given.2 in
-    (c.requires.given.0, c.requires.given.1, slice_get_within c.requires.given.0.properties c.args.asked.now.place at.property at.stands)
+pub is_denied-requires-after_bounds : goal.is_denied-requires-after_bounds
+is_denied-requires-after_bounds g c κs within =
+    let at = c.requires.2 in
+    (c.requires.0, c.requires.1, slice_get_within c.requires.0.properties c.args.asked.now.place at.property at.stands)
 
 pub returns-in-Whole-clause-told : goal.returns-in-Whole-clause-told
 returns-in-Whole-clause-told g c model said at = record {
@@ -29,7 +29,7 @@ returns-in-Shown-true-clause-told g c model said at = (
 pub returns-then-denied-clause-told : goal.returns-then-denied-clause-told
 returns-then-denied-clause-told g c model said at = (
   c.if-options.false,
-  shown_false c.args.options.counts said.protocol model said.is_for c.args.asked.now.place at.property at.stands c.args.input.bytes.now said.read
+  shown_false c.args.options.counts said.protocol model said.is_for c.args.asked.now.place at.property at.stands c.args.input.now said.read
       (c.in_ok-denied-in-Shown-false.ensures.denied c.if-denied.true)
       (subst (λ (b : Bool). b ≡ tree_satisfies model at.property.formula) c.in-Shown-false.field-0-test
       (subst (IsEarlyOf model at.property) c.in-Shown-false.is (c.in_ok-early.ensures model at.property at.compiled))),

@@ -32,10 +32,6 @@ returns-in-Err-clause-refused g c =
     (text_unexplained solved some.0 (contains_at model.properties c.args.place some.0 some.1) fault (h some.0 some.1)))
     c.in-Err.ensures.refused
 
-pub explained_typed-requires-after_bounds : goal.explained_typed-requires-after_bounds
-explained_typed-requires-after_bounds g c κs within =
-    let some = some_property property_form c.args.solved.now.typed.model.properties.items c.args.place c.requires in (c.in-Ok.ensures.text some.0 some.1).typed
-
 pub returns-in-Err-explained_typed-clause-refused : goal.returns-in-Err-explained_typed-clause-refused
 returns-in-Err-explained_typed-clause-refused g c =
     let model = model_form c.args.solved.now.typed.model in

@@ -6,13 +6,13 @@ use Rattle.pbsolve.specs.Outcomes.{IsExplainedAt, IsOutcome, IsOutcomeAt}
 use Rattle.pbsolve.specs.declared.explained.ExplainedText.{ExplainedText}
 use Rattle.pbsolve.specs.declared.outcome.Outcome.{Outcome}
 use Rattle.pbsolve.specs.declared.property_module.PropertyModule.TheVariants as property_module
-use Rattle.pbsolve.proofs.Decisions.{found_shown, OfModule, shown_false, shown_true}
+use Rattle.pbsolve.proofs.Decisions.{found_shown, OfModule, still_has, shown_false, shown_true}
 use Rattle.pbsolve.proofs.PropertyVerdicts.{some_at}
 use Rattle.pbsolve.proofs.Tellings.{explained_truth, ok_more}
 use Rattle.pbsolve.proofs.explained_finding.explained_finding.Goals as goal
 
-pub is_denied-requires-clause-within : goal.is_denied-requires-clause-within
-is_denied-requires-clause-within g c κs within = (c.requires.given.0, c.requires.given.1, c.requires.given.2.0)
+pub is_denied-requires-after_bounds : goal.is_denied-requires-after_bounds
+is_denied-requires-after_bounds g c κs within = (c.requires.0, c.requires.1, c.requires.2.0)
 
 -- what becomes of the module becomes of the property at the place
 outcome_at : (model : ModelForm) (e : ExplainedText) (place : ℕ) → place < length model.properties → IsExplainedAt model place e
@@ -33,15 +33,18 @@ pub returns-then-denied-clause-found : goal.returns-then-denied-clause-found
 returns-then-denied-clause-found g c model said (within, at) =
     let some = some_at model.properties c.args.asked.place within in
     found_shown false said.protocol model said.is_for c.args.asked.place some.0 some.1 false refl
-    (shown_false false said.protocol model said.is_for c.args.asked.place some.0 some.1 c.args.input.bytes.now said.read (c.in_ok-denied.ensures.denied c.if-denied.true)
+    (shown_false false said.protocol model said.is_for c.args.asked.place some.0 some.1 c.args.input.now said.read (c.in_ok-denied.ensures.denied c.if-denied.true)
     (sym c.if-explained.false ∙ explained_truth model some.0 c.args.explained.now (at some.0 some.1)))
 
-pub decided-requires-clause-given : goal.decided-requires-clause-given
-decided-requires-clause-given g c κs within =
-    let given = c.requires.given in
+pub decided-requires-after_bounds : goal.decided-requires-after_bounds
+decided-requires-after_bounds g c κs within =
+    let given = c.requires in still_has _ c.is_denied.ensures.same
     (given.0, given.1, outcome_at given.0 c.args.explained.now c.args.asked.place given.2.0 given.2.1 c.in_ok-outcome.outcome c.in_ok-outcome.ensures)
 
 pub returns-clause-found : goal.returns-clause-found
 returns-clause-found g c = ok_more _ _ (λ finding h model said (within, at). h false model said
     (outcome_at model c.args.explained.now c.args.asked.place within at c.in_ok-outcome.outcome c.in_ok-outcome.ensures))
-    c.decided.result c.decided.ensures.found
+    c.decided.result (rw c.is_denied.ensures.same at c.decided.ensures.found)
+
+pub returns-clause-refused : goal.returns-clause-refused
+returns-clause-refused g c = rw c.is_denied.ensures.same at c.decided.ensures.refused

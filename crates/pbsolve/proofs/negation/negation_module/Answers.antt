@@ -1,5 +1,5 @@
 -- The negation stands at the place of the property.
-use Rattle.std.proofs.Common.{subst, sym, arith}
+use Rattle.std.proofs.Common.{Some, subst, sym, arith}
 use Rattle.std.proofs.lemmas.List.{length-map}
 use Rattle.pb_base.proofs.Faults.{if_raised}
 use Rattle.pb_command_faults.proofs.HandedUp.{handed_on}
@@ -12,24 +12,32 @@ use Rattle.pbsolve.proofs.negation.negation_module.Goals as goal
 
 pub asked_text-requires : goal.asked_text-requires
 asked_text-requires c =
-    let said = c.requires.within.1 in
-    let read = subst (AreNegations c.args.input.bytes.now) c.in-Some.is c.in-Ok.ensures.read in
-    let is_for = same_negations c.args.input.bytes.now said.protocol said.read c.in-Some.read read in
-    let there = negation_within said.protocol c.requires.within.0 (model_form c.in-Some.read.typed.model) said.is_for is_for c.args.place c.requires.within.2 in
+    let said = c.requires.1 in
+    let read = subst (λ bs. AreNegations bs (Some c.in-Some.read)) c.input.view_is (subst (AreNegations c.input.inside.input.bytes.now) c.in-Some.is c.in-Ok.ensures.read) in
+    let is_for = same_negations c.args.input.now said.protocol said.read c.in-Some.read read in
+    let there = negation_within said.protocol c.requires.0 (model_form c.in-Some.read.typed.model) said.is_for is_for c.args.place c.requires.2 in
     let long = length-map c.in-Some.read.typed.model.properties.items property_form in
     omega (arith, there, long)
 
 pub returns-in-Err-clause-refused : goal.returns-in-Err-clause-refused
 returns-in-Err-clause-refused c =
-    let bytes = c.args.input.bytes.now in
-    if_raised c.in-Err.error c.raise.result c.raise.ensures (λ fault above same h. subst (IsUnnegated bytes) (sym same) (negations_unnegated bytes fault h)) c.in-Err.ensures.refused
+    if_raised c.in-Err.error c.raise.result c.raise.ensures
+    (λ fault above same h. subst (IsUnnegated c.args.input.now) (sym same) (negations_unnegated c.args.input.now fault h)) (rw c.input.view_is at c.in-Err.ensures.refused)
 
-pub returns-in_err-asked-in-Some-clause-refused : goal.returns-in_err-asked-in-Some-clause-refused
-returns-in_err-asked-in-Some-clause-refused c =
-    let bytes = c.args.input.bytes.now in
-    let said = c.requires.within.1 in
+pub returns-in_err-asked-clause-refused : goal.returns-in_err-asked-clause-refused
+returns-in_err-asked-clause-refused c =
+    let bytes = c.args.input.now in
+    let said = c.requires.1 in
     let model = model_form c.in-Some.read.typed.model in
-    let read = subst (AreNegations bytes) c.in-Some.is c.in-Ok.ensures.read in
+    let read = subst (λ bs. AreNegations bs (Some c.in-Some.read)) c.input.view_is (subst (AreNegations c.input.inside.input.bytes.now) c.in-Some.is c.in-Ok.ensures.read) in
     let is_for = same_negations bytes said.protocol said.read c.in-Some.read read in
     handed_on (IsUntyped model) (IsUnnegated bytes) (text_unnegated bytes said.protocol said.read model is_for)
-    c.in_err-asked-in-Some.field-0.0 c.from_residual.result c.in_err-asked-in-Some.ensures.refused c.from_residual.ensures.1
+    c.in_err-asked.field-0.0 c.from_residual.result c.in_err-asked.ensures.refused c.from_residual.ensures.1
+
+pub returns-clause-compiled : goal.returns-clause-compiled
+returns-clause-compiled c =
+    let said = c.requires.1 in
+    let model = model_form c.in-Some.read.typed.model in
+    let read = subst (λ bs. AreNegations bs (Some c.in-Some.read)) c.input.view_is (subst (AreNegations c.input.inside.input.bytes.now) c.in-Some.is c.in-Ok.ensures.read) in
+    let is_for = same_negations c.args.input.now said.protocol said.read c.in-Some.read read in
+    (said.protocol, said.read, (model, is_for, c.in_ok-made.ensures.compiled model c.in_ok-asked.ensures.text))

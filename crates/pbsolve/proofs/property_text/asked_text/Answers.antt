@@ -1,8 +1,6 @@
 -- The text of the property that stands at the place.
-use Rattle.std.proofs.Common.{◌≡◌, true, Some}
 use Rattle.pb_base.proofs.Faults.{if_fault}
-use Rattle.pb_model_tree.specs.Form.{model_form, property_form}
-use Rattle.pb_model_properties.specs.Refusals.{IsRefusedText}
+use Rattle.pb_model_tree.specs.Form.{property_form}
 use Rattle.pbsolve.proofs.PropertyTexts.{large_text, untyped_text}
 use Rattle.pbsolve.proofs.PropertyVerdicts.{some_property}
 use Rattle.pbsolve.proofs.property_text.asked_text.Goals as goal

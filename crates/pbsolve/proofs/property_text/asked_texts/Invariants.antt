@@ -1,4 +1,4 @@
-use Rattle.std.proofs.Common.{◌≡◌, ◌++◌, take, drop, map, length, ◌<◌, ◌≤◌}
+use Rattle.std.proofs.Common.{◌≡◌, ◌++◌, drop, map}
 use Rattle.std.specs.List.{All}
 use Rattle.pb_model_tree.specs.Form.{model_form}
 use Rattle.pbsolve.specs.Outcomes.{IsTextAt}

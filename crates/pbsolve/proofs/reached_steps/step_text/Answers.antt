@@ -1,5 +1,5 @@
 -- The text of the step that stands at the place.
-use Rattle.std.proofs.Common.{◌<◌, length, subst, sym, arith}
+use Rattle.std.proofs.Common.{◌<◌, length, arith}
 use Rattle.std.proofs.lemmas.List.{length-map}
 use Rattle.pb_model_tree.specs.Form.{model_form, step_form}
 use Rattle.pbsolve.proofs.StepFindings.{large_step, untyped_step}

@@ -1,15 +1,14 @@
-use Rattle.std.proofs.Common.{string_bytes, take}
+use Rattle.std.proofs.Common.{◌≡◌, string_bytes, take}
 use Rattle.pb_model_tree.specs.Form.{model_form}
 use Rattle.pb_model_properties.specs.Said.{IsModelOf}
 use Rattle.pb_model_properties.specs.Words.{words_in}
-use Rattle.pbsolve.specs.Outcomes.{AreNegations}
 use Rattle.pbsolve.specs.Why.{AreTold}
 use Rattle.pbsolve.proofs.why.all_told.Given as goal
 
 abbrev pub invariant-loop-place : goal.invariant-loop-place
 invariant-loop-place g l = record {
-  read : AreNegations l.input.bytes.now l.negations;
-  told : (said : IsModelOf l.input.bytes.now (model_form l.solved.typed.model)) →
+  same : l.asked_input ≡ l.fn.input.bytes.now;
+  told : (said : IsModelOf l.fn.input.bytes.now (model_form l.solved.typed.model)) →
       AreTold l.options.lines (words_in l.solved) said.protocol (model_form l.solved.typed.model) (take l.place said.protocol.properties)
       (take l.place (model_form l.solved.typed.model).properties) (string_bytes l.lines);
 }

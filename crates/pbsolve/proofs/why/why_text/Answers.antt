@@ -16,17 +16,17 @@ use Rattle.pbsolve.proofs.why.why_text.Goals as goal
 pub returns-in_err-lines-clause-refused : goal.returns-in_err-lines-clause-refused
 returns-in_err-lines-clause-refused g c =
     let name = option_copied c.args.property in
-    handed_up (IsUnshown name c.args.bytes.now) (IsUnshown name c.args.bytes.now) (λ f h. h)
+    handed_up (IsUnshown name c.args.input.bytes.now) (IsUnshown name c.args.input.bytes.now) (λ f h. h)
     c.in_err-lines.field-0.0 c.from_residual-in_err-lines.result c.in_err-lines.ensures.refused c.from_residual-in_err-lines.ensures.1
 
 pub returns-in_err-solved-clause-told : goal.returns-in_err-solved-clause-told
 returns-in_err-solved-clause-told g c =
-    nothing_written g.S.Sink _ (WritesWhy c.args.options.lines (option_copied c.args.property) c.args.bytes.now) c.args.writer.now
+    nothing_written g.S.Sink _ (WritesWhy c.args.options.lines (option_copied c.args.property) c.args.input.bytes.now) c.args.writer.now
     c.in_err-solved.field-0.0 c.from_residual.result c.from_residual.ensures.1
 
 pub returns-in_err-lines-clause-told : goal.returns-in_err-lines-clause-told
 returns-in_err-lines-clause-told g c =
-    nothing_written g.S.Sink _ (WritesWhy c.args.options.lines (option_copied c.args.property) c.args.bytes.now) c.args.writer.now
+    nothing_written g.S.Sink _ (WritesWhy c.args.options.lines (option_copied c.args.property) c.args.input.bytes.now) c.args.writer.now
     c.in_err-lines.field-0.0 c.from_residual-in_err-lines.result c.from_residual-in_err-lines.ensures.1
 
 pub returns-clause-told : goal.returns-clause-told
@@ -36,16 +36,16 @@ returns-clause-told g c =
     let told = subst (λ (v : Vocabulary). TellAsked c.args.options.lines (option_copied c.args.property) v said.protocol model (string_bytes c.in_ok-lines.lines))
     c.in_ok-solved.ensures.model.words (c.in_ok-lines.ensures.told said) in
     let tells = λ (t : List ℕ). TellAsked c.args.options.lines (option_copied c.args.property) (words_of said.protocol model said.is_for.made) said.protocol model t in
-    less_delivered g.S.Sink (λ (t : List ℕ). t ≡ c.as_bytes.result.now) (WritesWhy c.args.options.lines (option_copied c.args.property) c.args.bytes.now)
+    less_delivered g.S.Sink (λ (t : List ℕ). t ≡ c.as_bytes.result.now) (WritesWhy c.args.options.lines (option_copied c.args.property) c.args.input.bytes.now)
     (λ text is. (model, said, subst tells (sym (is ∙ c.as_bytes.ensures.value)) told)) c.args.writer.now c.deliver.new.writer c.deliver.result c.deliver.ensures.text
 
 pub returns-clause-refused : goal.returns-clause-refused
-returns-clause-refused g c = only_write (IsUnshown (option_copied c.args.property) c.args.bytes.now) c.deliver.result c.deliver.ensures.failed
+returns-clause-refused g c = only_write (IsUnshown (option_copied c.args.property) c.args.input.bytes.now) c.deliver.result c.deliver.ensures.failed
 
 pub returns-in_err-solved-clause-refused : goal.returns-in_err-solved-clause-refused
 returns-in_err-solved-clause-refused g c =
     let name = option_copied c.args.property in
-    let bytes = c.args.bytes.now in
+    let bytes = c.args.input.bytes.now in
     refused_up (λ f above. above ≡ fault_of_model f) (IsRefusedModel bytes) (IsUnshown name bytes)
     (λ f above same h. subst (IsUnshown name bytes) (sym same) (unshown name bytes (fault_of_model f) (untold_unexplained bytes (fault_of_model f) (model_untold bytes f h))))
     c.in_err-solved.field-0.0 c.from_residual.result c.in_err-solved.ensures.refused c.from_residual.ensures.1
@@ -55,7 +55,7 @@ returns-clause-named g c is = no_name _ c.deliver.result c.deliver.ensures.faile
 
 pub returns-in_err-solved-clause-named : goal.returns-in_err-solved-clause-named
 returns-in_err-solved-clause-named g c is =
-    never_missed_model _ c.args.bytes.now c.in_err-solved.field-0.0 c.from_residual.result c.from_residual.ensures.1 c.in_err-solved.ensures.refused is
+    never_missed_model _ c.args.input.bytes.now c.in_err-solved.field-0.0 c.from_residual.result c.from_residual.ensures.1 c.in_err-solved.ensures.refused is
 
 pub returns-in_err-lines-clause-named : goal.returns-in_err-lines-clause-named
 returns-in_err-lines-clause-named g c is =
@@ -63,28 +63,28 @@ returns-in_err-lines-clause-named g c is =
     (λ same. c.in_err-lines.ensures.named (ap Err same)) is
 
 pub returns-in_err-solved-clause-steps : goal.returns-in_err-solved-clause-steps
-returns-in_err-solved-clause-steps g c = c.told_calls_are_steps.ensures.steps c.args.bytes.now
+returns-in_err-solved-clause-steps g c = c.told_calls_are_steps.ensures.steps c.args.input.bytes.now
 
 pub returns-in_err-lines-clause-steps : goal.returns-in_err-lines-clause-steps
-returns-in_err-lines-clause-steps g c = c.told_calls_are_steps.ensures.steps c.args.bytes.now
+returns-in_err-lines-clause-steps g c = c.told_calls_are_steps.ensures.steps c.args.input.bytes.now
 
 pub returns-clause-steps : goal.returns-clause-steps
-returns-clause-steps g c = c.told_calls_are_steps.ensures.steps c.args.bytes.now
+returns-clause-steps g c = c.told_calls_are_steps.ensures.steps c.args.input.bytes.now
 
 pub returns-in_err-solved-clause-moves : goal.returns-in_err-solved-clause-moves
-returns-in_err-solved-clause-moves g c = c.told_calls_are_steps.ensures.moves c.args.bytes.now
+returns-in_err-solved-clause-moves g c = c.told_calls_are_steps.ensures.moves c.args.input.bytes.now
 
 pub returns-in_err-lines-clause-moves : goal.returns-in_err-lines-clause-moves
-returns-in_err-lines-clause-moves g c = c.told_calls_are_steps.ensures.moves c.args.bytes.now
+returns-in_err-lines-clause-moves g c = c.told_calls_are_steps.ensures.moves c.args.input.bytes.now
 
 pub returns-clause-moves : goal.returns-clause-moves
-returns-clause-moves g c = c.told_calls_are_steps.ensures.moves c.args.bytes.now
+returns-clause-moves g c = c.told_calls_are_steps.ensures.moves c.args.input.bytes.now
 
 pub returns-in_err-solved-clause-states : goal.returns-in_err-solved-clause-states
-returns-in_err-solved-clause-states g c = c.told_calls_are_steps.ensures.states c.args.bytes.now
+returns-in_err-solved-clause-states g c = c.told_calls_are_steps.ensures.states c.args.input.bytes.now
 
 pub returns-in_err-lines-clause-states : goal.returns-in_err-lines-clause-states
-returns-in_err-lines-clause-states g c = c.told_calls_are_steps.ensures.states c.args.bytes.now
+returns-in_err-lines-clause-states g c = c.told_calls_are_steps.ensures.states c.args.input.bytes.now
 
 pub returns-clause-states : goal.returns-clause-states
-returns-clause-states g c = c.told_calls_are_steps.ensures.states c.args.bytes.now
+returns-clause-states g c = c.told_calls_are_steps.ensures.states c.args.input.bytes.now
