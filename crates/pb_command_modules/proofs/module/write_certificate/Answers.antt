@@ -9,6 +9,8 @@ use Rattle.pb_command_modules.proofs.Texts.{certificate_of_module}
 use Rattle.pb_command_modules.specs.Refusals.{IsRefusedModule}
 use Rattle.pb_command_modules.specs.Writes.{WritesCertificate}
 use Rattle.pb_command_modules.proofs.module.write_certificate.Goals as goal
+use Rattle.pb_command_modules.proofs.module.write_certificate.Given.{Over}
+use Rattle.pb_command_modules.proofs.module.write_certificate.Goals.{After-solution-certificate}
 
 pub certificate_text-requires : goal.certificate_text-requires
 certificate_text-requires g c =
@@ -18,27 +20,26 @@ pub returns-in_err-module-clause-certificate : goal.returns-in_err-module-clause
 returns-in_err-module-clause-certificate g c =
     nothing_written g.S.Sink _ (WritesCertificate c.args.verified.now) c.args.writer.now c.in_err-module.field-0.0 c.from_residual.result c.from_residual.ensures.1
 
-pub returns-in_err-certificate_text-clause-certificate : goal.returns-in_err-certificate_text-clause-certificate
-returns-in_err-certificate_text-clause-certificate g c =
-    let m = c.args.verified.now in
+-- the text of the certificate that is lent is one of the module
+certificate_is : (g : Over) (c : After-solution-certificate g) (t : List ℕ)
+    → t ≡ certificate_text c.in_ok-module.«module».solved.built.game c.solution-certificate.result.now → WritesCertificate c.args.verified.now t
+certificate_is g c =
     let s = c.in_ok-module.«module» in
     let is = c.in_ok-module.ensures.solved in
-    let solution = c.solution-certificate.result.now in
     let certificate = subst (IsCertificate s.solved.built.game) (sym c.solution-certificate.ensures) c.in_ok-module.ensures.certificate in
-    sent_up g.S.Sink (λ (t : List ℕ). t ≡ certificate_text s.solved.built.game solution) (WritesCertificate m)
-    (certificate_of_module m s.explored is.explored s.solved.built is.game solution certificate) c.args.writer.now c.certificate_text.new.sink
+    certificate_of_module c.args.verified.now s.explored is.explored s.solved.built is.game c.solution-certificate.result.now certificate
+
+pub returns-in_err-certificate_text-clause-certificate : goal.returns-in_err-certificate_text-clause-certificate
+returns-in_err-certificate_text-clause-certificate g c =
+    let text = certificate_is g (goal.at.returns-in_err-certificate_text-clause-certificate g c).After-solution-certificate in
+    sent_up g.S.Sink _ (WritesCertificate c.args.verified.now) text c.args.writer.now c.certificate_text.new.sink
     c.certificate_text.result c.in_err-certificate_text.field-0.0 c.from_residual-in_err-certificate_text.result c.certificate_text.ensures
     c.in_err-certificate_text.was c.from_residual-in_err-certificate_text.ensures.1
 
 pub returns-clause-certificate : goal.returns-clause-certificate
 returns-clause-certificate g c =
-    let m = c.args.verified.now in
-    let s = c.in_ok-module.«module» in
-    let is = c.in_ok-module.ensures.solved in
-    let solution = c.solution-certificate.result.now in
-    let certificate = subst (IsCertificate s.solved.built.game) (sym c.solution-certificate.ensures) c.in_ok-module.ensures.certificate in
-    sent_whole g.S.Sink (λ (t : List ℕ). t ≡ certificate_text s.solved.built.game solution) (WritesCertificate m)
-    (certificate_of_module m s.explored is.explored s.solved.built is.game solution certificate) c.args.writer.now c.certificate_text.new.sink
+    let text = certificate_is g (goal.at.returns-clause-certificate g c).After-solution-certificate in
+    sent_whole g.S.Sink _ (WritesCertificate c.args.verified.now) text c.args.writer.now c.certificate_text.new.sink
     c.certificate_text.result c.in_ok-certificate_text.field-0 c.certificate_text.ensures c.in_ok-certificate_text.was
 
 pub returns-in_err-module-clause-refused : goal.returns-in_err-module-clause-refused

@@ -1,9 +1,11 @@
 -- One more is found.
 use Rattle.std.proofs.Common.{◌≡◌, ◌∙◌, ◌++◌, ◌∷◌, ℕ, [], length, map, ap, refl, sym}
+use Rattle.std.specs.List.{All}
 use Rattle.std.proofs.lemmas.Iterator.Adapters.{YieldsList-from_vec}
 use Rattle.std.proofs.lemmas.Iterator.Consumers.{YieldsList-turn, YieldsList-end}
 use Rattle.std.proofs.lemmas.List.{map-id, map_push}
 use Rattle.pb_command_faults.proofs.HandedUp.{handed_on}
+use Rattle.pb_model_properties.specs.Said.{IsModelOf}
 use Rattle.pb_model_tree.specs.Form.{ModelForm}
 use Rattle.pbsolve.specs.declared.finding.Found.{Found}
 use Rattle.pbsolve.specs.declared.property_text.AskedText.{AskedText}
@@ -11,16 +13,23 @@ use Rattle.pbsolve.specs.Models.{IsPropertyFound, IsUnnegated}
 use Rattle.pbsolve.specs.Outcomes.{IsTextAt}
 use Rattle.pbsolve.proofs.Decisions.{still_has}
 use Rattle.pbsolve.proofs.Orders.{all_pushed, of_item}
+use Rattle.pbsolve.proofs.decision.findings_of.Given.{Over}
 use Rattle.pbsolve.proofs.decision.findings_of.Goals as goal
+use Rattle.pbsolve.proofs.decision.findings_of.Goals.{In-Some, In_ok-push}
 
-pub finding_by-requires-after_bounds : goal.finding_by-requires-after_bounds
-finding_by-requires-after_bounds g c κs within =
-    let given = c.requires in
+-- the text that is taken is the model's at its place where each is
+text_taken : (g : Over) (c : In-Some g) (model : ModelForm) → All (IsTextAt model) c.args.texts.items → IsTextAt model c.in-Some.asked
+text_taken g c model all =
     let texts = c.args.texts.items in
     let gives = c.into_iter-asked-iterator.ensures.into_iter_gives in
     let turn = YieldsList-turn (YieldsList-from_vec {s = c.into_iter-asked-iterator.result} texts gives.0 (gives.1 ∙ c.args.texts.ok.0))
     c.texts.yielded c.texts.asked-iterator c.texts.yielded_by _ c.next.new.self c.in-Some.asked c.in-Some.is c.next.ensures.steps in
-    let at = of_item (IsTextAt given.0) texts (length c.texts.yielded) c.in-Some.asked given.2 turn.0 turn.1 in
+    of_item (IsTextAt model) texts (length c.texts.yielded) c.in-Some.asked all turn.0 turn.1
+
+pub finding_by-requires-after_bounds : goal.finding_by-requires-after_bounds
+finding_by-requires-after_bounds g c κs within =
+    let given = c.requires in
+    let at = text_taken g (goal.at.finding_by-requires-after_bounds g c).In-Some given.0 given.2 in
     still_has _ c.texts.invariant.same (given.0, given.1, c.in_ok-made.ensures.compiled given.0 at)
 
 pub returns-in_err-finding-clause-refused : goal.returns-in_err-finding-clause-refused
@@ -29,60 +38,49 @@ returns-in_err-finding-clause-refused g c =
     handed_on P P (λ f h. h) c.in_err-finding.field-0.0 c.from_residual-in_err-finding.result (rw c.texts.invariant.same at c.in_err-finding.ensures.refused)
     c.from_residual-in_err-finding.ensures.1
 
+module _ (g : Over) (c : In_ok-push g) where
+  -- one place more is found
+  places : map (λ (f : Found). f.place) c.push.new.self.items ≡ map (λ (a : AskedText). a.place) (c.texts.yielded ++ c.in-Some.asked ∷ [])
+  places =
+      let asked = c.in-Some.asked in
+      let found : Found = record { place = c.in_ok-made.made.place; finding = c.in_ok-finding.finding } in
+      let pushed : c.push.new.self.items ≡ c.texts.findings.items ++ found ∷ [] = c.in_ok-push.ensures.items in
+      let place : Found → ℕ = λ f. f.place in
+      let asked_place : AskedText → ℕ = λ a. a.place in
+      let more : map place (c.texts.findings.items ++ found ∷ []) ≡ map asked_place (c.texts.yielded ++ asked ∷ []) =
+      rw (map_push place c.texts.findings.items found, map_push asked_place c.texts.yielded asked, c.texts.invariant.places, c.in_ok-made.ensures.place) refl in
+      ap (map place) pushed ∙ more
+
+  -- what is found is, of each text that was taken
+  all_found : (model : ModelForm) (said : IsModelOf c.args.input.bytes.now model) → All (IsTextAt model) c.args.texts.items → IsTextAt model c.in-Some.asked
+      → All (IsPropertyFound c.args.options.counts said.protocol model) c.push.new.self.items
+  all_found model said all at =
+      all_pushed (IsPropertyFound c.args.options.counts said.protocol model) c.push.new.self.items c.texts.findings.items
+      (record { place = c.in_ok-made.made.place; finding = c.in_ok-finding.finding }) c.in_ok-push.ensures.items (c.texts.invariant.found model said all)
+      ((rw c.texts.invariant.same at c.in_ok-finding.ensures.found) model said (c.in_ok-made.ensures.compiled model at))
+
 pub texts-preserved-in_ok-push : goal.texts-preserved-in_ok-push
 texts-preserved-in_ok-push g c =
-    let texts = c.args.texts.items in
-    let asked = c.in-Some.asked in
-    let made = c.in_ok-made.made in
-    let gives = c.into_iter-asked-iterator.ensures.into_iter_gives in
-    let turn = YieldsList-turn (YieldsList-from_vec {s = c.into_iter-asked-iterator.result} texts gives.0 (gives.1 ∙ c.args.texts.ok.0))
-    c.texts.yielded c.texts.asked-iterator c.texts.yielded_by _ c.next.new.self asked c.in-Some.is c.next.ensures.steps in
-    let found : Found = record { place = made.place; finding = c.in_ok-finding.finding } in
-    let new = c.push.new.self.items in
-    let pushed : new ≡ c.texts.findings.items ++ found ∷ [] = c.in_ok-push.ensures.items in
-    let place : Found → ℕ = λ f. f.place in
-    let asked_place : AskedText → ℕ = λ a. a.place in
-    let places : map place (c.texts.findings.items ++ found ∷ []) ≡ map asked_place (c.texts.yielded ++ asked ∷ []) =
-    rw (map_push place c.texts.findings.items found, map_push asked_place c.texts.yielded asked, c.texts.invariant.places, c.in_ok-made.ensures.place) refl in
+    let at = goal.at.texts-preserved-in_ok-push g c in
     record {
       same = c.finding_by.ensures.same ∙ c.texts.invariant.same;
-      places = ap (map place) pushed ∙ places;
-      found = λ (model : ModelForm) said all.
-          let at = of_item (IsTextAt model) texts (length c.texts.yielded) asked all turn.0 turn.1 in
-          all_pushed (IsPropertyFound c.args.options.counts said.protocol model) new c.texts.findings.items found pushed (c.texts.invariant.found model said all)
-          ((rw c.texts.invariant.same at c.in_ok-finding.ensures.found) model said (c.in_ok-made.ensures.compiled model at));
+      places = places g at.In_ok-push;
+      found = λ model said all. all_found g at.In_ok-push model said all (text_taken g at.In-Some model all);
     }
 
 pub texts-preserved : goal.texts-preserved
 texts-preserved g c =
-    let texts = c.args.texts.items in
-    let asked = c.in-Some.asked in
-    let made = c.in_ok-made.made in
-    let gives = c.into_iter-asked-iterator.ensures.into_iter_gives in
-    let turn = YieldsList-turn (YieldsList-from_vec {s = c.into_iter-asked-iterator.result} texts gives.0 (gives.1 ∙ c.args.texts.ok.0))
-    c.texts.yielded c.texts.asked-iterator c.texts.yielded_by _ c.next.new.self asked c.in-Some.is c.next.ensures.steps in
-    let found : Found = record { place = made.place; finding = c.in_ok-finding.finding } in
-    let new = c.push.new.self.items in
-    let pushed : new ≡ c.texts.findings.items ++ found ∷ [] = c.in_ok-push.ensures.items in
-    let place : Found → ℕ = λ f. f.place in
-    let asked_place : AskedText → ℕ = λ a. a.place in
-    let places : map place (c.texts.findings.items ++ found ∷ []) ≡ map asked_place (c.texts.yielded ++ asked ∷ []) =
-    rw (map_push place c.texts.findings.items found, map_push asked_place c.texts.yielded asked, c.texts.invariant.places, c.in_ok-made.ensures.place) refl in
+    let at = goal.at.texts-preserved g c in
     record {
       same = c.finding_by.ensures.same ∙ c.texts.invariant.same;
-      places = ap (map place) pushed ∙ places;
-      found = λ (model : ModelForm) said all.
-          let at = of_item (IsTextAt model) texts (length c.texts.yielded) asked all turn.0 turn.1 in
-          all_pushed (IsPropertyFound c.args.options.counts said.protocol model) new c.texts.findings.items found pushed (c.texts.invariant.found model said all)
-          ((rw c.texts.invariant.same at c.in_ok-finding.ensures.found) model said (c.in_ok-made.ensures.compiled model at));
+      places = places g at.In_ok-push;
+      found = λ model said all. all_found g at.In_ok-push model said all (text_taken g at.In-Some model all);
     }
 
 pub returns-clause-found : goal.returns-clause-found
 returns-clause-found g c =
-    let texts = c.args.texts.items in
-    let gives = c.into_iter-asked-iterator.ensures.into_iter_gives in
-    let ended = YieldsList-end (YieldsList-from_vec {s = c.into_iter-asked-iterator.result} texts gives.0 (gives.1 ∙ c.args.texts.ok.0))
+    let given = c.into_iter-asked-iterator.ensures.into_iter_gives in
+    let ended = YieldsList-end (YieldsList-from_vec {s = c.into_iter-asked-iterator.result} c.args.texts.items given.0 (given.1 ∙ c.args.texts.ok.0))
     c.texts.yielded c.texts.asked-iterator c.texts.yielded_by _ c.next.new.self c.in-None.is c.next.ensures.steps in
-    let all : c.texts.yielded ≡ texts = sym (map-id c.texts.yielded) ∙ ended.0 in
-    let asked_place : AskedText → ℕ = λ a. a.place in
-    record { places = c.texts.invariant.places ∙ ap (map asked_place) all; found = c.texts.invariant.found }
+    let all : c.texts.yielded ≡ c.args.texts.items = sym (map-id c.texts.yielded) ∙ ended.0 in
+    record { places = c.texts.invariant.places ∙ ap (map (λ (a : AskedText). a.place)) all; found = c.texts.invariant.found }

@@ -4,17 +4,25 @@ use Rattle.std.proofs.lemmas.List.{length-map}
 use Rattle.pb_base.proofs.Faults.{if_raised}
 use Rattle.pb_command_faults.proofs.HandedUp.{handed_on}
 use Rattle.pb_model_tree.specs.Form.{model_form, property_form}
+use Rattle.pb_protocol_negation.specs.Negated.{negated_protocol}
+use Rattle.pb_model_properties.specs.Said.{IsModelFor}
 use Rattle.pbsolve.specs.Models.{IsUnnegated}
 use Rattle.pbsolve.specs.Outcomes.{AreNegations, IsUntyped}
 use Rattle.pbsolve.proofs.Checked.{negations_unnegated, text_unnegated}
 use Rattle.pbsolve.proofs.Decisions.{negation_within, same_negations}
 use Rattle.pbsolve.proofs.negation.negation_module.Goals as goal
+use Rattle.pbsolve.proofs.negation.negation_module.Goals.{In-Some}
+
+-- what was read is a model of the negations
+model_negated : (c : In-Some) → IsModelFor (negated_protocol c.requires.1.protocol) (model_form c.in-Some.read.typed.model)
+model_negated c =
+    let read = subst (AreNegations c.input.inside.input.bytes.now) c.in-Some.is c.in-Ok.ensures.read in
+    same_negations c.args.input.now c.requires.1.protocol c.requires.1.read c.in-Some.read (subst (λ bs. AreNegations bs (Some c.in-Some.read)) c.input.view_is read)
 
 pub asked_text-requires : goal.asked_text-requires
 asked_text-requires c =
     let said = c.requires.1 in
-    let read = subst (λ bs. AreNegations bs (Some c.in-Some.read)) c.input.view_is (subst (AreNegations c.input.inside.input.bytes.now) c.in-Some.is c.in-Ok.ensures.read) in
-    let is_for = same_negations c.args.input.now said.protocol said.read c.in-Some.read read in
+    let is_for = model_negated (goal.at.asked_text-requires c).In-Some in
     let there = negation_within said.protocol c.requires.0 (model_form c.in-Some.read.typed.model) said.is_for is_for c.args.place c.requires.2 in
     let long = length-map c.in-Some.read.typed.model.properties.items property_form in
     omega (arith, there, long)
@@ -27,17 +35,13 @@ returns-in-Err-clause-refused c =
 pub returns-in_err-asked-clause-refused : goal.returns-in_err-asked-clause-refused
 returns-in_err-asked-clause-refused c =
     let bytes = c.args.input.now in
-    let said = c.requires.1 in
     let model = model_form c.in-Some.read.typed.model in
-    let read = subst (λ bs. AreNegations bs (Some c.in-Some.read)) c.input.view_is (subst (AreNegations c.input.inside.input.bytes.now) c.in-Some.is c.in-Ok.ensures.read) in
-    let is_for = same_negations bytes said.protocol said.read c.in-Some.read read in
-    handed_on (IsUntyped model) (IsUnnegated bytes) (text_unnegated bytes said.protocol said.read model is_for)
+    let is_for = model_negated (goal.at.returns-in_err-asked-clause-refused c).In-Some in
+    handed_on (IsUntyped model) (IsUnnegated bytes) (text_unnegated bytes c.requires.1.protocol c.requires.1.read model is_for)
     c.in_err-asked.field-0.0 c.from_residual.result c.in_err-asked.ensures.refused c.from_residual.ensures.1
 
 pub returns-clause-compiled : goal.returns-clause-compiled
 returns-clause-compiled c =
-    let said = c.requires.1 in
-    let model = model_form c.in-Some.read.typed.model in
-    let read = subst (λ bs. AreNegations bs (Some c.in-Some.read)) c.input.view_is (subst (AreNegations c.input.inside.input.bytes.now) c.in-Some.is c.in-Ok.ensures.read) in
-    let is_for = same_negations c.args.input.now said.protocol said.read c.in-Some.read read in
-    (said.protocol, said.read, (model, is_for, c.in_ok-made.ensures.compiled model c.in_ok-asked.ensures.text))
+    let is_for = model_negated (goal.at.returns-clause-compiled c).In-Some in
+    let compiled = c.in_ok-made.ensures.compiled (model_form c.in-Some.read.typed.model) c.in_ok-asked.ensures.text in
+    (c.requires.1.protocol, c.requires.1.read, (model_form c.in-Some.read.typed.model, is_for, compiled))

@@ -24,9 +24,8 @@ module _ (bytes : List ℕ) (request : Request) where
 
 pub returns-in_err-deliver-in-Rule-clause-written : goal.returns-in_err-deliver-in-Rule-clause-written
 returns-in_err-deliver-in-Rule-clause-written g c =
-    let answers : Status → List ℕ → Type 0 = Answers c.args.request c.args.input.bytes.now in
     let r = c.from_residual.result in
-    less_left_on g.O.Sink (λ (t : List ℕ). t ≡ c.as_bytes.result.now) (WithStatus r answers)
+    less_left_on g.O.Sink (λ (t : List ℕ). t ≡ c.as_bytes.result.now) (WithStatus r (Answers c.args.request c.args.input.bytes.now))
     (λ text is. (
       Answered,
       no_status (λ (s : Status). s ≡ Answered) _ r c.from_residual.ensures.1,
@@ -35,13 +34,9 @@ returns-in_err-deliver-in-Rule-clause-written g c =
 
 pub returns-in_ok-deliver-in-Rule-clause-written : goal.returns-in_ok-deliver-in-Rule-clause-written
 returns-in_ok-deliver-in-Rule-clause-written g c =
-    let answers : Status → List ℕ → Type 0 = Answers c.args.request c.args.input.bytes.now in
-    less_sent g.O.Sink (λ (t : List ℕ). t ≡ c.as_bytes.result.now) (λ (t : List ℕ). (s : Status) × (Answered ≡ s) × answers s t)
-    (λ text is. (
-      Answered,
-      refl,
-      answers_rule c.args.input.bytes.now c.args.request c.in-Rule.rule c.in-Rule.is text (is ∙ (c.as_bytes.ensures.value ∙ c.words.ensures)),
-    )) c.args.out.now c.deliver.new.writer c.in_ok-deliver-in-Rule.ensures.text
+    less_sent g.O.Sink (λ (t : List ℕ). t ≡ c.as_bytes.result.now) (λ (t : List ℕ). (s : Status) × (Answered ≡ s) × Answers c.args.request c.args.input.bytes.now s t)
+    (λ text is. (Answered, refl, answers_rule c.args.input.bytes.now c.args.request c.in-Rule.rule c.in-Rule.is text (is ∙ (c.as_bytes.ensures.value ∙ c.words.ensures))))
+    c.args.out.now c.deliver.new.writer c.in_ok-deliver-in-Rule.ensures.text
 
 pub returns-in-Check-clause-written : goal.returns-in-Check-clause-written
 returns-in-Check-clause-written g c =
@@ -50,10 +45,9 @@ returns-in-Check-clause-written g c =
 
 pub returns-in_err-task_answer-in-Input-clause-written : goal.returns-in_err-task_answer-in-Input-clause-written
 returns-in_err-task_answer-in-Input-clause-written g c =
-    let answers : Status → List ℕ → Type 0 = Answers c.args.request c.args.input.bytes.now in
     let r = c.from_residual-in_err-task_answer-in-Input.result in
     let made = c.from_residual-in_err-task_answer-in-Input.ensures.1 in
-    less_left_on g.O.Sink (Writes c.in-Input.task c.args.input.bytes.now) (WithStatus r answers)
+    less_left_on g.O.Sink (Writes c.in-Input.task c.args.input.bytes.now) (WithStatus r (Answers c.args.request c.args.input.bytes.now))
     (λ text written. (
       Answered,
       no_status (λ (s : Status). s ≡ Answered) _ r made,
@@ -62,7 +56,6 @@ returns-in_err-task_answer-in-Input-clause-written g c =
 
 pub returns-in_ok-task_answer-in-Input-clause-written : goal.returns-in_ok-task_answer-in-Input-clause-written
 returns-in_ok-task_answer-in-Input-clause-written g c =
-    let answers : Status → List ℕ → Type 0 = Answers c.args.request c.args.input.bytes.now in
-    less_sent g.O.Sink (Writes c.in-Input.task c.args.input.bytes.now) (λ (t : List ℕ). (s : Status) × (Answered ≡ s) × answers s t)
+    less_sent g.O.Sink (Writes c.in-Input.task c.args.input.bytes.now) (λ (t : List ℕ). (s : Status) × (Answered ≡ s) × Answers c.args.request c.args.input.bytes.now s t)
     (λ text written. (Answered, refl, answers_input c.args.input.bytes.now c.args.request c.in-Input.task c.in-Input.is text written))
     c.args.out.now c.task_answer.new.out c.in_ok-task_answer-in-Input.ensures.written

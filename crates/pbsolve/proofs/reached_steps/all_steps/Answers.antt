@@ -26,9 +26,7 @@ loop-step-preserved g c =
     }
 
 pub step_finding-requires-after_bounds : goal.step_finding-requires-after_bounds
-step_finding-requires-after_bounds g c κs within =
-    let steps = c.args.solved.now.typed.model.steps in
-    omega (arith, c.len-step-end.ensures, c.loop-step-test.true, steps.ok.0)
+step_finding-requires-after_bounds g c κs within = omega (arith, c.len-step-end.ensures, c.loop-step-test.true, c.args.solved.now.typed.model.steps.ok.0)
 
 pub returns-clause-found : goal.returns-clause-found
 returns-clause-found g c =

@@ -14,13 +14,22 @@ use Rattle.pbsolve.proofs.Evidence.{text_evidence}
 use Rattle.pbsolve.proofs.Refusals.{module_of_text_refused}
 use Rattle.pb_command_faults.proofs.HandedUp.{if_input_refused, wanting_up}
 use Rattle.pbsolve.proofs.Texts.{of_bytes}
+use Rattle.pbsolve.proofs.solve.write_explained.Given.{Over}
 use Rattle.pbsolve.proofs.solve.write_explained.Goals as goal
+use Rattle.pbsolve.proofs.solve.write_explained.Goals.{After-deref}
+
+-- the places that the calls are told at
+call_places : (g : Over) (c : After-deref g)
+    → AreCallPlaces (told_place c.args.places (spec_form c.args.explained.now.typed.spec) (parameters c.args.explained.now.verified))
+    c.args.explained.now.explanation.evidence c.deref.result.now
+call_places g c =
+    let place = told_place c.args.places (spec_form c.args.explained.now.typed.spec) (parameters c.args.explained.now.verified) in
+    subst (λ (xs : List (Option Place)). AreCallPlaces place c.args.explained.now.explanation.evidence xs) (sym c.deref.ensures.value) c.in_ok-call_places.ensures
 
 pub write_evidence-requires-clause-places : goal.write_evidence-requires-clause-places
 write_evidence-requires-clause-places g c =
-    let explained = c.args.explained.now in
-    let place = told_place c.args.places (spec_form explained.typed.spec) (parameters explained.verified) in
-    (place, subst (λ (xs : List (Option Place)). AreCallPlaces place explained.explanation.evidence xs) (sym c.deref.ensures.value) c.in_ok-call_places.ensures)
+    let told = told_place c.args.places (spec_form c.args.explained.now.typed.spec) (parameters c.args.explained.now.verified) in
+    (told, call_places g (goal.at.write_evidence-requires-clause-places g c).After-deref)
 
 pub returns-in_err-call_places-clause-evidence : goal.returns-in_err-call_places-clause-evidence
 returns-in_err-call_places-clause-evidence g c bytes read =
@@ -35,14 +44,13 @@ returns-clause-evidence g c bytes read =
     let text = spec_form explained.typed.spec in
     let m = explained.verified in
     let place = told_place c.args.places text (parameters m) in
-    let are = subst (λ (xs : List (Option Place)). AreCallPlaces place explained.explanation.evidence xs) (sym c.deref.ensures.value) c.in_ok-call_places.ensures in
+    let are = call_places g (goal.at.returns-clause-evidence g c).After-deref in
     less_delivered g.S.Sink (WritesEvidence m place) (WritesTextEvidence c.args.places bytes)
     (text_evidence c.named_instances_are_called.ensures bytes text m read c.requires.explained.of_text c.args.places)
     c.args.writer.now c.write_evidence.new.writer c.write_evidence.result (c.write_evidence.ensures.evidence place are)
 
 pub returns-clause-refused : goal.returns-clause-refused
 returns-clause-refused g c bytes read =
-    let explained = c.args.explained.now in
-    let m = explained.verified in
-    let of_text = of_bytes bytes (spec_form explained.typed.spec) m read c.requires.explained.of_text in
+    let m = c.args.explained.now.verified in
+    let of_text = of_bytes bytes (spec_form c.args.explained.now.typed.spec) m read c.requires.explained.of_text in
     if_input_refused (IsRefusedModule m) (IsRefused bytes) (module_of_text_refused bytes m of_text) c.write_evidence.result c.write_evidence.ensures.refused
