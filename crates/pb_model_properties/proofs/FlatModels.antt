@@ -28,6 +28,7 @@ use Rattle.pb_protocol_meaning.specs.Syntax.{Formula, Property}
 use Rattle.pb_protocol_meaning.specs.Erase.{erase}
 use Rattle.pb_protocol_typing.specs.Faults.{protocol_faults}
 use Rattle.pb_protocol_unfolding.specs.Unfolding.{unfolded, unfolded_property}
+use Rattle.pb_protocol_unfolding.specs.Hygiene.{HidesNothing}
 use Rattle.pb_protocol_unfolding.specs.ModelLaws.{flat_formula, flat_model}
 use Rattle.pb_protocol_unfolder_steps.specs.Steps.{places_from, step_place}
 use Rattle.pb_protocol_unfolder.specs.declared.fault.UnfoldingFault.{UnfoldingFault}
@@ -38,19 +39,38 @@ use Rattle.pb_protocol_unfolder.specs.Faults.{IsUnfoldingFault}
 use Rattle.pb_protocol_unfolder.specs.Origins.{origin_name}
 use Rattle.pb_protocol_unfolder.specs.Plain.{is_plain_protocol}
 use Rattle.pb_protocol_unfolder.specs.Places as unfolded_places
+use Rattle.pb_protocol_unfolder.specs.Places.{HavePlacesOf}
+use Rattle.pb_protocol_unfolder.specs.Told as told
 use Rattle.pb_protocol_unfolder.specs.Unfolded.{flat_name, property_name}
 use Rattle.pb_protocol_tree.specs.declared.protocol.Property.{Property as DeclaredProperty}
+use Rattle.pb_protocol_tree.specs.declared.protocol.Protocol.{Protocol as DeclaredProtocol}
 use Rattle.pb_protocol_solved.specs.Laws.{model_property_names, property_names}
 use Rattle.pb_model_properties.specs.declared.error.ModelFault.{ModelFault}
 use Rattle.pb_model_properties.specs.declared.error.ModelFault.TheVariants as model_fault
 use Rattle.pb_model_properties.specs.declared.solved.ToldNames.{ToldNames}
 use Rattle.pb_model_properties.specs.Faults.{as_model_fault}
-use Rattle.pb_model_properties.specs.Flat.{IsFlatModelFor, IsUnfoldedTo}
+use Rattle.pb_model_properties.specs.Flat.{IsFlatModelFor}
 use Rattle.pb_model_properties.specs.Laws.{ModelsStandForProtocols}
 use Rattle.pb_model_properties.specs.Refusals.{IsRefusedProtocol, told_at, told_place}
 use Rattle.pb_model_properties.specs.Refusals.{told_step_place as step_place_of}
 use Rattle.pb_model_properties.specs.Solvable.{CanBeSolved}
 use Rattle.pb_model_properties.specs.Words.{AreNamesOf, impossible_where, words_where}
+
+-- ---- what is known of the unfolding
+
+-- what a protocol is unfolded to: a model with its properties by name, whose steps stand on lines
+-- of their own, the names by which its variables and steps are told, and those of the protocol's
+-- steps that come to none
+pub record IsUnfoldedTo (protocol : ProtocolForm) (u : Unfolded) : Type 0 where
+  pub meaning : model_text.erase (model_form u.model) ≡ flat_model (erase protocol)
+  pub hides_nothing : HidesNothing (erase protocol)
+  pub names : map flat_name u.model.properties.items ≡ property_names protocol.properties
+  pub steps : map step_place u.model.steps.items ≡ places_from 0 (length u.model.steps.items)
+  pub places : HavePlacesOf protocol (model_form u.model)
+  pub told_variables : map string_bytes u.variables.items ≡ told.told_variables (erase protocol)
+  pub told_steps : map origin_name u.steps.items ≡ told.told_steps (erase protocol)
+  pub impossible :
+      map string_bytes u.impossible.items ≡ told.impossible_steps (erase protocol)
 
 -- ---- words
 
@@ -142,6 +162,29 @@ unfolded_is_flat laws protocol u solvable is =
       formulas = have_words laws.formulas protocol (model_form u.model) is.meaning solvable.writable;
     }
 
+-- properties by name
+names_read : (ps : List DeclaredProperty) → map property_name ps ≡ property_names (map protocol_form.property_form ps)
+names_read [] = refl
+names_read (p ∷ ps) = ap (λ (xs : List Named). property_name p ∷ xs) (names_read ps)
+
+-- what the protocol is unfolded to, by what is known of its unfolding
+pub is_unfolded_to : (p : DeclaredProtocol) (u : Unfolded) → model_text.erase (model_form u.model) ≡ flat_model (erase (protocol_form.protocol_form p))
+    → HidesNothing (erase (protocol_form.protocol_form p))
+    → map flat_name u.model.properties.items ≡ map property_name p.properties.items → map step_place u.model.steps.items ≡ places_from 0 (length u.model.steps.items)
+    → HavePlacesOf (protocol_form.protocol_form p) (model_form u.model) → map string_bytes u.variables.items ≡ told.told_variables (erase (protocol_form.protocol_form p))
+    → map origin_name u.steps.items ≡ told.told_steps (erase (protocol_form.protocol_form p))
+    → map string_bytes u.impossible.items ≡ told.impossible_steps (erase (protocol_form.protocol_form p)) → IsUnfoldedTo (protocol_form.protocol_form p) u
+is_unfolded_to p u meaning hides_nothing names steps places told_variables told_steps impossible = record {
+  meaning = meaning;
+  hides_nothing = hides_nothing;
+  names = names ∙ names_read p.properties.items;
+  steps = steps;
+  places = places;
+  told_variables = told_variables;
+  told_steps = told_steps;
+  impossible = impossible;
+}
+
 -- told by the protocol's names
 pub unfolded_names : (protocol : ProtocolForm) (u : Unfolded) (names : ToldNames) → is_plain_protocol protocol ≡ false → IsUnfoldedTo protocol u
     → names.variables ≡ u.variables → map string_bytes names.steps.items ≡ map origin_name u.steps.items → names.impossible ≡ u.impossible
@@ -187,9 +230,3 @@ told_zero steps p o zero_column at = sym (ap (λ (k : ℕ). told_at k steps p) z
 pub told_more : (steps : List Place) (p : Place) (k : ℕ) → p.column ≡ k → (k ≡ 0 → ⊥) → p ≡ told_place steps p
 told_more steps p zero is more = absurd (more refl)
 told_more steps p (suc k) is more = sym (ap (λ (k : ℕ). told_at k steps p) is)
-
--- ---- names of properties
-
-pub names_read : (ps : List DeclaredProperty) → map property_name ps ≡ property_names (map protocol_form.property_form ps)
-names_read [] = refl
-names_read (p ∷ ps) = ap (λ (xs : List Named). property_name p ∷ xs) (names_read ps)

@@ -23,9 +23,11 @@ use Rattle.pb_model_spelling.specs.Protocols.{ProtocolWritable}
 use Rattle.pb_model_places.specs.Apart.{KeptPlacesStandApart}
 use Rattle.pb_model_places.specs.Apart as places
 use Rattle.pb_model_text.specs.Parsing.{IsFirstModelFault, NoModelReading}
+use Rattle.pb_protocol_typing.specs.Faults.{protocol_faults}
 use Rattle.pb_protocol_solved.specs.Laws.{PlainModelsAreSolved, model_property_names, property_names}
 use Rattle.pb_model_properties.specs.declared.error.ModelFault.{ModelFault}
 use Rattle.pb_model_properties.specs.declared.error.ModelFault.TheVariants as model_fault
+use Rattle.pb_model_properties.specs.Laws.{ModelsStandForProtocols}
 use Rattle.pb_model_properties.specs.Made.{has_many_variables}
 use Rattle.pb_model_properties.specs.Refusals.{IsRefusedModel, IsRefusedProtocol, IsUnread, told_at, told_fault, told_place}
 use Rattle.pb_model_properties.specs.Said.{IsTheReading}
@@ -70,6 +72,13 @@ plain_is_flat law protocol m is plainly =
       writable = model_has (model_text.erase m) has;
       formulas = λ p among. property_has m has p among;
     }
+
+-- where the protocol keeps the rules
+pub kept_is_flat : ModelsStandForProtocols → (protocol : ProtocolForm) (m : ModelForm) → CanBeSolved protocol → protocol ≡ plain_form m → erase protocol ≡ plain (model_text.erase m)
+    → protocol_faults protocol ≡ [] → IsFlatModelFor protocol m
+kept_is_flat laws protocol m solvable words meaning keeps =
+    let is : IsPlainFor protocol m = record { words = words; meaning = meaning; solvable = solvable; kept = laws.kept } in
+    plain_is_flat laws.plain protocol m is (laws.rules protocol (model_text.erase m) keeps meaning)
 
 -- and its words are its own
 pub plain_names_of : (protocol : ProtocolForm) (m : ModelForm) → is_plain_protocol protocol ≡ true → AreNamesOf protocol m None

@@ -75,6 +75,10 @@ pub record IsPackedTo (m n : ModelForm) : Type 0 where
   pub places : property_places n ≡ property_places m
   pub few : size_faults m ≡ []
 
+pub is_packed_to : (m n : ModelForm) → IsPackable (model_text.erase m) → model_text.erase n ≡ packed (model_text.erase m) → step_places n.steps ≡ step_places m.steps
+    → named_properties n ≡ named_properties m → property_places n ≡ property_places m → size_faults m ≡ [] → IsPackedTo m n
+is_packed_to m n packable meaning steps names places few = record { packable = packable; meaning = meaning; steps = steps; names = names; places = places; few = few }
+
 pub packed_told : ModelsStandForProtocols → (u : UnpackedModel) (n : Model) (t : TypedModel) (names : Option ToldNames) → has_many_variables (model_form u.model) ≡ true → t.model ≡ n
     → IsTypedModel (model_form n)
     → IsPackedTo (model_form u.model) (model_form n) → groups_in u.groups.items ≡ groups_of (model_text.erase (model_form u.model))

@@ -1,10 +1,9 @@
 //! From a flat model to the one that is solved: itself, or packed where it has more variables than
 //! a text has parameters.
 
-ghost use Rattle.std.specs.Prelude.{◌≡◌, true, false, IfOk};
+ghost use Rattle.std.specs.Prelude.{IfOk};
 ghost use Rattle.pb_base.specs.OrMemory.{IfRefused};
 ghost use Rattle.pb_model_tree.specs.Form.{model_form};
-ghost use Rattle.pb_model_properties.specs.Made.{has_many_variables};
 ghost use Rattle.pb_model_properties.specs.Refusals.{IsRefusedFlat};
 ghost use Rattle.pb_model_properties.specs.Words.{IsSolvedFlat};
 
@@ -18,34 +17,27 @@ use pb_model_typing::check_model;
 use pb_protocol_groups::pack_checked;
 use std::alloc::Global;
 
-/// A flat model as it is, checked.
-fn as_it_is(
+/// The model that is solved in the place of a protocol that this flat one is for, told by these
+/// names: the flat one, packed where it has too many variables.
+pub(crate) fn flat_solved(
     alloc: Global,
     model: Model,
     names: Option<ToldNames>,
 ) -> Result<SolvedModel, ModelError>
-    requires { has_many_variables (model_form model) ≡ false }
     ensures model { IfOk result (IsSolvedFlat (model_form model) names) }
     ensures refused { IfRefused result (IsRefusedFlat (model_form model)) }
 {
     models_stand_for_protocols();
-    match check_model(alloc, model) {
-        Ok(typed) => Ok(SolvedModel {
-            typed,
-            names,
-            unpacked: None,
-        }),
-        Err((_model, error)) => Err(told_error(&names, error)),
+    if !is_flat_state_large(alloc, &model.state)? {
+        return match check_model(alloc, model) {
+            Ok(typed) => Ok(SolvedModel {
+                typed,
+                names,
+                unpacked: None,
+            }),
+            Err((_model, error)) => Err(told_error(&names, error)),
+        };
     }
-}
-
-/// A flat model with its variables packed, checked.
-fn packed(alloc: Global, model: Model, names: Option<ToldNames>) -> Result<SolvedModel, ModelError>
-    requires { has_many_variables (model_form model) ≡ true }
-    ensures model { IfOk result (IsSolvedFlat (model_form model) names) }
-    ensures refused { IfRefused result (IsRefusedFlat (model_form model)) }
-{
-    models_stand_for_protocols();
     let packed = match pack_checked(alloc, &model) {
         Ok(packed) => packed,
         Err(error) => return Err(told_error(&names, error)),
@@ -58,22 +50,5 @@ fn packed(alloc: Global, model: Model, names: Option<ToldNames>) -> Result<Solve
             unpacked: Some(UnpackedModel { model, groups }),
         }),
         Err((_model, error)) => Err(told_error(&names, error)),
-    }
-}
-
-/// The model that is solved in the place of a protocol that this flat one is for, told by these
-/// names: the flat one, packed where it has too many variables.
-pub(crate) fn flat_solved(
-    alloc: Global,
-    model: Model,
-    names: Option<ToldNames>,
-) -> Result<SolvedModel, ModelError>
-    ensures model { IfOk result (IsSolvedFlat (model_form model) names) }
-    ensures refused { IfRefused result (IsRefusedFlat (model_form model)) }
-{
-    if is_flat_state_large(alloc, &model.state)? {
-        packed(alloc, model, names)
-    } else {
-        as_it_is(alloc, model, names)
     }
 }

@@ -1,7 +1,6 @@
 //! The model of a plain protocol.
 
-ghost use Rattle.std.specs.Prelude.{◌≡◌, nat_lt, true, false, length, IfOk};
-ghost use Rattle.pb_base.specs.declared.limits.TheConstants.{MAX_PARAMETERS};
+ghost use Rattle.std.specs.Prelude.{◌≡◌, true, IfOk};
 ghost use Rattle.pb_base.specs.OrMemory.{IfRefused};
 ghost use Rattle.pb_protocol_tree.specs.Form.{protocol_form};
 ghost use Rattle.pb_protocol_unfolder.specs.Plain.{is_plain_protocol};
@@ -20,15 +19,23 @@ use pb_protocol_typing::check_protocol;
 use pb_protocol_unfolder::plain_model;
 use std::alloc::Global;
 
-/// A plain protocol's own model. What its check accepts keeps the rules of plain models.
-fn as_it_is(alloc: Global, protocol: Protocol) -> Result<SolvedModel, ModelError>
+/// The model that is solved in a plain protocol's place: its own, or that one packed where it has
+/// too many variables. What the check of its own model accepts keeps the rules of plain models.
+pub(crate) fn plain_solved(alloc: Global, protocol: Protocol) -> Result<SolvedModel, ModelError>
     requires plain { is_plain_protocol (protocol_form protocol) ≡ true }
     requires solvable { CanBeSolved (protocol_form protocol) }
-    requires few { nat_lt MAX_PARAMETERS (length (protocol_form protocol).variables) ≡ false }
     ensures model { IfOk result (IsToldModel (protocol_form protocol)) }
     ensures refused { IfRefused result (IsRefusedProtocol (protocol_form protocol)) }
 {
     models_stand_for_protocols();
+    if is_state_large(alloc, &protocol.state)? {
+        match check_protocol(alloc, &protocol) {
+            Ok(()) => (),
+            Err(error) => return Err(error.raise()),
+        }
+        let model = plain_model(alloc, protocol)?;
+        return flat_solved(alloc, model, None);
+    }
     let model = plain_model(alloc, protocol)?;
     match check_model(alloc, model) {
         Ok(typed) => Ok(SolvedModel {
@@ -37,36 +44,5 @@ fn as_it_is(alloc: Global, protocol: Protocol) -> Result<SolvedModel, ModelError
             unpacked: None,
         }),
         Err((_model, error)) => Err(error.raise()),
-    }
-}
-
-/// The model of a plain protocol that keeps the rules, which has too many variables to be solved as
-/// it is.
-fn packed(alloc: Global, protocol: Protocol) -> Result<SolvedModel, ModelError>
-    requires plain { is_plain_protocol (protocol_form protocol) ≡ true }
-    requires solvable { CanBeSolved (protocol_form protocol) }
-    ensures model { IfOk result (IsToldModel (protocol_form protocol)) }
-    ensures refused { IfRefused result (IsRefusedProtocol (protocol_form protocol)) }
-{
-    models_stand_for_protocols();
-    match check_protocol(alloc, &protocol) {
-        Ok(()) => (),
-        Err(error) => return Err(error.raise()),
-    }
-    let model = plain_model(alloc, protocol)?;
-    flat_solved(alloc, model, None)
-}
-
-/// The model that is solved in a plain protocol's place: its own, or that one packed.
-pub(crate) fn plain_solved(alloc: Global, protocol: Protocol) -> Result<SolvedModel, ModelError>
-    requires plain { is_plain_protocol (protocol_form protocol) ≡ true }
-    requires solvable { CanBeSolved (protocol_form protocol) }
-    ensures model { IfOk result (IsToldModel (protocol_form protocol)) }
-    ensures refused { IfRefused result (IsRefusedProtocol (protocol_form protocol)) }
-{
-    if is_state_large(alloc, &protocol.state)? {
-        packed(alloc, protocol)
-    } else {
-        as_it_is(alloc, protocol)
     }
 }

@@ -4,7 +4,6 @@ ghost use Rattle.std.specs.Prelude.{◌≡◌, false, IfOk};
 ghost use Rattle.pb_base.specs.OrMemory.{IfRefused};
 ghost use Rattle.pb_protocol_tree.specs.Form.{protocol_form};
 ghost use Rattle.pb_protocol_unfolder.specs.Plain.{is_plain_protocol};
-ghost use Rattle.pb_model_properties.specs.Flat.{IsUnfoldedTo};
 ghost use Rattle.pb_model_properties.specs.Refusals.{IsRefusedProtocol};
 ghost use Rattle.pb_model_properties.specs.Solvable.{CanBeSolved};
 ghost use Rattle.pb_model_properties.specs.Words.{IsToldModel};
@@ -16,27 +15,10 @@ use crate::solved::{SolvedModel, ToldNames};
 use crate::told::{names_of, places_of};
 use pb_protocol_tree::Protocol;
 use pb_protocol_typing::check_protocol;
-use pb_protocol_unfolder::{Unfolded, unfold};
+use pb_protocol_unfolder::unfold;
 use std::alloc::Global;
 
-/// The flat model of a protocol that keeps the rules.
-fn flat(alloc: Global, protocol: &Protocol) -> Result<Unfolded, ModelError>
-    requires unfolds { is_plain_protocol (protocol_form protocol.now) ≡ false }
-    ensures flat { IfOk result (IsUnfoldedTo (protocol_form protocol.now)) }
-    ensures refused { IfRefused result (IsRefusedProtocol (protocol_form protocol.now)) }
-{
-    models_stand_for_protocols();
-    match check_protocol(alloc, protocol) {
-        Ok(()) => (),
-        Err(error) => return Err(error.raise()),
-    }
-    match unfold(alloc, protocol) {
-        Ok(unfolded) => Ok(unfolded),
-        Err(error) => Err(error.raise()),
-    }
-}
-
-/// The same, checked.
+/// The model that is solved in the place of a protocol that is unfolded.
 pub(crate) fn unfolded_solved(alloc: Global, protocol: &Protocol) -> Result<SolvedModel, ModelError>
     requires unfolds { is_plain_protocol (protocol_form protocol.now) ≡ false }
     requires solvable { CanBeSolved (protocol_form protocol.now) }
@@ -44,7 +26,14 @@ pub(crate) fn unfolded_solved(alloc: Global, protocol: &Protocol) -> Result<Solv
     ensures refused { IfRefused result (IsRefusedProtocol (protocol_form protocol.now)) }
 {
     models_stand_for_protocols();
-    let unfolded = flat(alloc, protocol)?;
+    match check_protocol(alloc, protocol) {
+        Ok(()) => (),
+        Err(error) => return Err(error.raise()),
+    }
+    let unfolded = match unfold(alloc, protocol) {
+        Ok(unfolded) => unfolded,
+        Err(error) => return Err(error.raise()),
+    };
     let origins = unfolded.steps;
     let steps = names_of(alloc, &origins)?;
     let places = places_of(alloc, &origins)?;

@@ -16,6 +16,5 @@ loop-name-preserved c =
 
 pub returns : goal.returns
 returns c =
-    let xs = c.args.names.now in
-    let k = c.loop-name.name-index in
-    has_each (texts_of xs) c.loop-name.set (texts_of (drop k xs)) (texts-past xs k c.loop-name-test.false) c.loop-name.invariant
+    has_each (texts_of c.args.names.now) c.loop-name.set (texts_of (drop c.loop-name.name-index c.args.names.now))
+    (texts-past c.args.names.now c.loop-name.name-index c.loop-name-test.false) c.loop-name.invariant

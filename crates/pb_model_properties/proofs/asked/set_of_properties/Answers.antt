@@ -16,6 +16,5 @@ loop-property-preserved c =
 
 pub returns : goal.returns
 returns c =
-    let ps = c.args.properties.now in
-    let k = c.loop-property.property-index in
-    has_each (names_of ps) c.loop-property.set (names_of (drop k ps)) (names-past ps k c.loop-property-test.false) c.loop-property.invariant
+    has_each (names_of c.args.properties.now) c.loop-property.set (names_of (drop c.loop-property.property-index c.args.properties.now))
+    (names-past c.args.properties.now c.loop-property.property-index c.loop-property-test.false) c.loop-property.invariant
