@@ -7,7 +7,7 @@ use Rattle.pb_sorts.specs.declared.carrier.Carrier.{Carrier}
 use Rattle.pb_text_tree.specs.declared.operator.Quantifier.{Quantifier}
 use Rattle.pb_normal.specs.Normal as normal
 use Rattle.pb_normal.specs.Normal.{Join}
-use Rattle.pb_normal.specs.declared.formula.Junction.{Junction}
+use Rattle.pb_fixpoint_trees.specs.declared.junction.Junction.{Junction}
 use Rattle.pb_normal.specs.declared.formula.Formula as formula
 use Rattle.pb_normal.specs.declared.formula.Formula.{Formula, Row_of-Formula, end_of-Formula, more_of-Formula, items-the_row-Formula, items_hidden-the_row-Formula-0}
 use Rattle.pb_normal.specs.View.{formula_view, formula_views, chained_formula, nested}

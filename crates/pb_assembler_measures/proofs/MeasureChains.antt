@@ -10,8 +10,8 @@ use Rattle.pb_text_tree.specs.declared.operator.Quantifier.{Quantifier}
 use Rattle.pb_typing_declarations.specs.Entries.{carrier_shape}
 use Rattle.pb_normal.specs.Normal as normal
 use Rattle.pb_normal.specs.Normal.{Join}
-use Rattle.pb_normal.specs.declared.formula.Junction.{Junction}
-use Rattle.pb_normal.specs.declared.formula.Junction.TheVariants.{And, Or}
+use Rattle.pb_fixpoint_trees.specs.declared.junction.Junction.{Junction}
+use Rattle.pb_fixpoint_trees.specs.declared.junction.Junction.TheVariants.{Conjunction, Disjunction}
 use Rattle.pb_normal.specs.declared.formula.Formula.{Formula}
 use Rattle.pb_normal.specs.View.{formula_view, nested}
 use Rattle.pb_assembler_scheme.specs.Scheme.{junction_of, test_of}
@@ -24,8 +24,8 @@ use Rattle.pb_assembler_measures.proofs.MeasureTallies.{tested_by, under_by, aft
 -- ---- loops
 
 under_same : (m : Junction) (x : Tally) → under_tally m m x ≡ x
-under_same And x = refl
-under_same Or x = refl
+under_same Conjunction x = refl
+under_same Disjunction x = refl
 
 pub carrier_count : (c : Carrier) → shape_size (carrier_shape (Some c)) ≡ length (values_of c)
 carrier_count carriers.Bool = refl

@@ -13,8 +13,8 @@ use Rattle.pb_bytecode_program.specs.Values.{tagged}
 use Rattle.pb_bytecode_program.specs.declared.instruction.Leaf.TheVariants as leaf
 use Rattle.pb_bytecode_program.specs.declared.instruction.Op.{Op}
 use Rattle.pb_bytecode_program.specs.declared.instruction.Op.TheVariants as op
-use Rattle.pb_normal.specs.declared.formula.Junction.{Junction}
-use Rattle.pb_normal.specs.declared.formula.Junction.TheVariants.{And, Or}
+use Rattle.pb_fixpoint_trees.specs.declared.junction.Junction.{Junction}
+use Rattle.pb_fixpoint_trees.specs.declared.junction.Junction.TheVariants.{Conjunction, Disjunction}
 use Rattle.pb_normal.specs.Normal.{Term, Number, Slot, Negative, Absolute, Successor, Predecessor, Binary, Maximum, Minimum, Choice, Recognised, Argument, Formula, Test, Join, Each, Call}
 use Rattle.pb_assembler_scheme.specs.Pieces.{Piece, Plain, Then, Unless, Choose, Repeat, Block, Leave, Guard, end}
 use Rattle.pb_assembler_scheme.specs.Scheme.{neutral, junction_of, data_piece, binary_piece, in_order, swapped, bracketed, under, test_piece, tested_piece, test_of, join_piece, tested_range, any_tested, guarded, arguments_piece, call_piece, parameters, formula_piece, head, equation_piece}
@@ -178,10 +178,10 @@ module _ (p : Program) where
       then_costs (data_piece t) (Unless on x) (term_length t) (term_length t) 0 (1 + n) (1 + s) k _ _ _ (data_costs t) (unless_costs on x n s k h) (omega arith) (omega arith) (omega arith)
 
   tested_costs : (m around : Junction) (t : Term) (x : Piece) (y : Tally) → Tallied x y → Tallied (tested_piece m around t x) (tested_tally m around (term_load t) y)
-  tested_costs And And t x y h = decided true _ t x y.instructions y.steps y.tokens refl h
-  tested_costs Or Or t x y h = decided false _ t x y.instructions y.steps y.tokens refl h
-  tested_costs And Or t x y h = passed false t x y.instructions y.steps y.tokens h
-  tested_costs Or And t x y h = passed true t x y.instructions y.steps y.tokens h
+  tested_costs Conjunction Conjunction t x y h = decided true _ t x y.instructions y.steps y.tokens refl h
+  tested_costs Disjunction Disjunction t x y h = decided false _ t x y.instructions y.steps y.tokens refl h
+  tested_costs Conjunction Disjunction t x y h = passed false t x y.instructions y.steps y.tokens h
+  tested_costs Disjunction Conjunction t x y h = passed true t x y.instructions y.steps y.tokens h
 
   in_bracket : (i : Op) (x : Piece) (n s k : ℕ) → tokens_of i ≡ 1 → Costs p x n s k → Costs p (Then (Plain i) (Then x (Plain op.Close))) (2 + n) (2 + s) (2 + k)
   in_bracket i x n s k e h =
@@ -193,10 +193,10 @@ module _ (p : Program) where
   bracketed_costs m x y h = in_bracket _ x y.instructions y.steps y.tokens refl h
 
   under_costs : (m around : Junction) (x : Piece) (y : Tally) → Tallied x y → Tallied (under m around x) (under_tally m around y)
-  under_costs And And x y h = h
-  under_costs Or Or x y h = h
-  under_costs And Or x y h = bracketed_costs And x y h
-  under_costs Or And x y h = bracketed_costs Or x y h
+  under_costs Conjunction Conjunction x y h = h
+  under_costs Disjunction Disjunction x y h = h
+  under_costs Conjunction Disjunction x y h = bracketed_costs Conjunction x y h
+  under_costs Disjunction Conjunction x y h = bracketed_costs Disjunction x y h
 
   after_costs : (a b : Piece) (x y : Tally) → Tallied a x → Tallied b y → Tallied (Then a b) (after x y)
   after_costs a b x y h i = then_costs a b x.instructions x.steps x.tokens y.instructions y.steps y.tokens _ _ _ h i refl refl refl

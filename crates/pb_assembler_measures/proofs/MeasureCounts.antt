@@ -2,8 +2,8 @@
 use Rattle.std.proofs.Common.{◌≡◌, ℕ, suc, Bool, true, false, List, [], ◌∷◌, Option, Some, None, refl, ap, ◌∙◌, arith}
 use Rattle.std.specs.Prelude.{max, slice_get}
 use Rattle.pb_sorts.specs.declared.carrier.Carrier.{Carrier}
-use Rattle.pb_normal.specs.declared.formula.Junction.{Junction}
-use Rattle.pb_normal.specs.declared.formula.Junction.TheVariants.{And, Or}
+use Rattle.pb_fixpoint_trees.specs.declared.junction.Junction.{Junction}
+use Rattle.pb_fixpoint_trees.specs.declared.junction.Junction.TheVariants.{Conjunction, Disjunction}
 use Rattle.pb_normal.specs.Normal.{Term, Argument, Formula, Test, Join, Each, Call}
 use Rattle.pb_assembler_scheme.specs.Scheme.{junction_of, any_tested, parameters, test_of}
 use Rattle.pb_assembler_scheme.specs.Limits.{one_kept, term_operands, argument_operands, formula_operands, brackets_under, join_brackets, formula_brackets, formula_loops}
@@ -33,16 +33,16 @@ counts_as : (t : Tally) (n b l m c k : ℕ) → n ≡ m → b ≡ c → l ≡ k 
 counts_as t n b l m c k e f g h = record { operands = h.operands ∙ e; brackets = h.brackets ∙ f; loops = h.loops ∙ g }
 
 tested_counts : (m around : Junction) (t : Term) (x : Tally) (n b l : ℕ) → Counts x n b l → Counts (tested_tally m around (term_load t) x) (max (term_operands t) n) b l
-tested_counts And And t x n b l h = record { operands = ap (max (term_operands t)) h.operands; brackets = h.brackets; loops = h.loops }
-tested_counts Or Or t x n b l h = record { operands = ap (max (term_operands t)) h.operands; brackets = h.brackets; loops = h.loops }
-tested_counts And Or t x n b l h = record { operands = ap (max (term_operands t)) h.operands; brackets = h.brackets; loops = h.loops }
-tested_counts Or And t x n b l h = record { operands = ap (max (term_operands t)) h.operands; brackets = h.brackets; loops = h.loops }
+tested_counts Conjunction Conjunction t x n b l h = record { operands = ap (max (term_operands t)) h.operands; brackets = h.brackets; loops = h.loops }
+tested_counts Disjunction Disjunction t x n b l h = record { operands = ap (max (term_operands t)) h.operands; brackets = h.brackets; loops = h.loops }
+tested_counts Conjunction Disjunction t x n b l h = record { operands = ap (max (term_operands t)) h.operands; brackets = h.brackets; loops = h.loops }
+tested_counts Disjunction Conjunction t x n b l h = record { operands = ap (max (term_operands t)) h.operands; brackets = h.brackets; loops = h.loops }
 
 under_counts : (m around : Junction) (x : Tally) (n b l : ℕ) → Counts x n b l → Counts (under_tally m around x) n (brackets_under m around b) l
-under_counts And And x n b l h = h
-under_counts Or Or x n b l h = h
-under_counts And Or x n b l h = record { operands = h.operands; brackets = let e = h.brackets in omega (arith, e); loops = h.loops }
-under_counts Or And x n b l h = record { operands = h.operands; brackets = let e = h.brackets in omega (arith, e); loops = h.loops }
+under_counts Conjunction Conjunction x n b l h = h
+under_counts Disjunction Disjunction x n b l h = h
+under_counts Conjunction Disjunction x n b l h = record { operands = h.operands; brackets = let e = h.brackets in omega (arith, e); loops = h.loops }
+under_counts Disjunction Conjunction x n b l h = record { operands = h.operands; brackets = let e = h.brackets in omega (arith, e); loops = h.loops }
 
 after_counts : (x y : Tally) (n b l m c k : ℕ) → Counts x n b l → Counts y m c k → Counts (after x y) (max n m) (max b c) (max l k)
 after_counts x y n b l m c k h i = record {

@@ -7,7 +7,7 @@ use Rattle.pb_sorts.specs.declared.carrier.Carrier.TheVariants as carriers
 use Rattle.pb_typing_declarations.specs.Shapes.{Shape, Unknown, Truths, Places, Wholes}
 use Rattle.pb_typing_declarations.specs.Entries.{carrier_shape}
 use Rattle.pb_typing_rules.specs.Shapes.{between}
-use Rattle.pb_normal.specs.declared.formula.Junction.{Junction}
+use Rattle.pb_fixpoint_trees.specs.declared.junction.Junction.{Junction}
 use Rattle.pb_normal.specs.Normal.{Argument, Formula, Test, Join, Each, Call}
 use Rattle.pb_normal.specs.View.{shapes_of}
 use Rattle.pb_assembler_scheme.specs.Scheme.{junction_of, tested_range, any_tested, parameters, test_of}

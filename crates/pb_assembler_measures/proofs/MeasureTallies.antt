@@ -1,8 +1,8 @@
 -- Tallies that stop just above a million, put together.
 use Rattle.std.proofs.Common.{◌≡◌, ℕ, zero, suc, ◌+◌, ◌*◌, ◌<◌, Bool, ap, ◌∙◌, arith, ⊎_elim}
 use Rattle.std.proofs.lemmas.Bool.{cases_lt}
-use Rattle.pb_normal.specs.declared.formula.Junction.{Junction}
-use Rattle.pb_normal.specs.declared.formula.Junction.TheVariants.{And, Or}
+use Rattle.pb_fixpoint_trees.specs.declared.junction.Junction.{Junction}
+use Rattle.pb_fixpoint_trees.specs.declared.junction.Junction.TheVariants.{Conjunction, Disjunction}
 use Rattle.pb_assembler_measures.specs.declared.measure_load.Load.{Load}
 use Rattle.pb_assembler_measures.specs.declared.measure_tally.Tally.{Tally}
 use Rattle.pb_assembler_measures.specs.MeasureTerms.{capped, capped_load}
@@ -46,10 +46,10 @@ passing_capped : (l : Load) (x : Tally) → capped_tally (passing (capped_load l
 passing_capped l x = tally_of _ _ _ _ _ _ _ _ _ _ _ _ (omega arith) (omega arith) (omega arith) (omega arith) (omega arith) (omega arith)
 
 tested_capped : (m around : Junction) (l : Load) (x : Tally) → capped_tally (tested_tally m around (capped_load l) (capped_tally x)) ≡ capped_tally (tested_tally m around l x)
-tested_capped And And l x = deciding_capped l x
-tested_capped Or Or l x = deciding_capped l x
-tested_capped And Or l x = passing_capped l x
-tested_capped Or And l x = passing_capped l x
+tested_capped Conjunction Conjunction l x = deciding_capped l x
+tested_capped Disjunction Disjunction l x = deciding_capped l x
+tested_capped Conjunction Disjunction l x = passing_capped l x
+tested_capped Disjunction Conjunction l x = passing_capped l x
 
 same_capped : (x : Tally) → capped_tally (capped_tally x) ≡ capped_tally x
 same_capped x = tally_of _ _ _ _ _ _ _ _ _ _ _ _ (omega arith) (omega arith) (omega arith) (omega arith) (omega arith) (omega arith)
@@ -58,10 +58,10 @@ bracketed_capped : (x : Tally) → capped_tally (bracketed_tally (capped_tally x
 bracketed_capped x = tally_of _ _ _ _ _ _ _ _ _ _ _ _ (omega arith) (omega arith) (omega arith) (omega arith) (omega arith) (omega arith)
 
 under_capped : (m around : Junction) (x : Tally) → capped_tally (under_tally m around (capped_tally x)) ≡ capped_tally (under_tally m around x)
-under_capped And And x = same_capped x
-under_capped Or Or x = same_capped x
-under_capped And Or x = bracketed_capped x
-under_capped Or And x = bracketed_capped x
+under_capped Conjunction Conjunction x = same_capped x
+under_capped Disjunction Disjunction x = same_capped x
+under_capped Conjunction Disjunction x = bracketed_capped x
+under_capped Disjunction Conjunction x = bracketed_capped x
 
 after_capped : (x y : Tally) → capped_tally (after (capped_tally x) (capped_tally y)) ≡ capped_tally (after x y)
 after_capped x y = tally_of _ _ _ _ _ _ _ _ _ _ _ _ (omega arith) (omega arith) (omega arith) (omega arith) (omega arith) (omega arith)

@@ -5,8 +5,8 @@ use Rattle.std.specs.Option.{option_map}
 use Rattle.pb_sorts.specs.Carrier.{values_of}
 use Rattle.pb_sorts.specs.declared.carrier.Carrier.{Carrier}
 use Rattle.pb_typing_declarations.specs.Shapes.{Shape, shape_carrier}
-use Rattle.pb_normal.specs.declared.formula.Junction.{Junction}
-use Rattle.pb_normal.specs.declared.formula.Junction.TheVariants.{And, Or}
+use Rattle.pb_fixpoint_trees.specs.declared.junction.Junction.{Junction}
+use Rattle.pb_fixpoint_trees.specs.declared.junction.Junction.TheVariants.{Conjunction, Disjunction}
 use Rattle.pb_normal.specs.Normal.{Term, Argument, Formula, Test, Join, Each, Call}
 use Rattle.pb_normal.specs.declared.formula.Formula as formula
 use Rattle.pb_normal.specs.View.{chained_formula, formula_view, formula_views}
@@ -56,10 +56,10 @@ deciding_tally l x = record x {
 
 -- a test joined by m with what follows under the bracket that is open
 abbrev pub tested_tally : (m around : Junction) → Load → Tally → Tally
-tested_tally And And l x = deciding_tally l x
-tested_tally Or Or l x = deciding_tally l x
-tested_tally And Or l x = passing l x
-tested_tally Or And l x = passing l x
+tested_tally Conjunction Conjunction l x = deciding_tally l x
+tested_tally Disjunction Disjunction l x = deciding_tally l x
+tested_tally Conjunction Disjunction l x = passing l x
+tested_tally Disjunction Conjunction l x = passing l x
 
 abbrev pub bracketed_tally : Tally → Tally
 bracketed_tally x = record x {
@@ -70,10 +70,10 @@ bracketed_tally x = record x {
 }
 
 abbrev pub under_tally : (m around : Junction) → Tally → Tally
-under_tally And And x = x
-under_tally Or Or x = x
-under_tally And Or x = bracketed_tally x
-under_tally Or And x = bracketed_tally x
+under_tally Conjunction Conjunction x = x
+under_tally Disjunction Disjunction x = x
+under_tally Conjunction Disjunction x = bracketed_tally x
+under_tally Disjunction Conjunction x = bracketed_tally x
 
 -- one behind the other
 abbrev pub after : Tally → Tally → Tally

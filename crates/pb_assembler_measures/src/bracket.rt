@@ -12,8 +12,8 @@ pub fn junction_of(quantifier: Quantifier) -> Junction
     ensures { result ≡ junction_of quantifier }
 {
     match quantifier {
-        Quantifier::Forall => Junction::And,
-        Quantifier::Exists => Junction::Or,
+        Quantifier::Forall => Junction::Conjunction,
+        Quantifier::Exists => Junction::Disjunction,
     }
 }
 
@@ -23,7 +23,7 @@ pub fn outermost(formula: &Formula<'_>) -> Junction
     ensures { result ≡ head (formula_view formula.now) }
 {
     match formula {
-        Formula::Test { .. } | Formula::Call { .. } => Junction::Or,
+        Formula::Test { .. } | Formula::Call { .. } => Junction::Disjunction,
         Formula::Join {
             junction,
             first,

@@ -3,7 +3,7 @@
 ghost use Rattle.std.specs.Prelude.{◌≡◌, ◌<◌, ◌||◌, ℕ, None, length, map};
 ghost use Rattle.std.specs.List.{slice_get};
 ghost use Rattle.pb_typing_tree.specs.View.{argument_view, chained_formula};
-ghost use Rattle.pb_normal.specs.declared.formula.Junction.{Junction};
+ghost use Rattle.pb_fixpoint_trees.specs.declared.junction.Junction.{Junction};
 ghost use Rattle.pb_normal.specs.Normal.{Call, Join};
 ghost use Rattle.pb_normal.specs.View.{formula_view, formula_views, nested};
 ghost use Rattle.pb_assembler_scheme.specs.Scheme.{any_tested, parameters, test_of};

@@ -9,8 +9,8 @@ use Rattle.pb_bytecode_program.specs.Counts.{LoopEffect, Enters, Leaves, Straigh
 use Rattle.pb_bytecode_program.specs.declared.instruction.Leaf.TheVariants as leaf
 use Rattle.pb_bytecode_program.specs.declared.instruction.Op.{Op}
 use Rattle.pb_bytecode_program.specs.declared.instruction.Op.TheVariants as op
-use Rattle.pb_normal.specs.declared.formula.Junction.{Junction}
-use Rattle.pb_normal.specs.declared.formula.Junction.TheVariants.{And, Or}
+use Rattle.pb_fixpoint_trees.specs.declared.junction.Junction.{Junction}
+use Rattle.pb_fixpoint_trees.specs.declared.junction.Junction.TheVariants.{Conjunction, Disjunction}
 use Rattle.pb_normal.specs.Normal.{Term, Number, Slot, Negative, Absolute, Successor, Predecessor, Binary, Maximum, Minimum, Choice, Recognised, Argument, Formula, Test, Join, Each, Call}
 use Rattle.pb_assembler_scheme.specs.Correct.{IsCompiled}
 use Rattle.pb_assembler_scheme.specs.Pieces.{Piece, Empty, Plain, Then, Unless, Choose, Repeat, Block, Leave, Guard, end, flat}
@@ -228,16 +228,16 @@ data_loops (Choice c x y) = let d = data_loops c in let e = data_loops x in let 
 data_loops (Recognised s i x) = let e = data_loops x in omega (arith, e)
 
 tested_loops : (m around : Junction) (t : Term) (x : Piece) → piece_loops (tested_piece m around t x) ≡ piece_loops x
-tested_loops And And t x = let e = data_loops t in omega (arith, e)
-tested_loops Or Or t x = let e = data_loops t in omega (arith, e)
-tested_loops And Or t x = let e = data_loops t in omega (arith, e)
-tested_loops Or And t x = let e = data_loops t in omega (arith, e)
+tested_loops Conjunction Conjunction t x = let e = data_loops t in omega (arith, e)
+tested_loops Disjunction Disjunction t x = let e = data_loops t in omega (arith, e)
+tested_loops Conjunction Disjunction t x = let e = data_loops t in omega (arith, e)
+tested_loops Disjunction Conjunction t x = let e = data_loops t in omega (arith, e)
 
 under_loops : (m around : Junction) (x : Piece) → piece_loops (under m around x) ≡ piece_loops x
-under_loops And And x = refl
-under_loops Or Or x = refl
-under_loops And Or x = omega arith
-under_loops Or And x = omega arith
+under_loops Conjunction Conjunction x = refl
+under_loops Disjunction Disjunction x = refl
+under_loops Conjunction Disjunction x = omega arith
+under_loops Disjunction Conjunction x = omega arith
 
 -- a test has no loops
 abbrev HasNoLoop : Option Term → ℕ → Type 0

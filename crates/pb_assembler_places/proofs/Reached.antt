@@ -8,8 +8,8 @@ use Rattle.pb_bytecode_program.specs.Machine.{Program}
 use Rattle.pb_bytecode_program.specs.declared.instruction.Leaf.TheVariants as leaf
 use Rattle.pb_bytecode_program.specs.declared.instruction.Op.{Op}
 use Rattle.pb_bytecode_program.specs.declared.instruction.Op.TheVariants as op
-use Rattle.pb_normal.specs.declared.formula.Junction.{Junction}
-use Rattle.pb_normal.specs.declared.formula.Junction.TheVariants.{And, Or}
+use Rattle.pb_fixpoint_trees.specs.declared.junction.Junction.{Junction}
+use Rattle.pb_fixpoint_trees.specs.declared.junction.Junction.TheVariants.{Conjunction, Disjunction}
 use Rattle.pb_normal.specs.Normal.{Term, Number, Slot, Negative, Absolute, Successor, Predecessor, Binary, Maximum, Minimum, Choice, Recognised, Argument, Formula, Test, Join, Each, Call}
 use Rattle.pb_assembler_scheme.specs.Pieces.{Piece, Plain, Then, Unless, Choose, Repeat, Block, Leave, end, HasPieceAt}
 use Rattle.pb_assembler_scheme.specs.Scheme.{neutral, junction_of, data_piece, binary_piece, in_order, swapped, bracketed, under, test_piece, tested_piece, test_of, join_piece, tested_range, any_tested, guarded, arguments_piece, call_piece, parameters, formula_piece, head}
@@ -17,14 +17,14 @@ use Rattle.pb_assembler_scheme.specs.Correct.{HasFullCalls, IsCompiled, IsFullCa
 use Rattle.pb_assembler_scheme.proofs.Calls.{full_length}
 use Rattle.pb_assembler_scheme.proofs.Whole.{equation_stands}
 use Rattle.pb_assembler_scheme.specs.Limits.{one_kept, binary_operands, term_operands, argument_operands, formula_operands, brackets_under, join_brackets, formula_brackets}
-use Rattle.pb_assembler_places.specs.Reached.{Height, taken, pushed_by, opened, closed, LeadsTo, IsReached, HoldsOperands, HoldsBrackets}
+use Rattle.pb_assembler_places.specs.Reached.{Height, taken, pushed_by, opened, closed, LeadsTo, ReachesHeight, HoldsOperands, HoldsBrackets}
 
 module _ (p : Program) where
   abbrev height : (q n b : ℕ) → Height
   height q n b = record { place = q; operands = n; brackets = b }
 
   abbrev At : (q n b : ℕ) → Type 0
-  At q n b = IsReached p (height q n b)
+  At q n b = ReachesHeight p (height q n b)
 
   -- ---- one instruction
 
@@ -205,10 +205,10 @@ module _ (p : Program) where
       (rest.0, operands_max (0 + term_operands t) o (max (term_operands t) o) (omega arith) d.1 rest.1, rest.2)
 
   tested_passes : (m around : Junction) (t : Term) (x : Piece) (o k : ℕ) → Passes x o k → Passes (tested_piece m around t x) (max (term_operands t) o) k
-  tested_passes And And t x o k f = decided_passes true _ t x o k f
-  tested_passes Or Or t x o k f = decided_passes false _ t x o k f
-  tested_passes And Or t x o k f = passed_passes false t x o k f
-  tested_passes Or And t x o k f = passed_passes true t x o k f
+  tested_passes Conjunction Conjunction t x o k f = decided_passes true _ t x o k f
+  tested_passes Disjunction Disjunction t x o k f = decided_passes false _ t x o k f
+  tested_passes Conjunction Disjunction t x o k f = passed_passes false t x o k f
+  tested_passes Disjunction Conjunction t x o k f = passed_passes true t x o k f
 
   bracketed_passes : (m : Junction) (x : Piece) (o k : ℕ) → Passes x o k → Passes (bracketed m x) o (suc k)
   bracketed_passes m x o k f q e b s h =
@@ -218,10 +218,10 @@ module _ (p : Program) where
       (close_one, inner.1, brackets_as ((b + 1) + k) (b + suc k) (omega arith) inner.2)
 
   under_passes : (m around : Junction) (x : Piece) (o k : ℕ) → Passes x o k → Passes (under m around x) o (brackets_under m around k)
-  under_passes And And x o k f = f
-  under_passes Or Or x o k f = f
-  under_passes And Or x o k f = bracketed_passes And x o k f
-  under_passes Or And x o k f = bracketed_passes Or x o k f
+  under_passes Conjunction Conjunction x o k f = f
+  under_passes Disjunction Disjunction x o k f = f
+  under_passes Conjunction Disjunction x o k f = bracketed_passes Conjunction x o k f
+  under_passes Disjunction Conjunction x o k f = bracketed_passes Disjunction x o k f
 
   both_pass : (x y : Piece) (o k u l : ℕ) → Passes x o k → Passes y u l → Passes (Then x y) (max o u) (max k l)
   both_pass x y o k u l f g q e b s h =
@@ -372,7 +372,7 @@ module _ (p : Program) where
 -- ---- equations
 
 module _ (p : Program) (f : Formula) (compiled : IsCompiled p f) (full : HasFullCalls p.callees f) where
-  start : IsReached p (record { place = 0; operands = 0; brackets = 0 })
+  start : ReachesHeight p (record { place = 0; operands = 0; brackets = 0 })
   start = (0, (refl, refl, refl))
 
   pub operands_reached : HoldsOperands p (formula_operands f)

@@ -8,8 +8,8 @@ use Rattle.pb_bytecode_program.specs.Machine.{Program}
 use Rattle.pb_bytecode_program.specs.declared.instruction.Leaf.TheVariants as leaf
 use Rattle.pb_bytecode_program.specs.declared.instruction.Op.{Op}
 use Rattle.pb_bytecode_program.specs.declared.instruction.Op.TheVariants as op
-use Rattle.pb_normal.specs.declared.formula.Junction.{Junction}
-use Rattle.pb_normal.specs.declared.formula.Junction.TheVariants.{And, Or}
+use Rattle.pb_fixpoint_trees.specs.declared.junction.Junction.{Junction}
+use Rattle.pb_fixpoint_trees.specs.declared.junction.Junction.TheVariants.{Conjunction, Disjunction}
 use Rattle.pb_normal.specs.Normal.{Term, Number, Slot, Negative, Absolute, Successor, Predecessor, Binary, Maximum, Minimum, Choice, Recognised, Argument, Formula, Test, Join, Each, Call}
 use Rattle.pb_assembler_scheme.specs.Pieces.{Piece, Plain, Then, Unless, Choose, Repeat, Block, Leave, end, HasPieceAt}
 use Rattle.pb_assembler_scheme.specs.Scheme.{neutral, junction_of, data_piece, binary_piece, in_order, swapped, bracketed, under, test_piece, tested_piece, test_of, join_piece, tested_range, any_tested, guarded, arguments_piece, call_piece, parameters, formula_piece, head}
@@ -17,7 +17,7 @@ use Rattle.pb_assembler_scheme.specs.Correct.{HasFullCalls, IsCompiled, IsFullCa
 use Rattle.pb_assembler_scheme.proofs.Calls.{full_length}
 use Rattle.pb_assembler_scheme.proofs.Whole.{equation_stands}
 use Rattle.pb_assembler_scheme.specs.Limits.{one_kept, binary_operands, term_operands, argument_operands, formula_operands, brackets_under, join_brackets, formula_brackets}
-use Rattle.pb_assembler_places.specs.Reached.{Height, taken, pushed_by, opened, closed, LeadsTo, LeadsToHeight, IsReachedIn, IsReached}
+use Rattle.pb_assembler_places.specs.Reached.{Height, taken, pushed_by, opened, closed, LeadsTo, LeadsToHeight, IsReachedIn, ReachesHeight}
 
 -- ---- each term's code holds an operand
 
@@ -260,10 +260,10 @@ module _ (p : Program) where
         tested_by on t q e b (end (r + 1) x) s.0 s.1.0 (omega arith) (omega arith) (f (r + 1) e b s.1.1 (omega arith) shallow h) h
 
     tested_passes : (m around : Junction) (t : Term) (x : Piece) (o k : ℕ) → Passes x o k → Passes (tested_piece m around t x) (max (term_operands t) o) k
-    tested_passes And And t x o k f = decided_passes true leaf.No t x o k f
-    tested_passes Or Or t x o k f = decided_passes false leaf.Yes t x o k f
-    tested_passes And Or t x o k f = passed_passes false t x o k f
-    tested_passes Or And t x o k f = passed_passes true t x o k f
+    tested_passes Conjunction Conjunction t x o k f = decided_passes true leaf.No t x o k f
+    tested_passes Disjunction Disjunction t x o k f = decided_passes false leaf.Yes t x o k f
+    tested_passes Conjunction Disjunction t x o k f = passed_passes false t x o k f
+    tested_passes Disjunction Conjunction t x o k f = passed_passes true t x o k f
 
     bracketed_passes : (m : Junction) (x : Piece) (o k : ℕ) → Passes x o k → Passes (bracketed m x) o (suc k)
     bracketed_passes m x o k f q e b s few shallow h =
@@ -274,10 +274,10 @@ module _ (p : Program) where
         step _ q 0 b 0 (b + 1) 0 s.0 refl refl (omega arith) (omega arith) (omega arith) (λ r to. subst (λ y. Safe y 0 (b + 1)) (sym to) inner)
 
     under_passes : (m around : Junction) (x : Piece) (o k : ℕ) → Passes x o k → Passes (under m around x) o (brackets_under m around k)
-    under_passes And And x o k f = f
-    under_passes Or Or x o k f = f
-    under_passes And Or x o k f = bracketed_passes And x o k f
-    under_passes Or And x o k f = bracketed_passes Or x o k f
+    under_passes Conjunction Conjunction x o k f = f
+    under_passes Disjunction Disjunction x o k f = f
+    under_passes Conjunction Disjunction x o k f = bracketed_passes Conjunction x o k f
+    under_passes Disjunction Conjunction x o k f = bracketed_passes Disjunction x o k f
 
     both_pass : (x y : Piece) (o k u l : ℕ) → Passes x o k → Passes y u l → Passes (Then x y) (max o u) (max k l)
     both_pass x y o k u l f g q e b s few shallow h =
@@ -432,8 +432,8 @@ module _ (p : Program) (f : Formula) (compiled : IsCompiled p f) (calls : HasFul
       (formula_brackets (head f) f) (formula_passes p (formula_operands f) most f (head f) calls)
       0 0 0 (equation_stands p f compiled).0 (omega arith) (omega arith) ended
 
-  pub operands_bounded : (h : Height) → IsReached p h → h.operands ≤ formula_operands f
+  pub operands_bounded : (h : Height) → ReachesHeight p h → h.operands ≤ formula_operands f
   operands_bounded h r = (from_start r.0 h (runs p r.0 h r.1)).operands
 
-  pub brackets_bounded : (h : Height) → IsReached p h → h.brackets ≤ suc (formula_brackets (head f) f)
+  pub brackets_bounded : (h : Height) → ReachesHeight p h → h.brackets ≤ suc (formula_brackets (head f) f)
   brackets_bounded h r = (from_start r.0 h (runs p r.0 h r.1)).brackets

@@ -88,15 +88,15 @@ abbrev pub IsReachedIn : Program → ℕ → Height → Type 0
 IsReachedIn p zero h = (h.place ≡ 0) × (h.operands ≡ 0) × (h.brackets ≡ 0)
 IsReachedIn p (suc n) h = (g : Height) × IsReachedIn p n g × LeadsToHeight p g h
 
-abbrev pub IsReached : Program → Height → Type 0
-IsReached p h = (n : ℕ) × IsReachedIn p n h
+abbrev pub ReachesHeight : Program → Height → Type 0
+ReachesHeight p h = (n : ℕ) × IsReachedIn p n h
 
 -- some place is reached with so many operands, or with so many brackets
 abbrev pub HoldsOperands : Program → ℕ → Type 0
-HoldsOperands p n = (h : Height) × IsReached p h × (h.operands ≡ n)
+HoldsOperands p n = (h : Height) × ReachesHeight p h × (h.operands ≡ n)
 
 abbrev pub HoldsBrackets : Program → ℕ → Type 0
-HoldsBrackets p n = (h : Height) × IsReached p h × (h.brackets ≡ n)
+HoldsBrackets p n = (h : Height) × ReachesHeight p h × (h.brackets ≡ n)
 
 -- ---- the scheme's programs, each of whose calls has an argument for each parameter
 
@@ -107,11 +107,11 @@ pub record IsFullProgram (p : Program) (f : Formula) : Type 0 where
 -- the greatest number that is held somewhere, of operands and of brackets
 pub record AreMostOperands (p : Program) (n : ℕ) : Type 0 where
   pub held : HoldsOperands p n
-  pub most : (h : Height) → IsReached p h → h.operands ≤ n
+  pub most : (h : Height) → ReachesHeight p h → h.operands ≤ n
 
 pub record AreMostBrackets (p : Program) (n : ℕ) : Type 0 where
   pub held : HoldsBrackets p n
-  pub most : (h : Height) → IsReached p h → h.brackets ≤ n
+  pub most : (h : Height) → ReachesHeight p h → h.brackets ≤ n
 
 -- so many loops stand around some place
 abbrev pub HoldsLoops : Program → ℕ → Type 0

@@ -17,8 +17,8 @@ use Rattle.pb_bytecode_program.specs.declared.instruction.Leaf.{Leaf}
 use Rattle.pb_bytecode_program.specs.declared.instruction.Leaf.TheVariants as leaf
 use Rattle.pb_bytecode_program.specs.declared.instruction.Op.TheVariants as op
 use Rattle.pb_bytecode_program.proofs.Monotone.{self_covers}
-use Rattle.pb_normal.specs.declared.formula.Junction.{Junction}
-use Rattle.pb_normal.specs.declared.formula.Junction.TheVariants.{And, Or}
+use Rattle.pb_fixpoint_trees.specs.declared.junction.Junction.{Junction}
+use Rattle.pb_fixpoint_trees.specs.declared.junction.Junction.TheVariants.{Conjunction, Disjunction}
 use Rattle.pb_normal.specs.Normal.{Term, Argument, Formula, Test, Join, Each, Call}
 use Rattle.pb_assembler_scheme.specs.Pieces.{Piece, Plain, Then, Unless, Choose, Repeat}
 use Rattle.pb_assembler_scheme.specs.Scheme.{data_piece, deciding_leaf, neutral, junction_of, bracketed, under, test_piece, tested_piece, test_of, join_piece, call_piece, parameters, formula_piece}
@@ -91,10 +91,10 @@ module _ (p : Program) where
     choose_flows on x y g h = (topped p k s.self (abstract.Bool ∷ k.operands), value_flows, record { others = k.operands; operands = refl; rest = ((k, k, s.self, g, s.self), (k, s.self, h)) })
 
     pub tested_flows : (m around : Junction) (x : Piece) → Flows p x out k k → Flows p (tested_piece m around t x) out k k
-    tested_flows And And x g = choose_flows true (Plain (op.Emit leaf.No)) x (emit_flows leaf.No out k s) g
-    tested_flows Or Or x g = choose_flows false (Plain (op.Emit leaf.Yes)) x (emit_flows leaf.Yes out k s) g
-    tested_flows And Or x g = unless_flows false x g
-    tested_flows Or And x g = unless_flows true x g
+    tested_flows Conjunction Conjunction x g = choose_flows true (Plain (op.Emit leaf.No)) x (emit_flows leaf.No out k s) g
+    tested_flows Disjunction Disjunction x g = choose_flows false (Plain (op.Emit leaf.Yes)) x (emit_flows leaf.Yes out k s) g
+    tested_flows Conjunction Disjunction x g = unless_flows false x g
+    tested_flows Disjunction Conjunction x g = unless_flows true x g
 
     pub test_flows : (around : Junction) → Flows p (test_piece around t) out k k
     test_flows around = unless_flows (neutral around) (Plain (op.Emit (deciding_leaf around))) (emit_flows (deciding_leaf around) out k s)
@@ -135,10 +135,10 @@ module _ (p : Program) where
   Holds x out k n = (b : ℕ) → Settled (bracketed_by k b) → b + n ≤ 32 → Flows p x out (bracketed_by k b) (bracketed_by k b)
 
   under_flows : (m around : Junction) (x : Piece) (out k : AbstractState) (n : ℕ) → Holds x out k n → Holds (under m around x) out k (brackets_under m around n)
-  under_flows And And x out k n h b s low = h b s low
-  under_flows Or Or x out k n h b s low = h b s low
-  under_flows And Or x out k n h b s low = bracketed_flows And x out (bracketed_by k b) s (omega arith) (h (b + 1) (opened_settled (bracketed_by k b) s) (omega arith))
-  under_flows Or And x out k n h b s low = bracketed_flows Or x out (bracketed_by k b) s (omega arith) (h (b + 1) (opened_settled (bracketed_by k b) s) (omega arith))
+  under_flows Conjunction Conjunction x out k n h b s low = h b s low
+  under_flows Disjunction Disjunction x out k n h b s low = h b s low
+  under_flows Conjunction Disjunction x out k n h b s low = bracketed_flows Conjunction x out (bracketed_by k b) s (omega arith) (h (b + 1) (opened_settled (bracketed_by k b) s) (omega arith))
+  under_flows Disjunction Conjunction x out k n h b s low = bracketed_flows Disjunction x out (bracketed_by k b) s (omega arith) (h (b + 1) (opened_settled (bracketed_by k b) s) (omega arith))
 
   -- ---- loops
 

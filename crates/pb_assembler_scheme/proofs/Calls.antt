@@ -21,7 +21,7 @@ use Rattle.pb_bytecode_program.specs.declared.instruction.Leaf.TheVariants as le
 use Rattle.pb_bytecode_program.specs.declared.instruction.Op.TheVariants as op
 use Rattle.pb_bytecode_program.proofs.Ints.{from_le}
 use Rattle.pb_bytecode_program.proofs.CarrierValues.{tagged_within, untagged_contained}
-use Rattle.pb_normal.specs.declared.formula.Junction.{Junction}
+use Rattle.pb_fixpoint_trees.specs.declared.junction.Junction.{Junction}
 use Rattle.pb_normal.specs.Normal.{Argument, Call, Slots, value}
 use Rattle.pb_assembler_scheme.specs.Pieces.{Piece, Plain, Then, Block, Leave, end, HasPieceAt}
 use Rattle.pb_assembler_scheme.specs.Scheme.{tested_range, any_tested, guarded, arguments_piece, call_piece, parameters}

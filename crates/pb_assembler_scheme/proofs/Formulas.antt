@@ -13,11 +13,11 @@ use Rattle.pb_bytecode_program.specs.Machine.{Program, State, Frame, Outcome, Co
 use Rattle.pb_bytecode_program.specs.declared.instruction.Leaf.{Leaf}
 use Rattle.pb_bytecode_program.specs.declared.instruction.Leaf.TheVariants as leaf
 use Rattle.pb_bytecode_program.specs.declared.instruction.Op.TheVariants as op
-use Rattle.pb_normal.specs.declared.formula.Junction.{Junction}
-use Rattle.pb_normal.specs.declared.formula.Junction.TheVariants.{And, Or}
+use Rattle.pb_fixpoint_trees.specs.declared.junction.Junction.{Junction}
+use Rattle.pb_fixpoint_trees.specs.declared.junction.Junction.TheVariants.{Conjunction, Disjunction}
 use Rattle.pb_normal.specs.Normal.{Term, Argument, Formula, Test, Join, Each, Call, Slots, set, value, joined}
 use Rattle.pb_assembler_scheme.specs.Pieces.{Piece, Plain, Then, Repeat, end, HasPieceAt}
-use Rattle.pb_assembler_scheme.specs.Scheme.{connective_of, neutral, junction_of, bracketed, test_piece, tested_piece, under, test_of, join_piece, call_piece, parameters, formula_piece}
+use Rattle.pb_assembler_scheme.specs.Scheme.{neutral, junction_of, bracketed, test_piece, tested_piece, under, test_of, join_piece, call_piece, parameters, formula_piece}
 use Rattle.pb_assembler_scheme.specs.Correct.{IsFullCall, HasFullCalls}
 use Rattle.pb_assembler_scheme.proofs.Wins.{Wins, After, one, passes_test, rooted}
 use Rattle.pb_assembler_scheme.proofs.Joins.{Joins, joined_comm, joined_unit, joins_none, joins_append, joins_leaf, joins_bracket, joins_same}
@@ -46,34 +46,34 @@ module _ (p : Program) (Q : List Token → Type 0) where
   -- ---- tests
 
   test_runs : (k : Junction) (t : Term) → Compiles k (test_piece k t) (λ a env. is_true (value a t))
-  test_runs And t st e a n h ag br go =
+  test_runs Conjunction t st e a n h ag br go =
       gives p Q t st e a h.0 ag (λ v kv. jumps p Q (put p Q st _ (v ∷ st.operands)) true _ v st.operands refl h.1.0
-      (λ b. writes_none And st _ _ (λ env. sym (ap is_true (sym kv) ∙ b)) go)
-      (λ b. at_emit leaf.No (put p Q st _ st.operands) n h.1.1 br (go (token.No ∷ []) (joins_same And _ _ _ (λ env. sym (ap is_true (sym kv) ∙ b)) (joins_leaf And leaf.No)))))
-  test_runs Or t st e a n h ag br go =
+      (λ b. writes_none Conjunction st _ _ (λ env. sym (ap is_true (sym kv) ∙ b)) go)
+      (λ b. at_emit leaf.No (put p Q st _ st.operands) n h.1.1 br (go (token.No ∷ []) (joins_same Conjunction _ _ _ (λ env. sym (ap is_true (sym kv) ∙ b)) (joins_leaf Conjunction leaf.No)))))
+  test_runs Disjunction t st e a n h ag br go =
       gives p Q t st e a h.0 ag (λ v kv. jumps p Q (put p Q st _ (v ∷ st.operands)) false _ v st.operands refl h.1.0
-      (λ b. writes_none Or st _ _ (λ env. sym (ap is_true (sym kv) ∙ b)) go)
-      (λ b. at_emit leaf.Yes (put p Q st _ st.operands) n h.1.1 br (go (token.Yes ∷ []) (joins_same Or _ _ _ (λ env. sym (ap is_true (sym kv) ∙ b)) (joins_leaf Or leaf.Yes)))))
+      (λ b. writes_none Disjunction st _ _ (λ env. sym (ap is_true (sym kv) ∙ b)) go)
+      (λ b. at_emit leaf.Yes (put p Q st _ st.operands) n h.1.1 br (go (token.Yes ∷ []) (joins_same Disjunction _ _ _ (λ env. sym (ap is_true (sym kv) ∙ b)) (joins_leaf Disjunction leaf.Yes)))))
 
   tested_runs : (m k : Junction) (t : Term) (x : Piece) (φ : Meaning) → Compiles k x φ → Compiles k (tested_piece m k t x) (λ a env. joined m (is_true (value a t)) (φ a env))
-  tested_runs And And t x φ hx st e a n h ag br go =
+  tested_runs Conjunction Conjunction t x φ hx st e a n h ag br go =
       gives p Q t st e a h.0 ag (λ v kv. jumps p Q (put p Q st _ (v ∷ st.operands)) true _ v st.operands refl h.1.0
-      (λ b. hx (put p Q st _ st.operands) e a n h.1.3 ag br (λ xs j. go xs (joins_same And xs _ _ (λ env. ap (λ c. joined And c (φ a env)) (sym (ap is_true (sym kv) ∙ b))) j)))
+      (λ b. hx (put p Q st _ st.operands) e a n h.1.3 ag br (λ xs j. go xs (joins_same Conjunction xs _ _ (λ env. ap (λ c. joined Conjunction c (φ a env)) (sym (ap is_true (sym kv) ∙ b))) j)))
       (λ b. at_emit leaf.No (put p Q st _ st.operands) n h.1.1 br (one p Q (record st { place = _; output = st.output ++ token.No ∷ [] }) (op.Jump _) h.1.2
-      (go (token.No ∷ []) (joins_same And _ _ _ (λ env. ap (λ c. joined And c (φ a env)) (sym (ap is_true (sym kv) ∙ b))) (joins_leaf And leaf.No))))))
-  tested_runs Or Or t x φ hx st e a n h ag br go =
+      (go (token.No ∷ []) (joins_same Conjunction _ _ _ (λ env. ap (λ c. joined Conjunction c (φ a env)) (sym (ap is_true (sym kv) ∙ b))) (joins_leaf Conjunction leaf.No))))))
+  tested_runs Disjunction Disjunction t x φ hx st e a n h ag br go =
       gives p Q t st e a h.0 ag (λ v kv. jumps p Q (put p Q st _ (v ∷ st.operands)) false _ v st.operands refl h.1.0
-      (λ b. hx (put p Q st _ st.operands) e a n h.1.3 ag br (λ xs j. go xs (joins_same Or xs _ _ (λ env. ap (λ c. joined Or c (φ a env)) (sym (ap is_true (sym kv) ∙ b))) j)))
+      (λ b. hx (put p Q st _ st.operands) e a n h.1.3 ag br (λ xs j. go xs (joins_same Disjunction xs _ _ (λ env. ap (λ c. joined Disjunction c (φ a env)) (sym (ap is_true (sym kv) ∙ b))) j)))
       (λ b. at_emit leaf.Yes (put p Q st _ st.operands) n h.1.1 br (one p Q (record st { place = _; output = st.output ++ token.Yes ∷ [] }) (op.Jump _) h.1.2
-      (go (token.Yes ∷ []) (joins_same Or _ _ _ (λ env. ap (λ c. joined Or c (φ a env)) (sym (ap is_true (sym kv) ∙ b))) (joins_leaf Or leaf.Yes))))))
-  tested_runs And Or t x φ hx st e a n h ag br go =
+      (go (token.Yes ∷ []) (joins_same Disjunction _ _ _ (λ env. ap (λ c. joined Disjunction c (φ a env)) (sym (ap is_true (sym kv) ∙ b))) (joins_leaf Disjunction leaf.Yes))))))
+  tested_runs Conjunction Disjunction t x φ hx st e a n h ag br go =
       gives p Q t st e a h.0 ag (λ v kv. jumps p Q (put p Q st _ (v ∷ st.operands)) false _ v st.operands refl h.1.0
-      (λ b. writes_none Or st _ _ (λ env. ap (λ c. joined And c (φ a env)) (sym (ap is_true (sym kv) ∙ b))) go)
-      (λ b. hx (put p Q st _ st.operands) e a n h.1.1 ag br (λ xs j. go xs (joins_same Or xs _ _ (λ env. ap (λ c. joined And c (φ a env)) (sym (ap is_true (sym kv) ∙ b))) j))))
-  tested_runs Or And t x φ hx st e a n h ag br go =
+      (λ b. writes_none Disjunction st _ _ (λ env. ap (λ c. joined Conjunction c (φ a env)) (sym (ap is_true (sym kv) ∙ b))) go)
+      (λ b. hx (put p Q st _ st.operands) e a n h.1.1 ag br (λ xs j. go xs (joins_same Disjunction xs _ _ (λ env. ap (λ c. joined Conjunction c (φ a env)) (sym (ap is_true (sym kv) ∙ b))) j))))
+  tested_runs Disjunction Conjunction t x φ hx st e a n h ag br go =
       gives p Q t st e a h.0 ag (λ v kv. jumps p Q (put p Q st _ (v ∷ st.operands)) true _ v st.operands refl h.1.0
-      (λ b. writes_none And st _ _ (λ env. ap (λ c. joined Or c (φ a env)) (sym (ap is_true (sym kv) ∙ b))) go)
-      (λ b. hx (put p Q st _ st.operands) e a n h.1.1 ag br (λ xs j. go xs (joins_same And xs _ _ (λ env. ap (λ c. joined Or c (φ a env)) (sym (ap is_true (sym kv) ∙ b))) j))))
+      (λ b. writes_none Conjunction st _ _ (λ env. ap (λ c. joined Disjunction c (φ a env)) (sym (ap is_true (sym kv) ∙ b))) go)
+      (λ b. hx (put p Q st _ st.operands) e a n h.1.1 ag br (λ xs j. go xs (joins_same Conjunction xs _ _ (λ env. ap (λ c. joined Disjunction c (φ a env)) (sym (ap is_true (sym kv) ∙ b))) j))))
 
   -- ---- brackets
 
@@ -84,40 +84,40 @@ module _ (p : Program) (Q : List Token → Type 0) where
   pub enclosed : (m : Junction) (x : Piece) (φ : Meaning) → Compiles m x φ
       → (st : State) (e : ℕ) (a : Slots) (n : ℕ) (o : List Token)
       → HasPieceAt p.code st.place e (Then x (Plain op.Close)) → Agrees st a → st.brackets ≡ suc n
-      → st.output ≡ o ++ Machine.opening_token (connective_of m) ∷ []
+      → st.output ≡ o ++ Machine.opening m ∷ []
       → ((xs : List Token) → Joins m xs (φ a)
       → Wins p Q
       (record st {
         place = end st.place x + 1;
         brackets = n;
         output =
-            o ++ Machine.opening_token (connective_of m) ∷ (xs ++ token.Close ∷ []);
+            o ++ Machine.opening m ∷ (xs ++ token.Close ∷ []);
       })) → Wins p Q st
   enclosed m x φ hx st e a n o h ag br eo go =
       hx st e a n h.0 ag br (λ xs j.
       one p Q (record st { place = end st.place x; output = st.output ++ xs }) op.Close h.1 (closed st.brackets n _ br
       (subst (λ (l : List Token). Wins p Q (record st { place = end st.place x + 1; brackets = n; output = l }))
-      (sym (append_assoc o (Machine.opening_token (connective_of m) ∷ []) (xs ++ token.Close ∷ []))
+      (sym (append_assoc o (Machine.opening m ∷ []) (xs ++ token.Close ∷ []))
       ∙ ap (λ (l : List Token). l ++ (xs ++ token.Close ∷ [])) (sym eo) ∙ sym (append_assoc st.output xs (token.Close ∷ [])))
       (go xs j))))
 
   bracketed_runs : (k m : Junction) (x : Piece) (φ : Meaning) → Compiles m x φ → Compiles k (bracketed m x) φ
   bracketed_runs k m x φ hx st e a n h ag br go =
-      one p Q st (op.Open (connective_of m)) h.0 (passes_test p Q (nat_lt st.brackets 32) _ _ (rooted p Q st.brackets st.roots n _ br
+      one p Q st (op.Open m) h.0 (passes_test p Q (nat_lt st.brackets 32) _ _ (rooted p Q st.brackets st.roots n _ br
       (enclosed m x φ hx
       (record st {
         place = st.place + 1;
         brackets = st.brackets + 1;
         output =
-            st.output ++ Machine.opening_token (connective_of m) ∷ [];
+            st.output ++ Machine.opening m ∷ [];
       }) e a st.brackets st.output h.1 ag (add-one st.brackets) refl
-      (λ xs j. go (Machine.opening_token (connective_of m) ∷ (xs ++ token.Close ∷ [])) (joins_bracket k m xs (φ a) j)))))
+      (λ xs j. go (Machine.opening m ∷ (xs ++ token.Close ∷ [])) (joins_bracket k m xs (φ a) j)))))
 
   under_runs : (m k : Junction) (x : Piece) (φ : Meaning) → Compiles m x φ → Compiles k (under m k x) φ
-  under_runs And And x φ hx = hx
-  under_runs Or Or x φ hx = hx
-  under_runs And Or x φ hx = bracketed_runs Or And x φ hx
-  under_runs Or And x φ hx = bracketed_runs And Or x φ hx
+  under_runs Conjunction Conjunction x φ hx = hx
+  under_runs Disjunction Disjunction x φ hx = hx
+  under_runs Conjunction Disjunction x φ hx = bracketed_runs Disjunction Conjunction x φ hx
+  under_runs Disjunction Conjunction x φ hx = bracketed_runs Conjunction Disjunction x φ hx
 
   then_runs : (m : Junction) (x y : Piece) (φ ψ : Meaning) → Compiles m x φ → Compiles m y ψ → Compiles m (Then x y) (λ a env. joined m (φ a env) (ψ a env))
   then_runs m x y φ ψ hx hy st e a n h ag br go =

@@ -26,8 +26,8 @@ use Rattle.pb_typing_declarations.specs.WellDeclared.{AreApart}
 use Rattle.pb_typing_values.specs.Environment.{all_carriers}
 use Rattle.pb_bytecode_program.specs.Values.{tagged, untagged, tagged_values}
 use Rattle.pb_bytecode_program.specs.Machine.{Program, carrier_of}
-use Rattle.pb_normal.specs.declared.formula.Junction.{Junction}
-use Rattle.pb_normal.specs.declared.formula.Junction.TheVariants.{Or}
+use Rattle.pb_fixpoint_trees.specs.declared.junction.Junction.{Junction}
+use Rattle.pb_fixpoint_trees.specs.declared.junction.Junction.TheVariants.{Disjunction}
 use Rattle.pb_normal.specs.Normal.{Argument, Formula, Test, Join, Each, Call, Slots, set, value, joined, name_of, called_instance, truth}
 use Rattle.pb_assembler_scheme.specs.Scheme.{neutral, junction_of, parameters}
 use Rattle.pb_assembler_scheme.specs.Correct.{IsFullCall, HasFullCalls, Declares, number_in}
@@ -87,7 +87,7 @@ of-values : (q : Quantifier) (φ : ℤ → Bool) (zs : List ℤ) → all_joined 
 of-values Forall φ [] = refl
 of-values Forall φ (z ∷ zs) = ap (λ b. φ z && b) (of-values Forall φ zs)
 of-values Exists φ [] = refl
-of-values Exists φ (z ∷ zs) = ap (joined Or (φ z)) (of-values Exists φ zs)
+of-values Exists φ (z ∷ zs) = ap (joined Disjunction (φ z)) (of-values Exists φ zs)
 
 same-map : (φ ψ : ℤ → Bool) → ((z : ℤ) → φ z ≡ ψ z) → (zs : List ℤ) → map φ zs ≡ map ψ zs
 same-map φ ψ e [] = refl

@@ -10,8 +10,8 @@ use Rattle.pb_bytecode_program.specs.Machine.{Program, carrier_of}
 use Rattle.pb_bytecode_program.specs.Transfer.{abstract_slot, among}
 use Rattle.pb_bytecode_program.specs.declared.instruction.Leaf.TheVariants as leaf
 use Rattle.pb_bytecode_program.specs.declared.instruction.Op.TheVariants as op
-use Rattle.pb_normal.specs.declared.formula.Junction.{Junction}
-use Rattle.pb_normal.specs.declared.formula.Junction.TheVariants.{And, Or}
+use Rattle.pb_fixpoint_trees.specs.declared.junction.Junction.{Junction}
+use Rattle.pb_fixpoint_trees.specs.declared.junction.Junction.TheVariants.{Conjunction, Disjunction}
 use Rattle.pb_normal.specs.Normal.{Term, Number, Slot, Negative, Absolute, Successor, Predecessor, Binary, Maximum, Minimum, Choice, Recognised, Argument, Formula, Test, Join, Each, Call}
 use Rattle.pb_assembler_scheme.specs.Pieces.{Piece, Plain, Then, Block, Leave}
 use Rattle.pb_assembler_scheme.specs.Scheme.{data_piece, binary_piece, junction_of, under, tested_piece, test_of, join_piece, tested_range, any_tested, guarded, arguments_piece, call_piece, parameters, formula_piece}
@@ -55,16 +55,16 @@ data_stays (Choice c x y) = (data_stays c, (data_stays x, data_stays y))
 data_stays (Recognised s i x) = (data_stays x, (tt, tt))
 
 under_stays : (m around : Junction) (x : Piece) → HasNoLeave x → HasNoLeave (under m around x)
-under_stays And And x h = h
-under_stays Or Or x h = h
-under_stays And Or x h = (tt, (h, tt))
-under_stays Or And x h = (tt, (h, tt))
+under_stays Conjunction Conjunction x h = h
+under_stays Disjunction Disjunction x h = h
+under_stays Conjunction Disjunction x h = (tt, (h, tt))
+under_stays Disjunction Conjunction x h = (tt, (h, tt))
 
 tested_stays : (m around : Junction) (t : Term) (x : Piece) → HasNoLeave x → HasNoLeave (tested_piece m around t x)
-tested_stays And And t x h = (data_stays t, (tt, h))
-tested_stays Or Or t x h = (data_stays t, (tt, h))
-tested_stays And Or t x h = (data_stays t, h)
-tested_stays Or And t x h = (data_stays t, h)
+tested_stays Conjunction Conjunction t x h = (data_stays t, (tt, h))
+tested_stays Disjunction Disjunction t x h = (data_stays t, (tt, h))
+tested_stays Conjunction Disjunction t x h = (data_stays t, h)
+tested_stays Disjunction Conjunction t x h = (data_stays t, h)
 
 join_stays : (m around : Junction) (s t : Option Term) (fa ga fo go : Piece) → HasNoLeave fa → HasNoLeave ga → HasNoLeave fo → HasNoLeave go → HasNoLeave (join_piece m around s t fa ga fo go)
 join_stays m around (Some s) t fa ga fo go a b c d = tested_stays m around s ga b
@@ -144,16 +144,16 @@ module _ (p : Program) (ps : List AbstractValue) (long : length ps ≡ length p.
     data_scope (Recognised s i x) v t = (data_scope x _ t.2, (tt, tt))
 
     under_scope : (m around : Junction) (x : Piece) → IsInScope p ls x → IsInScope p ls (under m around x)
-    under_scope And And x h = h
-    under_scope Or Or x h = h
-    under_scope And Or x h = (tt, (h, tt))
-    under_scope Or And x h = (tt, (h, tt))
+    under_scope Conjunction Conjunction x h = h
+    under_scope Disjunction Disjunction x h = h
+    under_scope Conjunction Disjunction x h = (tt, (h, tt))
+    under_scope Disjunction Conjunction x h = (tt, (h, tt))
 
     tested_scope : (m around : Junction) (t : Term) (x : Piece) → IsInScope p ls (data_piece t) → IsInScope p ls x → IsInScope p ls (tested_piece m around t x)
-    tested_scope And And t x d h = (d, (tt, h))
-    tested_scope Or Or t x d h = (d, (tt, h))
-    tested_scope And Or t x d h = (d, h)
-    tested_scope Or And t x d h = (d, h)
+    tested_scope Conjunction Conjunction t x d h = (d, (tt, h))
+    tested_scope Disjunction Disjunction t x d h = (d, (tt, h))
+    tested_scope Conjunction Disjunction t x d h = (d, h)
+    tested_scope Disjunction Conjunction t x d h = (d, h)
 
     -- the code of a test, where there is one
     abbrev TestScope : Option Term → Type 0

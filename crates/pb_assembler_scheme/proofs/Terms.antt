@@ -9,15 +9,15 @@ use Rattle.pb_fixpoint_trees.specs.declared.Token.{Token}
 use Rattle.pb_text_meaning.specs.Syntax.{Operator}
 use Rattle.pb_text_meaning.specs.Value.{is_true}
 use Rattle.pb_text_meaning.proofs.Truths.{is_true-of_bool}
-use Rattle.pb_bytecode_program.specs.Values.{TaggedValue, BoolValue, IntValue, EnumValue, untagged, arithmetic, has_divisor, absolute, compares, equals, answers, connects}
+use Rattle.pb_bytecode_program.specs.Values.{TaggedValue, BoolValue, IntValue, EnumValue, untagged, arithmetic, has_divisor, absolute, compares, equals, answers, joined}
 use Rattle.pb_bytecode_program.specs.Machine
 use Rattle.pb_bytecode_program.specs.Machine.{Program, State}
 use Rattle.pb_bytecode_program.specs.declared.instruction.Arithmetic.{Arithmetic}
 use Rattle.pb_bytecode_program.specs.declared.instruction.Arithmetic.TheVariants as arithmetic
 use Rattle.pb_bytecode_program.specs.declared.instruction.Comparison.{Comparison}
 use Rattle.pb_bytecode_program.specs.declared.instruction.Comparison.TheVariants as comparison
-use Rattle.pb_bytecode_program.specs.declared.instruction.Connective.{Connective}
-use Rattle.pb_bytecode_program.specs.declared.instruction.Connective.TheVariants as connective
+use Rattle.pb_fixpoint_trees.specs.declared.junction.Junction.{Junction}
+use Rattle.pb_fixpoint_trees.specs.declared.junction.Junction.TheVariants as junction
 use Rattle.pb_bytecode_program.specs.declared.instruction.Equality.{Equality}
 use Rattle.pb_bytecode_program.specs.declared.instruction.Equality.TheVariants as equality
 use Rattle.pb_bytecode_program.specs.declared.instruction.Op.TheVariants as op
@@ -119,17 +119,17 @@ module _ (p : Program) (Q : List Token → Type 0) where
       one p Q (put st q (w ∷ v ∷ vs)) (op.Equality wanted) h
       (same (put st q (w ∷ v ∷ vs)) vs wanted v w (λ b e. subst (λ c. Wins p Q (put st (q + 1) (BoolValue c ∷ vs))) (sym e) k))
 
-  at_logic : (c : Connective) (st : State) (q : ℕ) (v w : TaggedValue) (vs : List TaggedValue)
+  at_logic : (c : Junction) (st : State) (q : ℕ) (v w : TaggedValue) (vs : List TaggedValue)
       → slice_get p.code q ≡ Some (op.Logic c)
-      → Wins p Q (put st (q + 1) (BoolValue (connects c (is_true (untagged v)) (is_true (untagged w))) ∷ vs))
+      → Wins p Q (put st (q + 1) (BoolValue (joined c (is_true (untagged v)) (is_true (untagged w))) ∷ vs))
       → Wins p Q (put st q (w ∷ v ∷ vs))
   at_logic c st q v w vs h k =
       one p Q (put st q (w ∷ v ∷ vs)) (op.Logic c) h
       (popped_bool p Q w (v ∷ vs)
-      (λ b us. Machine.pop_bool us (λ a ws. Machine.push (put st q (w ∷ v ∷ vs)) ws (BoolValue (connects c a b))))
+      (λ b us. Machine.pop_bool us (λ a ws. Machine.push (put st q (w ∷ v ∷ vs)) ws (BoolValue (joined c a b))))
       (λ b e. popped_bool p Q v vs _ (λ a f. pushed p Q (put st q (w ∷ v ∷ vs)) vs _
-      (subst (λ d. Wins p Q (put st (q + 1) (BoolValue (connects c d b) ∷ vs))) (ap is_true (sym f) ∙ is_true-of_bool a)
-      (subst (λ d. Wins p Q (put st (q + 1) (BoolValue (connects c (is_true (untagged v)) d) ∷ vs)))
+      (subst (λ d. Wins p Q (put st (q + 1) (BoolValue (joined c d b) ∷ vs))) (ap is_true (sym f) ∙ is_true-of_bool a)
+      (subst (λ d. Wins p Q (put st (q + 1) (BoolValue (joined c (is_true (untagged v)) d) ∷ vs)))
       (ap is_true (sym e) ∙ is_true-of_bool b) k)))))
 
   pub at_jump : (st : State) (q to : ℕ) (vs : List TaggedValue) → slice_get p.code q ≡ Some (op.Jump to) → Wins p Q (put st to vs) → Wins p Q (put st q vs)
@@ -164,10 +164,10 @@ module _ (p : Program) (Q : List Token → Type 0) where
         at_equality wanted st _ v w st.operands h.1.1 (go _ (ap (λ z. of_bool (answers wanted (int_eq z (untagged w)))) k ∙ ap (λ z. of_bool (answers wanted (int_eq (m a) z))) l))))
 
     -- the second operand stands below the first
-    connected : (c : Connective) → GivesValue (swapped (op.Logic c) x y) (λ a. of_bool (connects c (is_true (n a)) (is_true (m a))))
+    connected : (c : Junction) → GivesValue (swapped (op.Logic c) x y) (λ a. of_bool (joined c (is_true (n a)) (is_true (m a))))
     connected c st e a h ag go =
         hy st e a h.0 ag (λ w l. hx (put st _ (w ∷ st.operands)) e a h.1.0 ag (λ v k.
-        at_logic c st _ w v st.operands h.1.1 (go _ (ap (λ z. of_bool (connects c (is_true z) (is_true (untagged v)))) l ∙ ap (λ z. of_bool (connects c (is_true (n a)) (is_true z))) k))))
+        at_logic c st _ w v st.operands h.1.1 (go _ (ap (λ z. of_bool (joined c (is_true z) (is_true (untagged v)))) l ∙ ap (λ z. of_bool (joined c (is_true (n a)) (is_true z))) k))))
 
   negated : (x : Piece) (m : Slots → ℤ) → GivesValue x m → GivesValue (Then x (Plain op.Not)) (λ a. of_bool (not (is_true (m a))))
   negated x m hx st e a h ag go = hx st e a h.0 ag (λ v k. at_not st _ v st.operands h.1 (go _ (ap (λ z. of_bool (not (is_true z))) k)))
@@ -184,17 +184,17 @@ module _ (p : Program) (Q : List Token → Type 0) where
   binary_gives Operator.And x y hx hy =
       same_value (data_piece (Binary Operator.And x y)) _ _
       (λ a. ap of_bool (and_comm (is_true (value a y)) (is_true (value a x))))
-      (connected (data_piece x) (data_piece y) (of x) (of y) hx hy connective.And)
+      (connected (data_piece x) (data_piece y) (of x) (of y) hx hy junction.Conjunction)
   binary_gives Operator.Or x y hx hy =
       same_value (data_piece (Binary Operator.Or x y)) _ _
       (λ a. ap of_bool (or_comm (is_true (value a y)) (is_true (value a x))))
-      (connected (data_piece x) (data_piece y) (of x) (of y) hx hy connective.Or)
+      (connected (data_piece x) (data_piece y) (of x) (of y) hx hy junction.Disjunction)
   binary_gives Operator.Implies x y hx hy =
       same_value (data_piece (Binary Operator.Implies x y)) _ _
       (λ a. ap of_bool
       (or_comm (is_true (value a y)) (is_true (of_bool (not (is_true (value a x)))))
       ∙ ap (λ b. b || is_true (value a y)) (is_true-of_bool (not (is_true (value a x))))))
-      (connected (Then (data_piece x) (Plain op.Not)) (data_piece y) _ (of y) (negated (data_piece x) (of x) hx) hy connective.Or)
+      (connected (Then (data_piece x) (Plain op.Not)) (data_piece y) _ (of y) (negated (data_piece x) (of x) hx) hy junction.Disjunction)
   binary_gives Operator.Equal x y hx hy = equated (data_piece x) (data_piece y) (of x) (of y) hx hy equality.Equal
   binary_gives Operator.NotEqual x y hx hy = equated (data_piece x) (data_piece y) (of x) (of y) hx hy equality.NotEqual
   binary_gives Operator.Less x y hx hy = compared (data_piece x) (data_piece y) (of x) (of y) hx hy comparison.Less

@@ -19,7 +19,7 @@ use Rattle.pb_bytecode_program.proofs.Rules.{divisor}
 use Rattle.pb_bytecode_program.specs.declared.instruction.Arithmetic.{Arithmetic}
 use Rattle.pb_bytecode_program.specs.declared.instruction.Arithmetic.TheVariants as arithmetic
 use Rattle.pb_bytecode_program.specs.declared.instruction.Comparison.TheVariants as comparison
-use Rattle.pb_bytecode_program.specs.declared.instruction.Connective.TheVariants as connective
+use Rattle.pb_fixpoint_trees.specs.declared.junction.Junction.TheVariants as junction
 use Rattle.pb_bytecode_program.specs.declared.instruction.Equality.TheVariants as equality
 use Rattle.pb_bytecode_program.specs.declared.instruction.Op.{Op}
 use Rattle.pb_bytecode_program.specs.declared.instruction.Op.TheVariants as op
@@ -54,9 +54,9 @@ Makes (op.Logic c) a b v = Connects a b v
 Makes i a b v = ⊥
 
 abbrev pub instruction_of : Operator → Op
-instruction_of Operator.And = op.Logic connective.And
-instruction_of Operator.Or = op.Logic connective.Or
-instruction_of Operator.Implies = op.Logic connective.Or
+instruction_of Operator.And = op.Logic junction.Conjunction
+instruction_of Operator.Or = op.Logic junction.Disjunction
+instruction_of Operator.Implies = op.Logic junction.Disjunction
 instruction_of Operator.Equal = op.Equality equality.Equal
 instruction_of Operator.NotEqual = op.Equality equality.NotEqual
 instruction_of Operator.Less = op.Compare comparison.Less
@@ -345,9 +345,9 @@ module _ (p : Program) (k : AbstractState) (self : IsCovered k k) where
   connected_yield o x y (abstract.Enum l h) b v m n t hx hy = absurd t
 
   implied_yield : (x y : Piece) (a b v : AbstractValue) (m n : ℕ) → 1 ≤ m → Connects a b v → Yields x a m → Yields y b n
-      → Yields (swapped (op.Logic connective.Or) (Then x (Plain op.Not)) y) v (one_kept n m)
+      → Yields (swapped (op.Logic junction.Disjunction) (Then x (Plain op.Not)) y) v (one_kept n m)
   implied_yield x y abstract.Bool abstract.Bool v m n some t hx hy =
-      connected_yield connective.Or (Then x (Plain op.Not)) y abstract.Bool abstract.Bool v m n t (negated_yields x abstract.Bool m some refl hx) hy
+      connected_yield junction.Disjunction (Then x (Plain op.Not)) y abstract.Bool abstract.Bool v m n t (negated_yields x abstract.Bool m some refl hx) hy
   implied_yield x y abstract.Bool (abstract.Int l h) v m n some t hx hy = absurd t
   implied_yield x y abstract.Bool (abstract.Enum l h) v m n some t hx hy = absurd t
   implied_yield x y (abstract.Int l h) b v m n some t hx hy = absurd t
@@ -355,8 +355,8 @@ module _ (p : Program) (k : AbstractState) (self : IsCovered k k) where
 
   binary_yields : (o : Operator) (x y : Term) (a b v : AbstractValue) → Covers a a → Covers b b → Makes (instruction_of o) a b v
       → Yields (data_piece x) a (term_operands x) → Yields (data_piece y) b (term_operands y) → Yields (data_piece (Binary o x y)) v (term_operands (Binary o x y))
-  binary_yields Operator.And x y a b v ca cb t hx hy = connected_yield connective.And (data_piece x) (data_piece y) a b v (term_operands x) (term_operands y) t hx hy
-  binary_yields Operator.Or x y a b v ca cb t hx hy = connected_yield connective.Or (data_piece x) (data_piece y) a b v (term_operands x) (term_operands y) t hx hy
+  binary_yields Operator.And x y a b v ca cb t hx hy = connected_yield junction.Conjunction (data_piece x) (data_piece y) a b v (term_operands x) (term_operands y) t hx hy
+  binary_yields Operator.Or x y a b v ca cb t hx hy = connected_yield junction.Disjunction (data_piece x) (data_piece y) a b v (term_operands x) (term_operands y) t hx hy
   binary_yields Operator.Implies x y a b v ca cb t hx hy = implied_yield (data_piece x) (data_piece y) a b v (term_operands x) (term_operands y) (some_operands x) t hx hy
   binary_yields Operator.Equal x y a b v ca cb t hx hy = both_yield (op.Equality equality.Equal) (data_piece x) (data_piece y) a b v (term_operands x) (term_operands y) ca cb t hx hy
   binary_yields Operator.NotEqual x y a b v ca cb t hx hy = both_yield (op.Equality equality.NotEqual) (data_piece x) (data_piece y) a b v (term_operands x) (term_operands y) ca cb t hx hy

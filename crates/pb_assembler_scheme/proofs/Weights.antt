@@ -9,8 +9,8 @@ use Rattle.pb_bytecode_program.specs.Counts.{LoopEffect, Straight, loop_effect, 
 use Rattle.pb_bytecode_program.specs.declared.instruction.Leaf.TheVariants as leaf
 use Rattle.pb_bytecode_program.specs.declared.instruction.Op.{Op}
 use Rattle.pb_bytecode_program.specs.declared.instruction.Op.TheVariants as op
-use Rattle.pb_normal.specs.declared.formula.Junction.{Junction}
-use Rattle.pb_normal.specs.declared.formula.Junction.TheVariants.{And, Or}
+use Rattle.pb_fixpoint_trees.specs.declared.junction.Junction.{Junction}
+use Rattle.pb_fixpoint_trees.specs.declared.junction.Junction.TheVariants.{Conjunction, Disjunction}
 use Rattle.pb_normal.specs.Normal.{Term, Number, Slot, Negative, Absolute, Successor, Predecessor, Binary, Maximum, Minimum, Choice, Recognised, Argument, Formula, Test, Join, Each, Call}
 use Rattle.pb_assembler_scheme.specs.Pieces.{Piece, Empty, Plain, Then, Unless, Choose, Repeat, Block, Leave, Guard, end, flat}
 use Rattle.pb_assembler_scheme.specs.Scheme.{data_piece, binary_piece, junction_of, under, tested_piece, test_of, join_piece, tested_range, any_tested, guarded, arguments_piece, call_piece, parameters, formula_piece, head, equation_piece}
@@ -104,16 +104,16 @@ module _ (p : Program) where
   data_straight (Recognised s i x) = (data_straight x, (refl, refl))
 
   under_straight : (m around : Junction) (x : Piece) → IsStraight p x → IsStraight p (under m around x)
-  under_straight And And x h = h
-  under_straight Or Or x h = h
-  under_straight And Or x h = (refl, (h, refl))
-  under_straight Or And x h = (refl, (h, refl))
+  under_straight Conjunction Conjunction x h = h
+  under_straight Disjunction Disjunction x h = h
+  under_straight Conjunction Disjunction x h = (refl, (h, refl))
+  under_straight Disjunction Conjunction x h = (refl, (h, refl))
 
   tested_straight : (m around : Junction) (t : Term) (x : Piece) → IsStraight p x → IsStraight p (tested_piece m around t x)
-  tested_straight And And t x h = (data_straight t, (refl, h))
-  tested_straight Or Or t x h = (data_straight t, (refl, h))
-  tested_straight And Or t x h = (data_straight t, h)
-  tested_straight Or And t x h = (data_straight t, h)
+  tested_straight Conjunction Conjunction t x h = (data_straight t, (refl, h))
+  tested_straight Disjunction Disjunction t x h = (data_straight t, (refl, h))
+  tested_straight Conjunction Disjunction t x h = (data_straight t, h)
+  tested_straight Disjunction Conjunction t x h = (data_straight t, h)
 
   join_straight : (m around : Junction) (s t : Option Term) (fa ga fo go : Piece) → IsStraight p fa → IsStraight p ga
       → IsStraight p fo → IsStraight p go → IsStraight p (join_piece m around s t fa ga fo go)

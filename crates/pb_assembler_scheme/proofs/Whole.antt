@@ -19,10 +19,10 @@ use Rattle.pb_bytecode_program.proofs.Trees.{longer}
 use Rattle.pb_normal.specs.Normal.{Formula, Slots}
 use Rattle.pb_normal.specs.Answer.{slots_of}
 use Rattle.pb_assembler_scheme.specs.Pieces.{HasPieceAt}
-use Rattle.pb_assembler_scheme.specs.Scheme.{connective_of, head, formula_piece, equation_piece, equation_code}
+use Rattle.pb_assembler_scheme.specs.Scheme.{head, formula_piece, equation_piece, equation_code}
 use Rattle.pb_assembler_scheme.specs.Correct.{IsCompiled, HasFullCalls, Declares, IsFaultless, TreeHasTruth, Decides}
 use Rattle.pb_assembler_scheme.proofs.Wins.{Wins, EndsIn, one}
-use Rattle.pb_assembler_scheme.proofs.Joins.{Joins, tree_connective, opening-token}
+use Rattle.pb_assembler_scheme.proofs.Joins.{Joins}
 use Rattle.pb_assembler_scheme.proofs.Numbered.{numbered_truth, same-truth}
 use Rattle.pb_assembler_scheme.proofs.Terms.{Agrees}
 use Rattle.pb_assembler_scheme.proofs.Formulas.{enclosed, formula_runs}
@@ -42,18 +42,18 @@ module _ (p : Program) (f : Formula) (args : List TaggedValue) (slots : Slots) w
     pub tokens : out ≡ tree_tokens tree
     pub truth : (t : Environment ℕ) → tree_truth t tree ≡ numbered_truth p slots t f
 
-  root-decided : (xs : List Token) → Joins (head f) xs (λ t. numbered_truth p slots t f) → IsDecided (Machine.opening_token (connective_of (head f)) ∷ (xs ++ token.Close ∷ []))
+  root-decided : (xs : List Token) → Joins (head f) xs (λ t. numbered_truth p slots t f) → IsDecided (opening (head f) ∷ (xs ++ token.Close ∷ []))
   root-decided xs j = record {
-    tree = Root (tree_connective (head f)) j.operands;
-    tokens = ap (λ (o : Token). o ∷ (xs ++ token.Close ∷ [])) (opening-token (head f)) ∙ ap (λ (ts : List Token). opening (tree_connective (head f)) ∷ (ts ++ token.Close ∷ [])) j.tokens;
+    tree = Root (head f) j.operands;
+    tokens = ap (λ (ts : List Token). opening (head f) ∷ (ts ++ token.Close ∷ [])) j.tokens;
     truth = j.truth;
   }
 
   pub wins : HasFullCalls p.callees f → Agrees (start args) slots → HasPieceAt p.code 0 0 (equation_piece p.callees f) → Wins p IsDecided (start args)
   wins full agrees h =
-      one p IsDecided (start args) (op.Open (connective_of (head f))) h.0.0
+      one p IsDecided (start args) (op.Open (head f)) h.0.0
       (enclosed p IsDecided (head f) (formula_piece p.callees (head f) f) (λ a t. numbered_truth p a t f) (formula_runs p IsDecided (call_runs p IsDecided) f (head f) full)
-      (record (start args) { place = 1; brackets = 1; roots = 1; output = Machine.opening_token (connective_of (head f)) ∷ [] }) 0 slots 0 [] h.0.1 agrees refl refl
+      (record (start args) { place = 1; brackets = 1; roots = 1; output = opening (head f) ∷ [] }) 0 slots 0 [] h.0.1 agrees refl refl
       (λ xs j. one p IsDecided _ op.End h.1 (root-decided xs j)))
 
 -- a run that faults goes no further

@@ -14,13 +14,13 @@ use Rattle.pb_fixpoint_trees.specs.declared.Token.TheVariants as token
 use Rattle.pb_bytecode_program.specs.Machine.{Program, Ends, run, start}
 use Rattle.pb_bytecode_program.specs.Safety.{arguments}
 use Rattle.pb_bytecode_program.specs.declared.instruction.Arithmetic.TheVariants as arithmetic
-use Rattle.pb_bytecode_program.specs.declared.instruction.Connective.TheVariants as connective
+use Rattle.pb_fixpoint_trees.specs.declared.junction.Junction.TheVariants as junction
 use Rattle.pb_bytecode_program.specs.declared.instruction.Equality.TheVariants as equality
 use Rattle.pb_bytecode_program.specs.declared.instruction.Leaf.TheVariants as leaf
 use Rattle.pb_bytecode_program.specs.declared.instruction.Op.{Op}
 use Rattle.pb_bytecode_program.specs.declared.instruction.Op.TheVariants as op
 use Rattle.pb_normal.specs.Equations.{normal_equation}
-use Rattle.pb_normal.specs.declared.formula.Junction.TheVariants.{Or}
+use Rattle.pb_fixpoint_trees.specs.declared.junction.Junction.TheVariants.{Disjunction}
 use Rattle.pb_normal.specs.Normal.{Term, Formula, Number, Slot, Binary, Test, Join, Each, Call}
 use Rattle.pb_assembler_scheme.specs.Equations.{IsProgramOf}
 
@@ -59,12 +59,12 @@ others_spec = record {
 abbrev pub others_form : Formula
 others_form =
     Each Forall 1 (Places 0 3)
-    (Join Or (Test (Term.Not (Binary Operator.NotEqual (Slot 1) (Slot 0))))
+    (Join Disjunction (Test (Term.Not (Binary Operator.NotEqual (Slot 1) (Slot 0))))
     (Call 0 (record { term = Slot 1; shape = Places 0 3 } ∷ [])))
 
 abbrev pub others_code : List Op
 others_code =
-    op.Open connective.And
+    op.Open junction.Conjunction
     ∷ (op.Loop 1
     ∷ (op.Get 1
     ∷ (op.Get 0
@@ -125,7 +125,7 @@ countdown_spec = record {
 
 abbrev pub countdown_form : Formula
 countdown_form =
-    Join Or (Test (Binary Operator.Equal (Slot 0) (Number 0)))
+    Join Disjunction (Test (Binary Operator.Equal (Slot 0) (Number 0)))
     (Call 0
     (record {
       term = Binary Operator.Minus (Slot 0) (Number 1);
@@ -134,7 +134,7 @@ countdown_form =
 
 abbrev pub countdown_code : List Op
 countdown_code =
-    op.Open connective.Or
+    op.Open junction.Disjunction
     ∷ (op.Get 0
     ∷ (op.PushInt (pos 0)
     ∷ (op.Equality equality.Equal

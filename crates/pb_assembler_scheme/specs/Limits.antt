@@ -9,8 +9,8 @@ use Rattle.pb_bytecode_program.specs.Machine.{Program}
 use Rattle.pb_bytecode_program.specs.Counts.{static_steps, static_tokens}
 use Rattle.pb_bytecode.specs.declared.limit.Limit.{Limit}
 use Rattle.pb_bytecode.specs.declared.limit.Limit.TheVariants as limit
-use Rattle.pb_normal.specs.declared.formula.Junction.{Junction}
-use Rattle.pb_normal.specs.declared.formula.Junction.TheVariants.{And, Or}
+use Rattle.pb_fixpoint_trees.specs.declared.junction.Junction.{Junction}
+use Rattle.pb_fixpoint_trees.specs.declared.junction.Junction.TheVariants.{Conjunction, Disjunction}
 use Rattle.pb_normal.specs.Normal.{Term, Number, Slot, Negative, Absolute, Successor, Predecessor, Binary, Maximum, Minimum, Choice, Recognised, Argument, Formula, Test, Join, Each, Call}
 use Rattle.pb_assembler_scheme.specs.Scheme.{test_of, junction_of, head}
 
@@ -59,10 +59,10 @@ formula_operands (Call equation xs) = argument_operands xs
 
 -- with a bracket of kind m, unless one of its kind is open already
 abbrev pub brackets_under : (m around : Junction) → ℕ → ℕ
-brackets_under And And n = n
-brackets_under Or Or n = n
-brackets_under And Or n = suc n
-brackets_under Or And n = suc n
+brackets_under Conjunction Conjunction n = n
+brackets_under Disjunction Disjunction n = n
+brackets_under Conjunction Disjunction n = suc n
+brackets_under Disjunction Conjunction n = suc n
 
 -- those of two operands joined by m, given each one's under the bracket that is open and under one
 -- of kind m

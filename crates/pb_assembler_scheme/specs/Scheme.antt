@@ -11,15 +11,15 @@ use Rattle.pb_typing_declarations.specs.Shapes.{Shape, Wholes}
 use Rattle.pb_typing_rules.specs.Shapes.{between}
 use Rattle.pb_bytecode_program.specs.declared.instruction.Arithmetic.TheVariants as arithmetic
 use Rattle.pb_bytecode_program.specs.declared.instruction.Comparison.TheVariants as comparison
-use Rattle.pb_bytecode_program.specs.declared.instruction.Connective.{Connective}
-use Rattle.pb_bytecode_program.specs.declared.instruction.Connective.TheVariants as connective
+use Rattle.pb_fixpoint_trees.specs.declared.junction.Junction.{Junction}
+pub use Rattle.pb_fixpoint_trees.specs.Junctions.{neutral}
+use Rattle.pb_fixpoint_trees.specs.declared.junction.Junction.TheVariants as junction
 use Rattle.pb_bytecode_program.specs.declared.instruction.Equality.TheVariants as equality
 use Rattle.pb_bytecode_program.specs.declared.instruction.Leaf.{Leaf}
 use Rattle.pb_bytecode_program.specs.declared.instruction.Leaf.TheVariants as leaf
 use Rattle.pb_bytecode_program.specs.declared.instruction.Op.{Op}
 use Rattle.pb_bytecode_program.specs.declared.instruction.Op.TheVariants as op
-use Rattle.pb_normal.specs.declared.formula.Junction.{Junction}
-use Rattle.pb_normal.specs.declared.formula.Junction.TheVariants.{And, Or}
+use Rattle.pb_fixpoint_trees.specs.declared.junction.Junction.TheVariants.{Conjunction, Disjunction}
 use Rattle.pb_normal.specs.Normal.{Term, Number, Slot, Negative, Absolute, Successor, Predecessor, Binary, Maximum, Minimum, Choice, Recognised, Argument, Formula, Test, Join, Each, Call}
 use Rattle.pb_assembler_scheme.specs.Pieces.{Piece, Plain, Then, Unless, Choose, Repeat, Block, Leave, Guard, flat}
 
@@ -34,9 +34,10 @@ abbrev pub swapped : Op → Piece → Piece → Piece
 swapped i a b = Then b (Then a (Plain i))
 
 abbrev pub binary_piece : Operator → Piece → Piece → Piece
-binary_piece Operator.And a b = swapped (op.Logic connective.And) a b
-binary_piece Operator.Or a b = swapped (op.Logic connective.Or) a b
-binary_piece Operator.Implies a b = swapped (op.Logic connective.Or) (Then a (Plain op.Not)) b
+binary_piece Operator.And a b = swapped (op.Logic junction.Conjunction) a b
+binary_piece Operator.Or a b = swapped (op.Logic junction.Disjunction) a b
+binary_piece Operator.Implies a b =
+    swapped (op.Logic junction.Disjunction) (Then a (Plain op.Not)) b
 binary_piece Operator.Equal a b = in_order (op.Equality equality.Equal) a b
 binary_piece Operator.NotEqual a b = in_order (op.Equality equality.NotEqual) a b
 binary_piece Operator.Less a b = in_order (op.Compare comparison.Less) a b
@@ -71,34 +72,25 @@ data_piece (Recognised s i x) =
 
 -- ---- brackets, each of a kind
 
-abbrev pub connective_of : Junction → Connective
-connective_of And = connective.And
-connective_of Or = connective.Or
-
 -- the leaf that decides a bracket of this kind
 abbrev pub deciding_leaf : Junction → Leaf
-deciding_leaf And = leaf.No
-deciding_leaf Or = leaf.Yes
-
--- the truth value that decides nothing in it
-abbrev pub neutral : Junction → Bool
-neutral And = true
-neutral Or = false
+deciding_leaf Conjunction = leaf.No
+deciding_leaf Disjunction = leaf.Yes
 
 -- the kind of the bracket that a quantifier's instances stand in
 abbrev pub junction_of : Quantifier → Junction
-junction_of Forall = And
-junction_of Exists = Or
+junction_of Forall = Conjunction
+junction_of Exists = Disjunction
 
 abbrev pub bracketed : Junction → Piece → Piece
-bracketed m x = Then (Plain (op.Open (connective_of m))) (Then x (Plain op.Close))
+bracketed m x = Then (Plain (op.Open m)) (Then x (Plain op.Close))
 
 -- what joins by m stands in a bracket of its own, unless one of its kind is open already
 abbrev pub under : (m around : Junction) → Piece → Piece
-under And And x = x
-under Or Or x = x
-under And Or x = bracketed And x
-under Or And x = bracketed Or x
+under Conjunction Conjunction x = x
+under Disjunction Disjunction x = x
+under Conjunction Disjunction x = bracketed Conjunction x
+under Disjunction Conjunction x = bracketed Disjunction x
 
 -- ---- tests
 
@@ -109,10 +101,12 @@ test_piece around t =
 
 -- a test joined by m with an operand, whose code stands under the bracket that is open
 abbrev pub tested_piece : (m around : Junction) → Term → Piece → Piece
-tested_piece And And t x = Then (data_piece t) (Choose true (Plain (op.Emit leaf.No)) x)
-tested_piece Or Or t x = Then (data_piece t) (Choose false (Plain (op.Emit leaf.Yes)) x)
-tested_piece And Or t x = Then (data_piece t) (Unless false x)
-tested_piece Or And t x = Then (data_piece t) (Unless true x)
+tested_piece Conjunction Conjunction t x =
+    Then (data_piece t) (Choose true (Plain (op.Emit leaf.No)) x)
+tested_piece Disjunction Disjunction t x =
+    Then (data_piece t) (Choose false (Plain (op.Emit leaf.Yes)) x)
+tested_piece Conjunction Disjunction t x = Then (data_piece t) (Unless false x)
+tested_piece Disjunction Conjunction t x = Then (data_piece t) (Unless true x)
 
 abbrev pub test_of : Formula → Option Term
 test_of (Test t) = Some t
@@ -184,7 +178,7 @@ formula_piece callees around (Call equation xs) =
 abbrev pub head : Formula → Junction
 head (Join m f g) = m
 head (Each q s shape f) = junction_of q
-head _ = Or
+head _ = Disjunction
 
 abbrev pub equation_piece : List (List Carrier) → Formula → Piece
 equation_piece callees f =

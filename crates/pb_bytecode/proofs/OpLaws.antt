@@ -18,7 +18,7 @@ use Rattle.pb_bytecode_program.specs.declared.instruction.Op.{Op}
 use Rattle.pb_bytecode_program.specs.declared.instruction.Op.TheVariants as op
 use Rattle.pb_bytecode_program.specs.declared.instruction.Arithmetic.TheVariants as arithmetic
 use Rattle.pb_bytecode_program.specs.declared.instruction.Comparison.TheVariants as comparison
-use Rattle.pb_bytecode_program.specs.declared.instruction.Connective.TheVariants as connective
+use Rattle.pb_fixpoint_trees.specs.declared.junction.Junction.TheVariants as junction
 use Rattle.pb_bytecode_program.specs.declared.instruction.Equality.TheVariants as equality
 use Rattle.pb_bytecode_program.specs.declared.instruction.Leaf.TheVariants as leaf
 use Rattle.pb_bytecode_program.specs.declared.version.Version.{Version}
@@ -145,16 +145,16 @@ plain_found v (op.Compare comparison.GreaterOrEqual) h = refl
 plain_found v (op.Equality equality.Equal) h = refl
 plain_found v (op.Equality equality.NotEqual) h = refl
 plain_found v op.Not h = refl
-plain_found v (op.Logic connective.And) h = refl
-plain_found v (op.Logic connective.Or) h = refl
+plain_found v (op.Logic junction.Conjunction) h = refl
+plain_found v (op.Logic junction.Disjunction) h = refl
 plain_found v (op.Jump to) h = absurd cc
 plain_found v (op.JumpIf on to) h = absurd cc
 plain_found v (op.InRange low high to) h = absurd cc
 plain_found v (op.SlotInRange slot low high to) h = absurd cc
 plain_found v (op.Loop slot) h = absurd cc
 plain_found v op.Next h = refl
-plain_found v (op.Open connective.And) h = refl
-plain_found v (op.Open connective.Or) h = refl
+plain_found v (op.Open junction.Conjunction) h = refl
+plain_found v (op.Open junction.Disjunction) h = refl
 plain_found v op.Close h = refl
 plain_found v (op.Emit leaf.Yes) h = refl
 plain_found v (op.Emit leaf.No) h = refl

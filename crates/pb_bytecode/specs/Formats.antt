@@ -3,7 +3,7 @@ use Rattle.std.specs.Prelude.{ℕ, ◌==◌, List, [], ◌∷◌, true, false, O
 use Rattle.pb_bytecode_program.specs.declared.instruction.Op.TheVariants as op
 use Rattle.pb_bytecode_program.specs.declared.instruction.Arithmetic.TheVariants as arithmetic
 use Rattle.pb_bytecode_program.specs.declared.instruction.Comparison.TheVariants as comparison
-use Rattle.pb_bytecode_program.specs.declared.instruction.Connective.TheVariants as connective
+use Rattle.pb_fixpoint_trees.specs.declared.junction.Junction.TheVariants as junction
 use Rattle.pb_bytecode_program.specs.declared.instruction.Equality.TheVariants as equality
 use Rattle.pb_bytecode_program.specs.declared.instruction.Leaf.TheVariants as leaf
 use Rattle.pb_bytecode_program.specs.declared.version.Version.{Version}
@@ -26,10 +26,10 @@ first_formats =
     ∷ format.Plain (op.Compare comparison.GreaterOrEqual) ∷
     format.Plain (op.Equality equality.Equal) ∷ format.Plain (op.Equality equality.NotEqual)
     ∷ format.Plain op.Not ∷
-    format.Plain (op.Logic connective.And) ∷ format.Plain (op.Logic connective.Or) ∷
+    format.Plain (op.Logic junction.Conjunction) ∷ format.Plain (op.Logic junction.Disjunction) ∷
     format.Jump ∷ format.JumpIf true ∷ format.JumpIf false ∷ format.InRange ∷ format.Loop
     ∷ format.Plain op.Next ∷
-    format.Plain (op.Open connective.And) ∷ format.Plain (op.Open connective.Or)
+    format.Plain (op.Open junction.Conjunction) ∷ format.Plain (op.Open junction.Disjunction)
     ∷ format.Plain op.Close ∷
     format.Plain (op.Emit leaf.Yes) ∷ format.Plain (op.Emit leaf.No)
     ∷ format.Plain (op.Emit leaf.Cut) ∷ format.Call ∷ []

@@ -12,8 +12,8 @@ use Rattle.pb_bytecode_program.specs.declared.instruction.Arithmetic.{Arithmetic
 use Rattle.pb_bytecode_program.specs.declared.instruction.Arithmetic.TheVariants as arithmetic
 use Rattle.pb_bytecode_program.specs.declared.instruction.Comparison.{Comparison}
 use Rattle.pb_bytecode_program.specs.declared.instruction.Comparison.TheVariants as comparison
-use Rattle.pb_bytecode_program.specs.declared.instruction.Connective.{Connective}
-use Rattle.pb_bytecode_program.specs.declared.instruction.Connective.TheVariants as connective
+use Rattle.pb_fixpoint_trees.specs.declared.junction.Junction.{Junction}
+use Rattle.pb_fixpoint_trees.specs.declared.junction.Junction.TheVariants as junction
 use Rattle.pb_bytecode_program.specs.declared.instruction.Equality.{Equality}
 use Rattle.pb_bytecode_program.specs.declared.instruction.Equality.TheVariants as equality
 use Rattle.pb_bytecode_program.specs.declared.instruction.Leaf.{Leaf}
@@ -76,17 +76,17 @@ abbrev pub equality_name : Equality → Text
 equality_name equality.Equal = codes "EQ"
 equality_name equality.NotEqual = codes "NE"
 
-abbrev pub logic_name : Connective → Text
-logic_name connective.And = codes "BAND"
-logic_name connective.Or = codes "BOR"
+abbrev pub logic_name : Junction → Text
+logic_name junction.Conjunction = codes "BAND"
+logic_name junction.Disjunction = codes "BOR"
 
 abbrev pub jump_name : Bool → Text
 jump_name true = codes "JT"
 jump_name false = codes "JF"
 
-abbrev pub bracket_name : Connective → Text
-bracket_name connective.And = codes "AND"
-bracket_name connective.Or = codes "OR"
+abbrev pub bracket_name : Junction → Text
+bracket_name junction.Conjunction = codes "AND"
+bracket_name junction.Disjunction = codes "OR"
 
 abbrev pub leaf_name : Leaf → Text
 leaf_name leaf.Yes = codes "YES"

@@ -13,8 +13,8 @@ use Rattle.pb_bytecode_program.specs.declared.instruction.Arithmetic.{Arithmetic
 use Rattle.pb_bytecode_program.specs.declared.instruction.Arithmetic.TheVariants as arithmetic
 use Rattle.pb_bytecode_program.specs.declared.instruction.Comparison.{Comparison}
 use Rattle.pb_bytecode_program.specs.declared.instruction.Comparison.TheVariants as comparison
-use Rattle.pb_bytecode_program.specs.declared.instruction.Connective.{Connective}
-use Rattle.pb_bytecode_program.specs.declared.instruction.Connective.TheVariants as connective
+use Rattle.pb_fixpoint_trees.specs.declared.junction.Junction.{Junction}
+use Rattle.pb_fixpoint_trees.specs.declared.junction.Junction.TheVariants as junction
 use Rattle.pb_bytecode_program.specs.declared.instruction.Equality.{Equality}
 use Rattle.pb_bytecode_program.specs.declared.instruction.Equality.TheVariants as equality
 use Rattle.pb_bytecode_program.specs.declared.instruction.Leaf.{Leaf}
@@ -78,17 +78,17 @@ abbrev pub equality_code : Equality → ℕ
 equality_code equality.Equal = 19
 equality_code equality.NotEqual = 20
 
-abbrev pub logic_code : Connective → ℕ
-logic_code connective.And = 22
-logic_code connective.Or = 23
+abbrev pub logic_code : Junction → ℕ
+logic_code junction.Conjunction = 22
+logic_code junction.Disjunction = 23
 
 abbrev pub jump_code : Bool → ℕ
 jump_code true = 25
 jump_code false = 26
 
-abbrev pub open_code : Connective → ℕ
-open_code connective.And = 30
-open_code connective.Or = 31
+abbrev pub open_code : Junction → ℕ
+open_code junction.Conjunction = 30
+open_code junction.Disjunction = 31
 
 abbrev pub leaf_code : Leaf → ℕ
 leaf_code leaf.Yes = 33

@@ -16,7 +16,7 @@ use crate::initial::Initial;
 use crate::module::Module;
 use crate::name::Name;
 use crate::sort::Sort;
-use pb_bytecode_program::{Arithmetic, Comparison, Connective, Equality, Leaf, Op, Version};
+use pb_bytecode_program::{Arithmetic, Comparison, Equality, Junction, Leaf, Op, Version};
 use pb_fixpoint::Sign;
 use pb_sorts::Carrier;
 use std::alloc::{AllocError, Global};
@@ -129,8 +129,8 @@ fn code_of(op: &Op) -> u8
         Op::Equality(Equality::Equal) => 0x13,
         Op::Equality(Equality::NotEqual) => 0x14,
         Op::Not => 0x15,
-        Op::Logic(Connective::And) => 0x16,
-        Op::Logic(Connective::Or) => 0x17,
+        Op::Logic(Junction::Conjunction) => 0x16,
+        Op::Logic(Junction::Disjunction) => 0x17,
         Op::Jump { .. } => 0x18,
         Op::JumpIf {
             condition: true,
@@ -143,8 +143,8 @@ fn code_of(op: &Op) -> u8
         Op::InRange { .. } => 0x1b,
         Op::Loop { .. } => 0x1c,
         Op::Next => 0x1d,
-        Op::Open(Connective::And) => 0x1e,
-        Op::Open(Connective::Or) => 0x1f,
+        Op::Open(Junction::Conjunction) => 0x1e,
+        Op::Open(Junction::Disjunction) => 0x1f,
         Op::Close => 0x20,
         Op::Emit(Leaf::Yes) => 0x21,
         Op::Emit(Leaf::No) => 0x22,

@@ -2,7 +2,7 @@
 ghost use Rattle.std.specs.Prelude.{◌≡◌};
 ghost use Rattle.pb_bytecode.specs.Formats.{format_of};
 
-use pb_bytecode_program::{Arithmetic, Comparison, Connective, Equality, Leaf, Op, Version};
+use pb_bytecode_program::{Arithmetic, Comparison, Equality, Junction, Leaf, Op, Version};
 
 /// What follows an instruction's code.
 #[derive(Clone, Copy, Debug)]
@@ -58,16 +58,16 @@ static FORMATS: [Format; 37] = [
     Format::Plain(Op::Equality(Equality::Equal)),
     Format::Plain(Op::Equality(Equality::NotEqual)),
     Format::Plain(Op::Not),
-    Format::Plain(Op::Logic(Connective::And)),
-    Format::Plain(Op::Logic(Connective::Or)),
+    Format::Plain(Op::Logic(Junction::Conjunction)),
+    Format::Plain(Op::Logic(Junction::Disjunction)),
     Format::Jump,
     Format::JumpIf(true),
     Format::JumpIf(false),
     Format::InRange,
     Format::Loop,
     Format::Plain(Op::Next),
-    Format::Plain(Op::Open(Connective::And)),
-    Format::Plain(Op::Open(Connective::Or)),
+    Format::Plain(Op::Open(Junction::Conjunction)),
+    Format::Plain(Op::Open(Junction::Disjunction)),
     Format::Plain(Op::Close),
     Format::Plain(Op::Emit(Leaf::Yes)),
     Format::Plain(Op::Emit(Leaf::No)),

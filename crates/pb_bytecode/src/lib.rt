@@ -25,5 +25,5 @@ pub use initial::Initial;
 pub use limit::Limit;
 pub use module::Module;
 pub use name::{Name, is_name};
-pub use pb_bytecode_program::{Arithmetic, Comparison, Connective, Equality, Leaf, Op, Version};
+pub use pb_bytecode_program::{Arithmetic, Comparison, Equality, Junction, Leaf, Op, Version};
 pub use sort::Sort;

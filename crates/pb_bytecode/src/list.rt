@@ -17,7 +17,7 @@ use crate::initial::Initial;
 use crate::module::Module;
 use crate::name::Name;
 use crate::sort::Sort;
-use pb_bytecode_program::{Arithmetic, Comparison, Connective, Equality, Leaf, Op};
+use pb_bytecode_program::{Arithmetic, Comparison, Equality, Junction, Leaf, Op};
 use pb_fixpoint::Sign;
 use pb_sorts::Carrier;
 use std::alloc::{AllocError, Global};
@@ -121,8 +121,8 @@ fn op_name(op: &Op) -> &'static str
         Op::Equality(Equality::Equal) => "EQ",
         Op::Equality(Equality::NotEqual) => "NE",
         Op::Not => "NOT",
-        Op::Logic(Connective::And) => "BAND",
-        Op::Logic(Connective::Or) => "BOR",
+        Op::Logic(Junction::Conjunction) => "BAND",
+        Op::Logic(Junction::Disjunction) => "BOR",
         Op::Jump { .. } => "JMP",
         Op::JumpIf {
             condition: true,
@@ -135,8 +135,8 @@ fn op_name(op: &Op) -> &'static str
         Op::InRange { .. } => "RNG",
         Op::Loop { .. } => "LOOP",
         Op::Next => "NEXT",
-        Op::Open(Connective::And) => "AND",
-        Op::Open(Connective::Or) => "OR",
+        Op::Open(Junction::Conjunction) => "AND",
+        Op::Open(Junction::Disjunction) => "OR",
         Op::Close => "CLOSE",
         Op::Emit(Leaf::Yes) => "YES",
         Op::Emit(Leaf::No) => "NO",

@@ -6,7 +6,7 @@ use Rattle.std.specs.Int.{int_min, int_max}
 use Rattle.std.proofs.lemmas.Bool.{cond_both}
 use Rattle.pb_fixpoint_trees.specs.declared.Token.{Token}
 use Rattle.pb_fixpoint_trees.specs.declared.Token.TheVariants as token
-use Rattle.pb_bytecode_program.specs.Values.{TaggedValue, BoolValue, IntValue, EnumValue, untagged, arithmetic, has_divisor, absolute, compares, equals, answers, connects, fits64}
+use Rattle.pb_bytecode_program.specs.Values.{TaggedValue, BoolValue, IntValue, EnumValue, untagged, arithmetic, has_divisor, absolute, compares, equals, answers, joined, fits64}
 use Rattle.pb_bytecode_program.specs.Abstract.{IsAbstractedBy, interval_of, absolute_interval, same_kind}
 use Rattle.pb_bytecode_program.specs.declared.domain.AbstractValue.{AbstractValue}
 use Rattle.pb_bytecode_program.specs.declared.domain.AbstractValue.TheVariants as abstract
@@ -21,7 +21,7 @@ use Rattle.pb_bytecode_program.proofs.Invariant.{Fits, places, Covered, IsCovere
 use Rattle.pb_sorts.specs.declared.carrier.Carrier.{Carrier}
 use Rattle.pb_bytecode_program.specs.declared.instruction.Arithmetic.{Arithmetic}
 use Rattle.pb_bytecode_program.specs.declared.instruction.Comparison.{Comparison}
-use Rattle.pb_bytecode_program.specs.declared.instruction.Connective.{Connective}
+use Rattle.pb_fixpoint_trees.specs.declared.junction.Junction.{Junction}
 use Rattle.pb_bytecode_program.specs.declared.instruction.Equality.{Equality}
 use Rattle.pb_bytecode_program.specs.declared.instruction.Leaf.{Leaf}
 use Rattle.pb_bytecode_program.specs.declared.instruction.Op.{Op}
@@ -250,12 +250,12 @@ module _ (p : Program) (table : Table) (ok : Accepted p table) where
       sim_bool table (IsSafeStep p table st op.Not) cov.rest st.operands k.operands _ _ cov.operands
       (λ b ws ts f fl. sim_push st op.Not k at cov ar refl ws ts (BoolValue (not b)) abstract.Bool tt f fl) fine
 
-  pub sim_logic : (st : State) (k : AbstractState) (both : Connective) → Straightly st (op.Logic both) k
+  pub sim_logic : (st : State) (k : AbstractState) (both : Junction) → Straightly st (op.Logic both) k
   sim_logic st k both at cov ar home pl fine =
       sim_bool table (IsSafeStep p table st (op.Logic both)) cov.rest st.operands k.operands _ _ cov.operands
       (λ b ws ts f fl.
       sim_bool table (IsSafeStep p table st (op.Logic both)) cov.rest ws ts _ _ f
-      (λ a vs ss g fl'. sim_push st (op.Logic both) k at cov ar refl vs ss (BoolValue (connects both a b)) abstract.Bool tt g fl') fl) fine
+      (λ a vs ss g fl'. sim_push st (op.Logic both) k at cov ar refl vs ss (BoolValue (joined both a b)) abstract.Bool tt g fl') fl) fine
 
   pub sim_jump : (st : State) (k : AbstractState) (to : ℕ) → Straightly st (op.Jump to) k
   sim_jump st k to at cov ar home pl fine =
@@ -340,12 +340,12 @@ module _ (p : Program) (table : Table) (ok : Accepted p table) where
           sim_range st (op.SlotInRange j low high to) k at cov ar refl to low high z l h st.operands _ _ pl f.0 f.1 (cut z l h e f.0 f.1)
           (with_operands st (op.SlotInRange j low high to) k at cov ar refl to st.operands k.operands cov.operands) fl
 
-  pub sim_open : (st : State) (k : AbstractState) (kind : Connective) → Straightly st (op.Open kind) k
+  pub sim_open : (st : State) (k : AbstractState) (kind : Junction) → Straightly st (op.Open kind) k
   sim_open st k kind at cov ar home pl fine =
       let t = tested table (nat_lt k.brackets 32) _ fine in
       rw (ap (λ m. nat_lt m 32) cov.brackets ∙ t.0)
       (sim_roots table (IsSafeStep p table st (op.Open kind)) cov.rest st.brackets k.brackets st.roots k.roots _ _ cov.brackets cov.roots
-      (λ r fl. go_on st (op.Open kind) k at cov ar refl _ _ refl refl (one_more st.output (Machine.opening_token kind))
+      (λ r fl. go_on st (op.Open kind) k at cov ar refl _ _ refl refl (one_more st.output (Machine.opening kind))
       (rw (cov.brackets) (renewed st (op.Open kind) k at cov ar refl st.operands k.operands (k.brackets + 1) r _ cov.operands)) fl) t.1)
 
   pub sim_tip : (st : State) (k : AbstractState) (leaf : Leaf) → Straightly st (op.Emit leaf) k

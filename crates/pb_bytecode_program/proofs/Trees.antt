@@ -7,6 +7,7 @@ use Rattle.std.proofs.lemmas.List.{reverse-append, reverse-reverse}
 use Rattle.pb_base_values.specs.Carrier as carriers
 use Rattle.pb_fixpoint_trees.specs.declared.Token.{Token}
 use Rattle.pb_fixpoint_trees.specs.declared.Token.TheVariants as token
+use Rattle.pb_fixpoint_trees.specs.declared.junction.Junction.{Junction}
 use Rattle.pb_fixpoint_trees.specs.Tree as trees
 use Rattle.pb_fixpoint_trees.specs.Tokens as tokens
 use Rattle.pb_sorts.specs.Carrier.{values_of}
@@ -19,23 +20,11 @@ use Rattle.pb_bytecode_program.specs.Safety.{IsInstance}
 use Rattle.pb_bytecode_program.proofs.CarrierValues.{untagged_contained}
 use Rattle.pb_bytecode_program.proofs.Written.{Written, IsTreeOf, leaf_written, single_written, root_opened, bracket_opened, root_closed, bracket_closed}
 use Rattle.pb_sorts.specs.declared.carrier.Carrier.{Carrier}
-use Rattle.pb_bytecode_program.specs.declared.instruction.Connective.{Connective}
-use Rattle.pb_bytecode_program.specs.declared.instruction.Connective.TheVariants as connective
 use Rattle.pb_bytecode_program.specs.declared.instruction.Equality.{Equality}
 use Rattle.pb_bytecode_program.specs.declared.instruction.Leaf.{Leaf}
 use Rattle.pb_bytecode_program.specs.declared.instruction.Leaf.TheVariants as leaf
 use Rattle.pb_bytecode_program.specs.declared.instruction.Op.{Op}
 use Rattle.pb_bytecode_program.specs.declared.instruction.Op.TheVariants as op
-
--- ---- tokens of instructions
-
-abbrev tree_connective : Connective → trees.Connective
-tree_connective connective.And = trees.Conjunction
-tree_connective connective.Or = trees.Disjunction
-
-opening-token : (c : Connective) → tokens.opening (tree_connective c) ≡ Machine.opening_token c
-opening-token connective.And = refl
-opening-token connective.Or = refl
 
 -- ---- arguments of calls
 
@@ -150,7 +139,7 @@ module _ (p : Program) where
         by (suc n) zero e = absurd e
         by (suc n) (suc r) e = leaf_written IsCall l n r st.output c e
 
-    writes_open : (c : trees.Connective)
+    writes_open : (c : Junction)
         → Writes (Machine.with_root st.brackets st.roots
         (λ r. Continues
         (record st { place = st.place + 1; brackets = st.brackets + 1; roots = r; output = st.output ++ tokens.opening c ∷ [] })))
@@ -260,7 +249,7 @@ module _ (p : Program) where
         (λ v. writes_with_int v _ (λ z. cond_both (int_le low z && int_le z high) _ _ Writes (λ e. w) (λ e. w)))
     writes_act (op.Loop i) = writes_begin i (Machine.carrier_of p i)
     writes_act op.Next = writes_next st.loops
-    writes_act (op.Open c) = cond_both (nat_lt st.brackets 32) _ _ Writes (λ e. rw (sym (opening-token c)) (writes_open (tree_connective c))) (λ e. tt)
+    writes_act (op.Open c) = cond_both (nat_lt st.brackets 32) _ _ Writes (λ e. writes_open c) (λ e. tt)
     writes_act op.Close = writes_close
     writes_act (op.Emit leaf.Yes) = writes_leaf trees.Yes (st.place + 1) st.operands st.loops tt
     writes_act (op.Emit leaf.No) = writes_leaf trees.No (st.place + 1) st.operands st.loops tt

@@ -2,7 +2,8 @@
 use Rattle.std.proofs.Common.{◌≡◌, ℕ, zero, suc, List, [], ◌∷◌, ◌++◌, refl, sym, ap, ◌∙◌, append_assoc}
 use Rattle.pb_fixpoint_trees.specs.declared.Token.{Token}
 use Rattle.pb_fixpoint_trees.specs.declared.Token.TheVariants as token
-use Rattle.pb_fixpoint_trees.specs.Tree.{Connective, Leaf, LeafCalls, Operands, End, LeafThen, BracketThen, OperandsCall, Tree, Single, Root, TreeCalls}
+use Rattle.pb_fixpoint_trees.specs.declared.junction.Junction.{Junction}
+use Rattle.pb_fixpoint_trees.specs.Tree.{Leaf, LeafCalls, Operands, End, LeafThen, BracketThen, OperandsCall, Tree, Single, Root, TreeCalls}
 use Rattle.pb_fixpoint_trees.specs.Tokens.{opening, leaf_token, operands_tokens, tree_tokens}
 
 -- two lists of operands, one behind the other
@@ -26,7 +27,7 @@ module _ (P : ℕ → Type 0) where
 
   -- an open bracket, with what stands in it so far
   pub record Open (front out : List Token) : Type 0 where
-    pub connective : Connective
+    pub connective : Junction
     pub operands : Operands
     pub calls : OperandsCall P operands
     pub tokens : out ≡ front ++ opening connective ∷ operands_tokens operands
@@ -69,10 +70,10 @@ module _ (P : ℕ → Type 0) where
   pub single_written : (leaf : Leaf) (out : List Token) → LeafCalls P leaf → out ≡ [] → IsTreeOf (out ++ leaf_token leaf ∷ [])
   single_written leaf out c e = record { tree = Single leaf; calls = c; tokens = ap (λ ts. ts ++ leaf_token leaf ∷ []) e }
 
-  pub root_opened : (c : Connective) (out : List Token) → out ≡ [] → AreOpen 0 (out ++ opening c ∷ [])
+  pub root_opened : (c : Junction) (out : List Token) → out ≡ [] → AreOpen 0 (out ++ opening c ∷ [])
   root_opened c out e = record { connective = c; operands = End; calls = tt; tokens = ap (λ ts. ts ++ opening c ∷ []) e }
 
-  pub bracket_opened : (c : Connective) (n : ℕ) (out : List Token) → AreOpen n out → AreOpen (suc n) (out ++ opening c ∷ [])
+  pub bracket_opened : (c : Junction) (n : ℕ) (out : List Token) → AreOpen n out → AreOpen (suc n) (out ++ opening c ∷ [])
   bracket_opened c n out w = (out, w, record { connective = c; operands = End; calls = tt; tokens = refl })
 
   pub root_closed : (out : List Token) → AreOpen 0 out → IsTreeOf (out ++ token.Close ∷ [])

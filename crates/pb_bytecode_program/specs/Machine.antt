@@ -6,12 +6,11 @@ use Rattle.pb_sorts.specs.Instance.{number_of}
 use Rattle.pb_sorts.specs.Layout.{carriers_of}
 use Rattle.pb_fixpoint_trees.specs.declared.Token.{Token}
 use Rattle.pb_fixpoint_trees.specs.declared.Token.TheVariants as token
+pub use Rattle.pb_fixpoint_trees.specs.Tokens.{opening}
 use Rattle.pb_base.specs.declared.limits.TheConstants.{MAX_OPERANDS, MAX_BRACKETS, MAX_LOOPS}
-use Rattle.pb_bytecode_program.specs.Values.{TaggedValue, BoolValue, IntValue, EnumValue, tagged_values, untagged, arithmetic, has_divisor, absolute, compares, equals, answers, connects, fits64}
+use Rattle.pb_bytecode_program.specs.Values.{TaggedValue, BoolValue, IntValue, EnumValue, tagged_values, untagged, arithmetic, has_divisor, absolute, compares, equals, answers, joined, fits64}
 use Rattle.pb_sorts.specs.declared.carrier.Carrier.{Carrier}
 use Rattle.pb_sorts.specs.declared.carrier.Carrier.TheVariants as carrier
-use Rattle.pb_bytecode_program.specs.declared.instruction.Connective.{Connective}
-use Rattle.pb_bytecode_program.specs.declared.instruction.Connective.TheVariants.{And, Or}
 use Rattle.pb_bytecode_program.specs.declared.instruction.Equality.{Equality}
 use Rattle.pb_bytecode_program.specs.declared.instruction.Leaf.{Leaf}
 use Rattle.pb_bytecode_program.specs.declared.instruction.Leaf.TheVariants.{Yes, No, Cut}
@@ -65,10 +64,6 @@ pub data Outcome : Type 0 where
   Faults : MachineFault → Outcome
 
 -- ---- tokens
-
-abbrev pub opening_token : Connective → Token
-opening_token And = token.And
-opening_token Or = token.Or
 
 abbrev pub leaf : Leaf → Token
 leaf Yes = token.Yes
@@ -255,7 +250,7 @@ execute p (op.Equality wanted) st =
     pop_any st.operands (λ b vs. pop_any vs (λ a ws. push_equality st ws wanted (equals a b)))
 execute p op.Not st = pop_bool st.operands (λ a vs. push st vs (BoolValue (not a)))
 execute p (op.Logic c) st =
-    pop_bool st.operands (λ b vs. pop_bool vs (λ a ws. push st ws (BoolValue (connects c a b))))
+    pop_bool st.operands (λ b vs. pop_bool vs (λ a ws. push st ws (BoolValue (joined c a b))))
 execute p (op.Jump to) st = jump_to st to st.operands
 execute p (op.JumpIf on to) st =
     pop_bool st.operands
@@ -278,7 +273,7 @@ execute p (op.Open c) st =
       place = st.place + 1;
       brackets = st.brackets + 1;
       roots = r;
-      output = st.output ++ opening_token c ∷ [];
+      output = st.output ++ opening c ∷ [];
     }))
     else Faults Bracket
 execute p op.Close st =

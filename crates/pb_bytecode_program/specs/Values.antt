@@ -15,8 +15,7 @@ use Rattle.pb_bytecode_program.specs.declared.instruction.Comparison.{Comparison
 use Rattle.pb_bytecode_program.specs.declared.instruction.Comparison.TheVariants.{Less, LessOrEqual, Greater, GreaterOrEqual}
 use Rattle.pb_bytecode_program.specs.declared.instruction.Equality.{Equality}
 use Rattle.pb_bytecode_program.specs.declared.instruction.Equality.TheVariants.{Equal, NotEqual}
-use Rattle.pb_bytecode_program.specs.declared.instruction.Connective.{Connective}
-use Rattle.pb_bytecode_program.specs.declared.instruction.Connective.TheVariants.{And, Or}
+pub use Rattle.pb_fixpoint_trees.specs.Junctions.{joined}
 
 -- an operand with its kind
 pub data TaggedValue : Type 0 where
@@ -85,10 +84,6 @@ equals _ _ = None
 abbrev pub answers : Equality → Bool → Bool
 answers Equal b = b
 answers NotEqual b = not b
-
-abbrev pub connects : Connective → Bool → Bool → Bool
-connects And a b = a && b
-connects Or a b = a || b
 
 -- the least and the greatest number of 64 bits
 abbrev pub least64 : ℤ

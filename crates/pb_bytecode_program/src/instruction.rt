@@ -1,5 +1,7 @@
 //! Instructions of the stack machine that computes an instance's and/or tree.
 
+use pb_fixpoint_trees::Junction;
+
 /// An operator on two numbers. The divisor of `Div` and `Mod` is at least 1; the quotient is
 /// rounded down and the remainder is not negative.
 #[derive(Clone, Copy, Debug, PartialEq, Eq)]
@@ -27,13 +29,6 @@ pub enum Comparison {
 pub enum Equality {
     Equal,
     NotEqual,
-}
-
-/// A conjunction or a disjunction, of two truth values or of what a bracket of a tree holds.
-#[derive(Clone, Copy, Debug, PartialEq, Eq)]
-pub enum Connective {
-    And,
-    Or,
 }
 
 /// A leaf of a tree other than a call. `Cut` marks a call whose arguments lie outside their
@@ -80,7 +75,7 @@ pub enum Op {
     /// Negates a truth value.
     Not,
     /// Replaces two truth values by their conjunction or disjunction.
-    Logic(Connective),
+    Logic(Junction),
     /// Jumps.
     Jump {
         target: u16,
@@ -111,7 +106,7 @@ pub enum Op {
     /// Ends the body of a loop.
     Next,
     /// Opens a bracket of the tree.
-    Open(Connective),
+    Open(Junction),
     /// Closes a bracket of the tree.
     Close,
     /// Writes a leaf of the tree.

@@ -12,6 +12,7 @@ pub mod laws;
 pub mod version;
 
 pub use domain::AbstractValue;
-pub use instruction::{Arithmetic, Comparison, Connective, Equality, Leaf, Op};
+pub use instruction::{Arithmetic, Comparison, Equality, Leaf, Op};
 pub use laws::{accepted_is_safe, transfer_is_monotone};
+pub use pb_fixpoint_trees::Junction;
 pub use version::Version;

@@ -6,4 +6,4 @@ pub mod Rising
 pub mod Lengths
 pub mod Calls
 pub mod Players
-mod Total
+pub mod Total

@@ -2,14 +2,16 @@
 use Rattle.std.proofs.Common.{◌≡◌, List, [], ◌∷◌, ◌++◌, refl, sym, ap, ◌∙◌, append_assoc}
 use Rattle.pb_fixpoint_trees.specs.declared.Token.{Token}
 use Rattle.pb_fixpoint_trees.specs.declared.Token.TheVariants as token
-use Rattle.pb_fixpoint_trees.specs.Tree.{Connective, Conjunction, Disjunction, Leaf, Yes, No, Cut, Call, Operands, End, LeafThen, BracketThen, Single, Root}
+use Rattle.pb_fixpoint_trees.specs.declared.junction.Junction.{Junction}
+use Rattle.pb_fixpoint_trees.specs.declared.junction.Junction.TheVariants.{Conjunction, Disjunction}
+use Rattle.pb_fixpoint_trees.specs.Tree.{Leaf, Yes, No, Cut, Call, Operands, End, LeafThen, BracketThen, Single, Root}
 use Rattle.pb_fixpoint_trees.specs.Tokens.{opening, leaf_token, operands_tokens}
 use Rattle.pb_fixpoint_trees.specs.Laws.{TokensAreOneTree}
 
 -- what a token says of the tree at its place
 pub data Role : Type 0 where
   AtLeaf : Leaf → Role
-  Opens : Connective → Role
+  Opens : Junction → Role
   Closes : Role
 
 abbrev pub role : Token → Role
@@ -27,7 +29,7 @@ role-leaf No = refl
 role-leaf Cut = refl
 role-leaf (Call n) = refl
 
-pub role-opening : (c : Connective) → role (opening c) ≡ Opens c
+pub role-opening : (c : Junction) → role (opening c) ≡ Opens c
 role-opening Conjunction = refl
 role-opening Disjunction = refl
 

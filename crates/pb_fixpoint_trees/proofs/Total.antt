@@ -3,7 +3,9 @@ use Rattle.std.proofs.Common.{◌≡◌, ℕ, zero, suc, ◌+◌, ◌<◌, ◌�
 use Rattle.std.specs.Prelude.{slice_get, ◌==◌}
 use Rattle.std.proofs.lemmas.Bool.{cases_Bool, eqb-false, cond-true, cond-false}
 use Rattle.pb_fixpoint_trees.specs.declared.player.Player.TheVariants.{Even}
-use Rattle.pb_fixpoint_trees.specs.Tree.{Connective, Conjunction, Disjunction, Leaf, Yes, No, Cut, Call, Operands, End, LeafThen, BracketThen, Tree, Single, Root, LeafCalls, OperandsCall, TreeCalls}
+use Rattle.pb_fixpoint_trees.specs.declared.junction.Junction.{Junction}
+use Rattle.pb_fixpoint_trees.specs.declared.junction.Junction.TheVariants.{Conjunction, Disjunction}
+use Rattle.pb_fixpoint_trees.specs.Tree.{Leaf, Yes, No, Cut, Call, Operands, End, LeafThen, BracketThen, Tree, Single, Root, LeafCalls, OperandsCall, TreeCalls}
 use Rattle.pb_fixpoint_trees.specs.Equations.{Signature}
 use Rattle.pb_fixpoint_trees.specs.Rows.{Row, IsReached, AreRows}
 use Rattle.pb_fixpoint_trees.specs.Game.{Vertex, brackets, inner, vertex_from, vertex_of, priority_from, target, targets, sink_of, rising_or, bracket_vertex, inner_vertices, tree_vertices, row_vertices, game_vertices}
@@ -38,7 +40,7 @@ module _ (count : ℕ) (sinks : 2 ≤ count) (at : ℕ → ℕ) (Reached : ℕ �
   target_below Cut h = omega arith
   target_below (Call n) h = placed n h
 
-  sink_below : (c : Connective) → sink_of c < count
+  sink_below : (c : Junction) → sink_of c < count
   sink_below Conjunction = omega arith
   sink_below Disjunction = omega arith
 
@@ -52,7 +54,7 @@ module _ (count : ℕ) (sinks : 2 ≤ count) (at : ℕ → ℕ) (Reached : ℕ �
   rising_or_below n [] h each w (inr later) = absurd later
   rising_or_below n (x ∷ xs) h each w among = each-among (λ u. u < count) (x ∷ xs) each w (among_from_rising (x ∷ xs) w among)
 
-  bracket_is : (p : ℕ) (c : Connective) (f : Operands) (next : ℕ) → OperandsCall Reached f → next + brackets f ≤ count → IsGameVertex count (bracket_vertex at p c f next)
+  bracket_is : (p : ℕ) (c : Junction) (f : Operands) (next : ℕ) → OperandsCall Reached f → next + brackets f ≤ count → IsGameVertex count (bracket_vertex at p c f next)
   bracket_is p c f next h fits = record {
     some = rising_or-some (sink_of c) (targets at f next);
     rising = rising_or-increasing (sink_of c) (targets at f next);

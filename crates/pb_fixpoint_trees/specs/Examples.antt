@@ -3,7 +3,8 @@ use Rattle.std.specs.Prelude.{◌≡◌, ℕ, zero, suc, true, false, List, [], 
 use Rattle.pb_fixpoint.specs.declared.Sign.TheVariants.{Mu, Nu}
 use Rattle.pb_fixpoint.specs.Solution.{empty, full}
 use Rattle.pb_fixpoint_trees.specs.declared.Token.TheVariants as token
-use Rattle.pb_fixpoint_trees.specs.Tree.{Conjunction, Disjunction, No, Cut, Call, End, LeafThen, BracketThen, Tree, Single, Root, tree_truth}
+use Rattle.pb_fixpoint_trees.specs.declared.junction.Junction.TheVariants.{Conjunction, Disjunction}
+use Rattle.pb_fixpoint_trees.specs.Tree.{No, Cut, Call, End, LeafThen, BracketThen, Tree, Single, Root, tree_truth}
 use Rattle.pb_fixpoint_trees.specs.Tokens.{tree_tokens}
 use Rattle.pb_fixpoint_trees.specs.Equations.{Signature, solved}
 
@@ -14,19 +15,19 @@ pub record EmptyBrackets : Type 0 where
 
 -- X0 && (false || X1 || cut): its tokens, and its truth where all instances are true and where none
 -- is
-abbrev pub nested : Tree
-nested =
+abbrev pub nested_tree : Tree
+nested_tree =
     Root Conjunction
     (LeafThen (Call 0)
     (BracketThen Disjunction (LeafThen No (LeafThen (Call 1) (LeafThen Cut End))) End))
 
 pub record NestedBrackets : Type 0 where
-  pub tokens : tree_tokens nested
+  pub tokens : tree_tokens nested_tree
       ≡ token.And
       ∷ (token.Call 0
       ∷ (token.Or ∷ (token.No ∷ (token.Call 1 ∷ (token.Cut ∷ (token.Close ∷ (token.Close ∷ [])))))))
-  pub of_all : tree_truth full nested ≡ true
-  pub of_none : tree_truth empty nested ≡ false
+  pub of_all : tree_truth full nested_tree ≡ true
+  pub of_none : tree_truth empty nested_tree ≡ false
 
 -- the tree of each instance in turn, false past the last
 abbrev pub tree_at : List Tree → ℕ → Tree

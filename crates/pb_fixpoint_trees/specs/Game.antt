@@ -10,7 +10,9 @@ use Rattle.pb_fixpoint.specs.declared.Sign.{Sign}
 use Rattle.pb_fixpoint.specs.declared.Sign.TheVariants.{Mu, Nu}
 use Rattle.pb_fixpoint_trees.specs.declared.player.Player.{Player}
 use Rattle.pb_fixpoint_trees.specs.declared.player.Player.TheVariants.{Even, Odd}
-use Rattle.pb_fixpoint_trees.specs.Tree.{Connective, Conjunction, Disjunction, Leaf, Yes, No, Cut, Call, Operands, End, LeafThen, BracketThen, Tree, Single, Root}
+use Rattle.pb_fixpoint_trees.specs.declared.junction.Junction.{Junction}
+use Rattle.pb_fixpoint_trees.specs.declared.junction.Junction.TheVariants.{Conjunction, Disjunction}
+use Rattle.pb_fixpoint_trees.specs.Tree.{Leaf, Yes, No, Cut, Call, Operands, End, LeafThen, BracketThen, Tree, Single, Root}
 use Rattle.pb_fixpoint_trees.specs.Equations.{Signature}
 use Rattle.pb_fixpoint_trees.specs.Rows.{Row}
 
@@ -101,7 +103,7 @@ rising (x ∷ xs) = with_number x (rising xs)
 
 -- where a bracket without operands leads: a conjunction to the true sink, a disjunction to the
 -- false one
-abbrev pub sink_of : Connective → ℕ
+abbrev pub sink_of : Junction → ℕ
 sink_of Conjunction = 1
 sink_of Disjunction = 0
 
@@ -111,17 +113,17 @@ rising_or n [] = n ∷ []
 rising_or n (x ∷ xs) = rising (x ∷ xs)
 
 -- where a bracket leads, the vertices of the brackets inside it beginning at next
-abbrev pub bracket_successors : (ℕ → ℕ) → Connective → Operands → ℕ → List ℕ
+abbrev pub bracket_successors : (ℕ → ℕ) → Junction → Operands → ℕ → List ℕ
 bracket_successors at c operands next = rising_or (sink_of c) (targets at operands next)
 
 -- ---- vertices
 
 -- Even chooses among the operands of a disjunction, Odd among those of a conjunction
-abbrev pub owner_of : Connective → Player
+abbrev pub owner_of : Junction → Player
 owner_of Conjunction = Odd
 owner_of Disjunction = Even
 
-abbrev pub bracket_vertex : (ℕ → ℕ) → ℕ → Connective → Operands → ℕ → Vertex
+abbrev pub bracket_vertex : (ℕ → ℕ) → ℕ → Junction → Operands → ℕ → Vertex
 bracket_vertex at priority c operands next =
     record {
       owner = owner_of c;

@@ -1,3 +1,4 @@
+pub mod Junctions
 pub mod Tree
 pub mod Tokens
 pub mod Equations

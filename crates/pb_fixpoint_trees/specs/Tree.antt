@@ -1,13 +1,10 @@
 -- And/or trees of the instances of predicate variables, and their truth under an environment: the
 -- right side of an equation at one instance, with all data evaluated (Groote and Willemse 2005). An
 -- instance is named by its number.
-use Rattle.std.specs.Prelude.{ℕ, Bool, true, false, ◌&&◌, ◌||◌}
+use Rattle.std.specs.Prelude.{ℕ, Bool, true, false}
 use Rattle.pb_fixpoint.specs.Solution.{Environment}
-
--- what joins the operands of a bracket
-pub data Connective : Type 0 where
-  Conjunction : Connective
-  Disjunction : Connective
+use Rattle.pb_fixpoint_trees.specs.declared.junction.Junction.{Junction}
+use Rattle.pb_fixpoint_trees.specs.Junctions.{joined, neutral}
 
 -- Yes is true and No is false. Cut is a call with an argument outside its parameter's carrier,
 -- which counts as false. Call is true where its instance is in the environment.
@@ -21,12 +18,12 @@ pub data Leaf : Type 0 where
 pub data Operands : Type 0 where
   End : Operands
   LeafThen : (leaf : Leaf) → (after : Operands) → Operands
-  BracketThen : (connective : Connective) → (inside : Operands) → (after : Operands) → Operands
+  BracketThen : (junction : Junction) → (inside : Operands) → (after : Operands) → Operands
 
 -- a leaf alone, or a bracket around all
 pub data Tree : Type 0 where
   Single : (leaf : Leaf) → Tree
-  Root : (connective : Connective) → (operands : Operands) → Tree
+  Root : (junction : Junction) → (operands : Operands) → Tree
 
 abbrev pub leaf_truth : Environment ℕ → Leaf → Bool
 leaf_truth t Yes = true
@@ -34,17 +31,8 @@ leaf_truth t No = false
 leaf_truth t Cut = false
 leaf_truth t (Call n) = t n
 
-abbrev pub joined : Connective → Bool → Bool → Bool
-joined Conjunction x y = x && y
-joined Disjunction x y = x || y
-
--- of no operands: an empty conjunction is true, an empty disjunction false
-abbrev pub of_none : Connective → Bool
-of_none Conjunction = true
-of_none Disjunction = false
-
-abbrev pub operands_truth : Environment ℕ → Connective → Operands → Bool
-operands_truth t c End = of_none c
+abbrev pub operands_truth : Environment ℕ → Junction → Operands → Bool
+operands_truth t c End = neutral c
 operands_truth t c (LeafThen leaf after) = joined c (leaf_truth t leaf) (operands_truth t c after)
 operands_truth t c (BracketThen d inside after) =
     joined c (operands_truth t d inside) (operands_truth t c after)

@@ -6,6 +6,7 @@
 //! runs.
 #![tactic(auto)]
 
+mod junction;
 mod player;
 
 ghost use Rattle.pb_fixpoint_trees.specs.Laws.{EquationsAreSolved, GameIsTotal, RowsHaveVertices};
@@ -13,6 +14,7 @@ ghost use Rattle.pb_fixpoint_trees.specs.Laws.{TokensAreOneTree, TruthIsMonotone
 ghost use Rattle.pb_fixpoint_trees.specs.Examples.{EmptyBrackets, LeastWithinGreatest, NestedBrackets};
 ghost use Rattle.pb_fixpoint_trees.specs.Examples.{SelfReference};
 
+pub use junction::Junction;
 pub use player::Player;
 
 /// A token of a tree. The tree of an instance, with all data evaluated, is a list of these: a leaf,

@@ -13,5 +13,6 @@ pub mod Structs
 pub mod LoopSlots
 mod Bounds
 mod SmallForms
+pub mod FormulaSet
 mod Calls
 mod InitialPlace

@@ -13,7 +13,7 @@ use Rattle.pb_typing_tree.specs.Tree.{Connected}
 use Rattle.pb_typing_tree.specs.View as typed
 use Rattle.pb_typing_tree.specs.declared.formula.Formula as declared
 use Rattle.pb_normal.specs.declared.formula.Formula as code
-use Rattle.pb_normal.specs.declared.formula.Junction.{Junction}
+use Rattle.pb_fixpoint_trees.specs.declared.junction.Junction.{Junction}
 use Rattle.pb_normal.specs.Chains.{joins}
 use Rattle.pb_normal.specs.Normal.{Formula, Join, Each}
 use Rattle.pb_normal.specs.Normalisation.{signed_quantifier}

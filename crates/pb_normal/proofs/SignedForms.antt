@@ -8,7 +8,7 @@ use Rattle.pb_typing_declarations.specs.Shapes.{sort_shape}
 use Rattle.pb_typing_rules.specs.Scope.{Scope, bound}
 use Rattle.pb_typing_tree.specs.Tree as typed
 use Rattle.pb_typing_tree.specs.Elaboration as made
-use Rattle.pb_normal.specs.declared.formula.Junction.TheVariants.{And, Or}
+use Rattle.pb_fixpoint_trees.specs.declared.junction.Junction.TheVariants.{Conjunction, Disjunction}
 use Rattle.pb_normal.specs.Normal.{Argument, Formula, Join, Each}
 use Rattle.pb_normal.specs.Normalisation as normalisation
 use Rattle.pb_normal.specs.Normalisation.{Slotting, with_slot, width, signed_junction, signed_quantifier, normal, arguments, place_of}
@@ -35,14 +35,14 @@ normal-signed spec (syntax.Formula.Truth b) even scope c n h = refl
 normal-signed spec (syntax.Formula.Val x) even scope c n h = refl
 normal-signed spec (syntax.Formula.Not f) even scope c n h = normal-signed spec f (not even) scope c n h
 normal-signed spec (syntax.Formula.And f g) even scope c n h =
-    ap (λ (e : Formula). Join (signed_junction And even) e (normal spec even c scope (n + width f) g)) (normal-signed spec f even scope c n h.0)
-    ∙ ap (Join (signed_junction And even) (signed_form even (made.elaborated spec c scope n f))) (normal-signed spec g even scope c (n + width f) h.1)
+    ap (λ (e : Formula). Join (signed_junction Conjunction even) e (normal spec even c scope (n + width f) g)) (normal-signed spec f even scope c n h.0)
+    ∙ ap (Join (signed_junction Conjunction even) (signed_form even (made.elaborated spec c scope n f))) (normal-signed spec g even scope c (n + width f) h.1)
 normal-signed spec (syntax.Formula.Or f g) even scope c n h =
-    ap (λ (e : Formula). Join (signed_junction Or even) e (normal spec even c scope (n + width f) g)) (normal-signed spec f even scope c n h.0)
-    ∙ ap (Join (signed_junction Or even) (signed_form even (made.elaborated spec c scope n f))) (normal-signed spec g even scope c (n + width f) h.1)
+    ap (λ (e : Formula). Join (signed_junction Disjunction even) e (normal spec even c scope (n + width f) g)) (normal-signed spec f even scope c n h.0)
+    ∙ ap (Join (signed_junction Disjunction even) (signed_form even (made.elaborated spec c scope n f))) (normal-signed spec g even scope c (n + width f) h.1)
 normal-signed spec (syntax.Formula.Implies f g) even scope c n h =
-    ap (λ (e : Formula). Join (signed_junction Or even) e (normal spec even c scope (n + width f) g)) (normal-signed spec f (not even) scope c n h.0)
-    ∙ ap (Join (signed_junction Or even) (signed_form (not even) (made.elaborated spec c scope n f))) (normal-signed spec g even scope c (n + width f) h.1)
+    ap (λ (e : Formula). Join (signed_junction Disjunction even) e (normal spec even c scope (n + width f) g)) (normal-signed spec f (not even) scope c n h.0)
+    ∙ ap (Join (signed_junction Disjunction even) (signed_form (not even) (made.elaborated spec c scope n f))) (normal-signed spec g even scope c (n + width f) h.1)
 normal-signed spec (syntax.Formula.Quantified q xs f) even scope c n h =
     same-each spec (signed_quantifier q even) xs _ _ (λ d m. normal-signed spec f even (bound spec xs scope) d m h) c n
     ∙ each-signed spec q even xs (λ d m. made.elaborated spec d (bound spec xs scope) m f) c n

@@ -21,7 +21,7 @@ use Rattle.pb_typing_tree.specs.Meaning as tree
 use Rattle.pb_typing_tree.specs.Elaboration as made
 use Rattle.pb_typing_tree.proofs.Expanded.{same-of-values}
 use Rattle.pb_typing_tree.proofs.Truth.{elaborated-truth}
-use Rattle.pb_normal.specs.declared.formula.Junction.TheVariants.{And, Or}
+use Rattle.pb_fixpoint_trees.specs.declared.junction.Junction.TheVariants.{Conjunction, Disjunction}
 use Rattle.pb_normal.specs.Normal.{Term, Argument, Slots, set, joined, truth, value}
 use Rattle.pb_normal.specs.Normalisation as normalisation
 use Rattle.pb_normal.specs.Normalisation.{Slotting, with_slot, width, signed_test, signed_junction, signed_quantifier, arguments, place_of}
@@ -36,17 +36,17 @@ signed-not true b = refl
 signed-not false true = refl
 signed-not false false = refl
 
-joined-and : (even x y : Bool) → joined (signed_junction And even) (signed even x) (signed even y) ≡ signed even (x && y)
+joined-and : (even x y : Bool) → joined (signed_junction Conjunction even) (signed even x) (signed even y) ≡ signed even (x && y)
 joined-and true x y = refl
 joined-and false true y = refl
 joined-and false false y = refl
 
-joined-or : (even x y : Bool) → joined (signed_junction Or even) (signed even x) (signed even y) ≡ signed even (x || y)
+joined-or : (even x y : Bool) → joined (signed_junction Disjunction even) (signed even x) (signed even y) ≡ signed even (x || y)
 joined-or true x y = refl
 joined-or false true y = refl
 joined-or false false y = refl
 
-joined-implies : (even x y : Bool) → joined (signed_junction Or even) (signed (not even) x) (signed even y) ≡ signed even (not x || y)
+joined-implies : (even x y : Bool) → joined (signed_junction Disjunction even) (signed (not even) x) (signed even y) ≡ signed even (not x || y)
 joined-implies true x y = refl
 joined-implies false true y = refl
 joined-implies false false y = refl
@@ -102,16 +102,16 @@ signed-truth : (spec : Spec) (t : Environment Instance) (f : typed.Formula) (eve
 signed-truth spec t (typed.Test x) even a h = signed-test spec a t even x
 signed-truth spec t (typed.Negation f) even a h = signed-truth spec t f (not even) a h ∙ signed-not even (tree.truth spec a t f)
 signed-truth spec t (typed.Connected connective.And f g) even a h =
-    ap (λ b. joined (signed_junction And even) b (truth spec a t (signed_form even g))) (signed-truth spec t f even a h.0)
-    ∙ ap (joined (signed_junction And even) (signed even (tree.truth spec a t f))) (signed-truth spec t g even a h.1)
+    ap (λ b. joined (signed_junction Conjunction even) b (truth spec a t (signed_form even g))) (signed-truth spec t f even a h.0)
+    ∙ ap (joined (signed_junction Conjunction even) (signed even (tree.truth spec a t f))) (signed-truth spec t g even a h.1)
     ∙ joined-and even (tree.truth spec a t f) (tree.truth spec a t g)
 signed-truth spec t (typed.Connected connective.Or f g) even a h =
-    ap (λ b. joined (signed_junction Or even) b (truth spec a t (signed_form even g))) (signed-truth spec t f even a h.0)
-    ∙ ap (joined (signed_junction Or even) (signed even (tree.truth spec a t f))) (signed-truth spec t g even a h.1)
+    ap (λ b. joined (signed_junction Disjunction even) b (truth spec a t (signed_form even g))) (signed-truth spec t f even a h.0)
+    ∙ ap (joined (signed_junction Disjunction even) (signed even (tree.truth spec a t f))) (signed-truth spec t g even a h.1)
     ∙ joined-or even (tree.truth spec a t f) (tree.truth spec a t g)
 signed-truth spec t (typed.Connected connective.Implies f g) even a h =
-    ap (λ b. joined (signed_junction Or even) b (truth spec a t (signed_form even g))) (signed-truth spec t f (not even) a h.0)
-    ∙ ap (joined (signed_junction Or even) (signed (not even) (tree.truth spec a t f))) (signed-truth spec t g even a h.1)
+    ap (λ b. joined (signed_junction Disjunction even) b (truth spec a t (signed_form even g))) (signed-truth spec t f (not even) a h.0)
+    ∙ ap (joined (signed_junction Disjunction even) (signed (not even) (tree.truth spec a t f))) (signed-truth spec t g even a h.1)
     ∙ joined-implies even (tree.truth spec a t f) (tree.truth spec a t g)
 signed-truth spec t (typed.Quantified q s shape f) even a h =
     same-of-values (signed_quantifier q even) (λ v. truth spec (set a s v) t (signed_form even f))

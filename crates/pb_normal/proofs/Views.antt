@@ -2,7 +2,7 @@
 use Rattle.std.proofs.Common.{◌≡◌, refl, ◌∙◌, ap, ◌∷◌, Vec, Global, Box}
 use Rattle.std.specs.Prelude.{box_value}
 use Rattle.pb_normal.specs.Normal.{Join}
-use Rattle.pb_normal.specs.declared.formula.Junction.{Junction}
+use Rattle.pb_fixpoint_trees.specs.declared.junction.Junction.{Junction}
 use Rattle.pb_normal.specs.declared.formula.Formula as formula
 use Rattle.pb_normal.specs.declared.formula.Formula.{Formula, Row_of-Formula, end_of-Formula, more_of-Formula, items-the_row-Formula, items_hidden-the_row-Formula-0}
 use Rattle.pb_normal.specs.View.{chained_formula, formula_view, formulas_in, formula_views}

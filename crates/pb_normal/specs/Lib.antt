@@ -11,7 +11,6 @@ pub mod Answer
 pub mod Kept
 pub mod SlotOrder
 pub mod Text
-pub mod FormulaSet
 pub mod Structs
 pub mod Bounds
 pub mod Small

@@ -11,8 +11,8 @@ pub use Rattle.pb_typing_tree.specs.Tree.{Term, Number, Slot, Negative, Absolute
 pub use Rattle.pb_typing_tree.specs.Tree.{Predecessor, Binary, Maximum, Minimum, Choice, Recognised}
 pub use Rattle.pb_typing_tree.specs.Tree.{Argument}
 pub use Rattle.pb_typing_tree.specs.Meaning.{Slots, set, value, name_of, called_instance}
-use Rattle.pb_normal.specs.declared.formula.Junction.{Junction}
-use Rattle.pb_normal.specs.declared.formula.Junction.TheVariants.{And, Or}
+use Rattle.pb_fixpoint_trees.specs.declared.junction.Junction.{Junction}
+pub use Rattle.pb_fixpoint_trees.specs.Junctions.{joined}
 
 -- Each is for all values of a slot, or for some. Call names an equation by its place.
 pub data Formula : Type 0 where
@@ -22,10 +22,6 @@ pub data Formula : Type 0 where
   Call : (equation : ℕ) → List Argument → Formula
 
 -- ---- meaning
-
-abbrev pub joined : Junction → Bool → Bool → Bool
-joined And x y = x && y
-joined Or x y = x || y
 
 abbrev pub truth : Spec → Slots → Environment Instance → Formula → Bool
 truth spec a t (Test x) = is_true (value a x)

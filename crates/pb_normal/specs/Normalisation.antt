@@ -7,8 +7,9 @@ use Rattle.pb_text_meaning.specs.Syntax as syntax
 use Rattle.pb_text_meaning.specs.Syntax.{Variable, Spec}
 use Rattle.pb_typing_declarations.specs.Shapes.{sort_shape}
 use Rattle.pb_typing_rules.specs.Scope.{Scope, bound}
-use Rattle.pb_normal.specs.declared.formula.Junction.{Junction}
-use Rattle.pb_normal.specs.declared.formula.Junction.TheVariants.{And, Or}
+use Rattle.pb_fixpoint_trees.specs.declared.junction.Junction.{Junction}
+use Rattle.pb_fixpoint_trees.specs.declared.junction.Junction.TheVariants.{Conjunction, Disjunction}
+pub use Rattle.pb_fixpoint_trees.specs.Junctions.{dual}
 use Rattle.pb_normal.specs.Normal.{Term, Argument, Formula, Test, Join, Each, Call}
 pub use Rattle.pb_typing_tree.specs.Elaboration.{Slotting, unslotted, with_slot, with_slots}
 pub use Rattle.pb_typing_tree.specs.Elaboration.{term_of_enumerator, term_of_name, recognised, named_to_one}
@@ -21,17 +22,12 @@ abbrev pub signed_test : Bool → Term → Formula
 signed_test true x = Test x
 signed_test false x = Test (Term.Not x)
 
--- what a negation around turns a connective into (De Morgan)
-abbrev pub dual : Junction → Junction
-dual And = Or
-dual Or = And
-
--- the same of a quantifier
+-- what a negation around turns a quantifier into (De Morgan)
 abbrev pub dual_quantifier : Quantifier → Quantifier
 dual_quantifier Forall = Exists
 dual_quantifier Exists = Forall
 
--- a connective, and a quantifier, turned round where the negations around are odd in number
+-- a junction, and a quantifier, turned round where the negations around are odd in number
 abbrev pub signed_junction : Junction → Bool → Junction
 signed_junction m true = m
 signed_junction m false = dual m
@@ -58,13 +54,13 @@ normal spec even c scope n (syntax.Formula.Truth b) = signed_test even (Term.Tru
 normal spec even c scope n (syntax.Formula.Val x) = signed_test even (slotted spec c x)
 normal spec even c scope n (syntax.Formula.Not f) = normal spec (not even) c scope n f
 normal spec even c scope n (syntax.Formula.And f g) =
-    Join (signed_junction And even) (normal spec even c scope n f)
+    Join (signed_junction Conjunction even) (normal spec even c scope n f)
     (normal spec even c scope (n + width f) g)
 normal spec even c scope n (syntax.Formula.Or f g) =
-    Join (signed_junction Or even) (normal spec even c scope n f)
+    Join (signed_junction Disjunction even) (normal spec even c scope n f)
     (normal spec even c scope (n + width f) g)
 normal spec even c scope n (syntax.Formula.Implies f g) =
-    Join (signed_junction Or even) (normal spec (not even) c scope n f)
+    Join (signed_junction Disjunction even) (normal spec (not even) c scope n f)
     (normal spec even c scope (n + width f) g)
 normal spec even c scope n (syntax.Formula.Quantified q xs f) =
     each spec (signed_quantifier q even) xs c n

@@ -1,31 +1,10 @@
 //! Formulas in positive normal form.
 
-ghost use Rattle.std.specs.Prelude.{◌≡◌};
-ghost use Rattle.pb_normal.specs.Normalisation.{dual};
-
+use pb_fixpoint_trees::Junction;
 use pb_sorts::Carrier;
 use pb_text_tree::Quantifier;
 use pb_typing::Polarity;
 use pb_typing_tree::{Argument, Term};
-
-/// What joins operands: a conjunction, or a disjunction.
-#[derive(Clone, Copy, Debug, PartialEq, Eq)]
-pub enum Junction {
-    And,
-    Or,
-}
-
-impl Junction {
-    /// What a negation around turns it into (De Morgan).
-    pub fn dual(self) -> Junction
-        ensures { result ≡ dual self }
-    {
-        match self {
-            Junction::And => Junction::Or,
-            Junction::Or => Junction::And,
-        }
-    }
-}
 
 /// A formula in which negation stands on data alone. What it borrows is the typed tree's.
 #[derive(Debug, Drop)]

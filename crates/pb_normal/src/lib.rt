@@ -9,6 +9,7 @@ pub mod normal;
 mod sign;
 mod signed;
 
-pub use formula::{Formula, Junction};
+pub use formula::Formula;
 pub use normal::{Equation, Normal, normalise};
+pub use pb_fixpoint_trees::Junction;
 pub use pb_typing_tree::{Argument, Enumerator, Link, Term};

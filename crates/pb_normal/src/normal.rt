@@ -3,9 +3,9 @@
 ghost use Rattle.std.specs.Prelude.{◌≡◌, true, IfOk};
 ghost use Rattle.pb_text_meaning.specs.Meaning.{answer};
 ghost use Rattle.pb_typing_tree.specs.View as tree;
+ghost use Rattle.pb_typing_tree.proofs.FormulaSet.{shapes-prop};
 ghost use Rattle.pb_normal.specs.Answer.{answer_by, normal_equations};
 ghost use Rattle.pb_normal.specs.Equations.{HaveTruth};
-ghost use Rattle.pb_normal.specs.FormulaSet.{formulas-prop, shapes-prop};
 ghost use Rattle.pb_normal.specs.Loops.{all_loops};
 ghost use Rattle.pb_normal.specs.SignedForm.{signed_form};
 ghost use Rattle.pb_normal.specs.Text.{said};
@@ -25,8 +25,8 @@ pub struct Normal<'t> {
     /// The equations in the order of the text.
     pub equations: Vec<Equation<'t>>,
     // Each right side is the positive normal form of the text's.
-    pub ghost rights: { right_views equations.items
-        ≡ normal_equations (said typed.now) } by { formulas-prop _ _ },
+    pub ghost rights: { ∥ right_views equations.items
+        ≡ normal_equations (said typed.now) ∥₁ },
     // The slots behind the parameters are those of the quantified variables, in order.
     pub ghost loops: { loop_shapes equations.items
         ≡ all_loops (said typed.now) } by { shapes-prop _ _ },

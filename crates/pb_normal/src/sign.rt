@@ -5,7 +5,7 @@ ghost use Rattle.pb_typing.specs.View.{is_positive};
 ghost use Rattle.pb_normal.specs.Chains.{joins};
 ghost use Rattle.pb_normal.specs.Normalisation.{signed_quantifier};
 
-use crate::formula::Junction;
+use pb_fixpoint_trees::Junction;
 use pb_text_tree::{Connective, Quantifier};
 use pb_typing::Polarity;
 
@@ -29,8 +29,8 @@ pub(crate) fn signed_junction(connective: Connective, polarity: Polarity) -> Jun
     ensures { result ≡ joins connective (is_positive polarity) }
 {
     let junction = match connective {
-        Connective::And => Junction::And,
-        Connective::Or | Connective::Implies => Junction::Or,
+        Connective::And => Junction::Conjunction,
+        Connective::Or | Connective::Implies => Junction::Disjunction,
     };
     match polarity {
         Polarity::Positive => junction,

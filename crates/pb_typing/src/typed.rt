@@ -5,7 +5,7 @@ ghost use Rattle.pb_text_tree.specs.Form.{spec_form};
 ghost use Rattle.pb_text_meaning.specs.Erase.{erase};
 ghost use Rattle.pb_typing_tree.specs.Calls.{text_calls, tree_calls};
 ghost use Rattle.pb_typing_tree.specs.Elaboration.{elaborated_equations};
-ghost use Rattle.pb_typing_tree.specs.FormulaSet.{formulas-prop, shapes-prop};
+ghost use Rattle.pb_typing_tree.proofs.FormulaSet.{formulas-prop, shapes-prop};
 ghost use Rattle.pb_typing_tree.specs.InitialPlace.{IsInitial};
 ghost use Rattle.pb_typing_tree.specs.Loops.{all_loops};
 ghost use Rattle.pb_typing_tree.specs.View.{loop_shapes, right_views};

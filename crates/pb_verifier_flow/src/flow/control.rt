@@ -4,12 +4,11 @@ ghost use Rattle.std.specs.Prelude.{◌≡◌, ◌≤ℤ◌, IfOk, List, None, O
 ghost use Rattle.std.specs.Prelude.{ℕ};
 ghost use Rattle.pb_verifier_flow.specs.Flows.{Fails, FlowsTo, GoesOn};
 ghost use Rattle.pb_verifier_states.specs.NamedRule.{IsNamed, named_rule};
-ghost use Rattle.pb_verifier_states.specs.Inhabited.{HasOrderedEnds};
 ghost use Rattle.pb_sorts.specs.declared.carrier.Carrier.{Carrier as carrier_type};
 ghost use Rattle.pb_base.specs.OrMemory.{IfRefused, OnRefused};
 ghost use Rattle.pb_bytecode_program.specs.Machine.{Program};
-ghost use Rattle.pb_bytecode_program.specs.Transfer.{AbstractState as Known, abstract_push};
-ghost use Rattle.pb_bytecode_program.specs.Transfer.{to_next_place, transfer};
+ghost use Rattle.pb_bytecode_program.specs.Transfer.{AbstractState as Known, to_next_place};
+ghost use Rattle.pb_bytecode_program.specs.Transfer.{transfer};
 ghost use Rattle.pb_bytecode_program.specs.declared.instruction.Op.TheVariants as op;
 
 use crate::edges::Edges;
@@ -19,17 +18,6 @@ use pb_verifier_states::flow_error::FlowError;
 use pb_verifier_states::rule::AcceptanceRule;
 use pb_verifier_states::state::AbstractState;
 use std::alloc::Global;
-
-pub(crate) fn push(state: &mut AbstractState, value: AbstractValue) -> Result<(), FlowError>
-    requires { HasOrderedEnds value }
-    ensures flows { OnOk result ((q : ℕ)
-        → abstract_push q state.old state.old.operands value ≡ to_next_place q state.new) }
-    ensures refused { OnRefused result ((q : ℕ)
-        → abstract_push q state.old state.old.operands value ≡ None) }
-    ensures rule { IfRefused result (λ rule. rule ≡ AcceptanceRule.TooManyOperands) }
-{
-    state.push(value)
-}
 
 /// Pushes an enumerator of one of the sorts, of which `sorts` has the counts of enumerators.
 pub(crate) fn push_enum(
@@ -52,7 +40,7 @@ pub(crate) fn push_enum(
     if index >= count {
         return Err(FlowError::Refused(AcceptanceRule::UnknownName));
     }
-    push(state, AbstractValue::Enum { sort, count })
+    state.push(AbstractValue::Enum { sort, count })
 }
 
 // How many enumerators a sort has; a function of its own for the prover alone.
@@ -71,7 +59,7 @@ pub(crate) fn get(state: &mut AbstractState, slot: u8) -> Result<(), FlowError>
     let Some(value) = state.slot(slot) else {
         return Err(FlowError::Refused(AcceptanceRule::UnknownName));
     };
-    push(state, value)
+    state.push(value)
 }
 
 /// Jumps where a truth value is the condition.

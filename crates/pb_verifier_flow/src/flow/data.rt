@@ -9,7 +9,7 @@ ghost use Rattle.pb_bytecode_program.specs.declared.instruction.Op.TheVariants a
 
 use crate::interval::{absolute_values, negatives, results};
 use pb_base_values::Interval;
-use pb_bytecode_program::{AbstractValue, Arithmetic, Comparison, Connective, Equality};
+use pb_bytecode_program::{AbstractValue, Arithmetic, Comparison, Equality, Junction};
 use pb_verifier_states::flow_error::FlowError;
 use pb_verifier_states::rule::AcceptanceRule;
 use pb_verifier_states::state::AbstractState;
@@ -117,7 +117,7 @@ pub(crate) fn negation(state: &AbstractState) -> Result<(), FlowError>
 }
 
 /// A conjunction or a disjunction of two truth values.
-pub(crate) fn logic(state: &mut AbstractState, connective: Connective) -> Result<(), FlowError>
+pub(crate) fn logic(state: &mut AbstractState, connective: Junction) -> Result<(), FlowError>
     ensures flows { OnOk result (GoesOn (op.Logic connective) state.old state.new) }
     ensures refused { OnRefused result (Fails (op.Logic connective) state.old) }
     ensures rule { IfRefused result (IsNamed (op.Logic connective) state.old) }

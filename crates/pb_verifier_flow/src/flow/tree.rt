@@ -7,18 +7,20 @@ ghost use Rattle.pb_verifier_states.specs.NamedRule.{IsNamed, named_at_call};
 ghost use Rattle.pb_bytecode_program.specs.Transfer.{abstract_call, to_next_place};
 ghost use Rattle.pb_bytecode_program.specs.declared.instruction.Op.TheVariants as op;
 
-use pb_bytecode_program::{Connective, Leaf};
+use pb_bytecode_program::{Junction, Leaf};
 use pb_sorts::{Carrier, Layout};
 use pb_verifier_states::rule::AcceptanceRule;
 use pb_verifier_states::state::AbstractState;
 
 /// Opens a bracket.
-pub(crate) fn open(state: &mut AbstractState, connective: Connective) -> Result<(), AcceptanceRule>
+pub(crate) fn open(state: &mut AbstractState, connective: Junction) -> Result<(), AcceptanceRule>
     ensures flows { OnOk result (GoesOn (op.Open connective) state.old state.new) }
     ensures err { OnErr result (Fails (op.Open connective) state.old) }
     ensures rule { IfErr result (IsNamed (op.Open connective) state.old) }
 {
-    state.test_brackets()?;
+    if !state.may_open_bracket() {
+        return Err(AcceptanceRule::Brackets);
+    }
     state.add_root()?;
     state.open_bracket();
     Ok(())

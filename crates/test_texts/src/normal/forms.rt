@@ -10,33 +10,33 @@ const QUANTIFIER_IN_DATA: &str = "Equation { right: Each { quantifier: Exists, s
     low: 0, high: 3 })] }";
 
 /// The left side of `=>` counts as negated; an argument has its interval.
-const IMPLICATION: &str = "Equation { right: Join { junction: Or, first: Test { polarity: \
-    Negative, term: Comparison { comparison: Equal, left: Slot(0), right: Number(1) } }, rest: \
-    [Call { equation: 0, arguments: [Argument { term: Slot(0), shape: Wholes(Interval { low: 0, \
-    high: 3 }) }] }] }, loops: [] }";
+const IMPLICATION: &str = "Equation { right: Join { junction: Disjunction, first: Test { \
+    polarity: Negative, term: Comparison { comparison: Equal, left: Slot(0), right: Number(1) } \
+    }, rest: [Call { equation: 0, arguments: [Argument { term: Slot(0), shape: Wholes(Interval { \
+    low: 0, high: 3 }) }] }] }, loops: [] }";
 
-const NEGATED_IMPLICATION: &str = "Equation { right: Join { junction: And, first: Test { \
+const NEGATED_IMPLICATION: &str = "Equation { right: Join { junction: Conjunction, first: Test { \
     polarity: Positive, term: Comparison { comparison: Equal, left: Slot(0), right: Number(1) } \
     }, rest: [Test { polarity: Negative, term: Comparison { comparison: Equal, left: Slot(0), \
     right: Number(2) } }] }, loops: [] }";
 
-const NEGATED_CONJUNCTION: &str = "Equation { right: Join { junction: Or, first: Test { \
+const NEGATED_CONJUNCTION: &str = "Equation { right: Join { junction: Disjunction, first: Test { \
     polarity: Negative, term: Comparison { comparison: Equal, left: Slot(0), right: Number(1) } \
     }, rest: [Test { polarity: Negative, term: Constant(true) }] }, loops: [] }";
 
 /// What stands behind the last quantifier of a chain in data is one test.
-const TAIL: &str = "Equation { right: Join { junction: And, first: Each { quantifier: Exists, \
-    slot: 1, carriers: [Range(Range { low: 0, high: 3 })], body: Test { polarity: Positive, \
-    term: Comparison { comparison: Equal, left: Slot(1), right: Slot(0) } } }, rest: [Test { \
-    polarity: Positive, term: Chain { connective: And, first: Comparison { comparison: Less, \
-    left: Slot(0), right: Number(2) }, links: [Comparison { comparison: Less, left: Slot(0), \
-    right: Number(3) }] } }] }, loops: [Range(Range { low: 0, high: 3 })] }";
+const TAIL: &str = "Equation { right: Join { junction: Conjunction, first: Each { quantifier: \
+    Exists, slot: 1, carriers: [Range(Range { low: 0, high: 3 })], body: Test { polarity: \
+    Positive, term: Comparison { comparison: Equal, left: Slot(1), right: Slot(0) } } }, rest: \
+    [Test { polarity: Positive, term: Chain { connective: And, first: Comparison { comparison: \
+    Less, left: Slot(0), right: Number(2) }, links: [Comparison { comparison: Less, left: \
+    Slot(0), right: Number(3) }] } }] }, loops: [Range(Range { low: 0, high: 3 })] }";
 
 const NEGATED_QUANTIFIER: &str = "Equation { right: Each { quantifier: Exists, slot: 1, \
-    carriers: [Range(Range { low: 0, high: 3 }), Bool], body: Join { junction: And, first: Test \
-    { polarity: Negative, term: Comparison { comparison: Less, left: Slot(1), right: Slot(0) } \
-    }, rest: [Test { polarity: Negative, term: Slot(2) }] } }, loops: [Range(Range { low: 0, \
-    high: 3 }), Bool] }";
+    carriers: [Range(Range { low: 0, high: 3 }), Bool], body: Join { junction: Conjunction, \
+    first: Test { polarity: Negative, term: Comparison { comparison: Less, left: Slot(1), right: \
+    Slot(0) } }, rest: [Test { polarity: Negative, term: Slot(2) }] } }, loops: [Range(Range { \
+    low: 0, high: 3 }), Bool] }";
 
 /// Without a quantifier in it, a chain in data is one test.
 const NEGATED_IN_DATA: &str = "Equation { right: Each { quantifier: Exists, slot: 1, carriers: \
@@ -45,16 +45,16 @@ const NEGATED_IN_DATA: &str = "Equation { right: Each { quantifier: Exists, slot
     links: [Slot(2)] } } }, loops: [Range(Range { low: 0, high: 3 }), Bool] }";
 
 /// Each quantifier has slots of its own, and an inner variable hides an outer one of its name.
-const TWO_QUANTIFIERS: &str = "Equation { right: Join { junction: And, first: Each { quantifier: \
-    Exists, slot: 1, carriers: [Range(Range { low: 0, high: 3 })], body: Test { polarity: \
-    Positive, term: Comparison { comparison: Equal, left: Slot(1), right: Number(2) } } }, rest: \
-    [Each { quantifier: Forall, slot: 2, carriers: [Bool], body: Test { polarity: Positive, \
-    term: Slot(2) } }] }, loops: [Range(Range { low: 0, high: 3 }), Bool] }";
+const TWO_QUANTIFIERS: &str = "Equation { right: Join { junction: Conjunction, first: Each { \
+    quantifier: Exists, slot: 1, carriers: [Range(Range { low: 0, high: 3 })], body: Test { \
+    polarity: Positive, term: Comparison { comparison: Equal, left: Slot(1), right: Number(2) } \
+    } }, rest: [Each { quantifier: Forall, slot: 2, carriers: [Bool], body: Test { polarity: \
+    Positive, term: Slot(2) } }] }, loops: [Range(Range { low: 0, high: 3 }), Bool] }";
 
-const NAMES: &str = "Equation { right: Join { junction: Or, first: Test { polarity: Positive, \
-    term: Comparison { comparison: Equal, left: Enumerator(Enumerator { sort: 0, place: 1 }), \
-    right: Slot(0) } }, rest: [Test { polarity: Positive, term: Recognised { enumerator: \
-    Enumerator { sort: 0, place: 0 }, operand: Slot(0) } }] }, loops: [] }";
+const NAMES: &str = "Equation { right: Join { junction: Disjunction, first: Test { polarity: \
+    Positive, term: Comparison { comparison: Equal, left: Enumerator(Enumerator { sort: 0, \
+    place: 1 }), right: Slot(0) } }, rest: [Test { polarity: Positive, term: Recognised { \
+    enumerator: Enumerator { sort: 0, place: 0 }, operand: Slot(0) } }] }, loops: [] }";
 
 #[test]
 fn normal_forms(rt: HostRuntime) -> Result<(), Fail> {

@@ -3,6 +3,7 @@ use Rattle.std.proofs.lemmas.Option.{slice_get_read}
 use Rattle.pb_normal.specs.Text.{said}
 use Rattle.pb_normal.specs.declared.normal.Equation.{Equation}
 use Rattle.pb_normal.specs.declared.normal.Normal.{Normal}
+use Rattle.pb_normal.proofs.FormulaSet.{rights-are}
 use Rattle.pb_base.specs.OrMemory.{IfFault}
 use Rattle.pb_assembler_measures.specs.Excess.{IsFirstExcess}
 use Rattle.pb_assembler_measures.specs.MeasureEquations.{AreMeasuresOfAll}
@@ -13,7 +14,7 @@ use Rattle.pb_assembler_measures.proofs.first_excess.measures_within_limits.Goal
 forms : (normal : Normal) (es : List Equation) → es ≡ normal.equations.items → AreFormsOf (said normal.typed.now) (said normal.typed.now).equations normal.typed.now.layout es
 forms normal es e =
     subst (λ (ds : List Equation). AreFormsOf (said normal.typed.now) (said normal.typed.now).equations normal.typed.now.layout ds) (sym e)
-    (record { rights = normal.rights; loops = normal.loops; parameters = normal.typed.now.laid_out.shapes })
+    (record { rights = rights-are normal; loops = normal.loops; parameters = normal.typed.now.laid_out.shapes })
 
 pub returns-in-Some-clause-refused : goal.returns-in-Some-clause-refused
 returns-in-Some-clause-refused c =

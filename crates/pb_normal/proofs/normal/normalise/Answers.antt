@@ -21,13 +21,19 @@ loop-equation-preserved c =
 pub invariant_of-result-clause-rights : goal.invariant_of-result-clause-rights
 invariant_of-result-clause-rights c =
     let typing = c.args.typed.now in
-    rights_ended (said typing) c.deref-equation-items.result.now c.loop-equation.equation-index c.loop-equation.equations.items (accepted-well-typed (spec_form typing.spec) typing.faultless)
-    (ap typed.right_views c.deref-equation-items.ensures.value ∙ typing.rights) c.loop-equation-test.false c.loop-equation.invariant
+    ∣ rights_ended (said typing) c.deref-equation-items.result.now c.loop-equation.equation-index c.loop-equation.equations.items (accepted-well-typed (spec_form typing.spec) typing.faultless)
+    (ap typed.right_views c.deref-equation-items.ensures.value ∙ typing.rights) c.loop-equation-test.false c.loop-equation.invariant ∣₁
 
 pub invariant_of-result-clause-loops : goal.invariant_of-result-clause-loops
 invariant_of-result-clause-loops c =
     loops_ended c.deref-equation-items.result.now c.loop-equation.equation-index c.loop-equation.equations.items c.loop-equation-test.false c.loop-equation.invariant
     ∙ (ap typed.loop_shapes c.deref-equation-items.ensures.value ∙ c.args.typed.now.loops)
+
+pub returns-clause-rights : goal.returns-clause-rights
+returns-clause-rights c =
+    let typing = c.args.typed.now in
+    rights_ended (said typing) c.deref-equation-items.result.now c.loop-equation.equation-index c.loop-equation.equations.items (accepted-well-typed (spec_form typing.spec) typing.faultless)
+    (ap typed.right_views c.deref-equation-items.ensures.value ∙ typing.rights) c.loop-equation-test.false c.loop-equation.invariant
 
 pub returns-clause-truth : goal.returns-clause-truth
 returns-clause-truth c =

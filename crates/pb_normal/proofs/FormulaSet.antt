@@ -2,25 +2,29 @@
 -- the same. For a normal form has a code, as its data terms have, from which it is read back.
 use Rattle.std.proofs.Common.{◌≡◌, ℕ, ◌==◌, if◌then◌else◌, List, ℤ, pos, unsigned_abs, refl, ◌∙◌, ap}
 use Rattle.std.proofs.Props.{props}
+use Rattle.std.proofs.Math.Logic.{∥∥₁_elim}
 use Rattle.pb_text_tree.specs.declared.operator.Quantifier.{Quantifier}
 use Rattle.pb_text_tree.specs.declared.operator.Quantifier.TheVariants.{Forall, Exists}
 use Rattle.pb_typing_declarations.specs.Shapes.{Shape}
-pub use Rattle.pb_typing_tree.specs.FormulaSet.{shapes-prop}
-use Rattle.pb_typing_tree.specs.FormulaSet.{Code, Mark, Pair, none, node, shape_code, shape_at, term_code, term_at, arguments_code, arguments_at, from-codes, shape-back, term-back, arguments-back}
-use Rattle.pb_normal.specs.declared.formula.Junction.{Junction}
-use Rattle.pb_normal.specs.declared.formula.Junction.TheVariants.{And, Or}
+use Rattle.pb_typing_tree.proofs.FormulaSet.{Code, Mark, Pair, none, node, shape_code, shape_at, term_code, term_at, arguments_code, arguments_at, from-codes, shape-back, term-back, arguments-back}
+use Rattle.pb_fixpoint_trees.specs.declared.junction.Junction.{Junction}
+use Rattle.pb_fixpoint_trees.specs.declared.junction.Junction.TheVariants.{Conjunction, Disjunction}
+use Rattle.pb_normal.specs.declared.normal.Normal.{Normal}
+use Rattle.pb_normal.specs.Answer.{normal_equations}
+use Rattle.pb_normal.specs.Text.{said}
+use Rattle.pb_normal.specs.View.{right_views}
 use Rattle.pb_normal.specs.Normal.{Term, Number, Argument, Formula, Test, Join, Each, Call}
 
 abbrev junction_number : Junction → ℕ
-junction_number And = 0
-junction_number Or = 1
+junction_number Conjunction = 0
+junction_number Disjunction = 1
 
 abbrev junction_at : ℕ → Junction
-junction_at n = if n == 0 then And else Or
+junction_at n = if n == 0 then Conjunction else Disjunction
 
 junction-back : (m : Junction) → junction_at (junction_number m) ≡ m
-junction-back And = refl
-junction-back Or = refl
+junction-back Conjunction = refl
+junction-back Disjunction = refl
 
 abbrev quantifier_number : Quantifier → ℕ
 quantifier_number Forall = 0
@@ -74,3 +78,7 @@ Formula-set = from-codes formula_code formula_at formula-back
 -- equations between lists of them are facts
 pub formulas-prop : (fs gs : List Formula) → IsProp (fs ≡ gs)
 formulas-prop fs gs = hlevel (Formula-set, props)
+
+-- the right sides that a text with its normal form carries are those of the text
+pub rights-are : (n : Normal) → right_views n.equations.items ≡ normal_equations (said n.typed.now)
+rights-are n = ∥∥₁_elim n.rights (formulas-prop _ _) (λ e. e)
