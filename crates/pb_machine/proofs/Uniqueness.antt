@@ -7,7 +7,9 @@ use Rattle.pb_fixpoint.specs.Solution.{Environment, assign, empty, solution, val
 use Rattle.pb_fixpoint.specs.Transfer.{AreSame}
 use Rattle.pb_fixpoint.proofs.Transfer.{solution-matches}
 use Rattle.pb_fixpoint_trees.specs.declared.Token.{Token}
-use Rattle.pb_fixpoint_trees.specs.Tree.{Connective, Leaf, Yes, No, Cut, Call, Operands, End, LeafThen, BracketThen, Tree, Single, Root, LeafCalls, OperandsCall, TreeCalls, joined, leaf_truth, operands_truth, tree_truth}
+use Rattle.pb_fixpoint_trees.specs.declared.junction.Junction.{Junction}
+use Rattle.pb_fixpoint_trees.specs.Junctions.{joined}
+use Rattle.pb_fixpoint_trees.specs.Tree.{Leaf, Yes, No, Cut, Call, Operands, End, LeafThen, BracketThen, Tree, Single, Root, LeafCalls, OperandsCall, TreeCalls, leaf_truth, operands_truth, tree_truth}
 use Rattle.pb_fixpoint_trees.specs.Equations.{Signature, equation, numbered, solved, total}
 use Rattle.pb_fixpoint_trees.specs.Laws.{TokensAreOneTree}
 use Rattle.pb_fixpoint_trees.proofs.Calls.{tree_weaker}
@@ -34,7 +36,7 @@ module _ (u v : Environment ℕ) where
   leaf_alike Cut h = refl
   leaf_alike (Call n) h = h
 
-  operands_alike : (c : Connective) (o : Operands) → OperandsCall Alike o → operands_truth u c o ≡ operands_truth v c o
+  operands_alike : (c : Junction) (o : Operands) → OperandsCall Alike o → operands_truth u c o ≡ operands_truth v c o
   operands_alike c End h = refl
   operands_alike c (LeafThen leaf after) h = ap (λ b. joined c b (operands_truth u c after)) (leaf_alike leaf h.0) ∙ ap (joined c (leaf_truth v leaf)) (operands_alike c after h.1)
   operands_alike c (BracketThen d inside after) h =

@@ -1,13 +1,12 @@
 //! Runs: one instruction after another, up to END.
-ghost use Rattle.std.specs.Prelude.{◌≡◌, ◌<◌, ◌≤◌, ◌++◌, IfOk, List, Some, ℤ, map, slice_get, take};
+ghost use Rattle.std.specs.Prelude.{◌≡◌, ◌<◌, ◌++◌, IfOk, List, Some, ℤ, slice_get, take};
 ghost use Rattle.std.specs.Prelude.{true, vec_len};
 ghost use Rattle.arrayvec.specs.ArrayVec.{array_vec_len};
-ghost use Rattle.pb_base_values.specs.Carrier.{tuples, tuple_count};
-ghost use Rattle.pb_sorts.specs.Carrier.{values_of};
+ghost use Rattle.pb_sorts.specs.Instance.{instances};
 ghost use Rattle.pb_bytecode_program.specs.Machine.{Program, start};
 ghost use Rattle.pb_bytecode_program.specs.Safety.{AreArguments, arguments as tagged_arguments};
 ghost use Rattle.pb_bytecode_program.specs.declared.instruction.Op.TheVariants as op;
-ghost use Rattle.pb_sorts.specs.Layout.{count_of};
+ghost use Rattle.pb_sorts.specs.Layout.{carriers_of, count_of};
 ghost use Rattle.pb_machine.specs.Mirror.{IsReady, Executes, Mirrors};
 ghost use Rattle.pb_machine.specs.Output.{CallsOf, CanRun, IsOutput};
 
@@ -17,7 +16,7 @@ use crate::machine::Machine;
 use crate::registers::Registers;
 use crate::results::{Bounds, truth};
 use arrayvec::ArrayVec;
-use pb_base::{MAX_INSTANCES, MAX_OPERANDS};
+use pb_base::MAX_OPERANDS;
 use pb_bytecode_program::Op;
 use pb_sorts::{Carrier, Layout};
 use std::alloc::AllocError;
@@ -97,8 +96,7 @@ impl Machine {
         loops: &[Carrier],
         op: &Op,
     ) -> bool
-        requires few { count_of layout.now ≤ MAX_INSTANCES }
-        requires ready { (p : Program) × CallsOf p layout.now × (p.loops ≡ loops.now)
+        requires { (p : Program) × CallsOf p layout.now × (p.loops ≡ loops.now)
             × IsReady p self.old registers.old op.now }
         ensures { (p : Program) → CallsOf p layout.now → p.loops ≡ loops.now
             → Executes p op.now self.old registers.old self.new registers.new result }
@@ -138,15 +136,18 @@ impl Machine {
         true
     }
 
-    /// Makes the values at a place among the tuples of their carriers the slots.
-    pub(crate) fn load(&mut self, carriers: &[Carrier], place: u32) -> Result<(), AllocError>
-        requires { place < tuple_count (map values_of carriers.now) }
-        ensures { IfOk result (λ _. slice_get (tuples (map values_of carriers.now)) place
-            ≡ Some self.new.slots.items) }
+    /// Makes the values of the instance with this number the slots. Answers its equation.
+    pub(crate) fn load(&mut self, layout: &Layout, number: u32) -> Result<usize, AllocError>
+        requires { number < count_of layout.now }
+        ensures { IfOk result (λ owner. slice_get (instances (carriers_of layout.now)) number
+            ≡ Some (record { equation = owner; values = self.new.slots.items })) }
     {
+        let owner = layout.equation_of(number);
+        let place = number - layout.first(owner);
+        let carriers = layout.carriers(owner);
         resize(&mut self.slots, carriers.len())?;
         write_values(&mut self.slots, carriers, place);
-        Ok(())
+        Ok(owner)
     }
 
     /// Makes ready for a run on the arguments that are the slots, with room for all operands and
@@ -183,7 +184,6 @@ impl Machine {
             → IsOutput p self.old.slots.items self.new.output.items) }
     {
         self.begin(&code)?;
-        let _known = layout.count();
         let mut registers = Registers { place: 0, depth: 0 };
         let mut left = code.steps;
         while left > 0 {

@@ -35,21 +35,21 @@ initial_fits m h =
     ((and_parts equations (few && (is_byte m.initial.equation && initial))
     ((and_parts sorts (equations && (few && (is_byte m.initial.equation && initial))) h).1)).1)).1)).1)
 
--- the initial instance, with values that are equal
-abbrev pub with_values : Contents → Tuple → Instance
-with_values m values = record { equation = m.initial.equation; values = values }
+-- the initial instance
+abbrev pub initial_instance_of : Contents → Instance
+initial_instance_of m = record { equation = m.initial.equation; values = m.initial.values }
 
-module _ (m : Contents) (laid : List (List Carrier)) (values : Tuple) (laid_out : laid ≡ parameters m) (valued : values ≡ m.initial.values) where
-  pub initial_is_instance : fits m ≡ true → is_instance (carriers_of laid) (with_values m values) ≡ true
+module _ (m : Contents) (laid : List (List Carrier)) (instance : Instance) (laid_out : laid ≡ parameters m) (initial : instance ≡ initial_instance_of m) where
+  pub initial_is_instance : fits m ≡ true → is_instance (carriers_of laid) instance ≡ true
   initial_is_instance h =
-      subst (λ (x : List (List Carrier)). is_instance (carriers_of x) (with_values m values) ≡ true) (sym laid_out)
-      (subst (λ (v : Tuple). is_instance (carriers_of (parameters m)) (with_values m v) ≡ true) (sym valued) (initial_fits m h))
+      subst (λ (x : List (List Carrier)). is_instance (carriers_of x) instance ≡ true) (sym laid_out)
+      (subst (λ (i : Instance). is_instance (carriers_of (parameters m)) i ≡ true) (sym initial) (initial_fits m h))
 
-  pub initial_number_is : (n : ℕ) → slice_get (instances (carriers_of laid)) n ≡ Some (with_values m values) → IsInitialNumber m n
+  pub initial_number_is : (n : ℕ) → slice_get (instances (carriers_of laid)) n ≡ Some instance → IsInitialNumber m n
   initial_number_is n at =
-      let here = subst (λ (x : List (List Carrier)). slice_get (instances (carriers_of x)) n ≡ Some (with_values m values)) laid_out at in
-      let there = here ∙ ap (λ (v : Tuple). Some (with_values m v)) valued in
+      let here = subst (λ (x : List (List Carrier)). slice_get (instances (carriers_of x)) n ≡ Some instance) laid_out at in
+      let there = here ∙ ap (λ (i : Instance). Some i) initial in
       record {
-        same = number_of-slice_get (parameters m) n (with_values m m.initial.values) there;
-        inside = slice_get_within (instances (carriers_of (parameters m))) n (with_values m m.initial.values) there;
+        same = number_of-slice_get (parameters m) n (initial_instance_of m) there;
+        inside = slice_get_within (instances (carriers_of (parameters m))) n (initial_instance_of m) there;
       }

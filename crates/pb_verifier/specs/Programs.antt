@@ -5,6 +5,7 @@ use Rattle.pb_sorts.specs.declared.carrier.Carrier.{Carrier}
 use Rattle.pb_bytecode_program.specs.Machine.{Program}
 use Rattle.pb_bytecode.specs.declared.equation.Equation.{Equation}
 use Rattle.pb_verifier.specs.Acceptance.{HasTable}
+use Rattle.pb_verifier.specs.declared.visit.Names.{Names}
 
 abbrev pub program_in : List ℕ → List (List Carrier) → Equation → Program
 program_in sorts callees e = record {
@@ -16,6 +17,10 @@ program_in sorts callees e = record {
   stated_tokens = e.tokens;
   code = e.code.items;
 }
+
+-- the code of an equation as a program that has the names
+abbrev pub program_with : Names → Equation → Program
+program_with names e = program_in names.sorts.now names.callees.now e
 
 -- the carriers of an equation's parameters
 abbrev pub parameters_of : Equation → List Carrier

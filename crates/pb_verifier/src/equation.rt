@@ -1,18 +1,16 @@
 //! The check of one equation's code: the rules by position, then the stated counts, then the pass.
 
-ghost use Rattle.std.specs.Prelude.{◌↔◌, IsTrue, OnOk, map, vec_items};
+ghost use Rattle.std.specs.Prelude.{◌↔◌, IsTrue, OnOk};
 ghost use Rattle.pb_bytecode_program.specs.Machine.{Program};
 ghost use Rattle.pb_verifier_structure.specs.Structure.{IsStructured};
 ghost use Rattle.pb_verifier_structure.specs.Views.{IsProgramOf};
 ghost use Rattle.pb_verifier.specs.Acceptance.{HasTable, StatesCounts};
 ghost use Rattle.pb_base.specs.OrMemory.{OnRefused};
-ghost use Rattle.pb_verifier.specs.Programs.{program_in};
-ghost use Rattle.pb_verifier_structure.specs.Structure.{IsProgramWithinLimits};
+ghost use Rattle.pb_verifier.specs.Names.{program_in_module};
 
+use crate::equation_in_module::EquationInModule;
 use crate::pass::pass;
 use pb_base::{MAX_STEPS, MAX_TOKENS, OrMemory};
-use pb_bytecode::Equation;
-use pb_sorts::Layout;
 use pb_verifier_states::AcceptanceRule;
 use pb_verifier_structure::{EquationCode, PositionFault, check_structure, static_counts};
 use std::alloc::Global;
@@ -27,26 +25,20 @@ fn are_enough(code: &EquationCode, steps: u32, tokens: u32) -> bool
     enough && steps as usize <= MAX_STEPS && tokens as usize <= MAX_TOKENS
 }
 
-/// Checks the code of an equation. `sorts` has the counts of enumerators, `callees` the carriers of
-/// each equation's parameters.
+/// Checks the code of an equation.
 pub(crate) fn check_equation(
     alloc: Global,
-    sorts: &[u8],
-    callees: &Layout,
-    equation: &Equation,
+    checked: &EquationInModule<'_>,
 ) -> Result<(), OrMemory<PositionFault>>
-    requires { IsProgramWithinLimits
-        (program_in sorts.now callees.now equation.now) }
-    ensures accepted { OnOk result (HasTable (program_in sorts.now
-        callees.now equation.now)) }
-    ensures refused { OnRefused result
-        (HasTable (program_in sorts.now callees.now equation.now) → ⊥) }
+    ensures accepted { OnOk result (HasTable (program_in_module checked.now)) }
+    ensures refused { OnRefused result (HasTable (program_in_module checked.now) → ⊥) }
 {
+    let equation = checked.equation;
     let code = EquationCode {
         instructions: &equation.code,
         parameters: &equation.parameters,
         loops: &equation.loops,
-        equations: callees.equation_count(),
+        equations: checked.names.callees.equation_count(),
     };
     check_structure(alloc, &code)?;
     if !are_enough(&code, equation.steps, equation.tokens) {
@@ -55,5 +47,5 @@ pub(crate) fn check_equation(
             place: 0,
         }));
     }
-    pass(alloc, sorts, callees, equation)
+    pass(alloc, checked)
 }

@@ -5,6 +5,7 @@
 #![tactic(auto)]
 
 mod equation;
+mod equation_in_module;
 pub mod laws;
 mod module_tables;
 mod open_loops;

@@ -1,30 +1,26 @@
 //! The pass over the code of an equation: each place's state flows on to later places, from the
 //! first place to the last.
 
-ghost use Rattle.std.specs.Prelude.{◌≡◌, ◌<◌, ◌≤◌, [], ◌∷◌, IfOk, List, None, OnErr, OnOk, Some, ℕ};
-ghost use Rattle.std.specs.Prelude.{map, replicate, slice_set, true, false, vec_items, vec_len};
+ghost use Rattle.std.specs.Prelude.{◌≡◌, ◌<◌, [], ◌∷◌, IfOk, List, None, OnErr, OnOk, Some, ℕ};
+ghost use Rattle.std.specs.Prelude.{replicate, slice_get, slice_set, true, false, vec_len};
 ghost use Rattle.pb_base.specs.OrMemory.{OnRefused, raised};
 ghost use Rattle.pb_bytecode_program.specs.Accepted.{state_at};
 ghost use Rattle.pb_bytecode_program.specs.Counts.{Leaves, loop_effect};
-ghost use Rattle.pb_bytecode_program.specs.Monotone.{HasOrderedRange};
 ghost use Rattle.pb_bytecode_program.specs.Machine.{Program, carrier_of};
 ghost use Rattle.pb_bytecode_program.specs.declared.instruction.Op.TheVariants as op;
 ghost use Rattle.pb_verifier.specs.Pass.{code_passes, homes_after, initial_table, visited};
 ghost use Rattle.pb_verifier.specs.Programs.{program_in};
-ghost use Rattle.pb_verifier.specs.Names.{program_with};
-ghost use Rattle.pb_verifier_structure.specs.Structure.{IsProgramWithinLimits};
-ghost use Rattle.pb_base.specs.declared.limits.TheConstants.{MAX_INSTRUCTIONS};
+ghost use Rattle.pb_verifier.specs.Names.{program_in_module};
 ghost use Rattle.pb_sorts.specs.declared.carrier.Carrier.{Carrier as carrier_type};
 
+use crate::equation_in_module::EquationInModule;
 use crate::open_loops::OpenLoops;
 use crate::table::take_state;
-use crate::visit::{
-    Names, visit_alone, visit_fork, visit_jump, visit_jump_if, visit_loop, visit_next,
-};
+use crate::visit::{visit_alone, visit_fork, visit_jump, visit_jump_if, visit_loop, visit_next};
 use pb_base::OrMemory;
 use pb_bytecode::Equation;
 use pb_bytecode_program::Op;
-use pb_sorts::{Carrier, Layout};
+use pb_sorts::Carrier;
 use pb_verifier_states::{AbstractState, AcceptanceRule, FlowError};
 use pb_verifier_structure::PositionFault;
 use std::alloc::{AllocError, Global};
@@ -82,28 +78,26 @@ impl PassState {
     // One place: what is known there flows on.
     fn step(
         &mut self,
-        names: &Names<'_>,
-        equation: &Equation,
+        checked: &EquationInModule<'_>,
         place: usize,
         instruction: Op,
     ) -> Result<(), FlowError>
-        requires bounds { HasOrderedRange instruction }
-        requires small { place ≤ MAX_INSTRUCTIONS }
-        ensures flows { OnOk result (visited (program_with names.now equation.now) place instruction
+        requires { slice_get checked.now.equation.now.code.items place ≡ Some instruction }
+        ensures flows { OnOk result (visited (program_in_module checked.now) place instruction
             (state_at self.old.table.items place) self.old.open_loops
             (slice_set self.old.table.items place None) ≡ Some self.new.table.items) }
         ensures open_loops { OnOk result (self.new.open_loops
             ≡ homes_after (loop_effect instruction)
             (state_at self.old.table.items place) self.old.open_loops) }
         ensures refused { OnRefused result
-            (visited (program_with names.now equation.now) place instruction
+            (visited (program_in_module checked.now) place instruction
             (state_at self.old.table.items place) self.old.open_loops
             (slice_set self.old.table.items place None) ≡ None) }
     {
         match instruction {
             Op::Loop { slot } => {
                 let known = take_state(&mut self.table, place);
-                self.start_loop(equation, slot, place, known)
+                self.start_loop(checked.equation, slot, place, known)
             }
             Op::Next => {
                 let known = take_state(&mut self.table, place);
@@ -114,9 +108,10 @@ impl PassState {
                 visit_jump_if(place, condition, target, &mut self.table)
             }
             Op::End | Op::InRange { .. } | Op::SlotInRange { .. } => {
-                visit_fork(names, place, instruction, &mut self.table)
+                let known = take_state(&mut self.table, place);
+                visit_fork(&checked.names, place, instruction, known, &mut self.table)
             }
-            _ => visit_alone(names, place, instruction, &mut self.table),
+            _ => visit_alone(&checked.names, place, instruction, &mut self.table),
         }
     }
 
@@ -128,7 +123,6 @@ impl PassState {
         place: usize,
         known: Option<AbstractState>,
     ) -> Result<(), FlowError>
-        requires { place ≤ MAX_INSTRUCTIONS }
         ensures flows { OnOk result ((sorts : List ℕ) (callees : List (List carrier_type))
             → visited (program_in sorts callees equation.now) place
             (op.Loop slot) known self.old.open_loops self.old.table.items
@@ -154,7 +148,6 @@ impl PassState {
 
     // The end of a loop, of which this is known.
     fn end_loop(&mut self, place: usize, known: Option<AbstractState>) -> Result<(), AcceptanceRule>
-        requires { place ≤ MAX_INSTRUCTIONS }
         ensures flows { OnOk result ((p : Program)
             → visited p place op.Next known self.old.open_loops self.old.table.items
             ≡ Some self.new.table.items) }
@@ -178,28 +171,20 @@ fn at_place(error: FlowError, place: usize) -> OrMemory<PositionFault>
     error.map(|rule| PositionFault { rule, place })
 }
 
-/// Passes over the code of an equation. `sorts` has the counts of enumerators, `callees` the
-/// carriers of each equation's parameters.
+/// Passes over the code of an equation.
 ///
 /// # Errors
 /// The rule that fails and the place of its instruction, where the pass refuses the code.
 pub(crate) fn pass(
     alloc: Global,
-    sorts: &[u8],
-    callees: &Layout,
-    equation: &Equation,
+    checked: &EquationInModule<'_>,
 ) -> Result<(), OrMemory<PositionFault>>
-    requires { IsProgramWithinLimits
-        (program_in sorts.now callees.now equation.now) }
-    ensures passes { OnOk result
-        (code_passes (program_in sorts.now callees.now equation.now) ≡ true) }
-    ensures refused { OnRefused result
-        (code_passes (program_in sorts.now callees.now equation.now) ≡ false) }
+    ensures passes { OnOk result (code_passes (program_in_module checked.now) ≡ true) }
+    ensures refused { OnRefused result (code_passes (program_in_module checked.now) ≡ false) }
 {
-    let names = Names { sorts, callees };
-    let mut pass = PassState::opening(alloc, equation)?;
-    for (place, instruction) in equation.code.iter().enumerate() {
-        match pass.step(&names, equation, place, *instruction) {
+    let mut pass = PassState::opening(alloc, checked.equation)?;
+    for (place, instruction) in checked.equation.code.iter().enumerate() {
+        match pass.step(checked, place, *instruction) {
             Ok(()) => {}
             Err(error) => return Err(at_place(error, place)),
         }

@@ -1,8 +1,7 @@
 //! What is known of the places to come.
 
-ghost use Rattle.std.specs.Prelude.{◌≡◌, ◌≤◌, OnErr, OnOk, Some, None, is_some};
+ghost use Rattle.std.specs.Prelude.{◌≡◌, ◌+◌, OnErr, OnOk, Some, None, is_some};
 ghost use Rattle.std.specs.Prelude.{slice_set};
-ghost use Rattle.pb_base.specs.declared.limits.TheConstants.{MAX_INSTRUCTIONS};
 ghost use Rattle.pb_bytecode_program.specs.Accepted.{state_at};
 ghost use Rattle.pb_bytecode_program.specs.Transfer.{AbstractState as Known};
 ghost use Rattle.pb_verifier_flow.specs.Edges.{edges_of};
@@ -35,6 +34,23 @@ pub(crate) fn merge(
                 Err(AcceptanceRule::WaysDiffer)
             }
         }
+    }
+}
+
+/// Joins a state into what is known at the next place.
+pub(crate) fn merge_next(
+    table: &mut Vec<Option<AbstractState>>,
+    place: usize,
+    state: AbstractState,
+) -> Result<(), AcceptanceRule>
+    ensures ok { OnOk result (merged_state table.old.items (place + 1) state
+        ≡ Some table.new.items) }
+    ensures err { OnErr result (merged_state table.old.items (place + 1) state ≡ None) }
+{
+    if place < table.len() {
+        merge(table, place + 1, state)
+    } else {
+        Err(AcceptanceRule::PastTheEnd)
     }
 }
 
@@ -86,7 +102,6 @@ pub(crate) fn merge_edges(
     place: usize,
     edges: Edges,
 ) -> Result<(), AcceptanceRule>
-    requires { place ≤ MAX_INSTRUCTIONS }
     ensures ok { OnOk result (merged_edges table.old.items (edges_of place edges.next edges.jump)
         ≡ Some table.new.items) }
     ensures err { OnErr result (merged_edges table.old.items (edges_of place edges.next edges.jump)
@@ -94,7 +109,7 @@ pub(crate) fn merge_edges(
 {
     let Edges { next, jump } = edges;
     if let Some(state) = next {
-        merge(table, place + 1, state)?;
+        merge_next(table, place, state)?;
     }
     if let Some((to, state)) = jump {
         merge(table, to, state)?;

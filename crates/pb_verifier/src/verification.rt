@@ -1,6 +1,7 @@
 //! Verifying modules.
 
 ghost use Rattle.std.specs.Prelude.{◌≡◌, IfErr, IfOk, OnOk, Some, ℕ, slice_get};
+ghost use Rattle.pb_sorts.specs.Instance.{instance_of};
 ghost use Rattle.pb_bytecode.specs.Decoded.{module_contents};
 ghost use Rattle.pb_bytecode.specs.Meaning.{parameters};
 ghost use Rattle.pb_bytecode.specs.declared.equation.Equation.{Equation as equation_type};
@@ -10,11 +11,13 @@ ghost use Rattle.pb_base.specs.OrMemory.{IfFault, OnRefused, raised};
 ghost use Rattle.pb_verifier_structure.specs.Structure.{IsProgramWithinLimits};
 
 use crate::equation::check_equation;
+use crate::equation_in_module::EquationInModule;
 use crate::module_tables::{enumerator_counts, layout_of};
 use crate::verified::Verified;
 use crate::verify_error::{CodeFault, VerifyError};
+use crate::visit::Names;
 use pb_base::OrMemory;
-use pb_bytecode::{Equation, Module};
+use pb_bytecode::{Equation, Initial, Module};
 use pb_sorts::{Instance, Layout, Tuple};
 use pb_verifier_structure::PositionFault;
 use std::alloc::{AllocError, Global};
@@ -45,8 +48,10 @@ fn check_equations(
     ensures refused { OnRefused result
         (HaveTables sorts.now callees.now equations.now → ⊥) }
 {
+    let names = Names { sorts, callees };
     for (number, equation) in equations.iter().enumerate() {
-        match check_equation(alloc, sorts, callees, equation) {
+        let checked = EquationInModule { names, equation };
+        match check_equation(alloc, &checked) {
             Ok(()) => {}
             Err(error) => return Err(in_equation(error, number)),
         }
@@ -54,19 +59,17 @@ fn check_equations(
     Ok(())
 }
 
-// The number of the initial instance. Up to `MAX_PARAMETERS` values take no memory.
-fn initial_number(alloc: Global, module: &Module, layout: &Layout) -> Result<u32, AllocError>
-    requires { layout.now ≡ parameters (module_contents «module».now) }
-    ensures { IfOk result (IsInitialNumber (module_contents «module».now)) }
+// An initial instance. Up to `MAX_PARAMETERS` values take no memory.
+fn initial_instance(alloc: Global, initial: &Initial) -> Result<Instance, AllocError>
+    ensures { IfOk result (λ instance. instance_of instance ≡ record {
+      equation = initial.now.equation;
+      values = initial.now.values.items;
+    }) }
 {
-    let instance = Instance {
-        equation: module.initial.equation,
-        values: Tuple::from_slice(alloc, &module.initial.values)?,
-    };
-    match layout.number(&instance) {
-        Some(number) => Ok(number),
-        None => unreachable!(),
-    }
+    Ok(Instance {
+        equation: initial.equation,
+        values: Tuple::from_slice(alloc, &initial.values)?,
+    })
 }
 
 // Checks a module whose instances have this layout, and gives the number of the initial one.
@@ -78,7 +81,11 @@ fn check(alloc: Global, module: &Module, layout: &Layout) -> Result<u32, VerifyE
 {
     let sorts = enumerator_counts(alloc, &module.sorts)?;
     check_equations(alloc, &sorts, layout, &module.equations)?;
-    Ok(initial_number(alloc, module, layout)?)
+    let instance = initial_instance(alloc, &module.initial)?;
+    match layout.number(&instance) {
+        Some(number) => Ok(number),
+        None => unreachable!(),
+    }
 }
 
 /// Verifies a module whose instances have this layout, which is the one that is kept: whoever made

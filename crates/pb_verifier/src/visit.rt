@@ -1,7 +1,6 @@
 //! One place of the pass.
 
-ghost use Rattle.std.specs.Prelude.{◌≡◌, ◌≤◌, None, OnErr, OnOk, Option, Some};
-ghost use Rattle.pb_base.specs.declared.limits.TheConstants.{MAX_INSTRUCTIONS};
+ghost use Rattle.std.specs.Prelude.{◌≡◌, None, OnErr, OnOk, Option, Some};
 ghost use Rattle.pb_bytecode_program.specs.Monotone.{HasOrderedRange};
 ghost use Rattle.pb_base.specs.OrMemory.{OnRefused};
 ghost use Rattle.pb_bytecode_program.specs.Counts.{Straight, loop_effect};
@@ -13,7 +12,7 @@ ghost use Rattle.pb_verifier.specs.declared.visit.Names.{Names as names_type};
 ghost use Rattle.pb_verifier_flow.specs.Flows.{GoesOnAlone};
 ghost use Rattle.pb_verifier.specs.Pass.{merge_edges as merged_edges, then_table};
 
-use crate::table::{hand_on, is_reached, merge, merge_edges, take_state};
+use crate::table::{hand_on, is_reached, merge, merge_edges, merge_next};
 use pb_bytecode_program::Op;
 use pb_sorts::{Carrier, Layout};
 use pb_verifier_flow::flow::{flow, go_on};
@@ -32,38 +31,19 @@ pub(crate) fn visit_fork(
     names: &Names<'_>,
     place: usize,
     instruction: Op,
+    known: Option<AbstractState>,
     table: &mut Vec<Option<AbstractState>>,
 ) -> Result<(), FlowError>
     requires straight { loop_effect instruction ≡ Straight }
     requires bounds { HasOrderedRange instruction }
-    requires small { place ≤ MAX_INSTRUCTIONS }
-    ensures ok { OnOk result (FlowsOn names.now place instruction table.old.items
+    ensures ok { OnOk result (FlowsInto names.now place instruction known table.old.items
         (Some table.new.items)) }
     ensures refused { OnRefused result
-        (FlowsOn names.now place instruction table.old.items None) }
+        (FlowsInto names.now place instruction known table.old.items None) }
 {
-    match take_state(table, place) {
-        Some(state) => visit(state, names, place, instruction, table),
-        None => Ok(()),
-    }
-}
-
-// Joins what flows from such an instruction into the table.
-fn visit(
-    state: AbstractState,
-    names: &Names<'_>,
-    place: usize,
-    instruction: Op,
-    table: &mut Vec<Option<AbstractState>>,
-) -> Result<(), FlowError>
-    requires straight { loop_effect instruction ≡ Straight }
-    requires bounds { HasOrderedRange instruction }
-    requires small { place ≤ MAX_INSTRUCTIONS }
-    ensures ok { OnOk result (FlowsInto names.now place instruction state table.old.items
-        (Some table.new.items)) }
-    ensures refused { OnRefused result
-        (FlowsInto names.now place instruction state table.old.items None) }
-{
+    let Some(state) = known else {
+        return Ok(());
+    };
     let alloc = *table.allocator();
     let edges = flow(state, alloc, names.sorts, names.callees, instruction)?;
     merge_edges(table, place, edges)?;
@@ -96,7 +76,6 @@ pub(crate) fn visit_jump_if(
     target: u16,
     table: &mut Vec<Option<AbstractState>>,
 ) -> Result<(), FlowError>
-    requires { place ≤ MAX_INSTRUCTIONS }
     ensures ok { OnOk result ((names : names_type)
         → FlowsOn names place (op.JumpIf condition target) table.old.items
         (Some table.new.items)) }
@@ -125,8 +104,7 @@ pub(crate) fn visit_alone(
     instruction: Op,
     table: &mut Vec<Option<AbstractState>>,
 ) -> Result<(), FlowError>
-    requires alone { GoesOnAlone instruction }
-    requires small { place ≤ MAX_INSTRUCTIONS }
+    requires { GoesOnAlone instruction }
     ensures ok { OnOk result (FlowsOn names.now place instruction table.old.items
         (Some table.new.items)) }
     ensures refused { OnRefused result
@@ -152,7 +130,6 @@ pub(crate) fn visit_loop(
     place: usize,
     table: &mut Vec<Option<AbstractState>>,
 ) -> Result<(), FlowError>
-    requires { place ≤ MAX_INSTRUCTIONS }
     ensures ok { OnOk result ((p : Program) (home : Option Known) → carrier_of p slot ≡ carrier
         → then_table (transfer p home place (op.Loop slot) state.now) (merged_edges table.old.items)
         ≡ Some table.new.items) }
@@ -165,7 +142,7 @@ pub(crate) fn visit_loop(
     };
     let alloc = *table.allocator();
     let body = state.enter_loop(alloc, slot, carrier)?;
-    merge(table, place + 1, body)?;
+    merge_next(table, place, body)?;
     Ok(())
 }
 
@@ -177,7 +154,6 @@ pub(crate) fn visit_next(
     place: usize,
     table: &mut Vec<Option<AbstractState>>,
 ) -> Result<(), AcceptanceRule>
-    requires { place ≤ MAX_INSTRUCTIONS }
     ensures ok { OnOk result ((p : Program) → then_table (transfer p home place op.Next state.now)
         (merged_edges table.old.items) ≡ Some table.new.items) }
     ensures err { OnErr result ((p : Program)
@@ -188,5 +164,5 @@ pub(crate) fn visit_next(
         return Err(AcceptanceRule::LoopStructure);
     };
     let after = state.leave_loop(known)?;
-    merge(table, place + 1, after)
+    merge_next(table, place, after)
 }

@@ -4,3 +4,4 @@ pub mod Pushes
 pub mod Ranges
 pub mod Dispatch
 pub mod SecondRoot
+pub mod OrderedRanges

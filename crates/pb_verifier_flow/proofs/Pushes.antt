@@ -9,7 +9,7 @@ use Rattle.pb_bytecode_program.specs.Transfer.{AbstractState, abstract_pop_bool,
 use Rattle.pb_bytecode_program.specs.declared.domain.AbstractValue.{AbstractValue}
 use Rattle.pb_bytecode_program.specs.declared.domain.AbstractValue.TheVariants as abstract
 use Rattle.pb_bytecode_program.specs.declared.instruction.Arithmetic.{Arithmetic}
-use Rattle.pb_bytecode_program.specs.declared.instruction.Connective.{Connective}
+use Rattle.pb_fixpoint_trees.specs.declared.junction.Junction.{Junction}
 use Rattle.pb_bytecode_program.specs.declared.instruction.Op.TheVariants as op
 use Rattle.pb_base_values.specs.Interval.{IntegerInterval}
 use Rattle.pb_verifier_flow.specs.Edges.{fitting}
@@ -91,6 +91,6 @@ pub not_goes_on : (k : AbstractState) → k.operands ≡ abstract.Bool ∷ drop 
     → GoesOn op.Not k k
 not_goes_on k e r = λ p home q. bool_pushed q k e r
 
-pub logic_goes_on : (c : Connective) (k n : AbstractState) → k ≡ record n { operands = abstract.Bool ∷ n.operands }
+pub logic_goes_on : (c : Junction) (k n : AbstractState) → k ≡ record n { operands = abstract.Bool ∷ n.operands }
     → n.operands ≡ abstract.Bool ∷ drop 1 n.operands → nat_lt (length (drop 1 n.operands) + n.operands_below) 32 ≡ true → GoesOn (op.Logic c) k n
 logic_goes_on c k n f e r = λ p home q. rw f (bool_pushed q n e r)

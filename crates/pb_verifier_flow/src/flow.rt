@@ -105,8 +105,8 @@ pub fn go_on(
         ≡ named_rule sorts.now callees.now op state.old) }
 {
     match op {
-        Op::PushInt(z) => control::push(state, AbstractValue::Int { low: z, high: z }),
-        Op::PushBool(_) => control::push(state, AbstractValue::Bool),
+        Op::PushInt(z) => state.push(AbstractValue::Int { low: z, high: z }),
+        Op::PushBool(_) => state.push(AbstractValue::Bool),
         Op::PushEnum { sort, index } => control::push_enum(state, sorts, sort, index),
         Op::Get { slot } => control::get(state, slot),
         Op::Pop => Ok(data::pop(state)?),

@@ -1,4 +1,3 @@
 pub mod Hulls
 pub mod Ordered
-pub mod Arguments
 pub mod Missing

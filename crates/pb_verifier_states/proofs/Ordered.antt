@@ -29,7 +29,7 @@ carrier_inhabited carrier.Bool = refl
 carrier_inhabited (carrier.Enum enumeration) = lt-ltb 0 enumeration.count enumeration.not_empty
 carrier_inhabited (carrier.Range range) = from_le range.low range.high range.not_empty
 
-carrier_ordered : (c : Carrier) → HasOrderedEnds (abstraction_of c)
+pub carrier_ordered : (c : Carrier) → HasOrderedEnds (abstraction_of c)
 carrier_ordered carrier.Bool = tt
 carrier_ordered (carrier.Enum enumeration) = tt
 carrier_ordered (carrier.Range range) = range.not_empty

@@ -1,5 +1,5 @@
 -- What an instruction finds among the operands above the floor, the topmost first.
-use Rattle.std.specs.Prelude.{ℕ, ◌+◌, Bool, true, false, ◌&&◌, List, [], ◌∷◌, length, Some, pos, int_lt, is_some, nat_le, nat_lt}
+use Rattle.std.specs.Prelude.{◌≡◌, ℕ, ◌+◌, Bool, true, false, ◌&&◌, List, [], ◌∷◌, length, Some, pos, int_lt, is_some, nat_le, nat_lt}
 use Rattle.pb_base.specs.declared.limits.TheConstants.{MAX_OPERANDS}
 use Rattle.pb_bytecode_program.specs.Abstract.{abstraction_of, same_kind}
 use Rattle.pb_bytecode_program.specs.Transfer.{AbstractState, abstract_pop_args, abstract_pop_int}
@@ -10,6 +10,12 @@ use Rattle.pb_sorts.specs.declared.carrier.Carrier.{Carrier}
 -- room for another operand
 abbrev pub has_room : AbstractState → Bool
 has_room k = nat_lt (length k.operands + k.operands_below) MAX_OPERANDS
+
+-- the value was the topmost operand; where it is gone, there is room for another
+pub record IsPopped (before : AbstractState) (value : AbstractValue) (after : AbstractState)
+    : Type 0 where
+  pub topmost : before ≡ record after { operands = value ∷ after.operands }
+  pub room : has_room after ≡ true
 
 -- so many operands, at least
 abbrev pub are_there : ℕ → List AbstractValue → Bool

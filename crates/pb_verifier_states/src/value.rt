@@ -1,7 +1,7 @@
 //! Abstract values: of a carrier, of one kind, accepted by a carrier, and the least one that covers
 //! two.
 
-ghost use Rattle.std.specs.Prelude.{◌≡◌, IfSome};
+ghost use Rattle.std.specs.Prelude.{◌≡◌};
 ghost use Rattle.pb_bytecode_program.specs.Abstract as abstract_values;
 ghost use Rattle.pb_bytecode_program.specs.Transfer as transfers;
 ghost use Rattle.pb_verifier_states.specs.Inhabited.{HasOrderedEnds};
@@ -14,8 +14,7 @@ use pb_sorts::Carrier;
 
 /// What is known of a value of the carrier.
 pub fn abstraction(carrier: Carrier) -> AbstractValue
-    ensures value { result ≡ abstract_values.abstraction_of carrier }
-    ensures ordered { HasOrderedEnds result }
+    ensures { result ≡ abstract_values.abstraction_of carrier }
 {
     match carrier {
         Carrier::Bool => AbstractValue::Bool,

@@ -1,7 +1,6 @@
 //! Brackets and roots of abstract states.
 
 ghost use Rattle.std.specs.Prelude.{◌≡◌, ◌+◌, None, Some, [], IfErr, OnErr, OnOk, ℕ, nat_lt, true};
-ghost use Rattle.std.specs.Prelude.{false};
 ghost use Rattle.std.specs.Prelude.{if◌then◌else◌};
 ghost use Rattle.pb_bytecode_program.specs.Transfer.{Flow, abstract_close, abstract_end};
 ghost use Rattle.pb_bytecode_program.specs.Transfer.{abstract_root};
@@ -32,15 +31,10 @@ impl AbstractState {
     }
 
     /// Whether a bracket may be opened: there may be `MAX_BRACKETS` (V13).
-    pub fn test_brackets(&self) -> Result<(), AcceptanceRule>
-        ensures ok { OnOk result (nat_lt self.now.brackets MAX_BRACKETS ≡ true) }
-        ensures err { OnErr result (nat_lt self.now.brackets MAX_BRACKETS ≡ false) }
-        ensures rule { IfErr result (λ rule. rule ≡ AcceptanceRule.Brackets) }
+    pub fn may_open_bracket(&self) -> bool
+        ensures { result ≡ nat_lt self.now.brackets MAX_BRACKETS }
     {
-        if usize::from(self.brackets) >= MAX_BRACKETS {
-            return Err(AcceptanceRule::Brackets);
-        }
-        Ok(())
+        usize::from(self.brackets) < MAX_BRACKETS
     }
 
     pub fn open_bracket(&mut self)

@@ -14,7 +14,7 @@ use std::alloc::Global;
 
 impl AbstractState {
     /// What is known at the first place of a loop's body, the slot being of the carrier.
-    #[tactic(auto, using(crate::proofs::Ordered::carrier_inhabited))]
+    #[tactic(auto, using(crate::proofs::Ordered::carrier_inhabited, crate::proofs::Ordered::carrier_ordered))]
     pub fn enter_loop(
         &self,
         alloc: Global,

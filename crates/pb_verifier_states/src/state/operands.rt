@@ -1,16 +1,16 @@
 //! Operands of abstract states.
 
 ghost use Rattle.std.specs.Prelude.{◌≡◌, ◌+◌, ◌≤ℤ◌, [], ◌∷◌, List, None, ℤ, IfErr, IfOk, OnErr};
-ghost use Rattle.std.specs.Prelude.{OnOk};
+ghost use Rattle.std.specs.Prelude.{OnOk, ℕ};
 ghost use Rattle.std.specs.Prelude.{length, true, false, reverse, drop, ◌<◌, ◌≤◌};
 ghost use Rattle.pb_verifier_states.specs.Inhabited.{HasOrderedEnds};
 ghost use Rattle.pb_verifier_states.specs.Kinds as kinds;
+ghost use Rattle.pb_verifier_states.specs.Kinds.{IsPopped};
 ghost use Rattle.pb_verifier_states.specs.NamedRule.{named_at_call, named_at_top};
 ghost use Rattle.pb_base.specs.OrMemory.{IfRefused, OnRefused};
 ghost use Rattle.pb_bytecode_program.specs.Transfer.{Flow, abstract_pop_args, abstract_pop_bool};
-ghost use Rattle.pb_bytecode_program.specs.Transfer.{abstract_pop_int};
+ghost use Rattle.pb_bytecode_program.specs.Transfer.{abstract_pop_int, abstract_push, to_next_place};
 ghost use Rattle.pb_bytecode_program.specs.declared.domain.AbstractValue.{AbstractValue as domain};
-ghost use Rattle.pb_sorts.specs.declared.carrier.Carrier.{Carrier as carrier_type};
 ghost use Rattle.pb_bytecode_program.specs.declared.domain.AbstractValue.TheVariants as abstract;
 
 use crate::flow_error::FlowError;
@@ -28,8 +28,12 @@ impl AbstractState {
         requires { HasOrderedEnds value }
         ensures pushed { OnOk result (self.new
             ≡ record self.old { operands = value ∷ self.old.operands }) }
+        ensures flows { OnOk result ((q : ℕ)
+            → abstract_push q self.old self.old.operands value ≡ to_next_place q self.new) }
         ensures room { OnOk result (kinds.has_room self.old ≡ true) }
         ensures full { OnRefused result (kinds.has_room self.old ≡ false) }
+        ensures refused { OnRefused result ((q : ℕ)
+            → abstract_push q self.old self.old.operands value ≡ None) }
         ensures rule { IfRefused result (λ rule. rule ≡ AcceptanceRule.TooManyOperands) }
     {
         if self.operands.len() + usize::from(self.operands_below) >= MAX_OPERANDS {
@@ -53,10 +57,8 @@ impl AbstractState {
 
     /// Pops the topmost operand above the floor.
     pub fn pop(&mut self) -> Result<AbstractValue, AcceptanceRule>
-        ensures ok { IfOk result (λ v. self.old
-            ≡ record self.new { operands = v ∷ self.new.operands }) }
+        ensures ok { IfOk result (λ v. IsPopped self.old v self.new) }
         ensures ordered { IfOk result HasOrderedEnds }
-        ensures room { OnOk result (kinds.has_room self.new ≡ true) }
         ensures err { OnErr result (self.old.operands ≡ []) }
         ensures rule { IfErr result (λ rule. rule ≡ AcceptanceRule.MissingOperand) }
         ensures err_same { OnErr result (self.new ≡ self.old) }
@@ -69,11 +71,9 @@ impl AbstractState {
 
     /// Pops a number. After a refusal the operand may be gone: the state is of no more use.
     pub fn pop_int(&mut self) -> Result<Interval, AcceptanceRule>
-        ensures ok { IfOk result (λ i. self.old
-            ≡ record self.new { operands = abstract.Int i.low i.high ∷ self.new.operands }) }
+        ensures ok { IfOk result (λ i. IsPopped self.old (abstract.Int i.low i.high) self.new) }
         ensures err { OnErr result ((go : ℤ → ℤ → List domain → Flow)
             → abstract_pop_int self.old.operands go ≡ None) }
-        ensures room { OnOk result (kinds.has_room self.new ≡ true) }
         ensures rule { IfErr result (λ rule. rule ≡ named_at_top self.old.operands) }
     {
         match self.pop()? {
@@ -84,11 +84,9 @@ impl AbstractState {
 
     /// Pops a truth value. After a refusal the operand may be gone: the state is of no more use.
     pub fn pop_bool(&mut self) -> Result<(), AcceptanceRule>
-        ensures ok { OnOk result
-            (self.old ≡ record self.new { operands = abstract.Bool ∷ self.new.operands }) }
+        ensures ok { OnOk result (IsPopped self.old abstract.Bool self.new) }
         ensures err { OnErr result ((go : List domain → Flow)
             → abstract_pop_bool self.old.operands go ≡ None) }
-        ensures room { OnOk result (kinds.has_room self.new ≡ true) }
         ensures rule { IfErr result (λ rule. rule ≡ named_at_top self.old.operands) }
     {
         match self.pop()? {
@@ -174,32 +172,12 @@ impl AbstractState {
         let mut left = carriers.len();
         while left > 0 {
             left -= 1;
-            match self.pop_argument(carriers[left]) {
-                Ok(()) => {}
-                Err(rule) => return Err(rule),
+            let value = self.pop()?;
+            if !is_accepted(value, carriers[left]) {
+                return Err(AcceptanceRule::ArgumentOutside);
             }
         }
         Ok(())
-    }
-
-    // Pops an argument, which is one of the carrier.
-    fn pop_argument(&mut self, carrier: Carrier) -> Result<(), AcceptanceRule>
-        requires { 0 < length self.old.operands }
-        ensures one { OnOk result (length self.old.operands ≡ length self.new.operands + 1) }
-        ensures ok { OnOk result ((cs : List carrier_type) (go : List domain → Flow)
-            → abstract_pop_args (carrier ∷ cs) self.old.operands go
-            ≡ abstract_pop_args cs self.new.operands go) }
-        ensures err { OnErr result ((cs : List carrier_type) (go : List domain → Flow)
-            → abstract_pop_args (carrier ∷ cs) self.old.operands go ≡ None) }
-        ensures rule { IfErr result (λ rule. rule ≡ AcceptanceRule.ArgumentOutside) }
-        ensures same { self.new ≡ record self.old { operands = self.new.operands } }
-    {
-        let value = self.pop()?;
-        if is_accepted(value, carrier) {
-            Ok(())
-        } else {
-            Err(AcceptanceRule::ArgumentOutside)
-        }
     }
 }
 

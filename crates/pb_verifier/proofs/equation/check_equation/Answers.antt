@@ -3,7 +3,7 @@ use Rattle.std.proofs.lemmas.Result.{err_from_is_err_and}
 use Rattle.pb_bytecode_program.specs.Machine.{Program}
 use Rattle.pb_verifier_structure.specs.Views.{IsProgramOf}
 use Rattle.pb_verifier_structure.specs.declared.equation_code.EquationCode.{EquationCode}
-use Rattle.pb_verifier.specs.Programs.{program_in}
+use Rattle.pb_verifier.specs.Names.{program_in_module}
 use Rattle.pb_base.proofs.Faults.{if_fault, if_refused}
 use Rattle.pb_verifier.proofs.Steps.{where_ok}
 use Rattle.pb_verifier.proofs.Equations.{broken_structure, not_enough, enough, table_found, no_table}
@@ -11,7 +11,7 @@ use Rattle.pb_verifier.proofs.equation.check_equation.Goals as goal
 use Rattle.pb_verifier.proofs.equation.check_equation.Goals.{After-equation_count}
 
 abbrev program : After-equation_count → Program
-program c = program_in c.args.sorts.now c.args.callees.now c.args.equation.now
+program c = program_in_module c.args.checked.now
 
 abbrev code : After-equation_count → EquationCode
 code c = record { instructions = c.deref.result; parameters = c.deref-2.result; loops = c.deref-3.result; equations = c.equation_count.result }
@@ -42,10 +42,10 @@ pub returns-clause-accepted : goal.returns-clause-accepted
 returns-clause-accepted c =
     let at = (goal.at.returns-clause-accepted c).After-equation_count in
     where_ok c.pass.result
-    (λ e. table_found (program at) (c.in_ok-check_structure.ensures.ok (program at) (is_program at)) c.requires
+    (λ e. table_found (program at) (c.in_ok-check_structure.ensures.ok (program at) (is_program at)) c.args.checked.now.within_limits
     (enough (program at) c.are_enough.result (c.are_enough.ensures (program at) (is_program at)).0 c.if-not-are_enough.false) e) c.pass.ensures.passes
 
 pub returns-clause-refused : goal.returns-clause-refused
 returns-clause-refused c =
     let at = (goal.at.returns-clause-refused c).After-equation_count in
-    if_refused c.pass.result (λ fault e. no_table (program at) (c.in_ok-check_structure.ensures.ok (program at) (is_program at)) c.requires e) c.pass.ensures.refused
+    if_refused c.pass.result (λ fault e. no_table (program at) (c.in_ok-check_structure.ensures.ok (program at) (is_program at)) c.args.checked.now.within_limits e) c.pass.ensures.refused

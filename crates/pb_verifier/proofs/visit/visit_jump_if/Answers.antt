@@ -30,7 +30,7 @@ returns-in_err-hand_on-clause-refused c =
     (c.in_err-hand_on.ensures.err c.pop_bool.new.self (written c.args.table.now.items c.args.place c.pop_bool.new.self l)) in
     rw (r.1, r.2)
     (λ names p homes a b. flows_neither p c.args.place c.args.condition c.args.target homes c.args.table.now.items
-    c.in-Some.state c.pop_bool.new.self known c.in_ok-pop_bool.ensures.ok joined)
+    c.in-Some.state c.pop_bool.new.self known c.in_ok-pop_bool.ensures.ok.topmost joined)
 
 pub returns-in_err-merge-clause-refused : goal.returns-in_err-merge-clause-refused
 returns-in_err-merge-clause-refused c =
@@ -41,7 +41,7 @@ returns-in_err-merge-clause-refused c =
     (c.in_ok-hand_on.ensures.ok c.pop_bool.new.self (written c.args.table.now.items c.args.place c.pop_bool.new.self l)) in
     rw (r.1, r.2)
     (λ names p homes a b. flows_both p c.args.place c.args.condition c.args.target homes c.args.table.now.items
-    c.hand_on.new.table.items c.in-Some.state c.pop_bool.new.self None known c.in_ok-pop_bool.ensures.ok joined
+    c.hand_on.new.table.items c.in-Some.state c.pop_bool.new.self None known c.in_ok-pop_bool.ensures.ok.topmost joined
     (rw (c.from.ensures, c.in_ok-copy.ensures) at c.in_err-merge.ensures.err))
 
 pub returns-clause-ok : goal.returns-clause-ok
@@ -50,5 +50,6 @@ returns-clause-ok c = λ names p homes a b.
     let known = known_at c.args.table.now.items c.args.place c.index_mut.result.now c.in-Some.state l (sym c.index_mut.ensures.value) c.in-Some.is in
     let joined = rw (set_twice c.args.table.now.items c.args.place (Some c.pop_bool.new.self) None) at
     (c.in_ok-hand_on.ensures.ok c.pop_bool.new.self (written c.args.table.now.items c.args.place c.pop_bool.new.self l)) in
-    flows_both p c.args.place c.args.condition c.args.target homes c.args.table.now.items c.hand_on.new.table.items c.in-Some.state c.pop_bool.new.self _ known c.in_ok-pop_bool.ensures.ok joined
+    flows_both p c.args.place c.args.condition c.args.target homes c.args.table.now.items c.hand_on.new.table.items c.in-Some.state c.pop_bool.new.self _ known c.in_ok-pop_bool.ensures.ok.topmost
+    joined
     (rw (c.from.ensures, c.in_ok-copy.ensures) at c.in_ok-merge.ensures.ok)

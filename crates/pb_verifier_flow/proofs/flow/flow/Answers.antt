@@ -1,4 +1,4 @@
-use Rattle.std.proofs.Common.{rules, ◌≡◌, map, to_z, of_z, w32}
+use Rattle.std.proofs.Common.{rules, ◌≡◌, to_z, of_z, w32}
 use Rattle.pb_bytecode_program.specs.declared.instruction.Op.TheVariants as op
 use Rattle.pb_verifier_flow.proofs.Dispatch.{flows_to, fails, named, named_on}
 use Rattle.pb_verifier_flow.proofs.flow.flow.Goals as goal

@@ -1,5 +1,5 @@
 -- Each arm's instruction does what its function says.
-use Rattle.std.proofs.Common.{◌≡◌, map, of_z, rules, to_z, w64}
+use Rattle.std.proofs.Common.{◌≡◌, of_z, rules, to_z, w64}
 use Rattle.std.proofs.lemmas.Result.{err_from_is_err_and}
 use Rattle.pb_verifier_flow.proofs.Dispatch.{goes, goes_int, fails, fails_int, goes_on, fails_on, goes_enum, fails_enum, named, named_on, named_enum}
 use Rattle.pb_verifier_flow.proofs.flow.go_on.Goals as goal
@@ -7,7 +7,7 @@ use Rattle.pb_verifier_flow.proofs.flow.go_on.Goals as goal
 pub returns-in-PushInt-clause-flows : goal.returns-in-PushInt-clause-flows
 returns-in-PushInt-clause-flows c =
     let same : to_z w64 (of_z w64 c.in-PushInt.z) ≡ c.in-PushInt.z = search rules in
-    goes_int _ _ c.args.state.now _ c.args.op c.push.new.state c.push.result c.in-PushInt.is (rw same at c.push.ensures.flows)
+    goes_int _ _ c.args.state.now _ c.args.op c.push.new.self c.push.result c.in-PushInt.is (rw same at c.push.ensures.flows)
 
 pub returns-in-PushInt-clause-refused : goal.returns-in-PushInt-clause-refused
 returns-in-PushInt-clause-refused c =

@@ -22,10 +22,10 @@ instruction-op-requires c =
     stands_within c.requires.0 c.args.code.instructions.now c.loop-left.self c.loop-left.registers c.loop-left.left (c.loop-left.left - 1) c.args.self.now.slots.items
     (omega arith) c.requires.1.same_code.same_code (c.loop-left.invariant c.requires.0 c.requires.1)
 
-pub execute-requires-clause-ready : goal.execute-requires-clause-ready
-execute-requires-clause-ready c =
+pub execute-requires : goal.execute-requires
+execute-requires c =
     let can = c.requires.1 in
-    let i = read (goal.at.execute-requires-clause-ready c).In-loop-left c.requires.0 can c.instruction-op.result.now c.instruction-op.ensures in
+    let i = read (goal.at.execute-requires c).In-loop-left c.requires.0 can c.instruction-op.result.now c.instruction-op.ensures in
     let long = ap length can.same_code.same_code in
     let fit : Fits w64 (length c.args.code.instructions.now) = search rules in
     (c.requires.0, can.calls, can.same_code.same_loops, record { state = i.state; within = omega (arith, i.within); mirrors = i.mirrors; fine = i.fine; short = i.short })

@@ -8,7 +8,7 @@ use Rattle.pb_bytecode_program.specs.declared.instruction.Op.{Op}
 use Rattle.pb_bytecode.specs.Contents.{EquationContents}
 use Rattle.pb_bytecode.specs.Meaning.{program_of}
 use Rattle.pb_bytecode.specs.Views.{equation_contents}
-use Rattle.pb_machine.proofs.ModuleInstances.{IsRunOf, instance_at, equation_there, declared_at, values_within, can_run_at, meant}
+use Rattle.pb_machine.proofs.ModuleInstances.{IsRunOf, equation_there, declared_at, values_within, can_run_at, meant}
 use Rattle.pb_machine.specs.Output.{CanRun, IsOutput}
 use Rattle.pb_machine.proofs.Runs.{few_written}
 use Rattle.pb_machine.proofs.machine.Machine.run_kept.Goals as goal
@@ -16,18 +16,15 @@ use Rattle.pb_machine.proofs.machine.Machine.run_kept.Goals.{After-index-equatio
 
 -- the instance that is loaded, and its equation
 abbrev loaded : After-index-equation → Instance
-loaded c = record { equation = c.equation_of-owner.result; values = c.load.new.self.slots.items }
+loaded c = record { equation = c.in_ok-owner.owner; values = c.load.new.self.slots.items }
 
 abbrev held : After-index-equation → EquationContents
 held c = equation_contents c.index-equation.result.now
 
 is_run : (c : After-index-equation) → IsRunOf c.args.verified.now c.args.number (loaded c) (held c)
 is_run c =
-    let k = c.equation_of-owner.result in
-    let at = subst (λ (x : List (List Carrier)). slice_get (instances (carriers_of x)) c.args.number ≡ Some (loaded c))
-    c.layout-layout.ensures
-    (instance_at c.layout-layout.result.now k c.args.number c.first.result c.carriers.result.now c.load.new.self.slots.items
-    c.equation_of-owner.ensures.owner c.first.ensures c.carriers.ensures.list c.in_ok-load.ensures) in
+    let k = c.in_ok-owner.owner in
+    let at = subst (λ (x : List (List Carrier)). slice_get (instances (carriers_of x)) c.args.number ≡ Some (loaded c)) c.layout-layout.ensures c.in_ok-owner.ensures in
     let there = equation_there c.args.verified.now c.module.result.now c.args.number (loaded c) c.module.ensures at in
     record {
       numbered = at;
@@ -35,13 +32,20 @@ is_run c =
           (slice_get-get_or c.module.result.now.equations.items k c.index-equation.result.now there ∙ ap Some (sym c.index-equation.ensures));
     }
 
+pub index-equation-requires : goal.index-equation-requires
+index-equation-requires c =
+    let i : Instance = record { equation = c.in_ok-owner.owner; values = c.load.new.self.slots.items } in
+    let at = subst (λ (x : List (List Carrier)). slice_get (instances (carriers_of x)) c.args.number ≡ Some i) c.layout-layout.ensures c.in_ok-owner.ensures in
+    let there = equation_there c.args.verified.now c.module.result.now c.args.number i c.module.ensures at in
+    omega (arith, there, c.module.result.now.equations.ok.0)
+
 -- so its code can be run
 can_run : (c : After-index-equation) (code : List Op) (loops : List Carrier) → code ≡ (held c).code → loops ≡ (held c).loops
     → CanRun (program_of c.args.verified.now (held c)) c.layout-layout.result.now code loops (held c).steps (held c).tokens c.load.new.self.slots.items
 can_run c code loops same_code same_loops =
     let h = is_run c in
     can_run_at c.args.verified.now c.args.number (loaded c) (held c) h.numbered h.declared c.layout-layout.result.now code loops c.load.new.self.slots.items
-    c.layout-layout.ensures (c.runs_safely.ensures.safe c.equation_of-owner.result (held c) h.declared) same_code same_loops refl
+    c.layout-layout.ensures (c.runs_safely.ensures.safe c.in_ok-owner.owner (held c) h.declared) same_code same_loops refl
 
 pub run_code-requires : goal.run_code-requires
 run_code-requires c =
