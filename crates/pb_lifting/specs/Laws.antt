@@ -7,7 +7,7 @@ use Rattle.pb_game.specs.Certificates.{IsProgress}
 use Rattle.pb_lifting.specs.Measures.{top_of, counts_of, asked, least_rank, IsMeasure, IsFixed}
 use Rattle.pb_lifting.specs.Measures.{IsLeastMeasure}
 use Rattle.pb_lifting.specs.declared.view.Key.{Key}
-use Rattle.pb_lifting.specs.declared.view.View.{View}
+use Rattle.pb_lifting.specs.declared.view.RankView.{RankView}
 use Rattle.pb_lifting.specs.Rule.{At, fresh_view, AreMeasuresKept}
 use Rattle.pb_lifting.specs.Sweep.{AreWords}
 
@@ -33,6 +33,6 @@ FixedWordsAreLeast = (g : Game) (player : Player) (words : List ℕ) → AreWord
 -- where the seat of each worker has made no step, all words are 0
 abbrev pub UnknownWordsAreZero : Type 0
 UnknownWordsAreZero =
-    (key : Key) (words : List ℕ) (views : List View) → AreMeasuresKept key words views
+    (key : Key) (words : List ℕ) (views : List RankView) → AreMeasuresKept key words views
     → ((k : ℕ) → k < key.workers → (id : ℕ) × At views id (fresh_view key k))
     → (n : ℕ) → slice_index words n ≡ 0

@@ -1,22 +1,23 @@
 -- What contracts say of a table and its seats.
-use Rattle.std.specs.Prelude.{◌≡◌, ℕ, ◌+◌, ◌≤◌, List, length, Option, Some, slice_get, slice_index}
+use Rattle.std.specs.Prelude.{◌≡◌, ℕ, ◌+◌, ◌<◌, ◌≤◌, List, [], length, Option, None, Some, slice_get}
+use Rattle.std.specs.Prelude.{slice_index}
 use Rattle.atomic_table.specs.Seated.{TableId}
 use Rattle.pb_fixpoint_trees.specs.declared.player.Player.{Player}
 use Rattle.pb_game.specs.declared.Game.{Game}
-use Rattle.pb_game.specs.Games.{successors_of}
+use Rattle.pb_game.specs.Games.{vertex_count, successors_of}
 use Rattle.pb_exploration_words.specs.declared.seat.Seat.{Seat}
 use Rattle.pb_exploration_words.specs.Seats as seats
 use Rattle.pb_lifting.specs.declared.view.Key.{Key}
-use Rattle.pb_lifting.specs.declared.view.View.{View}
+use Rattle.pb_lifting.specs.declared.view.RankView.{RankView}
 use Rattle.pb_lifting.specs.declared.ranks.Ranks.{Ranks}
 use Rattle.pb_lifting.specs.Measures.{least_rank}
-use Rattle.pb_lifting.specs.Rule.{known_of, fresh_view}
+use Rattle.pb_lifting.specs.Rule.{known_of, fresh_view, KnowsAsMuch, Stepped}
 
 -- a seat whose view has a rank for each word
 abbrev pub LiftSeat : Type 0
-LiftSeat = Seat View (record { marks = λ v. v.known })
+LiftSeat = Seat RankView (record { marks = λ v. v.known })
 
-abbrev pub lift_view : LiftSeat → View
+abbrev pub lift_view : LiftSeat → RankView
 lift_view s = seats.view_of s
 
 -- what the table was told when it was made
@@ -49,16 +50,53 @@ known_by s n = known_of (lift_view s) n
 abbrev pub IsBelow : LiftSeat → List ℕ → Type 0
 IsBelow s words = (n : ℕ) → known_by s n ≤ slice_index words n
 
+-- a table, and what it was told
+abbrev pub Origin : Type 0
+Origin = TableId × Option Key
+
+-- no table has it
+abbrev pub no_origin : Origin
+no_origin = (
+  record {
+    words = 0;
+    slots = 0;
+    views_name = 0;
+    atom = 0;
+    block = 0;
+    offset = 0;
+    slot_names = [];
+  },
+  None,
+)
+
 -- the table that made the seat, and what that was told
-abbrev pub origin_of : LiftSeat → TableId × Option Key
+abbrev pub origin_of : LiftSeat → Origin
 origin_of s = (seats.table_of s, (lift_view s).key)
+
+abbrev pub origin_at : Ranks → Origin
+origin_at t = (t.words.inner.shared.table_id, Some (key_at t))
 
 -- the seat was made by this table
 abbrev pub IsSeatOf : Ranks → LiftSeat → Type 0
-IsSeatOf t s = origin_of s ≡ (t.words.inner.shared.table_id, Some (key_at t))
+IsSeatOf t s = origin_of s ≡ origin_at t
 
 abbrev pub IsSameSeat : LiftSeat → LiftSeat → Type 0
 IsSameSeat old new = origin_of new ≡ origin_of old
+
+-- the seat is the table's, and v is a vertex of its game
+pub record MayStepOn (t : Ranks) (s : LiftSeat) (v : ℕ) : Type 0 where
+  pub seat : IsSeatOf t s
+  pub vertex : v < vertex_count (game_at t)
+
+-- a step of the seat on v, which found this word and raised it to k
+pub record IsStepOn (old : LiftSeat) (v found k : ℕ) (new : LiftSeat) : Type 0 where
+  pub same : IsSameSeat old new
+  pub view : Stepped (lift_view old) v found k (lift_view new)
+
+-- the seat after some steps: it knows as much as before
+pub record IsSeatAfter (old new : LiftSeat) : Type 0 where
+  pub same : IsSameSeat old new
+  pub more : KnowsAsMuch (lift_view old) (lift_view new)
 
 -- how many word steps the seat made
 abbrev pub steps_of : LiftSeat → ℕ
@@ -84,9 +122,12 @@ abbrev pub AreFresh : Ranks → List LiftSeat → Type 0
 AreFresh t seats = (k : ℕ) (s : LiftSeat) → slice_get seats k ≡ Some s →
     lift_view s ≡ fresh_view (key_at t) k
 
--- the table is laid for this game and this player, with these new seats of all its numbers
-pub record IsLaid (g : Game) (player : Player) (t : Ranks) (new : List LiftSeat) : Type 0 where
+-- The table is laid for this game, this player and so many workers, with these new seats of all
+-- its numbers.
+pub record IsLaid (g : Game) (player : Player) (count : ℕ) (t : Ranks) (new : List LiftSeat)
+    : Type 0 where
   pub table : IsTableOf g player t
+  pub workers : (workers_at t ≡ count) × (length new ≡ count)
   pub of_table : AreLiftSeats t new
   pub numbered : seats.AreNumbered new
   pub zeros : AreFresh t new

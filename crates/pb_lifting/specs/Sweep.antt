@@ -33,6 +33,11 @@ abbrev pub IsSweptAt : Game → Player → ℕ → Bool → List ℕ → List �
 IsSweptAt g player v raised old new =
     MatchBool raised (Rises g player old new) (IsFixedAt g player v old new)
 
+-- the words after lifts: they may be lifted further, and came no farther from top
+pub record AreLifted (g : Game) (player : Player) (old new : List ℕ) : Type 0 where
+  pub words : AreWords g player new
+  pub nearer : slack (top_of g player) new ≤ slack (top_of g player) old
+
 -- what a lift of each word did, and whether it raised one
 abbrev pub IsSweptOnce : Game → Player → Bool → List ℕ → List ℕ → Type 0
 IsSweptOnce g player raised old new =

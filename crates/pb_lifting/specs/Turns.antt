@@ -4,6 +4,8 @@ use Rattle.pb_fixpoint_trees.specs.declared.player.Player.{Player}
 use Rattle.pb_game.specs.declared.Game.{Game}
 use Rattle.pb_lifting.specs.declared.measured.Measured.{Measured}
 use Rattle.pb_lifting.specs.declared.open_table.OpenTable.{OpenTable}
+use Rattle.pb_lifting.specs.declared.open_table.Job.{Job}
+use Rattle.pb_lifting.specs.declared.open_table.Job.TheVariants.{Lift, Concede}
 use Rattle.pb_lifting.specs.declared.lifting.InTurn.{InTurn}
 use Rattle.pb_lifting.specs.declared.lifting.Measures.{Measures}
 use Rattle.pb_lifting.specs.Measures.{IsMeasure, IsLeastMeasure}
@@ -20,6 +22,11 @@ pub record IsOpenFor (g : Game) (player : Player) (t : OpenTable) : Type 0 where
 pub record IsOpponents (g : Game) (player : Player) (m : Measured) : Type 0 where
   pub measured : AreMeasured g (opponent_of player) m
   pub measure : IsMeasure g (opponent_of player) m.words.items
+
+-- a job for a player's table: what a worker concedes there is by a measure of the opponent
+abbrev pub IsJobAt : Game → Player → Job → Type 0
+IsJobAt g player (Lift turn) = Unit {0}
+IsJobAt g player (Concede m) = IsOpponents g player m.now
 
 -- the two tables are those of a player and of its opponent
 pub record AreInTurn (g : Game) (t : InTurn) : Type 0 where

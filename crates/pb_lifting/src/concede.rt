@@ -3,41 +3,41 @@
 ghost use Rattle.std.specs.Prelude.{◌<◌, ◌↔◌, IsTrue, slice_index};
 ghost use Rattle.pb_game.specs.Games.{vertex_count};
 ghost use Rattle.pb_lifting.specs.Measures.{top_of};
-ghost use Rattle.pb_lifting.specs.Seats.{player_at, IsSeatOf, IsSameSeat};
+ghost use Rattle.pb_lifting.specs.Seats.{player_at};
 ghost use Rattle.pb_lifting.specs.Solutions.{AreMeasured};
 ghost use Rattle.pb_lifting.specs.Turns.{IsOpponents};
 
 use crate::measured::Measured;
 use crate::ranking::{RankedVertex, Ranking};
-use crate::ranks::LiftSeat;
-use crate::work::LiftSite;
+use crate::work::{LiftSite, Lifter, TableBrand};
 use pb_exploration_words::Gate;
 
 /// Concedes each of the worker's vertices that the opponent wins by a measure, with the gate's
 /// calls round it.
-pub(crate) fn concede_part<G: Gate>(
-    site: &LiftSite<'_, G>,
+pub(crate) fn concede_part<B: TableBrand, G: Gate>(
+    site: &LiftSite<'_, B, G>,
     opponents: &Measured,
-    seat: &mut LiftSeat,
+    lifter: &mut Lifter<B>,
 )
-    requires seat { IsSeatOf site.now.ranks.now seat.old }
-    requires opponents { IsOpponents site.now.lifting.now.game.now
-        (player_at site.now.ranks.now) opponents.now }
-    ensures { IsSameSeat seat.old seat.new }
+    requires { IsOpponents site.now.lifting.now.game.now (player_at site.now.ranks.now)
+        opponents.now }
 {
-    let (first, end) = site.lifting.part(seat.worker);
+    let (first, end) = site.lifting.part(lifter.seat.worker);
     for v in first..end {
-        concede_one(site, opponents, seat, v);
+        concede_one(site, opponents, lifter, v);
     }
 }
 
 /// Concedes a vertex, if the opponent wins it by the measure.
-fn concede_one<G: Gate>(site: &LiftSite<'_, G>, opponents: &Measured, seat: &mut LiftSeat, v: u32)
-    requires seat { IsSeatOf site.now.ranks.now seat.old }
-    requires opponents { IsOpponents site.now.lifting.now.game.now
-        (player_at site.now.ranks.now) opponents.now }
+fn concede_one<B: TableBrand, G: Gate>(
+    site: &LiftSite<'_, B, G>,
+    opponents: &Measured,
+    lifter: &mut Lifter<B>,
+    v: u32,
+)
+    requires opponents { IsOpponents site.now.lifting.now.game.now (player_at site.now.ranks.now)
+        opponents.now }
     requires vertex { v < vertex_count site.now.lifting.now.game.now }
-    ensures { IsSameSeat seat.old seat.new }
 {
     let game = site.lifting.game;
     let ranks = site.ranks;
@@ -57,9 +57,10 @@ fn concede_one<G: Gate>(site: &LiftSite<'_, G>, opponents: &Measured, seat: &mut
         player: ranks.player,
         scale: &ranks.scale,
     };
-    site.lifting.gate.enter(seat.worker, v);
-    ranks.raise(seat, v, ranking.top());
-    site.lifting.gate.answered(seat.worker, v, true);
+    let worker = lifter.seat.worker;
+    site.lifting.gate.enter(worker, v);
+    ranks.raise(&mut lifter.seat, v, ranking.top());
+    site.lifting.gate.answered(worker, v, true);
 }
 
 /// Whether a player wins a vertex by its measure.

@@ -16,14 +16,16 @@ ghost use Rattle.pb_lifting.specs.Turns.{IsLeastMeasured, AreLeastMeasured};
 
 use crate::lift_error::{LiftError, TooManyRanks};
 use crate::measured::Measured;
-use crate::open_table::{OpenTable, concede_together, work_together};
+use crate::open_table::{Job, OpenTable, work_together};
 use crate::scale::Scales;
 use crate::solution::solution_of;
 use crate::turn::Turn;
-use crate::work::{LiftSite, Lifting};
+use crate::work::Lifting;
+use crate::worker_count::WorkerCount;
 use pb_exploration_words::Gate;
 use pb_game::{Game, Player, Solution};
 use std::alloc::{AllocError, Global};
+use std::marker::Brand;
 use std::thread::Threads;
 
 /// How many passes over its vertices a worker makes in the first turn.
@@ -53,7 +55,7 @@ pub fn lift<G: Gate + Sync, R: Threads + Sync>(
     };
     let lifting = Lifting {
         game,
-        workers,
+        workers: WorkerCount { number: workers },
         gate,
     };
     let measures = lift_both(rt, alloc, &lifting, &scales)?;
@@ -133,7 +135,17 @@ fn lift_one<G: Gate + Sync, R: Threads + Sync>(
     let mut passes = FIRST_PASSES;
     for _turn in 0..u64::MAX {
         let turn = Turn::of(passes);
-        tables = take_turn(rt, lifting, &turn, tables)?;
+        let InTurn {
+            player,
+            first: OpenTable { ranks, seats },
+            second,
+        } = tables;
+        let seats = work_together::<Brand, G, R>(rt, lifting, &ranks, &Job::Lift(&turn), seats)?;
+        tables = InTurn {
+            player,
+            first: OpenTable { ranks, seats },
+            second,
+        };
         if turn.has_settled() {
             break;
         }
@@ -141,33 +153,6 @@ fn lift_one<G: Gate + Sync, R: Threads + Sync>(
         passes = passes.saturating_mul(2);
     }
     Ok(tables)
-}
-
-/// The workers lift the first table.
-fn take_turn<G: Gate + Sync, R: Threads + Sync>(
-    rt: &R,
-    lifting: &Lifting<'_, G>,
-    turn: &Turn,
-    tables: InTurn,
-) -> Result<InTurn, AllocError>
-    requires { AreInTurn lifting.now.game.now tables }
-    ensures { IfOk result (AreInTurn lifting.now.game.now) }
-{
-    let InTurn {
-        player,
-        first: OpenTable { ranks, seats },
-        second,
-    } = tables;
-    let site = LiftSite {
-        lifting,
-        ranks: &ranks,
-    };
-    let seats = work_together(rt, &site, turn, seats)?;
-    Ok(InTurn {
-        player,
-        first: OpenTable { ranks, seats },
-        second,
-    })
 }
 
 /// The same tables, the other one first.
@@ -200,11 +185,9 @@ fn lift_rest<G: Gate + Sync, R: Threads + Sync>(
     ensures { IfOk result (IsOpenFor lifting.now.game.now player) }
 {
     let OpenTable { ranks, seats } = table;
-    let site = LiftSite {
-        lifting,
-        ranks: &ranks,
-    };
-    let seats = concede_together(rt, &site, opponents, seats)?;
-    let seats = work_together(rt, &site, &Turn::of(u64::MAX), seats)?;
+    let concede = Job::Concede(opponents);
+    let seats = work_together::<Brand, G, R>(rt, lifting, &ranks, &concede, seats)?;
+    let turn = Turn::of(u64::MAX);
+    let seats = work_together::<Brand, G, R>(rt, lifting, &ranks, &Job::Lift(&turn), seats)?;
     Ok(OpenTable { ranks, seats })
 }

@@ -1,8 +1,8 @@
 //! A player's table while its workers lift it, and what is left when they have done.
-ghost use Rattle.std.specs.Prelude.{IfOk};
+ghost use Rattle.std.specs.Prelude.{◌≡◌, IfOk};
 ghost use Rattle.pb_lifting.specs.Scales.{IsScaleOf};
-ghost use Rattle.pb_lifting.specs.Seats.{player_at, IsSeatOf, IsSameSeat, AreLiftSeats};
-ghost use Rattle.pb_lifting.specs.Turns.{IsOpenFor, IsOpponents, IsLeastMeasured};
+ghost use Rattle.pb_lifting.specs.Seats.{AreLiftSeats, game_at, origin_at, origin_of, player_at};
+ghost use Rattle.pb_lifting.specs.Turns.{IsJobAt, IsOpenFor, IsLeastMeasured};
 
 use crate::concede::concede_part;
 use crate::measured::Measured;
@@ -11,10 +11,11 @@ use crate::ranks::{LiftSeat, Ranks};
 use crate::scale::Scale;
 use crate::sweep::sweep;
 use crate::turn::Turn;
-use crate::work::{LiftSite, Lifting, work};
+use crate::work::{LiftSite, Lifter, Lifting, TableBrand, work};
 use pb_exploration_words::Gate;
 use pb_game::{Game, Player};
 use std::alloc::{AllocError, Global};
+use std::marker::PhantomData;
 use std::thread;
 use std::thread::Threads;
 
@@ -64,55 +65,58 @@ impl OpenTable {
     }
 }
 
-/// Each worker takes its turn, in a thread of its own where one can be made.
-pub(crate) fn work_together<G: Gate + Sync, R: Threads + Sync>(
-    rt: &R,
-    site: &LiftSite<'_, G>,
-    turn: &Turn,
-    seats: Vec<LiftSeat>,
-) -> Result<Vec<LiftSeat>, AllocError>
-    requires { AreLiftSeats site.now.ranks.now seats.items }
-    ensures { IfOk result (λ v. AreLiftSeats site.now.ranks.now v.items) }
-{
-    let done = thread::map_vec(
-        rt,
-        seats,
-        &|seat: LiftSeat| -> LiftSeat
-            requires { IsSeatOf site.now.ranks.now seat }
-            ensures { IsSameSeat seat result }
-        {
-            let mut seat = seat;
-            work(site, turn, &mut seat);
-            seat
-        },
-    )?;
-    Ok(done)
+/// What each worker does at a table.
+#[derive(Drop)]
+pub(crate) enum Job<'a> {
+    /// It takes its turn.
+    Lift(&'a Turn),
+    /// It concedes the vertices that the opponent wins by this measure.
+    Concede(&'a Measured),
 }
 
-/// Each worker concedes the vertices that the opponent wins by a measure, in a thread of its own
-/// where one can be made.
-pub(crate) fn concede_together<G: Gate + Sync, R: Threads + Sync>(
+/// A worker does its job.
+fn do_job<B: TableBrand, G: Gate>(site: &LiftSite<'_, B, G>, job: &Job<'_>, lifter: &mut Lifter<B>)
+    requires { IsJobAt site.now.lifting.now.game.now (player_at site.now.ranks.now) job.now }
+{
+    match job {
+        Job::Lift(turn) => work(site, turn, lifter),
+        Job::Concede(opponents) => concede_part(site, opponents, lifter),
+    }
+}
+
+/// Each worker does its job, in a thread of its own where one can be made.
+pub(crate) fn work_together<B: TableBrand + Send + Sync, G: Gate + Sync, R: Threads + Sync>(
     rt: &R,
-    site: &LiftSite<'_, G>,
-    opponents: &Measured,
+    lifting: &Lifting<'_, G>,
+    ranks: &Ranks,
+    job: &Job<'_>,
     seats: Vec<LiftSeat>,
 ) -> Result<Vec<LiftSeat>, AllocError>
-    requires seats { AreLiftSeats site.now.ranks.now seats.items }
-    requires opponents { IsOpponents site.now.lifting.now.game.now
-        (player_at site.now.ranks.now) opponents.now }
-    ensures { IfOk result (λ v. AreLiftSeats site.now.ranks.now v.items) }
+    requires game { lifting.now.game.now ≡ game_at ranks.now }
+    requires table { origin_at ranks.now ≡ B.origin }
+    requires job { IsJobAt lifting.now.game.now (player_at ranks.now) job.now }
+    requires seats { AreLiftSeats ranks.now seats.items }
+    ensures { IfOk result (λ v. AreLiftSeats ranks.now v.items) }
 {
+    let site = &LiftSite {
+        lifting,
+        ranks,
+        marker: PhantomData::<B>,
+    };
     let done = thread::map_vec(
         rt,
         seats,
         &|seat: LiftSeat| -> LiftSeat
-            requires { IsSeatOf site.now.ranks.now seat
-                × IsOpponents site.now.lifting.now.game.now (player_at site.now.ranks.now)
-                opponents.now }
-            ensures { IsSameSeat seat result }
+            requires { (origin_of seat ≡ B.origin) × IsJobAt site.now.lifting.now.game.now
+                (player_at site.now.ranks.now) job.now }
+            ensures { origin_of result ≡ B.origin }
         {
-            let mut seat = seat;
-            concede_part(site, opponents, &mut seat);
+            let mut lifter = Lifter {
+                seat,
+                marker: PhantomData::<B>,
+            };
+            do_job(site, job, &mut lifter);
+            let Lifter { seat, .. } = lifter;
             seat
         },
     )?;

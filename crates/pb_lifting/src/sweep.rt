@@ -1,8 +1,8 @@
 //! Lifting by one thread, until no lift raises a word.
-ghost use Rattle.std.specs.Prelude.{◌≡◌, ◌≤◌, length};
+ghost use Rattle.std.specs.Prelude.{◌≡◌, length};
 ghost use Rattle.pb_game.specs.Games.{vertex_count};
-ghost use Rattle.pb_lifting.specs.Measures.{least_rank, top_of, IsFixed, IsLeastMeasure};
-ghost use Rattle.pb_lifting.specs.Sweep.{AreWords, IsSweptAt, IsSweptOnce, slack};
+ghost use Rattle.pb_lifting.specs.Measures.{least_rank, IsFixed, IsLeastMeasure};
+ghost use Rattle.pb_lifting.specs.Sweep.{AreLifted, AreWords, IsSweptAt, IsSweptOnce};
 
 use crate::ranking::{RankedVertex, Ranking};
 use crate::scale::{better_rank, rank_before_successors};
@@ -64,9 +64,7 @@ fn sweep_pass(ranking: &Ranking<'_>, words: &mut Vec<u64>) -> bool
 /// whose numbers rise.
 fn sweep_down(ranking: &Ranking<'_>, words: &mut Vec<u64>)
     requires { AreWords ranking.now.game.now ranking.now.player words.old.items }
-    ensures words { AreWords ranking.now.game.now ranking.now.player words.new.items }
-    ensures kept { slack (top_of ranking.now.game.now ranking.now.player) words.new.items
-        ≤ slack (top_of ranking.now.game.now ranking.now.player) words.old.items }
+    ensures { AreLifted ranking.now.game.now ranking.now.player words.old.items words.new.items }
 {
     let mut v = ranking.game.len();
     while v > 0 {

@@ -1,13 +1,9 @@
 use Rattle.std.proofs.Common.{◌<◌, refl, sym, subst}
 use Rattle.std.specs.Prelude.{slice_index}
-use Rattle.pb_game.specs.Games.{vertex_count}
 use Rattle.pb_lifting.specs.Measures.{top_of, IsWithinAll}
 use Rattle.pb_lifting.specs.Seats.{player_at}
 use Rattle.pb_lifting.proofs.Winners.{opponents_within}
 use Rattle.pb_lifting.proofs.concede.concede_one.Goals as goal
-
-pub raise-requires-clause-vertex : goal.raise-requires-clause-vertex
-raise-requires-clause-vertex g c = subst (λ x. c.args.v < vertex_count x) c.args.site.now.same_game c.requires.vertex
 
 pub raise-requires-clause-within : goal.raise-requires-clause-within
 raise-requires-clause-within g c =
