@@ -10,11 +10,14 @@ use Rattle.std.proofs.lemmas.List.Sorted.{IsPermutation-trans, IsPermutation-app
 use Rattle.std.proofs.lemmas.Map.Keys.{IsDistinct-from_apart, apart_from_distinct}
 use Rattle.pb_game.specs.declared.Game.{Game}
 use Rattle.pb_game.specs.Games.{vertex_count}
+use Rattle.pb_game.specs.declared.certificate.Solution.{Solution}
 use Rattle.pb_game.proofs.Membership.{contains_at, contains_place}
 use Rattle.pb_zielonka.specs.declared.attractor.Attractor.{Attractor}
-use Rattle.pb_zielonka.specs.declared.scopes.Standing.{Standing}
-use Rattle.pb_zielonka.specs.Regions.{IsIn, ListsRegion, AreVertices}
-use Rattle.pb_zielonka.specs.Attractors.{IsWithout, IsCut, IsCutBy, ListsAttracted}
+use Rattle.pb_zielonka.specs.declared.scopes.Workspace.{Workspace}
+use Rattle.pb_game.specs.Solutions.{HasLengths}
+use Rattle.pb_zielonka.specs.Regions.{IsIn, IsSubgame, ListsRegion, AreVertices}
+use Rattle.pb_zielonka.specs.Attractors.{IsBlank, IsWithout, IsCut, IsCutBy, ListsAttracted}
+use Rattle.pb_zielonka.specs.Workspaces.{IsReadyToAttract, LeavesFirst, IsReadyAgain}
 use Rattle.pb_zielonka.proofs.LevelLemmas.{in_below, in_or_out, unranked_if}
 use Rattle.pb_zielonka.proofs.Lists.{listed_or_not, lists_permuted}
 
@@ -26,9 +29,6 @@ list_below {region} {list} {n} size l k h =
 -- so it is a vertex
 pub list_vertices : (g : Game) {region : List Bool} {list : List ℕ} → length region ≡ vertex_count g → ListsRegion region list → AreVertices g list
 list_vertices g size l = list_below size l
-
-pub standing_vertices : (standing : Standing) (list : List ℕ) → ListsRegion standing.region.now list → AreVertices standing.game.now list
-standing_vertices standing list l = list_vertices standing.game.now standing.sized l
 
 -- what isn't listed was not attracted
 pub unlisted_unranked : {g : Game} {a : Attractor} {list : List ℕ} (v : ℕ) → ListsAttracted g a list → (Contains list v → ⊥) → get_or a.rank.items v 0 ≡ 0
@@ -182,6 +182,31 @@ pub record IsLevelList (left : List Bool) (initial list : List ℕ) (n : ℕ) : 
   pub whole : IsPermutation initial list
   pub within : n ≤ length list
   pub listed : ListsRegion left (take n list)
+
+-- as an attractor leaves it
+pub level_list : {g : Game} {space : Workspace} {before list : List ℕ} {left : ℕ} {s : Solution} → LeavesFirst g before space list left s →
+    IsLevelList space.region.items before list left
+level_list l = record { whole = l.permuted; within = l.within; listed = l.ready.listed }
+
+-- what is ready is so with another list of the region and another solution
+pub ready_with : {g : Game} {space : Workspace} {list list' : List ℕ} {s s' : Solution} → IsReadyToAttract g space list s → ListsRegion space.region.items list' →
+    HasLengths g s' → IsReadyToAttract g space list' s'
+ready_with r listed lengths = record { subgame = r.subgame; listed = listed; blank = r.blank; sized = r.sized; lengths = lengths }
+
+-- and again once the region is as before, and listed in another order
+pub ready_again : {g : Game} {old new : Workspace} {before list : List ℕ} {s s' : Solution} → IsReadyToAttract g old before s → new.region.items ≡ old.region.items →
+    IsPermutation before list → IsBlank (vertex_count g) new.attractor → length new.kept.items ≡ vertex_count g → HasLengths g s' → IsReadyAgain g old before new list s'
+ready_again {g} {old} {new} {before} {list} r back permuted blank sized lengths = record {
+  region = back;
+  permuted = permuted;
+  ready = record {
+    subgame = subst (λ (x : List Bool). IsSubgame g x) (sym back) r.subgame;
+    listed = subst (λ (x : List Bool). ListsRegion x list) (sym back) (lists_permuted permuted r.listed);
+    blank = blank;
+    sized = sized;
+    lengths = lengths;
+  };
+}
 
 -- it stays one when the first part is put into another order and cut
 pub list_cut : {left rest : List Bool} {initial xs ys : List ℕ} {n m : ℕ} → IsLevelList left initial xs n → IsPermutation (take n xs) ys →

@@ -37,13 +37,13 @@ AreWonOn g left kept s player top =
     (v : ℕ) → IsIn left v → IsIn kept v → priority_of g v ≢ top
     → IsWonOn g left kept s player top v
 
--- what is kept has choices, where the player moves
-abbrev pub HasChoices : Standing → List Bool → Type 0
-HasChoices standing kept =
-    (v : ℕ) → IsIn standing.region.now v → IsIn kept v
-    → priority_of standing.game.now v ≢ standing.top
-    → owner_of standing.game.now v ≡ standing.player
-    → choice_of standing.solution.now v < vertex_count standing.game.now
+-- each vertex has a mark, and what is kept has choices, where the player moves
+pub record HasChoices (standing : Standing) (kept : List Bool) : Type 0 where
+  pub size : length kept ≡ vertex_count standing.game.now
+  pub choice : (v : ℕ) → IsIn standing.region.now v → IsIn kept v
+      → priority_of standing.game.now v ≢ standing.top
+      → owner_of standing.game.now v ≡ standing.player
+      → choice_of standing.solution.now v < vertex_count standing.game.now
 
 -- nothing more is kept
 abbrev pub IsFewer : List Bool → List Bool → Type 0
@@ -62,6 +62,11 @@ pub record IsSiftedOn (standing : Standing) (kept : List Bool) (dropped : List �
   pub listed : (v : ℕ) → IsIn standing.region.now v → ¬ IsIn kept v
       → priority_of standing.game.now v ≢ standing.top → Contains dropped v
   pub vertices : (v : ℕ) → Contains dropped v → v < vertex_count standing.game.now
+
+-- a step that drops vertices: what is kept then is sifted, and no more than before
+pub record Sifts (standing : Standing) (old new : List Bool) (dropped : List ℕ) : Type 0 where
+  pub sifted : IsSiftedOn standing new dropped
+  pub fewer : IsFewer old new
 
 -- no kept vertex of the region stands on u
 abbrev pub IsClearedOn : Standing → List Bool → ℕ → Type 0

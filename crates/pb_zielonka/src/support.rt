@@ -8,9 +8,9 @@ ghost use Rattle.std.specs.Prelude.{◌≡◌, ◌≢◌, ℕ, ◌+◌, ◌<◌,
 ghost use Rattle.std.specs.Prelude.{Contains, IsTrue};
 ghost use Rattle.pb_game.specs.Games.{vertex_count, owner_of, priority_of};
 ghost use Rattle.pb_game.specs.Solutions.{choice_of, count_of};
-ghost use Rattle.pb_zielonka.specs.Regions.{IsIn, AreVertices, ListsRegion, IsSelection};
+ghost use Rattle.pb_zielonka.specs.Regions.{IsIn, ListsRegion, IsSelection};
 ghost use Rattle.pb_zielonka.specs.Regions.{region_count};
-ghost use Rattle.pb_zielonka.specs.Kept.{AreWonOn, IsSiftedOn, IsClearedOn, IsFewer, IsClosedOn};
+ghost use Rattle.pb_zielonka.specs.Kept.{AreWonOn, IsSiftedOn, IsClearedOn, IsClosedOn, Sifts};
 ghost use Rattle.pb_zielonka.specs.Kept.{IsTargetOn, IsHeightOn, HasChoices};
 
 use crate::scopes::{MAX_HEIGHT, Standing};
@@ -57,18 +57,15 @@ fn stands(standing: &Standing<'_>, kept: &[bool], v: u32) -> bool
 /// what isn't kept then, but for the greatest priority.
 fn drop_fallen(
     standing: &Standing<'_>,
-    list: &[u32],
     kept: &mut [bool],
     dropped: &mut Vec<u32>,
 ) -> Result<(), AllocError>
-    requires listed { ListsRegion standing.now.region.now list.now }
-    requires size { length kept.old ≡ vertex_count standing.now.game.now }
+    requires listed { ListsRegion standing.now.region.now standing.now.list.now }
     requires choices { HasChoices standing.now kept.old }
-    ensures sifted { OnOk result (IsSiftedOn standing.now kept.new dropped.new.items) }
-    ensures fewer { OnOk result (IsFewer kept.old kept.new) }
+    ensures { OnOk result (Sifts standing.now kept.old kept.new dropped.new.items) }
 {
     dropped.clear();
-    for &v in list {
+    for &v in standing.list {
         if standing.game.priority(v) == standing.top {
             kept[v as usize] = false;
         } else if !stands(standing, kept, v) {
@@ -97,8 +94,7 @@ fn drop_predecessors(
 ) -> Result<(), AllocError>
     requires vertex { u < vertex_count standing.now.game.now }
     requires sifted { IsSiftedOn standing.now kept.old dropped.old.items }
-    ensures sifted { OnOk result (IsSiftedOn standing.now kept.new dropped.new.items) }
-    ensures fewer { OnOk result (IsFewer kept.old kept.new) }
+    ensures sifted { OnOk result (Sifts standing.now kept.old kept.new dropped.new.items) }
     ensures cleared { OnOk result (IsClearedOn standing.now kept.new u) }
     ensures longer { OnOk result (length dropped.old.items ≤ length dropped.new.items) }
     ensures before { OnOk result ((k : ℕ) → k < length dropped.old.items
@@ -122,8 +118,7 @@ fn drop_dependents(
     dropped: &mut Vec<u32>,
 ) -> Result<(), AllocError>
     requires sifted { IsSiftedOn standing.now kept.old dropped.old.items }
-    ensures sifted { OnOk result (IsSiftedOn standing.now kept.new dropped.new.items) }
-    ensures fewer { OnOk result (IsFewer kept.old kept.new) }
+    ensures sifted { OnOk result (Sifts standing.now kept.old kept.new dropped.new.items) }
     ensures cleared { OnOk result ((u : ℕ) → Contains dropped.new.items u
         → IsClearedOn standing.now kept.new u) }
 {
@@ -139,17 +134,16 @@ fn drop_dependents(
 /// Lists what is kept, and the vertices of the greatest priority.
 fn list_target(
     standing: &Standing<'_>,
-    list: &[u32],
     kept: &[bool],
     target: &mut Vec<u32>,
 ) -> Result<(), AllocError>
-    requires vertices { AreVertices standing.now.game.now list.now }
-    requires size { length kept.now ≡ vertex_count standing.now.game.now }
+    requires { length kept.now ≡ vertex_count standing.now.game.now }
     ensures { OnOk result
-        (IsSelection (λ v. IsTargetOn standing.now kept.now v) target.new.items list.now) }
+        (IsSelection (λ v. IsTargetOn standing.now kept.now v) target.new.items
+        standing.now.list.now) }
 {
     target.clear();
-    for &v in list {
+    for &v in standing.list {
         if kept[v as usize] || standing.game.priority(v) == standing.top {
             target.push(v)?;
         }
@@ -158,17 +152,16 @@ fn list_target(
 }
 
 /// The greatest count of what is kept, at the priority below the greatest.
-fn height_of(standing: &Standing<'_>, list: &[u32], kept: &[bool]) -> u64
-    requires vertices { AreVertices standing.now.game.now list.now }
+fn height_of(standing: &Standing<'_>, kept: &[bool]) -> u64
     requires size { length kept.now ≡ vertex_count standing.now.game.now }
-    requires small { (v : ℕ) → Contains list.now v → IsIn kept.now v
+    requires small { (v : ℕ) → Contains standing.now.list.now v → IsIn kept.now v
         → IsHeightOn standing.now v MAX_HEIGHT }
-    ensures greatest { (v : ℕ) → Contains list.now v → IsIn kept.now v
+    ensures greatest { (v : ℕ) → Contains standing.now.list.now v → IsIn kept.now v
         → IsHeightOn standing.now v result }
     ensures small { result ≤ MAX_HEIGHT }
 {
     let mut height = 0;
-    for &v in list {
+    for &v in standing.list {
         if kept[v as usize] {
             height = height.max(count_below(standing, v).min(MAX_HEIGHT));
         }
@@ -180,21 +173,21 @@ fn height_of(standing: &Standing<'_>, list: &[u32], kept: &[bool]) -> u64
 /// left of them with the vertices of the greatest priority, and returns the greatest count.
 pub(crate) fn keep(
     standing: &Standing<'_>,
-    list: &[u32],
     kept: &mut [bool],
     target: &mut Vec<u32>,
 ) -> Result<u64, AllocError>
-    requires listed { ListsRegion standing.now.region.now list.now }
+    requires listed { ListsRegion standing.now.region.now standing.now.list.now }
     requires size { length kept.old ≡ vertex_count standing.now.game.now }
     requires won { AreWonOn standing.now.game.now standing.now.region.now kept.old
         standing.now.solution.now standing.now.player standing.now.top }
     ensures closed { IfOk result
         (λ height. IsClosedOn standing.now kept.old kept.new height) }
     ensures target { OnOk result
-        (IsSelection (λ v. IsTargetOn standing.now kept.new v) target.new.items list.now) }
+        (IsSelection (λ v. IsTargetOn standing.now kept.new v) target.new.items
+        standing.now.list.now) }
 {
-    drop_fallen(standing, list, kept, target)?;
+    drop_fallen(standing, kept, target)?;
     drop_dependents(standing, kept, target)?;
-    list_target(standing, list, kept, target)?;
-    Ok(height_of(standing, list, kept))
+    list_target(standing, kept, target)?;
+    Ok(height_of(standing, kept))
 }

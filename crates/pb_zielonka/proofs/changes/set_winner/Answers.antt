@@ -3,6 +3,6 @@ use Rattle.std.proofs.lemmas.Grind.{common_steps}
 use Rattle.pb_game.specs.Solutions.{winner_of, choice_of, count_of}
 use Rattle.pb_zielonka.proofs.changes.set_winner.Goals as goal
 
-pub returns-clause-set : goal.returns-clause-set
+pub returns : goal.returns
 unfolding winner_of choice_of count_of
-returns-clause-set c = grind (arith, common_steps)
+returns c = grind (arith, common_steps)

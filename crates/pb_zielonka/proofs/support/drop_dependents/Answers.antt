@@ -9,7 +9,7 @@ drop_predecessors-requires-clause-vertex c =
     let dropped = c.loop-k.dropped.items in
     let here : c.loop-k.k < length dropped = omega (arith, c.len.ensures) in
     let at : c.index-u.result.now ≡ get_or dropped c.loop-k.k 0 = get_or_read dropped c.loop-k.k _ here c.index-u.ensures 0 in
-    c.loop-k.invariant.sifted.vertices c.index-u.result.now (contains_at dropped c.index-u.result.now c.loop-k.k (record { within = here; there = sym at }))
+    c.loop-k.invariant.sifted.sifted.vertices c.index-u.result.now (contains_at dropped c.index-u.result.now c.loop-k.k (record { within = here; there = sym at }))
 
 pub returns-clause-cleared : goal.returns-clause-cleared
 returns-clause-cleared c = λ u h.

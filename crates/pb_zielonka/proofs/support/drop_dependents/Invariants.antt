@@ -1,13 +1,12 @@
 use Rattle.std.proofs.Common.{ℕ, ◌+◌, ◌-◌, ◌<◌, ◌≤◌, length, get_or}
 use Rattle.pb_zielonka.specs.Regions.{region_count}
-use Rattle.pb_zielonka.specs.Kept.{IsFewer, IsSiftedOn, IsClearedOn}
+use Rattle.pb_zielonka.specs.Kept.{IsClearedOn, Sifts}
 use Rattle.pb_zielonka.proofs.support.drop_dependents.Given as goal
 
 abbrev pub invariant-loop-k : goal.invariant-loop-k
 invariant-loop-k l = record {
   within : l.k ≤ length l.dropped.items;
-  sifted : IsSiftedOn l.standing l.kept l.dropped.items;
-  fewer : IsFewer l.initial.kept l.kept;
+  sifted : Sifts l.standing l.initial.kept l.kept l.dropped.items;
   cleared : (j : ℕ) → j < l.k → IsClearedOn l.standing l.kept (get_or l.dropped.items j 0);
 }
 

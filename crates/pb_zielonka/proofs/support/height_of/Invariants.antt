@@ -7,5 +7,5 @@ use Rattle.pb_zielonka.proofs.support.height_of.Given as goal
 abbrev pub invariant-loop-v : goal.invariant-loop-v
 invariant-loop-v l = record {
   small : l.height ≤ MAX_HEIGHT;
-  greatest : (j : ℕ) → j < l.v-index → IsIn l.kept (get_or l.list j 0) → IsHeightOn l.standing (get_or l.list j 0) l.height;
+  greatest : (j : ℕ) → j < l.v-index → IsIn l.kept (get_or l.standing.list.now j 0) → IsHeightOn l.standing (get_or l.standing.list.now j 0) l.height;
 }

@@ -4,37 +4,34 @@ use Rattle.pb_game.specs.Solutions.{choice_of}
 use Rattle.pb_game.proofs.Laws.{is_game}
 use Rattle.pb_zielonka.proofs.LevelLemmas.{in_below, in_or_out}
 use Rattle.std.proofs.lemmas.Bool.{cases_eq}
-use Rattle.pb_zielonka.proofs.Parts.{standing_vertices}
 use Rattle.pb_zielonka.proofs.support.keep.Goals as goal
 
 pub drop_fallen-requires-clause-choices : goal.drop_fallen-requires-clause-choices
-drop_fallen-requires-clause-choices c = λ v i k p o.
-    let st = c.args.standing.now in
-    (is_game st.game.now).closed v (choice_of st.solution.now v) (in_below st.region.now v _ st.sized i) ((c.requires.won v i k p).choice o)
-
-pub list_target-requires-clause-vertices : goal.list_target-requires-clause-vertices
-list_target-requires-clause-vertices c = standing_vertices c.args.standing.now c.args.list.now c.requires.listed
-
-pub height_of-requires-clause-vertices : goal.height_of-requires-clause-vertices
-height_of-requires-clause-vertices c = standing_vertices c.args.standing.now c.args.list.now c.requires.listed
+drop_fallen-requires-clause-choices c = record {
+  size = c.requires.size;
+  choice = λ v i k p o.
+      let st = c.args.standing.now in
+      (is_game st.game.now).closed v (choice_of st.solution.now v) (in_below st.region.now v _ st.sized i) ((c.requires.won v i k p).choice o);
+}
 
 pub returns-clause-closed : goal.returns-clause-closed
 returns-clause-closed c =
     let st = c.args.standing.now in
     let kept = c.drop_dependents.new.kept in
     let e = c.in_ok-drop_dependents.ensures in
+    let sifted = e.sifted.sifted in
     record {
-      size = e.sifted.size;
-      fewer = λ v h. c.in_ok-drop_fallen.ensures.fewer v (e.fewer v h);
-      below = e.sifted.below;
+      size = sifted.size;
+      fewer = λ v h. c.in_ok-drop_fallen.ensures.fewer v (e.sifted.fewer v h);
+      below = sifted.below;
       closed = λ v u i on s i'. elim (in_or_out kept u) [
         | inl on' ↦ inl on'
         | inr out ↦ elim (cases_eq (priority_of st.game.now u) st.top) [
           | inl head ↦ inr head
-          | inr ne ↦ absurd (e.cleared u (e.sifted.listed u i' out ne) v i on s)
+          | inr ne ↦ absurd (e.cleared u (sifted.listed u i' out ne) v i on s)
         ]
       ];
-      choice = e.sifted.choice;
+      choice = sifted.choice;
       high = λ v i on. c.height_of.ensures.greatest v (c.requires.listed.all v i) on;
       small = c.height_of.ensures.small;
     }

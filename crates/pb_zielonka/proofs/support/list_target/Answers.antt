@@ -12,7 +12,7 @@ loop-v-preserved c =
     let st = c.args.standing.now in
     let kept = c.args.kept.now in
     let P = λ (v : ℕ). IsTargetOn st kept v in
-    let list = c.args.list.now in
+    let list = c.args.standing.now.list.now in
     let k = c.loop-v.v-index in
     let v = get_or list k 0 in
     elim c.if-kept-v.branch [
@@ -33,4 +33,4 @@ loop-v-preserved c =
     ]
 
 pub returns : goal.returns
-returns c = taken_all (λ v. IsTargetOn c.args.standing.now c.args.kept.now v) c.loop-v.target.items c.args.list.now c.loop-v.v-index c.loop-v-test.false c.loop-v.invariant
+returns c = taken_all (λ v. IsTargetOn c.args.standing.now c.args.kept.now v) c.loop-v.target.items c.args.standing.now.list.now c.loop-v.v-index c.loop-v-test.false c.loop-v.invariant

@@ -4,4 +4,4 @@ use Rattle.pb_zielonka.specs.Kept.{IsTargetOn}
 use Rattle.pb_zielonka.proofs.support.list_target.Given as goal
 
 abbrev pub invariant-loop-v : goal.invariant-loop-v
-invariant-loop-v l = IsSelection (λ v. IsTargetOn l.standing l.kept v) l.target.items (take l.v-index l.list)
+invariant-loop-v l = IsSelection (λ v. IsTargetOn l.standing l.kept v) l.target.items (take l.v-index l.standing.list.now)
