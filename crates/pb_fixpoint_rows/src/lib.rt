@@ -6,12 +6,14 @@
 mod cuts;
 pub mod index;
 mod listed;
+pub mod read_rows;
 pub mod reordering;
 pub mod room;
 pub mod rows;
 
 pub use cuts::any_cut;
 pub use index::{IndexedRows, Place};
+pub use read_rows::ReadRows;
 pub use reordering::Reordering;
 pub use room::push;
 pub use rows::Rows;

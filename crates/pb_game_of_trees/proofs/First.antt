@@ -1,14 +1,15 @@
 -- The tokens of what is open, one after the other.
-use Rattle.std.proofs.Common.{◌≡◌, ℕ, zero, suc, ◌<◌, ◌≤◌, List, [], ◌∷◌, ◌++◌, length, get_or, drop, Option, Some, None, refl, sym, ap, ◌∙◌, subst, append_assoc, arith}
+use Rattle.std.proofs.Common.{◌≡◌, ℕ, zero, suc, ◌<◌, ◌≤◌, List, [], ◌∷◌, ◌++◌, length, get_or, drop, Option, Some, None, refl, sym, ap, ◌∙◌, append_assoc, arith}
 use Rattle.std.specs.Prelude.{slice_get}
 use Rattle.std.proofs.Math.Seq.{drop-length}
 use Rattle.pb_fixpoint_trees.specs.declared.Token.{Token}
 use Rattle.pb_fixpoint_trees.specs.declared.Token.TheVariants as token
-use Rattle.pb_fixpoint_trees.specs.Tree.{Connective, Conjunction, Disjunction, Leaf, Yes, No, Cut, Call, Operands, End, LeafThen, BracketThen, Tree, Single, Root, OperandsCall, TreeCalls}
+use Rattle.pb_fixpoint_trees.specs.declared.junction.Junction.{Junction}
+use Rattle.pb_fixpoint_trees.specs.Tree.{Leaf, Operands, End, LeafThen, BracketThen, Tree, Single, Root}
 use Rattle.pb_fixpoint_trees.specs.Tokens.{opening, leaf_token, operands_tokens, tree_tokens}
 use Rattle.pb_fixpoint_trees.specs.Game.{inner}
 use Rattle.pb_fixpoint_trees.proofs.OneTree.{Role, AtLeaf, Opens, Closes, role, role-leaf, role-opening}
-use Rattle.pb_game_of_trees.specs.Builder.{behind_first, first_token, rest_tokens, rest_at, opened, rest_brackets, CallsBelow}
+use Rattle.pb_game_of_trees.specs.Builder.{behind_first, first_token, rest_tokens, rest_at, opened, rest_brackets}
 
 -- ---- which operands a token begins
 
@@ -62,14 +63,14 @@ leaf_role l (BracketThen c inside after ∷ fs) e = cc
 pub leaf_first : (l : Leaf) (fs : List Operands) → first_token fs ≡ Some (leaf_token l) → BeginsWithLeaf l fs
 leaf_first l fs e = leaf_role l fs (first_is fs (leaf_token l) e ∙ ap Some (role-leaf l))
 
-pub record BeginsWithBracket (c : Connective) (fs : List Operands) : Type 0 where
+pub record BeginsWithBracket (c : Junction) (fs : List Operands) : Type 0 where
   pub inside : Operands
   pub after : Operands
   pub outer : List Operands
   pub is : fs ≡ BracketThen c inside after ∷ outer
   pub rest : behind_first fs ≡ inside ∷ (after ∷ outer)
 
-bracket_role : (c : Connective) (fs : List Operands) → first_role fs ≡ Some (Opens c) → BeginsWithBracket c fs
+bracket_role : (c : Junction) (fs : List Operands) → first_role fs ≡ Some (Opens c) → BeginsWithBracket c fs
 bracket_role c [] e = cc
 bracket_role c (End ∷ fs) e = cc
 bracket_role c (LeafThen m after ∷ fs) e = cc
@@ -77,11 +78,11 @@ bracket_role c (BracketThen d inside after ∷ fs) e = let same : d ≡ c = cc i
   inside = inside;
   after = after;
   outer = fs;
-  is = ap (λ (x : Connective). BracketThen x inside after ∷ fs) same;
+  is = ap (λ (x : Junction). BracketThen x inside after ∷ fs) same;
   rest = refl;
 }
 
-pub bracket_first : (c : Connective) (fs : List Operands) → first_token fs ≡ Some (opening c) → BeginsWithBracket c fs
+pub bracket_first : (c : Junction) (fs : List Operands) → first_token fs ≡ Some (opening c) → BeginsWithBracket c fs
 bracket_first c fs e = bracket_role c fs (first_is fs (opening c) e ∙ ap Some (role-opening c))
 
 -- ---- the first token of a tree
@@ -94,15 +95,15 @@ tree_first : (tree : Tree) (t : Token) → slice_get (tree_tokens tree) 0 ≡ So
 tree_first (Single l) t e = let same : leaf_token l ≡ t = cc in sym (role-leaf l) ∙ ap role same
 tree_first (Root c f) t e = let same : opening c ≡ t = cc in sym (role-opening c) ∙ ap role same
 
-pub record IsRoot (c : Connective) (tree : Tree) : Type 0 where
+pub record IsRoot (c : Junction) (tree : Tree) : Type 0 where
   pub operands : Operands
   pub is : tree ≡ Root c operands
 
-root_role : (c : Connective) (tree : Tree) → tree_role tree ≡ Opens c → IsRoot c tree
+root_role : (c : Junction) (tree : Tree) → tree_role tree ≡ Opens c → IsRoot c tree
 root_role c (Single l) e = cc
-root_role c (Root d f) e = let same : d ≡ c = cc in record { operands = f; is = ap (λ (x : Connective). Root x f) same }
+root_role c (Root d f) e = let same : d ≡ c = cc in record { operands = f; is = ap (λ (x : Junction). Root x f) same }
 
-pub root_first : (c : Connective) (tree : Tree) → slice_get (tree_tokens tree) 0 ≡ Some (opening c) → IsRoot c tree
+pub root_first : (c : Junction) (tree : Tree) → slice_get (tree_tokens tree) 0 ≡ Some (opening c) → IsRoot c tree
 root_first c tree e = root_role c tree (tree_first tree (opening c) e ∙ role-opening c)
 
 single_role : (l : Leaf) (tree : Tree) → tree_role tree ≡ AtLeaf l → tree ≡ Single l
@@ -173,48 +174,6 @@ rest_brackets-at (suc j) fs = omega (arith, behind_brackets (rest_at j fs), rest
 pub opened-brackets : (tree : Tree) → rest_brackets (opened tree) ≡ inner tree
 opened-brackets (Single l) = refl
 opened-brackets (Root c f) = omega arith
-
-module _ (count : ℕ) where
-  abbrev RestCalls : List Operands → Type 0
-  RestCalls [] = Unit {0}
-  RestCalls (f ∷ fs) = OperandsCall (λ n. n < count) f × RestCalls fs
-
-  behind_calls : (fs : List Operands) → RestCalls fs → RestCalls (behind_first fs)
-  behind_calls [] h = tt
-  behind_calls (End ∷ fs) h = h.1
-  behind_calls (LeafThen l after ∷ fs) h = (h.0.1, h.1)
-  behind_calls (BracketThen c inside after ∷ fs) h = (h.0.0, (h.0.1, h.1))
-
-  rest_calls-at : (j : ℕ) (fs : List Operands) → RestCalls fs → RestCalls (rest_at j fs)
-  rest_calls-at zero fs h = h
-  rest_calls-at (suc j) fs h = behind_calls (rest_at j fs) (rest_calls-at j fs h)
-
-  first_calls : (fs : List Operands) (t : Token) → RestCalls fs → first_token fs ≡ Some t → CallsBelow count t
-  first_calls [] t h e = cc
-  first_calls (End ∷ fs) t h e = let is : token.Close ≡ t = cc in subst (CallsBelow count) is tt
-  first_calls (LeafThen Yes after ∷ fs) t h e = let is : token.Yes ≡ t = cc in subst (CallsBelow count) is tt
-  first_calls (LeafThen No after ∷ fs) t h e = let is : token.No ≡ t = cc in subst (CallsBelow count) is tt
-  first_calls (LeafThen Cut after ∷ fs) t h e = let is : token.Cut ≡ t = cc in subst (CallsBelow count) is tt
-  first_calls (LeafThen (Call n) after ∷ fs) t h e = let is : token.Call n ≡ t = cc in subst (CallsBelow count) is h.0.0
-  first_calls (BracketThen Conjunction inside after ∷ fs) t h e = let is : token.And ≡ t = cc in subst (CallsBelow count) is tt
-  first_calls (BracketThen Disjunction inside after ∷ fs) t h e = let is : token.Or ≡ t = cc in subst (CallsBelow count) is tt
-
-  opened_calls : (tree : Tree) → TreeCalls (λ n. n < count) tree → RestCalls (opened tree)
-  opened_calls (Single l) h = tt
-  opened_calls (Root c f) h = (h, tt)
-
-  -- a token behind the first one calls what the tree calls
-  pub token_calls : (tree : Tree) (j : ℕ) (t : Token) → TreeCalls (λ n. n < count) tree → first_token (rest_at j (opened tree)) ≡ Some t → CallsBelow count t
-  token_calls tree j t h e = first_calls (rest_at j (opened tree)) t (rest_calls-at j (opened tree) (opened_calls tree h)) e
-
-  -- so does the first one
-  pub first_token_calls : (tree : Tree) (t : Token) → TreeCalls (λ n. n < count) tree → slice_get (tree_tokens tree) 0 ≡ Some t → CallsBelow count t
-  first_token_calls (Single Yes) t h e = let is : token.Yes ≡ t = cc in subst (CallsBelow count) is tt
-  first_token_calls (Single No) t h e = let is : token.No ≡ t = cc in subst (CallsBelow count) is tt
-  first_token_calls (Single Cut) t h e = let is : token.Cut ≡ t = cc in subst (CallsBelow count) is tt
-  first_token_calls (Single (Call n)) t h e = let is : token.Call n ≡ t = cc in subst (CallsBelow count) is h
-  first_token_calls (Root Conjunction f) t h e = let is : token.And ≡ t = cc in subst (CallsBelow count) is tt
-  first_token_calls (Root Disjunction f) t h e = let is : token.Or ≡ t = cc in subst (CallsBelow count) is tt
 
 -- a tree's tokens are its first and those of what is open behind it
 pub length-tree_tokens : (tree : Tree) → length (tree_tokens tree) ≡ suc (length (rest_tokens (opened tree)))

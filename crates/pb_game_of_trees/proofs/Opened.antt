@@ -1,11 +1,12 @@
 -- What an opening token adds to what stands behind it. Its vertex is n, and those of the brackets within it begin at m.
 use Rattle.std.proofs.Common.{◌≡◌, ℕ, suc, ◌+◌, List, [], ◌∷◌, ◌++◌, length, reverse, sym, ap, ◌∙◌, append_assoc, arith}
 use Rattle.std.proofs.lemmas.Grind.{reverse_onto}
-use Rattle.pb_fixpoint_trees.specs.Tree.{Connective, Operands, BracketThen}
+use Rattle.pb_fixpoint_trees.specs.declared.junction.Junction.{Junction}
+use Rattle.pb_fixpoint_trees.specs.Tree.{Operands, BracketThen}
 use Rattle.pb_fixpoint_trees.specs.Game.{Vertex, brackets, targets, bracket_vertex, inner_vertices}
 use Rattle.pb_game_of_trees.specs.Builder.{rest_targets, rest_starts, rest_vertices}
 
-module _ (at : ℕ → ℕ) (c : Connective) (i a : Operands) (fs : List Operands) (n m : ℕ) (e : m ≡ suc n) where
+module _ (at : ℕ → ℕ) (c : Junction) (i a : Operands) (fs : List Operands) (n m : ℕ) (e : m ≡ suc n) where
   behind : m + brackets i ≡ suc (n + brackets i)
   behind = omega arith
 

@@ -1,5 +1,6 @@
 -- What a refused game says of its rows.
-use Rattle.std.proofs.Common.{◌≡◌, ℕ, ◌<◌, ◌≤◌, List, Result, Ok, Err, refl, arith}
+use Rattle.std.proofs.Common.{◌≡◌, ℕ, ◌<◌, ◌≤◌, ◌↔◌, List, Result, Ok, Err, refl, arith}
+use Rattle.std.specs.Prelude.{IsErrAnd}
 use Rattle.pb_fixpoint_trees.specs.Tree.{Tree}
 use Rattle.pb_fixpoint_trees.specs.Equations.{Signature}
 use Rattle.pb_fixpoint_trees.specs.Rows.{Row}
@@ -11,8 +12,9 @@ use Rattle.pb_base.specs.declared.or_memory.OrMemory.{OrMemory}
 use Rattle.pb_base.specs.declared.or_memory.OrMemory.TheVariants.{Refused, Memory}
 use Rattle.pb_game_of_trees.specs.declared.tree_game.TooManyVertices.{TooManyVertices}
 use Rattle.pb_game_of_trees.specs.declared.tree_game.TreeGame.{TreeGame}
+use Rattle.pb_game_of_trees.specs.declared.places.Laid.{Laid}
 use Rattle.pb_game_of_trees.specs.Held.{Hold}
-use Rattle.pb_game_of_trees.specs.Places.{vertex_behind}
+use Rattle.pb_game_of_trees.specs.Places.{vertex_behind, IsSizeOf}
 use Rattle.pb_game_of_trees.specs.TreeGame.{HasTooManyVertices, IsRefusedExactly}
 use Rattle.pb_game_of_trees.proofs.Built.{hold, size_is}
 
@@ -24,15 +26,36 @@ Exceeds rows = (plain : List Row) → Hold rows plain → MAX_VERTICES < vertex_
 abbrev pub Fits : List TokenRow → Type 0
 Fits rows = (plain : List Row) → Hold rows plain → vertex_behind plain 2 ≤ MAX_VERTICES
 
-pub rightly_refused : {signatures : List Signature} {rows : List TokenRow} → Exceeds rows → IsRefusedExactly (Err (Refused (record {}))) signatures rows
-rightly_refused {signatures} {rows} exceeds = λ trees of. (λ _. omega (arith, exceeds (rows_of trees rows) (hold of), size_is of), λ _. refl)
+-- what is not laid out is refused exactly where it is too large
+abbrev pub IsLaidExactly : Result Laid (OrMemory TooManyVertices) → List TokenRow → Type 0
+IsLaidExactly result rows = (plain : List Row) → Hold rows plain → (result ≡ Err (Refused (record {}))) ↔ (MAX_VERTICES < vertex_behind plain 2)
+
+pub rightly_refused : {rows : List TokenRow} → Exceeds rows → IsLaidExactly (Err (Refused (record {}))) rows
+rightly_refused exceeds = λ plain hold. (λ _. exceeds plain hold, λ _. refl)
+
+pub not_laid : {result : Result Laid (OrMemory TooManyVertices)} {rows : List TokenRow} → (result ≡ Err (Refused (record {})) → ⊥) → Fits rows → IsLaidExactly result rows
+not_laid other fits = λ plain hold. (λ e. absurd (other e), λ more. absurd (omega (arith, more, fits plain hold)))
+
+-- the game is refused where its rows are
+pub refused_alike : {signatures : List Signature} {rows : List TokenRow} {laid : Result Laid (OrMemory TooManyVertices)} {result : Result TreeGame (OrMemory TooManyVertices)}
+    {fault error : OrMemory TooManyVertices} → laid ≡ Err fault → result ≡ Err error → error ≡ fault → IsLaidExactly laid rows → IsRefusedExactly result signatures rows
+refused_alike {signatures} {rows} e r same exactly = λ trees of. (
+  λ refused. omega (arith, (exactly (rows_of trees rows) (hold of)).0 cc, size_is of),
+  λ more. let refused = (exactly (rows_of trees rows) (hold of)).1 (omega (arith, more, size_is of)) in cc,
+)
 
 pub not_refused : {result : Result TreeGame (OrMemory TooManyVertices)} {signatures : List Signature} {rows : List TokenRow} →
-    (result ≡ Err (Refused (record {})) → ⊥) → Fits rows → IsRefusedExactly result signatures rows
-not_refused {result} {signatures} {rows} other fits = λ trees of. (
+    (result ≡ Err (Refused (record {})) → ⊥) → {size : ℕ} → IsSizeOf rows size → size ≤ MAX_VERTICES → IsRefusedExactly result signatures rows
+not_refused {result} {signatures} {rows} other {size} is small = λ trees of. (
   λ e. absurd (other e),
-  λ more. absurd (omega (arith, more, fits (rows_of trees rows) (hold of), size_is of)),
+  λ more. absurd (omega (arith, more, small, is (rows_of trees rows) (hold of), size_is of)),
 )
+
+-- nor is it where memory is wanted for what comes behind the rows
+pub not_for_memory : (result : Result TreeGame (OrMemory TooManyVertices)) {signatures : List Signature} {rows : List TokenRow} → IsErrAnd result (λ error. error ≡ Memory) →
+    {size : ℕ} → IsSizeOf rows size → size ≤ MAX_VERTICES → IsRefusedExactly result signatures rows
+not_for_memory (Ok built) is = absurd is
+not_for_memory (Err error) is = not_refused (λ e. cc)
 
 pub too_large : (signatures : List Signature) (rows : List TokenRow)
     (result : Result TreeGame (OrMemory TooManyVertices)) → IsRefusedExactly result signatures rows

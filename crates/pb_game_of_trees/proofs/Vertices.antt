@@ -6,7 +6,8 @@ use Rattle.std.proofs.lemmas.Bool.{cases_Bool, eqb-true, eqb-false, cond-true, c
 use Rattle.std.proofs.lemmas.List.{get_or-map, length-map, get_or_default, same_lists}
 use Rattle.pb_game.proofs.Rising.{rising_lt}
 use Rattle.pb_fixpoint_trees.specs.declared.player.Player.TheVariants.{Even}
-use Rattle.pb_fixpoint_trees.specs.Tree.{Connective, Leaf, Yes, No, Cut, Call, Operands, End, LeafThen, BracketThen, Tree, Single, Root, LeafCalls, OperandsCall, TreeCalls}
+use Rattle.pb_fixpoint_trees.specs.declared.junction.Junction.{Junction}
+use Rattle.pb_fixpoint_trees.specs.Tree.{Leaf, Yes, No, Cut, Call, Operands, End, LeafThen, BracketThen, Tree, Single, Root, LeafCalls, OperandsCall, TreeCalls}
 use Rattle.pb_fixpoint_trees.specs.Rows.{Row, IsReached}
 use Rattle.pb_fixpoint_trees.specs.Game.{Vertex, brackets, inner, vertex_from, vertex_of, target, targets, rising_or, sink_of, owner_of, bracket_vertex, inner_vertices, tree_vertices, row_vertices}
 use Rattle.pb_fixpoint_trees.proofs.Lengths.{length-tree_vertices}
@@ -48,6 +49,12 @@ pub fewer_rows : (rows : List Row) (next : ℕ) → next + length rows ≤ verte
 fewer_rows [] next = omega arith
 fewer_rows (row ∷ rows) next = let rest = fewer_rows rows (suc (next + inner row.tree)) in omega (arith, rest)
 
+-- and these are below those behind all rows
+pub vertices_from-below : (rows : List Row) (next k d : ℕ) → k < length rows → get_or (vertices_from rows next) k d < vertex_behind rows next
+vertices_from-below [] next k d l = absurd (omega arith)
+vertices_from-below (row ∷ rows) next zero d l = omega (arith, fewer_rows rows (suc (next + inner row.tree)))
+vertices_from-below (row ∷ rows) next (suc k) d l = vertices_from-below rows (suc (next + inner row.tree)) k d (omega arith)
+
 -- the vertices of all rows
 pub vertices_are : (rows : List Row) → IsStrictlyIncreasing (numbers rows) → vertices_from rows 2 ≡ map (λ (row : Row). vertex_of rows row.number) rows
 vertices_are rows r =
@@ -61,17 +68,17 @@ vertices_are rows r =
     ∙ (ap (λ (n : ℕ). vertex_of rows n) number ∙ sym (get_or-map f rows k none d (omega arith)))))
 
 -- a table that has each row's vertex at its number
-pub record IsTable (table : List ℕ) (rows : List Row) : Type 0 where
-  pub at : (k : ℕ) → k < length rows → slice_index table (slice_index (numbers rows) k) ≡ slice_index (vertices_from rows 2) k
+pub record IsTable (table : ℕ → ℕ) (rows : List Row) : Type 0 where
+  pub at : (k : ℕ) → k < length rows → table (slice_index (numbers rows) k) ≡ slice_index (vertices_from rows 2) k
 
-pub table_at : (table : List ℕ) (rows : List Row) → IsTable table rows → IsStrictlyIncreasing (numbers rows) → (n : ℕ) → IsReached rows n → slice_index table n ≡ vertex_of rows n
+pub table_at : (table : ℕ → ℕ) (rows : List Row) → IsTable table rows → IsStrictlyIncreasing (numbers rows) → (n : ℕ) → IsReached rows n → table n ≡ vertex_of rows n
 table_at table rows is r n reached =
     let k = reached.1.0 in
     let l = reached.1.1 in
     let row = reached.0 in
     let number : get_or (numbers rows) k 0 ≡ n =
     get_or-map (λ (x : Row). x.number) rows k row 0 l ∙ (ap (λ (x : Row). x.number) reached.1.2 ∙ reached.2) in
-    sym (ap (λ (m : ℕ). slice_index table m) number) ∙ (is.at k l ∙ (sym (vertex_from-at rows 2 k r l) ∙ ap (λ (m : ℕ). vertex_of rows m) number))
+    sym (ap table number) ∙ (is.at k l ∙ (sym (vertex_from-at rows 2 k r l) ∙ ap (λ (m : ℕ). vertex_of rows m) number))
 
 -- ---- one game by two functions that agree on what is called
 
@@ -88,7 +95,7 @@ module _ (at at' : ℕ → ℕ) (R : ℕ → Type 0) (same : (n : ℕ) → R n �
       ap (λ (u : ℕ). u ∷ targets at after next) (target_same l h.0) ∙ ap (λ (us : List ℕ). target at' l ∷ us) (targets_same after next h.1)
   targets_same (BracketThen c inside after) next h = ap (λ (us : List ℕ). next ∷ us) (targets_same after (suc (next + brackets inside)) h.1)
 
-  bracket_same : (p : ℕ) (c : Connective) (f : Operands) (next : ℕ) → OperandsCall R f → bracket_vertex at p c f next ≡ bracket_vertex at' p c f next
+  bracket_same : (p : ℕ) (c : Junction) (f : Operands) (next : ℕ) → OperandsCall R f → bracket_vertex at p c f next ≡ bracket_vertex at' p c f next
   bracket_same p c f next h =
       ap (λ (us : List ℕ). let x : Vertex = record { owner = owner_of c; priority = p; successors = rising_or (sink_of c) us } in x) (targets_same f next h)
 

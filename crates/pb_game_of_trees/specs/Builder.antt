@@ -3,18 +3,15 @@ use Rattle.std.specs.Prelude.{◌≡◌, ℕ, zero, suc, ◌+◌, ◌<◌, List,
 use Rattle.std.specs.Prelude.{Option, None, Some, slice_get}
 use Rattle.pb_fixpoint_trees.specs.declared.Token.{Token}
 use Rattle.pb_fixpoint_trees.specs.declared.Token.TheVariants as token
-use Rattle.pb_fixpoint_trees.specs.Tree.{Connective, Conjunction, Disjunction, Operands, End, LeafThen}
+use Rattle.pb_fixpoint_trees.specs.declared.player.Player.{Player}
+use Rattle.pb_fixpoint_trees.specs.declared.junction.Junction.{Junction}
+use Rattle.pb_fixpoint_trees.specs.declared.junction.Junction.TheVariants.{Conjunction, Disjunction}
+use Rattle.pb_fixpoint_trees.specs.Tree.{Operands, End, LeafThen}
 use Rattle.pb_fixpoint_trees.specs.Tree.{BracketThen, Tree, Single, Root}
 use Rattle.pb_fixpoint_trees.specs.Tokens.{opening, leaf_token, operands_tokens, tree_tokens}
 use Rattle.pb_fixpoint_trees.specs.Game.{Vertex, brackets, targets, inner, inner_vertices, tree_vertices}
-use Rattle.pb_game_of_trees.specs.declared.bracket.Bracket.{Bracket}
-use Rattle.pb_game_of_trees.specs.declared.bracket.Bracket.TheVariants.{And, Or}
 use Rattle.pb_game_of_trees.specs.declared.builder.Builder.{Builder}
 use Rattle.pb_game_of_trees.specs.Draft.{IsDraft}
-
-abbrev pub connective : Bracket → Connective
-connective And = Conjunction
-connective Or = Disjunction
 
 -- In the following, `fs` are the operands that are left of each open bracket, the innermost
 -- bracket's first.
@@ -98,24 +95,23 @@ pub record HasTree (at : ℕ → ℕ) (builder : Builder) (priority : ℕ) (tree
   pub draft : IsDraft builder.draft (tree_vertices at priority tree builder.next ++ behind)
   pub reaches : suc (builder.next + inner tree) ≡ limit
 
--- a call in the token is of a number below
-abbrev pub CallsBelow : ℕ → Token → Type 0
-CallsBelow count (token.Call n) = n < count
-CallsBelow count token.And = Unit {0}
-CallsBelow count token.Or = Unit {0}
-CallsBelow count token.Close = Unit {0}
-CallsBelow count token.Yes = Unit {0}
-CallsBelow count token.No = Unit {0}
-CallsBelow count token.Cut = Unit {0}
+-- the tree has one vertex, of this player, from which one edge leads to this vertex
+pub record HasOneEdge (at : ℕ → ℕ) (tree : Tree) (owner : Player) (vertex : ℕ) : Type 0 where
+  pub inside : inner tree ≡ 0
+  pub vertices : (priority next : ℕ) → tree_vertices at priority tree next
+      ≡ record { owner = owner; priority = priority; successors = vertex ∷ [] } ∷ []
 
--- the builder has read what is behind this token
+-- the builder has read what is behind this token, and there is a vertex before those that it put
 pub record IsBefore (at : ℕ → ℕ) (builder : Builder) (fs : List Operands) (next_token : Token)
     (behind : List Vertex) (limit : ℕ) : Type 0 where
+  pub room : 0 < builder.next
   pub first : first_token fs ≡ Some next_token
   pub rest : IsAt at builder (behind_first fs) behind limit
 
--- the builder has read what is behind the first token of a tree, which is this one
+-- the builder has read what is behind the first token of a tree, which is this one, and there is a
+-- vertex before those that it put
 pub record IsBeforeFirst (at : ℕ → ℕ) (builder : Builder) (tree : Tree) (next_token : Token)
     (behind : List Vertex) (limit : ℕ) : Type 0 where
+  pub room : 0 < builder.next
   pub first : slice_get (tree_tokens tree) 0 ≡ Some next_token
   pub rest : IsAt at builder (opened tree) behind limit

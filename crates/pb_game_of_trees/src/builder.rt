@@ -2,21 +2,20 @@
 //! last one to the first, so that a bracket's operands are known when its opening token comes, and
 //! its vertex goes before those of the brackets inside it.
 ghost use Rattle.std.specs.Prelude.{◌≡◌, ◌∷◌, ◌<◌, ◌≤◌, ℕ, OnOk, List, [], length};
-ghost use Rattle.std.specs.Prelude.{slice_index};
-ghost use Rattle.pb_fixpoint_trees.specs.Tree.{Operands, End, LeafThen, BracketThen, Leaf, Root, Single};
-ghost use Rattle.pb_fixpoint_trees.specs.Tree.{Tree, TreeCalls};
-ghost use Rattle.pb_fixpoint_trees.specs.Tokens.{tree_tokens};
+ghost use Rattle.pb_fixpoint_trees.specs.Tree.{Operands, End, LeafThen, Leaf, Tree};
+ghost use Rattle.pb_fixpoint_trees.specs.Tokens.{opening, tree_tokens};
 ghost use Rattle.pb_fixpoint_trees.specs.Game.{Vertex, rising_or, owner_of, sink_of, target, inner};
 ghost use Rattle.pb_game_of_trees.specs.Draft.{IsDraft};
-ghost use Rattle.pb_game_of_trees.specs.Numbering.{table_of};
-ghost use Rattle.pb_game_of_trees.specs.Builder.{CallsBelow, IsAt, IsBefore, IsBeforeFirst};
-ghost use Rattle.pb_game_of_trees.specs.Builder.{HasFrame, HasFinished, HasTree, connective};
+ghost use Rattle.pb_game_of_trees.specs.Numbering.{numbered_vertex};
+ghost use Rattle.pb_game_of_trees.specs.Builder.{IsAt, IsBefore, IsBeforeFirst};
+ghost use Rattle.pb_game_of_trees.specs.Builder.{HasFrame, HasFinished, HasOneEdge, HasTree};
 
-use crate::bracket::{Bracket, owner, sink};
+use crate::bracket::{owner, sink};
 use crate::draft::Draft;
 use crate::numbering::Numbering;
-use pb_fixpoint_rows::IndexedRows;
-use pb_fixpoint_trees::Token;
+use crate::small::{bracket_of, leaf_vertex};
+use pb_fixpoint_rows::{IndexedRows, ReadRows};
+use pb_fixpoint_trees::{Junction, Token};
 use pb_game::Player;
 use std::alloc::AllocError;
 
@@ -103,15 +102,15 @@ impl Builder {
 
     /// Puts the vertex of the innermost open bracket, all of whose operands were read, before the
     /// others.
-    fn finish(&mut self, bracket: Bracket, priority: u32) -> Result<(), AllocError>
+    fn finish(&mut self, bracket: Junction, priority: u32) -> Result<(), AllocError>
         requires { (front outer operands : List ℕ) × HasFrame self.old front outer operands }
         ensures { OnOk result ((front outer operands : List ℕ) (vertices : List Vertex)
             → HasFrame self.old front outer operands → IsDraft self.old.draft vertices
             → HasFinished self.old self.new front outer
             (record {
-              owner = owner_of (connective bracket);
+              owner = owner_of bracket;
               priority = priority;
-              successors = rising_or (sink_of (connective bracket)) operands;
+              successors = rising_or (sink_of bracket) operands;
             } ∷ vertices)) }
     {
         let start = self.starts.pop().unwrap();
@@ -125,15 +124,12 @@ impl Builder {
     }
 
     /// Reads the opening token of a bracket within a tree.
-    fn open(&mut self, bracket: Bracket) -> Result<(), AllocError>
-        requires some { 0 < self.old.next }
-        requires brackets { (at : ℕ → ℕ) × (inside after : Operands) × (fs : List Operands)
-            × (behind : List Vertex) × (limit : ℕ)
-            × IsAt at self.old (inside ∷ (after ∷ fs)) behind limit }
-        ensures { OnOk result ((at : ℕ → ℕ) (inside after : Operands) (fs : List Operands)
-            (behind : List Vertex) (limit : ℕ)
-            → IsAt at self.old (inside ∷ (after ∷ fs)) behind limit
-            → IsAt at self.new (BracketThen (connective bracket) inside after ∷ fs) behind limit) }
+    fn open(&mut self, bracket: Junction) -> Result<(), AllocError>
+        requires { (at : ℕ → ℕ) × (fs : List Operands) × (behind : List Vertex) × (limit : ℕ)
+            × IsBefore at self.old fs (opening bracket) behind limit }
+        ensures { OnOk result ((at : ℕ → ℕ) (fs : List Operands) (behind : List Vertex) (limit : ℕ)
+            → IsBefore at self.old fs (opening bracket) behind limit
+            → IsAt at self.new fs behind limit) }
     {
         self.next -= 1;
         self.finish(bracket, 0)?;
@@ -142,44 +138,41 @@ impl Builder {
     }
 
     /// Reads the opening token of a whole tree.
-    fn open_root(&mut self, bracket: Bracket, priority: u32) -> Result<(), AllocError>
-        requires some { 0 < self.old.next }
-        requires bracket { (at : ℕ → ℕ) × (operands : Operands) × (behind : List Vertex)
-            × (limit : ℕ) × IsAt at self.old (operands ∷ []) behind limit }
-        ensures { OnOk result ((at : ℕ → ℕ) (operands : Operands) (behind : List Vertex) (limit : ℕ)
-            → IsAt at self.old (operands ∷ []) behind limit
-            → HasTree at self.new priority (Root (connective bracket) operands) behind limit) }
+    fn open_root(&mut self, bracket: Junction, priority: u32) -> Result<(), AllocError>
+        requires { (at : ℕ → ℕ) × (tree : Tree) × (behind : List Vertex) × (limit : ℕ)
+            × IsBeforeFirst at self.old tree (opening bracket) behind limit }
+        ensures { OnOk result ((at : ℕ → ℕ) (tree : Tree) (behind : List Vertex) (limit : ℕ)
+            → IsBeforeFirst at self.old tree (opening bracket) behind limit
+            → HasTree at self.new priority tree behind limit) }
     {
         self.next -= 1;
         self.finish(bracket, priority)?;
         Ok(())
     }
 
-    /// Reads a tree that is a leaf.
-    fn single(&mut self, vertex: u32, priority: u32) -> Result<(), AllocError>
+    /// Reads a tree of one vertex, of this player, from which one edge leads to `target`.
+    fn one_edge(&mut self, owner: Player, target: u32, priority: u32) -> Result<(), AllocError>
         requires { 0 < self.old.next }
-        ensures { OnOk result ((at : ℕ → ℕ) (l : Leaf) (behind : List Vertex) (limit : ℕ)
-            → vertex ≡ target at l → IsAt at self.old [] behind limit
-            → HasTree at self.new priority (Single l) behind limit) }
+        ensures { OnOk result ((at : ℕ → ℕ) (tree : Tree) (behind : List Vertex) (limit : ℕ)
+            → HasOneEdge at tree owner target → IsAt at self.old [] behind limit
+            → HasTree at self.new priority tree behind limit) }
     {
-        self.draft.put_one(Player::Even, priority, vertex)?;
+        self.draft.put_one(owner, priority, target)?;
         self.next -= 1;
         Ok(())
     }
 
     /// Reads a token behind the first one of a tree.
     fn read(&mut self, vertices: &Numbering<'_>, token: Token) -> Result<(), AllocError>
-        requires some { 0 < self.old.next }
-        requires call { CallsBelow (length (table_of vertices.now)) token }
-        requires before { (fs : List Operands) × (behind : List Vertex) × (limit : ℕ)
-            × IsBefore (slice_index (table_of vertices.now)) self.old fs token behind limit }
+        requires { (fs : List Operands) × (behind : List Vertex) × (limit : ℕ)
+            × IsBefore (numbered_vertex vertices.now) self.old fs token behind limit }
         ensures { OnOk result ((fs : List Operands) (behind : List Vertex) (limit : ℕ)
-            → IsBefore (slice_index (table_of vertices.now)) self.old fs token behind limit
-            → IsAt (slice_index (table_of vertices.now)) self.new fs behind limit) }
+            → IsBefore (numbered_vertex vertices.now) self.old fs token behind limit
+            → IsAt (numbered_vertex vertices.now) self.new fs behind limit) }
     {
         match token {
-            Token::And => self.open(Bracket::And),
-            Token::Or => self.open(Bracket::Or),
+            Token::And => self.open(Junction::Conjunction),
+            Token::Or => self.open(Junction::Disjunction),
             Token::Close => self.close(),
             Token::Yes => self.leaf(1),
             Token::No => self.leaf(0),
@@ -195,22 +188,20 @@ impl Builder {
         token: Token,
         priority: u32,
     ) -> Result<(), AllocError>
-        requires some { 0 < self.old.next }
-        requires call { CallsBelow (length (table_of vertices.now)) token }
-        requires before { (tree : Tree) × (behind : List Vertex) × (limit : ℕ)
-            × IsBeforeFirst (slice_index (table_of vertices.now)) self.old tree token behind limit }
+        requires { (tree : Tree) × (behind : List Vertex) × (limit : ℕ)
+            × IsBeforeFirst (numbered_vertex vertices.now) self.old tree token behind limit }
         ensures { OnOk result ((tree : Tree) (behind : List Vertex) (limit : ℕ)
-            → IsBeforeFirst (slice_index (table_of vertices.now)) self.old tree token behind limit
-            → HasTree (slice_index (table_of vertices.now)) self.new priority tree behind limit) }
+            → IsBeforeFirst (numbered_vertex vertices.now) self.old tree token behind limit
+            → HasTree (numbered_vertex vertices.now) self.new priority tree behind limit) }
     {
         match token {
-            Token::And => self.open_root(Bracket::And, priority),
-            Token::Or => self.open_root(Bracket::Or, priority),
+            Token::And => self.open_root(Junction::Conjunction, priority),
+            Token::Or => self.open_root(Junction::Disjunction, priority),
             Token::Close => unreachable!(),
-            Token::Yes => self.single(1, priority),
-            Token::No => self.single(0, priority),
-            Token::Cut => self.single(0, priority),
-            Token::Call(number) => self.single(vertices.vertex(number), priority),
+            Token::Yes => self.one_edge(Player::Even, 1, priority),
+            Token::No => self.one_edge(Player::Even, 0, priority),
+            Token::Cut => self.one_edge(Player::Even, 0, priority),
+            Token::Call(number) => self.one_edge(Player::Even, vertices.vertex(number), priority),
         }
     }
 
@@ -223,17 +214,17 @@ impl Builder {
         priority: u32,
     ) -> Result<(), AllocError>
         requires spelled { (tree : Tree) × (tokens.now ≡ tree_tokens tree)
-            × (inner tree < self.old.next)
-            × TreeCalls (λ n. n < length (table_of vertices.now)) tree }
+            × (inner tree < self.old.next) }
         requires before { (behind : List Vertex) × (limit : ℕ)
-            × IsAt (slice_index (table_of vertices.now)) self.old [] behind limit }
+            × IsAt (numbered_vertex vertices.now) self.old [] behind limit }
         ensures { OnOk result ((tree : Tree) (behind : List Vertex) (limit : ℕ)
-            → tokens.now ≡ tree_tokens tree → IsAt
-            (slice_index (table_of vertices.now)) self.old [] behind limit
-            → HasTree (slice_index (table_of vertices.now)) self.new priority tree behind limit) }
+            → tokens.now ≡ tree_tokens tree
+            → IsAt (numbered_vertex vertices.now) self.old [] behind limit
+            → HasTree (numbered_vertex vertices.now) self.new priority tree behind limit) }
     {
         if tokens.len() == ONE_LEAF {
-            return self.put_small(vertices, tokens, priority);
+            let owner = owner(bracket_of(tokens[0]));
+            return self.one_edge(owner, leaf_vertex(vertices, tokens[1]), priority);
         }
         let mut k = tokens.len();
         while k > 1 {

@@ -9,7 +9,7 @@ ghost use Rattle.pb_game_of_trees.specs.TreeGame.{HasTooManyVertices};
 ghost use Rattle.pb_game_of_trees.specs.Explored.{ModuleHasTrees, AreModuleRows, IsModuleGame};
 ghost use Rattle.pb_game_of_trees.specs.Explored.{IsModuleTooLarge};
 
-use crate::signatures::signatures_of;
+use crate::signatures::Signatures;
 use crate::{BuildError, TreeGame};
 use pb_fixpoint_rows::IndexedRows;
 use pb_verifier::Verified;
@@ -33,7 +33,7 @@ pub fn build_rows(
         → AreRowsOf (map signature_of verified.now.equations) trees rows.now
         → HasTooManyVertices (map signature_of verified.now.equations) trees rows.now) }
 {
-    let signatures = signatures_of(alloc, verified)?;
+    let signatures = Signatures::of_module(alloc, verified)?;
     TreeGame::build(alloc, &signatures, rows, verified.initial())
 }
 

@@ -1,12 +1,12 @@
 //! The priorities of equations.
-ghost use Rattle.std.specs.Prelude.{◌≡◌, ◌+◌, ◌^◌, ◌<◌, ◌≤◌, IfOk, length, map, slice_index};
+ghost use Rattle.std.specs.Prelude.{◌≡◌, ◌+◌, ◌^◌, ◌<◌, ◌≤◌, IfOk, length, slice_index};
 ghost use Rattle.pb_fixpoint_trees.specs.Equations.{total};
 ghost use Rattle.pb_fixpoint_trees.specs.Game.{last_priority, priority_before};
 ghost use Rattle.pb_game_of_trees.specs.Levels.{levels_from, priority_in, ends, AreOrdered};
 ghost use Rattle.pb_game_of_trees.specs.Levels.{EndBefore};
-ghost use Rattle.pb_game_of_trees.specs.Equations.{plain};
+ghost use Rattle.pb_game_of_trees.specs.Equations.{equations_of};
 
-use crate::signature::Signature;
+use crate::signatures::Signatures;
 use pb_fixpoint::Sign;
 use std::alloc::{AllocError, Global};
 
@@ -41,88 +41,81 @@ fn priority_before(sign: Sign, next: Sign, priority: u32) -> u32
 }
 
 /// How many instances the equations have.
-pub(crate) fn count_instances(signatures: &[Signature]) -> u32
-    requires { total (map plain signatures.now) < 2 ^ 32 }
-    ensures { result ≡ total (map plain signatures.now) }
+pub(crate) fn count_instances(signatures: &Signatures) -> u32
+    ensures { result ≡ total (equations_of signatures.now.items.items) }
 {
     let mut count = 0;
-    for signature in signatures {
+    for signature in &signatures.items {
         count += signature.size;
     }
     count
 }
 
-/// The level of each equation, in order.
-pub(crate) fn levels(alloc: Global, signatures: &[Signature]) -> Result<Vec<Level>, AllocError>
-    requires few { length signatures.now < 2 ^ 32 }
-    requires numbers { total (map plain signatures.now) < 2 ^ 32 }
-    ensures { IfOk result (λ levels. levels.items ≡ levels_from 0 (map plain signatures.now)) }
-{
-    let mut levels = Vec::with_capacity(alloc, signatures.len())?;
-    let mut end = count_instances(signatures);
-    let mut priority = 0;
-    let mut k = signatures.len();
-    while k > 0 {
-        k -= 1;
-        let sign = signatures[k].sign;
-        priority = if k + 1 < signatures.len() {
-            priority_before(sign, signatures[k + 1].sign, priority)
+/// The levels of equations, of which none ends before an earlier one.
+#[derive(Drop)]
+pub(crate) struct Levels {
+    pub items: Vec<Level>,
+    pub ghost ordered: { AreOrdered items.items },
+}
+
+impl Levels {
+    /// The level of each equation, in order.
+    pub(crate) fn new(alloc: Global, signatures: &Signatures) -> Result<Levels, AllocError>
+        ensures { IfOk result (λ levels. levels.items.items
+            ≡ levels_from 0 (equations_of signatures.now.items.items)) }
+    {
+        let signed = &signatures.items;
+        let mut levels = Vec::with_capacity(alloc, signed.len())?;
+        let mut end = count_instances(signatures);
+        let mut priority = 0;
+        let mut k = signed.len();
+        while k > 0 {
+            k -= 1;
+            let sign = signed[k].sign;
+            priority = if k + 1 < signed.len() {
+                priority_before(sign, signed[k + 1].sign, priority)
+            } else {
+                last_priority(sign)
+            };
+            levels.push(Level { end, priority })?;
+            end -= signed[k].size;
+        }
+        levels.reverse();
+        Ok(Levels { items: levels })
+    }
+
+    /// The place of the first level that ends behind the number, from where the search begins back
+    /// or forth; the number of levels where there is none.
+    fn seek(&self, from: usize, number: u32) -> usize
+        requires { from ≤ length self.now.items.items }
+        ensures within { result ≤ length self.now.items.items }
+        ensures before { EndBefore self.now.items.items result number }
+        ensures behind { result < length self.now.items.items
+            → number < slice_index (ends self.now.items.items) result }
+    {
+        let levels = &self.items;
+        let mut place = from;
+        while place > 0 && number < levels[place - 1].end {
+            place -= 1;
+        }
+        while place < levels.len() && levels[place].end <= number {
+            place += 1;
+        }
+        place
+    }
+
+    /// The priority of the instance with this number. The search begins at `place`, and leaves
+    /// there where it ended, so that numbers in order pass each level once.
+    pub(crate) fn priority_at(&self, place: &mut usize, number: u32) -> u32
+        requires { place.old ≤ length self.now.items.items }
+        ensures place { place.new ≤ length self.now.items.items }
+        ensures priority { result ≡ priority_in self.now.items.items number }
+    {
+        *place = self.seek(*place, number);
+        if *place < self.items.len() {
+            self.items[*place].priority
         } else {
-            last_priority(sign)
-        };
-        levels.push(Level { end, priority })?;
-        end -= signatures[k].size;
-    }
-    levels.reverse();
-    Ok(levels)
-}
-
-/// A place, at or before this one, before which each level ends at the number or before.
-fn back(levels: &[Level], from: usize, number: u32) -> usize
-    requires ordered { AreOrdered levels.now }
-    requires from { from ≤ length levels.now }
-    ensures within { result ≤ length levels.now }
-    ensures before { EndBefore levels.now result number }
-{
-    let mut place = from;
-    while place > 0 {
-        if levels[place - 1].end <= number {
-            return place;
+            0
         }
-        place -= 1;
-    }
-    place
-}
-
-/// The place of the first level that ends behind the number, at or behind this one; the number of
-/// levels where there is none.
-fn forward(levels: &[Level], from: usize, number: u32) -> usize
-    requires from { from ≤ length levels.now }
-    requires before { EndBefore levels.now from number }
-    ensures within { result ≤ length levels.now }
-    ensures before { EndBefore levels.now result number }
-    ensures behind { result < length levels.now → number < slice_index (ends levels.now) result }
-{
-    for place in from..levels.len() {
-        if number < levels[place].end {
-            return place;
-        }
-    }
-    levels.len()
-}
-
-/// The priority of the instance with this number. The search begins at `place`, and leaves there
-/// where it ended, so that numbers in order pass each level once.
-pub(crate) fn priority_at(levels: &[Level], place: &mut usize, number: u32) -> u32
-    requires ordered { AreOrdered levels.now }
-    requires place { place.old ≤ length levels.now }
-    ensures place { place.new ≤ length levels.now }
-    ensures priority { result ≡ priority_in levels.now number }
-{
-    *place = forward(levels, back(levels, *place, number), number);
-    if *place < levels.len() {
-        levels[*place].priority
-    } else {
-        0
     }
 }

@@ -3,11 +3,11 @@ ghost use Rattle.std.specs.Prelude.{◌≡◌, ◌<◌, ℕ, IfOk, List, length,
 ghost use Rattle.std.specs.List.Sorted.{IsStrictlyIncreasing};
 ghost use Rattle.pb_fixpoint_trees.specs.Rows.{Row as plain_row};
 ghost use Rattle.pb_game_of_trees.specs.Held.{Hold};
-ghost use Rattle.pb_game_of_trees.specs.Numbering.{table_of};
+ghost use Rattle.pb_game_of_trees.specs.Numbering.{numbered_vertex};
 ghost use Rattle.pb_game_of_trees.specs.Places.{numbers};
 
 use crate::sorted_vertices::{SortedVertices, numbers_of_rows};
-use pb_fixpoint_rows::IndexedRows;
+use pb_fixpoint_rows::{IndexedRows, ReadRows};
 use pb_game::Game;
 use std::alloc::{AllocError, Global};
 
@@ -25,42 +25,26 @@ pub(crate) enum Numbering<'a> {
 }
 
 impl Numbering<'_> {
-    /// The vertex of a number.
+    /// The vertex of a number; 0 where no row has it.
     pub(crate) fn vertex(&self, number: u32) -> u32
-        requires { number < length (table_of self.now) }
-        ensures { result ≡ slice_index (table_of self.now) number }
+        ensures { result ≡ numbered_vertex self.now number }
     {
         match self {
-            Numbering::Dense(vertices) => vertices[number as usize],
-            Numbering::Table(table) => table[number as usize],
+            Numbering::Dense(vertices) => vertex_at(vertices, number),
+            Numbering::Table(table) => vertex_at(table, number),
             Numbering::Sorted(sorted) => sorted.vertex(number),
         }
     }
 }
 
-/// The vertex of each number of a row; of the other numbers below `count` 0.
-fn vertices_by_number(
-    alloc: Global,
-    rows: &IndexedRows,
-    vertices: &[u32],
-    count: usize,
-) -> Result<Vec<u32>, AllocError>
-    requires lengths { length vertices.now ≡ length rows.now }
-    requires within { (plain : List plain_row) × Hold rows.now plain
-        × IsStrictlyIncreasing (numbers plain)
-        × ((k : ℕ) → k < length plain → slice_index (numbers plain) k < count) }
-    ensures { IfOk result (λ table. (plain : List plain_row) → Hold rows.now plain
-        → (length table.items ≡ count) × ((k : ℕ) → k < length plain
-        → slice_index table.items (slice_index (numbers plain) k) ≡ slice_index vertices.now k)) }
+/// The vertex at a number's place; 0 where there is none.
+fn vertex_at(vertices: &[u32], number: u32) -> u32
+    ensures { result ≡ slice_index vertices.now number }
 {
-    let mut table = vec![in alloc; 0u32; count]?;
-    for k in 0..rows.len() {
-        table[rows.number(k) as usize] = vertices[k];
-    }
-    Ok(table)
+    vertices.get(number as usize).copied().unwrap_or(0)
 }
 
-/// The vertex of each number of a row, and 0 of the other numbers below `count`.
+/// The vertex of each number of a row, and 0 of the others. The numbers are below `count`.
 pub(crate) fn number_vertices<'a>(
     alloc: Global,
     rows: &IndexedRows,
@@ -72,21 +56,20 @@ pub(crate) fn number_vertices<'a>(
         × IsStrictlyIncreasing (numbers plain)
         × ((k : ℕ) → k < length plain → slice_index (numbers plain) k < count) }
     ensures { IfOk result (λ numbering. (plain : List plain_row) → Hold rows.now plain
-        → (length (table_of numbering) ≡ count) × ((k : ℕ) → k < length plain
-        → slice_index (table_of numbering) (slice_index (numbers plain) k)
-        ≡ slice_index vertices.now k)) }
+        → (k : ℕ) → k < length plain
+        → numbered_vertex numbering (slice_index (numbers plain) k)
+        ≡ slice_index vertices.now k) }
 {
     if rows.len() == count {
         return Ok(Numbering::Dense(vertices));
     }
     if rows.len() < count / SPARSE {
         let numbers = numbers_of_rows(alloc, rows)?;
-        Ok(Numbering::Sorted(SortedVertices {
-            numbers,
-            vertices,
-            count,
-        }))
-    } else {
-        Ok(Numbering::Table(vertices_by_number(alloc, rows, vertices, count)?))
+        return Ok(Numbering::Sorted(SortedVertices { numbers, vertices }));
     }
+    let mut table = vec![in alloc; 0u32; count]?;
+    for k in 0..rows.len() {
+        table[rows.number(k) as usize] = vertices[k];
+    }
+    Ok(Numbering::Table(table))
 }

@@ -1,13 +1,15 @@
 //! Where the vertices of rows stand, and how many there are, by one look at each row.
-ghost use Rattle.std.specs.Prelude.{◌≡◌, ◌≤◌, ◌<◌, IfOk, IfSome, MatchOption, List};
+ghost use Rattle.std.specs.Prelude.{◌≡◌, ◌≤◌, ◌<◌, ◌↔◌, Err, IfOk, IfSome, MatchOption, List};
+ghost use Rattle.pb_base.specs.declared.or_memory.OrMemory.TheVariants.{Refused};
 ghost use Rattle.pb_fixpoint_trees.specs.Rows.{Row as plain_row};
 ghost use Rattle.pb_game_of_trees.specs.Held.{Hold};
-ghost use Rattle.pb_game_of_trees.specs.Places.{vertex_behind, vertices_from};
+ghost use Rattle.pb_game_of_trees.specs.Places.{IsSizeOf, ArePlacesOf, vertex_behind, vertices_from};
 ghost use Rattle.pb_base.specs.declared.limits.TheConstants.{MAX_VERTICES};
 
-use crate::size::{Size, inner_of};
+use crate::size::{Size, inner_of, size_of};
+use crate::tree_game::{BuildError, TooManyVertices};
 use pb_base::MAX_VERTICES;
-use pb_fixpoint_rows::{IndexedRows, push};
+use pb_fixpoint_rows::{IndexedRows, ReadRows, push};
 use std::alloc::{AllocError, Global};
 
 /// The vertex of each row, and the size of the game.
@@ -19,7 +21,7 @@ pub(crate) struct Laid {
 
 /// The vertices of the rows' trees lie side by side, behind the two sinks. None where they are more
 /// than a game may have (G01).
-pub(crate) fn lay_rows(alloc: Global, rows: &IndexedRows) -> Result<Option<Laid>, AllocError>
+fn lay_rows(alloc: Global, rows: &IndexedRows) -> Result<Option<Laid>, AllocError>
     ensures laid { IfOk result (λ found. (plain : List plain_row) → Hold rows.now plain
         → MatchOption found (MAX_VERTICES < vertex_behind plain 2)
         (λ laid. (laid.size.vertices ≡ vertex_behind plain 2)
@@ -44,4 +46,23 @@ pub(crate) fn lay_rows(alloc: Global, rows: &IndexedRows) -> Result<Option<Laid>
         edges,
     };
     Ok(Some(Laid { size, vertices }))
+}
+
+/// The same, with the error of a game that has too many vertices: that is found without the vertex
+/// of each row too, where there is no memory for these.
+pub(crate) fn laid_rows(alloc: Global, rows: &IndexedRows) -> Result<Laid, BuildError>
+    ensures size { IfOk result (λ laid. IsSizeOf rows.now laid.size.vertices) }
+    ensures vertices { IfOk result (λ laid. ArePlacesOf rows.now laid.vertices.items) }
+    ensures small { IfOk result (λ laid. laid.size.vertices ≤ MAX_VERTICES) }
+    ensures too_many { (plain : List plain_row) → Hold rows.now plain
+        → (result ≡ Err (Refused (record {}))) ↔ (MAX_VERTICES < vertex_behind plain 2) }
+{
+    match lay_rows(alloc, rows) {
+        Ok(None) => Err(BuildError::Refused(TooManyVertices)),
+        Ok(Some(laid)) => Ok(laid),
+        Err(AllocError) => match size_of(rows) {
+            None => Err(BuildError::Refused(TooManyVertices)),
+            Some(_) => Err(BuildError::Memory),
+        },
+    }
 }

@@ -11,7 +11,7 @@ ghost use Rattle.pb_game_of_trees.specs.Places.{vertex_behind, is_closing};
 ghost use Rattle.pb_base.specs.declared.limits.TheConstants.{MAX_VERTICES};
 
 use pb_base::MAX_VERTICES;
-use pb_fixpoint_rows::IndexedRows;
+use pb_fixpoint_rows::{IndexedRows, ReadRows};
 use pb_fixpoint_trees::Token;
 use pb_game::Game;
 
@@ -32,18 +32,9 @@ fn is_closing(token: Token) -> bool
 }
 
 fn count_closing(tokens: &[Token]) -> usize
-    ensures count { result ≡ count_by is_closing tokens.now }
-    ensures bound { result ≤ length tokens.now }
+    ensures { result ≡ count_by is_closing tokens.now }
 {
     tokens.iter().filter(|token| is_closing(**token)).count()
-}
-
-/// How many brackets there are inside a tree, its root not counted.
-fn inner_brackets(tokens: &[Token]) -> usize
-    ensures inner { (tree : Tree) → tokens.now ≡ tree_tokens tree → result ≡ inner tree }
-    ensures bound { result ≤ length tokens.now }
-{
-    count_closing(tokens).saturating_sub(1)
 }
 
 /// How many tokens the least tree has that has a bracket inside its root.
@@ -59,7 +50,8 @@ pub(crate) fn inner_of(rows: &IndexedRows, k: usize) -> usize
     if rows.tree_len(k) < LEAST_NESTED {
         return 0;
     }
-    inner_brackets(rows.tokens(k))
+    // The root's bracket isn't inside.
+    count_closing(rows.tokens(k)).saturating_sub(1)
 }
 
 /// The size of the game of these rows; none where it has more vertices than a game may have (G01).

@@ -70,7 +70,6 @@ impl Solved {
             (initial : ℕ) (row : Row) → IsTreeGame signatures trees reached initial self.now.built
             → slice_get reached k ≡ Some row → result ≡ solved signatures trees row.number }
     {
-        pb_fixpoint_trees::games_of_rows_are_total();
         self.truth_at(self.built.vertices[k])
     }
 }

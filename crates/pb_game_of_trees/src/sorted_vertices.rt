@@ -4,22 +4,20 @@ ghost use Rattle.std.specs.List.Sorted.{IsStrictlyIncreasing};
 ghost use Rattle.pb_fixpoint_rows.specs.Reached.{numbers_of};
 ghost use Rattle.pb_game_of_trees.specs.Places.{vertex_in};
 
-use pb_fixpoint_rows::IndexedRows;
+use pb_fixpoint_rows::{IndexedRows, ReadRows};
 use std::alloc::{AllocError, Global};
 
-/// The numbers of rows, which rise, with the rows' vertices. The other numbers below `count` have
-/// the vertex 0.
+/// The numbers of rows, which rise, with the rows' vertices.
 #[derive(Drop)]
 pub(crate) struct SortedVertices<'a> {
     pub numbers: Vec<u32>,
     pub vertices: &'a [u32],
-    pub count: usize,
     pub ghost rising: { IsStrictlyIncreasing numbers.items },
     pub ghost sized: { length vertices.now ≡ length numbers.items },
 }
 
 impl SortedVertices<'_> {
-    /// The vertex of a number.
+    /// The vertex of a number; 0 where no row has it.
     pub(crate) fn vertex(&self, number: u32) -> u32
         ensures { result ≡ vertex_in self.now.numbers.items self.now.vertices.now number }
     {

@@ -1,4 +1,4 @@
-use Rattle.std.proofs.Common.{◌≡◌, ℕ, ◌-◌, List, [], take, drop, sym, ap, ◌∙◌, subst, slice_index, get_or, arith}
+use Rattle.std.proofs.Common.{◌≡◌, ℕ, ◌-◌, List, [], take, drop, sym, ap, ◌∙◌, subst, get_or, arith}
 use Rattle.std.proofs.lemmas.List.{take_all, drop_all}
 use Rattle.pb_fixpoint_trees.specs.Rows.{Row}
 use Rattle.pb_fixpoint_rows.specs.Row.{nothing}
@@ -8,8 +8,8 @@ use Rattle.pb_game_of_trees.specs.Draft.{IsDraft}
 use Rattle.pb_game_of_trees.specs.Builder.{IsAt, HasTree}
 use Rattle.pb_game_of_trees.specs.Levels.{priority_in}
 use Rattle.pb_game_of_trees.specs.Places.{vertex_behind}
-use Rattle.pb_game_of_trees.proofs.Rows.{IsNext, number, one_size, count_held, next_row, tokens_of, contained, vertices_before, place_before}
-use Rattle.pb_game_of_trees.specs.Numbering.{table_of}
+use Rattle.pb_game_of_trees.proofs.Rows.{IsNext, number, one_size, count_held, next_row, tokens_of, vertices_before, place_before}
+use Rattle.pb_game_of_trees.specs.Numbering.{numbered_vertex}
 use Rattle.pb_game_of_trees.proofs.row_loop.draft_of.Goals.{After-tokens, In_ok-put_tree}
 use Rattle.pb_game_of_trees.proofs.row_loop.draft_of.Goals as goal
 
@@ -29,7 +29,7 @@ loop-k-init c =
             targets = c.new.ensures.items;
             starts = c.new-2.ensures.items;
             draft = subst (λ (xs : List Row). IsDraft c.in_ok-with_capacity.field-0
-                (row_vertices (slice_index (table_of c.args.vertices.now)) (priority_in c.args.levels.now) xs c.args.size.vertices)) (sym none) c.in_ok-with_capacity.ensures;
+                (row_vertices (numbered_vertex c.args.vertices.now) (priority_in c.args.levels.now.items.items) xs c.args.size.vertices)) (sym none) c.in_ok-with_capacity.ensures;
             reaches = omega arith;
           };
     }
@@ -40,9 +40,9 @@ module _ (c : After-tokens) (plain : List Row) (hold : Hold c.args.rows.now plai
   row = next_row c.args.rows.now plain (c.loop-k.k - 1) hold (omega (arith, c.loop-k.invariant.within))
 
   -- what was put stays where room is made
-  room : IsAt (slice_index (table_of c.args.vertices.now)) c.make_room.new.self []
-      (row_vertices (slice_index (table_of c.args.vertices.now)) (priority_in c.args.levels.now) (drop c.loop-k.k plain) c.loop-k.builder.next) c.loop-k.builder.next
-  room = c.in_ok-make_room.ensures (slice_index (table_of c.args.vertices.now)) [] _ c.loop-k.builder.next (c.loop-k.invariant.behind plain hold)
+  room : IsAt (numbered_vertex c.args.vertices.now) c.make_room.new.self []
+      (row_vertices (numbered_vertex c.args.vertices.now) (priority_in c.args.levels.now.items.items) (drop c.loop-k.k plain) c.loop-k.builder.next) c.loop-k.builder.next
+  room = c.in_ok-make_room.ensures (numbered_vertex c.args.vertices.now) [] _ c.loop-k.builder.next (c.loop-k.invariant.behind plain hold)
 
 pub put_tree-requires-clause-spelled : goal.put_tree-requires-clause-spelled
 put_tree-requires-clause-spelled c =
@@ -52,7 +52,6 @@ put_tree-requires-clause-spelled c =
       n.next.tree,
       c.tokens.ensures ∙ tokens_of r.0 (l.k - 1) _ n,
       omega (arith, l.invariant.place r.0 r.1, place_before r.0 l.k (omega arith) _ n, (room c r.0 r.1).reaches),
-      r.3 n.next (contained r.0 (l.k - 1) _ n),
     )
 
 pub put_tree-requires-clause-before : goal.put_tree-requires-clause-before
@@ -60,8 +59,8 @@ put_tree-requires-clause-before c = (_, _, room c c.requires.rows.0 c.requires.r
 
 -- the row's vertices are put
 put : (c : In_ok-put_tree) (plain : List Row) (hold : Hold c.args.rows.now plain) →
-    HasTree (slice_index (table_of c.args.vertices.now)) c.put_tree.new.self c.priority_at-priority.result (row (goal.at.loop-k-preserved c).After-tokens plain hold).next.tree
-    (row_vertices (slice_index (table_of c.args.vertices.now)) (priority_in c.args.levels.now) (drop c.loop-k.k plain) c.loop-k.builder.next) c.loop-k.builder.next
+    HasTree (numbered_vertex c.args.vertices.now) c.put_tree.new.self c.priority_at-priority.result (row (goal.at.loop-k-preserved c).After-tokens plain hold).next.tree
+    (row_vertices (numbered_vertex c.args.vertices.now) (priority_in c.args.levels.now.items.items) (drop c.loop-k.k plain) c.loop-k.builder.next) c.loop-k.builder.next
 put c plain hold =
     let n = row (goal.at.loop-k-preserved c).After-tokens plain hold in
     c.in_ok-put_tree.ensures n.next.tree _ c.loop-k.builder.next (c.tokens.ensures ∙ tokens_of plain (c.loop-k.k - 1) _ n) (room (goal.at.loop-k-preserved c).After-tokens plain hold)
@@ -69,7 +68,7 @@ put c plain hold =
 pub loop-k-preserved : goal.loop-k-preserved
 loop-k-preserved c =
     let l = c.loop-k in
-    let p = priority_in c.args.levels.now in
+    let p = priority_in c.args.levels.now.items.items in
     record {
       within = omega (arith, l.invariant.within);
       level = c.priority_at-priority.ensures.place;
@@ -83,7 +82,7 @@ loop-k-preserved c =
             targets = h.targets;
             starts = h.starts;
             draft = subst (IsDraft c.put_tree.new.self.draft)
-                (vertices_before plain l.k (omega arith) _ n (slice_index (table_of c.args.vertices.now)) p c.put_tree.new.self.next l.builder.next priority (omega (arith, h.reaches))) h.draft;
+                (vertices_before plain l.k (omega arith) _ n (numbered_vertex c.args.vertices.now) p c.put_tree.new.self.next l.builder.next priority (omega (arith, h.reaches))) h.draft;
             reaches = omega arith;
           };
     }
@@ -91,8 +90,8 @@ loop-k-preserved c =
 pub returns : goal.returns
 returns c = λ plain hold.
     let l = c.loop-k in
-    let at = slice_index (table_of c.args.vertices.now) in
-    let p = priority_in c.args.levels.now in
+    let at = numbered_vertex c.args.vertices.now in
+    let p = priority_in c.args.levels.now.items.items in
     let none : l.k ≡ 0 = omega arith in
     let first : l.builder.next ≡ 2 = l.invariant.place plain hold ∙ ap (λ (k : ℕ). vertex_behind (take k plain) 2) none in
     let all : row_vertices at p (drop l.k plain) l.builder.next ≡ row_vertices at p plain 2 =

@@ -14,9 +14,9 @@ truth_at-requires c =
     let r = c.requires in
     let row = get_or r.2 c.args.k none in
     let e = slice_get-get_or r.2 c.args.k none r.5 in
-    let vertex = row_vertex c.games_of_rows_are_total.ensures.rows r.0 r.1 r.2 r.3 c.args.self.now.built r.4 c.args.k row e r.5 in
-    let within = row_within c.games_of_rows_are_total.ensures.rows r.0 r.1 r.2 r.3 c.args.self.now.built r.4 row (contained r.2 c.args.k row e) in
-    let count = count_rows c.games_of_rows_are_total.ensures.rows r.0 r.1 r.2 r.3 c.args.self.now.built r.4 in
+    let vertex = row_vertex r.0 r.1 r.2 r.3 c.args.self.now.built r.4 c.args.k row e r.5 in
+    let within = row_within r.0 r.1 r.2 r.3 c.args.self.now.built r.4 row (contained r.2 c.args.k row e) in
+    let count = count_rows r.0 r.1 r.2 r.3 c.args.self.now.built r.4 in
     let read = get_or_read c.args.self.now.built.vertices.items c.args.k c.index.result.now (omega (arith, count, r.5)) c.index.ensures 0 in
     omega (arith, read, vertex, within)
 
@@ -24,7 +24,7 @@ pub returns : goal.returns
 returns c = λ signatures trees reached initial row is e.
     let l = within_rows reached c.args.k row e in
     let built = c.args.self.now.built in
-    let vertex = row_vertex c.games_of_rows_are_total.ensures.rows signatures trees reached initial built is c.args.k row e l in
-    let count = count_rows c.games_of_rows_are_total.ensures.rows signatures trees reached initial built is in
+    let vertex = row_vertex signatures trees reached initial built is c.args.k row e l in
+    let count = count_rows signatures trees reached initial built is in
     let read = get_or_read built.vertices.items c.args.k c.index.result.now (omega (arith, count, l)) c.index.ensures 0 in
     c.truth_at.ensures.meaning signatures trees reached is.game row (contained reached c.args.k row e) (sym (read ∙ vertex))

@@ -1,24 +1,104 @@
-use Rattle.std.proofs.Common.{arith}
+use Rattle.std.proofs.Common.{ℕ, List, slice_index, ◌≡◌, ap, ◌∙◌, subst, arith}
 use Rattle.std.proofs.lemmas.Result.{err_from_is_err_and}
-use Rattle.pb_game_of_trees.proofs.LaidOut.{exceeds_found, fits_found}
-use Rattle.pb_game_of_trees.proofs.Refused.{rightly_refused, not_refused}
+use Rattle.std.proofs.lemmas.List.{length-map}
+use Rattle.pb_fixpoint_trees.specs.Tree.{Tree}
+use Rattle.pb_fixpoint_trees.specs.Rows.{Row}
+use Rattle.pb_fixpoint_trees.specs.Game.{game_vertices, vertex_of}
+use Rattle.pb_fixpoint_rows.specs.Reached.{rows_of}
+use Rattle.pb_game_of_trees.specs.Draft.{IsDraft}
+use Rattle.pb_game_of_trees.specs.Numbering.{numbered_vertex}
+use Rattle.pb_game_of_trees.specs.Equations.{equations_of, plain}
+use Rattle.pb_game_of_trees.specs.TreeGame.{AreRowsFrom}
+use Rattle.pb_fixpoint_trees.proofs.Total.{game_is_total}
+use Rattle.pb_game_of_trees.proofs.Reached.{found_row}
+use Rattle.pb_game_of_trees.proofs.Vertices.{IsTable, table_at, vertices_are}
+use Rattle.pb_game_of_trees.proofs.Refused.{refused_alike, not_for_memory, not_refused}
+use Rattle.pb_game_of_trees.proofs.Built.{are, hold, count_vertices, rows_numbered, rows_sized, built, makes_game, few_places, places_below, start_below}
+use Rattle.pb_game_of_trees.proofs.tree_game.TreeGame.build.Goals.{After-vertex-start}
 use Rattle.pb_game_of_trees.proofs.tree_game.TreeGame.build.Goals as goal
 
-pub returns-in-Ok-None-clause-too_many : goal.returns-in-Ok-None-clause-too_many
-returns-in-Ok-None-clause-too_many c = rightly_refused (exceeds_found c.in-Ok-None.field-0 c.in-Ok-None.field-0-is c.in-Ok-None.ensures.laid)
+pub number_vertices-requires-clause-lengths : goal.number_vertices-requires-clause-lengths
+number_vertices-requires-clause-lengths c = count_vertices c.requires.1.are c.deref.ensures.value c.in_ok-size.ensures.vertices
 
-pub returns-in_err-of_laid-in-Ok-Some-clause-too_many : goal.returns-in_err-of_laid-in-Ok-Some-clause-too_many
-returns-in_err-of_laid-in-Ok-Some-clause-too_many c =
+pub number_vertices-requires-clause-within : goal.number_vertices-requires-clause-within
+number_vertices-requires-clause-within c = rows_numbered c.requires.1.are c.count_instances-numbers.ensures
+
+pub draft_of-requires-clause-rows : goal.draft_of-requires-clause-rows
+draft_of-requires-clause-rows c = rows_sized c.requires.1.are c.in_ok-size.ensures.size
+
+module _ (c : After-vertex-start) {trees : ℕ → Tree} (from : AreRowsFrom (equations_of c.args.signatures.now.items.items) trees c.args.rows.now c.args.initial) where
+  abbrev reached : List Row
+  reached = rows_of trees c.args.rows.now
+
+  -- the table gives each row its vertex
+  table : IsTable (numbered_vertex c.in_ok-numbering.numbering) (rows_of trees c.args.rows.now)
+  table = record {
+    at = λ k l. c.in_ok-numbering.ensures reached (hold from.are) k l
+        ∙ ap (λ (ts : List ℕ). slice_index ts k) (c.deref.ensures.value ∙ c.in_ok-size.ensures.vertices reached (hold from.are));
+  }
+
+  -- the draft holds the game's vertices
+  drafted : IsDraft c.in_ok-draft.draft (game_vertices (equations_of c.args.signatures.now.items.items) (rows_of trees c.args.rows.now))
+  drafted = subst (IsDraft c.in_ok-draft.draft) (built from.are table c.in_ok-levels.ensures) (c.in_ok-draft.ensures reached (hold from.are))
+
+  starts : c.vertex-start.result ≡ vertex_of (rows_of trees c.args.rows.now) c.args.initial
+  starts = c.vertex-start.ensures ∙ table_at _ reached table (are from.are).rising c.args.initial (found_row trees c.args.rows.now c.args.initial from.found)
+
+pub into_parts-requires : goal.into_parts-requires
+into_parts-requires c = (_, drafted (goal.at.into_parts-requires c).After-vertex-start c.requires.1)
+
+pub game_of-requires : goal.game_of-requires
+game_of-requires c =
+    let from = c.requires.1 in (
+      _,
+      c.into_parts.ensures _ (drafted (goal.at.game_of-requires c).After-vertex-start from),
+      makes_game from.are game_is_total (omega (arith, length-map c.args.signatures.now.items.items plain, c.args.signatures.now.few))
+          c.in_ok-size.ensures.size c.in_ok-size.ensures.small,
+    )
+
+pub invariant_of-result : goal.invariant_of-result
+invariant_of-result c =
+    let from = c.requires.1 in
+    let called = (goal.at.invariant_of-result c).After-vertex-start in
+    let has = c.in_ok-game.ensures _ (c.into_parts.ensures _ (drafted called from)) in
+    let places = c.in_ok-size.ensures.vertices in
+    record {
+      few = omega (arith, c.in_ok-size.field-0.vertices.ok.0, few_places from.are c.in_ok-size.ensures.size c.in_ok-size.ensures.small places);
+      inside = omega (arith, starts called from, start_below from.are c.args.initial from.found, has.count);
+      rows_inside = λ k d l. omega (arith, places_below from.are places k d l, has.count);
+    }
+
+pub returns-clause-game : goal.returns-clause-game
+returns-clause-game c = λ trees from.
+    let called = (goal.at.returns-clause-game c).After-vertex-start in
+    record {
+      game = record { reached = from.are.system; vertices = c.in_ok-game.ensures _ (c.into_parts.ensures _ (drafted called from)) };
+      vertices = c.in_ok-size.ensures.vertices _ (hold from.are) ∙ vertices_are _ (are from.are).rising;
+      start = starts called from;
+    }
+
+-- ---- the error
+
+pub returns-in_err-size-clause-too_many : goal.returns-in_err-size-clause-too_many
+returns-in_err-size-clause-too_many c =
     let h = err_from_is_err_and c.from_residual.result c.from_residual.ensures.1 in
-    not_refused (λ e. let was = h.1 in let memory = h.2 in cc)
-    (fits_found c.in-Ok-Some.field-0 c.in-Ok-Some.field-0-is c.in-Ok-Some.ensures.small c.in-Ok-Some.ensures.laid)
+    refused_alike c.in_err-size.was h.1 (let same = h.2 in cc) c.laid_rows.ensures.too_many
 
-pub returns-in_ok-of_laid-in-Ok-Some-clause-too_many : goal.returns-in_ok-of_laid-in-Ok-Some-clause-too_many
-returns-in_ok-of_laid-in-Ok-Some-clause-too_many c =
-    not_refused (λ e. cc) (fits_found c.in-Ok-Some.field-0 c.in-Ok-Some.field-0-is c.in-Ok-Some.ensures.small c.in-Ok-Some.ensures.laid)
+pub returns-in_err-numbering-clause-too_many : goal.returns-in_err-numbering-clause-too_many
+returns-in_err-numbering-clause-too_many c =
+    not_for_memory c.from_residual-in_err-numbering.result c.from_residual-in_err-numbering.ensures.1 c.in_ok-size.ensures.size c.in_ok-size.ensures.small
 
-pub returns-in-None-clause-too_many : goal.returns-in-None-clause-too_many
-returns-in-None-clause-too_many c = rightly_refused c.in-None.ensures.size
+pub returns-in_err-levels-clause-too_many : goal.returns-in_err-levels-clause-too_many
+returns-in_err-levels-clause-too_many c =
+    not_for_memory c.from_residual-in_err-levels.result c.from_residual-in_err-levels.ensures.1 c.in_ok-size.ensures.size c.in_ok-size.ensures.small
 
-pub returns-in-Some-clause-too_many : goal.returns-in-Some-clause-too_many
-returns-in-Some-clause-too_many c = not_refused (λ e. cc) (λ plain hold. omega (arith, c.in-Some.ensures.small, c.in-Some.ensures.size plain hold))
+pub returns-in_err-draft-clause-too_many : goal.returns-in_err-draft-clause-too_many
+returns-in_err-draft-clause-too_many c =
+    not_for_memory c.from_residual-in_err-draft.result c.from_residual-in_err-draft.ensures.1 c.in_ok-size.ensures.size c.in_ok-size.ensures.small
+
+pub returns-in_err-game-clause-too_many : goal.returns-in_err-game-clause-too_many
+returns-in_err-game-clause-too_many c =
+    not_for_memory c.from_residual-in_err-game.result c.from_residual-in_err-game.ensures.1 c.in_ok-size.ensures.size c.in_ok-size.ensures.small
+
+pub returns-clause-too_many : goal.returns-clause-too_many
+returns-clause-too_many c = not_refused (λ e. cc) c.in_ok-size.ensures.size c.in_ok-size.ensures.small

@@ -16,8 +16,8 @@ use Rattle.pb_bytecode.specs.Meaning.{signature_of}
 use Rattle.pb_bytecode.proofs.InstanceCounts.{count_is_total}
 use Rattle.pb_game_of_trees.specs.Equations.{plain}
 use Rattle.pb_game_of_trees.proofs.Sizes.{size_at, contents_at}
-use Rattle.pb_game_of_trees.proofs.signatures.signatures_of.Goals.{After-equation_count-k-end}
-use Rattle.pb_game_of_trees.proofs.signatures.signatures_of.Goals as goal
+use Rattle.pb_game_of_trees.proofs.signatures.Signatures.of_module.Goals.{After-equation_count-k-end}
+use Rattle.pb_game_of_trees.proofs.signatures.Signatures.of_module.Goals as goal
 
 -- as many signatures are made as the module has equations
 many : (c : After-equation_count-k-end) → length c.args.verified.now.equations ≡ c.equation_count-k-end.result
@@ -28,11 +28,11 @@ all_taken : (c : After-equation_count-k-end) (k : ℕ) → c.equation_count-k-en
     take k (map signature_of c.args.verified.now.equations) ≡ map signature_of c.args.verified.now.equations
 all_taken c k all = take_all k (map signature_of c.args.verified.now.equations) (omega (arith, many c, length-map c.args.verified.now.equations signature_of))
 
-pub returns-clause-few : goal.returns-clause-few
-returns-clause-few c =
+pub invariant_of-result-clause-numbered : goal.invariant_of-result-clause-numbered
+invariant_of-result-clause-numbered c =
     let xs = map signature_of c.args.verified.now.equations in
     let count : c.count-few.result ≡ total xs = c.count-few.ensures.count ∙ (ap count_of c.layout-layout.ensures ∙ count_is_total c.args.verified.now) in
-    omega (arith, ap total (c.loop-k.invariant ∙ all_taken (goal.at.returns-clause-few c).After-equation_count-k-end c.loop-k.k (omega arith)), count, c.count-few.ensures.few)
+    omega (arith, ap total (c.loop-k.invariant ∙ all_taken (goal.at.invariant_of-result-clause-numbered c).After-equation_count-k-end c.loop-k.k (omega arith)), count, c.count-few.ensures.few)
 
 -- a module has at most 64 equations
 few_equations : (m : Contents) → fits m ≡ true → length m.equations ≤ 64
@@ -42,12 +42,12 @@ few_equations m h =
     let between = (and_parts (is_between 1 65 (length m.equations)) _ equations).0 in
     omega (arith, ltb-true (length m.equations) 65 (and_parts (nat_le 1 (length m.equations)) _ between).1)
 
-pub returns-clause-count : goal.returns-clause-count
-returns-clause-count c =
+pub invariant_of-result-clause-few : goal.invariant_of-result-clause-few
+invariant_of-result-clause-few c =
     let es = c.args.verified.now.equations in
     let same : module_contents c.module-module.result.now ≡ c.args.verified.now = c.module-module.ensures in
     let few = few_equations c.args.verified.now (subst (λ (x : Contents). fits x ≡ true) same c.module-module.result.now.within_limits) in
-    let all = c.loop-k.invariant ∙ all_taken (goal.at.returns-clause-count c).After-equation_count-k-end c.loop-k.k (omega arith) in
+    let all = c.loop-k.invariant ∙ all_taken (goal.at.invariant_of-result-clause-few c).After-equation_count-k-end c.loop-k.k (omega arith) in
     omega (arith, few, ap length all, length-map c.loop-k.signatures.items plain, length-map es signature_of)
 
 pub loop-k-preserved : goal.loop-k-preserved
