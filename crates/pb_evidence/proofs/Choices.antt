@@ -16,13 +16,16 @@ use Rattle.pb_game.specs.Games.{vertex_count, owner_of, successors_of, priority_
 use Rattle.pb_game.specs.declared.certificate.Solution.{Solution}
 use Rattle.pb_game.specs.Solutions.{winner_of, choice_of, count_of}
 use Rattle.pb_game.specs.Certificates.{IsCertificate, IsKept}
-use Rattle.pb_fixpoint_trees.specs.Tree.{Connective, Conjunction, Disjunction, Leaf, Yes, No, Cut, Call, Operands, End, LeafThen, BracketThen, Tree, Single, Root, LeafCalls, OperandsCall, TreeCalls, of_none}
+use Rattle.pb_fixpoint_trees.specs.declared.junction.Junction.{Junction}
+use Rattle.pb_fixpoint_trees.specs.declared.junction.Junction.TheVariants.{Conjunction, Disjunction}
+use Rattle.pb_fixpoint_trees.specs.Junctions.{neutral}
+use Rattle.pb_fixpoint_trees.specs.Tree.{Leaf, Yes, No, Cut, Call, Operands, End, LeafThen, BracketThen, Tree, Single, Root, LeafCalls, OperandsCall, TreeCalls}
 use Rattle.pb_fixpoint_trees.specs.Equations.{Signature}
 use Rattle.pb_fixpoint_trees.specs.Game.{Vertex, brackets, inner, target, targets, vertex_of, sink_of, bracket_successors, bracket_vertex, inner_vertices, tree_vertices, row_vertices, priority_from, game_vertices, false_sink, true_sink}
 use Rattle.pb_fixpoint_trees.specs.Rows.{Row, IsReached}
 use Rattle.pb_fixpoint_trees.proofs.Members.{Among, among_of_contains, contains_of_among, among_rising, among_from_rising}
 use Rattle.pb_strategy.specs.Meaning.{IsGameOfRows}
-use Rattle.pb_strategy.proofs.Players.{player, choosing, connective_cases, not_other, owner-choosing, owner-other, of_none-choosing}
+use Rattle.pb_strategy.proofs.Players.{player, choosing, connective_cases, not_other, owner-choosing, owner-other, neutral-choosing}
 use Rattle.pb_strategy.proofs.Standing.{StandAt, BracketStands, bracket_stands, stand_all, row_stands}
 use Rattle.pb_strategy.proofs.CertifiedVertices.{false_sink-value, true_sink-value}
 use Rattle.pb_strategy.proofs.Winners.{certified}
@@ -211,11 +214,11 @@ module _ (g : Game) (s : Solution) (signatures : List Signature) (trees : ℕ �
   true_stops : (m : ℕ) → Reached m → To 1 m → ⊥
   true_stops = stops 1 (omega arith) (only_of 1 1 (game.vertices.each 1 true_sink refl).successors)
 
-  sink_stops : (c : Connective) (m : ℕ) → Reached m → To (sink_of c) m → ⊥
+  sink_stops : (c : Junction) (m : ℕ) → Reached m → To (sink_of c) m → ⊥
   sink_stops Conjunction m reached h = true_stops m reached h
   sink_stops Disjunction m reached h = false_stops m reached h
 
-  empty_value : (c : Connective) → Won (sink_of c) → of_none c ≡ b
+  empty_value : (c : Junction) → Won (sink_of c) → neutral c ≡ b
   empty_value Conjunction wins = sym (of.at_true wins)
   empty_value Disjunction wins = sym (of.at_false wins)
 
@@ -254,17 +257,17 @@ module _ (g : Game) (s : Solution) (signatures : List Signature) (trees : ℕ �
 
   -- where a bracket leads
   own_target : (f : Operands) (n w : ℕ) → Among (bracket_successors at (choosing b) f n) w → Won w → Among (targets at f n) w
-  own_target End n w (inl e) wins = absurd (not_other b (sym (of_none-choosing b) ∙ empty_value (choosing b) (subst Won (sym e) wins)))
+  own_target End n w (inl e) wins = absurd (not_other b (sym (neutral-choosing b) ∙ empty_value (choosing b) (subst Won (sym e) wins)))
   own_target End n w (inr none) wins = absurd none
   own_target (LeafThen l after) n w h wins = among_from_rising (targets at (LeafThen l after) n) w h
   own_target (BracketThen c inside after) n w h wins = among_from_rising (targets at (BracketThen c inside after) n) w h
 
-  to_targets : (c : Connective) (f : Operands) (n w : ℕ) → Among (targets at f n) w → Among (bracket_successors at c f n) w
+  to_targets : (c : Junction) (f : Operands) (n w : ℕ) → Among (targets at f n) w → Among (bracket_successors at c f n) w
   to_targets c End n w h = absurd h
   to_targets c (LeafThen l after) n w h = among_rising (targets at (LeafThen l after) n) w h
   to_targets c (BracketThen d inside after) n w h = among_rising (targets at (BracketThen d inside after) n) w h
 
-  some_target : (c : Connective) (f : Operands) (n w m : ℕ) → Reached m → Among (bracket_successors at c f n) w → To w m → ToSome (targets at f n) m
+  some_target : (c : Junction) (f : Operands) (n w m : ℕ) → Reached m → Among (bracket_successors at c f n) w → To w m → ToSome (targets at f n) m
   some_target c End n w m reached (inl e) ends = absurd (sink_stops c m reached (subst (λ y. To y m) (sym e) ends))
   some_target c End n w m reached (inr none) ends = absurd none
   some_target c (LeafThen l after) n w m reached h ends =
@@ -311,7 +314,7 @@ module _ (g : Game) (s : Solution) (signatures : List Signature) (trees : ℕ �
       some_target c f (suc v) step.next m r (among_of_contains x.successors step.next (subst (λ (ws : List ℕ). Contains ws step.next) there.successors step.kept.edge)) step.ends)
       (known.all (λ w among. of.region v w below (kept w among) ∙ wins))
 
-  bracket_supported : (c : Connective) (f : Operands) (v p : ℕ) → Chosen f (suc v) → slice_get vertices v ≡ Some (bracket_vertex at p c f (suc v)) → Won v →
+  bracket_supported : (c : Junction) (f : Operands) (v p : ℕ) → Chosen f (suc v) → slice_get vertices v ≡ Some (bracket_vertex at p c f (suc v)) → Won v →
       Supported Reached (IsOperandsSupport b c f) (From v)
   bracket_supported c f v p known stands wins = elim (connective_cases b c) [
     | inl mine ↦ subst (λ d. slice_get vertices v ≡ Some (bracket_vertex at p d f (suc v)) → Supported Reached (IsOperandsSupport b d f) (From v)) (sym mine)
@@ -327,7 +330,7 @@ module _ (g : Game) (s : Solution) (signatures : List Signature) (trees : ℕ �
   chosen : (f : Operands) (n : ℕ) → OperandsCall Reached f → AreApart f n → StandAt vertices n (inner_vertices at f n) → Chosen f n
   chosen End n h far stand = record {
     one = λ w among wins. absurd among;
-    all = λ wins. supported_none Reached (IsOperandsSupport b (choosing (not b)) End) (ToSome []) (of_none-choosing (not b) ∙ not-not b, refl) (λ m r none. none);
+    all = λ wins. supported_none Reached (IsOperandsSupport b (choosing (not b)) End) (ToSome []) (neutral-choosing (not b) ∙ not-not b, refl) (λ m r none. none);
   }
   chosen (LeafThen l after) n h far stand =
       let later = chosen after n h.1 far stand in

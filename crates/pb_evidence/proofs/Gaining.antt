@@ -7,6 +7,7 @@ use Rattle.pb_game.specs.declared.Game.{Game}
 use Rattle.pb_game.specs.Games.{successors_of}
 use Rattle.pb_game.specs.declared.certificate.Solution.{Solution}
 use Rattle.pb_game.specs.Certificates.{IsKept}
+use Rattle.pb_strategy.specs.declared.position.Position.{Position}
 use Rattle.pb_evidence.specs.declared.found.FoundVertices.{FoundVertices}
 use Rattle.pb_evidence.specs.Finding.{Gains}
 use Rattle.pb_evidence.proofs.Finding.{place_of}
@@ -14,7 +15,6 @@ use Rattle.pb_evidence.proofs.Finding.{place_of}
 -- the same property in other words
 pub gains_as : (P Q : ℕ → Type 0) (old new : FoundVertices) → Gains P old new → ((u : ℕ) → P u → Q u) → ((u : ℕ) → Q u → P u) → Gains Q old new
 gains_as P Q old new gains to from = record {
-  found = gains.found;
   width = gains.width;
   longer = gains.longer;
   same = gains.same;
@@ -34,7 +34,6 @@ still_there P old new gains u h =
 pub gains_then : (P Q R : ℕ → Type 0) (a b c : FoundVertices) → Gains P a b → Gains Q b c →
     ((u : ℕ) → P u → R u) → ((u : ℕ) → Q u → R u) → ((u : ℕ) → R u → P u ⊎ Q u) → Gains R a c
 gains_then P Q R a b c first second of_first of_second cases = record {
-  found = second.found;
   width = second.width ∙ first.width;
   longer = (let x = first.longer in let y = second.longer in omega arith);
   same = λ k h. second.same k (let x = first.longer in omega arith) ∙ first.same k h;
@@ -49,6 +48,14 @@ gains_then P Q R a b c first second of_first of_second cases = record {
 }
 
 -- ---- along the edges of a vertex
+
+-- what is found along those of a position is found along those of its vertex
+pub kept_from : (p : Position) (g : Game) (s : Solution) (v : ℕ) {old new : FoundVertices} → p.game.now ≡ g → p.solution.now ≡ s → p.number ≡ v →
+    Gains (λ u. IsKept p.game.now p.solution.now p.number u) old new → Gains (λ u. IsKept g s v u) old new
+kept_from p g s v {old} {new} game solution number gains =
+    subst (λ n. Gains (λ u. IsKept g s n u) old new) number
+    (subst (λ t. Gains (λ u. IsKept g t p.number u) old new) solution
+    (subst (λ h. Gains (λ u. IsKept h p.solution.now p.number u) old new) game gains))
 
 -- a kept edge leads to u, one of the first k edges
 pub record IsKeptBefore (g : Game) (s : Solution) (v k u : ℕ) : Type 0 where

@@ -10,14 +10,13 @@ use Rattle.pb_game.specs.Certificates.{IsKept}
 use Rattle.pb_evidence.specs.Strategies.{IsKeptPath}
 use Rattle.pb_evidence.proofs.Strategies.{path_then}
 use Rattle.pb_evidence.specs.declared.found.FoundVertices.{FoundVertices}
-use Rattle.pb_evidence.specs.Finding.{IsFound, Gains}
+use Rattle.pb_evidence.specs.Finding.{Gains}
 use Rattle.pb_evidence.specs.Searching.{IsOpen, LeadsTo, IsSearched}
 use Rattle.pb_evidence.proofs.Finding.{place_of, listed_within}
 use Rattle.pb_evidence.proofs.Gaining.{still_there}
 
 -- the first k of what was found were looked at
 pub record IsSearching (g : Game) (s : Solution) (marks : List Bool) (v k : ℕ) (f : FoundVertices) : Type 0 where
-  pub found : IsFound f
   pub width : length f.marks.items ≡ vertex_count g
   pub bound : k ≤ length f.vertices.items
   pub some : (u : ℕ) → Contains f.vertices.items u → LeadsTo g s marks v u
@@ -28,7 +27,6 @@ module _ (g : Game) (s : Solution) (marks : List Bool) (v : ℕ) where
   pub search_start : (old new : FoundVertices) → old.vertices.items ≡ [] → length old.marks.items ≡ vertex_count g →
       Gains (λ u. IsKept g s v u) old new → IsSearching g s marks v 0 new
   search_start old new none width gains = record {
-    found = gains.found;
     width = gains.width ∙ width;
     bound = omega arith;
     some = λ u h. elim (gains.only u h) [
@@ -48,13 +46,12 @@ module _ (g : Game) (s : Solution) (marks : List Bool) (v : ℕ) where
     u = get_or f.vertices.items k 0
 
     pub looked_within : u < vertex_count g
-    looked_within = let within = listed_within f is.found k below in let width = is.width in omega arith
+    looked_within = let within = listed_within f k below in let width = is.width in omega arith
 
     pub search_more : (new : FoundVertices) → IsOpen g marks u → Gains (λ w. IsKept g s u w) f new → IsSearching g s marks v (k + 1) new
     search_more new is_open gains =
         let same_at = gains.same in
         record {
-          found = gains.found;
           width = gains.width ∙ is.width;
           bound = (let longer = gains.longer in omega arith);
           some = λ w h. elim (gains.only w h) [
@@ -75,7 +72,6 @@ module _ (g : Game) (s : Solution) (marks : List Bool) (v : ℕ) where
 
     pub search_skip : (IsOpen g marks u → ⊥) → IsSearching g s marks v (k + 1) f
     search_skip closed = record {
-      found = is.found;
       width = is.width;
       bound = omega arith;
       some = is.some;
@@ -102,7 +98,6 @@ module _ (g : Game) (s : Solution) (marks : List Bool) (v : ℕ) where
 
     pub search_end : IsSearched g s marks v f
     search_end = record {
-      found = is.found;
       width = is.width;
       some = is.some;
       all = λ u path. all_found path.0 u path.1;

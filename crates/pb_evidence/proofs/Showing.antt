@@ -1,7 +1,7 @@
 -- What was explored is a strategy graph of whatever system the game was built of, and so a proof graph.
 use Rattle.std.proofs.Common.{◌≡◌, ◌≢◌, ℕ, ◌+◌, ◌<◌, Bool, true, false, List, [], ◌∷◌, length, get_or, map, inl, inr, refl, sym, ap, ◌∙◌, subst, arith}
-use Rattle.std.specs.Prelude.{Contains, AllPairs, ◌==◌, IsTrue, ◌↔◌}
-use Rattle.std.proofs.lemmas.Bool.{cases_Bool, false≢true, eqb-true}
+use Rattle.std.specs.Prelude.{Contains, AllPairs, IsTrue, ◌↔◌}
+use Rattle.std.proofs.lemmas.Bool.{false≢true}
 use Rattle.std.proofs.lemmas.List.{get_or-map, length-map}
 use Rattle.std.proofs.lemmas.List.Elements.{Contains-get_or}
 use Rattle.pb_fixpoint_trees.proofs.Players.{even_or_odd}
@@ -16,13 +16,12 @@ use Rattle.pb_fixpoint_trees.specs.Equations.{Signature, solved}
 use Rattle.pb_fixpoint_trees.specs.Game.{vertex_of}
 use Rattle.pb_fixpoint_trees.specs.Rows.{Row, IsReached}
 use Rattle.pb_strategy.specs.Meaning.{IsGameOfRows, IsSolvedAt}
-use Rattle.pb_strategy.proofs.Players.{player}
 use Rattle.pb_evidence.specs.ProofGraphs.{Graph, IsProofGraph}
 use Rattle.pb_evidence.specs.Supports.{RestsOnChoices}
 use Rattle.pb_evidence.specs.Strategies.{player_for, IsInner, IsKeptPath, IsStrategyGraph}
 use Rattle.pb_evidence.proofs.Strategies.{merely_prove}
 use Rattle.pb_evidence.proofs.Choices.{merely_choose}
-use Rattle.pb_evidence.specs.declared.exploration.Exploration.{Exploration}
+use Rattle.pb_evidence.specs.declared.exploration.DependencyGraph.{DependencyGraph}
 use Rattle.pb_evidence.specs.declared.Evidence.{Evidence}
 use Rattle.pb_evidence.specs.Marks.{IsMarked}
 use Rattle.pb_evidence.specs.BreadthFirst.{IsInRow, IsBreadthFirst}
@@ -41,7 +40,7 @@ pub path_as : (g : Game) (s : Solution) (P Q : ℕ → Type 0) → ((x : ℕ) �
 path_as g s P Q h v [] u path = path
 path_as g s P Q h v (x ∷ xs) u path = (path.0, h x path.1, path_as g s P Q h x xs u path.2)
 
-module _ (g : Game) (s : Solution) (marks : List Bool) (start : ℕ) (x : Exploration) (explored : IsExplored g s marks start x)
+module _ (g : Game) (s : Solution) (marks : List Bool) (start : ℕ) (x : DependencyGraph) (explored : IsExplored g s marks start x)
     (name : ℕ → ℕ) (e : Evidence)
     (instances : e.instances.items ≡ map name x.reached.vertices.items) (places : e.places.items ≡ x.places.items)
     (dependencies : e.dependencies.items ≡ map name x.dependencies.items) where
@@ -117,7 +116,7 @@ module _ (g : Game) (s : Solution) (marks : List Bool) (start : ℕ) (x : Explor
         let v_has = has v (explored.marked v (Contains-get_or vertices i 0 i_below)) in
         let u_has = has u (explored.marked u (Contains-get_or vertices j 0 j_below)) in
         let same : name v ≡ name u = sym (name_at i i_below) ∙ (e' ∙ name_at j j_below) in
-        explored.found.once i j less j_below (sym v_has.place ∙ (ap at same ∙ u_has.place))
+        x.reached.found.once i j less j_below (sym v_has.place ∙ (ap at same ∙ u_has.place))
 
     -- the rows of names have an instance where those of vertices have its vertex
     in_row : (p i : ℕ) → i < length vertices → IsInRow vertices x.places.items x.dependencies.items p i → IsInRow names e.places.items e.dependencies.items p i
@@ -232,7 +231,7 @@ module _ (g : Game) (s : Solution) (marks : List Bool) (start : ℕ) (x : Explor
     pub initial : (n : ℕ) → IsReached rows n → at n ≡ start → get_or names 0 0 ≡ n
     initial n reached is = name_at 0 explored.some ∙ (ap name (explored.first ∙ sym is) ∙ numbered n reached)
 
-pub shown : (g : Game) (s : Solution) (marks : List Bool) (numbers : List ℕ) (start : ℕ) (x : Exploration) → IsExplored g s marks start x →
+pub shown : (g : Game) (s : Solution) (marks : List Bool) (numbers : List ℕ) (start : ℕ) (x : DependencyGraph) → IsExplored g s marks start x →
     ∥ IsCertificate g s ∥₁ → (e : Evidence) →
     e.instances.items ≡ map (λ v. get_or numbers v 0) x.reached.vertices.items → e.places.items ≡ x.places.items →
     e.dependencies.items ≡ map (λ v. get_or numbers v 0) x.dependencies.items →
@@ -263,14 +262,14 @@ shown g s marks numbers start x explored certificate e instances places dependen
     }
 
 -- what was listed are vertices
-pub known_within : (g : Game) (s : Solution) (marks : List Bool) (start : ℕ) (x : Exploration) → IsExplored g s marks start x →
+pub known_within : (g : Game) (s : Solution) (marks : List Bool) (start : ℕ) (x : DependencyGraph) → IsExplored g s marks start x →
     (k : ℕ) → k < length x.dependencies.items → get_or x.dependencies.items k 0 < length x.reached.marks.items
 known_within g s marks start x explored k h =
     let u = get_or x.dependencies.items k 0 in
-    marked_within x.reached.marks.items u (explored.found.listed u (explored.known u (Contains-get_or x.dependencies.items k 0 h)))
+    marked_within x.reached.marks.items u (x.reached.found.listed u (explored.known u (Contains-get_or x.dependencies.items k 0 h)))
 
 -- the rows of what was explored, under the vertices' names
-pub divided : (g : Game) (s : Solution) (marks : List Bool) (start : ℕ) (x : Exploration) → IsExplored g s marks start x → (name : ℕ → ℕ) →
+pub divided : (g : Game) (s : Solution) (marks : List Bool) (start : ℕ) (x : DependencyGraph) → IsExplored g s marks start x → (name : ℕ → ℕ) →
     (instances dependencies : List ℕ) → instances ≡ map name x.reached.vertices.items → dependencies ≡ map name x.dependencies.items →
     IsDividedIntoRows instances x.places.items dependencies
 divided g s marks start x explored name instances dependencies e d =

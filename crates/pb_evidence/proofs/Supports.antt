@@ -5,7 +5,10 @@ use Rattle.std.proofs.lemmas.Bool.{cond-true}
 use Rattle.std.proofs.lemmas.List.Elements.{Contains-append_left, Contains-append_right}
 use Rattle.pb_fixpoint.specs.Solution.{Environment}
 use Rattle.pb_game.specs.Adjacency.{is_among}
-use Rattle.pb_fixpoint_trees.specs.Tree.{Connective, Conjunction, Disjunction, Leaf, Yes, No, Cut, Call, Operands, End, LeafThen, BracketThen, Tree, Single, Root, joined, leaf_truth, operands_truth, tree_truth}
+use Rattle.pb_fixpoint_trees.specs.declared.junction.Junction.{Junction}
+use Rattle.pb_fixpoint_trees.specs.declared.junction.Junction.TheVariants.{Conjunction, Disjunction}
+use Rattle.pb_fixpoint_trees.specs.Junctions.{joined}
+use Rattle.pb_fixpoint_trees.specs.Tree.{Leaf, Yes, No, Cut, Call, Operands, End, LeafThen, BracketThen, Tree, Single, Root, leaf_truth, operands_truth, tree_truth}
 use Rattle.pb_fixpoint_trees.proofs.Members.{contains_of_among}
 use Rattle.pb_strategy.proofs.Players.{joined_left, joined_right, joined_both}
 use Rattle.pb_evidence.specs.ProofGraphs.{exactly}
@@ -20,7 +23,7 @@ HaveValue t b calls = (m : ℕ) → Contains calls m → t m ≡ b
 abbrev Gives : Environment ℕ → Bool → (List ℕ → Type 0) → Bool → Type 0
 Gives t b P x = (calls : List ℕ) → P calls → HaveValue t b calls → x ≡ b
 
-joined_gives : (t : Environment ℕ) (b : Bool) (c : Connective) (P Q : List ℕ → Type 0) (x y : Bool) →
+joined_gives : (t : Environment ℕ) (b : Bool) (c : Junction) (P Q : List ℕ → Type 0) (x y : Bool) →
     Gives t b P x → Gives t b Q y → Gives t b (IsJoined b c P Q) (joined c x y)
 joined_gives t true Disjunction P Q x y one other calls (inl h) values = joined_left true x y (one calls h values)
 joined_gives t true Disjunction P Q x y one other calls (inr h) values = joined_right true x y (other calls h values)
@@ -43,7 +46,7 @@ module _ (t : Environment ℕ) (b : Bool) where
   leaf_gives (Call n) calls h values =
       values n (subst (λ (zs : List ℕ). Contains zs n) (sym h) (contains_of_among (n ∷ []) n (inl refl)))
 
-  operands_give : (c : Connective) (f : Operands) → Gives t b (IsOperandsSupport b c f) (operands_truth t c f)
+  operands_give : (c : Junction) (f : Operands) → Gives t b (IsOperandsSupport b c f) (operands_truth t c f)
   operands_give c End calls h values = h.0
   operands_give c (LeafThen l after) calls h values =
       joined_gives t b c (IsLeafSupport b l) (IsOperandsSupport b c after) (leaf_truth t l) (operands_truth t c after)

@@ -1,7 +1,8 @@
 -- An instance that rests on itself: evidence of truth for nu, and of falsity for mu. And what a
 -- choice between two calls names.
 use Rattle.std.specs.Prelude.{ℕ, true, false, [], ◌∷◌}
-use Rattle.pb_fixpoint_trees.specs.Tree.{Tree, Call, Single, Root, Disjunction, LeafThen, End}
+use Rattle.pb_fixpoint_trees.specs.declared.junction.Junction.TheVariants.{Disjunction}
+use Rattle.pb_fixpoint_trees.specs.Tree.{Tree, Call, Single, Root, LeafThen, End}
 use Rattle.pb_fixpoint_trees.specs.Examples.{mu, nu, tree_at}
 use Rattle.pb_evidence.specs.ProofGraphs.{Graph, IsProofGraph}
 use Rattle.pb_evidence.specs.Supports.{IsSupport}

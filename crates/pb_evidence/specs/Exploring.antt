@@ -6,10 +6,10 @@ use Rattle.pb_game.specs.Adjacency.{row}
 use Rattle.pb_game.specs.Games.{vertex_count}
 use Rattle.pb_game.specs.declared.certificate.Solution.{Solution}
 use Rattle.pb_game.specs.Solutions.{winner_of}
-use Rattle.pb_evidence.specs.declared.exploration.Exploration.{Exploration}
+use Rattle.pb_evidence.specs.declared.exploration.DependencyGraph.{DependencyGraph}
 use Rattle.pb_evidence.specs.Marks.{IsMarked}
 use Rattle.pb_evidence.specs.BreadthFirst.{IsBreadthFirst}
-use Rattle.pb_evidence.specs.Finding.{IsFound, Gains}
+use Rattle.pb_evidence.specs.Finding.{Gains}
 use Rattle.pb_evidence.specs.Searching.{LeadsTo}
 
 -- the next instance's vertex to which v leads can be u
@@ -25,7 +25,7 @@ pub record ListsNext (g : Game) (s : Solution) (marks : List Bool) (v : ℕ) (li
   pub apart : AllPairs (λ (u w : ℕ). u ≢ w) list
 
 -- v was visited: its row stands behind the others, and what is in it was found
-pub record Visits (g : Game) (s : Solution) (marks : List Bool) (v : ℕ) (old new : Exploration)
+pub record Visits (g : Game) (s : Solution) (marks : List Bool) (v : ℕ) (old new : DependencyGraph)
     : Type 0 where
   pub list : List ℕ
   pub next : ListsNext g s marks v list
@@ -34,9 +34,9 @@ pub record Visits (g : Game) (s : Solution) (marks : List Bool) (v : ℕ) (old n
   pub reached : Gains (λ u. CanBeNext g s marks v u) old.reached new.reached
 
 -- the first k of the vertices that were found were visited
-pub record IsExploring (g : Game) (s : Solution) (marks : List Bool) (start k : ℕ) (e : Exploration)
+pub record IsExploring (g : Game) (s : Solution) (marks : List Bool) (start k : ℕ)
+    (e : DependencyGraph)
     : Type 0 where
-  pub found : IsFound e.reached
   pub width : length e.reached.marks.items ≡ vertex_count g
   pub bound : k ≤ length e.reached.vertices.items
   pub sized : length e.places.items ≡ k + 1
@@ -57,5 +57,5 @@ pub record IsExploring (g : Game) (s : Solution) (marks : List Bool) (start k : 
   pub first : slice_index e.reached.vertices.items 0 ≡ start
 
 -- all were visited
-abbrev pub IsExplored : Game → Solution → List Bool → ℕ → Exploration → Type 0
+abbrev pub IsExplored : Game → Solution → List Bool → ℕ → DependencyGraph → Type 0
 IsExplored g s marks start e = IsExploring g s marks start (length e.reached.vertices.items) e

@@ -7,7 +7,6 @@ use Rattle.pb_game.specs.declared.certificate.Solution.{Solution}
 use Rattle.pb_evidence.specs.Strategies.{IsKeptPath}
 use Rattle.pb_evidence.specs.declared.found.FoundVertices.{FoundVertices}
 use Rattle.pb_evidence.specs.Marks.{IsMarked}
-use Rattle.pb_evidence.specs.Finding.{IsFound}
 
 -- v has priority 0, and is no instance's: a bracket's, or the true sink, which leads to itself
 pub record IsOpen (g : Game) (marks : List Bool) (v : ℕ) : Type 0 where
@@ -21,7 +20,6 @@ LeadsTo g s marks v u = (over : List ℕ) × IsKeptPath g s (IsOpen g marks) v o
 -- the vertices to which v leads are found, and no others
 pub record IsSearched (g : Game) (s : Solution) (marks : List Bool) (v : ℕ) (f : FoundVertices)
     : Type 0 where
-  pub found : IsFound f
   pub width : length f.marks.items ≡ vertex_count g
   pub some : (u : ℕ) → Contains f.vertices.items u → LeadsTo g s marks v u
   pub all : (u : ℕ) → LeadsTo g s marks v u → Contains f.vertices.items u

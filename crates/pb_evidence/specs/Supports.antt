@@ -4,7 +4,10 @@
 -- A conjunction is false by one, and true by all. What isn't chosen is left out, so that a support
 -- has no call to which its choice doesn't come.
 use Rattle.std.specs.Prelude.{◌≡◌, ◌⊎◌, ◌↔◌, ℕ, Bool, true, false, List, [], ◌∷◌, ◌++◌, Contains}
-use Rattle.pb_fixpoint_trees.specs.Tree.{Connective, Conjunction, Disjunction, of_none, tree_truth}
+use Rattle.pb_fixpoint_trees.specs.declared.junction.Junction.{Junction}
+use Rattle.pb_fixpoint_trees.specs.declared.junction.Junction.TheVariants.{Conjunction, Disjunction}
+use Rattle.pb_fixpoint_trees.specs.Junctions.{neutral}
+use Rattle.pb_fixpoint_trees.specs.Tree.{tree_truth}
 use Rattle.pb_fixpoint_trees.specs.Tree.{Leaf, Yes, No, Cut, Call, Operands, End, LeafThen, BracketThen}
 use Rattle.pb_fixpoint_trees.specs.Tree.{Tree, Single, Root}
 use Rattle.pb_evidence.specs.ProofGraphs.{Graph, exactly}
@@ -27,14 +30,14 @@ IsOfBoth One Other calls =
 
 -- what joins the supports of an operand and of those behind it
 abbrev pub IsJoined :
-    Bool → Connective → (List ℕ → Type 0) → (List ℕ → Type 0) → List ℕ → Type 0
+    Bool → Junction → (List ℕ → Type 0) → (List ℕ → Type 0) → List ℕ → Type 0
 IsJoined true Disjunction One Other calls = IsOfOne One Other calls
 IsJoined false Conjunction One Other calls = IsOfOne One Other calls
 IsJoined true Conjunction One Other calls = IsOfBoth One Other calls
 IsJoined false Disjunction One Other calls = IsOfBoth One Other calls
 
-abbrev pub IsOperandsSupport : Bool → Connective → Operands → List ℕ → Type 0
-IsOperandsSupport b c End calls = (of_none c ≡ b) × (calls ≡ [])
+abbrev pub IsOperandsSupport : Bool → Junction → Operands → List ℕ → Type 0
+IsOperandsSupport b c End calls = (neutral c ≡ b) × (calls ≡ [])
 IsOperandsSupport b c (LeafThen leaf after) calls =
     IsJoined b c (IsLeafSupport b leaf) (IsOperandsSupport b c after) calls
 IsOperandsSupport b c (BracketThen d inside after) calls =

@@ -8,7 +8,7 @@ ghost use Rattle.pb_evidence_nearby.specs.Nearby.{IsNearby, found_in, nearby_row
 ghost use Rattle.pb_evidence_nearby.specs.Around.{AddsAround, AreAssumedRows, IsAround};
 
 use crate::nearby::Nearby;
-use pb_fixpoint_rows::{IndexedRows, Place, Rows};
+use pb_fixpoint_rows::{IndexedRows, Place, ReadRows, Rows};
 use pb_fixpoint_trees::Token;
 use std::alloc::{AllocError, Global};
 

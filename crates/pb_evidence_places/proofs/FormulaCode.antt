@@ -19,12 +19,12 @@ use Rattle.pb_bytecode_program.specs.Safety.{AreArguments, EndsWith, arguments}
 use Rattle.pb_bytecode_program.specs.declared.instruction.Leaf.TheVariants as leaf
 use Rattle.pb_bytecode_program.specs.declared.instruction.Op.TheVariants as op
 use Rattle.pb_normal.specs.Answer.{slots_of}
-use Rattle.pb_normal.specs.declared.formula.Junction.{Junction}
-use Rattle.pb_normal.specs.declared.formula.Junction.TheVariants.{And, Or}
+use Rattle.pb_fixpoint_trees.specs.declared.junction.Junction.{Junction}
+use Rattle.pb_fixpoint_trees.specs.declared.junction.Junction.TheVariants.{Conjunction, Disjunction}
 use Rattle.pb_normal.specs.Normal.{Term, Formula, Test, Join, Each, Call, Slots, set, value}
 use Rattle.pb_assembler_scheme.specs.Correct.{HasFullCalls, IsCompiled}
 use Rattle.pb_assembler_scheme.specs.Pieces.{Piece, Plain, Then, Repeat, end, HasPieceAt}
-use Rattle.pb_assembler_scheme.specs.Scheme.{bracketed, connective_of, equation_piece, formula_piece}
+use Rattle.pb_assembler_scheme.specs.Scheme.{bracketed, equation_piece, formula_piece}
 use Rattle.pb_assembler_scheme.specs.Scheme.{head, join_piece, junction_of, neutral, parameters}
 use Rattle.pb_assembler_scheme.specs.Scheme.{test_of, test_piece, tested_piece, under}
 use Rattle.pb_assembler_scheme.proofs.Formulas.{at_emit}
@@ -65,13 +65,13 @@ module _ (p : Program) (P : ℕ → Type 0) where
   -- ---- tests
 
   test-runs : (k : Junction) (t : Term) (C : Slots → Type 0) → Compiles p P (test_piece k t) C
-  test-runs And t C st e a n h ag br named only go =
+  test-runs Conjunction t C st e a n h ag br named only go =
       gives p Only t st e a h.0 ag (λ v kv.
       jumps p Only (put p Only st _ (v ∷ st.operands)) true _ v st.operands refl h.1.0
       (λ b. go st.output only)
       (λ b. at_emit p Only leaf.No (put p Only st _ st.operands) n h.1.1 br
       (go _ (one-more P st.output token.No only tt))))
-  test-runs Or t C st e a n h ag br named only go =
+  test-runs Disjunction t C st e a n h ag br named only go =
       gives p Only t st e a h.0 ag (λ v kv.
       jumps p Only (put p Only st _ (v ∷ st.operands)) false _ v st.operands refl h.1.0
       (λ b. go st.output only)
@@ -81,7 +81,7 @@ module _ (p : Program) (P : ℕ → Type 0) where
   tested-runs : (m k : Junction) (t : Term) (x : Piece) (C D : Slots → Type 0)
       → ((a : Slots) → C a → is_true (value a t) ≡ neutral m → D a) → Compiles p P x D
       → Compiles p P (tested_piece m k t x) C
-  tested-runs And And t x C D names hx st e a n h ag br named only go =
+  tested-runs Conjunction Conjunction t x C D names hx st e a n h ag br named only go =
       gives p Only t st e a h.0 ag (λ v kv.
       jumps p Only (put p Only st _ (v ∷ st.operands)) true _ v st.operands refl h.1.0
       (λ b. hx (put p Only st _ st.operands) e a n h.1.3 ag br
@@ -89,7 +89,7 @@ module _ (p : Program) (P : ℕ → Type 0) where
       (λ b. at_emit p Only leaf.No (put p Only st _ st.operands) n h.1.1 br
       (one p Only (record st { place = _; output = st.output ++ token.No ∷ [] }) (op.Jump _) h.1.2
       (go _ (one-more P st.output token.No only tt)))))
-  tested-runs Or Or t x C D names hx st e a n h ag br named only go =
+  tested-runs Disjunction Disjunction t x C D names hx st e a n h ag br named only go =
       gives p Only t st e a h.0 ag (λ v kv.
       jumps p Only (put p Only st _ (v ∷ st.operands)) false _ v st.operands refl h.1.0
       (λ b. hx (put p Only st _ st.operands) e a n h.1.3 ag br
@@ -97,13 +97,13 @@ module _ (p : Program) (P : ℕ → Type 0) where
       (λ b. at_emit p Only leaf.Yes (put p Only st _ st.operands) n h.1.1 br
       (one p Only (record st { place = _; output = st.output ++ token.Yes ∷ [] }) (op.Jump _) h.1.2
       (go _ (one-more P st.output token.Yes only tt)))))
-  tested-runs And Or t x C D names hx st e a n h ag br named only go =
+  tested-runs Conjunction Disjunction t x C D names hx st e a n h ag br named only go =
       gives p Only t st e a h.0 ag (λ v kv.
       jumps p Only (put p Only st _ (v ∷ st.operands)) false _ v st.operands refl h.1.0
       (λ b. go st.output only)
       (λ b. hx (put p Only st _ st.operands) e a n h.1.1 ag br
       (names a named (ap is_true (sym kv) ∙ b)) only go))
-  tested-runs Or And t x C D names hx st e a n h ag br named only go =
+  tested-runs Disjunction Conjunction t x C D names hx st e a n h ag br named only go =
       gives p Only t st e a h.0 ag (λ v kv.
       jumps p Only (put p Only st _ (v ∷ st.operands)) true _ v st.operands refl h.1.0
       (λ b. go st.output only)
@@ -112,9 +112,9 @@ module _ (p : Program) (P : ℕ → Type 0) where
 
   -- ---- brackets
 
-  opening-stands : (m : Junction) → MayStand P (Machine.opening_token (connective_of m))
-  opening-stands And = tt
-  opening-stands Or = tt
+  opening-stands : (m : Junction) → MayStand P (Machine.opening m)
+  opening-stands Conjunction = tt
+  opening-stands Disjunction = tt
 
   shut : (b n : ℕ) (go : ℕ → Outcome) → b ≡ suc n → After p Only (go n)
       → After p Only (Machine.close_bracket b go)
@@ -136,21 +136,21 @@ module _ (p : Program) (P : ℕ → Type 0) where
   bracketed-runs : (m : Junction) (x : Piece) (C : Slots → Type 0) → Compiles p P x C
       → Compiles p P (bracketed m x) C
   bracketed-runs m x C hx st e a n h ag br named only go =
-      one p Only st (op.Open (connective_of m)) h.0 (passes_test p Only (nat_lt st.brackets 32) _ _
+      one p Only st (op.Open m) h.0 (passes_test p Only (nat_lt st.brackets 32) _ _
       (rooted p Only st.brackets st.roots n _ br
       (enclosed x C hx (record st {
         place = st.place + 1;
         brackets = st.brackets + 1;
-        output = st.output ++ Machine.opening_token (connective_of m) ∷ [];
+        output = st.output ++ Machine.opening m ∷ [];
       }) e a st.brackets h.1 ag (add-one st.brackets) named
-      (one-more P st.output (Machine.opening_token (connective_of m)) only (opening-stands m)) go)))
+      (one-more P st.output (Machine.opening m) only (opening-stands m)) go)))
 
   under-runs : (m k : Junction) (x : Piece) (C : Slots → Type 0) → Compiles p P x C
       → Compiles p P (under m k x) C
-  under-runs And And x C hx = hx
-  under-runs Or Or x C hx = hx
-  under-runs And Or x C hx = bracketed-runs And x C hx
-  under-runs Or And x C hx = bracketed-runs Or x C hx
+  under-runs Conjunction Conjunction x C hx = hx
+  under-runs Disjunction Disjunction x C hx = hx
+  under-runs Conjunction Disjunction x C hx = bracketed-runs Conjunction x C hx
+  under-runs Disjunction Conjunction x C hx = bracketed-runs Disjunction x C hx
 
   then-runs : (x y : Piece) (C D : Slots → Type 0) → Compiles p P x C → Compiles p P y D
       → Compiles p P (Then x y) (λ a. C a × D a)
@@ -274,13 +274,13 @@ module _ (p : Program) (P : ℕ → Type 0) where
 
       w : Wins p Only begin
       w =
-          one p Only begin (op.Open (connective_of (head f))) stands.0.0
+          one p Only begin (op.Open (head f)) stands.0.0
           (enclosed (formula_piece p.callees (head f) f) (λ a. NamesOnly a f)
           (formula-runs f (head f) full)
           (record begin {
             place = 1;
             brackets = 1;
             roots = 1;
-            output = Machine.opening_token (connective_of (head f)) ∷ [];
+            output = Machine.opening (head f) ∷ [];
           }) 0 (slots_of tuple) 0 stands.0.1 (start-slots p.parameters tuple fit) refl named
           (opening-stands (head f), tt) (λ o k. one p Only _ op.End stands.1 k))

@@ -3,7 +3,9 @@ use Rattle.std.proofs.Common.{◌≡◌, ℕ, zero, suc, ◌<◌, inl, inr, Bool
 use Rattle.std.proofs.Common.{◌++◌, length, get_or, sym, subst, arith}
 use Rattle.std.specs.Prelude.{Contains}
 use Rattle.pb_fixpoint_trees.specs.Tree as trees
-use Rattle.pb_fixpoint_trees.specs.Tree.{Connective, Conjunction, Disjunction, Leaf, Operands, End, LeafThen}
+use Rattle.pb_fixpoint_trees.specs.declared.junction.Junction.{Junction}
+use Rattle.pb_fixpoint_trees.specs.declared.junction.Junction.TheVariants.{Conjunction, Disjunction}
+use Rattle.pb_fixpoint_trees.specs.Tree.{Leaf, Operands, End, LeafThen}
 use Rattle.pb_fixpoint_trees.specs.Tree.{BracketThen, Tree, Single, Root, LeafCalls, OperandsCall, TreeCalls}
 use Rattle.pb_evidence.specs.Supports.{IsJoined, IsLeafSupport, IsOperandsSupport, IsTreeSupport}
 
@@ -22,7 +24,7 @@ module _ (P : ℕ → Type 0) where
   leaf-named b trees.Cut xs is calls = subst EachIs (sym is.1) tt
   leaf-named b (trees.Call n) xs is calls = subst EachIs (sym is) (calls, tt)
 
-  joined-named : (b : Bool) (c : Connective) (One Other : List ℕ → Type 0)
+  joined-named : (b : Bool) (c : Junction) (One Other : List ℕ → Type 0)
       → ((xs : List ℕ) → One xs → EachIs xs) → ((xs : List ℕ) → Other xs → EachIs xs)
       → (xs : List ℕ) → IsJoined b c One Other xs → EachIs xs
   joined-named true Disjunction One Other f g xs is = elim is [ inl h ↦ f xs h | inr h ↦ g xs h ]
@@ -32,7 +34,7 @@ module _ (P : ℕ → Type 0) where
   joined-named false Disjunction One Other f g xs is =
       subst EachIs (sym is.4) (both-are is.0 is.1 (f is.0 is.2) (g is.1 is.3))
 
-  operands-named : (b : Bool) (c : Connective) (os : Operands) → OperandsCall P os
+  operands-named : (b : Bool) (c : Junction) (os : Operands) → OperandsCall P os
       → (xs : List ℕ) → IsOperandsSupport b c os xs → EachIs xs
   operands-named b c End calls xs is = subst EachIs (sym is.1) tt
   operands-named b c (LeafThen l after) calls xs is =

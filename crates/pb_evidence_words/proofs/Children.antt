@@ -8,7 +8,7 @@ use Rattle.std.proofs.lemmas.List.{get_or-set_same, get_or-set_other}
 use Rattle.std.proofs.lemmas.List.Folds.{list_any_more}
 use Rattle.pb_game.specs.Adjacency.{row, is_among}
 use Rattle.pb_evidence.specs.declared.Evidence.{Evidence}
-use Rattle.pb_evidence.proofs.Finding.{IsAt, place_of, contains_at}
+use Rattle.pb_evidence.proofs.Finding.{IsAt, place_of, contains_at, contained}
 use Rattle.pb_evidence_words.specs.Lines.{ArePlaces, HasLines}
 use Rattle.std.specs.Prelude.{Contains}
 
@@ -24,8 +24,8 @@ pub child-is-at : (e : Evidence) → HasLines e → (k i : ℕ) → k < length (
 child-is-at e have k i within less =
     let n = get_or (numbers e) k 0 in
     let m = get_or (row_at e k) i 0 in
-    place_of (numbers e) m (have.closed n m
-    (contains_at (numbers e) k within, subst (λ (xs : List ℕ). Contains xs m) (sym (have.each k within)) (contains_at (row_at e k) i less)))
+    place_of (numbers e) m (contained (numbers e) m (have.closed n m
+    (contains_at (numbers e) k within, subst (λ (xs : List ℕ). Contains xs m) (sym (have.each k within)) (contains_at (row_at e k) i less))))
 
 -- two places of one instance are one
 pub same-place : (e : Evidence) → HasLines e → (i j : ℕ) → i < length (numbers e) → j < length (numbers e)

@@ -1,4 +1,5 @@
 pub mod Children
+pub mod Listed
 pub mod ParentRead
 pub mod Parents
 pub mod Pushed

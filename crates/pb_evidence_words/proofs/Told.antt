@@ -1,14 +1,15 @@
 -- What is told, piece by piece.
-use Rattle.std.proofs.Common.{◌≡◌, ℕ, suc, ◌+◌, ◌==◌, Bool, List, [], ◌∷◌, ◌++◌, length, refl, sym, ap, ◌∙◌, arith}
+use Rattle.std.proofs.Common.{◌≡◌, ℕ, ℤ, suc, ◌+◌, ◌==◌, Bool, true, List, [], ◌∷◌, ◌++◌, flat_map, length, refl, sym, ap, ◌∙◌, subst, arith}
 use Rattle.std.specs.Prelude.{codes, decimal, if◌then◌else◌, Result, Ok, Err, OnOk}
+use Rattle.std.proofs.Props.{props}
+use Rattle.std.proofs.Math.Logic.{∥∥₁_elim}
 use Rattle.std.proofs.lemmas.Bool.{eq-eqb, ne_eqb}
-use Rattle.pb_text_tree.specs.Form.{spec_form}
 use Rattle.pb_fixpoint_trees.specs.Tree.{Tree}
 use Rattle.pb_bytecode.specs.Contents.{Contents}
 use Rattle.pb_bytecode.specs.Meaning.{AreTrees}
-use Rattle.pb_model_words.specs.View.{vocabulary_of}
+use Rattle.pb_bytecode.proofs.Appending.{append_both}
 use Rattle.pb_model_words.specs.Words.{state_text}
-use Rattle.pb_sorts.specs.Instance.{Instance, instance_of}
+use Rattle.pb_sorts.specs.Instance.{Instance}
 use Rattle.pb_typing_calls.specs.MadeCalls.{calls_at}
 use Rattle.pb_typing_calls.specs.declared.made_call.MadeCall as declared_call
 use Rattle.pb_typing_calls.specs.MadeCallView.{call_views}
@@ -17,12 +18,11 @@ use Rattle.pb_report.specs.declared.module_evidence.Explanation.{Explanation}
 use Rattle.pb_report.specs.Cuts.{cuts_of}
 use Rattle.pb_report.specs.ModuleEvidence.{IsExplanation}
 use Rattle.pb_evidence_words.specs.declared.shown.Shown.{Shown}
-use Rattle.pb_evidence_words.specs.declared.caller.Caller.{Caller}
-use Rattle.pb_evidence_words.specs.declared.telling.Telling.{Telling}
 use Rattle.pb_evidence_words.specs.Lines.{HasLines}
 use Rattle.pb_evidence_words.specs.Order.{parent_at}
 use Rattle.pb_evidence_words.specs.Ready.{IsCaller, told_of}
-use Rattle.pb_evidence_words.specs.WhyText.{Told, from_text, arrival_text, line_instance, move_among, move_between, is_empty, with_cuts}
+use Rattle.pb_evidence_words.specs.WhyText.{Told, from_text, arrival_text, line_instance, move_among, move_between, is_empty, with_cuts, cut_text, cuts_text, is_cut_at}
+use Rattle.pb_evidence_words.specs.InstanceLines.{instance_text, mark_among}
 
 pub empty-views : (calls : List declared_call.MadeCall) → is_empty (call_views calls) ≡ (length calls == 0)
 empty-views [] = sym (eq-eqb 0 0 refl)
@@ -46,26 +46,65 @@ abbrev later-arrival : Told → ℕ → List ℕ
 later-arrival t k =
     codes " " ++ (from_text t k ++ move_between t (line_instance t (parent_at t.graph k)) (line_instance t k))
 
-pub arrival-later : (t : Told) (k : ℕ) → (k ≡ 0 → ⊥)
+arrival-later : (t : Told) (k : ℕ) → (k ≡ 0 → ⊥)
     → codes " " ++ (from_text t k ++ move_between t (line_instance t (parent_at t.graph k)) (line_instance t k)) ≡ arrival_text t k
 arrival-later t k other = sym (ap (λ b. if b then first-arrival t else later-arrival t k) (ne_eqb k 0 other))
 
+-- the first line, with its state
+pub arrived-first : (t : Told) (k : ℕ) (i : Instance) → i ≡ line_instance t k → k ≡ 0 → (s0 s1 s2 : List ℕ) (values : List ℤ)
+    → s1 ≡ s0 ++ codes ": " → values ≡ i.values → s2 ≡ s1 ++ state_text t.vocabulary values → s2 ≡ s0 ++ arrival_text t k
+arrived-first t k i is first s0 s1 s2 values opened read stated =
+    let state = state_text t.vocabulary (line_instance t k).values in
+    let named : state_text t.vocabulary values ≡ state = ap (state_text t.vocabulary) read ∙ ap (λ (x : Instance). state_text t.vocabulary x.values) is in
+    let said : codes ": " ++ state ≡ arrival_text t k =
+    subst (λ j. codes ": " ++ state_text t.vocabulary (line_instance t j).values ≡ arrival_text t j) (sym first) refl in
+    append_both s0 s1 s2 (codes ": ") state opened (stated ∙ ap (λ (x : List ℕ). s1 ++ x) named) ∙ ap (λ (x : List ℕ). s0 ++ x) said
+
+-- any other line, with a move from its parent
+pub arrived-later : (t : Told) (k : ℕ) → (k ≡ 0 → ⊥) → (s0 s1 s2 s3 : List ℕ) → s1 ≡ s0 ++ codes " " → s2 ≡ s1 ++ from_text t k
+    → s3 ≡ s2 ++ move_between t (line_instance t (parent_at t.graph k)) (line_instance t k) → s3 ≡ s0 ++ arrival_text t k
+arrived-later t k other s0 s1 s2 s3 opened from moved =
+    let move = move_between t (line_instance t (parent_at t.graph k)) (line_instance t k) in
+    append_both s0 s1 s3 (codes " ") (from_text t k ++ move) opened (append_both s1 s2 s3 (from_text t k) move from moved)
+    ∙ ap (λ (x : List ℕ). s0 ++ x) (arrival-later t k other)
+
+-- the same at a line that is another's by name
+pub caller-at : (t u : Told) (k n : ℕ) {i : Instance} {calls : List declared_call.MadeCall} → t ≡ u → k ≡ n → ∥ IsCaller t k i calls ∥₁ → ∥ IsCaller u n i calls ∥₁
+caller-at t u k n {i} {calls} told place is =
+    subst (λ m. ∥ IsCaller u m i calls ∥₁) place (subst (λ (x : Told). ∥ IsCaller x k i calls ∥₁) told is)
+
 -- the move from a line whose calls are known
-pub move-said : (t : Telling) (p q : ℕ) (x : Caller) → IsCaller t p x → p ≡ q → (i j : Instance) → i ≡ j
-    → (let s = t.shown.now in move_among (vocabulary_of s.vocabulary.now) (call_views x.calls.items) (instance_of x.instance) i
-    ≡ move_between (told_of s) (line_instance (told_of s) q) j)
-move-said t p q x is same i j to =
-    let s = t.shown.now in
-    ap (λ calls. move_among (vocabulary_of s.vocabulary.now) calls (instance_of x.instance) i) is.calls
-    ∙ (ap (λ from. move_among (vocabulary_of s.vocabulary.now) (calls_at (spec_form s.typed.now.spec) (line_instance (told_of s) p)) from i) is.instance
-    ∙ (ap (λ n. move_between (told_of s) (line_instance (told_of s) n) i) same
-    ∙ ap (λ n. move_between (told_of s) (line_instance (told_of s) q) n) to))
+pub move-said : (t : Told) (k : ℕ) (i : Instance) (calls : List declared_call.MadeCall) → ∥ IsCaller t k i calls ∥₁ → (j x : Instance) → j ≡ x
+    → move_among t.vocabulary (call_views calls) i j ≡ move_between t (line_instance t k) x
+move-said t k i calls made j x to = ∥∥₁_elim made (hlevel props) (λ is.
+    ap (λ cs. move_among t.vocabulary cs i j) is.calls
+    ∙ (ap (λ from. move_among t.vocabulary (calls_at t.text (line_instance t k)) from j) is.instance
+    ∙ ap (λ y. move_between t (line_instance t k) y) to))
+
+-- the mark of the step to an instance
+pub mark-said : (t : Told) (k : ℕ) (i : Instance) (calls : List declared_call.MadeCall) → ∥ IsCaller t k i calls ∥₁ → (j x : Instance) → j ≡ x
+    → mark_among t.vocabulary (call_views calls) j ≡ mark_among t.vocabulary (calls_at t.text (line_instance t k)) x
+mark-said t k i calls made j x to = ∥∥₁_elim made (hlevel props) (λ is.
+    ap (λ cs. mark_among t.vocabulary cs j) is.calls ∙ ap (λ y. mark_among t.vocabulary (calls_at t.text (line_instance t k)) y) to)
+
+-- the instance of a line by its name
+pub instance-said : (t : Told) (k : ℕ) (i : Instance) (calls : List declared_call.MadeCall) → ∥ IsCaller t k i calls ∥₁
+    → instance_text t i ≡ instance_text t (line_instance t k)
+instance-said t k i calls made = ∥∥₁_elim made (hlevel props) (λ is. ap (λ y. instance_text t y) is.instance)
+
+-- the calls of a line that leave the ranges, where it rests on one
+pub cuts-said : (t : Told) (k : ℕ) (i : Instance) (calls : List declared_call.MadeCall) → ∥ IsCaller t k i calls ∥₁ → is_cut_at t k ≡ true
+    → flat_map (cut_text t i) (call_views calls) ≡ cuts_text t k
+cuts-said t k i calls made cut = ∥∥₁_elim made (hlevel props) (λ is.
+    ap (λ cs. flat_map (cut_text t i) cs) is.calls
+    ∙ (ap (λ y. flat_map (cut_text t y) (calls_at t.text (line_instance t k))) is.instance
+    ∙ sym (ap (λ b. if b then flat_map (cut_text t (line_instance t k)) (calls_at t.text (line_instance t k)) else []) cut)))
 
 -- evidence has lines
 pub has-lines : (m : Contents) → ModuleHasTrees m → (x : Explanation) → IsExplanation m x → HasLines x.evidence
 has-lines m have x is =
     let shown = (is have.0 have.1).shown in
-    record { once = shown.once; each = shown.each; closed = shown.graph.closed; reached = shown.nearest.reached }
+    record { once = shown.once; each = shown.each; closed = λ n m rests. ∣ shown.graph.closed n m rests ∣₁; reached = λ k later within. ∣ shown.nearest.reached k later within ∣₁ }
 
 -- cuts that are told are those of the trees
 pub told-for : {T E : Type 0} (F : Told → List ℕ) (r : Result T E) (s : Shown) → IsExplanation s.verified.now s.explanation.now → (s0 s1 : List ℕ)

@@ -3,3 +3,5 @@ pub mod Lines
 pub mod WhyText
 pub mod InstanceLines
 pub mod Ready
+pub mod Tellable
+pub mod Callers

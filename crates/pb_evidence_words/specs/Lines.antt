@@ -16,11 +16,11 @@ pub record HasLines (e : Evidence) : Type 0 where
   pub each : (k : ℕ) → k < length e.instances.items
       → (graph_of e).dependencies (slice_index e.instances.items k)
       ≡ row e.places.items e.dependencies.items k
-  pub closed : (n m : ℕ) → RestsOn (graph_of e) n m → Contains e.instances.items m
+  pub closed : (n m : ℕ) → RestsOn (graph_of e) n m → ∥ Contains e.instances.items m ∥₁
   pub reached : (k : ℕ) → 0 < k → k < length e.instances.items
-      → (over : List ℕ)
+      → ∥ ((over : List ℕ)
       × RestsThrough (graph_of e) (slice_index e.instances.items 0) over
-      (slice_index e.instances.items k)
+      (slice_index e.instances.items k)) ∥₁
 
 -- each number is found at its place
 abbrev pub ArePlaces : {S : Type 0} → List ℕ → HashMap ℕ ℕ S → Type 0

@@ -3,7 +3,7 @@ use Rattle.std.specs.Prelude.{◌≡◌, ℕ, ◌<◌, true, List, length, slice
 use Rattle.std.specs.Borrow.{Bor}
 use Rattle.pb_text_tree.specs.Form.{spec_form}
 use Rattle.pb_model_words.specs.View.{vocabulary_of}
-use Rattle.pb_sorts.specs.Instance.{Instance, instance_of, is_instance}
+use Rattle.pb_sorts.specs.Instance.{Instance, is_instance}
 use Rattle.pb_sorts.specs.Layout.{carriers_of, count_of}
 use Rattle.pb_bytecode.specs.Meaning.{parameters}
 use Rattle.pb_evidence.specs.Evidence.{graph_of}
@@ -14,8 +14,6 @@ use Rattle.pb_typing_calls.specs.MadeCallView.{call_view, call_views}
 use Rattle.pb_typing_calls.specs.View.{said_by, layout_of}
 use Rattle.pb_evidence_words.specs.declared.shown.Shown.{Shown}
 use Rattle.pb_evidence_words.specs.declared.lines.Lines.{Lines}
-use Rattle.pb_evidence_words.specs.declared.caller.Caller.{Caller}
-use Rattle.pb_evidence_words.specs.declared.telling.Telling.{Telling}
 use Rattle.pb_evidence_words.specs.Lines.{HasLines, AreLinesOf}
 use Rattle.pb_evidence_words.specs.WhyText.{Told, line_instance}
 
@@ -38,10 +36,10 @@ numbers_of s = s.explanation.now.evidence.instances.items
 abbrev pub IsKnown : Shown → Instance → Type 0
 IsKnown s i = is_instance (carriers_of (parameters s.verified.now)) i ≡ true
 
--- the calls are those of the texts, of instances of the layout, and the lines those of the evidence
+-- the calls are those of the texts, of instances of the layout, and the lines are the evidence's
 pub record IsReady (s : Shown) (calls steps : CallPlaces) (lines : Lines) : Type 0 where
-  pub text : said_by calls ≡ spec_form s.typed.now.spec
-  pub steps_text : said_by steps ≡ spec_form s.steps.now.spec
+  pub text : ∥ said_by calls ≡ spec_form s.typed.now.spec ∥₁
+  pub steps_text : ∥ said_by steps ≡ spec_form s.steps.now.spec ∥₁
   pub layout : carriers_of (layout_of calls) ≡ carriers_of (parameters s.verified.now)
   pub states : (i : Instance) → IsKnown s i
       → is_instance (carriers_of (layout_of steps)) (record { equation = 0; values = i.values })
@@ -51,20 +49,11 @@ pub record IsReady (s : Shown) (calls steps : CallPlaces) (lines : Lines) : Type
   pub below : (k : ℕ) → k < length (numbers_of s)
       → slice_index (numbers_of s) k < count_of (parameters s.verified.now)
 
-abbrev pub IsTold : Telling → Type 0
-IsTold x = IsReady x.shown.now x.calls x.steps x.lines
-
--- the line at k is one of those that are told
-pub record IsLine (x : Telling) (k : ℕ) : Type 0 where
-  pub told : IsTold x
-  pub inside : k < length (numbers_of x.shown.now)
-
--- the instance of the line at k, with the calls that it makes
-pub record IsCaller (x : Telling) (k : ℕ) (caller : Caller) : Type 0 where
-  pub line : IsLine x k
-  pub instance : instance_of caller.instance ≡ line_instance (told_of x.shown.now) k
-  pub calls : call_views caller.calls.items
-      ≡ calls_at (spec_form x.shown.now.typed.now.spec) (line_instance (told_of x.shown.now) k)
+-- this is the instance of the line at k, and these are the calls that it makes
+pub record IsCaller (t : Told) (k : ℕ) (i : Instance) (made : List declared_call.MadeCall)
+    : Type 0 where
+  pub instance : i ≡ line_instance t k
+  pub calls : call_views made ≡ calls_at t.text (line_instance t k)
 
 -- a call that was found
 abbrev pub call_said : Option (Bor declared_call.MadeCall) → Option MadeCall

@@ -1,24 +1,20 @@
 //! What stands below a line: edges to other lines, calls outside the ranges, and the state where
 //! nothing more is called.
 
-ghost use Rattle.std.specs.Prelude.{◌≡◌, ◌<◌, ◌==◌, ◌||◌, ◌++◌};
-ghost use Rattle.std.specs.Prelude.{not, Contains, OnOk, codes, decimal, flat_map};
-ghost use Rattle.std.specs.Prelude.{◌+◌, length, map, string_bytes};
+ghost use Rattle.std.specs.Prelude.{◌≡◌, ◌==◌, ◌||◌, ◌+◌, ◌++◌, not, OnOk, codes};
+ghost use Rattle.std.specs.Prelude.{decimal, flat_map, map, string_bytes};
 ghost use Rattle.pb_typing_calls.specs.MadeCallView.{call_view, call_views};
 ghost use Rattle.pb_base_values.specs.Carrier.{is_within};
-ghost use Rattle.pb_evidence.specs.Evidence.{graph_of};
 ghost use Rattle.pb_sorts.specs.Carrier.{values_of};
 ghost use Rattle.pb_sorts.specs.Instance.{instance_of, is_instance};
 ghost use Rattle.pb_sorts.specs.Layout.{carriers_of};
 ghost use Rattle.pb_bytecode.specs.Meaning.{parameters};
-ghost use Rattle.pb_evidence_words.specs.Order.{has_edge, leads_back, place_of};
-ghost use Rattle.pb_evidence_words.specs.Ready.{IsCaller, IsLine, IsTold, numbers_of, told_of};
-ghost use Rattle.pb_evidence_words.specs.WhyText.{below_text, cut_text, cuts_text, dependencies_at};
-ghost use Rattle.pb_evidence_words.specs.WhyText.{edge_text, end_text, here_text, is_cut_at, reason_text};
-ghost use Rattle.pb_evidence_words.specs.WhyText.{target_text, to_text};
+ghost use Rattle.pb_evidence_words.specs.Ready.{told_of};
+ghost use Rattle.pb_evidence_words.specs.WhyText.{cut_text, is_cut_at};
 
 use crate::caller::Caller;
-use crate::lines::place_in;
+use crate::dependency::Dependency;
+use crate::line::Line;
 use crate::numbers::push_line_number;
 use crate::telling::Telling;
 use pb_model_words::push_state;
@@ -69,100 +65,6 @@ fn push_on(alloc: Global, text: &mut String, line: usize) -> Result<(), AllocErr
 }
 
 impl Telling<'_> {
-    fn leads_back(&self, line: usize, target: usize) -> bool
-        requires line { IsLine self.now line }
-        ensures { result
-            ≡ leads_back (graph_of self.now.shown.now.explanation.now.evidence) line target }
-    {
-        target <= line && self.lines.starts[line] <= target
-    }
-
-    fn push_target(&self, text: &mut String, line: usize, target: usize) -> Result<(), AllocError>
-        requires line { IsLine self.now line }
-        ensures { OnOk result (string_bytes text.new ≡ string_bytes text.old
-            ++ target_text (told_of self.now.shown.now) line target) }
-    {
-        if self.leads_back(line, target) {
-            push_back(self.alloc, text, target)
-        } else {
-            push_on(self.alloc, text, target)
-        }
-    }
-
-    /// Where the line of an instance stands.
-    fn target(&self, number: u32) -> usize
-        requires told { IsTold self.now }
-        requires number { Contains (numbers_of self.now.shown.now) number }
-        ensures place { result
-            ≡ place_of (graph_of self.now.shown.now.explanation.now.evidence) number }
-        ensures within { result < length (numbers_of self.now.shown.now) }
-    {
-        place_in(&self.lines.places, number)
-    }
-
-    fn has_edge(&self, line: usize, number: u32) -> bool
-        requires told { IsTold self.now }
-        requires number { Contains (numbers_of self.now.shown.now) number }
-        ensures { result
-            ≡ has_edge (graph_of self.now.shown.now.explanation.now.evidence) line number }
-    {
-        let target = self.target(number);
-        let parent = self.lines.parents[target];
-        is_edge(target, parent, line)
-    }
-
-    /// The move to an instance.
-    fn push_edge_to(
-        &self,
-        text: &mut String,
-        line: usize,
-        caller: &Caller,
-        number: u32,
-    ) -> Result<(), AllocError>
-        requires caller { IsCaller self.now line caller.now }
-        requires number { Contains (numbers_of self.now.shown.now) number }
-        ensures { OnOk result (string_bytes text.new ≡ string_bytes text.old
-            ++ to_text (told_of self.now.shown.now) line number) }
-    {
-        let called = self.instance(number);
-        let target = self.target(number);
-        text.push_str("  ")?;
-        self.push_move_to(text, caller, &called)?;
-        self.push_target(text, line, target)
-    }
-
-    /// The same, unless the instance's line is shown to come from this one.
-    fn push_edge(
-        &self,
-        text: &mut String,
-        line: usize,
-        caller: &Caller,
-        number: u32,
-    ) -> Result<(), AllocError>
-        requires caller { IsCaller self.now line caller.now }
-        requires number { Contains (numbers_of self.now.shown.now) number }
-        ensures { OnOk result (string_bytes text.new ≡ string_bytes text.old
-            ++ edge_text (told_of self.now.shown.now) line number) }
-    {
-        if self.has_edge(line, number) {
-            self.push_edge_to(text, line, caller, number)
-        } else {
-            Ok(())
-        }
-    }
-
-    fn push_edges(&self, text: &mut String, line: usize, caller: &Caller) -> Result<(), AllocError>
-        requires caller { IsCaller self.now line caller.now }
-        ensures { OnOk result (string_bytes text.new ≡ string_bytes text.old
-            ++ flat_map (edge_text (told_of self.now.shown.now) line)
-            (dependencies_at (told_of self.now.shown.now) line)) }
-    {
-        for number in self.shown.explanation.evidence.dependencies(line) {
-            self.push_edge(text, line, caller, *number)?;
-        }
-        Ok(())
-    }
-
     /// Whether a call names an instance of the layout.
     fn is_inside(&self, call: &MadeCall) -> bool
         ensures { result ≡ is_instance (carriers_of (parameters self.now.shown.now.verified.now))
@@ -212,84 +114,144 @@ impl Telling<'_> {
             None => false,
         }
     }
+}
 
-    fn push_cuts_at(
-        &self,
-        text: &mut String,
-        line: usize,
-        caller: &Caller,
-    ) -> Result<(), AllocError>
-        requires { IsCaller self.now line caller.now }
+impl Dependency<'_> {
+    ghost use Rattle.pb_evidence_words.specs.Callers.{told_by};
+    ghost use Rattle.pb_evidence_words.specs.WhyText.{edge_text};
+
+    /// The move to the instance, unless its line is shown to come from this one.
+    fn push_edge(&self, text: &mut String) -> Result<(), AllocError>
         ensures { OnOk result (string_bytes text.new ≡ string_bytes text.old
-            ++ cuts_text (told_of self.now.shown.now) line) }
+            ++ edge_text (told_by self.now.caller.now.line) self.now.caller.now.line.number
+            self.now.number) }
     {
-        if self.is_cut(line) {
-            self.push_cuts(text, caller)
+        let line = self.caller.line;
+        let telling = line.telling;
+        let target = telling.target(self.number);
+        let parent = telling.lines.parents[target];
+        if !is_edge(target, parent, line.number) {
+            return Ok(());
+        }
+        let called = telling.instance(self.number);
+        text.push_str("  ")?;
+        telling.push_move_to(text, self.caller, &called)?;
+        line.push_target(text, target)
+    }
+}
+
+impl Caller<'_> {
+    ghost use Rattle.pb_evidence_words.specs.Callers.{told_by};
+    ghost use Rattle.pb_evidence_words.specs.WhyText.{cuts_text, dependencies_at, edge_text};
+
+    fn push_edges(&self, text: &mut String) -> Result<(), AllocError>
+        ensures { OnOk result (string_bytes text.new ≡ string_bytes text.old
+            ++ flat_map (edge_text (told_by self.now.line) self.now.line.number)
+            (dependencies_at (told_by self.now.line) self.now.line.number)) }
+    {
+        let evidence = &self.line.telling.shown.explanation.evidence;
+        for number in evidence.dependencies(self.line.number) {
+            let dependency = Dependency {
+                caller: &*self,
+                number: *number,
+            };
+            dependency.push_edge(text)?;
+        }
+        Ok(())
+    }
+
+    fn push_cuts_at(&self, text: &mut String) -> Result<(), AllocError>
+        ensures { OnOk result (string_bytes text.new ≡ string_bytes text.old
+            ++ cuts_text (told_by self.now.line) self.now.line.number) }
+    {
+        let telling = self.line.telling;
+        if telling.is_cut(self.line.number) {
+            telling.push_cuts(text, self)
         } else {
             Ok(())
         }
     }
+}
 
-    /// Why a line rests on no other.
-    fn push_reason(&self, text: &mut String, line: usize) -> Result<(), AllocError>
-        requires line { IsLine self.now line }
-        ensures { OnOk result (string_bytes text.new ≡ string_bytes text.old
-            ++ reason_text (told_of self.now.shown.now) line) }
+impl Line<'_> {
+    ghost use Rattle.pb_evidence_words.specs.Callers.{told_by};
+    ghost use Rattle.pb_evidence_words.specs.Order.{leads_back};
+    ghost use Rattle.pb_evidence_words.specs.WhyText.{below_text, end_text, here_text};
+    ghost use Rattle.pb_evidence_words.specs.WhyText.{reason_text, target_text};
+
+    fn leads_back(&self, target: usize) -> bool
+        ensures { result ≡ leads_back (told_by self.now).graph self.now.number target }
     {
-        if self.is_cut(line) {
+        target <= self.number && self.telling.lines.starts[self.number] <= target
+    }
+
+    fn push_target(&self, text: &mut String, target: usize) -> Result<(), AllocError>
+        ensures { OnOk result (string_bytes text.new ≡ string_bytes text.old
+            ++ target_text (told_by self.now) self.now.number target) }
+    {
+        if self.leads_back(target) {
+            push_back(self.telling.alloc, text, target)
+        } else {
+            push_on(self.telling.alloc, text, target)
+        }
+    }
+
+    /// Why the line rests on no other.
+    fn push_reason(&self, text: &mut String) -> Result<(), AllocError>
+        ensures { OnOk result (string_bytes text.new ≡ string_bytes text.old
+            ++ reason_text (told_by self.now) self.now.number) }
+    {
+        if self.telling.is_cut(self.number) {
             return Ok(());
         }
-        if self.is_stuck(line)? {
+        if self.is_stuck()? {
             return text.push_str(" no step can be taken");
         }
-        if self.shown.explanation.evidence.truth {
+        if self.telling.shown.explanation.evidence.truth {
             text.push_str(" the test holds")
         } else {
             text.push_str(" the test fails")
         }
     }
 
-    fn push_here(&self, text: &mut String, line: usize) -> Result<(), AllocError>
-        requires line { IsLine self.now line }
+    fn push_here(&self, text: &mut String) -> Result<(), AllocError>
         ensures { OnOk result (string_bytes text.new ≡ string_bytes text.old
-            ++ here_text (told_of self.now.shown.now) line) }
+            ++ here_text (told_by self.now) self.now.number) }
     {
-        let instance = self.line_instance(line);
+        let instance = self.instance();
         text.push_str("  here")?;
-        self.push_reason(text, line)?;
+        self.push_reason(text)?;
         text.push_str(": ")?;
         let state = instance.values.as_slice();
-        push_state(self.alloc, text, self.shown.vocabulary, state)?;
+        push_state(
+            self.telling.alloc,
+            text,
+            self.telling.shown.vocabulary,
+            state,
+        )?;
         text.push_str("\n")
     }
 
-    fn push_end(&self, text: &mut String, line: usize) -> Result<(), AllocError>
-        requires line { IsLine self.now line }
+    fn push_end(&self, text: &mut String) -> Result<(), AllocError>
         ensures { OnOk result (string_bytes text.new ≡ string_bytes text.old
-            ++ end_text (told_of self.now.shown.now) line) }
+            ++ end_text (told_by self.now) self.now.number) }
     {
-        if self
-            .shown
-            .explanation
-            .evidence
-            .dependencies(line)
-            .is_empty()
-        {
-            self.push_here(text, line)
+        let evidence = &self.telling.shown.explanation.evidence;
+        if evidence.dependencies(self.number).is_empty() {
+            self.push_here(text)
         } else {
             Ok(())
         }
     }
 
-    /// Puts what stands below a line behind a text.
-    pub(crate) fn push_below(&self, text: &mut String, line: usize) -> Result<(), AllocError>
-        requires line { IsLine self.now line }
+    /// Puts what stands below the line behind a text.
+    pub(crate) fn push_below(&self, text: &mut String) -> Result<(), AllocError>
         ensures { OnOk result (string_bytes text.new ≡ string_bytes text.old
-            ++ below_text (told_of self.now.shown.now) line) }
+            ++ below_text (told_by self.now) self.now.number) }
     {
-        let caller = self.caller(line)?;
-        self.push_edges(text, line, &caller)?;
-        self.push_cuts_at(text, line, &caller)?;
-        self.push_end(text, line)
+        let caller = self.caller()?;
+        caller.push_edges(text)?;
+        caller.push_cuts_at(text)?;
+        self.push_end(text)
     }
 }

@@ -1,19 +1,19 @@
-//! An instance with its calls, and the one that a line comes from.
+//! A line with the calls that its instance makes.
 
+ghost use Rattle.std.specs.Prelude.{◌+◌};
+ghost use Rattle.pb_sorts.specs.Instance.{instance_of};
+ghost use Rattle.pb_evidence_words.specs.Ready.{IsCaller, told_of};
+
+use crate::line::Line;
 use pb_sorts::Instance;
 use pb_typing_calls::MadeCall;
 
-/// The instance of a line, and the calls that its right side makes.
+/// A line with its instance, and the calls that the instance's right side makes.
 #[derive(Drop)]
-pub(crate) struct Caller {
+pub(crate) struct Caller<'t> {
+    pub line: Line<'t>,
     pub instance: Instance,
     pub calls: Vec<MadeCall>,
-}
-
-/// The line that a line comes from. Lines that come from the same one stand together, so that it is
-/// kept from one of them to the next.
-#[derive(Drop)]
-pub(crate) struct Parent {
-    pub line: usize,
-    pub caller: Caller,
+    pub ghost made: { ∥ IsCaller (told_of line.telling.now.shown.now) line.number
+        (instance_of instance) calls.items ∥₁ },
 }

@@ -1,7 +1,7 @@
 //! Lines of instances, each with those that it rests on and the steps that lead to them: for
 //! programs that read evidence.
 
-ghost use Rattle.std.specs.Prelude.{◌≡◌, ◌<◌, ◌++◌, Contains, OnOk, string_bytes};
+ghost use Rattle.std.specs.Prelude.{◌≡◌, ◌++◌, OnOk, string_bytes};
 ghost use Rattle.pb_typing_calls.specs.MadeCallView.{call_views};
 ghost use Rattle.pb_report.specs.EvidenceText.{cut_mark, truth_mark};
 ghost use Rattle.pb_sorts.specs.Instance.{instance_of};
@@ -9,10 +9,12 @@ ghost use Rattle.pb_model_words.specs.View.{vocabulary_of};
 ghost use Rattle.pb_evidence_words.specs.InstanceLines.{call_mark, told_dependencies, told_dependency};
 ghost use Rattle.pb_evidence_words.specs.InstanceLines.{instance_line, instance_lines, instance_text};
 ghost use Rattle.pb_evidence_words.specs.InstanceLines.{mark_among};
-ghost use Rattle.pb_evidence_words.specs.Ready.{IsCaller, IsLine, IsTold, call_said, numbers_of, told_of};
+ghost use Rattle.pb_evidence_words.specs.Ready.{call_said, told_of};
 ghost use Rattle.pb_evidence_words.specs.WhyText.{line_instance};
 
 use crate::caller::Caller;
+use crate::dependency::Dependency;
+use crate::line::Line;
 use crate::moves::first_call;
 use crate::telling::Telling;
 use pb_model_words::{push_step_mark, push_values};
@@ -77,64 +79,73 @@ impl Telling<'_> {
         self.push_call_mark(text, first_call(&caller.calls, called))
     }
 
-    /// An instance that a line rests on.
-    fn push_dependency(
-        &self,
-        text: &mut String,
-        line: usize,
-        caller: &Caller,
-        number: u32,
-    ) -> Result<(), AllocError>
-        requires caller { IsCaller self.now line caller.now }
-        requires number { Contains (numbers_of self.now.shown.now) number }
-        ensures { OnOk result (string_bytes text.new ≡ string_bytes text.old
-            ++ told_dependency (told_of self.now.shown.now)
-            (line_instance (told_of self.now.shown.now) line) number) }
-    {
-        let called = self.instance(number);
-        text.push_str(" ")?;
-        self.push_instance(text, &called)?;
-        self.push_mark_to(text, caller, &called)
-    }
-
-    fn push_dependencies(
-        &self,
-        text: &mut String,
-        line: usize,
-        caller: &Caller,
-    ) -> Result<(), AllocError>
-        requires caller { IsCaller self.now line caller.now }
-        ensures { OnOk result (string_bytes text.new ≡ string_bytes text.old
-            ++ told_dependencies (told_of self.now.shown.now) line) }
-    {
-        for number in self.shown.explanation.evidence.dependencies(line) {
-            self.push_dependency(text, line, caller, *number)?;
-        }
-        Ok(())
-    }
-
-    fn push_instance_line(&self, text: &mut String, line: usize) -> Result<(), AllocError>
-        requires line { IsLine self.now line }
-        ensures { OnOk result (string_bytes text.new ≡ string_bytes text.old
-            ++ instance_line (told_of self.now.shown.now) line) }
-    {
-        let caller = self.caller(line)?;
-        self.push_instance(text, &caller.instance)?;
-        push_truth(text, self.shown.explanation.evidence.truth)?;
-        self.push_dependencies(text, line, &caller)?;
-        push_cut_mark(text, self.is_cut(line))?;
-        text.push_str("\n")
-    }
-
     /// Puts the lines of all instances behind a text.
     pub(crate) fn push_instance_lines(&self, text: &mut String) -> Result<(), AllocError>
-        requires { IsTold self.now }
         ensures { OnOk result (string_bytes text.new ≡ string_bytes text.old
             ++ instance_lines (told_of self.now.shown.now)) }
     {
-        for line in 0..self.shown.explanation.evidence.instances.len() {
-            self.push_instance_line(text, line)?;
+        for number in 0..self.shown.explanation.evidence.instances.len() {
+            let line = Line {
+                telling: &*self,
+                number,
+            };
+            line.push_instance_line(text)?;
         }
         Ok(())
+    }
+}
+
+impl Dependency<'_> {
+    ghost use Rattle.pb_evidence_words.specs.Callers.{told_by};
+
+    /// The instance, with the step that leads to it.
+    fn push_dependency(&self, text: &mut String) -> Result<(), AllocError>
+        ensures { OnOk result (string_bytes text.new ≡ string_bytes text.old
+            ++ told_dependency (told_by self.now.caller.now.line) (line_instance
+            (told_by self.now.caller.now.line) self.now.caller.now.line.number)
+            self.now.number) }
+    {
+        let line = self.caller.line;
+        let telling = line.telling;
+        let called = telling.instance(self.number);
+        text.push_str(" ")?;
+        telling.push_instance(text, &called)?;
+        telling.push_mark_to(text, self.caller, &called)
+    }
+}
+
+impl Caller<'_> {
+    ghost use Rattle.pb_evidence_words.specs.Callers.{told_by};
+
+    fn push_dependencies(&self, text: &mut String) -> Result<(), AllocError>
+        ensures { OnOk result (string_bytes text.new ≡ string_bytes text.old
+            ++ told_dependencies (told_by self.now.line) self.now.line.number) }
+    {
+        let evidence = &self.line.telling.shown.explanation.evidence;
+        for number in evidence.dependencies(self.line.number) {
+            let dependency = Dependency {
+                caller: &*self,
+                number: *number,
+            };
+            dependency.push_dependency(text)?;
+        }
+        Ok(())
+    }
+}
+
+impl Line<'_> {
+    ghost use Rattle.pb_evidence_words.specs.Callers.{told_by};
+
+    fn push_instance_line(&self, text: &mut String) -> Result<(), AllocError>
+        ensures { OnOk result (string_bytes text.new ≡ string_bytes text.old
+            ++ instance_line (told_by self.now) self.now.number) }
+    {
+        let telling = self.telling;
+        let caller = self.caller()?;
+        telling.push_instance(text, &caller.instance)?;
+        push_truth(text, telling.shown.explanation.evidence.truth)?;
+        caller.push_dependencies(text)?;
+        push_cut_mark(text, telling.is_cut(self.number))?;
+        text.push_str("\n")
     }
 }

@@ -6,6 +6,7 @@
 
 mod below;
 mod caller;
+mod dependency;
 mod instance_lines;
 mod line;
 mod lines;

@@ -4,10 +4,9 @@
 ghost use Rattle.std.specs.Prelude.{◌≡◌, ◌≢◌, ◌<◌, ℕ, IfOk, length, nat_eq, slice_index, unwrap_or};
 ghost use Rattle.std.specs.Prelude.{if◌then◌else◌};
 ghost use Rattle.std.specs.HashMap.{get};
-ghost use Rattle.pb_game.specs.Adjacency.{is_among, row};
 ghost use Rattle.pb_evidence.specs.Evidence.{graph_of};
 ghost use Rattle.pb_evidence_words.specs.Lines.{AreLinesOf, ArePlaces, HasLines};
-ghost use Rattle.pb_evidence_words.specs.Order.{parent_at, run_start};
+ghost use Rattle.pb_evidence_words.specs.Order.{run_start};
 
 use pb_evidence::Evidence;
 use std::alloc::{AllocError, Global};
@@ -42,49 +41,54 @@ pub(crate) fn place_in(places: &HashMap<u32, usize>, number: u32) -> usize
     places.get(&number).copied().unwrap_or(0)
 }
 
-/// Lets the lines of all instances that a line rests on come from that line.
-fn take_children(
-    evidence: &Evidence,
-    places: &HashMap<u32, usize>,
-    line: usize,
-    parents: &mut [usize],
-)
-    requires lines { HasLines evidence.now }
-    requires places { ArePlaces evidence.now.instances.items places.now }
-    requires line { line < length evidence.now.instances.items }
-    requires sized { length parents.old ≡ length evidence.now.instances.items }
-    ensures { (k : ℕ) → k < length evidence.now.instances.items → slice_index parents.new k
-        ≡ (if is_among (row evidence.now.places.items evidence.now.dependencies.items line)
-        (slice_index evidence.now.instances.items k) then line else slice_index parents.old k) }
-{
-    for child in evidence.dependencies(line) {
-        let place = place_in(places, *child);
-        parents[place] = line;
-    }
+/// Evidence, with the place of each instance's line.
+#[derive(Clone, Copy)]
+struct IndexedEvidence<'e> {
+    evidence: &'e Evidence,
+    places: &'e HashMap<u32, usize>,
+    ghost lines: { HasLines evidence.now },
+    ghost placed: { ArePlaces evidence.now.instances.items places.now },
 }
 
-/// The line that each line comes from. The lines are gone through from the last to the first, so
-/// that the first one that rests on an instance is left as the one that its line comes from.
-fn parents_of(
-    alloc: Global,
-    evidence: &Evidence,
-    places: &HashMap<u32, usize>,
-) -> Result<Vec<usize>, AllocError>
-    requires lines { HasLines evidence.now }
-    requires places { ArePlaces evidence.now.instances.items places.now }
-    ensures sized { IfOk result (λ parents. length parents.items
-        ≡ length evidence.now.instances.items) }
-    ensures parents { IfOk result (λ parents. (k : ℕ) → k < length evidence.now.instances.items
-        → slice_index parents.items k ≡ parent_at (graph_of evidence.now) k) }
-{
-    let count = evidence.instances.len();
-    let mut parents = vec![in alloc; count; count]?;
-    let mut line = count;
-    while line > 0 {
-        line -= 1;
-        take_children(evidence, places, line, &mut parents);
+impl IndexedEvidence<'_> {
+    ghost use Rattle.pb_game.specs.Adjacency.{is_among, row};
+    ghost use Rattle.pb_evidence_words.specs.Order.{parent_at};
+
+    /// Lets the lines of all instances that a line rests on come from that line.
+    fn take_children(&self, line: usize, parents: &mut [usize])
+        requires line { line < length self.now.evidence.now.instances.items }
+        requires sized { length parents.old ≡ length self.now.evidence.now.instances.items }
+        ensures { (k : ℕ) → k < length self.now.evidence.now.instances.items
+            → slice_index parents.new k
+            ≡ (if is_among (row self.now.evidence.now.places.items
+            self.now.evidence.now.dependencies.items line)
+            (slice_index self.now.evidence.now.instances.items k)
+            then line else slice_index parents.old k) }
+    {
+        for child in self.evidence.dependencies(line) {
+            let place = place_in(self.places, *child);
+            parents[place] = line;
+        }
     }
-    Ok(parents)
+
+    /// The line that each line comes from. The lines are gone through from the last to the first,
+    /// so that the first one that rests on an instance is left as the one that its line comes from.
+    fn parents(&self, alloc: Global) -> Result<Vec<usize>, AllocError>
+        ensures sized { IfOk result (λ parents. length parents.items
+            ≡ length self.now.evidence.now.instances.items) }
+        ensures parents { IfOk result (λ parents.
+            (k : ℕ) → k < length self.now.evidence.now.instances.items
+            → slice_index parents.items k ≡ parent_at (graph_of self.now.evidence.now) k) }
+    {
+        let count = self.evidence.instances.len();
+        let mut parents = vec![in alloc; count; count]?;
+        let mut line = count;
+        while line > 0 {
+            line -= 1;
+            self.take_children(line, &mut parents);
+        }
+        Ok(parents)
+    }
 }
 
 /// Where the longest run that ends with a line begins, those of the lines before being known.
@@ -123,7 +127,11 @@ impl Lines {
         ensures { IfOk result (λ lines. AreLinesOf (graph_of evidence.now) lines) }
     {
         let places = places_of(alloc, &evidence.instances)?;
-        let parents = parents_of(alloc, evidence, &places)?;
+        let indexed = IndexedEvidence {
+            evidence,
+            places: &places,
+        };
+        let parents = indexed.parents(alloc)?;
         let starts = starts_of(alloc, &parents)?;
         Ok(Lines {
             places,

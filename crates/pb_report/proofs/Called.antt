@@ -3,7 +3,9 @@ use Rattle.std.proofs.Common.{◌≡◌, ℕ, zero, suc, ◌<◌, Bool, true, fa
 use Rattle.std.specs.Prelude.{Contains}
 use Rattle.std.proofs.lemmas.List.{get_or-map, length-map}
 use Rattle.std.proofs.lemmas.List.Elements.{Contains-append_cases}
-use Rattle.pb_fixpoint_trees.specs.Tree.{Connective, Conjunction, Disjunction, Leaf, Yes, No, Cut, Call, Operands, End, LeafThen, BracketThen, Tree, Single, Root, LeafCalls, OperandsCall, TreeCalls}
+use Rattle.pb_fixpoint_trees.specs.declared.junction.Junction.{Junction}
+use Rattle.pb_fixpoint_trees.specs.declared.junction.Junction.TheVariants.{Conjunction, Disjunction}
+use Rattle.pb_fixpoint_trees.specs.Tree.{Leaf, Yes, No, Cut, Call, Operands, End, LeafThen, BracketThen, Tree, Single, Root, LeafCalls, OperandsCall, TreeCalls}
 use Rattle.pb_fixpoint_trees.specs.Equations.{Signature}
 use Rattle.pb_fixpoint_trees.specs.Rows as plain
 use Rattle.pb_fixpoint_rows.specs.Row.{TokenRow, nothing}
@@ -42,7 +44,7 @@ module _ (P : ℕ → Type 0) (b : Bool) where
     | inr right ↦ other m right
   ]
 
-joined_called : (P : ℕ → Type 0) (b : Bool) (c : Connective) (One Other : List ℕ → Type 0) →
+joined_called : (P : ℕ → Type 0) (b : Bool) (c : Junction) (One Other : List ℕ → Type 0) →
     ((xs : List ℕ) → One xs → Hold P b xs) → ((ys : List ℕ) → Other ys → Hold P b ys) →
     (calls : List ℕ) → IsJoined b c One Other calls → Hold P b calls
 joined_called P true Disjunction One Other one other calls (inl h) = one calls h
@@ -53,7 +55,7 @@ joined_called P true Conjunction One Other one other calls h = both_called P tru
 joined_called P false Disjunction One Other one other calls h = both_called P false h.0 h.1 calls h.4 (one h.0 h.2) (other h.1 h.3)
 
 module _ (P : ℕ → Type 0) (b : Bool) where
-  operands_called : (c : Connective) (f : Operands) → OperandsCall P f → (calls : List ℕ) → IsOperandsSupport b c f calls → Hold P b calls
+  operands_called : (c : Junction) (f : Operands) → OperandsCall P f → (calls : List ℕ) → IsOperandsSupport b c f calls → Hold P b calls
   operands_called c End holds calls is = none_called P b calls is.1
   operands_called c (LeafThen l after) holds calls is =
       joined_called P b c (IsLeafSupport b l) (IsOperandsSupport b c after)

@@ -9,7 +9,10 @@ use Rattle.std.proofs.lemmas.List.Sorted.{list_any-IsPermutation}
 use Rattle.pb_fixpoint.specs.Solution.{Environment}
 use Rattle.pb_game.specs.Adjacency.{row}
 use Rattle.pb_fixpoint_trees.specs.declared.Token.{Token}
-use Rattle.pb_fixpoint_trees.specs.Tree.{Connective, Conjunction, Disjunction, Leaf, Yes, No, Cut, Call, Operands, End, LeafThen, BracketThen, Tree, Single, Root, joined, leaf_truth, operands_truth, tree_truth}
+use Rattle.pb_fixpoint_trees.specs.declared.junction.Junction.{Junction}
+use Rattle.pb_fixpoint_trees.specs.declared.junction.Junction.TheVariants.{Conjunction, Disjunction}
+use Rattle.pb_fixpoint_trees.specs.Junctions.{joined}
+use Rattle.pb_fixpoint_trees.specs.Tree.{Leaf, Yes, No, Cut, Call, Operands, End, LeafThen, BracketThen, Tree, Single, Root, leaf_truth, operands_truth, tree_truth}
 use Rattle.pb_fixpoint_trees.specs.Tokens.{tree_tokens}
 use Rattle.pb_fixpoint_trees.specs.Equations.{Signature}
 use Rattle.pb_fixpoint_rows.specs.Row.{TokenRow, nothing}
@@ -23,7 +26,7 @@ use Rattle.pb_report.specs.Cuts.{uncut_leaf, uncut_operands, uncut, rests_on_cut
 
 -- ---- true values
 
-joined_true : (c : Connective) (x y x' y' : Bool) → (x ≡ true → x' ≡ true) → (y ≡ true → y' ≡ true) → joined c x y ≡ true → joined c x' y' ≡ true
+joined_true : (c : Junction) (x y x' y' : Bool) → (x ≡ true → x' ≡ true) → (y ≡ true → y' ≡ true) → joined c x y ≡ true → joined c x' y' ≡ true
 joined_true Conjunction x y x' y' h k e = grind arith
 joined_true Disjunction x y x' y' h k e = grind arith
 
@@ -34,7 +37,7 @@ module _ (t : Environment ℕ) where
   leaf_true Cut e = refl
   leaf_true (Call n) e = e
 
-  operands_true : (c : Connective) (f : Operands) → operands_truth t c f ≡ true → operands_truth t c (uncut_operands f) ≡ true
+  operands_true : (c : Junction) (f : Operands) → operands_truth t c f ≡ true → operands_truth t c (uncut_operands f) ≡ true
   operands_true c End e = e
   operands_true c (LeafThen l after) e =
       joined_true c (leaf_truth t l) (operands_truth t c after) (leaf_truth t (uncut_leaf l)) (operands_truth t c (uncut_operands after))
@@ -81,7 +84,7 @@ module _ (s t : Environment ℕ) (same : (n : ℕ) → s n ≡ t n) where
   same_leaf Cut = refl
   same_leaf (Call n) = same n
 
-  same_operands : (c : Connective) (f : Operands) → operands_truth s c f ≡ operands_truth t c f
+  same_operands : (c : Junction) (f : Operands) → operands_truth s c f ≡ operands_truth t c f
   same_operands c End = refl
   same_operands c (LeafThen l after) =
       ap (λ (x : Bool). joined c x (operands_truth s c after)) (same_leaf l) ∙ ap (joined c (leaf_truth t l)) (same_operands c after)

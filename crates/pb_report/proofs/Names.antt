@@ -1,5 +1,5 @@
 -- The parts of an instance's name.
-use Rattle.std.proofs.Common.{◌≡◌, ℕ, zero, suc, ◌+◌, ◌<◌, ℤ, true, List, [], ◌∷◌, ◌++◌, length, get_or, drop, map, Option, Some, refl, sym, ap, ◌∙◌, arith}
+use Rattle.std.proofs.Common.{◌≡◌, ℕ, zero, suc, ◌+◌, ◌<◌, ℤ, true, List, [], ◌∷◌, ◌++◌, length, get_or, drop, map, Option, Some, refl, sym, ap, ◌∙◌, append_assoc, arith}
 use Rattle.std.specs.Prelude.{codes}
 use Rattle.std.specs.List.{slice_get}
 use Rattle.std.proofs.lemmas.List.{length-map}
@@ -29,22 +29,38 @@ next_from sorts (x ∷ cs) (v ∷ vs) zero c d l m e = ap (λ (y : Carrier). nex
 next_from sorts (x ∷ cs) (v ∷ vs) (suc k) c d l m e = next_from sorts cs vs k c d (omega arith) (omega (arith, m)) e
 
 -- of the values from k on, the first one and the others
-pub next_at : (sorts : List SortContents) (cs : List Carrier) (vs : Tuple) (k : ℕ) (c : Carrier) (d : ℤ) → k < length cs → length vs ≡ length cs → c ≡ get_or cs k c →
+next_at : (sorts : List SortContents) (cs : List Carrier) (vs : Tuple) (k : ℕ) (c : Carrier) (d : ℤ) → k < length cs → length vs ≡ length cs → c ≡ get_or cs k c →
     more_values sorts (drop k cs) (drop k vs) ≡ next_value sorts c (get_or vs k d) ++ more_values sorts (drop (k + 1) cs) (drop (k + 1) vs)
 next_at sorts cs vs k c d l m e =
     let next : suc k ≡ k + 1 = omega arith in
     next_from sorts cs vs k c d l m e ∙ ap (λ (n : ℕ). next_value sorts c (get_or vs k d) ++ more_values sorts (drop n cs) (drop n vs)) next
 
-pub first_value : (sorts : List SortContents) (cs : List Carrier) (vs : Tuple) (c : Carrier) (d : ℤ) → 0 < length cs → length vs ≡ length cs → c ≡ get_or cs 0 c →
+first_value : (sorts : List SortContents) (cs : List Carrier) (vs : Tuple) (c : Carrier) (d : ℤ) → 0 < length cs → length vs ≡ length cs → c ≡ get_or cs 0 c →
     value_name sorts c (get_or vs 0 d) ++ more_values sorts (drop 1 cs) (drop 1 vs) ≡ values_text sorts cs vs
 first_value sorts [] vs c d l m e = absurd (omega arith)
 first_value sorts (x ∷ cs) [] c d l m e = absurd (omega (arith, m))
 first_value sorts (x ∷ cs) (v ∷ vs) c d l m e = ap (λ (y : Carrier). value_name sorts y v ++ more_values sorts cs vs) e
 
-pub in_parentheses : (sorts : List SortContents) (cs : List Carrier) (vs : Tuple) → 0 < length cs →
+in_parentheses : (sorts : List SortContents) (cs : List Carrier) (vs : Tuple) → 0 < length cs →
     codes "(" ++ (values_text sorts cs vs ++ codes ")") ≡ arguments sorts cs vs
 in_parentheses sorts [] vs l = absurd (omega arith)
 in_parentheses sorts (x ∷ cs) vs l = refl
+
+-- the whole, from the first value on
+pub opened : (sorts : List SortContents) (cs : List Carrier) (vs : Tuple) (c : Carrier) (d : ℤ) → 0 < length cs → length vs ≡ length cs → c ≡ get_or cs 0 c →
+    codes "(" ++ (value_name sorts c (get_or vs 0 d) ++ (more_values sorts (drop 1 cs) (drop 1 vs) ++ codes ")")) ≡ arguments sorts cs vs
+opened sorts cs vs c d l m e =
+    ap (λ (xs : List ℕ). codes "(" ++ xs)
+    (sym (append_assoc (value_name sorts c (get_or vs 0 d)) (more_values sorts (drop 1 cs) (drop 1 vs)) (codes ")"))
+    ∙ ap (λ (xs : List ℕ). xs ++ codes ")") (first_value sorts cs vs c d l m e))
+    ∙ in_parentheses sorts cs vs l
+
+-- of what stands from the value at k on, the first one and the rest
+pub next_closed : (sorts : List SortContents) (cs : List Carrier) (vs : Tuple) (k : ℕ) (c : Carrier) (d : ℤ) → k < length cs → length vs ≡ length cs → c ≡ get_or cs k c →
+    more_values sorts (drop k cs) (drop k vs) ++ codes ")" ≡ next_value sorts c (get_or vs k d) ++ (more_values sorts (drop (k + 1) cs) (drop (k + 1) vs) ++ codes ")")
+next_closed sorts cs vs k c d l m e =
+    ap (λ (xs : List ℕ). xs ++ codes ")") (next_at sorts cs vs k c d l m e)
+    ∙ append_assoc (next_value sorts c (get_or vs k d)) (more_values sorts (drop (k + 1) cs) (drop (k + 1) vs)) (codes ")")
 
 same_length : (cs : List Carrier) (vs : Tuple) → is_within (map values_of cs) vs ≡ true → length vs ≡ length cs
 same_length [] [] h = refl

@@ -5,17 +5,15 @@ use Rattle.pb_fixpoint_trees.specs.Tree.{Tree, No, Single}
 use Rattle.pb_fixpoint_trees.specs.Equations.{Signature}
 use Rattle.pb_fixpoint_trees.specs.Rows as plain
 use Rattle.pb_fixpoint_trees.specs.Game.{vertex_of}
-use Rattle.pb_fixpoint_trees.specs.Laws.{RowsHaveVertices}
 use Rattle.pb_fixpoint_rows.specs.Row.{TokenRow, nothing}
 use Rattle.pb_fixpoint_rows.specs.Reached.{rows_of}
 use Rattle.pb_game.specs.declared.Game.{Game}
 use Rattle.pb_strategy.specs.Meaning.{IsGameOfRows}
-use Rattle.pb_game.specs.Games.{vertex_count}
 use Rattle.pb_game_of_trees.specs.Held.{held}
 use Rattle.pb_game_of_trees.specs.declared.tree_game.TreeGame.{TreeGame}
 use Rattle.pb_game_of_trees.specs.TreeGame.{AreRowsFrom, IsTreeGame}
 use Rattle.pb_game_of_trees.proofs.Reached.{AreReached, found_row, reached_of}
-use Rattle.pb_game_of_trees.proofs.Placed.{count_rows, row_within}
+use Rattle.pb_game_of_trees.proofs.Placed.{count_rows}
 use Rattle.pb_game_of_trees.proofs.Vertices.{vertices_are}
 use Rattle.pb_evidence.specs.Marks.{IsMarked}
 use Rattle.pb_evidence.specs.Evidence.{AreNumbers, IsEvidenceAt, Shows}
@@ -45,8 +43,8 @@ module _ {signatures : List Signature} {trees : ℕ → Tree} {rows : List Token
   count : length rows ≡ length reached
   count = ap length are.held ∙ length-map reached held
 
-  pub as_many : RowsHaveVertices → length built.vertices.items ≡ length rows
-  as_many law = count_rows law signatures trees reached initial built is ∙ sym count
+  pub as_many : length built.vertices.items ≡ length rows
+  as_many = count_rows signatures trees reached initial built is ∙ sym count
 
   pub vertices_rising : AreRising built.vertices.items
   vertices_rising = subst AreRising (vertices_are reached are.rising ∙ sym is.vertices) (vertices_rise reached 2)
@@ -64,13 +62,6 @@ module _ {signatures : List Signature} {trees : ℕ → Tree} {rows : List Token
   -- a row by its place
   there : (k : ℕ) → k < length reached → get_or reached k (get_or reached k none) ≡ get_or reached k none
   there k l = get_or_default reached k (get_or reached k none) none l
-
-  pub vertices_within : RowsHaveVertices → (k : ℕ) → k < length built.vertices.items → get_or built.vertices.items k 0 < vertex_count built.game
-  vertices_within law k l =
-      let row = get_or reached k none in
-      let below : k < length reached = omega (arith, l, ap length is.vertices, length-map reached (λ (x : plain.Row). vertex_of reached x.number)) in
-      let within = row_within law signatures trees reached initial built is row (k, below, there k below) in
-      omega (arith, within, vertex_at k row below (there k below))
 
   module _ (marks : List Bool) (numbers : List ℕ) (marked : AreMarked built.vertices.items rows (length rows) marks numbers) where
     numbered : AreNumbers reached marks numbers

@@ -8,11 +8,11 @@ use Rattle.pb_fixpoint_trees.specs.Tree.{Tree}
 use Rattle.pb_fixpoint_trees.specs.Equations.{total}
 use Rattle.pb_fixpoint_trees.specs.Rows.{Row}
 use Rattle.pb_fixpoint_trees.specs.Game.{Vertex, inner, game_vertices}
-use Rattle.pb_fixpoint_trees.specs.Laws.{GameIsTotal}
 use Rattle.pb_fixpoint_rows.specs.Row as in_memory
 use Rattle.pb_game_of_trees.specs.Held.{held}
 use Rattle.pb_game.specs.declared.Game.{Game}
 use Rattle.pb_game.specs.Games.{vertex_count, priority_of, successors_of}
+use Rattle.pb_game.proofs.Laws.{is_game}
 use Rattle.pb_strategy.specs.Vertices.{IsVertex}
 use Rattle.pb_game_of_trees.specs.Places.{vertices_from}
 use Rattle.pb_game_of_trees.proofs.Reached.{AreReached}
@@ -102,14 +102,6 @@ module _ (m : Contents) (rows : List in_memory.TokenRow) (built : TreeGame) (tre
       subst (λ (o : Option ℕ). IfSome o (λ n. n < count_of (parameters m))) (sym (number_at v))
       (numbers_within reached 2 v (count_of (parameters m)) (λ row c. omega (arith, all, are.are.below row c)))
 
-  pub are_edges : GameIsTotal → (v : ℕ) → v < vertex_count built.game → 0 < length (successors_of built.game v)
-  are_edges law v l =
-      let xs = game_vertices (map signature_of m.equations) reached in
-      let found = vertex_there xs v (omega (arith, l, is.game.vertices.count)) in
-      let vertex = law (map signature_of m.equations) trees reached are.are v found.0 found.1 in
-      omega (arith, vertex.some, ap length (is.game.vertices.each v found.0 found.1).successors)
-    where
-      vertex_there : (xs : List Vertex) (v : ℕ) → v < length xs → (x : Vertex) × (slice_get xs v ≡ Some x)
-      vertex_there [] v l = absurd (omega arith)
-      vertex_there (x ∷ xs) zero l = (x, refl)
-      vertex_there (x ∷ xs) (suc v) l = vertex_there xs v (omega arith)
+-- each vertex of a game has a successor
+pub are_edges : (g : Game) (v : ℕ) → v < vertex_count g → 0 < length (successors_of g v)
+are_edges g v l = let edge = (is_game g).successor v l in omega (arith, edge.1.1)

@@ -5,7 +5,9 @@ use Rattle.std.proofs.lemmas.List.{append_assoc, drop_all}
 use Rattle.pb_fixpoint.specs.Solution.{Environment}
 use Rattle.pb_fixpoint_trees.specs.declared.Token.{Token}
 use Rattle.pb_fixpoint_trees.specs.declared.Token.TheVariants as token
-use Rattle.pb_fixpoint_trees.specs.Tree.{Connective, Conjunction, Disjunction, Leaf, Yes, No, Cut, Call, Operands, End, LeafThen, BracketThen, Tree, Single, Root, leaf_truth, operands_truth, tree_truth}
+use Rattle.pb_fixpoint_trees.specs.declared.junction.Junction.{Junction}
+use Rattle.pb_fixpoint_trees.specs.declared.junction.Junction.TheVariants.{Conjunction, Disjunction}
+use Rattle.pb_fixpoint_trees.specs.Tree.{Leaf, Yes, No, Cut, Call, Operands, End, LeafThen, BracketThen, Tree, Single, Root, leaf_truth, operands_truth, tree_truth}
 use Rattle.pb_fixpoint_trees.specs.Tokens.{opening, leaf_token, operands_tokens, tree_tokens}
 use Rattle.pb_report.specs.declared.tree_truth.Bracket.{Bracket}
 use Rattle.pb_report.specs.declared.tree_truth.Bracket.TheVariants.{All, Any}
@@ -14,7 +16,7 @@ use Rattle.pb_report.specs.Cuts.{uncut_leaf, uncut_operands, uncut}
 use Rattle.pb_report.specs.Reading.{bracket_truth, with_operand, read, read_on}
 
 -- a bracket before its first operand
-abbrev started : Connective → Bracket
+abbrev started : Junction → Bracket
 started Conjunction = All true
 started Disjunction = Any false
 
@@ -36,11 +38,11 @@ module _ (t : Environment ℕ) where
   after_leaf (All x) l f = ap All (and_assoc x (leaf_truth t (uncut_leaf l)) (operands_truth t Conjunction (uncut_operands f)))
   after_leaf (Any x) l f = ap Any (or_assoc x (leaf_truth t (uncut_leaf l)) (operands_truth t Disjunction (uncut_operands f)))
 
-  started_truth : (c : Connective) (f : Operands) → bracket_truth (after (started c) f) ≡ operands_truth t c (uncut_operands f)
+  started_truth : (c : Junction) (f : Operands) → bracket_truth (after (started c) f) ≡ operands_truth t c (uncut_operands f)
   started_truth Conjunction f = refl
   started_truth Disjunction f = refl
 
-  after_bracket : (b : Bracket) (c : Connective) (inside f : Operands) →
+  after_bracket : (b : Bracket) (c : Junction) (inside f : Operands) →
       after (with_operand b (bracket_truth (after (started c) inside))) f ≡ after b (BracketThen c inside f)
   after_bracket (All x) c inside f =
       ap (λ (y : Bool). All (x && y && operands_truth t Conjunction (uncut_operands f))) (started_truth c inside)
@@ -56,7 +58,7 @@ module _ (t : Environment ℕ) where
   read_leaf Cut b outer rest = refl
   read_leaf (Call n) b outer rest = refl
 
-  read_opening : (c : Connective) (b : Bracket) (outer : List Bracket) (rest : List Token) →
+  read_opening : (c : Junction) (b : Bracket) (outer : List Bracket) (rest : List Token) →
       read t b outer (opening c ∷ rest) ≡ read t (started c) (b ∷ outer) rest
   read_opening Conjunction b outer rest = refl
   read_opening Disjunction b outer rest = refl

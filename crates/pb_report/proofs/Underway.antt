@@ -31,6 +31,10 @@ module _ {S : Type 0} {members : Ghosts S} where
   gave_up {T} {U} {e} {r} {a} {b} {c} {whole} {rest} {A} more step way err h =
       sends_as (ap (λ (xs : List ℕ). way.done ++ xs) (sym step) ∙ way.split) (sends_then way.sent (sends_err more err h))
 
+  -- all that is to come is sent
+  pub ended_by : {T : Type 0} {r : Result T E02} {a b c : TextWriter S} {whole rest A : List ℕ} → rest ≡ A → IsUnderway members a b whole rest → Sends A r members b c → Sends whole r members a c
+  ended_by e way h = sends_as (ap (λ (xs : List ℕ). way.done ++ xs) (sym e) ∙ way.split) (sends_then way.sent h)
+
   -- nothing is to come
   pub ended : {U : Type 0} {u : U} {a b : TextWriter S} {whole rest : List ℕ} → rest ≡ [] → IsUnderway members a b whole rest → Sends whole (Ok u) members a b
   ended {U} {u} {a} {b} {whole} {rest} e way =

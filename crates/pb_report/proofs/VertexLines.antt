@@ -1,6 +1,6 @@
 -- The lines of a game, one after the other, and the rows whose vertices they are.
 use Rattle.std.proofs.Common.{◌≡◌, ℕ, zero, suc, ◌+◌, ◌-◌, ◌<◌, ◌≤◌, List, [], ◌∷◌, ◌++◌, length, get_or, slice_index, Option, Some, None, refl, sym, ap, ◌∙◌, inl, inr, arith, ⊎_elim}
-use Rattle.std.specs.Prelude.{◌==◌, true, false, IsSome}
+use Rattle.std.specs.Prelude.{◌==◌, true, false, IfSome, IsSome}
 use Rattle.std.specs.Option.{is_some}
 use Rattle.std.proofs.lemmas.Bool.{cases_Bool, cases_lt, eqb-true, eqb-false, cond-true, cond-false}
 use Rattle.pb_fixpoint_rows.specs.Row as in_memory
@@ -86,3 +86,8 @@ is_there (Some n) e = refl
 pub is_absent : (o : Option ℕ) → is_some o ≡ false → IsSome o → ⊥
 is_absent None e h = cc
 is_absent (Some n) e h = cc
+
+-- what holds of each number that an option can have
+pub each_some : (o : Option ℕ) (P : ℕ → Type 0) → ((n : ℕ) → o ≡ Some n → P n) → IfSome o P
+each_some None P each = tt
+each_some (Some n) P each = each n refl

@@ -1,5 +1,5 @@
 -- The rows of a module's game, with the vertex of each.
-use Rattle.std.specs.Prelude.{◌≡◌, ℕ, ◌<◌, List, length, IfSome}
+use Rattle.std.specs.Prelude.{◌≡◌, ℕ, ◌<◌, List, length, Some}
 use Rattle.pb_sorts.specs.Layout.{count_of}
 use Rattle.pb_fixpoint_rows.specs.Row.{TokenRow}
 use Rattle.pb_game.specs.declared.Game.{Game}
@@ -16,4 +16,4 @@ pub record ArePlacedRows (m : Contents) (game : Game) (vertices : List ℕ) (row
   pub edges : (v : ℕ) → v < vertex_count game → 0 < length (successors_of game v)
   pub lengths : length vertices ≡ length rows
   pub rising : AreRising vertices
-  pub numbers : (v : ℕ) → IfSome (number_in vertices rows v) (λ n. n < count_of (parameters m))
+  pub numbers : (v n : ℕ) → number_in vertices rows v ≡ Some n → n < count_of (parameters m)

@@ -1,28 +1,27 @@
 //! The text of a certificate, in the form that PGSolver and other tools of parity games read and
 //! write, so that the winners can be checked without this program.
-ghost use Rattle.std.specs.Prelude.{◌≡◌, ◌<◌, Some};
-ghost use Rattle.pb_game.specs.Games.{vertex_count};
+ghost use Rattle.std.specs.Prelude.{◌≡◌, Some};
 ghost use Rattle.pb_game.specs.Solutions.{HasLengths};
 ghost use Rattle.pb_report.specs.Delivery.{Delivers, was_not_written};
 ghost use Rattle.pb_report.specs.Sending.{Sends};
 ghost use Rattle.pb_report.specs.CertificateText.{strategy_at, strategy_part, winner_line};
-ghost use Rattle.pb_report.specs.CertificateText.{winner_lines, certificate_head};
-ghost use Rattle.pb_report.specs.CertificateText.{certificate_text};
+ghost use Rattle.pb_report.specs.CertificateText.{certificate_head, certificate_text};
 
 use crate::buffer::{TextBuffer, TextWriter, WriteError};
 use crate::vertex_line::write_field;
 use pb_game::{Game, Solution};
 use pb_sorts::{E02, Sink};
+use pb_strategy::Position;
 use std::alloc::Global;
 
 /// The winner's choice at a vertex where the winner moves.
-fn strategy_at(game: &Game, solution: &Solution, vertex: u32) -> Option<u32>
-    requires lengths { HasLengths game.now solution.now }
-    requires vertex { vertex < vertex_count game.now }
-    ensures { result ≡ strategy_at game.now solution.now vertex }
+fn strategy_at(position: &Position) -> Option<u32>
+    ensures { result
+        ≡ strategy_at position.now.game.now position.now.solution.now position.now.number }
 {
-    if game.owner(vertex) == solution.winner(vertex) {
-        Some(solution.choice(vertex))
+    let number = position.number;
+    if position.game.owner(number) == position.solution.winner(number) {
+        Some(position.solution.choice(number))
     } else {
         None
     }
@@ -47,35 +46,13 @@ fn write_choice<S: Sink>(writer: &mut TextWriter<'_, S>, choice: u32) -> Result<
     writer.write(b";\n")
 }
 
-fn write_line<S: Sink>(
-    writer: &mut TextWriter<'_, S>,
-    game: &Game,
-    solution: &Solution,
-    vertex: u32,
-) -> Result<(), E02>
-    requires lengths { HasLengths game.now solution.now }
-    requires vertex { vertex < vertex_count game.now }
-    ensures { Sends (winner_line game.now solution.now vertex) result S.Sink writer.old writer.new }
+fn write_line<S: Sink>(writer: &mut TextWriter<'_, S>, position: &Position) -> Result<(), E02>
+    ensures { Sends (winner_line position.now.game.now position.now.solution.now
+        position.now.number) result S.Sink writer.old writer.new }
 {
-    write_field(writer, vertex)?;
-    writer.write_number(solution.winner(vertex).parity())?;
-    write_strategy(writer, strategy_at(game, solution, vertex))
-}
-
-/// The lines of all vertices.
-fn write_lines<S: Sink>(
-    writer: &mut TextWriter<'_, S>,
-    game: &Game,
-    solution: &Solution,
-) -> Result<(), E02>
-    requires lengths { HasLengths game.now solution.now }
-    ensures { Sends (winner_lines game.now solution.now 0 (vertex_count game.now))
-        result S.Sink writer.old writer.new }
-{
-    for vertex in 0..game.len() {
-        write_line(writer, game, solution, vertex)?;
-    }
-    Ok(())
+    write_field(writer, position.number)?;
+    writer.write_number(position.solution.winner(position.number).parity())?;
+    write_strategy(writer, strategy_at(position))
 }
 
 fn write_head<S: Sink>(writer: &mut TextWriter<'_, S>, greatest: u32) -> Result<(), E02>
@@ -96,7 +73,15 @@ fn write_certificate<S: Sink>(
     ensures { Sends (certificate_text game.now solution.now) result S.Sink writer.old writer.new }
 {
     write_head(writer, game.len().saturating_sub(1))?;
-    write_lines(writer, game, solution)
+    for number in 0..game.len() {
+        let position = Position {
+            game,
+            solution,
+            number,
+        };
+        write_line(writer, &position)?;
+    }
+    Ok(())
 }
 
 /// Appends a solution of a game in the form that PGSolver reads and writes: a line for each vertex,

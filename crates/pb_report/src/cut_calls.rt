@@ -6,7 +6,7 @@ ghost use Rattle.pb_fixpoint_trees.specs.Rows.{Row as plain_row};
 ghost use Rattle.pb_game_of_trees.specs.Held.{Hold};
 ghost use Rattle.pb_report.specs.CutCalls.{has_cut, one_if, cut_count};
 
-use pb_fixpoint_rows::{IndexedRows, any_cut};
+use pb_fixpoint_rows::{IndexedRows, ReadRows, any_cut};
 use pb_fixpoint_trees::Token;
 
 /// 1 where a tree has a Cut, else 0.
@@ -17,23 +17,18 @@ fn cuts_of(tokens: &[Token]) -> u32
     if any_cut(tokens) { 1 } else { 0 }
 }
 
-// Looks at each row's tree.
-fn count_each(rows: &IndexedRows) -> u32
-    requires { length rows.now < 2 ^ 32 }
-    ensures { (reached : List plain_row) → Hold rows.now reached → result ≡ cut_count reached }
-{
-    let mut count = 0;
-    for k in 0..rows.len() {
-        count += cuts_of(rows.tokens(k));
-    }
-    count
-}
-
 /// How many reached instances have a Cut in their trees.
 pub fn count_cut(rows: &IndexedRows) -> u32
     requires { length rows.now < 2 ^ 32 }
     ensures { (reached : List plain_row) → Hold rows.now reached → result ≡ cut_count reached }
 {
     // Most modules call nothing outside the ranges, which one pass over all tokens tells.
-    if rows.any_cut() { count_each(rows) } else { 0 }
+    if !rows.any_cut() {
+        return 0;
+    }
+    let mut count = 0;
+    for k in 0..rows.len() {
+        count += cuts_of(rows.tokens(k));
+    }
+    count
 }

@@ -13,7 +13,7 @@ ghost use Rattle.pb_report.specs.Cuts as spec;
 
 use crate::tree_truth::{Named, uncut_truth};
 use pb_evidence::Evidence;
-use pb_fixpoint_rows::IndexedRows;
+use pb_fixpoint_rows::{IndexedRows, ReadRows};
 use pb_fixpoint_trees::Token;
 use std::alloc::{AllocError, Global};
 

@@ -13,13 +13,13 @@ ghost use Rattle.pb_report.specs.Sending.{Sends};
 ghost use Rattle.pb_report.specs.EvidenceText.{truth_mark, place_mark, dependency_text};
 ghost use Rattle.pb_report.specs.EvidenceText.{cut_mark, line_tail};
 ghost use Rattle.pb_report.specs.CallPlaces.{AreCallPlaces, placed_names};
-ghost use Rattle.pb_report.specs.ModuleLines.{evidence_line_at, evidence_lines_of};
+ghost use Rattle.pb_report.specs.ModuleLines.{evidence_line_at};
 ghost use Rattle.pb_report.specs.ModuleEvidence.{IsExplanation, module_evidence_text};
 ghost use Rattle.pb_report.specs.PlacedEvidence.{IsPlacedEvidence};
 ghost use Rattle.pb_report.specs.ModuleTexts.{IsTextOfTrees};
 
 use crate::answer::write_answer;
-use crate::instance_name::write_instance_name;
+use crate::instance_name::{NumberedInstance, write_instance_name};
 use crate::module_evidence::Explanation;
 use crate::{TextBuffer, TextWriter, WriteError};
 use pb_sorts::{E02, Sink};
@@ -36,13 +36,16 @@ pub struct PlacedExplanation<'a> {
     pub call_places: &'a [Option<Place>],
 }
 
-/// The names behind an instance, with the places of its calls, and whether it rests on a cut call
-/// too.
+/// The instances that an instance of a module rests on, with the places of its calls, and whether
+/// it rests on a cut call too.
 #[derive(Clone, Copy)]
 struct Basis<'a> {
+    verified: &'a Verified,
     dependencies: &'a [u32],
     call_places: &'a [Option<Place>],
     cut: bool,
+    ghost inside: { (k : ℕ) → k < length dependencies.now
+        → slice_index dependencies.now k < count_of (parameters verified.now) },
 }
 
 /// The list behind the first places.
@@ -95,34 +98,30 @@ fn write_place<S: Sink>(writer: &mut TextWriter<'_, S>, place: Option<Place>) ->
 /// The name of an instance, after a space, and the place of its call.
 fn write_dependency<S: Sink>(
     writer: &mut TextWriter<'_, S>,
-    verified: &Verified,
-    number: u32,
+    instance: &NumberedInstance<'_>,
     place: Option<Place>,
 ) -> Result<(), E02>
-    requires { number < count_of (parameters verified.now) }
-    ensures { Sends (dependency_text (instance_name verified.now) number place)
-        result S.Sink writer.old writer.new }
+    ensures { Sends (dependency_text (instance_name instance.now.verified.now) instance.now.number
+        place) result S.Sink writer.old writer.new }
 {
     writer.write(b" ")?;
-    write_instance_name(writer, verified, number)?;
+    write_instance_name(writer, instance.verified, instance.number)?;
     write_place(writer, place)
 }
 
 /// The names of instances, each after a space.
-fn write_dependencies<S: Sink>(
-    writer: &mut TextWriter<'_, S>,
-    verified: &Verified,
-    basis: &Basis<'_>,
-) -> Result<(), E02>
-    requires { (k : ℕ) → k < length basis.now.dependencies.now
-        → slice_index basis.now.dependencies.now k < count_of (parameters verified.now) }
-    ensures { Sends (placed_names (instance_name verified.now) basis.now.dependencies.now
-        basis.now.call_places.now) result S.Sink writer.old writer.new }
+fn write_dependencies<S: Sink>(writer: &mut TextWriter<'_, S>, basis: &Basis<'_>) -> Result<(), E02>
+    ensures { Sends (placed_names (instance_name basis.now.verified.now)
+        basis.now.dependencies.now basis.now.call_places.now)
+        result S.Sink writer.old writer.new }
 {
     let numbers = basis.dependencies;
-    let call_places = basis.call_places;
     for k in 0..numbers.len() {
-        write_dependency(writer, verified, numbers[k], place_at(call_places, k))?;
+        let instance = NumberedInstance {
+            verified: basis.verified,
+            number: numbers[k],
+        };
+        write_dependency(writer, &instance, place_at(basis.call_places, k))?;
     }
     Ok(())
 }
@@ -130,18 +129,15 @@ fn write_dependencies<S: Sink>(
 /// What stands behind an instance's name.
 fn write_line_end<S: Sink>(
     writer: &mut TextWriter<'_, S>,
-    verified: &Verified,
     truth: bool,
     basis: &Basis<'_>,
 ) -> Result<(), E02>
-    requires { (k : ℕ) → k < length basis.now.dependencies.now
-        → slice_index basis.now.dependencies.now k < count_of (parameters verified.now) }
-    ensures { Sends (line_tail truth (placed_names (instance_name verified.now)
+    ensures { Sends (line_tail truth (placed_names (instance_name basis.now.verified.now)
         basis.now.dependencies.now basis.now.call_places.now) basis.now.cut)
         result S.Sink writer.old writer.new }
 {
     write_truth(writer, truth)?;
-    write_dependencies(writer, verified, basis)?;
+    write_dependencies(writer, basis)?;
     write_cut(writer, basis.cut)?;
     writer.write(b"\n")
 }
@@ -164,30 +160,12 @@ fn write_line<S: Sink>(
     let evidence = &placed.explanation.evidence;
     write_instance_name(writer, verified, evidence.instances[k])?;
     let basis = Basis {
+        verified,
         dependencies: evidence.dependencies(k),
         call_places: behind(placed.call_places, evidence.places[k]),
         cut: placed.explanation.cuts[k],
     };
-    write_line_end(writer, verified, evidence.truth, &basis)
-}
-
-/// The lines of all instances.
-fn write_lines<S: Sink>(
-    writer: &mut TextWriter<'_, S>,
-    verified: &Verified,
-    placed: &PlacedExplanation<'_>,
-) -> Result<(), E02>
-    requires placed { IsPlacedEvidence verified.now placed.now.explanation.now
-        placed.now.call_places.now }
-    ensures { (trees : ℕ → Tree) → AreTrees verified.now trees → (place : ℕ → ℕ → Option Place)
-        → AreCallPlaces place placed.now.explanation.now.evidence placed.now.call_places.now
-        → Sends (evidence_lines_of verified.now trees place placed.now.explanation.now.evidence
-        placed.now.explanation.now.evidence.instances.items) result S.Sink writer.old writer.new }
-{
-    for k in 0..placed.explanation.evidence.instances.len() {
-        write_line(writer, verified, placed, k)?;
-    }
-    Ok(())
+    write_line_end(writer, evidence.truth, &basis)
 }
 
 fn write_evidence<S: Sink>(
@@ -202,8 +180,12 @@ fn write_evidence<S: Sink>(
         → Sends (module_evidence_text verified.now trees place placed.now.explanation.now.evidence)
         result S.Sink writer.old writer.new }
 {
-    write_answer(writer, placed.explanation.evidence.truth)?;
-    write_lines(writer, verified, placed)
+    let evidence = &placed.explanation.evidence;
+    write_answer(writer, evidence.truth)?;
+    for k in 0..evidence.instances.len() {
+        write_line(writer, verified, placed, k)?;
+    }
+    Ok(())
 }
 
 /// Appends evidence for the truth of a module's initial instance: the answer, and then a line for

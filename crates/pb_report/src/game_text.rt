@@ -10,25 +10,28 @@ ghost use Rattle.pb_report.specs.Delivery.{Delivers, was_not_written};
 ghost use Rattle.pb_report.specs.Sending.{Sends};
 ghost use Rattle.pb_report.specs.InstanceName.{instance_name};
 ghost use Rattle.pb_report.specs.GameText.{name_part, vertex_at, vertex_line};
-ghost use Rattle.pb_report.specs.VertexNames.{name_by, number_in, IsAtRow, AreRising};
+ghost use Rattle.pb_report.specs.VertexNames.{name_by, number_in, IsAtRow};
 ghost use Rattle.pb_report.specs.VertexNames.{lines_text, first_line, memory_text};
 ghost use Rattle.pb_report.specs.PlacedRows.{ArePlacedRows};
 
 use crate::buffer::{TextBuffer, TextWriter, WriteError};
-use crate::instance_name::write_instance_name;
+use crate::instance_name::{NumberedInstance, write_instance_name};
 use crate::vertex_line::{write_name, write_vertex};
-use pb_fixpoint_rows::IndexedRows;
+use pb_fixpoint_rows::{IndexedRows, ReadRows};
 use pb_game::Game;
 use pb_game_of_trees::TreeGame;
 use pb_sorts::{E02, Sink};
 use pb_verifier::Verified;
 use std::alloc::Global;
 
-/// Rows of a game, with the vertex of each.
+/// The rows of a module's game, with the vertex of each.
 #[derive(Clone, Copy)]
 struct PlacedRows<'a> {
+    verified: &'a Verified,
+    game: &'a Game,
     rows: &'a IndexedRows,
     vertices: &'a [u32],
+    ghost placed: { ArePlacedRows verified.now game.now vertices.now rows.now },
 }
 
 /// A vertex, with the number of the instance that has its name, if there is one.
@@ -41,15 +44,13 @@ struct NamedVertex {
 /// An instance's name in its quotes, and the line's end.
 fn write_quoted<S: Sink>(
     writer: &mut TextWriter<'_, S>,
-    verified: &Verified,
-    number: u32,
+    instance: &NumberedInstance<'_>,
 ) -> Result<(), E02>
-    requires { number < count_of (parameters verified.now) }
-    ensures { Sends (name_part (Some (instance_name verified.now number)))
+    ensures { Sends (name_part (Some (instance_name instance.now.verified.now instance.now.number)))
         result S.Sink writer.old writer.new }
 {
     writer.write(b" \"")?;
-    write_instance_name(writer, verified, number)?;
+    write_instance_name(writer, instance.verified, instance.number)?;
     writer.write(b"\";\n")
 }
 
@@ -72,7 +73,7 @@ fn write_line_end<S: Sink>(
     }
     match number {
         None => writer.write(b";\n"),
-        Some(number) => write_quoted(writer, verified, number),
+        Some(number) => write_quoted(writer, &NumberedInstance { verified, number }),
     }
 }
 
@@ -94,39 +95,33 @@ fn write_line<S: Sink>(
     write_line_end(writer, verified, named.vertex, named.instance)
 }
 
-/// The number of the row whose vertex this is, if it is one's; `k` is the first row whose vertex is
-/// not before it.
-fn row_number(vertices: &[u32], rows: &IndexedRows, k: usize, vertex: u32) -> Option<u32>
-    requires lengths { length vertices.now ≡ length rows.now }
-    requires rising { AreRising vertices.now }
-    requires place { IsAtRow vertices.now k vertex }
-    ensures number { result ≡ number_in vertices.now rows.now vertex }
-    ensures some { IsSome result ↔ ((k < length vertices.now)
-        × (slice_index vertices.now k ≡ vertex)) }
-{
-    if k < vertices.len() && vertices[k] == vertex {
-        Some(rows.number(k))
-    } else {
-        None
+impl PlacedRows<'_> {
+    /// The number of the row whose vertex this is, if it is one's; `k` is the first row whose
+    /// vertex is not before it.
+    fn number(&self, k: usize, vertex: u32) -> Option<u32>
+        requires { IsAtRow self.now.vertices.now k vertex }
+        ensures number { result ≡ number_in self.now.vertices.now self.now.rows.now vertex }
+        ensures some { IsSome result ↔ ((k < length self.now.vertices.now)
+            × (slice_index self.now.vertices.now k ≡ vertex)) }
+    {
+        if k < self.vertices.len() && self.vertices[k] == vertex {
+            Some(self.rows.number(k))
+        } else {
+            None
+        }
     }
 }
 
 /// The lines of all vertices.
-fn write_lines<S: Sink>(
-    writer: &mut TextWriter<'_, S>,
-    verified: &Verified,
-    game: &Game,
-    placed: &PlacedRows<'_>,
-) -> Result<(), E02>
-    requires placed { ArePlacedRows verified.now game.now placed.now.vertices.now
-        placed.now.rows.now }
-    ensures { Sends (lines_text verified.now game.now placed.now.vertices.now placed.now.rows.now)
-        result S.Sink writer.old writer.new }
+fn write_lines<S: Sink>(writer: &mut TextWriter<'_, S>, placed: &PlacedRows<'_>) -> Result<(), E02>
+    ensures { Sends (lines_text placed.now.verified.now placed.now.game.now
+        placed.now.vertices.now placed.now.rows.now) result S.Sink writer.old writer.new }
 {
     let mut k = 0;
-    for vertex in 0..game.len() {
-        let instance = row_number(placed.vertices, placed.rows, k, vertex);
-        write_line(writer, verified, game, NamedVertex { vertex, instance })?;
+    for vertex in 0..placed.game.len() {
+        let instance = placed.number(k, vertex);
+        let named = NamedVertex { vertex, instance };
+        write_line(writer, placed.verified, placed.game, named)?;
         if instance.is_some() {
             k += 1;
         }
@@ -143,32 +138,21 @@ fn write_first_line<S: Sink>(writer: &mut TextWriter<'_, S>, greatest: u32) -> R
 }
 
 /// All lines.
-fn write_game<S: Sink>(
-    writer: &mut TextWriter<'_, S>,
-    verified: &Verified,
-    game: &Game,
-    placed: &PlacedRows<'_>,
-) -> Result<(), E02>
-    requires placed { ArePlacedRows verified.now game.now placed.now.vertices.now
-        placed.now.rows.now }
-    ensures { Sends (memory_text verified.now game.now placed.now.vertices.now placed.now.rows.now)
-        result S.Sink writer.old writer.new }
+fn write_game<S: Sink>(writer: &mut TextWriter<'_, S>, placed: &PlacedRows<'_>) -> Result<(), E02>
+    ensures { Sends (memory_text placed.now.verified.now placed.now.game.now
+        placed.now.vertices.now placed.now.rows.now) result S.Sink writer.old writer.new }
 {
-    write_first_line(writer, game.len() - 1)?;
-    write_lines(writer, verified, game, placed)
+    write_first_line(writer, placed.game.len() - 1)?;
+    write_lines(writer, placed)
 }
 
 fn write_text<S: Sink>(
     alloc: Global,
-    verified: &Verified,
-    game: &Game,
     placed: &PlacedRows<'_>,
     sink: &mut S,
 ) -> Result<(), WriteError>
-    requires placed { ArePlacedRows verified.now game.now placed.now.vertices.now
-        placed.now.rows.now }
-    ensures { Delivers was_not_written (λ text. text
-        ≡ memory_text verified.now game.now placed.now.vertices.now placed.now.rows.now)
+    ensures { Delivers was_not_written (λ text. text ≡ memory_text placed.now.verified.now
+        placed.now.game.now placed.now.vertices.now placed.now.rows.now)
         result S.Sink sink.old sink.new }
 {
     let mut buffer = TextBuffer::new(alloc)?;
@@ -176,7 +160,7 @@ fn write_text<S: Sink>(
         buffer: &mut buffer,
         sink,
     };
-    write_game(&mut writer, verified, game, placed)?;
+    write_game(&mut writer, placed)?;
     writer.finish()?;
     Ok(())
 }
@@ -201,10 +185,11 @@ pub fn game_text<S: Sink>(
         (IsTextOfTrees verified.now (λ trees. module_game_text verified.now trees rows.now)) result
         S.Sink sink.old sink.new }
 {
-    pb_fixpoint_trees::games_of_rows_are_total();
     let placed = PlacedRows {
+        verified,
+        game: &built.game,
         rows,
         vertices: &built.vertices,
     };
-    write_text(alloc, verified, &built.game, &placed, sink)
+    write_text(alloc, &placed, sink)
 }

@@ -1,12 +1,11 @@
 //! The names of instances.
-ghost use Rattle.std.specs.Prelude.{◌≡◌, ◌<◌, drop, length, map};
+ghost use Rattle.std.specs.Prelude.{◌≡◌, ◌<◌, length, map};
 ghost use Rattle.pb_sorts.specs.Layout.{count_of};
 ghost use Rattle.pb_bytecode.specs.Meaning.{parameters};
 ghost use Rattle.pb_bytecode.specs.Views.{sort_contents};
 ghost use Rattle.pb_report.specs.Sending.{Sends};
 ghost use Rattle.pb_report.specs.InstanceName.{bool_name, enumerator_name, value_name};
-ghost use Rattle.pb_report.specs.InstanceName.{next_value, more_values, values_text};
-ghost use Rattle.pb_report.specs.InstanceName.{arguments, instance_name};
+ghost use Rattle.pb_report.specs.InstanceName.{next_value, arguments, instance_name};
 
 use crate::buffer::TextWriter;
 use pb_bytecode::Sort;
@@ -69,41 +68,7 @@ fn write_next_value<S: Sink>(
     write_value(writer, sorts, carrier, value)
 }
 
-/// The names of the values behind the first one, each after a comma.
-fn write_more_values<S: Sink>(
-    writer: &mut TextWriter<'_, S>,
-    sorts: &[Sort],
-    carriers: &[Carrier],
-    values: &[i64],
-) -> Result<(), E02>
-    requires some { 0 < length carriers.now }
-    requires lengths { length values.now ≡ length carriers.now }
-    ensures { Sends (more_values (map sort_contents sorts.now) (drop 1 carriers.now) (drop 1
-        values.now)) result S.Sink writer.old writer.new }
-{
-    for k in 1..carriers.len() {
-        write_next_value(writer, sorts, &carriers[k], &values[k])?;
-    }
-    Ok(())
-}
-
-/// The names of values with commas between them.
-fn write_values<S: Sink>(
-    writer: &mut TextWriter<'_, S>,
-    sorts: &[Sort],
-    carriers: &[Carrier],
-    values: &[i64],
-) -> Result<(), E02>
-    requires some { 0 < length carriers.now }
-    requires lengths { length values.now ≡ length carriers.now }
-    ensures { Sends (values_text (map sort_contents sorts.now) carriers.now values.now)
-        result S.Sink writer.old writer.new }
-{
-    write_value(writer, sorts, &carriers[0], &values[0])?;
-    write_more_values(writer, sorts, carriers, values)
-}
-
-/// The names of values in parentheses, and no byte where there are none.
+/// The names of values in parentheses with commas between them, and no byte where there are none.
 fn write_arguments<S: Sink>(
     writer: &mut TextWriter<'_, S>,
     sorts: &[Sort],
@@ -118,8 +83,19 @@ fn write_arguments<S: Sink>(
         return writer.write(b"");
     }
     writer.write(b"(")?;
-    write_values(writer, sorts, carriers, values)?;
+    write_value(writer, sorts, &carriers[0], &values[0])?;
+    for k in 1..carriers.len() {
+        write_next_value(writer, sorts, &carriers[k], &values[k])?;
+    }
     writer.write(b")")
+}
+
+/// An instance of a module, by its number.
+#[derive(Clone, Copy)]
+pub(crate) struct NumberedInstance<'a> {
+    pub verified: &'a Verified,
+    pub number: u32,
+    pub ghost inside: { number < count_of (parameters verified.now) },
 }
 
 /// The name of the instance with this number.

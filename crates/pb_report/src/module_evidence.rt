@@ -43,7 +43,6 @@ pub fn evidence_of_rows(
         → IsTreeGame signatures trees (rows_of trees rows.now) initial solved.now.built
         → Explains signatures trees initial x) }
 {
-    pb_fixpoint_trees::games_of_rows_are_total();
     let built = &solved.built;
     let InstanceMarks { marks, numbers } = InstanceMarks::new(
         alloc,

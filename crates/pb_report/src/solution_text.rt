@@ -1,8 +1,7 @@
 //! The solution at the reached instances, as a text.
-ghost use Rattle.std.specs.Prelude.{◌<◌, ℕ};
+ghost use Rattle.std.specs.Prelude.{ℕ};
 ghost use Rattle.pb_fixpoint_trees.specs.Tree.{Tree};
-ghost use Rattle.pb_sorts.specs.Layout.{count_of};
-ghost use Rattle.pb_bytecode.specs.Meaning.{parameters, AreTrees};
+ghost use Rattle.pb_bytecode.specs.Meaning.{AreTrees};
 ghost use Rattle.pb_game_of_trees.specs.Explored.{ModuleHasTrees, AreModuleRows, IsModuleGame};
 ghost use Rattle.pb_report.specs.Delivery.{Delivers, was_not_written};
 ghost use Rattle.pb_report.specs.Sending.{Sends};
@@ -11,8 +10,8 @@ ghost use Rattle.pb_report.specs.SolutionText.{truth_end, solution_line};
 ghost use Rattle.pb_report.specs.ModuleTexts.{module_solution_text, IsTextOfTrees};
 
 use crate::buffer::{TextBuffer, TextWriter, WriteError};
-use crate::instance_name::write_instance_name;
-use pb_fixpoint_rows::IndexedRows;
+use crate::instance_name::{NumberedInstance, write_instance_name};
+use pb_fixpoint_rows::{IndexedRows, ReadRows};
 use pb_game_of_trees::Solved;
 use pb_sorts::{E02, Sink};
 use pb_verifier::Verified;
@@ -30,15 +29,13 @@ fn write_truth<S: Sink>(writer: &mut TextWriter<'_, S>, truth: bool) -> Result<(
 
 fn write_line<S: Sink>(
     writer: &mut TextWriter<'_, S>,
-    verified: &Verified,
-    number: u32,
+    instance: &NumberedInstance<'_>,
     truth: bool,
 ) -> Result<(), E02>
-    requires { number < count_of (parameters verified.now) }
-    ensures { Sends (solution_line (instance_name verified.now number) truth)
-        result S.Sink writer.old writer.new }
+    ensures { Sends (solution_line (instance_name instance.now.verified.now instance.now.number)
+        truth) result S.Sink writer.old writer.new }
 {
-    write_instance_name(writer, verified, number)?;
+    write_instance_name(writer, instance.verified, instance.number)?;
     write_truth(writer, truth)
 }
 
@@ -57,7 +54,11 @@ fn write_lines<S: Sink>(
 {
     for k in 0..rows.len() {
         let truth = solved.row_truth(k);
-        write_line(writer, verified, rows.number(k), truth)?;
+        let instance = NumberedInstance {
+            verified,
+            number: rows.number(k),
+        };
+        write_line(writer, &instance, truth)?;
     }
     Ok(())
 }

@@ -4,9 +4,12 @@ use Rattle.std.specs.Prelude.{Contains, slice_get}
 use Rattle.std.proofs.Math.Bool.{not-not}
 use Rattle.pb_fixpoint_trees.specs.declared.player.Player.{Player}
 use Rattle.pb_fixpoint.specs.Solution.{Environment}
-use Rattle.pb_fixpoint_trees.specs.Tree.{Connective, Conjunction, Disjunction, Leaf, Yes, No, Cut, Call, Operands, End, LeafThen, BracketThen, LeafCalls, OperandsCall, of_none, leaf_truth, operands_truth}
+use Rattle.pb_fixpoint_trees.specs.declared.junction.Junction.{Junction}
+use Rattle.pb_fixpoint_trees.specs.declared.junction.Junction.TheVariants.{Conjunction, Disjunction}
+use Rattle.pb_fixpoint_trees.specs.Junctions.{neutral}
+use Rattle.pb_fixpoint_trees.specs.Tree.{Leaf, Yes, No, Cut, Call, Operands, End, LeafThen, BracketThen, LeafCalls, OperandsCall, leaf_truth, operands_truth}
 use Rattle.pb_fixpoint_trees.specs.Game.{Vertex, brackets, target, targets, owner_of, bracket_successors, bracket_vertex, inner_vertices}
-use Rattle.pb_strategy.proofs.Players.{player, choosing, connective_cases, owner-choosing, owner-other, of_none-choosing, joined_left, joined_right, joined_both}
+use Rattle.pb_strategy.proofs.Players.{player, choosing, connective_cases, owner-choosing, owner-other, neutral-choosing, joined_left, joined_right, joined_both}
 use Rattle.pb_fixpoint_trees.proofs.Members.{Among, among_of_contains, contains_of_among, among_rising, among_from_rising}
 use Rattle.pb_strategy.proofs.Standing.{StandAt, BracketStands, bracket_stands}
 
@@ -38,7 +41,7 @@ module _ (b : Bool) (vertices : List Vertex) (winner : ℕ → Player) (choice :
     pub all : ((w : ℕ) → Among (targets at f n) w → S w) → operands_truth t (choosing (not b)) f ≡ b
 
   -- the sink that an empty bracket leads to is in S only where the bracket has the value
-  empty-value : (c : Connective) (v w : ℕ) → Among (bracket_successors at c End v) w → S w → of_none c ≡ b
+  empty-value : (c : Junction) (v w : ℕ) → Among (bracket_successors at c End v) w → S w → neutral c ≡ b
   empty-value Disjunction v w (inl e) s = sym (false_sink (subst S (sym e) s))
   empty-value Disjunction v w (inr h) s = absurd h
   empty-value Conjunction v w (inl e) s = sym (true_sink (subst S (sym e) s))
@@ -52,12 +55,12 @@ module _ (b : Bool) (vertices : List Vertex) (winner : ℕ → Player) (choice :
 
   -- all successors in S, at the other player's
   others : (f : Operands) (v : ℕ) → Values f v → ((w : ℕ) → Among (bracket_successors at (choosing (not b)) f v) w → S w) → operands_truth t (choosing (not b)) f ≡ b
-  others End v values h = of_none-choosing (not b) ∙ not-not b
+  others End v values h = neutral-choosing (not b) ∙ not-not b
   others (LeafThen l after) v values h = values.all (λ w among. h w (among_rising (targets at (LeafThen l after) v) w among))
   others (BracketThen c inside after) v values h = values.all (λ w among. h w (among_rising (targets at (BracketThen c inside after) v) w among))
 
   -- a bracket's vertex that the player wins, where all that its kept edges lead to is in S
-  pub bracket-value : (c : Connective) (f : Operands) (v p : ℕ) → Values f (suc v) → slice_get vertices v ≡ Some (bracket_vertex at p c f (suc v)) →
+  pub bracket-value : (c : Junction) (f : Operands) (v p : ℕ) → Values f (suc v) → slice_get vertices v ≡ Some (bracket_vertex at p c f (suc v)) →
       winner v ≡ player b → ((w : ℕ) → KeptEdge vertices winner choice v w → S w) → operands_truth t c f ≡ b
   bracket-value c f v p values stands wins kept = elim (connective_cases b c) [
     | inl mine ↦ by_choice mine
@@ -89,7 +92,7 @@ module _ (b : Bool) (vertices : List Vertex) (winner : ℕ → Player) (choice :
   AreInner f n = (k : ℕ) → n ≤ k → k < n + brackets f → IsInner k
 
   pub values : (f : Operands) (n : ℕ) → OperandsCall Reached f → AreInner f n → StandAt vertices n (inner_vertices at f n) → Values f n
-  values End n h inner stand = record { one = λ w among s. absurd among; all = λ _. of_none-choosing (not b) ∙ not-not b }
+  values End n h inner stand = record { one = λ w among s. absurd among; all = λ _. neutral-choosing (not b) ∙ not-not b }
   values (LeafThen l after) n h inner stand =
       let later : Values after n = values after n h.1 inner stand in
       record {

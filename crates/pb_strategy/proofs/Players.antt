@@ -8,7 +8,9 @@ use Rattle.pb_fixpoint_trees.specs.declared.player.Player.{Player}
 use Rattle.pb_fixpoint.specs.declared.Sign.{Sign}
 use Rattle.pb_fixpoint.specs.declared.Sign.TheVariants.{Mu, Nu}
 use Rattle.pb_fixpoint.specs.Solution.{start}
-use Rattle.pb_fixpoint_trees.specs.Tree.{Connective, Conjunction, Disjunction, joined, of_none}
+use Rattle.pb_fixpoint_trees.specs.declared.junction.Junction.{Junction}
+use Rattle.pb_fixpoint_trees.specs.declared.junction.Junction.TheVariants.{Conjunction, Disjunction}
+use Rattle.pb_fixpoint_trees.specs.Junctions.{joined, neutral}
 use Rattle.pb_fixpoint_trees.specs.Game.{owner_of}
 
 -- the player who wants b
@@ -17,7 +19,7 @@ player true = Even
 player false = Odd
 
 -- the connective at which that player chooses
-abbrev pub choosing : Bool → Connective
+abbrev pub choosing : Bool → Junction
 choosing true = Disjunction
 choosing false = Conjunction
 
@@ -37,7 +39,7 @@ value_cases true false = inr refl
 value_cases false true = inr refl
 value_cases false false = inl refl
 
-pub connective_cases : (b : Bool) (c : Connective) → (c ≡ choosing b) ⊎ (c ≡ choosing (not b))
+pub connective_cases : (b : Bool) (c : Junction) → (c ≡ choosing b) ⊎ (c ≡ choosing (not b))
 connective_cases true Conjunction = inr refl
 connective_cases true Disjunction = inl refl
 connective_cases false Conjunction = inl refl
@@ -60,9 +62,9 @@ player-other true h = cc
 player-other false h = cc
 
 -- of no operands, the player's own bracket has the other value, and the other player's has the player's
-pub of_none-choosing : (b : Bool) → of_none (choosing b) ≡ not b
-of_none-choosing true = refl
-of_none-choosing false = refl
+pub neutral-choosing : (b : Bool) → neutral (choosing b) ≡ not b
+neutral-choosing true = refl
+neutral-choosing false = refl
 
 -- one operand with the value b decides the player's own bracket
 pub joined_left : (b x y : Bool) → x ≡ b → joined (choosing b) x y ≡ b

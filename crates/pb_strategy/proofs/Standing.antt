@@ -4,7 +4,8 @@ use Rattle.std.specs.Prelude.{slice_get, ◌==◌}
 use Rattle.std.proofs.Math.Seq.{get_or-append_seam}
 use Rattle.std.proofs.lemmas.Option.{slice_get-get_or}
 use Rattle.std.proofs.lemmas.Bool.{cases_Bool, eqb-true, eqb-false, cond-true, cond-false}
-use Rattle.pb_fixpoint_trees.specs.Tree.{Connective, Operands, BracketThen}
+use Rattle.pb_fixpoint_trees.specs.declared.junction.Junction.{Junction}
+use Rattle.pb_fixpoint_trees.specs.Tree.{Operands, BracketThen}
 use Rattle.pb_fixpoint_trees.specs.Game.{Vertex, brackets, inner, vertex_from, bracket_vertex, inner_vertices, tree_vertices, row_vertices}
 use Rattle.pb_fixpoint_trees.specs.Rows.{Row}
 use Rattle.pb_fixpoint_trees.proofs.Lengths.{length-inner_vertices, length-tree_vertices}
@@ -37,12 +38,12 @@ stand_all (x ∷ xs) g =
     (here, subst (λ m. StandAt (g ++ x ∷ xs) m xs) n rest')
 
 -- what stands for a bracket: its vertex, those of the brackets in it, and those of the brackets after it
-pub record BracketStands (g : List Vertex) (at : ℕ → ℕ) (c : Connective) (inside after : Operands) (n : ℕ) : Type 0 where
+pub record BracketStands (g : List Vertex) (at : ℕ → ℕ) (c : Junction) (inside after : Operands) (n : ℕ) : Type 0 where
   pub vertex : slice_get g n ≡ Some (bracket_vertex at 0 c inside (suc n))
   pub within : StandAt g (suc n) (inner_vertices at inside (suc n))
   pub behind : StandAt g (suc (n + brackets inside)) (inner_vertices at after (suc (n + brackets inside)))
 
-pub bracket_stands : (g : List Vertex) (at : ℕ → ℕ) (c : Connective) (inside after : Operands) (n : ℕ) →
+pub bracket_stands : (g : List Vertex) (at : ℕ → ℕ) (c : Junction) (inside after : Operands) (n : ℕ) →
     StandAt g n (inner_vertices at (BracketThen c inside after) n) → BracketStands g at c inside after n
 bracket_stands g at c inside after n h =
     let i = inner_vertices at inside (suc n) in

@@ -6,7 +6,8 @@ use Rattle.pb_fixpoint_trees.specs.declared.player.Player.{Player}
 use Rattle.pb_game.specs.declared.Game.{Game}
 use Rattle.pb_game.specs.declared.certificate.Solution.{Solution}
 use Rattle.pb_game.specs.Certificates.{IsCertificate}
-use Rattle.pb_fixpoint_trees.specs.Tree.{Conjunction, Disjunction, Yes, Call, End, LeafThen, BracketThen, Tree, Single, Root}
+use Rattle.pb_fixpoint_trees.specs.declared.junction.Junction.TheVariants.{Conjunction, Disjunction}
+use Rattle.pb_fixpoint_trees.specs.Tree.{Yes, Call, End, LeafThen, BracketThen, Tree, Single, Root}
 use Rattle.pb_fixpoint_trees.specs.Equations.{Signature, solved}
 use Rattle.pb_fixpoint_trees.specs.Examples.{mu, nu, tree_at}
 use Rattle.pb_fixpoint_trees.specs.Game.{Vertex, game_vertices, false_sink, true_sink}

@@ -2,150 +2,125 @@
 
 ghost use Rattle.std.specs.Prelude.{◌≡◌, ◌≢◌, ℕ, ◌+◌, ◌%◌, ◌<◌, ◌≤◌, ◌↔◌, length, IsTrue};
 ghost use Rattle.std.specs.Prelude.{MatchBool, MatchOption};
-ghost use Rattle.pb_game.specs.Games.{vertex_count, owner_of, priority_count, HasEdge};
-ghost use Rattle.pb_game.specs.Solutions.{winner_of, choice_of, HasLengths};
+ghost use Rattle.pb_game.specs.Games.{vertex_count, priority_count, HasEdge};
+ghost use Rattle.pb_game.specs.Solutions.{winner_of};
 ghost use Rattle.pb_game.specs.Certificates.{IsCertifiedAt};
 ghost use Rattle.pb_game.specs.Flaws.{LeavesAlong, IncreasesAlong, StaysAlong};
 ghost use Rattle.pb_game.specs.Flaws.{IsFirstRule};
 ghost use Rattle.pb_strategy.specs.Comparisons.{Compares, DecreasesAlong, DontIncrease, EachKept};
 
-use crate::rules::is_certified_at;
-use pb_game::{CertificateRule, Game, Solution};
+use crate::position::Position;
+use pb_game::CertificateRule;
 use std::cmp::Ordering;
 
-/// The first rule that fails at `v`.
-pub(crate) fn flaw_at(game: &Game, solution: &Solution, v: u32) -> Option<CertificateRule>
-    requires lengths { HasLengths game.now solution.now }
-    requires vertex { v < vertex_count game.now }
-    ensures { MatchOption result (IsCertifiedAt game.now solution.now v)
-        (λ rule. IsFirstRule game.now solution.now v rule) }
-{
-    if is_certified_at(game, solution, v) {
-        return None;
-    }
-    first_rule_at(game, solution, v)
-}
-
-/// The first rule that fails at `v`, by a look at all edges for each rule.
-fn first_rule_at(game: &Game, solution: &Solution, v: u32) -> Option<CertificateRule>
-    requires lengths { HasLengths game.now solution.now }
-    requires vertex { v < vertex_count game.now }
-    ensures { MatchOption result (IsCertifiedAt game.now solution.now v)
-        (λ rule. IsFirstRule game.now solution.now v rule) }
-{
-    let winner = solution.winner(v);
-    if game.owner(v) == winner {
-        if !has_edge(game, v, solution.choice(v)) {
-            return Some(CertificateRule::NoSuccessor);
+impl Position<'_> {
+    /// The first rule that fails, by a look at all edges for each rule where one does.
+    pub(crate) fn first_rule(&self) -> Option<CertificateRule>
+        ensures { MatchOption result
+            (IsCertifiedAt self.now.game.now self.now.solution.now self.now.number)
+            (λ rule. IsFirstRule self.now.game.now self.now.solution.now self.now.number rule) }
+    {
+        if self.is_certified() {
+            return None;
         }
-    }
-    if leaves_region(game, solution, v) {
-        return Some(CertificateRule::LeavesRegion);
-    }
-    if increases(game, solution, v) {
-        return Some(CertificateRule::Increases);
-    }
-    if game.priority(v) % 2 != winner.parity() {
-        if stays(game, solution, v) {
-            return Some(CertificateRule::NoDecrease);
+        let winner = self.solution.winner(self.number);
+        if self.game.owner(self.number) == winner {
+            if !self.has_edge(self.solution.choice(self.number)) {
+                return Some(CertificateRule::NoSuccessor);
+            }
         }
-    }
-    None
-}
-
-/// Whether `u` is a successor of `v`, as the winner's choice has to be (K01).
-pub(crate) fn has_edge(game: &Game, v: u32, u: u32) -> bool
-    requires { v < vertex_count game.now }
-    ensures { IsTrue result ↔ HasEdge game.now v u }
-{
-    for &target in game.successors(v) {
-        if target == u {
-            return true;
+        if self.leaves_region() {
+            return Some(CertificateRule::LeavesRegion);
         }
+        if self.increases() {
+            return Some(CertificateRule::Increases);
+        }
+        if self.game.priority(self.number) % 2 != winner.parity() {
+            if self.stays() {
+                return Some(CertificateRule::NoDecrease);
+            }
+        }
+        None
     }
-    false
-}
 
-/// Whether the edge from `v` to `u` is kept.
-fn is_kept(game: &Game, solution: &Solution, v: u32, u: u32) -> bool
-    requires lengths { HasLengths game.now solution.now }
-    requires vertex { v < vertex_count game.now }
-    ensures { IsTrue result ↔ (owner_of game.now v ≡ winner_of solution.now v
-        → choice_of solution.now v ≡ u) }
-{
-    game.owner(v) != solution.winner(v) || solution.choice(v) == u
-}
-
-/// Whether a kept edge from `v` leaves the winner's region (K02).
-fn leaves_region(game: &Game, solution: &Solution, v: u32) -> bool
-    requires lengths { HasLengths game.now solution.now }
-    requires vertex { v < vertex_count game.now }
-    ensures { MatchBool result ((u : ℕ) × LeavesAlong game.now solution.now v u)
-        (EachKept game.now solution.now v (λ u. winner_of solution.now u
-        ≡ winner_of solution.now v)) }
-{
-    for &target in game.successors(v) {
-        if is_kept(game, solution, v, target) {
-            if solution.winner(target) != solution.winner(v) {
+    /// Whether `u` is a successor, as the winner's choice has to be (K01).
+    pub(crate) fn has_edge(&self, u: u32) -> bool
+        ensures { IsTrue result ↔ HasEdge self.now.game.now self.now.number u }
+    {
+        for &target in self.game.successors(self.number) {
+            if target == u {
                 return true;
             }
         }
+        false
     }
-    false
-}
 
-/// Whether the counts increase along a kept edge from `v` (K03).
-fn increases(game: &Game, solution: &Solution, v: u32) -> bool
-    requires lengths { HasLengths game.now solution.now }
-    requires vertex { v < vertex_count game.now }
-    ensures { MatchBool result ((u : ℕ) × IncreasesAlong game.now solution.now v u)
-        (EachKept game.now solution.now v (λ u. DontIncrease game.now solution.now v u)) }
-{
-    for &target in game.successors(v) {
-        if is_kept(game, solution, v, target) {
-            if compare(game, solution, v, target) == Ordering::Greater {
-                return true;
+    /// Whether a kept edge leaves the winner's region (K02).
+    fn leaves_region(&self) -> bool
+        ensures { MatchBool result
+            ((u : ℕ) × LeavesAlong self.now.game.now self.now.solution.now self.now.number u)
+            (EachKept self.now (λ u. winner_of self.now.solution.now u
+            ≡ winner_of self.now.solution.now self.now.number)) }
+    {
+        for &target in self.game.successors(self.number) {
+            if self.keeps(target) {
+                if self.solution.winner(target) != self.solution.winner(self.number) {
+                    return true;
+                }
             }
         }
+        false
     }
-    false
-}
 
-/// Whether the counts don't decrease along a kept edge from `v` (K04).
-fn stays(game: &Game, solution: &Solution, v: u32) -> bool
-    requires lengths { HasLengths game.now solution.now }
-    requires vertex { v < vertex_count game.now }
-    ensures { MatchBool result ((u : ℕ) × StaysAlong game.now solution.now v u)
-        (EachKept game.now solution.now v (λ u. DecreasesAlong game.now solution.now v u)) }
-{
-    for &target in game.successors(v) {
-        if is_kept(game, solution, v, target) {
-            if compare(game, solution, v, target) != Ordering::Less {
-                return true;
+    /// Whether the counts increase along a kept edge (K03).
+    fn increases(&self) -> bool
+        ensures { MatchBool result
+            ((u : ℕ) × IncreasesAlong self.now.game.now self.now.solution.now self.now.number u)
+            (EachKept self.now (DontIncrease self.now)) }
+    {
+        for &target in self.game.successors(self.number) {
+            if self.keeps(target) {
+                if self.compare(target) == Ordering::Greater {
+                    return true;
+                }
             }
         }
+        false
     }
-    false
-}
 
-/// How the counts that matter to the winner of `v` change from `v` to `u`: the highest priority
-/// comes first.
-pub(crate) fn compare(game: &Game, solution: &Solution, v: u32, u: u32) -> Ordering
-    requires lengths { HasLengths game.now solution.now }
-    requires from { v < vertex_count game.now }
-    requires to { u < vertex_count game.now }
-    ensures { Compares game.now solution.now v u result }
-{
-    let parity = solution.winner(v).parity();
-    let lowest = game.priority(v);
-    for place in (lowest..=game.greatest_priority()).rev() {
-        if place % 2 != parity {
-            let from = solution.count(game, v, place);
-            let to = solution.count(game, u, place);
-            if to != from {
-                return to.cmp(&from);
+    /// Whether the counts don't decrease along a kept edge (K04).
+    fn stays(&self) -> bool
+        ensures { MatchBool result
+            ((u : ℕ) × StaysAlong self.now.game.now self.now.solution.now self.now.number u)
+            (EachKept self.now (DecreasesAlong self.now)) }
+    {
+        for &target in self.game.successors(self.number) {
+            if self.keeps(target) {
+                if self.compare(target) != Ordering::Less {
+                    return true;
+                }
             }
         }
+        false
     }
-    Ordering::Equal
+
+    /// How the counts that matter to the winner change to those of `u`: the highest priority comes
+    /// first.
+    pub(crate) fn compare(&self, u: u32) -> Ordering
+        requires { u < vertex_count self.now.game.now }
+        ensures { Compares self.now u result }
+    {
+        let parity = self.solution.winner(self.number).parity();
+        let lowest = self.game.priority(self.number);
+        for place in (lowest..=self.game.greatest_priority()).rev() {
+            if place % 2 != parity {
+                let from = self.solution.count(self.game, self.number, place);
+                let to = self.solution.count(self.game, u, place);
+                if to != from {
+                    return to.cmp(&from);
+                }
+            }
+        }
+        Ordering::Equal
+    }
 }

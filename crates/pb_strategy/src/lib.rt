@@ -9,6 +9,7 @@
 mod certified;
 mod edges;
 pub mod laws;
+mod position;
 mod rules;
 
 ghost use Rattle.std.specs.Prelude.{◌≡◌, ◌*◌, ◌<◌, ◌↔◌, length, IsTrue, IsOk, IfErr, IfOk};
@@ -18,8 +19,8 @@ ghost use Rattle.pb_game.specs.Certificates.{IsCertificate};
 ghost use Rattle.pb_game.specs.Flaws.{IsFirstFlaw};
 
 pub use certified::{Certified, certify};
-use edges::flaw_at;
 use pb_game::{CertificateRule, Flaw, Game, Player, Solution};
+pub use position::Position;
 
 /// A solution that is a certificate of its game, and that the checker has passed: only [`check`]
 /// makes one, and [`Certified::checked`] of what [`certify`] has passed. The fields are this
@@ -47,6 +48,20 @@ impl Checked<'_> {
         ensures { result.now ≡ self.now.solution.now }
     {
         self.solution
+    }
+
+    /// A vertex of the game, with the solution.
+    pub fn position(&self, v: u32) -> Position
+        requires { v < vertex_count self.now.game.now }
+        ensures game { result.game.now ≡ self.now.game.now }
+        ensures solution { result.solution.now ≡ self.now.solution.now }
+        ensures number { result.number ≡ v }
+    {
+        Position {
+            game: self.game,
+            solution: self.solution,
+            number: v,
+        }
     }
 
     /// Whether Even wins `v`. Of whatever Boolean equation system the game was built, this is
@@ -80,7 +95,12 @@ pub fn check<'a>(game: &'a Game, solution: &'a Solution) -> Result<Checked<'a>, 
         });
     }
     for vertex in 0..game.len() {
-        if let Some(rule) = flaw_at(game, solution, vertex) {
+        let position = Position {
+            game,
+            solution,
+            number: vertex,
+        };
+        if let Some(rule) = position.first_rule() {
             return Err(Flaw { vertex, rule });
         }
     }

@@ -2,57 +2,53 @@
 //! fails first is looked for only where one does (`edges`).
 
 ghost use Rattle.std.specs.Prelude.{◌≡◌, ◌≢◌, ℕ, ◌<◌, IsTrue};
-ghost use Rattle.pb_game.specs.Games.{vertex_count, owner_of, HasEdge};
-ghost use Rattle.pb_game.specs.Solutions.{winner_of, choice_of, HasLengths};
+ghost use Rattle.pb_game.specs.Games.{vertex_count, HasEdge};
 ghost use Rattle.pb_game.specs.Certificates.{IsCertifiedAt};
 ghost use Rattle.pb_strategy.specs.Comparisons.{MeetsRules};
 
-use crate::edges::{compare, has_edge};
-use pb_game::{Game, Solution};
+use crate::position::Position;
 use std::cmp::Ordering;
 
-/// Whether all rules are met at `v`.
-pub(crate) fn is_certified_at(game: &Game, solution: &Solution, v: u32) -> bool
-    requires lengths { HasLengths game.now solution.now }
-    requires vertex { v < vertex_count game.now }
-    ensures { IsTrue result → IsCertifiedAt game.now solution.now v }
-{
-    if game.owner(v) == solution.winner(v) {
-        let choice = solution.choice(v);
-        has_edge(game, v, choice) && meets_rules(game, solution, v, choice)
-    } else {
-        meets_rules_everywhere(game, solution, v)
-    }
-}
-
-/// Whether the rules are met along all edges from `v`.
-fn meets_rules_everywhere(game: &Game, solution: &Solution, v: u32) -> bool
-    requires lengths { HasLengths game.now solution.now }
-    requires vertex { v < vertex_count game.now }
-    ensures { IsTrue result → (u : ℕ) → HasEdge game.now v u
-        → MeetsRules game.now solution.now v u }
-{
-    for &target in game.successors(v) {
-        if !meets_rules(game, solution, v, target) {
-            return false;
+impl Position<'_> {
+    /// Whether all rules are met.
+    pub(crate) fn is_certified(&self) -> bool
+        ensures { IsTrue result
+            → IsCertifiedAt self.now.game.now self.now.solution.now self.now.number }
+    {
+        if self.game.owner(self.number) == self.solution.winner(self.number) {
+            let choice = self.solution.choice(self.number);
+            self.has_edge(choice) && self.meets_rules(choice)
+        } else {
+            self.meets_rules_everywhere()
         }
     }
-    true
-}
 
-/// Whether the rules are met along the edge from `v` to `u`, if it is kept.
-fn meets_rules(game: &Game, solution: &Solution, v: u32, u: u32) -> bool
-    requires lengths { HasLengths game.now solution.now }
-    requires from { v < vertex_count game.now }
-    requires to { u < vertex_count game.now }
-    ensures { IsTrue result → MeetsRules game.now solution.now v u }
-{
-    if solution.winner(u) != solution.winner(v) {
-        return false;
+    /// Whether the rules are met along all edges.
+    fn meets_rules_everywhere(&self) -> bool
+        ensures { IsTrue result → (u : ℕ) → HasEdge self.now.game.now self.now.number u
+            → MeetsRules self.now u }
+    {
+        for &target in self.game.successors(self.number) {
+            if !self.meets_rules(target) {
+                return false;
+            }
+        }
+        true
     }
-    match compare(game, solution, v, u) {
-        Ordering::Less => true,
-        Ordering::Equal => game.priority(v) % 2 == solution.winner(v).parity(),
-        Ordering::Greater => false,
+
+    /// Whether the rules are met along the edge to `u`, if it is kept.
+    fn meets_rules(&self, u: u32) -> bool
+        requires { u < vertex_count self.now.game.now }
+        ensures { IsTrue result → MeetsRules self.now u }
+    {
+        let winner = self.solution.winner(self.number);
+        if self.solution.winner(u) != winner {
+            return false;
+        }
+        match self.compare(u) {
+            Ordering::Less => true,
+            Ordering::Equal => self.game.priority(self.number) % 2 == winner.parity(),
+            Ordering::Greater => false,
+        }
     }
 }

@@ -18,6 +18,6 @@ loop-k-preserved g c = went_on (next_dependency _ _ _ _ _ c.loop-k-test.true c.p
 
 pub returns : goal.returns
 returns g c =
-    let none = ap (λ (ns : List ℕ). placed_names (instance_name c.args.verified.now) ns (drop c.loop-k.k c.args.basis.now.call_places.now))
+    let none = ap (λ (ns : List ℕ). placed_names (instance_name c.args.basis.now.verified.now) ns (drop c.loop-k.k c.args.basis.now.call_places.now))
     (drop_all c.loop-k.k c.args.basis.now.dependencies.now (omega arith)) in
     ended none c.loop-k.invariant

@@ -7,5 +7,5 @@ use Rattle.pb_report.proofs.evidence_text.write_dependencies.Given as goal
 abbrev pub invariant-loop-k : goal.invariant-loop-k
 invariant-loop-k g l =
     IsUnderway g.S.Sink l.fn.writer l.writer
-    (placed_names (instance_name l.verified) l.numbers l.call_places)
-    (placed_names (instance_name l.verified) (drop l.k l.numbers) (drop l.k l.call_places))
+    (placed_names (instance_name l.basis.verified.now) l.numbers l.basis.call_places.now)
+    (placed_names (instance_name l.basis.verified.now) (drop l.k l.numbers) (drop l.k l.basis.call_places.now))

@@ -9,10 +9,11 @@ write_instance_name-requires g c =
     let below = instance_below c.args.verified.now c.requires.placed.trees c.args.placed.now.explanation.now c.requires.placed.explanation c.args.k c.requires.place in
     omega (arith, get_or_read _ _ _ c.requires.place c.index.ensures 0, below)
 
-pub write_line_end-requires : goal.write_line_end-requires
-write_line_end-requires g c =
-    dependency_below c.args.verified.now c.requires.placed.trees c.args.placed.now.explanation.now c.requires.placed.explanation c.args.k c.requires.place
-    c.dependencies.result.now c.dependencies.ensures
+pub invariant_of-basis : goal.invariant_of-basis
+invariant_of-basis g c = record {
+  inside = dependency_below c.args.verified.now c.requires.placed.trees c.args.placed.now.explanation.now c.requires.placed.explanation c.args.k c.requires.place
+      c.dependencies.result.now c.dependencies.ensures;
+}
 
 pub index-requires-2 : goal.index-requires-2
 index-requires-2 g c =

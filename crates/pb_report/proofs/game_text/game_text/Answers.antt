@@ -1,4 +1,4 @@
-use Rattle.std.proofs.Common.{◌≡◌, ℕ, ◌<◌, List, length, map, sym, ap, ◌∙◌, subst}
+use Rattle.std.proofs.Common.{◌≡◌, ℕ, ◌<◌, List, Option, length, map, sym, ap, ◌∙◌, subst}
 use Rattle.std.specs.Prelude.{IfSome}
 use Rattle.pb_bytecode.specs.Meaning.{parameters, signature_of, initial_of}
 use Rattle.pb_sorts.specs.Layout.{count_of}
@@ -12,8 +12,8 @@ use Rattle.pb_report.proofs.Placing.{vertices_rising}
 use Rattle.pb_report.proofs.ReachedGames.{text_is, some_vertex, same_length, are_numbers, are_edges}
 use Rattle.pb_report.proofs.game_text.game_text.Goals as goal
 
-pub write_text-requires : goal.write_text-requires
-write_text-requires g c =
+pub invariant_of-placed : goal.invariant_of-placed
+invariant_of-placed g c =
     let m = c.args.verified.now in
     let rows = c.args.rows.now in
     let built = c.args.built.now in
@@ -28,8 +28,9 @@ write_text-requires g c =
         some = some_vertex m rows built trees reached (initial_of m) are is;
         lengths = ap length same ∙ same_length m rows built trees reached (initial_of m) are is;
         rising = subst AreRising (sym same) (vertices_rising (c.requires.rows trees have) is);
-        edges = are_edges m rows built trees reached (initial_of m) are is c.games_of_rows_are_total.ensures.total;
-        numbers = λ v. subst (λ (vs : List ℕ). IfSome (number_in vs rows v) (λ n. n < count_of (parameters m))) (sym same)
+        edges = are_edges built.game;
+        numbers = λ v n number.
+            subst (λ (o : Option ℕ). IfSome o (λ k. k < count_of (parameters m))) (ap (λ (vs : List ℕ). number_in vs rows v) (sym same) ∙ number)
             (are_numbers m rows built trees reached (initial_of m) are is v);
       };
     }

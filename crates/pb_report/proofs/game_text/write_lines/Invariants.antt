@@ -7,6 +7,7 @@ use Rattle.pb_report.proofs.game_text.write_lines.Given as goal
 abbrev pub invariant-loop-vertex : goal.invariant-loop-vertex
 invariant-loop-vertex g l = record {
   sent : IsUnderway g.S.Sink l.fn.writer l.writer
-      (lines_text l.verified l.game l.placed.vertices.now l.placed.rows.now) (lines_of (name_in l.verified l.placed.vertices.now l.placed.rows.now) l.game l.vertex (vertex_count l.game - l.vertex));
+      (lines_text l.placed.verified.now l.placed.game.now l.placed.vertices.now l.placed.rows.now)
+      (lines_of (name_in l.placed.verified.now l.placed.vertices.now l.placed.rows.now) l.placed.game.now l.vertex (vertex_count l.placed.game.now - l.vertex));
   place : IsAtRow l.placed.vertices.now l.k l.vertex;
 }

@@ -2,7 +2,7 @@ use Rattle.std.proofs.Common.{ℕ, List, length, get_or, sym, ap, ◌∙◌, sub
 use Rattle.pb_game.specs.Games.{vertex_count}
 use Rattle.pb_report.specs.InstanceMarks.{AreMarked}
 use Rattle.pb_report.specs.VertexNames.{AreRising}
-use Rattle.pb_report.proofs.Placing.{moved, as_many, vertices_rising, vertices_within, start_marked, shown}
+use Rattle.pb_report.proofs.Placing.{moved, as_many, vertices_rising, start_marked, shown}
 use Rattle.pb_report.proofs.module_evidence.evidence_of_rows.Goals.{After-deref-3}
 use Rattle.pb_report.proofs.module_evidence.evidence_of_rows.Goals as goal
 
@@ -11,12 +11,12 @@ marked : (c : After-deref-3) → AreMarked c.args.solved.now.built.vertices.item
 marked c = moved _ _ _ _ _ _ _ _ c.deref.ensures.value (sym c.deref-2.ensures.value) (sym c.deref-3.ensures.value) c.in_ok-marks.ensures.marked
 
 pub new-requires-clause-lengths : goal.new-requires-clause-lengths
-new-requires-clause-lengths c = ap length c.deref.ensures.value ∙ as_many c.requires.3 c.requires.4 c.games_of_rows_are_total.ensures.rows
+new-requires-clause-lengths c = ap length c.deref.ensures.value ∙ as_many c.requires.3 c.requires.4
 
 pub new-requires-clause-within : goal.new-requires-clause-within
 new-requires-clause-within c = λ k l.
     let value = c.deref.ensures.value in
-    let within = vertices_within c.requires.3 c.requires.4 c.games_of_rows_are_total.ensures.rows k (omega (arith, l, ap length value)) in
+    let within = c.args.solved.now.built.rows_inside k 0 (omega (arith, l, ap length value)) in
     omega (arith, within, c.len.ensures, ap (λ (xs : List ℕ). get_or xs k 0) value)
 
 pub new-requires-clause-rising : goal.new-requires-clause-rising

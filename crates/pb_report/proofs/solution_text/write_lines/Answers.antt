@@ -19,10 +19,10 @@ row_truth-truth-requires g c =
     let count = as_many m c.args.rows.now c.requires.rows trees have in
     (map signature_of m.equations, trees, rows_of trees c.args.rows.now, initial_of m, c.requires.game trees have, omega (arith, count))
 
-pub write_line-requires : goal.write_line-requires
-write_line-requires g c =
+pub invariant_of-instance : goal.invariant_of-instance
+invariant_of-instance g c =
     let below = number_below c.args.verified.now c.args.rows.now c.requires.rows c.requires.trees.0 c.requires.trees.1 c.loop-k.k (omega arith) in
-    omega (arith, below, c.number.ensures)
+    record { inside = omega (arith, below, c.number.ensures) }
 
 pub loop-k-init : goal.loop-k-init
 loop-k-init g c = λ trees have. begun

@@ -6,6 +6,12 @@ use Rattle.pb_evidence_words.specs.Order.{parent_at, run_start}
 use Rattle.pb_evidence_words.proofs.Runs.{same_runs}
 use Rattle.pb_evidence_words.proofs.lines.Lines.new.Goals as goal
 
+pub invariant_of-indexed : goal.invariant_of-indexed
+invariant_of-indexed c = record {
+  lines = c.requires;
+  placed = subst (λ (ns : List ℕ). ArePlaces ns c.in_ok-places.places) c.deref.ensures.value c.in_ok-places.ensures;
+}
+
 pub returns : goal.returns
 returns c =
     let e = c.args.evidence.now in

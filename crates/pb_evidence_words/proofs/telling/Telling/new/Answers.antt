@@ -17,8 +17,8 @@ new-requires-3 c =
     let s = c.args.shown.now in
     has-lines s.verified.now c.requires.trees s.explanation.now c.requires.explanation
 
-pub returns-clause-told : goal.returns-clause-told
-returns-clause-told c =
+pub invariant_of-result : goal.invariant_of-result
+invariant_of-result c =
     let s = c.args.shown.now in
     let typed = s.typed.now in
     let steps = s.steps.now in
@@ -26,14 +26,16 @@ returns-clause-told c =
     let laid = subst (λ (t : SpecForm). IsLayout (erase t) typed.layout) c.requires.property.2 typed.laid_out in
     let also = subst (λ (t : SpecForm). IsLayout (erase t) steps.layout) c.requires.steps.2 steps.laid_out in
     record {
-      text = c.in_ok-calls.ensures.text;
-      steps_text = c.in_ok-steps.ensures.text;
-      layout = ap carriers_of c.in_ok-calls.ensures.layout ∙ sym whole;
-      states = λ i known.
-          subst (λ (l : List (List Carrier)). is_instance (carriers_of l) (record { equation = 0; values = i.values }) ≡ true) (sym c.in_ok-steps.ensures.layout)
-          (state-known (model_form s.model.now) c.requires.property.0 c.requires.steps.0 c.requires.property.1 c.requires.steps.1
-          typed.layout steps.layout laid also i (subst (λ css. is_instance css i ≡ true) whole known));
-      evidence = has-lines s.verified.now c.requires.trees s.explanation.now c.requires.explanation;
-      ordered = c.in_ok-lines.ensures;
-      below = instance_below s.verified.now c.requires.trees s.explanation.now c.requires.explanation;
+      ready = record {
+        text = ∣ c.in_ok-calls.ensures.text ∣₁;
+        steps_text = ∣ c.in_ok-steps.ensures.text ∣₁;
+        layout = ap carriers_of c.in_ok-calls.ensures.layout ∙ sym whole;
+        states = λ i known.
+            subst (λ (l : List (List Carrier)). is_instance (carriers_of l) (record { equation = 0; values = i.values }) ≡ true) (sym c.in_ok-steps.ensures.layout)
+            (state-known (model_form s.model.now) c.requires.property.0 c.requires.steps.0 c.requires.property.1 c.requires.steps.1
+            typed.layout steps.layout laid also i (subst (λ css. is_instance css i ≡ true) whole known));
+        evidence = has-lines s.verified.now c.requires.trees s.explanation.now c.requires.explanation;
+        ordered = c.in_ok-lines.ensures;
+        below = instance_below s.verified.now c.requires.trees s.explanation.now c.requires.explanation;
+      };
     }

@@ -5,13 +5,13 @@ use Rattle.pb_evidence_words.specs.InstanceLines.{instance_line}
 use Rattle.pb_evidence_words.proofs.Pushed.{pieces-more}
 use Rattle.pb_evidence_words.proofs.telling.Telling.push_instance_lines.Goals as goal
 
-pub loop-line-preserved : goal.loop-line-preserved
-loop-line-preserved c =
-    let k = c.loop-line.line in
+pub loop-number-preserved : goal.loop-number-preserved
+loop-number-preserved c =
+    let k = c.loop-number.number in
     let F = instance_line (told_of c.args.self.now.shown.now) in
     let s0 = string_bytes c.args.text.now in
     c.in_ok-push_instance_line.ensures
-    ∙ (ap (λ (s : List ℕ). s ++ F k) c.loop-line.invariant
+    ∙ (ap (λ (s : List ℕ). s ++ F k) c.loop-number.invariant
     ∙ (append_assoc s0 (flat_map F (range_with_len 0 k)) (F k)
     ∙ ap (λ (x : List ℕ). s0 ++ x) (sym (pieces-more F k 0 k (omega arith)))))
 
@@ -19,6 +19,6 @@ pub returns : goal.returns
 returns c =
     let s = c.args.self.now.shown.now in
     let s0 = string_bytes c.args.text.now in
-    let all : c.loop-line.line ≡ length (numbers_of s) = omega (arith, c.loop-line-test.false, c.len-line-end.ensures, s.explanation.now.evidence.instances.ok.0) in
-    c.loop-line.invariant
+    let all : c.loop-number.number ≡ length (numbers_of s) = omega (arith, c.loop-number-test.false, c.len-number-end.ensures, s.explanation.now.evidence.instances.ok.0) in
+    c.loop-number.invariant
     ∙ ap (λ (n : ℕ). s0 ++ flat_map (instance_line (told_of s)) (range_with_len 0 n)) all

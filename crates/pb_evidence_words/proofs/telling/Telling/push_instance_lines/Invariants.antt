@@ -4,7 +4,7 @@ use Rattle.pb_evidence_words.specs.Ready.{told_of}
 use Rattle.pb_evidence_words.specs.InstanceLines.{instance_line}
 use Rattle.pb_evidence_words.proofs.telling.Telling.push_instance_lines.Given as goal
 
-abbrev pub invariant-loop-line : goal.invariant-loop-line
-invariant-loop-line l =
+abbrev pub invariant-loop-number : goal.invariant-loop-number
+invariant-loop-number l =
     string_bytes l.text ≡ string_bytes l.fn.text
-    ++ flat_map (instance_line (told_of l.self.shown.now)) (range_with_len 0 l.line)
+    ++ flat_map (instance_line (told_of l.self.shown.now)) (range_with_len 0 l.number)

@@ -6,19 +6,19 @@ use Rattle.pb_bytecode.proofs.Appending.{append_both}
 use Rattle.pb_evidence_words.proofs.Pushed.{pieces-more}
 use Rattle.pb_evidence_words.proofs.telling.Telling.push_lines.Goals as goal
 
-pub loop-line-preserved : goal.loop-line-preserved
-loop-line-preserved c =
+pub loop-number-preserved : goal.loop-number-preserved
+loop-number-preserved c =
     let t = told_of c.args.self.now.shown.now in
-    let k = c.loop-line.line in
+    let k = c.loop-number.number in
     let F : ℕ → List ℕ = λ j. line_text t j ++ below_text t j in
     let s0 = string_bytes c.args.text.now in
-    let before = string_bytes c.loop-line.text in
+    let before = string_bytes c.loop-number.text in
     let after = string_bytes c.push_below.new.text in
-    let step = append_both before (string_bytes c.push_line.new.text) after (line_text t k) (below_text t k) c.in_ok-push_line.ensures c.in_ok-push_below.ensures in (
-      step ∙ (ap (λ (s : List ℕ). s ++ F k) c.loop-line.invariant.0
+    let step = append_both before (string_bytes c.push.new.text) after (line_text t k) (below_text t k) c.in_ok-push.ensures c.in_ok-push_below.ensures in (
+      step ∙ (ap (λ (s : List ℕ). s ++ F k) c.loop-number.invariant.0
           ∙ (append_assoc s0 (flat_map F (range_with_len 0 k)) (F k)
           ∙ ap (λ (x : List ℕ). s0 ++ x) (sym (pieces-more F k 0 k (omega arith))))),
-      c.in_ok-parent.ensures.caller,
+      c.in_ok-parent-2.ensures.told,
     )
 
 pub returns : goal.returns
@@ -26,6 +26,6 @@ returns c =
     let s = c.args.self.now.shown.now in
     let t = told_of s in
     let s0 = string_bytes c.args.text.now in
-    let all : c.loop-line.line ≡ length (numbers_of s) = omega (arith, c.loop-line-test.false, c.len-count.ensures, s.explanation.now.evidence.instances.ok.0) in
-    c.loop-line.invariant.0
+    let all : c.loop-number.number ≡ length (numbers_of s) = omega (arith, c.loop-number-test.false, c.len-count.ensures, s.explanation.now.evidence.instances.ok.0) in
+    c.loop-number.invariant.0
     ∙ ap (λ (n : ℕ). s0 ++ flat_map (λ k. line_text t k ++ below_text t k) (range_with_len 0 n)) all

@@ -1,9 +1,0 @@
-use Rattle.std.proofs.Common.{◌≡◌, ◌++◌, flat_map, string_bytes, take}
-use Rattle.pb_evidence_words.specs.Ready.{told_of}
-use Rattle.pb_evidence_words.specs.WhyText.{edge_text}
-use Rattle.pb_evidence_words.proofs.telling.Telling.push_edges.Given as goal
-
-abbrev pub invariant-loop-number : goal.invariant-loop-number
-invariant-loop-number l =
-    string_bytes l.text ≡ string_bytes l.fn.text
-    ++ flat_map (edge_text (told_of l.self.shown.now) l.line) (take l.number-index l.number-items)
