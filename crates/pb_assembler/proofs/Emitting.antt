@@ -4,11 +4,10 @@ use Rattle.std.specs.Prelude.{ℤ, unwrap_or, Result, Ok, Err, OnOk}
 use Rattle.std.specs.List.{slice_get, slice_set}
 use Rattle.std.proofs.lemmas.Option.{slice_get_within}
 use Rattle.std.proofs.lemmas.List.{map-append, length-map}
-use Rattle.pb_bytecode_program.specs.declared.instruction.Connective.{Connective}
+use Rattle.pb_fixpoint_trees.specs.declared.junction.Junction.{Junction}
 use Rattle.pb_bytecode_program.specs.declared.instruction.Op.{Op}
 use Rattle.pb_bytecode_program.specs.declared.instruction.Op.TheVariants as op
-use Rattle.pb_normal.specs.declared.formula.Junction.{Junction}
-use Rattle.pb_assembler_scheme.specs.Scheme.{bracketed, connective_of}
+use Rattle.pb_assembler_scheme.specs.Scheme.{bracketed}
 use Rattle.pb_assembler_scheme.specs.Pieces.{Piece, Empty, Plain, Then, Unless, Choose, Repeat, Block, Leave, Guard, end, flat}
 use Rattle.pb_assembler_scheme.proofs.Flat.{long}
 use Rattle.pb_assembler_scheme.proofs.Positions.{HasNoLeave}
@@ -431,8 +430,8 @@ emits_anywhere {x} h {e} {f} {d} s =
 -- ---- brackets
 
 -- an opened bracket, its content, and its end
-pub bracket_emitted : (m : Junction) {k : Connective} {x : Piece} {d d1 d2 d3 : Draft} → k ≡ connective_of m
+pub bracket_emitted : (m : Junction) {k : Junction} {x : Piece} {d d1 d2 d3 : Draft} → k ≡ m
     → Emits (Plain (op.Open k)) nowhere d d1 → Emits x nowhere d1 d2
     → Emits (Plain op.Close) nowhere d2 d3 → Emits (bracketed m x) nowhere d d3
 bracket_emitted m {k} {x} {d} {d1} kind opened inner closed =
-    emits_then (subst (λ (c : Connective). Emits (Plain (op.Open c)) nowhere d d1) kind opened) (emits_then inner closed)
+    emits_then (subst (λ (c : Junction). Emits (Plain (op.Open c)) nowhere d d1) kind opened) (emits_then inner closed)

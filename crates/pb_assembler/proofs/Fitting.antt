@@ -20,8 +20,8 @@ use Rattle.pb_bytecode_program.specs.declared.instruction.Leaf.TheVariants as le
 use Rattle.pb_bytecode_program.specs.declared.instruction.Op.{Op}
 use Rattle.pb_bytecode_program.specs.declared.instruction.Op.TheVariants as op
 use Rattle.pb_normal.specs.Bounds.{FormulaBounds, is_bounded, are_bounded, is_bounded_formula}
-use Rattle.pb_normal.specs.declared.formula.Junction.{Junction}
-use Rattle.pb_normal.specs.declared.formula.Junction.TheVariants.{And, Or}
+use Rattle.pb_fixpoint_trees.specs.declared.junction.Junction.{Junction}
+use Rattle.pb_fixpoint_trees.specs.declared.junction.Junction.TheVariants.{Conjunction, Disjunction}
 use Rattle.pb_normal.specs.Normal.{Term, Number, Slot, Negative, Absolute, Successor, Predecessor, Binary, Maximum, Minimum, Choice, Recognised, Argument, Formula, Test, Join, Each, Call}
 use Rattle.pb_normal.specs.Structs.{has_enumerator, AreFew}
 use Rattle.pb_assembler_scheme.proofs.Flat.{long}
@@ -205,16 +205,16 @@ module _ (sizes : List ℕ) where
       test_fits (Call X xs) h k = tt
 
       tested_fits : (m around : Junction) (t : Term) (x : Piece) → FitsPiece (data_piece t) → FitsPiece x → FitsPiece (tested_piece m around t x)
-      tested_fits And And t x h k = (h, (refl, k))
-      tested_fits Or Or t x h k = (h, (refl, k))
-      tested_fits And Or t x h k = (h, k)
-      tested_fits Or And t x h k = (h, k)
+      tested_fits Conjunction Conjunction t x h k = (h, (refl, k))
+      tested_fits Disjunction Disjunction t x h k = (h, (refl, k))
+      tested_fits Conjunction Disjunction t x h k = (h, k)
+      tested_fits Disjunction Conjunction t x h k = (h, k)
 
       under_fits : (m around : Junction) (x : Piece) → FitsPiece x → FitsPiece (under m around x)
-      under_fits And And x h = h
-      under_fits Or Or x h = h
-      under_fits And Or x h = (refl, (h, refl))
-      under_fits Or And x h = (refl, (h, refl))
+      under_fits Conjunction Conjunction x h = h
+      under_fits Disjunction Disjunction x h = h
+      under_fits Conjunction Disjunction x h = (refl, (h, refl))
+      under_fits Disjunction Conjunction x h = (refl, (h, refl))
 
       join_fits : (m around : Junction) (u v : Option Term) (fa ga fo go : Piece) → TestFits u → TestFits v
           → FitsPiece fa → FitsPiece ga → FitsPiece fo → FitsPiece go → FitsPiece (join_piece m around u v fa ga fo go)

@@ -10,9 +10,9 @@ use Rattle.pb_sorts.specs.declared.carrier.Carrier.{Carrier}
 use Rattle.pb_text_tree.specs.declared.operator.Quantifier.{Quantifier}
 use Rattle.pb_normal.specs.Normal as normal
 use Rattle.pb_normal.specs.Normal.{Term, Test, Join, Each, Call}
-use Rattle.pb_normal.specs.contracts.formula.Junction.{the_type}
-use Rattle.pb_normal.specs.declared.formula.Junction.{Junction}
-use Rattle.pb_normal.specs.declared.formula.Junction.TheVariants.{And, Or}
+use Rattle.pb_fixpoint_trees.specs.contracts.junction.Junction.{the_type}
+use Rattle.pb_fixpoint_trees.specs.declared.junction.Junction.{Junction}
+use Rattle.pb_fixpoint_trees.specs.declared.junction.Junction.TheVariants.{Conjunction, Disjunction}
 use Rattle.pb_normal.specs.declared.formula.Formula as formula
 use Rattle.pb_normal.specs.declared.formula.Formula.{Formula}
 use Rattle.pb_normal.specs.Normalisation.{dual}
@@ -71,20 +71,20 @@ module _ (callees : List (List Carrier)) where
           ap (λ o. join_piece m a o None (formula_piece callees a f) (formula_piece callees a R) (formula_piece callees m f) (formula_piece callees m R)) (sym e)
 
 under_own : (m : Junction) (x : Piece) → under m m x ≡ x
-under_own And x = refl
-under_own Or x = refl
+under_own Conjunction x = refl
+under_own Disjunction x = refl
 
 under_other : (a : Junction) (x : Piece) → under (dual a) a x ≡ bracketed (dual a) x
-under_other And x = refl
-under_other Or x = refl
+under_other Conjunction x = refl
+under_other Disjunction x = refl
 
 pub tested_own : (m : Junction) (t : Term) (x : Piece) → tested_piece m m t x ≡ Then (data_piece t) (Choose (neutral m) (Plain (op.Emit (deciding_leaf m))) x)
-tested_own And t x = refl
-tested_own Or t x = refl
+tested_own Conjunction t x = refl
+tested_own Disjunction t x = refl
 
 pub tested_other : (a : Junction) (t : Term) (x : Piece) → tested_piece (dual a) a t x ≡ Then (data_piece t) (Unless (neutral a) x)
-tested_other And t x = refl
-tested_other Or t x = refl
+tested_other Conjunction t x = refl
+tested_other Disjunction t x = refl
 
 -- ---- numbers stay small, and work less
 
@@ -195,10 +195,10 @@ begins_more s k d0 d d' b e = λ y d1 d2 h c.
     (adds_from d1 (plus d1 (instruction.Plain op.Next)) (instruction.Plain op.Next) refl)) c
 
 pub other_kind : (m a : Junction) (b : Bool) → b ≡ sameb the_type m a → b ≡ false → m ≡ dual a
-other_kind And And b e n = absurd (true≢false (sym e ∙ n))
-other_kind And Or b e n = refl
-other_kind Or And b e n = refl
-other_kind Or Or b e n = absurd (true≢false (sym e ∙ n))
+other_kind Conjunction Conjunction b e n = absurd (true≢false (sym e ∙ n))
+other_kind Conjunction Disjunction b e n = refl
+other_kind Disjunction Conjunction b e n = refl
+other_kind Disjunction Disjunction b e n = absurd (true≢false (sym e ∙ n))
 
 pub untested : (callees : List (List Carrier)) (a : Junction) (f : normal.Formula) (gs : List Formula) → 0 < length gs → early_test f (formula_views gs) ≡ None
     → formula_piece callees a (chained_formula (Join (dual a)) f (formula_views gs)) ≡ bracketed (dual a) (formula_piece callees (dual a) (chained_formula (Join (dual a)) f (formula_views gs)))
@@ -206,10 +206,10 @@ untested callees a f [] l n = absurd (omega arith)
 untested callees a f (g ∷ gs) l n = all_other callees a f (formula_view g ∷ formula_views gs) (omega arith) n
 
 pub same_kind : (m a : Junction) (b : Bool) → b ≡ sameb the_type m a → b ≡ true → m ≡ a
-same_kind And And b e is = refl
-same_kind And Or b e is = absurd (true≢false (sym is ∙ e))
-same_kind Or And b e is = absurd (true≢false (sym is ∙ e))
-same_kind Or Or b e is = refl
+same_kind Conjunction Conjunction b e is = refl
+same_kind Conjunction Disjunction b e is = absurd (true≢false (sym is ∙ e))
+same_kind Disjunction Conjunction b e is = absurd (true≢false (sym is ∙ e))
+same_kind Disjunction Disjunction b e is = refl
 
 -- ---- a join, as it is read
 

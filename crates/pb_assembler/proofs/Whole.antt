@@ -27,6 +27,7 @@ use Rattle.pb_normal.specs.Text.{said}
 use Rattle.pb_normal.specs.View.{shapes_of}
 use Rattle.pb_normal.specs.declared.normal.Equation.{Equation}
 use Rattle.pb_normal.specs.declared.normal.Normal.{Normal}
+use Rattle.pb_normal.proofs.FormulaSet.{rights-are}
 use Rattle.pb_typing.proofs.Accepted.{accepted-well-typed}
 use Rattle.pb_assembler_scheme.specs.Made.{parameter_shapes}
 use Rattle.pb_assembler_modules.specs.Module.{struct_names, AreEquationsOf, IsCompiledModule, KeepsAllLimits}
@@ -79,7 +80,7 @@ module _ (normal : Normal) (kept : IsKept normal) where
   both_named = and_parts (list_all has_enumerator_names (erase text).sorts) (list_all (λ (X : syntax.Equation). is_module_name X.name) (erase text).equations) (normal_named normal)
 
   forms : AreFormsOf (erase text) (map erased_equation text.equations) callees es
-  forms = record { rights = normal.rights; loops = normal.loops; parameters = declared }
+  forms = record { rights = rights-are normal; loops = normal.loops; parameters = declared }
 
   sound : AreSound (erase text) (map erased_equation text.equations)
   sound = record { kept = kept.kept; small = λ k X at. of_each (IsSmallWhereLoopsAreFew (erase text)) (erase text).equations kept.small k X at; named = both_named.1 }

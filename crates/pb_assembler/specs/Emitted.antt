@@ -3,7 +3,7 @@
 use Rattle.std.specs.Prelude.{◌≡◌, ℕ, ◌<◌, ◌≤◌, ◌++◌, Bool, true, nat_lt, length, Option, Some, None, unwrap_or}
 use Rattle.pb_text_tree.specs.declared.operator.Connective.{Connective}
 use Rattle.pb_text_tree.specs.declared.operator.Connective.TheVariants as connective
-use Rattle.pb_bytecode_program.specs.declared.instruction.Connective.TheVariants as connectives
+use Rattle.pb_fixpoint_trees.specs.declared.junction.Junction.TheVariants as junction
 use Rattle.pb_bytecode_program.specs.declared.instruction.Op.TheVariants as op
 use Rattle.pb_assembler_scheme.specs.Pieces.{Piece, Plain, Then, Leave, flat}
 use Rattle.pb_assembler_builder.specs.Draft.{Draft, Places, open_labels, label_place, resolved}
@@ -28,10 +28,10 @@ nowhere M = 0
 
 -- an operand of a connective, behind the operands that follow it, and the connective's instruction
 abbrev pub connected_behind : Connective → Piece → Piece
-connected_behind connective.And x = Then x (Plain (op.Logic connectives.And))
-connected_behind connective.Or x = Then x (Plain (op.Logic connectives.Or))
+connected_behind connective.And x = Then x (Plain (op.Logic junction.Conjunction))
+connected_behind connective.Or x = Then x (Plain (op.Logic junction.Disjunction))
 connected_behind connective.Implies x =
-    Then (Then x (Plain op.Not)) (Plain (op.Logic connectives.Or))
+    Then (Then x (Plain op.Not)) (Plain (op.Logic junction.Disjunction))
 
 -- a label that is there, if one is given
 abbrev pub is_label : ℕ → Option ℕ → Bool

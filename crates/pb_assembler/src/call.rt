@@ -2,7 +2,6 @@
 
 ghost use Rattle.std.specs.Prelude.{◌≡◌, ◌<◌, true, length, map, option_map, OnOk};
 ghost use Rattle.pb_typing_tree.specs.View.{argument_view};
-ghost use Rattle.pb_assembler_scheme.specs.Pieces.{Guard};
 ghost use Rattle.pb_assembler_scheme.specs.Scheme.{arguments_piece, call_piece};
 ghost use Rattle.pb_assembler.specs.Emitted.{Emits, block_end, called_piece, is_label, nowhere};
 ghost use Rattle.pb_normal.specs.Small.{are_small};
@@ -12,7 +11,7 @@ use crate::term::emit_term;
 use pb_assembler_builder::{Builder, Jump, Label};
 use pb_assembler_measures::{any_tested, tested_range};
 use pb_bytecode_program::{Leaf, Op};
-use pb_sorts::{Carrier, Range};
+use pb_sorts::Carrier;
 use pb_typing_tree::Argument;
 use std::alloc::AllocError;
 
@@ -40,7 +39,6 @@ fn emit_called(builder: &mut Builder, called: Called) -> Result<(), AllocError>
 }
 
 /// The arguments for these parameters with their tests, and the call behind them all.
-#[cycle(calls)]
 fn emit_arguments(
     builder: &mut Builder,
     carriers: &[Carrier],
@@ -61,35 +59,13 @@ fn emit_arguments(
     let Some((carrier, carriers)) = carriers.split_first() else {
         return emit_arguments(builder, &[], arguments, called);
     };
-    match tested_range(*carrier, argument.shape) {
-        Some(range) => emit_tested(builder, range, carriers, arguments, called),
-        None => {
-            emit_arguments(builder, carriers, arguments, called)?;
-            if any_tested(carriers, arguments) {
-                emit_plain(builder, Op::Pop)?;
-            }
-            Ok(())
+    let Some(range) = tested_range(*carrier, argument.shape) else {
+        emit_arguments(builder, carriers, arguments, called)?;
+        if any_tested(carriers, arguments) {
+            emit_plain(builder, Op::Pop)?;
         }
-    }
-}
-
-/// The test of an argument, with what is behind it.
-#[cycle(calls)]
-fn emit_tested(
-    builder: &mut Builder,
-    range: Range,
-    carriers: &[Carrier],
-    arguments: &[Argument],
-    called: Called,
-) -> Result<(), AllocError>
-    requires label { is_label (length builder.old.places)
-        (option_map (λ l. l.number) called.end) ≡ true }
-    requires small { are_small (map argument_view arguments.now) ≡ true }
-    ensures { OnOk result (Emits (Guard range.low range.high
-        (arguments_piece carriers.now (map argument_view arguments.now)
-        (called_piece called.equation (option_map (λ l. l.number) called.end))))
-        (block_end (option_map (λ l. l.number) called.end)) builder.old builder.new) }
-{
+        return Ok(());
+    };
     let outside = builder.label()?;
     let test = Jump::InRange {
         low: range.low,

@@ -7,7 +7,7 @@ ghost use Rattle.pb_assembler_scheme.specs.Scheme.{equation_code};
 ghost use Rattle.pb_normal.specs.Small.{is_small_formula};
 
 use crate::emission::emit_plain;
-use crate::formula::{connective_of, emit_formula};
+use crate::formula::emit_formula;
 use pb_assembler_builder::Builder;
 use pb_assembler_measures::outermost;
 use pb_bytecode_program::Op;
@@ -34,7 +34,7 @@ pub(crate) fn equation_code(
 {
     let kind = outermost(right);
     let mut builder = Builder::with_capacity(alloc, instructions)?;
-    emit_plain(&mut builder, Op::Open(connective_of(kind)))?;
+    emit_plain(&mut builder, Op::Open(kind))?;
     emit_formula(&mut builder, layout, kind, right)?;
     emit_plain(&mut builder, Op::Close)?;
     emit_plain(&mut builder, Op::End)?;

@@ -5,11 +5,9 @@ ghost use Rattle.pb_text_tree.specs.Form.{spec_form};
 ghost use Rattle.pb_text_meaning.specs.Erase.{erase};
 ghost use Rattle.pb_bytecode.specs.Decoded.{module_contents};
 ghost use Rattle.pb_bytecode.specs.Meaning.{parameters};
-ghost use Rattle.pb_normal.specs.Text.{said};
 ghost use Rattle.pb_verifier.specs.Acceptance.{IsAccepted};
 ghost use Rattle.pb_assembler_modules.specs.Answers.{HasMeaningOf};
 ghost use Rattle.pb_assembler_modules.specs.Module.{IsCompiledModule, KeepsAllLimits};
-ghost use Rattle.pb_assembler_measures.specs.MeasureEquations.{AreMeasuresOfAll, EachKeepsLimits};
 ghost use Rattle.pb_assembler_measures.specs.Excess.{IsFirstExcess};
 ghost use Rattle.pb_base.specs.OrMemory.{IfRefused};
 
@@ -17,41 +15,11 @@ use crate::equation::compile_equations;
 use crate::initial::initial;
 use crate::laws::accepted_texts_can_be_compiled;
 use crate::sort::sorts;
-use pb_assembler_measures::{CompileError, Measures, measures_within_limits};
+use pb_assembler_measures::{CompileError, measures_within_limits};
 use pb_assembler_modules::laws::{compiled_modules_are_accepted, compiled_modules_have_the_answer};
 use pb_bytecode::{Module, Version};
 use pb_normal::Normal;
-use std::alloc::{AllocError, Global};
-
-/// The module of a text's normal form, given how much the code of each equation takes.
-fn module_of(
-    alloc: Global,
-    normal: &Normal<'_>,
-    measures: &[Measures],
-) -> Result<Module, AllocError>
-    requires kept { EachKeepsLimits (said normal.now.typed.now) }
-    requires measured { AreMeasuresOfAll normal.now.typed.now.layout normal.now.equations.items
-        measures.now }
-    ensures module { IfOk result (λ m. IsCompiledModule (said normal.now.typed.now)
-        (module_contents m)) }
-    ensures kept { IfOk result (λ m. KeepsAllLimits (said normal.now.typed.now)
-        (module_contents m)) }
-    ensures laid_out { IfOk result
-        (λ m. parameters (module_contents m) ≡ normal.now.typed.now.layout) }
-{
-    accepted_texts_can_be_compiled();
-    let spec = &normal.typed.spec;
-    let layout = &normal.typed.layout;
-    let sorts = sorts(alloc, &spec.sorts)?;
-    let equations = compile_equations(alloc, layout, &spec.equations, &normal.equations, measures)?;
-    let initial = initial(alloc, normal)?;
-    Ok(Module {
-        version: Version::One,
-        sorts,
-        equations,
-        initial,
-    })
-}
+use std::alloc::Global;
 
 /// The module that the compile scheme makes of a text's normal form: the right sides of its
 /// equations are code that writes and/or trees. It is always accepted, and has the text's meaning.
@@ -81,6 +49,23 @@ pub fn compile(alloc: Global, normal: &Normal<'_>) -> Result<Module, CompileErro
 {
     compiled_modules_are_accepted();
     compiled_modules_have_the_answer();
+    accepted_texts_can_be_compiled();
     let measures = measures_within_limits(alloc, normal)?;
-    Ok(module_of(alloc, normal, &measures)?)
+    let spec = &normal.typed.spec;
+    let layout = &normal.typed.layout;
+    let sorts = sorts(alloc, &spec.sorts)?;
+    let equations = compile_equations(
+        alloc,
+        layout,
+        &spec.equations,
+        &normal.equations,
+        &measures,
+    )?;
+    let initial = initial(alloc, normal)?;
+    Ok(Module {
+        version: Version::One,
+        sorts,
+        equations,
+        initial,
+    })
 }

@@ -1,12 +1,12 @@
 //! Code of formulas.
 
-ghost use Rattle.std.specs.Prelude.{◌≡◌, true, drop, option_map, Option, None, IfSome};
+ghost use Rattle.std.specs.Prelude.{◌≡◌, true, drop, option_map, Option, IfSome};
 ghost use Rattle.std.specs.Prelude.{OnOk};
 ghost use Rattle.pb_typing_tree.specs.View.{chained_formula};
 ghost use Rattle.pb_normal.specs.Normal.{Join};
 ghost use Rattle.pb_normal.specs.Normalisation.{dual};
 ghost use Rattle.pb_normal.specs.View.{formula_view, formula_views, nested};
-ghost use Rattle.pb_assembler_scheme.specs.Scheme.{connective_of, deciding_leaf, formula_piece};
+ghost use Rattle.pb_assembler_scheme.specs.Scheme.{deciding_leaf, formula_piece};
 ghost use Rattle.pb_assembler_scheme.specs.Scheme.{junction_of, neutral, test_piece};
 ghost use Rattle.pb_assembler.specs.Emitted.{Emits, nowhere};
 ghost use Rattle.pb_assembler.specs.Operands.{early_test, other_of, IsLeft};
@@ -18,7 +18,7 @@ use crate::emission::emit_plain;
 use crate::test::emit_tested;
 use pb_assembler_builder::{Builder, Jump};
 use pb_assembler_measures::{Test, as_test, junction_of, parameters_of};
-use pb_bytecode_program::{Connective, Leaf, Op};
+use pb_bytecode_program::{Leaf, Op};
 use pb_normal::{Formula, Junction};
 use pb_sorts::{Carrier, Layout};
 use pb_text_tree::Quantifier;
@@ -29,8 +29,8 @@ fn deciding(kind: Junction) -> Leaf
     ensures { result ≡ deciding_leaf kind }
 {
     match kind {
-        Junction::And => Leaf::No,
-        Junction::Or => Leaf::Yes,
+        Junction::Conjunction => Leaf::No,
+        Junction::Disjunction => Leaf::Yes,
     }
 }
 
@@ -39,18 +39,8 @@ fn neutral(kind: Junction) -> bool
     ensures { result ≡ neutral kind }
 {
     match kind {
-        Junction::And => true,
-        Junction::Or => false,
-    }
-}
-
-/// The connective of a bracket of this kind.
-pub(crate) fn connective_of(kind: Junction) -> Connective
-    ensures { result ≡ connective_of kind }
-{
-    match kind {
-        Junction::And => Connective::And,
-        Junction::Or => Connective::Or,
+        Junction::Conjunction => true,
+        Junction::Disjunction => false,
     }
 }
 
@@ -133,8 +123,9 @@ pub(crate) fn emit_formula(
                 quantifier: *quantifier,
                 first: *slot,
                 carriers,
+                body,
             };
-            emit_each(builder, layout, around, loops, body)
+            emit_each(builder, layout, around, loops)
         }
         Formula::Call {
             equation,
@@ -160,12 +151,15 @@ fn emit_test(builder: &mut Builder, around: Junction, test: Test<'_>) -> Result<
     Ok(())
 }
 
-/// Loops over the values of the slots from `first` on, which have these carriers.
+/// Quantifiers over the values of the slots from `first` on, which have these carriers.
 #[derive(Clone, Copy)]
-struct Loops<'a> {
+struct Loops<'a, 't> {
     quantifier: Quantifier,
     first: usize,
     carriers: &'a [Carrier],
+    body: &'a Formula<'t>,
+    ghost small: { is_small_formula (nested quantifier first carriers.now
+        (formula_view body.now)) ≡ true },
 }
 
 /// Quantifiers over the values of slots.
@@ -174,24 +168,21 @@ fn emit_each(
     builder: &mut Builder,
     layout: &Layout,
     around: Junction,
-    loops: Loops<'_>,
-    body: &Formula<'_>,
+    loops: Loops<'_, '_>,
 ) -> Result<(), AllocError>
-    requires { is_small_formula (nested loops.quantifier loops.first loops.carriers.now
-        (formula_view body.now)) ≡ true }
     ensures { OnOk result (Emits (formula_piece layout.now around
         (nested loops.entry.quantifier loops.entry.first loops.entry.carriers.now
-        (formula_view body.now))) nowhere builder.old builder.new) }
+        (formula_view loops.entry.body.now))) nowhere builder.old builder.new) }
 {
     if loops.carriers.is_empty() {
-        return emit_formula(builder, layout, around, body);
+        return emit_formula(builder, layout, around, loops.body);
     }
     let kind = junction_of(loops.quantifier);
     if kind == around {
-        return emit_loops(builder, layout, loops, body);
+        return emit_loops(builder, layout, loops);
     }
-    emit_plain(builder, Op::Open(connective_of(kind)))?;
-    emit_loops(builder, layout, loops, body)?;
+    emit_plain(builder, Op::Open(kind))?;
+    emit_loops(builder, layout, loops)?;
     emit_plain(builder, Op::Close)
 }
 
@@ -200,14 +191,11 @@ fn emit_each(
 fn emit_loops(
     builder: &mut Builder,
     layout: &Layout,
-    loops: Loops<'_>,
-    body: &Formula<'_>,
+    loops: Loops<'_, '_>,
 ) -> Result<(), AllocError>
-    requires { is_small_formula (nested loops.quantifier loops.first loops.carriers.now
-        (formula_view body.now)) ≡ true }
     ensures { OnOk result (Emits (formula_piece layout.now (junction_of loops.entry.quantifier)
         (nested loops.entry.quantifier loops.entry.first loops.entry.carriers.now
-        (formula_view body.now))) nowhere builder.old builder.new) }
+        (formula_view loops.entry.body.now))) nowhere builder.old builder.new) }
 {
     let count = loops.carriers.len();
     let mut begun = 0;
@@ -216,7 +204,7 @@ fn emit_loops(
         builder.emit(Op::Loop { slot })?;
         begun += 1;
     }
-    emit_formula(builder, layout, junction_of(loops.quantifier), body)?;
+    emit_formula(builder, layout, junction_of(loops.quantifier), loops.body)?;
     let mut ended = 0;
     while ended < count {
         builder.emit(Op::Next)?;
@@ -293,32 +281,15 @@ fn emit_outside<'t>(
         }
         behind = &behind[1..];
     }
-    emit_untested(builder, layout, around, left, behind)?;
-    builder.place(last);
-    Ok(())
-}
-
-/// The same, where no test comes first.
-#[cycle(formulas)]
-fn emit_untested<'t>(
-    builder: &mut Builder,
-    layout: &Layout,
-    around: Junction,
-    first: &Formula<'t>,
-    rest: &[Formula<'t>],
-) -> Result<(), AllocError>
-    requires small { is_small_formula (chained_formula (Join (dual around)) (formula_view first.now)
-        (formula_views rest.now)) ≡ true }
-    requires untested { early_test (formula_view first.now) (formula_views rest.now) ≡ None }
-    ensures { OnOk result (Emits (formula_piece layout.now around
-        (chained_formula (Join (dual around)) (formula_view first.now) (formula_views rest.now)))
-        nowhere builder.old builder.new) }
-{
-    if rest.is_empty() {
-        return emit_formula(builder, layout, around, first);
+    if behind.is_empty() {
+        emit_formula(builder, layout, around, left)?;
+        builder.place(last);
+        return Ok(());
     }
     let kind = around.dual();
-    emit_plain(builder, Op::Open(connective_of(kind)))?;
-    emit_inside(builder, layout, kind, first, rest)?;
-    emit_plain(builder, Op::Close)
+    emit_plain(builder, Op::Open(kind))?;
+    emit_inside(builder, layout, kind, left, behind)?;
+    emit_plain(builder, Op::Close)?;
+    builder.place(last);
+    Ok(())
 }

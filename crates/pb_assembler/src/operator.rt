@@ -1,18 +1,16 @@
 //! The instructions of operators.
 
-ghost use Rattle.std.specs.Prelude.{◌≡◌, false};
+ghost use Rattle.std.specs.Prelude.{◌≡◌};
 ghost use Rattle.pb_text_meaning.specs.Erase.{of_arithmetic, of_comparison};
 ghost use Rattle.pb_assembler_scheme.specs.Pieces.{Piece};
 ghost use Rattle.pb_assembler_scheme.specs.Scheme.{binary_piece, in_order};
-ghost use Rattle.pb_assembler_builder.specs.Draft.{has_target};
 
 use pb_bytecode_program::{Arithmetic, Comparison, Equality, Op};
 
 /// A comparison's instruction, behind both operands.
 pub(crate) fn comparison_op(comparison: pb_text_tree::Comparison) -> Op
-    ensures order { (x y : Piece) → in_order result x y
+    ensures { (x y : Piece) → in_order result x y
         ≡ binary_piece (of_comparison comparison) x y }
-    ensures plain { has_target result ≡ false }
 {
     match comparison {
         pb_text_tree::Comparison::Equal => Op::Equality(Equality::Equal),
@@ -26,9 +24,8 @@ pub(crate) fn comparison_op(comparison: pb_text_tree::Comparison) -> Op
 
 /// An arithmetic operator's instruction, behind both operands.
 pub(crate) fn arithmetic_op(operator: pb_text_tree::Arithmetic) -> Op
-    ensures order { (x y : Piece) → in_order result x y
+    ensures { (x y : Piece) → in_order result x y
         ≡ binary_piece (of_arithmetic operator) x y }
-    ensures plain { has_target result ≡ false }
 {
     match operator {
         pb_text_tree::Arithmetic::Plus => Op::Arithmetic(Arithmetic::Add),

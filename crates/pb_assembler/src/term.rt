@@ -1,19 +1,19 @@
 //! Code of data terms.
 
 ghost use Rattle.std.specs.Prelude.{◌≡◌, ◌&&◌, false, true, OnOk};
-ghost use Rattle.pb_text_meaning.specs.Erase.{of_comparison, of_connective};
+ghost use Rattle.pb_text_meaning.specs.Erase.{of_connective};
 ghost use Rattle.pb_typing_tree.specs.Tree.{Binary};
-ghost use Rattle.pb_typing_tree.specs.View.{term_of_operands, chained_formula, link_views, term_view, term_views};
+ghost use Rattle.pb_typing_tree.specs.View.{chained_formula, link_views, term_of_operands};
+ghost use Rattle.pb_typing_tree.specs.View.{term_view, term_views};
 ghost use Rattle.pb_assembler_scheme.specs.Pieces.{Plain, Then, Choose};
 ghost use Rattle.pb_assembler_scheme.specs.Scheme.{data_piece, in_order};
-ghost use Rattle.pb_assembler_builder.specs.Draft.{has_target};
 ghost use Rattle.pb_assembler.specs.Emitted.{Emits, connected_behind, nowhere};
 ghost use Rattle.pb_normal.specs.Small.{is_small};
 
 use crate::emission::emit_plain;
 use crate::operator::{arithmetic_op, comparison_op};
 use pb_assembler_builder::{Builder, Jump};
-use pb_bytecode_program::{Arithmetic, Connective, Equality, Op};
+use pb_bytecode_program::{Arithmetic, Equality, Junction, Op};
 use pb_typing_tree::{Link, Term};
 use std::alloc::AllocError;
 
@@ -69,7 +69,7 @@ pub(crate) fn emit_term(builder: &mut Builder, term: &Term) -> Result<(), AllocE
             comparison,
             left,
             right,
-        } => emit_comparison(builder, *comparison, left, right),
+        } => emit_two(builder, left, right, comparison_op(*comparison)),
         Term::Choice {
             condition,
             positive,
@@ -93,8 +93,7 @@ pub(crate) fn emit_term(builder: &mut Builder, term: &Term) -> Result<(), AllocE
 /// An operand, then the instruction.
 #[cycle(terms)]
 fn emit_one(builder: &mut Builder, operand: &Term, op: Op) -> Result<(), AllocError>
-    requires small { is_small (term_view operand.now) ≡ true }
-    requires plain { has_target op ≡ false }
+    requires { is_small (term_view operand.now) ≡ true }
     ensures { OnOk result (Emits (Then (data_piece (term_view operand.now))
         (Plain op)) nowhere builder.old builder.new) }
 {
@@ -105,8 +104,7 @@ fn emit_one(builder: &mut Builder, operand: &Term, op: Op) -> Result<(), AllocEr
 /// Two operands in order, then the instruction.
 #[cycle(terms)]
 fn emit_two(builder: &mut Builder, left: &Term, right: &Term, op: Op) -> Result<(), AllocError>
-    requires small { is_small (term_view left.now) && is_small (term_view right.now) ≡ true }
-    requires plain { has_target op ≡ false }
+    requires { is_small (term_view left.now) && is_small (term_view right.now) ≡ true }
     ensures { OnOk result (Emits (in_order op (data_piece (term_view left.now))
         (data_piece (term_view right.now))) nowhere builder.old builder.new) }
 {
@@ -123,31 +121,13 @@ fn emit_beside(
     constant: Op,
     op: Op,
 ) -> Result<(), AllocError>
-    requires small { is_small (term_view operand.now) ≡ true }
-    requires plain { has_target op ≡ false }
-    requires pushed { has_target constant ≡ false }
+    requires { is_small (term_view operand.now) ≡ true }
     ensures { OnOk result (Emits (in_order op (data_piece (term_view operand.now))
         (Plain constant)) nowhere builder.old builder.new) }
 {
     emit_term(builder, operand)?;
     emit_plain(builder, constant)?;
     emit_plain(builder, op)
-}
-
-/// A comparison of two operands.
-#[cycle(terms)]
-fn emit_comparison(
-    builder: &mut Builder,
-    comparison: pb_text_tree::Comparison,
-    left: &Term,
-    right: &Term,
-) -> Result<(), AllocError>
-    requires { is_small (term_view left.now) && is_small (term_view right.now) ≡ true }
-    ensures { OnOk result (Emits (data_piece (Binary (of_comparison comparison) (term_view left.now)
-        (term_view right.now))) nowhere builder.old builder.new) }
-{
-    let op = comparison_op(comparison);
-    emit_two(builder, left, right, op)
 }
 
 /// One of two operands, as the condition says.
@@ -188,11 +168,19 @@ fn emit_operand(
         (data_piece (term_view operand.now))) nowhere builder.old builder.new) }
 {
     match connective {
-        pb_text_tree::Connective::And => emit_one(builder, operand, Op::Logic(Connective::And)),
-        pb_text_tree::Connective::Or => emit_one(builder, operand, Op::Logic(Connective::Or)),
+        pb_text_tree::Connective::And => emit_one(
+            builder,
+            operand,
+            Op::Logic(Junction::Conjunction),
+        ),
+        pb_text_tree::Connective::Or => emit_one(
+            builder,
+            operand,
+            Op::Logic(Junction::Disjunction),
+        ),
         pb_text_tree::Connective::Implies => {
             emit_one(builder, operand, Op::Not)?;
-            emit_plain(builder, Op::Logic(Connective::Or))
+            emit_plain(builder, Op::Logic(Junction::Disjunction))
         }
     }
 }

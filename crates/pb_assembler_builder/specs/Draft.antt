@@ -1,5 +1,5 @@
 -- Code in the making: instructions, each jump with its label, and the places of the labels so far.
-use Rattle.std.specs.Prelude.{ℕ, suc, Bool, true, false, nat_le, nat_lt, not, is_some, List, [], ◌∷◌, map, Option, Some, None, unwrap_or, if◌then◌else◌}
+use Rattle.std.specs.Prelude.{ℕ, suc, Bool, true, false, nat_le, nat_lt, is_some, List, [], ◌∷◌, map, Option, Some, None, unwrap_or, if◌then◌else◌}
 use Rattle.std.specs.List.{slice_get, list_all, list_any}
 use Rattle.pb_bytecode_program.specs.declared.instruction.Op.{Op}
 use Rattle.pb_bytecode_program.specs.declared.instruction.Op.TheVariants as op
@@ -16,16 +16,9 @@ pub record Draft : Type 0 where
 
 -- ---- what is known of labels
 
-abbrev pub has_target : Op → Bool
-has_target (op.Jump to) = true
-has_target (op.JumpIf condition to) = true
-has_target (op.InRange low high to) = true
-has_target (op.SlotInRange slot low high to) = true
-has_target o = false
-
--- a jump's label is there, and no other instruction has a target
+-- a jump's label is there
 abbrev pub is_labelled : ℕ → Instruction → Bool
-is_labelled n (instruction.Plain o) = not (has_target o)
+is_labelled n (instruction.Plain o) = true
 is_labelled n (instruction.Jump j l) = nat_lt l n
 
 abbrev pub are_labelled : ℕ → List Instruction → Bool

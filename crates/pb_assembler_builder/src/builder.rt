@@ -1,10 +1,10 @@
 //! Code in the making, whose jumps name labels in place of places.
 
-ghost use Rattle.std.specs.Prelude.{◌≡◌, ◌≤◌, ◌<◌, ◌++◌, ◌∷◌, [], true, false, length, map, IfOk};
+ghost use Rattle.std.specs.Prelude.{◌≡◌, ◌≤◌, ◌<◌, ◌++◌, ◌∷◌, [], true, length, map, IfOk};
 ghost use Rattle.std.specs.Prelude.{IfErr, OnOk, OnErr, Some, None};
 ghost use Rattle.std.specs.List.{list_any, slice_set};
 ghost use Rattle.pb_base.specs.declared.limits.TheConstants.{MAX_INSTRUCTIONS};
-ghost use Rattle.pb_assembler_builder.specs.Draft.{are_placed, are_within, has_target};
+ghost use Rattle.pb_assembler_builder.specs.Draft.{are_placed, are_within};
 ghost use Rattle.pb_assembler_builder.specs.Draft.{is_labelled, is_slot_test, label_place};
 ghost use Rattle.pb_assembler_builder.specs.Draft.{needed_version, resolved, resolved_op};
 ghost use Rattle.pb_assembler_builder.specs.declared.instruction.Instruction.TheVariants
@@ -118,12 +118,11 @@ impl Builder {
         }
     }
 
-    /// Adds an instruction that has no target.
+    /// Adds an instruction as it is, without a label.
     ///
     /// # Errors
     /// Memory was refused; nothing has changed.
     pub fn emit(&mut self, op: Op) -> Result<(), AllocError>
-        requires { has_target op ≡ false }
         ensures ok { OnOk result (self.new ≡ record self.old
             { ops = self.old.ops ++ instruction.Plain op ∷ [] }) }
         ensures err { OnErr result (self.new ≡ self.old) }

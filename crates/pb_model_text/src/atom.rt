@@ -1,7 +1,6 @@
 //! Reads data in formulas, and the variables of fixpoints.
 
 ghost use Rattle.std.specs.Prelude.{◌≡◌, true, false, Ok, MatchResult};
-ghost use Rattle.pb_base.specs.Names.{is_spelled};
 ghost use Rattle.pb_text_tree.specs.Form.{term_form, argument_forms, instance_form, named};
 ghost use Rattle.pb_text_lexer.specs.Kinds.{is_last};
 ghost use Rattle.pb_text_lexer.specs.Tokens.{tok, token_at};
@@ -14,6 +13,7 @@ ghost use Rattle.pb_model_text.specs.Grammar as grammar;
 ghost use Rattle.pb_model_text.specs.Reading as reading;
 ghost use Rattle.pb_model_text.specs.Reading.{names_of};
 
+use crate::name_ref::NameRef;
 use crate::scope::{Scope, is_bound};
 use pb_protocol_tree::Formula;
 use pb_text_lexer::fault::{ReadingError, ReadingRule, Refusal};
@@ -123,17 +123,16 @@ pub fn name_atom<'a>(
     input: &mut Input<'a>,
     alloc: Global,
     scope: Scope<'_, 'a>,
-    place: Place,
-    text: &'a str,
+    name: NameRef<'a>,
 ) -> Result<Formula, ReadingError>
-    requires { is_spelled text.now ≡ true }
     ensures { ReadsOn formula_form (reading.atom
         (grammar.atom_of (names_of scope.entry.names.now)) (reading.data_operand scope.entry.depth))
-        (λ s. (spec.kind s ≡ Kind.Name)
-        × (spec.expect Kind.Name s ≡ Ok (token_at place Kind.Name text.now, input.old)))
+        (λ s. (spec.kind s ≡ Kind.Name) × (spec.expect Kind.Name s
+        ≡ Ok (token_at name.entry.place Kind.Name name.entry.text.now, input.old)))
         input.old result input.new }
 {
-    let text = text.to_owned(alloc)?;
+    let place = name.place;
+    let text = name.text.to_owned(alloc)?;
     let instance = instance_behind(input, alloc, scope.depth, Name { place, text })?;
     if !is_operator(input.kind()) {
         return Ok(named_atom(scope.names, place, instance));

@@ -258,29 +258,9 @@ fn links_behind<'a>(
     Ok(links)
 }
 
-/// The chain of the connective that a first operand begins.
-#[cycle(formulas)]
-#[inline(never)]
-fn chain<'a>(
-    input: &mut Input<'a>,
-    alloc: Global,
-    connective: Connective,
-    scope: Scope<'_, 'a>,
-    first: Formula,
-) -> Result<Formula, ReadingError>
-    ensures { ReadsOn formula_form
-        (reading.level connective (names_of scope.entry.names.now) scope.entry.depth)
-        (HasRead (reading.operand connective (names_of scope.entry.names.now) scope.entry.depth)
-        (formula_form first) input.old) input.old result input.new }
-{
-    let links = links_behind(input, alloc, connective, scope);
-    let (start, links) = both(first, links)?;
-    Ok(joined(alloc, connective, start, links)?)
-}
-
 /// The chain of the connective that a first operand begins, or that operand alone.
 #[cycle(formulas)]
-#[inline(always)]
+#[inline(never)]
 fn chain_behind<'a>(
     input: &mut Input<'a>,
     alloc: Global,
@@ -296,7 +276,9 @@ fn chain_behind<'a>(
     if !same_kind(input.kind(), symbol(connective)) {
         return Ok(first);
     }
-    chain(input, alloc, connective, scope, first)
+    let links = links_behind(input, alloc, connective, scope);
+    let (start, links) = both(first, links)?;
+    Ok(joined(alloc, connective, start, links)?)
 }
 
 /// A chain of the connective.
@@ -315,7 +297,7 @@ fn level<'a>(
     if !same_kind(input.kind(), symbol(connective)) {
         return first;
     }
-    chain(input, alloc, connective, scope, first?)
+    chain_behind(input, alloc, connective, scope, first?)
 }
 
 /// A formula, whose first part without connectives is read.

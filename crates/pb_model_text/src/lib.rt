@@ -14,6 +14,7 @@ mod instances;
 pub mod laws;
 mod modality;
 mod model;
+mod name_ref;
 mod node;
 mod pair;
 mod pattern;

@@ -1,7 +1,6 @@
 //! Makes the formulas that words stand for. What a word inserts stands at its place.
 
-ghost use Rattle.std.specs.Prelude.{◌≡◌, true, map, IfOk};
-ghost use Rattle.pb_base.specs.Names.{is_spelled};
+ghost use Rattle.std.specs.Prelude.{◌≡◌, map, IfOk};
 ghost use Rattle.pb_text_tree.specs.Form.{named};
 ghost use Rattle.pb_text_lexer.specs.Steps as spec;
 ghost use Rattle.pb_text_terms.specs.Readers.{MayRead};
@@ -13,6 +12,7 @@ ghost use Rattle.pb_model_text.specs.Words as words;
 
 use crate::atom::unless_going_on;
 use crate::modality::modal_node;
+use crate::name_ref::NameRef;
 use crate::node::{connected, joined};
 use crate::processes::Processes;
 use crate::word::{Infix, Prefix};
@@ -26,11 +26,12 @@ use pb_text_tree::{Connective, Name, Place};
 use std::alloc::{AllocError, Global};
 
 /// The variable of a word's fixpoint.
-fn variable_at(alloc: Global, place: Place, text: &str) -> Result<Name, AllocError>
-    requires { is_spelled text.now ≡ true }
-    ensures { IfOk result (λ n. named n ≡ words.variable_at place text.now) }
+fn variable_at(alloc: Global, name: NameRef<'_>) -> Result<Name, AllocError>
+    ensures { IfOk result (λ n. named n
+        ≡ words.variable_at name.entry.place name.entry.text.now) }
 {
-    let text = text.to_owned(alloc)?;
+    let place = name.place;
+    let text = name.text.to_owned(alloc)?;
     Ok(Name { place, text })
 }
 
@@ -49,16 +50,12 @@ fn some_step(alloc: Global, place: Place) -> Result<Formula, AllocError>
 }
 
 /// `[true] X` or `<true> X`
-fn behind_steps(
-    alloc: Global,
-    modality: Modality,
-    place: Place,
-    text: &str,
-) -> Result<Formula, AllocError>
-    requires { is_spelled text.now ≡ true }
-    ensures { IfOk result (λ f. formula_form f ≡ words.behind_steps modality place text.now) }
+fn behind_steps(alloc: Global, modality: Modality, name: NameRef<'_>) -> Result<Formula, AllocError>
+    ensures { IfOk result (λ f. formula_form f
+        ≡ words.behind_steps modality name.entry.place name.entry.text.now) }
 {
-    let variable = variable_at(alloc, place, text)?;
+    let place = name.place;
+    let variable = variable_at(alloc, name)?;
     let operand = Formula::Variable(variable);
     modal_node(alloc, place, modality, StepSet::All { place }, operand)
 }
@@ -67,15 +64,14 @@ fn behind_steps(
 fn fixpoint_of(
     alloc: Global,
     sign: Sign,
-    place: Place,
-    text: &str,
+    name: NameRef<'_>,
     body: Formula,
 ) -> Result<Formula, AllocError>
-    requires { is_spelled text.now ≡ true }
     ensures { IfOk result (λ f. formula_form f
-        ≡ words.fixpoint_of sign place text.now (formula_form body)) }
+        ≡ words.fixpoint_of sign name.entry.place name.entry.text.now (formula_form body)) }
 {
-    let variable = variable_at(alloc, place, text)?;
+    let place = name.place;
+    let variable = variable_at(alloc, name)?;
     let body = Box::new(alloc, body)?;
     Ok(Formula::Fixpoint {
         place,
@@ -86,12 +82,13 @@ fn fixpoint_of(
 }
 
 /// `<true> true && [true] X`
-fn goes_on(alloc: Global, place: Place, text: &str) -> Result<Formula, AllocError>
-    requires { is_spelled text.now ≡ true }
-    ensures { IfOk result (λ f. formula_form f ≡ words.goes_on place text.now) }
+fn goes_on(alloc: Global, name: NameRef<'_>) -> Result<Formula, AllocError>
+    ensures { IfOk result (λ f. formula_form f
+        ≡ words.goes_on name.entry.place name.entry.text.now) }
 {
+    let place = name.place;
     let some_step = some_step(alloc, place)?;
-    let behind = behind_steps(alloc, Modality::Box, place, text)?;
+    let behind = behind_steps(alloc, Modality::Box, name)?;
     connected(alloc, Connective::And, place, some_step, behind)
 }
 
@@ -99,35 +96,51 @@ fn goes_on(alloc: Global, place: Place, text: &str) -> Result<Formula, AllocErro
 fn always(alloc: Global, place: Place, operand: Formula) -> Result<Formula, AllocError>
     ensures { IfOk result (λ f. formula_form f ≡ words.always place (formula_form operand)) }
 {
-    let behind = behind_steps(alloc, Modality::Box, place, "always")?;
+    let name = NameRef {
+        place,
+        text: "always",
+    };
+    let behind = behind_steps(alloc, Modality::Box, name)?;
     let body = connected(alloc, Connective::And, place, operand, behind)?;
-    fixpoint_of(alloc, Sign::Nu, place, "always", body)
+    fixpoint_of(alloc, Sign::Nu, name, body)
 }
 
 /// `possibly p`
 fn possibly(alloc: Global, place: Place, operand: Formula) -> Result<Formula, AllocError>
     ensures { IfOk result (λ f. formula_form f ≡ words.possibly place (formula_form operand)) }
 {
-    let behind = behind_steps(alloc, Modality::Diamond, place, "possibly")?;
+    let name = NameRef {
+        place,
+        text: "possibly",
+    };
+    let behind = behind_steps(alloc, Modality::Diamond, name)?;
     let body = connected(alloc, Connective::Or, place, operand, behind)?;
-    fixpoint_of(alloc, Sign::Mu, place, "possibly", body)
+    fixpoint_of(alloc, Sign::Mu, name, body)
 }
 
 /// `inevitably p`
 fn inevitably(alloc: Global, place: Place, operand: Formula) -> Result<Formula, AllocError>
     ensures { IfOk result (λ f. formula_form f ≡ words.inevitably place (formula_form operand)) }
 {
-    let later = goes_on(alloc, place, "inevitably")?;
+    let name = NameRef {
+        place,
+        text: "inevitably",
+    };
+    let later = goes_on(alloc, name)?;
     let body = connected(alloc, Connective::Or, place, operand, later)?;
-    fixpoint_of(alloc, Sign::Mu, place, "inevitably", body)
+    fixpoint_of(alloc, Sign::Mu, name, body)
 }
 
 /// `no_deadlock`
 fn no_deadlock(alloc: Global, place: Place) -> Result<Formula, AllocError>
     ensures { IfOk result (λ f. formula_form f ≡ words.no_deadlock place) }
 {
-    let body = goes_on(alloc, place, "no_deadlock")?;
-    fixpoint_of(alloc, Sign::Nu, place, "no_deadlock", body)
+    let name = NameRef {
+        place,
+        text: "no_deadlock",
+    };
+    let body = goes_on(alloc, name)?;
+    fixpoint_of(alloc, Sign::Nu, name, body)
 }
 
 /// `p until q`
@@ -140,10 +153,14 @@ fn until(
     ensures { IfOk result (λ f. formula_form f
         ≡ words.until place (formula_form first) (formula_form second)) }
 {
-    let later = goes_on(alloc, place, "until")?;
+    let name = NameRef {
+        place,
+        text: "until",
+    };
+    let later = goes_on(alloc, name)?;
     let waiting = connected(alloc, Connective::And, place, first, later)?;
     let body = connected(alloc, Connective::Or, place, second, waiting)?;
-    fixpoint_of(alloc, Sign::Mu, place, "until", body)
+    fixpoint_of(alloc, Sign::Mu, name, body)
 }
 
 /// `p leads_to q`
@@ -156,20 +173,28 @@ fn leads_to(
     ensures { IfOk result (λ f. formula_form f
         ≡ words.leads_to place (formula_form first) (formula_form second)) }
 {
+    let name = NameRef {
+        place,
+        text: "leads_to",
+    };
     let answer = inevitably(alloc, place, second)?;
     let response = connected(alloc, Connective::Implies, place, first, answer)?;
-    let behind = behind_steps(alloc, Modality::Box, place, "leads_to")?;
+    let behind = behind_steps(alloc, Modality::Box, name)?;
     let body = connected(alloc, Connective::And, place, behind, response)?;
-    fixpoint_of(alloc, Sign::Nu, place, "leads_to", body)
+    fixpoint_of(alloc, Sign::Nu, name, body)
 }
 
 /// `<A> true || [true] fair`
 fn tries(alloc: Global, place: Place, steps: StepSet) -> Result<Formula, AllocError>
     ensures { IfOk result (λ f. formula_form f ≡ words.tries place (step_set_form steps)) }
 {
+    let name = NameRef {
+        place,
+        text: "fair",
+    };
     let operand = Formula::Constant { place, value: true };
     let able = modal_node(alloc, place, Modality::Diamond, steps, operand)?;
-    let behind = behind_steps(alloc, Modality::Box, place, "fair")?;
+    let behind = behind_steps(alloc, Modality::Box, name)?;
     connected(alloc, Connective::Or, place, able, behind)
 }
 
@@ -178,7 +203,11 @@ fn behind_process(alloc: Global, place: Place, steps: StepSet) -> Result<Formula
     ensures { IfOk result (λ f. formula_form f
         ≡ words.behind_process place (step_set_form steps)) }
 {
-    let variable = variable_at(alloc, place, "fair")?;
+    let name = NameRef {
+        place,
+        text: "fair",
+    };
+    let variable = variable_at(alloc, name)?;
     let operand = Formula::Variable(variable);
     modal_node(alloc, place, Modality::Box, steps, operand)
 }
@@ -187,9 +216,13 @@ fn behind_process(alloc: Global, place: Place, steps: StepSet) -> Result<Formula
 fn waits(alloc: Global, place: Place, steps: StepSet) -> Result<Formula, AllocError>
     ensures { IfOk result (λ f. formula_form f ≡ words.waits place (step_set_form steps)) }
 {
+    let name = NameRef {
+        place,
+        text: "inevitably",
+    };
     let copy = copy_step_set(alloc, &steps)?;
     let tries = tries(alloc, place, copy)?;
-    let on = behind_steps(alloc, Modality::Box, place, "inevitably")?;
+    let on = behind_steps(alloc, Modality::Box, name)?;
     let on = connected(alloc, Connective::And, place, tries, on)?;
     let behind = behind_process(alloc, place, steps)?;
     let on = connected(alloc, Connective::And, place, behind, on)?;
@@ -207,9 +240,13 @@ fn unfair_to(
     ensures { IfOk result (λ f. formula_form f
         ≡ words.unfair_to place (formula_form operand) (step_set_form steps)) }
 {
+    let name = NameRef {
+        place,
+        text: "inevitably",
+    };
     let waits = waits(alloc, place, steps)?;
     let body = connected(alloc, Connective::Or, place, operand, waits)?;
-    fixpoint_of(alloc, Sign::Nu, place, "inevitably", body)
+    fixpoint_of(alloc, Sign::Nu, name, body)
 }
 
 /// What `fair` says of all processes but the first.
@@ -243,11 +280,15 @@ pub fn fair(
     ensures { IfOk result (λ f. formula_form f ≡ words.fair place
         (processes_form processes).0 (processes_form processes).1 (formula_form operand)) }
 {
+    let name = NameRef {
+        place,
+        text: "fair",
+    };
     let Processes { first, others } = processes;
     let links = unfair_to_others(alloc, place, &operand, others)?;
     let first = unfair_to(alloc, place, operand, first)?;
     let body = joined(alloc, Connective::Or, first, links)?;
-    fixpoint_of(alloc, Sign::Mu, place, "fair", body)
+    fixpoint_of(alloc, Sign::Mu, name, body)
 }
 
 /// What a word before an operand stands for.

@@ -30,20 +30,6 @@ fn joined(alloc: Global, first: StepSet, links: Vec<StepSetLink>) -> Result<Step
     Ok(StepSet::Union { first, links })
 }
 
-/// `!` and its operand.
-#[cycle(step_sets)]
-#[inline(never)]
-#[tactic(auto, unfolding(crate::specs::Reading::set))]
-fn complement(input: &mut Input<'_>, alloc: Global, depth: u32) -> Result<StepSet, ReadingError>
-    requires { spec.kind input.old ≡ Kind.Not }
-    ensures { ReadsSome step_set_form (reading.set depth) input.old result input.new }
-{
-    let place = input.enter(depth)?.place;
-    let operand = set(input, alloc, depth - 1)?;
-    let operand = Box::new(alloc, operand)?;
-    Ok(StepSet::Complement { place, operand })
-}
-
 /// Sets in brackets.
 #[cycle(step_sets)]
 #[inline(never)]
@@ -73,7 +59,12 @@ fn set(input: &mut Input<'_>, alloc: Global, depth: u32) -> Result<StepSet, Read
             Ok(StepSet::All { place })
         }
         Kind::Name => step_instances(input, alloc, depth),
-        Kind::Not => complement(input, alloc, depth),
+        Kind::Not => {
+            let place = input.enter(depth)?.place;
+            let operand = set(input, alloc, depth - 1)?;
+            let operand = Box::new(alloc, operand)?;
+            Ok(StepSet::Complement { place, operand })
+        }
         Kind::Open => bracketed(input, alloc, depth),
         _ => Err(ReadingError::Refused(input.refuse(ReadingRule::Unexpected))),
     }

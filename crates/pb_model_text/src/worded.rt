@@ -12,6 +12,7 @@ ghost use Rattle.pb_model_text.specs.Reading.{names_of};
 use crate::atom::{name_atom, unexpected_name};
 use crate::fixpoint::extended;
 use crate::formula::nameless;
+use crate::name_ref::NameRef;
 use crate::pair::both;
 use crate::pattern::{constant_word, fair, infixed, prefixed};
 use crate::processes::process_sets;
@@ -43,7 +44,7 @@ fn wordless<'a>(
     if is_word(text.as_bytes()) {
         return Err(ReadingError::Refused(unexpected_name(place)));
     }
-    name_atom(input, alloc, scope, place, text)
+    name_atom(input, alloc, scope, NameRef { place, text })
 }
 
 /// The operand of `fair`, which is within it.
@@ -110,30 +111,8 @@ fn led<'a>(
     }
 }
 
-/// What begins with a name: a word, data or a fixpoint's variable.
-#[cycle(formulas)]
-#[inline(never)]
-fn named<'a>(
-    input: &mut Input<'a>,
-    alloc: Global,
-    scope: Scope<'_, 'a>,
-) -> Result<Formula, ReadingError>
-    requires { spec.kind input.old ≡ Kind.Name }
-    ensures { ReadsSome formula_form
-        (reading.node (names_of scope.entry.names.now) scope.entry.depth)
-        input.old result input.new }
-{
-    let (place, text) = input.expect_name()?;
-    if !is_word(text.as_bytes()) {
-        return name_atom(input, alloc, scope, place, text);
-    }
-    match leading_within(scope.names, text.as_bytes()) {
-        Some(word) => led(input, alloc, scope, word, place),
-        None => Err(ReadingError::Refused(unexpected_name(place))),
-    }
-}
-
-/// An operand of a negation or a modality.
+/// An operand of a negation or a modality: what begins with a name is a word, data or a fixpoint's
+/// variable.
 #[cycle(formulas)]
 pub fn node<'a>(
     input: &mut Input<'a>,
@@ -144,10 +123,16 @@ pub fn node<'a>(
         (reading.node (names_of scope.entry.names.now) scope.entry.depth)
         input.old result input.new }
 {
-    if same_kind(input.kind(), Kind::Name) {
-        named(input, alloc, scope)
-    } else {
-        nameless(input, alloc, scope)
+    if !same_kind(input.kind(), Kind::Name) {
+        return nameless(input, alloc, scope);
+    }
+    let (place, text) = input.expect_name()?;
+    if !is_word(text.as_bytes()) {
+        return name_atom(input, alloc, scope, NameRef { place, text });
+    }
+    match leading_within(scope.names, text.as_bytes()) {
+        Some(word) => led(input, alloc, scope, word, place),
+        None => Err(ReadingError::Refused(unexpected_name(place))),
     }
 }
 

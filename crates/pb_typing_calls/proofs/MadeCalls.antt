@@ -1,4 +1,5 @@
 -- A typed formula makes the calls of the formula that it comes from, in their order.
+use Rattle.std.specs.Prelude.{⊤}
 use Rattle.std.proofs.Common.{◌≡◌, ℕ, zero, suc, ◌+◌, ◌<◌, ◌==◌, ◌≤◌, Bool, true, false, not, ◌&&◌}
 use Rattle.std.proofs.Common.{if◌then◌else◌, List, [], ◌∷◌, ◌++◌, Option, Some, length, map}
 use Rattle.std.proofs.Common.{flat_map, take, drop, refl, sym, ◌∙◌, ap, arith, append-nil}
@@ -35,7 +36,7 @@ use Rattle.pb_typing_tree.proofs.Plain.{expanded-plain}
 use Rattle.pb_typing_tree.proofs.Slotted.{slotted-values}
 use Rattle.pb_typing_tree.proofs.Truth.{agree-with, free-with, more-free}
 use Rattle.pb_typing_calls.specs.Calls.{decides}
-use Rattle.pb_typing_calls.specs.Gathered.{AreSlots, decides_first, gathered}
+use Rattle.pb_typing_calls.specs.Gathered.{decides_first, gathered}
 use Rattle.pb_typing_calls.specs.Made.{argument_values}
 use Rattle.pb_typing_calls.specs.MadeCalls.{MadeCall, decides_alone, equation_position, for_values}
 use Rattle.pb_typing_calls.specs.MadeCalls.{has_no_call, made_calls, with_value}
@@ -124,6 +125,11 @@ each-value F G h same (v ∷ vs) =
     ∙ (ap (λ xs. map h (G v) ++ xs) (each-value F G h same vs)
     ∙ sym (map-append h (G v) (flat_map G vs)))
 
+-- each is one of n slots
+abbrev pub AreSlots : ℕ → List ℕ → Type 0
+AreSlots n [] = ⊤
+AreSlots n (s ∷ ss) = (s < n) × AreSlots n ss
+
 -- a slot that isn't among them changes none of their values
 unchanged : (own : List ℕ) (n : ℕ) (a : Slots) (v : Value) → AreSlots n own
     → map (set a n v) own ≡ map a own
@@ -144,7 +150,7 @@ pub below-more : (own : List ℕ) (n m : ℕ) → n ≤ m → AreSlots n own →
 below-more [] n m le below = tt
 below-more (s ∷ own) n m le below = (omega (arith, below.0, le), below-more own n m le below.1)
 
-pub below-with : (own : List ℕ) (n m : ℕ) → n < m → AreSlots m own → AreSlots m (own ++ n ∷ [])
+below-with : (own : List ℕ) (n m : ℕ) → n < m → AreSlots m own → AreSlots m (own ++ n ∷ [])
 below-with [] n m lt below = (lt, tt)
 below-with (s ∷ own) n m lt below = (below.0, below-with own n m lt below.1)
 

@@ -3,7 +3,6 @@ use Rattle.std.proofs.Common.{◌≡◌, ℕ, zero, suc, ◌+◌, ◌-◌, ◌<�
 use Rattle.std.proofs.Common.{get_or, map, drop, refl, sym, ◌∙◌, ap, arith, append_assoc}
 use Rattle.std.specs.List.{range_with_len}
 use Rattle.pb_typing_tree.specs.Meaning.{Slots}
-use Rattle.pb_typing_calls.specs.Gathered.{AreSlots}
 
 -- one more of a list's elements
 pub pushed : {X : Type 0} (done more all : List X) (x : X) (k : ℕ)
@@ -25,11 +24,6 @@ pushed-number done more all s e lt is h =
     ∙ (ap (λ n. done ++ range_with_len s n) count ∙ h))
 
 -- ---- slots
-
-pub slot-at : (n : ℕ) (own : List ℕ) (k : ℕ) → AreSlots n own → k < length own → get_or own k 0 < n
-slot-at n [] k are lt = absurd (omega (arith, lt))
-slot-at n (s ∷ own) zero are lt = are.0
-slot-at n (s ∷ own) (suc k) are lt = slot-at n own k are.1 (omega (arith, lt))
 
 pub held-at : (a : Slots) (own : List ℕ) (k : ℕ) → k < length own
     → drop k (map a own) ≡ a (get_or own k 0) ∷ drop (k + 1) (map a own)

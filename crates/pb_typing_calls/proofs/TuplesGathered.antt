@@ -1,5 +1,5 @@
 -- The calls that a quantifier's body makes for each of the tuples, one after the other.
-use Rattle.std.proofs.Common.{◌≡◌, ℕ, zero, suc, ◌+◌, ◌-◌, ◌≤◌, List, [], ◌∷◌, ◌++◌, map}
+use Rattle.std.proofs.Common.{◌≡◌, ℕ, suc, ◌+◌, ◌-◌, List, [], ◌∷◌, ◌++◌, map}
 use Rattle.std.proofs.Common.{flat_map, length, drop, refl, sym, ◌∙◌, ap, subst, arith}
 use Rattle.std.proofs.Common.{append_assoc, append-nil}
 use Rattle.std.specs.List.{range_with_len}
@@ -26,13 +26,12 @@ use Rattle.pb_typing_values.specs.Environment.{IsLaidOut}
 use Rattle.pb_typing_values.specs.Slots.{slots_of}
 use Rattle.pb_typing_values.proofs.Nested.{shape-values}
 use Rattle.pb_typing_values.proofs.Slots.{placed}
-use Rattle.pb_typing_calls.specs.Gathered.{AreSlots, calls_of, gathered}
+use Rattle.pb_typing_calls.specs.Gathered.{calls_of, gathered}
 use Rattle.pb_typing_calls.specs.Loops.{Holds, tuples_of}
 use Rattle.pb_typing_calls.specs.MadeCalls.{MadeCall}
 use Rattle.pb_typing_calls.specs.declared.loops.Loops.{Loops}
 use Rattle.pb_typing_calls.specs.declared.scope.Scope.{Scope}
-use Rattle.pb_typing_calls.proofs.Holding.{same-length, same-slots, tuple-room}
-use Rattle.pb_typing_calls.proofs.MadeCalls.{below-with}
+use Rattle.pb_typing_calls.proofs.Holding.{same-slots}
 use Rattle.pb_typing_calls.proofs.Nodes.{IsQuantifierOf}
 
 -- ---- which quantifier it is makes no difference
@@ -111,15 +110,6 @@ inside-are own ss s cs is =
     let count : s + length cs - s ≡ length cs = omega arith in
     is ∙ ap (λ n. own ++ range_with_len s n) count
 
-inside-slots : (n s m : ℕ) (own : List ℕ) → AreSlots n own → s + m ≤ n
-    → AreSlots n (own ++ range_with_len s m)
-inside-slots n s zero own below le =
-    subst (AreSlots n) (sym (append-nil own)) below
-inside-slots n s (suc m) own below le =
-    subst (AreSlots n) (append_assoc own (s ∷ []) (range_with_len (s + 1) m))
-    (inside-slots n (s + 1) m (own ++ s ∷ []) (below-with own s n (omega (arith, le)) below)
-    (omega (arith, le)))
-
 -- ---- one tuple after the other
 
 module _ (s : Scope) (l : Loops) (body : Formula) (outer : Tuple) (old : List MadeCall) where
@@ -162,15 +152,6 @@ module _ (s : Scope) (l : Loops) (body : Formula) (outer : Tuple) (old : List Ma
         → done ++ flat_map (body_calls spec) (drop (place + 1) (tuples_of l)) ≡ all_calls spec
 
 module _ {s : Scope} {l : Loops} {body : Formula} {outer : Tuple} {old : List MadeCall} {slots : Tuple} {done : List MadeCall} where
-  -- the quantifier's slots are there, as those around it are
-  pub slots-now : IsTupleLeft s l body outer old slots done → AreSlots (length outer) s.own.now → (ss : List ℕ)
-      → ss ≡ s.own.now ++ range_with_len l.slot (l.slot + length l.carriers.now - l.slot) → AreSlots (length slots) ss
-  slots-now w are ss is =
-      let n = length slots in
-      let here = subst (λ (m : ℕ). AreSlots m s.own.now) (sym (same-length l outer slots w.place w.holds)) are in
-      subst (AreSlots n) (sym (inside-are s.own.now ss l.slot l.carriers.now is))
-      (inside-slots n l.slot (length l.carriers.now) s.own.now here (tuple-room w.holds))
-
   pub tuple-done : IsTupleLeft s l body outer old slots done → (ss : List ℕ)
       → ss ≡ s.own.now ++ range_with_len l.slot (l.slot + length l.carriers.now - l.slot)
       → (next : Tuple) → next ≡ slots → (more : List MadeCall)

@@ -1,6 +1,6 @@
 -- The calls that a typed formula makes under values of its slots. The formula is given with the
 -- places of its calls, in their order, and with the slots of the quantifiers around it.
-use Rattle.std.specs.Prelude.{ℕ, ◌==◌, ◌<◌, Bool, ◌&&◌, if◌then◌else◌, ⊤, List, [], ◌∷◌, ◌++◌}
+use Rattle.std.specs.Prelude.{ℕ, ◌==◌, Bool, ◌&&◌, if◌then◌else◌, ⊤, List, [], ◌∷◌, ◌++◌}
 use Rattle.std.specs.Prelude.{map, flat_map, take, drop, length}
 use Rattle.pb_fixpoint.specs.Solution.{empty}
 use Rattle.pb_text_tree.specs.declared.place.Place.{Place}
@@ -48,11 +48,6 @@ gathered spec own a (Quantified q s shape f) ps =
 gathered spec own a (Call X es) ps = call_at own a X es ps
 
 -- ---- of the code's formulas
-
--- each is one of n slots
-abbrev pub AreSlots : ℕ → List ℕ → Type 0
-AreSlots n [] = ⊤
-AreSlots n (s ∷ ss) = (s < n) × AreSlots n ss
 
 -- a formula can be evaluated over slots
 abbrev pub FitsAt : Scope → Tuple → tree.Formula → Type 0

@@ -6,3 +6,4 @@ pub mod MadeCalls
 pub mod MadeCallView
 pub mod Sought
 pub mod View
+pub mod Evaluation

@@ -1,13 +1,14 @@
 //! The calls that a typed formula makes under values of its slots.
 
-ghost use Rattle.std.specs.Prelude.{◌≡◌, ◌++◌, ◌==◌, OnOk, length};
+ghost use Rattle.std.specs.Prelude.{◌≡◌, ◌++◌, OnOk};
 ghost use Rattle.pb_text_meaning.specs.Syntax.{Spec};
 ghost use Rattle.pb_text_tree.specs.declared.operator.Quantifier.TheVariants.{Exists};
 ghost use Rattle.pb_typing_tree.specs.Calls.{call_places};
 ghost use Rattle.pb_typing_tree.specs.View.{formula_view, nested};
 ghost use Rattle.pb_typing_values.specs.Environment.{IsLaidOut};
 ghost use Rattle.pb_typing_values.specs.Slots.{slots_of};
-ghost use Rattle.pb_typing_calls.specs.Gathered.{AreSlots, FitsAt, FitAt, calls_of, chain_calls};
+ghost use Rattle.pb_typing_calls.specs.Evaluation.{Evaluates};
+ghost use Rattle.pb_typing_calls.specs.Gathered.{FitsAt, FitAt, calls_of, chain_calls};
 ghost use Rattle.pb_typing_calls.specs.Gathered.{decides_first, gathered};
 ghost use Rattle.pb_typing_calls.specs.MadeCallView.{call_views};
 
@@ -32,9 +33,8 @@ fn decides_first(
     scope: &Scope<'_>,
 ) -> bool
     requires { FitsAt scope.now slots.old (formula_view operand.now) }
-    ensures deciding { (spec : Spec) → IsLaidOut spec scope.now.environment.layout.now → result
-        ≡ decides_first spec (slots_of slots.old) connective (formula_view operand.now) }
-    ensures kept { slots.new ≡ slots.old }
+    ensures { Evaluates scope.now.environment.layout.now (λ spec. decides_first spec
+        (slots_of slots.old) connective (formula_view operand.now)) slots.old slots.new result }
 {
     if !has_no_call(operand) {
         return false;
@@ -52,8 +52,7 @@ pub(crate) fn push_calls(
     scope: &Scope<'_>,
     calls: &mut Vec<MadeCall>,
 ) -> Result<(), AllocError>
-    requires fits { FitsAt scope.now slots.old (formula_view formula.now) }
-    requires own { AreSlots (length slots.old) scope.now.own.now }
+    requires { FitsAt scope.now slots.old (formula_view formula.now) }
     ensures calls { (spec : Spec) → IsLaidOut spec scope.now.environment.layout.now
         → OnOk result (call_views calls.new.items ≡ call_views calls.old.items
         ++ calls_of spec scope.now (slots_of slots.old) formula.now) }
@@ -117,7 +116,6 @@ fn push_chain_calls(
 ) -> Result<(), AllocError>
     requires first { FitsAt scope.now slots.old (formula_view chain.now.first.now) }
     requires links { FitAt scope.now slots.old chain.now.links.now }
-    requires own { AreSlots (length slots.old) scope.now.own.now }
     ensures calls { (spec : Spec) → IsLaidOut spec scope.now.environment.layout.now
         → OnOk result (call_views calls.new.items ≡ call_views calls.old.items
         ++ chain_calls spec scope.now (slots_of slots.old) chain.now.connective
@@ -144,9 +142,8 @@ fn push_calls_for(
     scope: &Scope<'_>,
     calls: &mut Vec<MadeCall>,
 ) -> Result<(), AllocError>
-    requires fits { FitsAt scope.now slots.old
+    requires { FitsAt scope.now slots.old
         (nested Exists loops.now.slot loops.now.carriers.now (formula_view body.now)) }
-    requires own { AreSlots (length slots.old) scope.now.own.now }
     ensures calls { (spec : Spec) → IsLaidOut spec scope.now.environment.layout.now
         → OnOk result (call_views calls.new.items ≡ call_views calls.old.items
         ++ gathered spec scope.now.own.now (slots_of slots.old)

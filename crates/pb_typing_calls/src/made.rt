@@ -1,19 +1,19 @@
 //! Whether a typed formula makes the call that is looked for.
 
 ghost use Rattle.std.specs.Prelude.{◌≡◌};
-ghost use Rattle.pb_text_meaning.specs.Syntax.{Spec};
 ghost use Rattle.pb_text_tree.specs.declared.operator.Quantifier.TheVariants.{Exists};
 ghost use Rattle.pb_sorts.specs.Instance.{instance_of};
 ghost use Rattle.pb_typing_tree.specs.Calls.{call_places};
 ghost use Rattle.pb_typing_tree.specs.View.{formula_view, formula_views, nested};
 ghost use Rattle.pb_typing_values.specs.Slots.{slots_of};
 ghost use Rattle.pb_typing_calls.specs.Calls.{decides};
+ghost use Rattle.pb_typing_calls.specs.Evaluation.{Evaluates};
 ghost use Rattle.pb_typing_calls.specs.Made.{is_deciding, made, rest_decides};
-ghost use Rattle.pb_typing_calls.specs.Sought.{FitsValues, FitValues, IsOf, chain_makes, is_made};
+ghost use Rattle.pb_typing_calls.specs.Sought.{FitsValues, FitValues, chain_makes, is_made};
 
 use crate::calls::{has_call_at, is_test, same_place};
 use crate::loops::Loops;
-use crate::named::names_instance;
+use crate::named::have_values;
 use crate::side::Side;
 use crate::sought::Sought;
 use pb_text_tree::Connective;
@@ -39,9 +39,9 @@ fn is_deciding(
     sought: &Sought<'_>,
 ) -> bool
     requires { FitsValues sought.now slots.old (formula_view operand.now) }
-    ensures deciding { (spec : Spec) → IsOf sought.now spec → result
-        ≡ is_deciding spec (slots_of slots.old) connective side (formula_view operand.now) }
-    ensures kept { slots.new ≡ slots.old }
+    ensures { Evaluates sought.now.environment.layout.now (λ spec. is_deciding spec
+        (slots_of slots.old) connective side (formula_view operand.now))
+        slots.old slots.new result }
 {
     if !is_test(operand) {
         return false;
@@ -58,9 +58,8 @@ fn rest_decides(
     sought: &Sought<'_>,
 ) -> bool
     requires { FitValues sought.now slots.old rest.now }
-    ensures deciding { (spec : Spec) → IsOf sought.now spec → result
-        ≡ rest_decides spec (slots_of slots.old) connective (formula_views rest.now) }
-    ensures kept { slots.new ≡ slots.old }
+    ensures { Evaluates sought.now.environment.layout.now (λ spec. rest_decides spec
+        (slots_of slots.old) connective (formula_views rest.now)) slots.old slots.new result }
 {
     if rest.len() != 1 {
         return false;
@@ -73,9 +72,8 @@ fn rest_decides(
 #[cycle(made)]
 pub(crate) fn makes_call(formula: &Formula, slots: &mut [i64], sought: &Sought<'_>) -> bool
     requires { FitsValues sought.now slots.old (formula_view formula.now) }
-    ensures made { (spec : Spec) → IsOf sought.now spec → result
-        ≡ is_made spec sought.now (slots_of slots.old) formula.now }
-    ensures kept { slots.new ≡ slots.old }
+    ensures { Evaluates sought.now.environment.layout.now (λ spec. is_made spec sought.now
+        (slots_of slots.old) formula.now) slots.old slots.new result }
 {
     match formula {
         Formula::Test(_) => false,
@@ -106,7 +104,8 @@ pub(crate) fn makes_call(formula: &Formula, slots: &mut [i64], sought: &Sought<'
             arguments,
         } => {
             same_place(*place, sought.place)
-                && names_instance(*equation, arguments, slots, sought.called)
+                && (*equation == usize::from(sought.called.equation)
+                    && have_values(arguments, slots, sought.called.values.as_slice()))
         }
     }
 }
@@ -122,9 +121,8 @@ fn chain_makes_call(
 ) -> bool
     requires first { FitsValues sought.now slots.old (formula_view first.now) }
     requires links { FitValues sought.now slots.old links.now }
-    ensures made { (spec : Spec) → IsOf sought.now spec → result
-        ≡ chain_makes spec sought.now (slots_of slots.old) connective first.now links.now }
-    ensures kept { slots.new ≡ slots.old }
+    ensures { Evaluates sought.now.environment.layout.now (λ spec. chain_makes spec sought.now
+        (slots_of slots.old) connective first.now links.now) slots.old slots.new result }
 {
     let mut operand = first;
     for k in 0..links.len() {
@@ -147,11 +145,10 @@ fn chain_makes_call(
 fn makes_call_for(loops: &Loops<'_>, body: &Formula, slots: &mut [i64], sought: &Sought<'_>) -> bool
     requires { FitsValues sought.now slots.old
         (nested Exists loops.now.slot loops.now.carriers.now (formula_view body.now)) }
-    ensures made { (spec : Spec) → IsOf sought.now spec → result
-        ≡ made spec (instance_of sought.now.called.now) sought.now.place (slots_of slots.old)
+    ensures { Evaluates sought.now.environment.layout.now (λ spec. made spec
+        (instance_of sought.now.called.now) sought.now.place (slots_of slots.old)
         (nested Exists loops.now.slot loops.now.carriers.now (formula_view body.now))
-        (call_places body.now) }
-    ensures kept { slots.new ≡ slots.old }
+        (call_places body.now)) slots.old slots.new result }
 {
     if loops.carriers.is_empty() {
         return makes_call(body, slots, sought);

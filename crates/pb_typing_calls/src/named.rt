@@ -1,35 +1,18 @@
-//! Whether a call names an instance: it is of its equation, and its arguments have its values.
+//! Whether the arguments of a call have the values of an instance.
 
 ghost use Rattle.std.specs.Prelude.{◌≡◌, length, map};
 ghost use Rattle.std.specs.Cmp.Lexicographic.{pointwise};
 ghost use Rattle.std.specs.Ordering.{int_eq};
-ghost use Rattle.pb_sorts.specs.Instance.{instance_of};
 ghost use Rattle.pb_typing_tree.specs.Fits.{AllFit};
 ghost use Rattle.pb_typing_tree.specs.View.{argument_view};
 ghost use Rattle.pb_typing_values.specs.Slots.{slots_of};
-ghost use Rattle.pb_typing_calls.specs.Made.{argument_values, names_instance};
+ghost use Rattle.pb_typing_calls.specs.Made.{argument_values};
 
-use pb_sorts::Instance;
 use pb_typing_tree::Argument;
 use pb_typing_values::value;
 
-/// Whether a call of an equation, by its place, with these arguments names an instance.
-pub(crate) fn names_instance(
-    equation: usize,
-    arguments: &[Argument],
-    slots: &[i64],
-    called: &Instance,
-) -> bool
-    requires { AllFit (length slots.now) (slots_of slots.now) (map argument_view arguments.now) }
-    ensures { result ≡ names_instance (slots_of slots.now) equation
-        (map argument_view arguments.now) (instance_of called.now) }
-{
-    equation == usize::from(called.equation)
-        && have_values(arguments, slots, called.values.as_slice())
-}
-
 /// Whether arguments have these values, one each.
-fn have_values(arguments: &[Argument], slots: &[i64], values: &[i64]) -> bool
+pub(crate) fn have_values(arguments: &[Argument], slots: &[i64], values: &[i64]) -> bool
     requires { AllFit (length slots.now) (slots_of slots.now) (map argument_view arguments.now) }
     ensures { result ≡ pointwise int_eq (argument_values (slots_of slots.now)
         (map argument_view arguments.now)) values.now }

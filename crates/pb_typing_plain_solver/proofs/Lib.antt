@@ -4,7 +4,7 @@ pub mod Ranges
 pub mod Owned
 pub mod Sets
 pub mod Ready
-pub mod Turn
+pub mod OneEquation
 pub mod Solving
 pub mod Slots
 pub mod Asked

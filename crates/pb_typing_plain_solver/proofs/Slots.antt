@@ -20,7 +20,7 @@ use Rattle.pb_typing_tree.proofs.EquationsFit.{equations-fit, within-length}
 use Rattle.pb_typing_values.specs.Slots.{slots_of}
 use Rattle.pb_typing_values.proofs.Slots.{length-put}
 use Rattle.pb_typing_plain_solver.specs.Step.{AreSlots}
-use Rattle.pb_typing_plain_solver.proofs.Turn.{get_or-replicate_same}
+use Rattle.pb_typing_plain_solver.proofs.OneEquation.{get_or-replicate_same}
 
 -- as many zeros as there are slots
 pub slots-begin : (S : Spec) (X : Equation) (n : ℕ) (slots : Tuple) → slots ≡ replicate n (pos 0) → n ≡ slot_count S X → AreSlots S X slots

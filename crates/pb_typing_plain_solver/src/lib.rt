@@ -4,5 +4,6 @@
 
 mod set;
 mod solver;
+mod turn;
 
 pub use solver::solve;

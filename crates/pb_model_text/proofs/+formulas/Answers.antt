@@ -91,14 +91,14 @@ formula::links_behind-returns-clause-reads t c s x h fewer =
     ∙ resumed-end (symbol_kind c.args.connective) (FormulaForm.connected c.args.connective) (operand c.args.connective (names_of c.args.scope.names.now) c.args.scope.depth)
     (length s.tokens - vec_len c.links.links) _ (link_forms c.links.links.items) c.links.input other
 
-pub formula::chain-returns-in_err-start : goal.formula::chain-returns-in_err-start
-formula::chain-returns-in_err-start t c =
+pub formula::chain_behind-returns-in_err-start : goal.formula::chain_behind-returns-in_err-start
+formula::chain_behind-returns-in_err-start t c =
     error-on c.from_residual.result _ c.from_residual.ensures.1
     (λ s h. fails-where _ _ c.links_behind-links.result c.links_behind-links.new.input c.in_err-start.field-0.0 c.in_err-start.ensures
     (c.links_behind-links.ensures.reads s (formula_form c.args.first) h.reads h.fewer))
 
-pub formula::chain-returns : goal.formula::chain-returns
-formula::chain-returns t c = record {
+pub formula::chain_behind-returns : goal.formula::chain_behind-returns
+formula::chain_behind-returns t c = record {
   reads = λ s h.
       rw (c.in_ok-joined.ensures, c.in_ok-start.ensures.0)
       (reads-where _ _ c.links_behind-links.result c.links_behind-links.new.input c.in_ok-start.links c.in_ok-start.ensures.1
@@ -108,7 +108,7 @@ formula::chain-returns t c = record {
 
 pub formula::level-returns : goal.formula::level-returns
 formula::level-returns t c =
-    reads-on c.chain.ensures (has-read c.in_ok-first.ensures)
+    reads-on c.chain_behind.ensures (has-read c.in_ok-first.ensures)
 
 pub formula::chain_behind-returns-then-not-same_kind : goal.formula::chain_behind-returns-then-not-same_kind
 formula::chain_behind-returns-then-not-same_kind t c =
@@ -117,10 +117,6 @@ formula::chain_behind-returns-then-not-same_kind t c =
       reads = λ s h. level-alone-or-fails c.args.connective (names_of c.args.scope.names.now) c.args.scope.depth s c.args.input.now (Ok c.args.first) h.reads other;
       fewer = search rules;
     }
-
-pub formula::chain_behind-returns : goal.formula::chain_behind-returns
-formula::chain_behind-returns t c =
-    c.chain.ensures
 
 pub formula::connectives_behind-returns-in_err-conjunction : goal.formula::connectives_behind-returns-in_err-conjunction
 formula::connectives_behind-returns-in_err-conjunction t c =
@@ -295,23 +291,23 @@ worded::wordless-returns t c =
     reads-on-as c.name_atom.ensures (wordless-atom-at c.args.input.now c.in_ok-place.ensures.reads (names_of c.args.scope.names.now) c.args.scope.depth (search rules))
     (named-kind c.args.input.now c.in_ok-place.ensures.reads, c.in_ok-place.ensures.reads) c.in_ok-place.ensures.fewer
 
-pub worded::named-returns-in_err-place : goal.worded::named-returns-in_err-place
-worded::named-returns-in_err-place t c =
-    refuses c.from_residual.result c.from_residual.ensures.1
-    (absurd (named-state c.args.input.now (ap is_name_kind c.requires ∙ same-kind k.Name) c.in_err-place.field-0.0 c.in_err-place.ensures.reads))
+pub worded::node-returns-in_err-place : goal.worded::node-returns-in_err-place
+worded::node-returns-in_err-place t c =
+    let is : is_name_kind (kind c.args.input.now) ≡ true = search rules in
+    refuses c.from_residual.result c.from_residual.ensures.1 (absurd (named-state c.args.input.now is c.in_err-place.field-0.0 c.in_err-place.ensures.reads))
 
-pub worded::named-returns-then-not-is_word : goal.worded::named-returns-then-not-is_word
-worded::named-returns-then-not-is_word t c =
+pub worded::node-returns-then-not-is_word : goal.worded::node-returns-then-not-is_word
+worded::node-returns-then-not-is_word t c =
     reads-on-as c.name_atom.ensures (node-atom-at c.args.input.now c.in_ok-place.ensures.reads (names_of c.args.scope.names.now) c.args.scope.depth (search rules))
     (named-kind c.args.input.now c.in_ok-place.ensures.reads, c.in_ok-place.ensures.reads) c.in_ok-place.ensures.fewer
 
-pub worded::named-returns-in-Some : goal.worded::named-returns-in-Some
-worded::named-returns-in-Some t c =
+pub worded::node-returns-in-Some : goal.worded::node-returns-in-Some
+worded::node-returns-in-Some t c =
     may-read-as (node-led-at c.args.input.now c.in_ok-place.ensures.reads (names_of c.args.scope.names.now) c.args.scope.depth c.in-Some.word (search rules) (search rules))
     c.in_ok-place.ensures.fewer c.led.ensures
 
-pub worded::named-returns-in-None : goal.worded::named-returns-in-None
-worded::named-returns-in-None t c =
+pub worded::node-returns-in-None : goal.worded::node-returns-in-None
+worded::node-returns-in-None t c =
     refused (rw c.unexpected_name.ensures (node-fails-at c.args.input.now c.in_ok-place.ensures.reads (names_of c.args.scope.names.now) c.args.scope.depth (search rules) (search rules)))
 
 pub worded::joined_behind-returns-in_err-place : goal.worded::joined_behind-returns-in_err-place

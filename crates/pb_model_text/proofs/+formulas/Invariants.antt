@@ -32,9 +32,6 @@ decreases-worded::behind_fair l = l.scope.depth * 32
 abbrev pub decreases-worded::led : goal.decreases-worded::led
 decreases-worded::led l = l.scope.depth * 32 + 3
 
-abbrev pub decreases-worded::named : goal.decreases-worded::named
-decreases-worded::named l = l.scope.depth * 32 + 4
-
 abbrev pub decreases-worded::joined_behind : goal.decreases-worded::joined_behind
 decreases-worded::joined_behind l = l.scope.depth * 32 + 6
 
@@ -68,11 +65,8 @@ decreases-formula::level l = l.scope.depth * 32 + rank l.connective + 3
 abbrev pub decreases-formula::links_behind : goal.decreases-formula::links_behind
 decreases-formula::links_behind l = l.scope.depth * 32 + rank l.connective + 1
 
-abbrev pub decreases-formula::chain : goal.decreases-formula::chain
-decreases-formula::chain l = l.scope.depth * 32 + rank l.connective + 2
-
 abbrev pub decreases-formula::chain_behind : goal.decreases-formula::chain_behind
-decreases-formula::chain_behind l = l.scope.depth * 32 + rank l.connective + 3
+decreases-formula::chain_behind l = l.scope.depth * 32 + rank l.connective + 2
 
 abbrev pub decreases-formula::connectives_behind : goal.decreases-formula::connectives_behind
 decreases-formula::connectives_behind l = l.scope.depth * 32 + 20

@@ -9,7 +9,7 @@ use Rattle.pb_assembler.proofs.code.equation_code.Goals.{In_ok-emit_plain-3}
 
 emitted : (c : In_ok-emit_plain-3) → Emits (equation_piece c.args.layout.now (formula_view c.args.right.now)) nowhere empty (c.emit_plain-3).new.builder
 emitted c =
-    equation_emitted c.args.layout.now (formula_view c.args.right.now) c.outermost-kind.ensures c.connective_of.ensures c.in_ok-builder.ensures
+    equation_emitted c.args.layout.now (formula_view c.args.right.now) c.outermost-kind.ensures c.in_ok-builder.ensures
     c.in_ok-emit_plain.ensures c.in_ok-emit_formula.ensures (c.in_ok-emit_plain-2).ensures (c.in_ok-emit_plain-3).ensures
 
 pub finish-requires-clause-placed : goal.finish-requires-clause-placed

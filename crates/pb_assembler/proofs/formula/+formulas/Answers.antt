@@ -1,13 +1,16 @@
-use Rattle.std.proofs.Common.{◌≡◌, ◌∙◌, ◌+◌, ◌<◌, ℕ, sym, ap, subst, arith, add-one, length, OnOk}
+use Rattle.std.proofs.Common.{◌≡◌, ◌∙◌, ◌+◌, ◌<◌, ℕ, List, true, sym, ap, subst, arith, add-one, length, OnOk}
 use Rattle.pb_bytecode_program.specs.declared.instruction.Leaf.{Leaf}
 use Rattle.pb_bytecode_program.specs.declared.instruction.Op.TheVariants as op
 use Rattle.pb_typing.specs.View.{is_positive}
 use Rattle.pb_normal.specs.Normal as normal
-use Rattle.pb_normal.specs.declared.formula.Junction.{Junction}
+use Rattle.pb_normal.specs.Normal.{Join}
+use Rattle.pb_normal.specs.declared.formula.Formula.{Formula}
+use Rattle.pb_fixpoint_trees.specs.declared.junction.Junction.{Junction}
 use Rattle.pb_normal.specs.Normalisation.{dual}
-use Rattle.pb_normal.specs.View.{formula_view, nested, term_view}
+use Rattle.pb_typing_tree.specs.View.{chained_formula}
+use Rattle.pb_normal.specs.View.{formula_view, formula_views, nested, term_view}
 use Rattle.pb_assembler_scheme.specs.Pieces.{Piece, Plain, Unless, Choose}
-use Rattle.pb_assembler_scheme.specs.Scheme.{connective_of, deciding_leaf, formula_piece, junction_of, neutral}
+use Rattle.pb_assembler_scheme.specs.Scheme.{deciding_leaf, formula_piece, junction_of, neutral}
 use Rattle.pb_assembler.specs.Emitted.{Emits, nowhere}
 use Rattle.pb_assembler.specs.Operands.{other_of}
 use Rattle.pb_assembler_measures.specs.Tests.{tested_term}
@@ -71,7 +74,7 @@ emit_each-returns-then-eq t c =
     let l = c.args.loops in
     let kind = c.junction_of-kind in
     subst (λ (k : Junction). OnOk c.emit_loops.result
-    (Emits (formula_piece c.args.layout.now k (nested l.quantifier l.first l.carriers.now (formula_view c.args.body.now))) nowhere c.args.builder.now c.emit_loops.new.builder))
+    (Emits (formula_piece c.args.layout.now k (nested l.quantifier l.first l.carriers.now (formula_view c.args.loops.body.now))) nowhere c.args.builder.now c.emit_loops.new.builder))
     (sym kind.ensures ∙ same_kind kind.result c.args.around _ c.eq.ensures c.if-eq.true) c.emit_loops.ensures
 
 pub emit_each-returns : goal.emit_each-returns
@@ -82,13 +85,13 @@ emit_each-returns t c =
     let other = sym made ∙ other_kind c.junction_of-kind.result c.args.around _ c.eq.ensures c.if-eq.false in
     on_ok (c.emit_plain-2).result _ _ (c.emit_plain-2).ensures (λ h.
     subst (λ (y : Piece). Emits y nowhere c.args.builder.now (c.emit_plain-2).new.builder)
-    (sym (each_other c.args.layout.now q c.args.around c.args.loops.first cs (formula_view c.args.body.now) other (some_there cs c.is_empty.ensures c.if-is_empty.false)))
-    (bracket_emitted (junction_of q) (c.connective_of.ensures ∙ ap connective_of made) c.in_ok-emit_plain.ensures c.in_ok-emit_loops.ensures h))
+    (sym (each_other c.args.layout.now q c.args.around c.args.loops.first cs (formula_view c.args.loops.body.now) other (some_there cs c.is_empty.ensures c.if-is_empty.false)))
+    (bracket_emitted (junction_of q) made c.in_ok-emit_plain.ensures c.in_ok-emit_loops.ensures h))
 
 slot_small : (t : ℕ) (c : emit_loops-In-loop-begun t) → c.args.loops.first + c.loop-begun.begun < 256
 slot_small t c =
     let b = c.loop-begun-test.true in
-    small_slot c.args.loops.quantifier c.args.loops.first c.args.loops.carriers.now (formula_view c.args.body.now) c.loop-begun.begun (omega (arith, b)) c.requires
+    small_slot c.args.loops.quantifier c.args.loops.first c.args.loops.carriers.now (formula_view c.args.loops.body.now) c.loop-begun.begun (omega (arith, b)) c.args.loops.small
 
 pub emit_loops-overflow_add-slot : goal.emit_loops-overflow_add-slot
 emit_loops-overflow_add-slot t c = omega (arith, slot_small t (goal.at.emit_loops-overflow_add-slot t c).In-loop-begun)
@@ -105,7 +108,9 @@ emit_loops-loop-begun-preserved t c = record {
 }
 
 pub emit_loops-emit_formula-requires : goal.emit_loops-emit_formula-requires
-emit_loops-emit_formula-requires t c = (omega (arith, c.decreases), small_body c.args.loops.quantifier c.args.loops.first c.args.loops.carriers.now (formula_view c.args.body.now) c.requires)
+emit_loops-emit_formula-requires t c =
+    let l = c.args.loops in
+    (omega (arith, c.decreases), small_body l.quantifier l.first l.carriers.now (formula_view l.body.now) l.small)
 
 pub emit_loops-loop-ended-preserved : goal.emit_loops-loop-ended-preserved
 emit_loops-loop-ended-preserved t c = record {
@@ -120,7 +125,7 @@ emit_loops-returns t c =
     let cs = c.args.layout.now in
     let r = c.args.loops.quantifier in
     let m = junction_of r in
-    let body = formula_piece cs m (formula_view c.args.body.now) in
+    let body = formula_piece cs m (formula_view c.args.loops.body.now) in
     let b1 = c.loop-begun-test.false in
     let b2 = c.loop-begun.invariant.below in
     let e1 = c.loop-ended-test.false in
@@ -128,12 +133,13 @@ emit_loops-returns t c =
     let begun : c.loop-begun.begun ≡ length c.args.loops.carriers.now = omega (arith, b1, b2) in
     let ended : c.loop-ended.ended ≡ c.loop-begun.begun = omega (arith, b1, b2, e1, e2) in
     let inner : Emits body nowhere c.loop-begun.builder c.emit_formula.new.builder =
-    subst (λ (k : Junction). Emits (formula_piece cs k (formula_view c.args.body.now)) nowhere c.loop-begun.builder c.emit_formula.new.builder) c.junction_of.ensures c.in_ok-emit_formula.ensures in
+    subst (λ (k : Junction). Emits (formula_piece cs k (formula_view c.args.loops.body.now)) nowhere c.loop-begun.builder c.emit_formula.new.builder)
+    c.junction_of.ensures c.in_ok-emit_formula.ensures in
     let all = c.loop-begun.invariant.begins body c.emit_formula.new.builder c.loop-ended.builder inner
     (subst (λ (k : ℕ). Closes k c.emit_formula.new.builder c.loop-ended.builder) ended c.loop-ended.invariant.closes) in
     subst (λ (q : Piece). Emits q nowhere c.args.builder.now c.loop-ended.builder)
     (ap (λ (k : ℕ). repeated c.args.loops.first k body) begun
-    ∙ sym (each_repeated cs r c.args.loops.first c.args.loops.carriers.now (formula_view c.args.body.now))) all
+    ∙ sym (each_repeated cs r c.args.loops.first c.args.loops.carriers.now (formula_view c.args.loops.body.now))) all
 
 -- ---- joins of the bracket's kind
 
@@ -183,17 +189,42 @@ emit_outside-loop-early-preserved t c =
     (Unless (neutral c.args.around)) (tested_other c.args.around (tested_term early.test))
     (λ x awaits. awaits_unless awaits (rw c.neutral.ensures at c.in_ok-emit_jump.ensures.ok))
 
-pub emit_outside-returns : goal.emit_outside-returns
-emit_outside-returns t c = awaits_no_more c.loop-early.invariant.awaits c.in_ok-emit_untested.ensures c.place.ensures
+-- one operand alone is left
+pub emit_outside-emit_formula-requires : goal.emit_outside-emit_formula-requires
+emit_outside-emit_formula-requires t c =
+    let w = c.loop-early.invariant in
+    let none = none_there c.loop-early.behind.now c.is_empty.ensures c.if-is_empty.true in (
+      omega (arith, c.decreases, w.lighter),
+      subst (λ (fs : List Formula). is_small_formula (chained_formula (Join (dual c.args.around)) (formula_view c.loop-early.left.now) (formula_views fs)) ≡ true) none w.small,
+    )
 
-pub emit_untested-returns : goal.emit_untested-returns
-emit_untested-returns t c =
+pub emit_outside-returns-then-is_empty : goal.emit_outside-returns-then-is_empty
+emit_outside-returns-then-is_empty t c =
     let a = c.args.around in
-    let rest = c.args.rest.now in
-    let piece : Junction → Piece = λ m. operands_piece c.args.layout.now m m c.args.first.now rest in
+    let none = none_there c.loop-early.behind.now c.is_empty.ensures c.if-is_empty.true in
+    awaits_no_more c.loop-early.invariant.awaits
+    (subst (λ (fs : List Formula). Emits (operands_piece c.args.layout.now (dual a) a c.loop-early.left.now fs) nowhere c.loop-early.builder c.emit_formula.new.builder)
+    (sym none) c.in_ok-emit_formula.ensures) c.place.ensures
+
+-- and more than one, in a bracket
+pub emit_outside-emit_inside-requires : goal.emit_outside-emit_inside-requires
+emit_outside-emit_inside-requires t c =
+    let w = c.loop-early.invariant in (
+      omega (arith, c.decreases, w.lighter),
+      subst (λ (m : Junction). is_small_formula (chained_formula (Join m) (formula_view c.loop-early.left.now) (formula_views c.loop-early.behind.now)) ≡ true)
+          (sym c.dual-kind.ensures) w.small,
+    )
+
+pub emit_outside-returns : goal.emit_outside-returns
+emit_outside-returns t c =
+    let a = c.args.around in
+    let left = c.loop-early.left.now in
+    let behind = c.loop-early.behind.now in
+    let piece : Junction → Piece = λ m. operands_piece c.args.layout.now m m left behind in
     let kind = c.dual-kind.ensures in
-    on_ok (c.emit_plain-2).result _ _ (c.emit_plain-2).ensures (λ h.
-    subst (λ (q : Piece). Emits q nowhere c.args.builder.now (c.emit_plain-2).new.builder)
-    (sym (untested c.args.layout.now a (formula_view c.args.first.now) rest (some_there rest c.is_empty.ensures c.if-is_empty.false) c.requires.untested))
-    (bracket_emitted (dual a) (c.connective_of.ensures ∙ ap connective_of kind) c.in_ok-emit_plain.ensures
-    (subst (λ (m : Junction). Emits (piece m) nowhere c.emit_plain.new.builder c.emit_inside.new.builder) kind c.in_ok-emit_inside.ensures) h))
+    awaits_no_more c.loop-early.invariant.awaits
+    (subst (λ (q : Piece). Emits q nowhere c.loop-early.builder (c.emit_plain-2).new.builder)
+    (sym (untested c.args.layout.now a (formula_view left) behind (some_there behind c.is_empty.ensures c.if-is_empty.false) (sym c.in_default.ensures.views)))
+    (bracket_emitted (dual a) kind c.in_ok-emit_plain.ensures
+    (subst (λ (m : Junction). Emits (piece m) nowhere c.emit_plain.new.builder c.emit_inside.new.builder) kind c.in_ok-emit_inside.ensures) (c.in_ok-emit_plain-2).ensures))
+    (c.place-2).ensures

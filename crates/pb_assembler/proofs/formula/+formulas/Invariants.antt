@@ -8,19 +8,16 @@ abbrev pub decreases-emit_formula : goal.decreases-emit_formula
 decreases-emit_formula l = weight l.formula.now
 
 abbrev pub decreases-emit_each : goal.decreases-emit_each
-decreases-emit_each l = 4 + weight l.body.now
+decreases-emit_each l = 4 + weight l.loops.body.now
 
 abbrev pub decreases-emit_loops : goal.decreases-emit_loops
-decreases-emit_loops l = 2 + weight l.body.now
+decreases-emit_loops l = 2 + weight l.loops.body.now
 
 abbrev pub decreases-emit_inside : goal.decreases-emit_inside
 decreases-emit_inside l = 2 + (weight l.first.now + formulas_weight l.rest.now)
 
-abbrev pub decreases-emit_untested : goal.decreases-emit_untested
-decreases-emit_untested l = 4 + (weight l.first.now + formulas_weight l.rest.now)
-
 abbrev pub decreases-emit_outside : goal.decreases-emit_outside
-decreases-emit_outside l = 6 + (weight l.first.now + formulas_weight l.rest.now)
+decreases-emit_outside l = 4 + (weight l.first.now + formulas_weight l.rest.now)
 
 abbrev pub decreases-emit_loops-loop-begun : goal.decreases-emit_loops-loop-begun
 decreases-emit_loops-loop-begun l = l.count - l.begun

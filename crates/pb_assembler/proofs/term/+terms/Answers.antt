@@ -24,11 +24,6 @@ pub emit_beside-returns : goal.emit_beside-returns
 emit_beside-returns t c =
     on_ok (c.emit_plain-2).result _ _ (c.emit_plain-2).ensures (λ h. emits_then c.in_ok-emit_term.ensures (emits_then c.in_ok-emit_plain.ensures h))
 
-pub emit_comparison-returns : goal.emit_comparison-returns
-emit_comparison-returns t c =
-    subst (λ (q : Piece). OnOk c.emit_two.result (Emits q nowhere c.args.builder.now c.emit_two.new.builder))
-    (c.comparison_op-op.ensures.order (data_piece (term_view c.args.left.now)) (data_piece (term_view c.args.right.now))) c.emit_two.ensures
-
 pub emit_choice-returns : goal.emit_choice-returns
 emit_choice-returns t c =
     emits_then c.in_ok-emit_term.ensures
@@ -43,10 +38,7 @@ emit_arithmetic-emit_term-requires t c = (omega (arith, c.decreases), small_head
 pub emit_arithmetic-emit_one-requires : goal.emit_arithmetic-emit_one-requires
 emit_arithmetic-emit_one-requires t c = (
   omega (arith, c.decreases, link_lighter c.args.links.now c.loop-link.link-index c.link-item.result c.loop-link-test.true c.link-item.is),
-  (
-    small_operand (term_view c.args.first.now) c.args.links.now c.loop-link.link-index c.link-item.result c.loop-link-test.true c.link-item.is c.requires,
-    c.arithmetic_op.ensures.plain,
-  ),
+  small_operand (term_view c.args.first.now) c.args.links.now c.loop-link.link-index c.link-item.result c.loop-link-test.true c.link-item.is c.requires,
 )
 
 pub emit_arithmetic-loop-link-preserved : goal.emit_arithmetic-loop-link-preserved
@@ -59,7 +51,7 @@ emit_arithmetic-loop-link-preserved t c =
     let y = data_piece (term_view l.operand) in
     let same =
     ap (λ n. data_piece (term_of_operands first (link_views (take n links)))) (add-one k)
-    ∙ ap data_piece (calculated_more first links k l c.loop-link-test.true c.link-item.is) ∙ sym (c.arithmetic_op.ensures.order x y) in
+    ∙ ap data_piece (calculated_more first links k l c.loop-link-test.true c.link-item.is) ∙ sym (c.arithmetic_op.ensures x y) in
     subst (λ (q : Piece). Emits q nowhere c.args.builder.now c.emit_one.new.builder) (sym same)
     (emits_then c.loop-link.invariant c.in_ok-emit_one.ensures)
 

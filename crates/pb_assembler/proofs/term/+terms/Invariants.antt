@@ -18,9 +18,6 @@ decreases-emit_two l = 1 + (weight l.left.now + weight l.right.now)
 abbrev pub decreases-emit_beside : goal.decreases-emit_beside
 decreases-emit_beside l = 1 + weight l.operand.now
 
-abbrev pub decreases-emit_comparison : goal.decreases-emit_comparison
-decreases-emit_comparison l = 2 + (weight l.left.now + weight l.right.now)
-
 abbrev pub decreases-emit_choice : goal.decreases-emit_choice
 decreases-emit_choice l = 1 + (weight l.condition.now + (weight l.positive.now + weight l.negative.now))
 

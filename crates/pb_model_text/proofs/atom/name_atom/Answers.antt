@@ -23,7 +23,7 @@ returns-then-not-is_operator c =
     let other : is_operator (kind c.instance_behind.new.input) ≡ false = search rules in
     record {
       reads = λ s begins.
-          rw c.named_atom.ensures (named-alone (names_of c.args.scope.names.now) c.args.scope.depth s begins.0 c.instance_behind.new.input c.args.place
+          rw c.named_atom.ensures (named-alone (names_of c.args.scope.names.now) c.args.scope.depth s begins.0 c.instance_behind.new.input c.args.name.place
           (instance_form c.in_ok-instance.instance) (place-at s begins.1)
           (c.in_ok-instance.ensures.reads s (name-owned s begins.1 (search rules))) other);
       fewer = search rules;
@@ -46,7 +46,7 @@ returns c =
           let instance = c.in_ok-instance.ensures.reads s (name-owned s begins.1 (search rules)) in
           let first : unary c.args.scope.depth s ≡ Ok (term_form c.applied.result, c.instance_behind.new.input) =
           rw c.applied.ensures (name-is c.args.scope.depth s c.instance_behind.new.input (instance_form c.in_ok-instance.instance) begins.0 instance) in
-          named-operated (names_of c.args.scope.names.now) c.args.scope.depth s begins.0 c.instance_behind.new.input c.operators_behind.new.input c.args.place
+          named-operated (names_of c.args.scope.names.now) c.args.scope.depth s begins.0 c.instance_behind.new.input c.operators_behind.new.input c.args.name.place
           (instance_form c.in_ok-instance.instance) (term_form c.in_ok-term.term) (place-at s begins.1) instance on (c.in_ok-term.ensures.reads s first);
       fewer = search rules;
     }

@@ -6,9 +6,6 @@ use Rattle.pb_protocol_copies.specs.Links.{step_set_links}
 use Rattle.pb_model_text.specs.Reading.{set, step_set}
 use Rattle.pb_model_text.proofs.step_set.+step_sets.Given as goal
 
-abbrev pub decreases-complement : goal.decreases-complement
-decreases-complement l = l.depth * 4
-
 abbrev pub decreases-bracketed : goal.decreases-bracketed
 decreases-bracketed l = l.depth * 4
 

@@ -11,7 +11,7 @@ use Rattle.pb_typing_calls.proofs.ChainGathered.{chain-stopped, fit-chained, gat
 use Rattle.pb_typing_calls.proofs.Holding.{outer-again, some-room, tuple-fits, tuple-room}
 use Rattle.pb_typing_calls.proofs.MadeCalls.{no-places, nothing_gathered}
 use Rattle.pb_typing_calls.proofs.Nodes.{chain-read, exists-fits, quantifier-read, IsChainOf, IsQuantifierOf}
-use Rattle.pb_typing_calls.proofs.TuplesGathered.{exists-gathers, slots-now, tuple-done, tuple-last}
+use Rattle.pb_typing_calls.proofs.TuplesGathered.{exists-gathers, tuple-done, tuple-last}
 use Rattle.pb_typing_calls.proofs.TuplesGathered.{tuple-next, tuples-begun, IsTupleDone}
 use Rattle.pb_typing_calls.proofs.TuplesMade.{fewer-left}
 use Rattle.pb_typing_calls.proofs.gather.+gathered.Goals as goal
@@ -27,8 +27,8 @@ read_chain t c =
 pub push_calls-push_chain_calls-requires : goal.push_calls-push_chain_calls-requires
 push_calls-push_chain_calls-requires t c =
     let read = read_chain t (goal.at.push_calls-push_chain_calls-requires t c).After-deref-in-Chain-2 in
-    let fits = fit-chained c.args.scope.now c.args.slots.now read c.requires.fits in
-    (omega (arith, c.decreases, read.weighs), (fits.0, (fits.1, c.requires.own)))
+    let fits = fit-chained c.args.scope.now c.args.slots.now read c.requires in
+    (omega (arith, c.decreases, read.weighs), (fits.0, fits.1))
 
 pub push_calls-returns-in-Chain-clause-calls : goal.push_calls-returns-in-Chain-clause-calls
 push_calls-returns-in-Chain-clause-calls t c = λ spec of.
@@ -44,7 +44,7 @@ push_chain_calls-returns-then-decides_first-clause-calls t c = λ spec of.
     c.in_ok-push_calls.ensures.calls spec of
     ∙ ap (λ (ws : Tuple). done ++ calls_of spec c.args.scope.now (slots_of ws) f) c.loop-k.invariant.0 in
     let decides =
-    c.decides_first.ensures.deciding spec of
+    c.decides_first.ensures.gives spec of
     ∙ ap (λ (ws : Tuple). decides_first spec (slots_of ws) c.args.chain.now.connective (formula_view f))
     (c.in_ok-push_calls.ensures.kept ∙ c.loop-k.invariant.0) in
     chain-stopped _ _ _ _ _ _ _ f done c.loop-k.invariant.1 spec of _ made _ decides c.if-decides_first.true
@@ -73,8 +73,8 @@ push_calls-returns-then-has_no_call-clause-calls t c = λ spec of.
 pub push_calls-push_calls_for-requires : goal.push_calls-push_calls_for-requires
 push_calls-push_calls_for-requires t c =
     let read = read_quantifier t (goal.at.push_calls-push_calls_for-requires t c).After-deref-in-Quantified-3 in
-    let fits = exists-fits (length c.args.scope.now.environment.layout.now) (length c.args.slots.now) (slots_of c.args.slots.now) read c.requires.fits in
-    (omega (arith, c.decreases, read.weighs), (fits, c.requires.own))
+    let fits = exists-fits (length c.args.scope.now.environment.layout.now) (length c.args.slots.now) (slots_of c.args.slots.now) read c.requires in
+    (omega (arith, c.decreases, read.weighs), fits)
 
 pub push_calls-returns-else-has_no_call-clause-calls : goal.push_calls-returns-else-has_no_call-clause-calls
 push_calls-returns-else-has_no_call-clause-calls t c = λ spec of.
@@ -85,12 +85,12 @@ push_calls-returns-else-has_no_call-clause-calls t c = λ spec of.
 pub push_calls_for-overflow_add-end : goal.push_calls_for-overflow_add-end
 push_calls_for-overflow_add-end t c =
     let room =
-    some-room (length c.args.scope.now.environment.layout.now) (formula_view c.args.body.now) c.args.loops.now c.args.slots.now c.requires.fits c.if-is_empty.ensures in
+    some-room (length c.args.scope.now.environment.layout.now) (formula_view c.args.body.now) c.args.loops.now c.args.slots.now c.requires c.if-is_empty.ensures in
     omega arith
 
 pub push_calls_for-start-requires : goal.push_calls_for-start-requires
 push_calls_for-start-requires t c =
-    some-room (length c.args.scope.now.environment.layout.now) (formula_view c.args.body.now) c.args.loops.now c.args.slots.now c.requires.fits c.if-is_empty.ensures
+    some-room (length c.args.scope.now.environment.layout.now) (formula_view c.args.body.now) c.args.loops.now c.args.slots.now c.requires c.if-is_empty.ensures
 
 pub push_calls_for-tuples-init : goal.push_calls_for-tuples-init
 push_calls_for-tuples-init t c =
@@ -100,10 +100,7 @@ push_calls_for-tuples-init t c =
 pub push_calls_for-push_calls-requires-in-tuples : goal.push_calls_for-push_calls-requires-in-tuples
 push_calls_for-push_calls-requires-in-tuples t c = (
   omega (arith, c.decreases),
-  (
-    tuple-fits (length c.args.scope.now.environment.layout.now) (formula_view c.args.body.now) c.requires.fits c.tuples.invariant.holds,
-    slots-now c.tuples.invariant c.requires.own c.deref.result.now (c.deref.ensures.value ∙ c.in_ok-own.ensures),
-  ),
+  tuple-fits (length c.args.scope.now.environment.layout.now) (formula_view c.args.body.now) c.requires c.tuples.invariant.holds,
 )
 
 done_body : (t : ℕ) (c : push_calls_for-In_ok-push_calls t)
@@ -127,7 +124,7 @@ push_calls_for-returns-then-not-advance-clause-calls t c =
 
 pub push_calls_for-returns-then-not-advance-clause-kept : goal.push_calls_for-returns-then-not-advance-clause-kept
 push_calls_for-returns-then-not-advance-clause-kept t c =
-    outer-again (length c.args.scope.now.environment.layout.now) (formula_view c.args.body.now) c.requires.fits
+    outer-again (length c.args.scope.now.environment.layout.now) (formula_view c.args.body.now) c.requires
     (done_body t (goal.at.push_calls_for-returns-then-not-advance-clause-kept t c).In_ok-push_calls).holds
     c.advance.new.slots c.clear.new.slots c.advance.ensures.others c.clear.ensures
 

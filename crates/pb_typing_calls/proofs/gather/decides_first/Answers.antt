@@ -1,4 +1,4 @@
-use Rattle.std.proofs.Common.{◌≡◌, ◌∙◌, ◌==◌, ◌&&◌, ℕ, Bool, sym, ap}
+use Rattle.std.proofs.Common.{◌≡◌, ◌∙◌, ◌==◌, ◌&&◌, ℕ, Bool, refl, sym, ap}
 use Rattle.pb_fixpoint.specs.Solution.{Environment, empty}
 use Rattle.pb_sorts.specs.Layout.{count_of}
 use Rattle.pb_text_meaning.specs.Formula.{Instance}
@@ -22,18 +22,26 @@ by_call c spec =
     ap (λ (b : Bool). b && decides c.args.connective Left (truth spec (slots_of c.args.slots.now) empty (formula_view c.args.operand.now)))
     (sym (c.has_no_call.ensures ∙ ap (λ (k : ℕ). k == 0) (calls-counted c.args.operand.now)))
 
-pub returns-then-not-has_no_call-clause-deciding : goal.returns-then-not-has_no_call-clause-deciding
-returns-then-not-has_no_call-clause-deciding c = λ spec of.
-    fails _ _ _ (by_call (goal.at.returns-then-not-has_no_call-clause-deciding c).After-has_no_call spec) c.if-not-has_no_call.true
+pub returns-then-not-has_no_call : goal.returns-then-not-has_no_call
+returns-then-not-has_no_call c = record {
+  gives =
+      λ spec of.
+      fails _ _ _ (by_call (goal.at.returns-then-not-has_no_call c).After-has_no_call spec) c.if-not-has_no_call.true;
+  kept = refl;
+}
 
-pub returns-clause-deciding : goal.returns-clause-deciding
-returns-clause-deciding c = λ spec of.
-    let s = c.args.scope.now in
-    let nothing =
-    nothing-holds spec s.environment.truths.now (count_of s.environment.layout.now)
-    s.nothing_holds in
-    c.decides.ensures
-    ∙ (ap (decides c.args.connective Left)
-    (c.formula_truth-holds.ensures.truth spec of
-    ∙ ap (λ (t : Environment Instance). truth spec (slots_of c.args.slots.now) t (formula_view c.args.operand.now)) nothing)
-    ∙ passes _ _ _ (by_call (goal.at.returns-clause-deciding c).After-has_no_call spec) c.if-not-has_no_call.false)
+pub returns : goal.returns
+returns c = record {
+  gives =
+      λ spec of.
+      let s = c.args.scope.now in
+      let nothing =
+      nothing-holds spec s.environment.truths.now (count_of s.environment.layout.now)
+      s.nothing_holds in
+      c.decides.ensures
+      ∙ (ap (decides c.args.connective Left)
+      (c.formula_truth-holds.ensures.truth spec of
+      ∙ ap (λ (t : Environment Instance). truth spec (slots_of c.args.slots.now) t (formula_view c.args.operand.now)) nothing)
+      ∙ passes _ _ _ (by_call (goal.at.returns c).After-has_no_call spec) c.if-not-has_no_call.false);
+  kept = c.formula_truth-holds.ensures.kept;
+}

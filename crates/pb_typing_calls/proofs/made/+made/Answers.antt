@@ -29,25 +29,33 @@ makes_call-chain_makes_call-requires t c =
     let fits = fits-chained c.args.sought.now c.args.slots.now read c.requires in
     (omega (arith, c.decreases, read.weighs), (fits.0, fits.1))
 
-pub makes_call-returns-in-Chain-clause-made : goal.makes_call-returns-in-Chain-clause-made
-makes_call-returns-in-Chain-clause-made t c = λ spec of.
-    c.chain_makes_call.ensures.made spec of
-    ∙ sym (made-chain spec c.args.sought.now (slots_of c.args.slots.now) c.in-Chain.connective
-    (read_chain t (goal.at.makes_call-returns-in-Chain-clause-made t c).After-deref-in-Chain-2))
+pub makes_call-returns-in-Chain : goal.makes_call-returns-in-Chain
+makes_call-returns-in-Chain t c = record {
+  gives =
+      λ spec of.
+      c.chain_makes_call.ensures.gives spec of
+      ∙ sym (made-chain spec c.args.sought.now (slots_of c.args.slots.now) c.in-Chain.connective
+      (read_chain t (goal.at.makes_call-returns-in-Chain t c).After-deref-in-Chain-2));
+  kept = c.chain_makes_call.ensures.kept;
+}
 
-pub chain_makes_call-returns-then-rest_decides-clause-made : goal.chain_makes_call-returns-then-rest_decides-clause-made
-chain_makes_call-returns-then-rest_decides-clause-made t c = λ spec of.
-    let o = c.args.connective in
-    let links = c.args.links.now in
-    let k = c.loop-k.k in
-    let decided : List Formula → Tuple → Bool =
-    λ fs vs. rest_decides spec (slots_of vs) o (formula_views fs) in
-    let decides =
-    ap (decided (drop k links)) (sym c.loop-k.invariant.0)
-    ∙ (ap (λ (fs : List Formula). decided fs c.loop-k.slots) (sym (from-place links k))
-    ∙ (sym (c.rest_decides.ensures.deciding spec of) ∙ c.if-rest_decides.true)) in
-    left-decided c.args.sought.now c.args.slots.now o c.args.first.now links k c.loop-k.operand.now
-    c.loop-k.invariant.1 spec of decides
+pub chain_makes_call-returns-then-rest_decides : goal.chain_makes_call-returns-then-rest_decides
+chain_makes_call-returns-then-rest_decides t c = record {
+  gives =
+      λ spec of.
+      let o = c.args.connective in
+      let links = c.args.links.now in
+      let k = c.loop-k.k in
+      let decided : List Formula → Tuple → Bool =
+      λ fs vs. rest_decides spec (slots_of vs) o (formula_views fs) in
+      let decides =
+      ap (decided (drop k links)) (sym c.loop-k.invariant.0)
+      ∙ (ap (λ (fs : List Formula). decided fs c.loop-k.slots) (sym (from-place links k))
+      ∙ (sym (c.rest_decides.ensures.gives spec of) ∙ c.if-rest_decides.true)) in
+      left-decided c.args.sought.now c.args.slots.now o c.args.first.now links k c.loop-k.operand.now
+      c.loop-k.invariant.1 spec of decides;
+  kept = c.rest_decides.ensures.kept ∙ c.loop-k.invariant.0;
+}
 
 -- ---- quantifiers
 
@@ -57,16 +65,20 @@ read_quantifier t c =
     quantifier-read c.in-Quantified.quantifier c.in-Quantified.slot c.in-Quantified.carriers c.in-Quantified.body
     c.in-Quantified.is c.deref-in-Quantified-2.ensures.value c.deref-in-Quantified-3.ensures
 
-pub makes_call-returns-then-not-has_call_at-clause-made : goal.makes_call-returns-then-not-has_call_at-clause-made
-makes_call-returns-then-not-has_call_at-clause-made t c = λ spec of.
-    let s = c.args.sought.now in
-    let f = c.args.formula.now in
-    let is_false : c.has_call_at.result ≡ false = search rules in
-    let any : Formula → Bool = λ g. any_at s.place (call_places g) in
-    let no_call = ap any c.in-Quantified.is ∙ (ap any (sym c.deref-in-Quantified.ensures)
-    ∙ (sym c.has_call_at.ensures ∙ is_false)) in
-    sym (nothing_made spec (instance_of s.called.now) s.place (slots_of c.args.slots.now)
-    (formula_view f) (call_places f) no_call)
+pub makes_call-returns-then-not-has_call_at : goal.makes_call-returns-then-not-has_call_at
+makes_call-returns-then-not-has_call_at t c = record {
+  gives =
+      λ spec of.
+      let s = c.args.sought.now in
+      let f = c.args.formula.now in
+      let is_false : c.has_call_at.result ≡ false = search rules in
+      let any : Formula → Bool = λ g. any_at s.place (call_places g) in
+      let no_call = ap any c.in-Quantified.is ∙ (ap any (sym c.deref-in-Quantified.ensures)
+      ∙ (sym c.has_call_at.ensures ∙ is_false)) in
+      sym (nothing_made spec (instance_of s.called.now) s.place (slots_of c.args.slots.now)
+      (formula_view f) (call_places f) no_call);
+  kept = refl;
+}
 
 pub makes_call-makes_call_for-requires : goal.makes_call-makes_call_for-requires
 makes_call-makes_call_for-requires t c =
@@ -75,11 +87,15 @@ makes_call-makes_call_for-requires t c =
       exists-fits (length c.args.sought.now.environment.layout.now) (length c.args.slots.now) (slots_of c.args.slots.now) read c.requires,
     )
 
-pub makes_call-returns-else-not-has_call_at-clause-made : goal.makes_call-returns-else-not-has_call_at-clause-made
-makes_call-returns-else-not-has_call_at-clause-made t c = λ spec of.
-    c.makes_call_for.ensures.made spec of
-    ∙ exists-makes spec c.args.sought.now (slots_of c.args.slots.now)
-    (read_quantifier t (goal.at.makes_call-returns-else-not-has_call_at-clause-made t c).After-deref-in-Quantified-3)
+pub makes_call-returns-else-not-has_call_at : goal.makes_call-returns-else-not-has_call_at
+makes_call-returns-else-not-has_call_at t c = record {
+  gives =
+      λ spec of.
+      c.makes_call_for.ensures.gives spec of
+      ∙ exists-makes spec c.args.sought.now (slots_of c.args.slots.now)
+      (read_quantifier t (goal.at.makes_call-returns-else-not-has_call_at t c).After-deref-in-Quantified-3);
+  kept = c.makes_call_for.ensures.kept;
+}
 
 pub makes_call_for-start-requires : goal.makes_call_for-start-requires
 makes_call_for-start-requires t c =
@@ -97,21 +113,20 @@ makes_call_for-makes_call-requires-in-tuples t c = (
 
 tried_body : (t : ℕ) (c : makes_call_for-After-makes_call-in-tuples t)
     → IsTried c.args.sought.now c.args.loops.now c.args.body.now c.args.slots.now c.makes_call-in-tuples.new.slots c.makes_call-in-tuples.result
-tried_body t c = tried c.tuples.invariant c.makes_call-in-tuples.new.slots c.makes_call-in-tuples.ensures.kept c.makes_call-in-tuples.ensures.made
+tried_body t c = tried c.tuples.invariant c.makes_call-in-tuples.new.slots c.makes_call-in-tuples.ensures.kept c.makes_call-in-tuples.ensures.gives
 
 pub makes_call_for-clear-requires : goal.makes_call_for-clear-requires
 makes_call_for-clear-requires t c =
     tuple-room (tried_body t (goal.at.makes_call_for-clear-requires t c).After-makes_call-in-tuples).holds
 
-pub makes_call_for-returns-then-makes_call-clause-made : goal.makes_call_for-returns-then-makes_call-clause-made
-makes_call_for-returns-then-makes_call-clause-made t c =
-    is-made (tried_body t (goal.at.makes_call_for-returns-then-makes_call-clause-made t c).After-makes_call-in-tuples) c.if-makes_call.true
-
-pub makes_call_for-returns-then-makes_call-clause-kept : goal.makes_call_for-returns-then-makes_call-clause-kept
-makes_call_for-returns-then-makes_call-clause-kept t c =
-    outer-again (length c.args.sought.now.environment.layout.now) (formula_view c.args.body.now) c.requires
-    (tried_body t (goal.at.makes_call_for-returns-then-makes_call-clause-kept t c).After-makes_call-in-tuples).holds
-    c.makes_call-in-tuples.new.slots c.clear.new.slots (λ vs count. refl) c.clear.ensures
+pub makes_call_for-returns-then-makes_call : goal.makes_call_for-returns-then-makes_call
+makes_call_for-returns-then-makes_call t c = record {
+  gives =
+      is-made (tried_body t (goal.at.makes_call_for-returns-then-makes_call t c).After-makes_call-in-tuples) c.if-makes_call.true;
+  kept = outer-again (length c.args.sought.now.environment.layout.now) (formula_view c.args.body.now) c.requires
+      (tried_body t (goal.at.makes_call_for-returns-then-makes_call t c).After-makes_call-in-tuples).holds
+      c.makes_call-in-tuples.new.slots c.clear.new.slots (λ vs count. refl) c.clear.ensures;
+}
 
 pub makes_call_for-advance-requires : goal.makes_call_for-advance-requires
 makes_call_for-advance-requires t c =
@@ -125,16 +140,15 @@ makes_call_for-clear-requires-then-not-advance t c =
       tuple-room (tried_body t (goal.at.makes_call_for-clear-requires-then-not-advance t c).After-makes_call-in-tuples).holds,
     )
 
-pub makes_call_for-returns-then-not-advance-clause-made : goal.makes_call_for-returns-then-not-advance-clause-made
-makes_call_for-returns-then-not-advance-clause-made t c =
-    let done = tried_body t (goal.at.makes_call_for-returns-then-not-advance-clause-made t c).After-makes_call-in-tuples in
-    is-unmade done c.if-makes_call.false (c.advance.ensures.last c.args.slots.now done.place done.holds c.if-not-advance.true)
-
-pub makes_call_for-returns-then-not-advance-clause-kept : goal.makes_call_for-returns-then-not-advance-clause-kept
-makes_call_for-returns-then-not-advance-clause-kept t c =
-    outer-again (length c.args.sought.now.environment.layout.now) (formula_view c.args.body.now) c.requires
-    (tried_body t (goal.at.makes_call_for-returns-then-not-advance-clause-kept t c).After-makes_call-in-tuples).holds
-    c.advance.new.slots c.clear-then-not-advance.new.slots c.advance.ensures.others c.clear-then-not-advance.ensures
+pub makes_call_for-returns-then-not-advance : goal.makes_call_for-returns-then-not-advance
+makes_call_for-returns-then-not-advance t c = record {
+  gives =
+      let done = tried_body t (goal.at.makes_call_for-returns-then-not-advance t c).After-makes_call-in-tuples in
+      is-unmade done c.if-makes_call.false (c.advance.ensures.last c.args.slots.now done.place done.holds c.if-not-advance.true);
+  kept = outer-again (length c.args.sought.now.environment.layout.now) (formula_view c.args.body.now) c.requires
+      (tried_body t (goal.at.makes_call_for-returns-then-not-advance t c).After-makes_call-in-tuples).holds
+      c.advance.new.slots c.clear-then-not-advance.new.slots c.advance.ensures.others c.clear-then-not-advance.ensures;
+}
 
 pub makes_call_for-tuples-smaller : goal.makes_call_for-tuples-smaller
 makes_call_for-tuples-smaller t c =

@@ -51,8 +51,8 @@ joins_done false true true r e p = absurd (true≢false p)
 
 pub loop-number-init : goal.loop-number-init
 loop-number-init c =
-    let typed = c.args.typed.now in
-    let first = first_of (carriers_of typed.layout) c.args.equation in
+    let typed = c.args.turn.now.typed.now in
+    let first = first_of (carriers_of typed.layout) c.args.turn.now.equation in
     let R = c.index-2.result.now in
     let long = typed_length (text typed) typed.layout typed.equations.items typed.laid_out.values typed.rights in
     record {
@@ -64,8 +64,8 @@ loop-number-init c =
           slots-begin (text typed) X _ _ (c.as_mut_slice-slots.ensures.value ∙ c.in_ok-memory.ensures.items_if_clones_equal (λ y e. e))
           (omega (
             arith,
-            parameters_there (text typed) typed.layout c.args.equation X c.carriers-parameters.result.now typed.laid_out.values at c.carriers-parameters.ensures.list,
-            loops_there (text typed) typed.equations.items c.args.equation X R typed.loops at (omega (arith, long, c.requires.known)) c.index-2.ensures,
+            parameters_there (text typed) typed.layout c.args.turn.now.equation X c.carriers-parameters.result.now typed.laid_out.values at c.carriers-parameters.ensures.list,
+            loops_there (text typed) typed.equations.items c.args.turn.now.equation X R typed.loops at (omega (arith, long, c.args.turn.now.known)) c.index-2.ensures,
             R.loops.ok.0,
             c.len.ensures,
           ));
@@ -73,20 +73,21 @@ loop-number-init c =
 
 pub right_truth-holds-requires-clause-own : goal.right_truth-holds-requires-clause-own
 right_truth-holds-requires-clause-own c =
-    let layout = c.args.typed.now.layout in
+    let layout = c.args.turn.now.typed.now.layout in
     let numbers = c.numbers_of-numbers.ensures in
     let css = carriers_of layout in
-    let first = first_of css c.args.equation in
-    between_yes first (first + size_of css c.args.equation) c.loop-number.number (omega (arith, numbers.start, c.loop-number.auto.number)) (omega (arith, numbers.end, c.loop-number-test.true))
+    let first = first_of css c.args.turn.now.equation in
+    between_yes first (first + size_of css c.args.turn.now.equation) c.loop-number.number
+    (omega (arith, numbers.start, c.loop-number.auto.number)) (omega (arith, numbers.end, c.loop-number-test.true))
 
 pub right_truth-holds-requires-clause-slots : goal.right_truth-holds-requires-clause-slots
 right_truth-holds-requires-clause-slots c = c.loop-number.invariant.slots
 
 pub loop-number-preserved : goal.loop-number-preserved
 loop-number-preserved c =
-    let layout = c.args.typed.now.layout in
+    let layout = c.args.turn.now.typed.now.layout in
     let old = c.args.truths.now in
-    let start = first_of (carriers_of layout) c.args.equation in
+    let start = first_of (carriers_of layout) c.args.turn.now.equation in
     let k = c.loop-number.number in
     let xs = c.loop-number.truths in
     let inv = c.loop-number.invariant in
@@ -96,14 +97,14 @@ loop-number-preserved c =
     record {
       mixed = λ X at.
           let side = side_of X.sign in
-          let right = right_truth_at (text c.args.typed.now) (environment_of (text c.args.typed.now) c.args.below.now) X layout in
-          let f = joined (text c.args.typed.now) layout X c.args.below.now old in
+          let right = right_truth_at (text c.args.turn.now.typed.now) (environment_of (text c.args.turn.now.typed.now) c.args.below.now) X layout in
+          let f = joined (text c.args.turn.now.typed.now) layout X c.args.below.now old in
           let m = inv.mixed X at in
           let here : get_or xs k false ≡ get_or old k false = mixed_ahead start k f old xs m in
           let begins : full ≡ not side =
           c.starts_full-start.ensures
           ∙ ap (λ (s : Sign). not (side_of s))
-          (sign_there c.args.typed.now c.args.equation c.index.result.now X c.requires.known c.index.ensures at) in
+          (sign_there c.args.turn.now.typed.now c.args.turn.now.equation c.index.result.now X c.args.turn.now.known c.index.ensures at) in
           let stays = λ (ys : List Bool) (is : ys ≡ xs) (joins : get_or old k false ≡ f k).
           let goal_at : IsMixed start (k + 1) f old ys = subst (λ (zs : List Bool). IsMixed start (k + 1) f old zs) (sym is) (mixed_keep start k f old xs from (here ∙ joins) m) in goal_at in
           elim c.if-truths-number.branch [
@@ -124,22 +125,22 @@ loop-number-preserved c =
         | else-truths-number w ↦ λ none n. ap (λ (zs : List Bool). get_or zs n false) w.truths-is ∙ inv.kept (sym w.changed-is ∙ none) n
       ];
       slots = λ X at. elim c.if-truths-number.branch [
-        | then-truths-number+then-holds-start w ↦ subst (AreSlots (text c.args.typed.now) X) (sym w.slots-is) (w.right_truth-holds.ensures.slots X at)
-        | then-truths-number+else-holds-start w ↦ subst (AreSlots (text c.args.typed.now) X) (sym w.slots-is) (w.right_truth-holds.ensures.slots X at)
-        | else-truths-number w ↦ subst (AreSlots (text c.args.typed.now) X) (sym w.slots-is) (inv.slots X at)
+        | then-truths-number+then-holds-start w ↦ subst (AreSlots (text c.args.turn.now.typed.now) X) (sym w.slots-is) (w.right_truth-holds.ensures.slots X at)
+        | then-truths-number+else-holds-start w ↦ subst (AreSlots (text c.args.turn.now.typed.now) X) (sym w.slots-is) (w.right_truth-holds.ensures.slots X at)
+        | else-truths-number w ↦ subst (AreSlots (text c.args.turn.now.typed.now) X) (sym w.slots-is) (inv.slots X at)
       ];
     }
 
 -- behind the loop the whole set is joined
-whole : (c : After-loop-number) (X : Equation) → slice_get (text c.args.typed.now).equations c.args.equation ≡ Some X →
-    let css = carriers_of c.args.typed.now.layout in
-    let f = joined (text c.args.typed.now) c.args.typed.now.layout X c.args.below.now c.args.truths.now in
-    IsWritten (first_of css c.args.equation) (first_of css c.args.equation + size_of css c.args.equation) f c.args.truths.now c.loop-number.truths
+whole : (c : After-loop-number) (X : Equation) → slice_get (text c.args.turn.now.typed.now).equations c.args.turn.now.equation ≡ Some X →
+    let css = carriers_of c.args.turn.now.typed.now.layout in
+    let f = joined (text c.args.turn.now.typed.now) c.args.turn.now.typed.now.layout X c.args.below.now c.args.truths.now in
+    IsWritten (first_of css c.args.turn.now.equation) (first_of css c.args.turn.now.equation + size_of css c.args.turn.now.equation) f c.args.truths.now c.loop-number.truths
 whole c X at =
-    let css = carriers_of c.args.typed.now.layout in
-    let f = joined (text c.args.typed.now) c.args.typed.now.layout X c.args.below.now c.args.truths.now in
+    let css = carriers_of c.args.turn.now.typed.now.layout in
+    let f = joined (text c.args.turn.now.typed.now) c.args.turn.now.typed.now.layout X c.args.below.now c.args.truths.now in
     let numbers = c.numbers_of-numbers.ensures in
-    written_all (first_of css c.args.equation) c.loop-number.number (first_of css c.args.equation + size_of css c.args.equation) f c.args.truths.now c.loop-number.truths
+    written_all (first_of css c.args.turn.now.equation) c.loop-number.number (first_of css c.args.turn.now.equation + size_of css c.args.turn.now.equation) f c.args.truths.now c.loop-number.truths
     (omega (arith, numbers.start, numbers.end, c.loop-number.auto.number, c.loop-number.auto.number-end, c.loop-number-test.false)) (c.loop-number.invariant.mixed X at)
 
 pub returns-clause-joins : goal.returns-clause-joins
@@ -147,9 +148,9 @@ returns-clause-joins c = λ X at. (whole (goal.at.returns-clause-joins c).After-
 
 pub returns-clause-others : goal.returns-clause-others
 returns-clause-others c =
-    let typed = c.args.typed.now in
+    let typed = c.args.turn.now.typed.now in
     let R = c.index.result.now in
-    let at = equation_known typed.spec typed.layout c.args.equation R typed.laid_out.values c.requires.known c.index.ensures in
+    let at = equation_known typed.spec typed.layout c.args.turn.now.equation R typed.laid_out.values c.args.turn.now.known c.index.ensures in
     (whole (goal.at.returns-clause-others c).After-loop-number (erased_equation (equation_form R)) at).outside
 
 pub returns-clause-unchanged : goal.returns-clause-unchanged

@@ -12,8 +12,8 @@ use Rattle.pb_typing_plain_solver.proofs.set.improve.Given as goal
 -- below the number the truths are later_truth with those of the right side, and where none is another all are as they were
 abbrev pub invariant-loop-number : goal.invariant-loop-number
 invariant-loop-number l = record {
-  mixed : (X : Equation) → slice_get (text l.typed).equations l.equation ≡ Some X
-      → IsMixed (first_of (carriers_of l.typed.layout) l.equation) l.number (joined (text l.typed) l.typed.layout X l.below l.fn.truths) l.fn.truths l.truths;
+  mixed : (X : Equation) → slice_get (text l.turn.typed.now).equations l.turn.equation ≡ Some X
+      → IsMixed (first_of (carriers_of l.turn.typed.now.layout) l.turn.equation) l.number (joined (text l.turn.typed.now) l.turn.typed.now.layout X l.below l.fn.truths) l.fn.truths l.truths;
   kept : l.changed ≡ false → (n : ℕ) → get_or l.truths n false ≡ get_or l.fn.truths n false;
-  slots : (X : Equation) → slice_get (text l.typed).equations l.equation ≡ Some X → AreSlots (text l.typed) X l.slots;
+  slots : (X : Equation) → slice_get (text l.turn.typed.now).equations l.turn.equation ≡ Some X → AreSlots (text l.turn.typed.now) X l.slots;
 }

@@ -6,10 +6,10 @@ use Rattle.pb_typing_plain_solver.proofs.set.numbers_of.Goals as goal
 
 pub prove-unreachable-requires : goal.prove-unreachable-requires
 prove-unreachable-requires c =
-    let css = carriers_of c.args.layout.now in
+    let css = carriers_of c.args.turn.now.typed.now.layout in
     omega (
       arith,
-      first_of-before css c.args.equation (length css) (omega (arith, length-carriers_of c.args.layout.now, c.requires)) (omega arith),
+      first_of-before css c.args.turn.now.equation (length css) (omega (arith, length-carriers_of c.args.turn.now.typed.now.layout, c.args.turn.now.known)) (omega arith),
       first_of-last css,
       c.first-start.ensures,
       c.size.ensures,

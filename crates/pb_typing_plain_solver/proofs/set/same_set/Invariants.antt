@@ -6,4 +6,4 @@ use Rattle.pb_typing_plain_solver.proofs.set.same_set.Given as goal
 
 -- below the number the truths are the same
 abbrev pub invariant-loop-number : goal.invariant-loop-number
-invariant-loop-number l = (n : ℕ) → is_between (first_of (carriers_of l.layout) l.equation) l.number n ≡ true → get_or l.right n false ≡ get_or l.left n false
+invariant-loop-number l = (n : ℕ) → is_between (first_of (carriers_of l.turn.typed.now.layout) l.turn.equation) l.number n ≡ true → get_or l.right n false ≡ get_or l.left n false

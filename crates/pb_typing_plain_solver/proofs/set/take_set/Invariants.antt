@@ -6,4 +6,4 @@ use Rattle.pb_typing_plain_solver.proofs.set.take_set.Given as goal
 
 -- below the number the truths are those in `from`
 abbrev pub invariant-loop-number : goal.invariant-loop-number
-invariant-loop-number l = IsMixed (first_of (carriers_of l.layout) l.equation) l.number (λ n. get_or l.from n false) l.fn.truths l.truths
+invariant-loop-number l = IsMixed (first_of (carriers_of l.turn.typed.now.layout) l.turn.equation) l.number (λ n. get_or l.from n false) l.fn.truths l.truths

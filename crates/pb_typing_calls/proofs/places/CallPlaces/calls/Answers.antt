@@ -17,9 +17,9 @@ read c =
     tree-read c.args.self.now.typed.now c.deref.result.now _ c.from.result _ c.deref.ensures.value c.from.ensures
     c.in-Some.ensures.lookup.3.0 c.in-Some.ensures.lookup.1
 
-pub push_calls-requires-clause-fits : goal.push_calls-requires-clause-fits
-push_calls-requires-clause-fits c =
-    caller-fits c.args.self.now.typed.now (instance_of c.args.caller.now) _ _ (read (goal.at.push_calls-requires-clause-fits c).After-deref_mut) c.requires
+pub push_calls-requires : goal.push_calls-requires
+push_calls-requires c =
+    caller-fits c.args.self.now.typed.now (instance_of c.args.caller.now) _ _ (read (goal.at.push_calls-requires c).After-deref_mut) c.requires
     (caller-slots c.deref_mut.ensures.value c.in_ok-slots.ensures c.as_slice.ensures c.deref-2.ensures.value)
 
 pub returns : goal.returns

@@ -1,0 +1,5 @@
+use Rattle.std.proofs.Common.{length}
+use Rattle.pb_assembler.proofs.call.+emit_arguments.Given as goal
+
+abbrev pub decreases-emit_arguments : goal.decreases-emit_arguments
+decreases-emit_arguments l = length l.arguments.now
