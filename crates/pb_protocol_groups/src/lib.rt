@@ -17,4 +17,4 @@ mod taken;
 mod term_names;
 
 pub use checks::check_packable;
-pub use packing::{Packed, pack, pack_checked};
+pub use packing::{Packed, pack_checked};

@@ -1,7 +1,6 @@
 //! A packed model, and the groups that its variables are.
 
-ghost use Rattle.std.specs.Prelude.{◌≡◌, [], IfOk, MatchResult, OnOk};
-ghost use Rattle.pb_typing_declarations.specs.Faults.{IsAmong};
+ghost use Rattle.std.specs.Prelude.{◌≡◌, [], IfOk, OnOk};
 ghost use Rattle.pb_model_tree.specs.Form.{model_form};
 ghost use Rattle.pb_model_meaning.specs.Erase.{model_of};
 ghost use Rattle.pb_model_runs.specs.Exact.{step_places};
@@ -27,34 +26,13 @@ pub struct Packed {
     pub groups: Vec<Group>,
 }
 
-/// Packs a model: its state variables are put together in at most eight groups. The names of steps
-/// and properties, and formulas but for their data, stay as they are, places included.
+/// Packs a model after a check that it can be packed, so that it satisfies what the model does: its
+/// state variables are put together in at most eight groups. The names of steps and properties, and
+/// formulas but for their data, stay as they are, places included.
 ///
 /// # Errors
-/// The variables of a group have no values together, or too many: T12, at `init`. Or memory was
-/// refused.
-pub fn pack(alloc: Global, model: &Model) -> Result<Packed, TypeError>
-    ensures groups { IfOk result
-        (λ p. groups_in p.groups.items ≡ packing.groups_of (model_of model.now)) }
-    ensures meaning { IfOk result (λ p. model_of p.model ≡ packing.packed (model_of model.now)) }
-    ensures steps { IfOk result
-        (λ p. step_places (model_form p.model).steps ≡ step_places (model_form model.now).steps) }
-    ensures names { IfOk result
-        (λ p. named_properties (model_form p.model) ≡ named_properties (model_form model.now)) }
-    ensures places { IfOk result
-        (λ p. property_places (model_form p.model) ≡ property_places (model_form model.now)) }
-    ensures few { MatchResult result (λ _. size_faults (model_form model.now) ≡ [])
-        (IsAmong (size_faults (model_form model.now))) }
-{
-    let groups = groups_of(alloc, model)?;
-    let model = packed_by(alloc, model, &groups)?;
-    Ok(Packed { model, groups })
-}
-
-/// Packs a model after a check that it can be packed, so that it satisfies what the model does.
-///
-/// # Errors
-/// Those of `check_packable` and of `pack`.
+/// Those of `check_packable`. The variables of a group have no values together, or too many: T12,
+/// at `init`. Or memory was refused.
 pub fn pack_checked(alloc: Global, model: &Model) -> Result<Packed, TypeError>
     ensures packable { OnOk result (IsPackable (model_of model.now)) }
     ensures groups { IfOk result
@@ -70,6 +48,7 @@ pub fn pack_checked(alloc: Global, model: &Model) -> Result<Packed, TypeError>
     ensures refused { IfRefused result (IsPackingFault (model_form model.now)) }
 {
     check_packable(alloc, model)?;
-    let packed = pack(alloc, model)?;
-    Ok(packed)
+    let groups = groups_of(alloc, model)?;
+    let model = packed_by(alloc, model, &groups)?;
+    Ok(Packed { model, groups })
 }

@@ -268,38 +268,46 @@ fn initial_value_fault(
     value_fault(&scope, kind, value)
 }
 
+/// The names that may stand in `init`: none of state variables and definitions.
+fn no_names<'d>(alloc: Global) -> HashMap<&'d str, Signature>
+    ensures { signatures_in result ≡ no_signatures }
+{
+    HashMap::new(alloc)
+}
+
 /// The first fault of the term at a place in `init`.
 fn element_value_fault(
+    alloc: Global,
     declarations: &Declarations<'_>,
-    none: &HashMap<&'_ str, Signature>,
     entries: &[StateEntry<'_>],
     index: usize,
     value: &Argument,
 ) -> Option<TypingFault>
-    requires { signatures_in none.now ≡ no_signatures }
     ensures { result ≡ element_value_fault (spec_of declarations.now)
         (slice_get (state_forms entries.now) index) value.now.place
         (term_form value.now.term) }
 {
     match entries.get(index) {
         None => None,
-        Some(entry) => initial_value_fault(declarations, none, entry, value),
+        Some(entry) => {
+            let none = no_names(alloc);
+            initial_value_fault(declarations, &none, entry, value)
+        }
     }
 }
 
 /// The first fault of the terms of `init`.
 fn elements_fault(
+    alloc: Global,
     declarations: &Declarations<'_>,
-    none: &HashMap<&'_ str, Signature>,
     entries: &[StateEntry<'_>],
     values: &[Argument],
 ) -> Option<TypingFault>
-    requires { signatures_in none.now ≡ no_signatures }
     ensures { result ≡ elements_fault (spec_of declarations.now) 0 (state_forms entries.now)
         (argument_forms values.now) }
 {
     for (index, value) in values.iter().enumerate() {
-        if let Some(fault) = element_value_fault(declarations, none, entries, index, value) {
+        if let Some(fault) = element_value_fault(alloc, declarations, entries, index, value) {
             return Some(fault);
         }
     }
@@ -311,13 +319,6 @@ fn is_count(entries: &[StateEntry<'_>], values: &[Argument]) -> bool
     ensures { result ≡ (count (argument_forms values.now) == length (state_forms entries.now)) }
 {
     values.len() == entries.len()
-}
-
-/// The names that may stand in `init`: none of state variables and definitions.
-fn no_names<'d>(alloc: Global) -> HashMap<&'d str, Signature>
-    ensures { signatures_in result ≡ no_signatures }
-{
-    HashMap::new(alloc)
 }
 
 /// The first fault of the initial values.
@@ -334,6 +335,5 @@ pub(crate) fn initial_fault(
     if let Some(fault) = fault_unless(is_count, TypingRule::WrongCount, initial.place) {
         return Some(fault);
     }
-    let none = no_names(alloc);
-    elements_fault(declarations, &none, entries, &initial.values)
+    elements_fault(alloc, declarations, entries, &initial.values)
 }

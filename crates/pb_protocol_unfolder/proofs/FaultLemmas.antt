@@ -1,6 +1,6 @@
 -- Faults of parts are faults of what they are parts of.
 use Rattle.std.proofs.Common.{◌≡◌, ◌<◌, ◌∙◌, ◌⊎◌, ℕ, zero, suc, Bool, true, false, if◌then◌else◌, inl, inr, refl, sym, ap, subst, arith, List, [], ◌∷◌, map, length, get_or, Result, Ok, Err}
-use Rattle.std.specs.Prelude.{Contains, IsErrAnd, OnOk, filter}
+use Rattle.std.specs.Prelude.{Contains, IfOk, IsErrAnd, MatchResult, OnOk, filter}
 use Rattle.std.proofs.lemmas.List.{get_or-map}
 use Rattle.std.proofs.lemmas.List.Elements.{Contains-get_or}
 use Rattle.pb_base.specs.OrMemory.{IfFault, IfRefused, raised}
@@ -192,3 +192,18 @@ raised-so P Q (Refused s) (Refused f) to gives is = to s f gives is
 raised-so P Q (Refused s) Memory to gives is = tt
 raised-so P Q Memory (Refused f) to gives is = absurd gives
 raised-so P Q Memory Memory to gives is = tt
+
+-- a call of the layer below whose error is raised
+abbrev pub RaisesSteps : {A : Type 0} → Result A (OrMemory StepsFault) → Result A (OrMemory UnfoldingFault) → Type 0
+RaisesSteps below above = MatchResult below (λ x. above ≡ Ok x) (λ e. IsErrAnd above (raised IsOfSteps e))
+
+-- what it says of its value
+pub ok-raised : {A : Type 0} (P : A → Type 0) (below : Result A (OrMemory StepsFault)) (x : A) → RaisesSteps below (Ok x) → IfOk below P → P x
+ok-raised P (Ok y) x same h = let e : y ≡ x = cc in subst P e h
+ok-raised P (Err e) x none h = absurd none
+
+-- and of its fault
+pub err-raised : {A : Type 0} (P : StepsFault → Type 0) (Q : UnfoldingFault → Type 0) (below : Result A (OrMemory StepsFault)) (above : OrMemory UnfoldingFault) → RaisesSteps below (Err above)
+    → ((s : StepsFault) (f : UnfoldingFault) → IsOfSteps s f → P s → Q f) → IfRefused below P → IfFault above Q
+err-raised P Q (Ok y) above none to h = let no : ⊥ = cc in absurd no
+err-raised P Q (Err e) above gives to h = raised-so P Q e above to gives h

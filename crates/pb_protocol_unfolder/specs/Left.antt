@@ -13,19 +13,14 @@ use Rattle.pb_protocol_unfolder_steps.specs.declared.instance.Instance as declar
 use Rattle.pb_protocol_unfolder_steps.specs.declared.unfolder.Unfolder.{Unfolder}
 use Rattle.pb_protocol_unfolder_steps.specs.Elements.{instance_said}
 use Rattle.pb_protocol_unfolder_steps.specs.Steps.{is_kept}
-use Rattle.pb_protocol_unfolder_steps.specs.Unfolder.{IsUnfolder, protocol_in, scope_within}
-use Rattle.pb_protocol_unfolder.specs.declared.formula.Formulas.{Formulas}
+use Rattle.pb_protocol_unfolder_steps.specs.Unfolder.{protocol_in, scope_within}
 use Rattle.pb_protocol_unfolder.specs.Operators.{written_operators}
 use Rattle.pb_protocol_unfolder.specs.Values.{is_member}
 
 -- these are the steps with their values that may be taken, and no two of a protocol's have one name
 pub record AreLeft (u : Unfolder) (left : List declared_instance.Instance) : Type 0 where
-  pub unfolder : IsUnfolder u
   pub steps : map instance_said left ≡ filter (is_kept (protocol_in u)) (instances (protocol_in u))
   pub apart : AreDistinct (map instance_name (instances (protocol_in u)))
-
-abbrev pub AreFormulas : Formulas → Type 0
-AreFormulas f = AreLeft f.unfolder.now f.left.now
 
 -- the name of a step with its values, if it is in a set
 abbrev pub member_name : Unfolder → TermScope → StepSetForm → Instance → List Name

@@ -1,29 +1,12 @@
 //! What names in sets of steps stand for: values, and never the arguments of a definition.
 
-ghost use Rattle.std.specs.Prelude.{◌≡◌, ℕ, None};
+ghost use Rattle.std.specs.Prelude.{◌≡◌, ℕ};
 ghost use Rattle.pb_text_meaning.specs.Syntax.{Spec};
 ghost use Rattle.pb_protocol_unfolding.specs.PutIn as put;
-ghost use Rattle.pb_protocol_unfolder_terms.specs.Scopes.{looked, scope_of};
+ghost use Rattle.pb_protocol_unfolder_terms.specs.Scopes.{scope_of};
 ghost use Rattle.pb_protocol_unfolder.specs.Parts.{HasValues, bound_term};
 
-use pb_protocol_unfolder_terms::{TermScope, Variable, Written};
-
-/// The value at the place of the last variable of a name, if there is one.
-fn last_value<'a>(
-    variables: &[Variable<'_>],
-    values: &[Written<'a>],
-    name: &str,
-) -> Option<Written<'a>>
-    ensures { result ≡ looked variables.now values.now name.now None }
-{
-    let mut found = None;
-    for place in 0..variables.len().min(values.len()) {
-        if variables[place].name == name {
-            found = Some(values[place]);
-        }
-    }
-    found
-}
+use pb_protocol_unfolder_terms::{TermScope, Written, last_value};
 
 /// The value that a name stands for, if it is that of a quantifier's variable.
 pub(crate) fn bound_value<'a>(scope: &TermScope<'a>, name: &str) -> Option<Written<'a>>

@@ -9,11 +9,11 @@ ghost use Rattle.pb_protocol_folding.specs.Places.{AreAmong, places_of};
 ghost use Rattle.pb_protocol_folding.specs.View.{formula_of};
 ghost use Rattle.pb_protocol_unfolder_terms.specs.View.{variable_of};
 ghost use Rattle.pb_protocol_unfolder_terms.specs.Values.{tuple_of};
-ghost use Rattle.pb_protocol_unfolder_steps.specs.Unfolder.{form_in, protocol_in, scope_within};
+ghost use Rattle.pb_protocol_unfolder_steps.specs.Unfolder.{form_in, scope_within};
 ghost use Rattle.pb_protocol_unfolder.specs.Copies.{copy_of, copy_operators, data_formula};
 ghost use Rattle.pb_protocol_unfolder.specs.Copies.{left_operand, link_operators, tuples_in};
 ghost use Rattle.pb_protocol_unfolder.specs.Faults.{IsFaultOfFormula};
-ghost use Rattle.pb_protocol_unfolder.specs.Left.{AreFormulas, left_formula, left_operators};
+ghost use Rattle.pb_protocol_unfolder.specs.Left.{left_formula, left_operators};
 ghost use Rattle.pb_protocol_unfolder.specs.Links.{linked_formula};
 ghost use Rattle.pb_protocol_unfolder.specs.Parts.{IsFaultBy, IsFaultOfCopies, IsFaultOfLinks};
 ghost use Rattle.pb_protocol_unfolder.specs.Parts.{OfManyTuples};
@@ -21,22 +21,16 @@ ghost use Rattle.pb_protocol_unfolder.specs.Places.{flat_link_places, link_place
 
 use crate::chain::joined;
 use crate::fault::{UnfoldingError, of_steps, of_term};
+use crate::formulas::Formulas;
 use crate::room::Room;
 use crate::step_set::unfold_set;
 use crate::value_scope::ValueScope;
 use pb_model_tree as flat;
 use pb_protocol_folding::{joined_formula, not_formula};
 use pb_protocol_tree::{Formula, Link};
-use pb_protocol_unfolder_steps::{Instance, Unfolder, sorts_of};
+use pb_protocol_unfolder_steps::{Unfolder, sorts_of};
 use pb_protocol_unfolder_terms::{TermScope, Variable, Written, variables_of, written_tuples};
 use pb_text_tree::{Place, Term, copy_name};
-
-/// What formulas are unfolded by: the protocol, and the steps with their values that are left.
-#[derive(Clone, Copy)]
-pub(crate) struct Formulas<'a> {
-    pub unfolder: &'a Unfolder<'a>,
-    pub left: &'a [Instance<'a>],
-}
 
 /// A quantifier's variables with all tuples of their values, and what names stand for around.
 #[derive(Clone, Copy)]
@@ -55,21 +49,20 @@ fn unfold_data(
     place: Place,
     term: &Term,
 ) -> Result<flat::Formula, UnfoldingError>
-    requires { AreFormulas formulas.now }
     ensures formula { IfOk result (λ f. formula_of f
-        ≡ data_formula formulas.now.unfolder.now scope.now.names term.now) }
+        ≡ data_formula formulas.now scope.now.names term.now) }
     ensures places { IfOk result (λ f. places_of f ≡ []) }
     ensures room { OnOk result (room.old.operators ≡ room.new.operators
-        + left_operators formulas.now.unfolder.now scope.now.names
+        + left_operators formulas.now scope.now.names
         (FormulaForm.«data» place (term_form term.now))) }
     ensures refused { IfRefused result
-        (IsFaultBy (IsFaultOfFormula (form_in formulas.now.unfolder.now)
-        (room.old.operators < left_operators formulas.now.unfolder.now scope.now.names
+        (IsFaultBy (IsFaultOfFormula (form_in formulas.now)
+        (room.old.operators < left_operators formulas.now scope.now.names
         (FormulaForm.«data» place (term_form term.now)))
-        (scope_within formulas.now.unfolder.now scope.now.names)
+        (scope_within formulas.now scope.now.names)
         (FormulaForm.«data» place (term_form term.now)))) }
 {
-    match formulas.unfolder.unfold(&scope.names, true, term) {
+    match formulas.unfolder().unfold(&scope.names, true, term) {
         Ok(term) => {
             room.take_term(&term, place)?;
             Ok(flat::Formula::Data { place, term })
@@ -80,7 +73,7 @@ fn unfold_data(
 
 /// All tuples of values of variables.
 pub(crate) fn tuples_of<'a>(
-    unfolder: &Unfolder<'a>,
+    unfolder: &Unfolder<'a, '_>,
     variables: &[Variable<'a>],
     place: Place,
 ) -> Result<Vec<Vec<Written<'a>>>, UnfoldingError>
@@ -90,8 +83,8 @@ pub(crate) fn tuples_of<'a>(
         (tuples_in unfolder.now (map variable_of variables.now))) }
 {
     match written_tuples(
-        unfolder.alloc,
-        sorts_of(unfolder.protocol),
+        unfolder.alloc(),
+        sorts_of(unfolder.protocol()),
         variables,
         place,
     ) {
@@ -107,26 +100,25 @@ fn unfold_copies<'a>(
     copies: &'a Copies<'a>,
     body: &'a Box<Formula>,
 ) -> Result<Vec<flat::Formula>, UnfoldingError>
-    requires formulas { AreFormulas formulas.now }
     ensures formulas { IfOk result (λ v. map formula_of v.items
-        ≡ map (copy_of formulas.now.unfolder.now copies.now (box_value body.now))
+        ≡ map (copy_of formulas.now copies.now (box_value body.now))
         copies.now.tuples.now) }
     ensures places { IfOk result
         (λ v. AreAmong (flat_map places_of v.items) (places_in (box_value body.now))) }
     ensures room { OnOk result (room.old.operators ≡ room.new.operators
-        + sum_by (copy_operators formulas.now.unfolder.now copies.now (box_value body.now))
+        + sum_by (copy_operators formulas.now copies.now (box_value body.now))
         copies.now.tuples.now) }
     ensures refused { IfRefused result
-        (IsFaultBy (IsFaultOfCopies (form_in formulas.now.unfolder.now)
+        (IsFaultBy (IsFaultOfCopies (form_in formulas.now)
         (room.old.operators
-        < sum_by (copy_operators formulas.now.unfolder.now copies.now (box_value body.now))
+        < sum_by (copy_operators formulas.now copies.now (box_value body.now))
         copies.now.tuples.now)
-        (scope_within formulas.now.unfolder.now copies.now.outer.now.names) copies.now.place
+        (scope_within formulas.now copies.now.outer.now.names) copies.now.place
         (map variable_of copies.now.variables.now) (map tuple_of copies.now.tuples.now)
         (formula_form (box_value body.now)))) }
 {
     let tuples = copies.tuples;
-    let mut unfolded = Vec::new(formulas.unfolder.alloc);
+    let mut unfolded = Vec::new(formulas.alloc());
     for values in tuples {
         room.take(1, copies.place)?;
         let scope = ValueScope {
@@ -148,20 +140,19 @@ fn unfold_links<'a>(
     room: &mut Room,
     links: &'a [Link],
 ) -> Result<Vec<flat::Link>, UnfoldingError>
-    requires formulas { AreFormulas formulas.now }
     ensures formulas { IfOk result (λ v. map linked_formula v.items
-        ≡ map (left_operand formulas.now.unfolder.now scope.now.names) links.now) }
+        ≡ map (left_operand formulas.now scope.now.names) links.now) }
     ensures places { IfOk result (λ v. AreAmong (flat_map flat_link_places v.items)
         (flat_map link_places links.now)) }
     ensures room { OnOk result (room.old.operators ≡ room.new.operators
-        + sum_by (link_operators formulas.now.unfolder.now scope.now.names) links.now) }
+        + sum_by (link_operators formulas.now scope.now.names) links.now) }
     ensures refused { IfRefused result
-        (IsFaultBy (IsFaultOfLinks (form_in formulas.now.unfolder.now)
+        (IsFaultBy (IsFaultOfLinks (form_in formulas.now)
         (room.old.operators
-        < sum_by (link_operators formulas.now.unfolder.now scope.now.names) links.now)
-        (scope_within formulas.now.unfolder.now scope.now.names) links.now)) }
+        < sum_by (link_operators formulas.now scope.now.names) links.now)
+        (scope_within formulas.now scope.now.names) links.now)) }
 {
-    let mut flat_links = Vec::new(formulas.unfolder.alloc);
+    let mut flat_links = Vec::new(formulas.alloc());
     for link in links {
         let place = link.place;
         room.take(1, place)?;
@@ -179,19 +170,18 @@ pub(crate) fn unfold_formula<'a>(
     room: &mut Room,
     formula: &'a Formula,
 ) -> Result<flat::Formula, UnfoldingError>
-    requires formulas { AreFormulas formulas.now }
     ensures formula { IfOk result (λ f. formula_of f
-        ≡ left_formula formulas.now.unfolder.now scope.now.names (formula_form formula.now)) }
+        ≡ left_formula formulas.now scope.now.names (formula_form formula.now)) }
     ensures places { IfOk result (λ f. AreAmong (places_of f) (places_in formula.now)) }
     ensures room { OnOk result (room.old.operators ≡ room.new.operators
-        + left_operators formulas.now.unfolder.now scope.now.names (formula_form formula.now)) }
+        + left_operators formulas.now scope.now.names (formula_form formula.now)) }
     ensures refused { IfRefused result
-        (IsFaultBy (IsFaultOfFormula (form_in formulas.now.unfolder.now)
+        (IsFaultBy (IsFaultOfFormula (form_in formulas.now)
         (room.old.operators
-        < left_operators formulas.now.unfolder.now scope.now.names (formula_form formula.now))
-        (scope_within formulas.now.unfolder.now scope.now.names) (formula_form formula.now))) }
+        < left_operators formulas.now scope.now.names (formula_form formula.now))
+        (scope_within formulas.now scope.now.names) (formula_form formula.now))) }
 {
-    let alloc = formulas.unfolder.alloc;
+    let alloc = formulas.alloc();
     match formula {
         Formula::Constant { place, value } => Ok(flat::Formula::Constant {
             place: *place,
@@ -251,7 +241,7 @@ pub(crate) fn unfold_formula<'a>(
             body,
         } => {
             let variables = variables_of(alloc, variables)?;
-            let tuples = tuples_of(formulas.unfolder, &variables, *place)?;
+            let tuples = tuples_of(formulas.unfolder(), &variables, *place)?;
             let copies = Copies {
                 place: *place,
                 variables: &variables,

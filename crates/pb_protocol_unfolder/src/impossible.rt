@@ -20,13 +20,13 @@ use pb_protocol_unfolder_terms::variables_of;
 use std::alloc::{AllocError, Global};
 
 /// How many steps with values a step makes.
-fn instance_count(unfolder: &Unfolder<'_>, step: &Step) -> Result<usize, UnfoldingError>
+fn instance_count(unfolder: &Unfolder<'_, '_>, step: &Step) -> Result<usize, UnfoldingError>
     ensures count { IfOk result (λ n. n
         ≡ length (instances_of_step (data_of (protocol_in unfolder.now)) step.now)) }
     ensures refused { IfRefused result (OfManyTuples step.now.name.place
         (instances_of_step (data_of (protocol_in unfolder.now)) step.now)) }
 {
-    let variables = variables_of(unfolder.alloc, &step.variables)?;
+    let variables = variables_of(unfolder.alloc(), &step.variables)?;
     let tuples = tuples_of(unfolder, &variables, step.name.place)?;
     Ok(tuples.len())
 }
@@ -58,7 +58,7 @@ fn push_unless_kept(
 /// The names of the steps that with none of their values may be taken, where for each step with its
 /// values it is said whether it is kept.
 pub(crate) fn impossible_steps(
-    unfolder: &Unfolder<'_>,
+    unfolder: &Unfolder<'_, '_>,
     kept: &[bool],
 ) -> Result<Vec<String>, UnfoldingError>
     requires kept { kept.now ≡ map (is_kept (protocol_in unfolder.now))
@@ -68,12 +68,12 @@ pub(crate) fn impossible_steps(
         (λ v. map string_bytes v.items ≡ told.impossible_steps (protocol_in unfolder.now)) }
     ensures refused { IfRefused result (λ _. ⊥) }
 {
-    let mut names = Vec::new(unfolder.alloc);
+    let mut names = Vec::new(unfolder.alloc());
     let mut rest = kept;
-    for step in &unfolder.protocol.steps {
+    for step in &unfolder.protocol().steps {
         let count = instance_count(unfolder, step)?;
         let (own, others) = rest.split_at(count);
-        push_unless_kept(unfolder.alloc, &mut names, step, own)?;
+        push_unless_kept(unfolder.alloc(), &mut names, step, own)?;
         rest = others;
     }
     Ok(names)

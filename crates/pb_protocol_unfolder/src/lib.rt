@@ -8,6 +8,7 @@ mod bound;
 mod chain;
 mod fault;
 mod formula;
+mod formulas;
 mod impossible;
 mod laws;
 mod left;

@@ -13,13 +13,9 @@ ghost use Rattle.pb_protocol_meaning.specs.Erase.{protocol_of};
 ghost use Rattle.pb_protocol_meaning.specs.Steps.{data_of};
 ghost use Rattle.pb_protocol_unfolding.specs.Hygiene.{HidesNothing};
 ghost use Rattle.pb_protocol_unfolding.specs.Unfolding as definitions;
-ghost use Rattle.pb_protocol_unfolder_steps.specs.Elements.{flat_element, instance_said};
-ghost use Rattle.pb_protocol_unfolder_steps.specs.Steps.{is_kept, places_from, step_place, step_said};
-ghost use Rattle.pb_protocol_unfolder_steps.specs.Unfolder.{HasElements, form_in, protocol_in};
-ghost use Rattle.pb_protocol_unfolder_steps.specs.StepFaults.{IsFaultAtStart, IsFaultInSteps};
-ghost use Rattle.pb_protocol_unfolder_steps.specs.StepFaults.{placed_instance, placed_instances};
-ghost use Rattle.pb_protocol_unfolder_steps.specs.Refusals.{element_place, element_places};
-ghost use Rattle.pb_protocol_unfolder_steps.specs.Refusals.{instance_place, instance_places};
+ghost use Rattle.pb_protocol_unfolder_steps.specs.Steps.{places_from, step_place, step_said};
+ghost use Rattle.pb_protocol_unfolder_steps.specs.Unfolder.{form_in, protocol_in};
+ghost use Rattle.pb_protocol_unfolder_steps.specs.StepFaults.{IsFaultAtStart};
 ghost use Rattle.pb_protocol_unfolder.specs.Faults.{IsUnfoldingFault, OfTerm};
 ghost use Rattle.pb_protocol_unfolder.specs.Left.{AreLeft};
 ghost use Rattle.pb_protocol_unfolder.specs.Origins.{origin_name};
@@ -30,7 +26,7 @@ ghost use Rattle.pb_protocol_unfolder.specs.Told as told;
 ghost use Rattle.pb_protocol_unfolder.specs.Unfolded.{flat_name, property_name};
 
 use crate::fault::{UnfoldingError, of_steps};
-use crate::formula::Formulas;
+use crate::formulas::Formulas;
 use crate::impossible::impossible_steps;
 use crate::left::left_instances;
 use crate::names::{check_elements, check_instances};
@@ -40,41 +36,11 @@ use pb_model_tree as flat;
 use pb_model_tree::{InitialState, Model};
 use pb_protocol_tree::Protocol;
 use pb_protocol_unfolder_steps::{
-    Element, Instance, MAX_ELEMENTS, MAX_WRITTEN_STEPS, UnfoldedSteps, Unfolder, elements,
-    flat_state, initial_terms, instances, unfold_steps,
+    Instance, MAX_ELEMENTS, UnfoldedSteps, Unfolder, elements, flat_state, initial_terms,
+    instances, unfold_steps,
 };
 use pb_text_tree::{Argument, copy_declarations, copy_ranges};
 use std::alloc::Global;
-
-fn elements_of(alloc: Global, protocol: &Protocol) -> Result<Vec<Element<'_>>, UnfoldingError>
-    ensures elements { IfOk result (λ v. map flat_element v.items
-        ≡ definitions.all_elements (protocol_of protocol.now)) }
-    ensures places { IfOk result
-        (λ v. map element_place v.items ≡ element_places (protocol_form protocol.now)) }
-    ensures few { IfOk result (λ v. length v.items ≤ MAX_ELEMENTS) }
-    ensures refused { IfRefused result (IsUnfoldingFault (protocol_form protocol.now)) }
-{
-    match elements(alloc, protocol) {
-        Ok(elements) => Ok(elements),
-        Err(error) => Err(of_steps(error)),
-    }
-}
-
-fn instances_of(alloc: Global, protocol: &Protocol) -> Result<Vec<Instance<'_>>, UnfoldingError>
-    ensures instances { IfOk result (λ v. map instance_said v.items
-        ≡ definitions.instances (protocol_of protocol.now)) }
-    ensures places { IfOk result
-        (λ v. map instance_place v.items ≡ instance_places (protocol_form protocol.now)) }
-    ensures forms { IfOk result
-        (λ v. map placed_instance v.items ≡ placed_instances (protocol_form protocol.now)) }
-    ensures few { IfOk result (λ v. length v.items ≤ MAX_WRITTEN_STEPS) }
-    ensures refused { IfRefused result (IsUnfoldingFault (protocol_form protocol.now)) }
-{
-    match instances(alloc, protocol) {
-        Ok(instances) => Ok(instances),
-        Err(error) => Err(of_steps(error)),
-    }
-}
 
 fn initial_of(alloc: Global, protocol: &Protocol) -> Result<Vec<Argument>, UnfoldingError>
     requires few { length (definitions.all_elements (protocol_of protocol.now)) ≤ MAX_ELEMENTS }
@@ -85,30 +51,6 @@ fn initial_of(alloc: Global, protocol: &Protocol) -> Result<Vec<Argument>, Unfol
 {
     match initial_terms(alloc, protocol) {
         Ok(terms) => Ok(terms),
-        Err(error) => Err(of_steps(error)),
-    }
-}
-
-fn steps_of(
-    unfolder: &Unfolder<'_>,
-    elements: &[Element<'_>],
-    instances: &[Instance<'_>],
-) -> Result<UnfoldedSteps, UnfoldingError>
-    requires elements { HasElements unfolder.now elements.now }
-    requires few { length instances.now ≤ MAX_WRITTEN_STEPS }
-    ensures steps { IfOk result (λ u. map step_said u.steps.items
-        ≡ folded_steps (data_of (protocol_in unfolder.now))
-        (map (definitions.unfolded_step (protocol_in unfolder.now))
-        (map instance_said instances.now))) }
-    ensures kept { IfOk result (λ u. u.kept.items
-        ≡ map (is_kept (protocol_in unfolder.now)) (map instance_said instances.now)) }
-    ensures places { IfOk result (λ u. map step_place u.steps.items
-        ≡ places_from 0 (length u.steps.items)) }
-    ensures refused { IfRefused result (IsFaultBy (OfTerm
-        (IsFaultInSteps (form_in unfolder.now) (map placed_instance instances.now)))) }
-{
-    match unfold_steps(unfolder, elements, instances) {
-        Ok(steps) => Ok(steps),
         Err(error) => Err(of_steps(error)),
     }
 }
@@ -129,16 +71,12 @@ pub struct Unfolded {
 /// The flat model of a protocol: its steps are these, its other parts are unfolded and folded.
 fn flat_model(
     protocol: &Protocol,
-    unfolder: &Unfolder<'_>,
-    elements: &[Element<'_>],
+    unfolder: &Unfolder<'_, '_>,
     left: &[Instance<'_>],
     steps: Vec<flat::Step>,
 ) -> Result<Model, UnfoldingError>
     requires protocol { protocol_in unfolder.now ≡ protocol_of protocol.now }
     requires left { AreLeft unfolder.now left.now }
-    requires elements { map flat_element elements.now
-        ≡ definitions.all_elements (protocol_in unfolder.now) }
-    requires few { length elements.now ≤ MAX_ELEMENTS }
     requires steps { map step_said steps.items
         ≡ folded_steps (data_of (protocol_in unfolder.now))
         (map (definitions.unfolded_step (protocol_in unfolder.now))
@@ -154,11 +92,11 @@ fn flat_model(
         (IsFaultBy (IsFaultOfModel (protocol_form protocol.now) (form_in unfolder.now)
         (map property_form protocol.now.properties.items))) }
 {
-    let alloc = unfolder.alloc;
-    let formulas = Formulas { unfolder, left };
+    let alloc = unfolder.alloc();
+    let formulas = Formulas::new(unfolder, left);
     let sorts = copy_declarations(alloc, &protocol.sorts)?;
     let ranges = copy_ranges(alloc, &protocol.ranges)?;
-    let state = flat_state(alloc, elements)?;
+    let state = flat_state(alloc, unfolder.elements())?;
     let values = initial_of(alloc, protocol)?;
     let properties = unfold_properties(&formulas, &protocol.properties)?;
     Ok(Model {
@@ -199,16 +137,16 @@ pub fn unfold(alloc: Global, protocol: &Protocol) -> Result<Unfolded, UnfoldingE
         → HidesNothing (protocol_of protocol.now)) }
     ensures refused { IfRefused result (IsUnfoldingFault (protocol_form protocol.now)) }
 {
-    let elements = elements_of(alloc, protocol)?;
-    let instances = instances_of(alloc, protocol)?;
+    let elements = elements(alloc, protocol).map_err(of_steps)?;
+    let instances = instances(alloc, protocol).map_err(of_steps)?;
     check_elements(alloc, &protocol.sorts, &elements)?;
     check_instances(alloc, &instances)?;
-    let unfolder = Unfolder::new(alloc, protocol)?;
-    let UnfoldedSteps { steps, kept } = steps_of(&unfolder, &elements, &instances)?;
+    let unfolder = Unfolder::new(alloc, protocol, &elements)?;
+    let UnfoldedSteps { steps, kept } = unfold_steps(&unfolder, &instances).map_err(of_steps)?;
     let left = left_instances(alloc, &instances, &kept)?;
     let variables = told_elements(alloc, &elements)?;
     let origins = step_origins(alloc, &left)?;
-    let model = flat_model(protocol, &unfolder, &elements, &left, steps)?;
+    let model = flat_model(protocol, &unfolder, &left, steps)?;
     let impossible = impossible_steps(&unfolder, &kept)?;
     Ok(Unfolded {
         model,

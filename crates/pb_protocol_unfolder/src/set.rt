@@ -22,7 +22,7 @@ use pb_protocol_unfolder_terms::Written;
 
 /// Whether a step's own value is the one that is named, if one is.
 fn is_value(
-    unfolder: &Unfolder<'_>,
+    unfolder: &Unfolder<'_, '_>,
     scope: &ValueScope<'_>,
     named: &StepValue,
     own: Written<'_>,
@@ -45,7 +45,7 @@ fn is_value(
 
 /// Whether a step's own values are those that are named.
 fn are_values(
-    unfolder: &Unfolder<'_>,
+    unfolder: &Unfolder<'_, '_>,
     scope: &ValueScope<'_>,
     named: &[StepValue],
     own: &[Written<'_>],
@@ -66,7 +66,7 @@ fn are_values(
 
 #[cycle(members)]
 fn is_in_some(
-    unfolder: &Unfolder<'_>,
+    unfolder: &Unfolder<'_, '_>,
     scope: &ValueScope<'_>,
     links: &[StepSetLink],
     instance: &Instance<'_>,
@@ -89,7 +89,7 @@ fn is_in_some(
 /// Whether a step with its values is in a set.
 #[cycle(members)]
 pub(crate) fn is_in_set(
-    unfolder: &Unfolder<'_>,
+    unfolder: &Unfolder<'_, '_>,
     scope: &ValueScope<'_>,
     set: &StepSet,
     instance: &Instance<'_>,

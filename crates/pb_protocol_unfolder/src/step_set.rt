@@ -9,20 +9,20 @@ ghost use Rattle.pb_protocol_unfolder_steps.specs.Elements.{instance_said};
 ghost use Rattle.pb_protocol_unfolder_steps.specs.Unfolder.{protocol_in, scope_within};
 ghost use Rattle.pb_protocol_unfolder.specs.Apart.{name_bytes};
 ghost use Rattle.pb_protocol_unfolder.specs.Faults.{IsFaultOfSet, IsFaultOfSteps};
-ghost use Rattle.pb_protocol_unfolder.specs.Left.{AreFormulas, left_set, member_name, member_names};
+ghost use Rattle.pb_protocol_unfolder.specs.Left.{left_set, member_name, member_names};
 ghost use Rattle.pb_protocol_unfolder.specs.Operators.{name_count};
 ghost use Rattle.pb_protocol_unfolder.specs.Parts.{IsFaultBy, IsFaultIn, IsFaultOfModality};
 ghost use Rattle.pb_protocol_unfolder.specs.Sets.{is_each};
 
 use crate::fault::UnfoldingError;
-use crate::formula::Formulas;
+use crate::formulas::Formulas;
 use crate::named_steps::named_steps;
 use crate::room::Room;
 use crate::set::is_in_set;
 use crate::value_scope::ValueScope;
 use pb_model_tree as flat;
 use pb_protocol_tree::StepSet;
-use pb_protocol_unfolder_steps::{Instance, instance_name};
+use pb_protocol_unfolder_steps::{Instance, Unfolder, instance_name};
 use pb_text_tree::{Name, Place};
 
 /// Where a set of all steps stands, if it is one.
@@ -44,43 +44,43 @@ fn place_of_all(set: &StepSet) -> Option<Place>
 /// Adds the name of a step with its values, if it is in a set.
 fn push_member(
     names: &mut Vec<Name>,
-    formulas: &Formulas<'_>,
+    unfolder: &Unfolder<'_, '_>,
     scope: &ValueScope<'_>,
     set: &StepSet,
     instance: &Instance<'_>,
 ) -> Result<(), UnfoldingError>
     ensures names { OnOk result (map name_bytes names.new.items ≡ map name_bytes names.old.items
-        ++ member_name formulas.now.unfolder.now scope.now.names (step_set_form set.now)
+        ++ member_name unfolder.now scope.now.names (step_set_form set.now)
         (instance_said instance.now)) }
     ensures refused { IfRefused result
-        (IsFaultIn (IsFaultOfSet (protocol_in formulas.now.unfolder.now)
-        (scope_within formulas.now.unfolder.now scope.now.names) (instance_said instance.now).own
+        (IsFaultIn (IsFaultOfSet (protocol_in unfolder.now)
+        (scope_within unfolder.now scope.now.names) (instance_said instance.now).own
         (step_set_form set.now))) }
 {
-    if is_in_set(formulas.unfolder, scope, set, instance)? {
-        names.push(instance_name(formulas.unfolder.alloc, instance)?)?;
+    if is_in_set(unfolder, scope, set, instance)? {
+        names.push(instance_name(unfolder.alloc(), instance)?)?;
     }
     Ok(())
 }
 
-/// The names of the steps in a set that are left.
+/// The names of those of these steps that are in a set.
 fn members(
-    formulas: &Formulas<'_>,
+    unfolder: &Unfolder<'_, '_>,
     scope: &ValueScope<'_>,
     set: &StepSet,
+    instances: &[Instance<'_>],
 ) -> Result<Vec<Name>, UnfoldingError>
     ensures names { IfOk result
-        (λ v. map name_bytes v.items ≡ member_names formulas.now.unfolder.now
-        scope.now.names (step_set_form set.now) (map instance_said formulas.now.left.now)) }
+        (λ v. map name_bytes v.items ≡ member_names unfolder.now
+        scope.now.names (step_set_form set.now) (map instance_said instances.now)) }
     ensures refused { IfRefused result
-        (IsFaultIn (IsFaultOfSteps (protocol_in formulas.now.unfolder.now)
-        (scope_within formulas.now.unfolder.now scope.now.names)
-        (map instance_said formulas.now.left.now) (step_set_form set.now))) }
+        (IsFaultIn (IsFaultOfSteps (protocol_in unfolder.now)
+        (scope_within unfolder.now scope.now.names)
+        (map instance_said instances.now) (step_set_form set.now))) }
 {
-    let mut names = Vec::new(formulas.unfolder.alloc);
-    let left = formulas.left;
-    for instance in left {
-        push_member(&mut names, formulas, scope, set, instance)?;
+    let mut names = Vec::new(unfolder.alloc());
+    for instance in instances {
+        push_member(&mut names, unfolder, scope, set, instance)?;
     }
     Ok(names)
 }
@@ -93,21 +93,20 @@ pub(crate) fn unfold_set(
     place: Place,
     set: &StepSet,
 ) -> Result<flat::StepSet, UnfoldingError>
-    requires formulas { AreFormulas formulas.now }
     ensures set { IfOk result (λ A. set_of A
-        ≡ left_set formulas.now.unfolder.now scope.now.names (step_set_form set.now)) }
+        ≡ left_set formulas.now scope.now.names (step_set_form set.now)) }
     ensures room { OnOk result (room.old.operators ≡ room.new.operators
-        + name_count (left_set formulas.now.unfolder.now scope.now.names (step_set_form set.now))) }
+        + name_count (left_set formulas.now scope.now.names (step_set_form set.now))) }
     ensures refused { IfRefused result
-        (IsFaultBy (IsFaultOfModality (protocol_in formulas.now.unfolder.now)
+        (IsFaultBy (IsFaultOfModality (protocol_in formulas.now)
         (room.old.operators
-        < name_count (left_set formulas.now.unfolder.now scope.now.names (step_set_form set.now)))
-        (scope_within formulas.now.unfolder.now scope.now.names) place (step_set_form set.now))) }
+        < name_count (left_set formulas.now scope.now.names (step_set_form set.now)))
+        (scope_within formulas.now scope.now.names) place (step_set_form set.now))) }
 {
     if let Some(place) = place_of_all(set) {
         return Ok(flat::StepSet::All { place });
     }
-    let names = members(formulas, scope, set)?;
+    let names = members(formulas.unfolder(), scope, set, formulas.left())?;
     room.take(names.len(), place)?;
-    Ok(named_steps(formulas.unfolder.alloc, place, names)?)
+    Ok(named_steps(formulas.alloc(), place, names)?)
 }

@@ -21,19 +21,23 @@ use pb_protocol_unfolder_terms::Written;
 use pb_text_tree::{Place, Term};
 
 /// The value of a term that is written as one; another is refused at the place.
-fn plain_value(unfolder: &Unfolder<'_>, place: Place, term: &Term) -> Result<i32, UnfoldingError>
+fn plain_value(
+    unfolder: &Unfolder<'_, '_>,
+    place: Place,
+    term: &Term,
+) -> Result<i32, UnfoldingError>
     ensures value { IfOk result (λ v. folding.written_value (data_of (protocol_in unfolder.now))
         (term_of term.now) ≡ Some v) }
     ensures refused { IfRefused result (IsFaultIn (IsAt place
         (HasNoValue (protocol_in unfolder.now) (term_of term.now)))) }
 {
-    written_value(&unfolder.protocol.sorts, term).ok_or(refused(UnfoldingRule::Value, place))
+    written_value(&unfolder.protocol().sorts, term).ok_or(refused(UnfoldingRule::Value, place))
 }
 
 /// The value of a value as it is written; one that isn't a number of 32 bits is refused at the
 /// place.
 pub(crate) fn value_of_written(
-    unfolder: &Unfolder<'_>,
+    unfolder: &Unfolder<'_, '_>,
     place: Place,
     written: Written<'_>,
 ) -> Result<i32, UnfoldingError>
@@ -42,14 +46,14 @@ pub(crate) fn value_of_written(
     ensures refused { IfRefused result (IsFaultIn (IsAt place
         (HasNoValue (protocol_in unfolder.now) (written_term written.entry)))) }
 {
-    let term = written.term(unfolder.alloc, place)?;
+    let term = written.term(unfolder.alloc(), place)?;
     plain_value(unfolder, place, &term)
 }
 
 /// The value of a term in a set of steps: a name of a quantifier's variable or of an enumerator, a
 /// number or a truth value. Another term is refused at the place.
 pub(crate) fn value_in_set(
-    unfolder: &Unfolder<'_>,
+    unfolder: &Unfolder<'_, '_>,
     scope: &ValueScope<'_>,
     place: Place,
     term: &Term,

@@ -5,3 +5,4 @@ mod RefusalLemmas
 mod StateLemmas
 mod StepLemmas
 mod StepFaultLemmas
+mod WrittenLemmas

@@ -3,5 +3,7 @@ pub mod Elements
 pub mod Initial
 pub mod Steps
 pub mod Refusals
+pub mod TermContexts
 pub mod Unfolder
 pub mod StepFaults
+pub mod Written

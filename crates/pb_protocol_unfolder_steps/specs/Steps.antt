@@ -1,6 +1,6 @@
 -- What steps with their values become, and the initial state, as the code goes through them.
-use Rattle.std.specs.Prelude.{ℕ, zero, suc, Bool, false, if◌then◌else◌, List, [], ◌∷◌, map, filter}
-use Rattle.std.specs.Prelude.{flat_map, Option, Some, None}
+use Rattle.std.specs.Prelude.{◌≡◌, ℕ, zero, suc, Bool, false, if◌then◌else◌, List, [], ◌∷◌, map}
+use Rattle.std.specs.Prelude.{filter, flat_map, Option, Some, None, IfSome}
 use Rattle.pb_text_tree.specs.declared.place.Place.{Place}
 use Rattle.pb_text_meaning.specs.Syntax.{Name, Term}
 use Rattle.pb_model_tree.specs.declared.step.Assignment as declared_assignment
@@ -71,6 +71,12 @@ step_found (Some a) = step_said a ∷ []
 
 abbrev pub step_place : declared_step.Step → Place
 step_place a = a.name.place
+
+-- what is found of a step with its values: the step at the place, where it may be taken
+pub record IsStepAt (m : Protocol) (i : Instance) (place : Place)
+    (found : Option declared_step.Step) : Type 0 where
+  pub step : step_found found ≡ kept_step m i
+  pub at : IfSome found (λ a. step_place a ≡ place)
 
 -- no token stands in column 0
 abbrev pub place_of_step : ℕ → Place

@@ -9,8 +9,7 @@ ghost use Rattle.pb_protocol_unfolder_steps.specs.Elements.{flat_element};
 ghost use Rattle.pb_protocol_unfolder_steps.specs.StepFaults.{IsFaultInElements, OnTerm, WithValues};
 ghost use Rattle.pb_protocol_unfolder_steps.specs.Steps.{step_assignment, protocol_assignments, change_of};
 ghost use Rattle.pb_protocol_unfolder_steps.specs.Steps.{changed, changes};
-ghost use Rattle.pb_protocol_unfolder_steps.specs.Unfolder.{IsUnfolder, form_in, protocol_in};
-ghost use Rattle.pb_protocol_unfolder_steps.specs.Unfolder.{scope_within};
+ghost use Rattle.pb_protocol_unfolder_steps.specs.Unfolder.{form_in, protocol_in, scope_within};
 
 use crate::element::Element;
 use crate::fault::StepsError;
@@ -52,11 +51,10 @@ fn push_change(
 /// Adds what an element gets, unless it keeps its value.
 fn push_assignment(
     assignments: &mut Vec<flat::Assignment>,
-    unfolder: &Unfolder<'_>,
+    unfolder: &Unfolder<'_, '_>,
     assigning: &Assigning<'_>,
     element: &Element<'_>,
 ) -> Result<(), StepsError>
-    requires unfolder { IsUnfolder unfolder.now }
     ensures assignments { OnOk result (map step_assignment assignments.new.items
         ≡ map step_assignment assignments.old.items
         ++ changed (protocol_in unfolder.now)
@@ -67,7 +65,7 @@ fn push_assignment(
         (scope_within unfolder.now assigning.now.scope.now)
         (map assignment_form assigning.now.assignments.now) (flat_element element.now)))) }
 {
-    let variable = element_name(unfolder.alloc, element.name, &element.index)?;
+    let variable = element_name(unfolder.alloc(), element.name, &element.index)?;
     let term = unfolder.unfold_assigned(assigning.scope, assigning.assignments, element)?;
     push_change(assignments, variable, assigning.place, term)?;
     Ok(())
@@ -75,11 +73,10 @@ fn push_assignment(
 
 /// What elements get, without those that keep their value.
 pub(crate) fn unfold_assignments(
-    unfolder: &Unfolder<'_>,
+    unfolder: &Unfolder<'_, '_>,
     assigning: &Assigning<'_>,
     elements: &[Element<'_>],
 ) -> Result<Vec<flat::Assignment>, StepsError>
-    requires unfolder { IsUnfolder unfolder.now }
     ensures assignments { IfOk result (λ v. map step_assignment v.items
         ≡ changes (protocol_in unfolder.now)
         (scope_within unfolder.now assigning.now.scope.now)
@@ -89,7 +86,7 @@ pub(crate) fn unfold_assignments(
         (scope_within unfolder.now assigning.now.scope.now)
         (map assignment_form assigning.now.assignments.now) (map flat_element elements.now)))) }
 {
-    let mut assignments = Vec::new(unfolder.alloc);
+    let mut assignments = Vec::new(unfolder.alloc());
     for element in elements {
         push_assignment(&mut assignments, unfolder, assigning, element)?;
     }

@@ -3,8 +3,6 @@
 ghost use Rattle.std.specs.Prelude.{◌≡◌, ◌≤◌, ◌+◌, ◌++◌, length, map, IfOk, OnOk};
 ghost use Rattle.pb_base.specs.OrMemory.{IfRefused};
 ghost use Rattle.pb_protocol_tree.specs.Form.{protocol_form};
-ghost use Rattle.pb_protocol_meaning.specs.Erase.{protocol_of};
-ghost use Rattle.pb_protocol_unfolding.specs.Unfolding as definitions;
 ghost use Rattle.pb_protocol_unfolder_terms.specs.View.{spec_of};
 ghost use Rattle.pb_protocol_unfolder_terms.specs.Values.{tuple_of};
 ghost use Rattle.pb_protocol_unfolder_steps.specs.Elements.{element_at, flat_element, elements_of_group};
@@ -12,6 +10,7 @@ ghost use Rattle.pb_protocol_unfolder_steps.specs.Elements.{elements_of_state, e
 ghost use Rattle.pb_protocol_unfolder_steps.specs.Refusals.{IsPassed, IsPassedIn, element_place};
 ghost use Rattle.pb_protocol_unfolder_steps.specs.Refusals.{element_places, each_at, places_of_group};
 ghost use Rattle.pb_protocol_unfolder_steps.specs.Refusals.{places_of_state, places_of_variable};
+ghost use Rattle.pb_protocol_unfolder_steps.specs.Written.{AreElementsOf};
 
 use crate::fault::StepsError;
 use crate::limits::{MAX_ELEMENTS, check_limit};
@@ -127,11 +126,8 @@ fn elements_of<'a>(
 /// There are more than 64 elements (T12, at the name of the state variable that passes the limit),
 /// or memory was refused.
 pub fn elements<'a>(alloc: Global, protocol: &'a Protocol) -> Result<Vec<Element<'a>>, StepsError>
-    ensures elements { IfOk result (λ v. map flat_element v.items
-        ≡ definitions.all_elements (protocol_of protocol.now)) }
-    ensures places { IfOk result
-        (λ v. map element_place v.items ≡ element_places (protocol_form protocol.now)) }
-    ensures few { IfOk result (λ v. length v.items ≤ MAX_ELEMENTS) }
+    ensures elements { IfOk result
+        (λ v. AreElementsOf (protocol_form protocol.now) v.items) }
     ensures refused { IfRefused result
         (IsPassedIn MAX_ELEMENTS (element_places (protocol_form protocol.now))) }
 {

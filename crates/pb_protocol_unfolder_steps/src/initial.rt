@@ -14,7 +14,6 @@ ghost use Rattle.pb_protocol_unfolding.specs.Written.{written_tuples};
 ghost use Rattle.pb_base.specs.declared.limits.TheConstants.{MAX_OPERATORS};
 ghost use Rattle.pb_protocol_unfolder_terms.specs.Values.{tuple_of, written_term};
 ghost use Rattle.pb_protocol_unfolder_terms.specs.View.{variable_of};
-ghost use Rattle.pb_protocol_unfolder_steps.specs.Unfolder.{IsInitial};
 ghost use Rattle.pb_protocol_unfolder_steps.specs.Initial.{argument_term, indices_behind, indices_of_group};
 ghost use Rattle.pb_protocol_unfolder_steps.specs.Initial.{indices_of_state, indices_said};
 ghost use Rattle.pb_protocol_unfolder_steps.specs.Initial.{initial_terms_of, term_at, terms_at};
@@ -31,6 +30,7 @@ use pb_protocol_unfolder_terms::{
 };
 use pb_text_tree::{Argument, Term};
 use std::alloc::{AllocError, Global};
+use std::marker::Model;
 
 /// Adds the state variables of a group.
 fn push_variables<'a>(
@@ -60,12 +60,28 @@ fn state_variables<'a>(
     Ok(variables)
 }
 
-/// A protocol, and what the terms of its initial state are unfolded by.
+/// A protocol, and what the terms of its initial state are unfolded by. Contracts see the protocol.
 #[derive(Drop)]
 struct Initial<'a> {
     alloc: Global,
     protocol: &'a Protocol,
     context: Context<'a>,
+}
+
+impl<'a> Model for Initial<'a> {
+    ghost use Rattle.pb_protocol_tree.specs.declared.protocol.Protocol.{Protocol};
+    ghost use Rattle.pb_protocol_tree.specs.contracts.protocol.Protocol.{the_row};
+    ghost use Rattle.pb_protocol_tree.specs.Form.{protocol_form};
+    ghost use Rattle.pb_protocol_unfolder_steps.specs.TermContexts.{IsContextAtStart};
+
+    ghost Value = { Protocol };
+
+    ghost coded = { the_row.coded };
+
+    ghost view = { λ initial. initial.protocol.now };
+
+    ghost invariant = { λ initial.
+        IsContextAtStart (protocol_form initial.protocol.now) initial.context };
 }
 
 impl Initial<'_> {
@@ -76,12 +92,10 @@ impl Initial<'_> {
         values: &[Written<'_>],
         term: &Term,
     ) -> Result<Term, StepsError>
-        requires initial { IsInitial self.now }
-        ensures term { IfOk result (λ t. term_of t ≡ term_at (protocol_of self.now.protocol.now)
+        ensures term { IfOk result (λ t. term_of t ≡ term_at (protocol_of self.now)
             (map variable_of indices.now) (term_of term.now) (map written_term values.now)) }
-        ensures refused { IfRefused result (OnTerm (IsFaultAtValues
-            (protocol_form self.now.protocol.now) (map variable_of indices.now)
-            (term_form term.now) (map written_term values.now))) }
+        ensures refused { IfRefused result (OnTerm (IsFaultAtValues (protocol_form self.now)
+            (map variable_of indices.now) (term_form term.now) (map written_term values.now))) }
     {
         let scope = TermScope::Values {
             variables: indices,
@@ -102,13 +116,12 @@ impl Initial<'_> {
         tuples: &[Vec<Written<'_>>],
         value: &Argument,
     ) -> Result<(), StepsError>
-        requires initial { IsInitial self.now }
         ensures terms { OnOk result (map argument_term terms.new.items
             ≡ map argument_term terms.old.items
-            ++ map (term_at (protocol_of self.now.protocol.now) (map variable_of indices.now)
+            ++ map (term_at (protocol_of self.now) (map variable_of indices.now)
             (argument_term value.now)) (map tuple_of tuples.now)) }
         ensures refused { IfRefused result (OnTerm (IsFaultAtSome
-            (protocol_form self.now.protocol.now) (map variable_of indices.now)
+            (protocol_form self.now) (map variable_of indices.now)
             (argument_form value.now) (map tuple_of tuples.now))) }
     {
         let place = value.place;
@@ -126,15 +139,14 @@ impl Initial<'_> {
         variable: &StateVariable,
         value: &Argument,
     ) -> Result<(), StepsError>
-        requires initial { IsInitial self.now }
         ensures terms { OnOk result (map argument_term terms.new.items
             ≡ map argument_term terms.old.items
-            ++ terms_at (protocol_of self.now.protocol.now) (indices_said variable.now)
+            ++ terms_at (protocol_of self.now) (indices_said variable.now)
             (argument_term value.now)) }
         ensures refused { IfRefused result (IsTermOr (MAX_OPERATORS
-            < length (written_tuples (data_of (protocol_of self.now.protocol.now))
+            < length (written_tuples (data_of (protocol_of self.now))
             (indices_said variable.now)))
-            (IsFaultInValue (protocol_form self.now.protocol.now) (indices_said variable.now)
+            (IsFaultInValue (protocol_form self.now) (indices_said variable.now)
             (argument_form value.now))) }
     {
         let indices = variables_of(self.alloc, &variable.indices)?;
@@ -149,14 +161,13 @@ impl Initial<'_> {
         variables: &[&StateVariable],
         values: &[Argument],
     ) -> Result<Vec<Argument>, StepsError>
-        requires initial { IsInitial self.now }
         ensures terms { IfOk result (λ v. map argument_term v.items
-            ≡ initial_terms_of (protocol_of self.now.protocol.now)
+            ≡ initial_terms_of (protocol_of self.now)
             (map indices_behind variables.now) (map argument_term values.now)) }
         ensures refused { IfRefused result (IsTermOr (MAX_OPERATORS
-            < length (flat_map (written_tuples (data_of (protocol_of self.now.protocol.now)))
+            < length (flat_map (written_tuples (data_of (protocol_of self.now)))
             (map indices_behind variables.now)))
-            (IsFaultInValues (protocol_form self.now.protocol.now)
+            (IsFaultInValues (protocol_form self.now)
             (map indices_behind variables.now) (map argument_form values.now))) }
     {
         let mut terms = Vec::new(self.alloc);

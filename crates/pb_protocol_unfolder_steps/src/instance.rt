@@ -4,17 +4,17 @@ ghost use Rattle.std.specs.Prelude.{◌≡◌, ◌≤◌, ◌+◌, ◌++◌, len
 ghost use Rattle.std.specs.Prelude.{string_bytes};
 ghost use Rattle.pb_base.specs.OrMemory.{IfRefused};
 ghost use Rattle.pb_protocol_tree.specs.Form.{protocol_form, step_form};
-ghost use Rattle.pb_protocol_meaning.specs.Erase.{protocol_of};
 ghost use Rattle.pb_protocol_unfolding.specs.Unfolding as definitions;
 ghost use Rattle.pb_protocol_unfolder_terms.specs.View.{spec_of};
 ghost use Rattle.pb_protocol_unfolder_terms.specs.Values.{tuple_of};
 ghost use Rattle.pb_protocol_unfolder_steps.specs.Elements.{instance_at, instance_said};
 ghost use Rattle.pb_protocol_unfolder_steps.specs.Elements.{instances_of_step, instances_of_steps};
 ghost use Rattle.pb_protocol_unfolder_steps.specs.StepFaults.{forms_of_step, forms_of_steps, placed_instance};
-ghost use Rattle.pb_protocol_unfolder_steps.specs.StepFaults.{placed_at, placed_instances};
+ghost use Rattle.pb_protocol_unfolder_steps.specs.StepFaults.{placed_at};
 ghost use Rattle.pb_protocol_unfolder_steps.specs.Refusals.{IsPassed, IsPassedIn, instance_place};
 ghost use Rattle.pb_protocol_unfolder_steps.specs.Refusals.{instance_places, each_at, places_of_step};
 ghost use Rattle.pb_protocol_unfolder_steps.specs.Refusals.{places_of_steps};
+ghost use Rattle.pb_protocol_unfolder_steps.specs.Written.{AreInstancesOf};
 
 use crate::fault::StepsError;
 use crate::limits::{MAX_WRITTEN_STEPS, check_limit};
@@ -109,13 +109,8 @@ fn instances_of<'a>(
 /// There are more than 1,024 (T12, at the name of the step that passes the limit), or memory was
 /// refused.
 pub fn instances<'a>(alloc: Global, protocol: &'a Protocol) -> Result<Vec<Instance<'a>>, StepsError>
-    ensures instances { IfOk result (λ v. map instance_said v.items
-        ≡ definitions.instances (protocol_of protocol.now)) }
-    ensures places { IfOk result
-        (λ v. map instance_place v.items ≡ instance_places (protocol_form protocol.now)) }
-    ensures forms { IfOk result
-        (λ v. map placed_instance v.items ≡ placed_instances (protocol_form protocol.now)) }
-    ensures few { IfOk result (λ v. length v.items ≤ MAX_WRITTEN_STEPS) }
+    ensures instances { IfOk result
+        (λ v. AreInstancesOf (protocol_form protocol.now) v.items) }
     ensures refused { IfRefused result
         (IsPassedIn MAX_WRITTEN_STEPS (instance_places (protocol_form protocol.now))) }
 {

@@ -2,7 +2,7 @@
 //! that no state can take.
 
 ghost use Rattle.std.specs.Prelude.{◌≡◌, ◌≤◌, ◌<◌, ◌++◌, suc, [], ◌∷◌, length, map, IfOk, OnOk};
-ghost use Rattle.std.specs.Prelude.{IfSome, is_some, string_bytes};
+ghost use Rattle.std.specs.Prelude.{IfSome, is_some};
 ghost use Rattle.pb_base.specs.OrMemory.{IfRefused};
 ghost use Rattle.pb_protocol_folding.specs.FoldedModels.{folded_steps};
 ghost use Rattle.pb_protocol_meaning.specs.Steps.{data_of};
@@ -10,14 +10,12 @@ ghost use Rattle.pb_protocol_unfolding.specs.Unfolding as definitions;
 ghost use Rattle.pb_protocol_unfolder_steps.specs.Elements.{instance_said};
 ghost use Rattle.pb_protocol_unfolder_steps.specs.StepFaults.{IsFaultInStep, IsFaultInSteps, OnTerm};
 ghost use Rattle.pb_protocol_unfolder_steps.specs.StepFaults.{WithValues, placed_instance};
-ghost use Rattle.pb_protocol_unfolder_steps.specs.Steps.{is_kept, kept_step, own_scope, place_of_step};
-ghost use Rattle.pb_protocol_unfolder_steps.specs.Steps.{places_from};
-ghost use Rattle.pb_protocol_unfolder_steps.specs.Steps.{step_found, step_place, step_said};
-ghost use Rattle.pb_protocol_unfolder_steps.specs.Unfolder.{HasElements, form_in, protocol_in};
-ghost use Rattle.pb_protocol_unfolder_steps.specs.Unfolder.{scope_within};
+ghost use Rattle.pb_protocol_unfolder_steps.specs.Steps.{IsStepAt, is_kept, own_scope, place_of_step};
+ghost use Rattle.pb_protocol_unfolder_steps.specs.Steps.{places_from, step_found, step_place};
+ghost use Rattle.pb_protocol_unfolder_steps.specs.Steps.{step_said};
+ghost use Rattle.pb_protocol_unfolder_steps.specs.Unfolder.{form_in, protocol_in, scope_within};
 
 use crate::assignment::{Assigning, unfold_assignments};
-use crate::element::Element;
 use crate::fault::StepsError;
 use crate::instance::{Instance, instance_name};
 use crate::limits::MAX_WRITTEN_STEPS;
@@ -26,7 +24,7 @@ use pb_model_tree as flat;
 use pb_protocol_folding::is_possible;
 use pb_protocol_unfolder_terms::{TermScope, variables_of};
 use pb_text_tree::{Name, Place};
-use std::alloc::{AllocError, Global};
+use std::alloc::AllocError;
 
 /// The steps of a flat model.
 #[derive(Drop)]
@@ -38,31 +36,17 @@ pub struct UnfoldedSteps {
     pub kept: Vec<bool>,
 }
 
-/// The name of a step with its values, at a place.
-fn name_at(alloc: Global, instance: &Instance<'_>, place: Place) -> Result<Name, AllocError>
-    ensures text { IfOk result (λ n. string_bytes n.text
-        ≡ definitions.instance_name (instance_said instance.now)) }
-    ensures place { IfOk result (λ n. n.place ≡ place) }
-{
-    let name = instance_name(alloc, instance)?;
-    let text = name.text;
-    Ok(Name { place, text })
-}
-
 /// A step with its values, where it may be taken; its name stands at the place.
 fn unfold_in_scope(
-    unfolder: &Unfolder<'_>,
-    elements: &[Element<'_>],
+    unfolder: &Unfolder<'_, '_>,
     instance: &Instance<'_>,
     scope: &TermScope<'_>,
     place: Place,
 ) -> Result<Option<flat::Step>, StepsError>
-    requires elements { HasElements unfolder.now elements.now }
     requires scope { scope_within unfolder.now scope.now
         ≡ own_scope (instance_said instance.now) }
-    ensures step { IfOk result (λ found. step_found found
-        ≡ kept_step (protocol_in unfolder.now) (instance_said instance.now)) }
-    ensures place { IfOk result (λ found. IfSome found (λ a. step_place a ≡ place)) }
+    ensures step { IfOk result
+        (IsStepAt (protocol_in unfolder.now) (instance_said instance.now) place) }
     ensures refused { IfRefused result (OnTerm (WithValues scope.now
         (IsFaultInStep (form_in unfolder.now) (placed_instance instance.now)))) }
 {
@@ -76,11 +60,12 @@ fn unfold_in_scope(
         assignments: &step.assignments,
         place: step.name.place,
     };
-    let assignments = unfold_assignments(unfolder, &assigning, elements)?;
-    let name = name_at(unfolder.alloc, instance, place)?;
+    let assignments = unfold_assignments(unfolder, &assigning, unfolder.elements())?;
+    let name = instance_name(unfolder.alloc(), instance)?;
+    let text = name.text;
     Ok(Some(flat::Step {
-        name,
-        variables: Vec::new(unfolder.alloc),
+        name: Name { place, text },
+        variables: Vec::new(unfolder.alloc()),
         guard,
         assignments,
     }))
@@ -88,25 +73,22 @@ fn unfold_in_scope(
 
 /// A step with its values, where it may be taken; its name stands at the place.
 fn unfold_step(
-    unfolder: &Unfolder<'_>,
-    elements: &[Element<'_>],
+    unfolder: &Unfolder<'_, '_>,
     instance: &Instance<'_>,
     place: Place,
 ) -> Result<Option<flat::Step>, StepsError>
-    requires elements { HasElements unfolder.now elements.now }
-    ensures step { IfOk result (λ found. step_found found
-        ≡ kept_step (protocol_in unfolder.now) (instance_said instance.now)) }
-    ensures place { IfOk result (λ found. IfSome found (λ a. step_place a ≡ place)) }
+    ensures step { IfOk result
+        (IsStepAt (protocol_in unfolder.now) (instance_said instance.now) place) }
     ensures refused { IfRefused result (OnTerm
         (IsFaultInStep (form_in unfolder.now) (placed_instance instance.now))) }
 {
-    let variables = variables_of(unfolder.alloc, &instance.step.variables)?;
+    let variables = variables_of(unfolder.alloc(), &instance.step.variables)?;
     let scope = TermScope::Values {
         variables: &variables,
         values: &instance.own,
         outer: &TermScope::Empty,
     };
-    unfold_in_scope(unfolder, elements, instance, &scope, place)
+    unfold_in_scope(unfolder, instance, &scope, place)
 }
 
 impl UnfoldedSteps {
@@ -137,12 +119,10 @@ impl UnfoldedSteps {
 /// # Errors
 /// A term isn't unfolded (`StepsFault::Term`), or memory was refused.
 pub fn unfold_steps(
-    unfolder: &Unfolder<'_>,
-    elements: &[Element<'_>],
+    unfolder: &Unfolder<'_, '_>,
     instances: &[Instance<'_>],
 ) -> Result<UnfoldedSteps, StepsError>
-    requires elements { HasElements unfolder.now elements.now }
-    requires few { length instances.now ≤ MAX_WRITTEN_STEPS }
+    requires { length instances.now ≤ MAX_WRITTEN_STEPS }
     ensures steps { IfOk result (λ u. map step_said u.steps.items
         ≡ folded_steps (data_of (protocol_in unfolder.now))
         (map (definitions.unfolded_step (protocol_in unfolder.now))
@@ -155,15 +135,15 @@ pub fn unfold_steps(
         (IsFaultInSteps (form_in unfolder.now) (map placed_instance instances.now))) }
 {
     let mut unfolded = UnfoldedSteps {
-        steps: Vec::new(unfolder.alloc),
-        kept: Vec::new(unfolder.alloc),
+        steps: Vec::new(unfolder.alloc()),
+        kept: Vec::new(unfolder.alloc()),
     };
     for instance in instances {
         let place = Place {
             line: unfolded.steps.len() as u32,
             column: 0,
         };
-        unfolded.push(unfold_step(unfolder, elements, instance, place)?)?;
+        unfolded.push(unfold_step(unfolder, instance, place)?)?;
     }
     Ok(unfolded)
 }

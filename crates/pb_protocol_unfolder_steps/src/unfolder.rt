@@ -6,16 +6,13 @@ ghost use Rattle.pb_protocol_tree.specs.Form.{assignment_form, protocol_form};
 ghost use Rattle.pb_base.specs.OrMemory.{IfRefused};
 ghost use Rattle.pb_protocol_folding.specs.Folding.{folded};
 ghost use Rattle.pb_protocol_folding.specs.View.{term_of};
-ghost use Rattle.pb_protocol_meaning.specs.Erase.{protocol_of};
 ghost use Rattle.pb_protocol_meaning.specs.Steps.{data_of};
 ghost use Rattle.pb_protocol_unfolding.specs.Unfolding as definitions;
 ghost use Rattle.pb_protocol_unfolder_steps.specs.Elements.{flat_element};
 ghost use Rattle.pb_protocol_unfolder_terms.specs.TermFaults.{IsFaultInElement, IsFaultInTerm};
 ghost use Rattle.pb_protocol_unfolder_terms.specs.TermFaults.{surroundings_of};
 ghost use Rattle.pb_protocol_unfolder_steps.specs.StepFaults.{OnTerm, WithValues};
-ghost use Rattle.pb_protocol_unfolder_steps.specs.Steps.{element_assigned, protocol_assignments};
-ghost use Rattle.pb_protocol_unfolder_steps.specs.Unfolder.{IsUnfolder, form_in, protocol_in};
-ghost use Rattle.pb_protocol_unfolder_steps.specs.Unfolder.{scope_within};
+ghost use Rattle.pb_protocol_unfolder_steps.specs.Written.{AreElementsOf};
 
 use crate::element::Element;
 use crate::fault::{StepsError, of_term};
@@ -24,31 +21,78 @@ use pb_protocol_unfolder_terms as terms;
 use pb_protocol_unfolder_terms::{Context, TermScope, unfold_assigned, unfold_term};
 use pb_text_tree::Term;
 use std::alloc::{AllocError, Global};
+use std::marker::Model;
 
-/// A protocol, and what its terms are unfolded by.
+/// A protocol with its elements, and what its terms are unfolded by. Contracts see the protocol.
 #[derive(Drop)]
-pub struct Unfolder<'a> {
-    pub alloc: Global,
-    pub protocol: &'a Protocol,
+pub struct Unfolder<'a, 'e> {
+    alloc: Global,
+    protocol: &'a Protocol,
+    elements: &'e [Element<'a>],
     context: Context<'a>,
 }
 
-impl<'a> Unfolder<'a> {
-    /// What unfolds the terms of a protocol's steps and formulas.
+impl<'a, 'e> Model for Unfolder<'a, 'e> {
+    ghost use Rattle.pb_protocol_tree.specs.declared.protocol.Protocol.{Protocol};
+    ghost use Rattle.pb_protocol_tree.specs.contracts.protocol.Protocol.{the_row};
+    ghost use Rattle.pb_protocol_tree.specs.Form.{protocol_form};
+    ghost use Rattle.pb_protocol_unfolder_steps.specs.TermContexts.{IsContextOf};
+    ghost use Rattle.pb_protocol_unfolder_steps.specs.Written.{AreElementsOf};
+
+    ghost Value = { Protocol };
+
+    ghost coded = { the_row.coded };
+
+    ghost view = { λ unfolder. unfolder.protocol.now };
+
+    ghost invariant = { λ unfolder. IsContextOf (protocol_form unfolder.protocol.now)
+        unfolder.context
+        × AreElementsOf (protocol_form unfolder.protocol.now) unfolder.elements.now };
+}
+
+impl<'a, 'e> Unfolder<'a, 'e> {
+    ghost use Rattle.pb_protocol_unfolder_steps.specs.Steps.{element_assigned};
+    ghost use Rattle.pb_protocol_unfolder_steps.specs.Steps.{protocol_assignments};
+    ghost use Rattle.pb_protocol_unfolder_steps.specs.Unfolder.{form_in, protocol_in, scope_within};
+
+    /// What unfolds the terms of a protocol's steps and formulas, where these are its elements.
     ///
     /// # Errors
     /// Memory was refused.
-    pub fn new(alloc: Global, protocol: &'a Protocol) -> Result<Unfolder<'a>, AllocError>
-        ensures unfolder { IfOk result IsUnfolder }
-        ensures protocol { IfOk result (λ u. protocol_in u ≡ protocol_of protocol.now) }
-        ensures form { IfOk result (λ u. form_in u ≡ protocol_form protocol.now) }
+    pub fn new(
+        alloc: Global,
+        protocol: &'a Protocol,
+        elements: &'e [Element<'a>],
+    ) -> Result<Unfolder<'a, 'e>, AllocError>
+        requires { AreElementsOf (protocol_form protocol.now) elements.now }
+        ensures { IfOk result (λ u. u ≡ protocol.now) }
     {
         let context = Context::new(alloc, protocol)?;
         Ok(Unfolder {
             alloc,
             protocol,
+            elements,
             context,
         })
+    }
+
+    /// Where memory comes from.
+    pub fn alloc(&self) -> Global {
+        self.alloc
+    }
+
+    /// The protocol.
+    pub fn protocol(&self) -> &'a Protocol
+        ensures { result.now ≡ self.now }
+    {
+        self.protocol
+    }
+
+    /// The elements of the protocol's state variables.
+    pub fn elements(&self) -> &'e [Element<'a>]
+        ensures { AreElementsOf (form_in self.now) result.now }
+    {
+        self.elements
     }
 
     /// A term, with what names stand for put in, folded: where its truth alone counts, or its
@@ -62,7 +106,6 @@ impl<'a> Unfolder<'a> {
         truth: bool,
         term: &Term,
     ) -> Result<Term, StepsError>
-        requires unfolder { IsUnfolder self.now }
         ensures term { IfOk result (λ t. term_of t ≡ folded (data_of (protocol_in self.now)) truth
             (definitions.unfolded_term (protocol_in self.now) (scope_within self.now scope.now)
             (term_of term.now))) }
@@ -83,7 +126,6 @@ impl<'a> Unfolder<'a> {
         assignments: &[Assignment],
         element: &Element<'_>,
     ) -> Result<Term, StepsError>
-        requires unfolder { IsUnfolder self.now }
         ensures term { IfOk result (λ t. term_of t ≡ element_assigned (protocol_in self.now)
             (scope_within self.now scope.now) (protocol_assignments assignments.now)
             (flat_element element.now)) }

@@ -9,8 +9,8 @@ use Rattle.pb_text_tree.specs.declared.term.Argument as declared_argument
 use Rattle.pb_protocol_unfolder_terms.specs.declared.sorts.Variable as declared_variable
 use Rattle.pb_protocol_unfolder_terms.specs.declared.scope.TermScope as declared_scope
 use Rattle.pb_protocol_unfolder_terms.specs.declared.scope.TermScope.TheVariants.{Empty, Values', Arguments'}
-use Rattle.pb_protocol_unfolder_terms.specs.declared.scope.Found as declared_found
-use Rattle.pb_protocol_unfolder_terms.specs.declared.scope.Found.TheVariants as found
+use Rattle.pb_protocol_unfolder_terms.specs.declared.scope.NameBinding as declared_binding
+use Rattle.pb_protocol_unfolder_terms.specs.declared.scope.NameBinding.TheVariants as binding
 use Rattle.pb_protocol_unfolder_terms.specs.View.{variable_of}
 use Rattle.pb_protocol_unfolder_terms.specs.Values.{written_term}
 
@@ -25,11 +25,11 @@ scope_of spec forms (Arguments' parameters arguments definitions p user) =
     (all_put_in spec (forms definitions) (scope_of spec forms user)
     (tree.terms_of arguments.now)) []
 
--- what is found, put in
-abbrev pub found_term : Spec → (ℕ → Forms) → declared_found.Found → Option Term
-found_term spec forms found.Nothing = None
-found_term spec forms (found.Value k) = Some (written_term k)
-found_term spec forms (found.Argument term definitions user) =
+-- what a name is bound to, put in
+abbrev pub binding_term : Spec → (ℕ → Forms) → declared_binding.NameBinding → Option Term
+binding_term spec forms binding.Nothing = None
+binding_term spec forms (binding.Value k) = Some (written_term k)
+binding_term spec forms (binding.Argument term definitions user) =
     Some (put_in spec (forms definitions) (scope_of spec forms user.now) (tree.term_of term.now))
 
 -- what stands at the place of the last variable of a name, else `otherwise`

@@ -19,8 +19,8 @@ use Rattle.pb_protocol_unfolder_terms.specs.declared.context.StateVariable as de
 use Rattle.pb_protocol_unfolder_terms.specs.declared.context.Meant as declared_meant
 use Rattle.pb_protocol_unfolder_terms.specs.declared.context.Meant.TheVariants as meant
 use Rattle.pb_protocol_unfolder_terms.specs.declared.fault.UnfoldFault.{UnfoldFault}
-use Rattle.pb_protocol_unfolder_terms.specs.declared.scope.Found as declared_found
-use Rattle.pb_protocol_unfolder_terms.specs.declared.scope.Found.TheVariants as found
+use Rattle.pb_protocol_unfolder_terms.specs.declared.scope.NameBinding as declared_binding
+use Rattle.pb_protocol_unfolder_terms.specs.declared.scope.NameBinding.TheVariants as binding
 use Rattle.pb_protocol_unfolder_terms.specs.declared.scope.TermScope as declared_scope
 use Rattle.pb_protocol_unfolder_terms.specs.declared.scope.TermScope.TheVariants.{Empty, Values', Arguments'}
 use Rattle.pb_protocol_unfolder_terms.specs.declared.sorts.Variable as declared_variable
@@ -147,12 +147,13 @@ AreCopiesMet c l n scope place copies x whole =
     (scope_said c scope)) x whole)
     × IsScopeMet c scope whole × IsTokenAt c place whole
 
--- what a name stands for
-abbrev pub IsFoundMet : declared_context.Context → declared_found.Found → Occurrence → Type 0
-IsFoundMet c (found.Argument term n user) whole =
+-- what a name is bound to
+abbrev pub IsBindingMet :
+    declared_context.Context → declared_binding.NameBinding → Occurrence → Type 0
+IsBindingMet c (binding.Argument term n user) whole =
     ((l : ℕ) × IsMetAt c l n (scope_said c user.now) (term_form term.now) whole)
     × IsScopeMet c user.now whole
-IsFoundMet c f whole = Unit {0}
+IsBindingMet c f whole = Unit {0}
 
 -- where it is met, an error is a fault of the whole
 abbrev pub Tells : {A : Type 0} →

@@ -31,7 +31,7 @@ pub use assigned::{Element, unfold_assigned};
 pub use context::Context;
 pub use element::element_name;
 pub use fault::{UnfoldError, UnfoldFault, UnfoldRule};
-pub use scope::{Found, TermScope, looked_up};
+pub use scope::{TermScope, last_value};
 pub use sorts::{Sorts, Variable};
 pub use term::unfold_term;
 pub use unfolded::Unfolded;

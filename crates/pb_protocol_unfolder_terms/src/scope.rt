@@ -5,8 +5,8 @@ ghost use Rattle.pb_text_meaning.specs.Syntax.{Spec};
 ghost use Rattle.pb_protocol_unfolding.specs.PutIn as spec;
 ghost use Rattle.pb_protocol_unfolder_terms.specs.declared.context.Context as declared_context;
 ghost use Rattle.pb_protocol_unfolder_terms.specs.Met.{Occurrence};
-ghost use Rattle.pb_protocol_unfolder_terms.specs.Tells.{IsFoundMet, IsScopeMet};
-ghost use Rattle.pb_protocol_unfolder_terms.specs.Scopes.{argument_said, found_term, looked, scope_of};
+ghost use Rattle.pb_protocol_unfolder_terms.specs.Tells.{IsBindingMet, IsScopeMet};
+ghost use Rattle.pb_protocol_unfolder_terms.specs.Scopes.{argument_said, binding_term, looked, scope_of};
 
 use crate::sorts::Variable;
 use crate::written::Written;
@@ -35,9 +35,9 @@ pub enum TermScope<'a> {
     },
 }
 
-/// What a name stands for.
+/// What a name is bound to.
 #[derive(Clone, Copy)]
-pub enum Found<'a> {
+pub(crate) enum NameBinding<'a> {
     Nothing,
     Value(Written<'a>),
     /// A term with what its names stand for, unfolded by so many of the definitions.
@@ -49,7 +49,7 @@ pub enum Found<'a> {
 }
 
 /// The value at the place of the last variable of a name, if there is one.
-fn value_of<'a>(
+pub fn last_value<'a>(
     variables: &[Variable<'_>],
     values: &[Written<'a>],
     name: &str,
@@ -82,21 +82,21 @@ fn argument_of<'a>(
     found
 }
 
-/// What a name stands for.
-pub fn looked_up<'a>(scope: &'a TermScope<'a>, name: &str) -> Found<'a>
+/// What a name is bound to.
+pub(crate) fn looked_up<'a>(scope: &'a TermScope<'a>, name: &str) -> NameBinding<'a>
     ensures met { (c : declared_context.Context) (whole : Occurrence)
-        → IsScopeMet c scope.now whole → IsFoundMet c result whole }
-    ensures term { (sorts : Spec) (forms : ℕ → spec.Forms) → found_term sorts forms result
+        → IsScopeMet c scope.now whole → IsBindingMet c result whole }
+    ensures term { (sorts : Spec) (forms : ℕ → spec.Forms) → binding_term sorts forms result
         ≡ spec.term_of (scope_of sorts forms scope.now) name.now }
 {
     match scope {
-        TermScope::Empty => Found::Nothing,
+        TermScope::Empty => NameBinding::Nothing,
         TermScope::Values {
             variables,
             values,
             outer,
-        } => match value_of(variables, values, name) {
-            Some(value) => Found::Value(value),
+        } => match last_value(variables, values, name) {
+            Some(value) => NameBinding::Value(value),
             None => looked_up(outer, name),
         },
         TermScope::Arguments {
@@ -105,12 +105,12 @@ pub fn looked_up<'a>(scope: &'a TermScope<'a>, name: &str) -> Found<'a>
             definitions,
             user,
         } => match argument_of(parameters, arguments, name) {
-            Some(argument) => Found::Argument {
+            Some(argument) => NameBinding::Argument {
                 term: &argument.term,
                 definitions: *definitions,
                 user,
             },
-            None => Found::Nothing,
+            None => NameBinding::Nothing,
         },
     }
 }

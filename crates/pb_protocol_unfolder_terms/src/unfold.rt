@@ -21,7 +21,7 @@ use crate::form::Form;
 use crate::level::{Level, behind_one, operated, place_of, refused};
 use crate::names::{bare_variable, own_name, value_term};
 use crate::operands::{Connected, joined_operands};
-use crate::scope::{Found, TermScope, looked_up};
+use crate::scope::{NameBinding, TermScope, looked_up};
 use crate::unfolded::{Unfolded, comparison, negation, negative};
 use pb_text_tree::{Name, Term};
 
@@ -72,10 +72,10 @@ fn unfold_name<'a>(
         level.definitions scope.now (TermForm.name (named name.now))) }
 {
     match looked_up(scope, name.text.as_str()) {
-        Found::Value(value) => {
+        NameBinding::Value(value) => {
             Ok(value_term(&context.folding(), value, name.place, level.room)?)
         }
-        Found::Argument {
+        NameBinding::Argument {
             term,
             definitions,
             user,
@@ -86,7 +86,7 @@ fn unfold_name<'a>(
             };
             unfold(context, user, inner, term)
         }
-        Found::Nothing => unfold_free(context, level, name),
+        NameBinding::Nothing => unfold_free(context, level, name),
     }
 }
 

@@ -1,4 +1,5 @@
-use Rattle.std.proofs.Common.{◌≤◌, arith, subst, flat_map, length, List, map, string_bytes}
+use Rattle.std.proofs.Common.{◌≤◌, ◌∙◌, ap, arith, subst, flat_map, length, List, map, string_bytes}
+use Rattle.pb_protocol_tree.specs.declared.protocol.Protocol.{Protocol}
 use Rattle.pb_protocol_tree.specs.declared.step.Step.{Step}
 use Rattle.pb_protocol_tree.specs.Form.{step_form}
 use Rattle.pb_protocol_meaning.specs.Erase.{erased_step}
@@ -31,7 +32,8 @@ returns-in_err-count-clause-refused c =
     let a = c.step-item.result in
     let own = own_instances m a in
     let few : length own ≤ length (flat_map (instances_of (data_of m)) m.steps) =
-    subst (λ (ss : List Step). length own ≤ length (flat_map (instances_of (data_of m)) (map erased_step (map step_form ss)))) c.deref-step-items.ensures.value
+    subst (λ (ss : List Step). length own ≤ length (flat_map (instances_of (data_of m)) (map erased_step (map step_form ss))))
+    (c.deref-step-items.ensures.value ∙ ap (λ (p : Protocol). p.steps.items) c.protocol.ensures)
     (no-more-than-all m c.deref-step-items.result.now c.loop-step.step-index a c.loop-step-test.true c.step-item.is) in
     refused c.from_residual.result c.in_err-count.field-0.0 (OfManyTuples a.name.place own) (λ f. ⊥)
     c.from_residual.ensures.1 (λ f o. omega (arith, o.1, few, c.requires.few)) c.in_err-count.ensures.refused

@@ -17,7 +17,7 @@ loop-property-preserved c = record {
 
 pub returns-in_err-unfold_property-clause-refused : goal.returns-in_err-unfold_property-clause-refused
 returns-in_err-unfold_property-clause-refused c =
-    let m = form_in c.args.formulas.now.unfolder.now in
+    let m = form_in c.args.formulas.now in
     let ps = c.args.properties.now in
     let q = c.property-item.result in
     part-by c.from_residual.result c.in_err-unfold_property.field-0.0 (IsFaultOfProperty m (property_form q)) (IsFaultOfProperties m (map property_form ps)) c.from_residual.ensures.1

@@ -11,7 +11,7 @@ use Rattle.pb_protocol_unfolder.proofs.property.unfold_property.Goals as goal
 
 pub returns-in_err-formula-clause-refused : goal.returns-in_err-formula-clause-refused
 returns-in_err-formula-clause-refused c =
-    let m = form_in c.args.formulas.now.unfolder.now in
+    let m = form_in c.args.formulas.now in
     let f = formula_form c.args.property.now.formula in
     part-of c.from_residual-in_err-formula.result c.in_err-formula.field-0.0 _
     (IsFaultOfProperty m (property_form c.args.property.now)) c.from_residual-in_err-formula.ensures.1 c.in_err-formula.ensures.refused

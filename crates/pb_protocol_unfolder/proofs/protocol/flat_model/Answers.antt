@@ -1,4 +1,5 @@
-use Rattle.std.proofs.Common.{◌∙◌, inl, inr, refl, ap, subst, List, map}
+use Rattle.std.proofs.Common.{◌∙◌, inl, inr, refl, ap, arith, length, subst, List, map}
+use Rattle.std.proofs.lemmas.List.{length-map}
 use Rattle.pb_text_tree.specs.declared.sort.SortDeclaration.{SortDeclaration}
 use Rattle.pb_text_tree.specs.declared.sort.Range.{Range}
 use Rattle.pb_text_tree.specs.Form.{sort_declaration_form, range_form}
@@ -8,7 +9,10 @@ use Rattle.pb_model_tree.specs.Form.{model_form}
 use Rattle.pb_model_tree.specs.Form as flat_form
 use Rattle.pb_protocol_tree.specs.declared.protocol.Property.{Property}
 use Rattle.pb_protocol_tree.specs.Form.{property_form, protocol_form}
-use Rattle.pb_protocol_unfolding.specs.Unfolding.{Element, variable_of}
+use Rattle.pb_protocol_unfolding.specs.Unfolding.{Element, all_elements, variable_of}
+use Rattle.pb_protocol_unfolder_steps.specs.declared.unfolder.Unfolder.{Unfolder}
+use Rattle.pb_protocol_unfolder_steps.specs.Elements.{flat_element}
+use Rattle.pb_protocol_unfolder.specs.declared.fault.UnfoldingFault.{UnfoldingFault}
 use Rattle.pb_protocol_unfolder_steps.specs.StepFaults.{IsFaultAtStart}
 use Rattle.pb_protocol_unfolder_steps.specs.Unfolder.{form_in}
 use Rattle.pb_protocol_unfolder.specs.Faults.{IsFaultOfProperties, OfTerm}
@@ -33,9 +37,10 @@ returns-clause-model c =
     model-said u c.args.protocol.now (model_form m) c.args.steps.items c.in_ok-properties.properties.items c.requires.protocol refl refl
     (ap (map erased_declaration) (c.in_ok-sorts.ensures ∙ ap (λ (ds : List SortDeclaration). map sort_declaration_form ds) c.deref.ensures.value))
     (ap (map erased_range) (c.in_ok-ranges.ensures ∙ ap (λ (rs : List Range). map range_form rs) c.deref-2.ensures.value))
-    (c.in_ok-state.ensures ∙ ap (λ (es : List Element). map variable_of es) c.requires.elements)
+    (c.in_ok-state.ensures ∙ ap (λ (es : List Element). map variable_of es) c.elements.ensures.all)
     c.requires.steps c.in_ok-values.ensures.initial
-    (c.in_ok-properties.ensures.properties ∙ ap (λ (ps : List Property). map (left_property u) ps) c.deref-3.ensures.value)
+    (c.in_ok-properties.ensures.properties ∙ ap (λ (v : Unfolder). map (left_property v) c.deref-3.result.now) c.new-formulas.ensures
+    ∙ ap (λ (ps : List Property). map (left_property u) ps) c.deref-3.ensures.value)
 
 pub returns-clause-formulas : goal.returns-clause-formulas
 returns-clause-formulas c =
@@ -53,7 +58,13 @@ returns-in_err-values-clause-refused c =
 pub returns-in_err-properties-clause-refused : goal.returns-in_err-properties-clause-refused
 returns-in_err-properties-clause-refused c =
     let m = form_in c.args.unfolder.now in
-    part-by c.from_residual-in_err-properties.result c.in_err-properties.field-0.0
-    (IsFaultOfProperties m (map property_form c.deref-3.result.now))
+    let IsFault : Unfolder → UnfoldingFault → Type 0 = λ u. IsFaultOfProperties (form_in u) (map property_form c.deref-3.result.now) in
+    part-by c.from_residual-in_err-properties.result c.in_err-properties.field-0.0 (IsFault c.new-formulas.result)
     (IsFaultOfModel (protocol_form c.args.protocol.now) m (map property_form c.args.protocol.now.properties.items)) c.from_residual-in_err-properties.ensures.1
-    (λ f is. inr (subst (λ (ps : List Property). IsFaultOfProperties m (map property_form ps) f) c.deref-3.ensures.value is)) c.in_err-properties.ensures.refused
+    (λ f is. inr (subst (λ (ps : List Property). IsFaultOfProperties m (map property_form ps) f) c.deref-3.ensures.value
+    (subst (λ (u : Unfolder). IsFault u f) c.new-formulas.ensures is))) c.in_err-properties.ensures.refused
+
+pub initial_of-requires : goal.initial_of-requires
+initial_of-requires c =
+    let all = c.elements.ensures.all ∙ ap all_elements c.requires.protocol in
+    omega (arith, c.elements.ensures.few, length-map c.elements.result.now flat_element, ap (λ (es : List Element). length es) all)

@@ -8,11 +8,11 @@ use Rattle.pb_protocol_unfolder.proofs.step_set.members.Goals as goal
 
 pub returns-in_err-push_member-clause-refused : goal.returns-in_err-push_member-clause-refused
 returns-in_err-push_member-clause-refused c =
-    let u = c.args.formulas.now.unfolder.now in
+    let u = c.args.unfolder.now in
     let m = protocol_in u in
     let ρ = scope_within u c.args.scope.now.names in
-    let left = c.args.formulas.now.left.now in
+    let all = c.args.instances.now in
     let A = step_set_form c.args.set.now in
     let x = c.instance-item.result in
-    part c.from_residual.result c.in_err-push_member.field-0.0 (IsFaultOfSet m ρ (instance_said x).own A) (IsFaultOfSteps m ρ (map instance_said left) A) c.from_residual.ensures.1
-    (λ p is. (instance_said x, at-item instance_said left c.loop-instance.instance-index x c.loop-instance-test.true c.instance-item.is, is)) c.in_err-push_member.ensures.refused
+    part c.from_residual.result c.in_err-push_member.field-0.0 (IsFaultOfSet m ρ (instance_said x).own A) (IsFaultOfSteps m ρ (map instance_said all) A) c.from_residual.ensures.1
+    (λ p is. (instance_said x, at-item instance_said all c.loop-instance.instance-index x c.loop-instance-test.true c.instance-item.is, is)) c.in_err-push_member.ensures.refused

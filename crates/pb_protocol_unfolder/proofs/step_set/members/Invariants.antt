@@ -9,6 +9,6 @@ use Rattle.pb_protocol_unfolder.proofs.step_set.members.Given as goal
 abbrev pub invariant-loop-instance : goal.invariant-loop-instance
 invariant-loop-instance l =
     map name_bytes l.names.items
-    ++ member_names l.formulas.unfolder.now l.scope.names (step_set_form l.set)
-    (map instance_said (drop l.instance-index l.left))
-    ≡ member_names l.formulas.unfolder.now l.scope.names (step_set_form l.set) (map instance_said l.left)
+    ++ member_names l.unfolder l.scope.names (step_set_form l.set)
+    (map instance_said (drop l.instance-index l.instances))
+    ≡ member_names l.unfolder l.scope.names (step_set_form l.set) (map instance_said l.instances)

@@ -1,5 +1,6 @@
 use Rattle.std.proofs.Common.{◌∙◌, ap, sym, true, List, [], ◌∷◌, map}
 use Rattle.pb_protocol_tree.specs.declared.step.Assignment.{Assignment}
+use Rattle.pb_text_tree.specs.declared.name.Name.{Name}
 use Rattle.pb_model_meaning.specs.Syntax as flat
 use Rattle.pb_protocol_folding.specs.Folding.{folded}
 use Rattle.pb_protocol_folding.specs.View.{term_of}
@@ -8,7 +9,7 @@ use Rattle.pb_protocol_unfolding.specs.PutIn.{TermScope}
 use Rattle.pb_protocol_unfolding.specs.Unfolding.{Element, unfolded_term}
 use Rattle.pb_protocol_unfolder_steps.specs.Elements.{flat_element, instance_said}
 use Rattle.pb_protocol_unfolder_steps.specs.Steps.{step_assignment, protocol_assignments, changes, own_scope}
-use Rattle.std.proofs.Common.{inl, inr, subst}
+use Rattle.std.proofs.Common.{inl, inr, refl, subst}
 use Rattle.pb_text_tree.specs.Form.{term_form}
 use Rattle.pb_protocol_tree.specs.Form.{AssignmentForm, assignment_form, step_form}
 use Rattle.pb_text_tree.specs.declared.place.Place.{Place}
@@ -28,14 +29,19 @@ returns-clause-step c =
     let g = c.in_ok-guard.guard in
     let bs = c.in_ok-assignments.assignments in
     let ρ = scope_within c.args.unfolder.now c.args.scope.now in
-    let es = map flat_element c.args.elements.now in
+    let es = map flat_element c.elements.result.now in
     let guard = c.in_ok-guard.ensures.term ∙ ap (λ (σ : TermScope). folded (data_of m) true (unfolded_term m σ i.step.guard)) c.requires.scope in
     let assigned = c.in_ok-assignments.ensures.assignments
     ∙ ap (λ (v : List Assignment). changes m ρ (protocol_assignments v) es) c.deref.ensures.value
     ∙ ap (λ (σ : TermScope). changes m σ i.step.assignments es) c.requires.scope
-    ∙ ap (λ (v : List Element). changes m (own_scope i) i.step.assignments v) c.requires.elements.all in
-    ap (λ (a : flat.Step). a ∷ []) (step-made (record { name = c.in_ok-name.name; variables = c.new.result; guard = g; assignments = bs }) c.new.ensures.items)
-    ∙ step-kept m i _ (term_of g) (map step_assignment bs.items) c.in_ok-name.ensures.text guard assigned (sym c.is_possible.ensures ∙ c.if-not-is_possible.false)
+    ∙ ap (λ (v : List Element). changes m (own_scope i) i.step.assignments v) c.elements.ensures.all in
+    let name : Name = record { place = c.args.place; text = c.in_ok-name.name.text; spelled = c.in_ok-name.name.spelled } in
+    record {
+      step =
+          ap (λ (a : flat.Step). a ∷ []) (step-made (record { name = name; variables = c.new.result; guard = g; assignments = bs }) c.new.ensures.items)
+          ∙ step-kept m i _ (term_of g) (map step_assignment bs.items) c.in_ok-name.ensures guard assigned (sym c.is_possible.ensures ∙ c.if-not-is_possible.false);
+      at = refl;
+    }
 
 pub returns-in_err-guard-clause-refused : goal.returns-in_err-guard-clause-refused
 returns-in_err-guard-clause-refused c =
@@ -51,12 +57,12 @@ returns-in_err-assignments-clause-refused c =
     let u = c.args.unfolder.now in
     let F = form_in u in
     let IsFault : TermScope → List AssignmentForm → List Element → UnfoldRule → Place → Type 0 = IsFaultInElements F in
-    let elements = map flat_element c.args.elements.now in
+    let elements = map flat_element c.elements.result.now in
     let P = WithValues c.args.scope.now (IsFault (scope_within u c.args.scope.now) (map assignment_form c.deref.result.now) elements) in
     let Q = WithValues c.args.scope.now (IsFaultInStep F (placed_instance c.args.instance.now)) in
     refused c.from_residual-in_err-assignments.result c.in_err-assignments.field-0.0 (OnTerm P) (OnTerm Q) c.from_residual-in_err-assignments.ensures.1
     (term-in P Q
     (λ r p o v. inr
-    (subst (λ (ds : List Element). IsFault (own_scope (instance_said c.args.instance.now)) (step_form c.args.instance.now.step.now).assignments ds r p) c.requires.elements.all
+    (subst (λ (ds : List Element). IsFault (own_scope (instance_said c.args.instance.now)) (step_form c.args.instance.now.step.now).assignments ds r p) c.elements.ensures.all
     (subst (λ (σ : TermScope). IsFault σ (step_form c.args.instance.now.step.now).assignments elements r p) c.requires.scope
     (subst (λ (bs : List Assignment). IsFault (scope_within u c.args.scope.now) (map assignment_form bs) elements r p) c.deref.ensures.value (o v)))))) c.in_err-assignments.ensures.refused

@@ -25,11 +25,11 @@ loop-instance-preserved c =
     let steps = ap (λ v. map step_said old.steps.items ++ flat_map (kept_step m) (map instance_said v)) (sym next) ∙ c.loop-instance.invariant.steps in
     let kept = ap (λ v. old.kept.items ++ map (is_kept m) (map instance_said v)) (sym next) ∙ c.loop-instance.invariant.kept in
     let line : c.len.result ≡ length old.steps.items = omega (arith, c.len.ensures, old.steps.ok.0) in
-    let place = subst (λ p. IfSome found (λ a. step_place a ≡ p)) (ap place_of_step line) c.in_ok-unfold_step.ensures.place in
+    let place = subst (λ p. IfSome found (λ a. step_place a ≡ p)) (ap place_of_step line) c.in_ok-unfold_step.ensures.step.at in
     record {
       steps = one-step (kept_step m) _ (map step_said old.steps.items) (map step_said new.steps.items)
-          (step_found found) (instance_said x) rest c.in_ok-push.ensures.steps c.in_ok-unfold_step.ensures.step steps;
-      kept = one-kept (is_kept m) _ old.kept.items new.kept.items _ (instance_said x) rest c.in_ok-push.ensures.kept (found-kept m (instance_said x) found c.in_ok-unfold_step.ensures.step) kept;
+          (step_found found) (instance_said x) rest c.in_ok-push.ensures.steps c.in_ok-unfold_step.ensures.step.step steps;
+      kept = one-kept (is_kept m) _ old.kept.items new.kept.items _ (instance_said x) rest c.in_ok-push.ensures.kept (found-kept m (instance_said x) found c.in_ok-unfold_step.ensures.step.step) kept;
       places = c.in_ok-push.ensures.places c.loop-instance.invariant.places place;
       count = omega (arith, c.in_ok-push.ensures.count, c.loop-instance.invariant.count);
     }

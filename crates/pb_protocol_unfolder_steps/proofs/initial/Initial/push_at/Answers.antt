@@ -1,5 +1,5 @@
-use Rattle.std.proofs.Common.{List, map, subst}
 use Rattle.pb_protocol_tree.specs.Form.{protocol_form}
+use Rattle.std.proofs.Common.{List, map, subst}
 use Rattle.pb_protocol_unfolder_terms.specs.declared.written.Written.{Written}
 use Rattle.pb_protocol_unfolder_terms.specs.Values.{tuple_of, written_term}
 use Rattle.pb_protocol_unfolder_terms.specs.View.{variable_of}
@@ -11,7 +11,7 @@ use Rattle.pb_protocol_unfolder_steps.proofs.initial.Initial.push_at.Goals as go
 
 pub returns-in_err-term-clause-refused : goal.returns-in_err-term-clause-refused
 returns-in_err-term-clause-refused c =
-    let F = protocol_form c.args.self.now.protocol.now in
+    let F = protocol_form c.args.self.now in
     let is = map variable_of c.args.indices.now in
     let x = argument_form c.args.value.now in
     let ts = c.args.tuples.now in

@@ -8,5 +8,5 @@ use Rattle.pb_protocol_unfolder_steps.proofs.initial.Initial.push_at.Given as go
 -- what is still to be added stands behind what is added
 abbrev pub invariant-loop-values : goal.invariant-loop-values
 invariant-loop-values l =
-    let f = term_at (protocol_of l.self.protocol.now) (map variable_of l.indices) (argument_term l.value) in
+    let f = term_at (protocol_of l.self) (map variable_of l.indices) (argument_term l.value) in
     map argument_term l.terms.items ++ map f (map tuple_of (drop l.values-index l.tuples)) ≡ map argument_term l.initial.terms.items ++ map f (map tuple_of l.tuples)

@@ -1,3 +1,4 @@
+use Rattle.pb_protocol_tree.specs.Form.{protocol_form}
 use Rattle.std.proofs.Common.{◌≡◌, ◌≤◌, ◌<◌, ◌∙◌, ◌++◌, ◌+◌, suc, ap, sym, arith, List, map, flat_map, drop, length, min}
 use Rattle.std.proofs.lemmas.List.{append-nil, append_assoc}
 use Rattle.std.proofs.lemmas.List.Folds.{flat_map-map}
@@ -8,7 +9,6 @@ use Rattle.pb_protocol_unfolding.specs.Written.{written_tuples}
 use Rattle.pb_protocol_unfolder_steps.specs.Initial.{argument_term, indices_behind, indices_said, initial_terms_of, terms_at}
 use Rattle.pb_protocol_unfolder_steps.proofs.RefusalLemmas.{part-of-all, refused}
 use Rattle.pb_protocol_unfolder_steps.proofs.InitialLemmas.{one-more, nothing-left}
-use Rattle.pb_protocol_tree.specs.Form.{protocol_form}
 use Rattle.pb_protocol_unfolder_steps.specs.StepFaults.{IsFaultInValue, IsFaultInValues, IsTermOr, argument_form}
 use Rattle.pb_protocol_unfolder_steps.proofs.StepFaultLemmas.{term-or}
 use Rattle.std.proofs.Common.{Some}
@@ -34,7 +34,7 @@ at-hand c =
 
 pub loop-at-preserved : goal.loop-at-preserved
 loop-at-preserved c =
-    let m = protocol_of c.args.self.now.protocol.now in
+    let m = protocol_of c.args.self.now in
     let x = c.index-values-at.result in
     let next : c.loop-at.at + 1 ≡ suc c.loop-at.at = omega arith in
     let rest = initial_terms_of m (map indices_behind (drop (c.loop-at.at + 1) c.args.variables.now)) (map argument_term (drop (c.loop-at.at + 1) c.args.values.now)) in
@@ -49,16 +49,16 @@ returns-clause-terms c =
     let over : min (length c.args.variables.now) (length c.args.values.now) ≤ c.loop-at.at = omega (arith, c.loop-at-test.false, c.min-at-end.ensures) in
     sym (append-nil (map argument_term c.loop-at.terms.items))
     ∙ ap (λ v. map argument_term c.loop-at.terms.items ++ v)
-    (sym (nothing-left (protocol_of c.args.self.now.protocol.now) c.args.variables.now c.args.values.now c.loop-at.at over)) ∙ c.loop-at.invariant
+    (sym (nothing-left (protocol_of c.args.self.now) c.args.variables.now c.args.values.now c.loop-at.at over)) ∙ c.loop-at.invariant
 
 pub returns-in_err-push_values-clause-refused : goal.returns-in_err-push_values-clause-refused
 returns-in_err-push_values-clause-refused c =
     let here = at-hand (goal.at.returns-in_err-push_values-clause-refused c).After-push_values in
-    let F = protocol_form c.args.self.now.protocol.now in
+    let F = protocol_form c.args.self.now in
     let ys = c.args.variables.now in
     let y = c.index-variables-at.result in
     let x = argument_form c.index-values-at.result in
-    let f : List Variable → List (List Term) = written_tuples (data_of (protocol_of c.args.self.now.protocol.now)) in
+    let f : List Variable → List (List Term) = written_tuples (data_of (protocol_of c.args.self.now)) in
     refused c.from_residual.result c.in_err-push_values.field-0.0 (IsTermOr (8192 < length (f (indices_said y.now))) (IsFaultInValue F (indices_said y.now) x))
     (IsTermOr (8192 < length (flat_map f (map indices_behind ys))) (IsFaultInValues F (map indices_behind ys) (map argument_form c.args.values.now))) c.from_residual.ensures.1
     (term-or _ _ _ _

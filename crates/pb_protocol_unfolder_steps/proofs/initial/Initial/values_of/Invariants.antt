@@ -6,7 +6,7 @@ use Rattle.pb_protocol_unfolder_steps.proofs.initial.Initial.values_of.Given as 
 -- what is still to be added stands behind what is added
 abbrev pub invariant-loop-at : goal.invariant-loop-at
 invariant-loop-at l =
-    let m = protocol_of l.self.protocol.now in
+    let m = protocol_of l.self in
     map argument_term l.terms.items
     ++ initial_terms_of m (map indices_behind (drop l.at l.variables)) (map argument_term (drop l.at l.values))
     ≡ initial_terms_of m (map indices_behind l.variables) (map argument_term l.values)

@@ -8,7 +8,9 @@ use Rattle.pb_protocol_unfolder_terms.specs.Values.{written_term}
 use Rattle.pb_protocol_unfolder_steps.specs.Elements.{element_at}
 use Rattle.pb_protocol_unfolder_steps.specs.Steps.{element_assigned, protocol_assignments}
 use Rattle.pb_protocol_unfolder_steps.specs.Unfolder.{form_in, protocol_in, scope_within}
-use Rattle.pb_protocol_tree.specs.Form.{assignment_form}
+use Rattle.pb_protocol_tree.specs.declared.protocol.Protocol.{Protocol}
+use Rattle.pb_protocol_tree.specs.Form.{assignment_form, protocol_form}
+use Rattle.pb_protocol_unfolder_steps.specs.TermContexts.{IsContextOf}
 use Rattle.pb_protocol_unfolder_terms.specs.TermFaults.{HasValues, IsFaultInElement, surroundings_of}
 use Rattle.pb_protocol_unfolder_steps.specs.StepFaults.{OnTerm, WithValues}
 use Rattle.pb_protocol_unfolder_steps.proofs.StepFaultLemmas.{term-told-so}
@@ -19,7 +21,8 @@ returns-in-Ok-clause-term c =
     let e = c.args.element.now in
     let assigned_at : List Written → Term = λ ks. element_assigned (protocol_in c.args.self.now) (scope_within c.args.self.now c.args.scope.now) (protocol_assignments c.args.assignments.now)
     (element_at e.name.now e.sort.now (map written_term ks)) in
-    (c.in-Ok.ensures.term (protocol_in c.args.self.now) (string_bytes e.sort.now.text) c.requires.unfolder.context).term ∙ ap assigned_at c.deref.ensures.value
+    let here = subst (λ (p : Protocol). IsContextOf (protocol_form p) c.self.inside.context) c.self.view_is c.self.invariant.0 in
+    (c.in-Ok.ensures.term (protocol_in c.args.self.now) (string_bytes e.sort.now.text) here.context).term ∙ ap assigned_at c.deref.ensures.value
 
 pub returns-in-Err-clause-refused : goal.returns-in-Err-clause-refused
 returns-in-Err-clause-refused c =
@@ -27,7 +30,8 @@ returns-in-Err-clause-refused c =
     let P : List Term → UnfoldRule → Place → Type 0 =
     λ ks. IsFaultInElement (surroundings_of (form_in u)) (scope_within u c.args.scope.now) (map assignment_form c.args.assignments.now)
     (element_at c.args.element.now.name.now c.args.element.now.sort.now ks) in
+    let here = subst (λ (p : Protocol). IsContextOf (protocol_form p) c.self.inside.context) c.self.view_is c.self.invariant.0 in
     let same = ap (λ (ks : List Written). map written_term ks) c.deref.ensures.value in
     subst (λ (ks : List Term). IfFault c.of_term.result (OnTerm (WithValues c.args.scope.now (P ks)))) same
     (term-told-so (HasValues c.args.scope.now) (P (map written_term c.deref.result.now)) c.in-Err.error c.of_term.result c.of_term.ensures
-    (c.in-Err.ensures.faults (surroundings_of (form_in u)) (string_bytes c.args.element.now.sort.now.text) c.requires.unfolder.surroundings))
+    (c.in-Err.ensures.faults (surroundings_of (form_in u)) (string_bytes c.args.element.now.sort.now.text) here.surroundings))

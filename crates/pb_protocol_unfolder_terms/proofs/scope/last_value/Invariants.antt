@@ -1,6 +1,6 @@
 use Rattle.std.proofs.Common.{◌≡◌, drop, None}
 use Rattle.pb_protocol_unfolder_terms.specs.Scopes.{looked}
-use Rattle.pb_protocol_unfolder.proofs.bound.last_value.Given as goal
+use Rattle.pb_protocol_unfolder_terms.proofs.scope.last_value.Given as goal
 
 abbrev pub invariant-loop-place : goal.invariant-loop-place
 invariant-loop-place l =

@@ -1,8 +1,8 @@
 use Rattle.std.proofs.Common.{◌∙◌, ◌+◌, arith, sym, ap, drop, Some}
 use Rattle.pb_protocol_unfolder_terms.specs.Scopes.{looked}
 use Rattle.pb_protocol_unfolder_terms.proofs.ScopeLemmas.{looked-some, looked-none, looked-end}
-use Rattle.pb_protocol_unfolder.proofs.bound.last_value.Goals as goal
-use Rattle.pb_protocol_unfolder.proofs.bound.last_value.Goals.{then-eq, else-eq}
+use Rattle.pb_protocol_unfolder_terms.proofs.scope.last_value.Goals as goal
+use Rattle.pb_protocol_unfolder_terms.proofs.scope.last_value.Goals.{then-eq, else-eq}
 
 pub loop-place-preserved : goal.loop-place-preserved
 loop-place-preserved c =
