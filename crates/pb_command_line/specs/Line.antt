@@ -1,8 +1,21 @@
 -- The command line as clap reads it.
-use Rattle.std.specs.Prelude.{ℕ, true, List, [], ◌∷◌, Some, codes}
+use Rattle.std.specs.Prelude.{◌≡◌, ℕ, false, true, List, [], ◌∷◌, Some, codes}
 use Rattle.clap.specs.declared.builder.action.ArgAction.TheVariants.{Append, SetTrue}
-use Rattle.clap.specs.Walk.{Rule}
-use Rattle.clap.specs.Simple.{App, Shape, new_app, new_shape, new_rule, on_top, with_subcommand}
+use Rattle.clap.specs.declared.builder.arg.Arg.{Arg}
+use Rattle.clap.specs.declared.builder.command.Command.{Command}
+use Rattle.clap.specs.declared.builder.command.Command.TheViews.{out-Command}
+use Rattle.clap.specs.Walk.{Rule, rule_of}
+use Rattle.clap.specs.Simple.{App, Shape, new_app, new_shape, new_rule, on_top, shape_of}
+use Rattle.clap.specs.Simple.{with_subcommand}
+
+-- the option is read by this rule, at the command alone that has it
+abbrev pub IsOwnOption : Rule → Arg → Type 0
+IsOwnOption rule option = (rule_of option ≡ rule) × (option.global ≡ false)
+
+-- the command has this shape, and each of its options is read at it alone
+abbrev pub IsOwnCommand : Shape → Command → Type 0
+IsOwnCommand shape command =
+    (shape_of command ≡ shape) × ((out-Command command).has_globals ≡ false)
 
 -- `--workers` with any word
 abbrev pub workers_rule : Rule

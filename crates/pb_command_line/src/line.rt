@@ -1,8 +1,7 @@
 //! The command line as clap reads it: which words each command takes.
-ghost use Rattle.std.specs.Prelude.{◌≡◌, false, IfOk};
-ghost use Rattle.clap.specs.Simple.{App, Shape, app_of, shape_of, new_shape, with_subcommand};
-ghost use Rattle.clap.specs.declared.builder.command.Command.TheViews.{out-Command};
-ghost use Rattle.clap.specs.Walk.{rule_of};
+ghost use Rattle.std.specs.Prelude.{◌≡◌, IfOk};
+ghost use Rattle.clap.specs.Simple.{App, Shape, app_of, new_shape, with_subcommand};
+ghost use Rattle.pb_command_line.specs.Line.{IsOwnCommand, IsOwnOption};
 ghost use Rattle.pb_command_line.specs.Line.{checking_shape, command_line, exploring_shape};
 ghost use Rattle.pb_command_line.specs.Line.{explaining_shape, rule_shape, showing_shape};
 ghost use Rattle.pb_command_line.specs.Line.{solving_shape, translating_shape};
@@ -15,24 +14,21 @@ use std::alloc::{AllocError, Global};
 
 // The option `--workers`, with any word: which words are numbers of workers is seen below.
 fn workers_option<'a>(alloc: Global) -> Arg<'a>
-    ensures rule { rule_of result ≡ workers_rule }
-    ensures local { result.global ≡ false }
+    ensures { IsOwnOption workers_rule result }
 {
     Arg::new(alloc, "workers").long("workers")
 }
 
 // The option `--solver`, with any word.
 fn solver_option<'a>(alloc: Global) -> Arg<'a>
-    ensures rule { rule_of result ≡ solver_rule }
-    ensures local { result.global ≡ false }
+    ensures { IsOwnOption solver_rule result }
 {
     Arg::new(alloc, "solver").long("solver")
 }
 
 // The option `--places`, with no word behind it.
 fn places_option<'a>(alloc: Global) -> Arg<'a>
-    ensures rule { rule_of result ≡ places_rule }
-    ensures local { result.global ≡ false }
+    ensures { IsOwnOption places_rule result }
 {
     Arg::new(alloc, "places")
         .long("places")
@@ -41,8 +37,7 @@ fn places_option<'a>(alloc: Global) -> Arg<'a>
 
 // The option `--lines`, with no word behind it.
 fn lines_option<'a>(alloc: Global) -> Arg<'a>
-    ensures rule { rule_of result ≡ lines_rule }
-    ensures local { result.global ≡ false }
+    ensures { IsOwnOption lines_rule result }
 {
     Arg::new(alloc, "lines")
         .long("lines")
@@ -51,24 +46,21 @@ fn lines_option<'a>(alloc: Global) -> Arg<'a>
 
 // The option `--property`, with any word.
 fn property_option<'a>(alloc: Global) -> Arg<'a>
-    ensures rule { rule_of result ≡ property_rule }
-    ensures local { result.global ≡ false }
+    ensures { IsOwnOption property_rule result }
 {
     Arg::new(alloc, "property").long("property")
 }
 
 // The option `--property`, which may stand several times.
 fn properties_option<'a>(alloc: Global) -> Arg<'a>
-    ensures rule { rule_of result ≡ properties_rule }
-    ensures local { result.global ≡ false }
+    ensures { IsOwnOption properties_rule result }
 {
     property_option(alloc).action(ArgAction::Append)
 }
 
 // The option `--status`, with no word behind it.
 fn status_option<'a>(alloc: Global) -> Arg<'a>
-    ensures rule { rule_of result ≡ status_rule }
-    ensures local { result.global ≡ false }
+    ensures { IsOwnOption status_rule result }
 {
     Arg::new(alloc, "status")
         .long("status")
@@ -77,8 +69,7 @@ fn status_option<'a>(alloc: Global) -> Arg<'a>
 
 // The option `--counts`, with no word behind it.
 fn counts_option<'a>(alloc: Global) -> Arg<'a>
-    ensures rule { rule_of result ≡ counts_rule }
-    ensures local { result.global ≡ false }
+    ensures { IsOwnOption counts_rule result }
 {
     Arg::new(alloc, "counts")
         .long("counts")
@@ -87,48 +78,42 @@ fn counts_option<'a>(alloc: Global) -> Arg<'a>
 
 // The number of a rule, which has to stand there.
 fn number_word<'a>(alloc: Global) -> Arg<'a>
-    ensures rule { rule_of result ≡ number_rule }
-    ensures local { result.global ≡ false }
+    ensures { IsOwnOption number_rule result }
 {
     Arg::new(alloc, "number").required(true)
 }
 
 // A command that has no words of its own.
 fn plain<'a>(alloc: Global, name: &'a str) -> clap::Command<'a>
-    ensures shape { shape_of result ≡ new_shape name.now }
-    ensures local { (out-Command result).has_globals ≡ false }
+    ensures { IsOwnCommand (new_shape name.now) result }
 {
     clap::Command::new(alloc, name)
 }
 
 // A command that takes the number of workers.
 fn exploring<'a>(alloc: Global, name: &'a str) -> Result<clap::Command<'a>, AllocError>
-    ensures { IfOk result (λ c. (shape_of c ≡ exploring_shape name.now)
-        × ((out-Command c).has_globals ≡ false)) }
+    ensures { IfOk result (IsOwnCommand (exploring_shape name.now)) }
 {
     plain(alloc, name).arg(workers_option(alloc))
 }
 
 // A command that takes the number of workers, and tells places.
 fn explaining<'a>(alloc: Global, name: &'a str) -> Result<clap::Command<'a>, AllocError>
-    ensures { IfOk result (λ c. (shape_of c ≡ explaining_shape name.now)
-        × ((out-Command c).has_globals ≡ false)) }
+    ensures { IfOk result (IsOwnCommand (explaining_shape name.now)) }
 {
     exploring(alloc, name)?.arg(places_option(alloc))
 }
 
 // A command that takes the number of workers and the solver.
 fn solving<'a>(alloc: Global, name: &'a str) -> Result<clap::Command<'a>, AllocError>
-    ensures { IfOk result (λ c. (shape_of c ≡ solving_shape name.now)
-        × ((out-Command c).has_globals ≡ false)) }
+    ensures { IfOk result (IsOwnCommand (solving_shape name.now)) }
 {
     exploring(alloc, name)?.arg(solver_option(alloc))
 }
 
 // A command that takes the name of a property.
 fn translating<'a>(alloc: Global, name: &'a str) -> Result<clap::Command<'a>, AllocError>
-    ensures { IfOk result (λ c. (shape_of c ≡ translating_shape name.now)
-        × ((out-Command c).has_globals ≡ false)) }
+    ensures { IfOk result (IsOwnCommand (translating_shape name.now)) }
 {
     plain(alloc, name).arg(property_option(alloc))
 }
@@ -136,8 +121,7 @@ fn translating<'a>(alloc: Global, name: &'a str) -> Result<clap::Command<'a>, Al
 // A command that takes the number of workers and the name of a property, and writes lines of
 // instances.
 fn showing<'a>(alloc: Global, name: &'a str) -> Result<clap::Command<'a>, AllocError>
-    ensures { IfOk result (λ c. (shape_of c ≡ showing_shape name.now)
-        × ((out-Command c).has_globals ≡ false)) }
+    ensures { IfOk result (IsOwnCommand (showing_shape name.now)) }
 {
     exploring(alloc, name)?
         .arg(property_option(alloc))?
@@ -147,8 +131,7 @@ fn showing<'a>(alloc: Global, name: &'a str) -> Result<clap::Command<'a>, AllocE
 // A command that takes the number of workers, the solver and the names of properties, and tells the
 // verdicts by the exit status, and counts.
 fn checking<'a>(alloc: Global, name: &'a str) -> Result<clap::Command<'a>, AllocError>
-    ensures { IfOk result (λ c. (shape_of c ≡ checking_shape name.now)
-        × ((out-Command c).has_globals ≡ false)) }
+    ensures { IfOk result (IsOwnCommand (checking_shape name.now)) }
 {
     solving(alloc, name)?
         .arg(properties_option(alloc))?
@@ -158,8 +141,7 @@ fn checking<'a>(alloc: Global, name: &'a str) -> Result<clap::Command<'a>, Alloc
 
 // A command that takes the number of a rule.
 fn rule<'a>(alloc: Global, name: &'a str) -> Result<clap::Command<'a>, AllocError>
-    ensures { IfOk result (λ c. (shape_of c ≡ rule_shape name.now)
-        × ((out-Command c).has_globals ≡ false)) }
+    ensures { IfOk result (IsOwnCommand (rule_shape name.now)) }
 {
     plain(alloc, name).arg(number_word(alloc))
 }
@@ -171,7 +153,7 @@ fn with<'a>(
     command: Result<clap::Command<'a>, AllocError>,
 ) -> Result<clap::Command<'a>, AllocError>
     ensures { (app : App) (shape : Shape) → IfOk line.entry (λ c. app_of c ≡ app)
-        → IfOk command.entry (λ c. (shape_of c ≡ shape) × ((out-Command c).has_globals ≡ false))
+        → IfOk command.entry (IsOwnCommand shape)
         → IfOk result (λ c. app_of c ≡ with_subcommand app shape) }
 {
     line?.subcommand(command?)

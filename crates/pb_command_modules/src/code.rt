@@ -1,12 +1,11 @@
 //! Modules that bytes spell: whether they are accepted, what they say, and their answers.
 ghost use Rattle.std.specs.Prelude.{IfOk};
 ghost use Rattle.pb_base.specs.OrMemory.{IfRefused};
-ghost use Rattle.pb_command_faults.specs.Errors.{IfInputRefused};
 ghost use Rattle.std.specs.Io.KnownBytes.{Appends};
 ghost use Rattle.pb_report.specs.Report.{report_text};
 ghost use Rattle.pb_bytecode.specs.Decoded.{module_contents};
 ghost use Rattle.pb_command_modules.specs.Answers.{IsAnswerOfCode, IsModuleOfCode, Spell};
-ghost use Rattle.pb_command_modules.specs.Delivery.{Delivers};
+ghost use Rattle.pb_command_modules.specs.Delivery.{DeliversOrRefuses};
 ghost use Rattle.pb_command_modules.specs.Refusals.{IsRefusedBytes, IsUnlisted, IsUnverified};
 ghost use Rattle.pb_command_modules.specs.Writes.{WritesAcceptance, WritesAnswer, WritesListing};
 
@@ -64,8 +63,8 @@ pub fn solve_code<R: Threads + Sync, G: Gate + Sync, S: Sink>(
     ensures answer { IfOk result (IsAnswerOfCode bytes.now) }
     ensures report { IfOk result
         (λ answer. Appends (S.taken writer.old) (S.taken writer.new) (report_text answer)) }
-    ensures written { Delivers (WritesAnswer bytes.now) result S.Sink writer.old writer.new }
-    ensures refused { IfInputRefused result (IsRefusedBytes bytes.now) }
+    ensures written { DeliversOrRefuses (WritesAnswer bytes.now) (IsRefusedBytes bytes.now) result
+        S.Sink writer.old writer.new }
 {
     let verified = verified_code(context.alloc, bytes)?;
     write_report(context, &verified, options, writer)
@@ -78,8 +77,8 @@ pub fn solve_code<R: Threads + Sync, G: Gate + Sync, S: Sink>(
 /// and where; `Memory` comes where a request for memory was refused, and `Write` where the text
 /// could not be written whole.
 pub fn verify_code<S: Sink>(alloc: Global, bytes: &[u8], writer: &mut S) -> Result<(), SolveError>
-    ensures accepted { Delivers (WritesAcceptance bytes.now) result S.Sink writer.old writer.new }
-    ensures refused { IfInputRefused result (IsUnverified bytes.now) }
+    ensures { DeliversOrRefuses (WritesAcceptance bytes.now) (IsUnverified bytes.now) result
+        S.Sink writer.old writer.new }
 {
     let _verified = verified_code(alloc, bytes)?;
     deliver(b"accepted\n", writer)
@@ -91,8 +90,8 @@ pub fn verify_code<S: Sink>(alloc: Global, bytes: &[u8], writer: &mut S) -> Resu
 /// `Module` says what is wrong with the bytes and where; `Memory` comes where a request for memory
 /// was refused, and `Write` where the listing could not be written whole.
 pub fn list_code<S: Sink>(alloc: Global, bytes: &[u8], writer: &mut S) -> Result<(), SolveError>
-    ensures listed { Delivers (WritesListing bytes.now) result S.Sink writer.old writer.new }
-    ensures refused { IfInputRefused result (IsUnlisted bytes.now) }
+    ensures { DeliversOrRefuses (WritesListing bytes.now) (IsUnlisted bytes.now) result
+        S.Sink writer.old writer.new }
 {
     let module = decoded(alloc, bytes)?;
     let listing = list(alloc, &module)?;

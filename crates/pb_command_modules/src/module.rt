@@ -9,7 +9,7 @@ ghost use Rattle.pb_report.specs.Report.{report_text};
 ghost use Rattle.pb_report.specs.CallPlaces.{AreCallPlaces};
 ghost use Rattle.pb_report.specs.ModuleEvidence.{IsExplanation};
 ghost use Rattle.pb_command_solver.specs.Answers.{IsAnswerOf};
-ghost use Rattle.pb_command_modules.specs.Delivery.{Delivers};
+ghost use Rattle.pb_command_modules.specs.Delivery.{Delivers, DeliversOrRefuses};
 ghost use Rattle.pb_command_modules.specs.Refusals.{IsRefusedModule};
 ghost use Rattle.pb_command_modules.specs.Writes.{WritesCertificate, WritesEvidence, WritesGame};
 ghost use Rattle.pb_command_modules.specs.Writes.{WritesReport, WritesSolution};
@@ -46,8 +46,8 @@ pub fn write_report<R: Threads + Sync, G: Gate + Sync, S: Sink>(
     ensures answer { IfOk result (IsAnswerOf verified.now) }
     ensures report { IfOk result
         (λ answer. Appends (S.taken writer.old) (S.taken writer.new) (report_text answer)) }
-    ensures written { Delivers (WritesReport verified.now) result S.Sink writer.old writer.new }
-    ensures refused { IfInputRefused result (IsRefusedModule verified.now) }
+    ensures written { DeliversOrRefuses (WritesReport verified.now) (IsRefusedModule verified.now)
+        result S.Sink writer.old writer.new }
 {
     let answer = answer_module(context, verified, options)?;
     report(context.alloc, &answer, writer)?;
@@ -64,8 +64,8 @@ pub fn write_game<R: Threads + Sync, G: Gate + Sync, S: Sink>(
     workers: Workers,
     writer: &mut S,
 ) -> Result<(), SolveError>
-    ensures game { Delivers (WritesGame verified.now) result S.Sink writer.old writer.new }
-    ensures refused { IfInputRefused result (IsRefusedModule verified.now) }
+    ensures { DeliversOrRefuses (WritesGame verified.now) (IsRefusedModule verified.now) result
+        S.Sink writer.old writer.new }
 {
     let module = build_module(context, verified, workers)?;
     let reached = module.explored.rows();
@@ -83,9 +83,8 @@ pub fn write_solution<R: Threads + Sync, G: Gate + Sync, S: Sink>(
     options: SolveOptions,
     writer: &mut S,
 ) -> Result<(), SolveError>
-    ensures solution { Delivers (WritesSolution verified.now) result
+    ensures { DeliversOrRefuses (WritesSolution verified.now) (IsRefusedModule verified.now) result
         S.Sink writer.old writer.new }
-    ensures refused { IfInputRefused result (IsRefusedModule verified.now) }
 {
     let module = solve_module(context, verified, options)?;
     let reached = module.explored.rows();
@@ -104,9 +103,8 @@ pub fn write_certificate<R: Threads + Sync, G: Gate + Sync, S: Sink>(
     options: SolveOptions,
     writer: &mut S,
 ) -> Result<(), SolveError>
-    ensures certificate { Delivers (WritesCertificate verified.now) result
-        S.Sink writer.old writer.new }
-    ensures refused { IfInputRefused result (IsRefusedModule verified.now) }
+    ensures { DeliversOrRefuses (WritesCertificate verified.now) (IsRefusedModule verified.now)
+        result S.Sink writer.old writer.new }
 {
     let module = solve_module(context, verified, options)?;
     let game = &module.solved.built.game;

@@ -8,6 +8,7 @@ use crate::options::SolveOptions;
 use crate::part::first_part;
 use pb_exploration::Gate;
 use pb_report::Answer;
+use pb_report::cut_calls::count_cut;
 use pb_verifier::Verified;
 use std::alloc::AllocError;
 use std::thread::Threads;
@@ -51,8 +52,14 @@ pub fn answer_early<R: Threads + Sync, G: Gate + Sync>(
     let Some(part) = first_part(context, verified, options)? else {
         return Ok(Early::Unknown);
     };
-    if part.is_whole() {
-        return Ok(Early::Whole(part.answer(verified)));
+    if part.part.is_whole {
+        let cut = count_cut(&part.part.rows);
+        return Ok(Early::Whole(Answer {
+            truth: part.solved.truth(),
+            instances: part.solved.built.instances(),
+            cut,
+            vertices: part.solved.built.game.len(),
+        }));
     }
     let explanation = part.explanation(context.alloc, verified)?;
     Ok(Early::Shown(explanation.evidence.truth))

@@ -14,21 +14,6 @@ use pb_report::{Explanation, evidence_of};
 use pb_verifier::Verified;
 use std::thread::Threads;
 
-/// Evidence from all reached instances.
-fn explain_whole<R: Threads + Sync, G: Gate + Sync>(
-    context: &Context<'_, R, G>,
-    verified: &Verified,
-    options: SolveOptions,
-) -> Result<Explanation, BuildError>
-    ensures evidence { IfOk result (IsExplanation verified.now) }
-    ensures too_many { OnRefused result (IsTooLarge verified.now) }
-{
-    match solve_module(context, verified, options) {
-        Ok(module) => Ok(evidence_of(context.alloc, &module.solved, module.explored.rows())?),
-        Err(error) => Err(error),
-    }
-}
-
 /// Why the initial instance of a module has its truth value, as a proof graph (Cranen, Luttik and
 /// Willemse 2013), the initial instance first and the nearest before others. Where the instances
 /// nearest to it are enough, no others are explored; else it is solved as by `solve_module`.
@@ -47,5 +32,8 @@ pub fn explain_module<R: Threads + Sync, G: Gate + Sync>(
     if let Some(part) = first_part(context, verified, options)? {
         return Ok(part.explanation(context.alloc, verified)?);
     }
-    explain_whole(context, verified, options)
+    match solve_module(context, verified, options) {
+        Ok(module) => Ok(evidence_of(context.alloc, &module.solved, module.explored.rows())?),
+        Err(error) => Err(error),
+    }
 }

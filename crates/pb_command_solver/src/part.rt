@@ -2,11 +2,10 @@
 //! is true. Evidence names few instances, and holds whatever trees the others have; so parts are
 //! tried first, each larger than the one before, and everything is explored only where none of
 //! them is enough.
-ghost use Rattle.std.specs.Prelude.{◌≡◌, IfOk, IfSome, true};
+ghost use Rattle.std.specs.Prelude.{IfOk, IfSome};
 ghost use Rattle.pb_bytecode.specs.Contents.{Contents};
 ghost use Rattle.pb_report.specs.ModuleEvidence.{IsExplanation};
 ghost use Rattle.pb_evidence_nearby.specs.Nearby.{IsNearby};
-ghost use Rattle.pb_command_solver.specs.Answers.{IsAnswerOf};
 ghost use Rattle.pb_command_solver.specs.Parts.{IsPart, IsSolvedPart};
 
 use crate::built_module::solve_game;
@@ -18,8 +17,7 @@ use pb_fixpoint::Sign;
 use pb_fixpoint_rows::IndexedRows;
 use pb_game_of_trees::{BuildError, Solved, build_rows};
 use pb_machine::instances_have_trees;
-use pb_report::cut_calls::count_cut;
-use pb_report::{Answer, Explanation, evidence_of_rows};
+use pb_report::{Explanation, evidence_of_rows};
 use pb_verifier::Verified;
 use std::alloc::{AllocError, Global};
 use std::thread::Threads;
@@ -36,19 +34,19 @@ const LAST_ROUND: usize = 1 << 16;
 
 /// Rows of a part of the instances, from whose game a truth value may be shown.
 #[derive(Drop)]
-struct Part {
-    rows: IndexedRows,
-    truth: bool,
+pub(crate) struct Part {
+    pub rows: IndexedRows,
+    pub truth: bool,
     /// Whether these are all reached instances, so that either value is shown.
-    is_whole: bool,
+    pub is_whole: bool,
 }
 
 /// A part of the instances with its solved game, from which the initial one has the part's truth
 /// value whichever trees the others have, or where there are no others.
 #[derive(Drop)]
 pub(crate) struct SolvedPart {
-    part: Part,
-    solved: Solved,
+    pub part: Part,
+    pub solved: Solved,
 }
 
 /// The instances nearby, from which this truth value may be shown.
@@ -129,13 +127,6 @@ pub(crate) fn first_part<R: Threads + Sync, G: Gate + Sync>(
 }
 
 impl SolvedPart {
-    /// Whether these are all reached instances.
-    pub(crate) fn is_whole(&self) -> bool
-        ensures { result ≡ self.now.part.is_whole }
-    {
-        self.part.is_whole
-    }
-
     /// Why the initial instance has its truth value.
     pub(crate) fn explanation(
         &self,
@@ -147,20 +138,5 @@ impl SolvedPart {
     {
         pb_evidence::assumed_is_shown();
         evidence_of_rows(alloc, &self.solved, &self.part.rows)
-    }
-
-    /// The answer to the module, where these are all reached instances.
-    pub(crate) fn answer(&self, verified: &Verified) -> Answer
-        requires solved { IsSolvedPart verified.now self.now }
-        requires whole { self.now.part.is_whole ≡ true }
-        ensures { IsAnswerOf verified.now result }
-    {
-        let cut = count_cut(&self.part.rows);
-        Answer {
-            truth: self.solved.truth(),
-            instances: self.solved.built.instances(),
-            cut,
-            vertices: self.solved.built.game.len(),
-        }
     }
 }

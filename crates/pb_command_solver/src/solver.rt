@@ -46,7 +46,14 @@ pub fn solve<G: Gate + Sync, R: Threads + Sync>(
 {
     match solver {
         Solver::Zielonka => solve_by_regions(context.rt, context.alloc, game),
-        Solver::Lift => lift_or_solve(context, game, workers),
+        Solver::Lift => match lift(context.rt, context.alloc, game, workers, context.gate) {
+            Ok(solution) => match certify(game, solution) {
+                Ok(certified) => Ok(certified),
+                Err(_) => solve_by_regions(context.rt, context.alloc, game),
+            },
+            Err(LiftError::Refused(_)) => solve_by_regions(context.rt, context.alloc, game),
+            Err(LiftError::Memory) => Err(AllocError),
+        },
     }
 }
 
@@ -87,25 +94,5 @@ fn solve_by_regions<R: Threads + Sync>(
     match certify(game, solution) {
         Ok(certified) => Ok(certified),
         Err(_) => unreachable!(),
-    }
-}
-
-/// The solution of lifting where it has one that the checker certifies, and else that by regions.
-fn lift_or_solve<G: Gate + Sync, R: Threads + Sync>(
-    context: &Context<'_, R, G>,
-    game: &Game,
-    workers: u32,
-) -> Result<Certified, AllocError>
-    requires workers { 0 < workers }
-    ensures certificate { IfOk result (λ s. IsCertificate game.now s) }
-    ensures lifted { IfOk result (IsLiftedOrNone game.now) }
-{
-    match lift(context.rt, context.alloc, game, workers, context.gate) {
-        Ok(solution) => match certify(game, solution) {
-            Ok(certified) => Ok(certified),
-            Err(_) => solve_by_regions(context.rt, context.alloc, game),
-        },
-        Err(LiftError::Refused(_)) => solve_by_regions(context.rt, context.alloc, game),
-        Err(LiftError::Memory) => Err(AllocError),
     }
 }

@@ -15,8 +15,6 @@ use Rattle.pb_protocol_negation.specs.Laws.{NegationsErase, SatisfactionIsKept}
 use Rattle.pb_protocol_solved.specs.Solved.{AreSameProperties, IsSameProperty}
 use Rattle.pb_report.specs.declared.answer.Answer.{Answer}
 use Rattle.pb_command_faults.specs.declared.property_fault.PropertyExcess.{PropertyExcess}
-use Rattle.pb_command_solver.specs.declared.early.Early.{Early}
-use Rattle.pb_command_solver.specs.declared.early.Early.TheVariants as early
 use Rattle.pb_model_properties.specs.declared.verdicts.Verdict.{Verdict}
 use Rattle.pb_model_properties.specs.declared.verdicts.Verdict.TheVariants.{True, False, Unknown}
 use Rattle.pb_model_properties.specs.declared.solved.SolvedModel.{SolvedModel}
@@ -26,15 +24,14 @@ use Rattle.pb_model_properties.specs.Said.{protocol_satisfies, tree_satisfies, I
 use Rattle.pbsolve.proofs.PropertyVerdicts.{some_at}
 use Rattle.pbsolve.specs.declared.finding.Finding.{Finding}
 use Rattle.pbsolve.specs.declared.finding.Finding.TheVariants.{Decided, Refused, Shown}
-use Rattle.pbsolve.specs.declared.finding.Found.{Found}
+use Rattle.pbsolve.specs.declared.finding.PropertyFinding.{PropertyFinding}
 use Rattle.pbsolve.specs.declared.outcome.Outcome.{Outcome}
 use Rattle.pbsolve.specs.declared.outcome.Outcome.TheVariants as outcome
-use Rattle.pbsolve.specs.declared.property_module.AskedModule.{AskedModule}
 use Rattle.pbsolve.specs.declared.property_module.PropertyModule.{PropertyModule}
 use Rattle.pb_command_faults.specs.declared.solve_fault.SolveFault.{SolveFault}
 use Rattle.pb_command_faults.specs.declared.solve_fault.SolveFault.TheVariants as solve_fault
 use Rattle.pbsolve.specs.Models.{HasModel, IsFinding, IsPropertyFound, IsPropertyAnswer, IsShown, IsTooLargeNegation, IsTooLargeProperty, IsUnexplained}
-use Rattle.pbsolve.specs.Outcomes.{IsDecision, IsDeniedAt, IsEarlyAt, IsNegationAt, IsOutcome, IsOutcomeAt, IsPropertyModule, IsShownAt, verdict_in}
+use Rattle.pbsolve.specs.Outcomes.{HasNegation, IsDecision, IsDeniedAt, IsNegationAt, IsOutcome, IsPropertyModule, IsShownAt, verdict_in}
 use Rattle.pbsolve.specs.Why.{IsVerdict}
 
 -- the bytes that are kept say what they said
@@ -109,28 +106,20 @@ negation_within protocol model negations is_for are_for k within =
     let there = solved_at (negated_protocol protocol) negations (negated_protocol protocol).properties negations.properties k (negated_property same.0) are_for.solved.properties negated in
     slice_get_within negations.properties k there.0 there.1
 
--- the module is that of the negation of the property p at the place
-pub record HasNegation (protocol : ProtocolForm) (place : ℕ) (p : protocol_form.PropertyForm) (compiled : PropertyModule) : Type 0 where
-  pub model : ModelForm
-  pub is_for : IsModelFor (negated_protocol protocol) model
-  pub negation : PropertyForm
-  pub stands : slice_get model.properties place ≡ Some negation
-  pub of_negation : IsPropertyModule model negation compiled
-  pub says : tree_satisfies model negation.formula ≡ protocol_satisfies protocol (negated p.formula)
-
-pub has_negation : NegationsErase → SatisfactionIsKept → (bytes : List ℕ) (protocol : ProtocolForm) → IsTheReading bytes protocol → (asked : AskedModule) → IsNegationAt bytes asked
-    → (place : ℕ) → asked.place ≡ place → (p : protocol_form.PropertyForm) → slice_get protocol.properties place ≡ Some p → HasNegation protocol place p asked.compiled
-has_negation erased kept bytes protocol read asked (other, other_read, (model, other_for, at)) place here p stands =
+-- the module is that of the negation of the property at the place
+pub negation_at : NegationsErase → SatisfactionIsKept → (bytes : List ℕ) (other : ProtocolForm) → IsTheReading bytes other
+    → (model : ModelForm) → IsModelFor (negated_protocol other) model
+    → (place : ℕ) (q : PropertyForm) → slice_get model.properties place ≡ Some q → (compiled : PropertyModule) → IsPropertyModule model q compiled → IsNegationAt bytes place compiled
+negation_at erased kept bytes other other_read model other_for place q there compiled is = λ protocol read p stands.
     let is_for : IsModelFor (negated_protocol protocol) model =
     subst (λ (x : ProtocolForm). IsModelFor (negated_protocol x) model) (same_reading bytes protocol other read other_read) other_for in
-    let there : slice_get model.properties place ≡ Some at.property = subst (λ (k : ℕ). slice_get model.properties k ≡ Some at.property) here at.stands in
     record {
       model = model;
       is_for = is_for;
-      negation = at.property;
+      negation = q;
       stands = there;
-      of_negation = at.compiled;
-      says = told_negation erased kept protocol model is_for place p at.property stands there;
+      of_negation = is;
+      says = told_negation erased kept protocol model is_for place p q stands there;
     }
 
 -- ---- what is found
@@ -188,13 +177,13 @@ module _ (counts : Bool) (protocol : ProtocolForm) (model : ModelForm) (is_for :
     pub found_false : a.truth ≡ false → a.cut ≡ 0 → IsPropertyFound counts protocol model (record { place = place; finding = Decided False a })
     found_false truth cut = found_by (Decided False a) (λ p stands same. ((told_answer p false same truth, inl cut), answered))
 
-    module _ (erased : NegationsErase) (kept : SatisfactionIsKept) (bytes : List ℕ) (read : IsTheReading bytes protocol) (negation : AskedModule) (is_negation : IsNegationAt bytes negation)
-        (here : negation.place ≡ place) (truth : a.truth ≡ false) (cut : 0 < a.cut) where
-      negation_here : (p : protocol_form.PropertyForm) → slice_get protocol.properties place ≡ Some p → HasNegation protocol place p negation.compiled
-      negation_here p stands = has_negation erased kept bytes protocol read negation is_negation place here p stands
+    module _ (bytes : List ℕ) (read : IsTheReading bytes protocol) (compiled : PropertyModule) (is_negation : IsNegationAt bytes place compiled)
+        (truth : a.truth ≡ false) (cut : 0 < a.cut) where
+      negation_here : (p : protocol_form.PropertyForm) → slice_get protocol.properties place ≡ Some p → HasNegation protocol place p compiled
+      negation_here p stands = is_negation protocol read p stands
 
       -- by what the negation decides
-      pub found_open : (finding : Finding) → OfModule negation.compiled (λ m x. IsDecision m x a finding)
+      pub found_open : (finding : Finding) → OfModule compiled (λ m x. IsDecision m x a finding)
           → IsPropertyFound counts protocol model (record { place = place; finding = finding })
       found_open (Refused excess) decides = found_by (Refused excess) (λ p stands same.
           let n = negation_here p stands in
@@ -227,16 +216,11 @@ module _ (counts : Bool) (protocol : ProtocolForm) (model : ModelForm) (is_for :
       let is : x ≡ p = cc both in
       (uncounted, subst (λ (y : protocol_form.PropertyForm). IsShown protocol y.formula b) is shown))
 
--- the answer that is told of a property at a place
-pub told_here : (counts : Bool) (protocol : ProtocolForm) (model : ModelForm) (place : ℕ) (e : Early) (a : Answer) → e ≡ early.Whole a
-    → IsEarlyAt counts protocol model place e → IsOutcomeAt model (record { place = place; outcome = outcome.Answered a })
-told_here counts protocol model place e a is told = subst (IsEarlyAt counts protocol model place) is told
-
 -- the negation is satisfied
-pub denied_at : NegationsErase → SatisfactionIsKept → (bytes : List ℕ) (negation : AskedModule) → IsNegationAt bytes negation → (place : ℕ) → negation.place ≡ place
-    → OfModule negation.compiled (λ m q. true ≡ tree_satisfies m q.formula) → IsDeniedAt bytes place
-denied_at erased kept bytes negation is_negation place here truth = λ protocol read p stands.
-    let n = has_negation erased kept bytes protocol read negation is_negation place here p stands in
+pub denied_at : (bytes : List ℕ) (place : ℕ) (compiled : PropertyModule) → IsNegationAt bytes place compiled
+    → OfModule compiled (λ m q. true ≡ tree_satisfies m q.formula) → IsDeniedAt bytes place
+denied_at bytes place compiled is_negation truth = λ protocol read p stands.
+    let n = is_negation protocol read p stands in
     sym n.says ∙ sym (truth n.model n.negation n.of_negation)
 
 -- ---- what is told of it
@@ -301,7 +285,8 @@ pub places_within : (names : List (List ℕ)) (ps : List PropertyForm) (bound : 
 places_within names ps bound long = asked_within names ps 0 bound (omega (arith, long))
 
 -- what is found stands at a place of a property
-pub found_within : (counts : Bool) (protocol : ProtocolForm) (model : ModelForm) (bound : ℕ) → length model.properties ≡ bound → (fs : List Found) → All (IsPropertyFound counts protocol model) fs
+pub found_within : (counts : Bool) (protocol : ProtocolForm) (model : ModelForm) (bound : ℕ) → length model.properties ≡ bound
+    → (fs : List PropertyFinding) → All (IsPropertyFound counts protocol model) fs
     → All (λ found. found.place < bound) fs
 found_within counts protocol model bound long fs all =
     All-weaker (IsPropertyFound counts protocol model) (λ found. found.place < bound)

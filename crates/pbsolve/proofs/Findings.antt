@@ -9,7 +9,7 @@ use Rattle.std.proofs.lemmas.List.Elements.{All-get_or}
 use Rattle.std.proofs.lemmas.Option.{slice_get-map, slice_get-get_or}
 use Rattle.pb_model_tree.specs.declared.model.Property.{Property}
 use Rattle.pb_model_tree.specs.Form.{ModelForm, PropertyForm, property_form}
-use Rattle.pbsolve.specs.declared.finding.Found.{Found}
+use Rattle.pbsolve.specs.declared.finding.PropertyFinding.{PropertyFinding}
 use Rattle.pbsolve.specs.Models.{finding_lines, found_lines, name_at}
 
 -- what holds of all holds of the one at a place
@@ -28,7 +28,7 @@ places_step f g ys k y d xs new x below is before pushed same =
     ∙ ap (λ z. map f xs ++ z ∷ rest) same ∙ ap (λ zs. map f xs ++ map g zs) (next_first ys k y d below is) ∙ before
 
 -- the lines of one more finding
-pub lines_step : (counts : Bool) (model : ModelForm) (fs : List Found) (k : ℕ) (f d : Found) (old new : List ℕ) → k < length fs → f ≡ get_or fs k d
+pub lines_step : (counts : Bool) (model : ModelForm) (fs : List PropertyFinding) (k : ℕ) (f d : PropertyFinding) (old new : List ℕ) → k < length fs → f ≡ get_or fs k d
     → new ≡ old ++ finding_lines counts (name_at model f.place) f.finding → old ++ found_lines counts model (drop k fs) ≡ found_lines counts model fs
     → new ++ found_lines counts model (drop (k + 1) fs) ≡ found_lines counts model fs
 lines_step counts model fs k f d old new below is pushed before =

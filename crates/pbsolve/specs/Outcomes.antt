@@ -29,7 +29,7 @@ use Rattle.pb_command_faults.specs.declared.solve_fault.SolveFault.{SolveFault}
 use Rattle.pb_command_faults.specs.declared.solve_fault.SolveFault.TheVariants as solve_fault
 use Rattle.pbsolve.specs.declared.finding.Finding.{Finding}
 use Rattle.pbsolve.specs.declared.finding.Finding.TheVariants.{Decided, Refused, Shown}
-use Rattle.pbsolve.specs.declared.finding.Found.{Found}
+use Rattle.pbsolve.specs.declared.finding.PropertyFinding.{PropertyFinding}
 use Rattle.pbsolve.specs.declared.explained.ExplainedText.{ExplainedText}
 use Rattle.pbsolve.specs.declared.outcome.AskedOutcome.{AskedOutcome}
 use Rattle.pbsolve.specs.declared.outcome.Outcome.{Outcome}
@@ -86,9 +86,10 @@ pub record IsTextAt (model : ModelForm) (asked : AskedText) : Type 0 where
 -- these are found of the properties at the places of the texts, in order, where the bytes say a
 -- protocol in whose place a model is solved whose properties' texts these are
 pub record AreFoundByTexts (counts : Bool) (bytes : List ℕ) (texts : List AskedText)
-    (findings : List Found) : Type 0 where
+    (findings : List PropertyFinding) : Type 0 where
   pub places :
-      map (λ (f : Found). f.place) findings ≡ map (λ (asked : AskedText). asked.place) texts
+      map (λ (f : PropertyFinding). f.place) findings
+      ≡ map (λ (asked : AskedText). asked.place) texts
   pub found : (model : ModelForm) (said : IsModelOf bytes model) → All (IsTextAt model) texts
       → All (IsPropertyFound counts said.protocol model) findings
 
@@ -145,12 +146,23 @@ verdict_in (Refused excess) = Err excess
 abbrev pub AreNegations : List ℕ → Option SolvedModel → Type 0
 AreNegations bytes negations = IfSome negations (IsNegatedModelOf bytes)
 
--- the module of the negation of the property at its place
-abbrev pub IsNegationAt : List ℕ → AskedModule → Type 0
-IsNegationAt bytes asked =
-    (protocol : ProtocolForm) × IsTheReading bytes protocol
-    × ((model : ModelForm) × IsModelFor (negated_protocol protocol) model
-    × IsModuleAt model asked)
+-- The module is that of the negation of the property p, at the place: of a property of the negated
+-- protocol's model, which its tree satisfies exactly where the protocol satisfies that negation.
+pub record HasNegation (protocol : ProtocolForm) (place : ℕ) (p : protocol_form.PropertyForm)
+    (compiled : PropertyModule) : Type 0 where
+  pub model : ModelForm
+  pub is_for : IsModelFor (negated_protocol protocol) model
+  pub negation : PropertyForm
+  pub stands : slice_get model.properties place ≡ Some negation
+  pub of_negation : IsPropertyModule model negation compiled
+  pub says :
+      tree_satisfies model negation.formula ≡ protocol_satisfies protocol (negated p.formula)
+
+-- so of the property at the place, of the protocol that the bytes say
+abbrev pub IsNegationAt : List ℕ → ℕ → PropertyModule → Type 0
+IsNegationAt bytes place compiled =
+    (protocol : ProtocolForm) → IsTheReading bytes protocol → (p : protocol_form.PropertyForm)
+    → slice_get protocol.properties place ≡ Some p → HasNegation protocol place p compiled
 
 -- the protocol that the bytes say satisfies the negation of the property at the place
 abbrev pub IsDeniedAt : List ℕ → ℕ → Type 0
@@ -170,14 +182,6 @@ abbrev pub IsEarlyOf : ModelForm → PropertyForm → Early → Type 0
 IsEarlyOf model p early.Unknown = ⊤
 IsEarlyOf model p (early.Shown b) = b ≡ tree_satisfies model p.formula
 IsEarlyOf model p (early.Whole answer) = IsPropertyAnswer model p answer
-
--- what is told early of the property at a place
-abbrev pub IsEarlyAt : Bool → ProtocolForm → ModelForm → ℕ → Early → Type 0
-IsEarlyAt counts protocol model place early.Unknown = ⊤
-IsEarlyAt counts protocol model place (early.Shown b) =
-    (counts ≡ false) × IsShownAt protocol place b
-IsEarlyAt counts protocol model place (early.Whole answer) =
-    IsOutcomeAt model (record { place = place; outcome = outcome.Answered answer })
 
 -- what the negation q decides of a property that has this answer
 abbrev pub IsDecision : ModelForm → PropertyForm → Answer → Finding → Type 0

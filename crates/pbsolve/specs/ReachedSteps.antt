@@ -13,7 +13,7 @@ use Rattle.pb_command_faults.specs.Lines.{property_rule}
 use Rattle.pb_command_faults.specs.declared.solve_fault.SolveFault.{SolveFault}
 use Rattle.pb_command_faults.specs.declared.solve_fault.SolveFault.TheVariants as solve_fault
 use Rattle.pbsolve.specs.declared.check.Checked.{Checked}
-use Rattle.pbsolve.specs.declared.finding.Found.{Found}
+use Rattle.pbsolve.specs.declared.finding.PropertyFinding.{PropertyFinding}
 use Rattle.pbsolve.specs.declared.status.Status.{Status}
 use Rattle.pbsolve.specs.declared.status.Status.TheVariants as status
 use Rattle.pbsolve.specs.declared.step_finding.StepFinding.{StepFinding}
@@ -89,7 +89,7 @@ refuses_step Never = false
 refuses_step (Refused excess) = true
 
 -- how the run ends: with something refused, else as the verdicts say
-abbrev pub status_of_checked : Bool → List Found → List StepFinding → Status
+abbrev pub status_of_checked : Bool → List PropertyFinding → List StepFinding → Status
 status_of_checked tells findings steps =
     if list_any refuses_step steps then status.Refused else status_of_findings tells findings
 

@@ -43,6 +43,7 @@ use Rattle.pb_report.specs.declared.answer.Answer.{Answer}
 use Rattle.pb_report.specs.Cuts.{cuts_of}
 use Rattle.pb_report.specs.ModuleTexts.{IsTextOfTrees}
 use Rattle.pb_report.specs.declared.module_evidence.Explanation.{Explanation}
+use Rattle.pb_evidence_words.specs.Tellable.{IsTellable}
 use Rattle.pb_evidence_words.specs.InstanceLines.{instance_lines}
 use Rattle.pb_evidence_words.specs.WhyText.{Told, why_lines}
 use Rattle.pb_command_faults.specs.declared.solve_fault.SolveFault.{SolveFault}
@@ -89,6 +90,17 @@ CallsAreMoves bytes model said p =
     × StandsFor (protocol_text.erase said.protocol) (erase model) (state_said bytes model said) s
     c.instance.values
 
+-- In whatever model is solved in the place of the protocol that the bytes say, what is told is so
+-- of the protocol: each call of a property's text at a state is a step of the model, and a move of
+-- the protocol; and a state is told as that of the protocol that it says.
+pub record IsToldFaithfully (bytes : List ℕ) : Type 0 where
+  pub steps : (model : ModelForm) (p : PropertyForm) → IsModelOf bytes model
+      → Contains model.properties p → CallsAreSteps model p
+  pub moves : (model : ModelForm) (p : PropertyForm) → (said : IsModelOf bytes model)
+      → Contains model.properties p → CallsAreMoves bytes model said p
+  pub states : (model : ModelForm) → (said : IsModelOf bytes model)
+      → StatesAreTold bytes model said
+
 -- the text in which the model makes every step
 abbrev pub steps_of : ModelForm → SpecForm
 steps_of model = placed model model.initial.place (every_step_form model.initial.place)
@@ -105,20 +117,6 @@ shown_by vocabulary text steps m trees e = record {
   graph = graph_of e;
   cuts = cuts_of trees e;
 }
-
--- the text is that of a formula of the model
-abbrev pub IsOfFormula : ModelForm → SpecForm → Type 0
-IsOfFormula model text = (here : Place) × (f : FormulaForm) × (text ≡ placed model here f)
-
--- What is told of the module of a text: its instances have trees, and this explains it. The text is
--- that of a formula of the model, as is the one in which every step is called.
-pub record IsTellable (model : ModelForm) (text all_steps : SpecForm) (m : Contents)
-    (x : Explanation) : Type 0 where
-  pub compiled : IsCompiledModule (erased_text text) m
-  pub trees : ModuleHasTrees m
-  pub explanation : IsExplanation m x
-  pub property : IsOfFormula model text
-  pub steps : IsOfFormula model all_steps
 
 -- the lines that show it: those of instances, or in the model's words
 abbrev pub lines_of : Bool → Told → List ℕ
@@ -155,12 +153,7 @@ IsToldText instances always words name verdict text steps m e told =
     IsTextOfTrees m (λ trees. told_text always name verdict
     (lines_of instances (shown_by words text steps m trees e))) told
 
--- what is shown can be told; so can these parts of it
-abbrev pub IsTellableShown : Shown → Type 0
-IsTellableShown shown =
-    IsTellable (model_form shown.model.now) (spec_form shown.typed.now.spec)
-    (spec_form shown.steps.now.spec) shown.verified.now shown.explanation.now
-
+-- these parts of what is shown can be told
 abbrev pub AreTellable : ShownParts → Type 0
 AreTellable parts =
     IsTellable (model_form parts.model.now) (spec_form parts.explained.now.typed.spec)

@@ -22,7 +22,7 @@ use Rattle.pb_evidence_places.specs.CallPlaces.{AreCalled, told_place}
 use Rattle.pbsolve.specs.Answers.{IsAnswer, IsEvidence, IsModuleOfText}
 use Rattle.pb_command_modules.specs.Writes.{WritesAcceptance, WritesAnswer, WritesListing}
 use Rattle.pb_command_modules.specs.Writes.{WritesCertificate, WritesGame, WritesSolution}
-use Rattle.pbsolve.specs.declared.finding.Found.{Found}
+use Rattle.pbsolve.specs.declared.finding.PropertyFinding.{PropertyFinding}
 use Rattle.pbsolve.specs.declared.status.Status.{Status}
 use Rattle.pbsolve.specs.declared.step_finding.StepFinding.{StepFinding}
 use Rattle.pbsolve.specs.Models.{ArePropertiesFound, IsUntranslated, asked_names, found_lines}
@@ -68,7 +68,7 @@ lines_of_steps {bytes} {model} counts said steps =
 -- protocol that the bytes say, and of each step, where counts are asked for
 abbrev pub WritesVerdicts : Checking → List ℕ → Status → List ℕ → Type 0
 WritesVerdicts options bytes status written =
-    (model : ModelForm) × (findings : List Found) × (steps : List StepFinding)
+    (model : ModelForm) × (findings : List PropertyFinding) × (steps : List StepFinding)
     × (said : IsModelOf bytes model)
     × ArePropertiesFound options.counts said.protocol model (asked_names options) findings
     × AreStepsFoundWhere options.counts model steps

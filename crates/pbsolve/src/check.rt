@@ -3,16 +3,14 @@ ghost use Rattle.std.specs.Prelude.{◌≡◌, ◌<◌, ◌≢◌, [], length};
 ghost use Rattle.std.specs.Prelude.{Err, IfOk, string_bytes};
 ghost use Rattle.std.specs.List.{All};
 ghost use Rattle.pb_base.specs.OrMemory.{IfRefused};
-ghost use Rattle.pb_command_faults.specs.Errors.{IfInputRefused};
 ghost use Rattle.pb_command_faults.specs.declared.solve_fault.SolveFault.TheVariants.{NoProperty};
-ghost use Rattle.pb_model_properties.specs.Said.{IsModelOf};
-ghost use Rattle.pb_command_modules.specs.Delivery.{Delivers};
-ghost use Rattle.pbsolve.specs.Models.{AreFoundWhere, IsUnchecked, asked_names, solved_form};
+ghost use Rattle.pb_command_modules.specs.Delivery.{DeliversOrRefuses};
+ghost use Rattle.pbsolve.specs.Models.{IsUnchecked, asked_names};
 ghost use Rattle.pbsolve.specs.Writes.{WithStatus, WritesVerdicts};
 ghost use Rattle.pbsolve.specs.ReachedSteps.{checked_lines, status_of_checked};
 
 use crate::decision::{DecisionOptions, findings_of};
-use crate::finding::Found;
+use crate::finding::PropertyFinding;
 use crate::finding_lines::lines_of;
 use crate::options::solve_options;
 use crate::property_text::asked_texts;
@@ -32,37 +30,10 @@ use pb_sorts::Sink;
 use std::alloc::{AllocError, Global};
 use std::thread::Threads;
 
-// What is found of the properties that are asked for, of a model that was read. The texts of all
-// are made before the first is solved.
-fn findings_on<R: Threads + Sync, G: Gate + Sync>(
-    context: &Context<'_, R, G>,
-    input: ShortInput<'_>,
-    solved: &SolvedModel,
-    options: &Checking,
-) -> Result<Vec<Found>, OrMemory<SolveFault>>
-    requires { IsModelOf input.bytes.now (solved_form solved.now) }
-    ensures found { IfOk result
-        (λ findings. AreFoundWhere options.now input.entry.bytes.now solved.now findings.items) }
-    ensures refused { IfRefused result
-        (IsUnchecked (asked_names options.now) input.entry.bytes.now) }
-{
-    let alloc = context.alloc;
-    let places = match asked_of(alloc, &solved.typed.model.properties, &options.properties) {
-        Ok(places) => places,
-        Err(error) => return Err(error.raise()),
-    };
-    let texts = asked_texts(alloc, solved, &places)?;
-    let deciding = DecisionOptions {
-        solving: solve_options(options.solving),
-        counts: options.counts,
-    };
-    findings_of(context, input, texts, deciding)
-}
-
 // What is found of the properties that are asked for, and of the steps of the model.
 #[derive(Drop)]
 struct Checked {
-    findings: Vec<Found>,
+    findings: Vec<PropertyFinding>,
     steps: Vec<StepFinding>,
 }
 
@@ -95,7 +66,8 @@ fn report_of(
     Ok(CheckReport { lines, status })
 }
 
-// Those of what is found of the model that the bytes say.
+// Those of what is found of the model that the bytes say. The texts of all properties that are
+// asked for are made before the first is solved.
 fn checked_report<R: Threads + Sync, G: Gate + Sync>(
     context: &Context<'_, R, G>,
     input: ShortInput<'_>,
@@ -106,14 +78,24 @@ fn checked_report<R: Threads + Sync, G: Gate + Sync>(
     ensures refused { IfRefused result
         (IsUnchecked (asked_names options.now) input.entry.bytes.now) }
 {
-    let solved = match read_protocol(context.alloc, input.bytes) {
+    let alloc = context.alloc;
+    let solved = match read_protocol(alloc, input.bytes) {
         Ok(solved) => solved,
         Err(error) => return Err(error.raise()),
     };
-    let findings = findings_on(context, input, &solved, options)?;
+    let places = match asked_of(alloc, &solved.typed.model.properties, &options.properties) {
+        Ok(places) => places,
+        Err(error) => return Err(error.raise()),
+    };
+    let texts = asked_texts(alloc, &solved, &places)?;
+    let deciding = DecisionOptions {
+        solving: solve_options(options.solving),
+        counts: options.counts,
+    };
+    let findings = findings_of(context, input, texts, deciding)?;
     let steps = steps_on(context, &solved, options)?;
     let checked = Checked { findings, steps };
-    let report = report_of(context.alloc, &solved, &checked, options)?;
+    let report = report_of(alloc, &solved, &checked, options)?;
     Ok(report)
 }
 
@@ -146,11 +128,10 @@ pub fn check_text<R: Threads + Sync, G: Gate + Sync, S: Sink>(
     writer: &mut S,
 ) -> Result<Status, SolveError>
     // The status is that of what was found.
-    ensures verdicts { Delivers
-        (WithStatus result (WritesVerdicts options.now input.entry.bytes.now)) result
+    ensures verdicts { DeliversOrRefuses
+        (WithStatus result (WritesVerdicts options.now input.entry.bytes.now))
+        (IsUnchecked (asked_names options.now) input.entry.bytes.now) result
         S.Sink writer.old writer.new }
-    ensures refused { IfInputRefused result
-        (IsUnchecked (asked_names options.now) input.entry.bytes.now) }
     ensures named { result ≡ Err (SolveError.Refused NoProperty) → asked_names options.now ≢ [] }
 {
     let report = checked_report(context, input, options)?;

@@ -3,13 +3,12 @@ ghost use Rattle.std.specs.Prelude.{◌≡◌, Bool, true, IfOk};
 ghost use Rattle.std.specs.List.{All};
 ghost use Rattle.pb_base.specs.OrMemory.{IfRefused};
 ghost use Rattle.pb_model_tree.specs.Form.{ModelForm, PropertyForm};
-ghost use Rattle.pb_model_properties.specs.Said.{IsModelOf};
-ghost use Rattle.pbsolve.specs.Models.{HasModel, HasPropertyAt, IsFoundWhere};
+ghost use Rattle.pbsolve.specs.Models.{FindsProperty, HasModel, HasPropertyAt};
 ghost use Rattle.pbsolve.specs.Models.{IsUnnegated};
-ghost use Rattle.pbsolve.specs.Outcomes.{AreFoundByTexts, IsDecision, IsDeniedAt, IsEarlyAt};
+ghost use Rattle.pbsolve.specs.Outcomes.{AreFoundByTexts, IsDecision, IsDeniedAt};
 ghost use Rattle.pbsolve.specs.Outcomes.{IsModuleAt, IsOutcomeAt, IsPropertyModule, IsTextAt};
 
-use crate::finding::{Finding, Found};
+use crate::finding::{Finding, PropertyFinding};
 use crate::negation::{InputWithNegations, negation_module};
 use crate::outcome::{AskedOutcome, Outcome, early_of, early_truth, outcome_of};
 use crate::property_module::{AskedModule, PropertyModule, asked_module};
@@ -20,7 +19,6 @@ use pb_command_faults::SolveFault;
 use pb_command_solver::{Context, Early, SolveOptions};
 use pb_exploration::Gate;
 use pb_model_properties::Verdict;
-use pb_protocol_negation::negations_erase;
 use pb_report::Answer;
 use std::alloc::AllocError;
 use std::thread::Threads;
@@ -47,46 +45,13 @@ pub(crate) fn is_denied<R: Threads + Sync, G: Gate + Sync>(
     ensures same { input.new ≡ input.old }
     ensures denied { IfOk result (λ denied. denied ≡ true → IsDeniedAt input.old place) }
 {
-    negations_erase();
     match negation_module(context.alloc, input, place) {
-        Ok(negation) => match early_truth(context, &negation.compiled, options)? {
+        Ok(negation) => match early_truth(context, &negation, options)? {
             Some(true) => Ok(true),
             _ => Ok(false),
         },
         Err(OrMemory::Refused(_)) => Ok(false),
         Err(OrMemory::Memory) => Err(AllocError),
-    }
-}
-
-// What the instances nearest to the initial one tell of a property, where counts aren't asked for:
-// those of its text, and where they show that it isn't satisfied, those of its negation's.
-fn early_at<R: Threads + Sync, G: Gate + Sync>(
-    context: &Context<'_, R, G>,
-    input: &mut InputWithNegations<'_>,
-    asked: &AskedModule,
-    options: DecisionOptions,
-) -> Result<Early, AllocError>
-    requires { HasModel input.now (λ model. IsModuleAt model asked.now) }
-    ensures same { input.new ≡ input.old }
-    ensures told { IfOk result (λ early. (model : ModelForm) → (said : IsModelOf input.old model)
-        → IsModuleAt model asked.now
-        → IsEarlyAt options.counts said.protocol model asked.now.place early) }
-{
-    if options.counts {
-        return Ok(Early::Unknown);
-    }
-    let early = early_of(context, &asked.compiled, options.solving)?;
-    match early {
-        Early::Unknown => Ok(Early::Unknown),
-        Early::Whole(answer) => Ok(Early::Whole(answer)),
-        Early::Shown(true) => Ok(Early::Shown(true)),
-        Early::Shown(false) => {
-            let denied = is_denied(context, input, asked.place, options.solving)?;
-            if denied {
-                return Ok(Early::Shown(false));
-            }
-            Ok(Early::Unknown)
-        }
     }
 }
 
@@ -125,12 +90,9 @@ pub(crate) fn decided<R: Threads + Sync, G: Gate + Sync>(
     options: SolveOptions,
 ) -> Result<Finding, OrMemory<SolveFault>>
     requires { HasModel input.now (λ model. IsOutcomeAt model asked) }
-    ensures same { input.new ≡ input.old }
-    ensures found { IfOk result (λ finding. (counts : Bool) → IsFoundWhere
-        (λ model. IsOutcomeAt model asked) counts input.old asked.place finding) }
-    ensures refused { IfRefused result (IsUnnegated input.old) }
+    ensures { (counts : Bool) → FindsProperty (λ model. IsOutcomeAt model asked) counts
+        asked.place input.old input.new result }
 {
-    negations_erase();
     match asked.outcome {
         Outcome::TooLarge(excess) => Ok(Finding::Refused(excess)),
         Outcome::Answered(answer) => {
@@ -141,7 +103,7 @@ pub(crate) fn decided<R: Threads + Sync, G: Gate + Sync>(
                 return Ok(Finding::Decided(Verdict::False, answer));
             }
             let negation = negation_module(context.alloc, input, asked.place)?;
-            Ok(decision(context, &negation.compiled, answer, options)?)
+            Ok(decision(context, &negation, answer, options)?)
         }
     }
 }
@@ -154,10 +116,8 @@ fn decided_by_all<R: Threads + Sync, G: Gate + Sync>(
     options: SolveOptions,
 ) -> Result<Finding, OrMemory<SolveFault>>
     requires { HasModel input.now (λ model. IsModuleAt model asked.now) }
-    ensures same { input.new ≡ input.old }
-    ensures found { IfOk result (λ finding. (counts : Bool) → IsFoundWhere
-        (λ model. IsModuleAt model asked.now) counts input.old asked.now.place finding) }
-    ensures refused { IfRefused result (IsUnnegated input.old) }
+    ensures { (counts : Bool) → FindsProperty (λ model. IsModuleAt model asked.now) counts
+        asked.now.place input.old input.new result }
 {
     let outcome = outcome_of(context, &asked.compiled, options)?;
     let place = asked.place;
@@ -165,7 +125,9 @@ fn decided_by_all<R: Threads + Sync, G: Gate + Sync>(
     decided(context, input, known, options)
 }
 
-// What is found of a property, by the module of its text.
+// What is found of a property, by the module of its text. Where counts aren't asked for, the
+// instances nearest to the initial one are tried first: those of the text, and where they show that
+// it isn't satisfied, those of its negation's.
 fn finding_by<R: Threads + Sync, G: Gate + Sync>(
     context: &Context<'_, R, G>,
     input: &mut InputWithNegations<'_>,
@@ -173,21 +135,28 @@ fn finding_by<R: Threads + Sync, G: Gate + Sync>(
     options: DecisionOptions,
 ) -> Result<Finding, OrMemory<SolveFault>>
     requires { HasModel input.now (λ model. IsModuleAt model asked.now) }
-    ensures same { input.new ≡ input.old }
-    ensures found { IfOk result (IsFoundWhere (λ model. IsModuleAt model asked.now)
-        options.counts input.old asked.now.place) }
-    ensures refused { IfRefused result (IsUnnegated input.old) }
+    ensures { FindsProperty (λ model. IsModuleAt model asked.now) options.counts
+        asked.now.place input.old input.new result }
 {
+    if options.counts {
+        return decided_by_all(context, input, asked, options.solving);
+    }
     let place = asked.place;
-    let early = early_at(context, input, asked, options)?;
-    match early {
-        Early::Shown(truth) => Ok(Finding::Shown(truth)),
+    match early_of(context, &asked.compiled, options.solving)? {
+        Early::Unknown => decided_by_all(context, input, asked, options.solving),
         Early::Whole(answer) => {
             let outcome = Outcome::Answered(answer);
             let known = AskedOutcome { place, outcome };
             decided(context, input, known, options.solving)
         }
-        Early::Unknown => decided_by_all(context, input, asked, options.solving),
+        Early::Shown(true) => Ok(Finding::Shown(true)),
+        Early::Shown(false) => {
+            let denied = is_denied(context, input, place, options.solving)?;
+            if denied {
+                return Ok(Finding::Shown(false));
+            }
+            decided_by_all(context, input, asked, options.solving)
+        }
     }
 }
 
@@ -200,7 +169,7 @@ pub(crate) fn findings_of<R: Threads + Sync, G: Gate + Sync>(
     input: ShortInput<'_>,
     texts: Vec<AskedText>,
     options: DecisionOptions,
-) -> Result<Vec<Found>, OrMemory<SolveFault>>
+) -> Result<Vec<PropertyFinding>, OrMemory<SolveFault>>
     requires { HasModel input.bytes.now (λ model. All (IsTextAt model) texts.items) }
     ensures found { IfOk result (λ findings. AreFoundByTexts options.counts input.entry.bytes.now
         texts.items findings.items) }
@@ -212,7 +181,7 @@ pub(crate) fn findings_of<R: Threads + Sync, G: Gate + Sync>(
         let made = asked_module(context.alloc, asked)?;
         let finding = finding_by(context, &mut asked_input, &made, options)?;
         let place = made.place;
-        findings.push(Found { place, finding })?;
+        findings.push(PropertyFinding { place, finding })?;
     }
     Ok(findings)
 }

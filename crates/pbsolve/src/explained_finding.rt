@@ -1,7 +1,6 @@
 //! What is found of properties that are explained.
-ghost use Rattle.std.specs.Prelude.{◌≡◌, false, IfOk};
-ghost use Rattle.pb_base.specs.OrMemory.{IfRefused};
-ghost use Rattle.pbsolve.specs.Models.{HasModel, IsFoundWhere, IsUnnegated};
+ghost use Rattle.std.specs.Prelude.{false};
+ghost use Rattle.pbsolve.specs.Models.{FindsProperty, HasModel};
 ghost use Rattle.pbsolve.specs.Outcomes.{IsExplainedIn};
 
 use crate::decision::{decided, is_denied};
@@ -37,10 +36,8 @@ pub(crate) fn explained_finding<R: Threads + Sync, G: Gate + Sync>(
     asked: Asked,
 ) -> Result<Finding, OrMemory<SolveFault>>
     requires { HasModel input.now (λ model. IsExplainedIn model asked.place explained.now) }
-    ensures same { input.new ≡ input.old }
-    ensures found { IfOk result (IsFoundWhere
-        (λ model. IsExplainedIn model asked.place explained.now) false input.old asked.place) }
-    ensures refused { IfRefused result (IsUnnegated input.old) }
+    ensures { FindsProperty (λ model. IsExplainedIn model asked.place explained.now) false
+        asked.place input.old input.new result }
 {
     if explained.explanation.evidence.truth {
         return Ok(Finding::Shown(true));

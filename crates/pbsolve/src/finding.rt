@@ -18,7 +18,7 @@ pub enum Finding {
 
 /// What is found of the property at a place.
 #[derive(Clone, Copy, Debug)]
-pub struct Found {
+pub struct PropertyFinding {
     pub place: usize,
     pub finding: Finding,
 }

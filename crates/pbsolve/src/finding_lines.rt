@@ -5,7 +5,7 @@ ghost use Rattle.pb_model_tree.specs.Form.{ModelForm, property_form};
 ghost use Rattle.pbsolve.specs.Models.{finding_lines, found_lines, lines_behind, says_false};
 ghost use Rattle.pbsolve.specs.Models.{refuses, says_unknown, status_of_findings, verdict_of};
 
-use crate::finding::{Finding, Found};
+use crate::finding::{Finding, PropertyFinding};
 use crate::status::Status;
 use pb_model_properties::{Verdict, push_counts, push_cut, push_refused, push_verdict};
 use pb_model_tree::Property;
@@ -107,7 +107,7 @@ fn push_finding(
 pub(crate) fn lines_of(
     alloc: Global,
     properties: &[Property],
-    findings: &[Found],
+    findings: &[PropertyFinding],
     counts: bool,
 ) -> Result<String, AllocError>
     requires { All (λ found. found.place < length properties.now) findings.now }
@@ -124,28 +124,28 @@ pub(crate) fn lines_of(
 }
 
 // Whether a property is refused.
-fn has_refused(findings: &[Found]) -> bool
+fn has_refused(findings: &[PropertyFinding]) -> bool
     ensures { result ≡ list_any (λ f. refuses f.finding) findings.now }
 {
     findings.iter().any(|found| found.finding.refuses())
 }
 
 // Whether a verdict is false.
-fn has_false(findings: &[Found]) -> bool
+fn has_false(findings: &[PropertyFinding]) -> bool
     ensures { result ≡ list_any (λ f. says_false f.finding) findings.now }
 {
     findings.iter().any(|found| found.finding.says_false())
 }
 
 // Whether one is unknown.
-fn has_unknown(findings: &[Found]) -> bool
+fn has_unknown(findings: &[PropertyFinding]) -> bool
     ensures { result ≡ list_any (λ f. says_unknown f.finding) findings.now }
 {
     findings.iter().any(|found| found.finding.says_unknown())
 }
 
 /// How the run ends, where the exit status tells the verdicts or doesn't.
-pub(crate) fn status_of(findings: &[Found], tells: bool) -> Status
+pub(crate) fn status_of(findings: &[PropertyFinding], tells: bool) -> Status
     ensures { result ≡ status_of_findings tells findings.now }
 {
     let refused = has_refused(findings);

@@ -30,7 +30,7 @@ mod why;
 
 pub use check::check_text;
 pub use compile::compile_text;
-pub use finding::{Finding, Found};
+pub use finding::{Finding, PropertyFinding};
 pub use laws::{bytes_spell_one_module, told_calls_are_steps};
 pub use models::translate_text;
 pub use options::{ExplainOptions, WhyOptions};

@@ -5,12 +5,13 @@ ghost use Rattle.pb_model_properties.specs.Negations.{IsRefusedNegation};
 ghost use Rattle.pbsolve.specs.Models.{HasPropertyAt, IsUnnegated};
 ghost use Rattle.pbsolve.specs.Outcomes.{AreNegations, IsNegationAt};
 
-use crate::property_module::{AskedModule, asked_module};
+use crate::property_module::{PropertyModule, property_module};
 use crate::property_text::asked_text;
 use crate::short_input::ShortInput;
 use pb_base::OrMemory;
 use pb_command_faults::SolveFault;
 use pb_model_properties::{ModelError, SolvedModel, read_negations};
+use pb_protocol_negation::negations_erase;
 use std::alloc::Global;
 use std::marker::Model;
 
@@ -70,13 +71,13 @@ pub(crate) fn negation_module(
     alloc: Global,
     input: &mut InputWithNegations<'_>,
     place: usize,
-) -> Result<AskedModule, OrMemory<SolveFault>>
+) -> Result<PropertyModule, OrMemory<SolveFault>>
     requires { HasPropertyAt input.now place }
     ensures same { input.new ≡ input.old }
-    ensures place { IfOk result (λ asked. asked.place ≡ place) }
-    ensures compiled { IfOk result (IsNegationAt input.old) }
+    ensures compiled { IfOk result (IsNegationAt input.old place) }
     ensures refused { IfRefused result (IsUnnegated input.old) }
 {
+    negations_erase();
     match read_once(alloc, input.input, &mut input.negations) {
         Ok(()) => (),
         Err(error) => return Err(error.raise()),
@@ -85,6 +86,6 @@ pub(crate) fn negation_module(
         unreachable!();
     };
     let asked = asked_text(alloc, read, place)?;
-    let made = asked_module(alloc, asked)?;
-    Ok(made)
+    let compiled = property_module(alloc, asked.text)?;
+    Ok(compiled)
 }

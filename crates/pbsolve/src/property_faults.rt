@@ -31,17 +31,6 @@ fn fault_of_property(fault: SolveFault, place: Place) -> SolveFault
     SolveFault::Property(PropertyFault { excess, place })
 }
 
-/// What is too large of the property at a place.
-pub(crate) fn too_large_at(model: &TypedModel, place: usize, excess: PropertyExcess) -> SolveFault
-    requires { place < length model.now.model.properties.items }
-    ensures { (p : PropertyForm)
-        → slice_get (model_form model.now.model).properties place ≡ Some p
-        → result ≡ SolveFault.Property (record { excess = excess; place = p.name.place }) }
-{
-    let place = name_place(model, place);
-    SolveFault::Property(PropertyFault { excess, place })
-}
-
 /// An error of the text of the property whose name stands at a place: where the text is too large,
 /// the property is.
 pub(crate) fn error_of_property(error: OrMemory<SolveFault>, place: Place) -> OrMemory<SolveFault>

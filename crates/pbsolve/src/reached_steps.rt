@@ -4,8 +4,8 @@ ghost use Rattle.std.specs.Prelude.{◌<◌, ℕ, length, IfOk};
 ghost use Rattle.pb_base.specs.OrMemory.{IfRefused};
 ghost use Rattle.pb_model_tree.specs.Form.{ModelForm};
 ghost use Rattle.pbsolve.specs.Models.{solved_form};
-ghost use Rattle.pbsolve.specs.ReachedSteps.{AreStepsFound, AreStepsFoundWhere, IsFoundOfStep};
-ghost use Rattle.pbsolve.specs.ReachedSteps.{IsStepModule, IsStepText, IsUntypedStep};
+ghost use Rattle.pbsolve.specs.ReachedSteps.{AreStepsFoundWhere, IsFoundOfStep, IsStepModule};
+ghost use Rattle.pbsolve.specs.ReachedSteps.{IsStepText, IsUntypedStep};
 
 use crate::options::solve_options;
 use crate::outcome::{Outcome, early_truth, outcome_of};
@@ -40,21 +40,6 @@ fn step_text(
     }
 }
 
-// The module of that text.
-fn step_module(
-    alloc: Global,
-    solved: &SolvedModel,
-    step: usize,
-) -> Result<PropertyModule, OrMemory<SolveFault>>
-    requires { step < length solved.now.typed.model.steps.items }
-    ensures module { IfOk result (IsStepModule (solved_form solved.now) step) }
-    ensures refused { IfRefused result (IsUntypedStep (solved_form solved.now)) }
-{
-    let asked = step_text(alloc, solved, step)?;
-    let compiled = property_module(alloc, asked.text)?;
-    Ok(compiled)
-}
-
 // What is found of a step by the module of the text that asks for it.
 fn finding_by<R: Threads + Sync, G: Gate + Sync>(
     context: &Context<'_, R, G>,
@@ -75,40 +60,6 @@ fn finding_by<R: Threads + Sync, G: Gate + Sync>(
     }
 }
 
-// What is found of the step at a place.
-fn step_finding<R: Threads + Sync, G: Gate + Sync>(
-    context: &Context<'_, R, G>,
-    solved: &SolvedModel,
-    step: usize,
-    options: SolveOptions,
-) -> Result<StepFinding, OrMemory<SolveFault>>
-    requires { step < length solved.now.typed.model.steps.items }
-    ensures found { IfOk result (IsFoundOfStep (solved_form solved.now) step) }
-    ensures refused { IfRefused result (IsUntypedStep (solved_form solved.now)) }
-{
-    let compiled = step_module(context.alloc, solved, step)?;
-    let finding = finding_by(context, &compiled, options)?;
-    Ok(finding)
-}
-
-// What is found of each step.
-fn all_steps<R: Threads + Sync, G: Gate + Sync>(
-    context: &Context<'_, R, G>,
-    solved: &SolvedModel,
-    options: SolveOptions,
-) -> Result<Vec<StepFinding>, OrMemory<SolveFault>>
-    ensures found { IfOk result
-        (λ findings. AreStepsFound (solved_form solved.now) findings.items) }
-    ensures refused { IfRefused result (IsUntypedStep (solved_form solved.now)) }
-{
-    let mut findings = Vec::new(context.alloc);
-    for step in 0..solved.typed.model.steps.len() {
-        let finding = step_finding(context, solved, step, options)?;
-        findings.push(finding)?;
-    }
-    Ok(findings)
-}
-
 /// What is found of each step, where counts are asked for.
 ///
 /// # Errors
@@ -123,8 +74,16 @@ pub(crate) fn steps_on<R: Threads + Sync, G: Gate + Sync>(
         (solved_form solved.now) findings.items) }
     ensures refused { IfRefused result (IsUntypedStep (solved_form solved.now)) }
 {
+    let mut findings = Vec::new(context.alloc);
     if !options.counts {
-        return Ok(Vec::new(context.alloc));
+        return Ok(findings);
     }
-    all_steps(context, solved, solve_options(options.solving))
+    let solving = solve_options(options.solving);
+    for step in 0..solved.typed.model.steps.len() {
+        let asked = step_text(context.alloc, solved, step)?;
+        let compiled = property_module(context.alloc, asked.text)?;
+        let finding = finding_by(context, &compiled, solving)?;
+        findings.push(finding)?;
+    }
+    Ok(findings)
 }

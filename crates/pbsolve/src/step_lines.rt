@@ -6,7 +6,7 @@ ghost use Rattle.pb_model_properties.specs.Words.{impossible_in, words_in};
 ghost use Rattle.pbsolve.specs.ReachedSteps.{impossible_lines, refuses_step, status_of_checked};
 ghost use Rattle.pbsolve.specs.ReachedSteps.{step_line, step_lines};
 
-use crate::finding::Found;
+use crate::finding::PropertyFinding;
 use crate::finding_lines::status_of;
 use crate::status::Status;
 use crate::step_finding::StepFinding;
@@ -81,7 +81,11 @@ fn has_refused(steps: &[StepFinding]) -> bool
 }
 
 /// How the run ends, where the exit status tells the verdicts or doesn't.
-pub(crate) fn status_of_checked(findings: &[Found], steps: &[StepFinding], tells: bool) -> Status
+pub(crate) fn status_of_checked(
+    findings: &[PropertyFinding],
+    steps: &[StepFinding],
+    tells: bool,
+) -> Status
     ensures { result ≡ status_of_checked tells findings.now steps.now }
 {
     if has_refused(steps) {

@@ -3,9 +3,10 @@ ghost use Rattle.std.specs.Prelude.{◌≡◌, ◌<◌, IfOk, length, string_byt
 ghost use Rattle.pb_base.specs.OrMemory.{IfRefused};
 ghost use Rattle.pb_model_properties.specs.Said.{IsModelOf};
 ghost use Rattle.pb_model_words.specs.View.{vocabulary_of};
-ghost use Rattle.pbsolve.specs.Models.{IsUnexplained, WhereFound, solved_form};
+ghost use Rattle.pbsolve.specs.Models.{IsUnexplained, solved_form};
 ghost use Rattle.pbsolve.specs.Outcomes.{IsExplainedAt, verdict_in};
-ghost use Rattle.pbsolve.specs.Why.{AreTellable, AreTellingParts, IsTellableShown, IsToldAsked};
+ghost use Rattle.pb_evidence_words.specs.Tellable.{IsTellableShown};
+ghost use Rattle.pbsolve.specs.Why.{AreTellable, AreTellingParts, IsToldAsked};
 ghost use Rattle.pbsolve.specs.Why.{IsToldShown, IsToldThere, is_true};
 
 use crate::explained::{ExplainedText, explained_at};
@@ -13,9 +14,9 @@ use crate::explained_finding::{Asked, explained_finding};
 use crate::finding::Finding;
 use crate::finding_lines::verdict_of;
 use crate::negation::InputWithNegations;
-use crate::property_faults::too_large_at;
+use crate::property_faults::name_place;
 use pb_base::OrMemory;
-use pb_command_faults::{PropertyExcess, SolveFault};
+use pb_command_faults::{PropertyExcess, PropertyFault, SolveFault};
 use pb_command_solver::Context;
 use pb_evidence_words::{Shown, push_instance_lines, push_why};
 use pb_exploration::Gate;
@@ -137,34 +138,6 @@ fn explained_told(
     told_in(alloc, telling, name, &vocabulary, &parts)
 }
 
-// What is told of the property at a place, whose text is explained, by what is found of it.
-fn found_told(
-    alloc: Global,
-    solved: &SolvedModel,
-    explained: &ExplainedText,
-    finding: Finding,
-    asked: Asked,
-) -> Result<String, OrMemory<SolveFault>>
-    requires within { asked.place < length solved.now.typed.model.properties.items }
-    requires explained { IsExplainedAt (solved_form solved.now) asked.place explained.now }
-    ensures told { IfOk result (λ told. WhereFound (solved_form solved.now) asked.place finding
-        (λ bytes protocol. IsToldAsked asked solved.now protocol (string_bytes told))) }
-    ensures refused { IfRefused result (λ fault. WhereFound (solved_form solved.now) asked.place
-        finding (λ bytes protocol. IsUnexplained bytes fault)) }
-{
-    match verdict_in(finding) {
-        Err(excess) => Err(too_large_at(&solved.typed, asked.place, excess).into()),
-        Ok(verdict) => {
-            let telling = ToldVerdict {
-                verdict,
-                always: asked.always,
-                lines: asked.options.lines,
-            };
-            Ok(explained_told(alloc, solved, explained, asked.place, telling)?)
-        }
-    }
-}
-
 /// What is told of the property at a place.
 ///
 /// # Errors
@@ -185,5 +158,19 @@ pub(crate) fn told_at<R: Threads + Sync, G: Gate + Sync>(
 {
     let explained = explained_at(context, solved, asked.place, asked.options)?;
     let finding = explained_finding(context, input, &explained, asked)?;
-    found_told(context.alloc, solved, &explained, finding, asked)
+    match verdict_in(finding) {
+        Err(excess) => {
+            let place = name_place(&solved.typed, asked.place);
+            Err(SolveFault::Property(PropertyFault { excess, place }).into())
+        }
+        Ok(verdict) => {
+            let telling = ToldVerdict {
+                verdict,
+                always: asked.always,
+                lines: asked.options.lines,
+            };
+            let alloc = context.alloc;
+            Ok(explained_told(alloc, solved, &explained, asked.place, telling)?)
+        }
+    }
 }

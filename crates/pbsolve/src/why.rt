@@ -1,16 +1,13 @@
 //! Why the properties of a model hold or don't: the verdicts, with the steps that show them.
-ghost use Rattle.std.specs.Prelude.{◌≡◌, Contains, Err, IfOk, IsSome, None, Some};
+ghost use Rattle.std.specs.Prelude.{◌≡◌, Err, IfOk, IsSome, None};
 ghost use Rattle.std.specs.Prelude.{option_copied, string_bytes};
 ghost use Rattle.pb_base.specs.OrMemory.{IfRefused};
 ghost use Rattle.pb_base.specs.declared.or_memory.OrMemory.TheVariants.{Refused};
-ghost use Rattle.pb_command_faults.specs.Errors.{IfInputRefused};
 ghost use Rattle.pb_command_faults.specs.declared.solve_fault.SolveFault.TheVariants.{NoProperty};
-ghost use Rattle.pb_model_tree.specs.Form.{ModelForm, PropertyForm};
 ghost use Rattle.pb_model_properties.specs.Said.{IsModelOf};
-ghost use Rattle.pb_command_modules.specs.Delivery.{Delivers};
+ghost use Rattle.pb_command_modules.specs.Delivery.{DeliversOrRefuses};
 ghost use Rattle.pbsolve.specs.Models.{IsUnexplained, solved_form};
-ghost use Rattle.pbsolve.specs.Why.{CallsAreMoves, CallsAreSteps, StatesAreTold};
-ghost use Rattle.pbsolve.specs.Why.{IsUnshown, TellWhere, WritesWhy};
+ghost use Rattle.pbsolve.specs.Why.{IsToldFaithfully, IsUnshown, TellWhere, WritesWhy};
 
 use crate::explained_finding::Asked;
 use crate::laws::told_calls_are_steps;
@@ -53,30 +50,6 @@ fn all_told<R: Threads + Sync, G: Gate + Sync>(
     Ok(lines)
 }
 
-// What is told of the property of a name.
-fn named_told<R: Threads + Sync, G: Gate + Sync>(
-    context: &Context<'_, R, G>,
-    input: ShortInput<'_>,
-    solved: &SolvedModel,
-    name: &str,
-    options: WhyOptions,
-) -> Result<String, OrMemory<SolveFault>>
-    requires { IsModelOf input.bytes.now (solved_form solved.now) }
-    ensures told { IfOk result (λ lines. TellWhere options.lines (Some name.now)
-        input.entry.bytes.now solved.now (string_bytes lines)) }
-    ensures refused { IfRefused result (IsUnshown (Some name.now) input.entry.bytes.now) }
-{
-    let Some(place) = place_of(&solved.typed.model.properties, Some(name)) else {
-        return Err(SolveFault::NoProperty.into());
-    };
-    let asked = Asked {
-        place,
-        always: true,
-        options,
-    };
-    told_at(context, &mut InputWithNegations::new(input), solved, asked)
-}
-
 // What is told of the property of a name, or of all where none is named.
 fn asked_told<R: Threads + Sync, G: Gate + Sync>(
     context: &Context<'_, R, G>,
@@ -93,7 +66,17 @@ fn asked_told<R: Threads + Sync, G: Gate + Sync>(
     ensures named { result ≡ Err (Refused NoProperty) → IsSome property.entry }
 {
     match property {
-        Some(name) => named_told(context, input, solved, name, options),
+        Some(name) => {
+            let Some(place) = place_of(&solved.typed.model.properties, Some(name)) else {
+                return Err(SolveFault::NoProperty.into());
+            };
+            let asked = Asked {
+                place,
+                always: true,
+                options,
+            };
+            told_at(context, &mut InputWithNegations::new(input), solved, asked)
+        }
         None => all_told(context, input, solved, options),
     }
 }
@@ -126,21 +109,13 @@ pub fn why_text<R: Threads + Sync, G: Gate + Sync, S: Sink>(
     options: WhyOptions,
     writer: &mut S,
 ) -> Result<(), SolveError>
-    ensures told { Delivers
-        (WritesWhy options.lines (option_copied property.entry) input.entry.bytes.now) result
+    ensures told { DeliversOrRefuses
+        (WritesWhy options.lines (option_copied property.entry) input.entry.bytes.now)
+        (IsUnshown (option_copied property.entry) input.entry.bytes.now) result
         S.Sink writer.old writer.new }
-    // The calls that the lines tell are steps of the model.
-    ensures steps { (model : ModelForm) (p : PropertyForm) → IsModelOf input.entry.bytes.now model
-        → Contains model.properties p → CallsAreSteps model p }
-    // And moves of the protocol.
-    ensures moves { (model : ModelForm) (p : PropertyForm)
-        → (said : IsModelOf input.entry.bytes.now model)
-        → Contains model.properties p → CallsAreMoves input.entry.bytes.now model said p }
-    // Of states of the protocol: that is what a state is told as.
-    ensures states { (model : ModelForm) → (said : IsModelOf input.entry.bytes.now model)
-        → StatesAreTold input.entry.bytes.now model said }
-    ensures refused { IfInputRefused result
-        (IsUnshown (option_copied property.entry) input.entry.bytes.now) }
+    // The calls that the lines tell are steps of the model and moves of the protocol, and each
+    // state is told as the one of the protocol that it says.
+    ensures faithful { IsToldFaithfully input.entry.bytes.now }
     ensures named { result ≡ Err (SolveError.Refused NoProperty) → IsSome property.entry }
 {
     told_calls_are_steps();

@@ -8,7 +8,7 @@ use crate::modules::all_others;
 use crate::steps::{close, finish, give_back, mark, status, take, three_statuses};
 use pb_command_solver::{BuiltModule, build_explored};
 use pb_exploration::{Core, Event, Explored, NoGate, NotAllowed, StepError, explore};
-use pb_fixpoint_rows::IndexedRows;
+use pb_fixpoint_rows::{IndexedRows, ReadRows};
 use pb_fixpoint_trees::Token;
 use pb_instances::{Marked, Seat, Status, Step, Table};
 use pb_machine::Machine;

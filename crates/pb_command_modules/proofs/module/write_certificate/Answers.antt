@@ -16,9 +16,11 @@ pub certificate_text-requires : goal.certificate_text-requires
 certificate_text-requires g c =
     record { lengths = subst (HasLengths c.in_ok-module.«module».solved.built.game) (sym c.solution-certificate.ensures) c.in_ok-module.ensures.certificate.lengths }
 
-pub returns-in_err-module-clause-certificate : goal.returns-in_err-module-clause-certificate
-returns-in_err-module-clause-certificate g c =
-    nothing_written g.S.Sink _ (WritesCertificate c.args.verified.now) c.args.writer.now c.in_err-module.field-0.0 c.from_residual.result c.from_residual.ensures.1
+pub returns-in_err-module : goal.returns-in_err-module
+returns-in_err-module g c = (
+  (nothing_written g.S.Sink _ (WritesCertificate c.args.verified.now) c.args.writer.now c.in_err-module.field-0.0 c.from_residual.result c.from_residual.ensures.1),
+  (too_large_up c.args.verified.now c.in_err-module.field-0.0 c.from_residual.result c.in_err-module.ensures.too_many c.from_residual.ensures.1),
+)
 
 -- the text of the certificate that is lent is one of the module
 certificate_is : (g : Over) (c : After-solution-certificate g) (t : List ℕ)
@@ -29,24 +31,20 @@ certificate_is g c =
     let certificate = subst (IsCertificate s.solved.built.game) (sym c.solution-certificate.ensures) c.in_ok-module.ensures.certificate in
     certificate_of_module c.args.verified.now s.explored is.explored s.solved.built is.game c.solution-certificate.result.now certificate
 
-pub returns-in_err-certificate_text-clause-certificate : goal.returns-in_err-certificate_text-clause-certificate
-returns-in_err-certificate_text-clause-certificate g c =
-    let text = certificate_is g (goal.at.returns-in_err-certificate_text-clause-certificate g c).After-solution-certificate in
-    sent_up g.S.Sink _ (WritesCertificate c.args.verified.now) text c.args.writer.now c.certificate_text.new.sink
-    c.certificate_text.result c.in_err-certificate_text.field-0.0 c.from_residual-in_err-certificate_text.result c.certificate_text.ensures
-    c.in_err-certificate_text.was c.from_residual-in_err-certificate_text.ensures.1
+pub returns-in_err-certificate_text : goal.returns-in_err-certificate_text
+returns-in_err-certificate_text g c = (
+  (let text = certificate_is g (goal.at.returns-in_err-certificate_text g c).After-solution-certificate in
+      sent_up g.S.Sink _ (WritesCertificate c.args.verified.now) text c.args.writer.now c.certificate_text.new.sink
+      c.certificate_text.result c.in_err-certificate_text.field-0.0 c.from_residual-in_err-certificate_text.result c.certificate_text.ensures
+      c.in_err-certificate_text.was c.from_residual-in_err-certificate_text.ensures.1),
+  (failed_up (IsRefusedModule c.args.verified.now) c.in_err-certificate_text.field-0.0 c.from_residual-in_err-certificate_text.result
+      c.from_residual-in_err-certificate_text.ensures.1),
+)
 
-pub returns-clause-certificate : goal.returns-clause-certificate
-returns-clause-certificate g c =
-    let text = certificate_is g (goal.at.returns-clause-certificate g c).After-solution-certificate in
-    sent_whole g.S.Sink _ (WritesCertificate c.args.verified.now) text c.args.writer.now c.certificate_text.new.sink
-    c.certificate_text.result c.in_ok-certificate_text.field-0 c.certificate_text.ensures c.in_ok-certificate_text.was
-
-pub returns-in_err-module-clause-refused : goal.returns-in_err-module-clause-refused
-returns-in_err-module-clause-refused g c =
-    too_large_up c.args.verified.now c.in_err-module.field-0.0 c.from_residual.result c.in_err-module.ensures.too_many c.from_residual.ensures.1
-
-pub returns-in_err-certificate_text-clause-refused : goal.returns-in_err-certificate_text-clause-refused
-returns-in_err-certificate_text-clause-refused g c =
-    failed_up (IsRefusedModule c.args.verified.now) c.in_err-certificate_text.field-0.0 c.from_residual-in_err-certificate_text.result
-    c.from_residual-in_err-certificate_text.ensures.1
+pub returns : goal.returns
+returns g c = (
+  (let text = certificate_is g (goal.at.returns g c).After-solution-certificate in
+      sent_whole g.S.Sink _ (WritesCertificate c.args.verified.now) text c.args.writer.now c.certificate_text.new.sink
+      c.certificate_text.result c.in_ok-certificate_text.field-0 c.certificate_text.ensures c.in_ok-certificate_text.was),
+  (tt),
+)

@@ -4,7 +4,7 @@ use Rattle.std.specs.List.{All}
 use Rattle.pb_model_tree.specs.Form.{model_form, property_form}
 use Rattle.pb_model_tree.specs.declared.model.Property.{Property}
 use Rattle.pb_model_properties.specs.Words.{impossible_in, words_in}
-use Rattle.pbsolve.specs.declared.finding.Found.{Found}
+use Rattle.pbsolve.specs.declared.finding.PropertyFinding.{PropertyFinding}
 use Rattle.pbsolve.specs.declared.step_finding.StepFinding.{StepFinding}
 use Rattle.pbsolve.specs.Models.{found_lines}
 use Rattle.pbsolve.specs.ReachedSteps.{impossible_lines, status_of_checked, step_lines}
@@ -13,8 +13,8 @@ use Rattle.pbsolve.proofs.check.report_of.Goals as goal
 pub lines_of-requires : goal.lines_of-requires
 lines_of-requires c =
     let items = c.args.solved.now.typed.model.properties.items in
-    subst (λ (ps : List Property). All (λ (x : Found). x.place < length ps) c.deref-2.result.now) (sym c.deref.ensures.value)
-    (subst (All (λ (x : Found). x.place < length items)) (sym c.deref-2.ensures.value) c.requires)
+    subst (λ (ps : List Property). All (λ (x : PropertyFinding). x.place < length ps) c.deref-2.result.now) (sym c.deref.ensures.value)
+    (subst (All (λ (x : PropertyFinding). x.place < length items)) (sym c.deref-2.ensures.value) c.requires)
 
 pub returns-clause-lines : goal.returns-clause-lines
 returns-clause-lines c =

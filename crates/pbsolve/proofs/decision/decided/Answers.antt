@@ -1,5 +1,5 @@
 -- What is found of the property, by what becomes of its text.
-use Rattle.std.proofs.Common.{◌<◌, subst, arith}
+use Rattle.std.proofs.Common.{◌<◌, rules, subst, arith}
 use Rattle.std.proofs.lemmas.Option.{slice_get_within}
 use Rattle.pbsolve.specs.Outcomes.{IsOutcome}
 use Rattle.pbsolve.proofs.Decisions.{found_false, found_large, found_open, found_true}
@@ -10,23 +10,41 @@ negation_module-requires g c =
     let at = c.requires.2 in
     (c.requires.0, c.requires.1, slice_get_within c.requires.0.properties c.args.asked.place at.property at.stands)
 
-pub returns-in-TooLarge-clause-found : goal.returns-in-TooLarge-clause-found
-returns-in-TooLarge-clause-found g c counts model said at =
-    found_large counts said.protocol model said.is_for c.args.asked.place at.property at.stands c.in-TooLarge.excess (subst (IsOutcome model at.property) c.in-TooLarge.is at.outcome)
+pub returns-in-TooLarge : goal.returns-in-TooLarge
+returns-in-TooLarge g c counts = record {
+  same = search rules;
+  found = λ model said at.
+      found_large counts said.protocol model said.is_for c.args.asked.place at.property at.stands c.in-TooLarge.excess (subst (IsOutcome model at.property) c.in-TooLarge.is at.outcome);
+  refused = tt;
+}
 
-pub returns-then-answer-clause-found : goal.returns-then-answer-clause-found
-returns-then-answer-clause-found g c counts model said at =
-    found_true counts said.protocol model said.is_for c.args.asked.place at.property at.stands c.in-Answered.answer (subst (IsOutcome model at.property) c.in-Answered.is at.outcome) c.if-answer.true
+pub returns-then-answer : goal.returns-then-answer
+returns-then-answer g c counts = record {
+  same = search rules;
+  found = λ model said at.
+      found_true counts said.protocol model said.is_for c.args.asked.place at.property at.stands c.in-Answered.answer (subst (IsOutcome model at.property) c.in-Answered.is at.outcome)
+      c.if-answer.true;
+  refused = tt;
+}
 
-pub returns-then-answer-eq0-clause-found : goal.returns-then-answer-eq0-clause-found
-returns-then-answer-eq0-clause-found g c counts model said at =
-    found_false counts said.protocol model said.is_for c.args.asked.place at.property at.stands c.in-Answered.answer (subst (IsOutcome model at.property) c.in-Answered.is at.outcome)
-    c.if-answer.false c.if-answer-eq0.true
+pub returns-then-answer-eq0 : goal.returns-then-answer-eq0
+returns-then-answer-eq0 g c counts = record {
+  same = search rules;
+  found = λ model said at.
+      found_false counts said.protocol model said.is_for c.args.asked.place at.property at.stands c.in-Answered.answer (subst (IsOutcome model at.property) c.in-Answered.is at.outcome)
+      c.if-answer.false c.if-answer-eq0.true;
+  refused = tt;
+}
 
-pub returns-in_ok-decision-in-Answered-clause-found : goal.returns-in_ok-decision-in-Answered-clause-found
-returns-in_ok-decision-in-Answered-clause-found g c counts model said at =
+pub returns-in_ok-decision-in-Answered : goal.returns-in_ok-decision-in-Answered
+returns-in_ok-decision-in-Answered g c counts =
     let uncut = c.if-answer-eq0.false in
     let cut : 0 < c.in-Answered.answer.cut = omega (arith, uncut) in
-    found_open counts said.protocol model said.is_for c.args.asked.place at.property at.stands c.in-Answered.answer (subst (IsOutcome model at.property) c.in-Answered.is at.outcome)
-    c.negations_erase.ensures.protocols c.negations_erase.ensures.satisfaction c.args.input.now said.read c.in_ok-negation-in-Answered.negation c.in_ok-negation-in-Answered.ensures.compiled
-    c.in_ok-negation-in-Answered.ensures.place c.if-answer.false cut c.in_ok-decision-in-Answered.field-0 c.in_ok-decision-in-Answered.ensures
+    record {
+      same = search rules;
+      found = λ model said at.
+          found_open counts said.protocol model said.is_for c.args.asked.place at.property at.stands c.in-Answered.answer (subst (IsOutcome model at.property) c.in-Answered.is at.outcome)
+          c.args.input.now said.read c.in_ok-negation-in-Answered.negation c.in_ok-negation-in-Answered.ensures.compiled c.if-answer.false cut
+          c.in_ok-decision-in-Answered.field-0 c.in_ok-decision-in-Answered.ensures;
+      refused = tt;
+    }

@@ -20,6 +20,11 @@ pub decided-requires-after_bounds : goal.decided-requires-after_bounds
 decided-requires-after_bounds g c κs within =
     let given = c.requires in (given.0, given.1, outcome_at given.0 c.args.asked.now given.2 c.in_ok-outcome.outcome c.in_ok-outcome.ensures)
 
-pub returns-clause-found : goal.returns-clause-found
-returns-clause-found g c = ok_more _ _ (λ finding h counts model said at. h counts model said (outcome_at model c.args.asked.now at c.in_ok-outcome.outcome c.in_ok-outcome.ensures))
-    c.decided.result c.decided.ensures.found
+pub returns : goal.returns
+returns g c counts =
+    let finds = c.decided.ensures counts in
+    record {
+      same = finds.same;
+      found = ok_more _ _ (λ finding h model said at. h model said (outcome_at model c.args.asked.now at c.in_ok-outcome.outcome c.in_ok-outcome.ensures)) c.decided.result finds.found;
+      refused = finds.refused;
+    }

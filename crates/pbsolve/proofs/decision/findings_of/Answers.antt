@@ -7,7 +7,7 @@ use Rattle.std.proofs.lemmas.List.{map-id, map_push}
 use Rattle.pb_command_faults.proofs.HandedUp.{handed_on}
 use Rattle.pb_model_properties.specs.Said.{IsModelOf}
 use Rattle.pb_model_tree.specs.Form.{ModelForm}
-use Rattle.pbsolve.specs.declared.finding.Found.{Found}
+use Rattle.pbsolve.specs.declared.finding.PropertyFinding.{PropertyFinding}
 use Rattle.pbsolve.specs.declared.property_text.AskedText.{AskedText}
 use Rattle.pbsolve.specs.Models.{IsPropertyFound, IsUnnegated}
 use Rattle.pbsolve.specs.Outcomes.{IsTextAt}
@@ -40,12 +40,12 @@ returns-in_err-finding-clause-refused g c =
 
 module _ (g : Over) (c : In_ok-push g) where
   -- one place more is found
-  places : map (λ (f : Found). f.place) c.push.new.self.items ≡ map (λ (a : AskedText). a.place) (c.texts.yielded ++ c.in-Some.asked ∷ [])
+  places : map (λ (f : PropertyFinding). f.place) c.push.new.self.items ≡ map (λ (a : AskedText). a.place) (c.texts.yielded ++ c.in-Some.asked ∷ [])
   places =
       let asked = c.in-Some.asked in
-      let found : Found = record { place = c.in_ok-made.made.place; finding = c.in_ok-finding.finding } in
+      let found : PropertyFinding = record { place = c.in_ok-made.made.place; finding = c.in_ok-finding.finding } in
       let pushed : c.push.new.self.items ≡ c.texts.findings.items ++ found ∷ [] = c.in_ok-push.ensures.items in
-      let place : Found → ℕ = λ f. f.place in
+      let place : PropertyFinding → ℕ = λ f. f.place in
       let asked_place : AskedText → ℕ = λ a. a.place in
       let more : map place (c.texts.findings.items ++ found ∷ []) ≡ map asked_place (c.texts.yielded ++ asked ∷ []) =
       rw (map_push place c.texts.findings.items found, map_push asked_place c.texts.yielded asked, c.texts.invariant.places, c.in_ok-made.ensures.place) refl in

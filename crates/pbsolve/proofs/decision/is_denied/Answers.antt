@@ -6,6 +6,6 @@ use Rattle.pbsolve.proofs.decision.is_denied.Goals as goal
 
 pub returns-in-Some-true-clause-denied : goal.returns-in-Some-true-clause-denied
 returns-in-Some-true-clause-denied g c _ =
-    denied_at c.negations_erase.ensures.protocols c.negations_erase.ensures.satisfaction c.args.input.now c.in-Ok.negation c.in-Ok.ensures.compiled c.args.place c.in-Ok.ensures.place
-    (of_known (λ (b : Bool). OfModule c.in-Ok.negation.compiled (λ m q. b ≡ tree_satisfies m q.formula)) c.in_ok-early_truth-in-Ok.field-0 c.in-Some-true.field-0 true c.in-Some-true.is
+    denied_at c.args.input.now c.args.place c.in-Ok.negation c.in-Ok.ensures.compiled
+    (of_known (λ (b : Bool). OfModule c.in-Ok.negation (λ m q. b ≡ tree_satisfies m q.formula)) c.in_ok-early_truth-in-Ok.field-0 c.in-Some-true.field-0 true c.in-Some-true.is
     c.in-Some-true.field-0-test c.in_ok-early_truth-in-Ok.ensures)

@@ -1,5 +1,6 @@
 -- The negation stands at the place of the property.
-use Rattle.std.proofs.Common.{Some, subst, sym, arith}
+use Rattle.std.proofs.Common.{◌≡◌, ℕ, Some, subst, sym, arith}
+use Rattle.std.specs.List.{slice_get}
 use Rattle.std.proofs.lemmas.List.{length-map}
 use Rattle.pb_base.proofs.Faults.{if_raised}
 use Rattle.pb_command_faults.proofs.HandedUp.{handed_on}
@@ -9,7 +10,7 @@ use Rattle.pb_model_properties.specs.Said.{IsModelFor}
 use Rattle.pbsolve.specs.Models.{IsUnnegated}
 use Rattle.pbsolve.specs.Outcomes.{AreNegations, IsUntyped}
 use Rattle.pbsolve.proofs.Checked.{negations_unnegated, text_unnegated}
-use Rattle.pbsolve.proofs.Decisions.{negation_within, same_negations}
+use Rattle.pbsolve.proofs.Decisions.{negation_at, negation_within, same_negations}
 use Rattle.pbsolve.proofs.negation.negation_module.Goals as goal
 use Rattle.pbsolve.proofs.negation.negation_module.Goals.{In-Some}
 
@@ -43,5 +44,8 @@ returns-in_err-asked-clause-refused c =
 pub returns-clause-compiled : goal.returns-clause-compiled
 returns-clause-compiled c =
     let is_for = model_negated (goal.at.returns-clause-compiled c).In-Some in
-    let compiled = c.in_ok-made.ensures.compiled (model_form c.in-Some.read.typed.model) c.in_ok-asked.ensures.text in
-    (c.requires.1.protocol, c.requires.1.read, (model_form c.in-Some.read.typed.model, is_for, compiled))
+    let model = model_form c.in-Some.read.typed.model in
+    let at = c.in_ok-asked.ensures.text in
+    let there = subst (λ (k : ℕ). slice_get model.properties k ≡ Some at.property) c.in_ok-asked.ensures.place at.stands in
+    negation_at c.negations_erase.ensures.protocols c.negations_erase.ensures.satisfaction c.args.input.now c.requires.1.protocol c.requires.1.read model is_for
+    c.args.place at.property there c.in_ok-compiled.compiled (c.in_ok-compiled.ensures model at.property at.text)

@@ -41,7 +41,7 @@ returns-in_ok-deliver-in-Rule-clause-written g c =
 pub returns-in-Check-clause-written : goal.returns-in-Check-clause-written
 returns-in-Check-clause-written g c =
     subst (λ (r : Request). Delivers (WithStatus c.check_text.result (Answers r c.args.input.bytes.now)) c.check_text.result g.O.Sink c.args.out.now c.check_text.new.writer)
-    (sym c.in-Check.is) c.check_text.ensures.verdicts
+    (sym c.in-Check.is) c.check_text.ensures.verdicts.0
 
 pub returns-in_err-task_answer-in-Input-clause-written : goal.returns-in_err-task_answer-in-Input-clause-written
 returns-in_err-task_answer-in-Input-clause-written g c =

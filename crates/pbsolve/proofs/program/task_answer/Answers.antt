@@ -13,7 +13,7 @@ returns-in-Why-clause-written g c =
     subst (λ (t : Task). Delivers (Writes t c.args.input.bytes.now) c.why_text.result g.O.Sink c.args.out.now c.why_text.new.writer)
     (sym c.in-Why.is)
     (subst (λ (n : Option (List ℕ)). Delivers (WritesWhy c.in-Why.options.lines n c.args.input.bytes.now) c.why_text.result g.O.Sink c.args.out.now c.why_text.new.writer)
-    c.name_of-in-Why.ensures c.why_text.ensures.told)
+    c.name_of-in-Why.ensures c.why_text.ensures.told.0)
 
 -- and what it is refused by, as what is refused of a translation
 pub returns-in-Why-clause-refused : goal.returns-in-Why-clause-refused
@@ -21,11 +21,11 @@ returns-in-Why-clause-refused g c =
     subst (λ (t : Task). IfInputRefused c.why_text.result (IsRefusedFor t c.args.input.bytes.now))
     (sym c.in-Why.is)
     (subst (λ (n : Option (List ℕ)). IfInputRefused c.why_text.result (IsUnshown n c.args.input.bytes.now))
-    c.name_of-in-Why.ensures c.why_text.ensures.refused)
+    c.name_of-in-Why.ensures c.why_text.ensures.told.1)
 
 pub returns-in-Translate-clause-refused : goal.returns-in-Translate-clause-refused
 returns-in-Translate-clause-refused g c =
     subst (λ (t : Task). IfInputRefused c.translate_text.result (IsRefusedFor t c.args.input.bytes.now))
     (sym c.in-Translate.is)
     (subst (λ (n : Option (List ℕ)). IfInputRefused c.translate_text.result (IsUntranslated n c.args.input.bytes.now))
-    c.name_of.ensures c.translate_text.ensures.refused)
+    c.name_of.ensures c.translate_text.ensures.text.1)

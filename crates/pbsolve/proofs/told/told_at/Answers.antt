@@ -1,10 +1,18 @@
 -- What is found of the property is told, or something is too large for a verdict.
-use Rattle.pb_base.proofs.Faults.{if_refused}
+use Rattle.std.proofs.Common.{◌∙◌, false, ap, subst, sym}
+use Rattle.pb_base.specs.OrMemory.{IfFault}
+use Rattle.pb_base.specs.declared.or_memory.OrMemory.{OrMemory}
+use Rattle.pb_text_tree.specs.declared.place.Place.{Place}
+use Rattle.pb_command_faults.specs.declared.solve_fault.SolveFault.{SolveFault}
+use Rattle.pb_command_faults.specs.declared.solve_fault.SolveFault.TheVariants as solve_fault
 use Rattle.pb_command_faults.proofs.HandedUp.{handed_on}
 use Rattle.pb_model_tree.specs.Form.{model_form, property_form}
+use Rattle.pb_model_properties.specs.Words.{words_in}
 use Rattle.pbsolve.specs.Models.{IsUnexplained, IsUnnegated, WhereUnexplained}
 use Rattle.pbsolve.proofs.Checked.{unnegated_untold, untold_unexplained}
-use Rattle.pbsolve.proofs.Tellings.{ok_more, within_form}
+use Rattle.pbsolve.proofs.Decisions.{finding_at, found_unexplained, found_verdict}
+use Rattle.pbsolve.proofs.PropertyVerdicts.{some_property}
+use Rattle.pbsolve.proofs.Tellings.{property_told, within_form}
 use Rattle.pbsolve.proofs.told.told_at.Goals as goal
 
 pub explained_finding-requires-after_bounds : goal.explained_finding-requires-after_bounds
@@ -26,17 +34,27 @@ returns-in_err-finding-clause-refused g c =
     handed_on (IsUnnegated bytes) (IsUnexplained bytes) (λ f h. untold_unexplained bytes f (unnegated_untold bytes f h))
     c.in_err-finding.field-0.0 c.from_residual-in_err-finding.result c.in_err-finding.ensures.refused c.from_residual-in_err-finding.ensures.1
 
-pub returns-clause-refused : goal.returns-clause-refused
-returns-clause-refused g c =
-    let solved = c.args.solved.now in
-    let within = within_form property_form solved.typed.model.properties.items c.args.asked.place c.requires.within in
-    if_refused c.found_told.result (λ fault untold. untold c.args.input.now c.requires.said
-    (c.in_ok-finding.ensures.found (model_form solved.typed.model) c.requires.said (within, c.in_ok-explained.ensures.explained))) c.found_told.ensures.refused
+pub returns-in-Err-clause-refused : goal.returns-in-Err-clause-refused
+returns-in-Err-clause-refused g c =
+    let items = c.args.solved.now.typed.model.properties.items in
+    let model = model_form c.args.solved.now.typed.model in
+    let bytes = c.args.input.now in
+    let place = c.args.asked.place in
+    let some = some_property property_form items place c.requires.within in
+    let found = c.in_ok-finding.ensures.found model c.requires.said (within_form property_form items place c.requires.within, c.in_ok-explained.ensures.explained) in
+    subst (λ (e : OrMemory SolveFault). IfFault e (IsUnexplained bytes)) (sym c.into.ensures)
+    (found_unexplained bytes model c.requires.said place some.0 some.1 c.in_ok-finding.finding found c.in-Err.excess (sym c.verdict_in.ensures ∙ c.in-Err.is)
+    _ (ap (λ (at : Place). solve_fault.Property (record { excess = c.in-Err.excess; place = at })) (c.name_place-place.ensures some.0 some.1)))
 
 pub returns-clause-told : goal.returns-clause-told
-returns-clause-told g c =
+returns-clause-told g c said p q stands there =
     let solved = c.args.solved.now in
+    let items = solved.typed.model.properties.items in
     let model = model_form solved.typed.model in
-    let within = within_form property_form solved.typed.model.properties.items c.args.asked.place c.requires.within in
-    ok_more _ _ (λ told found said p q stands there. found c.args.input.now said
-    (c.in_ok-finding.ensures.found model said (within, c.in_ok-explained.ensures.explained)) p q stands there) c.found_told.result c.found_told.ensures.told
+    let place = c.args.asked.place in
+    let is_explained = c.in_ok-explained.ensures.explained in
+    let found = c.in_ok-finding.ensures.found model said (within_form property_form items place c.requires.within, is_explained) in
+    let finding = finding_at false said.protocol model place c.in_ok-finding.finding found p q stands there in
+    let verdict = found_verdict said.protocol model place p q stands there c.in_ok-finding.finding finding c.in-Ok.verdict (sym c.verdict_in.ensures ∙ c.in-Ok.is) in
+    property_told c.args.asked.options.lines c.args.asked.always (words_in solved) said.protocol model p q c.in-Ok.verdict verdict
+    c.in_ok-explained.explained (is_explained q there) _ (c.in_ok-explained_told-in-Ok.ensures q there)

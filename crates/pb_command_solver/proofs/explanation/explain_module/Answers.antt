@@ -1,7 +1,7 @@
 use Rattle.std.proofs.Common.{sym, subst}
 use Rattle.pb_game_of_trees.specs.Explored.{IsModuleGame}
 use Rattle.pb_command_solver.proofs.Rows.{module_rows}
-use Rattle.pb_command_solver.proofs.explanation.explain_whole.Goals as goal
+use Rattle.pb_command_solver.proofs.explanation.explain_module.Goals as goal
 
 pub evidence_of-requires : goal.evidence_of-requires
 evidence_of-requires g c = (

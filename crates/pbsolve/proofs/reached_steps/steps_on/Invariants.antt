@@ -3,7 +3,7 @@ use Rattle.std.specs.List.{slice_get}
 use Rattle.pb_model_tree.specs.Form.{model_form}
 use Rattle.pbsolve.specs.declared.step_finding.StepFinding.{StepFinding}
 use Rattle.pbsolve.specs.ReachedSteps.{IsFoundOfStep}
-use Rattle.pbsolve.proofs.reached_steps.all_steps.Given as goal
+use Rattle.pbsolve.proofs.reached_steps.steps_on.Given as goal
 
 abbrev pub invariant-loop-step : goal.invariant-loop-step
 invariant-loop-step g l = record {
