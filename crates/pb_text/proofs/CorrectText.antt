@@ -1,22 +1,19 @@
 -- Equations and whole texts are read rightly.
-use Rattle.std.proofs.Common.{◌≡◌, ℕ, zero, suc, ◌≤◌, Bool, true, false, cond, List, [], ◌∷◌, ◌++◌, refl, sym, ◌∙◌, ap, subst, append_assoc, arith, Ok, Err, ◌⊎◌, inl, inr}
+use Rattle.std.proofs.Common.{◌≡◌, ℕ, zero, suc, ◌≤◌, true, false, List, [], ◌∷◌, refl, ◌∙◌, ap, arith, ◌⊎◌, inl, inr}
 use Rattle.pb_fixpoint.specs.declared.Sign.{Sign}
 use Rattle.pb_fixpoint.specs.declared.Sign.TheVariants as sign
 use Rattle.pb_text_tree.specs.Form.{VariableForm, InstanceForm, RangeForm, EquationForm, SpecForm}
 use Rattle.pb_text_tree.specs.declared.operator.Connective.TheVariants as connective
-use Rattle.pb_text_lexer.specs.declared.fault.ReadingRule.TheVariants.{Unexpected, Limit}
-use Rattle.pb_text_lexer.specs.declared.fault.Refusal.{Refusal}
+use Rattle.pb_text_lexer.specs.declared.fault.ReadingRule.TheVariants.{Limit}
 use Rattle.pb_text_lexer.specs.declared.kind.Kind.{Kind}
 use Rattle.pb_text_lexer.specs.declared.kind.Kind.TheVariants as k
-use Rattle.pb_text_lexer.specs.Kinds.{same_kind, is_last, is_limited}
+use Rattle.pb_text_lexer.specs.Kinds.{same_kind, is_limited}
 use Rattle.pb_text_lexer.specs.Grammar.{State, WithinLimits, going_on, Is, One, First, CountedApart}
 use Rattle.pb_text_lexer.specs.Grammar as grammar
 use Rattle.pb_text_lexer.specs.LeftGrammar.{Extended}
-use Rattle.pb_text_lexer.specs.Steps.{ends, Outcome, and_then, pure, take_token, expect, refuse, refusal, kind, head_kind, unless_next}
-use Rattle.pb_text_lexer.specs.Steps as step
+use Rattle.pb_text_lexer.specs.Steps.{pure, take_token, expect, kind, unless_next}
 use Rattle.pb_text_lexer.specs.Tokens.{Tok}
-use Rattle.pb_text_lexer.proofs.TokenLemmas.{kind-same, same-kind}
-use Rattle.pb_text_lexer.proofs.Correct.{st, Family, Stops, never, stops-never, GoesOn, goes-ended, reaches-read, readable-is, readable-one, some-token, Took, Answers, Answering, Correct, move, then-correct, HeadIs, take-correct, expect-correct, refused-here, unlike, Free, Readable, goes-free, free-to, free-then, free-one}
+use Rattle.pb_text_lexer.proofs.Correct.{st, Family, Stops, never, readable-is, readable-one, Answering, Correct, then-correct, HeadIs, take-correct, expect-correct, refused-here, Free, Readable, goes-free, free-to, free-then, free-one}
 use Rattle.pb_text_lexer.proofs.CorrectFamilies.{Nowhere, first-correct, deeper, deeper-correct, alike-correct, own-correct}
 use Rattle.pb_text_lexer.proofs.CorrectSeries.{going, Passes, head-at}
 use Rattle.pb_text_lexer.proofs.CorrectPlain.{Always, anywhere, then-plain, is-correct, nothing-correct}
@@ -25,36 +22,13 @@ use Rattle.pb_text_terms.specs.Grammar.{Name, Variables, Instance, IsTerm}
 use Rattle.pb_text_terms.specs.Reading.{name, variables, is_open, is_comma}
 use Rattle.pb_text_terms.specs.Reading as expressions
 use Rattle.pb_text_formulas.specs.Grammar.{IsFormula, SortParts}
-use Rattle.pb_text.specs.Grammar.{SignOf, Declared, IsEquation, Equations, IsInitialInstance, IsSpec, IsText}
-use Rattle.pb_text.specs.Parsing.{BeginsText, StaysWithin}
+use Rattle.pb_text.specs.Grammar.{SignOf, Declared, IsEquation, Equations, IsInitialInstance, IsSpec}
 use Rattle.pb_text_formulas.specs.Reading.{level, sort_parts}
-use Rattle.pb_text.specs.Reading.{sign_by, sign_of, declared, parameters, right_side, equation, begins_equation, equations, initial_instance, text, whole_text}
+use Rattle.pb_text.specs.Reading.{sign_by, sign_of, declared, parameters, right_side, equation, begins_equation, equations, initial_instance, text}
 use Rattle.pb_text_terms.proofs.CorrectVariable.{head-kind-is, name-correct, variables-correct}
 use Rattle.pb_text_terms.proofs.CorrectTerm.{instance-correct}
 use Rattle.pb_text_formulas.proofs.CorrectFormula.{node_goes, formula_goes, formulas-correct}
 use Rattle.pb_text_formulas.proofs.CorrectSorts.{passes-kind, head-of, other-stops, token-correct, many-correct, parts_go, sort_parts-correct}
-
--- Before one of the tokens a fault stands: no list that begins with those up to it, and it, is a text within the limits.
-pub record IsFault (depth operators : ℕ) (tokens : List Tok) (bad : Refusal) : Type 0 where
-  pub front : List Tok
-  pub next : Tok
-  pub more : List Tok
-  pub cut : tokens ≡ front ++ next ∷ more
-  pub kind : bad.kind ≡ next.kind
-  pub place : bad.place ≡ next.place
-  pub limited : bad.rule ≡ Limit → is_limited next.kind ≡ true
-  pub none : (d n : ℕ) (tail : List Tok) (ranges : List RangeForm) (y : SpecForm) → WithinLimits bad.rule depth operators d n → IsText d n (front ++ next ∷ tail) ranges y → ⊥
-  pub goes_on : BeginsText (suc depth) (suc operators) (front ++ going_on bad.rule next)
-  pub first : StaysWithin depth operators front
-
--- the tokens are this text, within the limits, and no other, within any
-pub record IsRead (depth operators : ℕ) (tokens : List Tok) (ranges : List RangeForm) (x : SpecForm) : Type 0 where
-  pub front : List Tok
-  pub end : Tok
-  pub cut : tokens ≡ front ++ end ∷ []
-  pub end_is : end.kind ≡ k.End
-  pub reads : IsText depth operators tokens ranges x
-  pub only : (d n : ℕ) (y : SpecForm) → IsText d n tokens ranges y → y ≡ x
 
 -- ---- signs
 
@@ -238,7 +212,7 @@ unfolding same_kind
 end-stops = refl
 
 module _ (ranges : List RangeForm) (depth : ℕ) where
-  text-correct : Correct Always (text ranges depth) (IsSpec ranges) never depth
+  pub text-correct : Correct Always (text ranges depth) (IsSpec ranges) never depth
   unfolding text
   text-correct =
       then-correct (λ d. SortParts)
@@ -277,13 +251,8 @@ module _ (ranges : List RangeForm) (depth : ℕ) where
       (λ d x m y z r over. other-stops node_goes k.Semicolon m.tokens r.1.tokens r.0 end-stops r.2.0 r.2.1) Always (initial_instance depth) _ (initial-correct depth)
       (λ initial. anywhere (Stops node_goes) _ _ never depth (token-correct k.Semicolon depth (record { sorts = sorts; ranges = ranges; equations = found; initial = initial }) refl))))))))
 
--- A refusal is the same whatever the range lines are.
-abbrev pub Reading : List RangeForm → ℕ → State → Outcome SpecForm → Type 0
-Reading ranges depth s (Ok r) = IsRead depth s.operators s.tokens ranges r.0
-Reading ranges depth s (Err bad) = IsFault depth s.operators s.tokens bad
-
 -- the same with other range lines
-other-ranges : (rs us : List RangeForm) (d : ℕ) (s : State) (y : SpecForm) (z : State) → IsSpec us d s y z → IsSpec rs d s (record y { ranges = rs }) z
+pub other-ranges : (rs us : List RangeForm) (d : ℕ) (s : State) (y : SpecForm) (z : State) → IsSpec us d s y z → IsSpec rs d s (record y { ranges = rs }) z
 other-ranges rs us d s y z r =
     let p = r.3 in
     let e = p.3 in
@@ -293,109 +262,7 @@ other-ranges rs us d s y z r =
     (r.0, r.1, r.2, (p.0, p.1, p.2, (e.0, e.1, e.2, (i.0, i.1, i.2, (n.0, n.1, n.2, (c.0, c.1, c.2, (ap (λ (v : SpecForm). record v { ranges = rs }) c.3.0, c.3.1)))))))
 
 -- its ranges are those
-ranges-are : (rs : List RangeForm) (d : ℕ) (s : State) (y : SpecForm) (z : State) → IsSpec rs d s y z → y ≡ record y { ranges = rs }
+pub ranges-are : (rs : List RangeForm) (d : ℕ) (s : State) (y : SpecForm) (z : State) → IsSpec rs d s y z → y ≡ record y { ranges = rs }
 ranges-are rs d s y z r =
     let e : y.ranges ≡ rs = ap (λ (v : SpecForm). v.ranges) r.3.3.3.3.3.3.0 in
     ap (λ (v : List RangeForm). record y { ranges = v }) e
-
-pub with-ranges : (rs : List RangeForm) (depth operators : ℕ) (tokens : List Tok) (x : SpecForm) → IsRead depth operators tokens [] x → IsRead depth operators tokens rs (record x { ranges = rs })
-with-ranges rs depth operators tokens x a = record {
-  front = a.front;
-  end = a.end;
-  cut = a.cut;
-  end_is = a.end_is;
-  reads = (a.reads.0, a.reads.1, other-ranges rs [] depth _ x _ a.reads.2, a.reads.3);
-  only = λ d n y r.
-      ranges-are rs d _ y _ r.2 ∙ ap (λ (v : SpecForm). record v { ranges = rs }) (a.only d n (record y { ranges = [] }) (r.0, r.1, other-ranges [] rs d _ y _ r.2, r.3));
-}
-
-pub whole-reads : (ranges : List RangeForm) (depth : ℕ) (s : State) → ends s.tokens ≡ true → Reading ranges depth s (whole_text ranges depth s)
-unfolding whole_text
-whole-reads ranges depth s ended = at-text (text ranges depth s) ((text-correct ranges depth).answers s ended tt)
-  where
-    end-only : (ts : List Tok) → ends ts ≡ true → same_kind (step.head_kind ts) k.End ≡ true → (t : Tok) × (ts ≡ t ∷ []) × (t.kind ≡ k.End)
-    end-only [] e same = cc
-    end-only (t ∷ []) e same = (t, refl, kind-same t.kind k.End same)
-    end-only (t ∷ u ∷ ts) e same =
-        let last : is_last t.kind ≡ true = ap is_last (kind-same t.kind k.End same) in
-        let none : ends (t ∷ u ∷ ts) ≡ false = ap (λ v. cond v false (ends (u ∷ ts))) last in
-        let apart : false ≡ true = sym none ∙ e in
-        absurd (let never : ⊥ = cc in never)
-
-    is-end : (t u : Tok) (ts us : List Tok) → u ∷ us ≡ t ∷ ts → u.kind ≡ k.End → same_kind t.kind k.End ≡ false → ⊥
-    is-end t u ts us e end other =
-        let p : u ≡ t = cc in let q : t.kind ≡ k.End = sym (ap (λ v. v.kind) p) ∙ end in
-        let r : same_kind t.kind k.End ≡ true = subst (λ (v : Kind). same_kind t.kind v ≡ true) q (same-kind t.kind) in cc
-
-    found : (x : SpecForm) (z : State) → Took (IsSpec ranges) never depth s x z → (t : Tok) → z.tokens ≡ t ∷ [] → t.kind ≡ k.End → IsRead depth s.operators s.tokens ranges x
-    found x z a t is end = record {
-      front = a.front;
-      end = t;
-      cut = a.tokens ∙ ap (λ v. a.front ++ v) is;
-      end_is = end;
-      reads = (
-        z.operators,
-        t,
-        move (IsSpec ranges depth) (a.front ++ t ∷ []) s.tokens s.operators s.operators x
-            (st (t ∷ []) z.operators) (sym (a.tokens ∙ ap (λ v. a.front ++ v) is)) refl (a.reads (t ∷ [])),
-        end,
-      );
-      only = λ d n y r.
-          (a.only d n (t ∷ []) y (st (r.1 ∷ []) r.0) (stops-never (t ∷ []))
-          (move (IsSpec ranges d) s.tokens (a.front ++ t ∷ []) n n y (st (r.1 ∷ []) r.0) (a.tokens ∙ ap (λ v. a.front ++ v) is) refl r.2) (stops-never (r.1 ∷ []))).0;
-    }
-
-    begins : (level n : ℕ) (ts : List Tok) → GoesOn (IsSpec ranges) level n ts → BeginsText level n ts
-    begins level n ts a = record {
-      tail = a.tail ++ some-token k.End ∷ [];
-      ranges = ranges;
-      text = a.value;
-      says = (
-        a.left,
-        some-token k.End,
-        move (IsSpec ranges level) ((ts ++ a.tail) ++ some-token k.End ∷ []) (ts ++ (a.tail ++ some-token k.End ∷ [])) n n a.value (st (some-token k.End ∷ []) a.left)
-            (append_assoc ts a.tail (some-token k.End ∷ [])) refl (a.reads (some-token k.End ∷ [])),
-        refl,
-      );
-    }
-
-    not-end : (x : SpecForm) (z : State) → Took (IsSpec ranges) never depth s x z → (ts : List Tok) → z.tokens ≡ ts → ends ts ≡ true → same_kind (step.head_kind ts) k.End ≡ false
-        → IsFault depth s.operators s.tokens (refusal Unexpected ts)
-    not-end x z a [] is e other = cc
-    not-end x z a (t ∷ ts) is e other = record {
-      front = a.front;
-      next = t;
-      more = ts;
-      cut = a.tokens ∙ ap (λ v. a.front ++ v) is;
-      kind = refl;
-      place = refl;
-      limited = λ q. absurd (unlike q);
-      goes_on = begins (suc depth) (suc s.operators) (a.front ++ []) (goes-ended (IsSpec ranges) (suc depth) (suc s.operators) (suc z.operators) a.front x a.one_more);
-      first = λ before behind u e lim.
-          begins depth s.operators (before ++ u ∷ []) (reaches-read (IsSpec ranges) depth s.operators z.operators a.front x a.reads before behind u e lim);
-      none = λ d n tail us y within r.
-          let same = other-ranges ranges us d _ y _ r.2 in
-          is-end t r.1 tail [] (a.only d n (t ∷ tail) (record y { ranges = ranges }) (st (r.1 ∷ []) r.0) (stops-never (t ∷ tail)) same (stops-never (r.1 ∷ []))).1 r.3 other;
-    }
-
-    at-kind : (x : SpecForm) (z : State) → Took (IsSpec ranges) never depth s x z → (b : Bool) → same_kind (kind z) k.End ≡ b
-        → Reading ranges depth s (cond b (pure x) (refuse Unexpected) z)
-    at-kind x z a true same = let e = end-only z.tokens a.ended same in found x z a e.0 e.1 e.2
-    at-kind x z a false other = not-end x z a z.tokens refl a.ended other
-
-    at-text : (o : Outcome SpecForm) → Answers (IsSpec ranges) never depth s o
-        → Reading ranges depth s (and_then o (λ x. step.◌>>=◌ step.peek (λ last. cond (same_kind last k.End) (pure x) (refuse Unexpected))))
-    at-text (Ok r) a = at-kind r.0 r.1 a (same_kind (kind r.1) k.End) refl
-    at-text (Err bad) a = record {
-      front = a.front;
-      next = a.next;
-      more = a.more;
-      cut = a.tokens;
-      kind = a.kind;
-      place = a.place;
-      limited = a.limited;
-      goes_on = begins (suc depth) (suc s.operators) (a.front ++ going_on bad.rule a.next) a.goes_on;
-      first = λ before behind u e lim. begins depth s.operators (before ++ u ∷ []) (a.first before behind u e lim);
-      none = λ d n tail us y within r.
-          let same = other-ranges ranges us d _ y _ r.2 in a.none d n tail (record y { ranges = ranges }) (st (r.1 ∷ []) r.0) within same (stops-never (r.1 ∷ []));
-    }
