@@ -1,20 +1,15 @@
 -- Steps, properties and whole models are read rightly.
-use Rattle.std.proofs.Common.{◌≡◌, ℕ, suc, Bool, true, false, cond, List, [], ◌∷◌, ◌++◌, refl, sym, ◌∙◌, ap, subst, append_assoc, Ok, Err, ◌⊎◌, inl, inr}
+use Rattle.std.proofs.Common.{◌≡◌, ℕ, suc, Bool, false, List, [], ◌∷◌, refl, ap, ◌⊎◌, inl, inr}
 use Rattle.pb_text_tree.specs.Form.{RangeForm}
 use Rattle.pb_protocol_tree.specs.Form.{AssignmentForm, StepForm, PropertyForm, ProtocolForm}
-use Rattle.pb_text_lexer.specs.declared.fault.ReadingRule.TheVariants.{Unexpected, Limit}
-use Rattle.pb_text_lexer.specs.declared.fault.Refusal.{Refusal}
 use Rattle.pb_text_lexer.specs.declared.kind.Kind.{Kind}
 use Rattle.pb_text_lexer.specs.declared.kind.Kind.TheVariants as k
-use Rattle.pb_text_lexer.specs.Kinds.{same_kind, is_last, is_limited}
-use Rattle.pb_text_lexer.specs.Grammar.{State, WithinLimits, going_on, Reads, Is, One, CountedApart}
+use Rattle.pb_text_lexer.specs.Kinds.{same_kind}
+use Rattle.pb_text_lexer.specs.Grammar.{State, Reads, Is, One, CountedApart}
 use Rattle.pb_text_lexer.specs.Grammar as grammar
 use Rattle.pb_text_lexer.specs.LeftGrammar.{Listed}
-use Rattle.pb_text_lexer.specs.Steps.{ends, Step, Outcome, and_then, pure, take_token, expect, refuse, refusal, kind, head_kind, nothing_between}
-use Rattle.pb_text_lexer.specs.Steps as step
-use Rattle.pb_text_lexer.specs.Tokens.{Tok}
-use Rattle.pb_text_lexer.proofs.TokenLemmas.{kind-same, same-kind}
-use Rattle.pb_text_lexer.proofs.Correct.{st, Stops, never, GoesOn, goes-ended, reaches-read, some-token, Took, Answers, Answering, Correct, HeadIs, move, then-correct, take-correct, expect-correct, unlike}
+use Rattle.pb_text_lexer.specs.Steps.{take_token, expect, kind}
+use Rattle.pb_text_lexer.proofs.Correct.{Stops, never, Answering, Correct, HeadIs, then-correct, take-correct, expect-correct}
 use Rattle.pb_text_lexer.proofs.CorrectFamilies.{Nowhere, first-correct, own-correct}
 use Rattle.pb_text_lexer.proofs.CorrectSeries.{going, Passes, head-at}
 use Rattle.pb_text_lexer.proofs.CorrectPlain.{Always, anywhere, then-plain, nothing-correct}
@@ -30,35 +25,12 @@ use Rattle.pb_text_formulas.specs.Reading.{is_name_kind, sort_parts}
 use Rattle.pb_text.specs.Reading.{parameters}
 use Rattle.pb_text_formulas.proofs.CorrectSorts.{passes-kind, token-correct, many-correct, parts_go, sort_parts-correct}
 use Rattle.pb_text.proofs.CorrectText.{parameters_of, parameters-correct}
-use Rattle.pb_model_text.specs.Grammar.{IsFormula, IsInstance, StateVariables, Definitions, IsAssignment, AssignedBy, Assigned, IsStep, Steps, IsInitialState, IsProperty, Properties, IsModel, IsModelText}
-use Rattle.pb_model_text.specs.Parsing.{BeginsModel, ModelStaysWithin}
-use Rattle.pb_model_text.specs.Reading.{is_property, formula, state_variables, definitions, assignment, assignments, assigned_by, assigned, step_parts, steps, initial_parts, initial, property_parts, property, properties, model, whole_model}
+use Rattle.pb_model_text.specs.Grammar.{IsFormula, IsInstance, StateVariables, Definitions, IsAssignment, AssignedBy, Assigned, IsStep, Steps, IsInitialState, IsProperty, Properties, IsModel}
+use Rattle.pb_model_text.specs.Reading.{is_property, formula, state_variables, definitions, assignment, assignments, assigned_by, assigned, step_parts, steps, initial_parts, initial, property_parts, property, properties, model}
 use Rattle.pb_model_text.specs.Reading as reading
 use Rattle.pb_model_text.proofs.CorrectInstances.{instance-correct, instance-starts}
 use Rattle.pb_model_text.proofs.CorrectState.{state_variables-correct, definitions-correct}
 use Rattle.pb_model_text.proofs.CorrectFormula.{formula_goes, formulas-correct}
-
--- Before one of the tokens a fault stands: no list that begins with those up to it, and it, is a model within the limits.
-pub record IsFault (depth operators : ℕ) (tokens : List Tok) (bad : Refusal) : Type 0 where
-  pub front : List Tok
-  pub next : Tok
-  pub more : List Tok
-  pub cut : tokens ≡ front ++ next ∷ more
-  pub kind : bad.kind ≡ next.kind
-  pub place : bad.place ≡ next.place
-  pub limited : bad.rule ≡ Limit → is_limited next.kind ≡ true
-  pub none : (d n : ℕ) (tail : List Tok) (ranges : List RangeForm) (y : ProtocolForm) → WithinLimits bad.rule depth operators d n → IsModelText d n (front ++ next ∷ tail) ranges y → ⊥
-  pub goes_on : BeginsModel (suc depth) (suc operators) (front ++ going_on bad.rule next)
-  pub first : ModelStaysWithin depth operators front
-
--- the tokens are this model, within the limits, and no other, within any
-pub record IsRead (depth operators : ℕ) (tokens : List Tok) (ranges : List RangeForm) (x : ProtocolForm) : Type 0 where
-  pub front : List Tok
-  pub end : Tok
-  pub cut : tokens ≡ front ++ end ∷ []
-  pub end_is : end.kind ≡ k.End
-  pub reads : IsModelText depth operators tokens ranges x
-  pub only : (d n : ℕ) (y : ProtocolForm) → IsModelText d n tokens ranges y → y ≡ x
 
 -- ---- steps
 
@@ -232,12 +204,12 @@ init-stops : steps_go k.Init ≡ false
 unfolding same_kind
 init-stops = refl
 
-end-stops : (t : Tok) → t.kind ≡ k.End → Stops properties_go (t ∷ [])
+pub end-stops : properties_go k.End ≡ false
 unfolding same_kind
-end-stops t is = subst (λ (v : Kind). properties_go v ≡ false) (sym is) refl
+end-stops = refl
 
 module _ (ranges : List RangeForm) (depth : ℕ) where
-  model-correct : Correct Always (model ranges depth) (IsModel ranges) properties_go depth
+  pub model-correct : Correct Always (model ranges depth) (IsModel ranges) properties_go depth
   unfolding model
   model-correct =
       then-correct (λ d. SortParts) _ parts_go properties_go depth
@@ -272,13 +244,8 @@ module _ (ranges : List RangeForm) (depth : ℕ) where
         properties = asked;
       }) properties_go depth Always (properties depth) (properties-correct depth))))))))))))
 
--- A refusal is the same whatever the range lines are.
-abbrev pub Reading : List RangeForm → ℕ → State → Outcome ProtocolForm → Type 0
-Reading ranges depth s (Ok r) = IsRead depth s.operators s.tokens ranges r.0
-Reading ranges depth s (Err bad) = IsFault depth s.operators s.tokens bad
-
 -- the same with other range lines
-other-ranges : (rs us : List RangeForm) (d : ℕ) (s : State) (y : ProtocolForm) (z : State) → IsModel us d s y z → IsModel rs d s (record y { ranges = rs }) z
+pub other-ranges : (rs us : List RangeForm) (d : ℕ) (s : State) (y : ProtocolForm) (z : State) → IsModel us d s y z → IsModel rs d s (record y { ranges = rs }) z
 other-ranges rs us d s y z r =
     let p = r.3 in
     let e = p.3 in
@@ -320,110 +287,7 @@ other-ranges rs us d s y z r =
     )
 
 -- its ranges are those
-ranges-are : (rs : List RangeForm) (d : ℕ) (s : State) (y : ProtocolForm) (z : State) → IsModel rs d s y z → y ≡ record y { ranges = rs }
+pub ranges-are : (rs : List RangeForm) (d : ℕ) (s : State) (y : ProtocolForm) (z : State) → IsModel rs d s y z → y ≡ record y { ranges = rs }
 ranges-are rs d s y z r =
     let e : y.ranges ≡ rs = ap (λ (v : ProtocolForm). v.ranges) r.3.3.3.3.3.3.3.3.3.0 in
     ap (λ (v : List RangeForm). record y { ranges = v }) e
-
-pub with-ranges : (rs : List RangeForm) (depth operators : ℕ) (tokens : List Tok) (x : ProtocolForm) → IsRead depth operators tokens [] x → IsRead depth operators tokens rs (record x { ranges = rs })
-with-ranges rs depth operators tokens x a = record {
-  front = a.front;
-  end = a.end;
-  cut = a.cut;
-  end_is = a.end_is;
-  reads = (a.reads.0, a.reads.1, other-ranges rs [] depth _ x _ a.reads.2, a.reads.3);
-  only = λ d n y r.
-      ranges-are rs d _ y _ r.2 ∙ ap (λ (v : ProtocolForm). record v { ranges = rs }) (a.only d n (record y { ranges = [] }) (r.0, r.1, other-ranges [] rs d _ y _ r.2, r.3));
-}
-
-pub whole-reads : (ranges : List RangeForm) (depth : ℕ) (s : State) → ends s.tokens ≡ true → Reading ranges depth s (whole_model ranges depth s)
-unfolding whole_model
-whole-reads ranges depth s ended = at-model (model ranges depth s) ((model-correct ranges depth).answers s ended tt)
-  where
-    end-only : (ts : List Tok) → ends ts ≡ true → same_kind (step.head_kind ts) k.End ≡ true → (t : Tok) × (ts ≡ t ∷ []) × (t.kind ≡ k.End)
-    end-only [] e same = cc
-    end-only (t ∷ []) e same = (t, refl, kind-same t.kind k.End same)
-    end-only (t ∷ u ∷ ts) e same =
-        let last : is_last t.kind ≡ true = ap is_last (kind-same t.kind k.End same) in
-        let none : ends (t ∷ u ∷ ts) ≡ false = ap (λ v. cond v false (ends (u ∷ ts))) last in
-        let apart : false ≡ true = sym none ∙ e in
-        absurd (let never : ⊥ = cc in never)
-
-    is-end : (t u : Tok) (ts us : List Tok) → u ∷ us ≡ t ∷ ts → u.kind ≡ k.End → same_kind t.kind k.End ≡ false → ⊥
-    is-end t u ts us e end other =
-        let p : u ≡ t = cc in let q : t.kind ≡ k.End = sym (ap (λ v. v.kind) p) ∙ end in
-        let r : same_kind t.kind k.End ≡ true = subst (λ (v : Kind). same_kind t.kind v ≡ true) q (same-kind t.kind) in cc
-
-    found : (x : ProtocolForm) (z : State) → Took (IsModel ranges) properties_go depth s x z → (t : Tok) → z.tokens ≡ t ∷ [] → t.kind ≡ k.End → IsRead depth s.operators s.tokens ranges x
-    found x z a t is end = record {
-      front = a.front;
-      end = t;
-      cut = a.tokens ∙ ap (λ v. a.front ++ v) is;
-      end_is = end;
-      reads = (
-        z.operators,
-        t,
-        move (IsModel ranges depth) (a.front ++ t ∷ []) s.tokens s.operators s.operators x
-            (st (t ∷ []) z.operators) (sym (a.tokens ∙ ap (λ v. a.front ++ v) is)) refl (a.reads (t ∷ [])),
-        end,
-      );
-      only = λ d n y r.
-          (a.only d n (t ∷ []) y (st (r.1 ∷ []) r.0) (end-stops t end)
-          (move (IsModel ranges d) s.tokens (a.front ++ t ∷ []) n n y (st (r.1 ∷ []) r.0) (a.tokens ∙ ap (λ v. a.front ++ v) is) refl r.2) (end-stops r.1 r.3)).0;
-    }
-
-    begins : (level n : ℕ) (ts : List Tok) → GoesOn (IsModel ranges) level n ts → BeginsModel level n ts
-    begins level n ts a = record {
-      tail = a.tail ++ some-token k.End ∷ [];
-      ranges = ranges;
-      model = a.value;
-      says = (
-        a.left,
-        some-token k.End,
-        move (IsModel ranges level) ((ts ++ a.tail) ++ some-token k.End ∷ []) (ts ++ (a.tail ++ some-token k.End ∷ [])) n n a.value (st (some-token k.End ∷ []) a.left)
-            (append_assoc ts a.tail (some-token k.End ∷ [])) refl (a.reads (some-token k.End ∷ [])),
-        refl,
-      );
-    }
-
-    not-end : (x : ProtocolForm) (z : State) → Took (IsModel ranges) properties_go depth s x z → (ts : List Tok) → z.tokens ≡ ts → ends ts ≡ true → same_kind (step.head_kind ts) k.End ≡ false
-        → IsFault depth s.operators s.tokens (refusal Unexpected ts)
-    not-end x z a [] is e other = cc
-    not-end x z a (t ∷ ts) is e other = record {
-      front = a.front;
-      next = t;
-      more = ts;
-      cut = a.tokens ∙ ap (λ v. a.front ++ v) is;
-      kind = refl;
-      place = refl;
-      limited = λ q. absurd (unlike q);
-      goes_on = begins (suc depth) (suc s.operators) (a.front ++ []) (goes-ended (IsModel ranges) (suc depth) (suc s.operators) (suc z.operators) a.front x a.one_more);
-      first = λ before behind u e lim.
-          begins depth s.operators (before ++ u ∷ []) (reaches-read (IsModel ranges) depth s.operators z.operators a.front x a.reads before behind u e lim);
-      none = λ d n tail us y within r.
-          let same = other-ranges ranges us d _ y _ r.2 in
-          let stops : Stops properties_go (t ∷ tail) = subst (λ (v : List Tok). Stops properties_go v) is a.stops in
-          is-end t r.1 tail [] (a.only d n (t ∷ tail) (record y { ranges = ranges }) (st (r.1 ∷ []) r.0) stops same (end-stops r.1 r.3)).1 r.3 other;
-    }
-
-    at-kind : (x : ProtocolForm) (z : State) → Took (IsModel ranges) properties_go depth s x z → (b : Bool) → same_kind (kind z) k.End ≡ b
-        → Reading ranges depth s (cond b (pure x) (refuse Unexpected) z)
-    at-kind x z a true same = let e = end-only z.tokens a.ended same in found x z a e.0 e.1 e.2
-    at-kind x z a false other = not-end x z a z.tokens refl a.ended other
-
-    at-model : (o : Outcome ProtocolForm) → Answers (IsModel ranges) properties_go depth s o
-        → Reading ranges depth s (and_then o (λ x. step.◌>>=◌ step.peek (λ last. cond (same_kind last k.End) (pure x) (refuse Unexpected))))
-    at-model (Ok r) a = at-kind r.0 r.1 a (same_kind (kind r.1) k.End) refl
-    at-model (Err bad) a = record {
-      front = a.front;
-      next = a.next;
-      more = a.more;
-      cut = a.tokens;
-      kind = a.kind;
-      place = a.place;
-      limited = a.limited;
-      goes_on = begins (suc depth) (suc s.operators) (a.front ++ going_on bad.rule a.next) a.goes_on;
-      first = λ before behind u e lim. begins depth s.operators (before ++ u ∷ []) (a.first before behind u e lim);
-      none = λ d n tail us y within r.
-          let same = other-ranges ranges us d _ y _ r.2 in a.none d n tail (record y { ranges = ranges }) (st (r.1 ∷ []) r.0) within same (end-stops r.1 r.3);
-    }

@@ -1,13 +1,11 @@
 -- Words, and what begins with a word or without, are read rightly.
-use Rattle.std.proofs.Common.{◌≡◌, ℕ, suc, ◌+◌, Bool, true, false, cond, List, [], ◌∷◌, ◌++◌, refl, sym, ◌∙◌, ap, subst, append_assoc, zero-add, inl, inr, arith, Ok, Err, Option, Some, None}
+use Rattle.std.proofs.Common.{◌≡◌, ℕ, suc, ◌+◌, Bool, true, false, cond, List, [], ◌∷◌, refl, sym, ◌∙◌, ap, subst, zero-add, inl, inr, arith, Ok, Err, Option, Some, None}
 use Rattle.pb_text_tree.specs.declared.place.Place.{Place}
-use Rattle.pb_text_lexer.specs.declared.fault.ReadingRule.{ReadingRule}
-use Rattle.pb_text_lexer.specs.declared.fault.ReadingRule.TheVariants.{Unexpected, Limit}
-use Rattle.pb_text_lexer.specs.declared.fault.Refusal.{Refusal}
+use Rattle.pb_text_lexer.specs.declared.fault.ReadingRule.TheVariants.{Unexpected}
 use Rattle.pb_text_lexer.specs.declared.kind.Kind.{Kind}
 use Rattle.pb_text_lexer.specs.declared.kind.Kind.TheVariants as k
 use Rattle.pb_text_lexer.specs.Kinds.{same_kind, is_last, is_limited}
-use Rattle.pb_text_lexer.specs.Grammar.{State, WithinLimits, going_on}
+use Rattle.pb_text_lexer.specs.Grammar.{State}
 use Rattle.pb_text_lexer.specs.OpenGrammar.{Either}
 use Rattle.pb_text_lexer.specs.Grammar as grammar
 use Rattle.pb_text_lexer.specs.Steps.{ends, Step, Outcome, and_then, take_token, refuse}
@@ -16,10 +14,11 @@ use Rattle.std.proofs.lemmas.List.{append-nil}
 use Rattle.pb_text_lexer.specs.Lexing.{start}
 use Rattle.pb_text_lexer.specs.Tokens.{Tok, token_at}
 use Rattle.pb_text_lexer.proofs.TokenLemmas.{ends-behind, kind-same, same-kind}
-use Rattle.pb_text_lexer.proofs.Correct.{st, Family, Stops, never, stops-never, Readable, GoesOn, goes-free, goes-to, free-to, free-then, reaches-none, reaches-to, reaches-unlimited, Unlimited, unlimited-one, then-took, then-refused, one-took, unlike, Took, Refused, Answers, Answering, Correct}
+use Rattle.pb_text_lexer.proofs.Correct.{st, Family, Stops, never, stops-never, Readable, goes-free, free-to, free-then, reaches-none, reaches-unlimited, Unlimited, unlimited-one, then-took, then-refused, one-took, unlike, Took, Answers, Answering, Correct}
 use Rattle.pb_text_lexer.proofs.CorrectSeries.{Passes}
 use Rattle.pb_text_lexer.proofs.CorrectPlain.{Always}
 use Rattle.pb_model_text.specs.Grammar.{Word, begins_word, Wordless}
+use Rattle.pb_model_text.proofs.CorrectFirst.{asked-answers, told-answers}
 use Rattle.pb_model_text.specs.Reading.{word_at, word_taken, take_word}
 
 -- ---- a word
@@ -141,22 +140,6 @@ module _ {W : Type 0} (of : List ℕ → Option W) (one : HasWord of) where
 
 -- ---- what begins with a word, and what doesn't
 
--- whether a list that has a token begins with a word does not depend on what follows
-same-front : (front a b ts : List Tok) → ts ≡ front ++ a → Passes (λ kind. true) (front ++ []) → begins_word (front ++ b) ≡ begins_word ts
-same-front [] a b ts e some = absurd some
-same-front (f ∷ fs) a b ts e some = ap begins_word (sym e)
-
-same-next : (front : List Tok) (next : Tok) (a b ts : List Tok) → ts ≡ front ++ next ∷ a → begins_word ((front ++ next ∷ []) ++ b) ≡ begins_word ts
-same-next [] next a b ts e = ap begins_word (sym e)
-same-next (f ∷ fs) next a b ts e = ap begins_word (sym e)
-
-next-same : (front : List Tok) (next : Tok) (a b ts : List Tok) → ts ≡ front ++ next ∷ a → begins_word (front ++ next ∷ b) ≡ begins_word ts
-next-same [] next a b ts e = ap begins_word (sym e)
-next-same (f ∷ fs) next a b ts e = ap begins_word (sym e)
-
-same-first : (f : Tok) (a b ts : List Tok) → ts ≡ f ∷ a → begins_word (f ∷ b) ≡ begins_word ts
-same-first f a b ts e = ap begins_word (sym e)
-
 not-both : (ts : List Tok) → begins_word ts ≡ true → begins_word ts ≡ false → ⊥
 not-both ts a b = let e : true ≡ false = sym a ∙ b in cc
 
@@ -166,60 +149,8 @@ module _ {X : Type 0} (fam : Family X) (g : Kind → Bool) (depth : ℕ)
   abbrev without : Family X
   without d = Wordless (fam d)
 
-  took : (s : State) (x : X) (z : State) → begins_word s.tokens ≡ false → Took fam g depth s x z → Took without g depth s x z
-  took s x z h a = record {
-    front = a.front;
-    used = a.used;
-    tokens = a.tokens;
-    operators = a.operators;
-    stops = a.stops;
-    ended = a.ended;
-    reads = λ after. (heads after, a.reads after);
-    only = λ d n after y w stop r over. a.only d n after y w stop r.1 over;
-    one_more = λ after. (heads after, a.one_more after);
-  }
-    where
-      heads : (after : List Tok) → begins_word (a.front ++ after) ≡ false
-      heads after = same-front a.front z.tokens after s.tokens a.tokens (starts depth _ x _ (a.reads [])) ∙ h
-
-  -- what goes on goes on so
-  goes-with : (level n : ℕ) (ts : List Tok) → ((b : List Tok) → begins_word (ts ++ b) ≡ false) → GoesOn fam level n ts → GoesOn without level n ts
-  goes-with level n ts heads c = record {
-    tail = c.tail;
-    value = c.value;
-    left = c.left;
-    reads = λ after. (subst (λ (v : List Tok). begins_word v ≡ false) (sym (append_assoc ts c.tail after)) (heads (c.tail ++ after)), c.reads after);
-  }
-
-  goes : (rule : ReadingRule) (front : List Tok) (next : Tok) (n : ℕ) (more ts : List Tok) → ts ≡ front ++ next ∷ more → begins_word ts ≡ false
-      → GoesOn fam (suc depth) n (front ++ going_on rule next) → GoesOn without (suc depth) n (front ++ going_on rule next)
-  goes Unexpected [] next n more ts e h c = goes-free without (suc depth) n [] some
-  goes Unexpected (f ∷ fs) next n more ts e h c =
-      goes-with (suc depth) n (f ∷ fs ++ []) (λ b. same-first f (fs ++ next ∷ more) ((fs ++ []) ++ b) ts e ∙ h) c
-  goes Limit front next n more ts e h c = goes-with (suc depth) n (front ++ next ∷ []) (λ b. same-next front next more b ts e ∙ h) c
-
-  refused : (s : State) (bad : Refusal) → begins_word s.tokens ≡ false → Refused fam g depth s bad → Refused without g depth s bad
-  refused s bad h a = record {
-    front = a.front;
-    next = a.next;
-    more = a.more;
-    tokens = a.tokens;
-    kind = a.kind;
-    place = a.place;
-    limited = a.limited;
-    none = λ d n tail y w within r over. a.none d n tail y w within r.1 over;
-    goes_on = goes bad.rule a.front a.next (suc s.operators) a.more s.tokens a.tokens h a.goes_on;
-    first = λ before behind t e lim.
-        goes-with depth s.operators (before ++ t ∷ []) (λ b. same-next before t (behind ++ a.next ∷ a.more) b s.tokens
-        (a.tokens ∙ ap (λ v. v ++ a.next ∷ a.more) e ∙ append_assoc before (t ∷ behind) (a.next ∷ a.more)) ∙ h) (a.first before behind t e lim);
-  }
-
   pub wordless-answers : (p : Step X) → Answering Always p fam g depth → Answering (λ ts. begins_word ts ≡ false) p without g depth
-  wordless-answers p right s end h = went (p s) (right s end tt)
-    where
-      went : (o : Outcome X) → Answers fam g depth s o → Answers without g depth s o
-      went (Ok r) a = took s r.0 r.1 h a
-      went (Err bad) a = refused s bad h a
+  wordless-answers = asked-answers (λ ts. begins_word ts ≡ false) (λ ts. begins_word ts ≡ false) (λ f a b h. h) fam g depth starts some
 
   -- a word is refused
   pub wordless-correct : (p : Step X) → Answering Always p fam g depth → Correct Always (λ s. cond (begins_word s.tokens) (refuse Unexpected s) (p s)) without g depth
@@ -255,77 +186,13 @@ module _ {X : Type 0} (fam other : Family X) (g : Kind → Bool) (depth : ℕ)
   right : (d : ℕ) (s : State) (x : X) (z : State) → other d s x z → one-of d s x z
   right d s x z r = inr r
 
-  left-took : (s : State) (x : X) (z : State) → Took fam g depth s x z → Took one-of g depth s x z
-  left-took s x z a = record {
-    front = a.front;
-    used = a.used;
-    tokens = a.tokens;
-    operators = a.operators;
-    stops = a.stops;
-    ended = a.ended;
-    reads = λ after. inl (a.reads after);
-    only = λ d n after y w stop r over. only d n after y w stop r over;
-    one_more = λ after. inl (a.one_more after);
-  }
-    where
-      only : (d n : ℕ) (after : List Tok) (y : X) (w : State) → Stops g after → one-of d (st (a.front ++ after) n) y w → Stops g w.tokens
-          → (y ≡ x) × (w.tokens ≡ after) × (n ≡ a.used + w.operators)
-      only d n after y w stop (inl r) over = a.only d n after y w stop r over
-      only d n after y w stop (inr r) over = absurd (not-both (a.front ++ after) (starts' d _ y w r) (starts depth (st (a.front ++ after) s.operators) x (st after z.operators) (a.reads after)))
+  told-left : (d : ℕ) (s : State) (x : X) (z : State) → begins_word s.tokens ≡ false → one-of d s x z → fam d s x z
+  told-left d s x z h (inl r) = r
+  told-left d s x z h (inr r) = absurd (not-both s.tokens (starts' d s x z r) h)
 
-  right-took : (s : State) (x : X) (z : State) → Took other g depth s x z → Took one-of g depth s x z
-  right-took s x z a = record {
-    front = a.front;
-    used = a.used;
-    tokens = a.tokens;
-    operators = a.operators;
-    stops = a.stops;
-    ended = a.ended;
-    reads = λ after. inr (a.reads after);
-    only = λ d n after y w stop r over. only d n after y w stop r over;
-    one_more = λ after. inr (a.one_more after);
-  }
-    where
-      only : (d n : ℕ) (after : List Tok) (y : X) (w : State) → Stops g after → one-of d (st (a.front ++ after) n) y w → Stops g w.tokens
-          → (y ≡ x) × (w.tokens ≡ after) × (n ≡ a.used + w.operators)
-      only d n after y w stop (inr r) over = a.only d n after y w stop r over
-      only d n after y w stop (inl r) over = absurd (not-both (a.front ++ after) (starts' depth (st (a.front ++ after) s.operators) x (st after z.operators) (a.reads after)) (starts d _ y w r))
-
-  left-refused : (s : State) (bad : Refusal) → begins_word s.tokens ≡ false → Refused fam g depth s bad → Refused one-of g depth s bad
-  left-refused s bad head a = record {
-    front = a.front;
-    next = a.next;
-    more = a.more;
-    tokens = a.tokens;
-    kind = a.kind;
-    place = a.place;
-    limited = a.limited;
-    none = λ d n tail y w within r over. none d n tail y w within r over;
-    goes_on = goes-to fam one-of (λ v. v) (suc depth) (suc depth) (suc s.operators) (left (suc depth)) (a.front ++ going_on bad.rule a.next) a.goes_on;
-    first = reaches-to fam one-of (λ v. v) depth depth s.operators (left depth) a.front a.first;
-  }
-    where
-      none : (d n : ℕ) (tail : List Tok) (y : X) (w : State) → WithinLimits bad.rule depth s.operators d n → one-of d (st (a.front ++ a.next ∷ tail) n) y w → Stops g w.tokens → ⊥
-      none d n tail y w within (inl r) over = a.none d n tail y w within r over
-      none d n tail y w within (inr r) over = not-both _ (starts' d _ y w r) (next-same a.front a.next a.more tail s.tokens a.tokens ∙ head)
-
-  right-refused : (s : State) (bad : Refusal) → begins_word s.tokens ≡ true → Refused other g depth s bad → Refused one-of g depth s bad
-  right-refused s bad head a = record {
-    front = a.front;
-    next = a.next;
-    more = a.more;
-    tokens = a.tokens;
-    kind = a.kind;
-    place = a.place;
-    limited = a.limited;
-    none = λ d n tail y w within r over. none d n tail y w within r over;
-    goes_on = goes-to other one-of (λ v. v) (suc depth) (suc depth) (suc s.operators) (right (suc depth)) (a.front ++ going_on bad.rule a.next) a.goes_on;
-    first = reaches-to other one-of (λ v. v) depth depth s.operators (right depth) a.front a.first;
-  }
-    where
-      none : (d n : ℕ) (tail : List Tok) (y : X) (w : State) → WithinLimits bad.rule depth s.operators d n → one-of d (st (a.front ++ a.next ∷ tail) n) y w → Stops g w.tokens → ⊥
-      none d n tail y w within (inr r) over = a.none d n tail y w within r over
-      none d n tail y w within (inl r) over = not-both _ (next-same a.front a.next a.more tail s.tokens a.tokens ∙ head) (starts d _ y w r)
+  told-right : (d : ℕ) (s : State) (x : X) (z : State) → begins_word s.tokens ≡ true → one-of d s x z → other d s x z
+  told-right d s x z h (inr r) = r
+  told-right d s x z h (inl r) = absurd (not-both s.tokens h (starts d s x z r))
 
   pub by-word-correct : (p q : Step X) → Answering (λ ts. begins_word ts ≡ false) p fam g depth → Answering Always q other g depth
       → Readable fam depth → Readable fam (suc depth) → Correct Always (λ s. cond (begins_word s.tokens) (q s) (p s)) one-of g depth
@@ -335,14 +202,6 @@ module _ {X : Type 0} (fam other : Family X) (g : Kind → Bool) (depth : ℕ)
     some = free-to fam one-of (λ v. v) (suc depth) (suc depth) (left (suc depth)) [] some;
   }
     where
-      as-left : (s : State) (o : Outcome X) → begins_word s.tokens ≡ false → Answers fam g depth s o → Answers one-of g depth s o
-      as-left s (Ok r) h a = left-took s r.0 r.1 a
-      as-left s (Err bad) h a = left-refused s bad h a
-
-      as-right : (s : State) (o : Outcome X) → begins_word s.tokens ≡ true → Answers other g depth s o → Answers one-of g depth s o
-      as-right s (Ok r) h a = right-took s r.0 r.1 a
-      as-right s (Err bad) h a = right-refused s bad h a
-
       tested : (s : State) → ends s.tokens ≡ true → (b : Bool) → begins_word s.tokens ≡ b → Answers one-of g depth s (cond b (q s) (p s))
-      tested s end true h = as-right s (q s) h (right-q s end tt)
-      tested s end false h = as-left s (p s) h (right-p s end h)
+      tested s end true h = told-answers other one-of g depth (λ ts. begins_word ts ≡ true) (λ f a b h. h) starts' right told-right s (q s) h (right-q s end tt)
+      tested s end false h = told-answers fam one-of g depth (λ ts. begins_word ts ≡ false) (λ f a b h. h) starts left told-left s (p s) h (right-p s end h)

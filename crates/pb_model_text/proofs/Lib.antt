@@ -1,6 +1,7 @@
 pub mod PairLemmas
 pub mod CorrectInstances
 pub mod CorrectStepSets
+pub mod CorrectFirst
 pub mod CorrectBeginning
 pub mod PlainLemmas
 pub mod AtomLemmas
