@@ -14,78 +14,61 @@ use Rattle.pb_text_tree.specs.Form.{Named, VariableForm, TermForm, ArgumentForms
 use Rattle.pb_text_lexer.specs.declared.kind.Kind.{Kind}
 use Rattle.pb_text_lexer.specs.declared.kind.Kind.TheVariants as k
 use Rattle.pb_text_lexer.specs.Tokens.{Tok}
-use Rattle.pb_text_lexer.specs.Grammar.{State, Reads, Is, Nothing, One, First}
+use Rattle.pb_text_lexer.specs.Grammar.{State, Reads, Nothing, One}
 use Rattle.pb_text_lexer.specs.Grammar as grammar
-use Rattle.pb_text_lexer.specs.OpenGrammar.{last}
 use Rattle.pb_text_lexer.specs.LeftGrammar.{Listed, Linked, LeftChain, Comparison as Compares}
 use Rattle.pb_text_lexer.specs.Steps.{head_place}
 use Rattle.pb_text_lexer.proofs.Correct.{st}
+use Rattle.pb_text_lexer.proofs.CorrectFamilies.{deeper}
 use Rattle.pb_text_terms.specs.Operators.{is_equality, is_order, comparison_of, compared_by, arithmetic_of, computed_by}
 use Rattle.pb_text_terms.specs.Grammar.{Placed, Instance, arguments_of, applied, Begun, Product, Sum, Ordered, Equated, Quantified, IsUnary, IsTerm}
 use Rattle.pb_text_printer.specs.declared.level.Level.{Level}
 use Rattle.pb_text_printer.specs.declared.level.Level.TheVariants as level
 use Rattle.pb_text_printer.specs.Unplaced.{nowhere, unplaced_name, unplaced_term, unplaced_arguments, unplaced_instance}
-use Rattle.pb_text_printer.specs.Words.{Spells, Word, name_word, list_words, more_words, open_word, close_word, put, fits, needs_no_brackets, goes_on, arithmetic_side, arithmetic_word, chains_with, comparison_side, comparison_word, connective_level, term_side, term_words}
+use Rattle.pb_text_printer.specs.Words.{Spells, Word, name_word, truth_word, not_word, minus_word, list_words, more_words, put, fits, needs_no_brackets, goes_on, arithmetic_side, arithmetic_word, chains_with, comparison_side, comparison_word, connective_level, term_side, term_words}
 use Rattle.pb_text_printer.specs.Sayable.{operators, list_operators, IsPut, IsName, IsSayable, MoreSayable, SomeSayable}
-use Rattle.pb_text_printer.proofs.BackLemmas.{Split, spells-split, Back, Restores, at-end, at-last, first-back, quantified-back}
-use Rattle.pb_text_printer.proofs.BackConnected.{Ended, ended, LevelOf, SideOf, connected-back}
+use Rattle.pb_text_printer.proofs.BackLemmas.{Split, spells-split, Back, Restores, at-last, first-back, quantified-back}
+use Rattle.pb_text_printer.proofs.BackConnected.{Ended, ended, SideOf}
+use Rattle.pb_text_printer.proofs.BackLevel as levels
 use Rattle.pb_text_printer.proofs.SayableLemmas.{needs_no_brackets-whole}
 use Rattle.pb_text_printer.proofs.BackLinks.{append-link}
 
 -- ---- what is read within so many levels
 
-abbrev pub UnaryBelow : ℕ → Reads TermForm
-UnaryBelow zero = Nothing
-UnaryBelow (suc d) = IsUnary d
-
 abbrev pub TermBelow : ℕ → Reads TermForm
-TermBelow zero = Nothing
-TermBelow (suc d) = IsTerm d
+TermBelow = deeper IsTerm
 
-pub begins : (d : ℕ) (kind : Kind) (s : List Tok) (a : ℕ) (y : TermForm) (z : State) (t : Tok) (m : List Tok) → s ≡ t ∷ m → t.kind ≡ kind
-    → Begun (UnaryBelow d) (TermBelow d) kind (st s a) y z → IsUnary d (st s a) y z
+begins : (d : ℕ) (kind : Kind) (s : List Tok) (a : ℕ) (y : TermForm) (z : State) (t : Tok) (m : List Tok) → s ≡ t ∷ m → t.kind ≡ kind
+    → Begun (deeper IsUnary d) (TermBelow d) kind (st s a) y z → IsUnary d (st s a) y z
 begins zero kind s a y z t m e f h = first-back (Begun Nothing Nothing) kind s a y z t m e f h
 begins (suc d) kind s a y z t m e f h = first-back (Begun (IsUnary d) (IsTerm d)) kind s a y z t m e f h
 
-abbrev pub NodeAt : ℕ → Reads TermForm
-NodeAt d = Equated (IsUnary d)
+-- what is read at the levels below the connectives
+abbrev BelowAt : Level → ℕ → Reads TermForm
+BelowAt level.Order d = Ordered (IsUnary d)
+BelowAt level.Sum d = Sum (IsUnary d)
+BelowAt level.Product d = Product (IsUnary d)
+BelowAt level.Unary d = IsUnary d
+BelowAt _ d = Equated (IsUnary d)
 
-abbrev pub QuantifiedAt : ℕ → Reads TermForm
+abbrev QuantifiedAt : ℕ → Reads TermForm
 QuantifiedAt d = Quantified TermForm.quantified (TermBelow d)
 
-abbrev pub ConnectedAt : Connective → Bool → ℕ → Reads TermForm
-ConnectedAt c ends d = LevelOf TermForm.connected (NodeAt d) (QuantifiedAt d) c ends
+abbrev LevelAt : Level → Bool → ℕ → Reads TermForm
+LevelAt = levels.LevelAt TermForm.connected BelowAt QuantifiedAt
 
--- what is read where a level is asked for
-abbrev pub LevelAt : Level → Bool → ℕ → Reads TermForm
-LevelAt level.Implication ends d = ConnectedAt connective.Implies ends d
-LevelAt level.Disjunction ends d = ConnectedAt connective.Or ends d
-LevelAt level.Conjunction ends d = ConnectedAt connective.And ends d
-LevelAt level.Equality ends d = Ended ends (NodeAt d) (QuantifiedAt d)
-LevelAt level.Order ends d = Ended ends (Ordered (IsUnary d)) (QuantifiedAt d)
-LevelAt level.Sum ends d = Ended ends (Sum (IsUnary d)) (QuantifiedAt d)
-LevelAt level.Product ends d = Ended ends (Product (IsUnary d)) (QuantifiedAt d)
-LevelAt level.Unary ends d = Ended ends (IsUnary d) (QuantifiedAt d)
-
-pub whole-reads : (d : ℕ) (s z : State) (x : TermForm) → LevelAt level.Implication true d s x z → IsTerm d s x z
+whole-reads : (d : ℕ) (s z : State) (x : TermForm) → LevelAt level.Implication true d s x z → IsTerm d s x z
 whole-reads zero s z x h = h
 whole-reads (suc d) s z x h = h
 
 -- ---- looser levels
 
-from-equality : (l : Level) (ends : Bool) (d : ℕ) (s z : State) (x : TermForm) → fits level.Equality l ≡ true → Ended ends (NodeAt d) (QuantifiedAt d) s x z → LevelAt l ends d s x z
-from-equality level.Implication ends d s z x e h = last (last (last h))
-from-equality level.Disjunction ends d s z x e h = last (last h)
-from-equality level.Conjunction ends d s z x e h = last h
-from-equality level.Equality ends d s z x e h = h
-from-equality level.Order ends d s z x e h = cc
-from-equality level.Sum ends d s z x e h = cc
-from-equality level.Product ends d s z x e h = cc
-from-equality level.Unary ends d s z x e h = cc
+from-equality : (l : Level) (ends : Bool) (d : ℕ) (s z : State) (x : TermForm) → fits level.Equality l ≡ true → Ended ends (Equated (IsUnary d)) (QuantifiedAt d) s x z → LevelAt l ends d s x z
+from-equality = levels.from-equality TermForm.connected BelowAt QuantifiedAt
 
 from-order : (l : Level) (ends : Bool) (d : ℕ) (s z : State) (x : TermForm) → fits level.Order l ≡ true → Ordered (IsUnary d) s x z → LevelAt l ends d s x z
 from-order level.Order ends d s z x e h = ended ends (Ordered (IsUnary d)) (QuantifiedAt d) s x z h
-from-order l ends d s z x e h = from-equality l ends d s z x (cc) (ended ends (NodeAt d) (QuantifiedAt d) s x z (inl h))
+from-order l ends d s z x e h = from-equality l ends d s z x (cc) (ended ends (Equated (IsUnary d)) (QuantifiedAt d) s x z (inl h))
 
 from-sum : (l : Level) (ends : Bool) (d : ℕ) (s z : State) (x : TermForm) → fits level.Sum l ≡ true → Sum (IsUnary d) s x z → LevelAt l ends d s x z
 from-sum level.Sum ends d s z x e h = ended ends (Sum (IsUnary d)) (QuantifiedAt d) s x z h
@@ -115,37 +98,17 @@ OperandAt _ d = IsUnary d
 abbrev ChainAt : Arithmetic → ℕ → Reads TermForm
 ChainAt o d = grammar.◌>>=◌ (OperandAt o d) (Linked (chains_with o) computed_by (OperandAt o d))
 
-abbrev pub ReadingOf : TermForm → Bool → ℕ → Reads TermForm
-ReadingOf (TermForm.connected c p x y) ends d = ConnectedAt c ends d
+abbrev ReadingOf : TermForm → Bool → ℕ → Reads TermForm
+ReadingOf (TermForm.connected c p x y) ends d = levels.ConnectedAt TermForm.connected BelowAt QuantifiedAt c ends d
 ReadingOf (TermForm.compared c p x y) ends d = ComparedAt c d
 ReadingOf (TermForm.computed o p x y) ends d = ChainAt o d
 ReadingOf (TermForm.quantified q p vars x) ends d = QuantifiedAt d
 ReadingOf _ ends d = IsUnary d
 
-own-connected : (c : Connective) (l : Level) (ends : Bool) (d : ℕ) (s z : State) (y : TermForm) → fits (connective_level c) l ≡ true → ConnectedAt c ends d s y z → LevelAt l ends d s y z
-own-connected connective.And level.Conjunction ends d s z y e h = h
-own-connected connective.And level.Disjunction ends d s z y e h = last h
-own-connected connective.And level.Implication ends d s z y e h = last (last h)
-own-connected connective.Or level.Disjunction ends d s z y e h = h
-own-connected connective.Or level.Implication ends d s z y e h = last h
-own-connected connective.Implies level.Implication ends d s z y e h = h
-own-connected _ _ ends d s z y e h = cc
-
-own-quantified : (l : Level) (ends : Bool) (d : ℕ) (s z : State) (y : TermForm) → ends ≡ true → QuantifiedAt d s y z → LevelAt l ends d s y z
-own-quantified l false d s z y e h = cc
-own-quantified level.Implication true d s z y e h = last (last (last (inr h)))
-own-quantified level.Disjunction true d s z y e h = last (last (inr h))
-own-quantified level.Conjunction true d s z y e h = last (inr h)
-own-quantified level.Equality true d s z y e h = inr h
-own-quantified level.Order true d s z y e h = inr h
-own-quantified level.Sum true d s z y e h = inr h
-own-quantified level.Product true d s z y e h = inr h
-own-quantified level.Unary true d s z y e h = inr h
-
 own-level : (x : TermForm) (l : Level) (ends : Bool) (d : ℕ) (s z : State) (y : TermForm) → needs_no_brackets x l ends ≡ true → ReadingOf x ends d s y z → LevelAt l ends d s y z
-own-level (TermForm.connected c p x w) l ends d s z y e h = own-connected c l ends d s z y e h
-own-level (TermForm.compared comparison.Equal p x w) l ends d s z y e h = from-equality l ends d s z y e (ended ends (NodeAt d) (QuantifiedAt d) s y z h)
-own-level (TermForm.compared comparison.NotEqual p x w) l ends d s z y e h = from-equality l ends d s z y e (ended ends (NodeAt d) (QuantifiedAt d) s y z h)
+own-level (TermForm.connected c p x w) l ends d s z y e h = levels.own-connected TermForm.connected BelowAt QuantifiedAt c l ends d s z y e h
+own-level (TermForm.compared comparison.Equal p x w) l ends d s z y e h = from-equality l ends d s z y e (ended ends (Equated (IsUnary d)) (QuantifiedAt d) s y z h)
+own-level (TermForm.compared comparison.NotEqual p x w) l ends d s z y e h = from-equality l ends d s z y e (ended ends (Equated (IsUnary d)) (QuantifiedAt d) s y z h)
 own-level (TermForm.compared comparison.Less p x w) l ends d s z y e h = from-order l ends d s z y e h
 own-level (TermForm.compared comparison.LessEqual p x w) l ends d s z y e h = from-order l ends d s z y e h
 own-level (TermForm.compared comparison.Greater p x w) l ends d s z y e h = from-order l ends d s z y e h
@@ -155,7 +118,7 @@ own-level (TermForm.computed arithmetic.Minus p x w) l ends d s z y e h = from-s
 own-level (TermForm.computed arithmetic.Times p x w) l ends d s z y e (u, m, r, q) = from-product l ends d s z y e (inr (u, m, r, inl q))
 own-level (TermForm.computed arithmetic.Div p x w) l ends d s z y e (u, m, r, q) = from-product l ends d s z y e (inr (u, m, r, inr q))
 own-level (TermForm.computed arithmetic.Mod p x w) l ends d s z y e (u, m, r, q) = from-product l ends d s z y e (inr (u, m, r, inr q))
-own-level (TermForm.quantified q p vars x) l ends d s z y e h = own-quantified l ends d s z y e h
+own-level (TermForm.quantified q p vars x) l ends d s z y e h = levels.own-quantified TermForm.connected BelowAt QuantifiedAt l ends d s z y e h
 own-level (TermForm.constant p value) l ends d s z y e h = from-unary l ends d s z y h
 own-level (TermForm.number p n) l ends d s z y e h = from-unary l ends d s z y h
 own-level (TermForm.name n) l ends d s z y e h = from-unary l ends d s z y h
@@ -169,41 +132,17 @@ own-level (TermForm.application f xs) l ends d s z y e h = from-unary l ends d s
 abbrev pub PlainBack : TermForm → Type 0
 PlainBack x = (ends : Bool) (d : ℕ) → IsSayable x ends d → Restores (ReadingOf x ends d) unplaced_term x (operators x) (term_words x ends)
 
-bracketed-back : (x : TermForm) (d : ℕ) → PlainBack x → IsSayable x true d → Restores (IsUnary (suc d)) unplaced_term x (operators x) (open_word ∷ term_words x true ++ close_word ∷ [])
-bracketed-back x d plain h s r a b e (t, m, f, i, z, rest) = go (spells-split (term_words x true) (close_word ∷ []) m r rest)
-  where
-    go : Split (term_words x true) (close_word ∷ []) m r → Back (IsUnary (suc d)) unplaced_term x (st s a) (st r b)
-    go cut = last-of cut.mid (plain true d h m cut.mid a b e cut.front) cut.back
-      where
-        last-of : (mid : List Tok) → Back (ReadingOf x true d) unplaced_term x (st m a) (st mid b) → Spells (close_word ∷ []) mid r → Back (IsUnary (suc d)) unplaced_term x (st s a) (st r b)
-        last-of mid p (u, n, g, j, y, end) = record {
-          said = p.said;
-          reads = begins (suc d) k.Open s a p.said (st r b) t m f i (
-            t,
-            st m a,
-            (f, i, refl),
-            (
-              p.said,
-              st mid b,
-              whole-reads d (st m a) (st mid b) p.said (own-level x level.Implication true d (st m a) (st mid b) p.said (needs_no_brackets-whole x) p.reads),
-              (u, st n b, (g, j, refl), (refl, at-end n r b b end refl)),
-            ),
-          );
-          same = p.same;
-        }
+whole-own : (x : TermForm) (d : ℕ) (s z : State) (y : TermForm) → ReadingOf x true d s y z → IsTerm d s y z
+whole-own x d s z y h = whole-reads d s z y (own-level x level.Implication true d s z y (needs_no_brackets-whole x) h)
 
-pub put-back : (x : TermForm) (l : Level) (ends : Bool) (d : ℕ) → PlainBack x → IsPut (needs_no_brackets x l ends) (IsSayable x) ends d
+pub whole-back : (x : TermForm) (d : ℕ) → PlainBack x → IsSayable x true d → Restores (IsTerm d) unplaced_term x (operators x) (term_words x true)
+whole-back x d plain = levels.whole-back IsUnary IsTerm (λ d. begins (suc d) k.Open) unplaced_term x (operators x) (term_words x) (IsSayable x) (ReadingOf x) (whole-own x) plain d
+
+put-back : (x : TermForm) (l : Level) (ends : Bool) (d : ℕ) → PlainBack x → IsPut (needs_no_brackets x l ends) (IsSayable x) ends d
     → Restores (LevelAt l ends d) unplaced_term x (operators x) (put (needs_no_brackets x l ends) (term_words x) ends)
-put-back x l ends d plain h s r a b e w = go (needs_no_brackets x l ends) refl d h w
-  where
-    go : (v : Bool) → needs_no_brackets x l ends ≡ v → (d : ℕ) → IsPut v (IsSayable x) ends d → Spells (put v (term_words x) ends) s r → Back (LevelAt l ends d) unplaced_term x (st s a) (st r b)
-    go true f d h w =
-        let p = plain ends d h s r a b e w in
-        record { said = p.said; reads = own-level x l ends d (st s a) (st r b) p.said f p.reads; same = p.same }
-    go false f zero h w = absurd h
-    go false f (suc d) h w =
-        let p = bracketed-back x d plain h s r a b e w in
-        record { said = p.said; reads = from-unary l ends (suc d) (st s a) (st r b) p.said p.reads; same = p.same }
+put-back x l ends d plain =
+    levels.put-back IsUnary IsTerm (λ d. begins (suc d) k.Open) unplaced_term x (operators x) (term_words x) (IsSayable x) (ReadingOf x) (whole-own x) plain
+    (needs_no_brackets x l ends) ends (LevelAt l ends) (λ e d s z y. own-level x l ends d s z y e) (from-unary l ends) d
 
 -- ---- chains to the left
 
@@ -318,12 +257,7 @@ compared-back comparison.LessEqual p x y d us vs left right = comparison-back is
 compared-back comparison.Greater p x y d us vs left right = comparison-back is_order comparison.Greater refl (Sum (IsUnary d)) p x y us vs left right
 compared-back comparison.GreaterEqual p x y d us vs left right = comparison-back is_order comparison.GreaterEqual refl (Sum (IsUnary d)) p x y us vs left right
 
--- ---- whole terms and arguments
-
-pub whole-back : (x : TermForm) (d : ℕ) → PlainBack x → IsSayable x true d → Restores (IsTerm d) unplaced_term x (operators x) (term_words x true)
-whole-back x d plain h s r a b e w =
-    let p = plain true d h s r a b e w in
-    record { said = p.said; reads = whole-reads d (st s a) (st r b) p.said (own-level x level.Implication true d (st s a) (st r b) p.said (needs_no_brackets-whole x) p.reads); same = p.same }
+-- ---- arguments
 
 -- arguments and the bracket behind them
 pub record ListBack (d : ℕ) (xs : ArgumentForms) (s z : State) : Type 0 where
@@ -419,20 +353,8 @@ applied-back n xs d back h s r a b e w =
 -- ---- all terms
 
 constant-back : (p : Place) (value : Bool) → PlainBack (TermForm.constant p value)
-constant-back p true ends d h s r a b e (t, m, f, i, z, end) =
-    record {
-      said = TermForm.constant t.place true;
-      reads =
-          begins d k.True s a (TermForm.constant t.place true) (st r b) t m f i (t, st m a, (f, i, refl), (refl, at-last m r a b end e));
-      same = refl;
-    }
-constant-back p false ends d h s r a b e (t, m, f, i, z, end) =
-    record {
-      said = TermForm.constant t.place false;
-      reads =
-          begins d k.False s a (TermForm.constant t.place false) (st r b) t m f i (t, st m a, (f, i, refl), (refl, at-last m r a b end e));
-      same = refl;
-    }
+constant-back p true ends d h = levels.mark-back (IsUnary d) unplaced_term (truth_word true) (λ p. TermForm.constant p true) (λ p o. refl) (begins d k.True) p
+constant-back p false ends d h = levels.mark-back (IsUnary d) unplaced_term (truth_word false) (λ p. TermForm.constant p false) (λ p o. refl) (begins d k.False) p
 
 number-back : (p : Place) (n : ℕ) → PlainBack (TermForm.number p n)
 number-back p n ends d h s r a b e (t, m, f, i, z, end) =
@@ -445,43 +367,27 @@ number-back p n ends d h s r a b e (t, m, f, i, z, end) =
     }
 
 not-back : (p : Place) (x : TermForm) → PlainBack x → PlainBack (TermForm.not p x)
-not-back p x plain ends zero h s r a b e w = absurd h
-not-back p x plain ends (suc d) h s r a b e (t, m, f, i, z, rest) =
-    let g = put-back x level.Unary false d plain h m r a b e rest in
-    record {
-      said = TermForm.not t.place g.said;
-      reads = begins (suc d) k.Not s a (TermForm.not t.place g.said) (st r b) t m f i (t, st m a, (f, i, refl), (g.said, st r b, g.reads, (refl, refl)));
-      same = ap (λ v. TermForm.not nowhere v) g.same;
-    }
+not-back p x plain ends zero h = absurd h
+not-back p x plain ends (suc d) h =
+    levels.prefixed-back (IsUnary (suc d)) unplaced_term not_word TermForm.not (λ p o x y e. ap (λ v. TermForm.not nowhere v) e) (IsUnary d) (begins (suc d) k.Not) p x (operators x)
+    (put (needs_no_brackets x level.Unary false) (term_words x) false) (put-back x level.Unary false d plain h)
 
 negative-back : (p : Place) (x : TermForm) → PlainBack x → PlainBack (TermForm.negative p x)
-negative-back p x plain ends zero h s r a b e w = absurd h
-negative-back p x plain ends (suc d) h s r a b e (t, m, f, i, z, rest) =
-    let g = put-back x level.Unary false d plain h m r a b e rest in
-    record {
-      said = TermForm.negative t.place g.said;
-      reads = begins (suc d) k.Minus s a (TermForm.negative t.place g.said) (st r b) t m f i (t, st m a, (f, i, refl), (g.said, st r b, g.reads, (refl, refl)));
-      same = ap (λ v. TermForm.negative nowhere v) g.same;
-    }
+negative-back p x plain ends zero h = absurd h
+negative-back p x plain ends (suc d) h =
+    levels.prefixed-back (IsUnary (suc d)) unplaced_term minus_word TermForm.negative (λ p o x y e. ap (λ v. TermForm.negative nowhere v) e) (IsUnary d) (begins (suc d) k.Minus) p x (operators x)
+    (put (needs_no_brackets x level.Unary false) (term_words x) false) (put-back x level.Unary false d plain h)
 
-level-back : (c : Connective) (ends : Bool) (d : ℕ) (x : TermForm) (n : ℕ) (ws : List Word) → Restores (LevelAt (connective_level c) ends d) unplaced_term x n ws
-    → Restores (ConnectedAt c ends d) unplaced_term x n ws
-level-back connective.And ends d x n ws h = h
-level-back connective.Or ends d x n ws h = h
-level-back connective.Implies ends d x n ws h = h
+sides : (c : Connective) (d : ℕ) (s z : State) (x : TermForm) → LevelAt (term_side c) false d s x z → SideOf TermForm.connected (Equated (IsUnary d)) c s x z
+sides connective.And d s z x h = h
+sides connective.Or d s z x h = h
+sides connective.Implies d s z x h = h
 
-side-back : (c : Connective) (d : ℕ) (x : TermForm) (n : ℕ) (ws : List Word) → Restores (LevelAt (term_side c) false d) unplaced_term x n ws
-    → Restores (SideOf TermForm.connected (NodeAt d) c) unplaced_term x n ws
-side-back connective.And d x n ws h = h
-side-back connective.Or d x n ws h = h
-side-back connective.Implies d x n ws h = h
-
-connects-back : (c : Connective) (p : Place) (x y : TermForm) → PlainBack x → PlainBack y → PlainBack (TermForm.connected c p x y)
+pub connects-back : (c : Connective) (p : Place) (x y : TermForm) → PlainBack x → PlainBack y → PlainBack (TermForm.connected c p x y)
 connects-back c p x y first second ends d h =
-    connected-back TermForm.connected (NodeAt d) (QuantifiedAt d) unplaced_term (λ c p o x y u v e f. cc) c ends p x y (operators x) (operators y)
-    (put (needs_no_brackets x (term_side c) false) (term_words x) false) (put (needs_no_brackets y (connective_level c) ends) (term_words y) ends)
-    (side-back c d x (operators x) (put (needs_no_brackets x (term_side c) false) (term_words x) false) (put-back x (term_side c) false d first h.0))
-    (level-back c ends d y (operators y) (put (needs_no_brackets y (connective_level c) ends) (term_words y) ends) (put-back y (connective_level c) ends d second h.1))
+    levels.connects-back TermForm.connected BelowAt QuantifiedAt term_side sides unplaced_term (λ c p o x y u v e f. cc) c ends p x y (operators x) (operators y)
+    (put (needs_no_brackets x (term_side c) false) (term_words x) false) (put (needs_no_brackets y (connective_level c) ends) (term_words y) ends) d
+    (put-back x (term_side c) false d first h.0) (put-back y (connective_level c) ends d second h.1)
 
 quantifies-back : (q : Quantifier) (p : Place) (vars : List VariableForm) (x : TermForm) → PlainBack x → PlainBack (TermForm.quantified q p vars x)
 quantifies-back q p vars x plain ends zero h = absurd h.1

@@ -13,6 +13,7 @@ mod SaidFormula
 mod BackLemmas
 mod BackConnected
 mod BackLinks
+mod BackLevel
 mod BackTerm
 mod BackFormula
 mod SaidText
