@@ -8,7 +8,7 @@ use Rattle.pb_protocol_packing.specs.Packing.{capacity}
 use Rattle.pb_protocol_packing.specs.Unpacked.{unpacked}
 use Rattle.pb_protocol_packer.specs.declared.group.Group.{Group}
 use Rattle.pb_protocol_packer.specs.Groups.{group_of, groups_in}
-use Rattle.pb_model_words.specs.States.{number_after, numbers_after}
+use Rattle.pb_model_words.specs.States.{group_number_after, numbers_after}
 
 unpacked-more : (g : packing.Group) (gs : List packing.Group) (v : Value) (t : Tuple) → unpacked (g ∷ gs) (v ∷ t) ≡ unpacked (g ∷ []) (v ∷ []) ++ unpacked gs t
 unpacked-more (packing.Group.Alone x) gs v t = refl
@@ -20,7 +20,7 @@ values_after gs us vs = unpacked (groups_in gs) (numbers_after (groups_in gs) us
 
 -- those of one group
 abbrev pub group_after : Group → Value → Value → Tuple
-group_after g u v = unpacked (group_of g ∷ []) (number_after (group_of g) u v ∷ [])
+group_after g u v = unpacked (group_of g ∷ []) (group_number_after (group_of g) u v ∷ [])
 
 pub values-at : (gs : List Group) (us vs : Tuple) (k : ℕ) (d : Group) → k < length gs → k < length vs →
     values_after (drop k gs) (drop k us) (drop k vs) ≡ group_after (get_or gs k d) (get_or us k (pos 0)) (get_or vs k (pos 0)) ++ values_after (drop (suc k) gs) (drop (suc k) us) (drop (suc k) vs)

@@ -18,13 +18,13 @@ is_number (Joined x ps) v = is_below (capacity ps) v
 
 -- a group's number after a move. A value that isn't one, where the move leaves the ranges, says
 -- nothing of the group's variables: they count as they were before, or as those of 0.
-abbrev pub number_after : Group → Value → Value → Value
-number_after g u v = if is_number g v then v else (if is_number g u then u else pos 0)
+abbrev pub group_number_after : Group → Value → Value → Value
+group_number_after g u v = if is_number g v then v else (if is_number g u then u else pos 0)
 
 -- the numbers of all groups after a move, by their values before it and after
 abbrev pub numbers_after : List Group → Tuple → Tuple → Tuple
-numbers_after (g ∷ gs) (u ∷ us) (v ∷ vs) = number_after g u v ∷ numbers_after gs us vs
-numbers_after (g ∷ gs) [] (v ∷ vs) = number_after g (pos 0) v ∷ numbers_after gs [] vs
+numbers_after (g ∷ gs) (u ∷ us) (v ∷ vs) = group_number_after g u v ∷ numbers_after gs us vs
+numbers_after (g ∷ gs) [] (v ∷ vs) = group_number_after g (pos 0) v ∷ numbers_after gs [] vs
 numbers_after gs us vs = []
 
 -- the values of all variables after a move, where these are packed in groups or aren't

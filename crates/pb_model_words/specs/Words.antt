@@ -22,13 +22,13 @@ abbrev pub truth_text : Value → List ℕ
 truth_text v = if int_eq v (of_bool false) then codes "false" else codes "true"
 
 -- the name of an enumerator that may be missing
-abbrev pub name_of : Option Enumerator → List ℕ
-name_of None = []
-name_of (Some e) = e.name
+abbrev pub name_of_enumerator : Option Enumerator → List ℕ
+name_of_enumerator None = []
+name_of_enumerator (Some e) = e.name
 
 -- the enumerator at a place; nothing where there is none
 abbrev pub enumerator_text : List Enumerator → Value → List ℕ
-enumerator_text es (pos k) = name_of (slice_get es k)
+enumerator_text es (pos k) = name_of_enumerator (slice_get es k)
 enumerator_text es (negsuc k) = []
 
 -- by what the sort is declared to be; what isn't declared is a sort of whole numbers

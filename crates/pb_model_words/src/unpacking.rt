@@ -6,7 +6,7 @@ ghost use Rattle.pb_protocol_packing.specs.Packing as packing;
 ghost use Rattle.pb_protocol_packing.specs.Unpacked.{unpacked};
 ghost use Rattle.pb_protocol_packer.specs.Groups.{group_of, groups_in};
 ghost use Rattle.pb_protocol_packer.specs.Members.{members_said, syntax_variable};
-ghost use Rattle.pb_model_words.specs.States.{is_below, number_after, numbers_after};
+ghost use Rattle.pb_model_words.specs.States.{is_below, group_number_after, numbers_after};
 
 use pb_protocol_packer::{Group, Joined, unpack};
 use std::alloc::{AllocError, Global};
@@ -19,7 +19,7 @@ fn is_below(count: u32, value: i64) -> bool
 
 /// The number of a group after a move: where its value is none, the one before, or 0.
 fn number_after(joined: &Joined, before: i64, after: i64) -> i64
-    ensures number { result ≡ number_after (packing.Group.Joined (syntax_variable
+    ensures number { result ≡ group_number_after (packing.Group.Joined (syntax_variable
         joined.now.variable) (members_said joined.now.members.items)) before after }
     ensures small { result <ℤ pos (2 ^ 32) }
 {
@@ -48,7 +48,7 @@ fn push_values(
 ) -> Result<(), AllocError>
     ensures { OnOk result (state.new.items ≡ state.old.items
         ++ unpacked (group_of group.now ∷ [])
-        (number_after (group_of group.now) before after ∷ [])) }
+        (group_number_after (group_of group.now) before after ∷ [])) }
 {
     match group {
         Group::Alone(_) => Ok(state.push(after)?),

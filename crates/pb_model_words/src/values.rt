@@ -3,7 +3,7 @@
 ghost use Rattle.std.specs.Prelude.{◌≡◌, ◌++◌, OnOk, string_bytes};
 ghost use Rattle.std.specs.Prelude.{if◌then◌else◌};
 ghost use Rattle.std.specs.List.{slice_get};
-ghost use Rattle.pb_model_words.specs.Words.{binding_text, enumerator_text, name_of, truth_text};
+ghost use Rattle.pb_model_words.specs.Words.{binding_text, enumerator_text, name_of_enumerator, truth_text};
 ghost use Rattle.pb_model_words.specs.Words.{value_text};
 ghost use Rattle.pb_model_words.specs.View.{declarations, enumerators_said, variable_said, written};
 
@@ -26,7 +26,7 @@ fn truth_text(value: i64) -> &'static str
 
 /// The name of the enumerator at a place; where there is none, nothing.
 fn enumerator_at(enumerators: &[Enumerator], place: usize) -> &str
-    ensures { result.now ≡ name_of (slice_get (enumerators_said enumerators.now) place) }
+    ensures { result.now ≡ name_of_enumerator (slice_get (enumerators_said enumerators.now) place) }
 {
     match enumerators.get(place) {
         None => "",
