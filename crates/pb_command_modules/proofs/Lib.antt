@@ -1,3 +1,4 @@
 pub mod Deliveries
 mod Refusals
+pub mod Reports
 mod Texts

@@ -8,13 +8,12 @@ use Rattle.pb_bytecode.specs.Listing.{listing}
 use Rattle.pb_bytecode.specs.Meaning.{AreTrees}
 use Rattle.pb_exploration.specs.Rows.{AreReached}
 use Rattle.pb_evidence.specs.declared.Evidence.{Evidence}
-use Rattle.pb_report.specs.declared.answer.Answer.{Answer}
-use Rattle.pb_report.specs.Report.{report_text}
 use Rattle.pb_report.specs.ModuleEvidence.{IsModuleEvidence, module_evidence_text}
 use Rattle.pb_report.specs.ModuleTexts.{module_game_text, module_solution_text}
 use Rattle.pb_report.specs.ModuleTexts.{IsCertificateText, IsTextOfTrees}
 use Rattle.pb_command_solver.specs.Answers.{IsAnswerOf}
 use Rattle.pb_command_modules.specs.Answers.{IsAnswerOfCode, IsModuleOfCode, Spell}
+use Rattle.pb_command_modules.specs.Delivery.{IsReportOf}
 
 -- ---- of a verified module
 
@@ -26,7 +25,7 @@ IsTextOfReached m text written =
 
 -- the report of its answer
 abbrev pub WritesReport : Contents → List ℕ → Type 0
-WritesReport m written = (a : Answer) × IsAnswerOf m a × (written ≡ report_text a)
+WritesReport m written = IsReportOf (IsAnswerOf m) written
 
 -- the text of the game of its reached instances
 abbrev pub WritesGame : Contents → List ℕ → Type 0
@@ -62,4 +61,4 @@ WritesListing bytes written = (m : Contents) × Spell bytes m × (written ≡ li
 
 -- `solve-code`
 abbrev pub WritesAnswer : List ℕ → List ℕ → Type 0
-WritesAnswer bytes written = (a : Answer) × IsAnswerOfCode bytes a × (written ≡ report_text a)
+WritesAnswer bytes written = IsReportOf (IsAnswerOfCode bytes) written

@@ -1,13 +1,11 @@
 //! Modules that bytes spell: whether they are accepted, what they say, and their answers.
 ghost use Rattle.std.specs.Prelude.{IfOk};
 ghost use Rattle.pb_base.specs.OrMemory.{IfRefused};
-ghost use Rattle.std.specs.Io.KnownBytes.{Appends};
-ghost use Rattle.pb_report.specs.Report.{report_text};
 ghost use Rattle.pb_bytecode.specs.Decoded.{module_contents};
 ghost use Rattle.pb_command_modules.specs.Answers.{IsAnswerOfCode, IsModuleOfCode, Spell};
-ghost use Rattle.pb_command_modules.specs.Delivery.{DeliversOrRefuses};
+ghost use Rattle.pb_command_modules.specs.Delivery.{DeliversOrRefuses, ReportsOrRefuses};
 ghost use Rattle.pb_command_modules.specs.Refusals.{IsRefusedBytes, IsUnlisted, IsUnverified};
-ghost use Rattle.pb_command_modules.specs.Writes.{WritesAcceptance, WritesAnswer, WritesListing};
+ghost use Rattle.pb_command_modules.specs.Writes.{WritesAcceptance, WritesListing};
 
 use crate::delivery::deliver;
 use crate::module::write_report;
@@ -60,10 +58,7 @@ pub fn solve_code<R: Threads + Sync, G: Gate + Sync, S: Sink>(
     options: SolveOptions,
     writer: &mut S,
 ) -> Result<Answer, SolveError>
-    ensures answer { IfOk result (IsAnswerOfCode bytes.now) }
-    ensures report { IfOk result
-        (λ answer. Appends (S.taken writer.old) (S.taken writer.new) (report_text answer)) }
-    ensures written { DeliversOrRefuses (WritesAnswer bytes.now) (IsRefusedBytes bytes.now) result
+    ensures { ReportsOrRefuses (IsAnswerOfCode bytes.now) (IsRefusedBytes bytes.now) result
         S.Sink writer.old writer.new }
 {
     let verified = verified_code(context.alloc, bytes)?;

@@ -1,18 +1,14 @@
 //! The texts of a verified module: its report, its game, its solution, a certificate and its
 //! evidence.
-ghost use Rattle.std.specs.Prelude.{ℕ, Option, IfOk};
+ghost use Rattle.std.specs.Prelude.{IfOk};
 ghost use Rattle.pb_base.specs.OrMemory.{IfRefused};
-ghost use Rattle.pb_command_faults.specs.Errors.{IfInputRefused};
-ghost use Rattle.std.specs.Io.KnownBytes.{Appends};
-ghost use Rattle.pb_text_tree.specs.declared.place.Place.{Place};
-ghost use Rattle.pb_report.specs.Report.{report_text};
-ghost use Rattle.pb_report.specs.CallPlaces.{AreCallPlaces};
 ghost use Rattle.pb_report.specs.ModuleEvidence.{IsExplanation};
 ghost use Rattle.pb_command_solver.specs.Answers.{IsAnswerOf};
-ghost use Rattle.pb_command_modules.specs.Delivery.{Delivers, DeliversOrRefuses};
+ghost use Rattle.pb_command_modules.specs.Delivery.{ReportsOrRefuses};
+ghost use Rattle.pb_command_modules.specs.ModuleDelivery.{DeliversEvidence, DeliversOfModule};
+ghost use Rattle.pb_command_modules.specs.ModuleDelivery.{IsPlacedExplanation};
 ghost use Rattle.pb_command_modules.specs.Refusals.{IsRefusedModule};
-ghost use Rattle.pb_command_modules.specs.Writes.{WritesCertificate, WritesEvidence, WritesGame};
-ghost use Rattle.pb_command_modules.specs.Writes.{WritesReport, WritesSolution};
+ghost use Rattle.pb_command_modules.specs.Writes.{WritesCertificate, WritesGame, WritesSolution};
 
 use pb_base::OrMemory;
 use pb_command_faults::{SolveError, SolveFault};
@@ -43,11 +39,8 @@ pub fn write_report<R: Threads + Sync, G: Gate + Sync, S: Sink>(
     options: SolveOptions,
     writer: &mut S,
 ) -> Result<Answer, SolveError>
-    ensures answer { IfOk result (IsAnswerOf verified.now) }
-    ensures report { IfOk result
-        (λ answer. Appends (S.taken writer.old) (S.taken writer.new) (report_text answer)) }
-    ensures written { DeliversOrRefuses (WritesReport verified.now) (IsRefusedModule verified.now)
-        result S.Sink writer.old writer.new }
+    ensures { ReportsOrRefuses (IsAnswerOf verified.now) (IsRefusedModule verified.now) result
+        S.Sink writer.old writer.new }
 {
     let answer = answer_module(context, verified, options)?;
     report(context.alloc, &answer, writer)?;
@@ -64,8 +57,7 @@ pub fn write_game<R: Threads + Sync, G: Gate + Sync, S: Sink>(
     workers: Workers,
     writer: &mut S,
 ) -> Result<(), SolveError>
-    ensures { DeliversOrRefuses (WritesGame verified.now) (IsRefusedModule verified.now) result
-        S.Sink writer.old writer.new }
+    ensures { DeliversOfModule WritesGame verified.now result S.Sink writer.old writer.new }
 {
     let module = build_module(context, verified, workers)?;
     let reached = module.explored.rows();
@@ -83,8 +75,7 @@ pub fn write_solution<R: Threads + Sync, G: Gate + Sync, S: Sink>(
     options: SolveOptions,
     writer: &mut S,
 ) -> Result<(), SolveError>
-    ensures { DeliversOrRefuses (WritesSolution verified.now) (IsRefusedModule verified.now) result
-        S.Sink writer.old writer.new }
+    ensures { DeliversOfModule WritesSolution verified.now result S.Sink writer.old writer.new }
 {
     let module = solve_module(context, verified, options)?;
     let reached = module.explored.rows();
@@ -103,8 +94,7 @@ pub fn write_certificate<R: Threads + Sync, G: Gate + Sync, S: Sink>(
     options: SolveOptions,
     writer: &mut S,
 ) -> Result<(), SolveError>
-    ensures { DeliversOrRefuses (WritesCertificate verified.now) (IsRefusedModule verified.now)
-        result S.Sink writer.old writer.new }
+    ensures { DeliversOfModule WritesCertificate verified.now result S.Sink writer.old writer.new }
 {
     let module = solve_module(context, verified, options)?;
     let game = &module.solved.built.game;
@@ -144,13 +134,8 @@ pub fn write_evidence<S: Sink>(
     placed: &PlacedExplanation<'_>,
     writer: &mut S,
 ) -> Result<(), SolveError>
-    requires explanation { IsExplanation verified.now placed.now.explanation.now }
-    requires places { (place : ℕ → ℕ → Option Place)
-        × AreCallPlaces place placed.now.explanation.now.evidence placed.now.call_places.now }
-    ensures evidence { (place : ℕ → ℕ → Option Place)
-        → AreCallPlaces place placed.now.explanation.now.evidence placed.now.call_places.now
-        → Delivers (WritesEvidence verified.now place) result S.Sink writer.old writer.new }
-    ensures refused { IfInputRefused result (IsRefusedModule verified.now) }
+    requires { IsPlacedExplanation verified.now placed.now }
+    ensures { DeliversEvidence verified.now placed.now result S.Sink writer.old writer.new }
 {
     instances_have_trees(verified);
     evidence_text(alloc, verified, placed, writer)?;

@@ -7,13 +7,18 @@ use Rattle.pb_fixpoint_rows.specs.Row.{TokenRow}
 use Rattle.pb_bytecode.specs.Contents.{Contents}
 use Rattle.pb_bytecode.specs.Meaning.{AreTrees, answer}
 use Rattle.pb_exploration.specs.Rows.{AreReached, AreExploredRows}
+use Rattle.pb_game.specs.declared.solver.Solver.{Solver}
 use Rattle.pb_game_of_trees.specs.Explored.{ModuleHasTrees, IsModuleGame}
+use Rattle.pb_game_of_trees.specs.declared.tree_game.TooManyVertices.{TooManyVertices}
 use Rattle.pb_report.specs.declared.answer.Answer.{Answer}
 use Rattle.pb_report.specs.ModuleTexts.{answer_for}
+use Rattle.pb_command_solver.specs.Solving.{IsSolutionBy}
 use Rattle.pb_command_solver.specs.declared.built_module.BuiltModule.{BuiltModule}
 use Rattle.pb_command_solver.specs.declared.early.Early.{Early}
 use Rattle.pb_command_solver.specs.declared.early.Early.TheVariants.{Unknown, Shown, Whole}
 use Rattle.pb_command_solver.specs.declared.solved_module.SolvedModule.{SolvedModule}
+use Rattle.pb_base.specs.OrMemory.{IfFault}
+use Rattle.pb_base.specs.declared.or_memory.OrMemory.{OrMemory}
 use Rattle.pb_base.specs.declared.limits.TheConstants.{MAX_VERTICES}
 
 -- the truth of the initial instance in the solution of the module's equations
@@ -53,14 +58,19 @@ pub record IsTooLargeUnder (m : Contents) (trees : ℕ → Tree) : Type 0 where
 abbrev pub IsTooLarge : Contents → Type 0
 IsTooLarge m = (trees : ℕ → Tree) → AreTrees m trees → IsTooLargeUnder m trees
 
+-- what an error says of the module: of want of memory nothing, and of a fault that it is too large
+abbrev pub SaysTooLarge : Contents → OrMemory TooManyVertices → Type 0
+SaysTooLarge m error = IfFault error (λ _. IsTooLarge m)
+
 -- the rows are the module's reached instances, and the game is that of these
 pub record IsBuiltModule (m : Contents) (b : BuiltModule) : Type 0 where
   pub trees : ModuleHasTrees m
   pub explored : AreExploredRows m b.explored
   pub game : IsModuleGame m b.explored b.built
 
--- the same, where the game is solved
-pub record IsSolutionOf (m : Contents) (s : SolvedModule) : Type 0 where
+-- the same, where the game is solved by the solver that is asked for
+pub record IsSolutionOf (m : Contents) (solver : Solver) (s : SolvedModule) : Type 0 where
   pub trees : ModuleHasTrees m
   pub explored : AreExploredRows m s.explored
   pub game : IsModuleGame m s.explored s.solved.built
+  pub winners : IsSolutionBy solver s.solved.built.game s.solved.certified

@@ -1,7 +1,6 @@
 //! Answers of modules, where nothing else is asked for.
-ghost use Rattle.std.specs.Prelude.{IfOk};
-ghost use Rattle.pb_base.specs.OrMemory.{OnRefused};
-ghost use Rattle.pb_command_solver.specs.Answers.{IsAnswerOf, IsTooLarge};
+ghost use Rattle.std.specs.Prelude.{MatchResult};
+ghost use Rattle.pb_command_solver.specs.Answers.{IsAnswerOf, SaysTooLarge};
 
 use crate::built_module::{BuiltModule, build_module, solve_game};
 use crate::context::Context;
@@ -25,8 +24,7 @@ pub fn answer_module<R: Threads + Sync, G: Gate + Sync>(
     verified: &Verified,
     options: SolveOptions,
 ) -> Result<Answer, BuildError>
-    ensures answer { IfOk result (IsAnswerOf verified.now) }
-    ensures too_many { OnRefused result (IsTooLarge verified.now) }
+    ensures { MatchResult result (IsAnswerOf verified.now) (SaysTooLarge verified.now) }
 {
     match build_module(context, verified, options.workers) {
         Ok(BuiltModule { explored, built }) => {

@@ -1,11 +1,8 @@
 //! Modules whose game is built: what is solved, whether its rows are kept behind it or not.
-ghost use Rattle.std.specs.Prelude.{◌≡◌, IfOk};
-ghost use Rattle.pb_base.specs.OrMemory.{OnRefused};
+ghost use Rattle.std.specs.Prelude.{IfOk, MatchResult};
 ghost use Rattle.pb_exploration.specs.Rows.{AreExploredRows};
-ghost use Rattle.pb_game.specs.Certificates.{IsCertificate};
-ghost use Rattle.pb_command_solver.specs.Lifting.{IsLiftedOrNone};
-ghost use Rattle.pb_game.specs.declared.solver.Solver.TheVariants.{Lift};
-ghost use Rattle.pb_command_solver.specs.Answers.{IsBuiltModule, IsTooLarge};
+ghost use Rattle.pb_command_solver.specs.Answers.{IsBuiltModule, SaysTooLarge};
+ghost use Rattle.pb_command_solver.specs.Solving.{IsSolvedBy};
 
 use crate::context::Context;
 use crate::options::SolveOptions;
@@ -35,8 +32,7 @@ pub fn build_module<R: Threads + Sync, G: Gate + Sync>(
     verified: &Verified,
     workers: Workers,
 ) -> Result<BuiltModule, BuildError>
-    ensures built { IfOk result (IsBuiltModule verified.now) }
-    ensures too_many { OnRefused result (IsTooLarge verified.now) }
+    ensures { MatchResult result (IsBuiltModule verified.now) (SaysTooLarge verified.now) }
 {
     let explored = explore(
         context.rt,
@@ -59,8 +55,7 @@ pub fn build_explored(
     explored: Explored,
 ) -> Result<BuiltModule, BuildError>
     requires { AreExploredRows verified.now explored }
-    ensures built { IfOk result (IsBuiltModule verified.now) }
-    ensures too_many { OnRefused result (IsTooLarge verified.now) }
+    ensures { MatchResult result (IsBuiltModule verified.now) (SaysTooLarge verified.now) }
 {
     instances_have_trees(verified);
     match build(alloc, verified, explored.rows()) {
@@ -75,10 +70,7 @@ pub(crate) fn solve_game<R: Threads + Sync, G: Gate + Sync>(
     built: TreeGame,
     options: SolveOptions,
 ) -> Result<Solved, AllocError>
-    ensures built { IfOk result (λ s. s.built ≡ built) }
-    ensures certificate { IfOk result (λ s. IsCertificate s.built.game s.certified) }
-    ensures lifted { options.solver ≡ Lift → IfOk result
-        (λ s. IsLiftedOrNone s.built.game s.certified) }
+    ensures { IfOk result (IsSolvedBy options.solver built) }
 {
     let certified = solve(context, &built.game, options.solver, options.workers.count)?;
     Ok(Solved::new(built, certified))

@@ -1,8 +1,7 @@
 //! Why a module's initial instance is true or false.
-ghost use Rattle.std.specs.Prelude.{IfOk};
-ghost use Rattle.pb_base.specs.OrMemory.{OnRefused};
+ghost use Rattle.std.specs.Prelude.{MatchResult};
 ghost use Rattle.pb_report.specs.ModuleEvidence.{IsExplanation};
-ghost use Rattle.pb_command_solver.specs.Answers.{IsTooLarge};
+ghost use Rattle.pb_command_solver.specs.Answers.{SaysTooLarge};
 
 use crate::context::Context;
 use crate::options::SolveOptions;
@@ -26,8 +25,7 @@ pub fn explain_module<R: Threads + Sync, G: Gate + Sync>(
     verified: &Verified,
     options: SolveOptions,
 ) -> Result<Explanation, BuildError>
-    ensures evidence { IfOk result (IsExplanation verified.now) }
-    ensures too_many { OnRefused result (IsTooLarge verified.now) }
+    ensures { MatchResult result (IsExplanation verified.now) (SaysTooLarge verified.now) }
 {
     if let Some(part) = first_part(context, verified, options)? {
         return Ok(part.explanation(context.alloc, verified)?);

@@ -1,10 +1,6 @@
 //! Verified modules that are solved.
-ghost use Rattle.std.specs.Prelude.{◌≡◌, IfOk};
-ghost use Rattle.pb_base.specs.OrMemory.{OnRefused};
-ghost use Rattle.pb_game.specs.Certificates.{IsCertificate};
-ghost use Rattle.pb_command_solver.specs.Lifting.{IsLiftedOrNone};
-ghost use Rattle.pb_game.specs.declared.solver.Solver.TheVariants.{Lift};
-ghost use Rattle.pb_command_solver.specs.Answers.{IsSolutionOf, IsTooLarge};
+ghost use Rattle.std.specs.Prelude.{MatchResult};
+ghost use Rattle.pb_command_solver.specs.Answers.{IsSolutionOf, SaysTooLarge};
 
 use crate::built_module::{BuiltModule, build_module, solve_game};
 use crate::context::Context;
@@ -32,12 +28,8 @@ pub fn solve_module<R: Threads + Sync, G: Gate + Sync>(
     verified: &Verified,
     options: SolveOptions,
 ) -> Result<SolvedModule, BuildError>
-    ensures solved { IfOk result (IsSolutionOf verified.now) }
-    ensures certificate { IfOk result
-        (λ s. IsCertificate s.solved.built.game s.solved.certified) }
-    ensures lifted { options.solver ≡ Lift → IfOk result
-        (λ s. IsLiftedOrNone s.solved.built.game s.solved.certified) }
-    ensures too_many { OnRefused result (IsTooLarge verified.now) }
+    ensures { MatchResult result (IsSolutionOf verified.now options.solver)
+        (SaysTooLarge verified.now) }
 {
     match build_module(context, verified, options.workers) {
         Ok(BuiltModule { explored, built }) => {

@@ -10,11 +10,9 @@
 //! one partition into winning regions, so all name the same winners; their strategies and measures
 //! may differ.
 
-ghost use Rattle.std.specs.Prelude.{◌≡◌, ◌<◌, IfOk, IfSome};
+ghost use Rattle.std.specs.Prelude.{◌<◌, IfOk, IfSome};
 ghost use Rattle.pb_game.specs.Certificates.{IsCertificate};
-ghost use Rattle.pb_command_solver.specs.Winners.{NamesTheWinners};
-ghost use Rattle.pb_command_solver.specs.Lifting.{IsLiftedOrNone};
-ghost use Rattle.pb_game.specs.declared.solver.Solver.TheVariants.{Lift};
+ghost use Rattle.pb_command_solver.specs.Solving.{IsSolutionBy};
 
 use crate::context::Context;
 use pb_exploration::Gate;
@@ -40,9 +38,7 @@ pub fn solve<G: Gate + Sync, R: Threads + Sync>(
     workers: u32,
 ) -> Result<Certified, AllocError>
     requires workers { 0 < workers }
-    ensures certificate { IfOk result (λ s. IsCertificate game.now s) }
-    ensures winners { IfOk result (NamesTheWinners game.now) }
-    ensures lifted { solver ≡ Lift → IfOk result (IsLiftedOrNone game.now) }
+    ensures { IfOk result (IsSolutionBy solver game.now) }
 {
     match solver {
         Solver::Zielonka => solve_by_regions(context.rt, context.alloc, game),

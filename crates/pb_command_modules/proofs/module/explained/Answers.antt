@@ -7,4 +7,4 @@ use Rattle.pb_command_modules.proofs.module.explained.Goals as goal
 pub returns-in-Err-clause-refused : goal.returns-in-Err-clause-refused
 returns-in-Err-clause-refused g c =
     if_raised c.in-Err.error c.raise.result c.raise.ensures (λ _ above same large. subst (IsRefusedModule c.args.verified.now) (sym same) large)
-    c.in-Err.ensures.too_many
+    c.in-Err.ensures

@@ -14,12 +14,12 @@ use Rattle.pb_command_modules.proofs.module.write_certificate.Goals.{After-solut
 
 pub certificate_text-requires : goal.certificate_text-requires
 certificate_text-requires g c =
-    record { lengths = subst (HasLengths c.in_ok-module.«module».solved.built.game) (sym c.solution-certificate.ensures) c.in_ok-module.ensures.certificate.lengths }
+    record { lengths = subst (HasLengths c.in_ok-module.«module».solved.built.game) (sym c.solution-certificate.ensures) c.in_ok-module.ensures.winners.certificate.lengths }
 
 pub returns-in_err-module : goal.returns-in_err-module
 returns-in_err-module g c = (
   (nothing_written g.S.Sink _ (WritesCertificate c.args.verified.now) c.args.writer.now c.in_err-module.field-0.0 c.from_residual.result c.from_residual.ensures.1),
-  (too_large_up c.args.verified.now c.in_err-module.field-0.0 c.from_residual.result c.in_err-module.ensures.too_many c.from_residual.ensures.1),
+  (too_large_up c.args.verified.now c.in_err-module.field-0.0 c.from_residual.result c.in_err-module.ensures c.from_residual.ensures.1),
 )
 
 -- the text of the certificate that is lent is one of the module
@@ -27,8 +27,8 @@ certificate_is : (g : Over) (c : After-solution-certificate g) (t : List ℕ)
     → t ≡ certificate_text c.in_ok-module.«module».solved.built.game c.solution-certificate.result.now → WritesCertificate c.args.verified.now t
 certificate_is g c =
     let s = c.in_ok-module.«module» in
-    let is = c.in_ok-module.ensures.solved in
-    let certificate = subst (IsCertificate s.solved.built.game) (sym c.solution-certificate.ensures) c.in_ok-module.ensures.certificate in
+    let is = c.in_ok-module.ensures in
+    let certificate = subst (IsCertificate s.solved.built.game) (sym c.solution-certificate.ensures) c.in_ok-module.ensures.winners.certificate in
     certificate_of_module c.args.verified.now s.explored is.explored s.solved.built is.game c.solution-certificate.result.now certificate
 
 pub returns-in_err-certificate_text : goal.returns-in_err-certificate_text

@@ -8,14 +8,14 @@ use Rattle.pb_command_solver.proofs.answer.answer_module.Goals as goal
 
 pub count_cut-cut-requires : goal.count_cut-cut-requires
 count_cut-cut-requires g c =
-    let e = c.in-Ok.ensures.built in
+    let e = c.in-Ok.ensures in
     let some = e.trees in
     let same = count c.args.verified.now _ _ e.explored e.game some.0 some.1 in
     omega (arith, same, c.in-Ok.field-0.built.few, ap length c.rows.ensures)
 
-pub returns-in_ok-solved-in-Ok-clause-answer : goal.returns-in_ok-solved-in-Ok-clause-answer
-returns-in_ok-solved-in-Ok-clause-answer g c =
-    let e = c.in-Ok.ensures.built in
+pub returns-in_ok-solved-in-Ok : goal.returns-in_ok-solved-in-Ok
+returns-in_ok-solved-in-Ok g c =
+    let e = c.in-Ok.ensures in
     let kept = c.in_ok-solved-in-Ok.ensures.built in
     answer_is c.args.verified.now _ _ e.explored e.game c.truth.result c.instances.result c.count_cut-cut.result c.len.result
     (subst (λ x. IsTruthIn x c.truth.result) kept c.truth.ensures.meaning)
