@@ -31,7 +31,7 @@ use Rattle.pbsolve.specs.declared.property_module.PropertyModule.{PropertyModule
 use Rattle.pb_command_faults.specs.declared.solve_fault.SolveFault.{SolveFault}
 use Rattle.pb_command_faults.specs.declared.solve_fault.SolveFault.TheVariants as solve_fault
 use Rattle.pbsolve.specs.Models.{HasModel, IsFinding, IsPropertyFound, IsPropertyAnswer, IsShown, IsTooLargeNegation, IsTooLargeProperty, IsUnexplained}
-use Rattle.pbsolve.specs.Outcomes.{HasNegation, IsDecision, IsDeniedAt, IsNegationAt, IsOutcome, IsPropertyModule, IsShownAt, verdict_in}
+use Rattle.pbsolve.specs.Outcomes.{HasNegation, IsDecision, IsDeniedAt, IsNegationAt, IsOutcome, IsPropertyModule, IsShownAt, OfModule, verdict_in}
 use Rattle.pbsolve.specs.Why.{IsVerdict}
 
 -- the bytes that are kept say what they said
@@ -132,10 +132,6 @@ decides_false m a second o is truth q h = let answered : IsPropertyAnswer m q se
 pub decides_unknown : (m : ModelForm) (a second : Answer) (o : Outcome) → o ≡ outcome.Answered second → second.truth ≡ false
     → (q : PropertyForm) → IsOutcome m q o → IsDecision m q a (Decided Unknown a)
 decides_unknown m a second o is truth q h = let answered : IsPropertyAnswer m q second = subst (IsOutcome m q) is h in (refl, sym answered.exact ∙ truth)
-
--- what holds of a property that has the module
-abbrev pub OfModule : PropertyModule → (ModelForm → PropertyForm → Type 0) → Type 0
-OfModule compiled P = (m : ModelForm) (q : PropertyForm) → IsPropertyModule m q compiled → P m q
 
 -- what holds of an answer that is known
 pub of_known : (P : Bool → Type 0) (o : Option Bool) (x b : Bool) → o ≡ Some x → x ≡ b → IfSome o P → P b

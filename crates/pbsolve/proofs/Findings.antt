@@ -10,7 +10,7 @@ use Rattle.std.proofs.lemmas.Option.{slice_get-map, slice_get-get_or}
 use Rattle.pb_model_tree.specs.declared.model.Property.{Property}
 use Rattle.pb_model_tree.specs.Form.{ModelForm, PropertyForm, property_form}
 use Rattle.pbsolve.specs.declared.finding.PropertyFinding.{PropertyFinding}
-use Rattle.pbsolve.specs.Models.{finding_lines, found_lines, name_at}
+use Rattle.pbsolve.specs.Models.{finding_lines, found_lines, property_name_at}
 
 -- what holds of all holds of the one at a place
 pub at_place : {X : Type 0} (P : X → Type 0) (xs : List X) (k : ℕ) (x d : X) → k < length xs → x ≡ get_or xs k d → All P xs → P x
@@ -29,16 +29,16 @@ places_step f g ys k y d xs new x below is before pushed same =
 
 -- the lines of one more finding
 pub lines_step : (counts : Bool) (model : ModelForm) (fs : List PropertyFinding) (k : ℕ) (f d : PropertyFinding) (old new : List ℕ) → k < length fs → f ≡ get_or fs k d
-    → new ≡ old ++ finding_lines counts (name_at model f.place) f.finding → old ++ found_lines counts model (drop k fs) ≡ found_lines counts model fs
+    → new ≡ old ++ finding_lines counts (property_name_at model f.place) f.finding → old ++ found_lines counts model (drop k fs) ≡ found_lines counts model fs
     → new ++ found_lines counts model (drop (k + 1) fs) ≡ found_lines counts model fs
 lines_step counts model fs k f d old new below is pushed before =
     let rest = found_lines counts model (drop (k + 1) fs) in
-    ap (λ l. l ++ rest) pushed ∙ append_assoc old (finding_lines counts (name_at model f.place) f.finding) rest
+    ap (λ l. l ++ rest) pushed ∙ append_assoc old (finding_lines counts (property_name_at model f.place) f.finding) rest
     ∙ ap (λ gs. old ++ found_lines counts model gs) (next_first fs k f d below is) ∙ before
 
 -- the name at a place is that of the property there
 pub name_there : (model : ModelForm) (ps : List Property) (k : ℕ) (p d : Property) → model.properties ≡ map property_form ps → k < length ps → p ≡ get_or ps k d
-    → name_at model k ≡ string_bytes p.name.text
+    → property_name_at model k ≡ string_bytes p.name.text
 name_there model ps k p d same below is =
     let name = λ (o : Option PropertyForm). option_map_or (λ (q : PropertyForm). q.name.text) o [] in
     ap (λ (qs : List PropertyForm). name (slice_get qs k)) same

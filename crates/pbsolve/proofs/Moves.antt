@@ -11,7 +11,7 @@ use Rattle.pb_model_runs.proofs.Elements.{of-some}
 use Rattle.pb_protocol_meaning.specs.Erase as protocol_text
 use Rattle.pb_protocol_solved.specs.Laws.{MovesAreTheProtocols}
 use Rattle.pb_model_properties.specs.Said.{IsModelOf}
-use Rattle.pbsolve.specs.Why.{CallsAreMoves, CallsAreSteps, state_said}
+use Rattle.pbsolve.specs.Why.{CallsAreProtocolMoves, CallsAreSteps, state_said}
 
 all_kept : (steps : List model.Step) → filter (λ (a : model.Step). true) steps ≡ steps
 all_kept [] = refl
@@ -27,7 +27,7 @@ taken : (P : Type 0) (Q : StepForm → Type 0) (o : Option StepForm) (a : StepFo
 taken P Q o a at h = subst (λ (x : Option StepForm). MatchOption x P Q) at h
 
 pub calls_are_moves : StepsLeadToSuccessors → MovesAreTheProtocols → (bytes : List ℕ) (m : ModelForm) (said : IsModelOf bytes m) (p : PropertyForm)
-    → CallsAreSteps m p → CallsAreMoves bytes m said p
+    → CallsAreSteps m p → CallsAreProtocolMoves bytes m said p
 calls_are_moves lead move bytes m said p steps i c a state made at =
     let leads : Leads (erase m) i.values (erased_step a) c.own c.instance.values =
     taken ((c.own ≡ []) × (c.instance.values ≡ i.values)) (λ (b : StepForm). Leads (erase m) i.values (erased_step b) c.own c.instance.values)

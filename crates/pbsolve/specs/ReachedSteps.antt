@@ -1,7 +1,10 @@
 -- What is found of the steps of a model: whether they can be taken in a reached state.
 use Rattle.std.specs.Prelude.{◌≡◌, ℕ, ◌+◌, Bool, true, false, List, [], ◌∷◌, ◌++◌, Some}
-use Rattle.std.specs.Prelude.{if◌then◌else◌, length, flat_map}
+use Rattle.std.specs.Prelude.{if◌then◌else◌, length, flat_map, IfOk, Result, Vec}
+use Rattle.std.specs.declared.alloc.Global.{Global}
 use Rattle.std.specs.List.{list_any, slice_get}
+use Rattle.pb_base.specs.OrMemory.{IfRefused}
+use Rattle.pb_base.specs.declared.or_memory.OrMemory.{OrMemory}
 use Rattle.pb_model_tree.specs.Form.{ModelForm, StepForm}
 use Rattle.pb_model_words.specs.Vocabulary.{Vocabulary}
 use Rattle.pb_model_properties.specs.Reached.{name_of_step, reached_property}
@@ -12,16 +15,15 @@ use Rattle.pb_model_properties.specs.declared.solved.SolvedModel.{SolvedModel}
 use Rattle.pb_command_faults.specs.Lines.{property_rule}
 use Rattle.pb_command_faults.specs.declared.solve_fault.SolveFault.{SolveFault}
 use Rattle.pb_command_faults.specs.declared.solve_fault.SolveFault.TheVariants as solve_fault
-use Rattle.pbsolve.specs.declared.check.Checked.{Checked}
 use Rattle.pbsolve.specs.declared.finding.PropertyFinding.{PropertyFinding}
 use Rattle.pbsolve.specs.declared.status.Status.{Status}
 use Rattle.pbsolve.specs.declared.status.Status.TheVariants as status
 use Rattle.pbsolve.specs.declared.step_finding.StepFinding.{StepFinding}
 use Rattle.pbsolve.specs.declared.step_finding.StepFinding.TheVariants.{Reached, Never, Refused}
 use Rattle.pbsolve.specs.declared.property_module.PropertyModule.{PropertyModule}
+use Rattle.pbsolve.specs.declared.property_text.AskedText.{AskedText}
 use Rattle.pbsolve.specs.declared.property_text.PropertyText.{PropertyText}
-use Rattle.pbsolve.specs.Models.{HasIllTypedStep, IsTooLargeProperty, found_lines, solved_form}
-use Rattle.pbsolve.specs.Models.{status_of_findings}
+use Rattle.pbsolve.specs.Models.{HasIllTypedStep, IsTooLargeProperty, status_of_findings}
 use Rattle.pbsolve.specs.Outcomes.{IsPropertyModule, IsPropertyText}
 
 -- ---- what is found of a step
@@ -93,13 +95,10 @@ abbrev pub status_of_checked : Bool → List PropertyFinding → List StepFindin
 status_of_checked tells findings steps =
     if list_any refuses_step steps then status.Refused else status_of_findings tells findings
 
--- the lines of all that is found of a model: of its properties, of its steps, and of the protocol's
--- steps that come to none in it
-abbrev pub checked_lines : Bool → SolvedModel → Checked → List ℕ
-checked_lines counts solved checked =
-    found_lines counts (solved_form solved) checked.findings.items
-    ++ (step_lines (words_in solved) checked.steps.items
-    ++ impossible_lines counts (impossible_in solved.names))
+-- the lines of steps: of what is found of the model's, and of the protocol's that come to none
+abbrev pub all_step_lines : Bool → SolvedModel → List StepFinding → List ℕ
+all_step_lines counts solved findings =
+    step_lines (words_in solved) findings ++ impossible_lines counts (impossible_in solved.names)
 
 -- ---- texts
 
@@ -115,7 +114,25 @@ IsStepModule model place compiled =
     (a : StepForm) → slice_get model.steps place ≡ Some a →
     IsPropertyModule model (reached_property model a) compiled
 
--- that of a step isn't well typed
+-- what is found of whatever step's text has this module
+abbrev pub IsFoundByModule : PropertyModule → StepFinding → Type 0
+IsFoundByModule compiled finding =
+    (model : ModelForm) (step : ℕ) → IsStepModule model step compiled
+    → IsFoundOfStep model step finding
+
+-- the text of a step isn't well typed
 abbrev pub IsUntypedStep : ModelForm → SolveFault → Type 0
 IsUntypedStep model (solve_fault.Typing fault) = HasIllTypedStep model fault
 IsUntypedStep model fault = ⊥
+
+-- the text that asks so is this, or it isn't well typed
+pub record AsksStep (model : ModelForm) (place : ℕ)
+    (result : Result AskedText (OrMemory SolveFault)) : Type 0 where
+  pub text : IfOk result (λ asked. IsStepText model place asked.text)
+  pub refused : IfRefused result (IsUntypedStep model)
+
+-- what is found of each step, where counts are asked for, or a text that asks so isn't well typed
+pub record FindsSteps (counts : Bool) (model : ModelForm)
+    (result : Result (Vec StepFinding Global) (OrMemory SolveFault)) : Type 0 where
+  pub found : IfOk result (λ findings. AreStepsFoundWhere counts model findings.items)
+  pub refused : IfRefused result (IsUntypedStep model)

@@ -1,16 +1,19 @@
 -- What is told of the properties of a model: the verdicts, with the steps that show them.
 use Rattle.std.specs.Prelude.{◌≡◌, ◌⊎◌, ◌<◌, ℕ, Bool, true, false, not, ◌||◌, List, [], ◌∷◌, ◌++◌}
-use Rattle.std.specs.Prelude.{if◌then◌else◌, Contains, MatchOption, Option, Some, None}
+use Rattle.std.specs.Prelude.{if◌then◌else◌, Contains, MatchOption, Option, Some, None, IsSome}
+use Rattle.std.specs.Prelude.{Err, IfOk, Result, String, option_copied, string_bytes}
+use Rattle.std.specs.Borrow.{Bor}
+use Rattle.std.specs.declared.alloc.Global.{Global}
 use Rattle.std.specs.List.{slice_get}
+use Rattle.pb_base.specs.OrMemory.{IfRefused}
+use Rattle.pb_base.specs.declared.or_memory.OrMemory.{OrMemory}
+use Rattle.pb_base.specs.declared.or_memory.OrMemory.TheVariants as or_memory
 use Rattle.pb_text_tree.specs.Form.{SpecForm, spec_form}
-use Rattle.pb_text_tree.specs.declared.place.Place.{Place}
-use Rattle.pb_text_meaning.specs.Erase.{erase as erased_text}
 use Rattle.pb_sorts.specs.Instance.{Instance}
+use Rattle.pb_sorts.specs.declared.sink.Sink.{Ghosts}
 use Rattle.pb_fixpoint_trees.specs.Tree.{Tree}
 use Rattle.pb_bytecode.specs.Contents.{Contents}
 use Rattle.pb_bytecode.specs.Meaning.{parameters}
-use Rattle.pb_assembler_modules.specs.Module.{IsCompiledModule}
-use Rattle.pb_game_of_trees.specs.Explored.{ModuleHasTrees}
 use Rattle.pb_model_tree.specs.Form.{FormulaForm, ModelForm, PropertyForm, StepForm, model_form}
 use Rattle.pb_model_meaning.specs.Erase.{erase, erased_step}
 use Rattle.pb_model_meaning.specs.Steps.{State, is_state}
@@ -42,14 +45,15 @@ use Rattle.pb_evidence.specs.Evidence.{graph_of}
 use Rattle.pb_report.specs.declared.answer.Answer.{Answer}
 use Rattle.pb_report.specs.Cuts.{cuts_of}
 use Rattle.pb_report.specs.ModuleTexts.{IsTextOfTrees}
-use Rattle.pb_report.specs.declared.module_evidence.Explanation.{Explanation}
 use Rattle.pb_evidence_words.specs.Tellable.{IsTellable}
 use Rattle.pb_evidence_words.specs.InstanceLines.{instance_lines}
 use Rattle.pb_evidence_words.specs.WhyText.{Told, why_lines}
+use Rattle.pb_command_faults.specs.declared.solve_error.SolveError.{SolveError}
 use Rattle.pb_command_faults.specs.declared.solve_fault.SolveFault.{SolveFault}
 use Rattle.pb_command_faults.specs.declared.solve_fault.SolveFault.TheVariants as solve_fault
+use Rattle.pb_command_modules.specs.Delivery.{DeliversOrRefuses}
 use Rattle.pbsolve.specs.Answers.{IsModuleOfForm}
-use Rattle.pb_report.specs.ModuleEvidence.{IsExplanation, IsModuleEvidence}
+use Rattle.pb_report.specs.ModuleEvidence.{IsModuleEvidence}
 use Rattle.pb_evidence_words.specs.declared.shown.Shown.{Shown}
 use Rattle.pbsolve.specs.declared.explained.ExplainedText.{ExplainedText}
 use Rattle.pbsolve.specs.declared.explained_finding.Asked.{Asked}
@@ -79,9 +83,9 @@ StatesAreTold bytes model said =
 
 -- And it is a move of the protocol: it goes from the state that the model's says, and where the
 -- call's state is within the ranges, to what that says.
-abbrev pub CallsAreMoves :
+abbrev pub CallsAreProtocolMoves :
     (bytes : List ℕ) (model : ModelForm) → IsModelOf bytes model → PropertyForm → Type 0
-CallsAreMoves bytes model said p =
+CallsAreProtocolMoves bytes model said p =
     (i : Instance) (c : MadeCall) (a : StepForm) → is_state (erase model) i.values ≡ true
     → Contains (calls_at (placed model p.name.place p.formula) i) c → step_at model c.place ≡ Some a
     → (s : State)
@@ -97,7 +101,7 @@ pub record IsToldFaithfully (bytes : List ℕ) : Type 0 where
   pub steps : (model : ModelForm) (p : PropertyForm) → IsModelOf bytes model
       → Contains model.properties p → CallsAreSteps model p
   pub moves : (model : ModelForm) (p : PropertyForm) → (said : IsModelOf bytes model)
-      → Contains model.properties p → CallsAreMoves bytes model said p
+      → Contains model.properties p → CallsAreProtocolMoves bytes model said p
   pub states : (model : ModelForm) → (said : IsModelOf bytes model)
       → StatesAreTold bytes model said
 
@@ -119,8 +123,8 @@ shown_by vocabulary text steps m trees e = record {
 }
 
 -- the lines that show it: those of instances, or in the model's words
-abbrev pub lines_of : Bool → Told → List ℕ
-lines_of instances shown = if instances then instance_lines shown else why_lines shown
+abbrev pub explanation_lines : Bool → Told → List ℕ
+explanation_lines instances shown = if instances then instance_lines shown else why_lines shown
 
 -- The verdict on the property p of the protocol, which is q of the model that is solved in its
 -- place. It is false, and not unknown, where the negation is satisfied, or where no reached
@@ -136,22 +140,22 @@ IsVerdict protocol f model q verdict.Unknown =
     (protocol_satisfies protocol f ≡ false) × (protocol_satisfies protocol (negated f) ≡ false)
     × ((a : Answer) × IsPropertyAnswer model q a × (0 < a.cut))
 
-abbrev pub is_true : Verdict → Bool
-is_true verdict.True = true
-is_true verdict.False = false
-is_true verdict.Unknown = false
+abbrev pub is_true_verdict : Verdict → Bool
+is_true_verdict verdict.True = true
+is_true_verdict verdict.False = false
+is_true_verdict verdict.Unknown = false
 
 -- the line of a verdict, and behind it the lines that show it: always, or where it isn't true
 abbrev pub told_text : Bool → List ℕ → Verdict → List ℕ → List ℕ
 told_text always name verdict lines =
-    verdict_line name verdict ++ (if always || not (is_true verdict) then lines else [])
+    verdict_line name verdict ++ (if always || not (is_true_verdict verdict) then lines else [])
 
 -- the text tells a verdict, and shows it by the lines that the module's trees say
 abbrev pub IsToldText : (instances always : Bool) → Vocabulary → List ℕ → Verdict
     → (text steps : SpecForm) → Contents → Evidence → List ℕ → Type 0
 IsToldText instances always words name verdict text steps m e told =
     IsTextOfTrees m (λ trees. told_text always name verdict
-    (lines_of instances (shown_by words text steps m trees e))) told
+    (explanation_lines instances (shown_by words text steps m trees e))) told
 
 -- these parts of what is shown can be told
 abbrev pub AreTellable : ShownParts → Type 0
@@ -167,20 +171,20 @@ IsToldShown telling name shown told =
     telling.verdict (spec_form shown.typed.now.spec) (spec_form shown.steps.now.spec)
     shown.verified.now shown.explanation.now.evidence told
 
-abbrev pub AreTellingParts : ToldVerdict → Vocabulary → List ℕ → ShownParts → List ℕ → Type 0
-AreTellingParts telling words name parts told =
+abbrev pub IsToldOf : ToldVerdict → Vocabulary → List ℕ → ShownParts → String Global → Type 0
+IsToldOf telling words name parts told =
     IsToldText telling.lines telling.always words name telling.verdict
     (spec_form parts.explained.now.typed.spec) (spec_form parts.steps.now.spec)
-    parts.explained.now.verified parts.explained.now.explanation.evidence told
+    parts.explained.now.verified parts.explained.now.explanation.evidence (string_bytes told)
 
 -- the text tells a verdict on the property at the place, whose text is explained, in the words of
 -- the model
-abbrev pub IsToldThere : ToldVerdict → SolvedModel → ℕ → ExplainedText → List ℕ → Type 0
+abbrev pub IsToldThere : ToldVerdict → SolvedModel → ℕ → ExplainedText → String Global → Type 0
 IsToldThere telling solved place explained told =
     (q : PropertyForm) → slice_get (solved_form solved).properties place ≡ Some q
     → IsToldText telling.lines telling.always (words_in solved) q.name.text telling.verdict
     (spec_form explained.typed.spec) (steps_of (solved_form solved)) explained.verified
-    explained.explanation.evidence told
+    explained.explanation.evidence (string_bytes told)
 
 -- The verdict on a property of the protocol is told. What shows whether the model satisfies it, by
 -- lines of instances or in these words, is evidence of the module of the property's text.
@@ -209,6 +213,15 @@ IsToldAsked asked solved protocol told =
     → IsVerdictTold asked.options.lines asked.always (words_in solved) protocol
     (solved_form solved) p q
     told
+
+-- The input keeps its bytes, and the property that is asked for is told, or the model isn't
+-- explained.
+pub record TellsProperty (asked : Asked) (solved : SolvedModel) (old new : List ℕ)
+    (result : Result (String Global) (OrMemory SolveFault)) : Type 0 where
+  pub same : new ≡ old
+  pub told : IfOk result (λ told. (said : IsModelOf old (solved_form solved))
+      → IsToldAsked asked solved said.protocol (string_bytes told))
+  pub refused : IfRefused result (IsUnexplained old)
 
 -- each of these properties, which are those of the model, is told, in order, and shown where the
 -- verdict isn't true
@@ -256,3 +269,23 @@ WritesWhy instances name bytes written =
 abbrev pub IsUnshown : Option (List ℕ) → List ℕ → SolveFault → Type 0
 IsUnshown name bytes solve_fault.NoProperty = LacksProperty name bytes
 IsUnshown name bytes fault = IsUnexplained bytes fault
+
+-- all properties are told, or the model isn't explained
+pub record TellsAll (instances : Bool) (bytes : List ℕ) (solved : SolvedModel)
+    (result : Result (String Global) (OrMemory SolveFault)) : Type 0 where
+  pub told : IfOk result (λ lines. TellWhere instances None bytes solved (string_bytes lines))
+  pub refused : IfRefused result (IsUnexplained bytes)
+
+-- the property of a name is told, or all are where none is named; for want of one only where one is
+pub record TellsAsked (instances : Bool) (property : Option (Bor (List ℕ))) (bytes : List ℕ)
+    (solved : SolvedModel) (result : Result (String Global) (OrMemory SolveFault)) : Type 0 where
+  pub told : IfOk result
+      (λ lines. TellWhere instances (option_copied property) bytes solved (string_bytes lines))
+  pub refused : IfRefused result (IsUnshown (option_copied property) bytes)
+  pub named : result ≡ Err (or_memory.Refused solve_fault.NoProperty) → IsSome property
+
+-- what is told goes out, or the model isn't shown
+abbrev pub DeliversWhy : {S T : Type 0} → Bool → Option (List ℕ) → List ℕ → Result T SolveError →
+    Ghosts S → (old new : S) → Type 0
+DeliversWhy instances name bytes result sink old new =
+    DeliversOrRefuses (WritesWhy instances name bytes) (IsUnshown name bytes) result sink old new

@@ -1,23 +1,16 @@
 //! The verdicts on the properties of a model.
-ghost use Rattle.std.specs.Prelude.{◌≡◌, ◌<◌, ◌≢◌, [], length};
-ghost use Rattle.std.specs.Prelude.{Err, IfOk, string_bytes};
-ghost use Rattle.std.specs.List.{All};
-ghost use Rattle.pb_base.specs.OrMemory.{IfRefused};
+ghost use Rattle.std.specs.Prelude.{◌≡◌, ◌≢◌, [], Err};
 ghost use Rattle.pb_command_faults.specs.declared.solve_fault.SolveFault.TheVariants.{NoProperty};
-ghost use Rattle.pb_command_modules.specs.Delivery.{DeliversOrRefuses};
-ghost use Rattle.pbsolve.specs.Models.{IsUnchecked, asked_names};
-ghost use Rattle.pbsolve.specs.Writes.{WithStatus, WritesVerdicts};
-ghost use Rattle.pbsolve.specs.ReachedSteps.{checked_lines, status_of_checked};
+ghost use Rattle.pbsolve.specs.Models.{asked_names};
+ghost use Rattle.pbsolve.specs.Writes.{DeliversVerdicts, ReportsVerdicts};
 
 use crate::decision::{DecisionOptions, findings_of};
-use crate::finding::PropertyFinding;
 use crate::finding_lines::lines_of;
 use crate::options::solve_options;
 use crate::property_text::asked_texts;
 use crate::reached_steps::steps_on;
 use crate::short_input::ShortInput;
 use crate::status::Status;
-use crate::step_finding::StepFinding;
 use crate::step_lines::{push_lines_of_steps, status_of_checked};
 use pb_base::OrMemory;
 use pb_command_faults::{SolveError, SolveFault};
@@ -25,45 +18,15 @@ use pb_command_line::Checking;
 use pb_command_modules::deliver;
 use pb_command_solver::Context;
 use pb_exploration::Gate;
-use pb_model_properties::{SolvedModel, asked_of, read_protocol};
+use pb_model_properties::{asked_of, read_protocol};
 use pb_sorts::Sink;
-use std::alloc::{AllocError, Global};
 use std::thread::Threads;
-
-// What is found of the properties that are asked for, and of the steps of the model.
-#[derive(Drop)]
-struct Checked {
-    findings: Vec<PropertyFinding>,
-    steps: Vec<StepFinding>,
-}
 
 // The lines that tell what is found, and how the run ends.
 #[derive(Drop)]
 struct CheckReport {
     lines: String,
     status: Status,
-}
-
-// Those of what is found.
-fn report_of(
-    alloc: Global,
-    solved: &SolvedModel,
-    checked: &Checked,
-    options: &Checking,
-) -> Result<CheckReport, AllocError>
-    requires { All (λ found. found.place < length solved.now.typed.model.properties.items)
-        checked.now.findings.items }
-    ensures lines { IfOk result (λ report. string_bytes report.lines
-        ≡ checked_lines options.now.counts solved.now checked.now) }
-    ensures status { IfOk result (λ report. report.status
-        ≡ status_of_checked options.now.status checked.now.findings.items
-        checked.now.steps.items) }
-{
-    let properties = &solved.typed.model.properties;
-    let mut lines = lines_of(alloc, properties, &checked.findings, options.counts)?;
-    push_lines_of_steps(&mut lines, solved, &checked.steps, options.counts)?;
-    let status = status_of_checked(&checked.findings, &checked.steps, options.status);
-    Ok(CheckReport { lines, status })
 }
 
 // Those of what is found of the model that the bytes say. The texts of all properties that are
@@ -73,10 +36,7 @@ fn checked_report<R: Threads + Sync, G: Gate + Sync>(
     input: ShortInput<'_>,
     options: &Checking,
 ) -> Result<CheckReport, OrMemory<SolveFault>>
-    ensures report { IfOk result (λ report. WritesVerdicts options.now input.entry.bytes.now
-        report.status (string_bytes report.lines)) }
-    ensures refused { IfRefused result
-        (IsUnchecked (asked_names options.now) input.entry.bytes.now) }
+    ensures { ReportsVerdicts options.now input.entry.bytes.now result }
 {
     let alloc = context.alloc;
     let solved = match read_protocol(alloc, input.bytes) {
@@ -94,9 +54,11 @@ fn checked_report<R: Threads + Sync, G: Gate + Sync>(
     };
     let findings = findings_of(context, input, texts, deciding)?;
     let steps = steps_on(context, &solved, options)?;
-    let checked = Checked { findings, steps };
-    let report = report_of(alloc, &solved, &checked, options)?;
-    Ok(report)
+    let properties = &solved.typed.model.properties;
+    let mut lines = lines_of(alloc, properties, &findings, options.counts)?;
+    push_lines_of_steps(&mut lines, &solved, &steps, options.counts)?;
+    let status = status_of_checked(&findings, &steps, options.status);
+    Ok(CheckReport { lines, status })
 }
 
 /// Checks a model: writes for each property that is asked for, in the model's order, a line with
@@ -128,9 +90,7 @@ pub fn check_text<R: Threads + Sync, G: Gate + Sync, S: Sink>(
     writer: &mut S,
 ) -> Result<Status, SolveError>
     // The status is that of what was found.
-    ensures verdicts { DeliversOrRefuses
-        (WithStatus result (WritesVerdicts options.now input.entry.bytes.now))
-        (IsUnchecked (asked_names options.now) input.entry.bytes.now) result
+    ensures verdicts { DeliversVerdicts options.now input.entry.bytes.now result
         S.Sink writer.old writer.new }
     ensures named { result ≡ Err (SolveError.Refused NoProperty) → asked_names options.now ≢ [] }
 {

@@ -1,12 +1,10 @@
 //! What is found of properties, by what becomes of their texts and of those of their negations.
 ghost use Rattle.std.specs.Prelude.{◌≡◌, Bool, true, IfOk};
 ghost use Rattle.std.specs.List.{All};
-ghost use Rattle.pb_base.specs.OrMemory.{IfRefused};
-ghost use Rattle.pb_model_tree.specs.Form.{ModelForm, PropertyForm};
-ghost use Rattle.pbsolve.specs.Models.{FindsProperty, HasModel, HasPropertyAt};
-ghost use Rattle.pbsolve.specs.Models.{IsUnnegated};
-ghost use Rattle.pbsolve.specs.Outcomes.{AreFoundByTexts, IsDecision, IsDeniedAt};
-ghost use Rattle.pbsolve.specs.Outcomes.{IsModuleAt, IsOutcomeAt, IsPropertyModule, IsTextAt};
+ghost use Rattle.pbsolve.specs.Models.{HasModel, HasPropertyAt};
+ghost use Rattle.pbsolve.specs.Outcomes.{FindsByModule, FindsByOutcome, FindsByTexts};
+ghost use Rattle.pbsolve.specs.Outcomes.{IsDecisionBy, IsDeniedAt, IsModuleAt, IsOutcomeAt};
+ghost use Rattle.pbsolve.specs.Outcomes.{IsTextAt};
 
 use crate::finding::{Finding, PropertyFinding};
 use crate::negation::{InputWithNegations, negation_module};
@@ -62,8 +60,7 @@ fn decision<R: Threads + Sync, G: Gate + Sync>(
     answer: Answer,
     options: SolveOptions,
 ) -> Result<Finding, AllocError>
-    ensures { IfOk result (λ finding. (model : ModelForm) (q : PropertyForm)
-        → IsPropertyModule model q negation.now → IsDecision model q answer finding) }
+    ensures { IfOk result (IsDecisionBy negation.now answer) }
 {
     match outcome_of(context, negation, options)? {
         Outcome::TooLarge(excess) => Ok(Finding::Refused(excess)),
@@ -90,8 +87,7 @@ pub(crate) fn decided<R: Threads + Sync, G: Gate + Sync>(
     options: SolveOptions,
 ) -> Result<Finding, OrMemory<SolveFault>>
     requires { HasModel input.now (λ model. IsOutcomeAt model asked) }
-    ensures { (counts : Bool) → FindsProperty (λ model. IsOutcomeAt model asked) counts
-        asked.place input.old input.new result }
+    ensures { (counts : Bool) → FindsByOutcome asked counts input.old input.new result }
 {
     match asked.outcome {
         Outcome::TooLarge(excess) => Ok(Finding::Refused(excess)),
@@ -116,8 +112,7 @@ fn decided_by_all<R: Threads + Sync, G: Gate + Sync>(
     options: SolveOptions,
 ) -> Result<Finding, OrMemory<SolveFault>>
     requires { HasModel input.now (λ model. IsModuleAt model asked.now) }
-    ensures { (counts : Bool) → FindsProperty (λ model. IsModuleAt model asked.now) counts
-        asked.now.place input.old input.new result }
+    ensures { (counts : Bool) → FindsByModule asked.now counts input.old input.new result }
 {
     let outcome = outcome_of(context, &asked.compiled, options)?;
     let place = asked.place;
@@ -135,8 +130,7 @@ fn finding_by<R: Threads + Sync, G: Gate + Sync>(
     options: DecisionOptions,
 ) -> Result<Finding, OrMemory<SolveFault>>
     requires { HasModel input.now (λ model. IsModuleAt model asked.now) }
-    ensures { FindsProperty (λ model. IsModuleAt model asked.now) options.counts
-        asked.now.place input.old input.new result }
+    ensures { FindsByModule asked.now options.counts input.old input.new result }
 {
     if options.counts {
         return decided_by_all(context, input, asked, options.solving);
@@ -171,9 +165,7 @@ pub(crate) fn findings_of<R: Threads + Sync, G: Gate + Sync>(
     options: DecisionOptions,
 ) -> Result<Vec<PropertyFinding>, OrMemory<SolveFault>>
     requires { HasModel input.bytes.now (λ model. All (IsTextAt model) texts.items) }
-    ensures found { IfOk result (λ findings. AreFoundByTexts options.counts input.entry.bytes.now
-        texts.items findings.items) }
-    ensures refused { IfRefused result (IsUnnegated input.entry.bytes.now) }
+    ensures { FindsByTexts options.counts input.entry.bytes.now texts.items result }
 {
     let mut asked_input = InputWithNegations::new(input);
     let mut findings = Vec::new(context.alloc);

@@ -1,10 +1,7 @@
 //! Texts, explained, and those of properties.
-ghost use Rattle.std.specs.Prelude.{◌≡◌, ◌<◌, IfOk, length};
-ghost use Rattle.pb_base.specs.OrMemory.{IfRefused};
-ghost use Rattle.pb_text_tree.specs.Form.{spec_form};
-ghost use Rattle.pbsolve.specs.Models.{WhereUnexplained, solved_form};
-ghost use Rattle.pbsolve.specs.Outcomes.{IsExplained, IsExplainedAt};
-ghost use Rattle.pbsolve.specs.Refusals.{IsUnexplainedForm};
+ghost use Rattle.std.specs.Prelude.{◌<◌, length};
+ghost use Rattle.pbsolve.specs.Models.{solved_form};
+ghost use Rattle.pbsolve.specs.Outcomes.{ExplainsProperty, ExplainsText};
 
 use crate::compile::verified;
 use crate::options::WhyOptions;
@@ -37,9 +34,7 @@ pub(crate) fn explained_typed<R: Threads + Sync, G: Gate + Sync>(
     typed: Typed,
     workers: Workers,
 ) -> Result<ExplainedText, OrMemory<SolveFault>>
-    ensures typed { IfOk result (λ explained. explained.typed ≡ typed) }
-    ensures explained { IfOk result IsExplained }
-    ensures refused { IfRefused result (IsUnexplainedForm (spec_form typed.spec)) }
+    ensures { ExplainsText typed result }
 {
     let verified = verified(context.alloc, &typed)?;
     let explanation = explained(context, &verified, workers)?;
@@ -61,8 +56,7 @@ pub(crate) fn explained_at<R: Threads + Sync, G: Gate + Sync>(
     options: WhyOptions,
 ) -> Result<ExplainedText, OrMemory<SolveFault>>
     requires { place < length solved.now.typed.model.properties.items }
-    ensures explained { IfOk result (IsExplainedAt (solved_form solved.now) place) }
-    ensures refused { IfRefused result (WhereUnexplained (solved_form solved.now)) }
+    ensures { ExplainsProperty (solved_form solved.now) place result }
 {
     let typed = match text_at(context.alloc, solved, place) {
         Ok(typed) => typed,

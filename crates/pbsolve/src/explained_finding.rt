@@ -1,7 +1,6 @@
 //! What is found of properties that are explained.
-ghost use Rattle.std.specs.Prelude.{false};
-ghost use Rattle.pbsolve.specs.Models.{FindsProperty, HasModel};
-ghost use Rattle.pbsolve.specs.Outcomes.{IsExplainedIn};
+ghost use Rattle.pbsolve.specs.Models.{HasModel};
+ghost use Rattle.pbsolve.specs.Outcomes.{FindsExplained, IsExplainedIn};
 
 use crate::decision::{decided, is_denied};
 use crate::explained::ExplainedText;
@@ -36,8 +35,7 @@ pub(crate) fn explained_finding<R: Threads + Sync, G: Gate + Sync>(
     asked: Asked,
 ) -> Result<Finding, OrMemory<SolveFault>>
     requires { HasModel input.now (λ model. IsExplainedIn model asked.place explained.now) }
-    ensures { FindsProperty (λ model. IsExplainedIn model asked.place explained.now) false
-        asked.place input.old input.new result }
+    ensures { FindsExplained explained.now asked.place input.old input.new result }
 {
     if explained.explanation.evidence.truth {
         return Ok(Finding::Shown(true));

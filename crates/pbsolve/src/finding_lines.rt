@@ -1,9 +1,9 @@
 //! The lines that tell what is found of properties, and the exit status.
-ghost use Rattle.std.specs.Prelude.{◌≡◌, ◌<◌, ◌++◌, length, map, IfOk, OnOk, string_bytes};
+ghost use Rattle.std.specs.Prelude.{◌≡◌, ◌<◌, length, IfOk, OnOk};
 ghost use Rattle.std.specs.List.{All, list_any};
-ghost use Rattle.pb_model_tree.specs.Form.{ModelForm, property_form};
-ghost use Rattle.pbsolve.specs.Models.{finding_lines, found_lines, lines_behind, says_false};
-ghost use Rattle.pbsolve.specs.Models.{refuses, says_unknown, status_of_findings, verdict_of};
+ghost use Rattle.pbsolve.specs.Models.{AreFoundLines, Pushes, finding_lines, lines_behind};
+ghost use Rattle.pbsolve.specs.Models.{refuses, says_false, says_unknown, status_of_findings};
+ghost use Rattle.pbsolve.specs.Models.{verdict_of};
 
 use crate::finding::{Finding, PropertyFinding};
 use crate::status::Status;
@@ -68,8 +68,7 @@ fn push_behind(
     answer: Answer,
     counts: bool,
 ) -> Result<(), AllocError>
-    ensures { OnOk result (string_bytes lines.new ≡ string_bytes lines.old
-        ++ lines_behind counts verdict answer) }
+    ensures { OnOk result (Pushes (lines_behind counts verdict answer) lines.old lines.new) }
 {
     if counts {
         return push_counts(lines, answer.instances, answer.cut, answer.vertices);
@@ -87,8 +86,7 @@ fn push_finding(
     finding: Finding,
     counts: bool,
 ) -> Result<(), AllocError>
-    ensures { OnOk result (string_bytes lines.new ≡ string_bytes lines.old
-        ++ finding_lines counts name.now finding) }
+    ensures { OnOk result (Pushes (finding_lines counts name.now finding) lines.old lines.new) }
 {
     match finding {
         Finding::Decided(verdict, answer) => {
@@ -111,9 +109,7 @@ pub(crate) fn lines_of(
     counts: bool,
 ) -> Result<String, AllocError>
     requires { All (λ found. found.place < length properties.now) findings.now }
-    ensures { IfOk result (λ lines. (model : ModelForm)
-        → model.properties ≡ map property_form properties.now
-        → string_bytes lines ≡ found_lines counts model findings.now) }
+    ensures { IfOk result (AreFoundLines counts properties.now findings.now) }
 {
     let mut lines = String::new(alloc);
     for found in findings {

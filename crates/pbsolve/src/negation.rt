@@ -1,9 +1,7 @@
 //! The negations of the properties of a protocol, which are read where the first is needed.
-ghost use Rattle.std.specs.Prelude.{◌≡◌, IfOk, IsSome};
-ghost use Rattle.pb_base.specs.OrMemory.{IfRefused};
-ghost use Rattle.pb_model_properties.specs.Negations.{IsRefusedNegation};
-ghost use Rattle.pbsolve.specs.Models.{HasPropertyAt, IsUnnegated};
-ghost use Rattle.pbsolve.specs.Outcomes.{AreNegations, IsNegationAt};
+ghost use Rattle.std.specs.Prelude.{◌≡◌};
+ghost use Rattle.pbsolve.specs.Models.{HasPropertyAt};
+ghost use Rattle.pbsolve.specs.Outcomes.{AreNegations, FindsNegation, ReadsNegations};
 
 use crate::property_module::{PropertyModule, property_module};
 use crate::property_text::asked_text;
@@ -50,10 +48,8 @@ fn read_once(
     input: ShortInput<'_>,
     negations: &mut Option<SolvedModel>,
 ) -> Result<(), ModelError>
-    requires read { AreNegations input.bytes.now negations.now }
-    ensures read { AreNegations input.entry.bytes.now negations.new }
-    ensures some { IfOk result (λ _. IsSome negations.new) }
-    ensures refused { IfRefused result (IsRefusedNegation input.entry.bytes.now) }
+    requires { AreNegations input.bytes.now negations.now }
+    ensures { ReadsNegations input.entry.bytes.now negations.new result }
 {
     if negations.is_none() {
         let read = read_negations(alloc, input.bytes)?;
@@ -73,9 +69,7 @@ pub(crate) fn negation_module(
     place: usize,
 ) -> Result<PropertyModule, OrMemory<SolveFault>>
     requires { HasPropertyAt input.now place }
-    ensures same { input.new ≡ input.old }
-    ensures compiled { IfOk result (IsNegationAt input.old place) }
-    ensures refused { IfRefused result (IsUnnegated input.old) }
+    ensures { FindsNegation place input.old input.new result }
 {
     negations_erase();
     match read_once(alloc, input.input, &mut input.negations) {

@@ -1,8 +1,6 @@
 //! What becomes of the texts of properties.
-ghost use Rattle.std.specs.Prelude.{◌≡◌, IfOk, IfSome};
-ghost use Rattle.pb_model_tree.specs.Form.{ModelForm, PropertyForm};
-ghost use Rattle.pb_model_properties.specs.Said.{tree_satisfies};
-ghost use Rattle.pbsolve.specs.Outcomes.{IsEarlyOf, IsOutcome, IsPropertyModule};
+ghost use Rattle.std.specs.Prelude.{IfOk, IfSome};
+ghost use Rattle.pbsolve.specs.Outcomes.{IsEarlyBy, IsOutcomeBy, IsTruthBy};
 
 use crate::property_module::PropertyModule;
 use pb_base::OrMemory;
@@ -37,8 +35,7 @@ pub(crate) fn early_of<R: Threads + Sync, G: Gate + Sync>(
     property: &PropertyModule,
     options: SolveOptions,
 ) -> Result<Early, AllocError>
-    ensures { IfOk result (λ early. (model : ModelForm) (p : PropertyForm)
-        → IsPropertyModule model p property.now → IsEarlyOf model p early) }
+    ensures { IfOk result (IsEarlyBy property.now) }
 {
     match property {
         PropertyModule::TooLarge(_) => Ok(Early::Unknown),
@@ -56,8 +53,7 @@ pub(crate) fn early_truth<R: Threads + Sync, G: Gate + Sync>(
     property: &PropertyModule,
     options: SolveOptions,
 ) -> Result<Option<bool>, AllocError>
-    ensures { IfOk result (λ found. IfSome found (λ truth. (model : ModelForm) (p : PropertyForm)
-        → IsPropertyModule model p property.now → truth ≡ tree_satisfies model p.formula)) }
+    ensures { IfOk result (λ found. IfSome found (IsTruthBy property.now)) }
 {
     let early = early_of(context, property, options)?;
     Ok(early.truth())
@@ -72,9 +68,7 @@ pub(crate) fn answered<R: Threads + Sync, G: Gate + Sync>(
     verified: &Verified,
     options: SolveOptions,
 ) -> Result<Outcome, AllocError>
-    ensures { IfOk result (λ outcome. (model : ModelForm) (p : PropertyForm)
-        → IsPropertyModule model p (PropertyModule.Verified verified.now)
-        → IsOutcome model p outcome) }
+    ensures { IfOk result (IsOutcomeBy (PropertyModule.Verified verified.now)) }
 {
     match answer_module(context, verified, options) {
         Ok(answer) => Ok(Outcome::Answered(answer)),
@@ -92,8 +86,7 @@ pub(crate) fn outcome_of<R: Threads + Sync, G: Gate + Sync>(
     property: &PropertyModule,
     options: SolveOptions,
 ) -> Result<Outcome, AllocError>
-    ensures { IfOk result (λ outcome. (model : ModelForm) (p : PropertyForm)
-        → IsPropertyModule model p property.now → IsOutcome model p outcome) }
+    ensures { IfOk result (IsOutcomeBy property.now) }
 {
     match property {
         PropertyModule::TooLarge(excess) => Ok(Outcome::TooLarge(*excess)),

@@ -1,28 +1,14 @@
 //! The whole program: words, input, answer, exit status.
-ghost use Rattle.std.specs.Prelude.{◌≡◌, ◌≢◌, ◌≤◌, ◌⊎◌, true, [], codes, length, map, OnOk, IfErr};
-ghost use Rattle.std.specs.Prelude.{Err, IfOk, option_copied, option_map, string_bytes, vec_len};
-ghost use Rattle.pb_command_faults.specs.declared.fault.ProgramFault.TheVariants as fault;
-ghost use Rattle.pb_command_faults.specs.declared.solve_fault.SolveFault.TheVariants.{NoProperty};
-ghost use Rattle.pb_command_faults.specs.Errors.{IfInputRefused};
+ghost use Rattle.std.specs.Prelude.{◌≡◌, ◌≢◌, ◌≤◌, ◌⊎◌, true, codes, map};
+ghost use Rattle.std.specs.Prelude.{option_copied, option_map, string_bytes};
 ghost use Rattle.pb_command_faults.specs.Lines.{line_of};
-ghost use Rattle.pb_command_line.specs.Words.{AskForSomething, HaveFault, AskNothing, AskPlainly};
-ghost use Rattle.pb_command_line.specs.Words.{property_names, task_names};
-ghost use Rattle.pb_command_line.specs.declared.request.Request.{Request};
-ghost use Rattle.pb_command_rules.specs.declared.rule.Rule.{Rule};
-ghost use Rattle.pb_command_modules.specs.Delivery.{Delivers};
-ghost use Rattle.pb_report.specs.Delivery as delivery;
+ghost use Rattle.pb_command_line.specs.Words.{HaveFault, AskNothing, AskPlainly};
 ghost use Rattle.pbsolve.specs.Status.{code_of};
-ghost use Rattle.pbsolve.specs.Writes.{IsRefusedFor, WithStatus, Writes};
-ghost use Rattle.pbsolve.specs.Program.{fault_status, status_of, error_line_of, is_answer};
-ghost use Rattle.pbsolve.specs.Program.{is_write_fault, Answers, AnswersBy, AnswersWords};
-ghost use Rattle.pbsolve.specs.Program.{BeginsAnswer};
+ghost use Rattle.pbsolve.specs.Program.{LackProperty, Tells, error_line_of, fault_status, is_answer};
+ghost use Rattle.pbsolve.specs.Program.{status_of};
+ghost use Rattle.pbsolve.specs.Endings.{AnswersRequest, AnswersTask, AttemptsAnswer, FailsRun};
+ghost use Rattle.pbsolve.specs.Endings.{IsAnswered, IsRefusedRun, ReadsInput};
 ghost use Rattle.pbsolve.specs.declared.status.Status.{Status};
-ghost use Rattle.pbsolve.specs.declared.status.Status.TheVariants as status;
-ghost use Rattle.pb_sorts.specs.Source.{IsLongerThan};
-ghost use Rattle.pb_base.specs.declared.or_memory.OrMemory.TheVariants.{Refused};
-ghost use Rattle.pb_base_input.specs.declared.input.InputFault.TheVariants.{Failed, TooLong};
-ghost use Rattle.pbsolve.specs.Program.{FailsReading, IsInputOf, IsRefusedBy, IsUnanswered};
-ghost use Rattle.pbsolve.specs.Program.{LackProperty, LeavesReader, RefusesBytes, Tells, TellsRefusal};
 
 use crate::check::check_text;
 use crate::compile::compile_text;
@@ -53,10 +39,7 @@ fn task_answer<R: Threads + Sync, G: Gate + Sync, O: Sink>(
     input: ShortInput<'_>,
     out: &mut O,
 ) -> Result<(), SolveError>
-    ensures written { Delivers (Writes task input.entry.bytes.now) result
-        O.Sink out.old out.new }
-    ensures refused { IfInputRefused result (IsRefusedFor task input.entry.bytes.now) }
-    ensures named { result ≡ Err (SolveError.Refused NoProperty) → task_names task ≢ [] }
+    ensures { AnswersTask task input.entry.bytes.now result O.Sink out.old out.new }
 {
     match task {
         Task::Solve(options) => {
@@ -116,10 +99,7 @@ fn answer<R: Threads + Sync, G: Gate + Sync, O: Sink>(
     input: ShortInput<'_>,
     out: &mut O,
 ) -> Result<Status, SolveError>
-    ensures written { Delivers (WithStatus result (Answers request input.entry.bytes.now)) result
-        O.Sink out.old out.new }
-    ensures refused { IfInputRefused result (RefusesBytes request input.entry.bytes.now) }
-    ensures named { result ≡ Err (SolveError.Refused NoProperty) → property_names request ≢ [] }
+    ensures { AnswersRequest request input.entry.bytes.now result O.Sink out.old out.new }
 {
     match request {
         Request::Rule(rule) => {
@@ -140,16 +120,7 @@ fn input_for<R: Source>(
     request: &Request,
     reader: &mut R,
 ) -> Result<Vec<u8>, InputError>
-    ensures input { IfOk result (λ input. IsInputOf request.now (R.left reader.old) input.items) }
-    ensures short { IfOk result (λ input. vec_len input ≤ MAX_INPUT_BYTES) }
-    ensures read { OnOk result (R.has_failed reader.new ≡ R.has_failed reader.old) }
-    ensures failed { result ≡ Err (Refused Failed) →
-        FailsReading R.Source reader.old reader.new }
-    ensures err_failed { IfErr result (λ e. e ≢ Refused Failed →
-        R.has_failed reader.new ≡ R.has_failed reader.old) }
-    ensures too_long { result ≡ Err (Refused TooLong) →
-        IsLongerThan MAX_INPUT_BYTES (R.left reader.old) }
-    ensures unread { (rule : Rule) → request.now ≡ Request.Rule rule → reader.new ≡ reader.old }
+    ensures { ReadsInput request.now R.Source reader.old reader.new result }
 {
     match request {
         Request::Rule(_) => Ok(Vec::new(alloc)),
@@ -165,17 +136,8 @@ fn attempt<T: Threads + Sync, S: AsStr, R: Source, G: Gate + Sync, O: Sink>(
     reader: &mut R,
     out: &mut O,
 ) -> Result<Status, RunError>
-    ensures written { delivery.Delivers is_write_fault
-        (WithStatus result (AnswersWords (map S.text words.now) (R.left reader.old))) result
-        O.Sink out.old out.new }
-    ensures read { OnOk result (R.has_failed reader.new ≡ R.has_failed reader.old) }
-    ensures asked { AskPlainly (map S.text words.now) →
-        result ≢ Err (RunError.ProgramFault fault.U01) }
-    ensures unasked { AskNothing (map S.text words.now) → IsUnanswered result }
-    ensures faulty { HaveFault (map S.text words.now) →
-        IsUnanswered result × (reader.new ≡ reader.old) }
-    ensures refused { IfErr result (IsRefusedBy (map S.text words.now) (R.left reader.old)) }
-    ensures left { IfErr result (λ e. LeavesReader e R.Source reader.old reader.new) }
+    ensures { AttemptsAnswer (map S.text words.now) R.Source reader.old reader.new
+        O.Sink out.old out.new result }
 {
     let request = request_of(context.alloc, words)?;
     let input = input_for(context.alloc, &request, reader)?;
@@ -257,9 +219,7 @@ pub fn run<T: Threads + Sync, S: AsStr, G: Gate + Sync, R: Source, O: Sink, E: S
     // Answered, with status 0, 5 or 6: what is asked for went out, with the status that belongs to
     // it, and nothing on standard error.
     ensures answered { (end : Status) → is_answer end ≡ true → result ≡ code_of end →
-        (streams.new.error ≡ streams.old.error)
-        × AnswersBy (map S.text words.now) (R.left streams.old.input) end
-        O.Sink streams.old.output streams.new.output }
+        IsAnswered (map S.text words.now) end R.Source O.Sink streams.old streams.new }
 
     // But for status 4 no read failed.
     ensures read { result ≢ 4 → R.has_failed streams.new.input ≡ R.has_failed streams.old.input }
@@ -267,31 +227,17 @@ pub fn run<T: Threads + Sync, S: AsStr, G: Gate + Sync, R: Source, O: Sink, E: S
     // Refused: nothing went out, and a line tells why; or a property that was checked is, and the
     // verdicts went out.
     ensures refused { result ≡ 1 →
-        ((streams.new.output ≡ streams.old.output)
-        × TellsRefusal (map S.text words.now) (R.left streams.old.input)
-        E.Sink streams.old.error streams.new.error)
-        ⊎ ((streams.new.error ≡ streams.old.error)
-        × AnswersBy (map S.text words.now) (R.left streams.old.input) status.Refused
-        O.Sink streams.old.output streams.new.output) }
+        IsRefusedRun (map S.text words.now) R.Source O.Sink E.Sink streams.old streams.new }
 
     // Not understood, or no memory: nothing went out, and a line tells which.
     ensures silent { (result ≡ 2) ⊎ (result ≡ 3) → streams.new.output ≡ streams.old.output }
-    ensures usage { result ≡ 2 →
-        Tells (codes "U01\n") E.Sink streams.old.error streams.new.error }
-    ensures memory { result ≡ 3 →
-        Tells (codes "M01\n") E.Sink streams.old.error streams.new.error }
+    ensures usage { result ≡ 2 → Tells (codes "U01\n") E.Sink streams.old.error streams.new.error }
+    ensures memory { result ≡ 3 → Tells (codes "M01\n") E.Sink streams.old.error streams.new.error }
 
     // Reading failed before the limit was passed, with nothing written, or writing failed, and no
     // read did.
     ensures failed { result ≡ 4 →
-        (AskForSomething (map S.text words.now)
-        × FailsReading R.Source streams.old.input streams.new.input
-        × (streams.new.output ≡ streams.old.output)
-        × Tells (codes "E01\n") E.Sink streams.old.error streams.new.error)
-        ⊎ ((R.has_failed streams.new.input ≡ R.has_failed streams.old.input)
-        × BeginsAnswer (map S.text words.now) (R.left streams.old.input)
-        O.Sink streams.old.output streams.new.output
-        × Tells (codes "E02\n") E.Sink streams.old.error streams.new.error) }
+        FailsRun (map S.text words.now) R.Source O.Sink E.Sink streams.old streams.new }
 {
     let context = Context { rt, alloc, gate };
     match attempt(&context, words, &mut streams.input, &mut streams.output) {

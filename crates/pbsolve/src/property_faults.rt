@@ -1,9 +1,8 @@
 //! Faults of the text of a property, told at the property's name in the model.
-ghost use Rattle.std.specs.Prelude.{◌≡◌, ◌<◌, Some, length};
-ghost use Rattle.std.specs.List.{slice_get};
+ghost use Rattle.std.specs.Prelude.{◌≡◌, ◌<◌, length};
 ghost use Rattle.pb_base.specs.OrMemory.{raised};
-ghost use Rattle.pb_model_tree.specs.Form.{PropertyForm, model_form};
-ghost use Rattle.pbsolve.specs.Models.{fault_of_property};
+ghost use Rattle.pb_model_tree.specs.Form.{model_form};
+ghost use Rattle.pbsolve.specs.Models.{IsNamePlace, fault_of_property};
 
 use pb_base::OrMemory;
 use pb_command_faults::{PropertyExcess, PropertyFault, SolveFault};
@@ -13,9 +12,7 @@ use pb_text_tree::Place;
 /// The place of the name of a property.
 pub(crate) fn name_place(model: &TypedModel, property: usize) -> Place
     requires { property < length model.now.model.properties.items }
-    ensures { (p : PropertyForm)
-        → slice_get (model_form model.now.model).properties property ≡ Some p
-        → result ≡ p.name.place }
+    ensures { IsNamePlace (model_form model.now.model) property result }
 {
     model.model.properties[property].name.place
 }

@@ -1,8 +1,6 @@
 //! The modules of the texts of properties.
 ghost use Rattle.std.specs.Prelude.{◌≡◌, IfOk};
-ghost use Rattle.pb_model_tree.specs.Form.{ModelForm, PropertyForm};
-ghost use Rattle.pbsolve.specs.Outcomes.{IsModuleAt, IsPropertyModule, IsPropertyText, IsTextAt};
-ghost use Rattle.pbsolve.specs.Outcomes.{excess_of};
+ghost use Rattle.pbsolve.specs.Outcomes.{IsModuleAsked, IsModuleFor, excess_of};
 
 use crate::compile::verified_laid_out;
 use crate::property_text::{AskedText, PropertyText};
@@ -43,8 +41,7 @@ pub(crate) fn property_module(
     alloc: Global,
     text: PropertyText,
 ) -> Result<PropertyModule, AllocError>
-    ensures { IfOk result (λ made. (model : ModelForm) (p : PropertyForm)
-        → IsPropertyText model p text → IsPropertyModule model p made) }
+    ensures { IfOk result (IsModuleFor text) }
 {
     let typed = match text {
         PropertyText::Typed(typed) => typed,
@@ -65,9 +62,7 @@ pub(crate) fn property_module(
 /// # Errors
 /// Memory was refused.
 pub(crate) fn asked_module(alloc: Global, asked: AskedText) -> Result<AskedModule, AllocError>
-    ensures place { IfOk result (λ made. made.place ≡ asked.place) }
-    ensures compiled { IfOk result
-        (λ made. (model : ModelForm) → IsTextAt model asked → IsModuleAt model made) }
+    ensures { IfOk result (IsModuleAsked asked) }
 {
     let AskedText { place, text } = asked;
     let compiled = property_module(alloc, text)?;

@@ -1,10 +1,8 @@
 //! The texts of the properties that are asked for.
-ghost use Rattle.std.specs.Prelude.{◌≡◌, ◌<◌, true, length, map, IfOk};
+ghost use Rattle.std.specs.Prelude.{◌≡◌, ◌<◌, length};
 ghost use Rattle.std.specs.List.{All};
-ghost use Rattle.pb_base.specs.OrMemory.{IfFault, IfRefused};
 ghost use Rattle.pbsolve.specs.Models.{solved_form};
-ghost use Rattle.pbsolve.specs.Outcomes.{IsFault, IsTextAt, IsUntyped, is_limit};
-ghost use Rattle.pb_command_faults.specs.Errors.{fault_of_model};
+ghost use Rattle.pbsolve.specs.Outcomes.{AsksProperties, AsksProperty, AsksUntyped, is_limit};
 
 use pb_base::OrMemory;
 use pb_command_faults::SolveFault;
@@ -42,11 +40,7 @@ fn is_limit(fault: ModelFault) -> bool
 
 /// The text of the property at a place that isn't well typed by this error.
 pub(crate) fn untyped(error: ModelError, place: usize) -> Result<AskedText, OrMemory<SolveFault>>
-    ensures large { IfOk result (λ asked. (asked.place ≡ place)
-        × (asked.text ≡ PropertyText.TooLarge) × IfFault error (λ fault. is_limit fault ≡ true)
-        × IsFault error) }
-    ensures refused { IfRefused result (λ made.
-        IfFault error (λ fault. made ≡ fault_of_model fault) × IsFault error) }
+    ensures { AsksUntyped error place result }
 {
     match error {
         OrMemory::Memory => Err(OrMemory::Memory),
@@ -72,9 +66,7 @@ pub(crate) fn asked_text(
     place: usize,
 ) -> Result<AskedText, OrMemory<SolveFault>>
     requires { place < length solved.now.typed.model.properties.items }
-    ensures place { IfOk result (λ asked. asked.place ≡ place) }
-    ensures text { IfOk result (IsTextAt (solved_form solved.now)) }
-    ensures refused { IfRefused result (IsUntyped (solved_form solved.now)) }
+    ensures { AsksProperty (solved_form solved.now) place result }
 {
     match text_at(alloc, solved, place) {
         Ok(typed) => Ok(AskedText {
@@ -95,9 +87,7 @@ pub(crate) fn asked_texts(
     places: &[usize],
 ) -> Result<Vec<AskedText>, OrMemory<SolveFault>>
     requires { All (λ place. place < length solved.now.typed.model.properties.items) places.now }
-    ensures places { IfOk result (λ texts. map (λ asked. asked.place) texts.items ≡ places.now) }
-    ensures texts { IfOk result (λ texts. All (IsTextAt (solved_form solved.now)) texts.items) }
-    ensures refused { IfRefused result (IsUntyped (solved_form solved.now)) }
+    ensures { AsksProperties (solved_form solved.now) places.now result }
 {
     let mut texts = Vec::new(alloc);
     for place in places {

@@ -1,11 +1,8 @@
 //! Which steps of a model can be taken in a reached state. The guard of one that can't is true in
 //! none, which mostly is a mistake.
-ghost use Rattle.std.specs.Prelude.{◌<◌, ℕ, length, IfOk};
-ghost use Rattle.pb_base.specs.OrMemory.{IfRefused};
-ghost use Rattle.pb_model_tree.specs.Form.{ModelForm};
+ghost use Rattle.std.specs.Prelude.{◌<◌, length, IfOk};
 ghost use Rattle.pbsolve.specs.Models.{solved_form};
-ghost use Rattle.pbsolve.specs.ReachedSteps.{AreStepsFoundWhere, IsFoundOfStep, IsStepModule};
-ghost use Rattle.pbsolve.specs.ReachedSteps.{IsStepText, IsUntypedStep};
+ghost use Rattle.pbsolve.specs.ReachedSteps.{AsksStep, FindsSteps, IsFoundByModule};
 
 use crate::options::solve_options;
 use crate::outcome::{Outcome, early_truth, outcome_of};
@@ -28,8 +25,7 @@ fn step_text(
     step: usize,
 ) -> Result<AskedText, OrMemory<SolveFault>>
     requires { step < length solved.now.typed.model.steps.items }
-    ensures text { IfOk result (λ asked. IsStepText (solved_form solved.now) step asked.text) }
-    ensures refused { IfRefused result (IsUntypedStep (solved_form solved.now)) }
+    ensures { AsksStep (solved_form solved.now) step result }
 {
     match reached_text_at(alloc, solved, step) {
         Ok(typed) => Ok(AskedText {
@@ -46,8 +42,7 @@ fn finding_by<R: Threads + Sync, G: Gate + Sync>(
     compiled: &PropertyModule,
     options: SolveOptions,
 ) -> Result<StepFinding, AllocError>
-    ensures { IfOk result (λ finding. (model : ModelForm) (step : ℕ)
-        → IsStepModule model step compiled.now → IsFoundOfStep model step finding) }
+    ensures { IfOk result (IsFoundByModule compiled.now) }
 {
     let early = early_truth(context, compiled, options)?;
     if let Some(truth) = early {
@@ -70,9 +65,7 @@ pub(crate) fn steps_on<R: Threads + Sync, G: Gate + Sync>(
     solved: &SolvedModel,
     options: &Checking,
 ) -> Result<Vec<StepFinding>, OrMemory<SolveFault>>
-    ensures found { IfOk result (λ findings. AreStepsFoundWhere options.now.counts
-        (solved_form solved.now) findings.items) }
-    ensures refused { IfRefused result (IsUntypedStep (solved_form solved.now)) }
+    ensures { FindsSteps options.now.counts (solved_form solved.now) result }
 {
     let mut findings = Vec::new(context.alloc);
     if !options.counts {

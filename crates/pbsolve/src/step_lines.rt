@@ -1,9 +1,10 @@
 //! The lines that name steps that can be taken in no reached state, and how a check ends.
-ghost use Rattle.std.specs.Prelude.{◌≡◌, ◌++◌, map, flat_map, OnOk, string_bytes};
+ghost use Rattle.std.specs.Prelude.{◌≡◌, map, flat_map, OnOk, string_bytes};
 ghost use Rattle.std.specs.List.{list_any};
 ghost use Rattle.pb_model_properties.specs.Verdicts.{unreached_line};
-ghost use Rattle.pb_model_properties.specs.Words.{impossible_in, words_in};
-ghost use Rattle.pbsolve.specs.ReachedSteps.{impossible_lines, refuses_step, status_of_checked};
+ghost use Rattle.pb_model_properties.specs.Words.{words_in};
+ghost use Rattle.pbsolve.specs.Models.{Pushes};
+ghost use Rattle.pbsolve.specs.ReachedSteps.{all_step_lines, refuses_step, status_of_checked};
 ghost use Rattle.pbsolve.specs.ReachedSteps.{step_line, step_lines};
 
 use crate::finding::PropertyFinding;
@@ -15,8 +16,7 @@ use std::alloc::AllocError;
 
 // Puts the line of a step behind others, where something is told of it.
 fn push_step(lines: &mut String, name: &str, finding: StepFinding) -> Result<(), AllocError>
-    ensures { OnOk result
-        (string_bytes lines.new ≡ string_bytes lines.old ++ step_line name.now finding) }
+    ensures { OnOk result (Pushes (step_line name.now finding) lines.old lines.new) }
 {
     match finding {
         StepFinding::Reached => Ok(()),
@@ -31,8 +31,8 @@ fn push_steps(
     solved: &SolvedModel,
     findings: &[StepFinding],
 ) -> Result<(), AllocError>
-    ensures { OnOk result (string_bytes lines.new
-        ≡ string_bytes lines.old ++ step_lines (words_in solved.now) findings.now) }
+    ensures { OnOk result
+        (Pushes (step_lines (words_in solved.now) findings.now) lines.old lines.new) }
 {
     for (step, finding) in findings.iter().enumerate() {
         push_step(lines, name_of_step(solved, step), *finding)?;
@@ -42,8 +42,8 @@ fn push_steps(
 
 // Puts the lines of steps of these names, which come to none in the model, behind others.
 fn push_impossible(lines: &mut String, names: &[String]) -> Result<(), AllocError>
-    ensures { OnOk result (string_bytes lines.new
-        ≡ string_bytes lines.old ++ flat_map unreached_line (map string_bytes names.now)) }
+    ensures { OnOk result
+        (Pushes (flat_map unreached_line (map string_bytes names.now)) lines.old lines.new) }
 {
     for name in names {
         push_unreached(lines, name.as_str())?;
@@ -62,9 +62,8 @@ pub(crate) fn push_lines_of_steps(
     findings: &[StepFinding],
     counts: bool,
 ) -> Result<(), AllocError>
-    ensures { OnOk result (string_bytes lines.new ≡ string_bytes lines.old
-        ++ (step_lines (words_in solved.now) findings.now
-        ++ impossible_lines counts (impossible_in solved.now.names))) }
+    ensures { OnOk result
+        (Pushes (all_step_lines counts solved.now findings.now) lines.old lines.new) }
 {
     push_steps(lines, solved, findings)?;
     if counts {

@@ -1,13 +1,12 @@
 //! What is told of the property at a place: the verdict, and what shows it.
 ghost use Rattle.std.specs.Prelude.{◌≡◌, ◌<◌, IfOk, length, string_bytes};
-ghost use Rattle.pb_base.specs.OrMemory.{IfRefused};
 ghost use Rattle.pb_model_properties.specs.Said.{IsModelOf};
 ghost use Rattle.pb_model_words.specs.View.{vocabulary_of};
-ghost use Rattle.pbsolve.specs.Models.{IsUnexplained, solved_form};
+ghost use Rattle.pbsolve.specs.Models.{solved_form};
 ghost use Rattle.pbsolve.specs.Outcomes.{IsExplainedAt, verdict_in};
 ghost use Rattle.pb_evidence_words.specs.Tellable.{IsTellableShown};
-ghost use Rattle.pbsolve.specs.Why.{AreTellable, AreTellingParts, IsToldAsked};
-ghost use Rattle.pbsolve.specs.Why.{IsToldShown, IsToldThere, is_true};
+ghost use Rattle.pbsolve.specs.Why.{AreTellable, IsToldOf, IsToldShown, IsToldThere};
+ghost use Rattle.pbsolve.specs.Why.{TellsProperty, is_true_verdict};
 
 use crate::explained::{ExplainedText, explained_at};
 use crate::explained_finding::{Asked, explained_finding};
@@ -50,7 +49,7 @@ fn verdict_in(finding: Finding) -> Result<Verdict, PropertyExcess>
 
 // Whether the verdict is true.
 fn is_true(verdict: Verdict) -> bool
-    ensures { result ≡ is_true verdict }
+    ensures { result ≡ is_true_verdict verdict }
 {
     match verdict {
         Verdict::True => true,
@@ -98,8 +97,8 @@ fn told_in(
     parts: &ShownParts<'_>,
 ) -> Result<String, AllocError>
     requires { AreTellable parts.now }
-    ensures { IfOk result (λ told. AreTellingParts telling (vocabulary_of vocabulary.now) name.now
-        parts.now (string_bytes told)) }
+    ensures { IfOk result
+        (IsToldOf telling (vocabulary_of vocabulary.now) name.now parts.now) }
 {
     let explained = parts.explained;
     let shown = Shown {
@@ -123,8 +122,7 @@ fn explained_told(
 ) -> Result<String, AllocError>
     requires within { place < length solved.now.typed.model.properties.items }
     requires explained { IsExplainedAt (solved_form solved.now) place explained.now }
-    ensures { IfOk result
-        (λ told. IsToldThere telling solved.now place explained.now (string_bytes told)) }
+    ensures { IfOk result (IsToldThere telling solved.now place explained.now) }
 {
     let model = &solved.typed;
     let steps = steps_text(alloc, model)?;
@@ -151,10 +149,7 @@ pub(crate) fn told_at<R: Threads + Sync, G: Gate + Sync>(
 ) -> Result<String, OrMemory<SolveFault>>
     requires said { IsModelOf input.now (solved_form solved.now) }
     requires within { asked.place < length solved.now.typed.model.properties.items }
-    ensures same { input.new ≡ input.old }
-    ensures told { IfOk result (λ told. (said : IsModelOf input.old (solved_form solved.now))
-        → IsToldAsked asked solved.now said.protocol (string_bytes told)) }
-    ensures refused { IfRefused result (IsUnexplained input.old) }
+    ensures { TellsProperty asked solved.now input.old input.new result }
 {
     let explained = explained_at(context, solved, asked.place, asked.options)?;
     let finding = explained_finding(context, input, &explained, asked)?;

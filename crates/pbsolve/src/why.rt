@@ -1,13 +1,9 @@
 //! Why the properties of a model hold or don't: the verdicts, with the steps that show them.
-ghost use Rattle.std.specs.Prelude.{◌≡◌, Err, IfOk, IsSome, None};
-ghost use Rattle.std.specs.Prelude.{option_copied, string_bytes};
-ghost use Rattle.pb_base.specs.OrMemory.{IfRefused};
-ghost use Rattle.pb_base.specs.declared.or_memory.OrMemory.TheVariants.{Refused};
+ghost use Rattle.std.specs.Prelude.{◌≡◌, Err, IsSome, option_copied};
 ghost use Rattle.pb_command_faults.specs.declared.solve_fault.SolveFault.TheVariants.{NoProperty};
 ghost use Rattle.pb_model_properties.specs.Said.{IsModelOf};
-ghost use Rattle.pb_command_modules.specs.Delivery.{DeliversOrRefuses};
-ghost use Rattle.pbsolve.specs.Models.{IsUnexplained, solved_form};
-ghost use Rattle.pbsolve.specs.Why.{IsToldFaithfully, IsUnshown, TellWhere, WritesWhy};
+ghost use Rattle.pbsolve.specs.Models.{solved_form};
+ghost use Rattle.pbsolve.specs.Why.{DeliversWhy, IsToldFaithfully, TellsAll, TellsAsked};
 
 use crate::explained_finding::Asked;
 use crate::laws::told_calls_are_steps;
@@ -32,9 +28,7 @@ fn all_told<R: Threads + Sync, G: Gate + Sync>(
     options: WhyOptions,
 ) -> Result<String, OrMemory<SolveFault>>
     requires { IsModelOf input.bytes.now (solved_form solved.now) }
-    ensures told { IfOk result (λ lines. TellWhere options.lines None input.entry.bytes.now
-        solved.now (string_bytes lines)) }
-    ensures refused { IfRefused result (IsUnexplained input.entry.bytes.now) }
+    ensures { TellsAll options.lines input.entry.bytes.now solved.now result }
 {
     let mut asked_input = InputWithNegations::new(input);
     let mut lines = String::new(context.alloc);
@@ -59,11 +53,7 @@ fn asked_told<R: Threads + Sync, G: Gate + Sync>(
     options: WhyOptions,
 ) -> Result<String, OrMemory<SolveFault>>
     requires { IsModelOf input.bytes.now (solved_form solved.now) }
-    ensures told { IfOk result (λ lines. TellWhere options.lines (option_copied property.entry)
-        input.entry.bytes.now solved.now (string_bytes lines)) }
-    ensures refused { IfRefused result
-        (IsUnshown (option_copied property.entry) input.entry.bytes.now) }
-    ensures named { result ≡ Err (Refused NoProperty) → IsSome property.entry }
+    ensures { TellsAsked options.lines property.entry input.entry.bytes.now solved.now result }
 {
     match property {
         Some(name) => {
@@ -109,10 +99,8 @@ pub fn why_text<R: Threads + Sync, G: Gate + Sync, S: Sink>(
     options: WhyOptions,
     writer: &mut S,
 ) -> Result<(), SolveError>
-    ensures told { DeliversOrRefuses
-        (WritesWhy options.lines (option_copied property.entry) input.entry.bytes.now)
-        (IsUnshown (option_copied property.entry) input.entry.bytes.now) result
-        S.Sink writer.old writer.new }
+    ensures told { DeliversWhy options.lines (option_copied property.entry)
+        input.entry.bytes.now result S.Sink writer.old writer.new }
     // The calls that the lines tell are steps of the model and moves of the protocol, and each
     // state is told as the one of the protocol that it says.
     ensures faithful { IsToldFaithfully input.entry.bytes.now }

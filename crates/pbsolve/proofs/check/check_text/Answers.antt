@@ -1,5 +1,9 @@
 -- What is told is written.
-use Rattle.std.proofs.Common.{◌≡◌, ◌∙◌, ℕ, List, map, refl, rules, sym, subst, string_bytes}
+use Rattle.std.proofs.Common.{◌≡◌, ◌∙◌, ℕ, List, Result, Ok, Err, IsErrAnd, map, refl, sym, subst, string_bytes}
+use Rattle.pb_command_faults.specs.Errors.{IfInputFault, IfInputRefused}
+use Rattle.pb_command_faults.specs.declared.solve_error.SolveError.{SolveError}
+use Rattle.pb_command_faults.specs.declared.solve_error.SolveError.TheVariants as solve_error
+use Rattle.pb_command_faults.specs.declared.solve_fault.SolveFault.{SolveFault}
 use Rattle.pb_command_faults.proofs.HandedUp.{handed_up}
 use Rattle.pb_command_modules.proofs.Deliveries.{less_left_on, less_sent, nothing_written}
 use Rattle.pbsolve.specs.declared.status.Status.{Status}
@@ -21,6 +25,12 @@ pub returns-in_err-report-clause-named : goal.returns-in_err-report-clause-named
 returns-in_err-report-clause-named g c =
     lacked_names (map string_bytes c.args.options.now.properties.items) c.args.input.bytes.now c.from_residual.result (returns-in_err-report-clause-verdicts g c).1
 
+-- a failed write says nothing of the model
+written_up : {T : Type 0} (P : SolveFault → Type 0) (r : Result T SolveError) (e : SolveError) → IsErrAnd r (λ x. x ≡ e) → e ≡ solve_error.Write (record {})
+    → IfInputRefused r P
+written_up P (Ok x) e made is = tt
+written_up P (Err x) e made is = subst (λ (y : SolveError). IfInputFault y P) (sym (made ∙ is)) tt
+
 pub returns-in_err-deliver-clause-verdicts : goal.returns-in_err-deliver-clause-verdicts
 returns-in_err-deliver-clause-verdicts g c = (
   (let verdicts = WritesVerdicts c.args.options.now c.args.input.bytes.now in
@@ -32,7 +42,8 @@ returns-in_err-deliver-clause-verdicts g c = (
         no_status (λ (s : Status). s ≡ report.status) _ r c.from_residual-in_err-deliver.ensures.1,
         subst (verdicts report.status) (sym (is ∙ c.as_bytes.ensures.value)) c.in_ok-report.ensures.report,
       )) c.args.writer.now c.deliver.new.writer r c.in_err-deliver.field-0.0 c.from_residual-in_err-deliver.ensures.1 c.in_err-deliver.ensures.text),
-  (search rules),
+  (written_up (IsUnchecked (map string_bytes c.args.options.now.properties.items) c.args.input.bytes.now) c.from_residual-in_err-deliver.result
+      c.in_err-deliver.field-0.0 c.from_residual-in_err-deliver.ensures.1 c.in_err-deliver.ensures.failed),
 )
 
 pub returns-clause-verdicts : goal.returns-clause-verdicts

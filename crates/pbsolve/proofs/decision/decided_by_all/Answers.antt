@@ -1,9 +1,8 @@
 -- What is found of the property, by what becomes of the module of its text.
 use Rattle.pb_model_tree.specs.Form.{ModelForm}
-use Rattle.pbsolve.specs.Outcomes.{IsModuleAt, IsOutcome, IsOutcomeAt}
+use Rattle.pbsolve.specs.Outcomes.{IsModuleAt, IsOutcome, IsOutcomeAt, OfModule}
 use Rattle.pbsolve.specs.declared.outcome.Outcome.{Outcome}
 use Rattle.pbsolve.specs.declared.property_module.AskedModule.{AskedModule}
-use Rattle.pbsolve.proofs.Decisions.{OfModule}
 use Rattle.pbsolve.proofs.Tellings.{ok_more}
 use Rattle.pbsolve.proofs.decision.decided_by_all.Goals as goal
 

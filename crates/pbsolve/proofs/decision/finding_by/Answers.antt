@@ -6,10 +6,10 @@ use Rattle.pb_command_solver.specs.declared.early.Early.TheVariants as early
 use Rattle.pb_model_tree.specs.Form.{ModelForm}
 use Rattle.pb_model_properties.specs.Said.{tree_satisfies}
 use Rattle.pb_report.specs.declared.answer.Answer.{Answer}
-use Rattle.pbsolve.specs.Outcomes.{IsEarlyOf, IsModuleAt, IsOutcomeAt}
+use Rattle.pbsolve.specs.Outcomes.{IsEarlyOf, IsModuleAt, IsOutcomeAt, OfModule}
 use Rattle.pbsolve.specs.declared.outcome.Outcome.TheVariants as outcome
 use Rattle.pbsolve.specs.declared.property_module.AskedModule.{AskedModule}
-use Rattle.pbsolve.proofs.Decisions.{found_shown, shown_false, shown_true, still_has, OfModule}
+use Rattle.pbsolve.proofs.Decisions.{found_shown, shown_false, shown_true}
 use Rattle.pbsolve.proofs.Tellings.{ok_more}
 use Rattle.pbsolve.proofs.decision.finding_by.Goals as goal
 

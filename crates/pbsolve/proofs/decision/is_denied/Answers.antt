@@ -1,7 +1,8 @@
 -- The negation's module says that it is satisfied.
 use Rattle.std.proofs.Common.{◌≡◌, Bool, true}
 use Rattle.pb_model_properties.specs.Said.{tree_satisfies}
-use Rattle.pbsolve.proofs.Decisions.{denied_at, of_known, OfModule}
+use Rattle.pbsolve.specs.Outcomes.{OfModule}
+use Rattle.pbsolve.proofs.Decisions.{denied_at, of_known}
 use Rattle.pbsolve.proofs.decision.is_denied.Goals as goal
 
 pub returns-in-Some-true-clause-denied : goal.returns-in-Some-true-clause-denied

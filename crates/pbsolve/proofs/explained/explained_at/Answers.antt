@@ -22,29 +22,38 @@ text_unexplained solved p among (model_fault.Typing fault) h = λ bytes said. in
 text_unexplained solved p among (model_fault.Text fault) h = absurd h
 text_unexplained solved p among model_fault.NoProperty h = absurd h
 
-pub returns-in-Err-clause-refused : goal.returns-in-Err-clause-refused
-returns-in-Err-clause-refused g c =
-    let solved = c.args.solved.now in
-    let model = model_form solved.typed.model in
-    let some = some_property property_form solved.typed.model.properties.items c.args.place c.requires in
-    if_raised c.in-Err.error c.raise.result c.raise.ensures
-    (λ fault above same h. subst (WhereUnexplained model) (sym same)
-    (text_unexplained solved some.0 (contains_at model.properties c.args.place some.0 some.1) fault (h some.0 some.1)))
-    c.in-Err.ensures.refused
+pub returns-in-Err : goal.returns-in-Err
+returns-in-Err g c = record {
+  explained = tt;
+  refused =
+      let solved = c.args.solved.now in
+      let model = model_form solved.typed.model in
+      let some = some_property property_form solved.typed.model.properties.items c.args.place c.requires in
+      if_raised c.in-Err.error c.raise.result c.raise.ensures
+      (λ fault above same h. subst (WhereUnexplained model) (sym same)
+      (text_unexplained solved some.0 (contains_at model.properties c.args.place some.0 some.1) fault (h some.0 some.1)))
+      c.in-Err.ensures.refused;
+}
 
-pub returns-in-Err-explained_typed-clause-refused : goal.returns-in-Err-explained_typed-clause-refused
-returns-in-Err-explained_typed-clause-refused g c =
-    let model = model_form c.args.solved.now.typed.model in
-    let text = spec_form c.in-Ok.typed.spec in
-    let some = some_property property_form c.args.solved.now.typed.model.properties.items c.args.place c.requires in
-    let at = text_at_place model c.args.place text some c.in-Ok.ensures.text in
-    if_raised c.in-Err-explained_typed.error c.error_of_property.result c.error_of_property.ensures
-    (λ fault above same h. subst (WhereUnexplained model) (sym same)
-    (unexplained_property model c.args.place text at c.name_place-here.result (c.name_place-here.ensures at.property at.stands) fault h))
-    c.in-Err-explained_typed.ensures.refused
+pub returns-in-Err-explained_typed : goal.returns-in-Err-explained_typed
+returns-in-Err-explained_typed g c = record {
+  explained = tt;
+  refused =
+      let model = model_form c.args.solved.now.typed.model in
+      let text = spec_form c.in-Ok.typed.spec in
+      let some = some_property property_form c.args.solved.now.typed.model.properties.items c.args.place c.requires in
+      let at = text_at_place model c.args.place text some c.in-Ok.ensures.text in
+      if_raised c.in-Err-explained_typed.error c.error_of_property.result c.error_of_property.ensures
+      (λ fault above same h. subst (WhereUnexplained model) (sym same)
+      (unexplained_property model c.args.place text at c.name_place-here.result (c.name_place-here.ensures at.property at.stands) fault h))
+      c.in-Err-explained_typed.ensures.refused;
+}
 
-pub returns-in-Ok-explained_typed-clause-explained : goal.returns-in-Ok-explained_typed-clause-explained
-returns-in-Ok-explained_typed-clause-explained g c q stands = record {
-  text = subst (λ (t : Typed). IsTextOf (model_form c.args.solved.now.typed.model) q (spec_form t.spec)) (sym c.in-Ok-explained_typed.ensures.typed) (c.in-Ok.ensures.text q stands);
-  explanation = c.in-Ok-explained_typed.ensures.explained;
+pub returns-in-Ok-explained_typed : goal.returns-in-Ok-explained_typed
+returns-in-Ok-explained_typed g c = record {
+  explained = λ q stands. record {
+    text = subst (λ (t : Typed). IsTextOf (model_form c.args.solved.now.typed.model) q (spec_form t.spec)) (sym c.in-Ok-explained_typed.ensures.typed) (c.in-Ok.ensures.text q stands);
+    explanation = c.in-Ok-explained_typed.ensures.explained;
+  };
+  refused = tt;
 }

@@ -2,11 +2,11 @@
 use Rattle.std.proofs.Common.{◌∙◌, ◌<◌, ℕ, false, length, refl, rules, sym, true}
 use Rattle.pb_text_tree.specs.Form.{spec_form}
 use Rattle.pb_model_tree.specs.Form.{ModelForm}
-use Rattle.pbsolve.specs.Outcomes.{IsExplainedAt, IsOutcome, IsOutcomeAt}
+use Rattle.pbsolve.specs.Outcomes.{IsExplainedAt, IsOutcome, IsOutcomeAt, OfModule}
 use Rattle.pbsolve.specs.declared.explained.ExplainedText.{ExplainedText}
 use Rattle.pbsolve.specs.declared.outcome.Outcome.{Outcome}
 use Rattle.pbsolve.specs.declared.property_module.PropertyModule.TheVariants as property_module
-use Rattle.pbsolve.proofs.Decisions.{found_shown, OfModule, still_has, shown_false, shown_true}
+use Rattle.pbsolve.proofs.Decisions.{found_shown, still_has, shown_false, shown_true}
 use Rattle.pbsolve.proofs.PropertyVerdicts.{some_at}
 use Rattle.pbsolve.proofs.Tellings.{explained_truth, ok_more}
 use Rattle.pbsolve.proofs.explained_finding.explained_finding.Goals as goal

@@ -1,5 +1,5 @@
 -- The negation stands at the place of the property.
-use Rattle.std.proofs.Common.{◌≡◌, ℕ, Some, subst, sym, arith}
+use Rattle.std.proofs.Common.{rules, ◌≡◌, ℕ, Some, subst, sym, arith}
 use Rattle.std.specs.List.{slice_get}
 use Rattle.std.proofs.lemmas.List.{length-map}
 use Rattle.pb_base.proofs.Faults.{if_raised}
@@ -28,24 +28,36 @@ asked_text-requires c =
     let long = length-map c.in-Some.read.typed.model.properties.items property_form in
     omega (arith, there, long)
 
-pub returns-in-Err-clause-refused : goal.returns-in-Err-clause-refused
-returns-in-Err-clause-refused c =
-    if_raised c.in-Err.error c.raise.result c.raise.ensures
-    (λ fault above same h. subst (IsUnnegated c.args.input.now) (sym same) (negations_unnegated c.args.input.now fault h)) (rw c.input.view_is at c.in-Err.ensures.refused)
+pub returns-in-Err : goal.returns-in-Err
+returns-in-Err c = record {
+  same = search rules;
+  compiled = tt;
+  refused =
+      if_raised c.in-Err.error c.raise.result c.raise.ensures
+      (λ fault above same h. subst (IsUnnegated c.args.input.now) (sym same) (negations_unnegated c.args.input.now fault h)) (rw c.input.view_is at c.in-Err.ensures.refused);
+}
 
-pub returns-in_err-asked-clause-refused : goal.returns-in_err-asked-clause-refused
-returns-in_err-asked-clause-refused c =
-    let bytes = c.args.input.now in
-    let model = model_form c.in-Some.read.typed.model in
-    let is_for = model_negated (goal.at.returns-in_err-asked-clause-refused c).In-Some in
-    handed_on (IsUntyped model) (IsUnnegated bytes) (text_unnegated bytes c.requires.1.protocol c.requires.1.read model is_for)
-    c.in_err-asked.field-0.0 c.from_residual.result c.in_err-asked.ensures.refused c.from_residual.ensures.1
+pub returns-in_err-asked : goal.returns-in_err-asked
+returns-in_err-asked c = record {
+  same = search rules;
+  compiled = search rules;
+  refused =
+      let bytes = c.args.input.now in
+      let model = model_form c.in-Some.read.typed.model in
+      let is_for = model_negated (goal.at.returns-in_err-asked c).In-Some in
+      handed_on (IsUntyped model) (IsUnnegated bytes) (text_unnegated bytes c.requires.1.protocol c.requires.1.read model is_for)
+      c.in_err-asked.field-0.0 c.from_residual.result c.in_err-asked.ensures.refused c.from_residual.ensures.1;
+}
 
-pub returns-clause-compiled : goal.returns-clause-compiled
-returns-clause-compiled c =
-    let is_for = model_negated (goal.at.returns-clause-compiled c).In-Some in
-    let model = model_form c.in-Some.read.typed.model in
-    let at = c.in_ok-asked.ensures.text in
-    let there = subst (λ (k : ℕ). slice_get model.properties k ≡ Some at.property) c.in_ok-asked.ensures.place at.stands in
-    negation_at c.negations_erase.ensures.protocols c.negations_erase.ensures.satisfaction c.args.input.now c.requires.1.protocol c.requires.1.read model is_for
-    c.args.place at.property there c.in_ok-compiled.compiled (c.in_ok-compiled.ensures model at.property at.text)
+pub returns : goal.returns
+returns c = record {
+  same = search rules;
+  compiled =
+      let is_for = model_negated (goal.at.returns c).In-Some in
+      let model = model_form c.in-Some.read.typed.model in
+      let at = c.in_ok-asked.ensures.text in
+      let there = subst (λ (k : ℕ). slice_get model.properties k ≡ Some at.property) c.in_ok-asked.ensures.place at.stands in
+      negation_at c.negations_erase.ensures.protocols c.negations_erase.ensures.satisfaction c.args.input.now c.requires.1.protocol c.requires.1.read model is_for
+      c.args.place at.property there c.in_ok-compiled.compiled (c.in_ok-compiled.ensures model at.property at.text);
+  refused = tt;
+}

@@ -1,5 +1,5 @@
 -- What `why` tells is what is asked for.
-use Rattle.std.proofs.Common.{List, ℕ, Option, sym, subst}
+use Rattle.std.proofs.Common.{List, ℕ, Option, rules, sym, subst}
 use Rattle.pb_command_line.specs.declared.request.Task.{Task}
 use Rattle.pb_command_faults.specs.Errors.{IfInputRefused}
 use Rattle.pb_command_modules.specs.Delivery.{Delivers}
@@ -8,24 +8,29 @@ use Rattle.pbsolve.specs.Writes.{IsRefusedFor, Writes}
 use Rattle.pbsolve.specs.Why.{IsUnshown, WritesWhy}
 use Rattle.pbsolve.proofs.program.task_answer.Goals as goal
 
-pub returns-in-Why-clause-written : goal.returns-in-Why-clause-written
-returns-in-Why-clause-written g c =
-    subst (λ (t : Task). Delivers (Writes t c.args.input.bytes.now) c.why_text.result g.O.Sink c.args.out.now c.why_text.new.writer)
-    (sym c.in-Why.is)
-    (subst (λ (n : Option (List ℕ)). Delivers (WritesWhy c.in-Why.options.lines n c.args.input.bytes.now) c.why_text.result g.O.Sink c.args.out.now c.why_text.new.writer)
-    c.name_of-in-Why.ensures c.why_text.ensures.told.0)
+pub returns-in-Why : goal.returns-in-Why
+returns-in-Why g c = record {
+  written =
+      subst (λ (t : Task). Delivers (Writes t c.args.input.bytes.now) c.why_text.result g.O.Sink c.args.out.now c.why_text.new.writer)
+      (sym c.in-Why.is)
+      (subst (λ (n : Option (List ℕ)). Delivers (WritesWhy c.in-Why.options.lines n c.args.input.bytes.now) c.why_text.result g.O.Sink c.args.out.now c.why_text.new.writer)
+      c.name_of-in-Why.ensures c.why_text.ensures.told.0);
+  refused =
+      subst (λ (t : Task). IfInputRefused c.why_text.result (IsRefusedFor t c.args.input.bytes.now))
+      (sym c.in-Why.is)
+      (subst (λ (n : Option (List ℕ)). IfInputRefused c.why_text.result (IsUnshown n c.args.input.bytes.now))
+      c.name_of-in-Why.ensures c.why_text.ensures.told.1);
+  named = search rules;
+}
 
--- and what it is refused by, as what is refused of a translation
-pub returns-in-Why-clause-refused : goal.returns-in-Why-clause-refused
-returns-in-Why-clause-refused g c =
-    subst (λ (t : Task). IfInputRefused c.why_text.result (IsRefusedFor t c.args.input.bytes.now))
-    (sym c.in-Why.is)
-    (subst (λ (n : Option (List ℕ)). IfInputRefused c.why_text.result (IsUnshown n c.args.input.bytes.now))
-    c.name_of-in-Why.ensures c.why_text.ensures.told.1)
-
-pub returns-in-Translate-clause-refused : goal.returns-in-Translate-clause-refused
-returns-in-Translate-clause-refused g c =
-    subst (λ (t : Task). IfInputRefused c.translate_text.result (IsRefusedFor t c.args.input.bytes.now))
-    (sym c.in-Translate.is)
-    (subst (λ (n : Option (List ℕ)). IfInputRefused c.translate_text.result (IsUntranslated n c.args.input.bytes.now))
-    c.name_of.ensures c.translate_text.ensures.text.1)
+-- and what a translation is refused by
+pub returns-in-Translate : goal.returns-in-Translate
+returns-in-Translate g c = record {
+  written = search rules;
+  refused =
+      subst (λ (t : Task). IfInputRefused c.translate_text.result (IsRefusedFor t c.args.input.bytes.now))
+      (sym c.in-Translate.is)
+      (subst (λ (n : Option (List ℕ)). IfInputRefused c.translate_text.result (IsUntranslated n c.args.input.bytes.now))
+      c.name_of.ensures c.translate_text.ensures.text.1);
+  named = search rules;
+}

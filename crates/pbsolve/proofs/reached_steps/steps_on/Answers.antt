@@ -31,13 +31,16 @@ loop-step-preserved g c =
 pub step_text-requires : goal.step_text-requires
 step_text-requires g c = omega (arith, c.len-step-end.ensures, c.loop-step-test.true, c.args.solved.now.typed.model.steps.ok.0)
 
-pub returns-clause-found : goal.returns-clause-found
-returns-clause-found g c =
-    let before = c.loop-step.invariant in
-    let model = model_form c.args.solved.now.typed.model in
-    let steps = c.args.solved.now.typed.model.steps in
-    let found : AreStepsFound model c.loop-step.findings.items = record {
-      count = omega (arith, before.count, before.within, c.len-step-end.ensures, c.loop-step-test.false, length-map steps.items step_form, steps.ok.0);
-      found = before.found;
-    } in
-    search rules
+pub returns : goal.returns
+returns g c = record {
+  found =
+      let before = c.loop-step.invariant in
+      let model = model_form c.args.solved.now.typed.model in
+      let steps = c.args.solved.now.typed.model.steps in
+      let found : AreStepsFound model c.loop-step.findings.items = record {
+        count = omega (arith, before.count, before.within, c.len-step-end.ensures, c.loop-step-test.false, length-map steps.items step_form, steps.ok.0);
+        found = before.found;
+      } in
+      search rules;
+  refused = tt;
+}

@@ -26,31 +26,27 @@ call_places g c =
     let place = told_place c.args.places (spec_form c.args.explained.now.typed.spec) (parameters c.args.explained.now.verified) in
     subst (λ (xs : List (Option Place)). AreCallPlaces place c.args.explained.now.explanation.evidence xs) (sym c.deref.ensures.value) c.in_ok-call_places.ensures
 
-pub write_evidence-requires-clause-places : goal.write_evidence-requires-clause-places
-write_evidence-requires-clause-places g c =
+pub write_evidence-requires : goal.write_evidence-requires
+write_evidence-requires g c =
     let told = told_place c.args.places (spec_form c.args.explained.now.typed.spec) (parameters c.args.explained.now.verified) in
-    (told, call_places g (goal.at.write_evidence-requires-clause-places g c).After-deref)
+    record { explanation = c.requires.explains; places = (told, call_places g (goal.at.write_evidence-requires g c).After-deref) }
 
-pub returns-in_err-call_places-clause-evidence : goal.returns-in_err-call_places-clause-evidence
-returns-in_err-call_places-clause-evidence g c bytes read =
-    nothing_in_want g.S.Sink (WritesTextEvidence c.args.places bytes) c.args.writer.now c.from_residual.result c.from_residual.ensures.1
+pub returns-in_err-call_places : goal.returns-in_err-call_places
+returns-in_err-call_places g c bytes read = (
+  nothing_in_want g.S.Sink (WritesTextEvidence c.args.places bytes) c.args.writer.now c.from_residual.result c.from_residual.ensures.1,
+  wanting_up (IsRefused bytes) c.from_residual.result c.from_residual.ensures.1,
+)
 
-pub returns-in_err-call_places-clause-refused : goal.returns-in_err-call_places-clause-refused
-returns-in_err-call_places-clause-refused g c bytes read = wanting_up (IsRefused bytes) c.from_residual.result c.from_residual.ensures.1
-
-pub returns-clause-evidence : goal.returns-clause-evidence
-returns-clause-evidence g c bytes read =
+pub returns : goal.returns
+returns g c bytes read =
     let explained = c.args.explained.now in
     let text = spec_form explained.typed.spec in
     let m = explained.verified in
     let place = told_place c.args.places text (parameters m) in
-    let are = call_places g (goal.at.returns-clause-evidence g c).After-deref in
-    less_delivered g.S.Sink (WritesEvidence m place) (WritesTextEvidence c.args.places bytes)
-    (text_evidence c.named_instances_are_called.ensures bytes text m read c.requires.explained.of_text c.args.places)
-    c.args.writer.now c.write_evidence.new.writer c.write_evidence.result (c.write_evidence.ensures.evidence place are)
-
-pub returns-clause-refused : goal.returns-clause-refused
-returns-clause-refused g c bytes read =
-    let m = c.args.explained.now.verified in
-    let of_text = of_bytes bytes (spec_form c.args.explained.now.typed.spec) m read c.requires.explained.of_text in
-    if_input_refused (IsRefusedModule m) (IsRefused bytes) (module_of_text_refused bytes m of_text) c.write_evidence.result c.write_evidence.ensures.refused
+    let are = call_places g (goal.at.returns g c).After-deref in
+    let of_text = of_bytes bytes text m read c.requires.of_text in (
+      less_delivered g.S.Sink (WritesEvidence m place) (WritesTextEvidence c.args.places bytes)
+          (text_evidence c.named_instances_are_called.ensures bytes text m read c.requires.of_text c.args.places)
+          c.args.writer.now c.write_evidence.new.writer c.write_evidence.result (c.write_evidence.ensures place are).0,
+      if_input_refused (IsRefusedModule m) (IsRefused bytes) (module_of_text_refused bytes m of_text) c.write_evidence.result (c.write_evidence.ensures place are).1,
+    )

@@ -7,7 +7,7 @@ use Rattle.pb_model_translation.specs.Placed.{every_step_form}
 use Rattle.pb_model_properties.specs.Words.{words_in}
 use Rattle.pb_model_words.specs.View.{vocabulary_of}
 use Rattle.pb_model_words.specs.Vocabulary.{Vocabulary}
-use Rattle.pbsolve.specs.Why.{lines_of, shown_by, told_text}
+use Rattle.pbsolve.specs.Why.{explanation_lines, shown_by, told_text}
 use Rattle.pbsolve.proofs.PropertyVerdicts.{some_property}
 use Rattle.pbsolve.proofs.Tellings.{ok_more}
 use Rattle.pbsolve.proofs.Verdicts.{at_mapped}
@@ -37,7 +37,7 @@ returns c = ok_more _ _ (λ told h q stands trees are.
     let name : c.deref.result.now ≡ q.name.text = c.deref.ensures ∙ ap (λ (x : PropertyForm). x.name.text) same in
     let e = c.args.explained.now in
     let line = λ (n : List ℕ) (words : Vocabulary) (steps : SpecForm).
-    told_text c.args.telling.always n c.args.telling.verdict (lines_of c.args.telling.lines (shown_by words (spec_form e.typed.spec) steps e.verified trees e.explanation.evidence)) in
+    told_text c.args.telling.always n c.args.telling.verdict (explanation_lines c.args.telling.lines (shown_by words (spec_form e.typed.spec) steps e.verified trees e.explanation.evidence)) in
     let words = vocabulary_of c.in_ok-vocabulary.vocabulary in
     let steps = spec_form c.in_ok-steps.steps.spec in
     h trees are ∙ (ap (λ (n : List ℕ). line n words steps) name

@@ -1,5 +1,5 @@
 -- Each turn tells one property more.
-use Rattle.std.proofs.Common.{◌∙◌, ℕ, ◌<◌, ◌≤◌, List, ◌++◌, length, string_bytes, ap, sym, subst, arith}
+use Rattle.std.proofs.Common.{rules, ◌∙◌, ℕ, ◌<◌, ◌≤◌, List, ◌++◌, length, string_bytes, ap, sym, subst, arith}
 use Rattle.std.proofs.lemmas.List.{length-map}
 use Rattle.pb_model_tree.specs.Form.{model_form, property_form}
 use Rattle.pb_model_properties.specs.Said.{IsModelOf}
@@ -35,18 +35,24 @@ loop-place-preserved g c =
 pub told_at-requires-clause-said : goal.told_at-requires-clause-said
 told_at-requires-clause-said g c κs within = subst (λ bs. IsModelOf bs (model_form c.args.solved.now.typed.model)) (sym c.loop-place.invariant.same) c.requires
 
-pub returns-in_err-told-clause-refused : goal.returns-in_err-told-clause-refused
-returns-in_err-told-clause-refused g c =
-    let P = IsUnexplained c.args.input.bytes.now in
-    handed_on P P (λ f h. h) c.in_err-told.field-0.0 c.from_residual.result (rw c.loop-place.invariant.same at c.in_err-told.ensures.refused) c.from_residual.ensures.1
+pub returns-in_err-told : goal.returns-in_err-told
+returns-in_err-told g c = record {
+  told = search rules;
+  refused =
+      let P = IsUnexplained c.args.input.bytes.now in
+      handed_on P P (λ f h. h) c.in_err-told.field-0.0 c.from_residual.result (rw c.loop-place.invariant.same at c.in_err-told.ensures.refused) c.from_residual.ensures.1;
+}
 
-pub returns-clause-told : goal.returns-clause-told
-returns-clause-told g c said =
-    let model = c.args.solved.now.typed.model in
-    let properties = (model_form model).properties in
-    let long : length properties ≤ c.loop-place.place =
-    omega (arith, length-map model.properties.items property_form, c.len-place-end.ensures, c.loop-place-test.false, model.properties.ok.0) in
-    let same = same_lengths said.protocol (model_form model) said.protocol.properties properties said.is_for.solved.properties in
-    let as_long : length said.protocol.properties ≤ c.loop-place.place = omega (arith, long, same) in
-    all_are_told c.args.options.lines (words_in c.args.solved.now) said.protocol (model_form model) c.loop-place.place (string_bytes c.loop-place.lines) as_long long
-    (c.loop-place.invariant.told said)
+pub returns : goal.returns
+returns g c = record {
+  told = λ said.
+      let model = c.args.solved.now.typed.model in
+      let properties = (model_form model).properties in
+      let long : length properties ≤ c.loop-place.place =
+      omega (arith, length-map model.properties.items property_form, c.len-place-end.ensures, c.loop-place-test.false, model.properties.ok.0) in
+      let same = same_lengths said.protocol (model_form model) said.protocol.properties properties said.is_for.solved.properties in
+      let as_long : length said.protocol.properties ≤ c.loop-place.place = omega (arith, long, same) in
+      all_are_told c.args.options.lines (words_in c.args.solved.now) said.protocol (model_form model) c.loop-place.place (string_bytes c.loop-place.lines) as_long long
+      (c.loop-place.invariant.told said);
+  refused = tt;
+}
