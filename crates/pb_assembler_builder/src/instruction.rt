@@ -6,7 +6,7 @@ ghost use Rattle.pb_assembler_builder.specs.Draft.{jump_op};
 use pb_bytecode_program::Op;
 
 /// A jump, whose target a label stands for.
-#[derive(Clone, Copy, Debug, PartialEq, Eq)]
+#[derive(Clone, Copy, PartialEq, Eq)]
 pub enum Jump {
     /// Jumps.
     Always,

@@ -1,9 +1,11 @@
-//! What all crates share: the one form of an error, the limits of pbsolve, and the bytes of names.
+//! What all crates share: the one form of an error, the limits of pbsolve, the bytes of names, and
+//! what lets a value go beside an error.
 #![tactic(auto)]
 
 mod limits;
 mod names;
 mod or_memory;
+mod pair;
 
 pub use limits::{
     MAX_BRACKETS, MAX_DEPTH, MAX_ENUMERATORS, MAX_EQUATIONS, MAX_INPUT_BYTES, MAX_INSTANCES,
@@ -12,3 +14,4 @@ pub use limits::{
 };
 pub use names::{is_letter, is_name_byte};
 pub use or_memory::{Fault, OrMemory};
+pub use pair::both;

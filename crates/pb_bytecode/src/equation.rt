@@ -7,7 +7,7 @@ use pb_sorts::Carrier;
 
 /// A fixpoint equation: its predicate variable with the carriers of its parameters, and the code
 /// that computes the and/or tree of the right side at an instance (Groote and Willemse 2005).
-#[derive(Debug, Drop)]
+#[derive(Drop)]
 pub struct Equation {
     pub sign: Sign,
     pub name: Name,

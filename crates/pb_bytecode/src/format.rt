@@ -5,7 +5,7 @@ ghost use Rattle.pb_bytecode.specs.Formats.{format_of};
 use pb_bytecode_program::{Arithmetic, Comparison, Equality, Junction, Leaf, Op, Version};
 
 /// What follows an instruction's code.
-#[derive(Clone, Copy, Debug)]
+#[derive(Clone, Copy)]
 pub enum Format {
     /// Nothing: the code is the whole instruction.
     Plain(Op),

@@ -10,7 +10,7 @@ use pb_bytecode_program::Version;
 
 /// A system of parameterised Boolean equations in compiled form. Its fields are within the limits
 /// of the format, so that it has a spelling; whether its code is accepted is a verifier's matter.
-#[derive(Debug, Drop)]
+#[derive(Drop)]
 pub struct Module {
     pub version: Version,
     pub sorts: Vec<Sort>,

@@ -7,7 +7,7 @@ use pb_base::{MAX_NAME_BYTES, is_letter, is_name_byte};
 
 /// A name: a letter or `_`, then letters, digits, `_` and `'`, at most `MAX_NAME_BYTES` bytes in
 /// all. Reserved words of texts are names, too.
-#[derive(Debug, Drop)]
+#[derive(Drop)]
 pub struct Name {
     pub text: String,
     pub ghost spelled: { is_module_name (string_bytes text) ≡ true },

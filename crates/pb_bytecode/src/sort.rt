@@ -6,7 +6,7 @@ use crate::name::Name;
 
 /// A sort, by its enumerators' names in order. A module has at most `MAX_STRUCTS` sorts with 1 to
 /// `MAX_ENUMERATORS` enumerators each.
-#[derive(Debug, Drop)]
+#[derive(Drop)]
 pub struct Sort {
     pub enumerators: Vec<Name>,
     pub ghost few: { vec_len enumerators ≤ MAX_ENUMERATORS },

@@ -2,7 +2,7 @@
 
 /// A kind, with an interval for a number: the abstract value of an operand or of a slot (interval
 /// analysis, Cousot and Cousot 1977).
-#[derive(Clone, Copy, Debug, PartialEq, Eq)]
+#[derive(Clone, Copy, PartialEq, Eq)]
 pub enum AbstractValue {
     /// A truth value.
     Bool,

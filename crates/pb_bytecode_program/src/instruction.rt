@@ -4,7 +4,7 @@ use pb_fixpoint_trees::Junction;
 
 /// An operator on two numbers. The divisor of `Div` and `Mod` is at least 1; the quotient is
 /// rounded down and the remainder is not negative.
-#[derive(Clone, Copy, Debug, PartialEq, Eq)]
+#[derive(Clone, Copy, PartialEq, Eq)]
 pub enum Arithmetic {
     Add,
     Sub,
@@ -16,7 +16,7 @@ pub enum Arithmetic {
 }
 
 /// An order of two numbers.
-#[derive(Clone, Copy, Debug, PartialEq, Eq)]
+#[derive(Clone, Copy, PartialEq, Eq)]
 pub enum Comparison {
     Less,
     LessOrEqual,
@@ -25,7 +25,7 @@ pub enum Comparison {
 }
 
 /// Whether two values of one kind are to be equal or different.
-#[derive(Clone, Copy, Debug, PartialEq, Eq)]
+#[derive(Clone, Copy, PartialEq, Eq)]
 pub enum Equality {
     Equal,
     NotEqual,
@@ -33,7 +33,7 @@ pub enum Equality {
 
 /// A leaf of a tree other than a call. `Cut` marks a call whose arguments lie outside their
 /// carriers; it counts as false, like `No`.
-#[derive(Clone, Copy, Debug, PartialEq, Eq)]
+#[derive(Clone, Copy, PartialEq, Eq)]
 pub enum Leaf {
     Yes,
     No,
@@ -43,7 +43,7 @@ pub enum Leaf {
 /// One instruction. Operands are popped from the operand stack and results are pushed onto it; of
 /// two operands the first is the lower one. A target is the place of an instruction, counted from
 /// 0. Slots are numbered from 0, the parameters first and then the loop slots.
-#[derive(Clone, Copy, Debug, PartialEq, Eq)]
+#[derive(Clone, Copy, PartialEq, Eq)]
 pub enum Op {
     /// Ends the run.
     End,

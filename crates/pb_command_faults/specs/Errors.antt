@@ -3,8 +3,8 @@ use Rattle.std.specs.Prelude.{ℕ, List, codes, Result, Ok, Err}
 use Rattle.pb_base.specs.declared.or_memory.OrMemory.{OrMemory}
 use Rattle.pb_base.specs.declared.or_memory.OrMemory.TheVariants as or_memory
 use Rattle.pb_sorts.specs.declared.sink.E02 as sink
-use Rattle.pb_model_properties.specs.declared.error.ModelFault.{ModelFault}
-use Rattle.pb_model_properties.specs.declared.error.ModelFault.TheVariants as model_fault
+use Rattle.pb_model_faults.specs.declared.ModelFault.{ModelFault}
+use Rattle.pb_model_faults.specs.declared.ModelFault.TheVariants as model_fault
 use Rattle.pb_command_faults.specs.Lines as lines
 use Rattle.pb_command_faults.specs.declared.fault.ProgramFault.TheVariants.{U01}
 use Rattle.pb_command_faults.specs.declared.solve_fault.SolveFault.{SolveFault}

@@ -9,7 +9,7 @@ use pb_assembler_measures::Excess;
 use pb_base::Fault;
 use pb_bytecode::ModuleFault;
 use pb_game_of_trees::TooManyVertices;
-use pb_model_properties::ModelFault;
+use pb_model_faults::ModelFault;
 use pb_text::TextFault;
 use pb_typing_declarations::TypingFault;
 use pb_verifier::CodeFault;

@@ -1,3 +1,4 @@
 pub mod Line
 pub mod Options
 pub mod Words
+pub mod Status

@@ -6,9 +6,11 @@ mod line;
 pub mod options;
 mod read;
 pub mod request;
+mod status;
 mod words;
 
 pub use command::Command;
 pub use options::{Checking, Explaining, Exploring, Showing, Solving, Translating};
 pub use request::{Request, Task};
+pub use status::Status;
 pub use words::{Usage, WordsError, request_of};

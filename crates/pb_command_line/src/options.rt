@@ -4,7 +4,7 @@ ghost use Rattle.std.specs.Prelude.{◌<◌, ◌≤◌};
 use pb_game::Solver;
 
 /// By how many workers is explored.
-#[derive(Clone, Copy, Debug, PartialEq, Eq)]
+#[derive(Clone, Copy, PartialEq, Eq)]
 pub struct Exploring {
     pub workers: u32,
     pub ghost some: { 0 < workers },
@@ -12,7 +12,7 @@ pub struct Exploring {
 }
 
 /// By how many workers is explored, and by which solver the game is solved.
-#[derive(Clone, Copy, Debug, PartialEq, Eq)]
+#[derive(Clone, Copy, PartialEq, Eq)]
 pub struct Solving {
     pub workers: u32,
     pub solver: Solver,
@@ -21,7 +21,7 @@ pub struct Solving {
 }
 
 /// By how many workers is explored, and whether the places of calls are told.
-#[derive(Clone, Copy, Debug, PartialEq, Eq)]
+#[derive(Clone, Copy, PartialEq, Eq)]
 pub struct Explaining {
     pub workers: u32,
     pub places: bool,
@@ -30,14 +30,14 @@ pub struct Explaining {
 }
 
 /// Which property is translated: the first where none is named.
-#[derive(Debug, Drop)]
+#[derive(Drop)]
 pub struct Translating {
     pub property: Option<String>,
 }
 
 /// How a model is checked, and which of its properties: all where none is named; whether the exit
 /// status tells the verdicts, and whether lines of counts are written.
-#[derive(Debug, Drop)]
+#[derive(Drop)]
 pub struct Checking {
     pub solving: Solving,
     pub properties: Vec<String>,
@@ -47,7 +47,7 @@ pub struct Checking {
 
 /// By how many workers is explored, which property is shown, or all where none is named, and
 /// whether by lines of instances.
-#[derive(Debug, Drop)]
+#[derive(Drop)]
 pub struct Showing {
     pub workers: u32,
     pub property: Option<String>,

@@ -4,7 +4,7 @@ use crate::options::{Checking, Explaining, Exploring, Showing, Solving, Translat
 use pb_command_rules::Rule;
 
 /// What the program is asked.
-#[derive(Debug, Drop)]
+#[derive(Drop)]
 pub enum Request {
     /// What a rule says; no input is read.
     Rule(Rule),
@@ -15,7 +15,7 @@ pub enum Request {
 }
 
 /// What is asked of an input but for verdicts: a command, with the options that it takes.
-#[derive(Debug, Drop)]
+#[derive(Drop)]
 pub enum Task {
     Solve(Solving),
     Game(Exploring),

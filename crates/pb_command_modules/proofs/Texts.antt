@@ -2,7 +2,7 @@
 use Rattle.std.proofs.Common.{◌≡◌, ◌∙◌, ℕ, List, Option, ap}
 use Rattle.pb_text_tree.specs.declared.place.Place.{Place}
 use Rattle.pb_fixpoint_trees.specs.Tree.{Tree}
-use Rattle.pb_fixpoint_rows.specs.Row.{TokenRow}
+use Rattle.pb_fixpoint_trees.specs.Row.{TokenRow}
 use Rattle.pb_bytecode.specs.Contents.{Contents}
 use Rattle.pb_exploration.specs.Rows.{AreExploredRows}
 use Rattle.pb_game.specs.Certificates.{IsCertificate}

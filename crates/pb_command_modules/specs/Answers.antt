@@ -17,6 +17,10 @@ pub record IsModuleOfCode (bytes : List ℕ) (m : Contents) : Type 0 where
   pub spell : Spell bytes m
   pub accepted : IsAccepted m
 
+-- P holds of one module at most
+abbrev pub HoldsOfOne : (Contents → Type 0) → Type 0
+HoldsOfOne P = (m n : Contents) → P m → P n → m ≡ n
+
 -- the answer to a module that bytes spell
 pub record IsAnswerOfCode (bytes : List ℕ) (a : Answer) : Type 0 where
   pub contents : Contents

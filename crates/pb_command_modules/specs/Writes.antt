@@ -2,7 +2,7 @@
 use Rattle.std.specs.Prelude.{◌≡◌, ℕ, List, Option, codes}
 use Rattle.pb_text_tree.specs.declared.place.Place.{Place}
 use Rattle.pb_fixpoint_trees.specs.Tree.{Tree}
-use Rattle.pb_fixpoint_rows.specs.Row.{TokenRow}
+use Rattle.pb_fixpoint_trees.specs.Row.{TokenRow}
 use Rattle.pb_bytecode.specs.Contents.{Contents}
 use Rattle.pb_bytecode.specs.Listing.{listing}
 use Rattle.pb_bytecode.specs.Meaning.{AreTrees}

@@ -2,8 +2,8 @@
 use Rattle.std.proofs.Common.{◌≡◌, ℕ, ◌≤◌, Bool, List, length, map, refl, ap, ◌∙◌}
 use Rattle.pb_fixpoint_trees.specs.Tree.{Tree}
 use Rattle.pb_fixpoint_trees.specs.Rows as plain
-use Rattle.pb_fixpoint_rows.specs.Row.{TokenRow}
-use Rattle.pb_fixpoint_rows.specs.Reached.{rows_of}
+use Rattle.pb_fixpoint_trees.specs.Row.{TokenRow}
+use Rattle.pb_fixpoint_trees.specs.Reached.{rows_of}
 use Rattle.pb_bytecode.specs.Contents.{Contents}
 use Rattle.pb_bytecode.specs.Meaning.{AreTrees, signature_of, initial_of, answer}
 use Rattle.pb_exploration.specs.Rows.{AreExploredRows}

@@ -1,6 +1,6 @@
 -- The rows that exploration hands over are those from which a game is built.
 use Rattle.std.proofs.Common.{◌≡◌, List, sym, subst}
-use Rattle.pb_fixpoint_rows.specs.Row.{TokenRow}
+use Rattle.pb_fixpoint_trees.specs.Row.{TokenRow}
 use Rattle.pb_bytecode.specs.Contents.{Contents}
 use Rattle.pb_bytecode.specs.Meaning.{initial_of}
 use Rattle.pb_machine.specs.Reachable.{Starts}

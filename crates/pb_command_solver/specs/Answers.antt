@@ -3,7 +3,7 @@
 -- about them is said of whichever trees they have. What is made of a module says that it has trees.
 use Rattle.std.specs.Prelude.{◌≡◌, ⊤, ℕ, Bool, ◌<◌, ◌≤◌, List, Option, Some, None}
 use Rattle.pb_fixpoint_trees.specs.Tree.{Tree}
-use Rattle.pb_fixpoint_rows.specs.Row.{TokenRow}
+use Rattle.pb_fixpoint_trees.specs.Row.{TokenRow}
 use Rattle.pb_bytecode.specs.Contents.{Contents}
 use Rattle.pb_bytecode.specs.Meaning.{AreTrees, answer}
 use Rattle.pb_exploration.specs.Rows.{AreReached, AreExploredRows}

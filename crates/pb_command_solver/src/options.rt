@@ -5,7 +5,7 @@ use pb_game::Solver;
 
 /// How a module is solved: by so many workers, which explore it and, where the solver is lifting,
 /// lift its game too. What the answer is depends on neither.
-#[derive(Clone, Copy, Debug, PartialEq, Eq)]
+#[derive(Clone, Copy, PartialEq, Eq)]
 pub struct SolveOptions {
     pub workers: Workers,
     pub solver: Solver,

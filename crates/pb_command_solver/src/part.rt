@@ -14,7 +14,7 @@ use crate::options::SolveOptions;
 use pb_evidence_nearby::Nearby;
 use pb_exploration::Gate;
 use pb_fixpoint::Sign;
-use pb_fixpoint_rows::IndexedRows;
+use pb_fixpoint_trees::IndexedRows;
 use pb_game_of_trees::{BuildError, Solved, build_rows};
 use pb_machine::instances_have_trees;
 use pb_report::{Explanation, evidence_of_rows};

@@ -6,7 +6,7 @@ ghost use Rattle.pb_command_solver.specs.declared.workers.TheConstants.{MAX_WORK
 pub const MAX_WORKERS: u32 = 16;
 
 /// So many workers explore a module and, where the solver is lifting, lift its game.
-#[derive(Clone, Copy, Debug, PartialEq, Eq)]
+#[derive(Clone, Copy, PartialEq, Eq)]
 pub struct Workers {
     pub count: u32,
     pub ghost some: { 0 < count },

@@ -29,8 +29,8 @@ use Rattle.pb_machine.proofs.TreeCalls.{each_tree}
 use Rattle.pb_evidence.specs.AssumedGraphs.{leaf_tree, IsAssumed}
 use Rattle.pb_evidence.proofs.Proving.{test_of, contained_of}
 use Rattle.pb_exploration.specs.Rows.{AreExploredRows}
-use Rattle.pb_fixpoint_rows.specs.Row.{TokenRow, nothing, row_of_tokens}
-use Rattle.pb_fixpoint_rows.specs.Reached.{numbers_of, row_of, rows_of}
+use Rattle.pb_fixpoint_trees.specs.Row.{TokenRow, nothing, row_of_tokens}
+use Rattle.pb_fixpoint_trees.specs.Reached.{numbers_of, row_of, rows_of}
 use Rattle.pb_game_of_trees.specs.TreeGame.{AreRowsFrom}
 use Rattle.pb_game_of_trees.proofs.Reached.{found_row}
 use Rattle.pb_evidence_nearby.specs.declared.nearby.Nearby.{Nearby}

@@ -1,15 +1,14 @@
 //! Rows for a game of the nearest instances.
 ghost use Rattle.std.specs.Prelude.{◌≡◌, ◌≤◌, ◌<◌, ◌^◌, [], ◌∷◌, All, Contains, IfOk, OnOk, length};
 ghost use Rattle.std.specs.Prelude.{map};
-ghost use Rattle.pb_fixpoint_rows.specs.Entries.{IsThere, row_there};
+ghost use Rattle.pb_fixpoint_trees.specs.Entries.{IsThere, row_there};
 ghost use Rattle.pb_bytecode.specs.Contents.{Contents};
 ghost use Rattle.pb_exploration.specs.Rows.{AreExploredRows};
 ghost use Rattle.pb_evidence_nearby.specs.Nearby.{IsNearby, found_in, nearby_rows};
 ghost use Rattle.pb_evidence_nearby.specs.Around.{AddsAround, AreAssumedRows, IsAround};
 
 use crate::nearby::Nearby;
-use pb_fixpoint_rows::{IndexedRows, Place, ReadRows, Rows};
-use pb_fixpoint_trees::Token;
+use pb_fixpoint_trees::{IndexedRows, Place, ReadRows, Rows, Token};
 use std::alloc::{AllocError, Global};
 
 /// The places of rows that stand in one list, in their order.

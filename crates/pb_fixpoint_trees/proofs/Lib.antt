@@ -7,3 +7,6 @@ pub mod Lengths
 pub mod Calls
 pub mod Players
 pub mod Total
+pub mod Entries
+pub mod Gathered
+pub mod NoCut

@@ -7,3 +7,7 @@ pub mod Players
 pub mod Game
 pub mod Laws
 pub mod Examples
+pub mod Row
+pub mod Entries
+pub mod Reached
+pub mod Order

@@ -6,20 +6,33 @@
 //! runs.
 #![tactic(auto)]
 
+mod cuts;
+pub mod index;
 mod junction;
+mod listed;
 mod player;
+pub mod read_rows;
+pub mod reordering;
+pub mod room;
+pub mod rows;
 
 ghost use Rattle.pb_fixpoint_trees.specs.Laws.{EquationsAreSolved, GameIsTotal, RowsHaveVertices};
 ghost use Rattle.pb_fixpoint_trees.specs.Laws.{TokensAreOneTree, TruthIsMonotone};
 ghost use Rattle.pb_fixpoint_trees.specs.Examples.{EmptyBrackets, LeastWithinGreatest, NestedBrackets};
 ghost use Rattle.pb_fixpoint_trees.specs.Examples.{SelfReference};
 
+pub use cuts::any_cut;
+pub use index::{IndexedRows, Place};
 pub use junction::Junction;
 pub use player::Player;
+pub use read_rows::ReadRows;
+pub use reordering::Reordering;
+pub use room::push;
+pub use rows::Rows;
 
 /// A token of a tree. The tree of an instance, with all data evaluated, is a list of these: a leaf,
 /// or an opening token, the tokens of the operands in order, and `Close`.
-#[derive(Clone, Copy, Debug, PartialEq, Eq)]
+#[derive(Clone, Copy, PartialEq, Eq)]
 pub enum Token {
     /// Opens a conjunction.
     And,

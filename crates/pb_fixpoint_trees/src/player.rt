@@ -4,7 +4,7 @@ ghost use Rattle.std.specs.Prelude.{◌≡◌, ◌%◌};
 ghost use Rattle.pb_fixpoint_trees.specs.Players.{parity_of, opponent_of};
 
 /// A player, by the parity of the priorities that it wins with (Zielonka 1998).
-#[derive(Clone, Copy, Debug, PartialEq, Eq)]
+#[derive(Clone, Copy, PartialEq, Eq)]
 pub enum Player {
     Even,
     Odd,

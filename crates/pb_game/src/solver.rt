@@ -5,7 +5,7 @@ ghost use Rattle.pb_game.specs.SolverNames.{solver_name};
 use std::fmt;
 
 /// An algorithm for parity games. It shows as the word that asks for it, `zielonka` or `lift`.
-#[derive(Clone, Copy, Debug, Default, PartialEq, Eq)]
+#[derive(Clone, Copy, Default, PartialEq, Eq)]
 pub enum Solver {
     /// Zielonka's recursive algorithm, by attractors (Zielonka 1998).
     #[default]

@@ -7,8 +7,8 @@ use Rattle.pb_fixpoint_trees.specs.Equations.{Signature, total}
 use Rattle.pb_fixpoint_trees.specs.Rows.{Row, IsReached}
 use Rattle.pb_fixpoint_trees.specs.Game.{Vertex, vertex_of, priority_from, row_vertices, false_sink, true_sink, game_vertices}
 use Rattle.pb_fixpoint_trees.specs.Laws.{GameIsTotal}
-use Rattle.pb_fixpoint_rows.specs.Row.{TokenRow}
-use Rattle.pb_fixpoint_rows.specs.Reached.{numbers_of, row_of, rows_of, AreRowsOf}
+use Rattle.pb_fixpoint_trees.specs.Row.{TokenRow}
+use Rattle.pb_fixpoint_trees.specs.Reached.{numbers_of, row_of, rows_of, AreRowsOf}
 use Rattle.pb_base.specs.declared.limits.TheConstants.{MAX_VERTICES}
 use Rattle.pb_game_of_trees.specs.Held.{Hold}
 use Rattle.pb_game_of_trees.specs.declared.levels.Level.{Level}

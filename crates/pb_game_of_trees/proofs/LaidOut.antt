@@ -2,7 +2,7 @@
 use Rattle.std.proofs.Common.{◌≡◌, ◌<◌, ◌≤◌, List, Option, None, Some, arith}
 use Rattle.std.specs.Prelude.{MatchOption, IfSome}
 use Rattle.pb_fixpoint_trees.specs.Rows.{Row}
-use Rattle.pb_fixpoint_rows.specs.Row.{TokenRow}
+use Rattle.pb_fixpoint_trees.specs.Row.{TokenRow}
 use Rattle.pb_base.specs.declared.limits.TheConstants.{MAX_VERTICES}
 use Rattle.pb_game_of_trees.specs.Held.{Hold}
 use Rattle.pb_game_of_trees.specs.Places.{vertex_behind, vertices_from}

@@ -7,8 +7,8 @@ use Rattle.pb_fixpoint_trees.specs.Tree.{Tree}
 use Rattle.pb_fixpoint_trees.specs.Tokens.{tree_tokens}
 use Rattle.pb_fixpoint_trees.specs.Equations.{Signature}
 use Rattle.pb_fixpoint_trees.specs.Rows as plain
-use Rattle.pb_fixpoint_rows.specs.Row.{TokenRow, nothing}
-use Rattle.pb_fixpoint_rows.specs.Reached.{numbers_of, row_of, rows_of, AreRowsOf}
+use Rattle.pb_fixpoint_trees.specs.Row.{TokenRow, nothing}
+use Rattle.pb_fixpoint_trees.specs.Reached.{numbers_of, row_of, rows_of, AreRowsOf}
 use Rattle.pb_game_of_trees.specs.Held.{held, Hold}
 use Rattle.pb_game_of_trees.specs.Places.{numbers}
 

@@ -4,8 +4,8 @@ use Rattle.std.specs.Prelude.{IsErrAnd}
 use Rattle.pb_fixpoint_trees.specs.Tree.{Tree}
 use Rattle.pb_fixpoint_trees.specs.Equations.{Signature}
 use Rattle.pb_fixpoint_trees.specs.Rows.{Row}
-use Rattle.pb_fixpoint_rows.specs.Row.{TokenRow}
-use Rattle.pb_fixpoint_rows.specs.Reached.{rows_of, AreRowsOf}
+use Rattle.pb_fixpoint_trees.specs.Row.{TokenRow}
+use Rattle.pb_fixpoint_trees.specs.Reached.{rows_of, AreRowsOf}
 use Rattle.pb_base.specs.declared.limits.TheConstants.{MAX_VERTICES}
 use Rattle.pb_base.specs.OrMemory.{OnRefused}
 use Rattle.pb_base.specs.declared.or_memory.OrMemory.{OrMemory}

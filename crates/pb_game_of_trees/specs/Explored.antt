@@ -2,8 +2,8 @@
 -- of their trees.
 use Rattle.std.specs.Prelude.{ℕ, List, map}
 use Rattle.pb_fixpoint_trees.specs.Tree.{Tree}
-use Rattle.pb_fixpoint_rows.specs.Row.{TokenRow}
-use Rattle.pb_fixpoint_rows.specs.Reached.{rows_of}
+use Rattle.pb_fixpoint_trees.specs.Row.{TokenRow}
+use Rattle.pb_fixpoint_trees.specs.Reached.{rows_of}
 use Rattle.pb_bytecode.specs.Contents.{Contents}
 use Rattle.pb_bytecode.specs.Meaning.{AreTrees, signature_of, initial_of}
 use Rattle.pb_game_of_trees.specs.declared.tree_game.TreeGame.{TreeGame}

@@ -6,8 +6,8 @@ use Rattle.pb_fixpoint_trees.specs.Tree.{Tree}
 use Rattle.pb_fixpoint_trees.specs.Equations.{Signature}
 use Rattle.pb_fixpoint_trees.specs.Rows as plain
 use Rattle.pb_fixpoint_trees.specs.Game.{vertex_of, game_vertices}
-use Rattle.pb_fixpoint_rows.specs.Row.{TokenRow}
-use Rattle.pb_fixpoint_rows.specs.Reached.{numbers_of, rows_of, AreRowsOf}
+use Rattle.pb_fixpoint_trees.specs.Row.{TokenRow}
+use Rattle.pb_fixpoint_trees.specs.Reached.{numbers_of, rows_of, AreRowsOf}
 use Rattle.pb_base.specs.declared.limits.TheConstants.{MAX_VERTICES}
 use Rattle.pb_strategy.specs.Meaning.{IsGameOfRows}
 use Rattle.pb_game_of_trees.specs.declared.tree_game.TooManyVertices.{TooManyVertices}

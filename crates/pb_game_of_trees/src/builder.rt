@@ -14,8 +14,7 @@ use crate::bracket::{owner, sink};
 use crate::draft::Draft;
 use crate::numbering::Numbering;
 use crate::small::{bracket_of, leaf_vertex};
-use pb_fixpoint_rows::{IndexedRows, ReadRows};
-use pb_fixpoint_trees::{Junction, Token};
+use pb_fixpoint_trees::{IndexedRows, Junction, ReadRows, Token};
 use pb_game::Player;
 use std::alloc::AllocError;
 

@@ -7,7 +7,7 @@ ghost use Rattle.pb_game_of_trees.specs.Draft.{IsDraft, ArePartsOf};
 ghost use Rattle.pb_base.specs.declared.limits.TheConstants.{MAX_VERTICES};
 
 use crate::falling::push_falling;
-use pb_fixpoint_rows::push;
+use pb_fixpoint_trees::push;
 use pb_game::{Game, Parts, Player};
 use std::alloc::{AllocError, Global};
 

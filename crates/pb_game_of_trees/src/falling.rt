@@ -3,7 +3,7 @@ ghost use Rattle.std.specs.Prelude.{◌≡◌, ◌++◌, OnOk, reverse, IsTrue, 
 ghost use Rattle.pb_fixpoint_trees.specs.Game.{rising};
 ghost use Rattle.pb_game_of_trees.specs.Falling.{IsFalling};
 
-use pb_fixpoint_rows::push;
+use pb_fixpoint_trees::push;
 use std::alloc::AllocError;
 
 /// Adds the numbers of a list that is read from its end: rising, each once, and the last first.

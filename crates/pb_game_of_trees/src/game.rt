@@ -2,7 +2,7 @@
 ghost use Rattle.std.specs.Prelude.{ℕ, IfOk, map};
 ghost use Rattle.pb_base.specs.OrMemory.{OnRefused};
 ghost use Rattle.pb_fixpoint_trees.specs.Tree.{Tree};
-ghost use Rattle.pb_fixpoint_rows.specs.Reached.{AreRowsOf};
+ghost use Rattle.pb_fixpoint_trees.specs.Reached.{AreRowsOf};
 ghost use Rattle.pb_bytecode.specs.Meaning.{signature_of, initial_of};
 ghost use Rattle.pb_game_of_trees.specs.TreeGame.{RowsHaveTrees, IsGameOf};
 ghost use Rattle.pb_game_of_trees.specs.TreeGame.{HasTooManyVertices};
@@ -11,7 +11,7 @@ ghost use Rattle.pb_game_of_trees.specs.Explored.{IsModuleTooLarge};
 
 use crate::signatures::Signatures;
 use crate::{BuildError, TreeGame};
-use pb_fixpoint_rows::IndexedRows;
+use pb_fixpoint_trees::IndexedRows;
 use pb_verifier::Verified;
 use std::alloc::Global;
 

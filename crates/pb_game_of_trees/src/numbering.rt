@@ -7,7 +7,7 @@ ghost use Rattle.pb_game_of_trees.specs.Numbering.{numbered_vertex};
 ghost use Rattle.pb_game_of_trees.specs.Places.{numbers};
 
 use crate::sorted_vertices::{SortedVertices, numbers_of_rows};
-use pb_fixpoint_rows::{IndexedRows, ReadRows};
+use pb_fixpoint_trees::{IndexedRows, ReadRows};
 use pb_game::Game;
 use std::alloc::{AllocError, Global};
 

@@ -9,7 +9,7 @@ ghost use Rattle.pb_base.specs.declared.limits.TheConstants.{MAX_VERTICES};
 use crate::size::{Size, inner_of, size_of};
 use crate::tree_game::{BuildError, TooManyVertices};
 use pb_base::MAX_VERTICES;
-use pb_fixpoint_rows::{IndexedRows, ReadRows, push};
+use pb_fixpoint_trees::{IndexedRows, ReadRows, push};
 use std::alloc::{AllocError, Global};
 
 /// The vertex of each row, and the size of the game.

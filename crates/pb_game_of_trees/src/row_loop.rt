@@ -14,7 +14,7 @@ use crate::draft::Draft;
 use crate::levels::Levels;
 use crate::numbering::Numbering;
 use crate::size::Size;
-use pb_fixpoint_rows::{IndexedRows, ReadRows};
+use pb_fixpoint_trees::{IndexedRows, ReadRows};
 use pb_game::{Game, Player};
 use std::alloc::{AllocError, Global};
 

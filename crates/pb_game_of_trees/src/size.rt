@@ -5,14 +5,13 @@ ghost use Rattle.pb_fixpoint_trees.specs.Rows.{Row as plain_row};
 ghost use Rattle.pb_fixpoint_trees.specs.Tree.{Tree};
 ghost use Rattle.pb_fixpoint_trees.specs.Tokens.{tree_tokens};
 ghost use Rattle.pb_fixpoint_trees.specs.Game.{inner};
-ghost use Rattle.pb_fixpoint_rows.specs.Row.{nothing};
+ghost use Rattle.pb_fixpoint_trees.specs.Row.{nothing};
 ghost use Rattle.pb_game_of_trees.specs.Held.{Hold};
 ghost use Rattle.pb_game_of_trees.specs.Places.{vertex_behind, is_closing};
 ghost use Rattle.pb_base.specs.declared.limits.TheConstants.{MAX_VERTICES};
 
 use pb_base::MAX_VERTICES;
-use pb_fixpoint_rows::{IndexedRows, ReadRows};
-use pb_fixpoint_trees::Token;
+use pb_fixpoint_trees::{IndexedRows, ReadRows, Token};
 use pb_game::Game;
 
 /// How many vertices a game has, and about how many edges.

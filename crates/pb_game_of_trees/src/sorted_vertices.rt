@@ -1,10 +1,10 @@
 //! The vertices of few instances, which are searched for by their numbers.
 ghost use Rattle.std.specs.Prelude.{◌≡◌, IfOk, length};
 ghost use Rattle.std.specs.List.Sorted.{IsStrictlyIncreasing};
-ghost use Rattle.pb_fixpoint_rows.specs.Reached.{numbers_of};
+ghost use Rattle.pb_fixpoint_trees.specs.Reached.{numbers_of};
 ghost use Rattle.pb_game_of_trees.specs.Places.{vertex_in};
 
-use pb_fixpoint_rows::{IndexedRows, ReadRows};
+use pb_fixpoint_trees::{IndexedRows, ReadRows};
 use std::alloc::{AllocError, Global};
 
 /// The numbers of rows, which rise, with the rows' vertices.

@@ -10,7 +10,7 @@ use crate::places::{Laid, laid_rows};
 use crate::row_loop::draft_of;
 use crate::signatures::Signatures;
 use pb_base::{Fault, OrMemory};
-use pb_fixpoint_rows::IndexedRows;
+use pb_fixpoint_trees::IndexedRows;
 use pb_game::Game;
 use std::alloc::Global;
 use std::fmt;

@@ -6,7 +6,7 @@ ghost use Rattle.pb_machine.specs.Mirror.{Mirrors};
 ghost use Rattle.pb_machine.specs.declared.machine.Machine.{Machine as memory};
 
 /// How far a run has come.
-#[derive(Clone, Copy, Debug, Default, PartialEq, Eq)]
+#[derive(Clone, Copy, Default, PartialEq, Eq)]
 pub struct Registers {
     /// The place of the next instruction.
     pub(crate) place: usize,

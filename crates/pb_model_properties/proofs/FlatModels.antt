@@ -16,7 +16,7 @@ use Rattle.pb_model_meaning.specs.Syntax as model
 use Rattle.pb_model_meaning.specs.Erase as model_text
 use Rattle.pb_model_spelling.specs.Protocols.{FormulaWritable, PropertyWritable, ProtocolWritable}
 use Rattle.pb_model_spelling.specs.Writable.{ModalWritable, ModelWritable}
-use Rattle.pb_protocol_spelling.specs.Laws.{FlatFormulasAreWritable}
+use Rattle.pb_protocol_laws.specs.SpellingLaws.{FlatFormulasAreWritable}
 use Rattle.pb_model_places.specs.Apart.{lines_from}
 use Rattle.pb_model_places.specs.Apart.{formula_places}
 use Rattle.pb_model_runs.specs.Exact as model_places
@@ -44,9 +44,9 @@ use Rattle.pb_protocol_unfolder.specs.Told as told
 use Rattle.pb_protocol_unfolder.specs.Unfolded.{flat_name, property_name}
 use Rattle.pb_protocol_tree.specs.declared.protocol.Property.{Property as DeclaredProperty}
 use Rattle.pb_protocol_tree.specs.declared.protocol.Protocol.{Protocol as DeclaredProtocol}
-use Rattle.pb_protocol_solved.specs.Laws.{model_property_names, property_names}
-use Rattle.pb_model_properties.specs.declared.error.ModelFault.{ModelFault}
-use Rattle.pb_model_properties.specs.declared.error.ModelFault.TheVariants as model_fault
+use Rattle.pb_protocol_laws.specs.SolvedLaws.{model_property_names, property_names}
+use Rattle.pb_model_faults.specs.declared.ModelFault.{ModelFault}
+use Rattle.pb_model_faults.specs.declared.ModelFault.TheVariants as model_fault
 use Rattle.pb_model_properties.specs.declared.solved.ToldNames.{ToldNames}
 use Rattle.pb_model_properties.specs.Faults.{as_model_fault}
 use Rattle.pb_model_properties.specs.Flat.{IsFlatModelFor}

@@ -11,7 +11,7 @@ use Rattle.pb_model_runs.specs.Exact.{are_apart, formula_places, is_among, stand
 use Rattle.pb_model_spelling.specs.Laws.{TranslationsCanBeSaid}
 use Rattle.pb_model_spelling.specs.Writable.{ModalWritable, ModelWritable}
 use Rattle.pb_protocol_packing.specs.Packing.{Group, packed_property, packed_formula}
-use Rattle.pb_protocol_solved.specs.Laws.{model_property_names}
+use Rattle.pb_protocol_laws.specs.SolvedLaws.{model_property_names}
 use Rattle.pb_model_properties.specs.Said.{HasSayableTexts}
 
 -- what holds of each element

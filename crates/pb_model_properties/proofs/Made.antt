@@ -24,9 +24,9 @@ use Rattle.pb_model_places.specs.Apart.{KeptPlacesStandApart}
 use Rattle.pb_model_places.specs.Apart as places
 use Rattle.pb_model_text.specs.Parsing.{IsFirstModelFault, NoModelReading}
 use Rattle.pb_protocol_typing.specs.Faults.{protocol_faults}
-use Rattle.pb_protocol_solved.specs.Laws.{PlainModelsAreSolved, model_property_names, property_names}
-use Rattle.pb_model_properties.specs.declared.error.ModelFault.{ModelFault}
-use Rattle.pb_model_properties.specs.declared.error.ModelFault.TheVariants as model_fault
+use Rattle.pb_protocol_laws.specs.SolvedLaws.{PlainModelsAreSolved, model_property_names, property_names}
+use Rattle.pb_model_faults.specs.declared.ModelFault.{ModelFault}
+use Rattle.pb_model_faults.specs.declared.ModelFault.TheVariants as model_fault
 use Rattle.pb_model_properties.specs.Laws.{ModelsStandForProtocols}
 use Rattle.pb_model_properties.specs.Made.{has_many_variables}
 use Rattle.pb_model_properties.specs.Refusals.{IsRefusedModel, IsRefusedProtocol, IsUnread, told_at, told_fault, told_place}

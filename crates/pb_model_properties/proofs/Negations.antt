@@ -16,7 +16,7 @@ use Rattle.pb_model_places.specs.Apart.{formula_places, protocol_stands_apart, s
 use Rattle.pb_protocol_tree.specs.Form.{FormulaForm, PropertyForm, ProtocolForm}
 use Rattle.pb_protocol_meaning.specs.Erase.{erase, erased_formula, erased_property}
 use Rattle.pb_protocol_negation.specs.Negated.{negated, negated_property, negated_protocol}
-use Rattle.pb_model_properties.specs.declared.error.ModelFault.{ModelFault}
+use Rattle.pb_model_faults.specs.declared.ModelFault.{ModelFault}
 use Rattle.pb_model_properties.specs.declared.solved.SolvedModel.{SolvedModel}
 use Rattle.pb_model_properties.specs.Negations.{IsNegatedModelOf, IsRefusedNegation}
 use Rattle.pb_model_properties.specs.Refusals.{IsRefusedProtocol}

@@ -6,7 +6,7 @@ use Rattle.std.proofs.lemmas.List.Elements.{Contains-append_left, Contains-appen
 use Rattle.pb_model_tree.specs.Form.{ModelForm, PropertyForm}
 use Rattle.pb_protocol_tree.specs.Form as protocol_form
 use Rattle.pb_protocol_tree.specs.Form.{ProtocolForm}
-use Rattle.pb_protocol_solved.specs.Solved.{AreSameProperties, IsSameProperty}
+use Rattle.pb_protocol_laws.specs.Solved.{AreSameProperties, IsSameProperty}
 
 pub record IsMeant (protocol : ProtocolForm) (model : ModelForm) (ps : List protocol_form.PropertyForm) (q : PropertyForm) : Type 0 where
   pub property : protocol_form.PropertyForm

@@ -25,10 +25,10 @@ use Rattle.pb_protocol_packer.specs.Groups.{groups_in}
 use Rattle.pb_protocol_groups.specs.Checks.{IsPackingFault}
 use Rattle.pb_protocol_groups.specs.Places.{named_properties, property_places}
 use Rattle.pb_protocol_groups.specs.Sizes.{size_faults}
-use Rattle.pb_protocol_spelling.specs.FewValues.{HasFewValues}
+use Rattle.pb_protocol_laws.specs.FewValues.{HasFewValues}
 use Rattle.pb_protocol_tree.specs.Form.{ProtocolForm}
-use Rattle.pb_model_properties.specs.declared.error.ModelFault.{ModelFault}
-use Rattle.pb_model_properties.specs.declared.error.ModelFault.TheVariants as model_fault
+use Rattle.pb_model_faults.specs.declared.ModelFault.{ModelFault}
+use Rattle.pb_model_faults.specs.declared.ModelFault.TheVariants as model_fault
 use Rattle.pb_model_properties.specs.declared.solved.SolvedModel.{SolvedModel}
 use Rattle.pb_model_properties.specs.declared.solved.ToldNames.{ToldNames}
 use Rattle.pb_model_properties.specs.declared.solved.UnpackedModel.{UnpackedModel}

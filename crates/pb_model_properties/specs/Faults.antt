@@ -6,8 +6,8 @@ use Rattle.pb_typing_declarations.specs.declared.fault.TypingRule.TheVariants as
 use Rattle.pb_protocol_unfolder.specs.declared.fault.UnfoldingFault.{UnfoldingFault}
 use Rattle.pb_protocol_unfolder.specs.declared.fault.UnfoldingRule.{UnfoldingRule}
 use Rattle.pb_protocol_unfolder.specs.declared.fault.UnfoldingRule.TheVariants as unfolding_rule
-use Rattle.pb_model_properties.specs.declared.error.ModelFault.{ModelFault}
-use Rattle.pb_model_properties.specs.declared.error.ModelFault.TheVariants as model_fault
+use Rattle.pb_model_faults.specs.declared.ModelFault.{ModelFault}
+use Rattle.pb_model_faults.specs.declared.ModelFault.TheVariants as model_fault
 
 abbrev typing_fault : TypingRule → Place → ModelFault
 typing_fault r p = model_fault.Typing (record { rule = r; place = p })

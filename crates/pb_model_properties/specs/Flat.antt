@@ -8,7 +8,7 @@ use Rattle.pb_model_runs.specs.Exact.{stand_apart}
 use Rattle.pb_model_spelling.specs.Writable.{ModalWritable, ModelWritable}
 use Rattle.pb_protocol_tree.specs.Form.{ProtocolForm}
 use Rattle.pb_protocol_unfolder.specs.declared.origin.StepOrigin.{StepOrigin}
-use Rattle.pb_protocol_solved.specs.Solved.{itself, IsSolvedFor}
+use Rattle.pb_protocol_laws.specs.Solved.{itself, IsSolvedFor}
 use Rattle.pb_model_properties.specs.Made.{IsFlatOf}
 
 -- where a step's name stands in the protocol

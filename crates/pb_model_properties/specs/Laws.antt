@@ -5,11 +5,11 @@ use Rattle.pb_model_spelling.specs.Laws.{ReadProtocolsAreWritable, ReadProtocols
 use Rattle.pb_model_spelling.specs.Laws.{TranslationsCanBeSaid}
 use Rattle.pb_model_typing.specs.Laws.{NamesAreApart}
 use Rattle.pb_protocol_laws.specs.Laws.{EnumeratorsAreApart, PlainProtocolsArePlain}
-use Rattle.pb_protocol_solved.specs.Laws.{PackedModelsAreSolved, PlainModelsAreSolved}
-use Rattle.pb_protocol_solved.specs.Laws.{UnfoldedModelsAreSolved}
-use Rattle.pb_protocol_spelling.specs.Laws.{FlatFormulasAreWritable, FlatModelsAreWritable}
-use Rattle.pb_protocol_spelling.specs.Laws.{GroupsHaveFewValues, PackedFormulasAreWritable}
-use Rattle.pb_protocol_spelling.specs.Laws.{PackedModelsAreWritable}
+use Rattle.pb_protocol_laws.specs.SolvedLaws.{PackedModelsAreSolved, PlainModelsAreSolved}
+use Rattle.pb_protocol_laws.specs.SolvedLaws.{UnfoldedModelsAreSolved}
+use Rattle.pb_protocol_laws.specs.SpellingLaws.{FlatFormulasAreWritable, FlatModelsAreWritable}
+use Rattle.pb_protocol_laws.specs.SpellingLaws.{GroupsHaveFewValues, PackedFormulasAreWritable}
+use Rattle.pb_protocol_laws.specs.SpellingLaws.{PackedModelsAreWritable}
 
 -- A plain protocol's own model, the one that another is unfolded to, and the packed one of either:
 -- each satisfies and does what the protocol does, tells its steps by their places, and has words,

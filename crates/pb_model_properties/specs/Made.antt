@@ -11,7 +11,7 @@ use Rattle.pb_protocol_packing.specs.Groups.{groups_of, packed}
 use Rattle.pb_protocol_packing.specs.Packable.{IsPackable}
 use Rattle.pb_protocol_packing.specs.Unpacked.{unpacked}
 use Rattle.pb_protocol_unfolder.specs.Plain.{plain_form}
-use Rattle.pb_protocol_solved.specs.Solved.{itself}
+use Rattle.pb_protocol_laws.specs.Solved.{itself}
 
 -- the protocol's own model, where it is plain, with all places; or the unfolded one
 abbrev pub IsFlatOf : ProtocolForm → ModelForm → Type 0

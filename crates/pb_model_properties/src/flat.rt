@@ -8,10 +8,10 @@ ghost use Rattle.pb_model_properties.specs.Refusals.{IsRefusedFlat};
 ghost use Rattle.pb_model_properties.specs.Words.{IsSolvedFlat};
 
 use crate::count::is_flat_state_large;
-use crate::error::ModelError;
 use crate::laws::models_stand_for_protocols;
 use crate::solved::{SolvedModel, ToldNames, UnpackedModel};
 use crate::told::told_error;
+use pb_model_faults::ModelError;
 use pb_model_tree::Model;
 use pb_model_typing::check_model;
 use pb_protocol_groups::pack_checked;

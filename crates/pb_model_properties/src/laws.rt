@@ -8,11 +8,10 @@ use pb_model_spelling::{
     read_protocols_are_writable, read_protocols_have_properties, translations_can_be_said,
 };
 use pb_model_typing::names_are_apart;
-use pb_protocol_laws::{enumerators_are_apart, plain_protocols_are_plain};
-use pb_protocol_solved::{flat_models_are_solved, packed_models_are_solved};
-use pb_protocol_spelling::{
-    flat_formulas_are_writable, flat_models_are_writable, packed_formulas_are_writable,
-    packed_groups_have_few_values, packed_models_are_writable,
+use pb_protocol_laws::{
+    enumerators_are_apart, flat_formulas_are_writable, flat_models_are_solved,
+    flat_models_are_writable, packed_formulas_are_writable, packed_groups_have_few_values,
+    packed_models_are_solved, packed_models_are_writable, plain_protocols_are_plain,
 };
 
 /// A plain protocol's own model, the one that another is unfolded to, and the packed one of either

@@ -9,10 +9,10 @@ ghost use Rattle.pb_model_properties.specs.Solvable.{CanBeSolved};
 ghost use Rattle.pb_model_properties.specs.Words.{IsToldModel};
 
 use crate::count::is_state_large;
-use crate::error::ModelError;
 use crate::flat::flat_solved;
 use crate::laws::models_stand_for_protocols;
 use crate::solved::SolvedModel;
+use pb_model_faults::ModelError;
 use pb_model_typing::check_model;
 use pb_protocol_tree::Protocol;
 use pb_protocol_typing::check_protocol;

@@ -12,9 +12,9 @@ ghost use Rattle.pb_model_properties.specs.Refusals.{IsRefusedText};
 ghost use Rattle.pb_model_properties.specs.Said.{IsTextOf};
 ghost use Rattle.pb_model_properties.specs.Words.{words_in, words_with};
 
-use crate::error::ModelError;
 use crate::solved::{SolvedModel, ToldNames};
 use crate::told::told_error;
+use pb_model_faults::ModelError;
 use pb_model_tree::{Model, Step};
 use pb_model_typing::reached_text;
 use pb_typing::Typed;

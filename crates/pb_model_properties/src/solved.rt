@@ -15,7 +15,7 @@ use std::alloc::{AllocError, Global};
 /// What an unfolded model's variables and steps are called, in order, where the names of the steps
 /// stand in the protocol, and which of the protocol's steps come to none: with none of their values
 /// may they be taken.
-#[derive(Debug, Drop)]
+#[derive(Drop)]
 pub struct ToldNames {
     pub variables: Vec<String>,
     pub steps: Vec<String>,
@@ -24,7 +24,7 @@ pub struct ToldNames {
 }
 
 /// A flat model whose variables are packed, and the groups that they are packed in.
-#[derive(Debug, Drop)]
+#[derive(Drop)]
 pub struct UnpackedModel {
     pub model: Model,
     pub groups: Vec<Group>,

@@ -5,7 +5,7 @@ ghost use Rattle.std.specs.Prelude.{◌≡◌, ◌<◌, ◌≤◌, ◌++◌, len
 ghost use Rattle.std.specs.Prelude.{Err, Some, option_copied};
 ghost use Rattle.std.specs.List.{slice_get};
 ghost use Rattle.pb_base.specs.declared.or_memory.OrMemory.TheVariants.{Refused};
-ghost use Rattle.pb_model_properties.specs.declared.error.ModelFault.TheVariants.{NoProperty};
+ghost use Rattle.pb_model_faults.specs.declared.ModelFault.TheVariants.{NoProperty};
 ghost use Rattle.pb_base.specs.OrMemory.{IfRefused};
 ghost use Rattle.pb_text_tree.specs.Form.{spec_form};
 ghost use Rattle.pb_text_printer.specs.Comments.{comment_bytes};
@@ -18,10 +18,10 @@ ghost use Rattle.pb_model_properties.specs.Said.{IsTextOf};
 ghost use Rattle.pb_model_properties.specs.Words.{words_in};
 
 use crate::asked::place_of;
-use crate::error::{ModelError, ModelFault};
 use crate::read::read_protocol;
 use crate::solved::{SolvedModel, words_of};
 use crate::told::told_error;
+use pb_model_faults::{ModelError, ModelFault};
 use pb_model_typing::property_text;
 use pb_model_words::push_group_lines;
 use pb_text_printer::{commented_text_is_read_back, print_with_comment};

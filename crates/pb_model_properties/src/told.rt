@@ -4,13 +4,13 @@
 ghost use Rattle.std.specs.Prelude.{◌≡◌, map, string_bytes, IfOk};
 ghost use Rattle.pb_base.specs.OrMemory.{raised};
 ghost use Rattle.pb_protocol_unfolder.specs.Origins.{origin_name};
-ghost use Rattle.pb_model_properties.specs.declared.error.ModelFault.TheVariants.{Typing};
+ghost use Rattle.pb_model_faults.specs.declared.ModelFault.TheVariants.{Typing};
 ghost use Rattle.pb_model_properties.specs.Refusals.{told_fault, told_place, told_places};
 ghost use Rattle.pb_model_properties.specs.Flat.{origin_place};
 
-use crate::error::{ModelError, ModelFault};
 use crate::solved::ToldNames;
 use pb_base::OrMemory;
+use pb_model_faults::{ModelError, ModelFault};
 use pb_protocol_unfolder::StepOrigin;
 use pb_text_tree::Place;
 use pb_typing_declarations::{TypeError, TypingFault};

@@ -8,11 +8,12 @@ ghost use Rattle.pb_model_properties.specs.Refusals.{IsRefusedProtocol};
 ghost use Rattle.pb_model_properties.specs.Solvable.{CanBeSolved};
 ghost use Rattle.pb_model_properties.specs.Words.{IsToldModel};
 
-use crate::error::ModelError;
+use crate::fault::as_model_error;
 use crate::flat::flat_solved;
 use crate::laws::models_stand_for_protocols;
 use crate::solved::{SolvedModel, ToldNames};
 use crate::told::{names_of, places_of};
+use pb_model_faults::ModelError;
 use pb_protocol_tree::Protocol;
 use pb_protocol_typing::check_protocol;
 use pb_protocol_unfolder::unfold;
@@ -32,7 +33,7 @@ pub(crate) fn unfolded_solved(alloc: Global, protocol: &Protocol) -> Result<Solv
     }
     let unfolded = match unfold(alloc, protocol) {
         Ok(unfolded) => unfolded,
-        Err(error) => return Err(error.raise()),
+        Err(error) => return Err(as_model_error(error)),
     };
     let origins = unfolded.steps;
     let steps = names_of(alloc, &origins)?;

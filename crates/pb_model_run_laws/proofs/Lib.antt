@@ -14,3 +14,5 @@ mod PersistenceLemmas
 mod ReactivityLemmas
 mod EndlessLassosLemmas
 mod WeakFairnessLemmas
+pub mod Walk
+pub mod FairPattern

@@ -15,3 +15,5 @@ pub mod Persistence
 pub mod Reactivity
 pub mod EndlessLassos
 pub mod WeakFairness
+pub mod Patterns
+pub mod FreeOperands

@@ -2,6 +2,8 @@
 //! `specs/`.
 #![tactic(auto)]
 
+mod words;
+
 ghost use Rattle.pb_model_run_laws.specs.Free.{NotFreeIsWithout};
 ghost use Rattle.pb_model_run_laws.specs.Until.{FalseUntilKeepsWaiting, TrueUntilIsBounded};
 ghost use Rattle.pb_model_run_laws.specs.Until.{LassosRefuteUntil, InevitablyIsUntil};
@@ -22,6 +24,8 @@ ghost use Rattle.pb_model_run_laws.specs.Reactivity.{TrueIsReactive};
 ghost use Rattle.pb_model_run_laws.specs.EndlessLassos.{LassosAreInfiniteRuns};
 ghost use Rattle.pb_model_run_laws.specs.EndlessLassos.{LassosRefuteInfinitelyOften};
 ghost use Rattle.pb_model_run_laws.specs.WeakFairness.{TrueIsFairlyAtLast};
+
+pub use words::{operands_are_free_of_words, words_are_patterns};
 
 /// A formula's truth doesn't hang on the set of a variable that isn't free in it.
 pub fn truth_hangs_on_free_variables()

@@ -14,7 +14,7 @@ use Rattle.pb_text_lexer.specs.Steps.{Step, Outcome, and_then, ◌>>=◌, pure, 
 use Rattle.pb_text_lexer.specs.Tokens.{Tok}
 use Rattle.pb_text_terms.specs.Reading.{is_comma, is_open, below}
 use Rattle.pb_text_terms.proofs.ReadLemmas.{below-is}
-use Rattle.pb_protocol_copies.specs.Links.{link_form, link_forms}
+use Rattle.pb_protocol_tree.specs.Links.{link_form, link_forms}
 use Rattle.pb_model_text.specs.Words.{fairly_of, unfair_to, unfair_to_others, fair}
 use Rattle.pb_model_text.proofs.FormulaLemmas.{links-last}
 use Rattle.pb_model_text.specs.Grammar.{FixpointNames, within_fair}

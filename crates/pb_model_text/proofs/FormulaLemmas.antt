@@ -29,7 +29,7 @@ use Rattle.pb_text_terms.specs.Reading.{name, variables, quantifier_of, below}
 use Rattle.pb_text_terms.specs.Reading as terms
 use Rattle.pb_text_terms.proofs.ReadLemmas.{below-is, resumed-alone-or-fails, no-connective}
 use Rattle.pb_model_text.specs.Grammar.{FixpointNames, within}
-use Rattle.pb_protocol_copies.specs.Links.{link_form, link_forms}
+use Rattle.pb_protocol_tree.specs.Links.{link_form, link_forms}
 use Rattle.pb_model_text.specs.Reading.{begun, modal, opening_kind, closing, modal_steps, data_operand, goes_on, binding, step_set, sign_of, is_fixpoint, is_binder, plain, behind_fair, node, item, formula, fixpoint, quantification, primary, operand, level}
 
 -- a level is a chain of its operands

@@ -1,4 +1,3 @@
-pub mod PairLemmas
 pub mod CorrectInstances
 pub mod CorrectStepSets
 pub mod CorrectFirst

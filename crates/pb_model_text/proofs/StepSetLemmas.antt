@@ -10,7 +10,7 @@ use Rattle.pb_text_lexer.specs.Grammar.{State}
 use Rattle.pb_text_lexer.specs.Steps.{Step, refuse, refusal, kind, take_token, chain}
 use Rattle.pb_text_lexer.specs.Tokens.{Tok}
 use Rattle.pb_text_lexer.proofs.LoopLemmas.{placed}
-use Rattle.pb_protocol_copies.specs.Links.{step_set_link, step_set_links}
+use Rattle.pb_protocol_tree.specs.Links.{step_set_link, step_set_links}
 use Rattle.pb_text_tree.specs.Form.{InstanceForm}
 use Rattle.pb_text_terms.specs.Reading.{instance}
 use Rattle.pb_model_text.specs.Reading.{set_begun, instances, set, step_set}

@@ -15,6 +15,7 @@ ghost use Rattle.pb_model_text.specs.Reading.{names_of};
 
 use crate::name_ref::NameRef;
 use crate::scope::{Scope, is_bound};
+use pb_base::both;
 use pb_protocol_tree::Formula;
 use pb_text_lexer::fault::{ReadingError, ReadingRule, Refusal};
 use pb_text_lexer::input::Input;
@@ -168,7 +169,7 @@ pub fn value<'a>(
 {
     let place = input.take().place;
     let term = data_operand(input, alloc, scope.depth)?;
-    unless_going_on(input)?;
+    let (term, _) = both(term, unless_going_on(input))?;
     Ok(Formula::Data { place, term })
 }
 

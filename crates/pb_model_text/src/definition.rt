@@ -8,7 +8,7 @@ ghost use Rattle.pb_text.specs.Parsing.{depth_limit};
 ghost use Rattle.pb_protocol_tree.specs.Form.{definition_form};
 ghost use Rattle.pb_model_text.specs.Reading as reading;
 
-use pb_base::MAX_DEPTH;
+use pb_base::{MAX_DEPTH, both};
 use pb_protocol_tree::Definition;
 use pb_text::system::parameters;
 use pb_text_lexer::fault::{ReadingError, ReadingRule};
@@ -28,7 +28,7 @@ fn definition_parts(input: &mut Input<'_>, alloc: Global) -> Result<Definition, 
     let parameters = parameters(input, alloc)?;
     input.expect(Kind::Is)?;
     let term = term(input, alloc, MAX_DEPTH as u32)?;
-    input.expect(Kind::Semicolon)?;
+    let (term, _) = both(term, input.expect(Kind::Semicolon))?;
     Ok(Definition {
         name,
         parameters,

@@ -33,9 +33,9 @@ fn step_value(argument: Argument) -> StepValue
         ≡ grammar.given_value argument.place (term_form argument.term) }
 {
     if is_any(&argument.term) {
-        StepValue::Any {
-            place: argument.place,
-        }
+        let place = argument.place;
+        drop(argument);
+        StepValue::Any { place }
     } else {
         StepValue::Value(argument)
     }

@@ -16,7 +16,6 @@ mod modality;
 mod model;
 mod name_ref;
 mod node;
-mod pair;
 mod pattern;
 mod processes;
 mod scope;

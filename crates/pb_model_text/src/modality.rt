@@ -6,6 +6,7 @@ ghost use Rattle.pb_protocol_tree.specs.Form.{FormulaForm, formula_form, step_se
 ghost use Rattle.pb_model_text.specs.Reading as reading;
 
 use crate::step_set::step_set;
+use pb_base::both;
 use pb_model_tree::Modality;
 use pb_protocol_tree::{Formula, StepSet};
 use pb_text_lexer::fault::ReadingError;
@@ -35,7 +36,7 @@ pub fn modal_node(
     ensures { IfOk result (λ f. formula_form f
         ≡ FormulaForm.modal modality place (step_set_form steps) (formula_form operand)) }
 {
-    let operand = Box::new(alloc, operand)?;
+    let (steps, operand) = both(steps, Box::new(alloc, operand))?;
     Ok(Formula::Modal {
         place,
         modality,
@@ -56,6 +57,6 @@ pub fn modal_steps(
         input.old result input.new }
 {
     let steps = step_set(input, alloc, depth)?;
-    input.expect(closing(modality))?;
+    let (steps, _) = both(steps, input.expect(closing(modality)))?;
     Ok(steps)
 }

@@ -13,7 +13,7 @@ use crate::formula::formula;
 use crate::scope::Scope;
 use crate::state::state_variables;
 use crate::step::steps;
-use pb_base::MAX_DEPTH;
+use pb_base::{MAX_DEPTH, both};
 use pb_model_tree::InitialState;
 use pb_protocol_tree::{Property, Protocol};
 use pb_text_formulas::sort::sort_parts;
@@ -60,7 +60,7 @@ fn property_parts(input: &mut Input<'_>, alloc: Global) -> Result<Property, Read
         depth: MAX_DEPTH as u32,
     };
     let formula = formula(input, alloc, scope)?;
-    input.expect(Kind::Semicolon)?;
+    let (formula, _) = both(formula, input.expect(Kind::Semicolon))?;
     Ok(Property { name, formula })
 }
 
@@ -124,6 +124,7 @@ pub fn whole(input: &mut Input<'_>, alloc: Global) -> Result<Protocol, ReadingEr
     if same_kind(input.kind(), Kind::End) {
         Ok(model)
     } else {
+        drop(model);
         Err(ReadingError::Refused(input.refuse(ReadingRule::Unexpected)))
     }
 }

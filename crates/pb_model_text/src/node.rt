@@ -3,8 +3,9 @@
 ghost use Rattle.std.specs.Prelude.{◌≡◌, IfOk};
 ghost use Rattle.pb_text_tree.specs.Form.{chained};
 ghost use Rattle.pb_protocol_tree.specs.Form.{FormulaForm, formula_form};
-ghost use Rattle.pb_protocol_copies.specs.Links.{link_forms};
+ghost use Rattle.pb_protocol_tree.specs.Links.{link_forms};
 
+use pb_base::both;
 use pb_protocol_tree::{Formula, Link};
 use pb_text_tree::{Connective, Place};
 use std::alloc::{AllocError, Global};
@@ -43,6 +44,7 @@ pub fn connected(
         ≡ FormulaForm.connected connective place (formula_form first) (formula_form second)) }
 {
     let operand = second;
-    let links = vec![in alloc; Link { place, operand }]?;
+    let links = vec![in alloc; Link { place, operand }];
+    let (first, links) = both(first, links)?;
     joined(alloc, connective, first, links)
 }

@@ -1,11 +1,11 @@
 //! Makes the formulas that words stand for. What a word inserts stands at its place.
 
-ghost use Rattle.std.specs.Prelude.{◌≡◌, map, IfOk};
+ghost use Rattle.std.specs.Prelude.{◌≡◌, map, codes, IfOk};
 ghost use Rattle.pb_text_tree.specs.Form.{named};
 ghost use Rattle.pb_text_lexer.specs.Steps as spec;
 ghost use Rattle.pb_text_terms.specs.Readers.{MayRead};
 ghost use Rattle.pb_protocol_tree.specs.Form.{formula_form, step_set_form};
-ghost use Rattle.pb_protocol_copies.specs.Links.{link_forms};
+ghost use Rattle.pb_protocol_tree.specs.Links.{link_forms};
 ghost use Rattle.pb_model_text.specs.Links.{processes_form};
 ghost use Rattle.pb_model_text.specs.Reading as reading;
 ghost use Rattle.pb_model_text.specs.Words as words;
@@ -16,10 +16,10 @@ use crate::name_ref::NameRef;
 use crate::node::{connected, joined};
 use crate::processes::Processes;
 use crate::word::{Infix, Prefix};
+use pb_base::both;
 use pb_fixpoint::Sign;
 use pb_model_tree::Modality;
-use pb_protocol_copies::{copy_formula, copy_step_set};
-use pb_protocol_tree::{Formula, Link, StepSet};
+use pb_protocol_tree::{Formula, Link, StepSet, copy_formula, copy_step_set};
 use pb_text_lexer::fault::ReadingError;
 use pb_text_lexer::input::Input;
 use pb_text_tree::{Connective, Name, Place};
@@ -71,7 +71,7 @@ fn fixpoint_of(
         ≡ words.fixpoint_of sign name.entry.place name.entry.text.now (formula_form body)) }
 {
     let place = name.place;
-    let variable = variable_at(alloc, name)?;
+    let (body, variable) = both(body, variable_at(alloc, name))?;
     let body = Box::new(alloc, body)?;
     Ok(Formula::Fixpoint {
         place,
@@ -88,7 +88,7 @@ fn goes_on(alloc: Global, name: NameRef<'_>) -> Result<Formula, AllocError>
 {
     let place = name.place;
     let some_step = some_step(alloc, place)?;
-    let behind = behind_steps(alloc, Modality::Box, name)?;
+    let (some_step, behind) = both(some_step, behind_steps(alloc, Modality::Box, name))?;
     connected(alloc, Connective::And, place, some_step, behind)
 }
 
@@ -100,7 +100,7 @@ fn always(alloc: Global, place: Place, operand: Formula) -> Result<Formula, Allo
         place,
         text: "always",
     };
-    let behind = behind_steps(alloc, Modality::Box, name)?;
+    let (operand, behind) = both(operand, behind_steps(alloc, Modality::Box, name))?;
     let body = connected(alloc, Connective::And, place, operand, behind)?;
     fixpoint_of(alloc, Sign::Nu, name, body)
 }
@@ -113,7 +113,7 @@ fn possibly(alloc: Global, place: Place, operand: Formula) -> Result<Formula, Al
         place,
         text: "possibly",
     };
-    let behind = behind_steps(alloc, Modality::Diamond, name)?;
+    let (operand, behind) = both(operand, behind_steps(alloc, Modality::Diamond, name))?;
     let body = connected(alloc, Connective::Or, place, operand, behind)?;
     fixpoint_of(alloc, Sign::Mu, name, body)
 }
@@ -126,7 +126,7 @@ fn inevitably(alloc: Global, place: Place, operand: Formula) -> Result<Formula, 
         place,
         text: "inevitably",
     };
-    let later = goes_on(alloc, name)?;
+    let (operand, later) = both(operand, goes_on(alloc, name))?;
     let body = connected(alloc, Connective::Or, place, operand, later)?;
     fixpoint_of(alloc, Sign::Mu, name, body)
 }
@@ -143,6 +143,17 @@ fn no_deadlock(alloc: Global, place: Place) -> Result<Formula, AllocError>
     fixpoint_of(alloc, Sign::Nu, name, body)
 }
 
+/// `p && <true> true && [true] X`
+fn while_waiting(alloc: Global, name: NameRef<'_>, first: Formula) -> Result<Formula, AllocError>
+    ensures { IfOk result (λ f. formula_form f
+        ≡ words.conjunction name.entry.place (formula_form first)
+        (words.goes_on name.entry.place name.entry.text.now)) }
+{
+    let place = name.place;
+    let (first, later) = both(first, goes_on(alloc, name))?;
+    connected(alloc, Connective::And, place, first, later)
+}
+
 /// `p until q`
 fn until(
     alloc: Global,
@@ -157,8 +168,8 @@ fn until(
         place,
         text: "until",
     };
-    let later = goes_on(alloc, name)?;
-    let waiting = connected(alloc, Connective::And, place, first, later)?;
+    let waiting = while_waiting(alloc, name, first);
+    let (second, waiting) = both(second, waiting)?;
     let body = connected(alloc, Connective::Or, place, second, waiting)?;
     fixpoint_of(alloc, Sign::Mu, name, body)
 }
@@ -177,9 +188,9 @@ fn leads_to(
         place,
         text: "leads_to",
     };
-    let answer = inevitably(alloc, place, second)?;
+    let (first, answer) = both(first, inevitably(alloc, place, second))?;
     let response = connected(alloc, Connective::Implies, place, first, answer)?;
-    let behind = behind_steps(alloc, Modality::Box, name)?;
+    let (response, behind) = both(response, behind_steps(alloc, Modality::Box, name))?;
     let body = connected(alloc, Connective::And, place, behind, response)?;
     fixpoint_of(alloc, Sign::Nu, name, body)
 }
@@ -194,7 +205,7 @@ fn tries(alloc: Global, place: Place, steps: StepSet) -> Result<Formula, AllocEr
     };
     let operand = Formula::Constant { place, value: true };
     let able = modal_node(alloc, place, Modality::Diamond, steps, operand)?;
-    let behind = behind_steps(alloc, Modality::Box, name)?;
+    let (able, behind) = both(able, behind_steps(alloc, Modality::Box, name))?;
     connected(alloc, Connective::Or, place, able, behind)
 }
 
@@ -207,26 +218,36 @@ fn behind_process(alloc: Global, place: Place, steps: StepSet) -> Result<Formula
         place,
         text: "fair",
     };
-    let variable = variable_at(alloc, name)?;
+    let (steps, variable) = both(steps, variable_at(alloc, name))?;
     let operand = Formula::Variable(variable);
     modal_node(alloc, place, Modality::Box, steps, operand)
+}
+
+/// `(<A> true || [true] fair) && [true] inevitably`
+fn tries_on(alloc: Global, place: Place, steps: &StepSet) -> Result<Formula, AllocError>
+    ensures { IfOk result (λ f. formula_form f
+        ≡ words.conjunction place (words.tries place (step_set_form steps.now))
+        (words.behind_steps Modality.Box place (codes "inevitably"))) }
+{
+    let name = NameRef {
+        place,
+        text: "inevitably",
+    };
+    let copy = copy_step_set(alloc, steps)?;
+    let tries = tries(alloc, place, copy)?;
+    let (tries, on) = both(tries, behind_steps(alloc, Modality::Box, name))?;
+    connected(alloc, Connective::And, place, tries, on)
 }
 
 /// What `fair` says of one process besides its operand.
 fn waits(alloc: Global, place: Place, steps: StepSet) -> Result<Formula, AllocError>
     ensures { IfOk result (λ f. formula_form f ≡ words.waits place (step_set_form steps)) }
 {
-    let name = NameRef {
-        place,
-        text: "inevitably",
-    };
-    let copy = copy_step_set(alloc, &steps)?;
-    let tries = tries(alloc, place, copy)?;
-    let on = behind_steps(alloc, Modality::Box, name)?;
-    let on = connected(alloc, Connective::And, place, tries, on)?;
-    let behind = behind_process(alloc, place, steps)?;
+    let on = tries_on(alloc, place, &steps);
+    let (steps, on) = both(steps, on)?;
+    let (on, behind) = both(on, behind_process(alloc, place, steps))?;
     let on = connected(alloc, Connective::And, place, behind, on)?;
-    let some_step = some_step(alloc, place)?;
+    let (on, some_step) = both(on, some_step(alloc, place))?;
     connected(alloc, Connective::And, place, some_step, on)
 }
 
@@ -244,7 +265,7 @@ fn unfair_to(
         place,
         text: "inevitably",
     };
-    let waits = waits(alloc, place, steps)?;
+    let (operand, waits) = both(operand, waits(alloc, place, steps))?;
     let body = connected(alloc, Connective::Or, place, operand, waits)?;
     fixpoint_of(alloc, Sign::Nu, name, body)
 }
@@ -262,7 +283,7 @@ fn unfair_to_others(
 {
     let mut links = Vec::with_capacity(alloc, others.len())?;
     'others: for steps in others {
-        let copy = copy_formula(alloc, operand)?;
+        let (steps, copy) = both(steps, copy_formula(alloc, operand))?;
         let operand = unfair_to(alloc, place, copy, steps)?;
         links.push(Link { place, operand })?;
     }
@@ -285,7 +306,11 @@ pub fn fair(
         text: "fair",
     };
     let Processes { first, others } = processes;
-    let links = unfair_to_others(alloc, place, &operand, others)?;
+    let Ok(links) = unfair_to_others(alloc, place, &operand, others) else {
+        drop(first);
+        drop(operand);
+        return Err(AllocError);
+    };
     let first = unfair_to(alloc, place, operand, first)?;
     let body = joined(alloc, Connective::Or, first, links)?;
     fixpoint_of(alloc, Sign::Mu, name, body)

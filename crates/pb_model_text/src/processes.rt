@@ -11,6 +11,7 @@ ghost use Rattle.pb_model_text.specs.Words as words;
 use crate::atom::unexpected_name;
 use crate::step_set::step_set;
 use crate::word::is_fairly;
+use pb_base::both;
 use pb_protocol_tree::StepSet;
 use pb_text_lexer::fault::{ReadingError, ReadingRule};
 use pb_text_lexer::input::Input;
@@ -22,7 +23,7 @@ use std::alloc::Global;
 const MOST_OTHERS: usize = 7;
 
 /// The sets of steps of one process or more.
-#[derive(Debug, Drop)]
+#[derive(Drop)]
 pub struct Processes {
     pub first: StepSet,
     pub others: Vec<StepSet>,
@@ -72,9 +73,9 @@ fn processes_behind(
         input.old result input.new }
 {
     let first = step_set(input, alloc, depth)?;
-    let others = other_sets(input, alloc, depth)?;
-    input.expect(Kind::Close)?;
-    fairly(input)?;
+    let (first, others) = both(first, other_sets(input, alloc, depth))?;
+    let (first, _) = both(first, input.expect(Kind::Close))?;
+    let (first, _) = both(first, fairly(input))?;
     Ok(Processes { first, others })
 }
 

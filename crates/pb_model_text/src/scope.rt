@@ -8,7 +8,7 @@ use crate::word::{Leading, leading_word};
 
 /// The names of the fixpoints around a formula, the innermost last, and how many levels may still
 /// open in it.
-#[derive(Clone, Copy, Debug)]
+#[derive(Clone, Copy)]
 pub struct Scope<'s, 'a> {
     pub names: &'s [&'a str],
     pub depth: u32,

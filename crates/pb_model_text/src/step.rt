@@ -8,7 +8,7 @@ ghost use Rattle.pb_text.specs.Parsing.{depth_limit};
 ghost use Rattle.pb_protocol_tree.specs.Form.{assignment_form, step_form};
 ghost use Rattle.pb_model_text.specs.Reading as reading;
 
-use pb_base::MAX_DEPTH;
+use pb_base::{MAX_DEPTH, both};
 use pb_protocol_tree::{Assignment, Step};
 use pb_text::system::parameters;
 use pb_text_lexer::fault::{ReadingError, ReadingRule};
@@ -99,8 +99,8 @@ fn step_parts(input: &mut Input<'_>, alloc: Global) -> Result<Step, ReadingError
     let variables = parameters(input, alloc)?;
     input.expect(Kind::Colon)?;
     let guard = term(input, alloc, MAX_DEPTH as u32)?;
-    input.expect(Kind::Arrow)?;
-    let assignments = assigned(input, alloc)?;
+    let (guard, _) = both(guard, input.expect(Kind::Arrow))?;
+    let (guard, assignments) = both(guard, assigned(input, alloc))?;
     Ok(Step {
         name,
         variables,

@@ -1,15 +1,18 @@
 //! Reads sets of steps, by recursive descent. Sets with `||` between them are read by a loop, so
 //! that the recursion is as deep as brackets and `!` nest.
 
-ghost use Rattle.std.specs.Prelude.{◌≡◌, IfOk};
+ghost use Rattle.std.specs.Prelude.{◌≡◌, ◌≤◌, length, IfOk, OnOk};
 ghost use Rattle.pb_text_tree.specs.Form.{chained};
 ghost use Rattle.pb_protocol_tree.specs.Form.{StepSetForm, step_set_form};
+ghost use Rattle.pb_text_lexer.specs.Grammar.{State};
 ghost use Rattle.pb_text_lexer.specs.Steps as spec;
-ghost use Rattle.pb_text_terms.specs.Readers.{ReadsSome};
-ghost use Rattle.pb_protocol_copies.specs.Links.{step_set_links};
+ghost use Rattle.pb_text_lexer.specs.Steps.{Gives};
+ghost use Rattle.pb_text_terms.specs.Readers.{HasRead, ReadsSome};
+ghost use Rattle.pb_protocol_tree.specs.Links.{step_set_links};
 ghost use Rattle.pb_model_text.specs.Reading as reading;
 
 use crate::instances::step_instances;
+use pb_base::both;
 use pb_protocol_tree::{StepSet, StepSetLink};
 use pb_text_formulas::next::unless;
 use pb_text_lexer::fault::{ReadingError, ReadingRule};
@@ -40,8 +43,8 @@ fn bracketed(input: &mut Input<'_>, alloc: Global, depth: u32) -> Result<StepSet
 {
     input.enter(depth)?;
     let inner = step_set(input, alloc, depth - 1)?;
-    input.expect(Kind::Close)?;
-    unless(input, Kind::Open)?;
+    let (inner, _) = both(inner, input.expect(Kind::Close))?;
+    let (inner, _) = both(inner, unless(input, Kind::Open))?;
     Ok(inner)
 }
 
@@ -70,17 +73,34 @@ fn set(input: &mut Input<'_>, alloc: Global, depth: u32) -> Result<StepSet, Read
     }
 }
 
-/// Sets of steps with `||` between them, in which so many levels may open.
+/// The sets behind a first one, each behind `||`.
 #[cycle(step_sets)]
-pub fn step_set(input: &mut Input<'_>, alloc: Global, depth: u32) -> Result<StepSet, ReadingError>
-    ensures { ReadsSome step_set_form (reading.step_set depth) input.old result input.new }
+fn links_behind(
+    input: &mut Input<'_>,
+    alloc: Global,
+    depth: u32,
+) -> Result<Vec<StepSetLink>, ReadingError>
+    ensures reads { (s : State) (x : StepSetForm) → HasRead (reading.set depth) x input.old s
+        → Gives (λ v. chained StepSetForm.union x (step_set_links v.items))
+        (reading.step_set depth s) result input.new }
+    ensures fewer { OnOk result (length input.new.tokens ≤ length input.old.tokens) }
 {
-    let first = set(input, alloc, depth)?;
     let mut links = Vec::new(alloc);
     'links: while same_kind(input.kind(), Kind::Or) {
         let place = input.take_operator()?.place;
         let operand = set(input, alloc, depth)?;
         links.push(StepSetLink { place, operand })?;
     }
-    Ok(joined(alloc, first, links)?)
+    Ok(links)
+}
+
+/// Sets of steps with `||` between them, in which so many levels may open.
+#[cycle(step_sets)]
+pub fn step_set(input: &mut Input<'_>, alloc: Global, depth: u32) -> Result<StepSet, ReadingError>
+    ensures { ReadsSome step_set_form (reading.step_set depth) input.old result input.new }
+{
+    let first = set(input, alloc, depth)?;
+    let links = links_behind(input, alloc, depth);
+    let (start, links) = both(first, links)?;
+    Ok(joined(alloc, start, links)?)
 }

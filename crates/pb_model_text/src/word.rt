@@ -5,7 +5,7 @@ ghost use Rattle.std.specs.Prelude.{◌≡◌, is_some};
 ghost use Rattle.pb_model_text.specs.Words as words;
 
 /// A word that stands before an operand.
-#[derive(Clone, Copy, Debug, PartialEq, Eq)]
+#[derive(Clone, Copy, PartialEq, Eq)]
 pub enum Prefix {
     /// `always`
     Always,
@@ -16,7 +16,7 @@ pub enum Prefix {
 }
 
 /// A word with which an operand begins.
-#[derive(Clone, Copy, Debug, PartialEq, Eq)]
+#[derive(Clone, Copy, PartialEq, Eq)]
 pub enum Leading {
     /// `no_deadlock`, which is an operand itself.
     NoDeadlock,
@@ -27,7 +27,7 @@ pub enum Leading {
 }
 
 /// A word that stands between two operands.
-#[derive(Clone, Copy, Debug, PartialEq, Eq)]
+#[derive(Clone, Copy, PartialEq, Eq)]
 pub enum Infix {
     /// `until`
     Until,

@@ -13,11 +13,11 @@ use crate::atom::{name_atom, unexpected_name};
 use crate::fixpoint::extended;
 use crate::formula::nameless;
 use crate::name_ref::NameRef;
-use crate::pair::both;
 use crate::pattern::{constant_word, fair, infixed, prefixed};
 use crate::processes::process_sets;
 use crate::scope::{Scope, leading_within};
 use crate::word::{Leading, infix_word, is_word};
+use pb_base::both;
 use pb_protocol_tree::Formula;
 use pb_text_lexer::fault::{ReadingError, ReadingRule};
 use pb_text_lexer::input::Input;
@@ -152,12 +152,17 @@ fn joined_behind<'a>(
         (names_of scope.entry.names.now) scope.entry.depth) (formula_form first)))
         input.old result input.new }
 {
-    let (place, text) = input.expect_name()?;
+    let named = input.expect_name();
+    let (first, (place, text)) = both(first, named)?;
     let Some(word) = infix_word(text.as_bytes()) else {
+        drop(first);
         return Err(ReadingError::Refused(unexpected_name(place)));
     };
-    let second = node(input, alloc, scope)?;
+    let second = node(input, alloc, scope);
+    let (first, second) = both(first, second)?;
     if same_kind(input.kind(), Kind::Name) {
+        drop(first);
+        drop(second);
         return Err(ReadingError::Refused(input.refuse(ReadingRule::Unexpected)));
     }
     Ok(infixed(alloc, word, place, first, second)?)

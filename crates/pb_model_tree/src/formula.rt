@@ -5,14 +5,14 @@ use pb_fixpoint::Sign;
 use pb_text_tree::{Connective, Name, Place, Term};
 
 /// Of each successor, `[A]`, or of some successor, `<A>`.
-#[derive(Clone, Copy, Debug, PartialEq, Eq)]
+#[derive(Clone, Copy, PartialEq, Eq)]
 pub enum Modality {
     Box,
     Diamond,
 }
 
 /// A formula of the modal mu-calculus.
-#[derive(Debug, Drop)]
+#[derive(Drop)]
 #[cycle(formulas)]
 pub enum Formula {
     /// `true` or `false`.
@@ -55,7 +55,7 @@ pub enum Formula {
 }
 
 /// A connective in a chain, where it stands, and the operand behind it.
-#[derive(Debug, Drop)]
+#[derive(Drop)]
 #[cycle(formulas)]
 pub struct Link {
     pub place: Place,

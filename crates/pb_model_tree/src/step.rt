@@ -3,7 +3,7 @@
 use pb_text_tree::{Argument, Name, Term, Variables};
 
 /// A state variable, and the term whose value in the old state it gets, with its place.
-#[derive(Debug, Drop)]
+#[derive(Drop)]
 pub struct Assignment {
     pub variable: Name,
     pub value: Argument,
@@ -11,7 +11,7 @@ pub struct Assignment {
 
 /// A step: for values of its own variables at which the guard is true, all assignments at once. A
 /// state variable that isn't assigned keeps its value.
-#[derive(Debug, Drop)]
+#[derive(Drop)]
 pub struct Step {
     pub name: Name,
     pub variables: Vec<Variables>,

@@ -3,7 +3,7 @@
 use pb_text_tree::{Name, Place};
 
 /// A set of steps, by their names.
-#[derive(Debug, Drop)]
+#[derive(Drop)]
 #[cycle(step_sets)]
 pub enum StepSet {
     /// `true`: all steps.
@@ -25,7 +25,7 @@ pub enum StepSet {
 }
 
 /// A `||` between sets of steps, where it stands, and the set behind it.
-#[derive(Debug, Drop)]
+#[derive(Drop)]
 #[cycle(step_sets)]
 pub struct StepSetLink {
     pub place: Place,

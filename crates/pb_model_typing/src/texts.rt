@@ -37,7 +37,10 @@ pub(crate) fn typed_text(
     let text = translate_formula(alloc, model, formula, place)?;
     match check(alloc, text) {
         Ok(text) => Ok(text),
-        Err((_text, error)) => Err(error_in_model(model, error)),
+        Err((text, error)) => {
+            drop(text);
+            Err(error_in_model(model, error))
+        }
     }
 }
 

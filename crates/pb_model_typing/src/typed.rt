@@ -107,6 +107,9 @@ pub fn steps_text(alloc: Global, typed: &TypedModel) -> Result<Typed, AllocError
     let text = translate_formula(alloc, &typed.model, &formula, place)?;
     match check(alloc, text) {
         Ok(text) => Ok(text),
-        Err((_text, error)) => Err(error.only_memory()),
+        Err((text, error)) => {
+            drop(text);
+            Err(error.only_memory())
+        }
     }
 }

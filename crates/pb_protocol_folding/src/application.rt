@@ -115,7 +115,9 @@ fn taken(arguments: Vec<Argument>, place: usize) -> Term
     ensures { HoldsAt (λ a. term_of result ≡ term_of a.term) arguments.items place }
 {
     let mut arguments = arguments;
-    arguments.swap_remove(place).term
+    let argument = arguments.swap_remove(place);
+    drop(arguments);
+    argument.term
 }
 
 /// A function of three folded arguments.
@@ -125,8 +127,14 @@ fn choice_term(function: Name, arguments: Vec<Argument>) -> Term
         (terms_of arguments.items) }
 {
     match chosen(function.text.as_str(), &arguments[0].term) {
-        Some(true) => taken(arguments, 1),
-        Some(false) => taken(arguments, 2),
+        Some(true) => {
+            drop(function);
+            taken(arguments, 1)
+        }
+        Some(false) => {
+            drop(function);
+            taken(arguments, 2)
+        }
         None => Term::Application {
             function,
             arguments,
@@ -169,7 +177,15 @@ pub fn application_term(
             function,
             arguments,
         }),
-        Applied::Number(value) => number_term(folding.alloc, place, value),
-        Applied::Truth(value) => Ok(Term::Constant { place, value }),
+        Applied::Number(value) => {
+            drop(function);
+            drop(arguments);
+            number_term(folding.alloc, place, value)
+        }
+        Applied::Truth(value) => {
+            drop(function);
+            drop(arguments);
+            Ok(Term::Constant { place, value })
+        }
     }
 }

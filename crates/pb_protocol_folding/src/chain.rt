@@ -1,7 +1,7 @@
 //! Two operands with a connective between them: a chain on the right takes one more operand in
 //! front, so that no chain stands within a chain.
 
-ghost use Rattle.std.specs.Prelude.{◌≡◌, IfOk, [], ◌∷◌, ◌++◌};
+ghost use Rattle.std.specs.Prelude.{◌≡◌, IfOk, ◌++◌};
 ghost use Rattle.pb_text_tree.specs.Form.{TermForm, chained, term_form};
 ghost use Rattle.pb_text_tree.specs.Form as form;
 ghost use Rattle.pb_text_meaning.specs.Syntax as syntax;
@@ -11,19 +11,10 @@ ghost use Rattle.pb_model_meaning.specs.Erase.{joined};
 ghost use Rattle.pb_protocol_folding.specs.Places.{places_of};
 ghost use Rattle.pb_protocol_folding.specs.View.{formula_of, link_forms, term_of};
 
+use crate::links::{alone, first_and_links, with_first};
 use pb_model_tree::{Formula, Link};
 use pb_text_tree::{Connective, Place, Term, TermLink};
 use std::alloc::{AllocError, Global};
-
-/// The link of a term alone.
-fn term_link(alloc: Global, place: Place, operand: Term) -> Result<Vec<TermLink>, AllocError>
-    ensures { IfOk result
-        (λ links. links.items ≡ record { place = place; operand = operand } ∷ []) }
-{
-    let mut links = Vec::new(alloc);
-    links.push(TermLink { place, operand })?;
-    Ok(links)
-}
 
 /// The links of a chain whose operands behind the first are those of a term.
 fn term_links(
@@ -40,21 +31,20 @@ fn term_links(
         Term::Chain {
             connective: inner,
             first,
-            mut links,
+            links,
         } => {
             if inner == connective {
                 let operand = Box::into_inner(first);
-                links.insert(0, TermLink { place, operand })?;
-                return Ok(links);
+                return with_first(links, TermLink { place, operand });
             }
             let operand = Term::Chain {
                 connective: inner,
                 first,
                 links,
             };
-            term_link(alloc, place, operand)
+            alone(alloc, TermLink { place, operand })
         }
-        operand => term_link(alloc, place, operand),
+        operand => alone(alloc, TermLink { place, operand }),
     }
 }
 
@@ -69,23 +59,13 @@ pub(crate) fn chained_terms(
     ensures { IfOk result (λ t. term_of t
         ≡ syntax.Term.Binary (of_connective connective) (term_of left) (term_of right)) }
 {
-    let links = term_links(alloc, connective, place, right)?;
-    let first = Box::new(alloc, left)?;
+    let links = term_links(alloc, connective, place, right);
+    let (first, links) = first_and_links(alloc, left, links)?;
     Ok(Term::Chain {
         connective,
         first,
         links,
     })
-}
-
-/// The link of a formula alone.
-fn formula_link(alloc: Global, place: Place, operand: Formula) -> Result<Vec<Link>, AllocError>
-    ensures { IfOk result
-        (λ links. links.items ≡ record { place = place; operand = operand } ∷ []) }
-{
-    let mut links = Vec::new(alloc);
-    links.push(Link { place, operand })?;
-    Ok(links)
 }
 
 /// The links of a chain whose operands behind the first are those of a formula.
@@ -103,21 +83,20 @@ fn formula_links(
         Formula::Chain {
             connective: inner,
             first,
-            mut links,
+            links,
         } => {
             if inner == connective {
                 let operand = Box::into_inner(first);
-                links.insert(0, Link { place, operand })?;
-                return Ok(links);
+                return with_first(links, Link { place, operand });
             }
             let operand = Formula::Chain {
                 connective: inner,
                 first,
                 links,
             };
-            formula_link(alloc, place, operand)
+            alone(alloc, Link { place, operand })
         }
-        operand => formula_link(alloc, place, operand),
+        operand => alone(alloc, Link { place, operand }),
     }
 }
 
@@ -133,8 +112,8 @@ pub(crate) fn chained_formulas(
         ≡ joined connective (formula_of left) (formula_of right)) }
     ensures places { IfOk result (λ f. places_of f ≡ places_of left ++ places_of right) }
 {
-    let links = formula_links(alloc, connective, place, right)?;
-    let first = Box::new(alloc, left)?;
+    let links = formula_links(alloc, connective, place, right);
+    let (first, links) = first_and_links(alloc, left, links)?;
     Ok(Formula::Chain {
         connective,
         first,

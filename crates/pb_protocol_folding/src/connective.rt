@@ -96,13 +96,24 @@ fn connected_term(
     let place = connected.place;
     match choice(connected, &left, &right) {
         Kept::Both => chained_terms(alloc, connected.connective, place, left, right),
-        Kept::Left => Ok(left),
-        Kept::Right => Ok(right),
+        Kept::Left => {
+            drop(right);
+            Ok(left)
+        }
+        Kept::Right => {
+            drop(left);
+            Ok(right)
+        }
         Kept::NotLeft => {
+            drop(right);
             let operand = Box::new(alloc, left)?;
             Ok(Term::Not { place, operand })
         }
-        Kept::Truth(value) => Ok(Term::Constant { place, value }),
+        Kept::Truth(value) => {
+            drop(left);
+            drop(right);
+            Ok(Term::Constant { place, value })
+        }
     }
 }
 
@@ -186,10 +197,13 @@ pub fn not_term(alloc: Global, place: Place, operand: Term) -> Result<Term, Allo
     ensures { IfOk result (λ t. term_of t ≡ folded_not (term_of operand)) }
 {
     match truth_value(&operand) {
-        Some(value) => Ok(Term::Constant {
-            place,
-            value: !value,
-        }),
+        Some(value) => {
+            drop(operand);
+            Ok(Term::Constant {
+                place,
+                value: !value,
+            })
+        }
         None => {
             let operand = Box::new(alloc, operand)?;
             Ok(Term::Not { place, operand })

@@ -126,13 +126,24 @@ fn connected_formula(
 {
     match choice(connective, &left, &right) {
         Kept::Both => chained_formulas(alloc, connective, place, left, right),
-        Kept::Left => Ok(left),
-        Kept::Right => Ok(right),
+        Kept::Left => {
+            drop(right);
+            Ok(left)
+        }
+        Kept::Right => {
+            drop(left);
+            Ok(right)
+        }
         Kept::NotLeft => {
+            drop(right);
             let operand = Box::new(alloc, left)?;
             Ok(Formula::Negation { place, operand })
         }
-        Kept::Truth(value) => Ok(data_truth(place, value)),
+        Kept::Truth(value) => {
+            drop(left);
+            drop(right);
+            Ok(data_truth(place, value))
+        }
     }
 }
 
@@ -197,7 +208,10 @@ pub fn not_formula(alloc: Global, place: Place, operand: Formula) -> Result<Form
     ensures places { IfOk result (λ f. AreAmong (places_of f) (places_of operand)) }
 {
     match decided(&operand) {
-        Some(value) => Ok(data_truth(place, !value)),
+        Some(value) => {
+            drop(operand);
+            Ok(data_truth(place, !value))
+        }
         None => {
             let operand = Box::new(alloc, operand)?;
             Ok(Formula::Negation { place, operand })

@@ -1,7 +1,7 @@
 //! What a connective of two folded operands becomes.
 
 /// What is kept of two operands.
-#[derive(Clone, Copy, Debug, PartialEq, Eq)]
+#[derive(Clone, Copy, PartialEq, Eq)]
 pub(crate) enum Kept {
     /// Both, with the connective between them.
     Both,

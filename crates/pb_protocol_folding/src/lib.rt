@@ -9,6 +9,7 @@ mod enumerator;
 mod formula;
 mod kept;
 mod laws;
+mod links;
 mod operation;
 mod step_set;
 mod truth;

@@ -1,6 +1,6 @@
 //! Comparisons and operators of folded terms.
 
-ghost use Rattle.std.specs.Prelude.{◌≡◌, IfOk, pos, true, false};
+ghost use Rattle.std.specs.Prelude.{◌≡◌, IfOk, pos, true, false, box_value};
 ghost use Rattle.pb_text_tree.specs.declared.operator.Arithmetic.TheVariants as arithmetic;
 ghost use Rattle.pb_text_meaning.specs.Syntax as syntax;
 ghost use Rattle.pb_text_meaning.specs.Erase.{of_arithmetic, of_comparison};
@@ -8,6 +8,7 @@ ghost use Rattle.pb_text_meaning.specs.Value as meaning;
 ghost use Rattle.pb_protocol_folding.specs.Folding.{folded_negative, folded_operation};
 ghost use Rattle.pb_protocol_folding.specs.View.{spec_of, term_of};
 
+use crate::links::{alone, first_and_links};
 use crate::value::{number_term, written_value};
 use pb_text_tree::{Arithmetic, ArithmeticLink, Comparison, Place, SortDeclaration, Term};
 use std::alloc::{AllocError, Global};
@@ -62,6 +63,15 @@ fn calculate(operator: Arithmetic, left: i32, right: i32) -> i64
     }
 }
 
+/// Two terms, each in memory of its own.
+fn boxed<T: Drop>(alloc: Global, left: T, right: T) -> Result<(Box<T>, Box<T>), AllocError>
+    ensures { IfOk result (λ boxes. (box_value boxes.0 ≡ left) × (box_value boxes.1 ≡ right)) }
+{
+    let left = Box::new(alloc, left)?;
+    let right = Box::new(alloc, right)?;
+    Ok((left, right))
+}
+
 /// A comparison of two folded terms. The place is that of the comparison's sign.
 ///
 /// # Errors
@@ -78,12 +88,13 @@ pub fn compared_term(
 {
     if let Some(low) = written_value(folding.sorts, &left) {
         if let Some(high) = written_value(folding.sorts, &right) {
+            drop(left);
+            drop(right);
             let value = compares(comparison, low, high);
             return Ok(Term::Constant { place, value });
         }
     }
-    let left = Box::new(folding.alloc, left)?;
-    let right = Box::new(folding.alloc, right)?;
+    let (left, right) = boxed(folding.alloc, left, right)?;
     Ok(Term::Comparison {
         place,
         comparison,
@@ -103,13 +114,12 @@ fn operated_term(
     ensures { IfOk result (λ t. term_of t
         ≡ syntax.Term.Binary (of_arithmetic operator) (term_of left) (term_of right)) }
 {
-    let mut links = Vec::new(alloc);
-    links.push(ArithmeticLink {
+    let link = ArithmeticLink {
         place,
         operator,
         operand: right,
-    })?;
-    let first = Box::new(alloc, left)?;
+    };
+    let (first, links) = first_and_links(alloc, left, alone(alloc, link))?;
     Ok(Term::Arithmetic { first, links })
 }
 
@@ -129,6 +139,8 @@ pub fn arithmetic_term(
 {
     if let Some(low) = written_value(folding.sorts, &left) {
         if let Some(high) = written_value(folding.sorts, &right) {
+            drop(left);
+            drop(right);
             let value = calculate(operator, low, high);
             return number_term(folding.alloc, place, value);
         }
@@ -145,7 +157,10 @@ pub fn negative_term(folding: &Folding<'_>, place: Place, operand: Term) -> Resu
         ≡ folded_negative (spec_of folding.now.sorts.now) (term_of operand)) }
 {
     match written_value(folding.sorts, &operand) {
-        Some(value) => number_term(folding.alloc, place, -i64::from(value)),
+        Some(value) => {
+            drop(operand);
+            number_term(folding.alloc, place, -i64::from(value))
+        }
         None => {
             let operand = Box::new(folding.alloc, operand)?;
             Ok(Term::Negative { place, operand })

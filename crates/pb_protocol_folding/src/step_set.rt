@@ -7,6 +7,7 @@ ghost use Rattle.pb_protocol_folding.specs.FoldedModels.{folded_only, folded_uni
 ghost use Rattle.pb_protocol_folding.specs.FoldedModels as models;
 ghost use Rattle.pb_protocol_folding.specs.View.{set_of, set_links};
 
+use crate::links::{alone, first_and_links, with_first};
 use pb_model_tree::{StepSet, StepSetLink};
 use pb_text_tree::{Name, Place};
 use std::alloc::{AllocError, Global};
@@ -67,16 +68,11 @@ fn union_links(alloc: Global, place: Place, set: StepSet) -> Result<Vec<StepSetL
         ≡ StepSetForm.union place A (step_set_form set)) }
 {
     match set {
-        StepSet::Union { first, mut links } => {
+        StepSet::Union { first, links } => {
             let operand = Box::into_inner(first);
-            links.insert(0, StepSetLink { place, operand })?;
-            Ok(links)
+            with_first(links, StepSetLink { place, operand })
         }
-        operand => {
-            let mut links = Vec::new(alloc);
-            links.push(StepSetLink { place, operand })?;
-            Ok(links)
-        }
+        operand => alone(alloc, StepSetLink { place, operand }),
     }
 }
 
@@ -93,12 +89,14 @@ pub fn union_of(
     ensures { IfOk result (λ A. set_of A ≡ folded_union (set_of left) (set_of right)) }
 {
     if is_none(&left) {
+        drop(left);
         return Ok(right);
     }
     if is_none(&right) {
+        drop(right);
         return Ok(left);
     }
-    let links = union_links(alloc, place, right)?;
-    let first = Box::new(alloc, left)?;
+    let links = union_links(alloc, place, right);
+    let (first, links) = first_and_links(alloc, left, links)?;
     Ok(StepSet::Union { first, links })
 }

@@ -20,7 +20,7 @@ use pb_typing_declarations::TypeError;
 use std::alloc::Global;
 
 /// A packed model, with the groups of the model's state variables that its variables are.
-#[derive(Debug, Drop)]
+#[derive(Drop)]
 pub struct Packed {
     pub model: Model,
     pub groups: Vec<Group>,

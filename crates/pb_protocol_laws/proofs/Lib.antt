@@ -3,3 +3,17 @@ mod Distinct
 mod EnumeratorNames
 mod Positive
 mod PlainModels
+pub mod Properties
+pub mod States
+pub mod Models
+pub mod Packed
+pub mod Moves
+pub mod Words
+pub mod PlainWords
+pub mod Spelled
+pub mod Folded
+pub mod Unfolded
+pub mod FlatModels
+pub mod Digits
+pub mod PackedWords
+pub mod FewValues

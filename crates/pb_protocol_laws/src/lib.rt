@@ -2,8 +2,18 @@
 //! do nothing: each law stands on its function's contract.
 #![tactic(auto)]
 
+mod solved;
+mod spelling;
+
 ghost use Rattle.pb_protocol_laws.specs.Laws.{CallsArePositive, EnumeratorsAreApart};
 ghost use Rattle.pb_protocol_laws.specs.Laws.{PlainProtocolsArePlain, StateVariablesAreApart};
+
+pub use solved::{flat_models_are_solved, moves_are_the_protocols, packed_models_are_solved};
+pub use spelling::{
+    flat_formulas_are_writable, flat_models_are_writable, packed_formulas_are_writable,
+    packed_groups_have_few_values, packed_models_are_writable, plain_formulas_are_writable,
+    plain_models_are_writable,
+};
 
 /// No two enumerators have one name.
 pub fn enumerators_are_apart()

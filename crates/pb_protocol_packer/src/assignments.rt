@@ -16,6 +16,7 @@ use crate::given::{Given, given_for};
 use crate::group::Group;
 use crate::group_number::joined_term;
 use crate::member::Member;
+use pb_base::both;
 use pb_model_tree::Assignment;
 use pb_text_tree::{Argument, Name, Term, copy_name, copy_term};
 use std::alloc::AllocError;
@@ -80,7 +81,7 @@ fn push_assignment(
         (group_of group.now ∷ [])) }
 {
     if let Some(term) = group_term(builder, given, group)? {
-        let variable = copy_name(builder.alloc, name_of(group))?;
+        let (term, variable) = both(term, copy_name(builder.alloc, name_of(group)))?;
         let place = builder.place;
         assignments.push(Assignment {
             variable,

@@ -7,6 +7,7 @@ ghost use Rattle.pb_protocol_packing.specs.Numbers as numbers;
 ghost use Rattle.pb_protocol_packer.specs.View.{term_of, name_bytes};
 
 use crate::node::{application, arithmetic, chain};
+use pb_base::both;
 use pb_text_tree::{
     Argument, Arithmetic, ArithmeticLink, Comparison, Connective, Name, Place, Term, TermLink,
 };
@@ -83,8 +84,7 @@ impl Builder {
                 Ok(Term::Arithmetic { first, links })
             }
             _ => {
-                let mut links = Vec::new(self.alloc);
-                links.push(link)?;
+                let (left, links) = both(left, vec![in self.alloc; link])?;
                 arithmetic(self.alloc, left, links)
             }
         }
@@ -100,7 +100,7 @@ impl Builder {
         ensures { IfOk result (λ t. term_of t
             ≡ syntax.Term.Binary (of_comparison comparison) (term_of left) (term_of right)) }
     {
-        let left = Box::new(self.alloc, left)?;
+        let (right, left) = both(right, Box::new(self.alloc, left))?;
         let right = Box::new(self.alloc, right)?;
         Ok(Term::Comparison {
             place: self.place,
@@ -120,11 +120,11 @@ impl Builder {
         ensures { IfOk result (λ t. term_of t
             ≡ syntax.Term.Binary (of_connective connective) (term_of left) (term_of right)) }
     {
-        let mut links = Vec::new(self.alloc);
-        links.push(TermLink {
+        let link = TermLink {
             place: self.place,
             operand: right,
-        })?;
+        };
+        let (left, links) = both(left, vec![in self.alloc; link])?;
         chain(self.alloc, connective, left, links)
     }
 

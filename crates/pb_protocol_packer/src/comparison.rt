@@ -84,7 +84,11 @@ fn compared_by(
 {
     match compared_place(comparison, &digit.member.kind, &right) {
         None => builder.compared(comparison, left, right),
-        Some(place) => compared_with(builder, comparison, digit, place),
+        Some(place) => {
+            drop(left);
+            drop(right);
+            compared_with(builder, comparison, digit, place)
+        }
     }
 }
 

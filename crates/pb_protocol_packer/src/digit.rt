@@ -8,6 +8,7 @@ ghost use Rattle.pb_protocol_packer.specs.Members.{kind_said};
 use crate::builder::Builder;
 use crate::enumerators::enumerator_at;
 use crate::member::{Kind, Member};
+use pb_base::both;
 use pb_text_tree::{Arithmetic, Comparison, Term};
 use std::alloc::AllocError;
 
@@ -18,7 +19,7 @@ fn raised(builder: Builder, term: Term, low: i32) -> Result<Term, AllocError>
     if low == 0 {
         return Ok(term);
     }
-    let low = builder.whole(i64::from(low))?;
+    let (term, low) = both(term, builder.whole(i64::from(low)))?;
     builder.computed(Arithmetic::Plus, term, low)
 }
 
@@ -29,7 +30,7 @@ pub(crate) fn lowered(builder: Builder, term: Term, low: i32) -> Result<Term, Al
     if low == 0 {
         return Ok(term);
     }
-    let low = builder.whole(i64::from(low))?;
+    let (term, low) = both(term, builder.whole(i64::from(low)))?;
     builder.computed(Arithmetic::Minus, term, low)
 }
 

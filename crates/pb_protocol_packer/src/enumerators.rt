@@ -6,6 +6,7 @@ ghost use Rattle.pb_protocol_packing.specs.Numbers as numbers;
 ghost use Rattle.pb_protocol_packer.specs.View.{term_of, name_bytes, texts_of};
 
 use crate::builder::Builder;
+use pb_base::both;
 use pb_text_tree::{Comparison, Connective, Name, Term, copy_term};
 use std::alloc::AllocError;
 
@@ -36,7 +37,7 @@ fn is_enumerator(builder: Builder, term: &Term, enumerator: &Name) -> Result<Ter
         (term_of term.now) (syntax.Term.Named (name_bytes enumerator.now))) }
 {
     let left = copy_term(builder.alloc, term)?;
-    let right = builder.name(enumerator)?;
+    let (left, right) = both(left, builder.name(enumerator))?;
     builder.compared(Comparison::Equal, left, right)
 }
 
@@ -55,9 +56,13 @@ pub(crate) fn enumerator_at(
     let last = enumerators.len() - 1;
     let mut term = builder.name(&enumerators[last])?;
     for index in (0..last).rev() {
-        let condition = is_number(builder, place, index)?;
-        let chosen = builder.name(&enumerators[index])?;
-        term = builder.either(condition, chosen, term)?;
+        let (other, condition) = both(term, is_number(builder, place, index))?;
+        let Ok(chosen) = builder.name(&enumerators[index]) else {
+            drop(condition);
+            drop(other);
+            return Err(AllocError);
+        };
+        term = builder.either(condition, chosen, other)?;
     }
     Ok(term)
 }
@@ -77,8 +82,9 @@ pub(crate) fn place_of(
     let last = enumerators.len() - 1;
     let mut term = builder.number(last as u64);
     for index in (0..last).rev() {
-        let condition = is_enumerator(builder, value, &enumerators[index])?;
-        term = builder.either(condition, builder.number(index as u64), term)?;
+        let condition = is_enumerator(builder, value, &enumerators[index]);
+        let (other, condition) = both(term, condition)?;
+        term = builder.either(condition, builder.number(index as u64), other)?;
     }
     Ok(term)
 }
@@ -98,8 +104,8 @@ pub(crate) fn is_one_of(
     let last = enumerators.len() - 1;
     let mut term = is_enumerator(builder, value, &enumerators[last])?;
     for index in (0..last).rev() {
-        let test = is_enumerator(builder, value, &enumerators[index])?;
-        term = builder.connected(Connective::Or, test, term)?;
+        let (others, test) = both(term, is_enumerator(builder, value, &enumerators[index]))?;
+        term = builder.connected(Connective::Or, test, others)?;
     }
     Ok(term)
 }

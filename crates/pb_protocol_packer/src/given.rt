@@ -54,7 +54,10 @@ pub(crate) fn number_after(
         (new_in given.now (member_of member.now)) (member_of member.now) (term_of old)) }
 {
     match given_for(given, &member.variable.name.text) {
-        Some(term) => number_by(builder, member, term),
+        Some(term) => {
+            drop(old);
+            number_by(builder, member, term)
+        }
         None => Ok(old),
     }
 }

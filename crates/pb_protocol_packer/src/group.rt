@@ -8,7 +8,7 @@ ghost use Rattle.pb_protocol_packer.specs.Members.{are_weighted, members_said};
 use crate::member::{Member, Variable};
 
 /// The variable that several become, with these. Its values are the numbers below `capacity`.
-#[derive(Debug, Drop)]
+#[derive(Drop)]
 pub struct Joined {
     pub variable: Variable,
     pub members: Vec<Member>,
@@ -19,7 +19,7 @@ pub struct Joined {
 }
 
 /// A variable that stays as it is, or several with the variable that they become.
-#[derive(Debug, Drop)]
+#[derive(Drop)]
 pub enum Group {
     Alone(Variable),
     Joined(Joined),

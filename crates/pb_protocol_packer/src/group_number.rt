@@ -13,6 +13,7 @@ use crate::builder::Builder;
 use crate::given::{Given, all_tests, number_after};
 use crate::group::Joined;
 use crate::member::Member;
+use pb_base::both;
 use pb_text_tree::{Arithmetic, Term, copy_term};
 use std::alloc::AllocError;
 
@@ -71,14 +72,16 @@ fn number_of(
         (assigned_term (given_in given.now)) (term_of term) (members_said members.now)) }
 {
     let Some((member, others)) = members.split_first() else {
+        drop(term);
         return Ok(builder.number(0));
     };
     if others.is_empty() {
         return number_after(builder, given, member, term);
     }
-    let part = part_after(builder, given, member, &term)?;
-    let remainder = rest(builder, term, member.weight)?;
-    let sum = number_of(builder, given, remainder, others)?;
+    let part = part_after(builder, given, member, &term);
+    let (term, part) = both(term, part)?;
+    let (part, remainder) = both(part, rest(builder, term, member.weight))?;
+    let (part, sum) = both(part, number_of(builder, given, remainder, others))?;
     builder.computed(Arithmetic::Plus, part, sum)
 }
 
@@ -109,7 +112,8 @@ pub(crate) fn joined_term(
         (assigned_term (given_in given.now)) (term_of term)
         (members_said joined.now.members.items)) }
 {
-    let tests = all_tests(builder, given, &joined.members)?;
-    let number = number_of(builder, given, term, &joined.members)?;
+    let (term, tests) = both(term, all_tests(builder, given, &joined.members))?;
+    let number = number_of(builder, given, term, &joined.members);
+    let (tests, number) = both(tests, number)?;
     where_all(builder, tests, number, u64::from(joined.capacity))
 }

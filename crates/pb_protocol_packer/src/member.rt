@@ -3,7 +3,7 @@
 use pb_text_tree::Name;
 
 /// How a text writes a variable's values: as truth values, as enumerators or as whole numbers.
-#[derive(Debug, Drop)]
+#[derive(Drop)]
 pub enum Kind {
     Boolean,
     Enumeration(Vec<Name>),
@@ -11,7 +11,7 @@ pub enum Kind {
 }
 
 /// A variable with its sort.
-#[derive(Debug, Drop)]
+#[derive(Drop)]
 pub struct Variable {
     pub name: Name,
     pub sort: Name,
@@ -19,7 +19,7 @@ pub struct Variable {
 
 /// A variable of a group: its `size` values are whole numbers from `low` on, and count `weight`
 /// each in the group's number.
-#[derive(Debug, Drop)]
+#[derive(Drop)]
 pub struct Member {
     pub variable: Variable,
     pub kind: Kind,

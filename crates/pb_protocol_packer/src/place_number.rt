@@ -8,6 +8,7 @@ ghost use Rattle.pb_protocol_packer.specs.View.{chosen_place, term_of, terms_of,
 use crate::builder::Builder;
 use crate::enumerators::{place_among, place_of};
 use crate::seen::is_choice;
+use pb_base::both;
 use pb_text_tree::{Argument, Name, Term, copy_term};
 use std::alloc::AllocError;
 
@@ -23,8 +24,13 @@ fn chosen_place(
         ≡ chosen_place (texts_of enumerators.now) (terms_of arguments.now)) }
 {
     let condition = copy_term(builder.alloc, &arguments[0].term)?;
-    let chosen = place_number(builder, enumerators, &arguments[1].term)?;
-    let other = place_number(builder, enumerators, &arguments[2].term)?;
+    let chosen = place_number(builder, enumerators, &arguments[1].term);
+    let (condition, chosen) = both(condition, chosen)?;
+    let Ok(other) = place_number(builder, enumerators, &arguments[2].term) else {
+        drop(condition);
+        drop(chosen);
+        return Err(AllocError);
+    };
     builder.either(condition, chosen, other)
 }
 

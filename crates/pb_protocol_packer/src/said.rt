@@ -10,6 +10,7 @@ use crate::comparison::{compared, digit_in};
 use crate::digit::from_number;
 use crate::node::{application, arithmetic, chain};
 use crate::scope::{Hiding, Packing, digit_for};
+use pb_base::both;
 use pb_text_tree::{
     Argument, ArithmeticLink, Name, Term, TermLink, copy_name, copy_term, copy_variables,
 };
@@ -134,7 +135,7 @@ pub(crate) fn said(
             links,
         } => {
             let first = said(packing, hiding, first)?;
-            let links = said_links(packing, hiding, links)?;
+            let (first, links) = both(first, said_links(packing, hiding, links))?;
             chain(packing.alloc, *connective, first, links)
         }
         Term::Comparison {
@@ -145,7 +146,7 @@ pub(crate) fn said(
         } => {
             let digit = digit_in(packing, hiding, left);
             let left = said(packing, hiding, left)?;
-            let right = said(packing, hiding, right)?;
+            let (left, right) = both(left, said(packing, hiding, right))?;
             let builder = Builder {
                 alloc: packing.alloc,
                 place: *place,
@@ -154,7 +155,7 @@ pub(crate) fn said(
         }
         Term::Arithmetic { first, links } => {
             let first = said(packing, hiding, first)?;
-            let links = said_operations(packing, hiding, links)?;
+            let (first, links) = both(first, said_operations(packing, hiding, links))?;
             arithmetic(packing.alloc, first, links)
         }
         Term::Application {

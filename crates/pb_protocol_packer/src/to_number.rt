@@ -13,6 +13,7 @@ use crate::enumerators::is_one_of;
 use crate::member::{Kind, Member};
 use crate::place_number::place_number;
 use crate::seen::{Written, as_written, is_enumerator, is_truth};
+use pb_base::both;
 use pb_text_tree::{Comparison, Connective, Term, copy_term};
 use std::alloc::AllocError;
 
@@ -25,7 +26,10 @@ fn truth_number(builder: Builder, term: Term) -> Result<Term, AllocError>
         ≡ numbers.to_number numbers.Kind.Boolean (pos 0) (term_of term)) }
 {
     match as_written(&term) {
-        Written::Truth(value) => Ok(builder.number(value as u64)),
+        Written::Truth(value) => {
+            drop(term);
+            Ok(builder.number(value as u64))
+        }
         _ => builder.either(term, builder.number(1), builder.number(0)),
     }
 }
@@ -51,7 +55,10 @@ fn whole_number(builder: Builder, term: Term, low: i32) -> Result<Term, AllocErr
         ≡ numbers.to_number numbers.Kind.Whole low (term_of term)) }
 {
     match small_number(&term) {
-        Some(value) => builder.whole(i64::from(value) - i64::from(low)),
+        Some(value) => {
+            drop(term);
+            builder.whole(i64::from(value) - i64::from(low))
+        }
         None => lowered(builder, term, low),
     }
 }
@@ -63,7 +70,11 @@ pub(crate) fn to_number(builder: Builder, member: &Member, term: Term) -> Result
 {
     match &member.kind {
         Kind::Boolean => truth_number(builder, term),
-        Kind::Enumeration(enumerators) => place_number(builder, enumerators, &term),
+        Kind::Enumeration(enumerators) => {
+            let number = place_number(builder, enumerators, &term);
+            drop(term);
+            number
+        }
         Kind::Whole => whole_number(builder, term, member.low),
     }
 }
@@ -108,7 +119,7 @@ fn truth_test(builder: Builder, term: &Term) -> Result<Term, AllocError>
         ≡ numbers.test_of numbers.Kind.Boolean (pos 0) 2 (term_of term.now)) }
 {
     let is_false = is_equal(builder, term, false)?;
-    let is_true = is_equal(builder, term, true)?;
+    let (is_false, is_true) = both(is_false, is_equal(builder, term, true))?;
     builder.connected(Connective::Or, is_false, is_true)
 }
 
@@ -118,7 +129,7 @@ fn least_test(builder: Builder, term: &Term, least: i64) -> Result<Term, AllocEr
         (numbers.number least) (term_of term.now)) }
 {
     let least = builder.whole(least)?;
-    let right = copy_term(builder.alloc, term)?;
+    let (least, right) = both(least, copy_term(builder.alloc, term))?;
     builder.compared(Comparison::LessEqual, least, right)
 }
 
@@ -128,7 +139,7 @@ fn end_test(builder: Builder, term: &Term, end: i64) -> Result<Term, AllocError>
         (term_of term.now) (numbers.number end)) }
 {
     let left = copy_term(builder.alloc, term)?;
-    let end = builder.whole(end)?;
+    let (left, end) = both(left, builder.whole(end))?;
     builder.compared(Comparison::Less, left, end)
 }
 
@@ -138,7 +149,8 @@ fn whole_test(builder: Builder, term: &Term, low: i32, size: u32) -> Result<Term
         ≡ numbers.test_of numbers.Kind.Whole low size (term_of term.now)) }
 {
     let from_least = least_test(builder, term, i64::from(low))?;
-    let before_end = end_test(builder, term, i64::from(low) + i64::from(size))?;
+    let before_end = end_test(builder, term, i64::from(low) + i64::from(size));
+    let (from_least, before_end) = both(from_least, before_end)?;
     builder.connected(Connective::And, from_least, before_end)
 }
 

@@ -6,7 +6,7 @@ use pb_model_tree::Modality;
 use pb_text_tree::{Connective, Name, Place, Quantifier, Term, Variables};
 
 /// A formula of the modal mu-calculus.
-#[derive(Debug, Drop)]
+#[derive(Drop)]
 #[cycle(formulas)]
 pub enum Formula {
     /// `true` or `false`.
@@ -58,7 +58,7 @@ pub enum Formula {
 }
 
 /// A connective in a chain, where it stands, and the operand behind it.
-#[derive(Debug, Drop)]
+#[derive(Drop)]
 #[cycle(formulas)]
 pub struct Link {
     pub place: Place,

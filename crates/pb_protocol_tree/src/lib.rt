@@ -9,11 +9,15 @@
 #![tactic(auto)]
 
 pub mod formula;
+mod formula_copy;
 pub mod protocol;
 pub mod step;
 pub mod step_set;
+mod step_set_copy;
 
 pub use formula::{Formula, Link};
+pub use formula_copy::copy_formula;
 pub use protocol::{Definition, Property, Protocol, StateVariable, StateVariables};
 pub use step::{Assignment, Step};
 pub use step_set::{StepSet, StepSetLink, StepValue};
+pub use step_set_copy::copy_step_set;

@@ -7,7 +7,7 @@ use pb_text_tree::{Name, Range, SortDeclaration, Term, Variables};
 
 /// A state variable: one value where it has no indices, else an array, with a value for each tuple
 /// of values of its indices.
-#[derive(Debug, Drop)]
+#[derive(Drop)]
 pub struct StateVariable {
     pub name: Name,
     pub indices: Vec<Variables>,
@@ -15,14 +15,14 @@ pub struct StateVariable {
 
 /// State variables whose values are of one sort, as `owner, line(c: Cache): Id`. There is at least
 /// one.
-#[derive(Debug, Drop)]
+#[derive(Drop)]
 pub struct StateVariables {
     pub variables: Vec<StateVariable>,
     pub sort: Name,
 }
 
 /// A name for a data term over the state, its parameters and the definitions before it.
-#[derive(Debug, Drop)]
+#[derive(Drop)]
 pub struct Definition {
     pub name: Name,
     pub parameters: Vec<Variables>,
@@ -30,7 +30,7 @@ pub struct Definition {
 }
 
 /// A formula with the name by which it is asked for.
-#[derive(Debug, Drop)]
+#[derive(Drop)]
 pub struct Property {
     pub name: Name,
     pub formula: Formula,
@@ -39,7 +39,7 @@ pub struct Property {
 /// What the text of a model says as it is written: sorts and ranges, state variables, definitions,
 /// steps, the initial state, with a term for each state variable, and the properties that are asked
 /// of it.
-#[derive(Debug, Drop)]
+#[derive(Drop)]
 pub struct Protocol {
     pub sorts: Vec<SortDeclaration>,
     pub ranges: Vec<Range>,

@@ -4,7 +4,7 @@ use pb_text_tree::{Argument, Name, Term, Variables};
 
 /// A state variable, with its index where it is an array, and the term whose value in the old state
 /// the element gets, with its place.
-#[derive(Debug, Drop)]
+#[derive(Drop)]
 pub struct Assignment {
     pub variable: Name,
     pub index: Vec<Argument>,
@@ -13,7 +13,7 @@ pub struct Assignment {
 
 /// A step: for values of its own variables at which the guard is true, all assignments at once. Of
 /// several to one element of an array the last counts; what isn't assigned keeps its value.
-#[derive(Debug, Drop)]
+#[derive(Drop)]
 pub struct Step {
     pub name: Name,
     pub variables: Vec<Variables>,

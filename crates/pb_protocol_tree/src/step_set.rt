@@ -3,7 +3,7 @@
 use pb_text_tree::{Argument, Name, Place};
 
 /// What stands for one of a step's own variables in a set of steps.
-#[derive(Debug, Drop)]
+#[derive(Drop)]
 pub enum StepValue {
     /// `_`: any value.
     Any { place: Place },
@@ -12,7 +12,7 @@ pub enum StepValue {
 }
 
 /// A set of steps, by their names and the values of their own variables.
-#[derive(Debug, Drop)]
+#[derive(Drop)]
 #[cycle(step_sets)]
 pub enum StepSet {
     /// `true`: all steps.
@@ -39,7 +39,7 @@ pub enum StepSet {
 }
 
 /// A `||` between sets of steps, where it stands, and the set behind it.
-#[derive(Debug, Drop)]
+#[derive(Drop)]
 #[cycle(step_sets)]
 pub struct StepSetLink {
     pub place: Place,

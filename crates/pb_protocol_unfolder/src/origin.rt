@@ -12,7 +12,7 @@ use std::alloc::{AllocError, Global};
 
 /// The name by which users are told of a step of a flat model, `grant(c1,c2)`, and where the step's
 /// name stands in the protocol.
-#[derive(Debug, Drop)]
+#[derive(Drop)]
 pub struct StepOrigin {
     pub name: String,
     pub place: Place,

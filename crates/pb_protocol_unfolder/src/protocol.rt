@@ -56,7 +56,7 @@ fn initial_of(alloc: Global, protocol: &Protocol) -> Result<Vec<Argument>, Unfol
 }
 
 /// A flat model, and how users are told of its variables and steps.
-#[derive(Debug, Drop)]
+#[derive(Drop)]
 pub struct Unfolded {
     pub model: Model,
     /// For each state variable the name by which users are told of it: `line(c1)`.

@@ -41,6 +41,7 @@ fn push_change(
         ++ change_of (string_bytes variable.text) (term_of term)) }
 {
     if is_itself(variable.text.as_str(), &term) {
+        drop((variable, term));
         return Ok(());
     }
     let value = Argument { place, term };

@@ -20,9 +20,10 @@ use crate::fault::StepsError;
 use crate::instance::{Instance, instance_name};
 use crate::limits::MAX_WRITTEN_STEPS;
 use crate::unfolder::Unfolder;
+use pb_base::OrMemory;
 use pb_model_tree as flat;
 use pb_protocol_folding::is_possible;
-use pb_protocol_unfolder_terms::{TermScope, variables_of};
+use pb_protocol_unfolder_terms::{TermScope, paired, variables_of};
 use pb_text_tree::{Name, Place};
 use std::alloc::AllocError;
 
@@ -53,6 +54,7 @@ fn unfold_in_scope(
     let step = instance.step;
     let guard = unfolder.unfold(scope, true, &step.guard)?;
     if !is_possible(&guard) {
+        drop(guard);
         return Ok(None);
     }
     let assigning = Assigning {
@@ -60,8 +62,12 @@ fn unfold_in_scope(
         assignments: &step.assignments,
         place: step.name.place,
     };
-    let assignments = unfold_assignments(unfolder, &assigning, unfolder.elements())?;
-    let name = instance_name(unfolder.alloc(), instance)?;
+    let assignments = unfold_assignments(unfolder, &assigning, unfolder.elements());
+    let (guard, assignments) = paired(guard, assignments)?;
+    let Ok(name) = instance_name(unfolder.alloc(), instance) else {
+        drop((guard, assignments));
+        return Err(OrMemory::Memory);
+    };
     let text = name.text;
     Ok(Some(flat::Step {
         name: Name { place, text },
@@ -106,7 +112,10 @@ impl UnfoldedSteps {
             → OnOk result (map step_place self.new.steps.items
             ≡ places_from 0 (length self.new.steps.items)) }
     {
-        self.kept.push(found.is_some())?;
+        let Ok(()) = self.kept.push(found.is_some()) else {
+            drop(found);
+            return Err(AllocError);
+        };
         if let Some(step) = found {
             self.steps.push(step)?;
         }

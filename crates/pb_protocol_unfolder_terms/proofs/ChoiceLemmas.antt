@@ -142,6 +142,14 @@ IsChoice D function condition left right r =
     (n m : ℕ) (c x y : Term) (truth : Bool) → tree.term_of condition ≡ folded (tree.spec_of D) true c → IsUnfolded (tree.spec_of D) false n x left
     → IsUnfolded (tree.spec_of D) false left.room y right → m ≤ n + suc (operator_count c) → IsUnfolded (tree.spec_of D) truth m (choice_of (string_bytes function.text) c x y) r
 
+-- so it is by what was held of them while more was unfolded
+pub choice-held : (D : List SortDeclaration) (f : declared_name.Name) {condition held last : declared_term.Term} {left next right r : Unfolded} → ◌≡◌ {A = declared_term.Term × Unfolded}
+    (last, next) (held, left) → held ≡ condition
+    → IsChoice D f last next right r → IsChoice D f condition left right r
+choice-held D f {left = left} {right = right} {r = r} both one choice =
+    subst (λ (x : declared_term.Term). IsChoice D f x left right r) one
+    (subst (λ (pair : declared_term.Term × Unfolded). IsChoice D f pair.0 pair.1 right r) both choice)
+
 -- so it is by equal sorts, a name and a whole
 pub two-unfolded : (k : Context) (truth : Bool) (function : declared_name.Name) (t : declared_term.Term) {D : List SortDeclaration} {f : Name} {c x y whole : Term} {n m : ℕ} {left right r : Unfolded}
     → D ≡ k.declarations.now → string_bytes function.text ≡ f → choice_of f c x y ≡ whole → tree.term_of t ≡ folded (folding_in k) true c

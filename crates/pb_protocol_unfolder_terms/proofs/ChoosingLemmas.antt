@@ -1,8 +1,11 @@
 -- A choice among the values of an index that isn't written: by the first of them and the further ones.
-use Rattle.std.proofs.Common.{◌≡◌, ◌≤◌, ◌-◌, ◌+◌, ◌==◌, ℕ, Bool, true, false, if◌then◌else◌, List, map, drop, take, length, Some, sym, ◌∙◌, ap, subst, arith}
+use Rattle.std.proofs.Common.{◌≡◌, ◌≤◌, ◌<◌, ◌-◌, ◌+◌, ◌==◌, ℕ, Bool, true, false, if◌then◌else◌, List, map, drop, take, length, Some, sym, ◌∙◌, ap, subst, arith}
 use Rattle.std.specs.List.{slice_get}
 use Rattle.std.specs.Prelude.{Result, IsErrAnd, codes, string_bytes}
 use Rattle.pb_base.specs.declared.or_memory.OrMemory.{OrMemory}
+use Rattle.pb_base.specs.declared.or_memory.OrMemory.TheVariants.{Refused}
+use Rattle.pb_text_tree.specs.declared.place.Place.{Place}
+use Rattle.pb_protocol_unfolder_terms.specs.declared.fault.UnfoldRule.TheVariants as rule
 use Rattle.pb_text_tree.specs.declared.name.Name as declared_name
 use Rattle.pb_text_tree.specs.declared.sort.SortDeclaration.{SortDeclaration}
 use Rattle.pb_text_tree.specs.declared.term.Term as declared_term
@@ -22,7 +25,7 @@ use Rattle.pb_protocol_unfolder_terms.specs.Puts.{choice_of, element_by}
 use Rattle.pb_protocol_unfolder_terms.specs.Unfolding.{IsRefusal, IsUnfolded, Unfolds, operator_count}
 use Rattle.pb_protocol_unfolder_terms.specs.Values.{written_term}
 use Rattle.pb_protocol_unfolder_terms.proofs.ArgumentLemmas.{behind-first, some-of}
-use Rattle.pb_protocol_unfolder_terms.proofs.ChainLemmas.{err-kept}
+use Rattle.pb_protocol_unfolder_terms.proofs.ChainLemmas.{err-kept, no-room}
 use Rattle.pb_protocol_unfolder_terms.proofs.ChoiceLemmas.{IsChoice, IsChosen, chosen-refused, if-named, right-refused, truth-said, two-unfolded}
 use Rattle.pb_protocol_unfolder_terms.proofs.ReadLemmas.{choices-more}
 
@@ -75,6 +78,14 @@ module _ {k : Context} {v : Level} {s : declared_scope.TermScope} {all : Choices
       → Unfolds (folding_in k) truth v.room (among k v s all t all.values.now) r
   refused-as t truth r e same h =
       err-kept r e _ (IsRefusal v.room (among k v s all t all.values.now)) same (subst (λ (z : Term). IsRefusal v.room z e) (choice-said t) h)
+
+  -- there is no room for the index, its value and the choice
+  pub choosing-without-room : {place : Place} (r : Result Unfolded (OrMemory UnfoldFault)) (e : OrMemory UnfoldFault) → IsErrAnd r (λ d. d ≡ e)
+      → e ≡ Refused (record { rule = rule.Operators; place = place }) → v.room < all.operators + 2
+      → (t : Term) (truth : Bool) → IsIndexOf k all t → all.operators ≤ operator_count t → Unfolds (folding_in k) truth v.room (among k v s all t all.values.now) r
+  choosing-without-room {place = place} r e same is many t truth said within =
+      refused-as t truth r e same
+      (no-room v.room (choice_of (codes "if") (equal_to t value) (element_at k v s all value) (among k v s all t (further_values all))) e place is (omega (arith, many, within)))
 
   -- decided, it is the element that is chosen
   pub decided-unfolded : (decision : Bool) {u r : Unfolded} → Some decision ≡ truth_value (tree.term_of condition) → IsChosen u r

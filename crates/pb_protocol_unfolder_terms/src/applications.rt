@@ -19,6 +19,7 @@ use crate::context::{Context, Meant};
 use crate::fault::UnfoldError;
 use crate::level::{Level, behind_one};
 use crate::names::placed_name;
+use crate::pair::paired;
 use crate::reads::unfold_read;
 use crate::scope::TermScope;
 use crate::unfold::unfold;
@@ -85,17 +86,28 @@ fn unfold_choice<'a>(
         ..level
     };
     match truth_value(&condition.term) {
-        Some(true) => Ok(chosen(unfold(context, scope, inner, &arguments[1].term)?)),
-        Some(false) => Ok(chosen(unfold(context, scope, inner, &arguments[2].term)?)),
+        Some(true) => {
+            drop(condition);
+            Ok(chosen(unfold(context, scope, inner, &arguments[1].term)?))
+        }
+        Some(false) => {
+            drop(condition);
+            Ok(chosen(unfold(context, scope, inner, &arguments[2].term)?))
+        }
         None => {
-            let left = unfold(context, scope, inner, &arguments[1].term)?;
+            let left = unfold(context, scope, inner, &arguments[1].term);
+            let (condition, left) = paired(condition.term, left)?;
             let inner = Level {
                 room: left.room,
                 ..inner
             };
-            let right = unfold(context, scope, inner, &arguments[2].term)?;
-            let name = copy_name(context.alloc, function)?;
-            Ok(choice(&context.folding(), name, condition.term, left, right)?)
+            let right = unfold(context, scope, inner, &arguments[2].term);
+            let ((condition, left), right) = paired((condition, left), right)?;
+            let Ok(name) = copy_name(context.alloc, function) else {
+                drop((condition, left, right));
+                return Err(UnfoldError::Memory);
+            };
+            Ok(choice(&context.folding(), name, condition, left, right)?)
         }
     }
 }
@@ -199,10 +211,12 @@ pub(crate) fn unfold_arithmetic<'a>(
     };
     let mut left = unfold(context, scope, inner, first)?;
     for link in links {
-        let room = behind_one(left.room, link.place)?;
-        let right = unfold(context, scope, Level { room, ..inner }, &link.operand)?;
         let place = link.place;
-        left = calculation(&context.folding(), place, link.operator, left, right)?;
+        let room = behind_one(left.room, place);
+        let (before, room) = paired(left, room)?;
+        let right = unfold(context, scope, Level { room, ..inner }, &link.operand);
+        let (before, right) = paired(before, right)?;
+        left = calculation(&context.folding(), place, link.operator, before, right)?;
     }
     Ok(left)
 }

@@ -29,7 +29,10 @@ fn lengthened(
         let left = Term::Arithmetic { first, links };
         return arithmetic_term(folding, link.place, link.operator, left, link.operand);
     }
-    links.push(link)?;
+    let Ok(()) = links.push(link) else {
+        drop((first, links));
+        return Err(AllocError);
+    };
     Ok(Term::Arithmetic { first, links })
 }
 

@@ -1,7 +1,7 @@
 //! Arrays that are read, and the choice of an element by an index that isn't written.
 
 ghost use Rattle.std.specs.Prelude.{◌≡◌, ◌+◌, ◌≤◌, ◌<◌, ℕ, suc, true, false, length, drop};
-ghost use Rattle.std.specs.Prelude.{IfOk, if◌then◌else◌, map, codes, string_bytes};
+ghost use Rattle.std.specs.Prelude.{IfOk, if◌then◌else◌, map, codes, string_bytes, [], ◌∷◌};
 ghost use Rattle.pb_text_tree.specs.declared.operator.Comparison.TheVariants as comparison;
 ghost use Rattle.pb_text_meaning.specs.Erase.{of_comparison};
 ghost use Rattle.pb_text_meaning.specs.Syntax as syntax;
@@ -15,6 +15,7 @@ ghost use Rattle.pb_protocol_unfolder_terms.specs.Values.{written_term};
 
 use crate::form::{Form, is_same};
 use crate::names::value_term;
+use crate::pair::paired;
 use crate::sorts::Variable;
 use crate::unfolded::{Unfolded, name_of};
 use crate::written::Written;
@@ -86,7 +87,10 @@ pub(crate) fn equality(
         (syntax.Term.Binary (of_comparison comparison.Equal) t (written_term value.entry))) }
 {
     let left = copy_term(folding.alloc, index)?;
-    let right = value_term(folding, value, place, 0)?;
+    let Ok(right) = value_term(folding, value, place, 0) else {
+        drop(left);
+        return Err(AllocError);
+    };
     compared_term(folding, place, Comparison::Equal, left, right.term)
 }
 
@@ -114,6 +118,17 @@ pub(crate) fn chosen(unfolded: Unfolded) -> Unfolded
     }
 }
 
+/// Three values in order.
+fn three<T: Drop>(alloc: Global, first: T, second: T, third: T) -> Result<Vec<T>, AllocError>
+    ensures { IfOk result (λ all. all.items ≡ first ∷ second ∷ third ∷ []) }
+{
+    let mut all = Vec::new(alloc);
+    all.push(first)?;
+    all.push(second)?;
+    all.push(third)?;
+    Ok(all)
+}
+
 /// The choice of two unfolded terms by a folded condition, the right one behind the left one.
 pub(crate) fn choice(
     folding: &Folding<'_>,
@@ -133,13 +148,19 @@ pub(crate) fn choice(
 {
     let room = right.room;
     let place = function.place;
-    let mut arguments = Vec::new(folding.alloc);
-    let term = condition;
-    arguments.push(Argument { place, term })?;
-    let term = left.term;
-    arguments.push(Argument { place, term })?;
-    let term = right.term;
-    arguments.push(Argument { place, term })?;
+    let first = Argument {
+        place,
+        term: condition,
+    };
+    let second = Argument {
+        place,
+        term: left.term,
+    };
+    let third = Argument {
+        place,
+        term: right.term,
+    };
+    let (function, arguments) = paired(function, three(folding.alloc, first, second, third))?;
     let term = application_term(folding, function, arguments)?;
     Ok(Unfolded {
         term,

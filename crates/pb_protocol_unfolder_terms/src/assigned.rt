@@ -31,6 +31,7 @@ use crate::fault::{UnfoldError, UnfoldRule};
 use crate::form::Form;
 use crate::level::{Level, behind_all, behind_one, refused};
 use crate::operands::{Connected, connected_term, decides};
+use crate::pair::paired;
 use crate::scope::TermScope;
 use crate::sorts::Variable;
 use crate::term::MAX_LEVELS;
@@ -213,11 +214,18 @@ fn unfold_compared<'a>(
     };
     let index = unfold(context, scope, inner, &argument.term)?;
     if !stays_inside(context, compared.indices, &index.term) {
+        drop(index);
         return Err(refused(UnfoldRule::Index, argument.place));
     }
-    let equal = equality(&context.folding(), &index.term, *value, place)?;
+    let room = index.room;
+    let Ok(equal) = equality(&context.folding(), &index.term, *value, place) else {
+        drop(index);
+        return Err(UnfoldError::Memory);
+    };
+    drop(index);
     if decides(Connective::And, &equal) {
-        return Ok(none_equal(place, index.room));
+        drop(equal);
+        return Ok(none_equal(place, room));
     }
     let others = Compared {
         place,
@@ -225,11 +233,9 @@ fn unfold_compared<'a>(
         index: &compared.index[1..],
         indices: behind_first(compared.indices),
     };
-    let inner = Level {
-        room: index.room,
-        ..inner
-    };
-    let others = unfold_compared(context, scope, inner, others)?;
+    let inner = Level { room, ..inner };
+    let others = unfold_compared(context, scope, inner, others);
+    let (equal, others) = paired(equal, others)?;
     Ok(both(context.alloc, place, equal, others)?)
 }
 
@@ -253,7 +259,9 @@ fn passed_over(passed: bool, unfolded: Unfolded) -> Unfolded
 fn room_behind(unfolded: Unfolded) -> u32
     ensures { result ≡ unfolded.room }
 {
-    unfolded.room
+    let room = unfolded.room;
+    drop(unfolded);
+    room
 }
 
 /// The last of the assignments that isn't seen to be to another element.
@@ -324,20 +332,27 @@ fn unfold_after<'a>(
                 ..level
             };
             if let Some(true) = truth_value(&condition.term) {
+                drop(condition);
                 return Ok(chosen(unfold(context, scope, inner, &assignment.value.term)?));
             }
-            let name = choosing(context.alloc, assignment.variable.place)?;
+            let Ok(name) = choosing(context.alloc, assignment.variable.place) else {
+                drop(condition);
+                return Err(UnfoldError::Memory);
+            };
             let Some(depth) = level.depth.checked_sub(1) else {
+                drop(condition);
                 return Err(refused(UnfoldRule::Depth, assignment.variable.place));
             };
-            let left = unfold(context, scope, inner, &assignment.value.term)?;
+            let left = unfold(context, scope, inner, &assignment.value.term);
+            let (condition, left) = paired(condition.term, left)?;
             let inner = Level {
                 room: left.room,
                 depth,
                 ..inner
             };
-            let right = unfold_after(context, scope, inner, &assignments[..place], element)?;
-            Ok(choice(&context.folding(), name, condition.term, left, right)?)
+            let right = unfold_after(context, scope, inner, &assignments[..place], element);
+            let ((condition, left), right) = paired((condition, left), right)?;
+            Ok(choice(&context.folding(), name, condition, left, right)?)
         }
     }
 }

@@ -88,6 +88,7 @@ pub(crate) fn unfold_operands<'a>(
         let unfolded = unfold(context, scope, inner, term)?;
         room = unfolded.room;
         if decides(chain.connective, &unfolded.term) {
+            drop(unfolded);
             let last = decided(chain.connective, place);
             return Ok(Operands { before, last, room });
         }
@@ -151,6 +152,7 @@ fn unfold_copies<'a>(
         let unfolded = unfold(&*context, &copied, inner, &*quantified.body)?;
         room = unfolded.room;
         if decides(connective, &unfolded.term) {
+            drop(unfolded);
             let last = decided(connective, place);
             return Ok(Operands { before, last, room });
         }

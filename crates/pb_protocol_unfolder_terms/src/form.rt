@@ -9,7 +9,7 @@ ghost use Rattle.pb_protocol_unfolder_terms.specs.Forms.{HasForm, written_form};
 use crate::written::Written;
 
 /// How an unfolded term is written, before it is folded.
-#[derive(Clone, Copy, Debug, PartialEq, Eq)]
+#[derive(Clone, Copy, PartialEq, Eq)]
 pub enum Form {
     Truth(bool),
     Number(u64),

@@ -18,6 +18,7 @@ use crate::element::element;
 use crate::fault::{UnfoldError, UnfoldRule};
 use crate::level::{Level, behind_all, of_index, refused};
 use crate::names::{element_term, nothing};
+use crate::pair::paired;
 use crate::scope::TermScope;
 use crate::unfold::unfold;
 use crate::unfolded::Unfolded;
@@ -81,19 +82,28 @@ fn unfold_choices<'a>(
     let further = Choices { values, ..choices };
     let condition = equality(&context.folding(), choices.index, *value, place)?;
     match truth_value(&condition) {
-        Some(true) => { Ok(chosen(unfold_element(context, scope, level, choices.others, *value)?)) }
-        Some(false) => Ok(chosen(unfold_choices(context, scope, level, further)?)),
+        Some(true) => {
+            drop(condition);
+            Ok(chosen(unfold_element(context, scope, level, choices.others, *value)?))
+        }
+        Some(false) => {
+            drop(condition);
+            Ok(chosen(unfold_choices(context, scope, level, further)?))
+        }
         None => {
-            let room = behind_all(level.room, choices.operators, place)?;
-            let room = behind_all(room, 2, place)?;
+            let room = behind_all(level.room, choices.operators, place);
+            let (condition, room) = paired(condition, room)?;
+            let (condition, room) = paired(condition, behind_all(room, 2, place))?;
             let inner = Level { room, ..level };
-            let left = unfold_element(context, scope, inner, choices.others, *value)?;
-            let inner = Level {
-                room: left.room,
-                ..level
+            let left = unfold_element(context, scope, inner, choices.others, *value);
+            let (condition, left) = paired(condition, left)?;
+            let room = left.room;
+            let right = unfold_choices(context, scope, Level { room, ..level }, further);
+            let ((condition, left), right) = paired((condition, left), right)?;
+            let Ok(name) = choosing(context.alloc, place) else {
+                drop((condition, left, right));
+                return Err(UnfoldError::Memory);
             };
-            let right = unfold_choices(context, scope, inner, further)?;
-            let name = choosing(context.alloc, place)?;
             Ok(choice(&context.folding(), name, condition, left, right)?)
         }
     }
@@ -135,10 +145,12 @@ pub(crate) fn unfold_read<'a>(
         Err(error) => return Err(of_index(error)),
     };
     if !is_within(context, &unfolded.term, index.sort) {
+        drop(unfolded);
         return Err(refused(UnfoldRule::Index, argument.place));
     }
     let level = Level { depth, ..level };
     if let Some(value) = written_as(&unfolded, &values) {
+        drop(unfolded);
         return unfold_element(context, scope, level, array.others(), value);
     }
     let choices = Choices {
@@ -147,5 +159,7 @@ pub(crate) fn unfold_read<'a>(
         operators: (MAX_OPERATORS as u32).saturating_sub(unfolded.room),
         values: &values,
     };
-    unfold_choices(&*context, &*scope, level, choices)
+    let read = unfold_choices(&*context, &*scope, level, choices);
+    drop(unfolded);
+    read
 }

@@ -21,6 +21,7 @@ use crate::form::Form;
 use crate::level::{Level, behind_one, operated, place_of, refused};
 use crate::names::{bare_variable, own_name, value_term};
 use crate::operands::{Connected, joined_operands};
+use crate::pair::paired;
 use crate::scope::{NameBinding, TermScope, looked_up};
 use crate::unfolded::{Unfolded, comparison, negation, negative};
 use pb_text_tree::{Name, Term};
@@ -180,7 +181,8 @@ fn unfold_opened<'a>(
                 room: left.room,
                 ..level
             };
-            let right = unfold(context, scope, inner, right)?;
+            let right = unfold(context, scope, inner, right);
+            let (left, right) = paired(left, right)?;
             Ok(comparison(&context.folding(), *place, *sign, left, right)?)
         }
         Term::Application {

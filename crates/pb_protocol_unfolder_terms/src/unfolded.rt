@@ -13,7 +13,7 @@ use pb_text_tree::{Comparison, Place, Term};
 use std::alloc::AllocError;
 
 /// An unfolded term, folded.
-#[derive(Debug, Drop)]
+#[derive(Drop)]
 pub struct Unfolded {
     pub term: Term,
     /// How it is written before it is folded.

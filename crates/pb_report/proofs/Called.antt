@@ -8,8 +8,8 @@ use Rattle.pb_fixpoint_trees.specs.declared.junction.Junction.TheVariants.{Conju
 use Rattle.pb_fixpoint_trees.specs.Tree.{Leaf, Yes, No, Cut, Call, Operands, End, LeafThen, BracketThen, Tree, Single, Root, LeafCalls, OperandsCall, TreeCalls}
 use Rattle.pb_fixpoint_trees.specs.Equations.{Signature}
 use Rattle.pb_fixpoint_trees.specs.Rows as plain
-use Rattle.pb_fixpoint_rows.specs.Row.{TokenRow, nothing}
-use Rattle.pb_fixpoint_rows.specs.Reached.{numbers_of, row_of, rows_of}
+use Rattle.pb_fixpoint_trees.specs.Row.{TokenRow, nothing}
+use Rattle.pb_fixpoint_trees.specs.Reached.{numbers_of, row_of, rows_of}
 use Rattle.pb_game_of_trees.specs.TreeGame.{AreRowsFrom}
 use Rattle.pb_game_of_trees.proofs.Reached.{found_row}
 use Rattle.pb_evidence.specs.ProofGraphs.{RestsOn, RestsThrough}

@@ -9,7 +9,7 @@ use Rattle.pb_fixpoint_trees.specs.Rows.{Row}
 use Rattle.pb_fixpoint_trees.specs.declared.junction.Junction.TheVariants.{Conjunction, Disjunction}
 use Rattle.pb_fixpoint_trees.specs.Tree.{Leaf, Yes, No, Cut, Call, Operands, End, LeafThen, BracketThen, Tree, Single, Root}
 use Rattle.pb_fixpoint_trees.specs.Tokens.{leaf_token, operands_tokens, tree_tokens}
-use Rattle.pb_fixpoint_rows.specs.Row.{HasNoCut, token_is_cut}
+use Rattle.pb_fixpoint_trees.specs.Row.{HasNoCut, token_is_cut}
 use Rattle.pb_game_of_trees.specs.Held.{held}
 use Rattle.pb_report.specs.CutCalls.{cut_count, has_cut, is_cut_leaf, one_if, operands_have_cut}
 

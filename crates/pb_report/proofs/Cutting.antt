@@ -15,8 +15,8 @@ use Rattle.pb_fixpoint_trees.specs.Junctions.{joined}
 use Rattle.pb_fixpoint_trees.specs.Tree.{Leaf, Yes, No, Cut, Call, Operands, End, LeafThen, BracketThen, Tree, Single, Root, leaf_truth, operands_truth, tree_truth}
 use Rattle.pb_fixpoint_trees.specs.Tokens.{tree_tokens}
 use Rattle.pb_fixpoint_trees.specs.Equations.{Signature}
-use Rattle.pb_fixpoint_rows.specs.Row.{TokenRow, nothing}
-use Rattle.pb_fixpoint_rows.specs.Reached.{numbers_of}
+use Rattle.pb_fixpoint_trees.specs.Row.{TokenRow, nothing}
+use Rattle.pb_fixpoint_trees.specs.Reached.{numbers_of}
 use Rattle.pb_game_of_trees.specs.TreeGame.{AreRowsFrom}
 use Rattle.pb_evidence.specs.ProofGraphs.{exactly}
 use Rattle.pb_evidence.specs.declared.Evidence.{Evidence}

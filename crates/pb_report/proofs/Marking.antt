@@ -3,7 +3,7 @@ use Rattle.std.proofs.Common.{◌≡◌, ℕ, ◌+◌, ◌<◌, Bool, true, fals
 use Rattle.std.specs.Prelude.{replicate}
 use Rattle.std.proofs.lemmas.Bool.{cases_eq, false≢true}
 use Rattle.std.proofs.lemmas.List.{get_or-replicate, get_or-set_same, get_or-set_other, length-replicate}
-use Rattle.pb_fixpoint_rows.specs.Row.{TokenRow, nothing}
+use Rattle.pb_fixpoint_trees.specs.Row.{TokenRow, nothing}
 use Rattle.pb_evidence.specs.Marks.{IsMarked}
 use Rattle.pb_evidence.proofs.Finding.{marked_within}
 use Rattle.pb_report.specs.VertexNames.{AreRising}

@@ -6,8 +6,8 @@ use Rattle.pb_fixpoint_trees.specs.Equations.{solved}
 use Rattle.pb_fixpoint_trees.specs.Game.{vertex_of}
 use Rattle.pb_fixpoint_trees.specs.Players.{is_even}
 use Rattle.pb_fixpoint_trees.specs.Rows.{Row}
-use Rattle.pb_fixpoint_rows.specs.Row.{TokenRow}
-use Rattle.pb_fixpoint_rows.specs.Reached.{rows_of}
+use Rattle.pb_fixpoint_trees.specs.Row.{TokenRow}
+use Rattle.pb_fixpoint_trees.specs.Reached.{rows_of}
 use Rattle.pb_game.specs.Solutions.{winner_of}
 use Rattle.pb_bytecode.specs.Contents.{Contents}
 use Rattle.pb_bytecode.specs.Meaning.{AreTrees, signature_of}

@@ -5,8 +5,8 @@ use Rattle.pb_fixpoint_trees.specs.Tree.{Tree, No, Single}
 use Rattle.pb_fixpoint_trees.specs.Equations.{Signature}
 use Rattle.pb_fixpoint_trees.specs.Rows as plain
 use Rattle.pb_fixpoint_trees.specs.Game.{vertex_of}
-use Rattle.pb_fixpoint_rows.specs.Row.{TokenRow, nothing}
-use Rattle.pb_fixpoint_rows.specs.Reached.{rows_of}
+use Rattle.pb_fixpoint_trees.specs.Row.{TokenRow, nothing}
+use Rattle.pb_fixpoint_trees.specs.Reached.{rows_of}
 use Rattle.pb_game.specs.declared.Game.{Game}
 use Rattle.pb_strategy.specs.Meaning.{IsGameOfRows}
 use Rattle.pb_game_of_trees.specs.Held.{held}

@@ -8,7 +8,7 @@ use Rattle.pb_fixpoint_trees.specs.Tree.{Tree}
 use Rattle.pb_fixpoint_trees.specs.Equations.{total}
 use Rattle.pb_fixpoint_trees.specs.Rows.{Row}
 use Rattle.pb_fixpoint_trees.specs.Game.{Vertex, inner, game_vertices}
-use Rattle.pb_fixpoint_rows.specs.Row as in_memory
+use Rattle.pb_fixpoint_trees.specs.Row as in_memory
 use Rattle.pb_game_of_trees.specs.Held.{held}
 use Rattle.pb_game.specs.declared.Game.{Game}
 use Rattle.pb_game.specs.Games.{vertex_count, priority_of, successors_of}

@@ -5,8 +5,8 @@ use Rattle.std.proofs.lemmas.List.{drop_all, length-map}
 use Rattle.pb_fixpoint_trees.specs.Tree.{Tree}
 use Rattle.pb_fixpoint_trees.specs.Equations.{solved, total}
 use Rattle.pb_fixpoint_trees.specs.Rows.{Row}
-use Rattle.pb_fixpoint_rows.specs.Row as in_memory
-use Rattle.pb_fixpoint_rows.specs.Reached.{rows_of}
+use Rattle.pb_fixpoint_trees.specs.Row as in_memory
+use Rattle.pb_fixpoint_trees.specs.Reached.{rows_of}
 use Rattle.pb_game_of_trees.specs.Held.{held, Hold}
 use Rattle.pb_game_of_trees.specs.Explored.{AreModuleRows}
 use Rattle.pb_game_of_trees.proofs.Reached.{AreReached, reached_of}

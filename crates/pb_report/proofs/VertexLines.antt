@@ -3,7 +3,7 @@ use Rattle.std.proofs.Common.{◌≡◌, ℕ, zero, suc, ◌+◌, ◌-◌, ◌<�
 use Rattle.std.specs.Prelude.{◌==◌, true, false, IfSome, IsSome}
 use Rattle.std.specs.Option.{is_some}
 use Rattle.std.proofs.lemmas.Bool.{cases_Bool, cases_lt, eqb-true, eqb-false, cond-true, cond-false}
-use Rattle.pb_fixpoint_rows.specs.Row as in_memory
+use Rattle.pb_fixpoint_trees.specs.Row as in_memory
 use Rattle.pb_game.specs.declared.Game.{Game}
 use Rattle.pb_game.specs.Games.{owner_of, priority_of, successors_of}
 use Rattle.pb_fixpoint_trees.specs.Players.{parity_of}

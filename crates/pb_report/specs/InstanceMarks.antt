@@ -1,6 +1,6 @@
 -- Marks at the vertices of a game's instances, with the instances' numbers beside them.
 use Rattle.std.specs.Prelude.{◌≡◌, ℕ, ◌<◌, Bool, List, slice_index, slice_index_or}
-use Rattle.pb_fixpoint_rows.specs.Row.{TokenRow, nothing}
+use Rattle.pb_fixpoint_trees.specs.Row.{TokenRow, nothing}
 use Rattle.pb_evidence.specs.Marks.{IsMarked}
 
 -- marks stand at the vertices of the first `done` rows alone, and beside each the number of its row

@@ -1,7 +1,7 @@
 -- The rows of a module's game, with the vertex of each.
 use Rattle.std.specs.Prelude.{◌≡◌, ℕ, ◌<◌, List, length, Some}
 use Rattle.pb_sorts.specs.Layout.{count_of}
-use Rattle.pb_fixpoint_rows.specs.Row.{TokenRow}
+use Rattle.pb_fixpoint_trees.specs.Row.{TokenRow}
 use Rattle.pb_game.specs.declared.Game.{Game}
 use Rattle.pb_game.specs.Games.{vertex_count, successors_of}
 use Rattle.pb_bytecode.specs.Contents.{Contents}

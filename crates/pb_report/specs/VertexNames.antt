@@ -3,7 +3,7 @@ use Rattle.std.specs.Prelude.{ℕ, zero, suc, ◌+◌, ◌-◌, ◌<◌, ◌≤�
 use Rattle.std.specs.Prelude.{Some, None, codes, decimal, length, slice_index, if◌then◌else◌}
 use Rattle.pb_fixpoint_trees.specs.Rows.{Row}
 use Rattle.pb_fixpoint_trees.specs.Game.{inner}
-use Rattle.pb_fixpoint_rows.specs.Row as in_memory
+use Rattle.pb_fixpoint_trees.specs.Row as in_memory
 use Rattle.pb_game.specs.declared.Game.{Game}
 use Rattle.pb_game.specs.Games.{vertex_count}
 use Rattle.pb_bytecode.specs.Contents.{Contents}

@@ -10,7 +10,7 @@ use std::alloc::Global;
 
 /// What was found: whether the initial instance is true, how many instances were reached, how many
 /// of these meet a cut, and how many vertices the game has.
-#[derive(Clone, Copy, Debug, PartialEq, Eq)]
+#[derive(Clone, Copy, PartialEq, Eq)]
 pub struct Answer {
     pub truth: bool,
     pub instances: u32,

@@ -6,8 +6,7 @@ ghost use Rattle.pb_fixpoint_trees.specs.Rows.{Row as plain_row};
 ghost use Rattle.pb_game_of_trees.specs.Held.{Hold};
 ghost use Rattle.pb_report.specs.CutCalls.{has_cut, one_if, cut_count};
 
-use pb_fixpoint_rows::{IndexedRows, ReadRows, any_cut};
-use pb_fixpoint_trees::Token;
+use pb_fixpoint_trees::{IndexedRows, ReadRows, Token, any_cut};
 
 /// 1 where a tree has a Cut, else 0.
 fn cuts_of(tokens: &[Token]) -> u32

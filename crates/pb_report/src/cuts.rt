@@ -5,7 +5,7 @@ ghost use Rattle.pb_game.specs.Adjacency.{row};
 ghost use Rattle.pb_fixpoint_trees.specs.Tree.{Tree};
 ghost use Rattle.pb_fixpoint_trees.specs.Tokens.{tree_tokens};
 ghost use Rattle.pb_fixpoint_trees.specs.Equations.{Signature};
-ghost use Rattle.pb_fixpoint_rows.specs.Reached as reached;
+ghost use Rattle.pb_fixpoint_trees.specs.Reached as reached;
 ghost use Rattle.pb_game_of_trees.specs.TreeGame.{AreRowsFrom};
 ghost use Rattle.pb_evidence.specs.Evidence.{Shows};
 ghost use Rattle.pb_report.specs.Rising.{IsRising};
@@ -13,8 +13,7 @@ ghost use Rattle.pb_report.specs.Cuts as spec;
 
 use crate::tree_truth::{Named, uncut_truth};
 use pb_evidence::Evidence;
-use pb_fixpoint_rows::{IndexedRows, ReadRows};
-use pb_fixpoint_trees::Token;
+use pb_fixpoint_trees::{IndexedRows, ReadRows, Token};
 use std::alloc::{AllocError, Global};
 
 /// The numbers of rows, in their order.

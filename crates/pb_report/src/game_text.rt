@@ -17,7 +17,7 @@ ghost use Rattle.pb_report.specs.PlacedRows.{ArePlacedRows};
 use crate::buffer::{TextBuffer, TextWriter, WriteError};
 use crate::instance_name::{NumberedInstance, write_instance_name};
 use crate::vertex_line::{write_name, write_vertex};
-use pb_fixpoint_rows::{IndexedRows, ReadRows};
+use pb_fixpoint_trees::{IndexedRows, ReadRows};
 use pb_game::Game;
 use pb_game_of_trees::TreeGame;
 use pb_sorts::{E02, Sink};

@@ -3,7 +3,7 @@
 ghost use Rattle.std.specs.Prelude.{◌≡◌, ◌<◌, ℕ, IfOk, length, slice_index};
 ghost use Rattle.pb_report.specs.VertexNames.{AreRising};
 
-use pb_fixpoint_rows::{IndexedRows, ReadRows};
+use pb_fixpoint_trees::{IndexedRows, ReadRows};
 use std::alloc::{AllocError, Global};
 
 /// A mark and a number for each vertex of a game: marks stand at the vertices of instances, whose

@@ -3,7 +3,7 @@
 ghost use Rattle.std.specs.Prelude.{ℕ, List, IfOk};
 ghost use Rattle.pb_fixpoint_trees.specs.Tree.{Tree};
 ghost use Rattle.pb_fixpoint_trees.specs.Equations.{Signature};
-ghost use Rattle.pb_fixpoint_rows.specs.Reached.{rows_of};
+ghost use Rattle.pb_fixpoint_trees.specs.Reached.{rows_of};
 ghost use Rattle.pb_bytecode.specs.Contents.{Contents};
 ghost use Rattle.pb_game_of_trees.specs.TreeGame.{AreRowsFrom, IsTreeGame};
 ghost use Rattle.pb_game_of_trees.specs.Explored.{ModuleHasTrees, AreModuleRows, IsModuleGame};
@@ -12,7 +12,7 @@ ghost use Rattle.pb_report.specs.ModuleEvidence.{Explains, IsExplanation};
 use crate::cuts::cuts_of;
 use crate::instance_marks::InstanceMarks;
 use pb_evidence::{Evidence, explain};
-use pb_fixpoint_rows::IndexedRows;
+use pb_fixpoint_trees::IndexedRows;
 use pb_game_of_trees::Solved;
 use std::alloc::{AllocError, Global};
 

@@ -11,7 +11,7 @@ ghost use Rattle.pb_report.specs.ModuleTexts.{module_solution_text, IsTextOfTree
 
 use crate::buffer::{TextBuffer, TextWriter, WriteError};
 use crate::instance_name::{NumberedInstance, write_instance_name};
-use pb_fixpoint_rows::{IndexedRows, ReadRows};
+use pb_fixpoint_trees::{IndexedRows, ReadRows};
 use pb_game_of_trees::Solved;
 use pb_sorts::{E02, Sink};
 use pb_verifier::Verified;

@@ -4,7 +4,7 @@ use pb_game::Game;
 use std::alloc::{AllocError, AllocFailed};
 
 /// Why a search stops without a solution.
-#[derive(Clone, Copy, Debug, PartialEq, Eq)]
+#[derive(Clone, Copy, PartialEq, Eq)]
 pub(crate) enum Stop {
     /// Its budget is spent, or it met what no run of the algorithm does.
     GaveUp,

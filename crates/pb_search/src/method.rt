@@ -1,7 +1,7 @@
 //! Which search is asked for.
 
 /// The searches, in the order in which they are worth trying.
-#[derive(Clone, Copy, PartialEq, Eq, Debug)]
+#[derive(Clone, Copy, PartialEq, Eq)]
 pub enum Search {
     /// Zielonka's recursion (Zielonka 1998), whose levels keep their fronts between turns: linear
     /// on nearly all games that come from models.

@@ -5,3 +5,4 @@ pub mod In
 pub mod Carrier
 pub mod Instance
 pub mod Layout
+pub mod Reading

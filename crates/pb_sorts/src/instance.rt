@@ -6,7 +6,7 @@ pub type Tuple = SmallVec<i64, 8>;
 
 /// An equation, by its place from 0, with a value of each of its parameters (Groote and Willemse
 /// 2005).
-#[derive(Clone, Debug, PartialEq, Eq, Drop)]
+#[derive(Clone, PartialEq, Eq, Drop)]
 pub struct Instance {
     pub equation: u8,
     pub values: Tuple,

@@ -3,6 +3,7 @@
 #![tactic(auto)]
 
 pub mod carrier;
+mod input;
 pub mod instance;
 pub mod laws;
 pub mod layout;
@@ -11,6 +12,7 @@ pub mod source;
 mod tuple;
 
 pub use carrier::{Carrier, Enumeration, L01, Range};
+pub use input::{InputError, InputFault, read_input};
 pub use instance::{Instance, Tuple};
 pub use layout::{Layout, LayoutError, TooManyInstances};
 pub use sink::{E02, Out, Sink, put};

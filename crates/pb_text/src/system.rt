@@ -8,7 +8,7 @@ ghost use Rattle.pb_text_terms.specs.Readers.{MayRead, ReadsSome, ReadsSomeExact
 ghost use Rattle.pb_text.specs.Parsing.{depth_limit};
 ghost use Rattle.pb_text.specs.Reading as reading;
 
-use pb_base::MAX_DEPTH;
+use pb_base::{MAX_DEPTH, both};
 use pb_fixpoint::Sign;
 use pb_text_formulas::formula::formula;
 use pb_text_formulas::next::unless;
@@ -83,7 +83,7 @@ fn equation(input: &mut Input<'_>, alloc: Global) -> Result<Equation, ReadingErr
     let parameters = parameters(input, alloc)?;
     input.expect(Kind::Is)?;
     let right = right_side(input, alloc)?;
-    input.expect(Kind::Semicolon)?;
+    let (right, _) = both(right, input.expect(Kind::Semicolon))?;
     Ok(Equation {
         sign,
         name,
@@ -147,6 +147,7 @@ pub fn whole(input: &mut Input<'_>, alloc: Global) -> Result<Spec, ReadingError>
     if same_kind(input.kind(), Kind::End) {
         Ok(text)
     } else {
+        drop(text);
         Err(ReadingError::Refused(input.refuse(ReadingRule::Unexpected)))
     }
 }

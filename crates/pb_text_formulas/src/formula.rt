@@ -1,16 +1,19 @@
 //! Reads formulas, by recursive descent. A chain of one connective is read by a loop, so that the
 //! recursion is as deep as brackets, negations and quantifiers nest.
 
-ghost use Rattle.std.specs.Prelude.{◌≡◌, IfOk};
+ghost use Rattle.std.specs.Prelude.{◌≡◌, ◌≤◌, length, IfOk, OnOk};
 ghost use Rattle.pb_text_tree.specs.Form.{FormulaForm, formula_form, term_form, chained};
 ghost use Rattle.pb_text_tree.specs.Form.{link_forms};
+ghost use Rattle.pb_text_lexer.specs.Grammar.{State};
 ghost use Rattle.pb_text_lexer.specs.Steps as spec;
+ghost use Rattle.pb_text_lexer.specs.Steps.{Gives};
 ghost use Rattle.pb_text_terms.specs.Operators as operators;
 ghost use Rattle.pb_text_terms.specs.Readers.{ReadsSome, ReadsOn, HasRead};
 ghost use Rattle.pb_text_terms.specs.Reading as expressions;
 ghost use Rattle.pb_text_formulas.specs.Reading as reading;
 
 use crate::next::{open, unless};
+use pb_base::both;
 use pb_text_lexer::fault::{ReadingError, ReadingRule};
 use pb_text_lexer::input::Input;
 use pb_text_lexer::kind::{Kind, same_kind};
@@ -74,8 +77,8 @@ fn bracketed(input: &mut Input<'_>, alloc: Global, depth: u32) -> Result<Formula
 {
     input.enter(depth)?;
     let inner = formula(input, alloc, depth - 1)?;
-    input.expect(Kind::Close)?;
-    unless(input, Kind::Open)?;
+    let (inner, _) = both(inner, input.expect(Kind::Close))?;
+    let (inner, _) = both(inner, unless(input, Kind::Open))?;
     Ok(inner)
 }
 
@@ -89,8 +92,8 @@ fn value(input: &mut Input<'_>, alloc: Global, depth: u32) -> Result<Formula, Re
     let place = input.take().place;
     open(input, depth)?;
     let term = data_term(input, alloc, depth - 1)?;
-    input.expect(Kind::Close)?;
-    unless(input, Kind::Open)?;
+    let (term, _) = both(term, input.expect(Kind::Close))?;
+    let (term, _) = both(term, unless(input, Kind::Open))?;
     Ok(Formula::Value { place, term })
 }
 
@@ -169,6 +172,30 @@ fn operand(
     }
 }
 
+/// The links of the chain of the connective that a first operand begins.
+#[cycle(formulas)]
+#[inline(never)]
+fn links_behind(
+    input: &mut Input<'_>,
+    alloc: Global,
+    connective: Connective,
+    depth: u32,
+) -> Result<Vec<Link>, ReadingError>
+    ensures reads { (s : State) (x : FormulaForm)
+        → HasRead (reading.operand connective depth) x input.old s
+        → Gives (λ v. chained (FormulaForm.connected connective) x (link_forms v.items))
+        (reading.level connective depth s) result input.new }
+    ensures fewer { OnOk result (length input.new.tokens ≤ length input.old.tokens) }
+{
+    let mut links = Vec::with_capacity(alloc, 1)?;
+    'links: while same_kind(input.kind(), symbol(connective)) {
+        let place = input.take_operator()?.place;
+        let operand = operand(input, alloc, connective, depth)?;
+        links.push(Link { place, operand })?;
+    }
+    Ok(links)
+}
+
 /// The chain of the connective that a first operand begins.
 #[cycle(formulas)]
 #[inline(never)]
@@ -183,13 +210,9 @@ fn chain(
         (HasRead (reading.operand connective depth) (formula_form first) input.old)
         input.old result input.new }
 {
-    let mut links = Vec::with_capacity(alloc, 1)?;
-    'links: while same_kind(input.kind(), symbol(connective)) {
-        let place = input.take_operator()?.place;
-        let operand = operand(input, alloc, connective, depth)?;
-        links.push(Link { place, operand })?;
-    }
-    Ok(joined(alloc, connective, first, links)?)
+    let links = links_behind(input, alloc, connective, depth);
+    let (start, links) = both(first, links)?;
+    Ok(joined(alloc, connective, start, links)?)
 }
 
 /// The chain of the connective that a first operand begins, or that operand alone.

@@ -2,7 +2,7 @@
 //! and more reserved words.
 
 /// A language of parameterised Boolean equation systems, or of models of protocols.
-#[derive(Clone, Copy, Debug, PartialEq, Eq)]
+#[derive(Clone, Copy, PartialEq, Eq)]
 pub enum Language {
     /// Texts of equation systems.
     Text,

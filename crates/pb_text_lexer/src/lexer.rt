@@ -13,7 +13,7 @@ use crate::token::Token;
 use pb_text_tree::Place;
 
 /// A token of a text, and what follows it.
-#[derive(Clone, Copy, Debug)]
+#[derive(Clone, Copy)]
 pub struct Lexer<'a> {
     pub token: Token<'a>,
     pub rest: &'a [u8],

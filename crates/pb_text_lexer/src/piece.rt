@@ -13,7 +13,7 @@ use pb_base::is_letter;
 use pb_text_tree::Place;
 
 /// What stands at the front of a text, with its length in bytes.
-#[derive(Clone, Copy, Debug)]
+#[derive(Clone, Copy)]
 pub enum Piece {
     /// White space, or a comment.
     Blank(usize),

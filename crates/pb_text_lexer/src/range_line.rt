@@ -12,7 +12,7 @@ use crate::lexer::text_of;
 use crate::word::is_name;
 
 /// What a range line says: a name, and the lowest and the highest value.
-#[derive(Clone, Copy, Debug)]
+#[derive(Clone, Copy)]
 pub struct RangeLine<'a> {
     pub name: &'a str,
     pub low: i32,

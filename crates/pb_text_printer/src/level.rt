@@ -7,7 +7,7 @@ ghost use Rattle.pb_text_printer.specs.Words as words;
 use pb_text_tree::{Arithmetic, Comparison, Connective};
 
 /// The levels of the grammar, from the one that binds loosest.
-#[derive(Clone, Copy, Debug, PartialEq, Eq)]
+#[derive(Clone, Copy, PartialEq, Eq)]
 pub enum Level {
     Implication,
     Disjunction,
@@ -38,7 +38,7 @@ impl Level {
 
 /// Whether a quantifier, which reaches as far to the right as it can, may stand at the right end of
 /// an expression.
-#[derive(Clone, Copy, Debug)]
+#[derive(Clone, Copy)]
 pub enum RightEnd {
     Open,
     Closed,
@@ -54,7 +54,7 @@ impl RightEnd {
 }
 
 /// Where an expression stands: the level that is asked for, and its right end.
-#[derive(Clone, Copy, Debug)]
+#[derive(Clone, Copy)]
 pub struct Position {
     pub level: Level,
     pub right_end: RightEnd,
@@ -126,7 +126,7 @@ pub fn chains_with(operator: Arithmetic, other: Arithmetic) -> bool
 }
 
 /// Whether brackets stand around an expression.
-#[derive(Clone, Copy, Debug)]
+#[derive(Clone, Copy)]
 pub enum Bracketing {
     Bare,
     Bracketed,

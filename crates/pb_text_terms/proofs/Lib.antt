@@ -1,4 +1,5 @@
 pub mod ReaderLemmas
+pub mod PairLemmas
 pub mod ListLemmas
 pub mod VariableLemmas
 pub mod TermLemmas

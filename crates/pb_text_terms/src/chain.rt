@@ -1,9 +1,12 @@
 //! Reads what stands behind a first operand: chains of arithmetic, a comparison, and chains of
 //! connectives.
 
-ghost use Rattle.std.specs.Prelude.{◌≡◌, true, Some, Ok, IsTrue};
-ghost use Rattle.pb_text_tree.specs.Form.{term_form, arithmetic_links};
+ghost use Rattle.std.specs.Prelude.{◌≡◌, ◌≤◌, true, length, Some, Ok, OnOk, IsTrue};
+ghost use Rattle.pb_text_tree.specs.Form.{TermForm, term_form, chained};
+ghost use Rattle.pb_text_tree.specs.Form.{arithmetic_links, term_links};
+ghost use Rattle.pb_text_lexer.specs.Grammar.{State};
 ghost use Rattle.pb_text_lexer.specs.Steps as steps;
+ghost use Rattle.pb_text_lexer.specs.Steps.{Gives};
 ghost use Rattle.pb_text_terms.specs.Levels as levels;
 ghost use Rattle.pb_text_terms.specs.Readers.{ReadsSome, ReadsOn, HasRead, BeginsAt};
 ghost use Rattle.pb_text_terms.specs.Reading as reading;
@@ -12,6 +15,7 @@ use crate::level::{Operator, Relation, is_related, operand_level};
 use crate::node::{calculated, compared, joined};
 use crate::operator::{Operators, arithmetic, is_among, is_mixed, symbol};
 use crate::term::term_at;
+use pb_base::both;
 use pb_text_lexer::fault::{ReadingError, ReadingRule};
 use pb_text_lexer::input::Input;
 use pb_text_lexer::kind::same_kind;
@@ -55,8 +59,10 @@ fn calculated_by(
         (λ s. reading.at (levels.operand_level (Operator.Arithmetic operators)) depth s
         ≡ Ok (term_form first, input.old)) input.old result input.new }
 {
-    let links = operations(input, alloc, depth, operators)?;
+    let links = operations(input, alloc, depth, operators);
+    let (first, links) = both(first, links)?;
     if is_mixed(operators, input.kind()) {
+        drop(first);
         return Err(ReadingError::Refused(input.refuse(ReadingRule::Unexpected)));
     }
     Ok(calculated(alloc, first, links)?)
@@ -107,13 +113,43 @@ fn related_by(
         (λ s. reading.at (levels.operand_level (Operator.Relation relation)) depth s
         ≡ Ok (term_form left, input.old)) input.old result input.new }
 {
-    let sign = input.take_operator()?;
+    let (left, sign) = both(left, input.take_operator())?;
     let level = operand_level(Operator::Relation(relation));
-    let right = term_at(input, alloc, depth, level)?;
+    let right = term_at(input, alloc, depth, level);
+    let (left, right) = both(left, right)?;
     if is_related(relation, input.kind()) {
+        drop(left);
+        drop(right);
         return Err(ReadingError::Refused(input.refuse(ReadingRule::Unexpected)));
     }
     Ok(compared(alloc, sign, left, right)?)
+}
+
+/// The links of the chain of a connective that a first operand begins.
+#[cycle(terms)]
+#[inline(never)]
+fn links_behind(
+    input: &mut Input<'_>,
+    alloc: Global,
+    depth: u32,
+    connective: Connective,
+) -> Result<Vec<TermLink>, ReadingError>
+    ensures reads { (s : State) (x : TermForm)
+        → HasRead (reading.at (levels.operand_level (Operator.Connective connective)) depth) x
+        input.old s
+        → Gives (λ v. chained (TermForm.connected connective) x (term_links v.items))
+        (reading.at (levels.level_of (Operator.Connective connective)) depth s)
+        result input.new }
+    ensures fewer { OnOk result (length input.new.tokens ≤ length input.old.tokens) }
+{
+    let level = operand_level(Operator::Connective(connective));
+    let mut links = Vec::with_capacity(alloc, 1)?;
+    'links: while same_kind(input.kind(), symbol(connective)) {
+        let place = input.take_operator()?.place;
+        let operand = term_at(input, alloc, depth, level)?;
+        links.push(TermLink { place, operand })?;
+    }
+    Ok(links)
 }
 
 /// The chain of a connective that a first operand begins.
@@ -131,12 +167,7 @@ fn connected_by(
         (HasRead (reading.at (levels.operand_level (Operator.Connective connective)) depth)
         (term_form first) input.old) input.old result input.new }
 {
-    let level = operand_level(Operator::Connective(connective));
-    let mut links = Vec::with_capacity(alloc, 1)?;
-    'links: while same_kind(input.kind(), symbol(connective)) {
-        let place = input.take_operator()?.place;
-        let operand = term_at(input, alloc, depth, level)?;
-        links.push(TermLink { place, operand })?;
-    }
-    Ok(joined(alloc, connective, first, links)?)
+    let links = links_behind(input, alloc, depth, connective);
+    let (start, links) = both(first, links)?;
+    Ok(joined(alloc, connective, start, links)?)
 }

@@ -14,6 +14,7 @@ ghost use Rattle.pb_text_terms.specs.Readers.{ReadsSomeExactly};
 ghost use Rattle.pb_text_terms.specs.Reading as reading;
 
 use crate::operator::comparison;
+use pb_base::both;
 use pb_text_lexer::fault::{ReadingRule, Refusal};
 use pb_text_lexer::input::Input;
 use pb_text_lexer::kind::{Kind, same_kind};
@@ -60,7 +61,7 @@ pub fn compared(alloc: Global, sign: Token<'_>, left: Term, right: Term) -> Resu
     ensures { IfOk result (λ t. term_form t ≡ operators.compared_by (term_form left)
         (tok sign.entry) (term_form right)) }
 {
-    let left = Box::new(alloc, left)?;
+    let (right, left) = both(right, Box::new(alloc, left))?;
     let right = Box::new(alloc, right)?;
     Ok(Term::Comparison {
         place: sign.place,
@@ -93,6 +94,7 @@ pub fn closed(input: &Input<'_>, term: Term) -> Result<Term, Refusal>
     ensures { GivesExactly term_form (reading.closed (term_form term) input.now) result input.now }
 {
     if same_kind(input.kind(), Kind::Open) {
+        drop(term);
         Err(input.refuse(ReadingRule::Unexpected))
     } else {
         Ok(term)

@@ -95,7 +95,7 @@ pub fn comparison(kind: Kind) -> Comparison
 }
 
 /// Operators of arithmetic that may stand in one chain.
-#[derive(Clone, Copy, Debug, PartialEq, Eq)]
+#[derive(Clone, Copy, PartialEq, Eq)]
 pub enum Operators {
     /// `+` and `-`
     Additive,

@@ -13,6 +13,7 @@ use crate::node::{applied, closed, constant, number};
 use crate::operator::quantifier;
 use crate::term::term_at;
 use crate::variable::variables;
+use pb_base::both;
 use pb_text_lexer::fault::{ReadingError, ReadingRule};
 use pb_text_lexer::input::Input;
 use pb_text_lexer::kind::Kind;
@@ -74,7 +75,7 @@ fn bracketed(input: &mut Input<'_>, alloc: Global, depth: u32) -> Result<Term, R
 {
     input.enter(depth)?;
     let inner = term_at(input, alloc, depth - 1, Level::Implication)?;
-    input.expect(Kind::Close)?;
+    let (inner, _) = both(inner, input.expect(Kind::Close))?;
     Ok(closed(input, inner)?)
 }
 

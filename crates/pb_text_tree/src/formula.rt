@@ -7,14 +7,14 @@ use crate::term::{Argument, Term};
 use crate::variable::Variables;
 
 /// An instance of a predicate variable.
-#[derive(Debug, Drop)]
+#[derive(Drop)]
 pub struct Instance {
     pub name: Name,
     pub arguments: Vec<Argument>,
 }
 
 /// A formula.
-#[derive(Debug, Drop)]
+#[derive(Drop)]
 #[cycle(formulas)]
 pub enum Formula {
     /// `true` or `false`.
@@ -50,7 +50,7 @@ pub enum Formula {
 }
 
 /// A connective in a chain, where it stands, and the operand behind it.
-#[derive(Debug, Drop)]
+#[derive(Drop)]
 #[cycle(formulas)]
 pub struct Link {
     pub place: Place,

@@ -6,7 +6,7 @@ ghost use Rattle.pb_base.specs.Names.{is_spelled};
 use crate::place::Place;
 
 /// A name, where it stands: a letter or `_`, then letters, digits, `_` and `'`.
-#[derive(Debug, Drop)]
+#[derive(Drop)]
 pub struct Name {
     pub place: Place,
     pub text: String,

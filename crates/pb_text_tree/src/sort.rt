@@ -4,14 +4,14 @@ use crate::name::Name;
 use crate::place::Place;
 
 /// An enumerator of a struct, with its recogniser's name if it has one.
-#[derive(Debug, Drop)]
+#[derive(Drop)]
 pub struct Enumerator {
     pub name: Name,
     pub recogniser: Option<Name>,
 }
 
 /// What a sort is declared to be.
-#[derive(Debug, Drop)]
+#[derive(Drop)]
 pub enum Sort {
     /// A struct: its enumerators, in order.
     Struct(Vec<Enumerator>),
@@ -20,7 +20,7 @@ pub enum Sort {
 }
 
 /// A sort with its name.
-#[derive(Debug, Drop)]
+#[derive(Drop)]
 pub struct SortDeclaration {
     pub name: Name,
     pub sort: Sort,
@@ -28,7 +28,7 @@ pub struct SortDeclaration {
 
 /// A range line: the carrier of an integer sort, both bounds within it. The place is the line's
 /// first column.
-#[derive(Debug, Drop)]
+#[derive(Drop)]
 pub struct Range {
     pub place: Place,
     pub name: String,

@@ -7,7 +7,7 @@ use crate::variable::Variables;
 use pb_fixpoint::Sign;
 
 /// An equation: its sign, its predicate variable with its parameters, and its right side.
-#[derive(Debug, Drop)]
+#[derive(Drop)]
 pub struct Equation {
     pub sign: Sign,
     pub name: Name,
@@ -17,7 +17,7 @@ pub struct Equation {
 
 /// What a text says: sorts and ranges, equations, the earlier ones dominating, and the instance
 /// that is asked for.
-#[derive(Debug, Drop)]
+#[derive(Drop)]
 pub struct Spec {
     pub sorts: Vec<SortDeclaration>,
     pub ranges: Vec<Range>,

@@ -6,7 +6,7 @@ use crate::place::Place;
 use crate::variable::Variables;
 
 /// A data term.
-#[derive(Debug, Drop)]
+#[derive(Drop)]
 #[cycle(terms)]
 pub enum Term {
     /// `true` or `false`.
@@ -64,7 +64,7 @@ pub enum Term {
 }
 
 /// A connective in a chain, where it stands, and the operand behind it.
-#[derive(Debug, Drop)]
+#[derive(Drop)]
 #[cycle(terms)]
 pub struct TermLink {
     pub place: Place,
@@ -72,7 +72,7 @@ pub struct TermLink {
 }
 
 /// An operator of arithmetic in a chain, where it stands, and the operand behind it.
-#[derive(Debug, Drop)]
+#[derive(Drop)]
 #[cycle(terms)]
 pub struct ArithmeticLink {
     pub place: Place,
@@ -81,7 +81,7 @@ pub struct ArithmeticLink {
 }
 
 /// An argument, with the place of its first token, which may be a bracket.
-#[derive(Debug, Drop)]
+#[derive(Drop)]
 #[cycle(terms)]
 pub struct Argument {
     pub place: Place,

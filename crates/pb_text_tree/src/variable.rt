@@ -3,7 +3,7 @@
 use crate::name::Name;
 
 /// Data variables of one sort, as `n, m: Nat`. There is at least one.
-#[derive(Debug, Drop)]
+#[derive(Drop)]
 pub struct Variables {
     pub names: Vec<Name>,
     pub sort: Name,

@@ -1,7 +1,7 @@
 //! What declarations say of sorts and enumerators.
 
 /// The built-in integer sorts.
-#[derive(Clone, Copy, Debug, PartialEq, Eq)]
+#[derive(Clone, Copy, PartialEq, Eq)]
 pub enum Integers {
     /// The whole numbers from 1 on.
     Pos,
@@ -13,7 +13,7 @@ pub enum Integers {
 
 /// An enumerator: the number of its struct among the structs in declared order, how many
 /// enumerators that struct has, and the enumerator's place among them. All count from 0.
-#[derive(Clone, Copy, Debug, PartialEq, Eq)]
+#[derive(Clone, Copy, PartialEq, Eq)]
 pub struct Enumerator {
     pub sort: u8,
     pub count: u8,

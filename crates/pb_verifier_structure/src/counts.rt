@@ -19,7 +19,7 @@ use pb_bytecode_program::Op;
 pub const SATURATED: u64 = MAX_STEPS as u64 + 1;
 
 /// The static counts of code; in place of one above `SATURATED` stands that.
-#[derive(Clone, Copy, Debug, PartialEq, Eq)]
+#[derive(Clone, Copy, PartialEq, Eq)]
 pub struct StaticCounts {
     pub steps: u64,
     pub tokens: u64,

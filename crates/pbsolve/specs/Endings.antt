@@ -6,8 +6,8 @@ use Rattle.std.specs.declared.alloc.Global.{Global}
 use Rattle.pb_base.specs.declared.limits.TheConstants.{MAX_INPUT_BYTES}
 use Rattle.pb_base.specs.declared.or_memory.OrMemory.{OrMemory}
 use Rattle.pb_base.specs.declared.or_memory.OrMemory.TheVariants as or_memory
-use Rattle.pb_base_input.specs.declared.input.InputFault.{InputFault}
-use Rattle.pb_base_input.specs.declared.input.InputFault.TheVariants as input_fault
+use Rattle.pb_sorts.specs.declared.input.InputFault.{InputFault}
+use Rattle.pb_sorts.specs.declared.input.InputFault.TheVariants as input_fault
 use Rattle.pb_sorts.specs.Source.{IsLongerThan}
 use Rattle.pb_sorts.specs.declared.sink.Sink.{Ghosts}
 use Rattle.pb_sorts.specs.declared.source.Source.{Ghosts as ReaderGhosts}
@@ -26,10 +26,11 @@ use Rattle.pb_command_modules.specs.Delivery.{Delivers}
 use Rattle.pb_command_rules.specs.declared.rule.Rule.{Rule}
 use Rattle.pbsolve.specs.declared.run_error.RunError.{RunError}
 use Rattle.pbsolve.specs.declared.run_error.RunError.TheVariants as run_error
-use Rattle.pbsolve.specs.declared.status.Status.{Status}
-use Rattle.pbsolve.specs.declared.status.Status.TheVariants as status
+use Rattle.pb_command_line.specs.declared.status.Status.{Status}
+use Rattle.pb_command_line.specs.declared.status.Status.TheVariants as status
 use Rattle.pbsolve.specs.declared.streams.Streams.{Streams}
-use Rattle.pbsolve.specs.Writes.{IsRefusedFor, WithStatus, Writes}
+use Rattle.pbsolve.specs.Writes.{IsRefusedFor, Writes}
+use Rattle.pb_command_models.specs.Writes.{WithStatus}
 use Rattle.pbsolve.specs.Program.{Answers, AnswersBy, AnswersWords, BeginsAnswer, FailsReading}
 use Rattle.pbsolve.specs.Program.{IsInputOf, IsRefusedBy, IsUnanswered, LeavesReader, RefusesBytes}
 use Rattle.pbsolve.specs.Program.{Tells, TellsRefusal, is_write_fault}

@@ -3,31 +3,27 @@ ghost use Rattle.std.specs.Prelude.{◌≡◌, ◌≢◌, ◌≤◌, ◌⊎◌, 
 ghost use Rattle.std.specs.Prelude.{option_copied, option_map, string_bytes};
 ghost use Rattle.pb_command_faults.specs.Lines.{line_of};
 ghost use Rattle.pb_command_line.specs.Words.{HaveFault, AskNothing, AskPlainly};
-ghost use Rattle.pbsolve.specs.Status.{code_of};
+ghost use Rattle.pb_command_line.specs.Status.{code_of};
 ghost use Rattle.pbsolve.specs.Program.{LackProperty, Tells, error_line_of, fault_status, is_answer};
 ghost use Rattle.pbsolve.specs.Program.{status_of};
 ghost use Rattle.pbsolve.specs.Endings.{AnswersRequest, AnswersTask, AttemptsAnswer, FailsRun};
 ghost use Rattle.pbsolve.specs.Endings.{IsAnswered, IsRefusedRun, ReadsInput};
-ghost use Rattle.pbsolve.specs.declared.status.Status.{Status};
+ghost use Rattle.pb_command_line.specs.declared.status.Status.{Status};
 
-use crate::check::check_text;
-use crate::compile::compile_text;
-use crate::models::translate_text;
-use crate::options::{ExplainOptions, WhyOptions, solve_options};
 use crate::run_error::RunError;
-use crate::short_input::ShortInput;
-use crate::solve::{certificate_of, explain_text, game_of, solution_of, solve_text};
-use crate::status::Status;
 use crate::streams::Streams;
-use crate::why::why_text;
 use pb_base::MAX_INPUT_BYTES;
-use pb_base_input::{InputError, read_input};
 use pb_command_faults::{ErrorLine, ProgramFault, SolveError};
-use pb_command_line::{Request, Task, request_of};
+use pb_command_line::{Request, Status, Task, request_of};
+use pb_command_models::{WhyOptions, check_text, translate_text, why_text};
 use pb_command_modules::{deliver, list_code, solve_code, verify_code};
 use pb_command_solver::{Context, Workers};
+use pb_command_texts::{
+    ExplainOptions, ShortInput, certificate_of, compile_text, explain_text, game_of, solution_of,
+    solve_options, solve_text,
+};
 use pb_exploration::Gate;
-use pb_sorts::{Sink, Source, put};
+use pb_sorts::{InputError, Sink, Source, put, read_input};
 use std::alloc::Global;
 use std::convert::AsStr;
 use std::thread::Threads;

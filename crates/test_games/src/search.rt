@@ -123,9 +123,13 @@ fn wide_round(alloc: Global, vertices: u32) -> Result<Game, Fail> {
 fn generated_games_are_solved_by_each_search(rt: HostRuntime) -> Result<(), Fail> {
     for seed in 0..40 {
         let game = generated(rt.alloc(), seed)?;
-        for method in [Search::Recursion, Search::Components, Search::Promotion] {
+        for (name, method) in [
+            ("recursion", Search::Recursion),
+            ("components", Search::Components),
+            ("promotion", Search::Promotion),
+        ] {
             let found = outcome_of(&rt, rt.alloc(), &game, method)?;
-            assert!(rt; found == Outcome::Certified, "game {seed}, {method:?}");
+            assert!(rt; found == Outcome::Certified, "game {seed}, {name}");
         }
     }
     Ok(())
@@ -142,9 +146,12 @@ fn the_recursion_keeps_its_fronts(rt: HostRuntime) -> Result<(), Fail> {
 #[test]
 fn threads_look_ahead_in_a_large_round(rt: HostRuntime) -> Result<(), Fail> {
     let game = wide_round(rt.alloc(), 4_400)?;
-    for method in [Search::Recursion, Search::Components] {
+    for (name, method) in [
+        ("recursion", Search::Recursion),
+        ("components", Search::Components),
+    ] {
         let found = outcome_of(&rt, rt.alloc(), &game, method)?;
-        assert!(rt; found == Outcome::Certified, "{method:?}");
+        assert!(rt; found == Outcome::Certified, "{name}");
     }
     Ok(())
 }

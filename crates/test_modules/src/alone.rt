@@ -7,7 +7,7 @@ ghost use Rattle.pb_instances.specs.Seats.{words_of_statuses};
 
 use crate::steps::close;
 use pb_exploration::{Crew, Hints, Limit, NoGate, Site, Worker, work};
-use pb_fixpoint_rows::Rows;
+use pb_fixpoint_trees::Rows;
 use pb_instances::{Statuses, Table};
 use pb_verifier::Verified;
 use std::alloc::{AllocError, Global};

@@ -21,33 +21,48 @@ fn instance(alloc: Global, equation: u8, values: &[i64]) -> Result<Instance, All
     })
 }
 
+/// Two equations, of which one has a parameter of two values, the other one of three values and a
+/// truth value.
+fn two_equations(alloc: Global) -> Result<Layout, Fail> {
+    let equations = [
+        vec![in alloc; enumeration(2)]?,
+        vec![in alloc; enumeration(3), Carrier::Bool]?,
+    ];
+    Ok(Layout::new(alloc, &equations)?)
+}
+
+/// Instances of these equations with their numbers: one that is outside a carrier, has too few
+/// values, or is of no equation has none.
+const NUMBERS: [(u8, &[i64], Option<u32>); 7] = [
+    (0, &[0], Some(0)),
+    (0, &[1], Some(1)),
+    (1, &[1, 0], Some(4)),
+    (1, &[2, 1], Some(7)),
+    (1, &[3, 0], None),
+    (1, &[1], None),
+    (2, &[1, 0], None),
+];
+
 #[test]
 fn instances_are_numbered(rt: HostRuntime) -> Result<(), Fail> {
     let alloc = rt.alloc();
-    let equations = [
-        vec![in alloc; enumeration(2)]?,
-        vec![in alloc; enumeration(2)]?,
-    ];
-    let layout = Layout::new(alloc, &equations)?;
-    for (equation, value, number) in [(0, 0, 0), (0, 1, 1), (1, 0, 2), (1, 1, 3)] {
-        assert!(rt; layout.number(&instance(alloc, equation, &[value])?) == Some(number));
+    let layout = two_equations(alloc)?;
+    for (equation, values, number) in NUMBERS {
+        assert!(rt; layout.number(&instance(alloc, equation, values)?) == number);
     }
-    let equations = [vec![in alloc; enumeration(3), Carrier::Bool]?];
-    let layout = Layout::new(alloc, &equations)?;
-    assert!(rt; layout.number(&instance(alloc, 0, &[1, 0])?) == Some(2));
-    assert!(rt; layout.number(&instance(alloc, 0, &[2, 1])?) == Some(5));
-    assert!(rt; layout.number(&instance(alloc, 0, &[3, 0])?) == None);
-    assert!(rt; layout.number(&instance(alloc, 0, &[1])?) == None);
-    assert!(rt; layout.number(&instance(alloc, 1, &[1, 0])?) == None);
-    assert!(rt; layout.equation_count() == 1);
-    assert!(rt; layout.first(0) == 0);
-    assert!(rt; layout.size(0) == 6);
-    assert!(rt; layout.carriers(0).len() == 2);
-    assert!(rt; layout.count() == 6);
-    assert!(rt; layout.equation_of(5) == 0);
-    let last = layout.instance(5);
-    assert!(rt; last.equation == 0);
-    assert!(rt; last.values.as_slice() == [2, 1].as_slice());
+    Ok(())
+}
+
+#[test]
+fn layouts_have_sizes(rt: HostRuntime) -> Result<(), Fail> {
+    let layout = two_equations(rt.alloc())?;
+    if layout.equation_count() != 2 || layout.count() != 8 {
+        panic!(rt; "the layout has another size");
+    }
+    assert!(rt; layout.first(1) == 2 && layout.size(1) == 6 && layout.carriers(1).len() == 2);
+    assert!(rt; layout.equation_of(7) == 1);
+    let last = layout.instance(7);
+    assert!(rt; last.equation == 1 && last.values.as_slice() == [2, 1].as_slice());
     Ok(())
 }
 

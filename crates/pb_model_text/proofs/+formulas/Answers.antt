@@ -3,7 +3,7 @@ use Rattle.std.proofs.Common.{rules, arith, refl, sym, ap, ◌≡◌, ◌<◌, �
 use Rattle.std.proofs.lemmas.Result.{err_from_is_err_and}
 use Rattle.pb_base.proofs.Faults.{if_fault}
 use Rattle.pb_protocol_tree.specs.Form.{FormulaForm, formula_form, step_set_form}
-use Rattle.pb_protocol_copies.specs.Links.{link_forms}
+use Rattle.pb_protocol_tree.specs.Links.{link_forms}
 use Rattle.pb_text_lexer.specs.Kinds.{same_kind}
 use Rattle.pb_text_lexer.specs.declared.kind.Kind.TheVariants as k
 use Rattle.pb_text_lexer.specs.Steps.{kind}
@@ -15,7 +15,7 @@ use Rattle.pb_model_text.specs.Grammar.{within, within_fair}
 use Rattle.pb_model_text.specs.Reading.{node, names_of, operand}
 use Rattle.pb_model_text.specs.Links.{processes_form}
 use Rattle.pb_model_text.proofs.FairLemmas.{fair-sets-fail, fair-operand-fails, fair-read}
-use Rattle.pb_model_text.proofs.PairLemmas.{fails-where, reads-where, on-ok-where}
+use Rattle.pb_text_terms.proofs.PairLemmas.{fails-where, reads-where, on-ok-where, known-exactly}
 use Rattle.pb_model_text.proofs.FormulaLemmas.{plain-at, plain-enter-fails, negation-fails, negation-read, bracketed-fails, bracketed-closes, and-fewer, modal-enter-fails, modal-steps-fail, modal-operand-fails, modal-read, fixpoint-name-fails, fixpoint-period-fails, fixpoint-body-fails, fixpoint-read, level-chain, level-fails, links-last, plain-other, level-alone-or-fails, conjunction-fails, disjunction-fails, primary-fails, primary-alone-or-fails}
 use Rattle.pb_text_formulas.specs.Reading.{is_name_kind}
 use Rattle.pb_text_lexer.proofs.TokenLemmas.{same-kind}
@@ -310,37 +310,42 @@ pub worded::node-returns-in-None : goal.worded::node-returns-in-None
 worded::node-returns-in-None t c =
     refused (rw c.unexpected_name.ensures (node-fails-at c.args.input.now c.in_ok-place.ensures.reads (names_of c.args.scope.names.now) c.args.scope.depth (search rules) (search rules)))
 
-pub worded::joined_behind-returns-in_err-place : goal.worded::joined_behind-returns-in_err-place
-worded::joined_behind-returns-in_err-place t c =
+pub worded::joined_behind-returns-in_err-first : goal.worded::joined_behind-returns-in_err-first
+worded::joined_behind-returns-in_err-first t c =
     refuses c.from_residual.result c.from_residual.ensures.1
-    (absurd (named-state c.args.input.now (ap is_name_kind c.requires ∙ same-kind k.Name) c.in_err-place.field-0.0 c.in_err-place.ensures.reads))
+    (absurd (named-state c.args.input.now (ap is_name_kind c.requires ∙ same-kind k.Name) c.in_err-first.field-0.0 (known-exactly _ _ _ c.in_err-first.ensures c.expect_name-named.ensures.reads)))
 
 pub worded::joined_behind-returns-in_default : goal.worded::joined_behind-returns-in_default
 worded::joined_behind-returns-in_default t c =
     refused (rw c.unexpected_name.ensures
-    (joined-word-fails-at c.args.input.now c.in_ok-place.ensures.reads (node (names_of c.args.scope.names.now) c.args.scope.depth) (formula_form c.args.first) (search rules)))
+    (joined-word-fails-at c.args.input.now (known-exactly _ _ _ c.in_ok-first.ensures.1 c.expect_name-named.ensures.reads) (node (names_of c.args.scope.names.now) c.args.scope.depth)
+    (formula_form c.args.first) (search rules)))
 
-pub worded::joined_behind-returns-in_err-second : goal.worded::joined_behind-returns-in_err-second
-worded::joined_behind-returns-in_err-second t c =
-    fails-on c.from_residual-in_err-second.result c.from_residual-in_err-second.ensures.1 c.in_err-second.ensures
-    (λ bad e. joined-operand-fails-at c.args.input.now c.in_ok-place.ensures.reads (node (names_of c.args.scope.names.now) c.args.scope.depth) (formula_form c.args.first) c.in-Some.word
-    (search rules) bad e)
+pub worded::joined_behind-returns-in_err-first-2 : goal.worded::joined_behind-returns-in_err-first-2
+worded::joined_behind-returns-in_err-first-2 t c =
+    fails-on c.from_residual-in_err-first-2.result c.from_residual-in_err-first-2.ensures.1 (known c.in_err-first-2.ensures c.node-second.ensures)
+    (λ bad e. joined-operand-fails-at c.args.input.now (known-exactly _ _ _ c.in_ok-first.ensures.1 c.expect_name-named.ensures.reads) (node (names_of c.args.scope.names.now) c.args.scope.depth)
+    (formula_form c.args.first) c.in-Some.word (search rules) bad e)
 
 pub worded::joined_behind-returns-then-same_kind : goal.worded::joined_behind-returns-then-same_kind
 worded::joined_behind-returns-then-same_kind t c =
-    let again : is_name_kind (kind c.node.new.input) ≡ true = search rules in
+    let again : is_name_kind (kind c.node-second.new.input) ≡ true = search rules in
     refused (rw c.refuse.ensures
-    (joined-again-at c.args.input.now c.in_ok-place.ensures.reads (node (names_of c.args.scope.names.now) c.args.scope.depth) (formula_form c.args.first) c.in-Some.word (search rules)
-    (formula_form c.in_ok-second.second) c.node.new.input c.in_ok-second.ensures.reads again))
+    (joined-again-at c.args.input.now (known-exactly _ _ _ c.in_ok-first.ensures.1 c.expect_name-named.ensures.reads) (node (names_of c.args.scope.names.now) c.args.scope.depth)
+    (formula_form c.args.first) c.in-Some.word (search rules)
+    (formula_form c.in_ok-first-2.second) c.node-second.new.input (known c.in_ok-first-2.ensures.1 c.node-second.ensures).reads again))
 
 pub worded::joined_behind-returns : goal.worded::joined_behind-returns
-worded::joined_behind-returns t c = record {
-  reads = let other : is_name_kind (kind c.node.new.input) ≡ false = search rules in
-      rw c.in_ok-infixed.ensures
-      (joined-read-at c.args.input.now c.in_ok-place.ensures.reads (node (names_of c.args.scope.names.now) c.args.scope.depth) (formula_form c.args.first) c.in-Some.word (search rules)
-      (formula_form c.in_ok-second.second) c.node.new.input c.in_ok-second.ensures.reads other);
-  fewer = search rules;
-}
+worded::joined_behind-returns t c =
+    let second = known c.in_ok-first-2.ensures.1 c.node-second.ensures in
+    record {
+      reads = let other : is_name_kind (kind c.node-second.new.input) ≡ false = search rules in
+          rw (c.in_ok-infixed.ensures, c.in_ok-first-2.ensures.0, c.in_ok-first.ensures.0)
+          (joined-read-at c.args.input.now (known-exactly _ _ _ c.in_ok-first.ensures.1 c.expect_name-named.ensures.reads) (node (names_of c.args.scope.names.now) c.args.scope.depth)
+          (formula_form c.args.first) c.in-Some.word (search rules)
+          (formula_form c.in_ok-first-2.second) c.node-second.new.input second.reads other);
+      fewer = omega (arith, second.fewer, on-ok-where c.expect_name-named.result _ _ c.in_ok-first.ensures.1 c.expect_name-named.ensures.fewer);
+    }
 
 pub worded::fair_operand-returns : goal.worded::fair_operand-returns
 worded::fair_operand-returns t c =

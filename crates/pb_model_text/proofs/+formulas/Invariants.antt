@@ -2,7 +2,7 @@ use Rattle.std.proofs.Common.{ℕ, ◌≡◌, ◌+◌, ◌*◌, ◌-◌, ◌≤�
 use Rattle.pb_text_tree.specs.declared.operator.Connective.{Connective}
 use Rattle.pb_text_tree.specs.declared.operator.Connective.TheVariants.{And, Or, Implies}
 use Rattle.pb_protocol_tree.specs.Form.{FormulaForm}
-use Rattle.pb_protocol_copies.specs.Links.{link_forms}
+use Rattle.pb_protocol_tree.specs.Links.{link_forms}
 use Rattle.pb_text_lexer.specs.Grammar.{State}
 use Rattle.pb_text_lexer.proofs.LoopLemmas.{resumed}
 use Rattle.pb_text_terms.specs.Operators.{symbol_kind}

@@ -21,7 +21,7 @@ use Rattle.pb_protocol_folding.specs.Kept.{truth_counts}
 use Rattle.pb_protocol_unfolding.specs.Written.{written_tuples, written_values}
 use Rattle.pb_protocol_unfolder_terms.specs.Puts.{element_by, put, puts}
 use Rattle.pb_protocol_unfolder_terms.proofs.ArgumentLemmas.{none-of}
-use Rattle.pb_protocol_unfolder_terms.proofs.ChoiceLemmas.{if-named}
+use Rattle.pb_protocol_unfolder_terms.proofs.ChoiceLemmas.{choice-held, if-named}
 use Rattle.pb_protocol_unfolder_terms.proofs.OperandLemmas.{IsChainLeft, IsRestOf, chain-form, last-refused, left-decided, left-further, left-last, left-refused, left-without-room, operands-more, chain-left, chain-over}
 use Rattle.pb_protocol_unfolder_terms.proofs.ReadLemmas.{choices-none, choices-one, read-itself, read-nothing, are-others, unwritten-by, written-read, chosen-read}
 use Rattle.pb_protocol_unfolder_terms.proofs.TermLemmas.{arithmetic-is, arithmetic-means, quantified-means}
@@ -33,7 +33,7 @@ use Rattle.pb_protocol_unfolder_terms.proofs.MetLemmas.{argument-at-met, array-f
 use Rattle.pb_protocol_unfolder_terms.proofs.DeepLemmas.{array-deep, choice-first, choices-deep, choices-further, choices-met, element-met, unwritten-levels}
 use Rattle.pb_protocol_unfolder_terms.proofs.ProtocolLemmas.{mapped-length}
 use Rattle.pb_protocol_unfolder_terms.proofs.ConditionalLemmas.{IsConditional, conditional, branch-unfolded, branch-refused, second-refused, both-unfolded}
-use Rattle.pb_protocol_unfolder_terms.proofs.ChoosingLemmas.{IsChoosing, choosing, further_values, decided-unfolded, decided-refused, first-refused, further-refused, further-unfolded}
+use Rattle.pb_protocol_unfolder_terms.proofs.ChoosingLemmas.{IsChoosing, choosing, choosing-without-room, further_values, decided-unfolded, decided-refused, first-refused, further-refused, further-unfolded}
 use Rattle.pb_protocol_unfolder_terms.proofs.CalculationLemmas.{first-operand-refused, first-calculated, operator-without-room, operand-refused, further-calculated, all-calculated}
 use Rattle.pb_protocol_unfolder_terms.proofs.CopyLemmas.{AreAllCopies, IsCopyLeft, copies-form, copy-left, tuples-written, copied-said, none-said, copies-met, copy-met}
 use Rattle.pb_protocol_unfolder_terms.specs.declared.context.Meant.TheVariants as meant
@@ -80,14 +80,15 @@ pub unfold::unfold_opened-returns-in_ok-comparison-in-Comparison-clause-term : g
 unfold::unfold_opened-returns-in_ok-comparison-in-Comparison-clause-term t c =
     comparison-unfolded c.args.context.now (ap (put c.args.context.now c.args.level.definitions c.args.scope.now)
     (comparison-means c.in-Comparison.is c.deref-in-Comparison.ensures c.deref-in-Comparison-2.ensures)) c.folding-in-Comparison.ensures c.in_ok-room-in-Comparison.ensures
-    c.in_ok-left-in-Comparison.ensures.term c.in_ok-right-in-Comparison.ensures.term c.in_ok-comparison-in-Comparison.ensures
+    c.in_ok-left-in-Comparison.ensures.term (rw c.in_ok-left-in-Comparison-2.ensures.1 at c.unfold-right.ensures.term)
+    (rw c.in_ok-left-in-Comparison-2.ensures.0 at c.in_ok-comparison-in-Comparison.ensures)
 
-pub unfold::unfold_opened-returns-in_err-right-in-Comparison-clause-term : goal.unfold::unfold_opened-returns-in_err-right-in-Comparison-clause-term
-unfold::unfold_opened-returns-in_err-right-in-Comparison-clause-term t c =
+pub unfold::unfold_opened-returns-in_err-left-in-Comparison-2-clause-term : goal.unfold::unfold_opened-returns-in_err-left-in-Comparison-2-clause-term
+unfold::unfold_opened-returns-in_err-left-in-Comparison-2-clause-term t c =
     comparison-refused c.args.context.now c.args.level.truth
     (ap (put c.args.context.now c.args.level.definitions c.args.scope.now) (comparison-means c.in-Comparison.is c.deref-in-Comparison.ensures c.deref-in-Comparison-2.ensures))
-    c.from_residual-in_err-right-in-Comparison.result c.in_err-right-in-Comparison.field-0.0 c.from_residual-in_err-right-in-Comparison.ensures.1 c.in_ok-room-in-Comparison.ensures
-    c.in_ok-left-in-Comparison.ensures.term c.in_err-right-in-Comparison.ensures.term
+    c.from_residual-in_err-left-in-Comparison-2.result c.in_err-left-in-Comparison-2.field-0.0 c.from_residual-in_err-left-in-Comparison-2.ensures.1 c.in_ok-room-in-Comparison.ensures
+    c.in_ok-left-in-Comparison.ensures.term (rw c.in_err-left-in-Comparison-2.ensures at c.unfold-right.ensures.term)
 
 pub applications::unfold_application-returns-in-Definition-clause-term : goal.applications::unfold_application-returns-in-Definition-clause-term
 applications::unfold_application-returns-in-Definition-clause-term t c =
@@ -227,22 +228,25 @@ pub applications::unfold_arithmetic-loop-link-init : goal.applications::unfold_a
 applications::unfold_arithmetic-loop-link-init t c =
     first-calculated c.args.context.now c.args.level c.args.scope.now (tree.term_of c.args.first.now) c.args.links.now c.in_ok-left.ensures.term
 
-pub applications::unfold_arithmetic-returns-in_err-room-clause-term : goal.applications::unfold_arithmetic-returns-in_err-room-clause-term
-applications::unfold_arithmetic-returns-in_err-room-clause-term t c =
+pub applications::unfold_arithmetic-returns-in_err-before-clause-term : goal.applications::unfold_arithmetic-returns-in_err-before-clause-term
+applications::unfold_arithmetic-returns-in_err-before-clause-term t c =
     operator-without-room c.args.context.now c.args.level c.args.scope.now (tree.term_of c.args.first.now) c.args.links.now c.loop-link.link-index c.link-item.result c.loop-link-test.true
-    c.link-item.is c.loop-link.invariant c.from_residual-in_err-room.result c.in_err-room.field-0.0 c.from_residual-in_err-room.ensures.1 c.in_err-room.ensures.0 c.in_err-room.ensures.1
+    c.link-item.is c.loop-link.invariant c.from_residual-in_err-before.result c.in_err-before.field-0.0 c.from_residual-in_err-before.ensures.1
+    (rw c.in_err-before.ensures at c.behind_one-room.ensures).0 (rw c.in_err-before.ensures at c.behind_one-room.ensures).1
 
-pub applications::unfold_arithmetic-returns-in_err-right-clause-term : goal.applications::unfold_arithmetic-returns-in_err-right-clause-term
-applications::unfold_arithmetic-returns-in_err-right-clause-term t c =
+pub applications::unfold_arithmetic-returns-in_err-before-2-clause-term : goal.applications::unfold_arithmetic-returns-in_err-before-2-clause-term
+applications::unfold_arithmetic-returns-in_err-before-2-clause-term t c =
     operand-refused c.args.context.now c.args.level c.args.scope.now (tree.term_of c.args.first.now) c.args.links.now c.loop-link.link-index c.link-item.result c.loop-link-test.true c.link-item.is
     c.loop-link.invariant
-    c.from_residual-in_err-right.result c.in_err-right.field-0.0 c.from_residual-in_err-right.ensures.1 c.in_ok-room.ensures c.in_err-right.ensures.term
+    c.from_residual-in_err-before-2.result c.in_err-before-2.field-0.0 c.from_residual-in_err-before-2.ensures.1 (rw c.in_ok-before.ensures.1 at c.behind_one-room.ensures)
+    (rw c.in_err-before-2.ensures at c.unfold-right.ensures.term)
 
 pub applications::unfold_arithmetic-loop-link-preserved : goal.applications::unfold_arithmetic-loop-link-preserved
 applications::unfold_arithmetic-loop-link-preserved t c =
     further-calculated c.args.context.now c.args.level c.args.scope.now (tree.term_of c.args.first.now) c.args.links.now c.loop-link.link-index c.link-item.result c.loop-link-test.true
     c.link-item.is c.loop-link.invariant
-    c.folding.ensures c.in_ok-room.ensures c.in_ok-right.ensures.term c.in_ok-left-2.ensures
+    c.folding.ensures (rw c.in_ok-before.ensures.1 at c.behind_one-room.ensures) (rw c.in_ok-before-2.ensures.1 at c.unfold-right.ensures.term)
+    (rw (c.in_ok-before-2.ensures.0, c.in_ok-before.ensures.0) at c.in_ok-left-2.ensures)
 
 pub applications::unfold_arithmetic-returns-clause-term : goal.applications::unfold_arithmetic-returns-clause-term
 applications::unfold_arithmetic-returns-clause-term t c =
@@ -262,9 +266,9 @@ condition-here t c =
     conditional c.args.context.now c.args.level c.args.scope.now (string_bytes c.args.function.now.text) c.args.arguments.now c.index-arguments-0.result c.requires.choice c.requires.arguments
     c.in_ok-room.ensures c.in_ok-condition.ensures.term
 
-pub applications::unfold_choice-returns-in-Some-true-clause-term : goal.applications::unfold_choice-returns-in-Some-true-clause-term
-applications::unfold_choice-returns-in-Some-true-clause-term t c =
-    branch-unfolded (condition-here t (goal.at.applications::unfold_choice-returns-in-Some-true-clause-term t c).After-truth_value)
+pub applications::unfold_choice-returns-in_ok-unfold-in-Some-true-clause-term : goal.applications::unfold_choice-returns-in_ok-unfold-in-Some-true-clause-term
+applications::unfold_choice-returns-in_ok-unfold-in-Some-true-clause-term t c =
+    branch-unfolded (condition-here t (goal.at.applications::unfold_choice-returns-in_ok-unfold-in-Some-true-clause-term t c).After-truth_value)
     true c.index-arguments-1.result (ap Some (sym c.in-Some-true.field-0-test) ∙ c.in-Some-true.ensures) c.in_ok-unfold-in-Some-true.ensures.term c.chosen.ensures
 
 pub applications::unfold_choice-returns-in_err-unfold-in-Some-true-clause-term : goal.applications::unfold_choice-returns-in_err-unfold-in-Some-true-clause-term
@@ -273,9 +277,9 @@ applications::unfold_choice-returns-in_err-unfold-in-Some-true-clause-term t c =
     true c.index-arguments-1.result c.from_residual-in_err-unfold-in-Some-true.result c.in_err-unfold-in-Some-true.field-0.0 c.from_residual-in_err-unfold-in-Some-true.ensures.1
     c.in_err-unfold-in-Some-true.ensures.term
 
-pub applications::unfold_choice-returns-in-Some-false-clause-term : goal.applications::unfold_choice-returns-in-Some-false-clause-term
-applications::unfold_choice-returns-in-Some-false-clause-term t c =
-    branch-unfolded (condition-here t (goal.at.applications::unfold_choice-returns-in-Some-false-clause-term t c).After-truth_value)
+pub applications::unfold_choice-returns-in_ok-unfold-in-Some-false-clause-term : goal.applications::unfold_choice-returns-in_ok-unfold-in-Some-false-clause-term
+applications::unfold_choice-returns-in_ok-unfold-in-Some-false-clause-term t c =
+    branch-unfolded (condition-here t (goal.at.applications::unfold_choice-returns-in_ok-unfold-in-Some-false-clause-term t c).After-truth_value)
     false c.index-arguments-2.result (ap Some (sym c.in-Some-false.field-0-test) ∙ c.in-Some-false.ensures) c.in_ok-unfold-in-Some-false.ensures.term c.chosen-in-Some-false.ensures
 
 pub applications::unfold_choice-returns-in_err-unfold-in-Some-false-clause-term : goal.applications::unfold_choice-returns-in_err-unfold-in-Some-false-clause-term
@@ -284,23 +288,25 @@ applications::unfold_choice-returns-in_err-unfold-in-Some-false-clause-term t c 
     false c.index-arguments-2.result c.from_residual-in_err-unfold-in-Some-false.result c.in_err-unfold-in-Some-false.field-0.0 c.from_residual-in_err-unfold-in-Some-false.ensures.1
     c.in_err-unfold-in-Some-false.ensures.term
 
-pub applications::unfold_choice-returns-in_err-left-in-None-clause-term : goal.applications::unfold_choice-returns-in_err-left-in-None-clause-term
-applications::unfold_choice-returns-in_err-left-in-None-clause-term t c =
-    branch-refused (condition-here t (goal.at.applications::unfold_choice-returns-in_err-left-in-None-clause-term t c).After-truth_value)
-    true c.index-arguments-1-in-None.result c.from_residual-in_err-left-in-None.result c.in_err-left-in-None.field-0.0 c.from_residual-in_err-left-in-None.ensures.1
-    c.in_err-left-in-None.ensures.term
+pub applications::unfold_choice-returns-in_err-condition-in-None-clause-term : goal.applications::unfold_choice-returns-in_err-condition-in-None-clause-term
+applications::unfold_choice-returns-in_err-condition-in-None-clause-term t c =
+    branch-refused (condition-here t (goal.at.applications::unfold_choice-returns-in_err-condition-in-None-clause-term t c).After-truth_value)
+    true c.index-arguments-1-in-None.result c.from_residual-in_err-condition-in-None.result c.in_err-condition-in-None.field-0.0 c.from_residual-in_err-condition-in-None.ensures.1
+    (rw c.in_err-condition-in-None.ensures at c.unfold-left.ensures.term)
 
-pub applications::unfold_choice-returns-in_err-right-in-None-clause-term : goal.applications::unfold_choice-returns-in_err-right-in-None-clause-term
-applications::unfold_choice-returns-in_err-right-in-None-clause-term t c =
-    second-refused (condition-here t (goal.at.applications::unfold_choice-returns-in_err-right-in-None-clause-term t c).After-truth_value)
-    c.index-arguments-1-in-None.result c.index-arguments-2-in-None.result c.from_residual-in_err-right-in-None.result c.in_err-right-in-None.field-0.0 c.from_residual-in_err-right-in-None.ensures.1
-    c.in_ok-left-in-None.ensures.term c.in_err-right-in-None.ensures.term
+pub applications::unfold_choice-returns-in_err-condition-in-None-2-clause-term : goal.applications::unfold_choice-returns-in_err-condition-in-None-2-clause-term
+applications::unfold_choice-returns-in_err-condition-in-None-2-clause-term t c =
+    second-refused (condition-here t (goal.at.applications::unfold_choice-returns-in_err-condition-in-None-2-clause-term t c).After-truth_value)
+    c.index-arguments-1-in-None.result c.index-arguments-2-in-None.result c.from_residual-in_err-condition-in-None-2.result c.in_err-condition-in-None-2.field-0.0
+    c.from_residual-in_err-condition-in-None-2.ensures.1
+    (rw c.in_ok-condition-in-None.ensures.1 at c.unfold-left.ensures.term) (rw c.in_err-condition-in-None-2.ensures at c.unfold-right.ensures.term)
 
-pub applications::unfold_choice-returns-clause-term : goal.applications::unfold_choice-returns-clause-term
-applications::unfold_choice-returns-clause-term t c =
-    both-unfolded (condition-here t (goal.at.applications::unfold_choice-returns-clause-term t c).After-truth_value)
-    c.index-arguments-1-in-None.result c.index-arguments-2-in-None.result c.in_ok-name-in-None.name c.folding.ensures (ap (λ (r : Named). r.text) c.in_ok-name-in-None.ensures)
-    c.in_ok-left-in-None.ensures.term c.in_ok-right-in-None.ensures.term c.in_ok-choice-in-None.ensures
+pub applications::unfold_choice-returns-in_ok-choice-in-None-clause-term : goal.applications::unfold_choice-returns-in_ok-choice-in-None-clause-term
+applications::unfold_choice-returns-in_ok-choice-in-None-clause-term t c =
+    both-unfolded (condition-here t (goal.at.applications::unfold_choice-returns-in_ok-choice-in-None-clause-term t c).After-truth_value)
+    c.index-arguments-1-in-None.result c.index-arguments-2-in-None.result c.in-Ok.name c.folding.ensures (ap (λ (r : Named). r.text) c.in-Ok.ensures)
+    (rw c.in_ok-condition-in-None.ensures.1 at c.unfold-left.ensures.term) (rw c.in_ok-condition-in-None-2.ensures.1 at c.unfold-right.ensures.term)
+    (choice-held _ c.in-Ok.name c.in_ok-condition-in-None-2.ensures.0 c.in_ok-condition-in-None.ensures.0 c.in_ok-choice-in-None.ensures)
 
 pub reads::unfold_element-returns-clause-term : goal.reads::unfold_element-returns-clause-term
 reads::unfold_element-returns-clause-term t c =
@@ -334,13 +340,13 @@ pub reads::unfold_read-returns-clause-term : goal.reads::unfold_read-returns-cla
 reads::unfold_read-returns-clause-term t c =
     let t = put c.args.context.now c.args.level.definitions c.args.scope.now (tree.term_of c.in-Some-first.argument.now.term) in
     let g = element_by c.args.context.now c.args.level.definitions c.args.scope.now c.others-2.result in
-    λ truth. subst (λ (z : Term). Unfolds (folding_in c.args.context.now) truth c.args.level.room z c.unfold_choices.result)
+    λ truth. subst (λ (z : Term). Unfolds (folding_in c.args.context.now) truth c.args.level.room z c.unfold_choices-read.result)
     (ap (λ zs. choices g t (map written_term zs)) (c.deref-2.ensures.value ∙ sym c.deref.ensures.value) ∙ chosen-read c.args.context.now c.args.level.definitions c.args.scope.now
     (are-others {array = c.args.array} {others = c.others-2.result} c.in-Some.ensures.value c.in-Some-first.ensures.value c.others-2.ensures.name c.others-2.ensures.indices
     c.others-2.ensures.arguments)
     (ap (map written_term) c.deref.ensures.value ∙ c.in_ok-values.ensures ∙ ap (λ S. written_values S c.in-Some.index.now.sort.now) c.sorts.ensures)
     (c.in_default-written_as.ensures t c.in-Ok.ensures.term.form))
-    (c.unfold_choices.ensures.term t truth c.in-Ok.ensures.term.term (omega (arith, c.in-Ok.ensures.term.room, c.saturating_sub.ensures)))
+    (c.unfold_choices-read.ensures.term t truth c.in-Ok.ensures.term.term (omega (arith, c.in-Ok.ensures.term.room, c.saturating_sub.ensures)))
 
 pub reads::unfold_choices-returns-in_default-clause-term : goal.reads::unfold_choices-returns-in_default-clause-term
 reads::unfold_choices-returns-in_default-clause-term t c =
@@ -362,14 +368,14 @@ choosing-here t c =
     choosing c.args.context.now c.args.level c.args.scope.now c.args.choices c.in_ok-condition.condition c.in-Some.ensures.value (sym c.is_empty.ensures ∙ c.if-is_empty.false) c.folding.ensures
     c.in_ok-condition.ensures
 
-pub reads::unfold_choices-returns-in-Some-true-clause-term : goal.reads::unfold_choices-returns-in-Some-true-clause-term
-reads::unfold_choices-returns-in-Some-true-clause-term t c =
-    decided-unfolded (choosing-here t (goal.at.reads::unfold_choices-returns-in-Some-true-clause-term t c).After-truth_value)
+pub reads::unfold_choices-returns-in_ok-unfold_element-in-Some-true-clause-term : goal.reads::unfold_choices-returns-in_ok-unfold_element-in-Some-true-clause-term
+reads::unfold_choices-returns-in_ok-unfold_element-in-Some-true-clause-term t c =
+    decided-unfolded (choosing-here t (goal.at.reads::unfold_choices-returns-in_ok-unfold_element-in-Some-true-clause-term t c).After-truth_value)
     true (ap Some (sym c.in-Some-true.field-0-test) ∙ c.in-Some-true.ensures) c.chosen.ensures (λ t said within. c.in_ok-unfold_element-in-Some-true.ensures.term false)
 
-pub reads::unfold_choices-returns-in-Some-false-clause-term : goal.reads::unfold_choices-returns-in-Some-false-clause-term
-reads::unfold_choices-returns-in-Some-false-clause-term t c =
-    decided-unfolded (choosing-here t (goal.at.reads::unfold_choices-returns-in-Some-false-clause-term t c).After-truth_value)
+pub reads::unfold_choices-returns-in_ok-unfold_choices-in-Some-false-clause-term : goal.reads::unfold_choices-returns-in_ok-unfold_choices-in-Some-false-clause-term
+reads::unfold_choices-returns-in_ok-unfold_choices-in-Some-false-clause-term t c =
+    decided-unfolded (choosing-here t (goal.at.reads::unfold_choices-returns-in_ok-unfold_choices-in-Some-false-clause-term t c).After-truth_value)
     false (ap Some (sym c.in-Some-false.field-0-test) ∙ c.in-Some-false.ensures) c.chosen-in-Some-false.ensures
     (λ t said within. c.in_ok-unfold_choices-in-Some-false.ensures.term t false said within)
 
@@ -385,27 +391,49 @@ reads::unfold_choices-returns-in_err-unfold_choices-in-Some-false-clause-term t 
     false c.from_residual-in_err-unfold_choices-in-Some-false.result c.in_err-unfold_choices-in-Some-false.field-0.0 c.from_residual-in_err-unfold_choices-in-Some-false.ensures.1
     c.in_err-unfold_choices-in-Some-false.ensures.term
 
-pub reads::unfold_choices-returns-in_err-left-in-None-clause-term : goal.reads::unfold_choices-returns-in_err-left-in-None-clause-term
-reads::unfold_choices-returns-in_err-left-in-None-clause-term t c =
-    first-refused (choosing-here t (goal.at.reads::unfold_choices-returns-in_err-left-in-None-clause-term t c).After-truth_value)
-    c.in_ok-room-in-None-2.room c.from_residual-in_err-left-in-None.result c.in_err-left-in-None.field-0.0 (omega (arith, c.in_ok-room-in-None.ensures, c.in_ok-room-in-None-2.ensures))
-    c.from_residual-in_err-left-in-None.ensures.1 c.in_err-left-in-None.ensures.term
+pub reads::unfold_choices-returns-in_err-condition-in-None-clause-term : goal.reads::unfold_choices-returns-in_err-condition-in-None-clause-term
+reads::unfold_choices-returns-in_err-condition-in-None-clause-term t c =
+    let refused = rw c.in_err-condition-in-None.ensures at c.behind_all-room.ensures in
+    choosing-without-room (choosing-here t (goal.at.reads::unfold_choices-returns-in_err-condition-in-None-clause-term t c).After-truth_value)
+    c.from_residual-in_err-condition-in-None.result c.in_err-condition-in-None.field-0.0 c.from_residual-in_err-condition-in-None.ensures.1 refused.0 (omega (arith, refused.1))
 
-pub reads::unfold_choices-returns-in_err-right-in-None-clause-term : goal.reads::unfold_choices-returns-in_err-right-in-None-clause-term
-reads::unfold_choices-returns-in_err-right-in-None-clause-term t c =
-    further-refused (choosing-here t (goal.at.reads::unfold_choices-returns-in_err-right-in-None-clause-term t c).After-truth_value)
-    c.in_ok-room-in-None-2.room c.from_residual-in_err-right-in-None.result c.in_err-right-in-None.field-0.0 (omega (arith, c.in_ok-room-in-None.ensures, c.in_ok-room-in-None-2.ensures))
-    c.from_residual-in_err-right-in-None.ensures.1 c.in_ok-left-in-None.ensures.term c.in_err-right-in-None.ensures.term
+pub reads::unfold_choices-returns-in_err-condition-in-None-2-clause-term : goal.reads::unfold_choices-returns-in_err-condition-in-None-2-clause-term
+reads::unfold_choices-returns-in_err-condition-in-None-2-clause-term t c =
+    let refused = rw c.in_err-condition-in-None-2.ensures at c.behind_all.ensures in
+    choosing-without-room (choosing-here t (goal.at.reads::unfold_choices-returns-in_err-condition-in-None-2-clause-term t c).After-truth_value)
+    c.from_residual-in_err-condition-in-None-2.result c.in_err-condition-in-None-2.field-0.0 c.from_residual-in_err-condition-in-None-2.ensures.1 refused.0
+    (omega (arith, refused.1, (rw c.in_ok-condition-in-None.ensures.1 at c.behind_all-room.ensures)))
+
+pub reads::unfold_choices-returns-in_err-condition-in-None-3-clause-term : goal.reads::unfold_choices-returns-in_err-condition-in-None-3-clause-term
+reads::unfold_choices-returns-in_err-condition-in-None-3-clause-term t c =
+    first-refused (choosing-here t (goal.at.reads::unfold_choices-returns-in_err-condition-in-None-3-clause-term t c).After-truth_value)
+    c.in_ok-condition-in-None-2.room c.from_residual-in_err-condition-in-None-3.result c.in_err-condition-in-None-3.field-0.0
+    (omega (arith, (rw c.in_ok-condition-in-None.ensures.1 at c.behind_all-room.ensures), (rw c.in_ok-condition-in-None-2.ensures.1 at c.behind_all.ensures)))
+    c.from_residual-in_err-condition-in-None-3.ensures.1 (rw c.in_err-condition-in-None-3.ensures at c.unfold_element-left.ensures.term)
+
+pub reads::unfold_choices-returns-in_err-condition-in-None-4-clause-term : goal.reads::unfold_choices-returns-in_err-condition-in-None-4-clause-term
+reads::unfold_choices-returns-in_err-condition-in-None-4-clause-term t c =
+    further-refused (choosing-here t (goal.at.reads::unfold_choices-returns-in_err-condition-in-None-4-clause-term t c).After-truth_value)
+    c.in_ok-condition-in-None-2.room c.from_residual-in_err-condition-in-None-4.result c.in_err-condition-in-None-4.field-0.0
+    (omega (arith, (rw c.in_ok-condition-in-None.ensures.1 at c.behind_all-room.ensures), (rw c.in_ok-condition-in-None-2.ensures.1 at c.behind_all.ensures)))
+    c.from_residual-in_err-condition-in-None-4.ensures.1 (rw c.in_ok-condition-in-None-3.ensures.1 at c.unfold_element-left.ensures.term)
+    (rw c.in_err-condition-in-None-4.ensures at c.unfold_choices-right.ensures.term)
 
 pub reads::unfold_choices-choice-requires : goal.reads::unfold_choices-choice-requires
 reads::unfold_choices-choice-requires t c =
-    ap (λ (f : Name). is_if (named_function f)) c.in_ok-name-in-None.ensures ∙ if-named
+    ap (λ (f : Name). is_if (named_function f)) c.in-Ok.ensures ∙ if-named
 
-pub reads::unfold_choices-returns-clause-term : goal.reads::unfold_choices-returns-clause-term
-reads::unfold_choices-returns-clause-term t c =
-    further-unfolded (choosing-here t (goal.at.reads::unfold_choices-returns-clause-term t c).After-truth_value)
-    c.in_ok-room-in-None-2.room c.in_ok-name-in-None.name (omega (arith, c.in_ok-room-in-None.ensures, c.in_ok-room-in-None-2.ensures)) c.folding-in-None.ensures c.in_ok-name-in-None.ensures
-    c.in_ok-left-in-None.ensures.term c.in_ok-right-in-None.ensures.term c.in_ok-choice-in-None.ensures
+pub reads::unfold_choices-returns-in_ok-choice-in-None-clause-term : goal.reads::unfold_choices-returns-in_ok-choice-in-None-clause-term
+reads::unfold_choices-returns-in_ok-choice-in-None-clause-term t c =
+    further-unfolded (choosing-here t (goal.at.reads::unfold_choices-returns-in_ok-choice-in-None-clause-term t c).After-truth_value)
+    c.in_ok-condition-in-None-2.room c.in-Ok.name (omega (
+      arith,
+      (rw c.in_ok-condition-in-None.ensures.1 at c.behind_all-room.ensures),
+      (rw c.in_ok-condition-in-None-2.ensures.1 at c.behind_all.ensures),
+    )) c.folding-in-None.ensures c.in-Ok.ensures
+    (rw c.in_ok-condition-in-None-3.ensures.1 at c.unfold_element-left.ensures.term) (rw c.in_ok-condition-in-None-4.ensures.1 at c.unfold_choices-right.ensures.term)
+    (choice-held _ c.in-Ok.name c.in_ok-condition-in-None-4.ensures.0 (c.in_ok-condition-in-None-3.ensures.0 ∙ c.in_ok-condition-in-None-2.ensures.0 ∙ c.in_ok-condition-in-None.ensures.0)
+    c.in_ok-choice-in-None.ensures)
 
 pub unfold::unfold_opened-returns-in-Arithmetic-clause-term : goal.unfold::unfold_opened-returns-in-Arithmetic-clause-term
 unfold::unfold_opened-returns-in-Arithmetic-clause-term t c =
@@ -449,9 +477,10 @@ unfold::unfold_opened-returns-in_err-left-in-Comparison-clause-faults t c =
     told c.args.context.now c.from_residual-in_err-left-in-Comparison.result _ c.from_residual-in_err-left-in-Comparison.ensures.1 c.in_err-left-in-Comparison.ensures.faults
     (part-met c.args.context.now c.args.level c.args.scope.now c.args.term.now c.deref-in-Comparison.result.now c.in-Comparison.is (inl (ap term_form c.deref-in-Comparison.ensures)))
 
-pub unfold::unfold_opened-returns-in_err-right-in-Comparison-clause-faults : goal.unfold::unfold_opened-returns-in_err-right-in-Comparison-clause-faults
-unfold::unfold_opened-returns-in_err-right-in-Comparison-clause-faults t c =
-    told c.args.context.now c.from_residual-in_err-right-in-Comparison.result _ c.from_residual-in_err-right-in-Comparison.ensures.1 c.in_err-right-in-Comparison.ensures.faults
+pub unfold::unfold_opened-returns-in_err-left-in-Comparison-2-clause-faults : goal.unfold::unfold_opened-returns-in_err-left-in-Comparison-2-clause-faults
+unfold::unfold_opened-returns-in_err-left-in-Comparison-2-clause-faults t c =
+    told c.args.context.now c.from_residual-in_err-left-in-Comparison-2.result _ c.from_residual-in_err-left-in-Comparison-2.ensures.1
+    (rw c.in_err-left-in-Comparison-2.ensures at c.unfold-right.ensures.faults)
     (part-met c.args.context.now c.args.level c.args.scope.now c.args.term.now c.deref-in-Comparison-2.result.now c.in-Comparison.is (inr (ap term_form c.deref-in-Comparison-2.ensures)))
 
 pub unfold::unfold_opened-returns-in_err-operands-in-Chain-clause-faults : goal.unfold::unfold_opened-returns-in_err-operands-in-Chain-clause-faults
@@ -497,9 +526,9 @@ applications::unfold_arithmetic-returns-in_err-left-clause-faults t c =
     told c.args.context.now c.from_residual.result _ c.from_residual.ensures.1 c.in_err-left.ensures.faults
     (first-part-met c.args.context.now c.args.level c.args.scope.now (term_form c.args.first.now) c.args.links.now c.requires)
 
-pub applications::unfold_arithmetic-returns-in_err-right-clause-faults : goal.applications::unfold_arithmetic-returns-in_err-right-clause-faults
-applications::unfold_arithmetic-returns-in_err-right-clause-faults t c =
-    told c.args.context.now c.from_residual-in_err-right.result _ c.from_residual-in_err-right.ensures.1 c.in_err-right.ensures.faults
+pub applications::unfold_arithmetic-returns-in_err-before-2-clause-faults : goal.applications::unfold_arithmetic-returns-in_err-before-2-clause-faults
+applications::unfold_arithmetic-returns-in_err-before-2-clause-faults t c =
+    told c.args.context.now c.from_residual-in_err-before-2.result _ c.from_residual-in_err-before-2.ensures.1 (rw c.in_err-before-2.ensures at c.unfold-right.ensures.faults)
     (link-part-met c.args.context.now c.args.level c.args.scope.now (term_form c.args.first.now) c.args.links.now c.loop-link.link-index c.link-item.result c.loop-link-test.true c.link-item.is)
 
 pub connectives::unfold_copies-returns-in_err-unfolded-clause-faults : goal.connectives::unfold_copies-returns-in_err-unfolded-clause-faults
@@ -553,9 +582,9 @@ unfold::unfold_opened-returns-in_err-room-in-Comparison-clause-faults t c =
     room-told c.args.context.now c.from_residual-in_err-room-in-Comparison.result _ c.from_residual-in_err-room-in-Comparison.ensures.1 c.in_err-room-in-Comparison.ensures.0
     (token-met c.args.context.now c.args.level c.args.scope.now c.args.term.now c.in-Comparison.place c.in-Comparison.is refl)
 
-pub applications::unfold_arithmetic-returns-in_err-room-clause-faults : goal.applications::unfold_arithmetic-returns-in_err-room-clause-faults
-applications::unfold_arithmetic-returns-in_err-room-clause-faults t c =
-    room-told c.args.context.now c.from_residual-in_err-room.result _ c.from_residual-in_err-room.ensures.1 c.in_err-room.ensures.0
+pub applications::unfold_arithmetic-returns-in_err-before-clause-faults : goal.applications::unfold_arithmetic-returns-in_err-before-clause-faults
+applications::unfold_arithmetic-returns-in_err-before-clause-faults t c =
+    room-told c.args.context.now c.from_residual-in_err-before.result _ c.from_residual-in_err-before.ensures.1 (rw c.in_err-before.ensures at c.behind_one-room.ensures).0
     (λ w h. arithmetic-token c.args.context.now (suc c.args.level.depth) c.args.level.definitions (scope_said c.args.context.now c.args.scope.now) w (term_form c.args.first.now) c.args.links.now
     c.loop-link.link-index c.link-item.result c.loop-link-test.true c.link-item.is h.0)
 
@@ -622,25 +651,28 @@ applications::unfold_choice-returns-in_err-unfold-in-Some-false-clause-faults t 
     (argument-part-met c.args.context.now c.args.level c.args.scope.now (named c.args.function.now) c.args.arguments.now 2 c.index-arguments-2.result (omega (arith, c.requires.arguments))
     c.index-arguments-2.is)
 
-pub applications::unfold_choice-returns-in_err-left-in-None-clause-faults : goal.applications::unfold_choice-returns-in_err-left-in-None-clause-faults
-applications::unfold_choice-returns-in_err-left-in-None-clause-faults t c =
-    told c.args.context.now c.from_residual-in_err-left-in-None.result _ c.from_residual-in_err-left-in-None.ensures.1 c.in_err-left-in-None.ensures.faults
+pub applications::unfold_choice-returns-in_err-condition-in-None-clause-faults : goal.applications::unfold_choice-returns-in_err-condition-in-None-clause-faults
+applications::unfold_choice-returns-in_err-condition-in-None-clause-faults t c =
+    told c.args.context.now c.from_residual-in_err-condition-in-None.result _ c.from_residual-in_err-condition-in-None.ensures.1 (rw c.in_err-condition-in-None.ensures at c.unfold-left.ensures.faults)
     (argument-part-met c.args.context.now c.args.level c.args.scope.now (named c.args.function.now) c.args.arguments.now 1 c.index-arguments-1-in-None.result (omega (arith, c.requires.arguments))
     c.index-arguments-1-in-None.is)
 
-pub applications::unfold_choice-returns-in_err-right-in-None-clause-faults : goal.applications::unfold_choice-returns-in_err-right-in-None-clause-faults
-applications::unfold_choice-returns-in_err-right-in-None-clause-faults t c =
-    told c.args.context.now c.from_residual-in_err-right-in-None.result _ c.from_residual-in_err-right-in-None.ensures.1 c.in_err-right-in-None.ensures.faults
+pub applications::unfold_choice-returns-in_err-condition-in-None-2-clause-faults : goal.applications::unfold_choice-returns-in_err-condition-in-None-2-clause-faults
+applications::unfold_choice-returns-in_err-condition-in-None-2-clause-faults t c =
+    told c.args.context.now c.from_residual-in_err-condition-in-None-2.result _ c.from_residual-in_err-condition-in-None-2.ensures.1
+    (rw c.in_err-condition-in-None-2.ensures at c.unfold-right.ensures.faults)
     (argument-part-met c.args.context.now c.args.level c.args.scope.now (named c.args.function.now) c.args.arguments.now 2 c.index-arguments-2-in-None.result (omega (arith, c.requires.arguments))
     c.index-arguments-2-in-None.is)
 
-pub reads::unfold_choices-returns-in_err-room-in-None-clause-faults : goal.reads::unfold_choices-returns-in_err-room-in-None-clause-faults
-reads::unfold_choices-returns-in_err-room-in-None-clause-faults t c =
-    room-told c.args.context.now c.from_residual-in_err-room-in-None.result _ c.from_residual-in_err-room-in-None.ensures.1 c.in_err-room-in-None.ensures.0 (λ w h. h.token)
+pub reads::unfold_choices-returns-in_err-condition-in-None-clause-faults : goal.reads::unfold_choices-returns-in_err-condition-in-None-clause-faults
+reads::unfold_choices-returns-in_err-condition-in-None-clause-faults t c =
+    room-told c.args.context.now c.from_residual-in_err-condition-in-None.result _ c.from_residual-in_err-condition-in-None.ensures.1
+    (rw c.in_err-condition-in-None.ensures at c.behind_all-room.ensures).0 (λ w h. h.token)
 
-pub reads::unfold_choices-returns-in_err-room-in-None-2-clause-faults : goal.reads::unfold_choices-returns-in_err-room-in-None-2-clause-faults
-reads::unfold_choices-returns-in_err-room-in-None-2-clause-faults t c =
-    room-told c.args.context.now c.from_residual-in_err-room-in-None-2.result _ c.from_residual-in_err-room-in-None-2.ensures.1 c.in_err-room-in-None-2.ensures.0 (λ w h. h.token)
+pub reads::unfold_choices-returns-in_err-condition-in-None-2-clause-faults : goal.reads::unfold_choices-returns-in_err-condition-in-None-2-clause-faults
+reads::unfold_choices-returns-in_err-condition-in-None-2-clause-faults t c =
+    room-told c.args.context.now c.from_residual-in_err-condition-in-None-2.result _ c.from_residual-in_err-condition-in-None-2.ensures.1
+    (rw c.in_err-condition-in-None-2.ensures at c.behind_all.ensures).0 (λ w h. h.token)
 
 -- ---- arguments one after another
 
@@ -740,7 +772,7 @@ reads::unfold_read-returns-clause-faults t c =
     let levels = unwritten-levels (surroundings_in c.args.context.now) c.args.level.definitions (scope_said c.args.context.now c.args.scope.now) (term_form a.term) (variable_of i) w in
     let count : length (written_values (spec_in c.args.context.now) i.sort.now) ≡ length c.deref-2.result.now =
     omega (arith, ap length all, mapped-length written_term c.deref.result.now, ap length (c.deref-2.ensures.value ∙ sym c.deref.ensures.value)) in
-    λ whole h. c.unfold_choices.ensures.faults whole
+    λ whole h. c.unfold_choices-read.ensures.faults whole
     (choices-met c.args.context.now c.args.level.definitions c.args.scope.now c.in-Some-checked_sub.depth (omega (arith, c.in-Some-checked_sub.ensures.0, c.in-Some-checked_sub.ensures.1)) _
     (are-others {array = c.args.array} {others = c.others-2.result} c.in-Some.ensures.value c.in-Some-first.ensures.value c.others-2.ensures.name c.others-2.ensures.indices
     c.others-2.ensures.arguments) (omega (arith, levels, count)) h)
@@ -772,10 +804,11 @@ reads::unfold_choices-returns-in_err-unfold_element-in-Some-true-clause-faults t
     c.in_err-unfold_element-in-Some-true.ensures.faults
     (first-choice t (goal.at.reads::unfold_choices-returns-in_err-unfold_element-in-Some-true-clause-faults t c).After-truth_value)
 
-pub reads::unfold_choices-returns-in_err-left-in-None-clause-faults : goal.reads::unfold_choices-returns-in_err-left-in-None-clause-faults
-reads::unfold_choices-returns-in_err-left-in-None-clause-faults t c =
-    told c.args.context.now c.from_residual-in_err-left-in-None.result _ c.from_residual-in_err-left-in-None.ensures.1 c.in_err-left-in-None.ensures.faults
-    (first-choice t (goal.at.reads::unfold_choices-returns-in_err-left-in-None-clause-faults t c).After-truth_value)
+pub reads::unfold_choices-returns-in_err-condition-in-None-3-clause-faults : goal.reads::unfold_choices-returns-in_err-condition-in-None-3-clause-faults
+reads::unfold_choices-returns-in_err-condition-in-None-3-clause-faults t c =
+    told c.args.context.now c.from_residual-in_err-condition-in-None-3.result _ c.from_residual-in_err-condition-in-None-3.ensures.1
+    (rw c.in_err-condition-in-None-3.ensures at c.unfold_element-left.ensures.faults)
+    (first-choice t (goal.at.reads::unfold_choices-returns-in_err-condition-in-None-3-clause-faults t c).After-truth_value)
 
 pub reads::unfold_choices-returns-in_err-unfold_choices-in-Some-false-clause-faults : goal.reads::unfold_choices-returns-in_err-unfold_choices-in-Some-false-clause-faults
 reads::unfold_choices-returns-in_err-unfold_choices-in-Some-false-clause-faults t c =
@@ -783,10 +816,11 @@ reads::unfold_choices-returns-in_err-unfold_choices-in-Some-false-clause-faults 
     c.in_err-unfold_choices-in-Some-false.ensures.faults
     (further-choices t (goal.at.reads::unfold_choices-returns-in_err-unfold_choices-in-Some-false-clause-faults t c).After-truth_value refl refl)
 
-pub reads::unfold_choices-returns-in_err-right-in-None-clause-faults : goal.reads::unfold_choices-returns-in_err-right-in-None-clause-faults
-reads::unfold_choices-returns-in_err-right-in-None-clause-faults t c =
-    told c.args.context.now c.from_residual-in_err-right-in-None.result _ c.from_residual-in_err-right-in-None.ensures.1 c.in_err-right-in-None.ensures.faults
-    (further-choices t (goal.at.reads::unfold_choices-returns-in_err-right-in-None-clause-faults t c).After-truth_value refl refl)
+pub reads::unfold_choices-returns-in_err-condition-in-None-4-clause-faults : goal.reads::unfold_choices-returns-in_err-condition-in-None-4-clause-faults
+reads::unfold_choices-returns-in_err-condition-in-None-4-clause-faults t c =
+    told c.args.context.now c.from_residual-in_err-condition-in-None-4.result _ c.from_residual-in_err-condition-in-None-4.ensures.1
+    (rw c.in_err-condition-in-None-4.ensures at c.unfold_choices-right.ensures.faults)
+    (further-choices t (goal.at.reads::unfold_choices-returns-in_err-condition-in-None-4-clause-faults t c).After-truth_value refl refl)
 
 pub applications::unfold_arguments-loop-argument-init : goal.applications::unfold_arguments-loop-argument-init
 applications::unfold_arguments-loop-argument-init t c =

@@ -13,7 +13,8 @@ use Rattle.pb_text_terms.specs.declared.level.Operator.TheVariants.{Arithmetic, 
 use Rattle.pb_text_terms.specs.Levels.{operator_of_token, level_of, operand_level, rank, may_quantify, is_related}
 use Rattle.pb_text_terms.specs.Operators.{symbol_kind, is_quantifier, arithmetic_of}
 use Rattle.pb_text_terms.specs.Reading.{term, with_place, is_comma, is_open, operation, operations, is_among, is_mixed, at}
-use Rattle.pb_text_terms.proofs.ReaderLemmas.{refused, refuses, fails-on, error-on, as-read}
+use Rattle.pb_text_terms.proofs.ReaderLemmas.{refused, refuses, fails-on, error-on, error-is, as-read, known}
+use Rattle.pb_text_terms.proofs.PairLemmas.{fails-where, reads-where, on-ok-where, known-exactly}
 use Rattle.pb_text_terms.proofs.ListLemmas.{listed-fails, listed-ends, listed-goes-on}
 use Rattle.pb_text_terms.proofs.ReadLemmas.{operation-fails, operation-operand-fails, operation-read, arguments-is, begun-at, inner-fails, name-is, unary-other, placed-fails, placed-read}
 use Rattle.pb_text_terms.proofs.LevelLemmas.{may-above, skips-to, before-operator, operator-fails, lowest-quantified, quantified-fails, first-fails-as, first-or-fails, connects}
@@ -22,7 +23,7 @@ use Rattle.pb_text_terms.proofs.TermSteps.{IsOpened, read-at, opened-fails, open
 use Rattle.pb_text_terms.proofs.TermSteps.{relation-sign-fails, relation-right-fails, relation-goes-on, relation-read}
 use Rattle.pb_text_terms.proofs.+terms.Goals as goal
 use Rattle.pb_text_terms.proofs.+terms.Goals.{instance::argument_list-After-push, instance::instance-After-argument_list}
-use Rattle.pb_text_terms.proofs.+terms.Goals.{chain::operations-After-take_operator, chain::operations-After-push, chain::connected_by-After-take_operator}
+use Rattle.pb_text_terms.proofs.+terms.Goals.{chain::operations-After-take_operator, chain::operations-After-push, chain::links_behind-After-take_operator}
 
 -- ---- names with arguments
 
@@ -182,123 +183,142 @@ primary::unary-returns-in_err-constant-in-False t c =
     refuses c.from_residual-in_err-constant-in-False.result c.from_residual-in_err-constant-in-False.ensures.1
     (begun-at c.args.depth c.args.input.now k.False (search rules) ∙ c.in_err-constant-in-False.ensures.reads)
 
-pub chain::calculated_by-returns-in_err-links : goal.chain::calculated_by-returns-in_err-links
-chain::calculated_by-returns-in_err-links t c =
+pub chain::calculated_by-returns-in_err-first : goal.chain::calculated_by-returns-in_err-first
+chain::calculated_by-returns-in_err-first t c =
     error-on c.from_residual.result _ c.from_residual.ensures.1
-    (λ s h. if_fault c.in_err-links.field-0.0
-    (λ bad e. calculation-fails c.args.depth s c.args.input.now (term_form c.args.first) c.args.operators bad h c.requires e) c.in_err-links.ensures.reads)
+    (λ s h. if_fault c.in_err-first.field-0.0
+    (λ bad e. calculation-fails c.args.depth s c.args.input.now (term_form c.args.first) c.args.operators bad h c.requires e)
+    (known c.in_err-first.ensures c.operations-links.ensures).reads)
 
 pub chain::calculated_by-returns-then-is_mixed : goal.chain::calculated_by-returns-then-is_mixed
 chain::calculated_by-returns-then-is_mixed t c = record {
-  reads = λ s h. let mixed : is_mixed c.args.operators (kind c.operations.new.input) ≡ true = search rules in
+  reads = λ s h. let mixed : is_mixed c.args.operators (kind c.operations-links.new.input) ≡ true = search rules in
       rw c.refuse.ensures
       (calculation-mixed c.args.depth s c.args.input.now (term_form c.args.first) c.args.operators
-      (arithmetic_links c.in_ok-links.links.items) c.operations.new.input h c.requires c.in_ok-links.ensures.reads mixed);
+      (arithmetic_links c.in_ok-first.links.items) c.operations-links.new.input h c.requires (known c.in_ok-first.ensures.1 c.operations-links.ensures).reads mixed);
   fewer = search rules;
 }
 
 pub chain::calculated_by-returns : goal.chain::calculated_by-returns
-chain::calculated_by-returns t c = record {
-  reads = λ s h. let other : is_mixed c.args.operators (kind c.operations.new.input) ≡ false = search rules in
-      rw c.in_ok-calculated.ensures
-      (calculation-read c.args.depth s c.args.input.now (term_form c.args.first) c.args.operators
-      (arithmetic_links c.in_ok-links.links.items) c.operations.new.input h c.requires c.in_ok-links.ensures.reads other);
-  fewer = search rules;
-}
+chain::calculated_by-returns t c =
+    let links = known c.in_ok-first.ensures.1 c.operations-links.ensures in
+    record {
+      reads = λ s h. let other : is_mixed c.args.operators (kind c.operations-links.new.input) ≡ false = search rules in
+          rw (c.in_ok-calculated.ensures, c.in_ok-first.ensures.0)
+          (calculation-read c.args.depth s c.args.input.now (term_form c.args.first) c.args.operators
+          (arithmetic_links c.in_ok-first.links.items) c.operations-links.new.input h c.requires links.reads other);
+      fewer = omega (arith, links.fewer);
+    }
 
 -- ---- comparisons
 
-pub chain::related_by-returns-in_err-sign : goal.chain::related_by-returns-in_err-sign
-chain::related_by-returns-in_err-sign t c =
+pub chain::related_by-returns-in_err-left : goal.chain::related_by-returns-in_err-left
+chain::related_by-returns-in_err-left t c =
     error-on c.from_residual.result _ c.from_residual.ensures.1
-    (λ s h. relation-sign-fails c.args.relation c.args.depth s c.args.input.now (term_form c.args.left) h c.requires c.in_err-sign.field-0.0 c.in_err-sign.ensures.reads)
+    (λ s h. relation-sign-fails c.args.relation c.args.depth s c.args.input.now (term_form c.args.left) h c.requires c.in_err-left.field-0.0
+    (known-exactly _ _ _ c.in_err-left.ensures c.take_operator.ensures.reads))
 
-pub chain::related_by-returns-in_err-right : goal.chain::related_by-returns-in_err-right
-chain::related_by-returns-in_err-right t c =
-    error-on c.from_residual-in_err-right.result _ c.from_residual-in_err-right.ensures.1
+pub chain::related_by-returns-in_err-left-2 : goal.chain::related_by-returns-in_err-left-2
+chain::related_by-returns-in_err-left-2 t c =
+    error-on c.from_residual-in_err-left-2.result _ c.from_residual-in_err-left-2.ensures.1
     (λ s h. let level = c.operand_level-level in
-    if_fault c.in_err-right.field-0.0
-    (λ bad e. relation-right-fails c.args.relation c.args.depth s c.args.input.now (term_form c.args.left) h c.requires level.result level.ensures c.in_ok-sign.ensures.reads bad e)
-    c.in_err-right.ensures.reads)
+    if_fault c.in_err-left-2.field-0.0
+    (λ bad e. relation-right-fails c.args.relation c.args.depth s c.args.input.now (term_form c.args.left) h c.requires level.result level.ensures
+    (known-exactly _ _ _ c.in_ok-left.ensures.1 c.take_operator.ensures.reads) bad e)
+    (known c.in_err-left-2.ensures c.term_at-right.ensures).reads)
 
 pub chain::related_by-returns-then-is_related : goal.chain::related_by-returns-then-is_related
 chain::related_by-returns-then-is_related t c = record {
-  reads = λ s h. let again : is_related c.args.relation (kind c.term_at.new.input) ≡ true = search rules in
+  reads = λ s h. let again : is_related c.args.relation (kind c.term_at-right.new.input) ≡ true = search rules in
       rw c.refuse.ensures
       (relation-goes-on c.args.relation c.args.depth s c.args.input.now (term_form c.args.left) h c.requires c.operand_level-level.result c.operand_level-level.ensures
-      c.in_ok-sign.ensures.reads c.in_ok-right.ensures.reads again);
+      (known-exactly _ _ _ c.in_ok-left.ensures.1 c.take_operator.ensures.reads) (known c.in_ok-left-2.ensures.1 c.term_at-right.ensures).reads again);
   fewer = search rules;
 }
 
 pub chain::related_by-returns : goal.chain::related_by-returns
-chain::related_by-returns t c = record {
-  reads = λ s h. let other : is_related c.args.relation (kind c.term_at.new.input) ≡ false = search rules in
-      rw c.in_ok-compared.ensures
-      (relation-read c.args.relation c.args.depth s c.args.input.now (term_form c.args.left) h c.requires c.operand_level-level.result c.operand_level-level.ensures
-      c.in_ok-sign.ensures.reads c.in_ok-right.ensures.reads other);
-  fewer = search rules;
-}
+chain::related_by-returns t c =
+    let right = known c.in_ok-left-2.ensures.1 c.term_at-right.ensures in
+    record {
+      reads = λ s h. let other : is_related c.args.relation (kind c.term_at-right.new.input) ≡ false = search rules in
+          rw (c.in_ok-compared.ensures, c.in_ok-left-2.ensures.0, c.in_ok-left.ensures.0)
+          (relation-read c.args.relation c.args.depth s c.args.input.now (term_form c.args.left) h c.requires c.operand_level-level.result c.operand_level-level.ensures
+          (known-exactly _ _ _ c.in_ok-left.ensures.1 c.take_operator.ensures.reads) right.reads other);
+      fewer = omega (arith, right.fewer, on-ok-where c.take_operator.result c.in_ok-left.sign _ c.in_ok-left.ensures.1 c.take_operator.ensures.fewer);
+    }
 
 -- ---- chains of a connective
 
-pub chain::connected_by-links-init : goal.chain::connected_by-links-init
-chain::connected_by-links-init t c = record {
-  reads = λ s h fewer. rw (c.in_ok-links.ensures.items, c.in_ok-links.ensures.len)
+pub chain::links_behind-links-init : goal.chain::links_behind-links-init
+chain::links_behind-links-init t c = record {
+  reads = λ s x h. rw (c.in_ok-links.ensures.items, c.in_ok-links.ensures.len)
       (connection-is c.args.connective c.args.depth s
       ∙ resumed-first (symbol_kind c.args.connective) (TermForm.connected c.args.connective)
-      (at (operand_level (Connective c.args.connective)) c.args.depth) (length s.tokens) s c.args.input.now (term_form c.args.first) h);
+      (at (operand_level (Connective c.args.connective)) c.args.depth) (length s.tokens) s c.args.input.now x h.reads);
   room = omega (arith, c.in_ok-links.ensures.len);
 }
 
 -- the connective stands behind the links that are read
-stands : (t : ℕ) (c : chain::connected_by-After-take_operator t) → same_kind (kind c.links.input) (symbol_kind c.args.connective) ≡ true
+stands : (t : ℕ) (c : chain::links_behind-After-take_operator t) → same_kind (kind c.links.input) (symbol_kind c.args.connective) ≡ true
 stands t c = search rules
 
-pub chain::connected_by-returns-in_err-place : goal.chain::connected_by-returns-in_err-place
-chain::connected_by-returns-in_err-place t c =
-    error-on c.from_residual-in_err-place.result _ c.from_residual-in_err-place.ensures.1
-    (λ s h. let place = (goal.at.chain::connected_by-returns-in_err-place t c).After-take_operator in
-    c.links.invariant.reads s h.reads h.fewer
+pub chain::links_behind-returns-in_err-place-clause-reads : goal.chain::links_behind-returns-in_err-place-clause-reads
+chain::links_behind-returns-in_err-place-clause-reads t c s x h =
+    let place = (goal.at.chain::links_behind-returns-in_err-place-clause-reads t c).After-take_operator in
+    rw (error-is c.from_residual-in_err-place.result _ c.from_residual-in_err-place.ensures.1)
+    (c.links.invariant.reads s x h
     ∙ resumed-operator-fails (symbol_kind c.args.connective) (TermForm.connected c.args.connective) (at (operand_level (Connective c.args.connective)) c.args.depth)
     (length s.tokens - vec_len c.links.links) _ (term_links c.links.links.items) c.links.input c.in_err-place.field-0.0 (stands t place) c.in_err-place.ensures.reads)
 
-pub chain::connected_by-returns-in_err-operand : goal.chain::connected_by-returns-in_err-operand
-chain::connected_by-returns-in_err-operand t c =
-    error-on c.from_residual-in_err-operand.result _ c.from_residual-in_err-operand.ensures.1
-    (λ s h. let place = (goal.at.chain::connected_by-returns-in_err-operand t c).After-take_operator in
+pub chain::links_behind-returns-in_err-operand-clause-reads : goal.chain::links_behind-returns-in_err-operand-clause-reads
+chain::links_behind-returns-in_err-operand-clause-reads t c s x h =
+    let place = (goal.at.chain::links_behind-returns-in_err-operand-clause-reads t c).After-take_operator in
     let operands = operand_level (Connective c.args.connective) in
-    let some : 0 < length s.tokens - vec_len c.links.links = omega arith in
-    if_fault c.in_err-operand.field-0.0
-    (λ bad e. c.links.invariant.reads s h.reads h.fewer
+    let some : 0 < length s.tokens - vec_len c.links.links = omega (arith, h.fewer) in
+    rw (error-is c.from_residual-in_err-operand.result _ c.from_residual-in_err-operand.ensures.1)
+    (if_fault c.in_err-operand.field-0.0
+    (λ bad e. c.links.invariant.reads s x h
     ∙ resumed-operand-fails (symbol_kind c.args.connective) (TermForm.connected c.args.connective) (at operands c.args.depth) (length s.tokens - vec_len c.links.links) _
     (term_links c.links.links.items) c.links.input c.take_operator.new.self (tok c.in_ok-place.field-0) bad some (stands t place) c.in_ok-place.ensures.reads
     (read-at c.operand_level-level.result operands c.args.depth c.take_operator.new.self c.operand_level-level.ensures e)) c.in_err-operand.ensures.reads)
 
-pub chain::connected_by-links-preserved : goal.chain::connected_by-links-preserved
-chain::connected_by-links-preserved t c =
-    let place = (goal.at.chain::connected_by-links-preserved t c).After-take_operator in
+pub chain::links_behind-links-preserved : goal.chain::links_behind-links-preserved
+chain::links_behind-links-preserved t c =
+    let place = (goal.at.chain::links_behind-links-preserved t c).After-take_operator in
     let operands = operand_level (Connective c.args.connective) in
     record {
-      reads = λ s h fewer. rw (c.in_ok-push.ensures.items, map_push)
-          (c.links.invariant.reads s h fewer
+      reads = λ s x h. let fewer = h.fewer in
+          rw (c.in_ok-push.ensures.items, map_push)
+          (c.links.invariant.reads s x h
           ∙ resumed-more (symbol_kind c.args.connective) (TermForm.connected c.args.connective) (at operands c.args.depth)
           (length s.tokens - vec_len c.links.links) (length s.tokens - vec_len c.push.new.self) _
           (term_links c.links.links.items) c.links.input c.take_operator.new.self c.term_at.new.input
           (tok c.in_ok-place.field-0) (term_form c.in_ok-operand.operand)
-          (omega (arith, c.in_ok-push.ensures.len, c.links.invariant.room)) (stands t place) c.in_ok-place.ensures.reads
+          (omega (arith, c.in_ok-push.ensures.len, c.links.invariant.room, fewer)) (stands t place) c.in_ok-place.ensures.reads
           (read-at c.operand_level-level.result operands c.args.depth c.take_operator.new.self c.operand_level-level.ensures c.in_ok-operand.ensures.reads));
       room = omega (arith, c.in_ok-place.ensures.fewer, c.in_ok-operand.ensures.fewer, c.in_ok-push.ensures.len);
     }
 
+pub chain::links_behind-returns-clause-reads : goal.chain::links_behind-returns-clause-reads
+chain::links_behind-returns-clause-reads t c s x h =
+    let other : same_kind (kind c.links.input) (symbol_kind c.args.connective) ≡ false = search rules in
+    c.links.invariant.reads s x h
+    ∙ resumed-end (symbol_kind c.args.connective) (TermForm.connected c.args.connective) (at (operand_level (Connective c.args.connective)) c.args.depth)
+    (length s.tokens - vec_len c.links.links) _ (term_links c.links.links.items) c.links.input other
+
+pub chain::connected_by-returns-in_err-start : goal.chain::connected_by-returns-in_err-start
+chain::connected_by-returns-in_err-start t c =
+    error-on c.from_residual.result _ c.from_residual.ensures.1
+    (λ s h. fails-where _ _ c.links_behind-links.result c.links_behind-links.new.input c.in_err-start.field-0.0 c.in_err-start.ensures
+    (c.links_behind-links.ensures.reads s (term_form c.args.first) h))
+
 pub chain::connected_by-returns : goal.chain::connected_by-returns
 chain::connected_by-returns t c = record {
-  reads = λ s h. let item = at (operand_level (Connective c.args.connective)) c.args.depth in
-      let other : same_kind (kind c.links.input) (symbol_kind c.args.connective) ≡ false = search rules in
-      rw c.in_ok-joined.ensures
-      (c.links.invariant.reads s h.reads h.fewer
-      ∙ resumed-end (symbol_kind c.args.connective) (TermForm.connected c.args.connective) item
-      (length s.tokens - vec_len c.links.links) _ (term_links c.links.links.items) c.links.input other);
-  fewer = search rules;
+  reads = λ s h.
+      rw (c.in_ok-joined.ensures, c.in_ok-start.ensures.0)
+      (reads-where _ _ c.links_behind-links.result c.links_behind-links.new.input c.in_ok-start.links c.in_ok-start.ensures.1
+      (c.links_behind-links.ensures.reads s (term_form c.args.first) h));
+  fewer = on-ok-where c.links_behind-links.result c.in_ok-start.links _ c.in_ok-start.ensures.1 c.links_behind-links.ensures.fewer;
 }
 
 -- ---- what an operator makes of a first operand

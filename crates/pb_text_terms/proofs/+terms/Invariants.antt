@@ -6,6 +6,7 @@ use Rattle.pb_text_lexer.proofs.LoopLemmas.{resumed}
 use Rattle.pb_text_terms.specs.declared.level.Operator.TheVariants.{Arithmetic, Relation, Connective}
 use Rattle.pb_text_terms.specs.Levels.{rank, level_of, operand_level, may_quantify}
 use Rattle.pb_text_terms.specs.Operators.{symbol_kind}
+use Rattle.pb_text_terms.specs.Readers.{HasRead}
 use Rattle.pb_text_terms.specs.Reading.{term, at, with_place, argument_pair, argument_list, is_comma, operation, operations, is_among}
 use Rattle.pb_text_terms.proofs.ListLemmas.{IsListed}
 use Rattle.pb_text_terms.proofs.+terms.Given as goal
@@ -51,6 +52,9 @@ decreases-chain::operations l = l.depth * 64 + rank (level_of (Arithmetic l.oper
 abbrev pub decreases-chain::related_by : goal.decreases-chain::related_by
 decreases-chain::related_by l = l.depth * 64 + rank (level_of (Relation l.relation)) * 6 + 2
 
+abbrev pub decreases-chain::links_behind : goal.decreases-chain::links_behind
+decreases-chain::links_behind l = l.depth * 64 + rank (level_of (Connective l.connective)) * 6 + 1
+
 abbrev pub decreases-chain::connected_by : goal.decreases-chain::connected_by
 decreases-chain::connected_by l = l.depth * 64 + rank (level_of (Connective l.connective)) * 6 + 2
 
@@ -71,17 +75,17 @@ invariant-chain::operations-operations l = record {
 abbrev pub decreases-chain::operations-operations : goal.decreases-chain::operations-operations
 decreases-chain::operations-operations l = length l.input.tokens
 
-abbrev pub invariant-chain::connected_by-links : goal.invariant-chain::connected_by-links
-invariant-chain::connected_by-links l = record {
-  reads : (s : State) → at (operand_level (Connective l.connective)) l.depth s ≡ Ok (term_form l.fn.first, l.fn.input) → length l.fn.input.tokens < length s.tokens
+abbrev pub invariant-chain::links_behind-links : goal.invariant-chain::links_behind-links
+invariant-chain::links_behind-links l = record {
+  reads : (s : State) (x : TermForm) → HasRead (at (operand_level (Connective l.connective)) l.depth) x l.fn.input s
       → at (level_of (Connective l.connective)) l.depth s ≡
       resumed (symbol_kind l.connective) (TermForm.connected l.connective) (at (operand_level (Connective l.connective)) l.depth) (length s.tokens - vec_len l.links)
-      (term_form l.first) (term_links l.links.items) l.input;
+      x (term_links l.links.items) l.input;
   room : vec_len l.links + length l.input.tokens ≤ length l.fn.input.tokens;
 }
 
-abbrev pub decreases-chain::connected_by-links : goal.decreases-chain::connected_by-links
-decreases-chain::connected_by-links l = length l.input.tokens
+abbrev pub decreases-chain::links_behind-links : goal.decreases-chain::links_behind-links
+decreases-chain::links_behind-links l = length l.input.tokens
 
 abbrev pub invariant-term::operated-operators : goal.invariant-term::operated-operators
 invariant-term::operated-operators l = record {

@@ -1,9 +1,9 @@
 use Rattle.std.proofs.Common.{◌≡◌, [], ◌∷◌, ◌++◌, List, All, map, length, ◌<◌, sym, ap, ◌∙◌, subst, arith}
 use Rattle.std.proofs.lemmas.List.{take_more, take_all, map_push}
 use Rattle.std.proofs.lemmas.List.Elements.{All-push}
-use Rattle.pb_fixpoint_rows.specs.Row.{TokenRow, nothing}
-use Rattle.pb_fixpoint_rows.specs.Entries.{IsThere, row_there}
-use Rattle.pb_fixpoint_rows.specs.declared.index.Place.{Place}
+use Rattle.pb_fixpoint_trees.specs.Row.{TokenRow, nothing}
+use Rattle.pb_fixpoint_trees.specs.Entries.{IsThere, row_there}
+use Rattle.pb_fixpoint_trees.specs.declared.index.Place.{Place}
 use Rattle.pb_evidence_nearby.proofs.around.places_of.Goals as goal
 
 pub loop-k-preserved : goal.loop-k-preserved

@@ -1,5 +1,5 @@
 use Rattle.std.proofs.Common.{◌≡◌, [], ◌∷◌, All, map, take}
-use Rattle.pb_fixpoint_rows.specs.Entries.{IsThere, row_there}
+use Rattle.pb_fixpoint_trees.specs.Entries.{IsThere, row_there}
 use Rattle.pb_evidence_nearby.proofs.around.places_of.Given as goal
 
 abbrev pub invariant-loop-k : goal.invariant-loop-k

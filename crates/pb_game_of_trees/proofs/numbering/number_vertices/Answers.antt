@@ -3,7 +3,7 @@ use Rattle.std.proofs.lemmas.Bool.{cases_eq}
 use Rattle.std.specs.List.Sorted.{IsStrictlyIncreasing}
 use Rattle.std.proofs.lemmas.List.{get_or-set_same, get_or-set_other, length-map}
 use Rattle.pb_game.proofs.Rising.{rising_lt}
-use Rattle.pb_fixpoint_rows.specs.Row.{nothing}
+use Rattle.pb_fixpoint_trees.specs.Row.{nothing}
 use Rattle.pb_fixpoint_trees.specs.Rows.{Row}
 use Rattle.pb_game_of_trees.specs.Held.{Hold}
 use Rattle.pb_game_of_trees.specs.Places.{numbers}

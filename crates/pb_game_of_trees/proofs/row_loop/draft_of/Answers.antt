@@ -1,7 +1,7 @@
 use Rattle.std.proofs.Common.{◌≡◌, ℕ, ◌-◌, List, [], take, drop, sym, ap, ◌∙◌, subst, get_or, arith}
 use Rattle.std.proofs.lemmas.List.{take_all, drop_all}
 use Rattle.pb_fixpoint_trees.specs.Rows.{Row}
-use Rattle.pb_fixpoint_rows.specs.Row.{nothing}
+use Rattle.pb_fixpoint_trees.specs.Row.{nothing}
 use Rattle.pb_fixpoint_trees.specs.Game.{row_vertices}
 use Rattle.pb_game_of_trees.specs.Held.{Hold}
 use Rattle.pb_game_of_trees.specs.Draft.{IsDraft}

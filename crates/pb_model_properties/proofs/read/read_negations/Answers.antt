@@ -4,7 +4,7 @@ use Rattle.pb_base.specs.OrMemory.{IfFault, IfRefused}
 use Rattle.pb_base.specs.declared.or_memory.OrMemory.{OrMemory}
 use Rattle.pb_base.proofs.Faults.{if_fault}
 use Rattle.pb_protocol_tree.specs.Form.{protocol_form}
-use Rattle.pb_model_properties.specs.declared.error.ModelFault.{ModelFault}
+use Rattle.pb_model_faults.specs.declared.ModelFault.{ModelFault}
 use Rattle.pb_model_properties.specs.Negations.{IsRefusedNegation}
 use Rattle.pb_model_properties.specs.Refusals.{IsUnread}
 use Rattle.pb_model_properties.proofs.Negations.{negated_model, negated_refused}

@@ -4,7 +4,7 @@ use Rattle.pb_base.specs.OrMemory.{IfFault, IfRefused}
 use Rattle.pb_base.specs.declared.or_memory.OrMemory.{OrMemory}
 use Rattle.pb_base.proofs.Faults.{if_fault}
 use Rattle.pb_protocol_tree.specs.Form.{protocol_form}
-use Rattle.pb_model_properties.specs.declared.error.ModelFault.{ModelFault}
+use Rattle.pb_model_faults.specs.declared.ModelFault.{ModelFault}
 use Rattle.pb_model_properties.specs.Refusals.{IsRefusedModel, IsUnread}
 use Rattle.pb_model_properties.proofs.Made.{model_of_bytes, refused_of, unread_refused}
 use Rattle.pb_model_properties.proofs.read.read_protocol.Goals as goal

@@ -15,7 +15,7 @@ returns-in-Err-clause-refused c =
 
 pub returns-in-Err-unfold-clause-refused : goal.returns-in-Err-unfold-clause-refused
 returns-in-Err-unfold-clause-refused c =
-    not_unfolded (protocol_form c.args.protocol.now) c.requires.unfolds c.in-Err-unfold.error c.raise-in-Err-unfold.result c.raise-in-Err-unfold.ensures c.in-Err-unfold.ensures.refused
+    not_unfolded (protocol_form c.args.protocol.now) c.requires.unfolds c.in-Err-unfold.error c.as_model_error.result c.as_model_error.ensures c.in-Err-unfold.ensures.refused
 
 pub returns-clause-model : goal.returns-clause-model
 returns-clause-model c =

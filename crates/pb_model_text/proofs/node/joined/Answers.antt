@@ -1,8 +1,8 @@
 use Rattle.std.proofs.Common.{ap, ◌∙◌}
 use Rattle.pb_text_tree.specs.Form.{chained}
 use Rattle.pb_protocol_tree.specs.Form.{FormulaForm, formula_form}
-use Rattle.pb_protocol_copies.specs.Links.{link_forms}
-use Rattle.pb_protocol_copies.proofs.CopyLemmas.{formula-chain}
+use Rattle.pb_protocol_tree.specs.Links.{link_forms}
+use Rattle.pb_protocol_tree.proofs.CopyLemmas.{formula-chain}
 use Rattle.pb_model_text.proofs.node.joined.Goals as goal
 
 pub returns : goal.returns

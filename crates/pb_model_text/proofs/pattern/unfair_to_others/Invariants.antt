@@ -1,7 +1,7 @@
 use Rattle.std.proofs.Common.{◌≡◌, ◌++◌, map, length}
 use Rattle.std.specs.Vec.Iter.{into_iter_items, into_iter_len}
 use Rattle.pb_protocol_tree.specs.Form.{step_set_form, formula_form}
-use Rattle.pb_protocol_copies.specs.Links.{link_forms}
+use Rattle.pb_protocol_tree.specs.Links.{link_forms}
 use Rattle.pb_model_text.specs.Words.{unfair_to_others}
 use Rattle.pb_model_text.proofs.pattern.unfair_to_others.Given as goal
 

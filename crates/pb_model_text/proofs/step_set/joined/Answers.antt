@@ -1,8 +1,8 @@
 use Rattle.std.proofs.Common.{ap, ◌∙◌}
 use Rattle.pb_text_tree.specs.Form.{chained}
 use Rattle.pb_protocol_tree.specs.Form.{StepSetForm, step_set_form}
-use Rattle.pb_protocol_copies.specs.Links.{step_set_links}
-use Rattle.pb_protocol_copies.proofs.CopyLemmas.{set-union}
+use Rattle.pb_protocol_tree.specs.Links.{step_set_links}
+use Rattle.pb_protocol_tree.proofs.CopyLemmas.{set-union}
 use Rattle.pb_model_text.proofs.step_set.joined.Goals as goal
 
 pub returns : goal.returns

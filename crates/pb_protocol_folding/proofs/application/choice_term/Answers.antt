@@ -17,8 +17,8 @@ returns-in-Some-false c spec =
     (λ y z whole. c.chosen.ensures y z whole ∙ ap (λ g. function_of_three (named_function g) (truth_value (term_of c.index.result.now.term)) y z whole) c.as_str.ensures.value)
     (c.in-Some-false.is ∙ ap (λ b. Some b) c.in-Some-false.field-0-test) c.taken-in-Some-false.result c.taken-in-Some-false.ensures
 
-pub returns : goal.returns
-returns c spec =
+pub returns-in-None : goal.returns-in-None
+returns-in-None c spec =
     application-of c.args.function c.args.arguments
     ∙ none-chosen spec (string_bytes c.args.function.text) c.args.arguments.items c.index.result.now c.chosen.result c.requires c.index.ensures
     (λ y z whole. c.chosen.ensures y z whole ∙ ap (λ g. function_of_three (named_function g) (truth_value (term_of c.index.result.now.term)) y z whole) c.as_str.ensures.value)

@@ -1,4 +1,5 @@
 use Rattle.std.proofs.Common.{◌+◌, ◌-◌, ◌∙◌, ℕ, drop, ap, sym, refl, arith, ◌≡◌}
+use Rattle.std.proofs.lemmas.Result.{IfOk-at_ok}
 use Rattle.pb_text_meaning.specs.Syntax.{Operator, Term}
 use Rattle.pb_protocol_packing.specs.Numbers.{is_one_of}
 use Rattle.pb_protocol_packer.specs.View.{term_of, name_bytes, texts_of}
@@ -15,7 +16,8 @@ loop-index-preserved c =
     let E : Term = Term.Binary Operator.Equal X (Term.Named (name_bytes n)) in
     let back : k ≡ k - 1 + 1 = omega (arith, c.loop-index-test.true) in
     c.in_ok-term-2.ensures
-    ∙ ap (λ (t : Term). Term.Binary Operator.Or t old) c.in_ok-test.ensures
+    ∙ ap (Term.Binary Operator.Or (term_of c.in_ok-others.test)) (ap term_of c.in_ok-others.ensures.0)
+    ∙ ap (λ (t : Term). Term.Binary Operator.Or t old) (IfOk-at_ok _ c.in_ok-others.ensures.1 c.is_enumerator-in-loop-index.ensures)
     ∙ ap (Term.Binary Operator.Or E) c.loop-index.invariant
     ∙ ap (λ (j : ℕ). Term.Binary Operator.Or E (is_one_of (texts_of (drop j es)) X)) back
     ∙ sym (next-at (λ j ns. is_one_of ns X) (λ j e t. Term.Binary Operator.Or (Term.Binary Operator.Equal X (Term.Named e)) t) (λ j e f ns. refl) (k - 1) es n

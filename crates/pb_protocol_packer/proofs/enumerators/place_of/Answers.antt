@@ -1,5 +1,6 @@
 use Rattle.std.proofs.Common.{◌≡◌, ℕ, ◌+◌, ◌-◌, drop, ap, sym, ◌∙◌, refl, arith, length}
 use Rattle.std.proofs.lemmas.Bool.Decides.{nat_tests}
+use Rattle.std.proofs.lemmas.Result.{IfOk-at_ok}
 use Rattle.pb_text_meaning.specs.Syntax.{Operator, Term}
 use Rattle.pb_protocol_packing.specs.Numbers.{either, place_of}
 use Rattle.pb_protocol_packer.specs.View.{term_of, name_bytes, texts_of}
@@ -22,7 +23,8 @@ loop-index-preserved c =
     let E : Term = Term.Binary Operator.Equal X (Term.Named (name_bytes n)) in
     let back : k ≡ k - 1 + 1 = omega (arith, c.loop-index-test.true) in
     c.in_ok-term.ensures
-    ∙ ap (λ (t : Term). either t (term_of c.number.result) old) c.in_ok-condition.ensures
+    ∙ ap (either (term_of c.in_ok-other.condition) (term_of c.number.result)) (ap term_of c.in_ok-other.ensures.0)
+    ∙ ap (λ (t : Term). either t (term_of c.number.result) old) (IfOk-at_ok _ c.in_ok-other.ensures.1 c.is_enumerator-condition.ensures)
     ∙ ap (λ (t : Term). either E t old) c.number.ensures
     ∙ ap (either E (Term.Number (k - 1))) c.loop-index.invariant
     ∙ ap (λ (j : ℕ). either E (Term.Number (k - 1)) (place_of j (texts_of (drop j es)) X)) back

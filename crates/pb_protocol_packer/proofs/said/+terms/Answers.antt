@@ -1,5 +1,6 @@
 use Rattle.std.proofs.Common.{◌∙◌, ◌++◌, List, map, ap, refl, sym}
 use Rattle.std.specs.Prelude.{box_value, Option}
+use Rattle.std.proofs.lemmas.Result.{IfOk-at_ok}
 use Rattle.pb_text_tree.specs.declared.term.Term as tree
 use Rattle.pb_text_tree.specs.declared.term.Argument.{Argument}
 use Rattle.pb_text_tree.specs.declared.term.TermLink.{TermLink}
@@ -15,27 +16,27 @@ use Rattle.pb_protocol_packer.proofs.SaidNodes.{said-joined, said-calculated, te
 use Rattle.pb_protocol_packer.proofs.LoopRows.{loop-ends, loop-goes, row-ends, row-pushed, terms-pushed}
 use Rattle.pb_protocol_packer.proofs.said.+terms.Goals as goal
 
-pub said-returns-in_ok-links-in-Chain : goal.said-returns-in_ok-links-in-Chain
-said-returns-in_ok-links-in-Chain t c =
+pub said-returns-in_ok-first-in-Chain-2 : goal.said-returns-in_ok-first-in-Chain-2
+said-returns-in_ok-first-in-Chain-2 t c =
     let σ = scope_in c.args.packing.now c.args.hiding.now in
     let k = of_connective c.in-Chain.connective in
     let x = c.deref.result.now in
     let ls = c.deref-in-Chain.result.now in
     says-so c.chain.result _ _
-    (ap (λ (z : Term). joined_terms k z (operands_of c.in_ok-links-in-Chain.links.items)) c.in_ok-first-in-Chain.ensures
-    ∙ ap (joined_terms k (said σ (term_of x))) c.in_ok-links-in-Chain.ensures
+    (ap (λ (z : Term). joined_terms k z (operands_of c.in_ok-first-in-Chain-2.links.items)) (ap term_of c.in_ok-first-in-Chain-2.ensures.0 ∙ c.in_ok-first-in-Chain.ensures)
+    ∙ ap (joined_terms k (said σ (term_of x))) (IfOk-at_ok _ c.in_ok-first-in-Chain-2.ensures.1 c.said_links.ensures)
     ∙ sym (said-joined σ c.in-Chain.connective (term_of x) (operands_of ls))
     ∙ ap (said σ) (sym (at-chain c.in-Chain.connective x c.in-Chain.first c.in-Chain.links ls c.args.term.now c.in-Chain.is c.deref.ensures c.deref-in-Chain.ensures.value)))
     c.chain.ensures
 
-pub said-returns-in_ok-links-in-Arithmetic : goal.said-returns-in_ok-links-in-Arithmetic
-said-returns-in_ok-links-in-Arithmetic t c =
+pub said-returns-in_ok-first-in-Arithmetic-2 : goal.said-returns-in_ok-first-in-Arithmetic-2
+said-returns-in_ok-first-in-Arithmetic-2 t c =
     let σ = scope_in c.args.packing.now c.args.hiding.now in
     let x = c.deref-in-Arithmetic.result.now in
     let ls = c.deref-in-Arithmetic-2.result.now in
     says-so c.arithmetic.result _ _
-    (ap (λ (z : Term). calculated_terms z (operations_of c.in_ok-links-in-Arithmetic.links.items)) c.in_ok-first-in-Arithmetic.ensures
-    ∙ ap (calculated_terms (said σ (term_of x))) c.in_ok-links-in-Arithmetic.ensures
+    (ap (λ (z : Term). calculated_terms z (operations_of c.in_ok-first-in-Arithmetic-2.links.items)) (ap term_of c.in_ok-first-in-Arithmetic-2.ensures.0 ∙ c.in_ok-first-in-Arithmetic.ensures)
+    ∙ ap (calculated_terms (said σ (term_of x))) (IfOk-at_ok _ c.in_ok-first-in-Arithmetic-2.ensures.1 c.said_operations.ensures)
     ∙ sym (said-calculated σ (term_of x) ls)
     ∙ ap (said σ) (sym (at-arithmetic x c.in-Arithmetic.first c.in-Arithmetic.links ls c.args.term.now c.in-Arithmetic.is c.deref-in-Arithmetic.ensures c.deref-in-Arithmetic-2.ensures.value)))
     c.arithmetic.ensures
@@ -87,17 +88,19 @@ said_operations-returns t c =
     row-ends (λ (ys : List ArithmeticLink). map (operation_said (scope_in c.args.packing.now c.args.hiding.now)) (operations_of ys)) (operations_of c.loop-link.said_links.items) c.args.links.now
     c.loop-link.link-index _ refl c.loop-link-test.false c.loop-link.invariant
 
-pub said-returns-in_ok-right-in-Comparison : goal.said-returns-in_ok-right-in-Comparison
-said-returns-in_ok-right-in-Comparison t c =
+pub said-returns-in_ok-left-in-Comparison-2 : goal.said-returns-in_ok-left-in-Comparison-2
+said-returns-in_ok-left-in-Comparison-2 t c =
     let σ = scope_in c.args.packing.now c.args.hiding.now in
     let o = of_comparison c.in-Comparison.comparison in
     let x = term_of (box_value c.in-Comparison.left) in
     let d = digit_in σ x in
-    let left = term_of c.in_ok-left-in-Comparison.left in
-    let right = term_of c.in_ok-right-in-Comparison.right in
+    let left = term_of c.in_ok-left-in-Comparison-2.left in
+    let right = term_of c.in_ok-left-in-Comparison-2.right in
     says-so c.compared.result _ _
     (ap (λ (e : Option Digit). compared o e left right) (c.digit_in-digit.ensures ∙ ap (λ (y : tree.Term). digit_in σ (term_of y)) c.deref-in-Comparison.ensures)
-    ∙ ap (λ (z : Term). compared o d z right) (c.in_ok-left-in-Comparison.ensures ∙ ap (λ (y : tree.Term). said σ (term_of y)) c.deref-in-Comparison-2.ensures)
-    ∙ ap (λ (z : Term). compared o d (said σ x) z) (c.in_ok-right-in-Comparison.ensures ∙ ap (λ (y : tree.Term). said σ (term_of y)) c.deref-in-Comparison-3.ensures)
+    ∙ ap (λ (z : Term). compared o d z right) (ap term_of c.in_ok-left-in-Comparison-2.ensures.0 ∙ c.in_ok-left-in-Comparison.ensures
+    ∙ ap (λ (y : tree.Term). said σ (term_of y)) c.deref-in-Comparison-2.ensures)
+    ∙ ap (λ (z : Term). compared o d (said σ x) z) (IfOk-at_ok _ c.in_ok-left-in-Comparison-2.ensures.1 c.said-in-Comparison-2.ensures
+    ∙ ap (λ (y : tree.Term). said σ (term_of y)) c.deref-in-Comparison-3.ensures)
     ∙ ap (λ (y : tree.Term). said σ (term_of y)) (sym c.in-Comparison.is))
     c.compared.ensures

@@ -26,20 +26,21 @@ pub returns-clause-step : goal.returns-clause-step
 returns-clause-step c =
     let m = protocol_in c.args.unfolder.now in
     let i = instance_said c.args.instance.now in
-    let g = c.in_ok-guard.guard in
-    let bs = c.in_ok-assignments.assignments in
+    let g = c.in_ok-guard-2.guard in
+    let bs = c.in_ok-guard-2.assignments in
     let ρ = scope_within c.args.unfolder.now c.args.scope.now in
     let es = map flat_element c.elements.result.now in
-    let guard = c.in_ok-guard.ensures.term ∙ ap (λ (σ : TermScope). folded (data_of m) true (unfolded_term m σ i.step.guard)) c.requires.scope in
-    let assigned = c.in_ok-assignments.ensures.assignments
+    let guard = ap term_of c.in_ok-guard-2.ensures.0 ∙ c.in_ok-guard.ensures.term ∙ ap (λ (σ : TermScope). folded (data_of m) true (unfolded_term m σ i.step.guard)) c.requires.scope in
+    let assigned = (rw c.in_ok-guard-2.ensures.1 at c.unfold_assignments-assignments.ensures.assignments)
     ∙ ap (λ (v : List Assignment). changes m ρ (protocol_assignments v) es) c.deref.ensures.value
     ∙ ap (λ (σ : TermScope). changes m σ i.step.assignments es) c.requires.scope
     ∙ ap (λ (v : List Element). changes m (own_scope i) i.step.assignments v) c.elements.ensures.all in
-    let name : Name = record { place = c.args.place; text = c.in_ok-name.name.text; spelled = c.in_ok-name.name.spelled } in
+    let name : Name = record { place = c.args.place; text = c.in-Ok.name.text; spelled = c.in-Ok.name.spelled } in
     record {
       step =
           ap (λ (a : flat.Step). a ∷ []) (step-made (record { name = name; variables = c.new.result; guard = g; assignments = bs }) c.new.ensures.items)
-          ∙ step-kept m i _ (term_of g) (map step_assignment bs.items) c.in_ok-name.ensures guard assigned (sym c.is_possible.ensures ∙ c.if-not-is_possible.false);
+          ∙ step-kept m i _ (term_of g) (map step_assignment bs.items) c.in-Ok.ensures guard assigned
+          (sym (rw (sym c.in_ok-guard-2.ensures.0) at c.is_possible.ensures) ∙ c.if-not-is_possible.false);
       at = refl;
     }
 
@@ -52,17 +53,18 @@ returns-in_err-guard-clause-refused c =
     refused c.from_residual.result c.in_err-guard.field-0.0 (OnTerm P) (OnTerm Q) c.from_residual.ensures.1
     (term-in P Q (λ r p o v. inl (subst (λ (σ : TermScope). IsFaultInTerm M σ (term_form a.guard) r p) c.requires.scope (o v)))) c.in_err-guard.ensures.refused
 
-pub returns-in_err-assignments-clause-refused : goal.returns-in_err-assignments-clause-refused
-returns-in_err-assignments-clause-refused c =
+pub returns-in_err-guard-2-clause-refused : goal.returns-in_err-guard-2-clause-refused
+returns-in_err-guard-2-clause-refused c =
     let u = c.args.unfolder.now in
     let F = form_in u in
     let IsFault : TermScope → List AssignmentForm → List Element → UnfoldRule → Place → Type 0 = IsFaultInElements F in
     let elements = map flat_element c.elements.result.now in
     let P = WithValues c.args.scope.now (IsFault (scope_within u c.args.scope.now) (map assignment_form c.deref.result.now) elements) in
     let Q = WithValues c.args.scope.now (IsFaultInStep F (placed_instance c.args.instance.now)) in
-    refused c.from_residual-in_err-assignments.result c.in_err-assignments.field-0.0 (OnTerm P) (OnTerm Q) c.from_residual-in_err-assignments.ensures.1
+    refused c.from_residual-in_err-guard-2.result c.in_err-guard-2.field-0.0 (OnTerm P) (OnTerm Q) c.from_residual-in_err-guard-2.ensures.1
     (term-in P Q
     (λ r p o v. inr
     (subst (λ (ds : List Element). IsFault (own_scope (instance_said c.args.instance.now)) (step_form c.args.instance.now.step.now).assignments ds r p) c.elements.ensures.all
     (subst (λ (σ : TermScope). IsFault σ (step_form c.args.instance.now.step.now).assignments elements r p) c.requires.scope
-    (subst (λ (bs : List Assignment). IsFault (scope_within u c.args.scope.now) (map assignment_form bs) elements r p) c.deref.ensures.value (o v)))))) c.in_err-assignments.ensures.refused
+    (subst (λ (bs : List Assignment). IsFault (scope_within u c.args.scope.now) (map assignment_form bs) elements r p) c.deref.ensures.value (o v))))))
+    (rw c.in_err-guard-2.ensures at c.unfold_assignments-assignments.ensures.refused)

@@ -21,6 +21,6 @@ returns c =
     let counted : vec_len v ≡ length v.items = omega (arith, v.ok.0) in
     let some : length v.items ≡ 0 → ⊥ = some-of v.items (sym (ap (λ (m : ℕ). m == 0) counted) ∙ sym c.is_empty.ensures ∙ c.if-is_empty.false) in
     arithmetic-said c.args.first c.push.new.self
-    ∙ ap (λ (ls : List ArithmeticLink). calculated_term x ls) c.in_ok-push.ensures.items ∙ calculated-last x v.items l
+    ∙ ap (λ (ls : List ArithmeticLink). calculated_term x ls) c.in-Ok.ensures.items ∙ calculated-last x v.items l
     ∙ sym (operated-chain S o x v.items y some)
     ∙ ap (λ (z : Term). folded_operation S o z y) (sym (arithmetic-said c.args.first v))

@@ -6,7 +6,7 @@ use Rattle.pb_protocol_folding.specs.Folding.{is_if}
 use Rattle.pb_protocol_unfolder_terms.specs.Assigned.{IsLatest, element_said}
 use Rattle.pb_protocol_unfolder_terms.specs.Unfolding.{IsRefusal}
 use Rattle.pb_protocol_unfolder_terms.proofs.ChainLemmas.{err-kept}
-use Rattle.pb_protocol_unfolder_terms.proofs.ChoiceLemmas.{if-named}
+use Rattle.pb_protocol_unfolder_terms.proofs.ChoiceLemmas.{choice-held, if-named}
 use Rattle.pb_protocol_tree.specs.Form.{assignment_form}
 use Rattle.pb_protocol_unfolder_terms.specs.Tells.{scope_said, surroundings_in}
 use Rattle.pb_protocol_unfolder_terms.specs.TermFaults.{IfFaultAt, IsFaultInAssignments}
@@ -58,35 +58,40 @@ returns-in_err-unfold-in-Assigned-clause-term t c =
     value-refused (assigned t (goal.at.returns-in_err-unfold-in-Assigned-clause-term t c).After-truth_value)
     c.from_residual-in_err-unfold-in-Assigned.result c.in_err-unfold-in-Assigned.field-0.0 c.from_residual-in_err-unfold-in-Assigned.ensures.1 c.in_err-unfold-in-Assigned.ensures.term
 
-pub returns-in_err-left-in-Assigned-clause-term : goal.returns-in_err-left-in-Assigned-clause-term
-returns-in_err-left-in-Assigned-clause-term t c =
-    value-refused (assigned t (goal.at.returns-in_err-left-in-Assigned-clause-term t c).After-truth_value)
-    c.from_residual-in_err-left-in-Assigned.result c.in_err-left-in-Assigned.field-0.0 c.from_residual-in_err-left-in-Assigned.ensures.1 c.in_err-left-in-Assigned.ensures.term
+pub returns-in_err-condition-in-Assigned-clause-term : goal.returns-in_err-condition-in-Assigned-clause-term
+returns-in_err-condition-in-Assigned-clause-term t c =
+    value-refused (assigned t (goal.at.returns-in_err-condition-in-Assigned-clause-term t c).After-truth_value)
+    c.from_residual-in_err-condition-in-Assigned.result c.in_err-condition-in-Assigned.field-0.0 c.from_residual-in_err-condition-in-Assigned.ensures.1
+    (rw c.in_err-condition-in-Assigned.ensures at c.unfold-left.ensures.term)
 
-pub returns-in_err-right-in-Assigned-clause-term : goal.returns-in_err-right-in-Assigned-clause-term
-returns-in_err-right-in-Assigned-clause-term t c =
-    rest-refused (assigned t (goal.at.returns-in_err-right-in-Assigned-clause-term t c).After-truth_value)
-    c.from_residual-in_err-right-in-Assigned.result c.in_err-right-in-Assigned.field-0.0 c.from_residual-in_err-right-in-Assigned.ensures.1 c.in_ok-left-in-Assigned.ensures.term
-    c.in_err-right-in-Assigned.ensures.term
+pub returns-in_err-condition-in-Assigned-2-clause-term : goal.returns-in_err-condition-in-Assigned-2-clause-term
+returns-in_err-condition-in-Assigned-2-clause-term t c =
+    rest-refused (assigned t (goal.at.returns-in_err-condition-in-Assigned-2-clause-term t c).After-truth_value)
+    c.from_residual-in_err-condition-in-Assigned-2.result c.in_err-condition-in-Assigned-2.field-0.0 c.from_residual-in_err-condition-in-Assigned-2.ensures.1
+    (rw c.in_ok-condition-in-Assigned.ensures.1 at c.unfold-left.ensures.term)
+    (rw c.in_err-condition-in-Assigned-2.ensures at c.unfold_after-right.ensures.term)
 
 pub choice-requires : goal.choice-requires
 choice-requires t c =
-    ap (λ (f : Name). is_if (named_function f)) c.in_ok-name-in-Assigned.ensures ∙ if-named
+    ap (λ (f : Name). is_if (named_function f)) c.in-Ok.ensures ∙ if-named
 
 pub returns-in_ok-choice-in-Assigned-clause-term : goal.returns-in_ok-choice-in-Assigned-clause-term
 returns-in_ok-choice-in-Assigned-clause-term t c =
     rest-unfolded (assigned t (goal.at.returns-in_ok-choice-in-Assigned-clause-term t c).After-truth_value)
-    c.in_ok-name-in-Assigned.name c.folding.ensures c.in_ok-name-in-Assigned.ensures c.in_ok-left-in-Assigned.ensures.term c.in_ok-right-in-Assigned.ensures.term c.in_ok-choice-in-Assigned.ensures
+    c.in-Ok.name c.folding.ensures c.in-Ok.ensures (rw c.in_ok-condition-in-Assigned.ensures.1 at c.unfold-left.ensures.term)
+    (rw c.in_ok-condition-in-Assigned-2.ensures.1 at c.unfold_after-right.ensures.term)
+    (choice-held _ c.in-Ok.name c.in_ok-condition-in-Assigned-2.ensures.0 c.in_ok-condition-in-Assigned.ensures.0 c.in_ok-choice-in-Assigned.ensures)
 
 pub returns-in_err-unfold-in-Assigned-clause-faults : goal.returns-in_err-unfold-in-Assigned-clause-faults
 returns-in_err-unfold-in-Assigned-clause-faults t c =
     value-told (assigned t (goal.at.returns-in_err-unfold-in-Assigned-clause-faults t c).After-truth_value)
     c.from_residual-in_err-unfold-in-Assigned.result c.in_err-unfold-in-Assigned.field-0.0 c.from_residual-in_err-unfold-in-Assigned.ensures.1 c.in_err-unfold-in-Assigned.ensures.faults
 
-pub returns-in_err-left-in-Assigned-clause-faults : goal.returns-in_err-left-in-Assigned-clause-faults
-returns-in_err-left-in-Assigned-clause-faults t c =
-    value-told (assigned t (goal.at.returns-in_err-left-in-Assigned-clause-faults t c).After-truth_value)
-    c.from_residual-in_err-left-in-Assigned.result c.in_err-left-in-Assigned.field-0.0 c.from_residual-in_err-left-in-Assigned.ensures.1 c.in_err-left-in-Assigned.ensures.faults
+pub returns-in_err-condition-in-Assigned-clause-faults : goal.returns-in_err-condition-in-Assigned-clause-faults
+returns-in_err-condition-in-Assigned-clause-faults t c =
+    value-told (assigned t (goal.at.returns-in_err-condition-in-Assigned-clause-faults t c).After-truth_value)
+    c.from_residual-in_err-condition-in-Assigned.result c.in_err-condition-in-Assigned.field-0.0 c.from_residual-in_err-condition-in-Assigned.ensures.1
+    (rw c.in_err-condition-in-Assigned.ensures at c.unfold-left.ensures.faults)
 
 pub returns-in_err-latest-clause-faults : goal.returns-in_err-latest-clause-faults
 returns-in_err-latest-clause-faults t c =
@@ -95,11 +100,11 @@ returns-in_err-latest-clause-faults t c =
     (map assignment_form c.args.assignments.now)))
     c.from_residual.ensures.1 (c.in_err-latest.ensures.faults v)
 
-pub returns-in_err-right-in-Assigned-clause-faults : goal.returns-in_err-right-in-Assigned-clause-faults
-returns-in_err-right-in-Assigned-clause-faults t c =
-    rest-told (assigned t (goal.at.returns-in_err-right-in-Assigned-clause-faults t c).After-truth_value)
-    c.from_residual-in_err-right-in-Assigned.result c.in_err-right-in-Assigned.field-0.0 c.from_residual-in_err-right-in-Assigned.ensures.1
-    (omega (arith, c.in-Some.ensures.0, c.in-Some.ensures.1)) c.in_err-right-in-Assigned.ensures.faults
+pub returns-in_err-condition-in-Assigned-2-clause-faults : goal.returns-in_err-condition-in-Assigned-2-clause-faults
+returns-in_err-condition-in-Assigned-2-clause-faults t c =
+    rest-told (assigned t (goal.at.returns-in_err-condition-in-Assigned-2-clause-faults t c).After-truth_value)
+    c.from_residual-in_err-condition-in-Assigned-2.result c.in_err-condition-in-Assigned-2.field-0.0 c.from_residual-in_err-condition-in-Assigned-2.ensures.1
+    (omega (arith, c.in-Some.ensures.0, c.in-Some.ensures.1)) (rw c.in_err-condition-in-Assigned-2.ensures at c.unfold_after-right.ensures.faults)
 
 pub returns-in_default-checked_sub-clause-faults : goal.returns-in_default-checked_sub-clause-faults
 returns-in_default-checked_sub-clause-faults t c =

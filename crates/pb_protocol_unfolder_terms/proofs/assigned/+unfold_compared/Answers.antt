@@ -45,23 +45,24 @@ returns-in_err-index-clause-term t c =
 
 -- the first argument is compared with the first value
 equal : (t : ℕ) (c : After-decides t)
-    → IsEqualAt c.args.context.now c.args.level c.args.scope.now c.args.compared c.in-Some.argument.now c.in-Some-first.value.now c.in_ok-index.index c.in_ok-equal.equal
+    → IsEqualAt c.args.context.now c.args.level c.args.scope.now c.args.compared c.in-Some.argument.now c.in-Some-first.value.now c.in_ok-index.index c.in-Ok.equal
 equal t c =
-    equal-at (comparing-at c.args.context.now c.args.level c.args.scope.now c.args.compared c.in-Some.ensures.value c.in-Some-first.ensures.value) c.in_ok-equal.equal c.in_ok-behind_all.ensures
-    c.in_ok-index.ensures.term c.folding.ensures c.in_ok-equal.ensures
+    equal-at (comparing-at c.args.context.now c.args.level c.args.scope.now c.args.compared c.in-Some.ensures.value c.in-Some-first.ensures.value) c.in-Ok.equal c.in_ok-behind_all.ensures
+    c.in_ok-index.ensures.term c.folding.ensures c.in-Ok.ensures
 
 pub returns-then-decides-clause-term : goal.returns-then-decides-clause-term
 returns-then-decides-clause-term t c =
     unequal-unfolded (equal t (goal.at.returns-then-decides-clause-term t c).After-decides) (c.decides.ensures c.if-decides.true) c.none_equal.ensures
 
-pub returns-in_err-others-clause-term : goal.returns-in_err-others-clause-term
-returns-in_err-others-clause-term t c =
-    others-refused (equal t (goal.at.returns-in_err-others-clause-term t c).After-decides) c.from_residual-in_err-others.result c.in_err-others.field-0.0 c.from_residual-in_err-others.ensures.1
-    c.in_err-others.ensures.term
+pub returns-in_err-equal-clause-term : goal.returns-in_err-equal-clause-term
+returns-in_err-equal-clause-term t c =
+    others-refused (equal t (goal.at.returns-in_err-equal-clause-term t c).After-decides) c.from_residual-in_err-equal.result c.in_err-equal.field-0.0 c.from_residual-in_err-equal.ensures.1
+    (rw c.in_err-equal.ensures at c.unfold_compared-others.ensures.term)
 
 pub returns-clause-term : goal.returns-clause-term
 returns-clause-term t c =
-    others-unfolded (equal t (goal.at.returns-clause-term t c).After-decides) c.in_ok-others.ensures.term c.in_ok-both.ensures
+    others-unfolded (equal t (goal.at.returns-clause-term t c).After-decides) (rw c.in_ok-equal.ensures.1 at c.unfold_compared-others.ensures.term)
+    (rw c.in_ok-equal.ensures.0 at c.in_ok-both.ensures)
 
 pub returns-then-not-stays_inside-clause-faults : goal.returns-then-not-stays_inside-clause-faults
 returns-then-not-stays_inside-clause-faults t c =
@@ -76,9 +77,9 @@ returns-then-not-stays_inside-clause-faults t c =
     (h.read.outside a.place
     (not-inside-outside k n (scope_said k c.args.scope.now) w c.args.compared.indices.now c.args.compared.arguments.now a index c.in-Some.ensures.value folded-by outside))
 
-pub returns-in_err-others-clause-faults : goal.returns-in_err-others-clause-faults
-returns-in_err-others-clause-faults t c =
-    told c.args.context.now c.from_residual-in_err-others.result c.in_err-others.field-0.0 c.from_residual-in_err-others.ensures.1 c.in_err-others.ensures.faults
+pub returns-in_err-equal-clause-faults : goal.returns-in_err-equal-clause-faults
+returns-in_err-equal-clause-faults t c =
+    told c.args.context.now c.from_residual-in_err-equal.result c.in_err-equal.field-0.0 c.from_residual-in_err-equal.ensures.1 (rw c.in_err-equal.ensures at c.unfold_compared-others.ensures.faults)
     (others-met c.args.context.now c.args.level c.args.scope.now c.args.compared c.behind_first.result.now c.behind_first.ensures)
 
 pub returns-in_err-index-clause-faults : goal.returns-in_err-index-clause-faults

@@ -2,7 +2,7 @@ use Rattle.std.proofs.Common.{List, get_or, sym, ap, ◌∙◌, subst, arith, ru
 use Rattle.std.specs.Prelude.{All}
 use Rattle.std.proofs.lemmas.List.{drop_all}
 use Rattle.pb_game_of_trees.proofs.Rows.{next_row, tokens_of}
-use Rattle.pb_fixpoint_rows.specs.Row.{HasNoCut, TokenRow, nothing}
+use Rattle.pb_fixpoint_trees.specs.Row.{HasNoCut, TokenRow, nothing}
 use Rattle.pb_report.specs.CutCalls.{cut_count}
 use Rattle.pb_report.proofs.Cut.{no_cuts}
 use Rattle.pb_report.proofs.Solutions.{count_held}

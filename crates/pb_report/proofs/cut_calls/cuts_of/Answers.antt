@@ -1,6 +1,6 @@
 use Rattle.std.proofs.Common.{sym, ap, ◌∙◌}
 use Rattle.std.specs.List.{list_any}
-use Rattle.pb_fixpoint_rows.specs.Row.{token_is_cut}
+use Rattle.pb_fixpoint_trees.specs.Row.{token_is_cut}
 use Rattle.pb_report.specs.CutCalls.{one_if}
 use Rattle.pb_report.proofs.Cut.{tree_cut}
 use Rattle.pb_report.proofs.cut_calls.cuts_of.Goals as goal

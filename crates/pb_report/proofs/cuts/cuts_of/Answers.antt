@@ -2,8 +2,8 @@ use Rattle.std.proofs.Common.{◌≡◌, ℕ, ◌<◌, List, length, get_or, map
 use Rattle.std.specs.Prelude.{Contains}
 use Rattle.std.proofs.lemmas.List.{get_or_read, length-map, take_all}
 use Rattle.pb_game.proofs.Rising.{rising_le}
-use Rattle.pb_fixpoint_rows.specs.Row.{TokenRow}
-use Rattle.pb_fixpoint_rows.specs.Reached.{numbers_of}
+use Rattle.pb_fixpoint_trees.specs.Row.{TokenRow}
+use Rattle.pb_fixpoint_trees.specs.Reached.{numbers_of}
 use Rattle.pb_report.specs.Rising.{IsRising}
 use Rattle.pb_report.specs.Cuts.{is_cut}
 use Rattle.pb_report.proofs.Called.{instance_listed}

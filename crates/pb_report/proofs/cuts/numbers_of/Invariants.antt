@@ -1,5 +1,5 @@
 use Rattle.std.proofs.Common.{◌≡◌, take}
-use Rattle.pb_fixpoint_rows.specs.Reached.{numbers_of}
+use Rattle.pb_fixpoint_trees.specs.Reached.{numbers_of}
 use Rattle.pb_report.proofs.cuts.numbers_of.Given as goal
 
 -- the numbers of the rows so far

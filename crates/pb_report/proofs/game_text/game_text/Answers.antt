@@ -2,7 +2,7 @@ use Rattle.std.proofs.Common.{◌≡◌, ℕ, ◌<◌, List, Option, length, map
 use Rattle.std.specs.Prelude.{IfSome}
 use Rattle.pb_bytecode.specs.Meaning.{parameters, signature_of, initial_of}
 use Rattle.pb_sorts.specs.Layout.{count_of}
-use Rattle.pb_fixpoint_rows.specs.Reached.{rows_of}
+use Rattle.pb_fixpoint_trees.specs.Reached.{rows_of}
 use Rattle.pb_game_of_trees.proofs.Reached.{reached_of}
 use Rattle.pb_report.specs.Delivery.{was_not_written}
 use Rattle.pb_report.specs.ModuleTexts.{module_game_text, IsTextOfTrees}

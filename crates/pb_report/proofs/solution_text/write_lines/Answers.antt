@@ -1,7 +1,7 @@
 use Rattle.std.proofs.Common.{◌≡◌, ℕ, ◌+◌, ◌++◌, drop, map, arith}
 use Rattle.pb_fixpoint_trees.specs.Tree.{Tree}
 use Rattle.pb_fixpoint_trees.specs.Equations.{solved}
-use Rattle.pb_fixpoint_rows.specs.Reached.{rows_of}
+use Rattle.pb_fixpoint_trees.specs.Reached.{rows_of}
 use Rattle.pb_bytecode.specs.Meaning.{AreTrees, signature_of, initial_of}
 use Rattle.pb_report.specs.InstanceName.{instance_name}
 use Rattle.pb_report.specs.SolutionText.{solution_line, solution_text}

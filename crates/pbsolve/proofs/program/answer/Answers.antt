@@ -13,12 +13,13 @@ use Rattle.pb_command_rules.specs.declared.rule.Rule.{Rule}
 use Rattle.pb_command_rules.specs.Rules.{rule_words}
 use Rattle.pb_command_modules.specs.Delivery.{Delivers}
 use Rattle.pb_command_modules.proofs.Deliveries.{less_left_on, less_sent}
-use Rattle.pbsolve.specs.declared.status.Status.{Status}
-use Rattle.pbsolve.specs.declared.status.Status.TheVariants.{Answered}
+use Rattle.pb_command_line.specs.declared.status.Status.{Status}
+use Rattle.pb_command_line.specs.declared.status.Status.TheVariants.{Answered}
 use Rattle.pbsolve.specs.Endings.{AnswersRequest}
 use Rattle.pbsolve.specs.Program.{Answers, RefusesBytes}
-use Rattle.pbsolve.specs.Writes.{WithStatus, Writes}
-use Rattle.pbsolve.proofs.Findings.{no_status}
+use Rattle.pb_command_models.specs.Writes.{WithStatus}
+use Rattle.pbsolve.specs.Writes.{Writes}
+use Rattle.pb_command_models.proofs.Findings.{no_status}
 use Rattle.pbsolve.proofs.program.answer.Goals as goal
 
 -- what answers the request in one arm of the match answers it

@@ -3,9 +3,9 @@ use Rattle.std.proofs.Common.{List, ℕ, Option, rules, sym, subst}
 use Rattle.pb_command_line.specs.declared.request.Task.{Task}
 use Rattle.pb_command_faults.specs.Errors.{IfInputRefused}
 use Rattle.pb_command_modules.specs.Delivery.{Delivers}
-use Rattle.pbsolve.specs.Models.{IsUntranslated}
+use Rattle.pb_command_models.specs.Models.{IsUntranslated}
 use Rattle.pbsolve.specs.Writes.{IsRefusedFor, Writes}
-use Rattle.pbsolve.specs.Why.{IsUnshown, WritesWhy}
+use Rattle.pb_command_models.specs.Why.{IsUnshown, WritesWhy}
 use Rattle.pbsolve.proofs.program.task_answer.Goals as goal
 
 pub returns-in-Why : goal.returns-in-Why

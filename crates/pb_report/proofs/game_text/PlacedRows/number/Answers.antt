@@ -1,5 +1,5 @@
 use Rattle.std.proofs.Common.{Some, sym, ap, ◌∙◌, arith}
-use Rattle.pb_fixpoint_rows.specs.Row.{nothing}
+use Rattle.pb_fixpoint_trees.specs.Row.{nothing}
 use Rattle.pb_report.proofs.VertexLines.{number_some, number_none, passed}
 use Rattle.pb_report.proofs.game_text.PlacedRows.number.Goals as goal
 use Rattle.pb_report.proofs.game_text.PlacedRows.number.Goals.{else-k-self-via-then-k-self+else-self-k, else-k-self-via-else-k-self}

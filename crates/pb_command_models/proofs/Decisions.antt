@@ -1,0 +1,289 @@
+-- What is found of a property, by its text and by that of its negation.
+use Rattle.std.proofs.Common.{◌≡◌, ◌∙◌, ℕ, zero, suc, ◌<◌, ◌≤◌, ◌+◌, true, false, Bool, List, [], ◌∷◌, Option, Some, length, refl, sym, ap, subst, inl, inr, arith}
+use Rattle.std.specs.Prelude.{◌⊎◌, IfSome, Ok, Err, option_map, if◌then◌else◌}
+use Rattle.std.specs.List.{All, slice_get}
+use Rattle.std.proofs.lemmas.List.Elements.{All-nil, All-cons, All-weaker}
+use Rattle.std.proofs.lemmas.Option.{slice_get-map, slice_get_within}
+use Rattle.pb_model_tree.specs.Form.{ModelForm, PropertyForm, model_form}
+use Rattle.pb_protocol_tree.specs.Form as protocol_form
+use Rattle.pb_protocol_tree.specs.Form.{ProtocolForm}
+use Rattle.pb_protocol_meaning.specs.Erase.{erase, erased_formula}
+use Rattle.pb_protocol_meaning.specs.Satisfaction as protocol_meaning
+use Rattle.pb_protocol_meaning.specs.Syntax.{Protocol}
+use Rattle.pb_protocol_negation.specs.Negated.{negated, negated_property, negated_protocol}
+use Rattle.pb_protocol_negation.specs.Laws.{NegationsErase, SatisfactionIsKept}
+use Rattle.pb_protocol_laws.specs.Solved.{AreSameProperties, IsSameProperty}
+use Rattle.pb_report.specs.declared.answer.Answer.{Answer}
+use Rattle.pb_command_faults.specs.declared.property_fault.PropertyExcess.{PropertyExcess}
+use Rattle.pb_model_properties.specs.declared.verdicts.Verdict.{Verdict}
+use Rattle.pb_model_properties.specs.declared.verdicts.Verdict.TheVariants.{True, False, Unknown}
+use Rattle.pb_model_properties.specs.declared.solved.SolvedModel.{SolvedModel}
+use Rattle.pb_model_properties.specs.Negations.{IsNegatedModelOf}
+use Rattle.pb_model_properties.specs.Asked.{asked_from, asked_places, is_asked}
+use Rattle.pb_model_properties.specs.Said.{protocol_satisfies, tree_satisfies, IsModelFor, IsModelOf, IsTheReading}
+use Rattle.pb_command_models.proofs.PropertyVerdicts.{some_at}
+use Rattle.pb_command_models.specs.declared.finding.Finding.{Finding}
+use Rattle.pb_command_models.specs.declared.finding.Finding.TheVariants.{Decided, Refused, Shown}
+use Rattle.pb_command_models.specs.declared.finding.PropertyFinding.{PropertyFinding}
+use Rattle.pb_command_models.specs.declared.outcome.Outcome.{Outcome}
+use Rattle.pb_command_models.specs.declared.outcome.Outcome.TheVariants as outcome
+use Rattle.pb_command_models.specs.declared.property_module.PropertyModule.{PropertyModule}
+use Rattle.pb_command_faults.specs.declared.solve_fault.SolveFault.{SolveFault}
+use Rattle.pb_command_faults.specs.declared.solve_fault.SolveFault.TheVariants as solve_fault
+use Rattle.pb_command_models.specs.Models.{HasModel, IsFinding, IsPropertyFound, IsPropertyAnswer, IsShown, IsTooLargeNegation, IsTooLargeProperty, IsUnexplained}
+use Rattle.pb_command_models.specs.Outcomes.{HasNegation, IsDecision, IsDeniedAt, IsNegationAt, IsOutcome, IsPropertyModule, IsShownAt, OfModule, verdict_in}
+use Rattle.pb_command_models.specs.Why.{IsVerdict}
+
+-- the bytes that are kept say what they said
+pub still_has : {new old : List ℕ} (P : ModelForm → Type 0) → new ≡ old → HasModel old P → HasModel new P
+still_has P same h = subst (λ bytes. HasModel bytes P) (sym same) h
+
+-- ---- properties of a protocol and of the model that is solved in its place
+
+-- what stands in the model's place of a property stands there in the protocol
+pub same_at : (P : ProtocolForm) (m : ModelForm) (ps : List protocol_form.PropertyForm) (qs : List PropertyForm) (k : ℕ) (q : PropertyForm)
+    → AreSameProperties P m ps qs → slice_get qs k ≡ Some q → (p : protocol_form.PropertyForm) × (slice_get ps k ≡ Some p) × IsSameProperty P m p q
+same_at P m [] [] k q same at = absurd (cc at)
+same_at P m [] (x ∷ qs) k q same at = absurd same
+same_at P m (p ∷ ps) [] k q same at = absurd same
+same_at P m (p ∷ ps) (x ∷ qs) zero q same at = let is : x ≡ q = cc at in (p, refl, subst (IsSameProperty P m p) is same.0)
+same_at P m (p ∷ ps) (x ∷ qs) (suc k) q same at = same_at P m ps qs k q same.1 at
+
+-- and the other way round
+pub solved_at : (P : ProtocolForm) (m : ModelForm) (ps : List protocol_form.PropertyForm) (qs : List PropertyForm) (k : ℕ) (p : protocol_form.PropertyForm)
+    → AreSameProperties P m ps qs → slice_get ps k ≡ Some p → (q : PropertyForm) × (slice_get qs k ≡ Some q) × IsSameProperty P m p q
+solved_at P m [] [] k p same at = absurd (cc at)
+solved_at P m [] (x ∷ qs) k p same at = absurd same
+solved_at P m (x ∷ ps) [] k p same at = absurd same
+solved_at P m (x ∷ ps) (q ∷ qs) zero p same at = let is : x ≡ p = cc at in (q, refl, subst (λ (y : protocol_form.PropertyForm). IsSameProperty P m y q) is same.0)
+solved_at P m (x ∷ ps) (q ∷ qs) (suc k) p same at = solved_at P m ps qs k p same.1 at
+
+pub same_lengths : (P : ProtocolForm) (m : ModelForm) (ps : List protocol_form.PropertyForm) (qs : List PropertyForm) → AreSameProperties P m ps qs → length ps ≡ length qs
+same_lengths P m [] [] same = refl
+same_lengths P m [] (x ∷ qs) same = absurd same
+same_lengths P m (p ∷ ps) [] same = absurd same
+same_lengths P m (p ∷ ps) (x ∷ qs) same = ap suc (same_lengths P m ps qs same.1)
+
+-- what the bytes say is one protocol
+same_reading : (bytes : List ℕ) (p q : ProtocolForm) → IsTheReading bytes p → IsTheReading bytes q → q ≡ p
+same_reading bytes p q of_p of_q = of_p.only _ _ q of_q.reading
+
+-- ---- negations
+
+-- the model of the negations satisfies a property exactly where the protocol satisfies that property's negation
+module _ (erased : NegationsErase) (kept : SatisfactionIsKept) (protocol : ProtocolForm) (negations : ModelForm) (are_for : IsModelFor (negated_protocol protocol) negations) where
+  negated_at : (k : ℕ) (p : protocol_form.PropertyForm) → slice_get protocol.properties k ≡ Some p
+      → slice_get (negated_protocol protocol).properties k ≡ Some (negated_property p)
+  negated_at k p at = slice_get-map negated_property protocol.properties k ∙ ap (option_map negated_property) at
+
+  told_negation : (k : ℕ) (p : protocol_form.PropertyForm) (n : PropertyForm) → slice_get protocol.properties k ≡ Some p
+      → slice_get negations.properties k ≡ Some n → tree_satisfies negations n.formula ≡ protocol_satisfies protocol (negated p.formula)
+  told_negation k p n at there =
+      let same = same_at (negated_protocol protocol) negations (negated_protocol protocol).properties negations.properties k n are_for.solved.properties there in
+      let both : Some same.0 ≡ Some (negated_property p) = sym same.1 ∙ negated_at k p at in
+      let is : same.0 ≡ negated_property p = cc both in
+      let f = erased_formula (negated p.formula) in
+      let of_negated : tree_satisfies negations n.formula ≡ protocol_meaning.satisfies (erase (negated_protocol protocol)) f =
+      same.2.satisfied ∙ ap (λ (x : protocol_form.PropertyForm). protocol_meaning.satisfies (erase (negated_protocol protocol)) (erased_formula x.formula)) is in
+      let of_protocol : protocol_meaning.satisfies (erase (negated_protocol protocol)) f ≡ protocol_meaning.satisfies (erase protocol) f =
+      ap (λ (m : Protocol). protocol_meaning.satisfies m f) (erased protocol) ∙ kept (erase protocol) f in
+      of_negated ∙ of_protocol
+
+-- the negations that were read are those of the protocol that the bytes say
+pub same_negations : (bytes : List ℕ) (protocol : ProtocolForm) → IsTheReading bytes protocol → (solved : SolvedModel) → IsNegatedModelOf bytes solved
+    → IsModelFor (negated_protocol protocol) (model_form solved.typed.model)
+same_negations bytes protocol read solved is =
+    subst (λ (p : ProtocolForm). IsModelFor (negated_protocol p) (model_form solved.typed.model)) (same_reading bytes protocol is.protocol read is.read) is.told.is_for
+
+-- a property of the model has a negation at its place
+pub negation_within : (protocol : ProtocolForm) (model negations : ModelForm) → IsModelFor protocol model → IsModelFor (negated_protocol protocol) negations
+    → (k : ℕ) → k < length model.properties → k < length negations.properties
+negation_within protocol model negations is_for are_for k within =
+    let some = some_at model.properties k within in
+    let same = same_at protocol model protocol.properties model.properties k some.0 is_for.solved.properties some.1 in
+    let negated : slice_get (negated_protocol protocol).properties k ≡ Some (negated_property same.0) =
+    slice_get-map negated_property protocol.properties k ∙ ap (option_map negated_property) same.1 in
+    let there = solved_at (negated_protocol protocol) negations (negated_protocol protocol).properties negations.properties k (negated_property same.0) are_for.solved.properties negated in
+    slice_get_within negations.properties k there.0 there.1
+
+-- the module is that of the negation of the property at the place
+pub negation_at : NegationsErase → SatisfactionIsKept → (bytes : List ℕ) (other : ProtocolForm) → IsTheReading bytes other
+    → (model : ModelForm) → IsModelFor (negated_protocol other) model
+    → (place : ℕ) (q : PropertyForm) → slice_get model.properties place ≡ Some q → (compiled : PropertyModule) → IsPropertyModule model q compiled → IsNegationAt bytes place compiled
+negation_at erased kept bytes other other_read model other_for place q there compiled is = λ protocol read p stands.
+    let is_for : IsModelFor (negated_protocol protocol) model =
+    subst (λ (x : ProtocolForm). IsModelFor (negated_protocol x) model) (same_reading bytes protocol other read other_read) other_for in
+    record {
+      model = model;
+      is_for = is_for;
+      negation = q;
+      stands = there;
+      of_negation = is;
+      says = told_negation erased kept protocol model is_for place p q stands there;
+    }
+
+-- ---- what is found
+
+-- what the negation decides: it is satisfied, or it isn't
+pub decides_false : (m : ModelForm) (a second : Answer) (o : Outcome) → o ≡ outcome.Answered second → second.truth ≡ true
+    → (q : PropertyForm) → IsOutcome m q o → IsDecision m q a (Decided False a)
+decides_false m a second o is truth q h = let answered : IsPropertyAnswer m q second = subst (IsOutcome m q) is h in (refl, sym answered.exact ∙ truth)
+
+pub decides_unknown : (m : ModelForm) (a second : Answer) (o : Outcome) → o ≡ outcome.Answered second → second.truth ≡ false
+    → (q : PropertyForm) → IsOutcome m q o → IsDecision m q a (Decided Unknown a)
+decides_unknown m a second o is truth q h = let answered : IsPropertyAnswer m q second = subst (IsOutcome m q) is h in (refl, sym answered.exact ∙ truth)
+
+-- what holds of an answer that is known
+pub of_known : (P : Bool → Type 0) (o : Option Bool) (x b : Bool) → o ≡ Some x → x ≡ b → IfSome o P → P b
+of_known P o x b is same h = subst P same (subst (λ (y : Option Bool). IfSome y P) is h)
+
+module _ (counts : Bool) (protocol : ProtocolForm) (model : ModelForm) (is_for : IsModelFor protocol model) (place : ℕ) (q : PropertyForm) (at : slice_get model.properties place ≡ Some q) where
+  pub asked_here : (p : protocol_form.PropertyForm) × (slice_get protocol.properties place ≡ Some p) × IsSameProperty protocol model p q
+  asked_here = same_at protocol model protocol.properties model.properties place q is_for.solved.properties at
+
+  found_by : (finding : Finding)
+      → ((p : protocol_form.PropertyForm) → slice_get protocol.properties place ≡ Some p → IsSameProperty protocol model p q
+      → IsFinding counts protocol p model q place finding)
+      → IsPropertyFound counts protocol model (record { place = place; finding = finding })
+  found_by finding h = record {
+    asked = asked_here.0;
+    stands = asked_here.1;
+    solved = q;
+    in_model = at;
+    finding = h asked_here.0 asked_here.1 asked_here.2;
+  }
+
+  -- the protocol satisfies the property exactly where the model does
+  told_truth : (p : protocol_form.PropertyForm) (b : Bool) → IsSameProperty protocol model p q → b ≡ tree_satisfies model q.formula
+      → protocol_satisfies protocol p.formula ≡ b
+  told_truth p b same truth = sym same.satisfied ∙ sym truth
+
+  -- ---- by what becomes of its text
+
+  pub found_large : (excess : PropertyExcess) → IsTooLargeProperty model q excess → IsPropertyFound counts protocol model (record { place = place; finding = Refused excess })
+  found_large excess large = found_by (Refused excess) (λ p stands same. inl large)
+
+  module _ (a : Answer) (answered : IsPropertyAnswer model q a) where
+    told_answer : (p : protocol_form.PropertyForm) (b : Bool) → IsSameProperty protocol model p q → a.truth ≡ b → protocol_satisfies protocol p.formula ≡ b
+    told_answer p b same truth = told_truth p b same (sym truth ∙ answered.exact)
+
+    pub found_true : a.truth ≡ true → IsPropertyFound counts protocol model (record { place = place; finding = Decided True a })
+    found_true truth = found_by (Decided True a) (λ p stands same. (told_answer p true same truth, answered))
+
+    pub found_false : a.truth ≡ false → a.cut ≡ 0 → IsPropertyFound counts protocol model (record { place = place; finding = Decided False a })
+    found_false truth cut = found_by (Decided False a) (λ p stands same. ((told_answer p false same truth, inl cut), answered))
+
+    module _ (bytes : List ℕ) (read : IsTheReading bytes protocol) (compiled : PropertyModule) (is_negation : IsNegationAt bytes place compiled)
+        (truth : a.truth ≡ false) (cut : 0 < a.cut) where
+      negation_here : (p : protocol_form.PropertyForm) → slice_get protocol.properties place ≡ Some p → HasNegation protocol place p compiled
+      negation_here p stands = is_negation protocol read p stands
+
+      -- by what the negation decides
+      pub found_open : (finding : Finding) → OfModule compiled (λ m x. IsDecision m x a finding)
+          → IsPropertyFound counts protocol model (record { place = place; finding = finding })
+      found_open (Refused excess) decides = found_by (Refused excess) (λ p stands same.
+          let n = negation_here p stands in
+          inr (n.model, n.is_for, (n.negation, n.stands, decides n.model n.negation n.of_negation)))
+      found_open (Shown b) decides = let n = negation_here asked_here.0 asked_here.1 in absurd (decides n.model n.negation n.of_negation)
+      found_open (Decided True b) decides = let n = negation_here asked_here.0 asked_here.1 in absurd (decides n.model n.negation n.of_negation)
+      found_open (Decided False b) decides = found_by (Decided False b) (λ p stands same.
+          let n = negation_here p stands in
+          let decided = decides n.model n.negation n.of_negation in
+          subst (λ (x : Answer). IsFinding counts protocol p model q place (Decided False x)) (sym decided.0)
+          ((told_answer p false same truth, inr (sym n.says ∙ decided.1)), answered))
+      found_open (Decided Unknown b) decides = found_by (Decided Unknown b) (λ p stands same.
+          let n = negation_here p stands in
+          let decided = decides n.model n.negation n.of_negation in
+          subst (λ (x : Answer). IsFinding counts protocol p model q place (Decided Unknown x)) (sym decided.0)
+          ((told_answer p false same truth, sym n.says ∙ decided.1, cut), answered))
+
+  -- ---- by what is shown
+
+  pub shown_true : true ≡ tree_satisfies model q.formula → IsShownAt protocol place true
+  shown_true truth = (asked_here.0, asked_here.1, told_truth asked_here.0 true asked_here.2 truth)
+
+  pub shown_false : (bytes : List ℕ) → IsTheReading bytes protocol → IsDeniedAt bytes place → false ≡ tree_satisfies model q.formula → IsShownAt protocol place false
+  shown_false bytes read denied truth =
+      (asked_here.0, asked_here.1, (told_truth asked_here.0 false asked_here.2 truth, denied protocol read asked_here.0 asked_here.1))
+
+  pub found_shown : (b : Bool) → counts ≡ false → IsShownAt protocol place b → IsPropertyFound counts protocol model (record { place = place; finding = Shown b })
+  found_shown b uncounted (x, there, shown) = found_by (Shown b) (λ p stands same.
+      let both : Some x ≡ Some p = sym there ∙ stands in
+      let is : x ≡ p = cc both in
+      (uncounted, subst (λ (y : protocol_form.PropertyForm). IsShown protocol y.formula b) is shown))
+
+-- the negation is satisfied
+pub denied_at : (bytes : List ℕ) (place : ℕ) (compiled : PropertyModule) → IsNegationAt bytes place compiled
+    → OfModule compiled (λ m q. true ≡ tree_satisfies m q.formula) → IsDeniedAt bytes place
+denied_at bytes place compiled is_negation truth = λ protocol read p stands.
+    let n = is_negation protocol read p stands in
+    sym n.says ∙ sym (truth n.model n.negation n.of_negation)
+
+-- ---- what is told of it
+
+-- the verdict that is found is one
+pub found_verdict : (protocol : ProtocolForm) (model : ModelForm) (place : ℕ) (p : protocol_form.PropertyForm) (q : PropertyForm)
+    → slice_get protocol.properties place ≡ Some p → slice_get model.properties place ≡ Some q → (finding : Finding) → IsFinding false protocol p model q place finding
+    → (v : Verdict) → verdict_in finding ≡ Ok v → IsVerdict protocol p.formula model q v
+found_verdict protocol model place p q stands at (Decided True a) h v is = let same : True ≡ v = cc is in subst (IsVerdict protocol p.formula model q) same h.0
+found_verdict protocol model place p q stands at (Decided Unknown a) h v is =
+    let same : Unknown ≡ v = cc is in subst (IsVerdict protocol p.formula model q) same (h.0.0, h.0.1, (a, h.1, h.0.2))
+found_verdict protocol model place p q stands at (Decided False a) h v is =
+    let same : False ≡ v = cc is in
+    subst (IsVerdict protocol p.formula model q) same (h.0.0, elim h.0.1 [ inl uncut ↦ inr (a, h.1, uncut) | inr denied ↦ inl denied ])
+found_verdict protocol model place p q stands at (Shown true) h v is = let same : True ≡ v = cc is in subst (IsVerdict protocol p.formula model q) same h.1
+found_verdict protocol model place p q stands at (Shown false) h v is =
+    let same : False ≡ v = cc is in subst (IsVerdict protocol p.formula model q) same (h.1.0, inl h.1.1)
+found_verdict protocol model place p q stands at (Refused excess) h v is = absurd (cc is)
+
+-- what is found of the properties at a place
+pub finding_at : (counts : Bool) (protocol : ProtocolForm) (model : ModelForm) (place : ℕ) (finding : Finding) → IsPropertyFound counts protocol model (record { place = place; finding = finding })
+    → (p : protocol_form.PropertyForm) (q : PropertyForm) → slice_get protocol.properties place ≡ Some p → slice_get model.properties place ≡ Some q
+    → IsFinding counts protocol p model q place finding
+finding_at counts protocol model place finding found p q stands at =
+    let both : Some found.asked ≡ Some p = sym found.stands ∙ stands in
+    let is : found.asked ≡ p = cc both in
+    let both_solved : Some found.solved ≡ Some q = sym found.in_model ∙ at in
+    let is_solved : found.solved ≡ q = cc both_solved in
+    subst (λ (x : protocol_form.PropertyForm). IsFinding counts protocol x model q place finding) is
+    (subst (λ (x : PropertyForm). IsFinding counts protocol found.asked model x place finding) is_solved found.finding)
+
+-- what is too large for one is a fault of the property
+pub found_unexplained : (bytes : List ℕ) (model : ModelForm) (said : IsModelOf bytes model) (place : ℕ) (q : PropertyForm) → slice_get model.properties place ≡ Some q
+    → (finding : Finding) → IsPropertyFound false said.protocol model (record { place = place; finding = finding }) → (excess : PropertyExcess) → verdict_in finding ≡ Err excess
+    → (f : SolveFault) → f ≡ solve_fault.Property (record { excess = excess; place = q.name.place }) → IsUnexplained bytes f
+found_unexplained bytes model said place q at (Decided v a) found excess is f same = absurd (cc is)
+found_unexplained bytes model said place q at (Shown b) found excess is f same = absurd (cc is)
+found_unexplained bytes model said place q at (Refused other) found excess is f same =
+    let is_excess : other ≡ excess = cc is in
+    let large = (finding_at false said.protocol model place (Refused other) found found.asked q found.stands at) in
+    subst (IsUnexplained bytes) (sym same) (record {
+      model = model;
+      said = said;
+      index = place;
+      property = q;
+      asked = at;
+      stands = refl;
+      large = subst (λ (x : PropertyExcess). IsTooLargeProperty model q x ⊎ IsTooLargeNegation said.protocol place x) is_excess large;
+    })
+
+-- ---- places
+
+asked_within : (names : List (List ℕ)) (ps : List PropertyForm) (place bound : ℕ) → place + length ps ≤ bound → All (λ k. k < bound) (asked_from place names ps)
+asked_within names [] place bound long = All-nil (λ k. k < bound)
+asked_within names (p ∷ ps) place bound long = go (asked_within names ps (place + 1) bound (omega (arith, long))) (is_asked names p)
+  where
+    go : All (λ k. k < bound) (asked_from (place + 1) names ps) → (b : Bool) → All (λ k. k < bound) (if b then place ∷ asked_from (place + 1) names ps else asked_from (place + 1) names ps)
+    go rest true = All-cons (λ k. k < bound) place _ (omega (arith, long)) rest
+    go rest false = rest
+
+pub places_within : (names : List (List ℕ)) (ps : List PropertyForm) (bound : ℕ) → bound ≡ length ps → All (λ k. k < bound) (asked_places names ps)
+places_within names ps bound long = asked_within names ps 0 bound (omega (arith, long))
+
+-- what is found stands at a place of a property
+pub found_within : (counts : Bool) (protocol : ProtocolForm) (model : ModelForm) (bound : ℕ) → length model.properties ≡ bound
+    → (fs : List PropertyFinding) → All (IsPropertyFound counts protocol model) fs
+    → All (λ found. found.place < bound) fs
+found_within counts protocol model bound long fs all =
+    All-weaker (IsPropertyFound counts protocol model) (λ found. found.place < bound)
+    (λ found is. let within = slice_get_within model.properties found.place is.solved is.in_model in omega (arith, within, long)) fs all

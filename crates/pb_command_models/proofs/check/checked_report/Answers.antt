@@ -1,0 +1,122 @@
+-- What is found is told, or the model is refused.
+use Rattle.std.proofs.Common.{◌≡◌, ◌∙◌, ◌++◌, ◌<◌, ℕ, List, Result, Ok, Err, IsErrAnd, length, map, sym, ap, subst, string_bytes}
+use Rattle.std.specs.List.{All}
+use Rattle.std.proofs.lemmas.List.{length-map}
+use Rattle.pb_base.specs.OrMemory.{IfFault}
+use Rattle.pb_base.specs.declared.or_memory.OrMemory.{OrMemory}
+use Rattle.pb_command_faults.specs.declared.solve_fault.SolveFault.{SolveFault}
+use Rattle.pb_command_line.specs.declared.options.Checking.{Checking}
+use Rattle.pb_base.proofs.Faults.{if_fault, if_raised}
+use Rattle.pb_model_tree.specs.Form.{model_form, property_form}
+use Rattle.pb_model_tree.specs.declared.model.Property.{Property}
+use Rattle.pb_model_words.specs.Vocabulary.{Vocabulary}
+use Rattle.pb_model_properties.specs.Asked.{asked_places}
+use Rattle.pb_model_properties.specs.Words.{impossible_in, words_in, words_of}
+use Rattle.pb_command_models.specs.Models.{asked_names, found_lines, ArePropertiesFound, IsUnchecked}
+use Rattle.pb_command_models.specs.ReachedSteps.{impossible_lines, status_of_checked, step_lines}
+use Rattle.pb_command_models.specs.Writes.{ReportsVerdicts}
+use Rattle.pb_command_models.specs.declared.check.CheckReport.{CheckReport}
+use Rattle.pb_command_models.specs.declared.finding.PropertyFinding.{PropertyFinding}
+use Rattle.pb_command_models.specs.declared.step_finding.StepFinding.{StepFinding}
+use Rattle.pb_command_models.proofs.Checked.{model_untold, names_unchecked, step_unchecked, text_untold, unnegated_untold, untold_unchecked}
+use Rattle.pb_command_models.proofs.Decisions.{found_within, places_within}
+use Rattle.pb_command_models.proofs.check.checked_report.Given.{Over}
+use Rattle.pb_command_models.proofs.check.checked_report.Goals as goal
+use Rattle.pb_command_models.proofs.check.checked_report.Goals.{After-deref-3}
+
+-- the places are those of the properties that are asked for
+asked : (g : Over) (c : After-deref-3 g)
+    → c.deref-3.result.now ≡ asked_places (map string_bytes c.args.options.now.properties.items) (map property_form c.in-Ok.solved.typed.model.properties.items)
+asked g c =
+    c.deref-3.ensures.value
+    ∙ (c.in-Ok-asked_of.ensures.places ∙ (ap (λ ns. asked_places (map string_bytes ns) (map property_form c.deref.result.now)) c.deref-2.ensures.value
+    ∙ ap (λ ps. asked_places (map string_bytes c.args.options.now.properties.items) (map property_form ps)) c.deref.ensures.value))
+
+pub asked_texts-requires : goal.asked_texts-requires
+asked_texts-requires g c =
+    let items = c.in-Ok.solved.typed.model.properties.items in
+    subst (All (λ (k : ℕ). k < length items)) (sym (asked g (goal.at.asked_texts-requires g c).After-deref-3))
+    (places_within (map string_bytes c.args.options.now.properties.items) (map property_form items) (length items) (sym (length-map items property_form)))
+
+pub findings_of-requires-after_bounds : goal.findings_of-requires-after_bounds
+findings_of-requires-after_bounds g c κs within = (model_form c.in-Ok.solved.typed.model, c.in-Ok.ensures.model.said, c.in_ok-texts.ensures.texts)
+
+pub returns-in-Err-asked_of : goal.returns-in-Err-asked_of
+returns-in-Err-asked_of g c = record {
+  report = tt;
+  refused =
+      let bytes = c.args.input.bytes.now in
+      let names = map string_bytes c.args.options.now.properties.items in
+      if_raised c.in-Err-asked_of.error c.raise-in-Err-asked_of.result c.raise-in-Err-asked_of.ensures
+      (λ fault above same h. subst (IsUnchecked names bytes) (sym same) (names_unchecked bytes names (model_form c.in-Ok.solved.typed.model) c.in-Ok.ensures.model.said fault h))
+      (rw c.deref.ensures.value at rw c.deref-2.ensures.value at c.in-Err-asked_of.ensures.refused);
+}
+
+pub returns-in-Err : goal.returns-in-Err
+returns-in-Err g c = record {
+  report = tt;
+  refused =
+      let bytes = c.args.input.bytes.now in
+      let names = asked_names c.args.options.now in
+      if_raised c.in-Err.error c.raise.result c.raise.ensures
+      (λ fault above same h. subst (IsUnchecked names bytes) (sym same) (untold_unchecked bytes names _ (model_untold bytes fault h)))
+      c.in-Err.ensures.refused;
+}
+
+-- where an error is handed up, the model is refused by its fault
+handed : {options : Checking} {bytes : List ℕ} (e : OrMemory SolveFault) (r : Result CheckReport (OrMemory SolveFault)) → IsErrAnd r (λ x. x ≡ e)
+    → IfFault e (IsUnchecked (asked_names options) bytes) → ReportsVerdicts options bytes r
+handed e (Ok x) made h = absurd made
+handed {options} {bytes} e (Err x) made h = record { report = tt; refused = subst (λ (y : OrMemory SolveFault). IfFault y (IsUnchecked (asked_names options) bytes)) (sym made) h }
+
+pub returns-in_err-texts : goal.returns-in_err-texts
+returns-in_err-texts g c = handed c.in_err-texts.field-0.0 c.from_residual.result c.from_residual.ensures.1 (if_fault c.in_err-texts.field-0.0
+    (λ fault h. untold_unchecked c.args.input.bytes.now (asked_names c.args.options.now) fault
+    (text_untold c.args.input.bytes.now (model_form c.in-Ok.solved.typed.model) c.in-Ok.ensures.model.said fault h)) c.in_err-texts.ensures.refused)
+
+pub returns-in_err-findings : goal.returns-in_err-findings
+returns-in_err-findings g c = handed c.in_err-findings.field-0.0 c.from_residual-in_err-findings.result c.from_residual-in_err-findings.ensures.1
+    (if_fault c.in_err-findings.field-0.0 (λ fault h. untold_unchecked c.args.input.bytes.now (asked_names c.args.options.now) fault (unnegated_untold c.args.input.bytes.now fault h))
+    c.in_err-findings.ensures.refused)
+
+pub returns-in_err-steps : goal.returns-in_err-steps
+returns-in_err-steps g c = handed c.in_err-steps.field-0.0 c.from_residual-in_err-steps.result c.from_residual-in_err-steps.ensures.1 (if_fault c.in_err-steps.field-0.0
+    (step_unchecked c.args.input.bytes.now (asked_names c.args.options.now) (model_form c.in-Ok.solved.typed.model) c.in-Ok.ensures.model.said) c.in_err-steps.ensures.refused)
+
+pub lines_of-requires : goal.lines_of-requires
+lines_of-requires g c =
+    let model = c.in-Ok.solved.typed.model in
+    let items = model.properties.items in
+    let said = c.in-Ok.ensures.model.said in
+    let within = found_within c.args.options.now.counts said.protocol (model_form model) (length items) (length-map items property_form)
+    c.in_ok-findings.findings.items (c.in_ok-findings.ensures.found.found (model_form model) said c.in_ok-texts.ensures.texts) in
+    subst (λ (ps : List Property). All (λ (x : PropertyFinding). x.place < length ps) c.deref-5.result.now) (sym c.deref-4.ensures.value)
+    (subst (All (λ (x : PropertyFinding). x.place < length items)) (sym c.deref-5.ensures.value) within)
+
+pub returns : goal.returns
+returns g c =
+    let solved = c.in-Ok.solved in
+    let model = model_form solved.typed.model in
+    let told = c.in-Ok.ensures.model in
+    let said = told.said in
+    let counts = c.args.options.now.counts in
+    let findings = c.in_ok-findings.findings.items in
+    let steps = c.in_ok-steps.steps.items in
+    let found : ArePropertiesFound counts said.protocol model (map string_bytes c.args.options.now.properties.items) findings = record {
+      places = c.in_ok-findings.ensures.found.places ∙ (c.in_ok-texts.ensures.places ∙ asked g (goal.at.returns g c).After-deref-3);
+      found = c.in_ok-findings.ensures.found.found model said c.in_ok-texts.ensures.texts;
+    } in
+    let tells = c.args.options.now.status in
+    let status = c.status_of_checked-status.ensures ∙ (ap (λ fs. status_of_checked tells fs c.deref-8.result.now) c.deref-7.ensures.value
+    ∙ ap (status_of_checked tells findings) c.deref-8.ensures.value) in
+    let others = impossible_lines counts (impossible_in solved.names) in
+    let lines = c.in_ok-push_lines_of_steps.ensures
+    ∙ (ap (λ (l : List ℕ). l ++ (step_lines (words_in solved) c.deref-6.result.now ++ others)) (c.in_ok-lines.ensures model (ap (map property_form) (sym c.deref-4.ensures.value))
+    ∙ ap (found_lines counts model) c.deref-5.ensures.value)
+    ∙ (ap (λ (fs : List StepFinding). found_lines counts model findings ++ (step_lines (words_in solved) fs ++ others)) c.deref-6.ensures.value
+    ∙ (ap (λ (w : Vocabulary). found_lines counts model findings ++ (step_lines w steps ++ others)) told.words
+    ∙ ap (λ (names : List (List ℕ)). found_lines counts model findings ++ (step_lines (words_of said.protocol model said.is_for.made) steps ++ impossible_lines counts names)) told.impossible))) in
+    record {
+      report = (model, findings, steps, said, found, c.in_ok-steps.ensures.found, status, lines);
+      refused = tt;
+    }

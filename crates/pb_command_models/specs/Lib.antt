@@ -1,0 +1,5 @@
+pub mod Models
+pub mod Outcomes
+pub mod ReachedSteps
+pub mod Why
+pub mod Writes

@@ -1,0 +1,179 @@
+//! What is found of properties, by what becomes of their texts and of those of their negations.
+ghost use Rattle.std.specs.Prelude.{◌≡◌, Bool, true, IfOk};
+ghost use Rattle.std.specs.List.{All};
+ghost use Rattle.pb_command_models.specs.Models.{HasModel, HasPropertyAt};
+ghost use Rattle.pb_command_models.specs.Outcomes.{FindsByModule, FindsByOutcome, FindsByTexts};
+ghost use Rattle.pb_command_models.specs.Outcomes.{IsDecisionBy, IsDeniedAt, IsModuleAt, IsOutcomeAt};
+ghost use Rattle.pb_command_models.specs.Outcomes.{IsTextAt};
+
+use crate::finding::{Finding, PropertyFinding};
+use crate::negation::{InputWithNegations, negation_module};
+use crate::outcome::{AskedOutcome, Outcome, early_of, early_truth, outcome_of};
+use crate::property_module::{AskedModule, PropertyModule, asked_module};
+use crate::property_text::AskedText;
+use pb_base::OrMemory;
+use pb_command_faults::SolveFault;
+use pb_command_solver::{Context, Early, SolveOptions};
+use pb_command_texts::ShortInput;
+use pb_exploration::Gate;
+use pb_model_properties::Verdict;
+use pb_report::Answer;
+use std::alloc::AllocError;
+use std::thread::Threads;
+
+/// How texts are solved, and whether counts are asked for.
+#[derive(Clone, Copy)]
+pub(crate) struct DecisionOptions {
+    pub solving: SolveOptions,
+    pub counts: bool,
+}
+
+/// Whether the instances nearest to the initial one of the negation's text show that this is
+/// satisfied. They don't where the negation is refused.
+///
+/// # Errors
+/// Memory was refused.
+pub(crate) fn is_denied<R: Threads + Sync, G: Gate + Sync>(
+    context: &Context<'_, R, G>,
+    input: &mut InputWithNegations<'_>,
+    place: usize,
+    options: SolveOptions,
+) -> Result<bool, AllocError>
+    requires { HasPropertyAt input.now place }
+    ensures same { input.new ≡ input.old }
+    ensures denied { IfOk result (λ denied. denied ≡ true → IsDeniedAt input.old place) }
+{
+    match negation_module(context.alloc, input, place) {
+        Ok(negation) => match early_truth(context, &negation, options)? {
+            Some(true) => Ok(true),
+            _ => Ok(false),
+        },
+        Err(OrMemory::Refused(_)) => Ok(false),
+        Err(OrMemory::Memory) => Err(AllocError),
+    }
+}
+
+// What the negation decides of a property that has this answer.
+fn decision<R: Threads + Sync, G: Gate + Sync>(
+    context: &Context<'_, R, G>,
+    negation: &PropertyModule,
+    answer: Answer,
+    options: SolveOptions,
+) -> Result<Finding, AllocError>
+    ensures { IfOk result (IsDecisionBy negation.now answer) }
+{
+    match outcome_of(context, negation, options)? {
+        Outcome::TooLarge(excess) => Ok(Finding::Refused(excess)),
+        Outcome::Answered(second) => {
+            let verdict = if second.truth {
+                Verdict::False
+            } else {
+                Verdict::Unknown
+            };
+            Ok(Finding::Decided(verdict, answer))
+        }
+    }
+}
+
+/// What is found of a property by what becomes of its text, and of that of its negation where the
+/// verdict needs it.
+///
+/// # Errors
+/// `Text` and `Typing` where the negations are refused, or the text of this one isn't well typed.
+pub(crate) fn decided<R: Threads + Sync, G: Gate + Sync>(
+    context: &Context<'_, R, G>,
+    input: &mut InputWithNegations<'_>,
+    asked: AskedOutcome,
+    options: SolveOptions,
+) -> Result<Finding, OrMemory<SolveFault>>
+    requires { HasModel input.now (λ model. IsOutcomeAt model asked) }
+    ensures { (counts : Bool) → FindsByOutcome asked counts input.old input.new result }
+{
+    match asked.outcome {
+        Outcome::TooLarge(excess) => Ok(Finding::Refused(excess)),
+        Outcome::Answered(answer) => {
+            if answer.truth {
+                return Ok(Finding::Decided(Verdict::True, answer));
+            }
+            if answer.cut == 0 {
+                return Ok(Finding::Decided(Verdict::False, answer));
+            }
+            let negation = negation_module(context.alloc, input, asked.place)?;
+            Ok(decision(context, &negation, answer, options)?)
+        }
+    }
+}
+
+// What is found of a property, by all instances of its text.
+fn decided_by_all<R: Threads + Sync, G: Gate + Sync>(
+    context: &Context<'_, R, G>,
+    input: &mut InputWithNegations<'_>,
+    asked: &AskedModule,
+    options: SolveOptions,
+) -> Result<Finding, OrMemory<SolveFault>>
+    requires { HasModel input.now (λ model. IsModuleAt model asked.now) }
+    ensures { (counts : Bool) → FindsByModule asked.now counts input.old input.new result }
+{
+    let outcome = outcome_of(context, &asked.compiled, options)?;
+    let place = asked.place;
+    let known = AskedOutcome { place, outcome };
+    decided(context, input, known, options)
+}
+
+// What is found of a property, by the module of its text. Where counts aren't asked for, the
+// instances nearest to the initial one are tried first: those of the text, and where they show that
+// it isn't satisfied, those of its negation's.
+fn finding_by<R: Threads + Sync, G: Gate + Sync>(
+    context: &Context<'_, R, G>,
+    input: &mut InputWithNegations<'_>,
+    asked: &AskedModule,
+    options: DecisionOptions,
+) -> Result<Finding, OrMemory<SolveFault>>
+    requires { HasModel input.now (λ model. IsModuleAt model asked.now) }
+    ensures { FindsByModule asked.now options.counts input.old input.new result }
+{
+    if options.counts {
+        return decided_by_all(context, input, asked, options.solving);
+    }
+    let place = asked.place;
+    match early_of(context, &asked.compiled, options.solving)? {
+        Early::Unknown => decided_by_all(context, input, asked, options.solving),
+        Early::Whole(answer) => {
+            let outcome = Outcome::Answered(answer);
+            let known = AskedOutcome { place, outcome };
+            decided(context, input, known, options.solving)
+        }
+        Early::Shown(true) => Ok(Finding::Shown(true)),
+        Early::Shown(false) => {
+            let denied = is_denied(context, input, place, options.solving)?;
+            if denied {
+                return Ok(Finding::Shown(false));
+            }
+            decided_by_all(context, input, asked, options.solving)
+        }
+    }
+}
+
+/// What is found of each property, by its text.
+///
+/// # Errors
+/// `Text` and `Typing` where the negations are refused, or the text of one isn't well typed.
+pub(crate) fn findings_of<R: Threads + Sync, G: Gate + Sync>(
+    context: &Context<'_, R, G>,
+    input: ShortInput<'_>,
+    texts: Vec<AskedText>,
+    options: DecisionOptions,
+) -> Result<Vec<PropertyFinding>, OrMemory<SolveFault>>
+    requires { HasModel input.bytes.now (λ model. All (IsTextAt model) texts.items) }
+    ensures { FindsByTexts options.counts input.entry.bytes.now texts.items result }
+{
+    let mut asked_input = InputWithNegations::new(input);
+    let mut findings = Vec::new(context.alloc);
+    'texts: for asked in texts {
+        let made = asked_module(context.alloc, asked)?;
+        let finding = finding_by(context, &mut asked_input, &made, options)?;
+        let place = made.place;
+        findings.push(PropertyFinding { place, finding })?;
+    }
+    Ok(findings)
+}

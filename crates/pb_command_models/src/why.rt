@@ -1,0 +1,113 @@
+//! Why the properties of a model hold or don't: the verdicts, with the steps that show them.
+ghost use Rattle.std.specs.Prelude.{◌≡◌, Err, IsSome, option_copied};
+ghost use Rattle.pb_command_faults.specs.declared.solve_fault.SolveFault.TheVariants.{NoProperty};
+ghost use Rattle.pb_model_properties.specs.Said.{IsModelOf};
+ghost use Rattle.pb_command_models.specs.Models.{solved_form};
+ghost use Rattle.pb_command_models.specs.Why.{DeliversWhy, IsToldFaithfully, TellsAll, TellsAsked};
+
+use crate::explained_finding::Asked;
+use crate::laws::told_calls_are_steps;
+use crate::negation::InputWithNegations;
+use crate::options::WhyOptions;
+use crate::told::told_at;
+use pb_base::OrMemory;
+use pb_command_faults::{SolveError, SolveFault};
+use pb_command_modules::deliver;
+use pb_command_solver::Context;
+use pb_command_texts::ShortInput;
+use pb_exploration::Gate;
+use pb_model_properties::{SolvedModel, place_of, read_protocol};
+use pb_sorts::Sink;
+use std::thread::Threads;
+
+// What is told of all properties.
+fn all_told<R: Threads + Sync, G: Gate + Sync>(
+    context: &Context<'_, R, G>,
+    input: ShortInput<'_>,
+    solved: &SolvedModel,
+    options: WhyOptions,
+) -> Result<String, OrMemory<SolveFault>>
+    requires { IsModelOf input.bytes.now (solved_form solved.now) }
+    ensures { TellsAll options.lines input.entry.bytes.now solved.now result }
+{
+    let mut asked_input = InputWithNegations::new(input);
+    let mut lines = String::new(context.alloc);
+    for place in 0..solved.typed.model.properties.len() {
+        let asked = Asked {
+            place,
+            always: false,
+            options,
+        };
+        let told = told_at(context, &mut asked_input, solved, asked)?;
+        lines.push_str(told.as_str())?;
+    }
+    Ok(lines)
+}
+
+// What is told of the property of a name, or of all where none is named.
+fn asked_told<R: Threads + Sync, G: Gate + Sync>(
+    context: &Context<'_, R, G>,
+    input: ShortInput<'_>,
+    solved: &SolvedModel,
+    property: Option<&str>,
+    options: WhyOptions,
+) -> Result<String, OrMemory<SolveFault>>
+    requires { IsModelOf input.bytes.now (solved_form solved.now) }
+    ensures { TellsAsked options.lines property.entry input.entry.bytes.now solved.now result }
+{
+    match property {
+        Some(name) => {
+            let Some(place) = place_of(&solved.typed.model.properties, Some(name)) else {
+                return Err(SolveFault::NoProperty.into());
+            };
+            let asked = Asked {
+                place,
+                always: true,
+                options,
+            };
+            told_at(context, &mut InputWithNegations::new(input), solved, asked)
+        }
+        None => all_told(context, input, solved, options),
+    }
+}
+
+/// Tells why the properties of a model hold or don't, in the model's own words. Without a name it
+/// writes for each property, in order, the line of the verdict on it, as `check_text` does, and
+/// behind that of each that isn't true what shows it: lines of evidence, with the steps that lead
+/// from one to another. With a name it does so for that property alone, whatever the verdict is.
+///
+/// Where the verdict is unknown, what is shown is why the property isn't satisfied within the
+/// ranges.
+///
+/// Where lines of instances are asked for, these show the verdict in place of words: each names an
+/// instance and those that it rests on, as with `explain_text`, and the steps that lead to them.
+///
+/// Each property's text is explained as `explain_text` does with a text. Where the protocol doesn't
+/// satisfy the property, the text of its negation is solved, and where that isn't satisfied either,
+/// the property's own, for the calls outside the ranges. A call of
+/// that text, which leads from one line to another, is a move of the model: `calls_are_moves` of
+/// `pb_model_runs` says so. By its `every_step_is_called` no step can be taken where the text of
+/// every step makes no call.
+///
+/// # Errors
+/// `NoProperty` comes exactly where the model has no property of the name, and `Property` where
+/// something of a property or of its negation is too large. Others are as with `check_text`.
+pub fn why_text<R: Threads + Sync, G: Gate + Sync, S: Sink>(
+    context: &Context<'_, R, G>,
+    input: ShortInput<'_>,
+    property: Option<&str>,
+    options: WhyOptions,
+    writer: &mut S,
+) -> Result<(), SolveError>
+    ensures told { DeliversWhy options.lines (option_copied property.entry)
+        input.entry.bytes.now result S.Sink writer.old writer.new }
+    // The calls that the lines tell are steps of the model and moves of the protocol, and each
+    // state is told as the one of the protocol that it says.
+    ensures faithful { IsToldFaithfully input.entry.bytes.now }
+    ensures named { result ≡ Err (SolveError.Refused NoProperty) → IsSome property.entry }
+{
+    told_calls_are_steps();
+    let solved = read_protocol(context.alloc, input.bytes)?;
+    let lines = asked_told(context, input, &solved, property, options)?;
+    deliver(lines.as_bytes(), writer)
+}

@@ -1,0 +1,5 @@
+pub mod Answers
+pub mod Refusals
+pub mod Compilation
+pub mod Explained
+pub mod Writes

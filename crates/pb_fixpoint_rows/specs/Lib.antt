@@ -1,4 +1,0 @@
-pub mod Row
-pub mod Entries
-pub mod Reached
-pub mod Order

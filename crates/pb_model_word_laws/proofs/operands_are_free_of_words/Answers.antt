@@ -1,5 +1,0 @@
-use Rattle.pb_model_word_laws.proofs.Walk.{operands_have_no_word}
-use Rattle.pb_model_word_laws.proofs.operands_are_free_of_words.Goals as goal
-
-pub returns : goal.returns
-returns c = operands_have_no_word

@@ -1,5 +1,0 @@
-use Rattle.pb_model_word_laws.proofs.FairPattern.{fair_pattern}
-use Rattle.pb_model_word_laws.proofs.words_are_patterns.Goals as goal
-
-pub returns-clause-fair : goal.returns-clause-fair
-returns-clause-fair c = fair_pattern

@@ -1,6 +1,0 @@
-use Rattle.std.proofs.Common.{◌≡◌, ◌++◌, drop}
-use Rattle.pb_protocol_copies.specs.Links.{step_set_links}
-use Rattle.pb_protocol_copies.proofs.step_set.+step_sets.Given as goal
-
-abbrev pub invariant-copy_links-loop-link : goal.invariant-copy_links-loop-link
-invariant-copy_links-loop-link l = step_set_links l.copies.items ++ step_set_links (drop l.link-index l.links) ≡ step_set_links l.links

@@ -1,0 +1,5 @@
+use Rattle.pb_protocol_laws.proofs.PlainWords.{plain-writable}
+use Rattle.pb_protocol_laws.proofs.spelling.plain_models_are_writable.Goals as goal
+
+pub returns : goal.returns
+returns c = plain-writable

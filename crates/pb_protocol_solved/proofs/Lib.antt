@@ -1,5 +1,0 @@
-mod Properties
-mod States
-mod Models
-mod Packed
-mod Moves

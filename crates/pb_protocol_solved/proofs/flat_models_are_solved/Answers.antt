@@ -1,8 +1,0 @@
-use Rattle.pb_protocol_solved.proofs.Models.{plain_models_are_solved, unfolded_models_are_solved}
-use Rattle.pb_protocol_solved.proofs.flat_models_are_solved.Goals as goal
-
-pub returns : goal.returns
-returns c = record {
-  plain = plain_models_are_solved c.plain_models_keep_their_meaning.ensures;
-  unfolded = unfolded_models_are_solved c.flat_models_do_the_same.ensures.satisfaction c.flat_models_do_the_same.ensures.steps;
-}

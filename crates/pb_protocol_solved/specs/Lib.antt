@@ -1,2 +1,0 @@
-pub mod Solved
-pub mod Laws

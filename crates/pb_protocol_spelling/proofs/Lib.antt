@@ -1,9 +1,0 @@
-mod Words
-mod PlainWords
-mod Spelled
-mod Folded
-mod Unfolded
-mod FlatModels
-mod Digits
-mod Packed
-mod FewValues

@@ -1,5 +1,0 @@
-use Rattle.pb_protocol_spelling.proofs.PlainWords.{plain-writable}
-use Rattle.pb_protocol_spelling.proofs.plain_models_are_writable.Goals as goal
-
-pub returns : goal.returns
-returns c = plain-writable
