@@ -18,7 +18,13 @@ from edit_sums import Repository
 EDITS = "tests/wrong_bodies"
 SUMS = f"{EDITS}/SUMS"
 RT = """#!/bin/sh
-[ "$1" = check ] && exit "${UNPROVED:-0}"
+if [ "$1" = check ]; then
+    if [ $# -gt 1 ] && grep -q "${BROKEN:-nothing}" src/lib.rt; then
+        printf 'note: src/lib.rt:2:5: it is not proved\nonly=1 proved=0\n'
+        exit 1
+    fi
+    exit "${UNPROVED:-0}"
+fi
 [ "$1" = ci ] && [ $# -gt 1 ] && echo "rt ci with names is not the gate" && exit 2
 [ "$1" = ci ] && set -- ci $(ls crates)
 shift
@@ -105,8 +111,8 @@ CHANGES = (
 )
 
 
-def run(room, script, *words, missed="", verdict="", unproved="0"):
-    names = {"MISSED": missed, "VERDICT": verdict, "UNPROVED": unproved, "PATH": f"{room}/bin:{os.environ['PATH']}", "PYTHONDONTWRITEBYTECODE": "1"}
+def run(room, script, *words, missed="", verdict="", unproved="0", broken="nothing"):
+    names = {"MISSED": missed, "VERDICT": verdict, "UNPROVED": unproved, "BROKEN": broken, "PATH": f"{room}/bin:{os.environ['PATH']}", "PYTHONDONTWRITEBYTECODE": "1"}
     return subprocess.run([f"{room}/.ci/{script}", *words], capture_output=True, text=True, check=False, env={**os.environ, **names})
 
 
@@ -162,6 +168,16 @@ def due_wrong(room):
         yield f"a crate that is due isn't tried: {ran.stdout}{ran.stderr}"
 
 
+def functions_wrong(room):
+    """What goes wrong by functions: an edit is refused where its function is proved as it is and isn't with it, and is tried whole elsewhere."""
+    missed = {"missed": "high/once.edit high/never.edit low/third.edit", "verdict": "NOT REFUSED"}
+    for broken, refused in (("^    1$", "high/once.edit"), ("by.1. / 3", "low/third.edit"), ("^    2$", ""), ("^pub", ""), ("nothing", "")):
+        ran = run(room, "wrong_bodies", "--kept", "high", "low", broken=broken, **missed)
+        found = re.findall(r"must-fail (\S+): refused, as it must be: note: src/lib.rt:2:5", ran.stdout)
+        if found != refused.split() or f"{len(found)} wrong bodies refused, {3 - len(found)} not" not in ran.stdout.splitlines()[-1]:
+            yield f"by functions, where {broken} isn't proved: {ran.stdout}{ran.stderr}"
+
+
 def main():
     with tempfile.TemporaryDirectory() as folder:
         room = pathlib.Path(folder)
@@ -170,14 +186,14 @@ def main():
             (room / path).write_text(text, "utf-8")
         (room / "bin/rt").chmod(0o755)
         (room / ".ci").mkdir()
-        for name in ("edit_sums.py", "wrong_bodies"):
+        for name in ("edit_sums.py", "edits_by_function.py", "wrong_bodies"):
             shutil.copy(HERE / ".ci" / name, room / ".ci" / name)
         wrong = []
         for script, status, stale in (("edit_sums.py", 1, {"low", "high"}), ("wrong_bodies", 0, set()), ("edit_sums.py", 0, set())):
             ran = run(room, script)
             if ran.returncode != status or script == "edit_sums.py" and named(ran.stdout.splitlines()) != stale:
                 wrong.append(f"{script}, where each edit is refused: {ran.stdout}{ran.stderr}")
-        wrong += [*changes_wrong(room), *due_wrong(room), *tries_wrong(room)]
+        wrong += [*changes_wrong(room), *due_wrong(room), *tries_wrong(room), *functions_wrong(room)]
     print("".join(f"tests/stale_edits.py: {flaw}\n" for flaw in wrong), end="")
     sys.exit(1 if wrong else 0)
 

@@ -1,0 +1,125 @@
+"""Tries edits by the functions that they change. The whole check of a crate says no more of an edit than the check of these functions where that refuses
+it, and takes minutes where this takes seconds. What is not refused here may still be refused elsewhere in the crate, so it is left to a whole check."""
+import os
+import pathlib
+import re
+import subprocess
+
+from edit_sums import FUNCTION, TOKEN, body_of
+
+REFUSED = "refused, as it must be"
+END = re.compile(r"only=(\d+) proved=(\d+)")
+NOTED = re.compile(r"(?:note: )?(?:\./)?(\S+?):\d+:\d+: (.*)")
+# What is said of a text that can't be read, where an edit that only makes a statement false reads well.
+UNREAD = re.compile(r"\berror\[|is not in scope|has no field|is no name|operand is missing|expected the end|cannot continue")
+# A type whose methods follow, as `rt fmt` lays it out, and the name of its function.
+IMPL = re.compile(r"^impl\b(?:<[^>]*>)? ?(?:[^{\n]* for )?&?(?:'\w+ )?(\w+)", re.M)
+NAME = re.compile(r"\bfn (\w+)")
+# A name of no function, or of several.
+STRANGE = re.compile(r"has no function `([^`]*)`|several functions are named `([^`]*)`")
+
+
+def changed(text, folder):
+    """The files that an edit changes, each with its new text and with where it changes, or None where it can't be applied."""
+    path, old, texts, places = None, None, {}, []
+    for line in text.splitlines():
+        word, _, rest = line.partition(": ")
+        if word == "file":
+            path = rest.strip()
+        elif word == "old":
+            old = rest
+        elif line.startswith("new:"):
+            source = folder / path
+            now = texts.get(path) or source.read_text("utf-8")
+            if now.count(old) != 1:
+                return None
+            places.append((path, old))
+            texts[path] = now.replace(old, line[len("new:") :].removeprefix(" "))
+    return texts, places
+
+
+def named(path, old, folder):
+    """How the function that has this text may be named, the surest first; the last of these is its whole module."""
+    source = (folder / path).read_text("utf-8")
+    place, module = source.index(old), re.sub(r"/", "::", path.removeprefix("src/").removesuffix(".rt"))
+    module = "" if module in ("lib", "main") else module.removesuffix("::mod")
+    code = TOKEN.sub(lambda token: "_" * len(token[0]), source)
+    functions = [found for found in FUNCTION.finditer(code) if found.start() <= place < (body_of(code, found) or (0, 0))[1]]
+    if not functions:
+        return [module] if module else []
+    name = NAME.search(source, functions[-1].start())[1]
+    owners = [found[1] for found in IMPL.finditer(source) if found.start() < place] if functions[-1][1] else []
+    ways = [*([f"{owners[-1]}::{name}"] if owners else []), name]
+    within = [f"{module}::{way}" for way in ways] if module else []
+    return [*within, *ways, *([module] if module else [])]
+
+
+class Trial:
+    """A crate in a copy of the repository, over the libraries that stand there, and which of its functions are proved as they are."""
+
+    def __init__(self, folder):
+        self.folder = pathlib.Path(folder)
+        self.edits = sorted(self.folder.glob("must-fail/*.edit"))
+        self.changes = {edit: changed(edit.read_text("utf-8"), self.folder) for edit in self.edits}
+        # How each place that is changed may be named still.
+        self.names = {place: named(*place, self.folder) for found in self.changes.values() if found for place in found[1]}
+        self.proved = self.all_proved()
+
+    def check(self, names):
+        words = ["rt", "check", "--jobs", "1", *(word for name in names for word in ("--only", name))]
+        return subprocess.run(words, cwd=self.folder, stdout=subprocess.PIPE, stderr=subprocess.STDOUT, text=True, errors="replace", check=False)
+
+    def first_names(self):
+        return sorted({names[0] for names in self.names.values() if names})
+
+    def all_proved(self):
+        """The names of the functions that are changed, where they are proved as they are: first all at once, else one by one."""
+        while names := self.first_names():
+            ran = self.check(names)
+            strange = STRANGE.search(ran.stdout) if ran.returncode == 2 else None
+            if not strange:
+                return set(names) if not ran.returncode else {name for name in names if not self.check([name]).returncode}
+            for place in self.names:
+                if self.names[place][:1] == [strange[1] or strange[2]]:
+                    self.names[place] = self.names[place][1:]
+        return set()
+
+    def verdict(self, edit):
+        """What the prover says of an edit, as `rt must-fail` prints it, or None where this says nothing."""
+        texts, places = self.changes[edit] or ({}, [])
+        names = {name for place in places for name in self.names[place][:1]}
+        if not names or not names <= self.proved:
+            return None
+        was = {path: (self.folder / path).read_text("utf-8") for path in texts}
+        try:
+            for path, text in texts.items():
+                (self.folder / path).write_text(text, "utf-8")
+            return self.refusal(self.check(sorted(names)))
+        finally:
+            for path, text in was.items():
+                (self.folder / path).write_text(text, "utf-8")
+
+    @staticmethod
+    def refusal(ran):
+        """Why the prover refused a function, if it did, and for no other reason than a statement that doesn't hold."""
+        lines = ran.stdout.splitlines()
+        end = next((END.match(line) for line in reversed(lines) if END.match(line)), None)
+        if ran.returncode != 1 or not end or end[1] == end[2]:
+            return None
+        noted = [found for found in map(NOTED.match, lines) if found and (found[0].startswith("note") or "error" in found[2])]
+        if any(UNREAD.search(found[2]) for found in noted if not found[1].startswith("proofs/")):
+            return None
+        said = [found[0] for found in noted if not (found[1].startswith("proofs/") and UNREAD.search(found[2]))]
+        return f"{REFUSED}: {said[0][:160]}" if said else None
+
+
+def tried(room, crate):
+    """The verdicts of a crate's edits, by their names, as far as their functions decide."""
+    trial = Trial(f"{room}/crates/{crate}")
+    verdicts = {}
+    for edit in trial.edits:
+        said = trial.verdict(edit)
+        if said:
+            verdicts[edit.name] = said
+            print(f"rt: must-fail {crate}/{edit.name}: {said}", flush=True)
+    return verdicts
