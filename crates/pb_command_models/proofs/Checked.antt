@@ -67,7 +67,7 @@ module _ (bytes : List ℕ) where
 
   pub untold_unexplained : (f : SolveFault) → IsUntold bytes f → IsUnexplained bytes f
   untold_unexplained (solve_fault.Text fault) h = h
-  untold_unexplained (solve_fault.Typing fault) h = h
+  untold_unexplained (solve_fault.Typing fault) h = inl h
   untold_unexplained (solve_fault.Limit excess) h = absurd h
   untold_unexplained (solve_fault.Module fault) h = absurd h
   untold_unexplained (solve_fault.Acceptance fault) h = absurd h

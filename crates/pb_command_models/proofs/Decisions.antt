@@ -30,7 +30,7 @@ use Rattle.pb_command_models.specs.declared.outcome.Outcome.TheVariants as outco
 use Rattle.pb_command_models.specs.declared.property_module.PropertyModule.{PropertyModule}
 use Rattle.pb_command_faults.specs.declared.solve_fault.SolveFault.{SolveFault}
 use Rattle.pb_command_faults.specs.declared.solve_fault.SolveFault.TheVariants as solve_fault
-use Rattle.pb_command_models.specs.Models.{HasModel, IsFinding, IsPropertyFound, IsPropertyAnswer, IsShown, IsTooLargeNegation, IsTooLargeProperty, IsUnexplained}
+use Rattle.pb_command_models.specs.Models.{HasModel, IsFinding, IsPropertyFound, IsPropertyAnswer, IsShown, IsTooLargeNegation, IsTooLargeProperty, IsUnexplained, NeedsNegation}
 use Rattle.pb_command_models.specs.Outcomes.{HasNegation, IsDecision, IsDeniedAt, IsNegationAt, IsOutcome, IsPropertyModule, IsShownAt, OfModule, verdict_in}
 use Rattle.pb_command_models.specs.Why.{IsVerdict}
 
@@ -183,7 +183,7 @@ module _ (counts : Bool) (protocol : ProtocolForm) (model : ModelForm) (is_for :
           → IsPropertyFound counts protocol model (record { place = place; finding = finding })
       found_open (Refused excess) decides = found_by (Refused excess) (λ p stands same.
           let n = negation_here p stands in
-          inr (n.model, n.is_for, (n.negation, n.stands, decides n.model n.negation n.of_negation)))
+          inr ((told_answer p false same truth, (a, answered, cut)), (n.model, n.is_for, (n.negation, n.stands, decides n.model n.negation n.of_negation))))
       found_open (Shown b) decides = let n = negation_here asked_here.0 asked_here.1 in absurd (decides n.model n.negation n.of_negation)
       found_open (Decided True b) decides = let n = negation_here asked_here.0 asked_here.1 in absurd (decides n.model n.negation n.of_negation)
       found_open (Decided False b) decides = found_by (Decided False b) (λ p stands same.
@@ -256,7 +256,10 @@ found_unexplained bytes model said place q at (Decided v a) found excess is f sa
 found_unexplained bytes model said place q at (Shown b) found excess is f same = absurd (cc is)
 found_unexplained bytes model said place q at (Refused other) found excess is f same =
     let is_excess : other ≡ excess = cc is in
-    let large = (finding_at false said.protocol model place (Refused other) found found.asked q found.stands at) in
+    let p = found.asked in
+    let large = finding_at false said.protocol model place (Refused other) found p q found.stands at in
+    let here : IsTooLargeProperty model q excess ⊎ (NeedsNegation said.protocol p model q × IsTooLargeNegation said.protocol place excess) =
+    subst (λ (x : PropertyExcess). IsTooLargeProperty model q x ⊎ (NeedsNegation said.protocol p model q × IsTooLargeNegation said.protocol place x)) is_excess large in
     subst (IsUnexplained bytes) (sym same) (record {
       model = model;
       said = said;
@@ -264,7 +267,7 @@ found_unexplained bytes model said place q at (Refused other) found excess is f 
       property = q;
       asked = at;
       stands = refl;
-      large = subst (λ (x : PropertyExcess). IsTooLargeProperty model q x ⊎ IsTooLargeNegation said.protocol place x) is_excess large;
+      large = elim here [ inl own ↦ inl own | inr needed ↦ inr (p, found.stands, needed.0, needed.1) ];
     })
 
 -- ---- places

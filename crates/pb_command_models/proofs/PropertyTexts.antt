@@ -1,5 +1,5 @@
 -- The text of a property that isn't well typed: it is too large, or the model is refused.
-use Rattle.std.proofs.Common.{◌≡◌, ℕ, true, Some, refl, sym, subst}
+use Rattle.std.proofs.Common.{◌≡◌, ℕ, true, false, Some, refl, sym, subst}
 use Rattle.std.specs.Prelude.{Contains, IfOk, Result, Ok, Err}
 use Rattle.std.specs.List.{slice_get}
 use Rattle.pb_model_tree.specs.Form.{PropertyForm, model_form}
@@ -14,9 +14,10 @@ use Rattle.pb_base.specs.declared.or_memory.OrMemory.{OrMemory}
 use Rattle.pb_base.specs.declared.or_memory.OrMemory.TheVariants as or_memory
 use Rattle.pb_command_faults.specs.Errors.{fault_of_model}
 use Rattle.pb_command_faults.specs.declared.solve_fault.SolveFault.{SolveFault}
+use Rattle.pb_model_properties.specs.Refusals.{is_limit, is_limit_rule}
 use Rattle.pb_command_models.proofs.PropertyVerdicts.{contains_at}
 use Rattle.pb_command_models.specs.Models.{IsOverTextLimit}
-use Rattle.pb_command_models.specs.Outcomes.{IsFault, IsPropertyText, IsTextAt, IsUntyped, is_limit, is_limit_rule}
+use Rattle.pb_command_models.specs.Outcomes.{IsFault, IsPropertyText, IsTextAt, IsUntyped}
 use Rattle.pb_command_models.specs.declared.property_text.AskedText.{AskedText}
 use Rattle.pb_command_models.specs.declared.property_text.PropertyText.TheVariants as property_text
 
@@ -47,16 +48,18 @@ module _ (solved : SolvedModel) (p : PropertyForm) where
   text_over_limit (or_memory.Refused fault) is limit h = over_limit fault limit h
   text_over_limit or_memory.Memory is limit h = absurd is
 
-  untyped_by : (fault : ModelFault) → Contains (model_form solved.typed.model).properties p → IsRefusedText solved p fault → IsUntyped (model_form solved.typed.model) (fault_of_model fault)
-  untyped_by (model_fault.Typing fault) among h = (p, told_places solved.names, among, h)
-  untyped_by (model_fault.Text fault) among h = absurd h
-  untyped_by model_fault.NoProperty among h = absurd h
+  untyped_by : (fault : ModelFault) → Contains (model_form solved.typed.model).properties p → is_limit fault ≡ false → IsRefusedText solved p fault
+      → IsUntyped (model_form solved.typed.model) (fault_of_model fault)
+  untyped_by (model_fault.Typing fault) among other h = (other, (p, told_places solved.names, among, h))
+  untyped_by (model_fault.Text fault) among other h = absurd h
+  untyped_by model_fault.NoProperty among other h = absurd h
 
   -- by another the model is
   pub text_untyped : (error : OrMemory ModelFault) (made : SolveFault) → Contains (model_form solved.typed.model).properties p → IsFault error
-      → IfFault error (λ fault. made ≡ fault_of_model fault) → IfFault error (IsRefusedText solved p) → IsUntyped (model_form solved.typed.model) made
-  text_untyped (or_memory.Refused fault) made among is same h = subst (IsUntyped (model_form solved.typed.model)) (sym same) (untyped_by fault among h)
-  text_untyped or_memory.Memory made among is same h = absurd is
+      → IfFault error (λ fault. made ≡ fault_of_model fault) → IfFault error (λ fault. is_limit fault ≡ false) → IfFault error (IsRefusedText solved p)
+      → IsUntyped (model_form solved.typed.model) made
+  text_untyped (or_memory.Refused fault) made among is same other h = subst (IsUntyped (model_form solved.typed.model)) (sym same) (untyped_by fault among other h)
+  text_untyped or_memory.Memory made among is same other h = absurd is
 
   module _ (place : ℕ) (at : slice_get (model_form solved.typed.model).properties place ≡ Some p) (error : OrMemory ModelFault) where
     pub large_text : {E : Type 0} (r : Result AskedText E)
@@ -69,9 +72,10 @@ module _ (solved : SolvedModel) (p : PropertyForm) where
     }
     large_text (Err e) made h = tt
 
-    pub untyped_text : {A : Type 0} (r : Result A (OrMemory SolveFault)) → IfRefused r (λ made. IfFault error (λ fault. made ≡ fault_of_model fault) × IsFault error)
+    pub untyped_text : {A : Type 0} (r : Result A (OrMemory SolveFault))
+        → IfRefused r (λ made. IfFault error (λ fault. made ≡ fault_of_model fault) × IsFault error × IfFault error (λ fault. is_limit fault ≡ false))
         → IfFault error (IsRefusedText solved p) → IfRefused r (IsUntyped (model_form solved.typed.model))
     untyped_text (Ok x) made h = tt
     untyped_text (Err or_memory.Memory) made h = tt
     untyped_text (Err (or_memory.Refused fault)) made h =
-        text_untyped error fault (contains_at (model_form solved.typed.model).properties place p at) made.1 made.0 h
+        text_untyped error fault (contains_at (model_form solved.typed.model).properties place p at) made.1 made.0 made.2 h

@@ -29,7 +29,8 @@ use Rattle.pb_command_models.specs.declared.property_text.PropertyText.TheVarian
 use Rattle.pb_command_models.specs.declared.step_finding.StepFinding.{StepFinding}
 use Rattle.pb_command_models.specs.declared.step_finding.StepFinding.TheVariants.{Refused}
 use Rattle.pb_command_models.specs.Models.{IsPropertyAnswer}
-use Rattle.pb_command_models.specs.Outcomes.{IsFault, IsOutcome, IsPropertyModule, IsPropertyText, is_limit}
+use Rattle.pb_command_models.specs.Outcomes.{IsFault, IsOutcome, IsPropertyModule, IsPropertyText}
+use Rattle.pb_model_properties.specs.Refusals.{is_limit}
 use Rattle.pb_command_models.specs.ReachedSteps.{IsFoundOfStep, IsStepModule, IsStepText, IsUntypedStep, by_truth, can_be_taken, step_line, step_lines_from}
 use Rattle.pb_command_models.proofs.PropertyTexts.{text_over_limit}
 
@@ -58,24 +59,26 @@ module _ (solved : SolvedModel) where
       subst (IsPropertyText (model_form solved.typed.model) p) (sym large) (text_over_limit solved p error is limit (if_fault error (λ fault refused. refused a at) h))
   large_step place error (Err e) made h = tt
 
-  untyped_by : (a : StepForm) (fault : ModelFault) → Contains (model_form solved.typed.model).steps a → IsRefusedText solved (reached_property (model_form solved.typed.model) a) fault
-      → IsUntypedStep (model_form solved.typed.model) (fault_of_model fault)
-  untyped_by a (model_fault.Typing fault) among h = (a, told_places solved.names, among, h)
-  untyped_by a (model_fault.Text fault) among h = absurd h
-  untyped_by a model_fault.NoProperty among h = absurd h
+  untyped_by : (a : StepForm) (fault : ModelFault) → Contains (model_form solved.typed.model).steps a → is_limit fault ≡ false
+      → IsRefusedText solved (reached_property (model_form solved.typed.model) a) fault → IsUntypedStep (model_form solved.typed.model) (fault_of_model fault)
+  untyped_by a (model_fault.Typing fault) among other h = (other, (a, told_places solved.names, among, h))
+  untyped_by a (model_fault.Text fault) among other h = absurd h
+  untyped_by a model_fault.NoProperty among other h = absurd h
 
   untyped_told : (place : ℕ) (error : OrMemory ModelFault) (made : SolveFault) → place < length (model_form solved.typed.model).steps → IsFault error
-      → IfFault error (λ fault. made ≡ fault_of_model fault) → IfFault error (IsRefusedStep place) → IsUntypedStep (model_form solved.typed.model) made
-  untyped_told place (or_memory.Refused fault) made below is same h =
+      → IfFault error (λ fault. made ≡ fault_of_model fault) → IfFault error (λ fault. is_limit fault ≡ false) → IfFault error (IsRefusedStep place)
+      → IsUntypedStep (model_form solved.typed.model) made
+  untyped_told place (or_memory.Refused fault) made below is same other h =
       let steps = (model_form solved.typed.model).steps in
       let some = some_step steps place below in
-      subst (IsUntypedStep (model_form solved.typed.model)) (sym same) (untyped_by some.0 fault (contains_step steps place some.0 some.1) (h some.0 some.1))
-  untyped_told place or_memory.Memory made below is same h = absurd is
+      subst (IsUntypedStep (model_form solved.typed.model)) (sym same) (untyped_by some.0 fault (contains_step steps place some.0 some.1) other (h some.0 some.1))
+  untyped_told place or_memory.Memory made below is same other h = absurd is
 
   -- or breaks another rule
   pub untyped_step : {A : Type 0} (place : ℕ) (error : OrMemory ModelFault) (r : Result A (OrMemory SolveFault)) → place < length (model_form solved.typed.model).steps
-      → IfRefused r (λ made. IfFault error (λ fault. made ≡ fault_of_model fault) × IsFault error) → IfFault error (IsRefusedStep place) → IfRefused r (IsUntypedStep (model_form solved.typed.model))
-  untyped_step place error r below made h = if_refused r (λ fault was. untyped_told place error fault below was.1 was.0 h) made
+      → IfRefused r (λ made. IfFault error (λ fault. made ≡ fault_of_model fault) × IsFault error × IfFault error (λ fault. is_limit fault ≡ false)) → IfFault error (IsRefusedStep place)
+      → IfRefused r (IsUntypedStep (model_form solved.typed.model))
+  untyped_step place error r below made h = if_refused r (λ fault was. untyped_told place error fault below was.1 was.0 was.2 h) made
 
 -- ---- what is found of the step at a place
 

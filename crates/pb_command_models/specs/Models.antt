@@ -26,6 +26,7 @@ use Rattle.pb_model_properties.specs.declared.verdicts.Verdict.TheVariants.{True
 use Rattle.pb_model_properties.specs.Asked.{asked_places, have_properties}
 use Rattle.pb_model_properties.specs.Negations.{IsRefusedNegation}
 use Rattle.pb_model_properties.specs.Reached.{reached_property}
+use Rattle.pb_model_properties.specs.Refusals.{is_limit_rule}
 use Rattle.pb_model_properties.specs.Refusals.{IsIllTypedText, IsRefusedModelText}
 use Rattle.pb_model_properties.specs.Refusals.{IsRefusedModelType, LacksProperty, LacksTranslation}
 use Rattle.pb_protocol_tree.specs.Form as protocol_form
@@ -115,9 +116,17 @@ IsShown protocol f true = protocol_satisfies protocol f ≡ true
 IsShown protocol f false =
     (protocol_satisfies protocol f ≡ false) × (protocol_satisfies protocol (negated f) ≡ true)
 
+-- the verdict needs the negation: the property isn't satisfied, and reached instances of its text
+-- call some outside the ranges
+abbrev pub NeedsNegation : ProtocolForm → protocol_form.PropertyForm → ModelForm → PropertyForm
+    → Type 0
+NeedsNegation protocol p model q =
+    (protocol_satisfies protocol p.formula ≡ false)
+    × ((answer : Answer) × IsPropertyAnswer model q answer × (0 < answer.cut))
+
 -- what is found of the property p of the protocol, which is q of the model that is solved in its
 -- place: the verdict on it; or, where counts aren't asked for, what is shown of it; or that its
--- text, or its negation's, is too large
+-- text is too large, or its negation's where the verdict needs that
 abbrev pub IsFinding : Bool → ProtocolForm → protocol_form.PropertyForm → ModelForm → PropertyForm →
     ℕ → Finding → Type 0
 IsFinding counts protocol p model q place (Decided verdict answer) =
@@ -125,7 +134,8 @@ IsFinding counts protocol p model q place (Decided verdict answer) =
 IsFinding counts protocol p model q place (Shown truth) =
     (counts ≡ false) × IsShown protocol p.formula truth
 IsFinding counts protocol p model q place (Refused excess) =
-    IsTooLargeProperty model q excess ⊎ IsTooLargeNegation protocol place excess
+    IsTooLargeProperty model q excess
+    ⊎ (NeedsNegation protocol p model q × IsTooLargeNegation protocol place excess)
 
 -- the model that is solved in the place of a protocol
 abbrev pub solved_form : SolvedModel → ModelForm
@@ -255,8 +265,14 @@ fault_of_property place solve_fault.TooManyVertices =
     solve_fault.Property (record { excess = Game; place = place })
 fault_of_property place fault = fault
 
+-- the verdict on the property at the place needs its negation, which is too large in this way
+abbrev pub HasLargeNegation : ProtocolForm → ModelForm → PropertyForm → ℕ → PropertyExcess → Type 0
+HasLargeNegation protocol model q place excess =
+    (p : protocol_form.PropertyForm) × (slice_get protocol.properties place ≡ Some p)
+    × NeedsNegation protocol p model q × IsTooLargeNegation protocol place excess
+
 -- a property of the model, whose name stands at the place, is too large in this way, or its
--- negation is
+-- negation is, which the verdict needs
 pub record HasTooLarge (bytes : List ℕ) (place : Place) (excess : PropertyExcess) : Type 0 where
   pub model : ModelForm
   pub said : IsModelOf bytes model
@@ -265,19 +281,21 @@ pub record HasTooLarge (bytes : List ℕ) (place : Place) (excess : PropertyExce
   pub asked : slice_get model.properties index ≡ Some property
   pub stands : property.name.place ≡ place
   pub large : IsTooLargeProperty model property excess
-      ⊎ IsTooLargeNegation said.protocol index excess
+      ⊎ HasLargeNegation said.protocol model property index excess
 
--- the text of a property of the model isn't well typed
+-- the text of a property of the model isn't well typed, by another rule than that of limits
 abbrev pub HasIllTyped : ModelForm → TypingFault → Type 0
 HasIllTyped model fault =
-    (p : PropertyForm) × (steps : List Place) × Contains model.properties p
-    × IsIllTypedText model steps p fault
+    (is_limit_rule fault.rule ≡ false)
+    × ((p : PropertyForm) × (steps : List Place) × Contains model.properties p
+    × IsIllTypedText model steps p fault)
 
--- the text that asks whether a step of the model can be taken isn't well typed
+-- so it is with the text that asks whether a step of the model can be taken
 abbrev pub HasIllTypedStep : ModelForm → TypingFault → Type 0
 HasIllTypedStep model fault =
-    (a : StepForm) × (steps : List Place) × Contains model.steps a
-    × IsIllTypedText model steps (reached_property model a) fault
+    (is_limit_rule fault.rule ≡ false)
+    × ((a : StepForm) × (steps : List Place) × Contains model.steps a
+    × IsIllTypedText model steps (reached_property model a) fault)
 
 abbrev pub IsIllTypedModel : List ℕ → TypingFault → Type 0
 IsIllTypedModel bytes fault =
@@ -329,9 +347,18 @@ IsUntold bytes (solve_fault.Typing fault) =
     IsIllTypedModel bytes fault ⊎ IsUnnegated bytes (solve_fault.Typing fault)
 IsUntold bytes fault = ⊥
 
+-- the text of a property is refused, also where it passes a limit
+abbrev pub HasRefusedProperty : List ℕ → TypingFault → Type 0
+HasRefusedProperty bytes fault =
+    (model : ModelForm) × IsModelOf bytes model
+    × ((p : PropertyForm) × (steps : List Place) × Contains model.properties p
+    × IsIllTypedText model steps p fault)
+
 -- `why`: so it is, or something of a property or of its negation is too large
 abbrev pub IsUnexplained : List ℕ → SolveFault → Type 0
 IsUnexplained bytes (solve_fault.Property fault) = HasTooLarge bytes fault.place fault.excess
+IsUnexplained bytes (solve_fault.Typing fault) =
+    IsUntold bytes (solve_fault.Typing fault) ⊎ HasRefusedProperty bytes fault
 IsUnexplained bytes fault = IsUntold bytes fault
 
 -- so it is with whatever bytes that say a protocol in whose place the model is solved

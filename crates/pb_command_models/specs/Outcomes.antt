@@ -13,6 +13,7 @@ use Rattle.pb_model_properties.specs.declared.solved.SolvedModel.{SolvedModel}
 use Rattle.pb_model_properties.specs.declared.verdicts.Verdict.{Verdict}
 use Rattle.pb_model_properties.specs.declared.verdicts.Verdict.TheVariants.{True, False, Unknown}
 use Rattle.pb_model_properties.specs.Negations.{IsNegatedModelOf, IsRefusedNegation}
+use Rattle.pb_model_properties.specs.Refusals.{is_limit}
 use Rattle.pb_model_properties.specs.Said.{protocol_satisfies, tree_satisfies, IsModelFor, IsModelOf}
 use Rattle.pb_model_properties.specs.Said.{IsTextOf, IsTheReading}
 use Rattle.pb_report.specs.declared.answer.Answer.{Answer}
@@ -21,8 +22,6 @@ use Rattle.pb_command_solver.specs.declared.early.Early.TheVariants as early
 use Rattle.pb_base.specs.OrMemory.{IfFault, IfRefused}
 use Rattle.pb_base.specs.declared.or_memory.OrMemory.{OrMemory}
 use Rattle.pb_base.specs.declared.or_memory.OrMemory.TheVariants as or_memory
-use Rattle.pb_typing_declarations.specs.declared.fault.TypingRule.{TypingRule}
-use Rattle.pb_typing_declarations.specs.declared.fault.TypingRule.TheVariants as rule
 use Rattle.pb_model_faults.specs.declared.ModelFault.{ModelFault}
 use Rattle.pb_model_faults.specs.declared.ModelFault.TheVariants as model_fault
 use Rattle.pb_command_faults.specs.declared.property_fault.PropertyExcess.{PropertyExcess}
@@ -50,27 +49,6 @@ use Rattle.pb_command_models.specs.Models.{IsPropertyAnswer, IsShown, IsTooLarge
 use Rattle.pb_command_models.specs.Models.{WhereUnexplained, verdict_of}
 
 -- ---- texts
-
--- the fault is that of a limit of texts
-abbrev pub is_limit_rule : TypingRule → Bool
-is_limit_rule rule.UnknownName = false
-is_limit_rule rule.NameTwice = false
-is_limit_rule rule.UnknownSort = false
-is_limit_rule rule.WrongKind = false
-is_limit_rule rule.MissingRange = false
-is_limit_rule rule.OddNegations = false
-is_limit_rule rule.PredicateInData = false
-is_limit_rule rule.WrongCount = false
-is_limit_rule rule.Divisor = false
-is_limit_rule rule.LargeInterval = false
-is_limit_rule rule.OutsideCarrier = false
-is_limit_rule rule.Limit = true
-is_limit_rule rule.QuantifierInData = false
-
-abbrev pub is_limit : ModelFault → Bool
-is_limit (model_fault.Typing fault) = is_limit_rule fault.rule
-is_limit (model_fault.Text fault) = false
-is_limit model_fault.NoProperty = false
 
 -- the error is a fault, and not want of memory
 abbrev pub IsFault : {F : Type 0} → OrMemory F → Type 0
@@ -131,7 +109,8 @@ pub record AsksUntyped (error : OrMemory ModelFault) (place : ℕ)
       × (asked.text ≡ property_text.TooLarge) × IfFault error (λ fault. is_limit fault ≡ true)
       × IsFault error)
   pub refused : IfRefused result (λ made.
-      IfFault error (λ fault. made ≡ fault_of_model fault) × IsFault error)
+      IfFault error (λ fault. made ≡ fault_of_model fault) × IsFault error
+      × IfFault error (λ fault. is_limit fault ≡ false))
 
 -- ---- modules
 

@@ -2,13 +2,12 @@
 ghost use Rattle.std.specs.Prelude.{◌≡◌, ◌<◌, length};
 ghost use Rattle.std.specs.List.{All};
 ghost use Rattle.pb_command_models.specs.Models.{solved_form};
-ghost use Rattle.pb_command_models.specs.Outcomes.{AsksProperties, AsksProperty, AsksUntyped, is_limit};
+ghost use Rattle.pb_command_models.specs.Outcomes.{AsksProperties, AsksProperty, AsksUntyped};
 
 use pb_base::OrMemory;
 use pb_command_faults::SolveFault;
-use pb_model_properties::{ModelError, ModelFault, SolvedModel, text_at};
+use pb_model_properties::{ModelError, SolvedModel, is_limit, text_at};
 use pb_typing::Typed;
-use pb_typing_declarations::TypingRule;
 use std::alloc::Global;
 
 /// The text of a property, unless it passes a limit of texts.
@@ -23,19 +22,6 @@ pub(crate) enum PropertyText {
 pub(crate) struct AskedText {
     pub place: usize,
     pub text: PropertyText,
-}
-
-// Whether a fault is that of a limit of texts.
-fn is_limit(fault: ModelFault) -> bool
-    ensures { result ≡ is_limit fault }
-{
-    match fault {
-        ModelFault::Typing(broken) => match broken.rule {
-            TypingRule::Limit => true,
-            _ => false,
-        },
-        _ => false,
-    }
 }
 
 /// The text of the property at a place that isn't well typed by this error.

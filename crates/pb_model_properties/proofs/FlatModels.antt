@@ -36,7 +36,7 @@ use Rattle.pb_protocol_unfolder.specs.declared.fault.UnfoldingRule.{UnfoldingRul
 use Rattle.pb_protocol_unfolder.specs.declared.fault.UnfoldingRule.TheVariants as unfolding_rule
 use Rattle.pb_protocol_unfolder.specs.declared.protocol.Unfolded.{Unfolded}
 use Rattle.pb_protocol_unfolder.specs.Faults.{IsUnfoldingFault}
-use Rattle.pb_protocol_unfolder.specs.Origins.{origin_name}
+use Rattle.pb_protocol_unfolder.specs.Origins.{origin_name, origin_place, told_step_places}
 use Rattle.pb_protocol_unfolder.specs.Plain.{is_plain_protocol}
 use Rattle.pb_protocol_unfolder.specs.Places as unfolded_places
 use Rattle.pb_protocol_unfolder.specs.Places.{HavePlacesOf}
@@ -51,6 +51,7 @@ use Rattle.pb_model_properties.specs.declared.solved.ToldNames.{ToldNames}
 use Rattle.pb_model_properties.specs.Faults.{as_model_fault}
 use Rattle.pb_model_properties.specs.Flat.{IsFlatModelFor}
 use Rattle.pb_model_properties.specs.Laws.{ModelsStandForProtocols}
+use Rattle.pb_model_properties.specs.Made.{IsFlatWhere, step_places_where}
 use Rattle.pb_model_properties.specs.Refusals.{IsRefusedProtocol, told_at, told_place}
 use Rattle.pb_model_properties.specs.Refusals.{told_step_place as step_place_of}
 use Rattle.pb_model_properties.specs.Solvable.{CanBeSolved}
@@ -62,6 +63,8 @@ use Rattle.pb_model_properties.specs.Words.{AreNamesOf, impossible_where, words_
 -- of their own, the names by which its variables and steps are told, and those of the protocol's
 -- steps that come to none
 pub record IsUnfoldedTo (protocol : ProtocolForm) (u : Unfolded) : Type 0 where
+  pub unfolds : is_plain_protocol protocol ≡ false
+  pub keeps : protocol_faults protocol ≡ []
   pub meaning : model_text.erase (model_form u.model) ≡ flat_model (erase protocol)
   pub hides_nothing : HidesNothing (erase protocol)
   pub names : map flat_name u.model.properties.items ≡ property_names protocol.properties
@@ -69,6 +72,7 @@ pub record IsUnfoldedTo (protocol : ProtocolForm) (u : Unfolded) : Type 0 where
   pub places : HavePlacesOf protocol (model_form u.model)
   pub told_variables : map string_bytes u.variables.items ≡ told.told_variables (erase protocol)
   pub told_steps : map origin_name u.steps.items ≡ told.told_steps (erase protocol)
+  pub told_places : map origin_place u.steps.items ≡ told_step_places protocol
   pub impossible :
       map string_bytes u.impossible.items ≡ told.impossible_steps (erase protocol)
 
@@ -150,7 +154,8 @@ unfolded_is_flat laws protocol u solvable is =
     let names = names_said u.model.properties.items ∙ is.names in
     let steps = places_said u.model.steps.items ∙ (is.steps ∙ numbered 0 (length u.model.steps.items)) in
     record {
-      from = inr is.meaning;
+      from = subst (λ (b : Bool). IsFlatWhere b protocol (model_form u.model)) (sym is.unfolds) is.meaning;
+      kept = inl is.keeps;
       solved = laws.unfolded protocol (model_form u.model) is.hides_nothing is.meaning names;
       first = first_named protocol.properties (model_form u.model).properties names solvable.first;
       apart = λ q among.
@@ -168,13 +173,17 @@ names_read [] = refl
 names_read (p ∷ ps) = ap (λ (xs : List Named). property_name p ∷ xs) (names_read ps)
 
 -- what the protocol is unfolded to, by what is known of its unfolding
-pub is_unfolded_to : (p : DeclaredProtocol) (u : Unfolded) → model_text.erase (model_form u.model) ≡ flat_model (erase (protocol_form.protocol_form p))
+pub is_unfolded_to : (p : DeclaredProtocol) (u : Unfolded) → is_plain_protocol (protocol_form.protocol_form p) ≡ false → protocol_faults (protocol_form.protocol_form p) ≡ []
+    → model_text.erase (model_form u.model) ≡ flat_model (erase (protocol_form.protocol_form p))
     → HidesNothing (erase (protocol_form.protocol_form p))
     → map flat_name u.model.properties.items ≡ map property_name p.properties.items → map step_place u.model.steps.items ≡ places_from 0 (length u.model.steps.items)
     → HavePlacesOf (protocol_form.protocol_form p) (model_form u.model) → map string_bytes u.variables.items ≡ told.told_variables (erase (protocol_form.protocol_form p))
     → map origin_name u.steps.items ≡ told.told_steps (erase (protocol_form.protocol_form p))
+    → map origin_place u.steps.items ≡ told_step_places (protocol_form.protocol_form p)
     → map string_bytes u.impossible.items ≡ told.impossible_steps (erase (protocol_form.protocol_form p)) → IsUnfoldedTo (protocol_form.protocol_form p) u
-is_unfolded_to p u meaning hides_nothing names steps places told_variables told_steps impossible = record {
+is_unfolded_to p u unfolds keeps meaning hides_nothing names steps places told_variables told_steps told_places impossible = record {
+  unfolds = unfolds;
+  keeps = keeps;
   meaning = meaning;
   hides_nothing = hides_nothing;
   names = names ∙ names_read p.properties.items;
@@ -182,20 +191,23 @@ is_unfolded_to p u meaning hides_nothing names steps places told_variables told_
   places = places;
   told_variables = told_variables;
   told_steps = told_steps;
+  told_places = told_places;
   impossible = impossible;
 }
 
 -- told by the protocol's names
 pub unfolded_names : (protocol : ProtocolForm) (u : Unfolded) (names : ToldNames) → is_plain_protocol protocol ≡ false → IsUnfoldedTo protocol u
-    → names.variables ≡ u.variables → map string_bytes names.steps.items ≡ map origin_name u.steps.items → names.impossible ≡ u.impossible
+    → names.variables ≡ u.variables → map string_bytes names.steps.items ≡ map origin_name u.steps.items → names.places.items ≡ map origin_place u.steps.items
+    → names.impossible ≡ u.impossible
     → AreNamesOf protocol (model_form u.model) (Some names)
-unfolded_names protocol u names unfolds is variables steps impossible = record {
+unfolded_names protocol u names unfolds is variables steps places impossible = record {
   words =
       ap₂ (told_vocabulary (model_form u.model)) (ap (λ (xs : _). map string_bytes xs.items) variables ∙ is.told_variables) (steps ∙ is.told_steps)
       ∙ ap (λ (b : Bool). words_where b (erase protocol) (model_form u.model)) (sym unfolds);
   impossible =
       ap (λ (xs : _). map string_bytes xs.items) impossible ∙ is.impossible
       ∙ ap (λ (b : Bool). impossible_where b (erase protocol)) (sym unfolds);
+  places = places ∙ is.told_places ∙ ap (λ (b : Bool). step_places_where b protocol) (sym unfolds);
 }
 
 -- ---- refusals

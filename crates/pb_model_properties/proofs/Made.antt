@@ -28,7 +28,7 @@ use Rattle.pb_protocol_laws.specs.SolvedLaws.{PlainModelsAreSolved, model_proper
 use Rattle.pb_model_faults.specs.declared.ModelFault.{ModelFault}
 use Rattle.pb_model_faults.specs.declared.ModelFault.TheVariants as model_fault
 use Rattle.pb_model_properties.specs.Laws.{ModelsStandForProtocols}
-use Rattle.pb_model_properties.specs.Made.{has_many_variables}
+use Rattle.pb_model_properties.specs.Made.{IsFlatOf, IsFlatWhere, KeepsRules, has_many_variables, step_places_where}
 use Rattle.pb_model_properties.specs.Refusals.{IsRefusedModel, IsRefusedProtocol, IsUnread, told_at, told_fault, told_place}
 use Rattle.pb_model_properties.specs.Said.{IsTheReading}
 use Rattle.pb_model_properties.specs.Solvable.{CanBeSolved}
@@ -53,10 +53,15 @@ names_kept protocol m words = plain_names m.properties ∙ ap (λ (x : ProtocolF
 
 -- what a plain protocol says of its model
 pub record IsPlainFor (protocol : ProtocolForm) (m : ModelForm) : Type 0 where
+  pub plainly : is_plain_protocol protocol ≡ true
   pub words : protocol ≡ plain_form m
+  pub rules : KeepsRules protocol m
   pub meaning : erase protocol ≡ plain (model_text.erase m)
   pub solvable : CanBeSolved protocol
   pub kept : KeptPlacesStandApart
+
+plain_of : (protocol : ProtocolForm) (m : ModelForm) → is_plain_protocol protocol ≡ true → protocol ≡ plain_form m → IsFlatOf protocol m
+plain_of protocol m plainly words = subst (λ (b : Bool). IsFlatWhere b protocol m) (sym plainly) words
 
 pub plain_is_flat : PlainModelsAreSolved → (protocol : ProtocolForm) (m : ModelForm) → IsPlainFor protocol m → IsPlain (model_text.erase m) → IsFlatModelFor protocol m
 plain_is_flat law protocol m is plainly =
@@ -64,7 +69,8 @@ plain_is_flat law protocol m is plainly =
     let apart : (q : protocol_form.PropertyForm) → Contains (plain_form m).properties q → places.protocol_stands_apart (plain_form m) q.formula ≡ true =
     subst (λ (x : ProtocolForm). (q : protocol_form.PropertyForm) → Contains x.properties q → places.protocol_stands_apart x q.formula ≡ true) is.words is.solvable.apart in
     record {
-      from = inl is.words;
+      from = plain_of protocol m is.plainly is.words;
+      kept = is.rules;
       solved = law protocol m plainly is.meaning (names_kept protocol m is.words);
       first = first_plain m.properties (subst (λ (x : ProtocolForm). (p : protocol_form.PropertyForm) × (slice_get x.properties 0 ≡ Some p)) is.words is.solvable.first);
       apart = λ p among. is.kept (plain_form m) (plain_formula_form p.formula) m p.formula (apart (plain_property_form p) (property_among m p among)) (plain_steps m.steps)
@@ -74,10 +80,10 @@ plain_is_flat law protocol m is plainly =
     }
 
 -- where the protocol keeps the rules
-pub kept_is_flat : ModelsStandForProtocols → (protocol : ProtocolForm) (m : ModelForm) → CanBeSolved protocol → protocol ≡ plain_form m → erase protocol ≡ plain (model_text.erase m)
-    → protocol_faults protocol ≡ [] → IsFlatModelFor protocol m
-kept_is_flat laws protocol m solvable words meaning keeps =
-    let is : IsPlainFor protocol m = record { words = words; meaning = meaning; solvable = solvable; kept = laws.kept } in
+pub kept_is_flat : ModelsStandForProtocols → (protocol : ProtocolForm) (m : ModelForm) → CanBeSolved protocol → is_plain_protocol protocol ≡ true → protocol ≡ plain_form m
+    → erase protocol ≡ plain (model_text.erase m) → protocol_faults protocol ≡ [] → IsFlatModelFor protocol m
+kept_is_flat laws protocol m solvable plainly words meaning keeps =
+    let is : IsPlainFor protocol m = record { plainly = plainly; words = words; rules = inl keeps; meaning = meaning; solvable = solvable; kept = laws.kept } in
     plain_is_flat laws.plain protocol m is (laws.rules protocol (model_text.erase m) keeps meaning)
 
 -- and its words are its own
@@ -85,6 +91,7 @@ pub plain_names_of : (protocol : ProtocolForm) (m : ModelForm) → is_plain_prot
 plain_names_of protocol m plainly = record {
   words = ap (λ (b : Bool). words_where b (erase protocol) m) (sym plainly);
   impossible = ap (λ (b : Bool). impossible_where b (erase protocol)) (sym plainly);
+  places = ap (λ (b : Bool). step_places_where b protocol) (sym plainly);
 }
 
 -- it has as many variables as the protocol
@@ -103,20 +110,20 @@ pub untold : (f : TypingFault) → f ≡ told_fault [] f
 untold f = ap (λ (p : Place). let x : TypingFault = record { rule = f.rule; place = p } in x) (sym (place_stays f.place f.place.column refl))
 
 -- a plain protocol's model that is not well typed
-pub plain_refused : (protocol : ProtocolForm) (m : ModelForm) → protocol ≡ plain_form m → has_many_variables m ≡ false → (e : OrMemory TypingFault) (x : OrMemory ModelFault)
+pub plain_refused : (protocol : ProtocolForm) (m : ModelForm) → is_plain_protocol protocol ≡ true → protocol ≡ plain_form m → has_many_variables m ≡ false
+    → (e : OrMemory TypingFault) (x : OrMemory ModelFault)
     → raised (λ f above. above ≡ model_fault.Typing f) e x → IfFault e (IsModelFault m) → IfFault e (λ _. ¬ IsTypedModel m) → IfFault x (IsRefusedProtocol protocol)
-plain_refused protocol m words few (Refused f) (Refused above) made fault ill = subst (IsRefusedProtocol protocol) (sym made) (inl (record {
+plain_refused protocol m plainly words few (Refused f) (Refused above) made fault ill = subst (IsRefusedProtocol protocol) (sym made) (inl (record {
   model = m;
-  made = as_it_is m few protocol (inl words);
+  made = as_it_is m few protocol (plain_of protocol m plainly words);
   ill_typed = ill;
   broken = f;
   fails = fault;
-  steps = [];
-  told = untold f;
+  told = untold f ∙ ap (λ (b : Bool). told_fault (step_places_where b protocol) f) (sym plainly);
 }))
-plain_refused protocol m words few (Refused f) Memory made fault ill = tt
-plain_refused protocol m words few Memory (Refused above) made fault ill = absurd made
-plain_refused protocol m words few Memory Memory made fault ill = tt
+plain_refused protocol m plainly words few (Refused f) Memory made fault ill = tt
+plain_refused protocol m plainly words few Memory (Refused above) made fault ill = absurd made
+plain_refused protocol m plainly words few Memory Memory made fault ill = tt
 
 -- bytes that say no protocol are refused by the fault that stands first in them
 pub unread : (bytes : List ℕ) (e : OrMemory TextFault) (x : OrMemory ModelFault) → raised (λ f above. above ≡ model_fault.Text f) e x
@@ -146,5 +153,5 @@ refused_of bytes protocol read (Err Memory) h = tt
 
 pub model_of_bytes : (bytes : List ℕ) (protocol : ProtocolForm) → IsTheReading bytes protocol → (r : Result SolvedModel (OrMemory ModelFault))
     → IfOk r (IsToldModel protocol) → IfOk r (IsToldModelOf bytes)
-model_of_bytes bytes protocol read (Ok x) h = record { said = record { protocol = protocol; read = read; is_for = h.is_for }; words = h.words; impossible = h.impossible }
+model_of_bytes bytes protocol read (Ok x) h = record { said = record { protocol = protocol; read = read; is_for = h.is_for }; words = h.words; impossible = h.impossible; places = h.places }
 model_of_bytes bytes protocol read (Err e) h = tt

@@ -22,7 +22,8 @@ use Rattle.pb_model_words.specs.Vocabulary.{packed_vocabulary}
 use Rattle.pb_protocol_packing.specs.Groups.{groups_of, packed}
 use Rattle.pb_protocol_packing.specs.Packable.{IsPackable}
 use Rattle.pb_protocol_packer.specs.Groups.{groups_in}
-use Rattle.pb_protocol_groups.specs.Checks.{IsPackingFault}
+use Rattle.pb_typing_declarations.specs.Faults.{IsAmong}
+use Rattle.pb_protocol_groups.specs.Checks.{packing_faults}
 use Rattle.pb_protocol_groups.specs.Places.{named_properties, property_places}
 use Rattle.pb_protocol_groups.specs.Sizes.{size_faults}
 use Rattle.pb_protocol_laws.specs.FewValues.{HasFewValues}
@@ -35,7 +36,7 @@ use Rattle.pb_model_properties.specs.declared.solved.UnpackedModel.{UnpackedMode
 use Rattle.pb_model_properties.specs.Flat.{IsFlatModelFor}
 use Rattle.pb_model_properties.specs.Laws.{ModelsStandForProtocols}
 use Rattle.pb_model_properties.specs.Made.{IsFlatOf, IsMadeOf, has_many_variables}
-use Rattle.pb_model_properties.specs.Refusals.{IsRefusedFlat, IsRefusedProtocol, told_fault}
+use Rattle.pb_model_properties.specs.Refusals.{IsRefusedFlat, IsRefusedProtocol, told_fault, told_places}
 use Rattle.pb_model_properties.specs.Words.{AreNamesOf, IsSolvedFlat, IsToldModel}
 use Rattle.pb_model_properties.proofs.FlatProperties.{HasWords, StandsApart, all_apart, all_of, all_packed, can_be_said, first_kept}
 
@@ -54,6 +55,7 @@ flat_told said m t names few kept typed protocol is called =
           where_many = sym (ap (λ (x : Model). has_many_variables (model_form x)) kept ∙ few);
           made = refl;
         };
+        kept = flat.kept;
         solved = flat.solved;
         typed = subst (λ (x : Model). IsTypedModel (model_form x)) (sym kept) typed;
         first = flat.first;
@@ -62,6 +64,7 @@ flat_told said m t names few kept typed protocol is called =
       };
       words = (subst (λ (x : Model). AreNamesOf protocol (model_form x) names) (sym kept) called).words;
       impossible = called.impossible;
+      places = called.places;
     }
 
 -- ---- the flat model packed
@@ -97,6 +100,7 @@ packed_told laws u n t names many kept typed is_packed groups protocol is called
     record {
       is_for = record {
         made = record { flat = m; from = is.from; is_packed = true; where_many = sym many; made = (to.packable, to.meaning) };
+        kept = is.kept;
         solved = laws.packed protocol m (model_form t.model) is.solved to.packable to.meaning to.names;
         typed = subst (λ (x : Model). IsTypedModel (model_form x)) (sym kept) typed;
         first = first_kept m.properties (model_form t.model).properties to.names is.first;
@@ -105,26 +109,26 @@ packed_told laws u n t names many kept typed is_packed groups protocol is called
       };
       words = ap₂ packed_vocabulary groups called.words;
       impossible = called.impossible;
+      places = called.places;
     }
 
 -- ---- refusals
 
 -- the model that is made of the flat one isn't well typed
-pub ill_typed_told : (m n : ModelForm) → ((protocol : ProtocolForm) → IsFlatOf protocol m → IsMadeOf protocol n) → (steps : List Place) (e : OrMemory TypingFault)
-    (x : OrMemory ModelFault) → raised (λ f above. above ≡ model_fault.Typing (told_fault steps f)) e x → IfFault e (IsModelFault n)
-    → IfFault e (λ _. ¬ IsTypedModel n) → IfFault x (IsRefusedFlat m)
-ill_typed_told m n of_flat steps (Refused f) (Refused above) made fault ill = λ protocol is. subst (IsRefusedProtocol protocol) (sym made) (inl (record {
+pub ill_typed_told : (m n : ModelForm) → ((protocol : ProtocolForm) → IsFlatOf protocol m → IsMadeOf protocol n) → (names : Option ToldNames) (e : OrMemory TypingFault)
+    (x : OrMemory ModelFault) → raised (λ f above. above ≡ model_fault.Typing (told_fault (told_places names) f)) e x → IfFault e (IsModelFault n)
+    → IfFault e (λ _. ¬ IsTypedModel n) → IfFault x (IsRefusedFlat m names)
+ill_typed_told m n of_flat names (Refused f) (Refused above) made fault ill = λ protocol is called. subst (IsRefusedProtocol protocol) (sym made) (inl (record {
   model = n;
   made = of_flat protocol is.from;
   ill_typed = ill;
   broken = f;
   fails = fault;
-  steps = steps;
-  told = refl;
+  told = ap (λ (ps : List Place). told_fault ps f) called.places;
 }))
-ill_typed_told m n of_flat steps (Refused f) Memory made fault ill = tt
-ill_typed_told m n of_flat steps Memory (Refused above) made fault ill = absurd made
-ill_typed_told m n of_flat steps Memory Memory made fault ill = tt
+ill_typed_told m n of_flat names (Refused f) Memory made fault ill = tt
+ill_typed_told m n of_flat names Memory (Refused above) made fault ill = absurd made
+ill_typed_told m n of_flat names Memory Memory made fault ill = tt
 
 pub as_it_is : (m : ModelForm) → has_many_variables m ≡ false → (protocol : ProtocolForm) → IsFlatOf protocol m → IsMadeOf protocol m
 as_it_is m few protocol from = record { flat = m; from = from; is_packed = false; where_many = sym few; made = refl }
@@ -132,20 +136,20 @@ as_it_is m few protocol from = record { flat = m; from = from; is_packed = false
 pub as_packed : (m n : ModelForm) → has_many_variables m ≡ true → IsPackedTo m n → (protocol : ProtocolForm) → IsFlatOf protocol m → IsMadeOf protocol n
 as_packed m n many to protocol from = record { flat = m; from = from; is_packed = true; where_many = sym many; made = (to.packable, to.meaning) }
 
--- the flat model isn't packed
-pub not_packed_told : (m : ModelForm) (steps : List Place) (e : OrMemory TypingFault) (x : OrMemory ModelFault)
-    → raised (λ f above. above ≡ model_fault.Typing (told_fault steps f)) e x → IfFault e (IsPackingFault m) → IfFault x (IsRefusedFlat m)
-not_packed_told m steps (Refused f) (Refused above) made fault = λ protocol is. subst (IsRefusedProtocol protocol) (sym made) (inr (inr (inr (record {
+-- the flat model has many variables and isn't packed
+pub not_packed_told : (m : ModelForm) (names : Option ToldNames) (e : OrMemory TypingFault) (x : OrMemory ModelFault) → has_many_variables m ≡ true
+    → raised (λ f above. above ≡ model_fault.Typing (told_fault (told_places names) f)) e x → IsAmong (packing_faults m) e → IfFault x (IsRefusedFlat m names)
+not_packed_told m names (Refused f) (Refused above) many made fault = λ protocol is called. subst (IsRefusedProtocol protocol) (sym made) (inr (inr (inr (inl (record {
   flat = m;
   from = is.from;
+  many = many;
   broken = f;
   fails = fault;
-  steps = steps;
-  told = refl;
-}))))
-not_packed_told m steps (Refused f) Memory made fault = tt
-not_packed_told m steps Memory (Refused above) made fault = absurd made
-not_packed_told m steps Memory Memory made fault = tt
+  told = ap (λ (ps : List Place). told_fault ps f) called.places;
+})))))
+not_packed_told m names (Refused f) Memory many made fault = tt
+not_packed_told m names Memory (Refused above) many made fault = absurd made
+not_packed_told m names Memory Memory many made fault = tt
 
 -- ---- of the protocol that the flat model is for
 
@@ -154,8 +158,9 @@ pub solved_for : (protocol : ProtocolForm) (m : ModelForm) (names : Option ToldN
 solved_for protocol m names is called (Ok x) h = h protocol is called
 solved_for protocol m names is called (Err e) h = tt
 
-pub refused_for : (protocol : ProtocolForm) (m : ModelForm) → IsFlatModelFor protocol m → (r : Result SolvedModel (OrMemory ModelFault)) → IfRefused r (IsRefusedFlat m)
+pub refused_for : (protocol : ProtocolForm) (m : ModelForm) (names : Option ToldNames) → IsFlatModelFor protocol m → AreNamesOf protocol m names
+    → (r : Result SolvedModel (OrMemory ModelFault)) → IfRefused r (IsRefusedFlat m names)
     → IfRefused r (IsRefusedProtocol protocol)
-refused_for protocol m is (Ok x) h = tt
-refused_for protocol m is (Err (Refused f)) h = h protocol is
-refused_for protocol m is (Err Memory) h = tt
+refused_for protocol m names is called (Ok x) h = tt
+refused_for protocol m names is called (Err (Refused f)) h = h protocol is called
+refused_for protocol m names is called (Err Memory) h = tt

@@ -1,24 +1,19 @@
 -- The flat model of a protocol that keeps the rules.
 use Rattle.std.specs.Prelude.{◌≡◌, true, Contains, Some}
 use Rattle.std.specs.List.{slice_get}
-use Rattle.pb_text_tree.specs.declared.place.Place.{Place}
 use Rattle.pb_model_tree.specs.Form.{ModelForm, PropertyForm}
 use Rattle.pb_model_meaning.specs.Erase as model_text
 use Rattle.pb_model_runs.specs.Exact.{stand_apart}
 use Rattle.pb_model_spelling.specs.Writable.{ModalWritable, ModelWritable}
 use Rattle.pb_protocol_tree.specs.Form.{ProtocolForm}
-use Rattle.pb_protocol_unfolder.specs.declared.origin.StepOrigin.{StepOrigin}
 use Rattle.pb_protocol_laws.specs.Solved.{itself, IsSolvedFor}
-use Rattle.pb_model_properties.specs.Made.{IsFlatOf}
+use Rattle.pb_model_properties.specs.Made.{IsFlatOf, KeepsRules}
 
--- where a step's name stands in the protocol
-abbrev pub origin_place : StepOrigin → Place
-origin_place origin = origin.place
-
--- A flat model of the protocol that may be solved in its place. It has a property; the names of its
--- steps stand at places of their own, and its names are words.
+-- A flat model of a protocol that keeps the rules, which may be solved in its place. It has a
+-- property; the names of its steps stand at places of their own, and its names are words.
 pub record IsFlatModelFor (protocol : ProtocolForm) (flat : ModelForm) : Type 0 where
   pub from : IsFlatOf protocol flat
+  pub kept : KeepsRules protocol flat
   pub solved : IsSolvedFor protocol flat itself
   pub first : (p : PropertyForm) × (slice_get flat.properties 0 ≡ Some p)
   pub apart : (p : PropertyForm) → Contains flat.properties p → stand_apart flat p.formula ≡ true

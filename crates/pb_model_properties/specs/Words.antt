@@ -1,6 +1,7 @@
 -- The words in which the model is told that is solved in a protocol's place.
 use Rattle.std.specs.Prelude.{◌≡◌, ℕ, Bool, true, false, List, [], Option, Some, None, map}
 use Rattle.std.specs.Prelude.{string_bytes}
+use Rattle.pb_text_tree.specs.declared.place.Place.{Place}
 use Rattle.pb_text_meaning.specs.Syntax.{Name}
 use Rattle.pb_model_tree.specs.Form.{ModelForm, model_form}
 use Rattle.pb_model_meaning.specs.Erase as model_text
@@ -18,7 +19,7 @@ use Rattle.pb_model_properties.specs.declared.solved.ToldNames.{ToldNames}
 use Rattle.pb_model_properties.specs.declared.solved.SolvedModel.{SolvedModel}
 use Rattle.pb_model_properties.specs.declared.solved.UnpackedModel.{UnpackedModel}
 use Rattle.pb_model_properties.specs.Flat.{IsFlatModelFor}
-use Rattle.pb_model_properties.specs.Made.{IsMadeOf}
+use Rattle.pb_model_properties.specs.Made.{IsMadeOf, step_name_places}
 use Rattle.pb_model_properties.specs.Said.{IsModelFor, IsModelOf}
 
 -- a plain protocol's flat model in its own words, an unfolded one with the protocol's names
@@ -71,11 +72,17 @@ abbrev pub impossible_in : Option ToldNames → List Name
 impossible_in None = []
 impossible_in (Some names) = map string_bytes names.impossible.items
 
+-- where these names say that those of steps stand in the protocol
+abbrev pub places_of_names : Option ToldNames → List Place
+places_of_names None = []
+places_of_names (Some names) = names.places.items
+
 -- the names are those by which a flat model of the protocol is told
 pub record AreNamesOf (protocol : ProtocolForm) (flat : ModelForm) (names : Option ToldNames)
     : Type 0 where
   pub words : words_with flat names ≡ flat_words protocol flat
   pub impossible : impossible_in names ≡ impossible_step_names protocol
+  pub places : places_of_names names ≡ step_name_places protocol
 
 -- the model is solved in the protocol's place, and its words are the protocol's
 pub record IsToldModel (protocol : ProtocolForm) (solved : SolvedModel) : Type 0 where
@@ -83,6 +90,7 @@ pub record IsToldModel (protocol : ProtocolForm) (solved : SolvedModel) : Type 0
   pub words :
       words_in solved ≡ words_of protocol (model_form solved.typed.model) is_for.made
   pub impossible : impossible_in solved.names ≡ impossible_step_names protocol
+  pub places : places_of_names solved.names ≡ step_name_places protocol
 
 -- so it is with the protocol that the bytes say
 pub record IsToldModelOf (bytes : List ℕ) (solved : SolvedModel) : Type 0 where
@@ -91,6 +99,7 @@ pub record IsToldModelOf (bytes : List ℕ) (solved : SolvedModel) : Type 0 wher
       words_in solved
       ≡ words_of said.protocol (model_form solved.typed.model) said.is_for.made
   pub impossible : impossible_in solved.names ≡ impossible_step_names said.protocol
+  pub places : places_of_names solved.names ≡ step_name_places said.protocol
 
 -- it is the model for whatever protocol the flat one is for and these names are of
 abbrev pub IsSolvedFlat : ModelForm → Option ToldNames → SolvedModel → Type 0

@@ -25,7 +25,7 @@ pub(crate) fn flat_solved(
     names: Option<ToldNames>,
 ) -> Result<SolvedModel, ModelError>
     ensures model { IfOk result (IsSolvedFlat (model_form model) names) }
-    ensures refused { IfRefused result (IsRefusedFlat (model_form model)) }
+    ensures refused { IfRefused result (IsRefusedFlat (model_form model) names) }
 {
     models_stand_for_protocols();
     if !is_flat_state_large(alloc, &model.state)? {

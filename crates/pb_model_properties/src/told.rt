@@ -3,10 +3,9 @@
 
 ghost use Rattle.std.specs.Prelude.{◌≡◌, map, string_bytes, IfOk};
 ghost use Rattle.pb_base.specs.OrMemory.{raised};
-ghost use Rattle.pb_protocol_unfolder.specs.Origins.{origin_name};
+ghost use Rattle.pb_protocol_unfolder.specs.Origins.{origin_name, origin_place};
 ghost use Rattle.pb_model_faults.specs.declared.ModelFault.TheVariants.{Typing};
 ghost use Rattle.pb_model_properties.specs.Refusals.{told_fault, told_place, told_places};
-ghost use Rattle.pb_model_properties.specs.Flat.{origin_place};
 
 use crate::solved::ToldNames;
 use pb_base::OrMemory;

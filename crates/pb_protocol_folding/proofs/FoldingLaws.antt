@@ -11,7 +11,7 @@ use Rattle.pb_text_meaning.specs.Functions.{named_function}
 use Rattle.pb_text_meaning.specs.Sorts.{is_recogniser}
 use Rattle.pb_text_meaning.specs.Value as meaning
 use Rattle.pb_text_meaning.proofs.Truths.{is_true-of_bool}
-use Rattle.pb_protocol_folding.specs.Folding.{number, is_small, small_value, place_value, written_value, truth_value, and_of, or_of, implies_of, not_of, negative_of, computed, operation_of, recogniser_of, function_of_one, function_of_two, function_of_three, folded_application, is_if, is_test, settled, folded, folded_arguments}
+use Rattle.pb_protocol_folding.specs.Folding.{number, is_small, small_value, place_value, written_value, truth_value, and_of, or_of, implies_of, not_of, negative_of, computed, may_compute, operation_of, recogniser_of, function_of_one, function_of_two, function_of_three, folded_application, is_if, is_test, settled, folded, folded_arguments}
 use Rattle.pb_protocol_folding.specs.Names.{HidesNoEnumerator}
 use Rattle.pb_protocol_folding.specs.Laws.{FoldingKeepsValues}
 
@@ -139,8 +139,11 @@ module _ (spec : Spec) (a : Assignment) (hides : HidesNoEnumerator spec a) where
 
   operation-value : (o : Operator) (x y : Term) (p r : Option Value) → written_value spec x ≡ p → written_value spec y ≡ r →
       value spec a (operation_of o p r x y) ≡ binary o (value spec a x) (value spec a y)
-  operation-value o x y (Some v) (Some w) e h =
-      computed-value o v w ∙ (ap (λ u. binary o u w) (sym (written-value x v e)) ∙ ap (binary o (value spec a x)) (sym (written-value y w h)))
+  operation-value o x y (Some v) (Some w) e h = by (may_compute o w)
+    where
+      by : (b : Bool) → value spec a (if b then computed o v w else Term.Binary o x y) ≡ binary o (value spec a x) (value spec a y)
+      by true = computed-value o v w ∙ (ap (λ u. binary o u w) (sym (written-value x v e)) ∙ ap (binary o (value spec a x)) (sym (written-value y w h)))
+      by false = refl
   operation-value o x y (Some v) None e h = refl
   operation-value o x y None (Some w) e h = refl
   operation-value o x y None None e h = refl

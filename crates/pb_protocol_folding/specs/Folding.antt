@@ -135,8 +135,15 @@ abbrev pub computed : Operator → Value → Value → Term
 computed o v w =
     if is_comparison o then Term.Truth (is_true (binary o v w)) else number (binary o v w)
 
+-- Nothing is divided by less than 1: the operation stays, where T09 of the text is told.
+abbrev pub may_compute : Operator → Value → Bool
+may_compute Operator.Div w = int_le (pos 1) w
+may_compute Operator.Mod w = int_le (pos 1) w
+may_compute o w = true
+
 abbrev pub operation_of : Operator → Option Value → Option Value → Term → Term → Term
-operation_of o (Some v) (Some w) x y = computed o v w
+operation_of o (Some v) (Some w) x y =
+    if may_compute o w then computed o v w else Term.Binary o x y
 operation_of o v w x y = Term.Binary o x y
 
 -- -x, and a comparison or operator of two numbers, of folded operands

@@ -6,6 +6,7 @@ ghost use Rattle.pb_text_meaning.specs.Syntax as syntax;
 ghost use Rattle.pb_text_meaning.specs.Erase.{of_arithmetic, of_comparison};
 ghost use Rattle.pb_text_meaning.specs.Value as meaning;
 ghost use Rattle.pb_protocol_folding.specs.Folding.{folded_negative, folded_operation};
+ghost use Rattle.pb_protocol_folding.specs.Folding.{may_compute};
 ghost use Rattle.pb_protocol_folding.specs.View.{spec_of, term_of};
 
 use crate::links::{alone, first_and_links};
@@ -60,6 +61,16 @@ fn calculate(operator: Arithmetic, left: i32, right: i32) -> i64
         Arithmetic::Times => left * right,
         Arithmetic::Div => quotient(left, right),
         Arithmetic::Mod => remainder(left, right),
+    }
+}
+
+/// Whether an operator of two whole numbers is computed: not a division by less than 1.
+fn may_compute(operator: Arithmetic, right: i32) -> bool
+    ensures { result ≡ may_compute (of_arithmetic operator) right }
+{
+    match operator {
+        Arithmetic::Div | Arithmetic::Mod => right >= 1,
+        Arithmetic::Plus | Arithmetic::Minus | Arithmetic::Times => true,
     }
 }
 
@@ -123,7 +134,8 @@ fn operated_term(
     Ok(Term::Arithmetic { first, links })
 }
 
-/// An operator of two folded terms. The place is that of the operator.
+/// An operator of two folded terms, which stays where it divides by less than 1. The place is that
+/// of the operator.
 ///
 /// # Errors
 /// Memory was refused.
@@ -139,10 +151,12 @@ pub fn arithmetic_term(
 {
     if let Some(low) = written_value(folding.sorts, &left) {
         if let Some(high) = written_value(folding.sorts, &right) {
-            drop(left);
-            drop(right);
-            let value = calculate(operator, low, high);
-            return number_term(folding.alloc, place, value);
+            if may_compute(operator, high) {
+                drop(left);
+                drop(right);
+                let value = calculate(operator, low, high);
+                return number_term(folding.alloc, place, value);
+            }
         }
     }
     operated_term(folding.alloc, place, operator, left, right)

@@ -1,125 +1,176 @@
--- The names of variables in rows of operands, steps and models.
-use Rattle.std.proofs.Common.{◌≡◌, List, [], ◌∷◌, ◌++◌, flat_map, refl, sym, ap, ◌∙◌, append_assoc}
-use Rattle.std.proofs.lemmas.List.{append-nil, map-append}
+-- The names of variables in rows of operands, steps and models, as the code meets them; and that they are those of all variables.
+use Rattle.std.proofs.Common.{◌≡◌, List, [], ◌∷◌, ◌++◌, map, flat_map, refl, sym, ap, ◌∙◌, Result, Ok, Err, OnOk, Vec, Box, Global}
+use Rattle.std.specs.Prelude.{box_value}
+use Rattle.std.proofs.lemmas.List.{append-nil, append_assoc, map-append}
 use Rattle.pb_text_tree.specs.declared.operator.Connective.{Connective}
 use Rattle.pb_text_tree.specs.declared.operator.Connective.TheVariants as connective
-use Rattle.pb_text_meaning.specs.Syntax.{Name, Variable, Operator, Term, Terms}
-use Rattle.pb_model_tree.specs.declared.step.Step as tree_step
-use Rattle.pb_model_tree.specs.declared.model.Model as tree_model
-use Rattle.pb_model_meaning.specs.Syntax.{Assignment, Step, Property, Formula, Model}
-use Rattle.pb_model_meaning.specs.Erase.{joined, model_of}
+use Rattle.pb_text_tree.specs.declared.name.Name as declared_name
+use Rattle.pb_text_tree.specs.declared.term.Term as term
+use Rattle.pb_text_tree.specs.declared.term.Term.{Term}
+use Rattle.pb_text_tree.specs.declared.term.TermLink.{TermLink}
+use Rattle.pb_text_tree.specs.declared.term.ArithmeticLink.{ArithmeticLink}
+use Rattle.pb_text_tree.specs.declared.term.Argument.{Argument}
+use Rattle.pb_text_tree.specs.Form.{Named, named, VariableForm, TermForm, ArgumentForms, no_arguments, argument, term_form, term_links, arithmetic_links, argument_forms, chained, calculated}
+use Rattle.pb_text_tree.proofs.FormLemmas.{term-chain, term-arithmetic, term-application}
+use Rattle.pb_text_meaning.specs.Syntax.{Name, Variable}
+use Rattle.pb_text_meaning.specs.Erase.{erased_arguments, erased_term, erased_variables}
+use Rattle.pb_typing_declarations.specs.Declarations.{variable_names}
+use Rattle.pb_model_tree.specs.declared.formula.Formula as formula
+use Rattle.pb_model_tree.specs.declared.formula.Formula.{Formula, Row_of-Link, end_of-Link, more_of-Link, items-the_row-Link, items_hidden-the_row-Link-0}
+use Rattle.pb_model_tree.specs.declared.formula.Link.{Link}
+use Rattle.pb_model_tree.specs.declared.formula.Modality.TheVariants as modality
+use Rattle.pb_model_tree.specs.Form.{AssignmentForm, StepForm, FormulaForm, PropertyForm, ModelForm, formula_form, links_in}
+use Rattle.pb_model_meaning.specs.Syntax as model
+use Rattle.pb_model_meaning.specs.Erase.{erase, erased_assignment, erased_formula, erased_property, erased_step}
 use Rattle.pb_protocol_packing.specs.Packable.{bound_in, all_bound_in, bound_in_formula, bound_in_step, all_variables}
-use Rattle.pb_protocol_packer.specs.View.{term_of, terms_of, variables_in, joined_terms, calculated_terms}
-use Rattle.pb_protocol_packer.specs.Steps.{assignments_in, step_of}
-use Rattle.pb_protocol_packer.specs.Properties.{erased_step_list, properties_in}
 use Rattle.pb_protocol_packer.specs.Initial.{variable_name}
-use Rattle.pb_protocol_packer.proofs.Nodes.{erased-all}
-use Rattle.pb_protocol_packer.proofs.AssignmentRows.{assignment-forms}
-use Rattle.pb_protocol_packer.proofs.ModelRows.{step-forms, property-forms}
-use Rattle.pb_protocol_packer.proofs.FormulaRows.{all_joined}
-use Rattle.pb_protocol_groups.specs.Bound.{names_of_variables, bound_names, all_bound_names, formula_bound_names, assigned_bound_names, step_bound_names, property_bound_names, model_bound_names, operation_bound_names}
-use Rattle.pb_protocol_groups.proofs.Rows.{two-parts}
-
-pub names-append : (xs ys : List Variable) → names_of_variables (xs ++ ys) ≡ names_of_variables xs ++ names_of_variables ys
-names-append xs ys = map-append variable_name xs ys
+use Rattle.pb_protocol_groups.specs.Bound.{bound_names, all_bound_names, formula_bound_names, assigned_bound_names, step_bound_names, property_bound_names, model_bound_names}
+use Rattle.pb_protocol_groups.specs.BoundLinks.{links_bound_names, operations_bound_names, operands_bound_names}
+use Rattle.pb_protocol_groups.specs.Checks.{texts}
+use mathlib.Core.Former.{Count}
 
 -- ---- operands
 
-pub bound-joined : (o : Operator) (x : Term) (ys : List Term) → bound_names (joined_terms o x ys) ≡ bound_names x ++ flat_map bound_names ys
-bound-joined o x [] = sym (append-nil (bound_names x))
-bound-joined o x (y ∷ ys) = ap (λ (ns : List Name). bound_names x ++ ns) (bound-joined o y ys)
+chain-names : (c : Connective) (f : TermForm) (ls : List TermLink) → bound_names (chained (TermForm.connected c) f (term_links ls)) ≡ bound_names f ++ links_bound_names ls
+chain-names c f [] = sym (append-nil (bound_names f))
+chain-names c f (l ∷ ls) = ap (λ (xs : List Named). bound_names f ++ xs) (chain-names c (term_form l.operand) ls)
 
-pub bound-calculated : (x : Term) (os : List (Operator × Term)) → bound_names (calculated_terms x os) ≡ bound_names x ++ flat_map operation_bound_names os
-bound-calculated x [] = sym (append-nil (bound_names x))
-bound-calculated x (o ∷ os) =
-    bound-calculated (Term.Binary o.0 x o.1) os ∙ append_assoc (bound_names x) (operation_bound_names o) (flat_map operation_bound_names os)
+pub chain-said : (t x : Term) (c : Connective) (p : Box Term Global) (v : Vec TermLink Global) (ls : List TermLink) → t ≡ term.Chain c p v → x ≡ box_value p → ls ≡ v.items
+    → bound_names (term_form t) ≡ bound_names (term_form x) ++ links_bound_names ls
+chain-said t x c p v ls is at same =
+    ap (λ u. bound_names (term_form u)) is ∙ (ap bound_names (term-chain c p v) ∙ (chain-names c (term_form (box_value p)) v.items
+    ∙ (ap (λ ks. bound_names (term_form (box_value p)) ++ links_bound_names ks) (sym same) ∙ ap (λ u. bound_names (term_form u) ++ links_bound_names ls) (sym at))))
 
-pub bound-formulas-joined : (c : Connective) (f : Formula) (gs : List Formula) → formula_bound_names (all_joined c f gs) ≡ formula_bound_names f ++ flat_map formula_bound_names gs
-bound-formulas-joined c f [] = sym (append-nil (formula_bound_names f))
-bound-formulas-joined c f (g ∷ gs) = by c ∙ ap (λ (ns : List Name). formula_bound_names f ++ ns) (bound-formulas-joined c g gs)
-  where
-    by : (c : Connective) → formula_bound_names (joined c f (all_joined c g gs)) ≡ formula_bound_names f ++ formula_bound_names (all_joined c g gs)
-    by connective.And = refl
-    by connective.Or = refl
-    by connective.Implies = refl
+arithmetic-names : (f : TermForm) (ls : List ArithmeticLink) → bound_names (calculated f (arithmetic_links ls)) ≡ bound_names f ++ operations_bound_names ls
+arithmetic-names f [] = sym (append-nil (bound_names f))
+arithmetic-names f (l ∷ ls) =
+    arithmetic-names (TermForm.computed l.operator l.place f (term_form l.operand)) ls ∙ append_assoc (bound_names f) (bound_names (term_form l.operand)) (operations_bound_names ls)
 
--- ---- steps and models
+pub arithmetic-said : (t x : Term) (p : Box Term Global) (v : Vec ArithmeticLink Global) (ls : List ArithmeticLink) → t ≡ term.Arithmetic p v → x ≡ box_value p → ls ≡ v.items
+    → bound_names (term_form t) ≡ bound_names (term_form x) ++ operations_bound_names ls
+arithmetic-said t x p v ls is at same =
+    ap (λ u. bound_names (term_form u)) is ∙ (ap bound_names (term-arithmetic p v) ∙ (arithmetic-names (term_form (box_value p)) v.items
+    ∙ (ap (λ ks. bound_names (term_form (box_value p)) ++ operations_bound_names ks) (sym same) ∙ ap (λ u. bound_names (term_form u) ++ operations_bound_names ls) (sym at))))
 
-pub step-parts : (s : tree_step.Step)
-    → step_bound_names (step_of s) ≡ names_of_variables (variables_in s.variables.items) ++ (bound_names (term_of s.guard) ++ flat_map assigned_bound_names (assignments_in s.assignments.items))
-step-parts s =
-    ap (λ (bs : List Assignment). names_of_variables (variables_in s.variables.items) ++ (bound_names (term_of s.guard) ++ flat_map assigned_bound_names bs)) (assignment-forms s.assignments.items)
+pub application-said : (t : Term) (f : declared_name.Name) (v : Vec Argument Global) (es : List Argument) → t ≡ term.Application f v → es ≡ v.items
+    → bound_names (term_form t) ≡ all_bound_names (argument_forms es)
+application-said t f v es is same =
+    ap (λ u. bound_names (term_form u)) is ∙ (ap bound_names (term-application f v) ∙ ap (λ ks. all_bound_names (argument_forms ks)) (sym same))
 
-abbrev in_parts : List Variable → List Step → Terms → List Property → List Name
-in_parts vs ss ts ps = names_of_variables vs ++ (flat_map step_bound_names ss ++ (all_bound_names ts ++ flat_map property_bound_names ps))
+row-names : (c : Connective) (f : FormulaForm) (n : _) (row : Row_of-Link n)
+    → formula_bound_names (chained (FormulaForm.connected c) f (links_in row)) ≡ formula_bound_names f ++ operands_bound_names (items-the_row-Link n row)
+row-names c f n end_of-Link = sym (append-nil (formula_bound_names f))
+row-names c f n (more_of-Link place operand row) = ap (λ (xs : List Named). formula_bound_names f ++ xs) (row-names c (formula_form operand) _ row)
 
-pub model-parts : (m : tree_model.Model) → model_bound_names (model_of m)
-    ≡ names_of_variables (variables_in m.state.items) ++ (flat_map step_bound_names (erased_step_list m.steps.items)
-    ++ (all_bound_names (terms_of m.initial.values.items) ++ flat_map property_bound_names (properties_in m.properties.items)))
-model-parts m =
-    let M = model_of m in
-    let vs = variables_in m.state.items in
-    let ss = erased_step_list m.steps.items in
-    let ts = terms_of m.initial.values.items in
-    ap (λ (xs : List Step). in_parts vs xs M.initial M.properties) (step-forms m.steps.items)
-    ∙ ap (λ (xs : Terms). in_parts vs ss xs M.properties) (erased-all m.initial.values.items)
-    ∙ ap (λ (xs : List Property). in_parts vs ss ts xs) (property-forms m.properties.items)
+abbrev formula_row : Formula → (n : Count) × Row_of-Link n
+formula_row (formula.Chain' c p first shape row) = (_, row)
+formula_row _ = (_, end_of-Link)
 
-regrouped : (a b d e : List Name) → ((a ++ b) ++ d) ++ e ≡ a ++ (b ++ (d ++ e))
+pub operands-said : (f x : Formula) (c : Connective) (p : Box Formula Global) (v : Vec Link Global) (ls : List Link) → f ≡ formula.Chain c p v → x ≡ box_value p → ls ≡ v.items
+    → formula_bound_names (formula_form f) ≡ formula_bound_names (formula_form x) ++ operands_bound_names ls
+operands-said f x c p v ls is at same =
+    let row = formula_row (formula.Chain c p v) in
+    let first = formula_form (box_value p) in
+    ap (λ (g : Formula). formula_bound_names (formula_form g)) is
+    ∙ (row-names c first row.0 row.1
+    ∙ (ap (λ (ks : List Link). formula_bound_names first ++ operands_bound_names ks) (items_hidden-the_row-Link-0 v ∙ sym same)
+    ∙ ap (λ (g : Formula). formula_bound_names (formula_form g) ++ operands_bound_names ls) (sym at)))
+
+-- of variables of one sort
+pub group-names : (sort : Named) (ns : List declared_name.Name) → variable_names (map (λ (n : declared_name.Name). record { name = named n; sort = sort }) ns) ≡ map named ns
+group-names sort [] = refl
+group-names sort (n ∷ ns) = ap (λ (xs : List Named). named n ∷ xs) (group-names sort ns)
+
+-- ---- names behind those before, part by part
+
+pub two-parts : (old mid new xs ys all : List Named) → mid ≡ old ++ xs → new ≡ mid ++ ys → all ≡ xs ++ ys → new ≡ old ++ all
+two-parts old mid new xs ys all first second is =
+    second ∙ (ap (λ (zs : List Named). zs ++ ys) first ∙ (append_assoc old xs ys ∙ ap (λ (zs : List Named). old ++ zs) (sym is)))
+
+pub then-parts : {E : Type 0} (r : Result (Unit {0}) E) (old mid new xs ys all : List Named) → mid ≡ old ++ xs → OnOk r (new ≡ mid ++ ys) → all ≡ xs ++ ys → OnOk r (new ≡ old ++ all)
+then-parts (Ok u) old mid new xs ys all first second is = two-parts old mid new xs ys all first second is
+then-parts (Err e) old mid new xs ys all first second is = second
+
+regrouped : (a b d e : List Named) → ((a ++ b) ++ d) ++ e ≡ a ++ (b ++ (d ++ e))
 regrouped a b d e = simp append_assoc
 
-pub four-parts : (n0 n1 n2 n3 n4 a b d e : List Name) → n0 ≡ [] → n1 ≡ n0 ++ a → n2 ≡ n1 ++ b → n3 ≡ n2 ++ d → n4 ≡ n3 ++ e → n4 ≡ a ++ (b ++ (d ++ e))
+pub four-parts : (n0 n1 n2 n3 n4 a b d e : List Named) → n0 ≡ [] → n1 ≡ n0 ++ a → n2 ≡ n1 ++ b → n3 ≡ n2 ++ d → n4 ≡ n3 ++ e → n4 ≡ a ++ (b ++ (d ++ e))
 four-parts n0 n1 n2 n3 n4 a b d e h h1 h2 h3 h4 =
-    let r2 = two-parts n0 n1 n2 a b h1 h2 in
-    let r3 = two-parts n0 n2 n3 (a ++ b) d r2 h3 in
-    let r4 = two-parts n0 n3 n4 ((a ++ b) ++ d) e r3 h4 in
-    r4 ∙ ap (λ (ns : List Name). ns ++ (((a ++ b) ++ d) ++ e)) h ∙ regrouped a b d e
+    let r2 = two-parts n0 n1 n2 a b (a ++ b) h1 h2 refl in
+    let r3 = two-parts n0 n2 n3 (a ++ b) d ((a ++ b) ++ d) r2 h3 refl in
+    let r4 = two-parts n0 n3 n4 ((a ++ b) ++ d) e (((a ++ b) ++ d) ++ e) r3 h4 refl in
+    r4 ∙ ap (λ (ns : List Named). ns ++ (((a ++ b) ++ d) ++ e)) h ∙ regrouped a b d e
 
 -- ---- the names are those of all variables
 
+abbrev pub names_of_variables : List Variable → List Name
+names_of_variables = map variable_name
+
+pub variables-said : (xs : List VariableForm) → names_of_variables (erased_variables xs) ≡ texts (variable_names xs)
+variables-said [] = refl
+variables-said (x ∷ xs) = ap (λ (ns : List Name). x.name.text ∷ ns) (variables-said xs)
+
+pub texts-append : (xs ys : List Named) → texts (xs ++ ys) ≡ texts xs ++ texts ys
+texts-append xs ys = map-append (λ (x : Named). x.text) xs ys
+
+names-append : (xs ys : List Variable) → names_of_variables (xs ++ ys) ≡ names_of_variables xs ++ names_of_variables ys
+names-append xs ys = map-append variable_name xs ys
+
+pub both-said : (vs ws : List Variable) (xs ys : List Named) → names_of_variables vs ≡ texts xs → names_of_variables ws ≡ texts ys → names_of_variables (vs ++ ws) ≡ texts (xs ++ ys)
+both-said vs ws xs ys p q =
+    names-append vs ws ∙ ap (λ (ns : List Name). ns ++ names_of_variables ws) p ∙ ap (λ (ns : List Name). texts xs ++ ns) q ∙ sym (texts-append xs ys)
+
 mutual
-  bound-is : (t : Term) → names_of_variables (bound_in t) ≡ bound_names t
-  bound-is (Term.Truth b) = refl
-  bound-is (Term.Number n) = refl
-  bound-is (Term.Named x) = refl
-  bound-is (Term.Not x) = bound-is x
-  bound-is (Term.Negative x) = bound-is x
-  bound-is (Term.Binary o x y) = names-append (bound_in x) (bound_in y) ∙ ap (λ (ns : List Name). ns ++ names_of_variables (bound_in y)) (bound-is x)
-      ∙ ap (λ (ns : List Name). bound_names x ++ ns) (bound-is y)
-  bound-is (Term.Apply f xs) = all-bound-is xs
-  bound-is (Term.Quantified q xs x) = names-append xs (bound_in x) ∙ ap (λ (ns : List Name). names_of_variables xs ++ ns) (bound-is x)
+  bound-said : (t : TermForm) → names_of_variables (bound_in (erased_term t)) ≡ texts (bound_names t)
+  bound-said (TermForm.constant p b) = refl
+  bound-said (TermForm.number p n) = refl
+  bound-said (TermForm.name x) = refl
+  bound-said (TermForm.not p x) = bound-said x
+  bound-said (TermForm.negative p x) = bound-said x
+  bound-said (TermForm.connected c p x y) = both-said (bound_in (erased_term x)) (bound_in (erased_term y)) (bound_names x) (bound_names y) (bound-said x) (bound-said y)
+  bound-said (TermForm.compared c p x y) = both-said (bound_in (erased_term x)) (bound_in (erased_term y)) (bound_names x) (bound_names y) (bound-said x) (bound-said y)
+  bound-said (TermForm.computed o p x y) = both-said (bound_in (erased_term x)) (bound_in (erased_term y)) (bound_names x) (bound_names y) (bound-said x) (bound-said y)
+  bound-said (TermForm.application f xs) = all-bound-said xs
+  bound-said (TermForm.quantified q p xs x) = both-said (erased_variables xs) (bound_in (erased_term x)) (variable_names xs) (bound_names x) (variables-said xs) (bound-said x)
 
-  all-bound-is : (ts : Terms) → names_of_variables (all_bound_in ts) ≡ all_bound_names ts
-  all-bound-is Terms.NoTerms = refl
-  all-bound-is (Terms.Then x xs) =
-      names-append (bound_in x) (all_bound_in xs) ∙ ap (λ (ns : List Name). ns ++ names_of_variables (all_bound_in xs)) (bound-is x) ∙ ap (λ (ns : List Name). bound_names x ++ ns) (all-bound-is xs)
+  all-bound-said : (ts : ArgumentForms) → names_of_variables (all_bound_in (erased_arguments ts)) ≡ texts (all_bound_names ts)
+  all-bound-said no_arguments = refl
+  all-bound-said (argument p x xs) =
+      both-said (bound_in (erased_term x)) (all_bound_in (erased_arguments xs)) (bound_names x) (all_bound_names xs) (bound-said x) (all-bound-said xs)
 
-both-is : (f g : List Variable) (x y : List Name) → names_of_variables f ≡ x → names_of_variables g ≡ y → names_of_variables (f ++ g) ≡ x ++ y
-both-is f g x y p q = names-append f g ∙ ap (λ (ns : List Name). ns ++ names_of_variables g) p ∙ ap (λ (ns : List Name). x ++ ns) q
+formula-said : (f : FormulaForm) → names_of_variables (bound_in_formula (erased_formula f)) ≡ texts (formula_bound_names f)
+formula-said (FormulaForm.constant p b) = refl
+formula-said (FormulaForm.«data» p x) = bound-said x
+formula-said (FormulaForm.variable X) = refl
+formula-said (FormulaForm.negation p f) = formula-said f
+formula-said (FormulaForm.connected connective.And p f g) =
+    both-said (bound_in_formula (erased_formula f)) (bound_in_formula (erased_formula g)) (formula_bound_names f) (formula_bound_names g) (formula-said f) (formula-said g)
+formula-said (FormulaForm.connected connective.Or p f g) =
+    both-said (bound_in_formula (erased_formula f)) (bound_in_formula (erased_formula g)) (formula_bound_names f) (formula_bound_names g) (formula-said f) (formula-said g)
+formula-said (FormulaForm.connected connective.Implies p f g) =
+    both-said (bound_in_formula (erased_formula f)) (bound_in_formula (erased_formula g)) (formula_bound_names f) (formula_bound_names g) (formula-said f) (formula-said g)
+formula-said (FormulaForm.modal modality.Box p A f) = formula-said f
+formula-said (FormulaForm.modal modality.Diamond p A f) = formula-said f
+formula-said (FormulaForm.fixpoint sign p X f) = formula-said f
 
-formula-is : (f : Formula) → names_of_variables (bound_in_formula f) ≡ formula_bound_names f
-formula-is (Formula.Truth b) = refl
-formula-is (Formula.Data x) = bound-is x
-formula-is (Formula.Named X) = refl
-formula-is (Formula.Not f) = formula-is f
-formula-is (Formula.And f g) = both-is (bound_in_formula f) (bound_in_formula g) _ _ (formula-is f) (formula-is g)
-formula-is (Formula.Or f g) = both-is (bound_in_formula f) (bound_in_formula g) _ _ (formula-is f) (formula-is g)
-formula-is (Formula.Implies f g) = both-is (bound_in_formula f) (bound_in_formula g) _ _ (formula-is f) (formula-is g)
-formula-is (Formula.Box A f) = formula-is f
-formula-is (Formula.Diamond A f) = formula-is f
-formula-is (Formula.Fixpoint sign X f) = formula-is f
+-- part by part, of what trees say
+pub all-said : {A B : Type 0} (e : A → B) (f : B → List Variable) (g : A → List Named) → ((x : A) → names_of_variables (f (e x)) ≡ texts (g x)) → (xs : List A)
+    → names_of_variables (flat_map f (map e xs)) ≡ texts (flat_map g xs)
+all-said e f g h [] = refl
+all-said e f g h (x ∷ xs) = both-said (f (e x)) (flat_map f (map e xs)) (g x) (flat_map g xs) (h x) (all-said e f g h xs)
 
-flat-is : {A : Type 0} (f : A → List Variable) (g : A → List Name) → ((x : A) → names_of_variables (f x) ≡ g x) → (xs : List A) → names_of_variables (flat_map f xs) ≡ flat_map g xs
-flat-is f g h [] = refl
-flat-is f g h (x ∷ xs) = both-is (f x) (flat_map f xs) _ _ (h x) (flat-is f g h xs)
+step-said : (a : StepForm) → names_of_variables (bound_in_step (erased_step a)) ≡ texts (step_bound_names a)
+step-said a =
+    let assigned = λ (b : model.Assignment). bound_in b.term in
+    both-said (erased_variables a.variables) _ (variable_names a.variables) _ (variables-said a.variables)
+    (both-said (bound_in (erased_term a.guard)) (flat_map assigned (map erased_assignment a.assignments)) (bound_names a.guard) (flat_map assigned_bound_names a.assignments) (bound-said a.guard)
+    (all-said erased_assignment assigned assigned_bound_names (λ (b : AssignmentForm). bound-said b.value) a.assignments))
 
-step-is : (a : Step) → names_of_variables (bound_in_step a) ≡ step_bound_names a
-step-is a =
-    both-is a.variables _ _ _ refl
-    (both-is (bound_in a.guard) _ _ _ (bound-is a.guard) (flat-is (λ (b : Assignment). bound_in b.term) assigned_bound_names (λ b. bound-is b.term) a.assignments))
-
-pub all-is : (m : Model) → names_of_variables (all_variables m) ≡ model_bound_names m
-all-is m =
-    both-is m.variables _ _ _ refl
-    (both-is (flat_map bound_in_step m.steps) _ _ _ (flat-is bound_in_step step_bound_names step-is m.steps)
-    (both-is (all_bound_in m.initial) _ _ _ (all-bound-is m.initial) (flat-is (λ (p : Property). bound_in_formula p.formula) property_bound_names (λ p. formula-is p.formula) m.properties)))
+pub variables-of-model : (m : ModelForm) → names_of_variables (all_variables (erase m)) ≡ texts (model_bound_names m)
+variables-of-model m =
+    let property = λ (p : model.Property). bound_in_formula p.formula in
+    both-said (erased_variables m.variables) _ (variable_names m.variables) _ (variables-said m.variables)
+    (both-said (flat_map bound_in_step (map erased_step m.steps)) _ (flat_map step_bound_names m.steps) _ (all-said erased_step bound_in_step step_bound_names step-said m.steps)
+    (both-said (all_bound_in (erased_arguments m.initial.values)) (flat_map property (map erased_property m.properties)) (all_bound_names m.initial.values)
+    (flat_map property_bound_names m.properties) (all-bound-said m.initial.values)
+    (all-said erased_property property property_bound_names (λ (p : PropertyForm). formula-said p.formula) m.properties)))

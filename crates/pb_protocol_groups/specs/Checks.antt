@@ -1,53 +1,71 @@
--- What is tested of a model before it is packed.
-use Rattle.std.specs.Prelude.{◌≡◌, suc, Bool, true, false, not, ◌&&◌, List, [], ◌∷◌, length}
-use Rattle.std.specs.Prelude.{flat_map, ◌⊎◌, Contains}
-use Rattle.std.specs.List.{list_all}
+-- Why a model isn't packed: the rules that fail, each with its place.
+use Rattle.std.specs.Prelude.{suc, not, ◌==◌, List, [], ◌++◌, length, map, flat_map}
+use Rattle.pb_text_tree.specs.Form.{Named, SortForm, struct, alias, SortDeclarationForm}
+use Rattle.pb_text_meaning.specs.Syntax.{Name}
+use Rattle.pb_typing_declarations.specs.Declarations.{own_names, variable_names}
+use Rattle.pb_typing_declarations.specs.Faults.{unless, repeated}
 use Rattle.pb_typing_declarations.specs.declared.fault.TypingFault.{TypingFault}
-use Rattle.pb_model_tree.specs.Form.{ModelForm}
-use Rattle.pb_protocol_groups.specs.Sizes.{size_faults}
-use Rattle.pb_text_meaning.specs.Syntax.{Name, SortDeclaration}
-use Rattle.pb_typing_declarations.specs.declared.fault.TypingRule.{TypingRule}
 use Rattle.pb_typing_declarations.specs.declared.fault.TypingRule.TheVariants as rule
-use Rattle.pb_model_meaning.specs.Syntax.{Step, Model}
+use Rattle.pb_model_tree.specs.Form.{StepForm, ModelForm}
+use Rattle.pb_model_meaning.specs.Syntax.{Model}
+use Rattle.pb_model_meaning.specs.Erase.{erase}
 use Rattle.pb_protocol_packing.specs.Apart.{is_among, ends_within, term_count}
-use Rattle.pb_protocol_packing.specs.Groups.{enumerators_in}
-use Rattle.pb_protocol_packing.specs.Packable.{all_enumerators}
-use Rattle.pb_protocol_groups.specs.Bound.{names_of_variables, model_bound_names}
+use Rattle.pb_protocol_groups.specs.Bound.{model_bound_names}
+use Rattle.pb_protocol_groups.specs.Sizes.{size_faults}
 
--- no name stands twice
-abbrev pub are_all_apart : List Name → Bool
-are_all_apart [] = true
-are_all_apart (x ∷ xs) = not (is_among xs x) && are_all_apart xs
+-- ---- names
 
--- none of the second names is one of the first
-abbrev pub none_among : List Name → List Name → Bool
-none_among xs ys = list_all (λ y. not (is_among xs y)) ys
+abbrev pub texts : List Named → List Name
+texts = map (λ (x : Named). x.text)
 
-abbrev pub sort_enumerators : SortDeclaration → List Name
-sort_enumerators d = enumerators_in d.sort
+abbrev pub step_own_names : StepForm → List Named
+step_own_names a = variable_names a.variables
 
-abbrev pub own_variable_names : Step → List Name
-own_variable_names a = names_of_variables a.variables
+abbrev pub names_of_sort : SortForm → List Named
+names_of_sort (struct es) = own_names es
+names_of_sort (alias s) = []
 
--- the chain of aliases from a declared sort has an end
-abbrev pub has_end : Model → SortDeclaration → Bool
-has_end m d = ends_within (suc (length m.sorts)) m d.name
+abbrev pub sort_enumerators : SortDeclarationForm → List Named
+sort_enumerators d = names_of_sort d.sort
 
-pub record IsTested (m : Model) : Type 0 where
-  pub state : are_all_apart (names_of_variables m.variables) ≡ true
-  pub own : none_among (flat_map own_variable_names m.steps) (names_of_variables m.variables) ≡ true
-  pub enumerators : are_all_apart (all_enumerators m) ≡ true
-  pub variables : none_among (all_enumerators m) (model_bound_names m) ≡ true
-  pub ends : list_all (has_end m) m.sorts ≡ true
-  pub count : term_count m.initial ≡ length m.variables
+-- T02: a name that is one of these
+abbrev pub taken_faults : List Name → Named → List TypingFault
+taken_faults taken x = unless (not (is_among taken x.text)) rule.NameTwice x.place
 
--- the rules by which a model may be refused: T02, T03 and T08
-abbrev pub is_packing_rule : TypingRule → Bool
-is_packing_rule rule.NameTwice = true
-is_packing_rule rule.UnknownSort = true
-is_packing_rule rule.WrongCount = true
-is_packing_rule r = false
+-- T02: two state variables have one name, or one has the name of a step's variable
+abbrev pub state_faults : ModelForm → List TypingFault
+state_faults m =
+    let own = texts (flat_map step_own_names m.steps) in
+    repeated (variable_names m.variables)
+    ++ flat_map (taken_faults own) (variable_names m.variables)
 
--- why a model isn't packed: one of these rules fails, or a group has too many values or none
-abbrev pub IsPackingFault : ModelForm → TypingFault → Type 0
-IsPackingFault m fault = (is_packing_rule fault.rule ≡ true) ⊎ Contains (size_faults m) fault
+-- T02: two enumerators have one name, or a variable has the name of an enumerator
+abbrev pub listed_faults : ModelForm → List TypingFault
+listed_faults m =
+    let enumerators = flat_map sort_enumerators m.sorts in
+    repeated enumerators ++ flat_map (taken_faults (texts enumerators)) (model_bound_names m)
+
+-- ---- sorts and values
+
+-- T03: an alias whose chain has no end
+abbrev pub chain_faults : Model → SortDeclarationForm → List TypingFault
+chain_faults m d =
+    unless (ends_within (suc (length m.sorts)) m d.name.text) rule.UnknownSort d.name.place
+
+-- T08 at `init`: not as many initial values as state variables
+abbrev pub count_faults : ModelForm → List TypingFault
+count_faults m =
+    unless (term_count (erase m).initial == length (erase m).variables) rule.WrongCount
+    m.initial.place
+
+-- ---- models
+
+-- what is tested before a model is packed
+abbrev pub test_faults : ModelForm → List TypingFault
+test_faults m =
+    state_faults m
+    ++ (listed_faults m ++ (flat_map (chain_faults (erase m)) m.sorts ++ count_faults m))
+
+-- and that a group of several variables has some values, and not too many
+abbrev pub packing_faults : ModelForm → List TypingFault
+packing_faults m = test_faults m ++ size_faults m

@@ -6,4 +6,5 @@ pub mod Groups
 pub mod Sizes
 pub mod Places
 pub mod Bound
+pub mod BoundLinks
 pub mod Checks

@@ -1,9 +1,10 @@
 //! The names of quantifiers' variables in the data of formulas.
 
-ghost use Rattle.std.specs.Prelude.{◌≡◌, ◌++◌, flat_map, OnOk};
-ghost use Rattle.pb_protocol_packer.specs.Initial.{names_by};
-ghost use Rattle.pb_protocol_packer.specs.Formulas.{formula_of, operands_of};
+ghost use Rattle.std.specs.Prelude.{◌≡◌, ◌++◌, OnOk};
+ghost use Rattle.pb_model_tree.specs.Form.{formula_form};
+ghost use Rattle.pb_protocol_typing.specs.View.{names_in};
 ghost use Rattle.pb_protocol_groups.specs.Bound.{formula_bound_names};
+ghost use Rattle.pb_protocol_groups.specs.BoundLinks.{operands_bound_names};
 
 use crate::bound_terms::push_term;
 use pb_model_tree::{Formula, Link};
@@ -16,8 +17,8 @@ pub(crate) fn push_formula<'a>(
     names: &mut Vec<&'a Name>,
     formula: &'a Formula,
 ) -> Result<(), AllocError>
-    ensures { OnOk result (names_by names.new.items
-        ≡ names_by names.old.items ++ formula_bound_names (formula_of formula.now)) }
+    ensures { OnOk result (names_in names.new.items
+        ≡ names_in names.old.items ++ formula_bound_names (formula_form formula.now)) }
 {
     match formula {
         Formula::Constant { .. } | Formula::Variable(_) => Ok(()),
@@ -34,8 +35,8 @@ pub(crate) fn push_formula<'a>(
 
 #[cycle(formulas)]
 fn push_operands<'a>(names: &mut Vec<&'a Name>, links: &'a [Link]) -> Result<(), AllocError>
-    ensures { OnOk result (names_by names.new.items
-        ≡ names_by names.old.items ++ flat_map formula_bound_names (operands_of links.now)) }
+    ensures { OnOk result (names_in names.new.items
+        ≡ names_in names.old.items ++ operands_bound_names links.now) }
 {
     for link in links {
         push_formula(names, &link.operand)?;

@@ -1,10 +1,8 @@
 //! The names of all variables of a model: its own, those of steps and those of quantifiers.
 
-ghost use Rattle.std.specs.Prelude.{◌≡◌, ◌++◌, flat_map, IfOk, OnOk};
-ghost use Rattle.pb_model_meaning.specs.Erase.{model_of};
-ghost use Rattle.pb_protocol_packer.specs.Initial.{names_by};
-ghost use Rattle.pb_protocol_packer.specs.Properties.{properties_in, erased_step_list};
-ghost use Rattle.pb_protocol_packer.specs.Steps.{assignments_in, step_of};
+ghost use Rattle.std.specs.Prelude.{◌≡◌, ◌++◌, flat_map, map, IfOk, OnOk};
+ghost use Rattle.pb_model_tree.specs.Form.{assignment_form, model_form, property_form, step_form};
+ghost use Rattle.pb_protocol_typing.specs.View.{names_in};
 ghost use Rattle.pb_protocol_groups.specs.Bound.{assigned_bound_names, model_bound_names};
 ghost use Rattle.pb_protocol_groups.specs.Bound.{property_bound_names, step_bound_names};
 
@@ -18,8 +16,8 @@ fn push_assignments<'a>(
     names: &mut Vec<&'a Name>,
     assignments: &'a [Assignment],
 ) -> Result<(), AllocError>
-    ensures { OnOk result (names_by names.new.items ≡ names_by names.old.items
-        ++ flat_map assigned_bound_names (assignments_in assignments.now)) }
+    ensures { OnOk result (names_in names.new.items ≡ names_in names.old.items
+        ++ flat_map assigned_bound_names (map assignment_form assignments.now)) }
 {
     for assignment in assignments {
         push_term(names, &assignment.value.term)?;
@@ -28,8 +26,8 @@ fn push_assignments<'a>(
 }
 
 fn push_step<'a>(names: &mut Vec<&'a Name>, step: &'a Step) -> Result<(), AllocError>
-    ensures { OnOk result (names_by names.new.items
-        ≡ names_by names.old.items ++ step_bound_names (step_of step.now)) }
+    ensures { OnOk result (names_in names.new.items
+        ≡ names_in names.old.items ++ step_bound_names (step_form step.now)) }
 {
     push_names(names, &step.variables)?;
     push_term(names, &step.guard)?;
@@ -37,8 +35,8 @@ fn push_step<'a>(names: &mut Vec<&'a Name>, step: &'a Step) -> Result<(), AllocE
 }
 
 fn push_steps<'a>(names: &mut Vec<&'a Name>, steps: &'a [Step]) -> Result<(), AllocError>
-    ensures { OnOk result (names_by names.new.items
-        ≡ names_by names.old.items ++ flat_map step_bound_names (erased_step_list steps.now)) }
+    ensures { OnOk result (names_in names.new.items
+        ≡ names_in names.old.items ++ flat_map step_bound_names (map step_form steps.now)) }
 {
     for step in steps {
         push_step(names, step)?;
@@ -50,8 +48,8 @@ fn push_properties<'a>(
     names: &mut Vec<&'a Name>,
     properties: &'a [Property],
 ) -> Result<(), AllocError>
-    ensures { OnOk result (names_by names.new.items ≡ names_by names.old.items
-        ++ flat_map property_bound_names (properties_in properties.now)) }
+    ensures { OnOk result (names_in names.new.items ≡ names_in names.old.items
+        ++ flat_map property_bound_names (map property_form properties.now)) }
 {
     for property in properties {
         push_formula(names, &property.formula)?;
@@ -61,7 +59,7 @@ fn push_properties<'a>(
 
 /// The names of all variables of a model.
 pub(crate) fn bound_names(alloc: Global, model: &Model) -> Result<Vec<&Name>, AllocError>
-    ensures { IfOk result (λ v. names_by v.items ≡ model_bound_names (model_of model.now)) }
+    ensures { IfOk result (λ v. names_in v.items ≡ model_bound_names (model_form model.now)) }
 {
     let mut names = Vec::new(alloc);
     push_names(&mut names, &model.state)?;

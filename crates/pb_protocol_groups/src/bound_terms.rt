@@ -1,18 +1,18 @@
-//! The names of quantifiers' variables in data terms.
+//! The names of quantifiers' variables in data terms, each with its place.
 
-ghost use Rattle.std.specs.Prelude.{◌≡◌, ◌++◌, flat_map, OnOk};
-ghost use Rattle.pb_protocol_packer.specs.Initial.{names_by};
-ghost use Rattle.pb_protocol_packer.specs.View.{operands_of, operations_of, term_of, terms_of, variables_in};
-ghost use Rattle.pb_protocol_groups.specs.Bound.{all_bound_names, bound_names, names_of_variables};
-ghost use Rattle.pb_protocol_groups.specs.Bound.{operation_bound_names};
-ghost use Rattle.pb_protocol_groups.specs.Names.{variables_of_group};
+ghost use Rattle.std.specs.Prelude.{◌≡◌, ◌++◌, OnOk};
+ghost use Rattle.pb_text_tree.specs.Form.{argument_forms, term_form, variable_forms, variables_form};
+ghost use Rattle.pb_typing_declarations.specs.Declarations.{variable_names};
+ghost use Rattle.pb_protocol_typing.specs.View.{names_in};
+ghost use Rattle.pb_protocol_groups.specs.Bound.{all_bound_names, bound_names};
+ghost use Rattle.pb_protocol_groups.specs.BoundLinks.{links_bound_names, operations_bound_names};
 
 use pb_text_tree::{Argument, ArithmeticLink, Name, Term, TermLink, Variables};
 use std::alloc::AllocError;
 
 fn push_group<'a>(names: &mut Vec<&'a Name>, group: &'a Variables) -> Result<(), AllocError>
-    ensures { OnOk result (names_by names.new.items
-        ≡ names_by names.old.items ++ names_of_variables (variables_of_group group.now)) }
+    ensures { OnOk result (names_in names.new.items
+        ≡ names_in names.old.items ++ variable_names (variables_form group.now)) }
 {
     for name in &group.names {
         names.push(name)?;
@@ -25,8 +25,8 @@ pub(crate) fn push_names<'a>(
     names: &mut Vec<&'a Name>,
     groups: &'a [Variables],
 ) -> Result<(), AllocError>
-    ensures { OnOk result (names_by names.new.items
-        ≡ names_by names.old.items ++ names_of_variables (variables_in groups.now)) }
+    ensures { OnOk result (names_in names.new.items
+        ≡ names_in names.old.items ++ variable_names (variable_forms groups.now)) }
 {
     for group in groups {
         push_group(names, group)?;
@@ -37,8 +37,8 @@ pub(crate) fn push_names<'a>(
 /// Adds the names of the variables of a term's quantifiers.
 #[cycle(terms)]
 pub(crate) fn push_term<'a>(names: &mut Vec<&'a Name>, term: &'a Term) -> Result<(), AllocError>
-    ensures { OnOk result (names_by names.new.items
-        ≡ names_by names.old.items ++ bound_names (term_of term.now)) }
+    ensures { OnOk result (names_in names.new.items
+        ≡ names_in names.old.items ++ bound_names (term_form term.now)) }
 {
     match term {
         Term::Constant { .. } | Term::Number { .. } | Term::Name(_) => Ok(()),
@@ -69,8 +69,8 @@ pub(crate) fn push_term<'a>(names: &mut Vec<&'a Name>, term: &'a Term) -> Result
 
 #[cycle(terms)]
 fn push_links<'a>(names: &mut Vec<&'a Name>, links: &'a [TermLink]) -> Result<(), AllocError>
-    ensures { OnOk result (names_by names.new.items
-        ≡ names_by names.old.items ++ flat_map bound_names (operands_of links.now)) }
+    ensures { OnOk result (names_in names.new.items
+        ≡ names_in names.old.items ++ links_bound_names links.now) }
 {
     for link in links {
         push_term(names, &link.operand)?;
@@ -83,8 +83,8 @@ fn push_operations<'a>(
     names: &mut Vec<&'a Name>,
     links: &'a [ArithmeticLink],
 ) -> Result<(), AllocError>
-    ensures { OnOk result (names_by names.new.items
-        ≡ names_by names.old.items ++ flat_map operation_bound_names (operations_of links.now)) }
+    ensures { OnOk result (names_in names.new.items
+        ≡ names_in names.old.items ++ operations_bound_names links.now) }
 {
     for link in links {
         push_term(names, &link.operand)?;
@@ -98,8 +98,8 @@ pub(crate) fn push_arguments<'a>(
     names: &mut Vec<&'a Name>,
     arguments: &'a [Argument],
 ) -> Result<(), AllocError>
-    ensures { OnOk result (names_by names.new.items
-        ≡ names_by names.old.items ++ all_bound_names (terms_of arguments.now)) }
+    ensures { OnOk result (names_in names.new.items
+        ≡ names_in names.old.items ++ all_bound_names (argument_forms arguments.now)) }
 {
     for argument in arguments {
         push_term(names, &argument.term)?;

@@ -1,74 +1,72 @@
 //! What a model has to have to be packed.
 
-ghost use Rattle.std.specs.Prelude.{◌≡◌, ◌++◌, true, suc, length, flat_map, IfOk, IfErr, OnOk};
-ghost use Rattle.std.specs.List.{list_all};
+ghost use Rattle.std.specs.Prelude.{◌≡◌, ◌++◌, [], ◌==◌, map, length, flat_map, Contains, IfOk};
+ghost use Rattle.std.specs.Prelude.{MatchResult, OnOk};
+ghost use Rattle.pb_text_tree.specs.Form.{enumerator_form, named, sort_declaration_form};
+ghost use Rattle.pb_text_tree.specs.Form.{sort_form};
+ghost use Rattle.pb_typing_declarations.specs.Declarations.{own_names};
+ghost use Rattle.pb_typing_declarations.specs.Faults.{IsAmong};
+ghost use Rattle.pb_model_tree.specs.Form.{model_form, step_form};
 ghost use Rattle.pb_model_meaning.specs.Erase.{model_of};
-ghost use Rattle.pb_protocol_packing.specs.Apart.{ends_within, term_count};
+ghost use Rattle.pb_protocol_typing.specs.View.{names_in};
+ghost use Rattle.pb_protocol_packing.specs.Apart.{is_among, term_count};
 ghost use Rattle.pb_protocol_packing.specs.Packable.{IsPackable};
-ghost use Rattle.pb_protocol_packer.specs.Declarations.{declaration_of, declarations_in};
 ghost use Rattle.pb_protocol_packer.specs.Initial.{names_by};
-ghost use Rattle.pb_protocol_packer.specs.Properties.{erased_step_list};
-ghost use Rattle.pb_protocol_packer.specs.View.{terms_of, variables_in, name_bytes};
-ghost use Rattle.pb_protocol_groups.specs.Bound.{names_of_variables};
-ghost use Rattle.pb_protocol_groups.specs.Checks.{are_all_apart, has_end, none_among, own_variable_names};
-ghost use Rattle.pb_protocol_groups.specs.Checks.{is_packing_rule, sort_enumerators};
-ghost use Rattle.pb_base.specs.OrMemory.{IfRefused};
-ghost use Rattle.pb_typing_declarations.specs.declared.fault.TypingRule.TheVariants.{NameTwice};
-ghost use Rattle.pb_typing_declarations.specs.declared.fault.TypingRule.TheVariants.{UnknownSort};
-ghost use Rattle.pb_typing_declarations.specs.declared.fault.TypingRule.TheVariants.{WrongCount};
+ghost use Rattle.pb_protocol_packer.specs.View.{terms_of};
+ghost use Rattle.pb_protocol_groups.specs.Checks.{count_faults, chain_faults, listed_faults};
+ghost use Rattle.pb_protocol_groups.specs.Checks.{names_of_sort, step_own_names, sort_enumerators};
+ghost use Rattle.pb_protocol_groups.specs.Checks.{state_faults, taken_faults};
+ghost use Rattle.pb_protocol_groups.specs.Checks.{test_faults};
+ghost use Rattle.pb_protocol_groups.specs.Variables.{variables_of_state};
 
 use crate::bound_names::bound_names;
 use crate::bound_terms::push_names;
 use crate::end::has_end;
-use crate::model_names::push_enumerators;
+use crate::state_variables::{StateVariable, state_variables};
 use crate::taken::is_declared;
 use pb_model_tree::{Model, Step};
-use pb_text_tree::{Name, Sort, SortDeclaration};
-use pb_typing_declarations::{TypeError, TypingFault, TypingRule};
+use pb_protocol_typing::check_apart;
+use pb_text_tree::{Argument, Enumerator, Name, Sort, SortDeclaration};
+use pb_typing_declarations::{TypeError, TypingFault, TypingRule, require};
 use std::alloc::{AllocError, Global};
 
-/// No name stands twice (T02).
-fn check_apart(names: &[&Name]) -> Result<(), TypingFault>
-    ensures accepted { OnOk result (are_all_apart (names_by names.now) ≡ true) }
-    ensures rule { IfErr result (λ f. f.rule ≡ NameTwice) }
+fn is_taken(names: &[&Name], name: &Name) -> bool
+    ensures { result ≡ is_among (names_by names.now) (named name.now).text }
 {
-    for index in 0..names.len() {
-        let name = names[index];
-        if is_declared(&names[index + 1..], &name.text) {
-            return Err(TypingFault {
-                rule: TypingRule::NameTwice,
-                place: name.place,
-            });
-        }
-    }
-    Ok(())
+    is_declared(names, &name.text)
 }
 
 /// None of the second names is one of the first (T02).
 fn check_none_among(names: &[&Name], others: &[&Name]) -> Result<(), TypingFault>
-    ensures accepted { OnOk result
-        (none_among (names_by names.now) (names_by others.now) ≡ true) }
-    ensures rule { IfErr result (λ f. f.rule ≡ NameTwice) }
+    ensures { MatchResult result
+        (λ _. flat_map (taken_faults (names_by names.now)) (names_in others.now) ≡ [])
+        (Contains (flat_map (taken_faults (names_by names.now)) (names_in others.now))) }
 {
     for other in others {
-        if is_declared(names, &other.text) {
-            return Err(TypingFault {
-                rule: TypingRule::NameTwice,
-                place: other.place,
-            });
-        }
+        let is_taken = is_taken(names, other);
+        require(!is_taken, TypingRule::NameTwice, other.place)?;
     }
     Ok(())
 }
 
-fn push_sort<'a>(
+fn push_enumerators<'a>(
     names: &mut Vec<&'a Name>,
-    declaration: &'a SortDeclaration,
+    enumerators: &'a [Enumerator],
 ) -> Result<(), AllocError>
-    ensures { OnOk result (names_by names.new.items
-        ≡ names_by names.old.items ++ sort_enumerators (declaration_of declaration.now)) }
+    ensures { OnOk result (names_in names.new.items
+        ≡ names_in names.old.items ++ own_names (map enumerator_form enumerators.now)) }
 {
-    match &declaration.sort {
+    for enumerator in enumerators {
+        names.push(&enumerator.name)?;
+    }
+    Ok(())
+}
+
+fn push_sort<'a>(names: &mut Vec<&'a Name>, sort: &'a Sort) -> Result<(), AllocError>
+    ensures { OnOk result (names_in names.new.items
+        ≡ names_in names.old.items ++ names_of_sort (sort_form sort.now)) }
+{
+    match sort {
         Sort::Struct(enumerators) => push_enumerators(names, enumerators),
         Sort::Alias(_) => Ok(()),
     }
@@ -76,12 +74,12 @@ fn push_sort<'a>(
 
 /// The names of all enumerators.
 fn all_enumerators(alloc: Global, sorts: &[SortDeclaration]) -> Result<Vec<&Name>, AllocError>
-    ensures { IfOk result
-        (λ v. names_by v.items ≡ flat_map sort_enumerators (declarations_in sorts.now)) }
+    ensures { IfOk result (λ v. names_in v.items
+        ≡ flat_map sort_enumerators (map sort_declaration_form sorts.now)) }
 {
     let mut names = Vec::new(alloc);
     for declaration in sorts {
-        push_sort(&mut names, declaration)?;
+        push_sort(&mut names, &declaration.sort)?;
     }
     Ok(names)
 }
@@ -89,7 +87,7 @@ fn all_enumerators(alloc: Global, sorts: &[SortDeclaration]) -> Result<Vec<&Name
 /// The names of the variables of steps.
 fn step_variables(alloc: Global, steps: &[Step]) -> Result<Vec<&Name>, AllocError>
     ensures { IfOk result
-        (λ v. names_by v.items ≡ flat_map own_variable_names (erased_step_list steps.now)) }
+        (λ v. names_in v.items ≡ flat_map step_own_names (map step_form steps.now)) }
 {
     let mut names = Vec::new(alloc);
     for step in steps {
@@ -98,38 +96,72 @@ fn step_variables(alloc: Global, steps: &[Step]) -> Result<Vec<&Name>, AllocErro
     Ok(names)
 }
 
+/// State variables have names of their own, which no variable of a step has (T02).
+fn check_state(alloc: Global, model: &Model) -> Result<(), TypeError>
+    ensures { MatchResult result (λ _. state_faults (model_form model.now) ≡ [])
+        (IsAmong (state_faults (model_form model.now))) }
+{
+    let mut state = Vec::new(alloc);
+    push_names(&mut state, &model.state)?;
+    check_apart(alloc, &state)?;
+    let own = step_variables(alloc, &model.steps)?;
+    check_none_among(&own, &state)?;
+    Ok(())
+}
+
+/// Enumerators have names of their own, which no variable has (T02).
+fn check_enumerators(alloc: Global, model: &Model) -> Result<(), TypeError>
+    ensures { MatchResult result (λ _. listed_faults (model_form model.now) ≡ [])
+        (IsAmong (listed_faults (model_form model.now))) }
+{
+    let enumerators = all_enumerators(alloc, &model.sorts)?;
+    check_apart(alloc, &enumerators)?;
+    let variables = bound_names(alloc, model)?;
+    check_none_among(&enumerators, &variables)?;
+    Ok(())
+}
+
 /// The chain of each alias has an end (T03).
 fn check_ends(model: &Model) -> Result<(), TypingFault>
-    ensures accepted { OnOk result (list_all (has_end (model_of model.now))
-        (declarations_in model.now.sorts.items) ≡ true) }
-    ensures rule { IfErr result (λ f. f.rule ≡ UnknownSort) }
+    ensures { MatchResult result
+        (λ _. flat_map (chain_faults (model_of model.now)) (model_form model.now).sorts ≡ [])
+        (Contains (flat_map (chain_faults (model_of model.now)) (model_form model.now).sorts)) }
 {
     for declaration in &model.sorts {
-        if !has_end(model, &declaration.name) {
-            return Err(TypingFault {
-                rule: TypingRule::UnknownSort,
-                place: declaration.name.place,
-            });
-        }
+        let has_end = has_end(model, &declaration.name);
+        require(has_end, TypingRule::UnknownSort, declaration.name.place)?;
     }
     Ok(())
 }
 
-/// There are as many initial values as state variables (T08).
-fn check_count(model: &Model, state: &[&Name]) -> Result<(), TypingFault>
-    requires { names_by state.now ≡ names_of_variables (variables_in model.now.state.items) }
-    ensures accepted { OnOk result
-        (term_count (model_of model.now).initial ≡ length (model_of model.now).variables) }
-    ensures rule { IfErr result (λ f. f.rule ≡ WrongCount) }
+/// Whether there are as many values as state variables.
+fn is_count(values: &[Argument], state: &[StateVariable<'_>]) -> bool
+    ensures { result
+        ≡ (term_count (terms_of values.now) == length (variables_of_state state.now)) }
 {
-    if model.initial.values.len() == state.len() {
-        Ok(())
-    } else {
-        Err(TypingFault {
-            rule: TypingRule::WrongCount,
-            place: model.initial.place,
-        })
-    }
+    values.len() == state.len()
+}
+
+/// There are as many initial values as state variables (T08).
+fn check_count(alloc: Global, model: &Model) -> Result<(), TypeError>
+    ensures { MatchResult result (λ _. count_faults (model_form model.now) ≡ [])
+        (IsAmong (count_faults (model_form model.now))) }
+{
+    let state = state_variables(alloc, &model.state)?;
+    let is_count = is_count(&model.initial.values, &state);
+    require(is_count, TypingRule::WrongCount, model.initial.place)?;
+    Ok(())
+}
+
+/// Checks what is tested of a model before it is packed.
+fn check_all(alloc: Global, model: &Model) -> Result<(), TypeError>
+    ensures { MatchResult result (λ _. test_faults (model_form model.now) ≡ [])
+        (IsAmong (test_faults (model_form model.now))) }
+{
+    check_state(alloc, model)?;
+    check_enumerators(alloc, model)?;
+    check_ends(model)?;
+    check_count(alloc, model)
 }
 
 /// Checks that a model can be packed.
@@ -141,18 +173,8 @@ fn check_count(model: &Model, state: &[&Name]) -> Result<(), TypingFault>
 /// was refused.
 pub fn check_packable(alloc: Global, model: &Model) -> Result<(), TypeError>
     ensures accepted { OnOk result (IsPackable (model_of model.now)) }
-    ensures refused { IfRefused result (λ f. is_packing_rule f.rule ≡ true) }
+    ensures checked { MatchResult result (λ _. test_faults (model_form model.now) ≡ [])
+        (IsAmong (test_faults (model_form model.now))) }
 {
-    let mut state = Vec::new(alloc);
-    push_names(&mut state, &model.state)?;
-    check_apart(&state)?;
-    let own = step_variables(alloc, &model.steps)?;
-    check_none_among(&own, &state)?;
-    let enumerators = all_enumerators(alloc, &model.sorts)?;
-    check_apart(&enumerators)?;
-    let variables = bound_names(alloc, model)?;
-    check_none_among(&enumerators, &variables)?;
-    check_ends(model)?;
-    check_count(model, &state)?;
-    Ok(())
+    check_all(alloc, model)
 }

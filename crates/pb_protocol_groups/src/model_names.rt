@@ -16,7 +16,7 @@ use pb_model_tree::{Assignment, Model, Property, Step};
 use pb_text_tree::{Enumerator, Name, Sort, SortDeclaration};
 use std::alloc::{AllocError, Global};
 
-pub(crate) fn push_enumerators<'a>(
+fn push_enumerators<'a>(
     names: &mut Vec<&'a Name>,
     enumerators: &'a [Enumerator],
 ) -> Result<(), AllocError>

@@ -1,6 +1,6 @@
 //! A packed model, and the groups that its variables are.
 
-ghost use Rattle.std.specs.Prelude.{◌≡◌, [], IfOk, OnOk};
+ghost use Rattle.std.specs.Prelude.{◌≡◌, [], Contains, IfOk, OnOk};
 ghost use Rattle.pb_model_tree.specs.Form.{model_form};
 ghost use Rattle.pb_model_meaning.specs.Erase.{model_of};
 ghost use Rattle.pb_model_runs.specs.Exact.{step_places};
@@ -8,7 +8,7 @@ ghost use Rattle.pb_protocol_packing.specs.Groups as packing;
 ghost use Rattle.pb_protocol_packing.specs.Packable.{IsPackable};
 ghost use Rattle.pb_protocol_packer.specs.Groups.{groups_in};
 ghost use Rattle.pb_protocol_groups.specs.Places.{named_properties, property_places};
-ghost use Rattle.pb_protocol_groups.specs.Checks.{IsPackingFault};
+ghost use Rattle.pb_protocol_groups.specs.Checks.{packing_faults};
 ghost use Rattle.pb_protocol_groups.specs.Sizes.{size_faults};
 ghost use Rattle.pb_base.specs.OrMemory.{IfRefused};
 
@@ -45,7 +45,8 @@ pub fn pack_checked(alloc: Global, model: &Model) -> Result<Packed, TypeError>
     ensures places { IfOk result
         (λ p. property_places (model_form p.model) ≡ property_places (model_form model.now)) }
     ensures few { OnOk result (size_faults (model_form model.now) ≡ []) }
-    ensures refused { IfRefused result (IsPackingFault (model_form model.now)) }
+    ensures accepted { OnOk result (packing_faults (model_form model.now) ≡ []) }
+    ensures refused { IfRefused result (Contains (packing_faults (model_form model.now))) }
 {
     check_packable(alloc, model)?;
     let groups = groups_of(alloc, model)?;

@@ -17,7 +17,7 @@ use Rattle.pb_text_printer.specs.Sayable.{Each}
 use Rattle.pb_model_meaning.specs.Syntax as flat
 use Rattle.pb_model_spelling.specs.Writable.{IsWord, TermWritable, AllWritable, SomeWritable, ModalWritable, AssignmentWritable, StepWritable}
 use Rattle.pb_model_translation.specs.Positive.{is_constant}
-use Rattle.pb_protocol_folding.specs.Folding.{number, is_small, small_value, place_value, written_value, truth_value, is_comparison, is_test, settled, and_of, or_of, implies_of, not_of, negative_of, computed, operation_of, folded_operation, recogniser_of, function_of_one, function_of_two, function_of_three, folded_application, is_if, folded, folded_arguments}
+use Rattle.pb_protocol_folding.specs.Folding.{number, is_small, small_value, place_value, written_value, truth_value, is_comparison, is_test, settled, and_of, or_of, implies_of, not_of, negative_of, computed, may_compute, operation_of, folded_operation, recogniser_of, function_of_one, function_of_two, function_of_three, folded_application, is_if, folded, folded_arguments}
 use Rattle.pb_protocol_folding.specs.FoldedModels.{folded_assignment, is_change, folded_step, folded_steps, is_possible, decided, unless_constant, and_formula, or_formula, implies_formula, not_formula, folded_formula}
 use Rattle.pb_protocol_laws.proofs.Spelled.{IsWritableNumber, number-writable}
 
@@ -165,7 +165,11 @@ computed-writable o v w h k = by (is_comparison o)
     by false = number-writable (binary o v w) (binary-number o v w h k)
 
 operation-writable : (o : Operator) (v w : Option Value) (x y : Term) → FoundSmall v → FoundSmall w → TermWritable x → TermWritable y → TermWritable (operation_of o v w x y)
-operation-writable o (Some v) (Some w) x y s t h k = computed-writable o v w s t
+operation-writable o (Some v) (Some w) x y s t h k = by (may_compute o w)
+  where
+    by : (b : Bool) → TermWritable (if b then computed o v w else Term.Binary o x y)
+    by true = computed-writable o v w s t
+    by false = (h, k)
 operation-writable o (Some v) None x y s t h k = (h, k)
 operation-writable o None w x y s t h k = (h, k)
 

@@ -22,5 +22,6 @@ mod term;
 mod term_kind;
 mod written;
 
+pub use names::check_apart;
 pub use protocol::check_protocol;
 pub use step::MAX_ASSIGNMENTS;

@@ -21,8 +21,11 @@ use pb_typing_declarations::{TypeError, TypingFault, TypingRule, require};
 use std::alloc::{AllocError, Global};
 use std::collections::{HashMap, HashSet};
 
-/// Checks that no name stands twice (T02).
-fn check_apart(alloc: Global, names: &[&Name]) -> Result<(), TypeError>
+/// Checks that no name stands twice.
+///
+/// # Errors
+/// T02 at a name that was declared before. Or memory was refused.
+pub fn check_apart(alloc: Global, names: &[&Name]) -> Result<(), TypeError>
     ensures { MatchResult result (λ _. repeated (names_in names.now) ≡ [])
         (IsAmong (repeated (names_in names.now))) }
 {

@@ -1,5 +1,6 @@
 -- What becomes of properties, and which steps with their values are left.
 use Rattle.std.specs.Prelude.{Bool, true, false, List, [], ◌∷◌, ◌++◌}
+use Rattle.pb_text_tree.specs.declared.place.Place.{Place}
 use Rattle.pb_text_tree.specs.Form.{Named, named}
 use Rattle.pb_model_tree.specs.declared.model.Property as declared_flat
 use Rattle.pb_model_tree.specs.Form as flat_form
@@ -35,6 +36,16 @@ left_property u p =
 abbrev pub chosen_one : Instance → Bool → List Instance
 chosen_one i true = i ∷ []
 chosen_one i false = []
+
+-- a place, and of places those, beside which `true` stands
+abbrev pub chosen_place : Place → Bool → List Place
+chosen_place p true = p ∷ []
+chosen_place p false = []
+
+abbrev pub chosen_places : List Place → List Bool → List Place
+chosen_places [] bs = []
+chosen_places (p ∷ ps) [] = []
+chosen_places (p ∷ ps) (b ∷ bs) = chosen_place p b ++ chosen_places ps bs
 
 -- those beside which `true` stands
 abbrev pub chosen_instances : List Instance → List Bool → List Instance

@@ -2,7 +2,8 @@
 
 ghost use Rattle.std.specs.Prelude.{◌≡◌, map, IfOk, string_bytes};
 ghost use Rattle.pb_protocol_unfolder_steps.specs.Elements.{flat_element, instance_said};
-ghost use Rattle.pb_protocol_unfolder.specs.Origins.{origin_name};
+ghost use Rattle.pb_protocol_unfolder_steps.specs.Refusals.{instance_place};
+ghost use Rattle.pb_protocol_unfolder.specs.Origins.{origin_name, origin_place};
 ghost use Rattle.pb_protocol_unfolder.specs.Told.{told_element, told_instance};
 
 use crate::told::told_name;
@@ -42,8 +43,9 @@ pub(crate) fn told_elements(
 
 /// Where the flat step of a step with its values comes from.
 fn step_origin(alloc: Global, instance: &Instance<'_>) -> Result<StepOrigin, AllocError>
-    ensures { IfOk result
+    ensures name { IfOk result
         (λ origin. origin_name origin ≡ told_instance (instance_said instance.now)) }
+    ensures place { IfOk result (λ origin. origin_place origin ≡ instance_place instance.now) }
 {
     let name = told_name(alloc, instance.step.name.text.as_str(), &instance.own)?;
     let place = instance.step.name.place;
@@ -55,8 +57,10 @@ pub(crate) fn step_origins(
     alloc: Global,
     instances: &[Instance<'_>],
 ) -> Result<Vec<StepOrigin>, AllocError>
-    ensures { IfOk result (λ v. map origin_name v.items
+    ensures names { IfOk result (λ v. map origin_name v.items
         ≡ map told_instance (map instance_said instances.now)) }
+    ensures places { IfOk result
+        (λ v. map origin_place v.items ≡ map instance_place instances.now) }
 {
     let mut origins = Vec::new(alloc);
     for instance in instances {

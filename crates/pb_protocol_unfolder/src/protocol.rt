@@ -18,7 +18,7 @@ ghost use Rattle.pb_protocol_unfolder_steps.specs.Unfolder.{form_in, protocol_in
 ghost use Rattle.pb_protocol_unfolder_steps.specs.StepFaults.{IsFaultAtStart};
 ghost use Rattle.pb_protocol_unfolder.specs.Faults.{IsUnfoldingFault, OfTerm};
 ghost use Rattle.pb_protocol_unfolder.specs.Left.{AreLeft};
-ghost use Rattle.pb_protocol_unfolder.specs.Origins.{origin_name};
+ghost use Rattle.pb_protocol_unfolder.specs.Origins.{origin_name, origin_place, told_step_places};
 ghost use Rattle.pb_protocol_unfolder.specs.Parts.{IsFaultBy, IsFaultOfModel};
 ghost use Rattle.pb_protocol_unfolder.specs.Places.{HavePlacesOf};
 ghost use Rattle.pb_protocol_unfolder.specs.Told.{told_steps, told_variables};
@@ -126,6 +126,8 @@ pub fn unfold(alloc: Global, protocol: &Protocol) -> Result<Unfolded, UnfoldingE
         ≡ told_variables (protocol_of protocol.now)) }
     ensures told_steps { IfOk result
         (λ u. map origin_name u.steps.items ≡ told_steps (protocol_of protocol.now)) }
+    ensures told_places { IfOk result
+        (λ u. map origin_place u.steps.items ≡ told_step_places (protocol_form protocol.now)) }
     ensures impossible { IfOk result (λ u. map string_bytes u.impossible.items
         ≡ told.impossible_steps (protocol_of protocol.now)) }
     ensures places { IfOk result (λ u. map step_place u.model.steps.items

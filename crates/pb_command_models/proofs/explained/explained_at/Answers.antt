@@ -1,5 +1,5 @@
 -- The text of the property at the place is explained, or the model isn't.
-use Rattle.std.proofs.Common.{subst, sym, inl, inr}
+use Rattle.std.proofs.Common.{subst, sym, inr}
 use Rattle.std.specs.Prelude.{Contains}
 use Rattle.pb_base.proofs.Faults.{if_raised}
 use Rattle.pb_text_tree.specs.Form.{spec_form}
@@ -18,7 +18,7 @@ use Rattle.pb_command_models.proofs.explained.explained_at.Goals as goal
 -- a model with a property whose text isn't well typed isn't explained
 text_unexplained : (solved : SolvedModel) (p : PropertyForm) → Contains (model_form solved.typed.model).properties p → (fault : ModelFault) → IsRefusedText solved p fault
     → WhereUnexplained (model_form solved.typed.model) (fault_of_model fault)
-text_unexplained solved p among (model_fault.Typing fault) h = λ bytes said. inl (inr (model_form solved.typed.model, said, (p, told_places solved.names, among, h)))
+text_unexplained solved p among (model_fault.Typing fault) h = λ bytes said. inr (model_form solved.typed.model, said, (p, told_places solved.names, among, h))
 text_unexplained solved p among (model_fault.Text fault) h = absurd h
 text_unexplained solved p among model_fault.NoProperty h = absurd h
 

@@ -3,7 +3,6 @@ use Rattle.std.proofs.Common.{◌≡◌, true, false}
 use Rattle.pb_model_tree.specs.Form.{model_form}
 use Rattle.pb_model_properties.specs.declared.solved.UnpackedModel.{UnpackedModel}
 use Rattle.pb_model_properties.specs.Made.{has_many_variables}
-use Rattle.pb_model_properties.specs.Refusals.{told_places}
 use Rattle.pb_model_properties.proofs.Counts.{is_counted}
 use Rattle.pb_model_properties.proofs.SolvedModels.{as_it_is, as_packed, flat_told, ill_typed_told, is_packed_to, not_packed_told, packed_told}
 use Rattle.pb_model_properties.proofs.flat.flat_solved.Goals as goal
@@ -19,11 +18,12 @@ returns-in-Err-clause-refused c =
     ill_typed_told (model_form c.args.model) (model_form c.args.model)
     (as_it_is (model_form c.args.model)
     (is_counted c.args.model c.deref.result.now c.in_ok-is_flat_state_large.field-0 false c.in_ok-is_flat_state_large.ensures c.deref.ensures.value c.if-not-branch.true))
-    (told_places c.args.names) c.in-Err.error c.told_error.result c.told_error.ensures c.in-Err.ensures.fails c.in-Err.ensures.ill_typed
+    c.args.names c.in-Err.error c.told_error.result c.told_error.ensures c.in-Err.ensures.fails c.in-Err.ensures.ill_typed
 
 pub returns-in-Err-pack_checked-clause-refused : goal.returns-in-Err-pack_checked-clause-refused
 returns-in-Err-pack_checked-clause-refused c =
-    not_packed_told (model_form c.args.model) (told_places c.args.names) c.in-Err-pack_checked.error c.told_error-in-Err-pack_checked.result
+    not_packed_told (model_form c.args.model) c.args.names c.in-Err-pack_checked.error c.told_error-in-Err-pack_checked.result
+    (is_counted c.args.model c.deref.result.now c.in_ok-is_flat_state_large.field-0 true c.in_ok-is_flat_state_large.ensures c.deref.ensures.value c.if-not-branch.false)
     c.told_error-in-Err-pack_checked.ensures c.in-Err-pack_checked.ensures.refused
 
 pub returns-in-Ok-check_model-clause-model : goal.returns-in-Ok-check_model-clause-model
@@ -45,5 +45,5 @@ returns-in-Err-check_model-clause-refused c =
     (as_packed m n
     (is_counted c.args.model c.deref.result.now c.in_ok-is_flat_state_large.field-0 true c.in_ok-is_flat_state_large.ensures c.deref.ensures.value c.if-not-branch.false)
     (is_packed_to m n to.packable to.meaning to.steps to.names to.places to.few))
-    (told_places c.args.names) c.in-Err-check_model.error c.told_error-in-Err-check_model.result c.told_error-in-Err-check_model.ensures
+    c.args.names c.in-Err-check_model.error c.told_error-in-Err-check_model.result c.told_error-in-Err-check_model.ensures
     c.in-Err-check_model.ensures.fails c.in-Err-check_model.ensures.ill_typed

@@ -1,5 +1,5 @@
 -- The model of a plain protocol, as it is or packed, accepted or not; or that of one that breaks a rule.
-use Rattle.std.proofs.Common.{false, None}
+use Rattle.std.proofs.Common.{false, inr, None}
 use Rattle.pb_model_tree.specs.Form.{model_form}
 use Rattle.pb_protocol_tree.specs.Form.{protocol_form}
 use Rattle.pb_model_properties.proofs.Counts.{is_protocol_counted}
@@ -18,15 +18,15 @@ returns-then-branch-clause-model c =
     let protocol = protocol_form c.args.protocol in
     let m = model_form c.in_ok-model.model in
     let made = c.in_ok-model.ensures in
-    solved_for protocol m None (kept_is_flat c.models_stand_for_protocols.ensures protocol m c.requires.solvable made.words made.meaning c.in-Ok.ensures.accepted)
+    solved_for protocol m None (kept_is_flat c.models_stand_for_protocols.ensures protocol m c.requires.solvable c.requires.plain made.words made.meaning c.in-Ok.ensures.accepted)
     (plain_names_of protocol m c.requires.plain) c.flat_solved.result c.flat_solved.ensures.model
 
 pub returns-then-branch-clause-refused : goal.returns-then-branch-clause-refused
 returns-then-branch-clause-refused c =
-    refused_for (protocol_form c.args.protocol) (model_form c.in_ok-model.model)
-    (kept_is_flat c.models_stand_for_protocols.ensures (protocol_form c.args.protocol) (model_form c.in_ok-model.model) c.requires.solvable c.in_ok-model.ensures.words
+    refused_for (protocol_form c.args.protocol) (model_form c.in_ok-model.model) None
+    (kept_is_flat c.models_stand_for_protocols.ensures (protocol_form c.args.protocol) (model_form c.in_ok-model.model) c.requires.solvable c.requires.plain c.in_ok-model.ensures.words
     c.in_ok-model.ensures.meaning c.in-Ok.ensures.accepted)
-    c.flat_solved.result c.flat_solved.ensures.refused
+    (plain_names_of (protocol_form c.args.protocol) (model_form c.in_ok-model.model) c.requires.plain) c.flat_solved.result c.flat_solved.ensures.refused
 
 pub returns-in-Ok-check_model-clause-model : goal.returns-in-Ok-check_model-clause-model
 returns-in-Ok-check_model-clause-model c =
@@ -34,15 +34,16 @@ returns-in-Ok-check_model-clause-model c =
     let m = model_form c.in_ok-model-2.model in
     let made = c.in_ok-model-2.ensures in
     let laws = c.models_stand_for_protocols.ensures in
-    let is : IsPlainFor protocol m = record { words = made.words; meaning = made.meaning; solvable = c.requires.solvable; kept = laws.kept } in
     let few = plain_few protocol m made.words
     (is_protocol_counted c.args.protocol c.deref.result.now c.in_ok-is_state_large.field-0 false c.in_ok-is_state_large.ensures c.deref.ensures.value c.if-branch.false) in
+    let is : IsPlainFor protocol m =
+    record { plainly = c.requires.plain; words = made.words; rules = inr (made.words, few); meaning = made.meaning; solvable = c.requires.solvable; kept = laws.kept } in
     flat_told laws.said c.in_ok-model-2.model c.in-Ok-check_model.typed None few c.in-Ok-check_model.ensures.kept c.in-Ok-check_model.ensures.accepted protocol
     (plain_is_flat laws.plain protocol m is (typed_is_plain laws.names m c.in-Ok-check_model.ensures.accepted)) (plain_names_of protocol m c.requires.plain)
 
 pub returns-in-Err-check_model-clause-refused : goal.returns-in-Err-check_model-clause-refused
 returns-in-Err-check_model-clause-refused c =
     let few = is_protocol_counted c.args.protocol c.deref.result.now c.in_ok-is_state_large.field-0 false c.in_ok-is_state_large.ensures c.deref.ensures.value c.if-branch.false in
-    plain_refused (protocol_form c.args.protocol) (model_form c.in_ok-model-2.model) c.in_ok-model-2.ensures.words
+    plain_refused (protocol_form c.args.protocol) (model_form c.in_ok-model-2.model) c.requires.plain c.in_ok-model-2.ensures.words
     (plain_few (protocol_form c.args.protocol) (model_form c.in_ok-model-2.model) c.in_ok-model-2.ensures.words few)
     c.in-Err-check_model.error c.raise-in-Err-check_model.result c.raise-in-Err-check_model.ensures c.in-Err-check_model.ensures.fails c.in-Err-check_model.ensures.ill_typed

@@ -13,12 +13,12 @@ use Rattle.pb_model_properties.proofs.read.read_negations.Goals as goal
 pub returns-clause-model : goal.returns-clause-model
 returns-clause-model c =
     negated_model c.args.bytes.now (protocol_form c.in_ok-protocol.protocol) (protocol_form c.in_ok-negations.negations) c.in_ok-protocol.ensures.said
-    c.in_ok-negations.ensures.negated c.solved.result c.solved.ensures.model
+    c.in_ok-negations.ensures.negated c.made.result c.made.ensures.model
 
 pub returns-clause-refused : goal.returns-clause-refused
 returns-clause-refused c =
     negated_refused c.args.bytes.now (protocol_form c.in_ok-protocol.protocol) (protocol_form c.in_ok-negations.negations) c.in_ok-protocol.ensures.said
-    c.in_ok-negations.ensures.negated c.solved.result c.solved.ensures.refused
+    c.in_ok-negations.ensures.negated c.made.result c.made.ensures.refused
 
 -- what was not read is refused as it was
 handed_on : {T : Type 0} (bytes : List ℕ) (e : OrMemory ModelFault) (r : Result T (OrMemory ModelFault)) → IfFault e (IsUnread bytes) → IsErrAnd r (λ x. x ≡ e)

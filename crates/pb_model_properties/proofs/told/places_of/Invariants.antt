@@ -1,5 +1,5 @@
 use Rattle.std.proofs.Common.{◌≡◌, ◌++◌, drop, map}
-use Rattle.pb_model_properties.specs.Flat.{origin_place}
+use Rattle.pb_protocol_unfolder.specs.Origins.{origin_place}
 use Rattle.pb_model_properties.proofs.told.places_of.Given as goal
 
 -- the places so far, and those that are left

@@ -1,23 +1,14 @@
-use Rattle.std.proofs.Common.{◌≡◌, ◌∙◌, ◌++◌, ap, sym, append_assoc, List, flat_map, subst}
-use Rattle.std.specs.Prelude.{OnOk}
-use Rattle.pb_text_meaning.specs.Syntax.{Name}
+use Rattle.pb_model_tree.specs.Form.{formula_form}
+use Rattle.pb_protocol_typing.specs.View.{names_in}
 use Rattle.pb_protocol_groups.specs.Bound.{formula_bound_names}
-use Rattle.pb_protocol_packer.specs.Formulas.{formula_of, operands_of}
-use Rattle.pb_protocol_packer.specs.Initial.{names_by}
-use Rattle.pb_protocol_packer.proofs.FormulaRows.{at-chain}
-use Rattle.pb_protocol_groups.proofs.Bound.{bound-formulas-joined}
+use Rattle.pb_protocol_groups.specs.BoundLinks.{operands_bound_names}
+use Rattle.pb_protocol_groups.proofs.Bound.{operands-said, then-parts}
 use Rattle.pb_protocol_groups.proofs.bound_formulas.+formulas.Goals as goal
 
 pub push_formula-returns-in_ok-push_formula-in-Chain : goal.push_formula-returns-in_ok-push_formula-in-Chain
 push_formula-returns-in_ok-push_formula-in-Chain t c =
-    let old = names_by c.args.names.now.items in
-    let first = formula_bound_names (formula_of c.deref-in-Chain.result.now) in
-    let others = flat_map formula_bound_names (operands_of c.deref-in-Chain-2.result.now) in
-    subst (λ (xs : List Name). OnOk c.push_operands.result (names_by c.push_operands.new.names.items ≡ xs))
-    (ap (λ (xs : List Name). xs ++ others) c.in_ok-push_formula-in-Chain.ensures ∙ append_assoc old first others
-    ∙ ap (λ (xs : List Name). old ++ xs)
-    (sym (ap formula_bound_names
-    (at-chain c.in-Chain.connective c.deref-in-Chain.result.now c.in-Chain.first c.in-Chain.links
-    c.deref-in-Chain-2.result.now c.args.formula.now c.in-Chain.is c.deref-in-Chain.ensures c.deref-in-Chain-2.ensures.value)
-    ∙ bound-formulas-joined c.in-Chain.connective (formula_of c.deref-in-Chain.result.now) (operands_of c.deref-in-Chain-2.result.now))))
-    c.push_operands.ensures
+    let n = c.in-Chain in
+    then-parts c.push_operands.result (names_in c.args.names.now.items) _ (names_in c.push_operands.new.names.items)
+    (formula_bound_names (formula_form c.deref-in-Chain.result.now)) (operands_bound_names c.deref-in-Chain-2.result.now) _
+    c.in_ok-push_formula-in-Chain.ensures c.push_operands.ensures
+    (operands-said c.args.formula.now c.deref-in-Chain.result.now n.connective n.first n.links c.deref-in-Chain-2.result.now n.is c.deref-in-Chain.ensures c.deref-in-Chain-2.ensures.value)

@@ -1,10 +1,10 @@
-use Rattle.std.proofs.Common.{◌≡◌, ◌++◌, drop, flat_map}
-use Rattle.pb_protocol_packer.specs.Properties.{properties_in}
+use Rattle.std.proofs.Common.{◌≡◌, ◌++◌, drop, flat_map, map}
+use Rattle.pb_model_tree.specs.Form.{property_form}
+use Rattle.pb_protocol_typing.specs.View.{names_in}
 use Rattle.pb_protocol_groups.specs.Bound.{property_bound_names}
-use Rattle.pb_protocol_packer.specs.Initial.{names_by}
 use Rattle.pb_protocol_groups.proofs.bound_names.push_properties.Given as goal
 
 abbrev pub invariant-loop-property : goal.invariant-loop-property
 invariant-loop-property l =
-    names_by l.names.items ++ flat_map property_bound_names (properties_in (drop l.property-index l.properties))
-    ≡ names_by l.initial.names.items ++ flat_map property_bound_names (properties_in l.properties)
+    names_in l.initial.names.items ++ flat_map property_bound_names (map property_form l.properties)
+    ≡ names_in l.names.items ++ flat_map property_bound_names (map property_form (drop l.property-index l.properties))

@@ -1,9 +1,10 @@
-use Rattle.std.proofs.Common.{◌≡◌, ◌++◌, drop, flat_map}
-use Rattle.pb_protocol_packer.specs.Properties.{erased_step_list}
+use Rattle.std.proofs.Common.{◌≡◌, ◌++◌, drop, flat_map, map}
+use Rattle.pb_model_tree.specs.Form.{step_form}
+use Rattle.pb_protocol_typing.specs.View.{names_in}
 use Rattle.pb_protocol_groups.specs.Bound.{step_bound_names}
-use Rattle.pb_protocol_packer.specs.Initial.{names_by}
 use Rattle.pb_protocol_groups.proofs.bound_names.push_steps.Given as goal
 
 abbrev pub invariant-loop-step : goal.invariant-loop-step
-invariant-loop-step l = names_by l.names.items ++ flat_map step_bound_names (erased_step_list (drop l.step-index l.steps)) ≡ names_by l.initial.names.items
-    ++ flat_map step_bound_names (erased_step_list l.steps)
+invariant-loop-step l =
+    names_in l.initial.names.items ++ flat_map step_bound_names (map step_form l.steps)
+    ≡ names_in l.names.items ++ flat_map step_bound_names (map step_form (drop l.step-index l.steps))

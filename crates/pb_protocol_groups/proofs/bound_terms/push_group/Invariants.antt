@@ -1,10 +1,10 @@
-use Rattle.std.proofs.Common.{◌≡◌, ◌++◌, drop}
-use Rattle.pb_protocol_packer.specs.Initial.{names_by}
-use Rattle.pb_protocol_groups.specs.Bound.{names_of_variables}
-use Rattle.pb_protocol_groups.specs.Names.{variables_of_group}
-use Rattle.pb_protocol_groups.proofs.Rows.{variables_by}
+use Rattle.std.proofs.Common.{◌≡◌, ◌++◌, drop, map}
+use Rattle.pb_text_tree.specs.Form.{named, variables_form}
+use Rattle.pb_typing_declarations.specs.Declarations.{variable_names}
+use Rattle.pb_protocol_typing.specs.View.{names_in}
 use Rattle.pb_protocol_groups.proofs.bound_terms.push_group.Given as goal
 
+-- the names so far, and those that are left
 abbrev pub invariant-loop-name : goal.invariant-loop-name
 invariant-loop-name l =
-    names_by l.initial.names.items ++ names_of_variables (variables_of_group l.group) ≡ names_by l.names.items ++ names_of_variables (variables_by l.group.sort (drop l.name-index l.name-items))
+    names_in l.initial.names.items ++ variable_names (variables_form l.group) ≡ names_in l.names.items ++ map named (drop l.name-index l.name-items)

@@ -1,8 +1,9 @@
-use Rattle.std.proofs.Common.{◌≡◌, ◌++◌, drop, flat_map}
-use Rattle.pb_protocol_packer.specs.Properties.{erased_step_list}
-use Rattle.pb_protocol_packer.specs.Initial.{names_by}
-use Rattle.pb_protocol_groups.specs.Checks.{own_variable_names}
+use Rattle.std.proofs.Common.{◌≡◌, ◌++◌, drop, flat_map, map}
+use Rattle.pb_model_tree.specs.Form.{step_form}
+use Rattle.pb_protocol_typing.specs.View.{names_in}
+use Rattle.pb_protocol_groups.specs.Checks.{step_own_names}
 use Rattle.pb_protocol_groups.proofs.checks.step_variables.Given as goal
 
 abbrev pub invariant-loop-step : goal.invariant-loop-step
-invariant-loop-step l = names_by l.names.items ++ flat_map own_variable_names (erased_step_list (drop l.step-index l.steps)) ≡ flat_map own_variable_names (erased_step_list l.steps)
+invariant-loop-step l =
+    flat_map step_own_names (map step_form l.steps) ≡ names_in l.names.items ++ flat_map step_own_names (map step_form (drop l.step-index l.steps))

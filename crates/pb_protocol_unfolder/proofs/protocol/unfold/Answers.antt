@@ -1,4 +1,4 @@
-use Rattle.std.proofs.Common.{◌≡◌, ◌≤◌, ◌∙◌, inl, ap, arith, length, subst, sym, List, map}
+use Rattle.std.proofs.Common.{◌≡◌, ◌≤◌, ◌∙◌, inl, ap, ap₂, arith, length, subst, sym, List, map}
 use Rattle.std.specs.Prelude.{filter}
 use Rattle.std.proofs.lemmas.List.{length-map}
 use Rattle.pb_text_tree.specs.declared.sort.SortDeclaration.{SortDeclaration}
@@ -24,6 +24,7 @@ use Rattle.pb_protocol_unfolder_steps.specs.Written.{AreElementsOf, AreInstances
 use Rattle.pb_protocol_unfolder.specs.Apart.{declarations_said}
 use Rattle.pb_protocol_unfolder.specs.Faults.{IsUnfoldingFault, OfTerm}
 use Rattle.pb_protocol_unfolder.specs.Parts.{IsFaultBy, IsFaultOfElements, IsFaultOfInstances, IsFaultOfModel}
+use Rattle.pb_protocol_unfolder.specs.Unfolded.{chosen_places}
 use Rattle.pb_protocol_unfolder.specs.Told.{impossible_steps, told_element, told_instance, told_steps}
 use Rattle.pb_protocol_unfolder.proofs.FaultLemmas.{err-raised, fault-by, model-breaks, ok-raised, refused, term-breaks}
 use Rattle.pb_protocol_unfolder.proofs.NameFaults.{elements-clash, elements-passed, instances-clash, instances-passed, of-steps-term}
@@ -66,7 +67,7 @@ left : (c : In_ok-left) (of : AreInstancesOf (protocol_form c.args.protocol.now)
 left c of are =
     kept-instances c.in_ok-unfolder.unfolder c.args.protocol.now c.in_ok-instances.instances.items c.in_ok-left.left.items c.in_ok-steps.field-0.kept.items
     c.deref-6.result.now c.deref-7.result.now c.deref-5.result.now (ap protocol_of c.in_ok-unfolder.ensures) c.deref-6.ensures.value c.deref-7.ensures.value c.deref-5.ensures.value
-    of.all are c.in_ok-left.ensures
+    of.all are c.in_ok-left.ensures.said
 
 pub new-requires : goal.new-requires
 new-requires c =
@@ -108,9 +109,21 @@ returns-clause-told_variables c =
 pub returns-clause-told_steps : goal.returns-clause-told_steps
 returns-clause-told_steps c =
     let at = goal.at.returns-clause-told_steps c in
-    c.in_ok-origins.ensures
+    c.in_ok-origins.ensures.names
     ∙ ap (map told_instance) (ap (λ (xs : List declared.Instance). map instance_said xs) c.deref-9.ensures.value ∙ left at.In_ok-left (instances at.In_ok-instances) (kept at.In_ok-steps))
     ∙ ap (λ (p : Protocol). told_steps (protocol_of p)) c.in_ok-unfolder.ensures
+
+pub returns-clause-told_places : goal.returns-clause-told_places
+returns-clause-told_places c =
+    let at = goal.at.returns-clause-told_places c in
+    let of = instances at.In_ok-instances in
+    let u = c.in_ok-unfolder.unfolder in
+    let all : map instance_said c.deref-5.result.now ≡ definitions.instances (protocol_of c.args.protocol.now) = ap (map instance_said) c.deref-5.ensures.value ∙ of.all in
+    let kept_by : c.in_ok-steps.field-0.kept.items ≡ map (is_kept (protocol_of c.args.protocol.now)) (definitions.instances (protocol_of c.args.protocol.now)) =
+    kept at.In_ok-steps ∙ ap (map (is_kept (protocol_in u))) all
+    ∙ ap (λ (m : Protocol). map (is_kept (protocol_of m)) (definitions.instances (protocol_of c.args.protocol.now))) c.in_ok-unfolder.ensures in
+    c.in_ok-origins.ensures.places ∙ ap (map instance_place) c.deref-9.ensures.value ∙ c.in_ok-left.ensures.places
+    ∙ ap₂ chosen_places (ap (map instance_place) c.deref-6.ensures.value ∙ of.places) (c.deref-7.ensures.value ∙ kept_by)
 
 pub returns-clause-hides_nothing : goal.returns-clause-hides_nothing
 returns-clause-hides_nothing c = λ apart.
