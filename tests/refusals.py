@@ -46,7 +46,7 @@ PROTOCOL = (
 )
 OTHERS_OFF = b"".join(b"on(%d) = false, " % place for place in range(2, 9))
 TURNED_ON = (
-    b"off false\n1 X: on(0) = false, on(1) = false, " + OTHERS_OFF + b"at = 0\n2 X go(0): on(0) := true, at := 1\n"
+    b"off false\n1 X: on = false, at = 0\n2 X go(0): on(0) := true, at := 1\n"
     b"3 X go(1): on(1) := true, at := 2\n  here the test fails: on(0) = true, on(1) = true, " + OTHERS_OFF + b"at = 2\n"
 )
 SINKS = b'0 1 0 0 "false";\n1 0 0 1 "true";\n'

@@ -1,10 +1,12 @@
 #!/usr/bin/env python3
 """check_run.py MODEL < TEXT: checks what `pbsolve why < MODEL` wrote. It prints `N lines checked`, or what is wrong where.
 
-It reads the model by itself. The first state is the initial one; each move is a step with a true guard, its own values and all
+It reads the model by itself. Lines that only pass on to another formula in the same state are left out: it finds them by the numbers
+that are missing. The first state is the initial one; each move is a step with a true guard, its own values and all
 its changes; each line has the verdict's value by its formula where exactly the lines and cuts that it rests on have it; the
 outermost fixpoint on each cycle of lines is a mu for false, a nu for true; what is cut leaves the ranges; the words of `here`
 and `back` are right. A verdict without lines, as that of a true property, isn't checked."""
+import collections
 import itertools
 import re
 import sys
@@ -52,6 +54,19 @@ class Equations:
         else:
             for g in f.operands: self.walk(g, sign, around, scope)
 
+    def passes_to(self, formula):
+        """The equations that an equation's right side calls in the same state."""
+        def called(f):
+            if f.kind in ("variable", "mu", "nu"):
+                return [f.scope[f.parts[0]] if f.kind == "variable" else f.equation]
+            return [] if f.kind in ("[", "<") else [name for g in f.operands for name in called(g)]
+        return called(self.found[formula][1]) if formula in self.found else []
+
+
+def array_of(variable):
+    """The array of an element `said(1)`; any other variable is by itself."""
+    return variable.partition("(")[0]
+
 
 def groups(variables):
     """The variables in at most eight groups of one after another, as even as can be, the larger ones first."""
@@ -61,10 +76,10 @@ def groups(variables):
 
 
 class Line:
-    """A formula at a state, the line that it comes from, what it rests on, and what is told of it."""
+    """A formula at a state, the line that it comes from, what it rests on, and what is told of it. Some are left out."""
 
-    def __init__(self, formula, state, parent):
-        self.formula, self.state, self.parent = formula, state, parent
+    def __init__(self, formula, state, parent, stays=False, is_written=False):
+        self.formula, self.state, self.parent, self.stays, self.is_written = formula, state, parent, stays, is_written
         self.rests, self.edges, self.cuts, self.here = [], [], [], None
 
 
@@ -87,10 +102,21 @@ class Run:
         return found
 
     def state(self, text):
-        """The state that `p = idle, n = 3` tells."""
-        parts = [part.partition(" = ")[::2] for part in text.split(", ")]
-        self.require([x for x, _ in parts] == [x for x, _ in self.model.state], "it tells other variables")
-        return tuple(self.value(v, sort) for (_, v), (_, sort) in zip(parts, self.model.state))
+        """The state of `p = idle, said = none`, where `said` is an array whose elements are all equal, or a variable."""
+        found = [(x, self.value(word, sort)) for name, word in (part.partition(" = ")[::2] for part in text.split(", "))
+                 for x, sort in self.model.state if name in (x, array_of(x))]
+        self.require([x for x, _ in found] == [x for x, _ in self.model.state], "it tells other variables")
+        state = tuple(value for _, value in found)
+        self.require(text == self.state_text(state), "it tells the state in other words")
+        return state
+
+    def state_text(self, state):
+        """A state as lines have it: an array whose elements are all equal has one value."""
+        parts = []
+        for array, elements in itertools.groupby(zip(self.model.state, state), lambda element: array_of(element[0][0])):
+            words = [(x, self.model.word(value)) for (x, _), value in elements]
+            parts += [(array, words[0][1])] if len({word for _, word in words}) == 1 else words
+        return ", ".join(f"{x} = {word}" for x, word in parts)
 
     def moved(self, text, state):
         """Where a move leads, which is told by a step with its own values and by what changes."""
@@ -136,15 +162,45 @@ class Run:
         found = LINE.match(text)
         self.require(found, f"{text!r} is no line")
         number, formula, first, parent, move = found.groups()
-        self.require(int(number) == len(self.lines) + 1 and (first is None) == bool(self.lines), f"it is followed by {text!r}")
+        left_out = int(number) - len(self.lines) - 1
+        self.require(left_out >= 0 and (first is None) == bool(self.lines) and not (first and left_out), f"it is followed by {text!r}")
         parent = int(parent) - 1 if parent else len(self.lines) - 1
         self.require(-1 <= parent < len(self.lines), f"{text!r} comes from no line")
         state = self.state(first) if first else self.moved(move, self.lines[parent].state)
         self.require(state == self.model.initial or not first, "it isn't the initial state")
         self.require(self.model.is_within(state), f"{text!r} leaves the ranges")
-        self.lines.append(Line(formula, state, parent))
-        if not first:
-            self.lines[parent].rests.append(len(self.lines) - 1)
+        if left_out:
+            before = self.lines[parent]
+            names = self.passing(before.formula, before.state, left_out, (formula, state))
+            self.require(names, f"no {left_out} lines that only pass on lead to {text!r}")
+            for name in names:
+                parent = self.add_line(Line(name, before.state, parent, stays=True))
+        self.add_line(Line(formula, state, parent, stays=move == "stays", is_written=True))
+
+    def add_line(self, line):
+        """Where the line is then; the one that it comes from rests on it."""
+        self.lines.append(line)
+        if len(self.lines) > 1:
+            self.lines[line.parent].rests.append(len(self.lines) - 1)
+        return len(self.lines) - 1
+
+    def passing(self, formula, state, count, target):
+        """So many formulas by which one passes on to a target in the same state, each resting on the next alone, if there are any."""
+        if not count:
+            return []
+        for name in self.equations.passes_to(formula):
+            others = self.passing(name, state, count - 1, target)
+            if others is not None and self.follows(name, state, {(others[0], state) if others else target}):
+                return [name, *others]
+        return None
+
+    def follows(self, formula, state, rests_on, cuts=()):
+        """Whether an instance has the verdict's value where these have it, and where these calls leave the ranges."""
+        def truth(called, reached):
+            if not self.model.is_within(reached):
+                return not self.truth and reached not in cuts
+            return ((called, reached) in rests_on) == self.truth
+        return holds(self.model, self.equations.found[formula][1], state, truth) == self.truth
 
     def read_below(self, text):
         """What is told below a line."""
@@ -174,13 +230,10 @@ class Run:
     def check_line(self, k, line):
         self.require(line.formula in self.equations.found, f"there is no formula {line.formula}", k + 1)
         rests_on = {(self.lines[j].formula, self.lines[j].state) for j in line.rests}
-
-        def truth(formula, reached):
-            if not self.model.is_within(reached):
-                return not self.truth and reached not in line.cuts
-            return ((formula, reached) in rests_on) == self.truth
-        value = holds(self.model, self.equations.found[line.formula][1], line.state, truth)
-        self.require(value == self.truth, "it doesn't follow from the lines that it rests on", k + 1)
+        follows = self.follows(line.formula, line.state, rests_on, line.cuts)
+        self.require(follows, "it doesn't follow from the lines that it rests on", k + 1)
+        passes = line.stays and not line.cuts and line.rests == [k + 1] and self.lines[k + 1].parent == k and self.callers[k] == 1
+        self.require(line.is_written != passes, "it only passes on, or is left out", k + 1)
         stuck = not self.model.successors(line.state, lambda step, own: True)
         why = "" if line.cuts else " no step can be taken" if stuck else f" the test {'holds' if self.truth else 'fails'}"
         self.require(line.here == (None if line.rests else why), "it ends in other words", k + 1)
@@ -197,6 +250,7 @@ class Run:
     def check(self):
         self.require(self.lines[0].formula == next(iter(self.equations.found)), "it has another formula", 1)
         self.check_edges()
+        self.callers = collections.Counter(j for line in self.lines for j in line.rests)
         for k, line in enumerate(self.lines): self.check_line(k, line)
         self.check_cycles()
         return len(self.lines)

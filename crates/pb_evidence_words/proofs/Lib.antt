@@ -1,3 +1,4 @@
+pub mod LeftOut
 pub mod Children
 pub mod Listed
 pub mod ParentRead

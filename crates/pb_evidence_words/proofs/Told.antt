@@ -1,6 +1,6 @@
 -- What is told, piece by piece.
-use Rattle.std.proofs.Common.{◌≡◌, ℕ, ℤ, suc, ◌+◌, ◌==◌, Bool, true, List, [], ◌∷◌, ◌++◌, flat_map, length, refl, sym, ap, ◌∙◌, subst, arith}
-use Rattle.std.specs.Prelude.{codes, decimal, if◌then◌else◌, Result, Ok, Err, OnOk}
+use Rattle.std.proofs.Common.{◌≡◌, ℕ, ℤ, suc, ◌==◌, Bool, true, List, [], ◌∷◌, ◌++◌, flat_map, length, refl, sym, ap, ◌∙◌, subst, arith}
+use Rattle.std.specs.Prelude.{codes, if◌then◌else◌, Result, Ok, Err, OnOk}
 use Rattle.std.proofs.Props.{props}
 use Rattle.std.proofs.Math.Logic.{∥∥₁_elim}
 use Rattle.std.proofs.lemmas.Bool.{eq-eqb, ne_eqb}
@@ -27,17 +27,6 @@ use Rattle.pb_evidence_words.specs.InstanceLines.{instance_text, mark_among}
 pub empty-views : (calls : List declared_call.MadeCall) → is_empty (call_views calls) ≡ (length calls == 0)
 empty-views [] = sym (eq-eqb 0 0 refl)
 empty-views (c ∷ calls) = sym (ne_eqb (suc (length calls)) 0 (λ e. omega (arith, e)))
-
-pub from-none : (t : Told) (k : ℕ) → suc (parent_at t.graph k) ≡ k → from_text t k ≡ []
-from-none t k is =
-    ap (λ b. if b then [] else (codes "from " ++ (decimal (parent_at t.graph k + 1) ++ codes " "))) (eq-eqb (suc (parent_at t.graph k)) k is)
-
-pub from-some : (t : Told) (k p : ℕ) → p ≡ parent_at t.graph k → (suc p ≡ k → ⊥)
-    → codes "from " ++ (decimal (p + 1) ++ codes " ") ≡ from_text t k
-from-some t k p is other =
-    ap (λ (n : ℕ). codes "from " ++ (decimal (n + 1) ++ codes " ")) is
-    ∙ sym (ap (λ b. if b then [] else (codes "from " ++ (decimal (parent_at t.graph k + 1) ++ codes " ")))
-    (ne_eqb (suc (parent_at t.graph k)) k (λ e. other (ap suc is ∙ e))))
 
 abbrev first-arrival : Told → List ℕ
 first-arrival t = codes ": " ++ state_text t.vocabulary (line_instance t 0).values

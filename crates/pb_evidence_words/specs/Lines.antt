@@ -6,7 +6,7 @@ use Rattle.pb_evidence.specs.ProofGraphs.{RestsOn, RestsThrough}
 use Rattle.pb_evidence.specs.ProofGraphs.{Graph}
 use Rattle.pb_evidence.specs.declared.Evidence.{Evidence}
 use Rattle.pb_evidence.specs.Evidence.{graph_of}
-use Rattle.pb_evidence_words.specs.Order.{parent_at, run_start}
+use Rattle.pb_evidence_words.specs.Order.{last_caller_at, parent_at, run_start}
 use Rattle.pb_evidence_words.specs.declared.lines.Lines.{Lines}
 
 -- evidence whose instances stand once each, each with its row, and are what the first leads to
@@ -36,3 +36,6 @@ pub record AreLinesOf (graph : Graph) (lines : Lines) : Type 0 where
   pub starts_sized : length lines.starts.items ≡ length graph.instances
   pub starts : (k : ℕ) → k < length graph.instances
       → slice_index lines.starts.items k ≡ run_start (parent_at graph) k
+  pub lasts_sized : length lines.lasts.items ≡ length graph.instances
+  pub lasts : (k : ℕ) → k < length graph.instances
+      → slice_index lines.lasts.items k ≡ last_caller_at graph k

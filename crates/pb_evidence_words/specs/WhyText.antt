@@ -7,9 +7,12 @@
 --     edge  = "  " move ( ", back to line " NUMBER ", for ever" | ", to line " NUMBER ) NEWLINE
 --     cut   = "  " move ", outside the ranges" NEWLINE
 --     here  = "  here" [ reason ] ": " state NEWLINE
-use Rattle.std.specs.Prelude.{ℕ, suc, ◌+◌, ◌==◌, Bool, true, false, ◌&&◌, if◌then◌else◌}
-use Rattle.std.specs.Prelude.{List, [], ◌∷◌, ◌++◌, length, flat_map, slice_index, slice_index_or}
-use Rattle.std.specs.Prelude.{codes, decimal, Option, Some, None, unwrap_or}
+--
+-- A line that only passes on to another fixpoint in the same state is left out, and its number with
+-- it: the next line takes its place.
+use Rattle.std.specs.Prelude.{ℕ, zero, suc, ◌+◌, ◌==◌, Bool, true, false, not, ◌&&◌}
+use Rattle.std.specs.Prelude.{if◌then◌else◌, List, [], ◌∷◌, ◌++◌, length, flat_map, slice_index, slice_index_or}
+use Rattle.std.specs.Prelude.{codes, decimal, Option, Some, None, is_some, unwrap_or}
 use Rattle.std.specs.List.{find, range_with_len, slice_get}
 use Rattle.std.specs.Cmp.Lexicographic.{pointwise}
 use Rattle.std.specs.Ordering.{int_eq}
@@ -18,11 +21,12 @@ use Rattle.pb_sorts.specs.declared.carrier.Carrier.{Carrier}
 use Rattle.pb_sorts.specs.Instance.{Instance, is_instance}
 use Rattle.pb_sorts.specs.Layout.{carriers_of}
 use Rattle.pb_model_words.specs.Vocabulary.{Vocabulary}
-use Rattle.pb_model_words.specs.Words.{state_text, move_text, changes_text}
+use Rattle.pb_model_words.specs.Words.{state_text, move_text, changes_text, step_at}
 use Rattle.pb_typing_calls.specs.MadeCalls.{MadeCall, calls_at}
 use Rattle.pb_evidence.specs.ProofGraphs.{Graph}
 use Rattle.pb_evidence_places.specs.CallPlaces.{instance_numbered}
-use Rattle.pb_evidence_words.specs.Order.{place_of, parent_at, leads_back, has_edge}
+use Rattle.pb_evidence_words.specs.Order.{place_of, parent_at, last_caller_at, leads_back}
+use Rattle.pb_evidence_words.specs.Order.{leads_on, has_edge}
 
 -- What is told: the words of the model, the text of its property and the one of its every step, the
 -- layout of the property's instances, and evidence for a truth value, with which of its lines rest
@@ -81,13 +85,53 @@ move_among m calls i j = move_by m i j (find (is_call_of j) calls)
 abbrev pub move_between : Told → Instance → Instance → List ℕ
 move_between t i j = move_among t.vocabulary (calls_at t.text i) i j
 
+abbrev pub dependencies_at : Told → ℕ → List ℕ
+dependencies_at t k = t.graph.dependencies (slice_index t.graph.instances k)
+
+abbrev pub is_cut_at : Told → ℕ → Bool
+is_cut_at t k = slice_index_or t.cuts k false
+
+-- ---- lines that are left out
+
+-- a call that isn't made at a step: the state stays
+abbrev pub is_staying : Vocabulary → Option MadeCall → Bool
+is_staying m None = false
+is_staying m (Some c) = not (is_some (step_at m c.place))
+
+-- the state stays where the line at k is come to
+abbrev pub stays_at : Told → ℕ → Bool
+stays_at t k =
+    is_staying t.vocabulary (find (is_call_of (line_instance t k))
+    (calls_at t.text (line_instance t (parent_at t.graph k))))
+
+-- One line alone rests on the one at k, and this on the next line alone, which comes from it.
+abbrev pub is_link : Told → ℕ → Bool
+is_link t k =
+    not (is_cut_at t k) && ((last_caller_at t.graph k == parent_at t.graph k)
+    && leads_on t.graph k (dependencies_at t k))
+
+-- a line that only passes on, from the line that it comes from to the next one
+abbrev pub is_left_out : Told → ℕ → Bool
+is_left_out t zero = false
+is_left_out t (suc k) = is_link t (suc k) && stays_at t (suc k)
+
+-- The line from which the one at k comes, by way of those alone that pass on;
+abbrev pub origin_at : Told → ℕ → ℕ
+origin_at t zero = 0
+origin_at t (suc k) = if is_left_out t k then origin_at t k else parent_at t.graph (suc k)
+
+-- and whether there is no other line between the two
+abbrev pub follows : Told → ℕ → Bool
+follows t zero = false
+follows t (suc k) = if is_left_out t k then follows t k else parent_at t.graph (suc k) == k
+
 -- ---- lines
 
--- the line that the one at k comes from, where it isn't the one before
+-- the line that the one at k comes from, where there are others between
 abbrev pub from_text : Told → ℕ → List ℕ
 from_text t k =
-    let parent = parent_at t.graph k in
-    if suc parent == k then [] else codes "from " ++ (decimal (parent + 1) ++ codes " ")
+    if follows t k then []
+    else codes "from " ++ (decimal (origin_at t k + 1) ++ codes " ")
 
 -- how the line at k is come to
 abbrev pub arrival_text : Told → ℕ → List ℕ
@@ -127,9 +171,6 @@ cut_text t i c =
     else codes "  " ++ (move_text t.vocabulary c.place c.own i.values c.instance.values
     ++ codes ", outside the ranges\n")
 
-abbrev pub is_cut_at : Told → ℕ → Bool
-is_cut_at t k = slice_index_or t.cuts k false
-
 abbrev pub cuts_text : Told → ℕ → List ℕ
 cuts_text t k =
     let i = line_instance t k in
@@ -151,9 +192,6 @@ here_text t k =
     codes "  here" ++ (reason_text t k ++ (codes ": "
     ++ (state_text t.vocabulary (line_instance t k).values ++ codes "\n")))
 
-abbrev pub dependencies_at : Told → ℕ → List ℕ
-dependencies_at t k = t.graph.dependencies (slice_index t.graph.instances k)
-
 abbrev pub end_text : Told → ℕ → List ℕ
 end_text t k = if is_empty (dependencies_at t k) then here_text t k else []
 
@@ -163,7 +201,9 @@ below_text t k =
 
 -- ---- all lines
 
+-- the line at k with what stands below it, unless it only passes on
+abbrev pub written_text : Told → ℕ → List ℕ
+written_text t k = if is_left_out t k then [] else line_text t k ++ below_text t k
+
 abbrev pub why_lines : Told → List ℕ
-why_lines t =
-    flat_map (λ k. line_text t k ++ below_text t k)
-    (range_with_len 0 (length t.graph.instances))
+why_lines t = flat_map (written_text t) (range_with_len 0 (length t.graph.instances))

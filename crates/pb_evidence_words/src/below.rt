@@ -16,6 +16,7 @@ use crate::caller::Caller;
 use crate::dependency::Dependency;
 use crate::line::Line;
 use crate::numbers::push_line_number;
+use crate::passing::Arrival;
 use crate::telling::Telling;
 use pb_model_words::push_state;
 use pb_sorts::{Carrier, Instance};
@@ -38,7 +39,7 @@ fn are_within(carriers: &[Carrier], values: &[i64]) -> bool
 }
 
 /// Whether there is an edge to a line, which comes from its parent, from another one.
-fn is_edge(target: usize, parent: usize, line: usize) -> bool
+pub(crate) fn is_edge(target: usize, parent: usize, line: usize) -> bool
     ensures { result ≡ ((target == 0) || not (parent == line)) }
 {
     target == 0 || parent != line
@@ -174,10 +175,12 @@ impl Caller<'_> {
 }
 
 impl Line<'_> {
-    ghost use Rattle.pb_evidence_words.specs.Callers.{told_by};
+    ghost use Rattle.std.specs.Prelude.{◌<◌};
+    ghost use Rattle.pb_evidence_words.specs.Callers.{IsParent, told_by};
     ghost use Rattle.pb_evidence_words.specs.Order.{leads_back};
+    ghost use Rattle.pb_evidence_words.specs.Passing.{IsArrival};
     ghost use Rattle.pb_evidence_words.specs.WhyText.{below_text, end_text, here_text};
-    ghost use Rattle.pb_evidence_words.specs.WhyText.{reason_text, target_text};
+    ghost use Rattle.pb_evidence_words.specs.WhyText.{reason_text, target_text, written_text};
 
     fn leads_back(&self, target: usize) -> bool
         ensures { result ≡ leads_back (told_by self.now).graph self.now.number target }
@@ -253,5 +256,24 @@ impl Line<'_> {
         caller.push_edges(text)?;
         caller.push_cuts_at(text)?;
         self.push_end(text)
+    }
+
+    /// Puts the line and what stands below it behind a text, unless it passes on.
+    pub(crate) fn push_written(
+        &self,
+        text: &mut String,
+        parent: &Caller,
+        arrival: Arrival,
+    ) -> Result<(), AllocError>
+        requires parent { 0 < self.now.number → IsParent parent.now self.now }
+        requires arrival { IsArrival (told_by self.now) self.now.number arrival }
+        ensures { OnOk result (string_bytes text.new ≡ string_bytes text.old
+            ++ written_text (told_by self.now) self.now.number) }
+    {
+        if arrival.passes {
+            return Ok(());
+        }
+        self.push(text, parent, arrival)?;
+        self.push_below(text)
     }
 }

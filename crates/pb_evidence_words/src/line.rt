@@ -8,6 +8,7 @@ ghost use Rattle.pb_evidence_words.specs.WhyText.{formula_text, is_empty};
 
 use crate::caller::Caller;
 use crate::numbers::push_line_number;
+use crate::passing::Arrival;
 use crate::telling::Telling;
 use pb_model_words::push_state;
 use pb_sorts::Instance;
@@ -48,6 +49,7 @@ impl Telling<'_> {
 
 impl<'t> Line<'t> {
     ghost use Rattle.pb_evidence_words.specs.Callers.{IsParent, told_by};
+    ghost use Rattle.pb_evidence_words.specs.Passing.{IsArrival};
     ghost use Rattle.pb_evidence_words.specs.WhyText.{from_text, is_stuck};
     ghost use Rattle.pb_evidence_words.specs.WhyText.{line_instance, line_text};
 
@@ -105,26 +107,31 @@ impl<'t> Line<'t> {
         Ok(are_none(&calls))
     }
 
-    /// The line that a line comes from, where it isn't the one before.
-    fn push_from(&self, text: &mut String) -> Result<(), AllocError>
-        requires { 0 < self.now.number }
+    /// The line that the line comes from, where there are others between.
+    fn push_from(&self, text: &mut String, arrival: Arrival) -> Result<(), AllocError>
+        requires { IsArrival (told_by self.now) self.now.number arrival }
         ensures { OnOk result (string_bytes text.new ≡ string_bytes text.old
             ++ from_text (told_by self.now) self.now.number) }
     {
-        let parent = self.telling.lines.parents[self.number];
-        if parent == self.number - 1 {
+        if arrival.follows {
             return Ok(());
         }
         text.push_str("from ")?;
-        push_line_number(self.telling.alloc, text, parent)?;
+        push_line_number(self.telling.alloc, text, arrival.origin)?;
         text.push_str(" ")
     }
 
     /// Puts the line behind a text: how it is come to is said of the first one by its state, of any
     /// other by a move from its parent. The calls of the line that the first one comes from don't
     /// matter.
-    pub(crate) fn push(&self, text: &mut String, parent: &Caller) -> Result<(), AllocError>
-        requires { 0 < self.now.number → IsParent parent.now self.now }
+    pub(crate) fn push(
+        &self,
+        text: &mut String,
+        parent: &Caller,
+        arrival: Arrival,
+    ) -> Result<(), AllocError>
+        requires parent { 0 < self.now.number → IsParent parent.now self.now }
+        requires arrival { IsArrival (told_by self.now) self.now.number arrival }
         ensures { OnOk result (string_bytes text.new ≡ string_bytes text.old
             ++ line_text (told_by self.now) self.now.number) }
     {
@@ -140,7 +147,7 @@ impl<'t> Line<'t> {
             return text.push_str("\n");
         }
         text.push_str(" ")?;
-        self.push_from(text)?;
+        self.push_from(text, arrival)?;
         telling.push_move_to(text, parent, &instance)?;
         text.push_str("\n")
     }

@@ -12,12 +12,13 @@ use pb_evidence::Evidence;
 use std::alloc::{AllocError, Global};
 use std::collections::HashMap;
 
-/// For each instance the place of its line, and for each line the first line that rests on its
-/// instance, and where the longest run of lines that ends with it begins.
+/// For each instance the place of its line, and for each line the first and the last line that rest
+/// on its instance, and where the longest run of lines that ends with it begins.
 #[derive(Drop)]
 pub(crate) struct Lines {
     pub places: HashMap<u32, usize>,
     pub parents: Vec<usize>,
+    pub lasts: Vec<usize>,
     pub starts: Vec<usize>,
 }
 
@@ -52,7 +53,7 @@ struct IndexedEvidence<'e> {
 
 impl IndexedEvidence<'_> {
     ghost use Rattle.pb_game.specs.Adjacency.{is_among, row};
-    ghost use Rattle.pb_evidence_words.specs.Order.{parent_at};
+    ghost use Rattle.pb_evidence_words.specs.Order.{last_caller_at, parent_at};
 
     /// Lets the lines of all instances that a line rests on come from that line.
     fn take_children(&self, line: usize, parents: &mut [usize])
@@ -88,6 +89,22 @@ impl IndexedEvidence<'_> {
             self.take_children(line, &mut parents);
         }
         Ok(parents)
+    }
+
+    /// The last line that rests on the instance of each line.
+    fn lasts(&self, alloc: Global) -> Result<Vec<usize>, AllocError>
+        ensures sized { IfOk result (λ lasts. length lasts.items
+            ≡ length self.now.evidence.now.instances.items) }
+        ensures lasts { IfOk result (λ lasts.
+            (k : ℕ) → k < length self.now.evidence.now.instances.items
+            → slice_index lasts.items k ≡ last_caller_at (graph_of self.now.evidence.now) k) }
+    {
+        let count = self.evidence.instances.len();
+        let mut lasts = vec![in alloc; count; count]?;
+        for line in 0..count {
+            self.take_children(line, &mut lasts);
+        }
+        Ok(lasts)
     }
 }
 
@@ -132,10 +149,12 @@ impl Lines {
             places: &places,
         };
         let parents = indexed.parents(alloc)?;
+        let lasts = indexed.lasts(alloc)?;
         let starts = starts_of(alloc, &parents)?;
         Ok(Lines {
             places,
             parents,
+            lasts,
             starts,
         })
     }

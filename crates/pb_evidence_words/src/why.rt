@@ -10,6 +10,7 @@ ghost use Rattle.pb_evidence_words.specs.Tellable.{IsTellableShown};
 ghost use Rattle.pb_evidence_words.specs.WhyText.{with_cuts, why_lines};
 
 use crate::line::Line;
+use crate::passing::Arrival;
 use crate::shown::Shown;
 use crate::telling::Telling;
 use std::alloc::{AllocError, Global};
@@ -28,23 +29,29 @@ impl Telling<'_> {
             number: 0,
         };
         let mut parent = first.caller()?;
+        let mut arrival = Arrival {
+            origin: 0,
+            follows: false,
+            passes: false,
+        };
         for number in 0..count {
             let line = Line {
                 telling: &*self,
                 number,
             };
             parent = line.parent(parent)?;
-            line.push(text, &parent)?;
-            line.push_below(text)?;
+            arrival = line.arrival(arrival, &parent);
+            line.push_written(text, &parent, arrival)?;
         }
         Ok(())
     }
 }
 
 /// Puts behind a text the lines that show why the initial instance of a property's text is true or
-/// false: each instance of the evidence with the step of the model by which it is come to, and
-/// below it the edges to other lines, the calls outside the ranges, and where it rests on nothing
-/// else the state and why. `steps` is the text of every step.
+/// false: each instance of the evidence with the step of the model by which it is come to, but for
+/// those that only pass on to the next one, and below it the edges to other lines, the calls
+/// outside the ranges, and where it rests on nothing else the state and why. `steps` is the text of
+/// every step.
 ///
 /// A line's calls are worked out twice at most: for it, and for the lines that come from it, which
 /// stand together.

@@ -1,3 +1,5 @@
+pub mod ArrayWords
+pub mod FirstArrays
 pub mod Enumerators
 pub mod Listed
 pub mod Called

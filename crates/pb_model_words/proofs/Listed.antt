@@ -10,7 +10,8 @@ use Rattle.pb_base_values.specs.Carrier.{Tuple}
 use Rattle.pb_text_tree.specs.Form.{VariableForm}
 use Rattle.pb_text_meaning.specs.Syntax.{SortDeclaration}
 use Rattle.pb_model_words.specs.declared.variables.Variable as declared_variable
-use Rattle.pb_model_words.specs.Words.{binding_text, value_text, equations, changes, value_texts, marked, in_brackets}
+use Rattle.pb_model_words.specs.Arrays.{variable_values}
+use Rattle.pb_model_words.specs.Words.{binding_text, equation_text, value_text, changes, value_texts, marked, in_brackets}
 use Rattle.pb_model_words.specs.View.{variable_said}
 
 -- what is left of a list from k on
@@ -19,12 +20,16 @@ drop-at xs k x d within is =
     let next : suc k ≡ k + 1 = omega arith in
     drop-cons xs k d within ∙ ap (λ (n : ℕ). get_or xs k d ∷ drop n xs) next ∙ ap (λ y. y ∷ drop (k + 1) xs) (sym is)
 
+-- an equation for each variable
+abbrev pub each_equation : List SortDeclaration → List declared_variable.Variable → Tuple → List (List ℕ)
+each_equation sorts xs vs = map (equation_text sorts) (variable_values (map variable_said xs) vs)
+
 pub equations-at : (sorts : List SortDeclaration) (xs : List declared_variable.Variable) (vs : Tuple) (k : ℕ) (x : declared_variable.Variable) (v : ℤ)
     → k < length xs → k < length vs → x ≡ get_or xs k x → v ≡ get_or vs k (pos 0)
-    → equations sorts (map variable_said (drop k xs)) (drop k vs) ≡ binding_text sorts (variable_said x) (codes " = ") v ∷ equations sorts (map variable_said (drop (k + 1) xs)) (drop (k + 1) vs)
+    → each_equation sorts (drop k xs) (drop k vs) ≡ binding_text sorts (variable_said x) (codes " = ") v ∷ each_equation sorts (drop (k + 1) xs) (drop (k + 1) vs)
 equations-at sorts xs vs k x v h h' e e' =
-    ap (λ (ys : List declared_variable.Variable). equations sorts (map variable_said ys) (drop k vs)) (drop-at xs k x x h e)
-    ∙ ap (λ (ws : Tuple). equations sorts (map variable_said (x ∷ drop (k + 1) xs)) ws) (drop-at vs k v (pos 0) h' e')
+    ap (λ (ys : List declared_variable.Variable). each_equation sorts ys (drop k vs)) (drop-at xs k x x h e)
+    ∙ ap (λ (ws : Tuple). each_equation sorts (x ∷ drop (k + 1) xs) ws) (drop-at vs k v (pos 0) h' e')
 
 pub value_texts-at : (sorts : List SortDeclaration) (xs : List declared_variable.Variable) (vs : Tuple) (k : ℕ) (x : declared_variable.Variable) (v : ℤ)
     → k < length xs → k < length vs → x ≡ get_or xs k x → v ≡ get_or vs k (pos 0)
@@ -71,13 +76,13 @@ changes-other sorts xs vs ws k x v w h h' h'' e e' e'' differs =
 -- ---- none are left
 
 pub equations-end : (sorts : List SortDeclaration) (xs : List declared_variable.Variable) (vs : Tuple) (k : ℕ)
-    → min (length xs) (length vs) ≤ k → equations sorts (map variable_said (drop k xs)) (drop k vs) ≡ []
+    → min (length xs) (length vs) ≤ k → each_equation sorts (drop k xs) (drop k vs) ≡ []
 equations-end sorts [] vs zero h = refl
 equations-end sorts [] vs (suc k) h = refl
 equations-end sorts (x ∷ xs) [] zero h = refl
 equations-end sorts (x ∷ xs) [] (suc k) h = none (map variable_said (drop k xs))
   where
-    none : (ys : List VariableForm) → equations sorts ys [] ≡ []
+    none : (ys : List VariableForm) → map (equation_text sorts) (variable_values ys []) ≡ []
     none [] = refl
     none (y ∷ ys) = refl
 equations-end sorts (x ∷ xs) (v ∷ vs) zero h = absurd (omega arith)

@@ -1,3 +1,4 @@
+pub mod Arrays
 pub mod Examples
 pub mod GroupLines
 pub mod Laws

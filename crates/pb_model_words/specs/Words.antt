@@ -13,6 +13,7 @@ use Rattle.pb_text_meaning.specs.Syntax.{SortDeclaration}
 use Rattle.pb_text_meaning.specs.Sorts.{declared}
 use Rattle.pb_text_meaning.specs.Erase.{erased_declaration}
 use Rattle.pb_model_words.specs.Vocabulary.{ToldStep, Vocabulary}
+use Rattle.pb_model_words.specs.Arrays.{VariableValue, state_values}
 use Rattle.pb_model_words.specs.States.{says, says_after}
 
 -- ---- values
@@ -70,13 +71,15 @@ in_brackets (w ∷ ws) = marked (codes "(") (codes ",") (w ∷ ws) ++ codes ")"
 abbrev pub sorts_of : Vocabulary → List SortDeclaration
 sorts_of m = map erased_declaration m.sorts
 
--- `p = idle` for each variable
-abbrev pub equations : List SortDeclaration → List VariableForm → Tuple → List (List ℕ)
-equations sorts (x ∷ xs) (v ∷ vs) =
-    binding_text sorts x (codes " = ") v ∷ equations sorts xs vs
-equations sorts xs vs = []
+-- `p = idle`
+abbrev pub equation_text : List SortDeclaration → VariableValue → List ℕ
+equation_text sorts e = e.name ++ (codes " = " ++ value_text sorts e.sort e.value)
 
--- `p = idle, n = 3`
+-- one for each variable, and for an array of equal elements one: `said = none`
+abbrev pub equations : List SortDeclaration → List VariableForm → Tuple → List (List ℕ)
+equations sorts xs vs = map (equation_text sorts) (state_values xs vs)
+
+-- `p = idle, said = none`
 abbrev pub state_text : Vocabulary → Tuple → List ℕ
 state_text m s = marked [] (codes ", ") (equations (sorts_of m) m.variables (says m s))
 

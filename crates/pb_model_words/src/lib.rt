@@ -1,5 +1,6 @@
 //! How values, states and moves of a model are written: values by the names that the model gives
-//! them, a state by all its variables, a move by its step and by what changes.
+//! them, a state by all its variables, a move by its step and by what changes. In a state an array
+//! of equal elements has one value.
 //!
 //! It knows neither texts nor evidence, so that whatever tells of a model's states can stand on it.
 //! All is total: of more values than there are variables, or fewer, those are written that are
@@ -14,6 +15,7 @@ ghost use Rattle.pb_model_words.specs.GroupLines.{group_lines};
 ghost use Rattle.pb_model_words.specs.Examples as example;
 ghost use Rattle.pb_model_words.specs.Laws.{StatesSayTheirValues};
 
+mod arrays;
 mod group_lines;
 mod moves;
 mod states;
@@ -24,15 +26,20 @@ mod vocabulary;
 mod writing;
 
 pub use group_lines::push_group_lines;
-pub use moves::{Move, push_move, push_step_mark};
+pub use moves::{Move, has_step, push_move, push_step_mark};
 pub use states::{push_changes, push_state, push_values};
 pub use vocabulary::{Vocabulary, plain_vocabulary, told_vocabulary};
 
 /// A state and moves, as the definitions compute them: enumerators by their names, an alias of Bool
-/// as its target, numbers below 0; a step with values of its own, and no step.
+/// as its target, numbers below 0; an array of equal elements, and of others; a step with values of
+/// its own, and no step.
 pub fn worked_examples()
     ensures state { state_text example.own_words (pos 0 ∷ pos 1 ∷ pos 0 ∷ negsuc 2 ∷ [])
         ≡ codes "p = noncritical, q = tested, flag = false, n = -3" }
+    ensures array { state_text example.other_words (pos 1 ∷ pos 1 ∷ pos 0 ∷ negsuc 2 ∷ [])
+        ≡ codes "at = tested, up = false, n = -3" }
+    ensures elements { state_text example.other_words (pos 0 ∷ pos 1 ∷ pos 0 ∷ negsuc 2 ∷ [])
+        ≡ codes "at(1) = noncritical, at(2) = tested, up = false, n = -3" }
     ensures values { values_text example.own_words (pos 0 ∷ pos 1 ∷ pos 0 ∷ negsuc 2 ∷ [])
         ≡ codes "(noncritical,tested,false,-3)" }
     ensures step { move_text example.own_words (example.line 5) []

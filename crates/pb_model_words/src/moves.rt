@@ -1,7 +1,8 @@
 //! A move: the step by which a state goes over to another, and what changes. Where a place alone is
 //! known, the step's mark.
 
-ghost use Rattle.std.specs.Prelude.{◌≡◌, ◌++◌, OnOk, string_bytes, map};
+ghost use Rattle.std.specs.Prelude.{◌≡◌, ◌++◌, OnOk, string_bytes, map, is_some};
+ghost use Rattle.pb_model_words.specs.Words.{step_at};
 ghost use Rattle.pb_model_words.specs.Words.{in_brackets, mark_text, move_text, named_step};
 ghost use Rattle.pb_model_words.specs.Words.{stands_at, step_mark, step_text, value_texts};
 ghost use Rattle.pb_model_words.specs.View.{declarations, step_said, told_step_said, variable_said};
@@ -122,6 +123,13 @@ impl Values<'_> {
             }
         }
     }
+}
+
+/// Whether the name of a step is at a place.
+pub fn has_step(vocabulary: &Vocabulary<'_>, place: Place) -> bool
+    ensures { result ≡ is_some (step_at (vocabulary_of vocabulary.now) place) }
+{
+    step_at(&vocabulary.steps, place).is_some()
 }
 
 /// Puts a move behind a text: the step with its own values, or `stays`, and what changes:

@@ -1,7 +1,7 @@
 //! A state by all its variables, and what changes from one state to another.
 
-ghost use Rattle.std.specs.Prelude.{◌≡◌, ◌++◌, OnOk, string_bytes, [], codes, map};
-ghost use Rattle.pb_model_words.specs.Words.{changes, changes_text, equations, marked, state_text};
+ghost use Rattle.std.specs.Prelude.{◌≡◌, ◌++◌, OnOk, string_bytes, codes, map};
+ghost use Rattle.pb_model_words.specs.Words.{changes, changes_text, marked, state_text};
 ghost use Rattle.pb_model_words.specs.Words.{values_text};
 ghost use Rattle.pb_model_words.specs.View.{declarations, variable_said, vocabulary_of};
 
@@ -12,26 +12,6 @@ use crate::vocabulary::Vocabulary;
 use std::alloc::{AllocError, Global};
 
 impl Values<'_> {
-    /// Each variable with its value, with commas between.
-    fn push_equations(
-        &self,
-        text: &mut String,
-        variables: &[Variable<'_>],
-        values: &[i64],
-    ) -> Result<(), AllocError>
-        ensures { OnOk result (string_bytes text.new ≡ string_bytes text.old
-            ++ marked [] (codes ", ") (equations (declarations self.now.sorts.now)
-            (map variable_said variables.now) values.now)) }
-    {
-        let mut is_first = true;
-        for k in 0..variables.len().min(values.len()) {
-            push_mark(text, is_first, "", ", ")?;
-            self.push_binding(text, &variables[k], " = ", values[k])?;
-            is_first = false;
-        }
-        Ok(())
-    }
-
     /// Each variable whose value after isn't the one before, behind a colon, with commas between.
     fn push_changes(
         &self,
@@ -56,7 +36,8 @@ impl Values<'_> {
     }
 }
 
-/// Puts a state of a model behind a text: `p = idle, n = 3`.
+/// Puts a state of a model behind a text: `p = idle, n = 3`. An array whose elements are all equal
+/// has one value: `said = none`.
 ///
 /// # Errors
 /// Memory was refused.

@@ -6,6 +6,8 @@ pub returns : goal.returns
 unfolding digits
 returns c = record {
   state = refl;
+  array = refl;
+  elements = refl;
   values = refl;
   step = refl;
   own_values = refl;

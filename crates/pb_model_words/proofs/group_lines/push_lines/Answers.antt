@@ -1,4 +1,4 @@
-use Rattle.std.proofs.Common.{map, string_bytes, arith}
+use Rattle.std.proofs.Common.{map, string_bytes}
 use Rattle.pb_model_words.specs.View.{variable_said}
 use Rattle.pb_model_words.proofs.Summands.{lines-went-on}
 use Rattle.pb_model_words.proofs.group_lines.push_lines.Goals as goal

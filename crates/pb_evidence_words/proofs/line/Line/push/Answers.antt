@@ -39,7 +39,7 @@ pub returns : goal.returns
 returns c =
     let parent = c.args.parent.now in
     let came = string_bytes c.push_move_to.new.text in
-    let is = c.requires (omega (arith, c.if-self-eq0.false)) in
+    let is = c.requires.parent (omega (arith, c.if-self-eq0.false)) in
     line-said (goal.at.returns c).After-push_formula c.push_str-3.result came (string_bytes c.push_str-3.new.self) c.in_ok-push_formula.ensures
     (arrived-later (told_by c.args.self.now) c.args.self.now.number (λ e. omega (arith, e, c.if-self-eq0.false))
     _ _ (string_bytes c.push_from.new.text) came c.in_ok-push_str-3.ensures.bytes c.in_ok-push_from.ensures

@@ -28,4 +28,6 @@ returns c =
           c.in_ok-starts.ensures.starts k here
           ∙ (ap (λ (qs : List ℕ). run_start (slice_index qs) k) read
           ∙ same_runs (slice_index ps) (parent_at (graph_of e)) (length e.instances.items) c.in_ok-parents.ensures.parents k within);
+      lasts_sized = c.in_ok-lasts.ensures.sized;
+      lasts = c.in_ok-lasts.ensures.lasts;
     }
