@@ -4,8 +4,7 @@
 Edits are dear to try, and what the prover says of one hangs on little: on the edit, on the files of its crate, and on what the crates below say of
 themselves: definitions, types, constants and contracts, but no body, comment or proof. So an edit is tried once, and again only where some of this has
 changed: SUMS has a line `CRATE SUM DATE` for each crate with edits, with a sum of all of it. `.ci/wrong_bodies` writes a line where each edit of the
-crate was refused. A line `CRATE due` is of a crate whose edits were not tried since there are sums: it fails nothing, and is the next to be tried. Text
-of which it isn't sure that it is a body stays in the sum, which then changes more often than it need."""
+crate was refused. Text of which it isn't sure that it is a body stays in the sum, which then changes more often than it need."""
 import functools
 import hashlib
 import pathlib
@@ -129,10 +128,6 @@ class Repository:
         known = [crate for crate in self.with_edits() if crate in lines and crate in self.crates]
         return [crate for crate in known if re.fullmatch(rf"{crate} {self.sum_of(crate)} \d{{4}}-\d\d-\d\d", lines[crate])]
 
-    def due(self):
-        """The crates whose edits were not tried since there are sums."""
-        return [crate for crate, line in self.written().items() if line == f"{crate} due"]
-
     def write(self, sums, date):
         """Writes the lines of crates, each with its sum, and takes out those of crates without edits."""
         lines = {**self.written(), **{crate: f"{crate} {total} {date}" for crate, total in sums.items()}}
@@ -142,7 +137,7 @@ class Repository:
         """What is wrong with the lines, each with what to do."""
         lines, crates, current = self.written(), self.with_edits(), self.current()
         yield from (f"{EDITS}/{crate}: crates.txt has no such crate" for crate in crates if crate not in self.crates)
-        for crate in sorted(set(crates).intersection(self.crates).difference(current, self.due())):
+        for crate in sorted(set(crates).intersection(self.crates).difference(current)):
             flaw = f"the line of {crate} isn't current" if crate in lines else f"no line of {crate}"
             yield f"{SUMS}: {flaw}: .ci/wrong_bodies {crate} tries its edits, and writes the line where each is refused"
         yield from (f"{SUMS}: {crate} has no edits: .ci/wrong_bodies takes the line out" for crate in sorted(set(lines).difference(crates)))

@@ -5,7 +5,7 @@ import pathlib
 import re
 import subprocess
 
-from edit_sums import FUNCTION, TOKEN, body_of
+from edit_sums import FUNCTION, TOKEN, Repository, body_of
 
 REFUSED = "refused, as it must be"
 END = re.compile(r"only=(\d+) proved=(\d+)")
@@ -54,11 +54,27 @@ def named(path, old, folder):
     return [*within, *ways, *([module] if module else [])]
 
 
+def check_words(repository, crate):
+    """The command by which `rt check` checks a crate of a repository, over the libraries that it keeps there."""
+    kit = os.path.dirname(subprocess.run(["rt", "doc"], capture_output=True, text=True, check=True).stdout.strip())
+    library = lambda name: f"{repository.root.absolute()}/crates/{name}/out/rlib"
+    needs = repository.crates[crate].split(":")[1].split()
+    built = lambda name: f"{library(name)}/{name}.rlib" if name in repository.crates else f"{kit}/rlibs/{name}.rlib"
+    words = [f"{kit}/bin/rattle", "check", "--crate-name", crate, "src/lib.rt", "-L", f"dependency={kit}/rlibs"]
+    words += [word for name in ["std", *needs] for word in ("--extern", f"{name}={built(name)}")]
+    words += [word for name in sorted(repository.below(crate)) for word in ("-L", f"dependency={library(name)}")]
+    words += ["--antt-project", f"{kit}/rattle/logic/antt-project.json", "--logic-built", f"{kit}/logic_built"]
+    return [*words, "--jobs", "1", "--incremental", "out/incremental"]
+
+
 class Trial:
     """A crate in a copy of the repository, over the libraries that stand there, and which of its functions are proved as they are."""
 
-    def __init__(self, folder):
-        self.folder = pathlib.Path(folder)
+    def __init__(self, room, crate):
+        self.folder = pathlib.Path(room, "crates", crate)
+        # `rt` builds the libraries that aren't there yet; it sums up all files below at each call, so the checks are those of `rattle` itself.
+        subprocess.run(["rt", "check", "--jobs", "1", "--only", ""], cwd=self.folder, stdout=subprocess.DEVNULL, stderr=subprocess.STDOUT, check=False)
+        self.words = check_words(Repository(room), crate)
         self.edits = sorted(self.folder.glob("must-fail/*.edit"))
         self.changes = {edit: changed(edit.read_text("utf-8"), self.folder) for edit in self.edits}
         # How each place that is changed may be named still.
@@ -66,7 +82,7 @@ class Trial:
         self.proved = self.all_proved()
 
     def check(self, names):
-        words = ["rt", "check", "--jobs", "1", *(word for name in names for word in ("--only", name))]
+        words = [*self.words, *(word for name in names for word in ("--only", name))]
         return subprocess.run(words, cwd=self.folder, stdout=subprocess.PIPE, stderr=subprocess.STDOUT, text=True, errors="replace", check=False)
 
     def first_names(self):
@@ -115,7 +131,7 @@ class Trial:
 
 def tried(room, crate):
     """The verdicts of a crate's edits, by their names, as far as their functions decide."""
-    trial = Trial(f"{room}/crates/{crate}")
+    trial = Trial(room, crate)
     verdicts = {}
     for edit in trial.edits:
         said = trial.verdict(edit)

@@ -49,6 +49,8 @@ TURNED_ON = (
     b"off false\n1 X: on = false, at = 0\n2 X go(0): on(0) := true, at := 1\n"
     b"3 X go(1): on(1) := true, at := 2\n  here the test fails: on(0) = true, on(1) = true, " + OTHERS_OFF + b"at = 2\n"
 )
+# One file that is answered, and one that is refused: their lines are kept until both are known.
+TWO_FILES = (1, b"/dev/stdin: r false\n", b"/dev/null: P02 line 1 column 1\n")
 SINKS = b'0 1 0 0 "false";\n1 0 0 1 "true";\n'
 CASES = [
     ("solve", "cycle", CYCLE, b"answer false\ninstances 2\ncut 0\nvertices 4\n"),
@@ -63,6 +65,7 @@ CASES = [
     ("solve", "data", DATA, b"answer true\ninstances 3\ncut 0\nvertices 5\n"),
     ("game", "data", DATA, b"parity 4;\n" + SINKS + b'2 1 0 1 "Y(1)";\n3 1 0 2 "Y(2)";\n4 1 0 3 "Y(3)";\n'),
     ("solution", "data", DATA, b"Y(1) true\nY(2) true\nY(3) true\n"),
+    ("check /dev/stdin /dev/null", "model", MODEL, TWO_FILES),
     ("why", "model", MODEL, LASSO),
     ("why", "protocol", PROTOCOL, TURNED_ON),
     ("solve-code", "others", MODULE, b"answer true\ninstances 3\ncut 0\nvertices 5\n"),
@@ -114,10 +117,11 @@ class Refusals:
 
 def sweep(refusals, case, workers, kind, is_part, wrong):
     """Refuses each request or thread in turn: how many were refused, and how many of these runs answered all the same."""
-    command, name, text, output = case
-    whole, number, refused, answered, calm = (0, output, b""), 1, 0, 0, 0
+    command, name, text, answer = case
+    whole = answer if isinstance(answer, tuple) else (0, answer, b"")
+    number, refused, answered, calm = 1, 0, 0, 0
     while calm < (20 if workers > 1 and not is_part else 1):
-        ended, what, places = refusals.run([command, "--workers", str(workers)], text, **{kind: number})
+        ended, what, places = refusals.run([*command.split(), "--workers", str(workers)], text, **{kind: number})
         if what == "nothing":
             calm += 1
             is_wanted = ended == whole

@@ -1,6 +1,6 @@
 #!/usr/bin/env python3
 """Tries .ci/edit_sums.py and .ci/wrong_bodies on two small crates, `low` and `high` above it, each with an edit: which lines of SUMS are current after a
-change, and which are written where the prover doesn't refuse each edit. In the place of `rt` stands a script that says what a case wants. Takes seconds,
+change, and which are written where the prover doesn't refuse each edit. In the place of `rt` and `rattle` are scripts that say what a case wants. Takes seconds,
 and prints what went wrong."""
 import os
 import pathlib
@@ -18,13 +18,8 @@ from edit_sums import Repository
 EDITS = "tests/wrong_bodies"
 SUMS = f"{EDITS}/SUMS"
 RT = """#!/bin/sh
-if [ "$1" = check ]; then
-    if [ $# -gt 1 ] && grep -q "${BROKEN:-nothing}" src/lib.rt; then
-        printf 'note: src/lib.rt:2:5: it is not proved\nonly=1 proved=0\n'
-        exit 1
-    fi
-    exit "${UNPROVED:-0}"
-fi
+[ "$1" = doc ] && echo "${0%/*}/page" && exit
+[ "$1" = check ] && exit "${UNPROVED:-0}"
 [ "$1" = ci ] && [ $# -gt 1 ] && echo "rt ci with names is not the gate" && exit 2
 [ "$1" = ci ] && set -- ci $(ls crates)
 shift
@@ -38,6 +33,13 @@ for crate; do
         esac
     done
 done
+"""
+RATTLE = """#!/bin/sh
+if grep -q "${BROKEN:-nothing}" src/lib.rt; then
+    printf 'note: src/lib.rt:2:5: it is not proved\\nonly=1 proved=0\\n'
+    exit 1
+fi
+exit "${UNPROVED:-0}"
 """
 LOW = """\
 //! Low.
@@ -107,7 +109,7 @@ CHANGES = (
     ("a sum by hand", SUMS, "high ", "high 0", "high"),
     ("a line without its date", SUMS, "-", "", "high"),
     ("a lacking line", SUMS, "low ", "other ", "low other"),
-    ("a line that is due and more", SUMS, "high ", "high due ", "high"),
+    ("a line without its sum", SUMS, "high ", "high due ", "high"),
 )
 
 
@@ -152,20 +154,19 @@ def tries_wrong(room):
             yield f"the drawn one: status {ran.returncode}, not {status}, or lines are written: {ran.stdout}{ran.stderr}"
 
 
-def due_wrong(room):
-    """What goes wrong with a line that is due: it fails nothing, its crate is never drawn, and it is tried where no crate is named."""
+def stale_wrong(room):
+    """What goes wrong with a line that isn't current: its crate is tried where no crate is named, and gets a line only where it is proved."""
     sums = room / SUMS
     whole = sums.read_text("utf-8")
-    sums.write_text(re.sub(r"(?m)^high .*$", "high due", whole), "utf-8")
-    if list(Repository(room).flaws()):
-        yield "a line that is due fails"
-    if run(room, "wrong_bodies", "--drawn", missed="high/once.edit", verdict="NOT REFUSED").returncode:
-        yield "a crate that is due is drawn"
-    if run(room, "wrong_bodies", "--kept", unproved="1").returncode != 1 or "high due" not in sums.read_text("utf-8"):
+    stale = re.sub(r"(?m)^high .*$", "high due", whole)
+    sums.write_text(stale, "utf-8")
+    if named(list(Repository(room).flaws())) != {"high"}:
+        yield "a line without a sum passes"
+    if run(room, "wrong_bodies", "--kept", unproved="1").returncode != 1 or sums.read_text("utf-8") != stale:
         yield "a crate that isn't proved gets a line"
     ran = run(room, "wrong_bodies", "--kept")
     if ran.returncode or sums.read_text("utf-8") != whole:
-        yield f"a crate that is due isn't tried: {ran.stdout}{ran.stderr}"
+        yield f"a crate whose line isn't current isn't tried: {ran.stdout}{ran.stderr}"
 
 
 def functions_wrong(room):
@@ -181,10 +182,11 @@ def functions_wrong(room):
 def main():
     with tempfile.TemporaryDirectory() as folder:
         room = pathlib.Path(folder)
-        for path, text in {**FILES, "bin/rt": RT}.items():
+        for path, text in {**FILES, "bin/rt": RT, "bin/bin/rattle": RATTLE}.items():
             (room / path).parent.mkdir(parents=True, exist_ok=True)
             (room / path).write_text(text, "utf-8")
-        (room / "bin/rt").chmod(0o755)
+        for path in ("bin/rt", "bin/bin/rattle"):
+            (room / path).chmod(0o755)
         (room / ".ci").mkdir()
         for name in ("edit_sums.py", "edits_by_function.py", "wrong_bodies"):
             shutil.copy(HERE / ".ci" / name, room / ".ci" / name)
@@ -193,7 +195,7 @@ def main():
             ran = run(room, script)
             if ran.returncode != status or script == "edit_sums.py" and named(ran.stdout.splitlines()) != stale:
                 wrong.append(f"{script}, where each edit is refused: {ran.stdout}{ran.stderr}")
-        wrong += [*changes_wrong(room), *due_wrong(room), *tries_wrong(room), *functions_wrong(room)]
+        wrong += [*changes_wrong(room), *stale_wrong(room), *tries_wrong(room), *functions_wrong(room)]
     print("".join(f"tests/stale_edits.py: {flaw}\n" for flaw in wrong), end="")
     sys.exit(1 if wrong else 0)
 

@@ -22,7 +22,8 @@ use Rattle.pb_game.specs.declared.solver.Solver.TheVariants.{Zielonka}
 use Rattle.pb_command_line.specs.declared.command.Command.{Command}
 use Rattle.pb_command_line.specs.declared.command.Command.TheVariants as command
 use Rattle.pb_command_line.specs.declared.request.Request.{Request}
-use Rattle.pb_command_line.specs.declared.request.Request.TheVariants.{Rule, Check, Input}
+use Rattle.pb_command_line.specs.declared.page.Page.TheVariants as page
+use Rattle.pb_command_line.specs.declared.request.Request.TheVariants.{Page, Check, Input}
 use Rattle.pb_command_line.specs.declared.request.Task.TheVariants as task
 use Rattle.pb_command_line.specs.Line.{command_line}
 use Rattle.pb_command_line.specs.Options.{HasOptions, IsChosenBy, IsSetBy, IsSolvingOf, IsWorkersOf}
@@ -31,7 +32,8 @@ use Rattle.pb_command_line.specs.declared.words.Usage.{Usage}
 use Rattle.pb_base.specs.OrMemory.{IfFault, OnRefused}
 use Rattle.pb_base.specs.declared.or_memory.OrMemory.{OrMemory}
 use Rattle.pb_base.specs.declared.or_memory.OrMemory.TheVariants.{Refused, Memory}
-use Rattle.pb_command_line.specs.Words.{command_name, command_of, property_names, words_error_of, AskFor, AskForSomething, AskPlainly, HaveFault, NeedsNoWord}
+use Rattle.pb_command_line.specs.Commands.{command_name}
+use Rattle.pb_command_line.specs.Words.{command_of, named_files, property_names, request_files, without_standard, words_error_of, AskFor, AskForSomething, AskPlainly, HaveFault, NeedsNoWord}
 
 line_is_simple : is_simple command_line ≡ true
 unfolding clap_on_literals
@@ -59,6 +61,8 @@ no_fault name command.Translate alone = refl
 no_fault name command.Check alone = refl
 no_fault name command.Why alone = refl
 no_fault name command.Rule alone = absurd alone
+no_fault name command.Usage alone = refl
+no_fault name command.Version alone = refl
 
 -- what it reads of an option without a word that isn't given
 unset : List ℕ → Row
@@ -66,9 +70,14 @@ unset name = record { id = name; values = codes "false" ∷ []; count = None; so
 
 -- what it reads of a command's options where none stands
 no_option : Command → List Row
-no_option command.Explain = unset (codes "places") ∷ []
-no_option command.Check = unset (codes "status") ∷ unset (codes "counts") ∷ []
-no_option command.Why = unset (codes "lines") ∷ []
+no_option command.Solve = unset (codes "progress") ∷ []
+no_option command.Game = unset (codes "progress") ∷ []
+no_option command.Solution = unset (codes "progress") ∷ []
+no_option command.Certificate = unset (codes "progress") ∷ []
+no_option command.SolveCode = unset (codes "progress") ∷ []
+no_option command.Explain = unset (codes "progress") ∷ unset (codes "places") ∷ []
+no_option command.Check = unset (codes "progress") ∷ unset (codes "status") ∷ unset (codes "counts") ∷ []
+no_option command.Why = unset (codes "progress") ∷ unset (codes "lines") ∷ []
 no_option _ = []
 
 -- and reads that command in it, with no option
@@ -88,29 +97,33 @@ command_alone name command.Translate alone = refl
 command_alone name command.Check alone = refl
 command_alone name command.Why alone = refl
 command_alone name command.Rule alone = absurd alone
+command_alone name command.Usage alone = refl
+command_alone name command.Version alone = refl
 
 -- the request of a command alone: one worker, Zielonka's algorithm, no property and nothing more
 plain_solving : Solving
-plain_solving = record { workers = 1; solver = Zielonka; some = omega arith; few = omega arith }
+plain_solving = record { workers = 1; progress = false; solver = Zielonka; some = omega arith; few = omega arith }
 
 -- no words
-no_properties : Vec (String Global)
-no_properties = record { ptr = null_ptr; len = 0; cap = 0; alloc = record { memory = record { seal = tt } }; items = []; ok = (refl, omega arith); small = omega arith }
+no_words : Vec (String Global)
+no_words = record { ptr = null_ptr; len = 0; cap = 0; alloc = record { memory = record { seal = tt } }; items = []; ok = (refl, omega arith); small = omega arith }
 
 plain_request : (command : Command) → NeedsNoWord command → Request
 plain_request command.Solve alone = Input (task.Solve plain_solving)
-plain_request command.Game alone = Input (task.Game (record { workers = 1; some = omega arith; few = omega arith }))
+plain_request command.Game alone = Input (task.Game (record { workers = 1; progress = false; some = omega arith; few = omega arith }))
 plain_request command.Solution alone = Input (task.Solution plain_solving)
 plain_request command.Certificate alone = Input (task.Certificate plain_solving)
-plain_request command.Explain alone = Input (task.Explain (record { workers = 1; places = false; some = omega arith; few = omega arith }))
+plain_request command.Explain alone = Input (task.Explain (record { workers = 1; progress = false; places = false; some = omega arith; few = omega arith }))
 plain_request command.Compile alone = Input task.Compile
 plain_request command.Verify alone = Input task.Verify
 plain_request command.List alone = Input task.List
 plain_request command.SolveCode alone = Input (task.SolveCode plain_solving)
-plain_request command.Translate alone = Input (task.Translate (record { property = None }))
-plain_request command.Check alone = Check (record { solving = plain_solving; properties = no_properties; status = false; counts = false })
-plain_request command.Why alone = Input (task.Why (record { workers = 1; property = None; lines = false; some = omega arith; few = omega arith }))
+plain_request command.Translate alone = Input (task.Translate (record { property = None; files = no_words }))
+plain_request command.Check alone = Check (record { solving = plain_solving; properties = no_words; status = false; counts = false; files = no_words })
+plain_request command.Why alone = Input (task.Why (record { workers = 1; progress = false; property = None; lines = false; files = no_words; some = omega arith; few = omega arith }))
 plain_request command.Rule alone = absurd alone
+plain_request command.Usage alone = Page (page.Usage None)
+plain_request command.Version alone = Page page.Version
 
 not_set : (word : Option (List ℕ)) → (word ≡ Some (codes "true") → ⊥) → IsSetBy word false
 not_set word untold = (λ told. absurd (cc told), λ told. absurd (untold told))
@@ -118,35 +131,40 @@ not_set word untold = (λ told. absurd (cc told), λ told. absurd (untold told))
 not_told : {P : Type 0} → Some (codes "false") ≡ Some (codes "true") → P
 not_told told = absurd (cc told)
 
-plain_solved : (rows : List Row) → first_of (codes "workers") rows ≡ None → first_of (codes "solver") rows ≡ None → IsSolvingOf rows plain_solving
+plain_solved : (rows : List Row) → first_of (codes "workers") rows ≡ None → first_of (codes "solver") rows ≡ None
+    → (first_of (codes "progress") rows ≡ Some (codes "true") → ⊥) → IsSolvingOf rows plain_solving
 unfolding plain_solving
-plain_solved rows no_workers no_solver = record {
+plain_solved rows no_workers no_solver untold = record {
   workers = subst (λ w. IsWorkersOf w 1) (sym no_workers) refl;
+  progress = not_set _ untold;
   solver = subst (λ w. IsChosenBy w Zielonka) (sym no_solver) refl;
 }
 
 plain_read : (command : Command) (alone : NeedsNoWord command) → HasOptions (no_option command) (plain_request command alone)
-unfolding plain_request no_option unset no_properties
-plain_read command.Solve alone = plain_solved [] refl refl
-plain_read command.Game alone = refl
-plain_read command.Solution alone = plain_solved [] refl refl
-plain_read command.Certificate alone = plain_solved [] refl refl
-plain_read command.Explain alone = record { workers = refl; places = not_set _ not_told }
+unfolding plain_request no_option unset no_words
+plain_read command.Solve alone = plain_solved (unset (codes "progress") ∷ []) refl refl not_told
+plain_read command.Game alone = record { workers = refl; progress = not_set _ not_told }
+plain_read command.Solution alone = plain_solved (unset (codes "progress") ∷ []) refl refl not_told
+plain_read command.Certificate alone = plain_solved (unset (codes "progress") ∷ []) refl refl not_told
+plain_read command.Explain alone = record { workers = refl; progress = not_set _ not_told; places = not_set _ not_told }
 plain_read command.Compile alone = tt
 plain_read command.Verify alone = tt
 plain_read command.List alone = tt
-plain_read command.SolveCode alone = plain_solved [] refl refl
-plain_read command.Translate alone = refl
+plain_read command.SolveCode alone = plain_solved (unset (codes "progress") ∷ []) refl refl not_told
+plain_read command.Translate alone = record { property = refl; files = refl }
 plain_read command.Check alone =
     record {
-      solving = plain_solved (unset (codes "status") ∷ unset (codes "counts") ∷ []) refl refl;
+      solving = plain_solved (unset (codes "progress") ∷ unset (codes "status") ∷ unset (codes "counts") ∷ []) refl refl not_told;
       properties =
           refl;
       status = not_set _ not_told;
       counts = not_set _ not_told;
+      files = refl;
     }
-plain_read command.Why alone = record { workers = refl; property = refl; lines = not_set _ not_told }
+plain_read command.Why alone = record { workers = refl; progress = not_set _ not_told; property = refl; lines = not_set _ not_told; files = refl }
 plain_read command.Rule alone = absurd alone
+plain_read command.Usage alone = refl
+plain_read command.Version alone = tt
 
 plain_command : (command : Command) (alone : NeedsNoWord command) → command_of (plain_request command alone) ≡ command
 unfolding plain_request
@@ -163,6 +181,8 @@ plain_command command.Translate alone = refl
 plain_command command.Check alone = refl
 plain_command command.Why alone = refl
 plain_command command.Rule alone = absurd alone
+plain_command command.Usage alone = refl
+plain_command command.Version alone = refl
 
 -- so it asks for that command by one worker
 pub plain_words_ask : (words : List (List ℕ)) → AskPlainly words → AskForSomething words
@@ -179,13 +199,13 @@ plain_words_ask words (name, command, alone, is) =
 
 -- ---- the word of a command alone names no property
 
--- no words stand behind `--property`
+-- no words after `--property`, nor after the command
 abbrev NamesNone : List Row → Type 0
-NamesNone rows = (first_of (codes "property") rows ≡ None) × (unwrap_or (all_of (codes "property") rows) [] ≡ [])
+NamesNone rows = (first_of (codes "property") rows ≡ None) × (unwrap_or (all_of (codes "property") rows) [] ≡ []) × (unwrap_or (all_of (codes "file") rows) [] ≡ [])
 
 none_named : (rows : List Row) (request : Request) → NamesNone rows → HasOptions rows request → property_names request ≡ []
-none_named rows (Rule rule) none has = refl
-none_named rows (Input (task.Translate o)) none has = ap option_to_list (has ∙ none.0)
+none_named rows (Page shown) none has = refl
+none_named rows (Input (task.Translate o)) none has = ap option_to_list (has.property ∙ none.0)
 none_named rows (Check o) none has = has.properties ∙ none.1
 none_named rows (Input (task.Why o)) none has = ap option_to_list (has.property ∙ none.0)
 none_named rows (Input (task.Solve o)) none has = refl
@@ -198,32 +218,55 @@ none_named rows (Input task.Compile) none has = refl
 none_named rows (Input task.Verify) none has = refl
 none_named rows (Input task.List) none has = refl
 
+no_files : (rows : List Row) (request : Request) → NamesNone rows → HasOptions rows request → named_files request ≡ []
+no_files rows (Page shown) none has = refl
+no_files rows (Input (task.Translate o)) none has = has.files ∙ none.2
+no_files rows (Check o) none has = has.files ∙ none.2
+no_files rows (Input (task.Why o)) none has = has.files ∙ none.2
+no_files rows (Input (task.Solve o)) none has = refl
+no_files rows (Input (task.Game o)) none has = refl
+no_files rows (Input (task.Solution o)) none has = refl
+no_files rows (Input (task.Certificate o)) none has = refl
+no_files rows (Input (task.Explain o)) none has = refl
+no_files rows (Input (task.SolveCode o)) none has = refl
+no_files rows (Input task.Compile) none has = refl
+no_files rows (Input task.Verify) none has = refl
+no_files rows (Input task.List) none has = refl
+
 no_names : (command : Command) → NeedsNoWord command → NamesNone (no_option command)
 unfolding no_option unset
-no_names command.Solve alone = (refl, refl)
-no_names command.Game alone = (refl, refl)
-no_names command.Solution alone = (refl, refl)
-no_names command.Certificate alone = (refl, refl)
-no_names command.Explain alone = (refl, refl)
-no_names command.Compile alone = (refl, refl)
-no_names command.Verify alone = (refl, refl)
-no_names command.List alone = (refl, refl)
-no_names command.SolveCode alone = (refl, refl)
-no_names command.Translate alone = (refl, refl)
-no_names command.Check alone = (refl, refl)
-no_names command.Why alone = (refl, refl)
+no_names command.Solve alone = (refl, refl, refl)
+no_names command.Game alone = (refl, refl, refl)
+no_names command.Solution alone = (refl, refl, refl)
+no_names command.Certificate alone = (refl, refl, refl)
+no_names command.Explain alone = (refl, refl, refl)
+no_names command.Compile alone = (refl, refl, refl)
+no_names command.Verify alone = (refl, refl, refl)
+no_names command.List alone = (refl, refl, refl)
+no_names command.SolveCode alone = (refl, refl, refl)
+no_names command.Translate alone = (refl, refl, refl)
+no_names command.Check alone = (refl, refl, refl)
+no_names command.Why alone = (refl, refl, refl)
 no_names command.Rule alone = absurd alone
+no_names command.Usage alone = (refl, refl, refl)
+no_names command.Version alone = (refl, refl, refl)
 
-plain_names_none : (words : List (List ℕ)) → AskPlainly words → (request : Request) → AskFor words request → property_names request ≡ []
-plain_names_none words (name, command, alone, is) request asked =
+plain_rows : (words : List (List ℕ)) (plain : AskPlainly words) (request : Request) (asked : AskFor words request) → NamesNone asked.rows
+plain_rows words (name, command, alone, is) request asked =
     let read = sym asked.read ∙ ap (subcommand_of command_line) is ∙ command_alone name command alone in
     let rows_are : asked.rows ≡ no_option command = ap (λ o. unwrap_or (option_map (λ p. p.1) o) []) read in
-    none_named asked.rows request (subst NamesNone (sym rows_are) (no_names command alone)) asked.options
+    subst NamesNone (sym rows_are) (no_names command alone)
 
 pub plain_results_name_none : {E : Type 0} (words : List (List ℕ)) → AskPlainly words → (r : Result Request E) → IfOk r (AskFor words)
     → IfOk r (λ request. property_names request ≡ [])
-plain_results_name_none words plain (Ok request) asked = plain_names_none words plain request asked
+plain_results_name_none words plain (Ok request) asked = none_named asked.rows request (plain_rows words plain request asked) asked.options
 plain_results_name_none words plain (Err e) asked = tt
+
+pub plain_results_have_no_files : {E : Type 0} (words : List (List ℕ)) → AskPlainly words → (r : Result Request E) → IfOk r (AskFor words)
+    → IfOk r (λ request. request_files request ≡ [])
+plain_results_have_no_files words plain (Ok request) asked =
+    ap without_standard (no_files asked.rows request (plain_rows words plain request asked) asked.options)
+plain_results_have_no_files words plain (Err e) asked = tt
 
 -- words that ask for something are refused for want of memory alone
 pub memory_alone : {T : Type 0} (words : List (List ℕ)) (r : Result T (OrMemory Usage)) → OnRefused r (HaveFault words)

@@ -1,2 +1,3 @@
 mod CommandLine
+mod NamedFiles
 mod OneWord

@@ -13,7 +13,8 @@ use Rattle.clap.proofs.OnLiterals.{clap_on_literals}
 use Rattle.pb_command_line.specs.declared.command.Command.{Command}
 use Rattle.pb_command_line.specs.declared.request.Request.{Request}
 use Rattle.pb_command_line.specs.Line.{command_line}
-use Rattle.pb_command_line.specs.Words.{command_name, command_of, AskFor, AskNothing}
+use Rattle.pb_command_line.specs.Commands.{command_name}
+use Rattle.pb_command_line.specs.Words.{command_of, AskFor, AskNothing}
 
 -- clap reads this command in the words, the first of which is the program's name
 abbrev Asks : List Text → Command → Type 0

@@ -1,4 +1,7 @@
+pub mod Status
+pub mod Commands
+pub mod Usages
+pub mod Pages
 pub mod Line
 pub mod Options
 pub mod Words
-pub mod Status

@@ -53,42 +53,63 @@ abbrev pub counts_rule : Rule
 counts_rule =
     record (new_rule (codes "counts")) { long = Some (codes "counts"); action = Some SetTrue }
 
+-- `--progress`, with no value
+abbrev pub progress_rule : Rule
+progress_rule =
+    record (new_rule (codes "progress")) { long = Some (codes "progress"); action = Some SetTrue }
+
+-- words after the command, any number of them
+abbrev pub files_rule : Rule
+files_rule = record (new_rule (codes "file")) { action = Some Append }
+
 -- a word that has to stand behind the command
 abbrev pub number_rule : Rule
 number_rule = record (new_rule (codes "number")) { required = true }
 
--- a command that takes the number of workers
+-- a word that may follow the command
+abbrev pub topic_rule : Rule
+topic_rule = new_rule (codes "command")
+
+-- a command with the options `--workers` and `--progress`
 abbrev pub exploring_shape : List ℕ → Shape
-exploring_shape name = record (new_shape name) { rules = workers_rule ∷ [] }
+exploring_shape name = record (new_shape name) { rules = workers_rule ∷ progress_rule ∷ [] }
 
--- a command that can be told to name places too
+-- these, and `--places`
 abbrev pub explaining_shape : List ℕ → Shape
-explaining_shape name = record (new_shape name) { rules = workers_rule ∷ places_rule ∷ [] }
+explaining_shape name =
+    record (new_shape name) { rules = workers_rule ∷ progress_rule ∷ places_rule ∷ [] }
 
--- a command that takes the number of workers and the solver
+-- a command with `--workers`, `--progress` and `--solver`
 abbrev pub solving_shape : List ℕ → Shape
-solving_shape name = record (new_shape name) { rules = workers_rule ∷ solver_rule ∷ [] }
+solving_shape name =
+    record (new_shape name) { rules = workers_rule ∷ progress_rule ∷ solver_rule ∷ [] }
 
--- a command that takes the name of a property
+-- a command with `--property`, and files
 abbrev pub translating_shape : List ℕ → Shape
-translating_shape name = record (new_shape name) { rules = property_rule ∷ [] }
+translating_shape name = record (new_shape name) { rules = property_rule ∷ files_rule ∷ [] }
 
--- a command that takes the number of workers and the name of a property, and can be told to write
--- lines of instances
+-- a command with `--workers`, `--progress`, `--property` and `--lines`, and files
 abbrev pub showing_shape : List ℕ → Shape
-showing_shape name =
-    record (new_shape name) { rules = workers_rule ∷ property_rule ∷ lines_rule ∷ [] }
+showing_shape name = record (new_shape name) {
+  rules = workers_rule ∷ progress_rule ∷ property_rule ∷ lines_rule ∷ files_rule ∷ [];
+}
 
--- a command that takes the number of workers, the solver and the names of properties, and can be
--- told to tell the verdicts by the exit status, and to count
+-- a command with `--workers`, `--progress`, `--solver`, `--status` and `--counts`, any number of
+-- `--property`, and files
 abbrev pub checking_shape : List ℕ → Shape
 checking_shape name = record (new_shape name) {
-  rules = workers_rule ∷ solver_rule ∷ properties_rule ∷ status_rule ∷ counts_rule ∷ [];
+  rules =
+      workers_rule ∷ progress_rule ∷ solver_rule ∷ properties_rule ∷ status_rule ∷ counts_rule
+      ∷ files_rule ∷ [];
 }
 
 -- a command that takes the number of a rule
 abbrev pub rule_shape : List ℕ → Shape
 rule_shape name = record (new_shape name) { rules = number_rule ∷ [] }
+
+-- a command that takes the name of a command, or none
+abbrev pub usage_shape : List ℕ → Shape
+usage_shape name = record (new_shape name) { rules = topic_rule ∷ [] }
 
 -- the program, which needs a command, and the commands of texts
 abbrev pub text_commands : App
@@ -110,4 +131,6 @@ command_line =
     let translate = with_subcommand solve_code (translating_shape (codes "translate")) in
     let check = with_subcommand translate (checking_shape (codes "check")) in
     let why = with_subcommand check (showing_shape (codes "why")) in
-    with_subcommand why (rule_shape (codes "rule"))
+    let rule = with_subcommand why (rule_shape (codes "rule")) in
+    let usage = with_subcommand rule (usage_shape (codes "usage")) in
+    with_subcommand usage (new_shape (codes "version"))

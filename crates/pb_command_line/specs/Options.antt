@@ -1,20 +1,26 @@
 -- What the options of a command ask, as clap read them.
 use Rattle.std.specs.Prelude.{◌≡◌, ◌↔◌, ⊤, ℕ, Bool, IsTrue, List, [], Option, Some, None, map, option_map, option_and_then, unwrap_or, ◌<◌, ◌≤◌, codes, string_bytes}
 use Rattle.std.specs.Str.Parse.{IsNumeral, digits_value, without_leading_plus}
+use Rattle.std.specs.Prelude.{String, Vec}
+use Rattle.std.specs.declared.alloc.Global.{Global}
 use Rattle.clap.specs.Walk.{Row, all_of, first_of}
 use Rattle.pb_game.specs.declared.solver.Solver.{Solver}
 use Rattle.pb_game.specs.declared.solver.Solver.TheVariants.{Zielonka}
 use Rattle.pb_game.specs.SolverNames.{solver_name}
 use Rattle.pb_command_rules.specs.Rules.{rule_of}
 use Rattle.pb_command_rules.specs.declared.rule.Rule as rules
+use Rattle.pb_command_line.specs.Commands.{command_name}
+use Rattle.pb_command_line.specs.declared.command.Command.{Command}
 use Rattle.pb_command_line.specs.declared.options.Checking.{Checking}
 use Rattle.pb_command_line.specs.declared.options.Explaining.{Explaining}
 use Rattle.pb_command_line.specs.declared.options.Exploring.{Exploring}
 use Rattle.pb_command_line.specs.declared.options.Showing.{Showing}
 use Rattle.pb_command_line.specs.declared.options.Solving.{Solving}
 use Rattle.pb_command_line.specs.declared.options.Translating.{Translating}
+use Rattle.pb_command_line.specs.declared.page.Page as pages
+use Rattle.pb_command_line.specs.declared.page.Page.TheVariants as page
 use Rattle.pb_command_line.specs.declared.request.Request.{Request}
-use Rattle.pb_command_line.specs.declared.request.Request.TheVariants.{Rule, Check, Input}
+use Rattle.pb_command_line.specs.declared.request.Request.TheVariants.{Page, Check, Input}
 use Rattle.pb_command_line.specs.declared.request.Task.TheVariants.{Solve, Game, Solution, Certificate, Explain, Compile, Verify, List as ListModule, SolveCode, Translate, Why}
 
 -- The word is a whole number from 1 to 16, in decimal digits behind a plus or none, and so many
@@ -34,45 +40,66 @@ IsChosenBy (Some word) solver = word ≡ solver_name solver
 abbrev pub IsSetBy : Option (List ℕ) → Bool → Type 0
 IsSetBy word flag = IsTrue flag ↔ (word ≡ Some (codes "true"))
 
--- by how many workers is explored
-abbrev pub IsExploringOf : List Row → Exploring → Type 0
-IsExploringOf rows o = IsWorkersOf (first_of (codes "workers") rows) o.workers
+-- the values that clap reads for an option, or the words after the command, in order
+abbrev pub AreWordsAt : List ℕ → List Row → Vec (String Global) Global → Type 0
+AreWordsAt id rows words = map string_bytes words.items ≡ unwrap_or (all_of id rows) []
 
--- by how many workers is explored, and by which solver is solved
+-- the number of workers, and whether progress is printed
+pub record IsExploringOf (rows : List Row) (o : Exploring) : Type 0 where
+  pub workers : IsWorkersOf (first_of (codes "workers") rows) o.workers
+  pub progress : IsSetBy (first_of (codes "progress") rows) o.progress
+
+-- these, and the solver
 pub record IsSolvingOf (rows : List Row) (o : Solving) : Type 0 where
   pub workers : IsWorkersOf (first_of (codes "workers") rows) o.workers
+  pub progress : IsSetBy (first_of (codes "progress") rows) o.progress
   pub solver : IsChosenBy (first_of (codes "solver") rows) o.solver
 
--- by how many workers is explored, and whether places are told
+-- these, and whether positions are printed
 pub record IsExplainingOf (rows : List Row) (o : Explaining) : Type 0 where
   pub workers : IsWorkersOf (first_of (codes "workers") rows) o.workers
+  pub progress : IsSetBy (first_of (codes "progress") rows) o.progress
   pub places : IsSetBy (first_of (codes "places") rows) o.places
 
--- which property is translated
-abbrev pub IsTranslatingOf : List Row → Translating → Type 0
-IsTranslatingOf rows o = option_map string_bytes o.property ≡ first_of (codes "property") rows
+-- the property that is translated, and the files
+pub record IsTranslatingOf (rows : List Row) (o : Translating) : Type 0 where
+  pub property : option_map string_bytes o.property ≡ first_of (codes "property") rows
+  pub files : AreWordsAt (codes "file") rows o.files
 
--- how is checked, which properties, and what is told of it
+-- how games are solved, the properties, what is reported, and the files
 pub record IsCheckingOf (rows : List Row) (o : Checking) : Type 0 where
   pub solving : IsSolvingOf rows o.solving
-  pub properties : map string_bytes o.properties.items
-      ≡ unwrap_or (all_of (codes "property") rows) []
+  pub properties : AreWordsAt (codes "property") rows o.properties
   pub status : IsSetBy (first_of (codes "status") rows) o.status
   pub counts : IsSetBy (first_of (codes "counts") rows) o.counts
+  pub files : AreWordsAt (codes "file") rows o.files
 
--- by how many workers is explored, which property is shown, and whether by lines of instances
+-- the number of workers, whether progress is printed, the property, whether lines of instances are
+-- printed, and the files
 pub record IsShowingOf (rows : List Row) (o : Showing) : Type 0 where
   pub workers : IsWorkersOf (first_of (codes "workers") rows) o.workers
+  pub progress : IsSetBy (first_of (codes "progress") rows) o.progress
   pub property : option_map string_bytes o.property ≡ first_of (codes "property") rows
   pub lines : IsSetBy (first_of (codes "lines") rows) o.lines
+  pub files : AreWordsAt (codes "file") rows o.files
 
 -- the rule has the number that stands behind the command
 abbrev pub IsRuleOf : List Row → rules.Rule → Type 0
 IsRuleOf rows rule = option_and_then rule_of (first_of (codes "number") rows) ≡ Some rule
 
+-- the usage is that of the command that is named, or of the program where none is
+abbrev pub IsUsageOf : List Row → Option Command → Type 0
+IsUsageOf rows topic = option_map command_name topic ≡ first_of (codes "command") rows
+
+-- the page is the one that the words after the command name
+abbrev pub IsPageOf : List Row → pages.Page → Type 0
+IsPageOf rows (page.Rule rule) = IsRuleOf rows rule
+IsPageOf rows (page.Usage topic) = IsUsageOf rows topic
+IsPageOf rows page.Version = ⊤
+
 -- the options of a request are what was read; those of a command that takes none are none
 abbrev pub HasOptions : List Row → Request → Type 0
-HasOptions rows (Rule rule) = IsRuleOf rows rule
+HasOptions rows (Page page) = IsPageOf rows page
 HasOptions rows (Check o) = IsCheckingOf rows o
 HasOptions rows (Input (Solve o)) = IsSolvingOf rows o
 HasOptions rows (Input (Game o)) = IsExploringOf rows o

@@ -1,5 +1,7 @@
 -- What the words of the command line ask.
-use Rattle.std.specs.Prelude.{◌≡◌, ◌≢◌, ⊤, ℕ, List, [], ◌∷◌, Some, codes, map, option_map, option_to_list, string_bytes}
+use Rattle.std.specs.Prelude.{◌≡◌, ◌≢◌, ◌==◌, ⊤, ℕ, Bool, false, true, not, List, [], ◌∷◌, Some, codes, if◌then◌else◌, map, option_map, option_to_list, string_bytes}
+use Rattle.std.specs.List.{list_all}
+use Rattle.std.specs.Str.{bytes_eq}
 use Rattle.clap.specs.declared.error.kind.ErrorKind.{ErrorKind}
 use Rattle.clap.specs.declared.error.kind.ErrorKind.TheVariants.{OutOfMemory}
 use Rattle.clap.specs.Faults.{fault_of}
@@ -8,10 +10,13 @@ use Rattle.clap.specs.Walk.{Row}
 use Rattle.pb_command_line.specs.declared.command.Command.{Command}
 use Rattle.pb_command_line.specs.declared.command.Command.TheVariants as command
 use Rattle.pb_command_line.specs.declared.request.Request.{Request}
-use Rattle.pb_command_line.specs.declared.request.Request.TheVariants.{Rule, Check, Input}
+use Rattle.pb_command_line.specs.declared.request.Request.TheVariants.{Page, Check, Input}
+use Rattle.pb_command_line.specs.declared.page.Page as pages
+use Rattle.pb_command_line.specs.declared.page.Page.TheVariants as page
 use Rattle.pb_command_line.specs.declared.request.Task.{Task}
 use Rattle.pb_command_line.specs.declared.request.Task.TheVariants.{Solve, Game, Solution, Certificate, Explain, Compile, Verify, List as ListModule, SolveCode, Translate, Why}
 use Rattle.pb_command_line.specs.declared.words.Usage.{Usage}
+use Rattle.pb_command_line.specs.Commands.{command_name}
 use Rattle.pb_command_line.specs.Line.{command_line}
 use Rattle.pb_command_line.specs.Options.{HasOptions}
 use Rattle.pb_base.specs.declared.or_memory.OrMemory.{OrMemory}
@@ -21,22 +26,6 @@ use Rattle.pb_base.specs.declared.or_memory.OrMemory.TheVariants.{Refused, Memor
 abbrev pub words_error_of : ErrorKind → OrMemory Usage
 words_error_of OutOfMemory = Memory
 words_error_of _ = Refused (record {})
-
--- the word that asks for a command
-abbrev pub command_name : Command → List ℕ
-command_name command.Solve = codes "solve"
-command_name command.Game = codes "game"
-command_name command.Solution = codes "solution"
-command_name command.Certificate = codes "certificate"
-command_name command.Explain = codes "explain"
-command_name command.Compile = codes "compile"
-command_name command.Verify = codes "verify"
-command_name command.List = codes "list"
-command_name command.SolveCode = codes "solve-code"
-command_name command.Translate = codes "translate"
-command_name command.Check = codes "check"
-command_name command.Why = codes "why"
-command_name command.Rule = codes "rule"
 
 -- the command of a task
 abbrev pub command_of_task : Task → Command
@@ -52,9 +41,15 @@ command_of_task (SolveCode o) = command.SolveCode
 command_of_task (Translate o) = command.Translate
 command_of_task (Why o) = command.Why
 
+-- the command of a page
+abbrev pub command_of_page : pages.Page → Command
+command_of_page (page.Rule rule) = command.Rule
+command_of_page (page.Usage topic) = command.Usage
+command_of_page page.Version = command.Version
+
 -- the command of a request
 abbrev pub command_of : Request → Command
-command_of (Rule rule) = command.Rule
+command_of (Page page) = command_of_page page
 command_of (Check o) = command.Check
 command_of (Input task) = command_of_task task
 
@@ -66,9 +61,44 @@ task_names _ = []
 
 -- and of a request
 abbrev pub property_names : Request → List (List ℕ)
-property_names (Rule rule) = []
+property_names (Page page) = []
 property_names (Check o) = map string_bytes o.properties.items
 property_names (Input task) = task_names task
+
+-- whether progress is printed
+abbrev pub task_shows_progress : Task → Bool
+task_shows_progress (Solve o) = o.progress
+task_shows_progress (Game o) = o.progress
+task_shows_progress (Solution o) = o.progress
+task_shows_progress (Certificate o) = o.progress
+task_shows_progress (Explain o) = o.progress
+task_shows_progress Compile = false
+task_shows_progress Verify = false
+task_shows_progress ListModule = false
+task_shows_progress (SolveCode o) = o.progress
+task_shows_progress (Translate o) = false
+task_shows_progress (Why o) = o.progress
+
+abbrev pub shows_progress : Request → Bool
+shows_progress (Page page) = false
+shows_progress (Check o) = o.solving.progress
+shows_progress (Input task) = task_shows_progress task
+
+-- the files that the words name
+abbrev pub named_files : Request → List (List ℕ)
+named_files (Check o) = map string_bytes o.files.items
+named_files (Input (Translate o)) = map string_bytes o.files.items
+named_files (Input (Why o)) = map string_bytes o.files.items
+named_files _ = []
+
+-- `-` alone is standard input, as no name is
+abbrev pub without_standard : List (List ℕ) → List (List ℕ)
+without_standard (name ∷ []) = if bytes_eq name (codes "-") then [] else name ∷ []
+without_standard names = names
+
+-- the files that are read for a request; where there are none, standard input is
+abbrev pub request_files : Request → List (List ℕ)
+request_files request = without_standard (named_files request)
 
 -- the words, the first of which is the program's name, ask for this: clap finds no fault in them,
 -- and what it reads is the request's command with its options
@@ -95,6 +125,25 @@ abbrev pub AskPlainly : List (List ℕ) → Type 0
 AskPlainly words =
     (name : List ℕ) × (command : Command) × NeedsNoWord command
     × (words ≡ name ∷ command_name command ∷ [])
+
+-- a command that takes files
+abbrev pub TakesFiles : Command → Type 0
+TakesFiles command.Check = ⊤
+TakesFiles command.Why = ⊤
+TakesFiles command.Translate = ⊤
+TakesFiles _ = ⊥
+
+-- a word that is no option: it doesn't begin with a dash (45), or is the dash alone
+abbrev pub is_file_word : List ℕ → Bool
+is_file_word [] = true
+is_file_word (c ∷ []) = true
+is_file_word (c ∷ d ∷ rest) = not (c == 45)
+
+-- the program's name, then that of a command that takes files, then these files
+abbrev pub NameFiles : List (List ℕ) → List (List ℕ) → Type 0
+NameFiles words files =
+    (name : List ℕ) × (command : Command) × TakesFiles command
+    × (list_all is_file_word files ≡ true) × (words ≡ name ∷ command_name command ∷ files)
 
 -- behind the program's name stands nothing, or one word that is no command's
 abbrev pub AskNothing : List (List ℕ) → Type 0

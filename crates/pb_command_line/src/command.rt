@@ -1,6 +1,6 @@
 //! The commands of the program.
 ghost use Rattle.std.specs.Prelude.{◌≡◌, Some, IfSome};
-ghost use Rattle.pb_command_line.specs.Words.{command_name};
+ghost use Rattle.pb_command_line.specs.Commands.{command_name};
 
 /// What the program can be asked for.
 #[derive(Clone, Copy, PartialEq, Eq)]
@@ -31,6 +31,10 @@ pub enum Command {
     Why,
     /// What a rule says.
     Rule,
+    /// What the commands take and write.
+    Usage,
+    /// Which version of the program this is.
+    Version,
 }
 
 impl Command {
@@ -54,6 +58,8 @@ impl Command {
             Command::Check => "check",
             Command::Why => "why",
             Command::Rule => "rule",
+            Command::Usage => "usage",
+            Command::Version => "version",
         }
     }
 
@@ -77,6 +83,8 @@ impl Command {
             "check" => Some(Command::Check),
             "why" => Some(Command::Why),
             "rule" => Some(Command::Rule),
+            "usage" => Some(Command::Usage),
+            "version" => Some(Command::Version),
             _ => None,
         }
     }

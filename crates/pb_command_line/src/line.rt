@@ -4,10 +4,12 @@ ghost use Rattle.clap.specs.Simple.{App, Shape, app_of, new_shape, with_subcomma
 ghost use Rattle.pb_command_line.specs.Line.{IsOwnCommand, IsOwnOption};
 ghost use Rattle.pb_command_line.specs.Line.{checking_shape, command_line, exploring_shape};
 ghost use Rattle.pb_command_line.specs.Line.{explaining_shape, rule_shape, showing_shape};
-ghost use Rattle.pb_command_line.specs.Line.{solving_shape, translating_shape};
-ghost use Rattle.pb_command_line.specs.Line.{counts_rule, lines_rule, number_rule, places_rule};
-ghost use Rattle.pb_command_line.specs.Line.{properties_rule, property_rule, solver_rule};
-ghost use Rattle.pb_command_line.specs.Line.{status_rule, workers_rule};
+ghost use Rattle.pb_command_line.specs.Line.{solving_shape, translating_shape, usage_shape};
+ghost use Rattle.pb_command_line.specs.Line.{counts_rule, files_rule, lines_rule, number_rule};
+ghost use Rattle.pb_command_line.specs.Line.{places_rule};
+ghost use Rattle.pb_command_line.specs.Line.{progress_rule, properties_rule, property_rule};
+ghost use Rattle.pb_command_line.specs.Line.{solver_rule};
+ghost use Rattle.pb_command_line.specs.Line.{status_rule, topic_rule, workers_rule};
 
 use clap::{Arg, ArgAction};
 use std::alloc::{AllocError, Global};
@@ -17,6 +19,15 @@ fn workers_option<'a>(alloc: Global) -> Arg<'a>
     ensures { IsOwnOption workers_rule result }
 {
     Arg::new(alloc, "workers").long("workers")
+}
+
+// The option `--progress`, with no value.
+fn progress_option<'a>(alloc: Global) -> Arg<'a>
+    ensures { IsOwnOption progress_rule result }
+{
+    Arg::new(alloc, "progress")
+        .long("progress")
+        .action(ArgAction::SetTrue)
 }
 
 // The option `--solver`, with any word.
@@ -76,11 +87,25 @@ fn counts_option<'a>(alloc: Global) -> Arg<'a>
         .action(ArgAction::SetTrue)
 }
 
+// The files, of which there may be any number.
+fn file_words<'a>(alloc: Global) -> Arg<'a>
+    ensures { IsOwnOption files_rule result }
+{
+    Arg::new(alloc, "file").action(ArgAction::Append)
+}
+
 // The number of a rule, which has to stand there.
 fn number_word<'a>(alloc: Global) -> Arg<'a>
     ensures { IsOwnOption number_rule result }
 {
     Arg::new(alloc, "number").required(true)
+}
+
+// The command whose usage is printed, which may be left out.
+fn topic_word<'a>(alloc: Global) -> Arg<'a>
+    ensures { IsOwnOption topic_rule result }
+{
+    Arg::new(alloc, "command")
 }
 
 // A command that has no words of its own.
@@ -90,11 +115,13 @@ fn plain<'a>(alloc: Global, name: &'a str) -> clap::Command<'a>
     clap::Command::new(alloc, name)
 }
 
-// A command that takes the number of workers.
+// A command that takes the number of workers, and prints progress.
 fn exploring<'a>(alloc: Global, name: &'a str) -> Result<clap::Command<'a>, AllocError>
     ensures { IfOk result (IsOwnCommand (exploring_shape name.now)) }
 {
-    plain(alloc, name).arg(workers_option(alloc))
+    plain(alloc, name)
+        .arg(workers_option(alloc))?
+        .arg(progress_option(alloc))
 }
 
 // A command that takes the number of workers, and tells places.
@@ -111,32 +138,36 @@ fn solving<'a>(alloc: Global, name: &'a str) -> Result<clap::Command<'a>, AllocE
     exploring(alloc, name)?.arg(solver_option(alloc))
 }
 
-// A command that takes the name of a property.
+// A command that takes the name of a property, and files.
 fn translating<'a>(alloc: Global, name: &'a str) -> Result<clap::Command<'a>, AllocError>
     ensures { IfOk result (IsOwnCommand (translating_shape name.now)) }
 {
-    plain(alloc, name).arg(property_option(alloc))
+    plain(alloc, name)
+        .arg(property_option(alloc))?
+        .arg(file_words(alloc))
 }
 
-// A command that takes the number of workers and the name of a property, and writes lines of
-// instances.
+// A command that takes the number of workers, the name of a property and files, and writes lines
+// of instances.
 fn showing<'a>(alloc: Global, name: &'a str) -> Result<clap::Command<'a>, AllocError>
     ensures { IfOk result (IsOwnCommand (showing_shape name.now)) }
 {
     exploring(alloc, name)?
         .arg(property_option(alloc))?
-        .arg(lines_option(alloc))
+        .arg(lines_option(alloc))?
+        .arg(file_words(alloc))
 }
 
-// A command that takes the number of workers, the solver and the names of properties, and tells the
-// verdicts by the exit status, and counts.
+// A command that takes the number of workers, the solver, the names of properties and files, and
+// reports the verdicts by the exit status, and counts.
 fn checking<'a>(alloc: Global, name: &'a str) -> Result<clap::Command<'a>, AllocError>
     ensures { IfOk result (IsOwnCommand (checking_shape name.now)) }
 {
     solving(alloc, name)?
         .arg(properties_option(alloc))?
         .arg(status_option(alloc))?
-        .arg(counts_option(alloc))
+        .arg(counts_option(alloc))?
+        .arg(file_words(alloc))
 }
 
 // A command that takes the number of a rule.
@@ -144,6 +175,13 @@ fn rule<'a>(alloc: Global, name: &'a str) -> Result<clap::Command<'a>, AllocErro
     ensures { IfOk result (IsOwnCommand (rule_shape name.now)) }
 {
     plain(alloc, name).arg(number_word(alloc))
+}
+
+// A command that takes the word of a command, or none.
+fn usage<'a>(alloc: Global, name: &'a str) -> Result<clap::Command<'a>, AllocError>
+    ensures { IfOk result (IsOwnCommand (usage_shape name.now)) }
+{
+    plain(alloc, name).arg(topic_word(alloc))
 }
 
 // A command line with one more command, where memory was refused for neither: so a line of many
@@ -176,5 +214,7 @@ pub(crate) fn command_line<'a>(alloc: Global) -> Result<clap::Command<'a>, Alloc
     let line = with(line, translating(alloc, "translate"));
     let line = with(line, checking(alloc, "check"));
     let line = with(line, showing(alloc, "why"));
-    with(line, rule(alloc, "rule"))
+    let line = with(line, rule(alloc, "rule"));
+    let line = with(line, usage(alloc, "usage"));
+    with(line, Ok(plain(alloc, "version")))
 }

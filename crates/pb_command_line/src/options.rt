@@ -3,55 +3,62 @@ ghost use Rattle.std.specs.Prelude.{◌<◌, ◌≤◌};
 
 use pb_game::Solver;
 
-/// By how many workers is explored.
+/// The number of workers, and whether progress is printed.
 #[derive(Clone, Copy, PartialEq, Eq)]
 pub struct Exploring {
     pub workers: u32,
+    pub progress: bool,
     pub ghost some: { 0 < workers },
     pub ghost few: { workers ≤ 16 },
 }
 
-/// By how many workers is explored, and by which solver the game is solved.
+/// The number of workers, the solver of the game, and whether progress is printed.
 #[derive(Clone, Copy, PartialEq, Eq)]
 pub struct Solving {
     pub workers: u32,
+    pub progress: bool,
     pub solver: Solver,
     pub ghost some: { 0 < workers },
     pub ghost few: { workers ≤ 16 },
 }
 
-/// By how many workers is explored, and whether the places of calls are told.
+/// The number of workers, whether the positions of calls are printed, and whether progress is.
 #[derive(Clone, Copy, PartialEq, Eq)]
 pub struct Explaining {
     pub workers: u32,
+    pub progress: bool,
     pub places: bool,
     pub ghost some: { 0 < workers },
     pub ghost few: { workers ≤ 16 },
 }
 
-/// Which property is translated: the first where none is named.
+/// The property that is translated, the first where none is named, and the files.
 #[derive(Drop)]
 pub struct Translating {
     pub property: Option<String>,
+    pub files: Vec<String>,
 }
 
 /// How a model is checked, and which of its properties: all where none is named; whether the exit
-/// status tells the verdicts, and whether lines of counts are written.
+/// status reports the verdicts, whether lines of counts are written, and which files are checked.
 #[derive(Drop)]
 pub struct Checking {
     pub solving: Solving,
     pub properties: Vec<String>,
     pub status: bool,
     pub counts: bool,
+    pub files: Vec<String>,
 }
 
-/// By how many workers is explored, which property is shown, or all where none is named, and
-/// whether by lines of instances.
+/// The number of workers, the property, or all where none is named, whether lines of instances are
+/// printed, the files, and whether progress is printed.
 #[derive(Drop)]
 pub struct Showing {
     pub workers: u32,
+    pub progress: bool,
     pub property: Option<String>,
     pub lines: bool,
+    pub files: Vec<String>,
     pub ghost some: { 0 < workers },
     pub ghost few: { workers ≤ 16 },
 }

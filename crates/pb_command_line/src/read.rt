@@ -1,20 +1,25 @@
 //! The options of a command, as clap read them.
 ghost use Rattle.std.specs.Prelude.{◌≡◌, ◌<◌, ◌≤◌, ℕ, codes, map, [], IfOk, IfSome, IfNone};
+ghost use Rattle.std.specs.Prelude.{Option};
 ghost use Rattle.std.specs.Prelude.{option_copied, option_map, string_bytes, unwrap_or};
 ghost use Rattle.clap.specs.Matches.{found_of};
 ghost use Rattle.clap.specs.Walk.{all_of, first_of, rows_of};
 ghost use Rattle.pb_base.specs.OrMemory.{OnRefused};
 ghost use Rattle.pb_game.specs.declared.solver.Solver.{Solver};
 ghost use Rattle.pb_command_rules.specs.declared.rule.Rule.{Rule};
+ghost use Rattle.pb_command_line.specs.declared.command.Command.{Command};
 ghost use Rattle.pb_command_line.specs.declared.options.Checking.{Checking};
 ghost use Rattle.pb_command_line.specs.declared.options.Explaining.{Explaining};
 ghost use Rattle.pb_command_line.specs.declared.options.Exploring.{Exploring};
 ghost use Rattle.pb_command_line.specs.declared.options.Showing.{Showing};
 ghost use Rattle.pb_command_line.specs.declared.options.Solving.{Solving};
-ghost use Rattle.pb_command_line.specs.Options.{IsCheckingOf, IsChosenBy, IsExplainingOf};
+ghost use Rattle.pb_command_line.specs.Options.{AreWordsAt, IsCheckingOf, IsChosenBy};
+ghost use Rattle.pb_command_line.specs.Options.{IsExplainingOf};
 ghost use Rattle.pb_command_line.specs.Options.{IsExploringOf, IsRuleOf, IsSetBy, IsShowingOf};
-ghost use Rattle.pb_command_line.specs.Options.{IsSolvingOf, IsTranslatingOf, IsWorkersOf};
+ghost use Rattle.pb_command_line.specs.Options.{IsSolvingOf, IsTranslatingOf, IsUsageOf};
+ghost use Rattle.pb_command_line.specs.Options.{IsWorkersOf};
 
+use crate::command::Command;
 use crate::options::{Checking, Explaining, Exploring, Showing, Solving, Translating};
 use crate::words::{Usage, WordsError};
 use clap::ArgMatches;
@@ -93,12 +98,11 @@ fn names_of(alloc: Global, words: &[&str]) -> Result<Vec<String>, AllocError>
     Ok(names)
 }
 
-// The properties that a command is told of.
-fn properties_of(alloc: Global, options: &ArgMatches) -> Result<Vec<String>, AllocError>
-    ensures { IfOk result (λ properties. map string_bytes properties.items
-        ≡ unwrap_or (all_of (codes "property") (rows_of (found_of options.now))) []) }
+// The values of an option that may be given several times, or the words after a command.
+fn names_at(alloc: Global, options: &ArgMatches, id: &str) -> Result<Vec<String>, AllocError>
+    ensures { IfOk result (AreWordsAt id.now (rows_of (found_of options.now))) }
 {
-    match options.get_raw("property") {
+    match options.get_raw(id) {
         None => Ok(Vec::new(alloc)),
         Some(words) => names_of(alloc, words),
     }
@@ -111,7 +115,8 @@ pub(crate) fn exploring_of(options: &ArgMatches) -> Option<Exploring>
         → IsExploringOf (rows_of (found_of options.now)) read → ⊥) }
 {
     let workers = workers_of(options)?;
-    Some(Exploring { workers })
+    let progress = is_set(options, "progress");
+    Some(Exploring { workers, progress })
 }
 
 /// How is solved, where the options name a number of workers and a solver.
@@ -122,7 +127,12 @@ pub(crate) fn solving_of(options: &ArgMatches) -> Option<Solving>
 {
     let workers = workers_of(options)?;
     let solver = solver_of(options)?;
-    Some(Solving { workers, solver })
+    let progress = is_set(options, "progress");
+    Some(Solving {
+        workers,
+        progress,
+        solver,
+    })
 }
 
 /// How is explained, where the option names a number of workers.
@@ -132,11 +142,16 @@ pub(crate) fn explaining_of(options: &ArgMatches) -> Option<Explaining>
         → IsExplainingOf (rows_of (found_of options.now)) read → ⊥) }
 {
     let workers = workers_of(options)?;
+    let progress = is_set(options, "progress");
     let places = is_set(options, "places");
-    Some(Explaining { workers, places })
+    Some(Explaining {
+        workers,
+        progress,
+        places,
+    })
 }
 
-/// Which property is translated.
+/// Which property is translated, and of which files.
 ///
 /// # Errors
 /// Memory was refused.
@@ -144,7 +159,8 @@ pub(crate) fn translating_of(alloc: Global, options: &ArgMatches) -> Result<Tran
     ensures { IfOk result (IsTranslatingOf (rows_of (found_of options.now))) }
 {
     let property = property_of(alloc, options)?;
-    Ok(Translating { property })
+    let files = names_at(alloc, options, "file")?;
+    Ok(Translating { property, files })
 }
 
 /// How is checked, and what.
@@ -160,12 +176,14 @@ pub(crate) fn checking_of(alloc: Global, options: &ArgMatches) -> Result<Checkin
     let Some(solving) = solving_of(options) else {
         return Err(Usage.into());
     };
-    let properties = properties_of(alloc, options)?;
+    let properties = names_at(alloc, options, "property")?;
+    let files = names_at(alloc, options, "file")?;
     Ok(Checking {
         solving,
         properties,
         status: is_set(options, "status"),
         counts: is_set(options, "counts"),
+        files,
     })
 }
 
@@ -183,10 +201,14 @@ pub(crate) fn showing_of(alloc: Global, options: &ArgMatches) -> Result<Showing,
     };
     let property = property_of(alloc, options)?;
     let lines = is_set(options, "lines");
+    let progress = is_set(options, "progress");
+    let files = names_at(alloc, options, "file")?;
     Ok(Showing {
         workers,
+        progress,
         property,
         lines,
+        files,
     })
 }
 
@@ -198,4 +220,16 @@ pub(crate) fn rule_of(options: &ArgMatches) -> Option<Rule>
 {
     let number = word_of(options, "number")?;
     Rule::numbered(number)
+}
+
+/// The command whose usage is printed: the one that is named, or none where no word is.
+pub(crate) fn usage_of(options: &ArgMatches) -> Option<Option<Command>>
+    ensures read { IfSome result (IsUsageOf (rows_of (found_of options.now))) }
+    ensures none { IfNone result ((read : Option Command)
+        → IsUsageOf (rows_of (found_of options.now)) read → ⊥) }
+{
+    match word_of(options, "command") {
+        None => Some(None),
+        Some(word) => Command::named(word).map(Some),
+    }
 }

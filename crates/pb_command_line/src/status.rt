@@ -37,3 +37,33 @@ impl From<Status> for u8 {
         }
     }
 }
+
+impl Status {
+    ghost use Rattle.pb_command_line.specs.Status.{weight_of, worse};
+
+    // How much it matters beside others.
+    fn weight(self) -> u8
+        ensures { result ≡ weight_of self }
+    {
+        match self {
+            Status::Answered => 0,
+            Status::Unknown => 1,
+            Status::False => 2,
+            Status::Refused => 3,
+            Status::Usage => 4,
+            Status::OutOfMemory => 5,
+            Status::Failed => 6,
+        }
+    }
+
+    /// The status of a run of two parts, which end with these: that which matters more.
+    pub fn or_worse(self, other: Status) -> Status
+        ensures { result ≡ worse self other }
+    {
+        if other.weight() <= self.weight() {
+            self
+        } else {
+            other
+        }
+    }
+}

@@ -1,20 +1,25 @@
 //! The words of the command line.
-ghost use Rattle.std.specs.Prelude.{◌≡◌, [], map, IfOk};
+ghost use Rattle.std.specs.Prelude.{◌≡◌, ℕ, List, [], map, IfOk};
+ghost use Rattle.clap.specs.Faults.{fault_of};
 ghost use Rattle.clap.specs.Matches.{found_of};
 ghost use Rattle.clap.specs.Walk.{rows_of};
 ghost use Rattle.clap.specs.Words.{kind_of};
 ghost use Rattle.pb_base.specs.OrMemory.{OnRefused};
 ghost use Rattle.pb_command_line.specs.Options.{HasOptions};
 ghost use Rattle.pb_command_line.specs.Words.{AskFor, AskNothing, AskPlainly, HaveFault};
-ghost use Rattle.pb_command_line.specs.Words.{command_name, command_of, property_names};
-ghost use Rattle.pb_command_line.specs.Words.{words_error_of};
+ghost use Rattle.pb_command_line.specs.Commands.{command_name};
+ghost use Rattle.pb_command_line.specs.Line.{command_line};
+ghost use Rattle.pb_command_line.specs.Words.{NameFiles, command_of, named_files};
+ghost use Rattle.pb_command_line.specs.Words.{property_names, request_files, words_error_of};
 ghost use Rattle.pb_command_line.specs.declared.command.Command.{Command};
 ghost use Rattle.pb_command_line.specs.declared.request.Request.{Request};
 
 use crate::command::Command;
 use crate::line::command_line;
+use crate::page::Page;
 use crate::read::{
     checking_of, explaining_of, exploring_of, rule_of, showing_of, solving_of, translating_of,
+    usage_of,
 };
 use crate::request::{Request, Task};
 use clap::error::ErrorKind;
@@ -23,8 +28,8 @@ use pb_base::{Fault, OrMemory};
 use std::alloc::Global;
 use std::convert::AsStr;
 
-/// `U01`: no command, an unknown one, a word too many, a wrong number of workers, an unknown
-/// solver, no number of a rule or an unknown one, or a call for help.
+/// `U01`: no command, an unknown one, also after `usage`, a word too many, a wrong number of
+/// workers, an unknown solver, no number of a rule or an unknown one, or a call for help.
 #[derive(Clone, Copy, Debug, PartialEq, Eq)]
 pub struct Usage;
 
@@ -64,7 +69,15 @@ fn request_for(alloc: Global, command: Command, options: &ArgMatches) -> Result<
         Command::Translate => Some(Task::Translate(translating_of(alloc, options)?)),
         Command::Check => return Ok(Request::Check(checking_of(alloc, options)?)),
         Command::Why => Some(Task::Why(showing_of(alloc, options)?)),
-        Command::Rule => return rule_of(options).map(Request::Rule).ok_or(Usage.into()),
+        Command::Rule => {
+            let page = rule_of(options).map(Page::Rule);
+            return page.map(Request::Page).ok_or(Usage.into());
+        }
+        Command::Usage => {
+            let page = usage_of(options).map(Page::Usage);
+            return page.map(Request::Page).ok_or(Usage.into());
+        }
+        Command::Version => return Ok(Request::Page(Page::Version)),
     };
     task.map(Request::Input).ok_or(Usage.into())
 }
@@ -87,22 +100,31 @@ fn request_in<S: AsStr>(alloc: Global, words: &[S]) -> Result<Request, WordsErro
     }
 }
 
-/// What the words ask, the first of them being the program's name: what a rule says, or a command
-/// with the options that it takes.
+/// What the words ask, the first of them being the program's name: a page of the program itself, or
+/// a command with the options that it takes.
 ///
 /// # Errors
 /// `Usage` exactly where the words have a fault, unless memory is refused first: where `clap`
-/// refuses them, an option names no such number or no solver, or a number is no rule's.
+/// refuses them, an option names no such number or no solver, a number is no rule's, or a word
+/// after `usage` no command's.
 pub fn request_of<S: AsStr>(alloc: Global, words: &[S]) -> Result<Request, WordsError>
     ensures asked { IfOk result (AskFor (map S.text words.now)) }
     ensures faulty { OnRefused result (HaveFault (map S.text words.now)) }
 
-    // The word of each command that needs no other asks for that alone; no word, or one that is
-    // none's, has a fault.
+    // The word of each command that needs no other asks for that alone, of standard input; no word,
+    // or one that is none's, has a fault.
     ensures understood { AskPlainly (map S.text words.now) → OnRefused result ⊥ }
     ensures nameless { AskPlainly (map S.text words.now)
         → IfOk result (λ request. property_names request ≡ []) }
+    ensures fileless { AskPlainly (map S.text words.now)
+        → IfOk result (λ request. request_files request ≡ []) }
     ensures refused { AskNothing (map S.text words.now) → IfOk result (λ request. ⊥) }
+
+    // The words after a command that takes files are their names, and such names are no fault.
+    ensures faultless { (files : List (List ℕ)) → NameFiles (map S.text words.now) files
+        → fault_of command_line (map S.text words.now) ≡ [] }
+    ensures named { (files : List (List ℕ)) → NameFiles (map S.text words.now) files
+        → IfOk result (λ request. named_files request ≡ files) }
 {
     request_in(alloc, words)
 }

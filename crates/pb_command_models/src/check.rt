@@ -13,9 +13,8 @@ use pb_base::OrMemory;
 use pb_command_faults::{SolveError, SolveFault};
 use pb_command_line::{Checking, Status};
 use pb_command_modules::deliver;
-use pb_command_solver::Context;
+use pb_command_solver::{Context, Progress};
 use pb_command_texts::{ShortInput, solve_options};
-use pb_exploration::Gate;
 use pb_model_properties::{asked_of, read_protocol};
 use pb_sorts::Sink;
 use std::thread::Threads;
@@ -29,7 +28,7 @@ struct CheckReport {
 
 // Those of what is found of the model that the bytes say. The texts of all properties that are
 // asked for are made before the first is solved.
-fn checked_report<R: Threads + Sync, G: Gate + Sync>(
+fn checked_report<R: Threads + Sync, G: Progress + Sync>(
     context: &Context<'_, R, G>,
     input: ShortInput<'_>,
     options: &Checking,
@@ -81,7 +80,7 @@ fn checked_report<R: Threads + Sync, G: Gate + Sync>(
 /// or of its negation, or one that asks for a step, but for that of limits, and where. `NoProperty`
 /// comes exactly where the model has no property of a name. Others are as with `solve_text`, but
 /// for `Limit` and `TooManyVertices`.
-pub fn check_text<R: Threads + Sync, G: Gate + Sync, S: Sink>(
+pub fn check_text<R: Threads + Sync, G: Progress + Sync, S: Sink>(
     context: &Context<'_, R, G>,
     input: ShortInput<'_>,
     options: &Checking,

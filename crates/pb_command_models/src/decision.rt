@@ -13,9 +13,8 @@ use crate::property_module::{AskedModule, PropertyModule, asked_module};
 use crate::property_text::AskedText;
 use pb_base::OrMemory;
 use pb_command_faults::SolveFault;
-use pb_command_solver::{Context, Early, SolveOptions};
+use pb_command_solver::{Context, Early, Progress, SolveOptions};
 use pb_command_texts::ShortInput;
-use pb_exploration::Gate;
 use pb_model_properties::Verdict;
 use pb_report::Answer;
 use std::alloc::AllocError;
@@ -33,7 +32,7 @@ pub(crate) struct DecisionOptions {
 ///
 /// # Errors
 /// Memory was refused.
-pub(crate) fn is_denied<R: Threads + Sync, G: Gate + Sync>(
+pub(crate) fn is_denied<R: Threads + Sync, G: Progress + Sync>(
     context: &Context<'_, R, G>,
     input: &mut InputWithNegations<'_>,
     place: usize,
@@ -54,7 +53,7 @@ pub(crate) fn is_denied<R: Threads + Sync, G: Gate + Sync>(
 }
 
 // What the negation decides of a property that has this answer.
-fn decision<R: Threads + Sync, G: Gate + Sync>(
+fn decision<R: Threads + Sync, G: Progress + Sync>(
     context: &Context<'_, R, G>,
     negation: &PropertyModule,
     answer: Answer,
@@ -80,7 +79,7 @@ fn decision<R: Threads + Sync, G: Gate + Sync>(
 ///
 /// # Errors
 /// `Text` and `Typing` where the negations are refused, or the text of this one isn't well typed.
-pub(crate) fn decided<R: Threads + Sync, G: Gate + Sync>(
+pub(crate) fn decided<R: Threads + Sync, G: Progress + Sync>(
     context: &Context<'_, R, G>,
     input: &mut InputWithNegations<'_>,
     asked: AskedOutcome,
@@ -105,7 +104,7 @@ pub(crate) fn decided<R: Threads + Sync, G: Gate + Sync>(
 }
 
 // What is found of a property, by all instances of its text.
-fn decided_by_all<R: Threads + Sync, G: Gate + Sync>(
+fn decided_by_all<R: Threads + Sync, G: Progress + Sync>(
     context: &Context<'_, R, G>,
     input: &mut InputWithNegations<'_>,
     asked: &AskedModule,
@@ -123,7 +122,7 @@ fn decided_by_all<R: Threads + Sync, G: Gate + Sync>(
 // What is found of a property, by the module of its text. Where counts aren't asked for, the
 // instances nearest to the initial one are tried first: those of the text, and where they show that
 // it isn't satisfied, those of its negation's.
-fn finding_by<R: Threads + Sync, G: Gate + Sync>(
+fn finding_by<R: Threads + Sync, G: Progress + Sync>(
     context: &Context<'_, R, G>,
     input: &mut InputWithNegations<'_>,
     asked: &AskedModule,
@@ -158,7 +157,7 @@ fn finding_by<R: Threads + Sync, G: Gate + Sync>(
 ///
 /// # Errors
 /// `Text` and `Typing` where the negations are refused, or the text of one isn't well typed.
-pub(crate) fn findings_of<R: Threads + Sync, G: Gate + Sync>(
+pub(crate) fn findings_of<R: Threads + Sync, G: Progress + Sync>(
     context: &Context<'_, R, G>,
     input: ShortInput<'_>,
     texts: Vec<AskedText>,

@@ -7,9 +7,8 @@ use crate::options::WhyOptions;
 use crate::property_faults::{error_of_property, name_place};
 use pb_base::OrMemory;
 use pb_command_faults::SolveFault;
-use pb_command_solver::Context;
+use pb_command_solver::{Context, Progress};
 use pb_command_texts::{ExplainedText, explained_typed};
-use pb_exploration::Gate;
 use pb_model_properties::{SolvedModel, text_at};
 use std::thread::Threads;
 
@@ -17,7 +16,7 @@ use std::thread::Threads;
 ///
 /// # Errors
 /// `Typing` where the text isn't well typed, and `Property` where something of it is too large.
-pub(crate) fn explained_at<R: Threads + Sync, G: Gate + Sync>(
+pub(crate) fn explained_at<R: Threads + Sync, G: Progress + Sync>(
     context: &Context<'_, R, G>,
     solved: &SolvedModel,
     place: usize,

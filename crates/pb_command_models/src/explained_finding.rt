@@ -9,9 +9,8 @@ use crate::options::WhyOptions;
 use crate::outcome::{AskedOutcome, answered};
 use pb_base::OrMemory;
 use pb_command_faults::SolveFault;
-use pb_command_solver::{Context, SolveOptions};
+use pb_command_solver::{Context, Progress, SolveOptions};
 use pb_command_texts::ExplainedText;
-use pb_exploration::Gate;
 use pb_game::Solver;
 use std::thread::Threads;
 
@@ -28,7 +27,7 @@ pub(crate) struct Asked {
 ///
 /// # Errors
 /// `Text` and `Typing` where the negations are refused, or the text of this one isn't well typed.
-pub(crate) fn explained_finding<R: Threads + Sync, G: Gate + Sync>(
+pub(crate) fn explained_finding<R: Threads + Sync, G: Progress + Sync>(
     context: &Context<'_, R, G>,
     input: &mut InputWithNegations<'_>,
     explained: &ExplainedText,

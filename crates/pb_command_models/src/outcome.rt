@@ -5,8 +5,7 @@ ghost use Rattle.pb_command_models.specs.Outcomes.{IsEarlyBy, IsOutcomeBy, IsTru
 use crate::property_module::PropertyModule;
 use pb_base::OrMemory;
 use pb_command_faults::PropertyExcess;
-use pb_command_solver::{Context, Early, SolveOptions, answer_early, answer_module};
-use pb_exploration::Gate;
+use pb_command_solver::{Context, Early, Progress, SolveOptions, answer_early, answer_module};
 use pb_report::Answer;
 use pb_verifier::Verified;
 use std::alloc::AllocError;
@@ -30,7 +29,7 @@ pub(crate) struct AskedOutcome {
 ///
 /// # Errors
 /// Memory was refused.
-pub(crate) fn early_of<R: Threads + Sync, G: Gate + Sync>(
+pub(crate) fn early_of<R: Threads + Sync, G: Progress + Sync>(
     context: &Context<'_, R, G>,
     property: &PropertyModule,
     options: SolveOptions,
@@ -48,7 +47,7 @@ pub(crate) fn early_of<R: Threads + Sync, G: Gate + Sync>(
 ///
 /// # Errors
 /// Memory was refused.
-pub(crate) fn early_truth<R: Threads + Sync, G: Gate + Sync>(
+pub(crate) fn early_truth<R: Threads + Sync, G: Progress + Sync>(
     context: &Context<'_, R, G>,
     property: &PropertyModule,
     options: SolveOptions,
@@ -63,7 +62,7 @@ pub(crate) fn early_truth<R: Threads + Sync, G: Gate + Sync>(
 ///
 /// # Errors
 /// Memory was refused.
-pub(crate) fn answered<R: Threads + Sync, G: Gate + Sync>(
+pub(crate) fn answered<R: Threads + Sync, G: Progress + Sync>(
     context: &Context<'_, R, G>,
     verified: &Verified,
     options: SolveOptions,
@@ -81,7 +80,7 @@ pub(crate) fn answered<R: Threads + Sync, G: Gate + Sync>(
 ///
 /// # Errors
 /// Memory was refused.
-pub(crate) fn outcome_of<R: Threads + Sync, G: Gate + Sync>(
+pub(crate) fn outcome_of<R: Threads + Sync, G: Progress + Sync>(
     context: &Context<'_, R, G>,
     property: &PropertyModule,
     options: SolveOptions,

@@ -11,9 +11,8 @@ use crate::step_finding::StepFinding;
 use pb_base::OrMemory;
 use pb_command_faults::SolveFault;
 use pb_command_line::Checking;
-use pb_command_solver::{Context, SolveOptions};
+use pb_command_solver::{Context, Progress, SolveOptions};
 use pb_command_texts::solve_options;
-use pb_exploration::Gate;
 use pb_model_properties::{SolvedModel, reached_text_at};
 use std::alloc::{AllocError, Global};
 use std::thread::Threads;
@@ -37,7 +36,7 @@ fn step_text(
 }
 
 // What is found of a step by the module of the text that asks for it.
-fn finding_by<R: Threads + Sync, G: Gate + Sync>(
+fn finding_by<R: Threads + Sync, G: Progress + Sync>(
     context: &Context<'_, R, G>,
     compiled: &PropertyModule,
     options: SolveOptions,
@@ -60,7 +59,7 @@ fn finding_by<R: Threads + Sync, G: Gate + Sync>(
 /// # Errors
 /// `Typing` where the text that asks whether a step can be taken isn't well typed by another rule
 /// than that of limits.
-pub(crate) fn steps_on<R: Threads + Sync, G: Gate + Sync>(
+pub(crate) fn steps_on<R: Threads + Sync, G: Progress + Sync>(
     context: &Context<'_, R, G>,
     solved: &SolvedModel,
     options: &Checking,

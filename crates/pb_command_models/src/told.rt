@@ -16,10 +16,9 @@ use crate::negation::InputWithNegations;
 use crate::property_faults::name_place;
 use pb_base::OrMemory;
 use pb_command_faults::{PropertyExcess, PropertyFault, SolveFault};
-use pb_command_solver::Context;
+use pb_command_solver::{Context, Progress};
 use pb_command_texts::ExplainedText;
 use pb_evidence_words::{Shown, push_instance_lines, push_why};
-use pb_exploration::Gate;
 use pb_model_properties::{SolvedModel, Verdict, push_verdict, words_of};
 use pb_model_tree::Model;
 use pb_model_typing::steps_text;
@@ -142,7 +141,7 @@ fn explained_told(
 /// # Errors
 /// `Property` where something of it or of its negation is too large; `Typing` where the text of one
 /// of the two isn't well typed. `Text` and `Typing` come too where the negations are refused.
-pub(crate) fn told_at<R: Threads + Sync, G: Gate + Sync>(
+pub(crate) fn told_at<R: Threads + Sync, G: Progress + Sync>(
     context: &Context<'_, R, G>,
     input: &mut InputWithNegations<'_>,
     solved: &SolvedModel,

@@ -13,15 +13,14 @@ use crate::told::told_at;
 use pb_base::OrMemory;
 use pb_command_faults::{SolveError, SolveFault};
 use pb_command_modules::deliver;
-use pb_command_solver::Context;
+use pb_command_solver::{Context, Progress};
 use pb_command_texts::ShortInput;
-use pb_exploration::Gate;
 use pb_model_properties::{SolvedModel, place_of, read_protocol};
 use pb_sorts::Sink;
 use std::thread::Threads;
 
 // What is told of all properties.
-fn all_told<R: Threads + Sync, G: Gate + Sync>(
+fn all_told<R: Threads + Sync, G: Progress + Sync>(
     context: &Context<'_, R, G>,
     input: ShortInput<'_>,
     solved: &SolvedModel,
@@ -45,7 +44,7 @@ fn all_told<R: Threads + Sync, G: Gate + Sync>(
 }
 
 // What is told of the property of a name, or of all where none is named.
-fn asked_told<R: Threads + Sync, G: Gate + Sync>(
+fn asked_told<R: Threads + Sync, G: Progress + Sync>(
     context: &Context<'_, R, G>,
     input: ShortInput<'_>,
     solved: &SolvedModel,
@@ -92,7 +91,7 @@ fn asked_told<R: Threads + Sync, G: Gate + Sync>(
 /// # Errors
 /// `NoProperty` comes exactly where the model has no property of the name, and `Property` where
 /// something of a property or of its negation is too large. Others are as with `check_text`.
-pub fn why_text<R: Threads + Sync, G: Gate + Sync, S: Sink>(
+pub fn why_text<R: Threads + Sync, G: Progress + Sync, S: Sink>(
     context: &Context<'_, R, G>,
     input: ShortInput<'_>,
     property: Option<&str>,

@@ -14,8 +14,7 @@ use pb_bytecode::Module;
 use pb_bytecode::decode::decode;
 use pb_bytecode::list::list;
 use pb_command_faults::{SolveError, SolveFault};
-use pb_command_solver::{Context, SolveOptions};
-use pb_exploration::Gate;
+use pb_command_solver::{Context, Progress, SolveOptions};
 use pb_report::Answer;
 use pb_sorts::Sink;
 use pb_verifier::{Verified, verify};
@@ -52,7 +51,7 @@ fn verified_code(alloc: Global, bytes: &[u8]) -> Result<Verified, OrMemory<Solve
 /// # Errors
 /// `Module` says what is wrong with the bytes and where, `Acceptance` which rule the code breaks
 /// and where. Others are as with `write_report`.
-pub fn solve_code<R: Threads + Sync, G: Gate + Sync, S: Sink>(
+pub fn solve_code<R: Threads + Sync, G: Progress + Sync, S: Sink>(
     context: &Context<'_, R, G>,
     bytes: &[u8],
     options: SolveOptions,

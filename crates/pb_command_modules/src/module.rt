@@ -13,9 +13,9 @@ ghost use Rattle.pb_command_modules.specs.Writes.{WritesCertificate, WritesGame,
 use pb_base::OrMemory;
 use pb_command_faults::{SolveError, SolveFault};
 use pb_command_solver::{
-    Context, SolveOptions, Workers, answer_module, build_module, explain_module, solve_module,
+    Context, Progress, SolveOptions, Workers, answer_module, build_module, explain_module,
+    solve_module,
 };
-use pb_exploration::Gate;
 use pb_game::Solver;
 use pb_machine::instances_have_trees;
 use pb_report::certificate_text::certificate_text;
@@ -33,7 +33,7 @@ use std::thread::Threads;
 /// # Errors
 /// `TooManyVertices` comes where the game would have more than 2^24 vertices, `Memory` where a
 /// request for memory was refused, and `Write` where the text could not be written whole.
-pub fn write_report<R: Threads + Sync, G: Gate + Sync, S: Sink>(
+pub fn write_report<R: Threads + Sync, G: Progress + Sync, S: Sink>(
     context: &Context<'_, R, G>,
     verified: &Verified,
     options: SolveOptions,
@@ -51,7 +51,7 @@ pub fn write_report<R: Threads + Sync, G: Gate + Sync, S: Sink>(
 ///
 /// # Errors
 /// As with `write_report`.
-pub fn write_game<R: Threads + Sync, G: Gate + Sync, S: Sink>(
+pub fn write_game<R: Threads + Sync, G: Progress + Sync, S: Sink>(
     context: &Context<'_, R, G>,
     verified: &Verified,
     workers: Workers,
@@ -69,7 +69,7 @@ pub fn write_game<R: Threads + Sync, G: Gate + Sync, S: Sink>(
 ///
 /// # Errors
 /// As with `write_report`.
-pub fn write_solution<R: Threads + Sync, G: Gate + Sync, S: Sink>(
+pub fn write_solution<R: Threads + Sync, G: Progress + Sync, S: Sink>(
     context: &Context<'_, R, G>,
     verified: &Verified,
     options: SolveOptions,
@@ -88,7 +88,7 @@ pub fn write_solution<R: Threads + Sync, G: Gate + Sync, S: Sink>(
 ///
 /// # Errors
 /// As with `write_report`.
-pub fn write_certificate<R: Threads + Sync, G: Gate + Sync, S: Sink>(
+pub fn write_certificate<R: Threads + Sync, G: Progress + Sync, S: Sink>(
     context: &Context<'_, R, G>,
     verified: &Verified,
     options: SolveOptions,
@@ -107,7 +107,7 @@ pub fn write_certificate<R: Threads + Sync, G: Gate + Sync, S: Sink>(
 ///
 /// # Errors
 /// `TooManyVertices` comes where the game would have more than 2^24 vertices; memory was refused.
-pub fn explained<R: Threads + Sync, G: Gate + Sync>(
+pub fn explained<R: Threads + Sync, G: Progress + Sync>(
     context: &Context<'_, R, G>,
     verified: &Verified,
     workers: Workers,

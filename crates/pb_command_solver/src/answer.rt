@@ -5,7 +5,7 @@ ghost use Rattle.pb_command_solver.specs.Answers.{IsAnswerOf, SaysTooLarge};
 use crate::built_module::{BuiltModule, build_module, solve_game};
 use crate::context::Context;
 use crate::options::SolveOptions;
-use pb_exploration::Gate;
+use crate::progress::{Phase, Progress};
 use pb_game_of_trees::BuildError;
 use pb_report::Answer;
 use pb_report::cut_calls::count_cut;
@@ -19,7 +19,7 @@ use std::thread::Threads;
 ///
 /// # Errors
 /// As with `solve_module`.
-pub fn answer_module<R: Threads + Sync, G: Gate + Sync>(
+pub fn answer_module<R: Threads + Sync, G: Progress + Sync>(
     context: &Context<'_, R, G>,
     verified: &Verified,
     options: SolveOptions,
@@ -30,6 +30,7 @@ pub fn answer_module<R: Threads + Sync, G: Gate + Sync>(
         Ok(BuiltModule { explored, built }) => {
             let cut = count_cut(explored.rows());
             drop(explored);
+            context.gate.begins(Phase::Solving);
             let solved = solve_game(context, built, options)?;
             Ok(Answer {
                 truth: solved.truth(),

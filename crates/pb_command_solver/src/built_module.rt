@@ -6,9 +6,10 @@ ghost use Rattle.pb_command_solver.specs.Solving.{IsSolvedBy};
 
 use crate::context::Context;
 use crate::options::SolveOptions;
+use crate::progress::{Phase, Progress};
 use crate::solve;
 use crate::workers::Workers;
-use pb_exploration::{Explored, Gate, explore};
+use pb_exploration::{Explored, explore};
 use pb_game_of_trees::{BuildError, Solved, TreeGame, build};
 use pb_machine::instances_have_trees;
 use pb_verifier::Verified;
@@ -23,17 +24,19 @@ pub struct BuiltModule {
 }
 
 /// Explores the reached instances of a verified module, by so many workers, and builds their game.
-/// The gate sees each attempt of a worker to take an instance. Nothing is solved.
+/// The gate sees each attempt of a worker to take an instance, and both parts of the work. Nothing
+/// is solved.
 ///
 /// # Errors
 /// `TooManyVertices` where the game would have more than 2^24 vertices; else `Memory`.
-pub fn build_module<R: Threads + Sync, G: Gate + Sync>(
+pub fn build_module<R: Threads + Sync, G: Progress + Sync>(
     context: &Context<'_, R, G>,
     verified: &Verified,
     workers: Workers,
 ) -> Result<BuiltModule, BuildError>
     ensures { MatchResult result (IsBuiltModule verified.now) (SaysTooLarge verified.now) }
 {
+    context.gate.begins(Phase::Exploring);
     let explored = explore(
         context.rt,
         context.alloc,
@@ -41,6 +44,7 @@ pub fn build_module<R: Threads + Sync, G: Gate + Sync>(
         workers.count,
         context.gate,
     )?;
+    context.gate.begins(Phase::Building);
     build_explored(context.alloc, verified, explored)
 }
 
@@ -65,7 +69,7 @@ pub fn build_explored(
 }
 
 /// Solves a game by the solver that is asked for. The checker has certified the winners.
-pub(crate) fn solve_game<R: Threads + Sync, G: Gate + Sync>(
+pub(crate) fn solve_game<R: Threads + Sync, G: Progress + Sync>(
     context: &Context<'_, R, G>,
     built: TreeGame,
     options: SolveOptions,

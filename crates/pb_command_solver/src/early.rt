@@ -6,7 +6,7 @@ ghost use Rattle.pb_command_solver.specs.Answers.{IsEarly, truth_in};
 use crate::context::Context;
 use crate::options::SolveOptions;
 use crate::part::first_part;
-use pb_exploration::Gate;
+use crate::progress::Progress;
 use pb_report::Answer;
 use pb_report::cut_calls::count_cut;
 use pb_verifier::Verified;
@@ -42,7 +42,7 @@ impl Early {
 ///
 /// # Errors
 /// Memory was refused.
-pub fn answer_early<R: Threads + Sync, G: Gate + Sync>(
+pub fn answer_early<R: Threads + Sync, G: Progress + Sync>(
     context: &Context<'_, R, G>,
     verified: &Verified,
     options: SolveOptions,

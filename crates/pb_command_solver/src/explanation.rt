@@ -6,8 +6,8 @@ ghost use Rattle.pb_command_solver.specs.Answers.{SaysTooLarge};
 use crate::context::Context;
 use crate::options::SolveOptions;
 use crate::part::first_part;
+use crate::progress::Progress;
 use crate::solved_module::solve_module;
-use pb_exploration::Gate;
 use pb_game_of_trees::BuildError;
 use pb_report::{Explanation, evidence_of};
 use pb_verifier::Verified;
@@ -20,7 +20,7 @@ use std::thread::Threads;
 /// # Errors
 /// `TooManyVertices` where the game would have more than 2^24 vertices, and the instances nearby
 /// are not enough; else `Memory`.
-pub fn explain_module<R: Threads + Sync, G: Gate + Sync>(
+pub fn explain_module<R: Threads + Sync, G: Progress + Sync>(
     context: &Context<'_, R, G>,
     verified: &Verified,
     options: SolveOptions,

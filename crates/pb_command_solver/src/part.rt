@@ -11,8 +11,8 @@ ghost use Rattle.pb_command_solver.specs.Parts.{IsPart, IsSolvedPart};
 use crate::built_module::solve_game;
 use crate::context::Context;
 use crate::options::SolveOptions;
+use crate::progress::Progress;
 use pb_evidence_nearby::Nearby;
-use pb_exploration::Gate;
 use pb_fixpoint::Sign;
 use pb_fixpoint_trees::IndexedRows;
 use pb_game_of_trees::{BuildError, Solved, build_rows};
@@ -64,7 +64,7 @@ fn part_of(alloc: Global, nearby: &Nearby, truth: bool) -> Result<Part, AllocErr
 }
 
 /// The part with its solved game, where that is enough.
-fn solve_part<R: Threads + Sync, G: Gate + Sync>(
+fn solve_part<R: Threads + Sync, G: Progress + Sync>(
     context: &Context<'_, R, G>,
     verified: &Verified,
     options: SolveOptions,
@@ -99,7 +99,7 @@ fn shows_truth(verified: &Verified) -> bool {
 /// The first part that is enough, if any. The instances nearest to the initial one are explored
 /// breadth first on the calling thread, so that what is found is the same whatever the workers do.
 /// A round whose last instance calls too many is left out.
-pub(crate) fn first_part<R: Threads + Sync, G: Gate + Sync>(
+pub(crate) fn first_part<R: Threads + Sync, G: Progress + Sync>(
     context: &Context<'_, R, G>,
     verified: &Verified,
     options: SolveOptions,

@@ -15,23 +15,23 @@ ghost use Rattle.pb_game.specs.Certificates.{IsCertificate};
 ghost use Rattle.pb_command_solver.specs.Solving.{IsSolutionBy};
 
 use crate::context::Context;
-use pb_exploration::Gate;
+use crate::progress::{Phase, Progress};
 use pb_game::{Game, Solver};
 use pb_lifting::{LiftError, lift};
 use pb_search::{Search, search};
 use pb_strategy::{Certified, certify};
-use std::alloc::{AllocError, Global};
+use std::alloc::AllocError;
 use std::thread::Threads;
 
 /// The winners of all vertices, which the checker has certified. The workers are those of lifting,
-/// and the gate sees each of their lifts; solving by regions takes neither.
+/// and the gate sees each of their lifts, and when a solution is checked.
 ///
 /// # Errors
 ///
 /// Memory alone: where lifting has more ranks than a word, or the checker refuses its solution, the
 /// regions answer, and where no search does, the recursion that is proved, whose solutions the
 /// checker can't refuse.
-pub fn solve<G: Gate + Sync, R: Threads + Sync>(
+pub fn solve<G: Progress + Sync, R: Threads + Sync>(
     context: &Context<'_, R, G>,
     game: &Game,
     solver: Solver,
@@ -41,13 +41,16 @@ pub fn solve<G: Gate + Sync, R: Threads + Sync>(
     ensures { IfOk result (IsSolutionBy solver game.now) }
 {
     match solver {
-        Solver::Zielonka => solve_by_regions(context.rt, context.alloc, game),
+        Solver::Zielonka => solve_by_regions(context, game),
         Solver::Lift => match lift(context.rt, context.alloc, game, workers, context.gate) {
-            Ok(solution) => match certify(game, solution) {
-                Ok(certified) => Ok(certified),
-                Err(_) => solve_by_regions(context.rt, context.alloc, game),
-            },
-            Err(LiftError::Refused(_)) => solve_by_regions(context.rt, context.alloc, game),
+            Ok(solution) => {
+                context.gate.begins(Phase::Checking);
+                match certify(game, solution) {
+                    Ok(certified) => Ok(certified),
+                    Err(_) => solve_by_regions(context, game),
+                }
+            }
+            Err(LiftError::Refused(_)) => solve_by_regions(context, game),
             Err(LiftError::Memory) => Err(AllocError),
         },
     }
@@ -57,15 +60,15 @@ pub fn solve<G: Gate + Sync, R: Threads + Sync>(
 const SEARCHES: [Search; 3] = [Search::Recursion, Search::Components, Search::Promotion];
 
 /// The solution of the first search that ends within its budget with what the checker certifies.
-fn solve_by_search<R: Threads + Sync>(
-    rt: &R,
-    alloc: Global,
+fn solve_by_search<R: Threads + Sync, G: Progress + Sync>(
+    context: &Context<'_, R, G>,
     game: &Game,
 ) -> Result<Option<Certified>, AllocError>
     ensures { IfOk result (λ found. IfSome found (λ s. IsCertificate game.now s)) }
 {
     for &method in &SEARCHES {
-        if let Some(solution) = search(rt, alloc, game, method)? {
+        if let Some(solution) = search(context.rt, context.alloc, game, method)? {
+            context.gate.begins(Phase::Checking);
             if let Ok(certified) = certify(game, solution) {
                 return Ok(Some(certified));
             }
@@ -76,17 +79,17 @@ fn solve_by_search<R: Threads + Sync>(
 
 /// The solution of a search where one has an answer, and else that of the recursion that is proved,
 /// once the checker has gone over it.
-fn solve_by_regions<R: Threads + Sync>(
-    rt: &R,
-    alloc: Global,
+fn solve_by_regions<R: Threads + Sync, G: Progress + Sync>(
+    context: &Context<'_, R, G>,
     game: &Game,
 ) -> Result<Certified, AllocError>
     ensures { IfOk result (λ s. IsCertificate game.now s) }
 {
-    if let Some(certified) = solve_by_search(rt, alloc, game)? {
+    if let Some(certified) = solve_by_search(context, game)? {
         return Ok(certified);
     }
-    let solution = pb_zielonka::solve(rt, alloc, game)?;
+    let solution = pb_zielonka::solve(context.rt, context.alloc, game)?;
+    context.gate.begins(Phase::Checking);
     match certify(game, solution) {
         Ok(certified) => Ok(certified),
         Err(_) => unreachable!(),

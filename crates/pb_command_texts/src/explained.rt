@@ -5,8 +5,7 @@ use crate::compile::verified;
 use pb_base::OrMemory;
 use pb_command_faults::SolveFault;
 use pb_command_modules::explained;
-use pb_command_solver::{Context, Workers};
-use pb_exploration::Gate;
+use pb_command_solver::{Context, Progress, Workers};
 use pb_report::Explanation;
 use pb_typing::Typed;
 use pb_verifier::Verified;
@@ -24,7 +23,7 @@ pub struct ExplainedText {
 ///
 /// # Errors
 /// `Limit` where its code exceeds a limit, and `TooManyVertices` where its game is too large.
-pub fn explained_typed<R: Threads + Sync, G: Gate + Sync>(
+pub fn explained_typed<R: Threads + Sync, G: Progress + Sync>(
     context: &Context<'_, R, G>,
     typed: Typed,
     workers: Workers,

@@ -16,9 +16,8 @@ use pb_command_faults::SolveError;
 use pb_command_modules::{
     write_certificate, write_evidence, write_game, write_report, write_solution,
 };
-use pb_command_solver::{Context, SolveOptions, Workers};
+use pb_command_solver::{Context, Progress, SolveOptions, Workers};
 use pb_evidence_places::{call_places_of, named_instances_are_called};
-use pb_exploration::Gate;
 use pb_report::{Answer, PlacedExplanation};
 use pb_sorts::Sink;
 use std::alloc::Global;
@@ -37,7 +36,7 @@ use std::thread::Threads;
 /// the code of which equation exceeds. `TooManyVertices` comes where the game would have more than
 /// 2^24 vertices, `Memory` where a request for memory was refused, and `Write` where the report
 /// could not be written whole. No other error comes.
-pub fn solve_text<R: Threads + Sync, G: Gate + Sync, S: Sink>(
+pub fn solve_text<R: Threads + Sync, G: Progress + Sync, S: Sink>(
     context: &Context<'_, R, G>,
     input: ShortInput<'_>,
     options: SolveOptions,
@@ -56,7 +55,7 @@ pub fn solve_text<R: Threads + Sync, G: Gate + Sync, S: Sink>(
 ///
 /// # Errors
 /// As with `solve_text`.
-pub fn game_of<R: Threads + Sync, G: Gate + Sync, S: Sink>(
+pub fn game_of<R: Threads + Sync, G: Progress + Sync, S: Sink>(
     context: &Context<'_, R, G>,
     input: ShortInput<'_>,
     workers: Workers,
@@ -75,7 +74,7 @@ pub fn game_of<R: Threads + Sync, G: Gate + Sync, S: Sink>(
 ///
 /// # Errors
 /// As with `solve_text`.
-pub fn solution_of<R: Threads + Sync, G: Gate + Sync, S: Sink>(
+pub fn solution_of<R: Threads + Sync, G: Progress + Sync, S: Sink>(
     context: &Context<'_, R, G>,
     input: ShortInput<'_>,
     options: SolveOptions,
@@ -97,7 +96,7 @@ pub fn solution_of<R: Threads + Sync, G: Gate + Sync, S: Sink>(
 ///
 /// # Errors
 /// As with `solve_text`.
-pub fn certificate_of<R: Threads + Sync, G: Gate + Sync, S: Sink>(
+pub fn certificate_of<R: Threads + Sync, G: Progress + Sync, S: Sink>(
     context: &Context<'_, R, G>,
     input: ShortInput<'_>,
     options: SolveOptions,
@@ -144,7 +143,7 @@ fn write_explained<S: Sink>(
 ///
 /// # Errors
 /// As with `solve_text`.
-pub fn explain_text<R: Threads + Sync, G: Gate + Sync, S: Sink>(
+pub fn explain_text<R: Threads + Sync, G: Progress + Sync, S: Sink>(
     context: &Context<'_, R, G>,
     input: ShortInput<'_>,
     options: ExplainOptions,

@@ -1,6 +1,8 @@
 //! The solver's calls, and the whole program over readers and writers.
 #![tactic(auto)]
 
+mod ended;
+mod files;
 mod program;
 mod run_error;
 mod streams;

@@ -1,9 +1,12 @@
 //! The program `pbsolve`: its library on the process's words and standard streams.
 #![tactic(auto)]
 
-use pb_exploration::NoGate;
+mod progress;
+
+use pb_command_files::SystemFiles;
 use pb_sorts::{In, Out};
 use pbsolve::{ProgramFault, Streams};
+use progress::ProgressLines;
 use std::io::ErrorKind;
 use std::process::ExitCode;
 use std::{env, io};
@@ -29,11 +32,13 @@ fn words_fault(error: &io::Error) -> ProgramFault {
 fn main(rt: HostRuntime) -> ExitCode {
     let mut streams = Streams {
         input: In::new(rt.reader()),
+        files: SystemFiles::new(&rt),
         output: Out::new(rt.stdout()),
         error: Out::new(rt.stderr()),
     };
+    let gate = ProgressLines::new(&rt);
     let code = match words(&rt) {
-        Ok(words) => pbsolve::run(&rt, rt.alloc(), words.as_slice(), &NoGate, &mut streams),
+        Ok(words) => pbsolve::run(&rt, rt.alloc(), words.as_slice(), &gate, &mut streams),
         Err(error) => u8::from(pbsolve::tell_fault(words_fault(&error), &mut streams.error)),
     };
     ExitCode::from(code)

@@ -8,4 +8,6 @@ mod budget;
 #[cfg(test)]
 mod failing;
 #[cfg(test)]
+mod shelf;
+#[cfg(test)]
 mod tests;

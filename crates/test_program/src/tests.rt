@@ -2,14 +2,17 @@
 //! tested by `tests/rows/`; here stand readers and writers that fail, workers that are watched, and
 //! what is compared with the plain solver.
 mod faults;
+mod files;
 mod overlap;
 mod parts;
 mod plain;
+mod progress;
 mod runs;
 mod solvers;
 mod workers;
 
 use crate::budget::Budget;
+use crate::shelf::Shelf;
 use pb_exploration::NoGate;
 use pb_sorts::{In, Source};
 use pbsolve::Streams;
@@ -50,6 +53,7 @@ fn run_on<T: Threads + Sync, R: Source + Drop>(
         words,
         Streams {
             input,
+            files: Shelf::of(&[]),
             output,
             error,
         },
@@ -61,7 +65,7 @@ fn run_over<T: Threads + Sync, R: Source + Drop>(
     rt: &T,
     alloc: Global,
     words: &[&str],
-    mut streams: Streams<R, Budget, Budget>,
+    mut streams: Streams<R, Shelf<'_>, Budget, Budget>,
 ) -> Outcome {
     let status = pbsolve::run(rt, alloc, words, &NoGate, &mut streams);
     Outcome {

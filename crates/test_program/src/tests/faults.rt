@@ -3,6 +3,7 @@ use super::runs::RUNS;
 use super::{ROOM, run_on, run_over};
 use crate::budget::Budget;
 use crate::failing::{Broken, Failing};
+use crate::shelf::Shelf;
 use pb_sorts::In;
 use pbsolve::{MAX_INPUT_BYTES, Streams};
 use std::alloc::Global;
@@ -46,6 +47,7 @@ fn fails_at_each_byte_written(rt: HostRuntime) -> Result<(), Fail> {
             for is_slow in [false, true] {
                 let streams = Streams {
                     input: In::new(run.input),
+                    files: Shelf::of(&[]),
                     output: writer(rt.alloc(), budget, is_slow),
                     error: writer(rt.alloc(), ROOM, is_slow),
                 };
@@ -83,6 +85,7 @@ fn reads_and_writes_single_bytes(rt: HostRuntime) -> Result<(), Fail> {
         let left = usize::MAX;
         let streams = Streams {
             input: In::new(Failing { bytes, left }),
+            files: Shelf::of(&[]),
             output: Budget::slow(rt.alloc(), ROOM),
             error: Budget::slow(rt.alloc(), ROOM),
         };
@@ -105,6 +108,7 @@ fn keeps_its_status_where_no_line_can_be_told(rt: HostRuntime) -> Result<(), Fai
         for budget in 0..line.len() {
             let streams = Streams {
                 input: In::new(input),
+                files: Shelf::of(&[]),
                 output: Budget::new(rt.alloc(), ROOM),
                 error: Budget::new(rt.alloc(), budget),
             };

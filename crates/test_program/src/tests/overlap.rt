@@ -1,6 +1,7 @@
 //! A gate that lets two workers overlap.
 use crossbeam_utils::Backoff;
 use crossbeam_utils::atomic::AtomicCell;
+use pb_command_solver::Progress;
 use pb_exploration::Gate;
 
 /// How many turns a hold lasts at most. A turn is one snooze of a `Backoff`.
@@ -8,14 +9,14 @@ const LIMIT: u32 = 1_000_000;
 
 /// What one worker has done with instances other than 0.
 #[derive(Drop)]
-struct Progress {
+struct Work {
     entered: AtomicCell<bool>,
     took: AtomicCell<bool>,
 }
 
-impl Progress {
-    fn none() -> Progress {
-        Progress {
+impl Work {
+    fn none() -> Work {
+        Work {
             entered: AtomicCell::new(false),
             took: AtomicCell::new(false),
         }
@@ -28,8 +29,8 @@ impl Progress {
 #[derive(Drop)]
 pub struct Overlap {
     begun: AtomicCell<bool>,
-    first: Progress,
-    second: Progress,
+    first: Work,
+    second: Work,
     taken: [AtomicCell<u32>; 3],
     expired: AtomicCell<bool>,
 }
@@ -39,8 +40,8 @@ impl Overlap {
     pub fn new() -> Overlap {
         Overlap {
             begun: AtomicCell::new(false),
-            first: Progress::none(),
-            second: Progress::none(),
+            first: Work::none(),
+            second: Work::none(),
             taken: [AtomicCell::new(0), AtomicCell::new(0), AtomicCell::new(0)],
             expired: AtomicCell::new(false),
         }
@@ -64,7 +65,7 @@ impl Overlap {
         self.expired.load()
     }
 
-    fn own(&self, worker: u32) -> &Progress {
+    fn own(&self, worker: u32) -> &Work {
         if worker == 0 {
             &self.first
         } else {
@@ -72,7 +73,7 @@ impl Overlap {
         }
     }
 
-    fn other(&self, worker: u32) -> &Progress {
+    fn other(&self, worker: u32) -> &Work {
         if worker == 0 {
             &self.second
         } else {
@@ -119,3 +120,5 @@ impl Gate for Overlap {
         }
     }
 }
+
+impl Progress for Overlap {}

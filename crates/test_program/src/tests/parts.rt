@@ -1,7 +1,9 @@
 //! Evidence from a part of the instances: workers explore all of them only where no part is enough,
 //! and what isn't explored decides nothing.
 use crate::budget::Budget;
+use crate::shelf::Shelf;
 use crossbeam_utils::atomic::AtomicCell;
+use pb_command_solver::Progress;
 use pb_exploration::Gate;
 use pb_sorts::In;
 use pbsolve::Streams;
@@ -58,6 +60,7 @@ fn a_part_may_be_enough(rt: HostRuntime) -> Result<(), Fail> {
         };
         let mut streams = Streams {
             input: In::new(text.as_bytes()),
+            files: Shelf::of(&[]),
             output: Budget::new(rt.alloc(), ROOM),
             error: Budget::new(rt.alloc(), ROOM),
         };
@@ -83,3 +86,5 @@ impl Gate for Attempts {
 
     fn answered(&self, _worker: u32, _number: u32, _got: bool) {}
 }
+
+impl Progress for Attempts {}

@@ -2,7 +2,9 @@
 //! either is tested by `tests/rows/answers.toml`.
 use super::ROOM;
 use crate::budget::Budget;
+use crate::shelf::Shelf;
 use crossbeam_utils::atomic::AtomicCell;
+use pb_command_solver::Progress;
 use pb_exploration::Gate;
 use pb_sorts::In;
 use pbsolve::Streams;
@@ -27,6 +29,8 @@ impl Gate for Lifts {
     fn answered(&self, _worker: u32, _number: u32, _got: bool) {}
 }
 
+impl Progress for Lifts {}
+
 // Two instances have four vertices: only lifting comes to the numbers 2 and 3.
 #[test]
 fn lifts_where_it_is_asked_to(rt: HostRuntime) -> Result<(), Fail> {
@@ -39,6 +43,7 @@ fn lifts_where_it_is_asked_to(rt: HostRuntime) -> Result<(), Fail> {
         let words = ["pbsolve", "solve", "--solver", solver];
         let mut streams = Streams {
             input: In::new(text.as_bytes()),
+            files: Shelf::of(&[]),
             output: Budget::new(rt.alloc(), ROOM),
             error: Budget::new(rt.alloc(), ROOM),
         };

@@ -3,8 +3,10 @@
 use super::ROOM;
 use super::overlap::Overlap;
 use crate::budget::Budget;
+use crate::shelf::Shelf;
 use crossbeam_utils::Backoff;
 use crossbeam_utils::atomic::AtomicCell;
+use pb_command_solver::Progress;
 use pb_exploration::Gate;
 use pb_sorts::In;
 use pbsolve::Streams;
@@ -47,6 +49,8 @@ impl Gate for Workers {
     fn answered(&self, _worker: u32, _number: u32, _got: bool) {}
 }
 
+impl Progress for Workers {}
+
 // The same, with a fault among so many others that no part of them explains it.
 const FAR: &str =
     "%range Int 0 49999\npbes nu X = Y && Z && (forall n: Int . V(n)); nu Y = X && Z; nu Z = X && Y; nu V(n: Int) = W(n); nu W(n: Int) = val(n != 7); init X;";
@@ -77,6 +81,7 @@ fn so_many_workers_explore(rt: HostRuntime) -> Result<(), Fail> {
         };
         let mut streams = Streams {
             input: In::new(text.as_bytes()),
+            files: Shelf::of(&[]),
             output: Budget::new(rt.alloc(), ROOM),
             error: Budget::new(rt.alloc(), ROOM),
         };
@@ -103,6 +108,7 @@ fn workers_that_overlap_write_the_same(rt: HostRuntime) -> Result<(), Fail> {
         let words = ["pbsolve", command, "--workers", "2"];
         let mut streams = Streams {
             input: In::new(OTHERS.as_bytes()),
+            files: Shelf::of(&[]),
             output: Budget::new(rt.alloc(), ROOM),
             error: Budget::new(rt.alloc(), ROOM),
         };

@@ -1,7 +1,7 @@
 -- A line with one command more after another is the command line, where memory was refused for none.
 use Rattle.std.proofs.Common.{codes, true, rules}
 use Rattle.clap.specs.Simple.{new_app, new_shape, on_top, with_subcommand, App}
-use Rattle.pb_command_line.specs.Line.{text_commands, solving_shape, exploring_shape, explaining_shape, translating_shape, checking_shape, showing_shape, rule_shape}
+use Rattle.pb_command_line.specs.Line.{text_commands, solving_shape, exploring_shape, explaining_shape, translating_shape, checking_shape, showing_shape, rule_shape, usage_shape}
 use Rattle.pb_command_line.proofs.line.command_line.Goals as goal
 
 pub returns : goal.returns
@@ -18,6 +18,8 @@ returns c =
     let translate : App = with_subcommand solve_code (translating_shape (codes "translate")) in
     let check : App = with_subcommand translate (checking_shape (codes "check")) in
     let why : App = with_subcommand check (showing_shape (codes "why")) in
+    let rule : App = with_subcommand why (rule_shape (codes "rule")) in
+    let usage : App = with_subcommand rule (usage_shape (codes "usage")) in
     let line = c.with-line.ensures bare (solving_shape (codes "solve")) (search rules) c.solving.ensures in
     let line = c.with-line-2.ensures solve (exploring_shape (codes "game")) line c.exploring.ensures in
     let line = c.with-line-3.ensures game (solving_shape (codes "solution")) line c.solving-2.ensures in
@@ -30,4 +32,6 @@ returns c =
     let line = c.with-line-10.ensures solve_code (translating_shape (codes "translate")) line c.translating.ensures in
     let line = c.with-line-11.ensures translate (checking_shape (codes "check")) line c.checking.ensures in
     let line = c.with-line-12.ensures check (showing_shape (codes "why")) line c.showing.ensures in
-    c.with.ensures why (rule_shape (codes "rule")) line c.rule.ensures
+    let line = c.with-line-13.ensures why (rule_shape (codes "rule")) line c.rule.ensures in
+    let line = c.with-line-14.ensures rule (usage_shape (codes "usage")) line c.usage.ensures in
+    c.with.ensures usage (new_shape (codes "version")) line c.plain-4.ensures
