@@ -15,6 +15,8 @@ UNREAD = re.compile(r"\berror\[|is not in scope|has no field|is no name|operand 
 # A type whose methods follow, as `rt fmt` lays it out, and the name of its function.
 IMPL = re.compile(r"^impl\b(?:<[^>]*>)? ?(?:[^{\n]* for )?&?(?:'\w+ )?(\w+)", re.M)
 NAME = re.compile(r"\bfn (\w+)")
+# A function without a proof of its own accord, and not since it calls one that has none.
+FAILED = re.compile(r"fn \w+::(\S+): (?:not proved$|no proof: (?!it calls)).*")
 # A name of no function, or of several.
 STRANGE = re.compile(r"has no function `([^`]*)`|several functions are named `([^`]*)`")
 
@@ -72,8 +74,8 @@ class Trial:
 
     def __init__(self, room, crate):
         self.folder = pathlib.Path(room, "crates", crate)
-        # `rt` builds the libraries that aren't there yet; it sums up all files below at each call, so the checks are those of `rattle` itself.
-        subprocess.run(["rt", "check", "--jobs", "1", "--only", ""], cwd=self.folder, stdout=subprocess.DEVNULL, stderr=subprocess.STDOUT, check=False)
+        # The checks are those of `rattle` itself: `rt` sums up all files below at each call, and builds libraries anew that `rt ci` made.
+        os.makedirs(self.folder / "out", exist_ok=True)
         self.words = check_words(Repository(room), crate)
         self.edits = sorted(self.folder.glob("must-fail/*.edit"))
         self.changes = {edit: changed(edit.read_text("utf-8"), self.folder) for edit in self.edits}
@@ -100,20 +102,62 @@ class Trial:
                     self.names[place] = self.names[place][1:]
         return set()
 
-    def verdict(self, edit):
-        """What the prover says of an edit, as `rt must-fail` prints it, or None where this says nothing."""
-        texts, places = self.changes[edit] or ({}, [])
+    def names_of(self, edit):
+        """The functions that an edit changes, or none where it can't be tried by them."""
+        _, places = self.changes[edit] or ({}, [])
         names = {name for place in places for name in self.names[place][:1]}
-        if not names or not names <= self.proved:
-            return None
-        was = {path: (self.folder / path).read_text("utf-8") for path in texts}
+        return names if names <= self.proved else set()
+
+    def together(self):
+        """The edits in lists, each of edits of different functions, which one check tries. A module isn't a function, so that its edits are tried alone."""
+        lists = []
+        for edit in filter(self.names_of, self.edits):
+            names = self.names_of(edit)
+            is_alone = any(len(self.names[place]) < 2 for place in self.changes[edit][1])
+            free = next((found for found in lists if not is_alone and not found[1] and names.isdisjoint(found[2])), None)
+            if free:
+                free[0].append(edit)
+                free[2].update(names)
+            else:
+                lists.append(([edit], is_alone, names))
+        return [edits for edits, _, _ in lists]
+
+    def checked(self, edits):
+        """What a check of the functions says that these edits change, once they are made; None where they can't all be made."""
+        was, names = {}, set()
         try:
-            for path, text in texts.items():
-                (self.folder / path).write_text(text, "utf-8")
-            return self.refusal(self.check(sorted(names)))
+            for edit in edits:
+                found = changed(edit.read_text("utf-8"), self.folder)
+                if not found:
+                    return None
+                names |= self.names_of(edit)
+                for path, text in found[0].items():
+                    was.setdefault(path, (self.folder / path).read_text("utf-8"))
+                    (self.folder / path).write_text(text, "utf-8")
+            return self.check(sorted(names))
         finally:
             for path, text in was.items():
                 (self.folder / path).write_text(text, "utf-8")
+
+    def verdicts(self):
+        """What the prover says of edits, as `rt must-fail` prints it: of those of different functions at once, and of what that leaves one by one."""
+        for edits in self.together():
+            ran = self.checked(edits) if len(edits) > 1 else None
+            said = {edit: ran and self.refusal_among(ran, edit) for edit in edits}
+            for edit in edits:
+                yield edit, said[edit] or self.verdict(edit)
+
+    def verdict(self, edit):
+        """What the prover says of one edit, or None where this says nothing."""
+        ran = self.checked([edit])
+        return ran and self.refusal(ran)
+
+    def refusal_among(self, ran, edit):
+        """Why the prover refused a function that an edit changes, if it did, where other functions were changed too."""
+        names = self.names_of(edit)
+        failed = filter(None, map(FAILED.match, ran.stdout.splitlines())) if self.refusal(ran) else []
+        said = next((found[0] for found in failed if any(f"::{found[1]}".endswith(f"::{name}") for name in names)), None)
+        return f"{REFUSED}: {said[:160]}" if said else None
 
     @staticmethod
     def refusal(ran):
@@ -133,8 +177,7 @@ def tried(room, crate):
     """The verdicts of a crate's edits, by their names, as far as their functions decide."""
     trial = Trial(room, crate)
     verdicts = {}
-    for edit in trial.edits:
-        said = trial.verdict(edit)
+    for edit, said in trial.verdicts():
         if said:
             verdicts[edit.name] = said
             print(f"rt: must-fail {crate}/{edit.name}: {said}", flush=True)
