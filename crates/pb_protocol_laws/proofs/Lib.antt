@@ -2,6 +2,8 @@ mod Kept
 mod Distinct
 mod EnumeratorNames
 mod Positive
+mod MonotoneSets
+mod Fixpoints
 mod PlainModels
 pub mod Properties
 pub mod States

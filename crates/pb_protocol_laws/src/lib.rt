@@ -7,6 +7,7 @@ mod spelling;
 
 ghost use Rattle.pb_protocol_laws.specs.Laws.{CallsArePositive, EnumeratorsAreApart};
 ghost use Rattle.pb_protocol_laws.specs.Laws.{PlainProtocolsArePlain, StateVariablesAreApart};
+ghost use Rattle.pb_protocol_laws.specs.Fixpoints.{FixpointsAreExtreme, ProtocolPropertiesArePositive};
 
 pub use solved::{flat_models_are_solved, moves_are_the_protocols, packed_models_are_solved};
 pub use spelling::{
@@ -35,4 +36,12 @@ pub fn calls_are_positive()
 /// model.
 pub fn plain_protocols_are_plain()
     ensures { PlainProtocolsArePlain }
+{}
+
+/// In a positive formula, `mu X . f` and `nu X . f` have the least and the greatest set of the
+/// protocol's states that `f` gives back where it is the set of `X` (Knaster and Tarski); and where
+/// the protocol keeps the rules, its properties are positive.
+pub fn fixpoints_are_extreme()
+    ensures extreme { FixpointsAreExtreme }
+    ensures positive { ProtocolPropertiesArePositive }
 {}
