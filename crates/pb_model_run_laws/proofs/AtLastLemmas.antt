@@ -8,7 +8,7 @@ use Rattle.pb_model_runs.specs.Inevitably.{FailsAlong, IsPutOff}
 use Rattle.pb_model_runs.proofs.InevitablyLemmas.{false-is-put-off, true-is-bounded}
 use Rattle.pb_model_run_laws.specs.AtLast.{FalseAtLastIsAvoided, TrueAtLastIsBounded}
 
-fails-along : (m : Model) (ρ : Valuation) (s : State) (path : List Move) → FailsAlong m ρ (Formula.Truth false) s path
+pub fails-along : (m : Model) (ρ : Valuation) (s : State) (path : List Move) → FailsAlong m ρ (Formula.Truth false) s path
 fails-along m ρ s [] = refl
 fails-along m ρ s (x ∷ path) = (refl, fails-along m ρ x.state path)
 

@@ -1,13 +1,16 @@
 mod FreeLemmas
+mod ComesBackLemmas
 mod UntilLemmas
+mod AtLastLemmas
+mod CounterexampleLemmas
 mod WeakUntilLemmas
 mod PrecedenceLemmas
 mod NeverLemmas
 mod DeadlockLemmas
 mod EverywhereLemmas
 mod ResponseLemmas
-mod AtLastLemmas
 mod StepResponseLemmas
+mod NeverAnsweredLemmas
 mod InfiniteRunsLemmas
 mod InfinitelyOftenLemmas
 mod PersistenceLemmas

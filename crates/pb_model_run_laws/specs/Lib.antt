@@ -14,6 +14,8 @@ pub mod InfinitelyOften
 pub mod Persistence
 pub mod Reactivity
 pub mod EndlessLassos
+pub mod Counterexamples
 pub mod WeakFairness
 pub mod Patterns
 pub mod FreeOperands
+pub mod Examples

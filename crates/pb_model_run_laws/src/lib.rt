@@ -2,6 +2,7 @@
 //! `specs/`.
 #![tactic(auto)]
 
+mod counterexamples;
 mod words;
 
 ghost use Rattle.pb_model_run_laws.specs.Free.{NotFreeIsWithout};
@@ -25,6 +26,11 @@ ghost use Rattle.pb_model_run_laws.specs.EndlessLassos.{LassosAreInfiniteRuns};
 ghost use Rattle.pb_model_run_laws.specs.EndlessLassos.{LassosRefuteInfinitelyOften};
 ghost use Rattle.pb_model_run_laws.specs.WeakFairness.{TrueIsFairlyAtLast};
 
+pub use counterexamples::{
+    at_last_has_counterexamples, inevitably_has_counterexamples, long_runs_come_back,
+    response_has_counterexamples, step_response_has_counterexamples, until_has_counterexamples,
+    worked_examples,
+};
 pub use words::{operands_are_free_of_words, words_are_patterns};
 
 /// A formula's truth doesn't hang on the set of a variable that isn't free in it.
