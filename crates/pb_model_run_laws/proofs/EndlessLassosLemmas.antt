@@ -60,7 +60,7 @@ module _ (m : Model) (A : StepSet) where
   loop-taken s [] loop h = h
   loop-taken s (x ∷ stem) loop h = loop-taken x.state stem loop h.1
 
-  loop-end : (s : State) (stem loop : List Move) → last_state s (stem ++ loop) ≡ last_state (last_state s stem) loop
+  pub loop-end : (s : State) (stem loop : List Move) → last_state s (stem ++ loop) ≡ last_state (last_state s stem) loop
   loop-end s [] loop = refl
   loop-end s (x ∷ stem) loop = loop-end x.state stem loop
 

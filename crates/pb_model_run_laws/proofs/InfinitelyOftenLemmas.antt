@@ -36,7 +36,7 @@ module _ (m : Model) (ρ : Valuation) (A B : StepSet) (X Y : Name) (apart : same
   abbrev T : States
   T = satisfying m ρ (infinitely_often_by A B X Y)
 
-  positive : IsPositive (infinitely_often_by A B X Y)
+  pub positive : IsPositive (infinitely_often_by A B X Y)
   positive = (λ e. (tt, (λ k. refl, λ k. refl)), ((tt, (λ k. refl, λ k. refl)), (tt, (tt, tt))))
 
   abbrev holds : ℕ → States
@@ -54,12 +54,12 @@ module _ (m : Model) (ρ : Valuation) (A B : StepSet) (X Y : Name) (apart : same
   abbrev going : State → Bool
   going s = list_any (holds_at m (Formula.Truth true) (λ u. true)) (successors m StepSet.All s)
 
-  step-said : (S : States) (s : State) → satisfying m (with_set (with_set ρ X T) Y S) body s ≡ (going s && (all_in A T s && all_in B S s))
+  pub step-said : (S : States) (s : State) → satisfying m (with_set (with_set ρ X T) Y S) body s ≡ (going s && (all_in A T s && all_in B S s))
   step-said S s =
       ap (λ (U : States). going s && (all_in A U s && all_in B (with_set (with_set ρ X T) Y S Y) s)) (outer S)
       ∙ ap (λ (U : States). going s && (all_in A T s && all_in B U s)) (chosen-set (with_set ρ X T) Y S)
 
-  within : (C : StepSet) (S : States) (s : State) (x : Move) → all_in C S s ≡ true → IsMove m s x → has_step C x.name ≡ true → (is_state m x.state ≡ true) × (S x.state ≡ true)
+  pub within : (C : StepSet) (S : States) (s : State) (x : Move) → all_in C S s ≡ true → IsMove m s x → has_step C x.name ≡ true → (is_state m x.state ≡ true) × (S x.state ≡ true)
   within C S s x all move named =
       within-set m ρ C X (Formula.Truth true) (λ U. refl) S x.state (each-holds (holds_at m (Formula.Named X) S) (successors m C s) x.state all (led-successor m C s x move named))
 

@@ -16,6 +16,7 @@ mod InfinitelyOftenLemmas
 mod PersistenceLemmas
 mod ReactivityLemmas
 mod EndlessLassosLemmas
+mod GivenUpLemmas
 mod WeakFairnessLemmas
 pub mod Walk
 pub mod FairPattern

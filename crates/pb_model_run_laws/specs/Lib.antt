@@ -15,6 +15,7 @@ pub mod Persistence
 pub mod Reactivity
 pub mod EndlessLassos
 pub mod Counterexamples
+pub mod GivenUp
 pub mod WeakFairness
 pub mod Patterns
 pub mod FreeOperands

@@ -9,6 +9,7 @@ ghost use Rattle.pb_model_run_laws.specs.Counterexamples.{FalseNeverTaken, IsAvo
 ghost use Rattle.pb_model_run_laws.specs.Counterexamples.{LongRunsComeBack, NeverAnsweredRefutes};
 ghost use Rattle.pb_model_run_laws.specs.Counterexamples.{NeverComesRefutes, NeverFollowedRefutes};
 ghost use Rattle.pb_model_run_laws.specs.Counterexamples.{NeverMetRefutes, NeverTakenRefutes};
+ghost use Rattle.pb_model_run_laws.specs.GivenUp.{FalseIsGivenUp, GivenUpRefutes, TrueNeverEnds};
 ghost use Rattle.pb_model_run_laws.specs.Examples as example;
 
 /// A run within the ranges that is as long as there are states comes to one of them twice.
@@ -49,6 +50,15 @@ pub fn response_has_counterexamples()
 pub fn step_response_has_counterexamples()
     ensures shown { FalseNeverFollowed }
     ensures refuted { NeverFollowedRefutes }
+{}
+
+/// `nu X . mu Y . <true> true && [A] X && [B] Y` is false just where a run by the steps of A and of
+/// B goes round by those of B, comes to where no step can be taken, or can leave the ranges; so
+/// where it is true, no such run ends.
+pub fn infinitely_often_has_counterexamples()
+    ensures endless { TrueNeverEnds }
+    ensures shown { FalseIsGivenUp }
+    ensures refuted { GivenUpRefutes }
 {}
 
 /// Process 2 of the lock goes round for ever while process 1 tries to get in.

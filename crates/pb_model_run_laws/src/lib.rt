@@ -27,9 +27,9 @@ ghost use Rattle.pb_model_run_laws.specs.EndlessLassos.{LassosRefuteInfinitelyOf
 ghost use Rattle.pb_model_run_laws.specs.WeakFairness.{TrueIsFairlyAtLast};
 
 pub use counterexamples::{
-    at_last_has_counterexamples, inevitably_has_counterexamples, long_runs_come_back,
-    response_has_counterexamples, step_response_has_counterexamples, until_has_counterexamples,
-    worked_examples,
+    at_last_has_counterexamples, inevitably_has_counterexamples,
+    infinitely_often_has_counterexamples, long_runs_come_back, response_has_counterexamples,
+    step_response_has_counterexamples, until_has_counterexamples, worked_examples,
 };
 pub use words::{operands_are_free_of_words, words_are_patterns};
 
