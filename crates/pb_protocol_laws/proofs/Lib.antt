@@ -10,6 +10,7 @@ pub mod States
 pub mod Models
 pub mod Packed
 pub mod Moves
+mod NamedSteps
 pub mod Words
 pub mod PlainWords
 pub mod Spelled

@@ -29,7 +29,7 @@ goes_along protocol m same begins goes = record {
 
 -- ---- through a model with the protocol's states
 
-stands_through : (protocol : Protocol) (m n : model.Model) (says : State → State) (s r t : State) → StandsFor protocol m itself s r → packed_states.StandsFor m n says r t
+pub stands_through : (protocol : Protocol) (m n : model.Model) (says : State → State) (s r t : State) → StandsFor protocol m itself s r → packed_states.StandsFor m n says r t
     → StandsFor protocol n says s t
 stands_through protocol m n says s r t (first, to) (second, from) = (second ∙ first, λ is. from is ∙ to (sym second ∙ is))
 

@@ -2,6 +2,7 @@
 //! do nothing: each law stands on its function's contract.
 #![tactic(auto)]
 
+mod named_steps;
 mod solved;
 mod spelling;
 
@@ -9,6 +10,7 @@ ghost use Rattle.pb_protocol_laws.specs.Laws.{CallsArePositive, EnumeratorsAreAp
 ghost use Rattle.pb_protocol_laws.specs.Laws.{PlainProtocolsArePlain, StateVariablesAreApart};
 ghost use Rattle.pb_protocol_laws.specs.Fixpoints.{FixpointsAreExtreme, ProtocolPropertiesArePositive};
 
+pub use named_steps::{flat_steps_are_instances, models_go_by_names, worked_instance};
 pub use solved::{flat_models_are_solved, moves_are_the_protocols, packed_models_are_solved};
 pub use spelling::{
     flat_formulas_are_writable, flat_models_are_writable, packed_formulas_are_writable,
