@@ -1,9 +1,12 @@
 mod Kept
 mod Distinct
 mod EnumeratorNames
+mod PositiveCalls
 mod Positive
 mod MonotoneSets
 mod Fixpoints
+mod KeptMeanings
+mod WiderProtocols
 mod PlainModels
 pub mod Properties
 pub mod States

@@ -20,7 +20,7 @@ use Rattle.pb_protocol_laws.specs.PositiveFormulas.{IsPositiveIn, IsPositive}
 use Rattle.pb_protocol_laws.specs.Fixpoints.{WithinProtocol}
 
 -- where p has an element, so has r
-of_list-within : {A : Type 0} (q : Quantifier) (p r : A → Bool) → ((x : A) → p x ≡ true → r x ≡ true) → (xs : List A) → of_list q p xs ≡ true → of_list q r xs ≡ true
+pub of_list-within : {A : Type 0} (q : Quantifier) (p r : A → Bool) → ((x : A) → p x ≡ true → r x ≡ true) → (xs : List A) → of_list q p xs ≡ true → of_list q r xs ≡ true
 of_list-within Forall p r h [] e = e
 of_list-within Exists p r h [] e = e
 of_list-within Forall p r h (x ∷ xs) e =
@@ -36,20 +36,20 @@ of_values-within Forall p r h vs e = of_list-within Forall p r h vs e
 of_values-within Exists p r h vs e = of_list-within Exists p r h vs e
 
 module _ (m : Protocol) where
-  quantified-within : (q : Quantifier) (xs : List Variable) (p r : Assignment → Bool) → ((d : Assignment) → p d ≡ true → r d ≡ true) → (c : Assignment)
+  pub quantified-within : (q : Quantifier) (xs : List Variable) (p r : Assignment → Bool) → ((d : Assignment) → p d ≡ true → r d ≡ true) → (c : Assignment)
       → quantified (data_of m) q xs p c ≡ true → quantified (data_of m) q xs r c ≡ true
   quantified-within q [] p r h c = h c
   quantified-within q (x ∷ xs) p r h c = of_values-within q _ _ (λ v. quantified-within q xs p r h ((x.name, v) ∷ c)) (carrier_of (data_of m) x.sort)
 
-  and-within : (S T U V : States) → WithinProtocol m S U → WithinProtocol m T V → WithinProtocol m (λ s. S s && T s) (λ s. U s && V s)
+  pub and-within : (S T U V : States) → WithinProtocol m S U → WithinProtocol m T V → WithinProtocol m (λ s. S s && T s) (λ s. U s && V s)
   and-within S T U V SU TV s e x =
       let parts = and_parts (S s) (T s) x in and_from (U s) (V s) (SU s e parts.0) (TV s e parts.1)
 
-  or-within : (S T U V : States) → WithinProtocol m S U → WithinProtocol m T V → WithinProtocol m (λ s. S s || T s) (λ s. U s || V s)
+  pub or-within : (S T U V : States) → WithinProtocol m S U → WithinProtocol m T V → WithinProtocol m (λ s. S s || T s) (λ s. U s || V s)
   or-within S T U V SU TV s e x =
       elim (or_cases (S s) (T s) x) [ inl l ↦ or_left (U s) (V s) (SU s e l) | inr r ↦ or_right (U s) (V s) (TV s e r) ]
 
-  not-within : (S T : States) → WithinProtocol m T S → WithinProtocol m (λ s. not (S s)) (λ s. not (T s))
+  pub not-within : (S T : States) → WithinProtocol m T S → WithinProtocol m (λ s. not (S s)) (λ s. not (T s))
   not-within S T TS s e x = by (T s) refl
     where
       by : (b : Bool) → T s ≡ b → not b ≡ true

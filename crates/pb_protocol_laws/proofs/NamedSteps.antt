@@ -175,7 +175,8 @@ flat_steps_are_instances m = over (instances m)
     over (i ∷ is) = by (is_left_instance m i) (over is)
       where
         by : (b : Bool) → map (λ (a : model.Step). a.name) (folded_steps (data_of m) (map (unfolded_step m) is)) ≡ map instance_name (filter (is_left_instance m) is)
-            → map (λ (a : model.Step). a.name) (cond b (folded_step (data_of m) (unfolded_step m i) ∷ folded_steps (data_of m) (map (unfolded_step m) is)) (folded_steps (data_of m) (map (unfolded_step m) is)))
+            → map (λ (a : model.Step). a.name)
+            (cond b (folded_step (data_of m) (unfolded_step m i) ∷ folded_steps (data_of m) (map (unfolded_step m) is)) (folded_steps (data_of m) (map (unfolded_step m) is)))
             ≡ map instance_name (cond b (i ∷ filter (is_left_instance m) is) (filter (is_left_instance m) is))
         by true e = ap (λ xs. instance_name i ∷ xs) e
         by false e = e

@@ -1,5 +1,5 @@
 -- Where a protocol keeps the rules, what is called stands under an even number of negations.
-use Rattle.std.proofs.Common.{◌≡◌, zero, suc, Bool, true, false, true≢false, not, ◌||◌, List, [], ◌∷◌, map, refl, sym, ◌∙◌, subst, arith, None}
+use Rattle.std.proofs.Common.{◌≡◌, zero, suc, Bool, true, false, true≢false, not, ◌||◌, List, [], ◌∷◌, map, refl, sym, ◌∙◌, arith, None}
 use Rattle.std.specs.Prelude.{All}
 use Rattle.std.proofs.lemmas.List.Elements.{All-weaker}
 use Rattle.pb_text_tree.specs.declared.operator.Connective.{Connective}
@@ -8,7 +8,6 @@ use Rattle.pb_model_tree.specs.declared.formula.Modality.{Modality}
 use Rattle.pb_model_tree.specs.declared.formula.Modality.TheVariants.{Box, Diamond}
 use Rattle.pb_typing_declarations.specs.declared.fault.TypingRule.TheVariants.{OddNegations, UnknownName}
 use Rattle.pb_typing_rules.specs.Faults.{left_parity}
-use Rattle.pb_text_meaning.specs.Syntax.{Name}
 use Rattle.pb_text_meaning.specs.Erase as texts
 use Rattle.pb_protocol_tree.specs.Form.{FormulaForm, PropertyForm, ProtocolForm}
 use Rattle.pb_protocol_meaning.specs.Syntax.{StepSet, Formula, Property}
@@ -20,8 +19,9 @@ use Rattle.pb_protocol_typing.specs.Scopes.{Scope, variables, fixpoint, inside, 
 use Rattle.pb_protocol_typing.specs.Sets.{StepShapes, set_fault}
 use Rattle.pb_protocol_typing.specs.Formulas.{is_constant, fixpoint_fault, variables_fault, formula_fault}
 use Rattle.pb_protocol_typing.specs.Faults.{data_form, protocol_faults, property_fault, outermost, signatures_of, steps_of}
-use Rattle.pb_protocol_laws.specs.PositiveFormulas.{IsPositiveIn, IsPositive}
+use Rattle.pb_protocol_laws.specs.PositiveFormulas.{IsPositive}
 use Rattle.pb_protocol_laws.specs.Fixpoints.{ProtocolPropertiesArePositive}
+use Rattle.pb_protocol_laws.proofs.PositiveCalls.{calls-suffice}
 use Rattle.pb_protocol_laws.proofs.Kept.{no_either, holds, kept}
 
 constant-joined : (c : Connective) (f g : Formula) → protocol.is_constant (joined c f g) ≡ false
@@ -91,39 +91,7 @@ calls_are_positive text e =
     let spec = texts.erase (data_form text) in
     positive-each (steps_of spec text) (outermost spec (signatures_of spec text)) text.properties (kept text e).properties
 
--- ---- so fixpoints' variables do
-
-operand-positive-in : (X : Name) (even : Bool) (f : Formula) → (protocol.is_constant f ≡ false → even ≡ true) → IsPositiveIn X true f → IsPositiveIn X even f
-operand-positive-in X true f h p = p
-operand-positive-in X false (Formula.Truth b) h p = tt
-operand-positive-in X false f h p = absurd (true≢false (sym (h refl)))
-
-positive-in : (X : Name) (even : Bool) (f : Formula) → HasPositiveCalls even f → IsPositiveIn X even f
-positive-in X even (Formula.Truth b) h = tt
-positive-in X even (Formula.Data x) h = tt
-positive-in X even (Formula.Named Y) h = λ e. h
-positive-in X even (Formula.Not f) h = positive-in X (not even) f h
-positive-in X even (Formula.And f g) h = (positive-in X even f h.0, positive-in X even g h.1)
-positive-in X even (Formula.Or f g) h = (positive-in X even f h.0, positive-in X even g h.1)
-positive-in X even (Formula.Implies f g) h = (positive-in X (not even) f h.0, positive-in X even g h.1)
-positive-in X even (Formula.Box A f) h = operand-positive-in X even f h.0 (positive-in X true f h.1)
-positive-in X even (Formula.Diamond A f) h = operand-positive-in X even f h.0 (positive-in X true f h.1)
-positive-in X even (Formula.Fixpoint sign Y f) h = λ e. subst (λ (b : Bool). IsPositiveIn X b f) (sym h.0) (positive-in X true f h.1)
-positive-in X even (Formula.Quantified q xs f) h = positive-in X even f h
-
-calls-suffice : (even : Bool) (f : Formula) → HasPositiveCalls even f → IsPositive f
-calls-suffice even (Formula.Truth b) h = tt
-calls-suffice even (Formula.Data x) h = tt
-calls-suffice even (Formula.Named Y) h = tt
-calls-suffice even (Formula.Not f) h = calls-suffice (not even) f h
-calls-suffice even (Formula.And f g) h = (calls-suffice even f h.0, calls-suffice even g h.1)
-calls-suffice even (Formula.Or f g) h = (calls-suffice even f h.0, calls-suffice even g h.1)
-calls-suffice even (Formula.Implies f g) h = (calls-suffice (not even) f h.0, calls-suffice even g h.1)
-calls-suffice even (Formula.Box A f) h = calls-suffice true f h.1
-calls-suffice even (Formula.Diamond A f) h = calls-suffice true f h.1
-calls-suffice even (Formula.Fixpoint sign Y f) h = (positive-in Y true f h.1, calls-suffice true f h.1)
-calls-suffice even (Formula.Quantified q xs f) h = calls-suffice even f h
-
+-- so do fixpoints' variables
 pub properties_are_positive : ProtocolPropertiesArePositive
 properties_are_positive text e =
     All-weaker (λ (p : Property). HasPositiveCalls true p.formula) (λ (p : Property). IsPositive p.formula)

@@ -5,6 +5,7 @@
 mod named_steps;
 mod solved;
 mod spelling;
+mod wider;
 
 ghost use Rattle.pb_protocol_laws.specs.Laws.{CallsArePositive, EnumeratorsAreApart};
 ghost use Rattle.pb_protocol_laws.specs.Laws.{PlainProtocolsArePlain, StateVariablesAreApart};
@@ -17,6 +18,7 @@ pub use spelling::{
     packed_groups_have_few_values, packed_models_are_writable, plain_formulas_are_writable,
     plain_models_are_writable,
 };
+pub use wider::verdicts_stay_in_wider_ranges;
 
 /// No two enumerators have one name.
 pub fn enumerators_are_apart()

@@ -14,8 +14,8 @@ use pb_protocol_packing::packed_models_have_the_answer;
 use pb_protocol_unfolding::{plain_models_keep_their_meaning, steps_are_unfolded};
 
 /// Where a plain protocol's own model goes by a step, the protocol goes by the step of that name;
-/// where the unfolded one does, by the step and the values of the instance that has the name; and so
-/// it is where the variables of either are packed.
+/// where the unfolded one does, by the step and the values of the instance that has the name; and
+/// so it is where the variables of either are packed.
 pub fn models_go_by_names()
     ensures plain { PlainModelsGoByNames }
     ensures unfolded { UnfoldedModelsGoByNames }
@@ -26,8 +26,8 @@ pub fn models_go_by_names()
     packed_models_have_the_answer();
 }
 
-/// The flat model of a protocol has a step for each instance whose guard isn't folded to `false`, by
-/// its name and in their order; no two instances have one name.
+/// The flat model of a protocol has a step for each instance whose guard isn't folded to `false`,
+/// by its name and in their order; no two instances have one name.
 pub fn flat_steps_are_instances()
     ensures names { FlatStepsAreInstances }
     ensures each { EachFlatStepIsAnInstance }
