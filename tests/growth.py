@@ -1,11 +1,13 @@
 #!/usr/bin/env python3
 """Counts how often the program's loops turn on families of texts that are made to be hard, so that no time of squares comes back unseen.
 
-    tests/growth.py PROGRAM [FAMILY..]    by a built program: all of families.py and game_families.py, or those of these names
+    tests/growth.py PROGRAM [FAMILY..]    by a built program: all of families.py, game_families.py and model_families.py, or those of these names
 
-Each family is solved at a size and at twice that size. Counted are turns of loops (`turns.c`, compiled by the toolchain's own clang), which are
-the same in each run on each machine: a jump to what stands before it, as `llvm-objdump` finds them, is a breakpoint. What the program takes for a
-text of one equation is taken off. The second count is to be at most GROWTH times the first: twice the size may take twice the turns, and a tenth more."""
+Each family is solved, or checked as a model, at a size and at twice that size. Counted are turns of loops (`turns.c`, compiled by the toolchain's own
+clang), which are the same in each run on each machine: a jump to what stands before it, as `llvm-objdump` finds them, is a breakpoint. What the
+program takes for a text of one equation, or a model of one step, is taken off. The second count is to be at most GROWTH times the first: twice the
+size may take twice the turns, and a tenth more."""
+import collections
 import concurrent.futures
 import os
 import re
@@ -18,11 +20,16 @@ import threading
 sys.dont_write_bytecode = True
 from families import FAMILIES
 from game_families import GAMES
+from model_families import MODELS
 
 GROWTH = 2.3
 # Of any family at its first size: a third more than the dearest takes, the blocks.
 MOST = 600_000
 OVER = 99
+SOLVE, CHECK = ("solve", "--workers", "1"), ("check", "--workers", "1")
+IDLE = {SOLVE: "pbes nu X = X; init X;", CHECK: "model state b: Bool; step s: b -> skip; init true; property p = b;"}
+# A family with the size at which it is counted first, the command and its options, and the status that it has.
+Family = collections.namedtuple("Family", "name text size command options status")
 JUMP = re.compile(r"^ *([0-9a-f]+): ((?:[0-9a-f]{2} )+) *\tj\w+\t0x([0-9a-f]+)", re.M)
 
 
@@ -62,41 +69,49 @@ class Turns:
         """Whether it is a jump that `turns.c` does: `jmp` or one with a condition, by a byte or by four."""
         return spelled[0] >> 4 == 7 or spelled[0] in (0xEB, 0xE9) or spelled[0] == 0x0F
 
-    def count(self, text, options, most):
-        """How often loops turn for this text, and the status."""
+    def count(self, text, words, most):
+        """How often loops turn for this text by a command, and the status."""
         report = os.path.join(self.folder, f"report-{threading.get_ident()}")
         settings = {"LD_PRELOAD": self.library, "TURNS_JUMPS": self.jumps, "TURNS_REPORT": report, "TURNS_LIMIT": str(most)}
-        words = [self.program, "solve", "--workers", "1", *options]
-        ran = subprocess.run(words, input=text.encode(), capture_output=True, env=settings, timeout=300, check=False)
+        ran = subprocess.run([self.program, *words], input=text.encode(), capture_output=True, env=settings, timeout=300, check=False)
         with open(report, encoding="ascii") as file:
             return int(file.read()), ran.returncode
 
 
-def grown(turns, idle, chosen):
+def grown(turns, idle, family):
     """The turns at a size and at twice that size, and what is wrong with them; none where nothing is."""
-    _, family, size, _, options = chosen
-    first, status = turns.count(family(size), options, MOST)
-    if status:
+    words = (*family.command, *family.options)
+    first, status = turns.count(family.text(family.size), words, MOST)
+    if status != family.status:
         return (first, 0), f"over {MOST}" if status == OVER else f"status {status}"
     allowed = idle + int(GROWTH * (first - idle))
-    second, status = turns.count(family(2 * size), options, allowed)
-    if status:
+    second, status = turns.count(family.text(2 * family.size), words, allowed)
+    if status != family.status:
         return (first, second), f"more than {GROWTH} times" if status == OVER else f"status {status}"
     return (first, second), None
 
 
+def families():
+    """All that have a size at which they are counted."""
+    for name, text, size, _, options in FAMILIES + GAMES:
+        if size is not None:
+            yield Family(name, text, size, SOLVE, options, 0)
+    for name, text, size, status in MODELS:
+        yield Family(name, text, size, CHECK, (), status)
+
+
 def main():
-    counted = [one for one in FAMILIES + GAMES if one[2] is not None]
-    chosen = [one for one in counted if one[0] in sys.argv[2:] or not sys.argv[2:]]
+    chosen = [family for family in families() if family.name in sys.argv[2:] or not sys.argv[2:]]
     with tempfile.TemporaryDirectory() as folder, concurrent.futures.ThreadPoolExecutor(os.cpu_count()) as pool:
         turns = Turns(os.path.abspath(sys.argv[1]), folder)
-        idle, status = turns.count("pbes nu X = X; init X;", (), MOST)
-        done = list(pool.map(lambda one: grown(turns, idle, one), chosen))
-    for (name, _, size, _, _), ((first, second), flaw) in zip(chosen, done):
-        print(f"{name}, {size} and {2 * size}: {first} and {second} turns, {flaw or f'{(second - idle) / (first - idle):.2f} times'}")
+        alone = {command: turns.count(text, command, MOST) for command, text in IDLE.items()}
+        done = list(pool.map(lambda family: grown(turns, alone[family.command][0], family), chosen))
+    for family, ((first, second), flaw) in zip(chosen, done):
+        idle, sizes = alone[family.command][0], f"{family.size} and {2 * family.size}"
+        print(f"{family.name}, {sizes}: {first} and {second} turns, {flaw or f'{(second - idle) / (first - idle):.2f} times'}")
     wrong = sum(flaw is not None for _, flaw in done)
     print(f"{len(chosen)} families, {wrong} grow too fast")
-    sys.exit(1 if wrong or status else 0)
+    sys.exit(1 if wrong or any(status for _, status in alone.values()) else 0)
 
 
 if __name__ == "__main__":

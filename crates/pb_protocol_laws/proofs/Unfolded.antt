@@ -174,7 +174,7 @@ module _ (spec : Spec) (sorts : SortsWritable spec) where
 
   choices-writable : (f : Term → Term) (t : Term) (ks : List Term) → ((k : Term) → IsSpelled k → TermWritable (f k)) → TermWritable t → Each IsSpelled ks → TermWritable (choices f t ks)
   choices-writable f t [] g h s = omega arith
-  choices-writable f t (k ∷ []) g h s = g k s.0
+  choices-writable f t (k ∷ []) g h s = (if-word, (((h, s.0.0), tt), (g k s.0, (omega arith, tt))))
   choices-writable f t (k ∷ l ∷ ks) g h s = (if-word, ((h, s.0.0), (g k s.0, (choices-writable f t (l ∷ ks) g h s.1, tt))))
 
   chosen-writable : (f : Term → Term) (t : Term) (ks : List Term) → ((k : Term) → TermWritable k → (list_all is_name_byte (spelled k) ≡ true) → TermWritable (f k)) →

@@ -12,7 +12,7 @@ use Rattle.pb_text_tree.specs.declared.term.Term as declared_term
 use Rattle.pb_text_meaning.specs.Syntax.{Operator, Term}
 use Rattle.pb_protocol_folding.specs.Folding.{folded, truth_value}
 use Rattle.pb_protocol_folding.specs.View as tree
-use Rattle.pb_protocol_unfolding.specs.PutIn.{choices}
+use Rattle.pb_protocol_unfolding.specs.PutIn.{choice, choices}
 use Rattle.pb_protocol_unfolder_terms.specs.declared.array.Choices.{Choices}
 use Rattle.pb_protocol_unfolder_terms.specs.declared.context.Context.{Context}
 use Rattle.pb_protocol_unfolder_terms.specs.declared.fault.UnfoldFault.{UnfoldFault}
@@ -66,6 +66,30 @@ choosing k v s all condition {value = value} first more sorts equality = record 
       → tree.term_of condition ≡ folded (tree.spec_of ds) true (equal_to t value)) sorts (equality t true);
 }
 
+-- the element at a value that the index is known to have, of the room for which so many operators are taken
+module _ (k : Context) (v : Level) (s : declared_scope.TermScope) (all : Choices) (value : Written) (taken : ℕ) (most : taken ≤ all.operators + 2) where
+  pub known-without-room : {place : Place} (r : Result Unfolded (OrMemory UnfoldFault)) (e : OrMemory UnfoldFault) → IsErrAnd r (λ d. d ≡ e)
+      → e ≡ Refused (record { rule = rule.Operators; place = place }) → v.room < taken
+      → (c y : Term) (truth : Bool) → folded (folding_in k) true c ≡ Term.Truth true → all.operators < operator_count c
+      → Unfolds (folding_in k) truth v.room (choice c (element_at k v s all value) y) r
+  known-without-room {place = place} r e same is many c y truth holds less =
+      err-kept r e _ (IsRefusal v.room (choice c (element_at k v s all value) y)) same
+      (no-room v.room (choice c (element_at k v s all value) y) e place is (omega (arith, many, most, less)))
+
+  pub known-refused : (m : ℕ) (r : Result Unfolded (OrMemory UnfoldFault)) (e : OrMemory UnfoldFault) → v.room ≡ m + taken → IsErrAnd r (λ d. d ≡ e)
+      → ((truth : Bool) → IsRefusal m (element_at k v s all value) e)
+      → (c y : Term) (truth : Bool) → folded (folding_in k) true c ≡ Term.Truth true → all.operators < operator_count c
+      → Unfolds (folding_in k) truth v.room (choice c (element_at k v s all value) y) r
+  known-refused m r e spent same h c y truth holds less =
+      err-kept r e _ (IsRefusal v.room (choice c (element_at k v s all value) y)) same
+      (chosen-refused v.room m (codes "if") c (element_at k v s all value) y true e (omega (arith, spent, most, less)) (h truth))
+
+  pub known-unfolded : (m : ℕ) {u r : Unfolded} → v.room ≡ m + taken → IsChosen u r → ((truth : Bool) → IsUnfolded (folding_in k) truth m (element_at k v s all value) u)
+      → (c y : Term) (truth : Bool) → folded (folding_in k) true c ≡ Term.Truth true → all.operators < operator_count c
+      → IsUnfolded (folding_in k) truth v.room (choice c (element_at k v s all value) y) r
+  known-unfolded m spent chosen h c y truth holds less =
+      chosen (folding_in k) (codes "if") c (element_at k v s all value) y m v.room true truth if-named holds (h false) (omega (arith, spent, most, less))
+
 module _ {k : Context} {v : Level} {s : declared_scope.TermScope} {all : Choices} {value : Written} {condition : declared_term.Term} (is : IsChoosing k v s all value condition) where
   choice-said : (t : Term) → choice_of (codes "if") (equal_to t value) (element_at k v s all value) (among k v s all t (further_values all)) ≡ among k v s all t all.values.now
   choice-said t =
@@ -86,6 +110,15 @@ module _ {k : Context} {v : Level} {s : declared_scope.TermScope} {all : Choices
   choosing-without-room {place = place} r e same is many t truth said within =
       refused-as t truth r e same
       (no-room v.room (choice_of (codes "if") (equal_to t value) (element_at k v s all value) (among k v s all t (further_values all))) e place is (omega (arith, many, within)))
+
+  -- where the condition holds, it is the element at the first value
+  pub first-known : (r : Result Unfolded (OrMemory UnfoldFault)) → Some true ≡ truth_value (tree.term_of condition)
+      → ((c y : Term) (truth : Bool) → folded (folding_in k) true c ≡ Term.Truth true → all.operators < operator_count c
+      → Unfolds (folding_in k) truth v.room (choice c (element_at k v s all value) y) r)
+      → (t : Term) (truth : Bool) → IsIndexOf k all t → all.operators ≤ operator_count t → Unfolds (folding_in k) truth v.room (among k v s all t all.values.now) r
+  first-known r says h t truth said within =
+      subst (λ (z : Term). Unfolds (folding_in k) truth v.room z r) (choice-said t)
+      (h (equal_to t value) (among k v s all t (further_values all)) truth (sym (is.says t said) ∙ truth-said condition true says) (omega (arith, within)))
 
   -- decided, it is the element that is chosen
   pub decided-unfolded : (decision : Bool) {u r : Unfolded} → Some decision ≡ truth_value (tree.term_of condition) → IsChosen u r

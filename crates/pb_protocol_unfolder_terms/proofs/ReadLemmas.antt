@@ -1,12 +1,13 @@
 -- Reads of arrays by their first index, and choices by their first value.
-use Rattle.std.proofs.Common.{◌≡◌, Bool, if◌then◌else◌, List, [], ◌∷◌, map, drop, length, ℕ, Some, None, refl, sym, ◌∙◌, ap, subst, arith}
+use Rattle.std.proofs.Common.{◌≡◌, Bool, true, false, if◌then◌else◌, Option, List, [], ◌∷◌, map, drop, length, ℕ, Some, None, refl, sym, ◌∙◌, ap, subst, arith}
 use Rattle.std.specs.List.{slice_get}
 use Rattle.std.specs.Prelude.{string_bytes}
 use Rattle.pb_text_tree.specs.declared.term.Argument.{Argument}
 use Rattle.pb_text_meaning.specs.Syntax.{Name, Operator, Term, Terms, Spec}
+use Rattle.pb_protocol_folding.specs.Folding.{folded, or_of, truth_value}
 use Rattle.pb_protocol_folding.specs.View as tree
 use Rattle.pb_protocol_unfolding.specs.Written.{element, written_values}
-use Rattle.pb_protocol_unfolding.specs.PutIn.{Forms, TermScope, all_put_in, choice, choices, chosen, put_in, read}
+use Rattle.pb_protocol_unfolding.specs.PutIn.{Forms, TermScope, all_put_in, choice, choices, last_choice, chosen, put_in, read}
 use Rattle.pb_protocol_unfolder_terms.specs.declared.array.Array.{Array}
 use Rattle.pb_protocol_unfolder_terms.specs.declared.context.Context.{Context}
 use Rattle.pb_protocol_unfolder_terms.specs.declared.scope.TermScope as declared_scope
@@ -70,10 +71,21 @@ pub choices-none : (f : Term → Term) (t : Term) (vs : List Written) → None �
 choices-none f t [] none = refl
 choices-none f t (v ∷ vs) none = absurd (none-not v none)
 
-pub choices-one : (f : Term → Term) (t : Term) (vs : List Written) (v : Written) → Some v ≡ slice_get vs 0 → length (drop 1 vs) ≡ 0 → f (written_term v) ≡ choices f t (map written_term vs)
+-- of one value left the index is compared all the same
+pub choices-one : (f : Term → Term) (t : Term) (vs : List Written) (v : Written) → Some v ≡ slice_get vs 0 → length (drop 1 vs) ≡ 0
+    → last_choice t (written_term v) (f (written_term v)) ≡ choices f t (map written_term vs)
 choices-one f t [] v there end = absurd (not-none v there)
-choices-one f t (w ∷ []) v there end = ap (λ u. f (written_term u)) (some-is v w there)
+choices-one f t (w ∷ []) v there end = ap (λ u. last_choice t (written_term u) (f (written_term u))) (some-is v w there)
 choices-one f t (w ∷ u ∷ vs) v there end = absurd (omega (arith, end))
+
+-- which is true whatever it has
+pub last-holds : (S : Spec) (t k : Term) → folded S true (Term.Binary Operator.Or (Term.Binary Operator.Equal t k) (Term.Truth true)) ≡ Term.Truth true
+last-holds S t k = any-or (truth_value (folded S true (Term.Binary Operator.Equal t k)))
+  where
+    any-or : (b : Option Bool) → or_of b (Some true) (folded S true (Term.Binary Operator.Equal t k)) (Term.Truth true) ≡ Term.Truth true
+    any-or (Some true) = refl
+    any-or (Some false) = refl
+    any-or None = refl
 
 pub choices-more : (f : Term → Term) (t : Term) (vs : List Written) (v : Written) → Some v ≡ slice_get vs 0 → (length (drop 1 vs) ≡ 0 → ⊥)
     → choice (Term.Binary Operator.Equal t (written_term v)) (f (written_term v)) (choices f t (map written_term (drop 1 vs))) ≡ choices f t (map written_term vs)
@@ -85,7 +97,7 @@ choices-more f t (w ∷ u ∷ vs) v there more =
 -- of what is made alike of each value
 pub choices-same : (f g : Term → Term) → ((k : Term) → f k ≡ g k) → (t : Term) (ks : List Term) → choices f t ks ≡ choices g t ks
 choices-same f g same t [] = refl
-choices-same f g same t (k ∷ []) = same k
+choices-same f g same t (k ∷ []) = ap (last_choice t k) (same k)
 choices-same f g same t (k ∷ l ∷ ks) =
     ap (λ z. choice (Term.Binary Operator.Equal t k) z (choices f t (l ∷ ks))) (same k)
     ∙ ap (choice (Term.Binary Operator.Equal t k) (g k)) (choices-same f g same t (l ∷ ks))

@@ -40,6 +40,8 @@ pub(crate) struct Choices<'a> {
     pub index: &'a Term,
     /// How many operators the index has at least.
     pub operators: u32,
+    /// Whether an earlier value is compared with the index in the choice.
+    pub compared: bool,
     pub values: &'a [Written<'a>],
 }
 
@@ -57,6 +59,20 @@ impl<'a> Array<'a> {
             indices: &self.indices[1..],
             arguments: &self.arguments[1..],
         }
+    }
+}
+
+impl Choices<'_> {
+    /// How many operators an index takes that is known to have a value: where it is compared in the
+    /// choice, it has taken its own. So what an index takes isn't lost with the comparisons that
+    /// are folded away.
+    pub fn operators_taken(self) -> u32
+        ensures { result ≤ self.entry.operators + 2 }
+    {
+        if self.compared {
+            return 0;
+        }
+        self.operators.saturating_add(2)
     }
 }
 

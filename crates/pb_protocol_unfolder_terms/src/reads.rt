@@ -1,6 +1,6 @@
 //! Unfolds reads of arrays.
 
-ghost use Rattle.std.specs.Prelude.{◌≡◌, ◌≤◌, false, map};
+ghost use Rattle.std.specs.Prelude.{◌≡◌, ◌≤◌, ◌<◌, false, true, map};
 ghost use Rattle.pb_text_meaning.specs.Syntax as syntax;
 ghost use Rattle.pb_protocol_folding.specs.Folding.{folded};
 ghost use Rattle.pb_protocol_folding.specs.View as tree;
@@ -50,6 +50,35 @@ fn unfold_element<'a>(
     unfold_read(&*context, &*scope, level, array)
 }
 
+/// The element of an array at a value that its index is known to have: what is chosen where a
+/// condition holds.
+#[cycle(unfolding)]
+fn unfold_known<'a>(
+    context: &'a Context<'a>,
+    scope: &'a TermScope<'a>,
+    level: Level,
+    choices: Choices<'a>,
+    value: Written<'a>,
+) -> Result<Unfolded, UnfoldError>
+    ensures term { (c y : syntax.Term) (truth : _) →
+        folded (folding_in context.now) true c ≡ syntax.Term.Truth true
+        → choices.entry.operators < operator_count c
+        → Unfolds (folding_in context.now) truth level.room (spec.choice c
+        (element_by context.now level.definitions scope.now choices.entry.others
+        (written_term value.entry)) y) result }
+    ensures faults { Tells context.now result (IsArrayMet context.now level.depth
+        level.definitions scope.now choices.entry.others.name.now.place
+        choices.entry.others.arguments.now choices.entry.others.indices.now) }
+{
+    let room = behind_all(
+        level.room,
+        choices.operators_taken(),
+        choices.others.name.place,
+    )?;
+    let level = Level { room, ..level };
+    Ok(chosen(unfold_element(context, scope, level, choices.others, value)?))
+}
+
 /// The element of an array that an index means which isn't written, or a part of the array.
 #[cycle(unfolding)]
 fn unfold_choices<'a>(
@@ -77,14 +106,14 @@ fn unfold_choices<'a>(
     let level = Level { depth, ..level };
     let values = &choices.values[1..];
     if values.is_empty() {
-        return unfold_element(context, scope, level, choices.others, *value);
+        return unfold_known(context, scope, level, choices, *value);
     }
     let further = Choices { values, ..choices };
     let condition = equality(&context.folding(), choices.index, *value, place)?;
     match truth_value(&condition) {
         Some(true) => {
             drop(condition);
-            Ok(chosen(unfold_element(context, scope, level, choices.others, *value)?))
+            unfold_known(context, scope, level, choices, *value)
         }
         Some(false) => {
             drop(condition);
@@ -98,6 +127,10 @@ fn unfold_choices<'a>(
             let left = unfold_element(context, scope, inner, choices.others, *value);
             let (condition, left) = paired(condition, left)?;
             let room = left.room;
+            let further = Choices {
+                compared: true,
+                ..further
+            };
             let right = unfold_choices(context, scope, Level { room, ..level }, further);
             let ((condition, left), right) = paired((condition, left), right)?;
             let Ok(name) = choosing(context.alloc, place) else {
@@ -157,6 +190,7 @@ pub(crate) fn unfold_read<'a>(
         others: array.others(),
         index: &unfolded.term,
         operators: (MAX_OPERATORS as u32).saturating_sub(unfolded.room),
+        compared: false,
         values: &values,
     };
     let read = unfold_choices(&*context, &*scope, level, choices);

@@ -15,7 +15,7 @@ use Rattle.pb_protocol_meaning.specs.Syntax.{Definition}
 use Rattle.pb_protocol_meaning.specs.Meaning.{Functions, meaning, same_values, inside, all_inside, value_beside}
 use Rattle.pb_protocol_meaning.specs.Meaning as function
 use Rattle.pb_protocol_unfolding.specs.Written.{written_values, same_written, is_written, element}
-use Rattle.pb_protocol_unfolding.specs.PutIn.{TermScope, standing, Forms, put_in, choice, choices, chosen, read}
+use Rattle.pb_protocol_unfolding.specs.PutIn.{TermScope, standing, Forms, put_in, choice, choices, last_choice, chosen, read}
 use Rattle.pb_protocol_unfolding.specs.PutIn as form
 use Rattle.pb_protocol_unfolding.specs.Unfolding.{valued}
 use Rattle.pb_protocol_unfolding.specs.TermLaws.{KeepsWrittenValues, HasValue, FormsMean, Means, DefinitionsArePutIn}
@@ -27,6 +27,17 @@ pub choice-value : (spec : Spec) (a : Assignment) (b x y : Term) →
     value spec a (choice b x y) ≡ (if is_true (value spec a b) then value spec a x else value spec a y)
 unfolding named_function
 choice-value spec a b x y = refl
+
+last-value : (spec : Spec) (a : Assignment) (t k x : Term) → value spec a (last_choice t k x) ≡ value spec a x
+last-value spec a t k x =
+    let known = Term.Binary Operator.Equal t k in
+    choice-value spec a (Term.Binary Operator.Or known (Term.Truth true)) x (Term.Number 0) ∙
+    ap (λ b. if b then value spec a x else pos 0)
+    (is_true-of_bool (is_true (value spec a known) || true) ∙ any-or (is_true (value spec a known)))
+  where
+    any-or : (b : Bool) → (b || true) ≡ true
+    any-or true = refl
+    any-or false = refl
 
 -- ---- values side by side with indices
 
@@ -182,7 +193,7 @@ module _ (spec : Spec) (a : Assignment) (keeps : KeepsWrittenValues spec a) wher
     choices-value : (ks : List Term) → Differ (map (value spec a) ks) → (s : State) → Finds spec a (names ks) s →
         value spec a (choices f t ks) ≡ value_beside (begun T (map (value spec a) ks)) s (inside (map (value spec a) ks) v ∷ index)
     choices-value [] apart s found = refl
-    choices-value (k ∷ []) apart s found = at-first k [] tt s found
+    choices-value (k ∷ []) apart s found = last-value spec a t k (f k) ∙ at-first k [] tt s found
     choices-value (k ∷ l ∷ ks) apart s found =
         choice-value spec a (Term.Binary Operator.Equal t k) (f k) (choices f t (l ∷ ks)) ∙
         (ap (λ b. if b then value spec a (f k) else value spec a (choices f t (l ∷ ks))) (is_true-of_bool (int_eq v (value spec a k))) ∙
@@ -215,8 +226,8 @@ module _ (spec : Spec) (a : Assignment) (keeps : KeepsWrittenValues spec a) wher
     written-value [] apart e = absurd (true≢false (sym e))
     written-value (k ∷ []) apart e = by (same_written t k) refl e
       where
-        by : (b : Bool) → same_written t k ≡ b → (b || false) ≡ true → value spec a (f k) ≡ value spec a (f t)
-        by true h e = ap (λ y. value spec a (f y)) (sym (same-terms t k h))
+        by : (b : Bool) → same_written t k ≡ b → (b || false) ≡ true → value spec a (last_choice t k (f k)) ≡ value spec a (f t)
+        by true h e = last-value spec a t k (f k) ∙ ap (λ y. value spec a (f y)) (sym (same-terms t k h))
         by false h e = absurd (true≢false (sym e))
     written-value (k ∷ l ∷ ks) apart e =
         choice-value spec a (Term.Binary Operator.Equal t k) (f k) (choices f t (l ∷ ks)) ∙

@@ -1,8 +1,9 @@
 -- Two caches of one line: parts of their flat model.
-use Rattle.std.specs.Prelude.{true, [], ◌∷◌, codes}
+use Rattle.std.specs.Prelude.{true, false, [], ◌∷◌, codes}
 use Rattle.pb_text_meaning.specs.Syntax.{Name, Term, Terms}
 use Rattle.pb_model_meaning.specs.Syntax as flat
 use Rattle.pb_model_meaning.specs.Examples.{both, same, becomes, step}
+use Rattle.pb_protocol_folding.specs.Folding.{folded}
 use Rattle.pb_protocol_folding.specs.FoldedModels.{folded_step}
 use Rattle.pb_protocol_meaning.specs.Syntax.{Formula}
 use Rattle.pb_protocol_meaning.specs.Steps.{data_of}
@@ -62,8 +63,8 @@ flat_step i = folded_step (data_of caches) (unfolded_step caches i)
 abbrev pub flat_formula : Formula → flat.Formula
 flat_formula f = model.flat_formula caches f
 
-abbrev pub unfolded_caches_term : Term → Term
-unfolded_caches_term x = unfolded_term caches [] x
+abbrev pub flat_term : Term → Term
+flat_term x = folded (data_of caches) false (unfolded_term caches [] x)
 
 -- x'20'm1'true, the element of x at 20, -1 and true
 abbrev pub element_name : Name

@@ -98,10 +98,16 @@ abbrev pub choice : Term → Term → Term → Term
 choice b x y =
     Term.Apply (codes "if") (Terms.Then b (Terms.Then x (Terms.Then y Terms.NoTerms)))
 
--- if(t == k1, f k1, if(t == k2, f k2, .. f kn))
+-- if(t == k || true, x, 0), which is x: of one value left t is compared too, so that it is written
+abbrev pub last_choice : Term → Term → Term → Term
+last_choice t k x =
+    choice (Term.Binary Operator.Or (Term.Binary Operator.Equal t k) (Term.Truth true)) x
+    (Term.Number 0)
+
+-- if(t == k1, f k1, if(t == k2, f k2, .. if(t == kn || true, f kn, 0)))
 abbrev pub choices : (Term → Term) → Term → List Term → Term
 choices f t [] = Term.Number 0
-choices f t (k ∷ []) = f k
+choices f t (k ∷ []) = last_choice t k (f k)
 choices f t (k ∷ l ∷ ks) =
     choice (Term.Binary Operator.Equal t k) (f k) (choices f t (l ∷ ks))
 

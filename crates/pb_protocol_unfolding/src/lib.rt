@@ -98,8 +98,7 @@ pub fn worked_examples()
     ensures hides_nothing { HidesNothing protocol.caches }
     ensures definition { example.flat_step example.read_c1 ≡ example.flat_read }
     ensures at_once { example.flat_step example.grant_c1_c1 ≡ example.flat_grant }
-    ensures by_variable { example.unfolded_caches_term protocol.owners_line
-        ≡ example.flat_owners_line }
+    ensures by_variable { example.flat_term protocol.owners_line ≡ example.flat_owners_line }
     ensures names { example.element_name ≡ codes "x'20'm1'true" }
     ensures by_value { example.flat_formula protocol.reads_share ≡ example.flat_reads_share }
     ensures reads_share { satisfies example.flat_caches

@@ -2,7 +2,7 @@ use Rattle.std.proofs.Common.{◌≡◌, ◌∙◌, suc, true, false, List, [], 
 use Rattle.std.proofs.lemmas.Bool.Decides.{nat_tests}
 use Rattle.pb_protocol_unfolder_terms.specs.declared.array.Choices.{Choices}
 use Rattle.pb_text_tree.specs.declared.place.Place.{Place}
-use Rattle.pb_text_meaning.specs.Syntax.{Name, Term, Terms}
+use Rattle.pb_text_meaning.specs.Syntax.{Name, Operator, Term, Terms}
 use Rattle.pb_text_meaning.specs.Erase.{erased_term}
 use Rattle.pb_protocol_unfolder_terms.specs.Chains.{HasLinks, deciding, operands_of, outcome}
 use Rattle.pb_protocol_unfolder_terms.proofs.ChainLemmas.{arithmetic-links, chain-links, err-kept, chain-is, chain-means, application-is, application-means}
@@ -23,7 +23,7 @@ use Rattle.pb_protocol_unfolder_terms.specs.Puts.{element_by, put, puts}
 use Rattle.pb_protocol_unfolder_terms.proofs.ArgumentLemmas.{none-of}
 use Rattle.pb_protocol_unfolder_terms.proofs.ChoiceLemmas.{choice-held, if-named}
 use Rattle.pb_protocol_unfolder_terms.proofs.OperandLemmas.{IsChainLeft, IsRestOf, chain-form, last-refused, left-decided, left-further, left-last, left-refused, left-without-room, operands-more, chain-left, chain-over}
-use Rattle.pb_protocol_unfolder_terms.proofs.ReadLemmas.{choices-none, choices-one, read-itself, read-nothing, are-others, unwritten-by, written-read, chosen-read}
+use Rattle.pb_protocol_unfolder_terms.proofs.ReadLemmas.{choices-none, choices-one, last-holds, read-itself, read-nothing, are-others, unwritten-by, written-read, chosen-read}
 use Rattle.pb_protocol_unfolder_terms.proofs.TermLemmas.{arithmetic-is, arithmetic-means, quantified-means}
 use Rattle.std.proofs.lemmas.Bool.{false≢true}
 use Rattle.pb_protocol_unfolder_terms.specs.Met.{Occurrence, at}
@@ -33,7 +33,7 @@ use Rattle.pb_protocol_unfolder_terms.proofs.MetLemmas.{argument-at-met, array-f
 use Rattle.pb_protocol_unfolder_terms.proofs.DeepLemmas.{array-deep, choice-first, choices-deep, choices-further, choices-met, element-met, unwritten-levels}
 use Rattle.pb_protocol_unfolder_terms.proofs.ProtocolLemmas.{mapped-length}
 use Rattle.pb_protocol_unfolder_terms.proofs.ConditionalLemmas.{IsConditional, conditional, branch-unfolded, branch-refused, second-refused, both-unfolded}
-use Rattle.pb_protocol_unfolder_terms.proofs.ChoosingLemmas.{IsChoosing, choosing, choosing-without-room, further_values, decided-unfolded, decided-refused, first-refused, further-refused, further-unfolded}
+use Rattle.pb_protocol_unfolder_terms.proofs.ChoosingLemmas.{IsChoosing, choosing, choosing-without-room, first-known, known-refused, known-unfolded, known-without-room, further_values, decided-unfolded, decided-refused, first-refused, further-refused, further-unfolded}
 use Rattle.pb_protocol_unfolder_terms.proofs.CalculationLemmas.{first-operand-refused, first-calculated, operator-without-room, operand-refused, further-calculated, all-calculated}
 use Rattle.pb_protocol_unfolder_terms.proofs.CopyLemmas.{AreAllCopies, IsCopyLeft, copies-form, copy-left, tuples-written, copied-said, none-said, copies-met, copy-met}
 use Rattle.pb_protocol_unfolder_terms.specs.declared.context.Meant.TheVariants as meant
@@ -354,12 +354,29 @@ reads::unfold_choices-returns-in_default-clause-term t c =
     (choices-none (element_by c.args.context.now c.args.level.definitions c.args.scope.now c.args.choices.others) t c.args.choices.values.now c.in_default.ensures.value)
     (c.nothing.ensures (folding_in c.args.context.now) truth)
 
+pub reads::unfold_known-returns-in_err-room-clause-term : goal.reads::unfold_known-returns-in_err-room-clause-term
+reads::unfold_known-returns-in_err-room-clause-term t c =
+    known-without-room c.args.context.now c.args.level c.args.scope.now c.args.choices c.args.value c.operators_taken.result c.operators_taken.ensures
+    c.from_residual.result c.in_err-room.field-0.0 c.from_residual.ensures.1 c.in_err-room.ensures.0 c.in_err-room.ensures.1
+
+pub reads::unfold_known-returns-in_err-unfold_element-clause-term : goal.reads::unfold_known-returns-in_err-unfold_element-clause-term
+reads::unfold_known-returns-in_err-unfold_element-clause-term t c =
+    known-refused c.args.context.now c.args.level c.args.scope.now c.args.choices c.args.value c.operators_taken.result c.operators_taken.ensures c.in_ok-room.room
+    c.from_residual-in_err-unfold_element.result c.in_err-unfold_element.field-0.0 c.in_ok-room.ensures c.from_residual-in_err-unfold_element.ensures.1 c.in_err-unfold_element.ensures.term
+
+pub reads::unfold_known-returns-clause-term : goal.reads::unfold_known-returns-clause-term
+reads::unfold_known-returns-clause-term t c =
+    known-unfolded c.args.context.now c.args.level c.args.scope.now c.args.choices c.args.value c.operators_taken.result c.operators_taken.ensures c.in_ok-room.room
+    c.in_ok-room.ensures c.chosen.ensures c.in_ok-unfold_element.ensures.term
+
 pub reads::unfold_choices-returns-then-is_empty-clause-term : goal.reads::unfold_choices-returns-then-is_empty-clause-term
 reads::unfold_choices-returns-then-is_empty-clause-term t c =
     let end : length (drop 1 c.args.choices.values.now) ≡ 0 = grind (arith, nat_tests) in
-    λ t truth said within. subst (λ (z : Term). Unfolds (folding_in c.args.context.now) truth c.args.level.room z c.unfold_element.result)
+    let k = written_term c.in-Some.value.now in
+    λ t truth said within. subst (λ (z : Term). Unfolds (folding_in c.args.context.now) truth c.args.level.room z c.unfold_known.result)
     (choices-one (element_by c.args.context.now c.args.level.definitions c.args.scope.now c.args.choices.others) t c.args.choices.values.now c.in-Some.value.now c.in-Some.ensures.value end)
-    (c.unfold_element.ensures.term truth)
+    (c.unfold_known.ensures.term (Term.Binary Operator.Or (Term.Binary Operator.Equal t k) (Term.Truth true)) (Term.Number 0) truth
+    (last-holds (folding_in c.args.context.now) t k) (omega (arith, within)))
 
 -- there are further values, and a condition for the first
 choosing-here : (t : ℕ) (c : reads::unfold_choices-After-truth_value t)
@@ -368,22 +385,16 @@ choosing-here t c =
     choosing c.args.context.now c.args.level c.args.scope.now c.args.choices c.in_ok-condition.condition c.in-Some.ensures.value (sym c.is_empty.ensures ∙ c.if-is_empty.false) c.folding.ensures
     c.in_ok-condition.ensures
 
-pub reads::unfold_choices-returns-in_ok-unfold_element-in-Some-true-clause-term : goal.reads::unfold_choices-returns-in_ok-unfold_element-in-Some-true-clause-term
-reads::unfold_choices-returns-in_ok-unfold_element-in-Some-true-clause-term t c =
-    decided-unfolded (choosing-here t (goal.at.reads::unfold_choices-returns-in_ok-unfold_element-in-Some-true-clause-term t c).After-truth_value)
-    true (ap Some (sym c.in-Some-true.field-0-test) ∙ c.in-Some-true.ensures) c.chosen.ensures (λ t said within. c.in_ok-unfold_element-in-Some-true.ensures.term false)
+pub reads::unfold_choices-returns-in-Some-true-clause-term : goal.reads::unfold_choices-returns-in-Some-true-clause-term
+reads::unfold_choices-returns-in-Some-true-clause-term t c =
+    first-known (choosing-here t (goal.at.reads::unfold_choices-returns-in-Some-true-clause-term t c).After-truth_value)
+    c.unfold_known-in-Some-true.result (ap Some (sym c.in-Some-true.field-0-test) ∙ c.in-Some-true.ensures) c.unfold_known-in-Some-true.ensures.term
 
 pub reads::unfold_choices-returns-in_ok-unfold_choices-in-Some-false-clause-term : goal.reads::unfold_choices-returns-in_ok-unfold_choices-in-Some-false-clause-term
 reads::unfold_choices-returns-in_ok-unfold_choices-in-Some-false-clause-term t c =
     decided-unfolded (choosing-here t (goal.at.reads::unfold_choices-returns-in_ok-unfold_choices-in-Some-false-clause-term t c).After-truth_value)
-    false (ap Some (sym c.in-Some-false.field-0-test) ∙ c.in-Some-false.ensures) c.chosen-in-Some-false.ensures
+    false (ap Some (sym c.in-Some-false.field-0-test) ∙ c.in-Some-false.ensures) c.chosen.ensures
     (λ t said within. c.in_ok-unfold_choices-in-Some-false.ensures.term t false said within)
-
-pub reads::unfold_choices-returns-in_err-unfold_element-in-Some-true-clause-term : goal.reads::unfold_choices-returns-in_err-unfold_element-in-Some-true-clause-term
-reads::unfold_choices-returns-in_err-unfold_element-in-Some-true-clause-term t c =
-    decided-refused (choosing-here t (goal.at.reads::unfold_choices-returns-in_err-unfold_element-in-Some-true-clause-term t c).After-truth_value)
-    true c.from_residual-in_err-unfold_element-in-Some-true.result c.in_err-unfold_element-in-Some-true.field-0.0 c.from_residual-in_err-unfold_element-in-Some-true.ensures.1
-    (λ t truth said within. c.in_err-unfold_element-in-Some-true.ensures.term truth)
 
 pub reads::unfold_choices-returns-in_err-unfold_choices-in-Some-false-clause-term : goal.reads::unfold_choices-returns-in_err-unfold_choices-in-Some-false-clause-term
 reads::unfold_choices-returns-in_err-unfold_choices-in-Some-false-clause-term t c =
@@ -781,9 +792,17 @@ pub reads::unfold_choices-returns-in_default-checked_sub-clause-faults : goal.re
 reads::unfold_choices-returns-in_default-checked_sub-clause-faults t c =
     depth-told c.args.context.now c.refused.result c.refused.ensures (λ w h. choices-deep c.in-Some.ensures.value h (omega (arith, c.in_default-checked_sub.ensures)))
 
+pub reads::unfold_known-returns-in_err-room-clause-faults : goal.reads::unfold_known-returns-in_err-room-clause-faults
+reads::unfold_known-returns-in_err-room-clause-faults t c =
+    room-told c.args.context.now c.from_residual.result _ c.from_residual.ensures.1 c.in_err-room.ensures.0 (λ w h. h.read.token)
+
+pub reads::unfold_known-returns-in_err-unfold_element-clause-faults : goal.reads::unfold_known-returns-in_err-unfold_element-clause-faults
+reads::unfold_known-returns-in_err-unfold_element-clause-faults t c =
+    told c.args.context.now c.from_residual-in_err-unfold_element.result _ c.from_residual-in_err-unfold_element.ensures.1 c.in_err-unfold_element.ensures.faults (λ w h. h)
+
 pub reads::unfold_choices-returns-then-is_empty-clause-faults : goal.reads::unfold_choices-returns-then-is_empty-clause-faults
 reads::unfold_choices-returns-then-is_empty-clause-faults t c =
-    λ w h. c.unfold_element.ensures.faults w (choice-first c.in-Some.ensures.value h (omega (arith, c.in-Some-checked_sub.ensures.0, c.in-Some-checked_sub.ensures.1)))
+    λ w h. c.unfold_known.ensures.faults w (choice-first c.in-Some.ensures.value h (omega (arith, c.in-Some-checked_sub.ensures.0, c.in-Some-checked_sub.ensures.1)))
 
 -- the first choice and the further ones are met
 first-choice : (t : ℕ) (c : reads::unfold_choices-After-truth_value t) → (whole : Occurrence)
@@ -798,11 +817,9 @@ further-choices : (t : ℕ) (c : reads::unfold_choices-After-truth_value t) {fur
 further-choices t c others values whole h =
     choices-further c.in-Some.ensures.value h _ others values (omega (arith, c.in-Some-checked_sub.ensures.0, c.in-Some-checked_sub.ensures.1))
 
-pub reads::unfold_choices-returns-in_err-unfold_element-in-Some-true-clause-faults : goal.reads::unfold_choices-returns-in_err-unfold_element-in-Some-true-clause-faults
-reads::unfold_choices-returns-in_err-unfold_element-in-Some-true-clause-faults t c =
-    told c.args.context.now c.from_residual-in_err-unfold_element-in-Some-true.result _ c.from_residual-in_err-unfold_element-in-Some-true.ensures.1
-    c.in_err-unfold_element-in-Some-true.ensures.faults
-    (first-choice t (goal.at.reads::unfold_choices-returns-in_err-unfold_element-in-Some-true-clause-faults t c).After-truth_value)
+pub reads::unfold_choices-returns-in-Some-true-clause-faults : goal.reads::unfold_choices-returns-in-Some-true-clause-faults
+reads::unfold_choices-returns-in-Some-true-clause-faults t c =
+    λ w h. c.unfold_known-in-Some-true.ensures.faults w (first-choice t (goal.at.reads::unfold_choices-returns-in-Some-true-clause-faults t c).After-truth_value w h)
 
 pub reads::unfold_choices-returns-in_err-condition-in-None-3-clause-faults : goal.reads::unfold_choices-returns-in_err-condition-in-None-3-clause-faults
 reads::unfold_choices-returns-in_err-condition-in-None-3-clause-faults t c =

@@ -52,6 +52,9 @@ decreases-applications::unfold_arithmetic l = 8 * l.level.depth + 4
 abbrev pub decreases-reads::unfold_element : goal.decreases-reads::unfold_element
 decreases-reads::unfold_element l = 8 * l.level.depth + 2
 
+abbrev pub decreases-reads::unfold_known : goal.decreases-reads::unfold_known
+decreases-reads::unfold_known l = 8 * l.level.depth + 3
+
 abbrev pub decreases-reads::unfold_choices : goal.decreases-reads::unfold_choices
 decreases-reads::unfold_choices l = 8 * l.level.depth
 
