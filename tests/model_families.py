@@ -11,16 +11,8 @@ def doubled_indices(size, values):
     )
 
 
-def used_definitions(size):
-    """So many definitions, each of which is used once."""
-    definitions = " ".join(f"d{k} = b;" for k in range(size))
-    uses = " || ".join(f"d{k}" for k in range(size))
-    return f"model state b: Bool;\ndefine {definitions}\nstep s: {uses} -> skip;\ninit true;\nproperty p = [s] b;\n"
-
-
 # The name of each, the family, the size at which turns of loops are counted first, and the status: 1 where the model is refused.
 MODELS = (
     ("indices that double", lambda size: doubled_indices(size, ("a", "b")), 14, 1),
     ("indices of one value that double", lambda size: doubled_indices(size, ("a",)), 14, 1),
-    ("used definitions", used_definitions, 400, 0),
 )
