@@ -15,6 +15,8 @@ pub mod ProtocolLemmas
 pub mod AssignedLemmas
 pub mod BehindLemmas
 pub mod BoundsLemmas
+pub mod HeldLemmas
+pub mod HeldNames
 pub mod MetLemmas
 pub mod LargeLemmas
 pub mod LatestLemmas

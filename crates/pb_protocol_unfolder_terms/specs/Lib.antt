@@ -12,6 +12,7 @@ pub mod Deep
 pub mod Assigned
 pub mod Behind
 pub mod Bounds
+pub mod Held
 pub mod Met
 pub mod Large
 pub mod Tells

@@ -14,6 +14,7 @@ mod element;
 mod enumerator;
 mod fault;
 mod form;
+pub mod laws;
 mod level;
 mod names;
 mod operands;
