@@ -7,6 +7,7 @@ ghost use Rattle.pb_model_runs.specs.Exact.{step_places};
 ghost use Rattle.pb_protocol_packing.specs.Groups as packing;
 ghost use Rattle.pb_protocol_packing.specs.Packable.{IsPackable};
 ghost use Rattle.pb_protocol_packer.specs.Groups.{groups_in};
+ghost use Rattle.pb_protocol_packer.specs.InitialPlaces.{initial_places, value_places};
 ghost use Rattle.pb_protocol_groups.specs.Places.{named_properties, property_places};
 ghost use Rattle.pb_protocol_groups.specs.Checks.{packing_faults};
 ghost use Rattle.pb_protocol_groups.specs.Sizes.{size_faults};
@@ -28,7 +29,8 @@ pub struct Packed {
 
 /// Packs a model after a check that it can be packed, so that it satisfies what the model does: its
 /// state variables are put together in at most eight groups. The names of steps and properties, and
-/// formulas but for their data, stay as they are, places included.
+/// formulas but for their data, stay as they are, places included; the initial value of a group
+/// stands at one of its variables' values.
 ///
 /// # Errors
 /// Those of `check_packable`. The variables of a group have no values together, or too many: T12,
@@ -38,6 +40,8 @@ pub fn pack_checked(alloc: Global, model: &Model) -> Result<Packed, TypeError>
     ensures groups { IfOk result
         (λ p. groups_in p.groups.items ≡ packing.groups_of (model_of model.now)) }
     ensures meaning { IfOk result (λ p. model_of p.model ≡ packing.packed (model_of model.now)) }
+    ensures initial { IfOk result (λ p. value_places (model_form p.model).initial.values
+        ≡ initial_places (packing.groups_of (model_of model.now)) (model_form model.now)) }
     ensures steps { IfOk result
         (λ p. step_places (model_form p.model).steps ≡ step_places (model_form model.now).steps) }
     ensures names { IfOk result

@@ -2,14 +2,17 @@
 use Rattle.std.proofs.Common.{◌≡◌, List, [], ◌∷◌, ◌++◌, map, refl, ap, ◌∙◌}
 use Rattle.std.proofs.lemmas.List.{map-append}
 use Rattle.pb_text_tree.specs.declared.name.Name as declared_name
+use Rattle.pb_text_tree.specs.declared.term.Argument.{Argument}
+use Rattle.pb_text_tree.specs.declared.place.Place.{Place}
 use Rattle.pb_text_tree.specs.declared.variable.Variables.{Variables}
-use Rattle.pb_text_tree.specs.Form.{named, variables_form, variable_forms}
+use Rattle.pb_text_tree.specs.Form.{named, variables_form, variable_forms, argument_forms, no_arguments}
 use Rattle.pb_text_meaning.specs.Syntax.{Name, Variable, Terms}
 use Rattle.pb_text_meaning.specs.Erase.{erased_variable, erased_variables}
 use Rattle.pb_model_meaning.specs.Syntax.{Assignment}
 use Rattle.pb_protocol_packing.specs.Packing.{initial_assignments}
 use Rattle.pb_protocol_packer.specs.View.{name_bytes, texts_of, variables_in}
 use Rattle.pb_protocol_packer.specs.Initial.{variable_name, assigned_names}
+use Rattle.pb_protocol_packer.specs.InitialPlaces.{begun_with, argument_place, value_places}
 
 pub group-names : (ns : List declared_name.Name) (s : declared_name.Name)
     → map variable_name (erased_variables (map (λ (n : declared_name.Name). record { name = named n; sort = named s }) ns)) ≡ texts_of ns
@@ -30,3 +33,13 @@ pub initial-names : (xs : List Variable) (ts : Terms) → initial_assignments xs
 initial-names [] ts = refl
 initial-names (x ∷ xs) Terms.NoTerms = refl
 initial-names (x ∷ xs) (Terms.Then t ts) = ap (λ (bs : List Assignment). record { variable = x.name; term = t } ∷ bs) (initial-names xs ts)
+
+-- ---- places
+
+pub begun-none : (xs : List Name) → begun_with xs no_arguments ≡ []
+begun-none [] = refl
+begun-none (x ∷ xs) = refl
+
+pub argument-places : (xs : List Argument) → value_places (argument_forms xs) ≡ map argument_place xs
+argument-places [] = refl
+argument-places (a ∷ xs) = ap (λ (ps : List Place). a.place ∷ ps) (argument-places xs)

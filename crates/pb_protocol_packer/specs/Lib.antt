@@ -9,3 +9,5 @@ pub mod Steps
 pub mod Declarations
 pub mod Properties
 pub mod Initial
+pub mod InitialPlaces
+pub mod Beginnings

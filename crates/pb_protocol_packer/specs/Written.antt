@@ -1,5 +1,5 @@
 -- Terms that are one token: truth values, numbers and names.
-use Rattle.std.specs.Prelude.{ℕ, Bool, nat_lt, ◌^◌, if◌then◌else◌, Option, Some, None}
+use Rattle.std.specs.Prelude.{ℕ, ℤ, pos, neg_ℤ, Bool, nat_lt, ◌^◌, if◌then◌else◌, Option, Some, None}
 use Rattle.pb_text_meaning.specs.Syntax as syntax
 use Rattle.pb_text_meaning.specs.Syntax.{Name}
 use Rattle.pb_protocol_packer.specs.View.{name_bytes}
@@ -28,3 +28,17 @@ written_of seen.Other = Other
 abbrev pub small_in : Written → Option ℕ
 small_in (Number n) = if nat_lt n (2 ^ 32) then Some n else None
 small_in x = None
+
+-- the whole number that is written, and with `-` in front
+abbrev pub number_in : Written → Option ℤ
+number_in (Number n) = Some (pos n)
+number_in x = None
+
+abbrev pub negated_in : Written → Option ℤ
+negated_in (Number n) = Some (neg_ℤ (pos n))
+negated_in x = None
+
+-- the whole number that a term is written as
+abbrev pub written_number : syntax.Term → Option ℤ
+written_number (syntax.Term.Negative x) = negated_in (written_in x)
+written_number x = number_in (written_in x)

@@ -1,16 +1,20 @@
 //! The initial values of the variables of groups.
 
-ghost use Rattle.std.specs.Prelude.{◌≡◌, [], IfOk};
+ghost use Rattle.std.specs.Prelude.{◌≡◌, [], IfOk, map};
 ghost use Rattle.pb_model_meaning.specs.Steps.{assigned_term};
 ghost use Rattle.pb_protocol_packing.specs.Packing as packing;
 ghost use Rattle.pb_protocol_packer.specs.View.{term_of, terms_of};
 ghost use Rattle.pb_protocol_packer.specs.Groups.{group_of, groups_in};
 ghost use Rattle.pb_protocol_packer.specs.Given.{given_in};
+ghost use Rattle.pb_protocol_packer.specs.Beginnings.{begun_in};
+ghost use Rattle.pb_protocol_packer.specs.InitialPlaces as places;
 
+use crate::beginning::Beginning;
 use crate::builder::Builder;
 use crate::given::{Given, given_for};
 use crate::group::Group;
 use crate::group_number::joined_term;
+use crate::initial_place::group_place;
 use pb_text_tree::{Argument, Term, copy_term};
 use std::alloc::AllocError;
 
@@ -31,22 +35,24 @@ fn initial_term(builder: Builder, given: &[Given<'_>], group: &Group) -> Result<
     }
 }
 
-/// The terms with which the variables of groups begin, in order.
+/// The terms with which the variables of groups begin, in order, each at the place of a value.
 pub(crate) fn initial_terms(
     builder: Builder,
     given: &[Given<'_>],
+    beginnings: &[Beginning<'_>],
     groups: &[Group],
 ) -> Result<Vec<Argument>, AllocError>
-    ensures { IfOk result (λ v. terms_of v.items
+    ensures terms { IfOk result (λ v. terms_of v.items
         ≡ packing.initial_terms (assigned_term (given_in given.now)) (groups_in groups.now)) }
+    ensures places { IfOk result (λ v. map places.argument_place v.items
+        ≡ map (places.group_place (begun_in beginnings.now) builder.place)
+        (groups_in groups.now)) }
 {
     let mut values = Vec::with_capacity(builder.alloc, groups.len())?;
     for group in groups {
         let term = initial_term(builder, given, group)?;
-        values.push(Argument {
-            place: builder.place,
-            term,
-        })?;
+        let place = group_place(beginnings, builder.place, group);
+        values.push(Argument { place, term })?;
     }
     Ok(values)
 }

@@ -3,6 +3,7 @@
 #![tactic(auto)]
 
 mod assignments;
+mod beginning;
 mod builder;
 mod comparison;
 mod declared;
@@ -13,6 +14,7 @@ mod given;
 mod group;
 mod group_number;
 mod initial;
+mod initial_place;
 mod member;
 mod model;
 mod node;

@@ -2,6 +2,7 @@
 
 ghost use Rattle.std.specs.Prelude.{◌≡◌, map, [], IfOk, OnOk, ◌++◌};
 ghost use Rattle.pb_text_tree.specs.Form.{variables_form};
+ghost use Rattle.pb_model_tree.specs.Form.{model_form};
 ghost use Rattle.pb_text_meaning.specs.Erase.{erased_variables};
 ghost use Rattle.pb_protocol_packer.specs.View.{terms_of, variables_in};
 ghost use Rattle.pb_model_meaning.specs.Erase.{model_of};
@@ -13,7 +14,9 @@ ghost use Rattle.pb_protocol_packer.specs.Given.{given_in};
 ghost use Rattle.pb_protocol_packer.specs.Scopes.{table_of};
 ghost use Rattle.pb_protocol_packer.specs.Steps.{assignments_said};
 ghost use Rattle.pb_protocol_packer.specs.Initial.{assigned_names, names_by, variable_name};
+ghost use Rattle.pb_protocol_packer.specs.InitialPlaces as places;
 
+use crate::beginning::beginnings;
 use crate::builder::Builder;
 use crate::declared::{ranges, sorts, variables};
 use crate::given::Given;
@@ -79,22 +82,26 @@ fn packed_initial(
     model: &Model,
     groups: &[Group],
 ) -> Result<InitialState, AllocError>
-    ensures { IfOk result (λ i. terms_of i.values.items ≡ packing.initial_terms
+    ensures terms { IfOk result (λ i. terms_of i.values.items ≡ packing.initial_terms
         (assigned_term (assignments_said [] (assigned_names
         (map variable_name (variables_in model.now.state.items))
         (terms_of model.now.initial.values.items)))) (groups_in groups.now)) }
+    ensures places { IfOk result (λ i. map places.argument_place i.values.items
+        ≡ places.initial_places (groups_in groups.now) (model_form model.now)) }
 {
     let none = Packing { alloc, table: &[] };
     let names = variable_names(alloc, &model.state)?;
     let given = initial_given(&none, &names, &model.initial.values)?;
     let place = model.initial.place;
     let builder = Builder { alloc, place };
-    let values = initial_terms(builder, &given, groups)?;
+    let beginnings = beginnings(alloc, &names, &model.initial.values)?;
+    let values = initial_terms(builder, &given, &beginnings, groups)?;
     Ok(InitialState { place, values })
 }
 
 /// The model over the variables of its groups. The names of steps and properties, and formulas but
-/// for their data, stay as they are, places included.
+/// for their data, stay as they are, places included. The initial value of a group stands at that
+/// of its first variable whose value is written outside its range, so that T11 is told there.
 ///
 /// # Errors
 /// Memory was refused.
@@ -103,6 +110,9 @@ pub fn packed_by(alloc: Global, model: &Model, groups: &[Group]) -> Result<Model
         (λ m. model_of m ≡ packing.packed_by (groups_in groups.now) (model_of model.now)) }
     ensures steps { IfOk result
         (λ m. names_of_steps m.steps.items ≡ names_of_steps model.now.steps.items) }
+    ensures initial { IfOk result
+        (λ m. places.value_places (model_form m).initial.values
+        ≡ places.initial_places (groups_in groups.now) (model_form model.now)) }
     ensures names { IfOk result
         (λ m. property_names m.properties.items ≡ property_names model.now.properties.items) }
     ensures shapes { IfOk result

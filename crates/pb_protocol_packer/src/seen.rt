@@ -4,7 +4,8 @@ ghost use Rattle.std.specs.Prelude.{◌≡◌, codes};
 ghost use Rattle.pb_text_meaning.specs.Syntax.{same_name};
 ghost use Rattle.pb_protocol_packing.specs.Numbers as numbers;
 ghost use Rattle.pb_protocol_packer.specs.View.{chooses, term_of, terms_of, name_bytes, texts_of};
-ghost use Rattle.pb_protocol_packer.specs.Written.{written_in, written_of};
+ghost use Rattle.pb_protocol_packer.specs.Written.{negated_in, written_in, written_number};
+ghost use Rattle.pb_protocol_packer.specs.Written.{written_of};
 
 use crate::enumerators::place_among;
 use pb_text_tree::{Argument, Name, Term};
@@ -35,6 +36,35 @@ pub(crate) fn as_written(term: &Term) -> Written<'_>
             None => as_written(first),
         },
         _ => Written::Other,
+    }
+}
+
+/// The negation of a number that is written.
+fn negated_number(operand: &Term) -> Option<i128>
+    ensures { result ≡ negated_in (written_in (term_of operand.now)) }
+{
+    match as_written(operand) {
+        Written::Number(value) => Some(-i128::from(value)),
+        _ => None,
+    }
+}
+
+/// The whole number that a term is written as, `-` included.
+pub(crate) fn written_number(term: &Term) -> Option<i128>
+    ensures { result ≡ written_number (term_of term.now) }
+{
+    match term {
+        Term::Number { value, .. } => Some(i128::from(*value)),
+        Term::Negative { operand, .. } => negated_number(operand),
+        Term::Chain { first, links, .. } => match links.first() {
+            Some(_) => None,
+            None => written_number(first),
+        },
+        Term::Arithmetic { first, links } => match links.first() {
+            Some(_) => None,
+            None => written_number(first),
+        },
+        _ => None,
     }
 }
 

@@ -13,6 +13,7 @@ use Rattle.pb_protocol_packer.specs.Declarations.{declarations_in, ranges_in}
 use Rattle.pb_protocol_packer.specs.Properties.{erased_step_list, properties_in, property_said}
 use Rattle.pb_protocol_packer.proofs.Nodes.{erased-all}
 use Rattle.pb_protocol_packer.proofs.DeclarationRows.{declaration-forms, range-forms}
+use Rattle.pb_protocol_packer.proofs.InitialRows.{argument-places}
 use Rattle.pb_protocol_packer.proofs.ModelRows.{step-forms, property-forms, initial-same, model-same}
 use Rattle.pb_protocol_packer.proofs.model.packed_by.Goals as goal
 
@@ -33,9 +34,12 @@ returns-clause-meaning c =
     (step-forms c.in_ok-steps.steps.items ∙ c.in_ok-steps.ensures.meaning
     ∙ ap (λ (ss : List tree_step.Step). map (packed_step gs) (erased_step_list ss)) c.deref-2.ensures.value
     ∙ ap (map (packed_step gs)) (sym (step-forms model.steps.items)))
-    (erased-all c.in_ok-initial.initial.values.items ∙ c.in_ok-initial.ensures
+    (erased-all c.in_ok-initial.initial.values.items ∙ c.in_ok-initial.ensures.terms
     ∙ initial-same m gs (terms_of model.initial.values.items) (sym (erased-all model.initial.values.items)))
     (property-forms c.in_ok-properties.properties.items ∙ c.in_ok-properties.ensures.meaning
     ∙ ap (λ (ps : List tree_property.Property). map (property_said (table_of c.deref.result.now)) (properties_in ps)) c.deref-3.ensures.value
     ∙ ap (λ (σ : Scope). map (property_said σ) (properties_in model.properties.items)) table
     ∙ ap (map (property_said (with_groups gs []))) (sym (property-forms model.properties.items)))
+
+pub returns-clause-initial : goal.returns-clause-initial
+returns-clause-initial c = argument-places c.in_ok-initial.initial.values.items ∙ c.in_ok-initial.ensures.places
