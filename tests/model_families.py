@@ -1,4 +1,4 @@
-"""Families of models that are made to be hard where they are written out: each takes a size and gives a model. Of growth.py."""
+"""Families of models that are made to be hard where they are expanded or packed: each takes a size and gives a model. Of growth.py."""
 
 
 def doubled_indices(size, values):
@@ -11,8 +11,19 @@ def doubled_indices(size, values):
     )
 
 
+def names_of_nine_variables(size):
+    """Nine variables, which are packed, beside as many enumerators and variables of steps: all their names are to be apart."""
+    sorts = [range(first, min(first + 200, size)) for first in range(0, size, 200)]
+    declared = " ".join(f"S{number} = struct {' | '.join(f'e{k}' for k in names)};" for number, names in enumerate(sorts))
+    own = [", ".join(f"k{k}" for k in range(first, min(first + 20, size))) for first in range(0, size, 20)]
+    steps = " ".join(f"s{number}({names}: Bool): true -> skip;" for number, names in enumerate(own))
+    state = ", ".join(f"b{k}" for k in range(9))
+    return f"sort {declared}\nmodel state {state}: Bool;\n  step {steps}\ninit {', '.join(['true'] * 9)};\nproperty p = true;\n"
+
+
 # The name of each, the family, the size at which turns of loops are counted first, and the status: 1 where the model is refused.
 MODELS = (
     ("indices that double", lambda size: doubled_indices(size, ("a", "b")), 14, 1),
     ("indices of one value that double", lambda size: doubled_indices(size, ("a",)), 14, 1),
+    ("names of nine variables", names_of_nine_variables, 400, 0),
 )

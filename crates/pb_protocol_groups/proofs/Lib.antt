@@ -1,4 +1,5 @@
 pub mod Rows
+pub mod NameSets
 pub mod Primes
 pub mod Values
 pub mod Links

@@ -271,6 +271,12 @@ module _ (m : ModelForm) where
   packable-where-passed (Ok u) h = can-be-packed h
   packable-where-passed (Err e) h = tt
 
+-- the last part of a test, behind one that passed
+pub last-part : (xs ys : List TypingFault) (r : Result (Unit {0}) (OrMemory TypingFault)) → xs ≡ [] → MatchResult r (λ _. ys ≡ []) (IsAmong ys)
+    → MatchResult r (λ _. xs ++ ys ≡ []) (IsAmong (xs ++ ys))
+last-part xs ys (Ok u) clear h = no_whole xs ys clear h
+last-part xs ys (Err e) clear h = among_right xs ys e h
+
 -- ---- names and counts as the program holds them
 
 pub texts-by : (xs : List (Bor declared_name.Name)) → names_by xs ≡ texts (names_in xs)

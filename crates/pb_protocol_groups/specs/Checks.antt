@@ -1,5 +1,5 @@
 -- Why a model isn't packed: the rules that fail, each with its place.
-use Rattle.std.specs.Prelude.{suc, not, ◌==◌, List, [], ◌++◌, length, map, flat_map}
+use Rattle.std.specs.Prelude.{suc, not, ◌==◌, Bool, List, [], ◌++◌, length, map, flat_map}
 use Rattle.pb_text_tree.specs.Form.{Named, SortForm, struct, alias, SortDeclarationForm}
 use Rattle.pb_text_meaning.specs.Syntax.{Name}
 use Rattle.pb_typing_declarations.specs.Declarations.{own_names, variable_names}
@@ -28,9 +28,13 @@ names_of_sort (alias s) = []
 abbrev pub sort_enumerators : SortDeclarationForm → List Named
 sort_enumerators d = names_of_sort d.sort
 
--- T02: a name that is one of these
+-- T02: a name that is taken
+abbrev pub taken_faults_by : (Name → Bool) → Named → List TypingFault
+taken_faults_by is_taken x = unless (not (is_taken x.text)) rule.NameTwice x.place
+
+-- or is one of these
 abbrev pub taken_faults : List Name → Named → List TypingFault
-taken_faults taken x = unless (not (is_among taken x.text)) rule.NameTwice x.place
+taken_faults taken = taken_faults_by (is_among taken)
 
 -- T02: two state variables have one name, or one has the name of a step's variable
 abbrev pub state_faults : ModelForm → List TypingFault

@@ -1,4 +1,5 @@
 pub mod Names
+pub mod NameSets
 pub mod Ends
 pub mod Taken
 pub mod Variables

@@ -1,7 +1,7 @@
 //! What a model has to have to be packed.
 
 ghost use Rattle.std.specs.Prelude.{◌≡◌, ◌++◌, [], ◌==◌, map, length, flat_map, Contains, IfOk};
-ghost use Rattle.std.specs.Prelude.{MatchResult, OnOk};
+ghost use Rattle.std.specs.Prelude.{List, MatchResult, OnOk, ℕ};
 ghost use Rattle.pb_text_tree.specs.Form.{enumerator_form, named, sort_declaration_form};
 ghost use Rattle.pb_text_tree.specs.Form.{sort_form};
 ghost use Rattle.pb_typing_declarations.specs.Declarations.{own_names};
@@ -15,37 +15,61 @@ ghost use Rattle.pb_protocol_packer.specs.Initial.{names_by};
 ghost use Rattle.pb_protocol_packer.specs.View.{terms_of};
 ghost use Rattle.pb_protocol_groups.specs.Checks.{count_faults, chain_faults, listed_faults};
 ghost use Rattle.pb_protocol_groups.specs.Checks.{names_of_sort, step_own_names, sort_enumerators};
-ghost use Rattle.pb_protocol_groups.specs.Checks.{state_faults, taken_faults};
+ghost use Rattle.pb_protocol_groups.specs.Checks.{state_faults, taken_faults, taken_faults_by};
 ghost use Rattle.pb_protocol_groups.specs.Checks.{test_faults};
+ghost use Rattle.pb_protocol_groups.specs.NameSets.{is_name_in};
 ghost use Rattle.pb_protocol_groups.specs.Variables.{variables_of_state};
 
 use crate::bound_names::bound_names;
 use crate::bound_terms::push_names;
 use crate::end::has_end;
 use crate::state_variables::{StateVariable, state_variables};
-use crate::taken::is_declared;
 use pb_model_tree::{Model, Step};
 use pb_protocol_typing::check_apart;
 use pb_text_tree::{Argument, Enumerator, Name, Sort, SortDeclaration};
 use pb_typing_declarations::{TypeError, TypingFault, TypingRule, require};
 use std::alloc::{AllocError, Global};
+use std::collections::HashSet;
 
-fn is_taken(names: &[&Name], name: &Name) -> bool
-    ensures { result ≡ is_among (names_by names.now) (named name.now).text }
+/// The names as a set.
+fn set_of<'a>(alloc: Global, names: &[&'a Name]) -> Result<HashSet<&'a str>, AllocError>
+    ensures { IfOk result
+        (λ set. (x : List ℕ) → is_name_in set x ≡ is_among (names_by names.now) x) }
 {
-    is_declared(names, &name.text)
+    let mut set = HashSet::new(alloc);
+    for name in names {
+        set.insert(name.text.as_str())?;
+    }
+    Ok(set)
+}
+
+fn is_taken(taken: &HashSet<&str>, name: &Name) -> bool
+    ensures { result ≡ is_name_in taken.now (named name.now).text }
+{
+    taken.contains(name.text.as_str())
+}
+
+/// No name is taken (T02).
+fn check_each(taken: &HashSet<&str>, names: &[&Name]) -> Result<(), TypingFault>
+    ensures { MatchResult result
+        (λ _. flat_map (taken_faults_by (is_name_in taken.now)) (names_in names.now) ≡ [])
+        (Contains (flat_map (taken_faults_by (is_name_in taken.now)) (names_in names.now))) }
+{
+    for name in names {
+        let is_taken = is_taken(taken, name);
+        require(!is_taken, TypingRule::NameTwice, name.place)?;
+    }
+    Ok(())
 }
 
 /// None of the second names is one of the first (T02).
-fn check_none_among(names: &[&Name], others: &[&Name]) -> Result<(), TypingFault>
+fn check_none_among(alloc: Global, names: &[&Name], others: &[&Name]) -> Result<(), TypeError>
     ensures { MatchResult result
         (λ _. flat_map (taken_faults (names_by names.now)) (names_in others.now) ≡ [])
-        (Contains (flat_map (taken_faults (names_by names.now)) (names_in others.now))) }
+        (IsAmong (flat_map (taken_faults (names_by names.now)) (names_in others.now))) }
 {
-    for other in others {
-        let is_taken = is_taken(names, other);
-        require(!is_taken, TypingRule::NameTwice, other.place)?;
-    }
+    let taken = set_of(alloc, names)?;
+    check_each(&taken, others)?;
     Ok(())
 }
 
@@ -105,8 +129,7 @@ fn check_state(alloc: Global, model: &Model) -> Result<(), TypeError>
     push_names(&mut state, &model.state)?;
     check_apart(alloc, &state)?;
     let own = step_variables(alloc, &model.steps)?;
-    check_none_among(&own, &state)?;
-    Ok(())
+    check_none_among(alloc, &own, &state)
 }
 
 /// Enumerators have names of their own, which no variable has (T02).
@@ -117,8 +140,7 @@ fn check_enumerators(alloc: Global, model: &Model) -> Result<(), TypeError>
     let enumerators = all_enumerators(alloc, &model.sorts)?;
     check_apart(alloc, &enumerators)?;
     let variables = bound_names(alloc, model)?;
-    check_none_among(&enumerators, &variables)?;
-    Ok(())
+    check_none_among(alloc, &enumerators, &variables)
 }
 
 /// The chain of each alias has an end (T03).

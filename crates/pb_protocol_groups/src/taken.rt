@@ -29,7 +29,7 @@ fn is_given(given: &[String], name: &str) -> bool
     false
 }
 
-pub(crate) fn is_declared(declared: &[&Name], name: &str) -> bool
+fn is_declared(declared: &[&Name], name: &str) -> bool
     ensures { result ≡ is_among (names_by declared.now) name.now }
 {
     for other in declared {

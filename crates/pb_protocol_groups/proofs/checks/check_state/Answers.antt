@@ -1,8 +1,7 @@
 -- The names of state variables as they were gathered, and of the variables of steps.
-use Rattle.std.proofs.Common.{◌≡◌, ◌∙◌, ◌++◌, List, flat_map, map, ap, sym, subst, rules}
-use Rattle.std.specs.Prelude.{Contains}
+use Rattle.std.proofs.Common.{◌≡◌, ◌∙◌, ◌++◌, List, [], flat_map, map, ap, sym, subst, rules}
+use Rattle.std.specs.Prelude.{MatchResult}
 use denote.Ref.{Bor}
-use Rattle.pb_base.specs.declared.or_memory.OrMemory.TheVariants.{Refused}
 use Rattle.pb_text_tree.specs.declared.name.Name as declared_name
 use Rattle.pb_text_tree.specs.declared.variable.Variables.{Variables}
 use Rattle.pb_text_tree.specs.Form.{Named, variable_forms}
@@ -10,14 +9,14 @@ use Rattle.pb_text_meaning.specs.Syntax.{Name}
 use Rattle.pb_typing_declarations.specs.Declarations.{variable_names}
 use Rattle.pb_typing_declarations.specs.Faults.{IsAmong, repeated}
 use Rattle.pb_typing_declarations.specs.declared.fault.TypingFault.{TypingFault}
-use Rattle.pb_typing_declarations.proofs.Parts.{among_left, among_right, no_whole}
+use Rattle.pb_typing_declarations.proofs.Parts.{among_left}
 use Rattle.pb_model_tree.specs.declared.step.Step as tree_step
 use Rattle.pb_model_tree.specs.Form.{model_form, step_form}
 use Rattle.pb_protocol_typing.specs.View.{names_in}
 use Rattle.pb_protocol_packer.specs.Initial.{names_by}
 use Rattle.pb_protocol_groups.specs.Checks.{step_own_names, state_faults, taken_faults, texts}
-use Rattle.pb_protocol_groups.proofs.Packable.{texts-by}
-use Rattle.pb_protocol_groups.proofs.checks.check_state.Goals.{After-check_apart, After-check_none_among}
+use Rattle.pb_protocol_groups.proofs.Packable.{last-part, texts-by}
+use Rattle.pb_protocol_groups.proofs.checks.check_state.Goals.{After-check_apart}
 use Rattle.pb_protocol_groups.proofs.checks.check_state.Goals as goal
 
 gathered : (c : After-check_apart) → names_in c.push_names.new.names.items ≡ variable_names (variable_forms c.args.model.now.state.items)
@@ -28,17 +27,6 @@ gathered c =
 apart-at : (c : After-check_apart) → names_in c.deref-2.result.now ≡ variable_names (variable_forms c.args.model.now.state.items)
 apart-at c = ap names_in c.deref-2.ensures.value ∙ gathered c
 
--- the faults that were looked for among the variables of steps
-taken-at : (c : After-check_none_among) → (names_in c.push_names.new.names.items ≡ variable_names (variable_forms c.args.model.now.state.items))
-    → flat_map (taken_faults (names_by c.deref-4.result.now)) (names_in c.deref-5.result.now)
-    ≡ flat_map (taken_faults (texts (flat_map step_own_names (map step_form c.args.model.now.steps.items)))) (variable_names (variable_forms c.args.model.now.state.items))
-taken-at c state =
-    let own : names_by c.deref-4.result.now ≡ texts (flat_map step_own_names (map step_form c.args.model.now.steps.items)) =
-    ap names_by c.deref-4.ensures.value ∙ texts-by c.in_ok-own.own.items
-    ∙ ap texts (c.in_ok-own.ensures ∙ ap (λ (ss : List tree_step.Step). flat_map step_own_names (map step_form ss)) c.deref-3.ensures.value) in
-    ap (λ (ns : List Name). flat_map (taken_faults ns) (names_in c.deref-5.result.now)) own
-    ∙ ap (flat_map (taken_faults (texts (flat_map step_own_names (map step_form c.args.model.now.steps.items))))) (ap names_in c.deref-5.ensures.value ∙ state)
-
 pub returns-in_err-check_apart : goal.returns-in_err-check_apart
 returns-in_err-check_apart c =
     let m = model_form c.args.model.now in
@@ -48,20 +36,16 @@ returns-in_err-check_apart c =
     (subst (λ (xs : List Named). IsAmong (repeated xs) e) (apart-at (goal.at.returns-in_err-check_apart c).After-check_apart) c.in_err-check_apart.ensures) in
     search rules
 
-pub returns-in_err-check_none_among : goal.returns-in_err-check_none_among
-returns-in_err-check_none_among c =
-    let m = model_form c.args.model.now in
-    let f = c.in_err-check_none_among.field-0.0 in
-    let at = goal.at.returns-in_err-check_none_among c in
-    let h : IsAmong (state_faults m) (Refused f) =
-    among_right (repeated (variable_names m.variables)) _ (Refused f)
-    (subst (λ (fs : List TypingFault). Contains fs f) (taken-at at.After-check_none_among (gathered at.After-check_apart)) c.in_err-check_none_among.ensures) in
-    search rules
-
 pub returns : goal.returns
 returns c =
     let m = model_form c.args.model.now in
-    let at = goal.at.returns c in
-    no_whole (repeated (variable_names m.variables)) _
-    (sym (ap repeated (apart-at at.After-check_apart)) ∙ c.in_ok-check_apart.ensures)
-    (sym (taken-at at.After-check_none_among (gathered at.After-check_apart)) ∙ c.in_ok-check_none_among.ensures)
+    let at = (goal.at.returns c).After-check_apart in
+    let faults = λ (ns : List Name) (xs : List Named). flat_map (taken_faults ns) xs in
+    let own : names_by c.deref-4.result.now ≡ texts (flat_map step_own_names m.steps) =
+    ap names_by c.deref-4.ensures.value ∙ texts-by c.in_ok-own.own.items
+    ∙ ap texts (c.in_ok-own.ensures ∙ ap (λ (ss : List tree_step.Step). flat_map step_own_names (map step_form ss)) c.deref-3.ensures.value) in
+    let are : faults (names_by c.deref-4.result.now) (names_in c.deref-5.result.now) ≡ faults (texts (flat_map step_own_names m.steps)) (variable_names m.variables) =
+    ap (λ (ns : List Name). faults ns (names_in c.deref-5.result.now)) own
+    ∙ ap (faults (texts (flat_map step_own_names m.steps))) (ap names_in c.deref-5.ensures.value ∙ gathered at) in
+    last-part (repeated (variable_names m.variables)) _ c.check_none_among.result (sym (ap repeated (apart-at at)) ∙ c.in_ok-check_apart.ensures)
+    (subst (λ (fs : List TypingFault). MatchResult c.check_none_among.result (λ _. fs ≡ []) (IsAmong fs)) are c.check_none_among.ensures)
