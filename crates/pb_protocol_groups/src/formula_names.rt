@@ -1,4 +1,4 @@
-//! The names in the data of formulas.
+//! The names in formulas: those in data, and those of fixpoints.
 
 ghost use Rattle.std.specs.Prelude.{◌≡◌, ◌++◌, flat_map, OnOk};
 ghost use Rattle.pb_protocol_packing.specs.Groups as packing;
@@ -10,7 +10,7 @@ use pb_model_tree::{Formula, Link};
 use pb_text_tree::Name;
 use std::alloc::AllocError;
 
-/// Adds the names in a formula's data.
+/// Adds the names in a formula's data and those of its fixpoints.
 #[cycle(formulas)]
 pub(crate) fn push_formula<'a>(
     names: &mut Vec<&'a Name>,
@@ -28,7 +28,10 @@ pub(crate) fn push_formula<'a>(
             push_operands(names, links)
         }
         Formula::Modal { operand, .. } => push_formula(names, operand),
-        Formula::Fixpoint { body, .. } => push_formula(names, body),
+        Formula::Fixpoint { variable, body, .. } => {
+            names.push(variable)?;
+            push_formula(names, body)
+        }
     }
 }
 

@@ -1,4 +1,4 @@
-//! The names in a model: those of variables, sorts and enumerators.
+//! The names in a model: those of variables, sorts, enumerators and fixpoints.
 
 ghost use Rattle.std.specs.Prelude.{◌≡◌, ◌++◌, flat_map, IfOk, OnOk};
 ghost use Rattle.pb_model_meaning.specs.Erase.{model_of};
@@ -98,7 +98,8 @@ fn push_properties<'a>(
     Ok(())
 }
 
-/// The names of variables, sorts and enumerators in a model and in the formulas of its properties.
+/// The names of variables, sorts, enumerators and fixpoints in a model and in the formulas of its
+/// properties.
 pub(crate) fn names_in(alloc: Global, model: &Model) -> Result<Vec<&Name>, AllocError>
     ensures { IfOk result (λ v. names_by v.items ≡ packing.names_in (model_of model.now)) }
 {

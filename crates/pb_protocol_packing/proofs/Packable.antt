@@ -7,13 +7,14 @@ use Rattle.std.proofs.lemmas.Bool.{and_from}
 use Rattle.std.proofs.lemmas.List.{length-map}
 use Rattle.pb_text_meaning.specs.Syntax.{Name, same_name, Variable, Term, Terms, Sort, Struct, Alias, SortDeclaration}
 use Rattle.pb_model_meaning.specs.Syntax.{Assignment, Step, Formula, Property, Model}
+use Rattle.pb_model_translation.specs.Names as names
 use Rattle.pb_model_translation.specs.Apart.{IsNew, AreApart, AreNew, StepsAreNew, HasNamesApart}
 use Rattle.pb_model_translation.proofs.Answer.{translations_have_the_answer}
 use Rattle.pb_protocol_packing.specs.Packing.{Member, Group, Alone, Joined, variable_of, packed_step}
 use Rattle.pb_protocol_packing.specs.Apart.{Each, is_among, all_members, variables_of, group_variables, new_names, new_sorts, enumerators_of, used_enumerators, may_bind, is_apart, all_apart, is_apart_step, is_apart_formula, IsMember, AreAllApart, HasOldSort, HasOldTarget, is_old_target, IsPacking}
 use Rattle.pb_protocol_packing.specs.Groups.{member_for, all_members_for, variable_names, term_names, all_term_names, formula_names, step_names, enumerators_in, targets_in, sort_names, names_in, group_sizes, cut_into_groups, groups_of, packed, said_formula}
 use Rattle.pb_protocol_packing.specs.Packable.{all_enumerators, bound_in, all_bound_in, bound_in_formula, bound_in_step, all_variables, IsPackable}
-use Rattle.pb_protocol_packing.specs.Laws.{PropertiesStay, PackedTranslationsHaveTheAnswer, HaveFewVariables, StatesStandForStates, PackedNamesAreApart}
+use Rattle.pb_protocol_packing.specs.Laws.{PropertiesStay, PackedTranslationsHaveTheAnswer, HaveFewVariables, StatesStandForStates, PackedNamesAreApart, FixpointsKeepTheirNames}
 use Rattle.pb_protocol_packing.proofs.Lists.{each-same, each-front, each-rest, each-join, each-flat, each-among, each-at}
 use Rattle.pb_protocol_packing.proofs.Places.{place-is, place-enumerators}
 use Rattle.pb_protocol_packing.proofs.Groups.{new-apart, sorts-are-names, new-all-apart, group_variables-are, each-place, is-new, after-apart, after-new, cut-all, total-sizes, few-groups, length-cut, eight-sizes}
@@ -77,7 +78,25 @@ module _ (gs : List Group) where
       (formula-apart g (each-rest IsOld (formula_names f) (formula_names g) old) (each-rest HidesNone (bound_in_formula f) (bound_in_formula g) hides))
   formula-apart (Formula.Box A f) old hides = formula-apart f old hides
   formula-apart (Formula.Diamond A f) old hides = formula-apart f old hides
-  formula-apart (Formula.Fixpoint sign X f) old hides = formula-apart f old hides
+  formula-apart (Formula.Fixpoint sign X f) old hides = formula-apart f old.1 hides
+
+  fixpoints-apart : (f : Formula) → Each IsOld (formula_names f) → Each (λ (X : Name). is_among (new_names gs) X ≡ false) (names.variables_of f)
+  fixpoints-apart (Formula.Truth b) old = tt
+  fixpoints-apart (Formula.Data x) old = tt
+  fixpoints-apart (Formula.Named X) old = tt
+  fixpoints-apart (Formula.Not f) old = fixpoints-apart f old
+  fixpoints-apart (Formula.And f g) old =
+      each-join _ (names.variables_of f) _ (fixpoints-apart f (each-front IsOld (formula_names f) (formula_names g) old))
+      (fixpoints-apart g (each-rest IsOld (formula_names f) (formula_names g) old))
+  fixpoints-apart (Formula.Or f g) old =
+      each-join _ (names.variables_of f) _ (fixpoints-apart f (each-front IsOld (formula_names f) (formula_names g) old))
+      (fixpoints-apart g (each-rest IsOld (formula_names f) (formula_names g) old))
+  fixpoints-apart (Formula.Implies f g) old =
+      each-join _ (names.variables_of f) _ (fixpoints-apart f (each-front IsOld (formula_names f) (formula_names g) old))
+      (fixpoints-apart g (each-rest IsOld (formula_names f) (formula_names g) old))
+  fixpoints-apart (Formula.Box A f) old = fixpoints-apart f old
+  fixpoints-apart (Formula.Diamond A f) old = fixpoints-apart f old
+  fixpoints-apart (Formula.Fixpoint sign X f) old = (old.0.0, fixpoints-apart f old.1)
 
   assigned-apart : (L : List Assignment) → Each IsOld (flat_map (λ (b : Assignment). term_names b.term) L) → Each HidesNone (flat_map (λ (b : Assignment). bound_in b.term) L) →
       list_all (λ (b : Assignment). is_apart gs b.term) L ≡ true
@@ -243,12 +262,18 @@ module _ (m : Model) (able : IsPackable m) where
     count = able.count;
   }
 
+  old_formula : (p : Property) → Contains m.properties p → Each (IsOld gs) (formula_names p.formula)
+  old_formula p h =
+      each-contains _ m.properties p h
+      (each-flat (IsOld gs) (λ (p : Property). formula_names p.formula) m.properties
+      (each-rest (IsOld gs) (all_term_names m.initial) _ (each-rest (IsOld gs) (flat_map step_names m.steps) _ old_terms)))
+
+  pub fixpoints-keep : (p : Property) → Contains m.properties p → Each (λ (X : Name). is_among (new_names gs) X ≡ false) (names.variables_of p.formula)
+  fixpoints-keep p h = fixpoints-apart gs p.formula (old_formula p h)
+
   pub property-apart : (p : Property) → Contains m.properties p → is_apart_formula gs p.formula ≡ true
   property-apart p h =
-      formula-apart gs p.formula
-      (each-contains _ m.properties p h
-      (each-flat (IsOld gs) (λ (p : Property). formula_names p.formula) m.properties
-      (each-rest (IsOld gs) (all_term_names m.initial) _ (each-rest (IsOld gs) (flat_map step_names m.steps) _ old_terms))))
+      formula-apart gs p.formula (old_formula p h)
       (each-contains _ m.properties p h
       (each-flat (HidesNone gs) (λ (p : Property). bound_in_formula p.formula) m.properties
       (each-rest (HidesNone gs) (all_bound_in m.initial) _ (each-rest (HidesNone gs) (flat_map bound_in_step m.steps) _ hides_terms))))
@@ -277,6 +302,9 @@ module _ (m : Model) (able : IsPackable m) where
 
 pub packed_names_are_apart : PackedNamesAreApart
 packed_names_are_apart m able = names-apart m able
+
+pub fixpoints_keep_their_names : FixpointsKeepTheirNames
+fixpoints_keep_their_names m p able among = fixpoints-keep m able p among
 
 pub properties_stay : PropertiesStay
 properties_stay m p able among = packed_models_satisfy_the_same m (groups_of m) p.formula (is-packing m able) (property-apart m able p among)

@@ -83,7 +83,7 @@ formula_names (Formula.Or f g) = formula_names f ++ formula_names g
 formula_names (Formula.Implies f g) = formula_names f ++ formula_names g
 formula_names (Formula.Box A f) = formula_names f
 formula_names (Formula.Diamond A f) = formula_names f
-formula_names (Formula.Fixpoint sign X f) = formula_names f
+formula_names (Formula.Fixpoint sign X f) = X ∷ formula_names f
 
 abbrev pub step_names : Step → List Name
 step_names a =
@@ -101,7 +101,8 @@ targets_in (Alias s) = s ∷ []
 abbrev pub sort_names : SortDeclaration → List Name
 sort_names d = d.name ∷ enumerators_in d.sort ++ targets_in d.sort
 
--- the names of variables, sorts and enumerators in a model and in the formulas of its properties
+-- the names of variables, sorts, enumerators and fixpoints in a model and in the formulas of its
+-- properties
 abbrev pub names_in : Model → List Name
 names_in m =
     variable_names m.variables ++ (flat_map sort_names m.sorts ++ (flat_map step_names m.steps

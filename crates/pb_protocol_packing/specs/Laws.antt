@@ -1,13 +1,15 @@
 -- A packed model satisfies what the model does.
-use Rattle.std.specs.Prelude.{◌≡◌, ◌≤◌, true, List, length, Contains}
+use Rattle.std.specs.Prelude.{◌≡◌, ◌≤◌, true, false, List, length, Contains}
+use Rattle.pb_text_meaning.specs.Syntax.{Name}
 use Rattle.pb_text_meaning.specs.Meaning.{answer}
 use Rattle.pb_model_meaning.specs.Syntax.{StepSet, Formula, Property, Model}
 use Rattle.pb_model_meaning.specs.Steps.{State, is_state, initial_state, successors}
 use Rattle.pb_model_meaning.specs.Satisfaction.{satisfies}
 use Rattle.pb_model_translation.specs.Names.{translation}
+use Rattle.pb_model_translation.specs.Names as names
 use Rattle.pb_model_translation.specs.Apart.{HasNamesApart}
 use Rattle.pb_protocol_packing.specs.Packing.{Group, packed_by, packed_formula}
-use Rattle.pb_protocol_packing.specs.Apart.{IsPacking, is_apart_formula}
+use Rattle.pb_protocol_packing.specs.Apart.{Each, is_among, new_names, IsPacking, is_apart_formula}
 use Rattle.pb_protocol_packing.specs.Groups.{groups_of, packed, said_formula}
 use Rattle.pb_protocol_packing.specs.Unpacked.{unpacked, StandsFor, AllStandFor}
 use Rattle.pb_protocol_packing.specs.Packable.{IsPackable}
@@ -34,6 +36,12 @@ PackedTranslationsHaveTheAnswer =
 -- the names of its variables are apart, as those of the model
 abbrev pub PackedNamesAreApart : Type 0
 PackedNamesAreApart = (m : Model) → IsPackable m → HasNamesApart (packed m)
+
+-- no fixpoint of a property has the name of a variable that several became
+abbrev pub FixpointsKeepTheirNames : Type 0
+FixpointsKeepTheirNames =
+    (m : Model) (p : Property) → IsPackable m → Contains m.properties p →
+    Each (λ (X : Name). is_among (new_names (groups_of m)) X ≡ false) (names.variables_of p.formula)
 
 -- and they are at most eight
 abbrev pub HaveFewVariables : Type 0

@@ -18,7 +18,7 @@ ghost use Rattle.pb_protocol_packing.specs.Packable.{IsPackable};
 ghost use Rattle.pb_protocol_packing.specs.Laws.{PackedModelsSatisfyTheSame, PropertiesStay};
 ghost use Rattle.pb_protocol_packing.specs.Laws.{PackedTranslationsHaveTheAnswer};
 ghost use Rattle.pb_protocol_packing.specs.Laws.{HaveFewVariables, PackedNamesAreApart};
-ghost use Rattle.pb_protocol_packing.specs.Laws.{StatesStandForStates};
+ghost use Rattle.pb_protocol_packing.specs.Laws.{FixpointsKeepTheirNames, StatesStandForStates};
 ghost use Rattle.pb_protocol_packing.specs.Examples as example;
 
 /// A machine of three variables as one variable, as the definitions compute it.
@@ -62,10 +62,12 @@ pub fn worked_groups()
     ensures model { satisfies example.ring example.one_moves ≡ true }
 {}
 
-/// The packed model has at most eight variables; it satisfies a property where the model does, and
-/// so the answer of the property's translation is; and its states stand for states of the model.
+/// The packed model has at most eight variables, none of which that several became has a fixpoint's
+/// name; it satisfies a property where the model does, and so the answer of the property's
+/// translation is; and its states stand for states of the model.
 pub fn packed_models_have_the_answer()
     ensures names { PackedNamesAreApart }
+    ensures fixpoints { FixpointsKeepTheirNames }
     ensures few { HaveFewVariables }
     ensures properties { PropertiesStay }
     ensures translation { PackedTranslationsHaveTheAnswer }
