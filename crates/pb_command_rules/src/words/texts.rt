@@ -139,7 +139,11 @@ of one name; two assignments to one variable, or with the same index; a step's\n
 own variable, a parameter, an index, a fixpoint or a formula's quantifier with\n  \
 the name of a state variable or definition, also where a word is used that is\n  \
 one's name; names of elements or steps that are one when they are written out,\n  \
-as x'1 beside x(i: Id). Place: the later name\n\
+as x'1 beside x(i: Id); where the model is written out or has more than eight\n  \
+variables, a state variable with the name of an enumerator, and _ as the name\n  \
+of a definition or of a variable other than a quantifier's in data; where it\n  \
+has more than eight and isn't written out, a step's own variable with the name\n  \
+of an enumerator. Place: the later name; that name\n\
 What to do: rename; mCRL2 lets two structs share an enumerator, here they can't\n\
 $ echo 'pbes nu X = X; nu X = X; init X;' | pbsolve solve\n\
 T02 line 1 column 19\n\
@@ -241,7 +245,9 @@ T10 line 2 column 31\n";
 pub const T11_WORDS: &str = "T11: an argument of init outside its range. Place: its first \
 token\n\
 In a model also: an index that may leave its sort, or a value in a set of steps\n  \
-that does. Place: its first token\n\
+that does; of values of init that are put into one number, and of which none\n  \
+is written outside its range, the first that is computed. Place: its first\n  \
+token\n\
 What to do: widen the range, or correct init\n\
 $ printf '%%range Int 0 9\\npbes nu X(n: Int) = X(n); init X(10);' | pbsolve solve\n\
 T11 line 2 column 34\n\
@@ -259,10 +265,10 @@ enumerator's, name): use a range\n\
 shorten it\n\
 - more than 2^22 instances, of all equations together (the equation with which\n  \
 they are too many): narrow ranges\n\
-In a model also: written out, more than 1,024 steps or 64 state variables, by\n  \
-their elements; of a property's text, more than 64 equations or 2^22\n  \
-instances; more than 2^22 states. Place: the step's, the variable's name; the\n  \
-property's name; init\n\
+In a model also: more than 1,024 assignments in a step; written out, more than\n  \
+1,024 steps or 64 state variables, by their elements; of a property's text,\n  \
+more than 64 equations or 2^22 instances; more than 2^22 states. Place: the\n  \
+step's, the variable's name; the property's name; init\n\
 What to do: see \"Limits\" in docs/MANUAL.md\n\
 $ printf '%%range Int 0 4194304\\npbes nu X(n: Int) = X(n); init X(0);' | pbsolve solve\n\
 T12 line 2 column 9\n";
