@@ -12,13 +12,13 @@ import re
 import sys
 
 from check_certificate import components
-from models import Model, holds
+from models import Defined, Model, Unknown, holds
 
 VERDICT = re.compile(r"([A-Za-z_][\w']*) (true|false|unknown)$")
 LINE = re.compile(r"(\d+) ([A-Za-z_][\w']*)(?:: (.*)| (?:from (\d+) )?(.*))$")
 MOVE = re.compile(r"(by no step|[A-Za-z_][\w']*)(?:\(([^()]*)\))?(?:: (.*))?$")
 EDGE = re.compile(r"  (.*), (?:(back to line (\d+), for ever)|to line (\d+)|outside the ranges)$")
-HERE = re.compile(r"  here( no step can be taken| the test fails| the test holds|): (.*)$")
+HERE = re.compile(r"  here( no step can be taken| the test (?:fails|holds)(?:, and no step can be taken)?|): (.*)$")
 
 
 class Equations:
@@ -63,6 +63,25 @@ class Equations:
         return called(self.found[formula][1]) if formula in self.found else []
 
 
+def is_left(model, step, own):
+    """Whether a step with its own values is one of the text: of models that are written out none is that no state allows."""
+    constants = {name: Defined(parameters, value, {}) for name, (parameters, value) in model.definitions.items()}
+    for defined in constants.values():
+        defined.names = {**model.values, **constants}
+    variables, guard, _ = model.steps[step]
+    try:
+        return model.is_plain or guard({**model.values, **constants, **dict(zip([x for x, _ in variables], own))})
+    except Unknown:
+        return True
+
+
+def asks_test(model, f):
+    """Whether a right side asks a test, beside the guards of steps: data or a truth value, as a modality over no step is one."""
+    if f.kind in ("[", "<"):
+        return not any(f.parts[0](step, own) and is_left(model, step, own) for step in model.steps for own in model.owned(step))
+    return f.kind in ("constant", "data") or f.kind not in ("mu", "nu") and any(asks_test(model, g) for g in f.operands)
+
+
 def array_of(variable):
     """The array of an element `said(1)`; any other variable is by itself."""
     return variable.partition("(")[0]
@@ -75,12 +94,84 @@ def groups(variables):
     return [variables[first:last] for first, last in itertools.pairwise(ends)]
 
 
+def has_call(f):
+    """Whether a right side names an equation; an operand of a modality has one of its own, but for a truth value."""
+    if f.kind in ("[", "<"):
+        return f.parts[1].kind != "constant"
+    return f.kind in ("variable", "mu", "nu") or any(has_call(g) for g in f.operands)
+
+
+def is_test(f):
+    """Data alone, or a truth value, maybe negated."""
+    return f.kind in ("constant", "data") or f.kind == "!" and is_test(f.parts[0])
+
+
+class Calls:
+    """The calls of right sides at a state, in their order: where each stands, the equation that it names, the step and its own values, and
+    where that leads. Where the state stays a call stands at its variable or fixpoint, else at the step's name, in models with arrays,
+    definitions or values of steps at the step with its values."""
+
+    def __init__(self, model, state):
+        self.model, self.state = model, state
+
+    def decides(self, mark, is_first, f):
+        """Whether an operand without calls decides what it is connected to."""
+        truth = holds(self.model, f, self.state, None)
+        return not truth if mark == "&&" or mark == "=>" and is_first else truth
+
+    def named(self, f):
+        """The equation that a variable or a fixpoint names."""
+        return f.scope[f.parts[0]] if f.kind == "variable" else f.equation
+
+    def of_modality(self, f):
+        if has_call(f):
+            for step in self.model.steps:
+                for own in self.model.owned(step):
+                    if f.parts[0](step, own):
+                        place = step if self.model.is_plain else (step, own)
+                        yield place, f.parts[1].equation or self.named(f.parts[1]), step, own, self.model.after(self.state, step, own)
+
+    def written(self, f):
+        """The places of all calls."""
+        if f.kind in ("[", "<"):
+            return [place for place, *_ in self.of_modality(f)]
+        if f.kind in ("variable", "mu", "nu"):
+            return [id(f)]
+        return [place for g in f.operands for place in self.written(g)]
+
+    def made(self, f, beside_tests):
+        """The calls that are made: none behind a first operand without calls that decides, or none beside a test that decides."""
+        if f.kind in ("[", "<"):
+            return [call for call in self.of_modality(f) if call[-1] is not None]
+        if f.kind in ("variable", "mu", "nu"):
+            return [(id(f), self.named(f), "stays", (), self.state)]
+        if len(f.operands) < 2:
+            return [call for g in f.operands for call in self.made(g, beside_tests)]
+        found, (first, second) = [], f.operands
+        if not beside_tests or not is_test(second) or not self.decides(f.kind, False, second):
+            found += self.made(first, beside_tests)
+        if (not is_test(first) if beside_tests else has_call(first)) or not self.decides(f.kind, True, first):
+            found += self.made(second, beside_tests)
+        return found
+
+    def told(self, f, target):
+        """The step and its own values by which a target is named, if it is."""
+        naming = lambda calls: [call for call in calls if (call[1], call[-1]) == target]
+        places, calls = {call[0] for call in naming(self.made(f, True))}, naming(self.made(f, False))
+        place = next((place for place in self.written(f) if place in places), None)
+        chosen = [call for call in calls if call[0] == place] or calls
+        return chosen[0][2:4] if chosen else ("by no step", ())
+
+
 class Line:
     """A formula at a state, the line that it comes from, what it rests on, and what is told of it. Some are left out."""
 
-    def __init__(self, formula, state, parent, stays=False, is_written=False):
-        self.formula, self.state, self.parent, self.stays, self.is_written = formula, state, parent, stays, is_written
+    def __init__(self, formula, state, parent, move="", is_written=False):
+        self.formula, self.state, self.parent, self.move, self.is_written = formula, state, parent, move, is_written
         self.rests, self.edges, self.cuts, self.here = [], [], [], None
+
+    def rests_on_one(self):
+        return len(self.rests) == 1 and not self.cuts
 
 
 class Run:
@@ -174,8 +265,8 @@ class Run:
             names = self.passing(before.formula, before.state, left_out, (formula, state))
             self.require(names, f"no {left_out} lines that only pass on lead to {text!r}")
             for name in names:
-                parent = self.add_line(Line(name, before.state, parent, stays=True))
-        self.add_line(Line(formula, state, parent, stays=move == "stays", is_written=True))
+                parent = self.add_line(Line(name, before.state, parent, "stays"))
+        self.add_line(Line(formula, state, parent, move, is_written=True))
 
     def add_line(self, line):
         """Where the line is then; the one that it comes from rests on it."""
@@ -217,26 +308,46 @@ class Run:
             line.cuts.append(self.left(edge[1], line.state))
 
     def check_edges(self):
-        """Each leads to the line that it names, which comes from no later one, and tells a cycle where one is."""
+        """Each leads to the line that it names, which comes from no later one, and goes back to it for ever where each line from there
+        to here, this one too, rests on the next one alone."""
         first = 0
         for k, line in enumerate(self.lines):
-            first = first if line.parent == k - 1 else k
+            first = first if line.parent == k - 1 and self.lines[k - 1].rests_on_one() else k
             for move, j, is_back in line.edges:
                 self.require(0 <= j < len(self.lines) and line.rests.count(j) == 1, f"it doesn't lead to line {j + 1} once", k + 1)
                 self.require(self.moved(move, line.state) == self.lines[j].state, f"it doesn't lead to line {j + 1}", k + 1)
                 self.require(j == 0 or self.lines[j].parent < k, f"line {j + 1} comes from here", k + 1)
-                self.require(is_back == (first <= j <= k), f"it goes back to line {j + 1}, or doesn't", k + 1)
+                goes_round = line.rests_on_one() and first <= j <= k
+                self.require(is_back == goes_round, f"it goes back to line {j + 1} for ever, or doesn't", k + 1)
 
     def check_line(self, k, line):
         self.require(line.formula in self.equations.found, f"there is no formula {line.formula}", k + 1)
         rests_on = {(self.lines[j].formula, self.lines[j].state) for j in line.rests}
         follows = self.follows(line.formula, line.state, rests_on, line.cuts)
         self.require(follows, "it doesn't follow from the lines that it rests on", k + 1)
-        passes = line.stays and not line.cuts and line.rests == [k + 1] and self.lines[k + 1].parent == k and self.callers[k] == 1
+        self.check_moves(k, line)
+        passes = line.move == "stays" and not line.cuts and line.rests == [k + 1] and self.lines[k + 1].parent == k and self.callers[k] == 1
         self.require(line.is_written != passes, "it only passes on, or is left out", k + 1)
         stuck = not self.model.successors(line.state, lambda step, own: True)
-        why = "" if line.cuts else " no step can be taken" if stuck else f" the test {'holds' if self.truth else 'fails'}"
+        why = "" if line.cuts else self.reason(line.formula, stuck)
         self.require(line.here == (None if line.rests else why), "it ends in other words", k + 1)
+
+    def check_moves(self, k, line):
+        """Each move from the line is by the call on which it rests."""
+        moves = [(move, self.lines[j]) for move, j, _ in line.edges]
+        moves += [(self.lines[j].move, self.lines[j]) for j in line.rests if j and self.lines[j].parent == k]
+        calls = Calls(self.model, line.state)
+        for move, reached in moves:
+            step, own, _ = self.read_move(move)
+            told = calls.told(self.equations.found[line.formula][1], (reached.formula, reached.state))
+            self.require((step, tuple(own)) == told, f"{move!r} isn't the call on which it rests", k + 1)
+
+    def reason(self, formula, stuck):
+        """Why a line rests on no other: a test decides, unless no step can be taken and no test is asked."""
+        test = f" the test {'holds' if self.truth else 'fails'}"
+        if not stuck:
+            return test
+        return f"{test}, and no step can be taken" if asks_test(self.model, self.equations.found[formula][1]) else " no step can be taken"
 
     def check_cycles(self):
         order = {name: n for n, name in enumerate(self.equations.found)}

@@ -41,6 +41,16 @@ class Defined:
         return self.value({**self.names, **dict(zip(self.parameters, values))})
 
 
+def once(x, names):
+    """What a term stands for, which is evaluated where it is asked for."""
+    known = []
+    def value(_):
+        if not known:
+            known.append(x(names))
+        return known[0]
+    return Defined([], value, {})
+
+
 def named(word):
     def value(names):
         if word not in names:
@@ -251,6 +261,8 @@ class Model:
         def value(names):
             if word == "if":
                 return arguments[1 if arguments[0](names) else 2](names)
+            if isinstance(names.get(word), Defined):
+                return names[word](*[once(x, names) for x in arguments])
             values = [x(names) for x in arguments]
             if word not in names and word not in self.functions:
                 raise Unknown

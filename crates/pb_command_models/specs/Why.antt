@@ -47,7 +47,8 @@ use Rattle.pb_report.specs.Cuts.{cuts_of}
 use Rattle.pb_report.specs.ModuleTexts.{IsTextOfTrees}
 use Rattle.pb_evidence_words.specs.Tellable.{IsTellable}
 use Rattle.pb_evidence_words.specs.InstanceLines.{instance_lines}
-use Rattle.pb_evidence_words.specs.WhyText.{Told, why_lines}
+use Rattle.pb_evidence_words.specs.Ready.{told_of}
+use Rattle.pb_evidence_words.specs.WhyText.{Told, why_lines, with_cuts}
 use Rattle.pb_command_faults.specs.declared.solve_error.SolveError.{SolveError}
 use Rattle.pb_command_faults.specs.declared.solve_fault.SolveFault.{SolveFault}
 use Rattle.pb_command_faults.specs.declared.solve_fault.SolveFault.TheVariants as solve_fault
@@ -167,9 +168,9 @@ AreTellable parts =
 -- the text tells a verdict on the property of a name, with what is shown; with these parts of it
 abbrev pub IsToldShown : ToldVerdict → List ℕ → Shown → List ℕ → Type 0
 IsToldShown telling name shown told =
-    IsToldText telling.lines telling.always (vocabulary_of shown.vocabulary.now) name
-    telling.verdict (spec_form shown.typed.now.spec) (spec_form shown.steps.now.spec)
-    shown.verified.now shown.explanation.now.evidence told
+    IsTextOfTrees shown.verified.now (λ trees. told_text telling.always name telling.verdict
+    (explanation_lines telling.lines
+    (with_cuts (cuts_of trees shown.explanation.now.evidence) (told_of shown)))) told
 
 abbrev pub IsToldOf : ToldVerdict → Vocabulary → List ℕ → ShownParts → String Global → Type 0
 IsToldOf telling words name parts told =

@@ -108,6 +108,7 @@ fn told_in(
         steps: parts.steps,
         verified: &explained.verified,
         explanation: &explained.explanation,
+        denied: false,
     };
     told(alloc, telling, name, &shown)
 }

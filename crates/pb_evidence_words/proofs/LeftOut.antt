@@ -5,21 +5,13 @@ use Rattle.std.proofs.lemmas.Bool.{and_parts, false_from_ne_true, cases_lt, case
 use Rattle.std.proofs.Math.Bool.{or-false}
 use Rattle.std.proofs.lemmas.Bool.Decides.{Decides-eqb}
 use Rattle.std.proofs.lemmas.List.Sums.{fails_before_first, passes_at_first}
-use Rattle.std.proofs.Props.{props}
-use Rattle.std.proofs.Math.Logic.{∥∥₁_elim}
-use Rattle.std.specs.List.{find}
-use Rattle.pb_sorts.specs.Instance.{Instance}
-use Rattle.pb_typing_calls.specs.MadeCallView.{call_views}
-use Rattle.pb_typing_calls.specs.declared.made_call.MadeCall as declared_call
-use Rattle.pb_evidence_words.specs.Ready.{IsCaller}
 use Rattle.pb_game.specs.Adjacency.{is_among}
-use Rattle.pb_typing_calls.specs.MadeCalls.{calls_at}
 use Rattle.pb_evidence.specs.ProofGraphs.{Graph}
 use Rattle.pb_evidence.proofs.Proving.{test_of}
 use Rattle.pb_evidence_words.specs.Order.{has_edge, last_below, last_caller_at, leads_on, parent_at, parent_of, place_of}
 use Rattle.pb_evidence_words.specs.Passing.{EdgesLeadToWrittenLines, OriginsAreWritten}
-use Rattle.pb_evidence_words.specs.WhyText.{Told, below_text, dependencies_at, follows, from_text, is_call_of, is_cut_at, is_staying}
-use Rattle.pb_evidence_words.specs.WhyText.{is_link, line_instance, line_text, origin_at, is_left_out, stays_at, written_text}
+use Rattle.pb_evidence_words.specs.WhyText.{Told, below_text, dependencies_at, follows, from_text, is_cut_at}
+use Rattle.pb_evidence_words.specs.WhyText.{is_link, line_text, origin_at, is_left_out, stays_at, written_text}
 
 -- ---- the words of a line
 
@@ -65,13 +57,6 @@ pub one-leads : (graph : Graph) (k : ℕ) (xs : List ℕ) → length xs ≡ 1
 one-leads graph k [] one = absurd (omega arith)
 one-leads graph k (n ∷ []) one = refl
 one-leads graph k (n ∷ m ∷ xs) one = absurd (omega arith)
-
--- whether the state stays is known by a line's calls
-pub stays-said : (t : Told) (p k : ℕ) (i : Instance) (calls : List declared_call.MadeCall) → ∥ IsCaller t p i calls ∥₁ → (j : Instance) → j ≡ line_instance t k
-    → is_staying t.vocabulary (find (is_call_of j) (call_views calls)) ≡ is_staying t.vocabulary (find (is_call_of (line_instance t k)) (calls_at t.text (line_instance t p)))
-stays-said t p k i calls made j to = ∥∥₁_elim made (hlevel props) (λ is.
-    ap (λ cs. is_staying t.vocabulary (find (is_call_of j) cs)) is.calls
-    ∙ ap (λ (x : Instance). is_staying t.vocabulary (find (is_call_of x) (calls_at t.text (line_instance t p)))) to)
 
 -- the last line that rests on an instance is none before one that does
 last-above : (graph : Graph) (n m k : ℕ) → k < m → is_among (graph.dependencies (slice_index graph.instances k)) n ≡ true → k ≤ last_below graph n m

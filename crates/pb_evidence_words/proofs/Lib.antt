@@ -1,10 +1,13 @@
 pub mod LeftOut
+pub mod AskingChains
+pub mod Choosing
 pub mod Children
 pub mod Listed
 pub mod ParentRead
 pub mod Parents
 pub mod Pushed
 pub mod Reached
+pub mod Rounds
 pub mod Runs
 pub mod States
 pub mod Told

@@ -1,8 +1,9 @@
 -- What is told, piece by piece.
 use Rattle.std.proofs.Common.{◌≡◌, ℕ, ℤ, suc, ◌==◌, Bool, true, List, [], ◌∷◌, ◌++◌, flat_map, length, refl, sym, ap, ◌∙◌, subst, arith}
-use Rattle.std.specs.Prelude.{codes, if◌then◌else◌, Result, Ok, Err, OnOk}
+use Rattle.std.specs.Prelude.{codes, if◌then◌else◌, Result, Ok, Err, OnOk, IfOk, Option, None}
+use Rattle.std.specs.List.{find}
 use Rattle.std.proofs.Props.{props}
-use Rattle.std.proofs.Math.Logic.{∥∥₁_elim}
+use Rattle.std.proofs.Math.Logic.{∥∥₁_elim, ∥∥₁_map}
 use Rattle.std.proofs.lemmas.Bool.{eq-eqb, ne_eqb}
 use Rattle.pb_fixpoint_trees.specs.Tree.{Tree}
 use Rattle.pb_bytecode.specs.Contents.{Contents}
@@ -10,7 +11,9 @@ use Rattle.pb_bytecode.specs.Meaning.{AreTrees}
 use Rattle.pb_bytecode.proofs.Appending.{append_both}
 use Rattle.pb_model_words.specs.Words.{state_text}
 use Rattle.pb_sorts.specs.Instance.{Instance}
-use Rattle.pb_typing_calls.specs.MadeCalls.{calls_at}
+use Rattle.pb_text_tree.specs.declared.place.Place.{Place}
+use Rattle.pb_typing_calls.specs.Calls.{call_place}
+use Rattle.pb_typing_calls.specs.MadeCalls.{MadeCall, calls_at}
 use Rattle.pb_typing_calls.specs.declared.made_call.MadeCall as declared_call
 use Rattle.pb_typing_calls.specs.MadeCallView.{call_views}
 use Rattle.pb_game_of_trees.specs.Explored.{ModuleHasTrees}
@@ -21,8 +24,8 @@ use Rattle.pb_evidence_words.specs.declared.shown.Shown.{Shown}
 use Rattle.pb_evidence_words.specs.Lines.{HasLines}
 use Rattle.pb_evidence_words.specs.Order.{parent_at}
 use Rattle.pb_evidence_words.specs.Ready.{IsCaller, told_of}
-use Rattle.pb_evidence_words.specs.WhyText.{Told, from_text, arrival_text, line_instance, move_among, move_between, is_empty, with_cuts, cut_text, cuts_text, is_cut_at}
-use Rattle.pb_evidence_words.specs.InstanceLines.{instance_text, mark_among}
+use Rattle.pb_evidence_words.specs.WhyText.{Told, from_text, arrival_text, call_between, chosen_call, is_call_of, is_staying, line_instance, move_between, move_by, is_empty, with_cuts, cut_text, cuts_text, is_cut_at}
+use Rattle.pb_evidence_words.specs.InstanceLines.{call_mark, instance_text}
 
 pub empty-views : (calls : List declared_call.MadeCall) → is_empty (call_views calls) ≡ (length calls == 0)
 empty-views [] = sym (eq-eqb 0 0 refl)
@@ -64,17 +67,52 @@ caller-at t u k n {i} {calls} told place is =
 
 -- the move from a line whose calls are known
 pub move-said : (t : Told) (k : ℕ) (i : Instance) (calls : List declared_call.MadeCall) → ∥ IsCaller t k i calls ∥₁ → (j x : Instance) → j ≡ x
-    → move_among t.vocabulary (call_views calls) i j ≡ move_between t (line_instance t k) x
+    → move_between t i j ≡ move_between t (line_instance t k) x
 move-said t k i calls made j x to = ∥∥₁_elim made (hlevel props) (λ is.
-    ap (λ cs. move_among t.vocabulary cs i j) is.calls
-    ∙ (ap (λ from. move_among t.vocabulary (calls_at t.text (line_instance t k)) from j) is.instance
-    ∙ ap (λ y. move_between t (line_instance t k) y) to))
+    ap (λ from. move_between t from j) is.instance ∙ ap (λ y. move_between t (line_instance t k) y) to)
 
 -- the mark of the step to an instance
 pub mark-said : (t : Told) (k : ℕ) (i : Instance) (calls : List declared_call.MadeCall) → ∥ IsCaller t k i calls ∥₁ → (j x : Instance) → j ≡ x
-    → mark_among t.vocabulary (call_views calls) j ≡ mark_among t.vocabulary (calls_at t.text (line_instance t k)) x
+    → call_mark t.vocabulary (call_between t i j) ≡ call_mark t.vocabulary (call_between t (line_instance t k) x)
 mark-said t k i calls made j x to = ∥∥₁_elim made (hlevel props) (λ is.
-    ap (λ cs. mark_among t.vocabulary cs j) is.calls ∙ ap (λ y. mark_among t.vocabulary (calls_at t.text (line_instance t k)) y) to)
+    ap (λ from. call_mark t.vocabulary (call_between t from j)) is.instance ∙ ap (λ y. call_mark t.vocabulary (call_between t (line_instance t k) y)) to)
+
+-- whether the state stays
+pub stays-said : (t : Told) (p k : ℕ) (i : Instance) (calls : List declared_call.MadeCall) → ∥ IsCaller t p i calls ∥₁ → (j : Instance) → j ≡ line_instance t k
+    → is_staying t.vocabulary (call_between t i j) ≡ is_staying t.vocabulary (call_between t (line_instance t p) (line_instance t k))
+stays-said t p k i calls made j to = ∥∥₁_elim made (hlevel props) (λ is.
+    ap (λ from. is_staying t.vocabulary (call_between t from j)) is.instance ∙ ap (λ y. is_staying t.vocabulary (call_between t (line_instance t p) y)) to)
+
+-- the calls of a line are those of its instance
+calls-here : (t : Told) (k : ℕ) (i : Instance) (calls : List declared_call.MadeCall) → IsCaller t k i calls → call_views calls ≡ calls_at t.text i
+calls-here t k i calls is = is.calls ∙ ap (λ (x : Instance). calls_at t.text x) (sym is.instance)
+
+-- by the place that is told the call is chosen that is told
+pub chosen-said : (t : Told) (k : ℕ) (i : Instance) (calls : List declared_call.MadeCall) → ∥ IsCaller t k i calls ∥₁ → (o : Option Place) (j : Instance)
+    → ∥ o ≡ call_place t.text i j ∥₁ → ∥ chosen_call o (call_views calls) j ≡ call_between t i j ∥₁
+chosen-said t k i calls made o j at = ∥∥₁_elim made (hlevel props) (λ is. ∥∥₁_map at (λ same.
+    ap (λ p. chosen_call p (call_views calls) j) same ∙ ap (λ cs. chosen_call (call_place t.text i j) cs j) (calls-here t k i calls is)))
+
+-- and by none, where the place doesn't matter
+pub any-said : (t : Told) (k : ℕ) (i : Instance) (calls : List declared_call.MadeCall) → ∥ IsCaller t k i calls ∥₁ → (j : Instance)
+    → ((o : Option Place) → chosen_call o (call_views calls) j ≡ find (is_call_of j) (call_views calls))
+    → ∥ chosen_call None (call_views calls) j ≡ call_between t i j ∥₁
+any-said t k i calls made j any = ∥∥₁_map made (λ is.
+    sym (any (call_place t.text i j)) ∙ ap (λ cs. chosen_call (call_place t.text i j) cs j) (calls-here t k i calls is))
+
+pub if-ok : {A E : Type 0} (r : Result A E) (P Q : A → Type 0) → ((x : A) → P x → Q x) → IfOk r P → IfOk r Q
+if-ok (Ok x) P Q each is = each x is
+if-ok (Err e) P Q each is = tt
+
+-- what is told by a call that is told
+pub move-by-said : (t : Told) (i j : Instance) (o : Option MadeCall) → ∥ o ≡ call_between t i j ∥₁ → move_by t.vocabulary i j o ≡ move_between t i j
+move-by-said t i j o is = ∥∥₁_elim is (hlevel props) (λ same. ap (move_by t.vocabulary i j) same)
+
+pub mark-by-said : (t : Told) (i j : Instance) (o : Option MadeCall) → ∥ o ≡ call_between t i j ∥₁ → call_mark t.vocabulary o ≡ call_mark t.vocabulary (call_between t i j)
+mark-by-said t i j o is = ∥∥₁_elim is (hlevel props) (λ same. ap (call_mark t.vocabulary) same)
+
+pub staying-said : (t : Told) (i j : Instance) (o : Option MadeCall) → ∥ o ≡ call_between t i j ∥₁ → is_staying t.vocabulary o ≡ is_staying t.vocabulary (call_between t i j)
+staying-said t i j o is = ∥∥₁_elim is (hlevel props) (λ same. ap (is_staying t.vocabulary) same)
 
 -- the instance of a line by its name
 pub instance-said : (t : Told) (k : ℕ) (i : Instance) (calls : List declared_call.MadeCall) → ∥ IsCaller t k i calls ∥₁

@@ -5,14 +5,14 @@
 --     instance = FORMULA [ "(" VALUE { "," VALUE } ")" ]
 --     mark     = "@" STEP [ "(" VALUE { "," VALUE } ")" ]
 use Rattle.std.specs.Prelude.{ℕ, List, [], ◌++◌, codes, flat_map, length, Option, Some, None}
-use Rattle.std.specs.List.{find, range_with_len}
+use Rattle.std.specs.List.{range_with_len}
 use Rattle.pb_sorts.specs.Instance.{Instance}
 use Rattle.pb_model_words.specs.Vocabulary.{Vocabulary}
 use Rattle.pb_model_words.specs.Words.{values_text, mark_text}
-use Rattle.pb_typing_calls.specs.MadeCalls.{MadeCall, calls_at}
+use Rattle.pb_typing_calls.specs.MadeCalls.{MadeCall}
 use Rattle.pb_report.specs.EvidenceText.{line_tail}
-use Rattle.pb_evidence_words.specs.WhyText.{Told, dependencies_at, formula_text, shown_instance, is_call_of}
-use Rattle.pb_evidence_words.specs.WhyText.{is_cut_at, line_instance}
+use Rattle.pb_evidence_words.specs.WhyText.{Told, call_between, dependencies_at, formula_text}
+use Rattle.pb_evidence_words.specs.WhyText.{is_cut_at, line_instance, shown_instance}
 
 -- an equation's name with the values of a state
 abbrev pub instance_text : Told → Instance → List ℕ
@@ -23,15 +23,11 @@ abbrev pub call_mark : Vocabulary → Option MadeCall → List ℕ
 call_mark m None = []
 call_mark m (Some c) = mark_text m c.place c.own
 
--- that of the first of these calls that names an instance
-abbrev pub mark_among : Vocabulary → List MadeCall → Instance → List ℕ
-mark_among m calls j = call_mark m (find (is_call_of j) calls)
-
 -- the instance n, come to from another one
 abbrev pub told_dependency : Told → Instance → ℕ → List ℕ
 told_dependency t i n =
     codes " " ++ (instance_text t (shown_instance t n)
-    ++ mark_among t.vocabulary (calls_at t.text i) (shown_instance t n))
+    ++ call_mark t.vocabulary (call_between t i (shown_instance t n)))
 
 -- what the line at k rests on
 abbrev pub told_dependencies : Told → ℕ → List ℕ

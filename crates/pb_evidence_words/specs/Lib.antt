@@ -1,5 +1,6 @@
 pub mod Order
 pub mod Lines
+pub mod Asking
 pub mod WhyText
 pub mod Passing
 pub mod InstanceLines

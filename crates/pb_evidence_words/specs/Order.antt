@@ -1,7 +1,7 @@
 -- The lines of evidence, one for each of its instances: where they stand, and which line each comes
 -- from.
 use Rattle.std.specs.Prelude.{ℕ, zero, suc, ◌==◌, nat_le, Bool, false, not, ◌&&◌, ◌||◌}
-use Rattle.std.specs.Prelude.{if◌then◌else◌, List, [], ◌∷◌, length, slice_index}
+use Rattle.std.specs.Prelude.{if◌then◌else◌, List, [], ◌∷◌, length, slice_index, slice_index_or}
 use Rattle.std.specs.List.{position_or_len}
 use Rattle.pb_game.specs.Adjacency.{is_among}
 use Rattle.pb_evidence.specs.ProofGraphs.{Graph}
@@ -30,15 +30,30 @@ abbrev pub last_caller_at : Graph → ℕ → ℕ
 last_caller_at graph k =
     last_below graph (slice_index graph.instances k) (length graph.instances)
 
+-- the line at a place rests on one instance, and on no cut call, as is said of each line
+abbrev pub rests_on_one : Graph → List Bool → ℕ → Bool
+rests_on_one graph cuts k =
+    not (slice_index_or cuts k false)
+    && (length (graph.dependencies (slice_index graph.instances k)) == 1)
+
+-- the line that the line at a place comes from, where that rests on it alone; else no line's place
+abbrev pub sole_parent_at : Graph → List Bool → ℕ → ℕ
+sole_parent_at graph cuts k =
+    if rests_on_one graph cuts (parent_at graph k) then parent_at graph k
+    else length graph.instances
+
 -- Lines that come each from the one before are a run. This is the place of the first line of the
--- longest run that ends at a place, each line's parent being given.
+-- longest run that ends at a place, the line being given that each comes from.
 abbrev pub run_start : (ℕ → ℕ) → ℕ → ℕ
 run_start parent zero = 0
 run_start parent (suc k) = if parent (suc k) == k then run_start parent k else suc k
 
--- a run leads from the line at j, which isn't behind, to the one at k
-abbrev pub leads_back : Graph → ℕ → ℕ → Bool
-leads_back graph k j = nat_le j k && nat_le (run_start (parent_at graph) k) j
+-- From the line at j, which isn't behind, to the one at k each rests on the next one alone, and the
+-- one at k on one alone too: where that is j's, the truth of all of them rests on going round.
+abbrev pub leads_back : Graph → List Bool → ℕ → ℕ → Bool
+leads_back graph cuts k j =
+    rests_on_one graph cuts k
+    && (nat_le j k && nat_le (run_start (sole_parent_at graph cuts) k) j)
 
 -- An instance that a line rests on has an edge below the line where it is the first line's, or
 -- where its line comes from another one.

@@ -1,8 +1,9 @@
 -- How lines are come to, by way of those that pass on.
-use Rattle.std.specs.Prelude.{◌≡◌, ℕ, ◌<◌, true, false, [], length, slice_index, Contains}
+use Rattle.std.specs.Prelude.{◌≡◌, ℕ, suc, ◌<◌, ◌≤◌, Bool, true, false, List, [], ◌∷◌, length}
+use Rattle.std.specs.Prelude.{slice_index, Contains}
 use Rattle.pb_evidence_words.specs.declared.passing.Arrival.{Arrival}
 use Rattle.pb_evidence.specs.ProofGraphs.{Graph}
-use Rattle.pb_evidence_words.specs.Order.{has_edge, parent_at, place_of}
+use Rattle.pb_evidence_words.specs.Order.{has_edge, leads_back, parent_at, place_of}
 use Rattle.pb_evidence_words.specs.WhyText.{Told, below_text, dependencies_at, origin_at, is_left_out}
 use Rattle.pb_evidence_words.specs.WhyText.{follows}
 
@@ -37,3 +38,13 @@ abbrev pub OriginsAreWritten : Type 0
 OriginsAreWritten =
     (t : Told) (k : ℕ) → IsListing t.graph → k < length t.graph.instances
     → is_left_out t (origin_at t k) ≡ false
+
+-- ---- what goes round
+
+-- Where lines are told to go round for ever, each rests on the next one alone.
+abbrev pub LinesGoRound : Type 0
+LinesGoRound =
+    (graph : Graph) (cuts : List Bool) (j k : ℕ) → k < length graph.instances
+    → leads_back graph cuts k j ≡ true → (m : ℕ) → j ≤ m → m < k
+    → graph.dependencies (slice_index graph.instances m)
+    ≡ slice_index graph.instances (suc m) ∷ []

@@ -1,5 +1,6 @@
 -- What is shown, as it is told, and what has to be known of it before it is.
-use Rattle.std.specs.Prelude.{◌≡◌, ℕ, ◌<◌, true, List, length, slice_index, Option, Some, None}
+use Rattle.std.specs.Prelude.{◌≡◌, ℕ, ◌<◌, Bool, true, not, if◌then◌else◌}
+use Rattle.std.specs.Prelude.{List, length, slice_index, Option, Some, None}
 use Rattle.std.specs.Borrow.{Bor}
 use Rattle.pb_text_tree.specs.Form.{spec_form}
 use Rattle.pb_model_words.specs.View.{vocabulary_of}
@@ -17,13 +18,17 @@ use Rattle.pb_evidence_words.specs.declared.lines.Lines.{Lines}
 use Rattle.pb_evidence_words.specs.Lines.{HasLines, AreLinesOf}
 use Rattle.pb_evidence_words.specs.WhyText.{Told, line_instance}
 
+-- the truth value of a property's instances by that of evidence, which may be its negation's
+abbrev pub truth_told : Bool → Bool → Bool
+truth_told denied truth = if denied then not truth else truth
+
 abbrev pub told_of : Shown → Told
 told_of s = record {
   vocabulary = vocabulary_of s.vocabulary.now;
   text = spec_form s.typed.now.spec;
   steps = spec_form s.steps.now.spec;
   layout = parameters s.verified.now;
-  truth = s.explanation.now.evidence.truth;
+  truth = truth_told s.denied s.explanation.now.evidence.truth;
   graph = graph_of s.explanation.now.evidence;
   cuts = s.explanation.now.cuts.items;
 }
@@ -45,7 +50,7 @@ pub record IsReady (s : Shown) (calls steps : CallPlaces) (lines : Lines) : Type
       → is_instance (carriers_of (layout_of steps)) (record { equation = 0; values = i.values })
       ≡ true
   pub evidence : HasLines s.explanation.now.evidence
-  pub ordered : AreLinesOf (graph_of s.explanation.now.evidence) lines
+  pub ordered : AreLinesOf (graph_of s.explanation.now.evidence) s.explanation.now.cuts.items lines
   pub below : (k : ℕ) → k < length (numbers_of s)
       → slice_index (numbers_of s) k < count_of (parameters s.verified.now)
 

@@ -7,6 +7,8 @@
 --     edge  = "  " move ( ", back to line " NUMBER ", for ever" | ", to line " NUMBER ) NEWLINE
 --     cut   = "  " move ", outside the ranges" NEWLINE
 --     here  = "  here" [ reason ] ": " state NEWLINE
+--     reason = test [ ", and no step can be taken" ] | " no step can be taken"
+--     test   = " the test holds" | " the test fails"
 --
 -- A line that only passes on to another fixpoint in the same state is left out, and its number with
 -- it: the next line takes its place.
@@ -16,21 +18,25 @@ use Rattle.std.specs.Prelude.{codes, decimal, Option, Some, None, is_some, unwra
 use Rattle.std.specs.List.{find, range_with_len, slice_get}
 use Rattle.std.specs.Cmp.Lexicographic.{pointwise}
 use Rattle.std.specs.Ordering.{int_eq}
+use Rattle.pb_text_tree.specs.declared.place.Place.{Place}
 use Rattle.pb_text_tree.specs.Form.{EquationForm, SpecForm}
 use Rattle.pb_sorts.specs.declared.carrier.Carrier.{Carrier}
 use Rattle.pb_sorts.specs.Instance.{Instance, is_instance}
 use Rattle.pb_sorts.specs.Layout.{carriers_of}
 use Rattle.pb_model_words.specs.Vocabulary.{Vocabulary}
 use Rattle.pb_model_words.specs.Words.{state_text, move_text, changes_text, step_at}
+use Rattle.pb_typing_calls.specs.Calls.{call_place, same_place}
 use Rattle.pb_typing_calls.specs.MadeCalls.{MadeCall, calls_at}
 use Rattle.pb_evidence.specs.ProofGraphs.{Graph}
 use Rattle.pb_evidence_places.specs.CallPlaces.{instance_numbered}
 use Rattle.pb_evidence_words.specs.Order.{place_of, parent_at, last_caller_at, leads_back}
 use Rattle.pb_evidence_words.specs.Order.{leads_on, has_edge}
+use Rattle.pb_evidence_words.specs.Asking.{equation_asks}
 
 -- What is told: the words of the model, the text of its property and the one of its every step, the
--- layout of the property's instances, and evidence for a truth value, with which of its lines rest
--- on a cut call.
+-- layout of the property's instances, their truth value, and evidence for it, with which of its
+-- lines rest on a cut call. Where a verdict is shown by the negation, text, layout and evidence are
+-- those of the negation, and the truth value is the property's.
 pub record Told : Type 0 where
   pub vocabulary : Vocabulary
   pub text : SpecForm
@@ -72,18 +78,32 @@ is_same_instance i j = (i.equation == j.equation) && pointwise int_eq i.values j
 abbrev pub is_call_of : Instance → MadeCall → Bool
 is_call_of j c = is_same_instance c.instance j
 
+abbrev pub is_call_at : Place → Instance → MadeCall → Bool
+is_call_at p j c = same_place c.place p && is_call_of j c
+
+abbrev pub call_or : Option MadeCall → Option MadeCall → Option MadeCall
+call_or None other = other
+call_or (Some c) other = Some c
+
+-- Of the calls that name an instance the first one at a place; where none stands there, as where
+-- several tests together decide, the first of all
+abbrev pub chosen_call : Option Place → List MadeCall → Instance → Option MadeCall
+chosen_call None calls j = find (is_call_of j) calls
+chosen_call (Some p) calls j = call_or (find (is_call_at p j) calls) (find (is_call_of j) calls)
+
+-- The call by which an instance names another one: at the place that `explain --places` tells. None
+-- is told that stands beside a test that decides.
+abbrev pub call_between : Told → Instance → Instance → Option MadeCall
+call_between t i j = chosen_call (call_place t.text i j) (calls_at t.text i) j
+
 -- by a call; where none is made, which is so where data is tested behind it, by no step
 abbrev pub move_by : Vocabulary → Instance → Instance → Option MadeCall → List ℕ
 move_by m i j None = codes "by no step" ++ changes_text m i.values j.values
 move_by m i j (Some c) = move_text m c.place c.own i.values c.instance.values
 
--- the move of the first of these calls that names an instance
-abbrev pub move_among : Vocabulary → List MadeCall → Instance → Instance → List ℕ
-move_among m calls i j = move_by m i j (find (is_call_of j) calls)
-
 -- the move by which an instance goes over to another
 abbrev pub move_between : Told → Instance → Instance → List ℕ
-move_between t i j = move_among t.vocabulary (calls_at t.text i) i j
+move_between t i j = move_by t.vocabulary i j (call_between t i j)
 
 abbrev pub dependencies_at : Told → ℕ → List ℕ
 dependencies_at t k = t.graph.dependencies (slice_index t.graph.instances k)
@@ -101,8 +121,8 @@ is_staying m (Some c) = not (is_some (step_at m c.place))
 -- the state stays where the line at k is come to
 abbrev pub stays_at : Told → ℕ → Bool
 stays_at t k =
-    is_staying t.vocabulary (find (is_call_of (line_instance t k))
-    (calls_at t.text (line_instance t (parent_at t.graph k))))
+    is_staying t.vocabulary
+    (call_between t (line_instance t (parent_at t.graph k)) (line_instance t k))
 
 -- One line alone rests on the one at k, and this on the next line alone, which comes from it.
 abbrev pub is_link : Told → ℕ → Bool
@@ -147,10 +167,10 @@ line_text t k =
 
 -- ---- what stands below the line at k
 
--- to the line at j: back, where that makes a cycle
+-- to the line at j: back, where the lines from there go round, each resting on the next one alone
 abbrev pub target_text : Told → ℕ → ℕ → List ℕ
 target_text t k j =
-    if leads_back t.graph k j
+    if leads_back t.graph t.cuts k j
     then codes ", back to line " ++ (decimal (j + 1) ++ codes ", for ever\n")
     else codes ", to line " ++ (decimal (j + 1) ++ codes "\n")
 
@@ -180,12 +200,26 @@ cuts_text t k =
 abbrev pub is_stuck : Told → Instance → Bool
 is_stuck t i = is_empty (calls_at t.steps (record { equation = 0; values = i.values }))
 
+-- whether the right side of an instance's equation asks a test, beside the guards of steps
+abbrev pub asks_at : Told → Instance → Bool
+asks_at t i = equation_asks t.vocabulary (slice_get t.text.equations i.equation)
+
+-- the test that decides; that a step can be taken may be one
+abbrev pub test_text : Bool → List ℕ
+test_text truth = if truth then codes " the test holds" else codes " the test fails"
+
+-- why nothing is called where no step can be taken: where nothing else is asked, for that alone
+abbrev pub stuck_text : Bool → Bool → List ℕ
+stuck_text asks truth =
+    if asks then test_text truth ++ codes ", and no step can be taken"
+    else codes " no step can be taken"
+
 -- why a line rests on no other
 abbrev pub reason_text : Told → ℕ → List ℕ
 reason_text t k =
     if is_cut_at t k then [] else
-    (if is_stuck t (line_instance t k) then codes " no step can be taken" else
-    (if t.truth then codes " the test holds" else codes " the test fails"))
+    (if is_stuck t (line_instance t k) then stuck_text (asks_at t (line_instance t k)) t.truth
+    else test_text t.truth)
 
 abbrev pub here_text : Told → ℕ → List ℕ
 here_text t k =

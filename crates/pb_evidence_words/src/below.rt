@@ -10,11 +10,14 @@ ghost use Rattle.pb_sorts.specs.Instance.{instance_of, is_instance};
 ghost use Rattle.pb_sorts.specs.Layout.{carriers_of};
 ghost use Rattle.pb_bytecode.specs.Meaning.{parameters};
 ghost use Rattle.pb_evidence_words.specs.Ready.{told_of};
-ghost use Rattle.pb_evidence_words.specs.WhyText.{cut_text, is_cut_at};
+ghost use Rattle.pb_evidence_words.specs.WhyText.{asks_at, cut_text, is_cut_at, stuck_text};
+ghost use Rattle.pb_evidence_words.specs.WhyText.{test_text};
 
+use crate::asking::asks_test;
 use crate::caller::Caller;
 use crate::dependency::Dependency;
 use crate::line::Line;
+use crate::lines::rests_on_one;
 use crate::numbers::push_line_number;
 use crate::passing::Arrival;
 use crate::telling::Telling;
@@ -65,7 +68,42 @@ fn push_on(alloc: Global, text: &mut String, line: usize) -> Result<(), AllocErr
     text.push_str("\n")
 }
 
+/// The test that decides.
+fn push_test(text: &mut String, truth: bool) -> Result<(), AllocError>
+    ensures { OnOk result
+        (string_bytes text.new ≡ string_bytes text.old ++ test_text truth) }
+{
+    if truth {
+        text.push_str(" the test holds")
+    } else {
+        text.push_str(" the test fails")
+    }
+}
+
+/// Why nothing is called where no step can be taken.
+fn push_stuck(text: &mut String, asks: bool, truth: bool) -> Result<(), AllocError>
+    ensures { OnOk result
+        (string_bytes text.new ≡ string_bytes text.old ++ stuck_text asks truth) }
+{
+    if !asks {
+        return text.push_str(" no step can be taken");
+    }
+    push_test(text, truth)?;
+    text.push_str(", and no step can be taken")
+}
+
 impl Telling<'_> {
+    /// Whether the right side of the instance's equation asks a test, beside the guards of steps.
+    fn asks(&self, instance: &Instance) -> bool
+        ensures { result ≡ asks_at (told_of self.now.shown.now) (instance_of instance.now) }
+    {
+        let equations = &self.shown.typed.spec.equations;
+        match equations.get(usize::from(instance.equation)) {
+            Some(equation) => asks_test(self.shown.vocabulary, &equation.right),
+            None => true,
+        }
+    }
+
     /// Whether a call names an instance of the layout.
     fn is_inside(&self, call: &MadeCall) -> bool
         ensures { result ≡ is_instance (carriers_of (parameters self.now.shown.now.verified.now))
@@ -136,7 +174,7 @@ impl Dependency<'_> {
         }
         let called = telling.instance(self.number);
         text.push_str("  ")?;
-        telling.push_move_to(text, self.caller, &called)?;
+        self.caller.push_move_to(text, &called)?;
         line.push_target(text, target)
     }
 }
@@ -180,11 +218,18 @@ impl Line<'_> {
     ghost use Rattle.pb_evidence_words.specs.Order.{leads_back};
     ghost use Rattle.pb_evidence_words.specs.Passing.{IsArrival};
     ghost use Rattle.pb_evidence_words.specs.WhyText.{below_text, end_text, here_text};
+    ghost use Rattle.pb_evidence_words.specs.WhyText.{line_instance};
     ghost use Rattle.pb_evidence_words.specs.WhyText.{reason_text, target_text, written_text};
 
+    /// Whether the lines from a target to this one go round, where this one leads to the target.
     fn leads_back(&self, target: usize) -> bool
-        ensures { result ≡ leads_back (told_by self.now).graph self.now.number target }
+        ensures { result ≡ leads_back (told_by self.now).graph (told_by self.now).cuts
+            self.now.number target }
     {
+        let explanation = self.telling.shown.explanation;
+        if !rests_on_one(&explanation.evidence, &explanation.cuts, self.number) {
+            return false;
+        }
         target <= self.number && self.telling.lines.starts[self.number] <= target
     }
 
@@ -199,6 +244,15 @@ impl Line<'_> {
         }
     }
 
+    /// Whether the right side of the line's equation asks a test, beside the guards of steps.
+    fn asks(&self) -> bool
+        ensures { result ≡ asks_at (told_by self.now)
+            (line_instance (told_by self.now) self.now.number) }
+    {
+        let instance = self.instance();
+        self.telling.asks(&instance)
+    }
+
     /// Why the line rests on no other.
     fn push_reason(&self, text: &mut String) -> Result<(), AllocError>
         ensures { OnOk result (string_bytes text.new ≡ string_bytes text.old
@@ -207,13 +261,11 @@ impl Line<'_> {
         if self.telling.is_cut(self.number) {
             return Ok(());
         }
+        let truth = self.telling.shown.truth();
         if self.is_stuck()? {
-            return text.push_str(" no step can be taken");
-        }
-        if self.telling.shown.explanation.evidence.truth {
-            text.push_str(" the test holds")
+            push_stuck(text, self.asks(), truth)
         } else {
-            text.push_str(" the test fails")
+            push_test(text, truth)
         }
     }
 

@@ -2,20 +2,17 @@
 //! programs that read evidence.
 
 ghost use Rattle.std.specs.Prelude.{◌≡◌, ◌++◌, OnOk, string_bytes};
-ghost use Rattle.pb_typing_calls.specs.MadeCallView.{call_views};
 ghost use Rattle.pb_report.specs.EvidenceText.{cut_mark, truth_mark};
 ghost use Rattle.pb_sorts.specs.Instance.{instance_of};
 ghost use Rattle.pb_model_words.specs.View.{vocabulary_of};
 ghost use Rattle.pb_evidence_words.specs.InstanceLines.{call_mark, told_dependencies, told_dependency};
 ghost use Rattle.pb_evidence_words.specs.InstanceLines.{instance_line, instance_lines, instance_text};
-ghost use Rattle.pb_evidence_words.specs.InstanceLines.{mark_among};
 ghost use Rattle.pb_evidence_words.specs.Ready.{call_said, told_of};
 ghost use Rattle.pb_evidence_words.specs.WhyText.{line_instance};
 
 use crate::caller::Caller;
 use crate::dependency::Dependency;
 use crate::line::Line;
-use crate::moves::first_call;
 use crate::telling::Telling;
 use pb_model_words::{push_step_mark, push_values};
 use pb_sorts::Instance;
@@ -65,20 +62,6 @@ impl Telling<'_> {
         }
     }
 
-    /// The step of the first call that names an instance.
-    fn push_mark_to(
-        &self,
-        text: &mut String,
-        caller: &Caller,
-        called: &Instance,
-    ) -> Result<(), AllocError>
-        ensures { OnOk result (string_bytes text.new ≡ string_bytes text.old
-            ++ mark_among (vocabulary_of self.now.shown.now.vocabulary.now)
-            (call_views caller.now.calls.items) (instance_of called.now)) }
-    {
-        self.push_call_mark(text, first_call(&caller.calls, called))
-    }
-
     /// Puts the lines of all instances behind a text.
     pub(crate) fn push_instance_lines(&self, text: &mut String) -> Result<(), AllocError>
         ensures { OnOk result (string_bytes text.new ≡ string_bytes text.old
@@ -110,7 +93,8 @@ impl Dependency<'_> {
         let called = telling.instance(self.number);
         text.push_str(" ")?;
         telling.push_instance(text, &called)?;
-        telling.push_mark_to(text, self.caller, &called)
+        let call = self.caller.call_to(&called)?;
+        telling.push_call_mark(text, call)
     }
 }
 
@@ -143,7 +127,7 @@ impl Line<'_> {
         let telling = self.telling;
         let caller = self.caller()?;
         telling.push_instance(text, &caller.instance)?;
-        push_truth(text, telling.shown.explanation.evidence.truth)?;
+        push_truth(text, telling.shown.truth())?;
         caller.push_dependencies(text)?;
         push_cut_mark(text, telling.is_cut(self.number))?;
         text.push_str("\n")

@@ -6,8 +6,9 @@
 #![tactic(auto)]
 
 ghost use Rattle.pb_evidence_words.specs.Passing.{EdgesLeadToWrittenLines, NothingIsBelow};
-ghost use Rattle.pb_evidence_words.specs.Passing.{OriginsAreWritten};
+ghost use Rattle.pb_evidence_words.specs.Passing.{LinesGoRound, OriginsAreWritten};
 
+mod asking;
 mod below;
 mod caller;
 mod dependency;
@@ -29,4 +30,9 @@ pub fn lines_that_are_left_out()
     ensures below { NothingIsBelow }
     ensures edges { EdgesLeadToWrittenLines }
     ensures origins { OriginsAreWritten }
+{}
+
+/// Where lines are told to go round for ever, each rests on the next one alone.
+pub fn lines_that_go_round()
+    ensures { LinesGoRound }
 {}

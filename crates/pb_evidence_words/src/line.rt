@@ -148,7 +148,7 @@ impl<'t> Line<'t> {
         }
         text.push_str(" ")?;
         self.push_from(text, arrival)?;
-        telling.push_move_to(text, parent, &instance)?;
+        parent.push_move_to(text, &instance)?;
         text.push_str("\n")
     }
 }

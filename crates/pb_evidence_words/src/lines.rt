@@ -1,19 +1,20 @@
 //! The lines of evidence: where an instance's line stands, and which line each comes from. Both are
 //! looked up in tables, so that writing all lines takes time linear in what they say.
 
-ghost use Rattle.std.specs.Prelude.{◌≡◌, ◌≢◌, ◌<◌, ℕ, IfOk, length, nat_eq, slice_index, unwrap_or};
-ghost use Rattle.std.specs.Prelude.{if◌then◌else◌};
+ghost use Rattle.std.specs.Prelude.{◌≡◌, ◌≢◌, ◌<◌, ◌≤◌, ℕ, IfOk, if◌then◌else◌, length, nat_eq};
+ghost use Rattle.std.specs.Prelude.{slice_index, unwrap_or};
 ghost use Rattle.std.specs.HashMap.{get};
 ghost use Rattle.pb_evidence.specs.Evidence.{graph_of};
 ghost use Rattle.pb_evidence_words.specs.Lines.{AreLinesOf, ArePlaces, HasLines};
-ghost use Rattle.pb_evidence_words.specs.Order.{run_start};
+ghost use Rattle.pb_evidence_words.specs.Order.{parent_at, rests_on_one, run_start, sole_parent_at};
 
 use pb_evidence::Evidence;
 use std::alloc::{AllocError, Global};
 use std::collections::HashMap;
 
 /// For each instance the place of its line, and for each line the first and the last line that rest
-/// on its instance, and where the longest run of lines that ends with it begins.
+/// on its instance, and where the longest run of lines that ends with it begins, on which each
+/// rests on the next one alone.
 #[derive(Drop)]
 pub(crate) struct Lines {
     pub places: HashMap<u32, usize>,
@@ -42,6 +43,19 @@ pub(crate) fn place_in(places: &HashMap<u32, usize>, number: u32) -> usize
     places.get(&number).copied().unwrap_or(0)
 }
 
+/// Whether a line rests on one instance alone, and on no cut call.
+pub(crate) fn rests_on_one(evidence: &Evidence, cuts: &[bool], line: usize) -> bool
+    requires lines { HasLines evidence.now }
+    requires line { line < length evidence.now.instances.items }
+    ensures { result ≡ rests_on_one (graph_of evidence.now) cuts.now line }
+{
+    let is_cut = match cuts.get(line) {
+        Some(cut) => *cut,
+        None => false,
+    };
+    !is_cut && evidence.dependencies(line).len() == 1
+}
+
 /// Evidence, with the place of each instance's line.
 #[derive(Clone, Copy)]
 struct IndexedEvidence<'e> {
@@ -53,7 +67,7 @@ struct IndexedEvidence<'e> {
 
 impl IndexedEvidence<'_> {
     ghost use Rattle.pb_game.specs.Adjacency.{is_among, row};
-    ghost use Rattle.pb_evidence_words.specs.Order.{last_caller_at, parent_at};
+    ghost use Rattle.pb_evidence_words.specs.Order.{last_caller_at};
 
     /// Lets the lines of all instances that a line rests on come from that line.
     fn take_children(&self, line: usize, parents: &mut [usize])
@@ -108,6 +122,57 @@ impl IndexedEvidence<'_> {
     }
 }
 
+/// A line where it rests on one instance alone, else no line's place.
+fn if_sole(evidence: &Evidence, cuts: &[bool], parent: usize) -> usize
+    requires lines { HasLines evidence.now }
+    requires parent { parent ≤ length evidence.now.instances.items }
+    ensures { result ≡ (if rests_on_one (graph_of evidence.now) cuts.now parent then parent
+        else length evidence.now.instances.items) }
+{
+    let count = evidence.instances.len();
+    if parent < count && rests_on_one(evidence, cuts, parent) {
+        parent
+    } else {
+        count
+    }
+}
+
+/// The line that another one comes from, where that rests on it alone, else no line's place.
+fn sole_parent(evidence: &Evidence, cuts: &[bool], parents: &[usize], line: usize) -> usize
+    requires lines { HasLines evidence.now }
+    requires line { line < length evidence.now.instances.items }
+    requires sized { length parents.now ≡ length evidence.now.instances.items }
+    requires parents { (k : ℕ) → k < length evidence.now.instances.items
+        → slice_index parents.now k ≡ parent_at (graph_of evidence.now) k }
+    ensures { result ≡ sole_parent_at (graph_of evidence.now) cuts.now line }
+{
+    if_sole(evidence, cuts, parents[line])
+}
+
+/// Of each line the one that it comes from, where that rests on it alone.
+fn sole_parents(
+    alloc: Global,
+    evidence: &Evidence,
+    cuts: &[bool],
+    parents: &[usize],
+) -> Result<Vec<usize>, AllocError>
+    requires lines { HasLines evidence.now }
+    requires sized { length parents.now ≡ length evidence.now.instances.items }
+    requires parents { (k : ℕ) → k < length evidence.now.instances.items
+        → slice_index parents.now k ≡ parent_at (graph_of evidence.now) k }
+    ensures sized { IfOk result (λ sole. length sole.items
+        ≡ length evidence.now.instances.items) }
+    ensures sole { IfOk result (λ sole. (k : ℕ) → k < length evidence.now.instances.items
+        → slice_index sole.items k ≡ sole_parent_at (graph_of evidence.now) cuts.now k) }
+{
+    let mut sole = Vec::with_capacity(alloc, parents.len())?;
+    for line in 0..parents.len() {
+        let parent = sole_parent(evidence, cuts, parents, line);
+        sole.push(parent)?;
+    }
+    Ok(sole)
+}
+
 /// Where the longest run that ends with a line begins, those of the lines before being known.
 fn start_of(parents: &[usize], starts: &[usize], line: usize) -> usize
     requires line { line < length parents.now }
@@ -138,10 +203,14 @@ fn starts_of(alloc: Global, parents: &[usize]) -> Result<Vec<usize>, AllocError>
 }
 
 impl Lines {
-    /// The lines of evidence.
-    pub(crate) fn new(alloc: Global, evidence: &Evidence) -> Result<Lines, AllocError>
+    /// The lines of evidence, of which these rest on a cut call.
+    pub(crate) fn new(
+        alloc: Global,
+        evidence: &Evidence,
+        cuts: &[bool],
+    ) -> Result<Lines, AllocError>
         requires { HasLines evidence.now }
-        ensures { IfOk result (λ lines. AreLinesOf (graph_of evidence.now) lines) }
+        ensures { IfOk result (λ lines. AreLinesOf (graph_of evidence.now) cuts.now lines) }
     {
         let places = places_of(alloc, &evidence.instances)?;
         let indexed = IndexedEvidence {
@@ -150,7 +219,8 @@ impl Lines {
         };
         let parents = indexed.parents(alloc)?;
         let lasts = indexed.lasts(alloc)?;
-        let starts = starts_of(alloc, &parents)?;
+        let sole = sole_parents(alloc, evidence, cuts, &parents)?;
+        let starts = starts_of(alloc, &sole)?;
         Ok(Lines {
             places,
             parents,

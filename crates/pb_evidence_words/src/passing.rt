@@ -1,6 +1,6 @@
 //! Lines that only pass on to another fixpoint in the same state: they are left out.
 
-ghost use Rattle.std.specs.Prelude.{◌≡◌, ◌==◌, ◌&&◌, ◌<◌, ◌-◌, suc, not, Contains};
+ghost use Rattle.std.specs.Prelude.{◌≡◌, ◌==◌, ◌&&◌, ◌<◌, ◌-◌, suc, not, Contains, IfOk};
 ghost use Rattle.pb_evidence_words.specs.Callers.{IsParent, told_by};
 ghost use Rattle.pb_evidence_words.specs.Order.{has_edge, leads_on, place_of};
 ghost use Rattle.pb_evidence_words.specs.Passing.{IsArrival};
@@ -12,9 +12,9 @@ ghost use Rattle.pb_model_words.specs.View.{vocabulary_of};
 use crate::below::is_edge;
 use crate::caller::Caller;
 use crate::line::Line;
-use crate::moves::first_call;
 use pb_model_words::{Vocabulary, has_step};
 use pb_typing_calls::MadeCall;
+use std::alloc::AllocError;
 
 /// How a line is come to: from which line, by way of those alone that pass on, whether there is no
 /// other line between the two, and whether the line itself passes on.
@@ -76,51 +76,56 @@ impl Line<'_> {
     }
 
     /// Whether the state stays where the line is come to from its parent.
-    fn stays(&self, parent: &Caller) -> bool
+    fn stays(&self, parent: &Caller) -> Result<bool, AllocError>
         requires { IsParent parent.now self.now }
-        ensures { result ≡ stays_at (told_by self.now) self.now.number }
+        ensures { IfOk result (λ stays. stays ≡ stays_at (told_by self.now) self.now.number) }
     {
         let instance = self.instance();
-        let call = first_call(&parent.calls, &instance);
-        is_staying(self.telling.shown.vocabulary, call)
+        let call = parent.call_to(&instance)?;
+        Ok(is_staying(self.telling.shown.vocabulary, call))
     }
 
     /// Whether the line, which isn't the first one, only passes on.
-    fn is_left_out(&self, parent: &Caller) -> bool
+    fn is_left_out(&self, parent: &Caller) -> Result<bool, AllocError>
         requires later { 0 < self.now.number }
         requires parent { IsParent parent.now self.now }
-        ensures { result ≡ is_left_out (told_by self.now) self.now.number }
+        ensures { IfOk result
+            (λ passes. passes ≡ is_left_out (told_by self.now) self.now.number) }
     {
-        self.is_link() && self.stays(parent)
+        if !self.is_link() {
+            return Ok(false);
+        }
+        self.stays(parent)
     }
 
     /// How the line is come to, where it is known of the line before.
-    pub(crate) fn arrival(&self, last: Arrival, parent: &Caller) -> Arrival
+    pub(crate) fn arrival(&self, last: Arrival, parent: &Caller) -> Result<Arrival, AllocError>
         requires parent { 0 < self.now.number → IsParent parent.now self.now }
         requires last { 0 < self.now.number
             → IsArrival (told_by self.now) (self.now.number - 1) last }
-        ensures { IsArrival (told_by self.now) self.now.number result }
+        ensures { IfOk result
+            (λ arrival. IsArrival (told_by self.now) self.now.number arrival) }
     {
         if self.number == 0 {
-            return Arrival {
+            return Ok(Arrival {
                 origin: 0,
                 follows: false,
                 passes: false,
-            };
+            });
         }
-        let passes = self.is_left_out(parent);
+        let passes = self.is_left_out(parent)?;
         if last.passes {
-            return Arrival {
+            return Ok(Arrival {
                 origin: last.origin,
                 follows: last.follows,
                 passes,
-            };
+            });
         }
         let origin = self.telling.lines.parents[self.number];
-        Arrival {
+        Ok(Arrival {
             origin,
             follows: origin == self.number - 1,
             passes,
-        }
+        })
     }
 }

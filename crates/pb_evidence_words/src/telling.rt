@@ -34,7 +34,8 @@ impl<'a> Telling<'a> {
     {
         let calls = CallPlaces::new(alloc, shown.typed)?;
         let steps = CallPlaces::new(alloc, shown.steps)?;
-        let lines = Lines::new(alloc, &shown.explanation.evidence)?;
+        let explanation = shown.explanation;
+        let lines = Lines::new(alloc, &explanation.evidence, &explanation.cuts)?;
         Ok(Telling {
             alloc,
             shown,

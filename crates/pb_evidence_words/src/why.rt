@@ -40,7 +40,7 @@ impl Telling<'_> {
                 number,
             };
             parent = line.parent(parent)?;
-            arrival = line.arrival(arrival, &parent);
+            arrival = line.arrival(arrival, &parent)?;
             line.push_written(text, &parent, arrival)?;
         }
         Ok(())

@@ -10,7 +10,7 @@ returns-then-last c =
     let later : 0 < k = omega (arith, c.if-self-eq0.false) in
     let last = c.requires.last later in
     let on = origin-on (told_by c.args.self.now) k later (sym last.passes ∙ c.if-last.true) in
-    record { origin = last.origin ∙ sym on.0; follows = last.follows ∙ sym on.1; passes = c.is_left_out-passes.ensures }
+    record { origin = last.origin ∙ sym on.0; follows = last.follows ∙ sym on.1; passes = c.in_ok-passes.ensures }
 
 pub returns : goal.returns
 returns c =
@@ -20,4 +20,4 @@ returns c =
     let last = c.requires.last later in
     let here = origin-here (told_by line) k later (sym last.passes ∙ c.if-last.false) in
     let read = parent-read line.telling.now k line.inside c.index-origin.result.now c.index-origin.ensures in
-    record { origin = read ∙ sym here.0; follows = ap (λ (p : ℕ). p == (k - 1)) read ∙ sym here.1; passes = c.is_left_out-passes.ensures }
+    record { origin = read ∙ sym here.0; follows = ap (λ (p : ℕ). p == (k - 1)) read ∙ sym here.1; passes = c.in_ok-passes.ensures }

@@ -9,6 +9,7 @@ pub invariant_of-result : goal.invariant_of-result
 invariant_of-result c =
     let i : Instance = instance_of c.instance-instance.result in
     record {
+      known = c.instance-instance.ensures.known;
       made = ∥∥₁_map c.args.self.now.telling.now.ready.text (λ text. record {
         instance = c.instance-instance.ensures.value;
         calls = c.in_ok-calls.ensures

@@ -2,7 +2,7 @@ use Rattle.std.proofs.Common.{◌≡◌, ◌+◌, ◌++◌, ℕ, List, codes, de
 use Rattle.std.specs.Prelude.{Result, OnOk}
 use Rattle.pb_sorts.specs.Instance.{Instance, instance_of}
 use Rattle.pb_evidence_words.specs.Callers.{told_by}
-use Rattle.pb_evidence_words.specs.WhyText.{arrival_text, formula_text, line_instance, line_text}
+use Rattle.pb_evidence_words.specs.WhyText.{Told, arrival_text, formula_text, line_instance, line_text, move_between}
 use Rattle.pb_evidence_words.proofs.Pushed.{and_then, pushed}
 use Rattle.pb_evidence_words.proofs.Told.{arrived-first, arrived-later, caller-at, move-said}
 use Rattle.pb_evidence_words.proofs.line.Line.push.Goals as goal
@@ -44,6 +44,7 @@ returns c =
     (arrived-later (told_by c.args.self.now) c.args.self.now.number (λ e. omega (arith, e, c.if-self-eq0.false))
     _ _ (string_bytes c.push_from.new.text) came c.in_ok-push_str-3.ensures.bytes c.in_ok-push_from.ensures
     (c.in_ok-push_move_to.ensures ∙ ap (λ (x : List ℕ). string_bytes c.push_from.new.text ++ x)
-    (move-said (told_by c.args.self.now) _ (instance_of parent.instance) parent.calls.items
+    (ap (λ (u : Told). move_between u (instance_of parent.instance) (instance_of c.instance-instance.result)) is.told
+    ∙ move-said (told_by c.args.self.now) _ (instance_of parent.instance) parent.calls.items
     (caller-at (told_by parent.line) (told_by c.args.self.now) parent.line.number _ is.told is.place parent.made) (instance_of c.instance-instance.result) _ c.instance-instance.ensures.value)))
     (pushed c.push_str-3.result _ came (codes "\n") c.push_str-3.ensures.bytes)

@@ -28,10 +28,11 @@ returns c =
     let line : caller.line ≡ c.args.self.now = c.in_ok-caller.ensures in
     let made = caller-at (told_by caller.line) t caller.line.number k (ap told_by line) (ap (λ (l : Line). l.number) line) caller.made in
     let named : s1 ≡ s0 ++ name = c.in_ok-push_instance.ensures ∙ ap (λ (x : List ℕ). s0 ++ x) (instance-said t k _ _ made) in
+    let told : s2 ≡ s1 ++ truth = c.in_ok-push_truth.ensures ∙ ap (λ (b : Bool). s1 ++ truth_mark b) c.truth.ensures in
     let rested : s3 ≡ s2 ++ rests = c.in_ok-push_dependencies.ensures ∙ ap (λ (l : Line). s2 ++ told_dependencies (told_by l) l.number) line in
     let marked : s4 ≡ s3 ++ cut = c.in_ok-push_cut_mark.ensures ∙ ap (λ (b : Bool). s3 ++ cut_mark b) c.is_cut.ensures in
     and_then r s0 s1 s5 name (truth ++ (rests ++ (cut ++ codes "\n"))) named
-    (and_then r s1 s2 s5 truth (rests ++ (cut ++ codes "\n")) c.in_ok-push_truth.ensures
+    (and_then r s1 s2 s5 truth (rests ++ (cut ++ codes "\n")) told
     (and_then r s2 s3 s5 rests (cut ++ codes "\n") rested
     (and_then r s3 s4 s5 cut (codes "\n") marked
     (pushed r s5 s4 (codes "\n") c.push_str.ensures.bytes))))

@@ -1,21 +1,22 @@
-use Rattle.std.proofs.Common.{List, ap, ◌∙◌}
-use Rattle.std.specs.List.{find}
+use Rattle.std.proofs.Common.{sym, ap, ◌∙◌}
 use Rattle.pb_sorts.specs.Instance.{instance_of}
-use Rattle.pb_typing_calls.specs.declared.made_call.MadeCall as declared_call
-use Rattle.pb_typing_calls.specs.MadeCallView.{call_views}
 use Rattle.pb_evidence_words.specs.Callers.{told_by}
-use Rattle.pb_evidence_words.specs.WhyText.{is_call_of, is_staying}
-use Rattle.pb_evidence_words.proofs.LeftOut.{stays-said}
-use Rattle.pb_evidence_words.proofs.Told.{caller-at}
+use Rattle.pb_evidence_words.specs.Ready.{call_said}
+use Rattle.pb_evidence_words.specs.WhyText.{Told, call_between, is_staying}
+use Rattle.pb_evidence_words.proofs.Told.{caller-at, staying-said, stays-said}
 use Rattle.pb_evidence_words.proofs.line.Line.stays.Goals as goal
 
 pub returns : goal.returns
 returns c =
     let t = told_by c.args.self.now in
     let parent = c.args.parent.now in
+    let u = told_by parent.line in
+    let i = instance_of parent.instance in
     let j = instance_of c.instance-instance.result in
-    let made = caller-at (told_by parent.line) t parent.line.number _ c.requires.told c.requires.place parent.made in
+    let o = call_said c.in_ok-call.call in
+    let made = caller-at u t parent.line.number _ c.requires.told c.requires.place parent.made in
     c.is_staying.ensures
-    ∙ (ap (is_staying t.vocabulary) c.first_call-call.ensures
-    ∙ (ap (λ (cs : List declared_call.MadeCall). is_staying t.vocabulary (find (is_call_of j) (call_views cs))) c.deref.ensures.value
-    ∙ stays-said t _ c.args.self.now.number (instance_of parent.instance) parent.calls.items made j c.instance-instance.ensures.value))
+    ∙ (ap (λ (v : Told). is_staying v.vocabulary o) (sym c.requires.told)
+    ∙ (staying-said u i j o c.in_ok-call.ensures
+    ∙ (ap (λ (v : Told). is_staying v.vocabulary (call_between v i j)) c.requires.told
+    ∙ stays-said t _ c.args.self.now.number i parent.calls.items made j c.instance-instance.ensures.value)))

@@ -1,4 +1,4 @@
-use Rattle.std.proofs.Common.{◌≡◌, List, sym, ap, ◌∙◌, subst, true}
+use Rattle.std.proofs.Common.{◌≡◌, Bool, List, sym, ap, ◌∙◌, subst, true}
 use Rattle.pb_text_tree.specs.Form.{SpecForm, spec_form}
 use Rattle.pb_text_meaning.specs.Erase.{erase}
 use Rattle.pb_sorts.specs.declared.carrier.Carrier.{Carrier}
@@ -8,6 +8,8 @@ use Rattle.pb_typing.specs.Typed.{IsLayout}
 use Rattle.pb_model_tree.specs.Form.{model_form}
 use Rattle.pb_evidence_places.proofs.Carriers.{same_carriers}
 use Rattle.pb_report.proofs.Lines.{instance_below}
+use Rattle.pb_evidence.specs.Evidence.{graph_of}
+use Rattle.pb_evidence_words.specs.Lines.{AreLinesOf}
 use Rattle.pb_evidence_words.proofs.States.{state-known}
 use Rattle.pb_evidence_words.proofs.Told.{has-lines}
 use Rattle.pb_evidence_words.proofs.telling.Telling.new.Goals as goal
@@ -35,7 +37,7 @@ invariant_of-result c =
             (state-known (model_form s.model.now) c.requires.property.0 c.requires.steps.0 c.requires.property.1 c.requires.steps.1
             typed.layout steps.layout laid also i (subst (λ css. is_instance css i ≡ true) whole known));
         evidence = has-lines s.verified.now c.requires.trees s.explanation.now c.requires.explanation;
-        ordered = c.in_ok-lines.ensures;
+        ordered = subst (λ (cuts : List Bool). AreLinesOf (graph_of s.explanation.now.evidence) cuts c.in_ok-lines.lines) c.deref.ensures.value c.in_ok-lines.ensures;
         below = instance_below s.verified.now c.requires.trees s.explanation.now c.requires.explanation;
       };
     }

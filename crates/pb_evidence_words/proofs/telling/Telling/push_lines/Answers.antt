@@ -6,8 +6,8 @@ use Rattle.pb_evidence_words.specs.WhyText.{written_text}
 use Rattle.pb_evidence_words.proofs.Pushed.{pieces-more}
 use Rattle.pb_evidence_words.proofs.telling.Telling.push_lines.Goals as goal
 
-pub arrival-arrival-requires-clause-last : goal.arrival-arrival-requires-clause-last
-arrival-arrival-requires-clause-last c = c.loop-number.invariant.2
+pub arrival-requires-clause-last : goal.arrival-requires-clause-last
+arrival-requires-clause-last c = c.loop-number.invariant.2
 
 pub loop-number-preserved : goal.loop-number-preserved
 loop-number-preserved c =
@@ -21,7 +21,7 @@ loop-number-preserved c =
           ∙ (append_assoc s0 (flat_map F (range_with_len 0 k)) (F k)
           ∙ ap (λ (x : List ℕ). s0 ++ x) (sym (pieces-more F k 0 k (omega arith))))),
       c.in_ok-parent-2.ensures.told,
-      λ later. subst (λ j. IsArrival t j c.arrival-arrival.result) same c.arrival-arrival.ensures,
+      λ later. subst (λ j. IsArrival t j c.in_ok-arrival.arrival) same c.in_ok-arrival.ensures,
     )
 
 pub returns : goal.returns
