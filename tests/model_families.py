@@ -21,9 +21,17 @@ def names_of_nine_variables(size):
     return f"sort {declared}\nmodel state {state}: Bool;\n  step {steps}\ninit {', '.join(['true'] * 9)};\nproperty p = true;\n"
 
 
+def names_of_definitions(size):
+    """So many definitions, each of which is used once: its name is looked for among all."""
+    names = [f"d{k}" for k in range(size)]
+    defined = "; ".join(f"{name} = true" for name in names)
+    return f"model state b: Bool;\ndefine {defined};\nstep s: {' && '.join(names)} -> skip;\ninit true;\nproperty p = true;\n"
+
+
 # The name of each, the family, the size at which turns of loops are counted first, and the status: 1 where the model is refused.
 MODELS = (
     ("indices that double", lambda size: doubled_indices(size, ("a", "b")), 14, 1),
     ("indices of one value that double", lambda size: doubled_indices(size, ("a",)), 14, 1),
     ("names of nine variables", names_of_nine_variables, 400, 0),
+    ("names of definitions", names_of_definitions, 400, 0),
 )

@@ -1,11 +1,11 @@
 -- The interval of a flat term has the term's value: operator by operator.
-use Rattle.std.proofs.Common.{◌≡◌, Bool, true, false, not, ◌&&◌, ◌||◌, if◌then◌else◌, List, [], ◌∷◌, Option, Some, None, ℤ, pos, negsuc, neg_ℤ, ◌≤ℤ◌, int_le, inl, inr, refl, sym, ap, ◌∙◌, subst, arith}
+use Rattle.std.proofs.Common.{◌≡◌, Bool, true, false, not, ◌||◌, if◌then◌else◌, List, [], ◌∷◌, Option, Some, None, pos, int_le, inl, inr, refl, sym, ap, ◌∙◌, arith}
 use Rattle.std.specs.Prelude.{option_map}
 use Rattle.std.proofs.lemmas.Bool.{false≢true}
 use Rattle.pb_base_values.specs.Carrier.{Value, of_bool}
-use Rattle.pb_base_values.specs.Interval.{IntegerInterval, Includes, hull, is_included, literals, singleton, within}
+use Rattle.pb_base_values.specs.Interval.{IntegerInterval, Includes, is_included, literals, singleton, within}
 use Rattle.pb_base_values.specs.Laws.{IsDefined}
-use Rattle.pb_base_values.specs.Operation.{BinaryOperation, UnaryOperation, binary_interval, binary_value, divides, unary_interval, unary_value}
+use Rattle.pb_base_values.specs.Operation.{BinaryOperation, UnaryOperation, binary_interval, binary_value, unary_interval, unary_value}
 use Rattle.std.proofs.lemmas.Int.{ints}
 use Rattle.pb_base_values.proofs.Ends.{le_true}
 use Rattle.pb_base_values.proofs.Sound.{binary_sound, hull_sound, unary_sound}
@@ -13,9 +13,8 @@ use Rattle.pb_text_meaning.specs.Syntax.{Name, Operator, Term, Terms, Spec}
 use Rattle.pb_text_meaning.specs.Functions.{named_function}
 use Rattle.pb_text_meaning.specs.declared.function.NamedFunction.{NamedFunction}
 use Rattle.pb_text_meaning.specs.declared.function.NamedFunction.TheVariants as function
-use Rattle.pb_text_meaning.specs.Value.{Assignment, function_of_one, function_of_two, function_of_three, is_true, value}
+use Rattle.pb_text_meaning.specs.Value.{function_of_one, function_of_two, function_of_three, is_true, value}
 use Rattle.pb_protocol_folding.specs.Folding.{is_small}
-use Rattle.pb_protocol_meaning.specs.Syntax.{StateVariable}
 use Rattle.pb_protocol_unfolder_terms.specs.Bounds.{function_interval, interval, intervals, may_divide, of_choice, of_one, of_two, truths}
 use Rattle.pb_protocol_unfolder_terms.specs.Held.{Holds, IntervalsHold, takes}
 

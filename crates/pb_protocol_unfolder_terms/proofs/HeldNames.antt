@@ -1,5 +1,5 @@
 -- The values of state variables are among those between which the names stay that may be theirs.
-use Rattle.std.proofs.Common.{◌≡◌, ℕ, zero, suc, ◌+◌, ◌-◌, ◌≤◌, Bool, true, false, not, ◌&&◌, ◌||◌, if◌then◌else◌, List, [], ◌∷◌, ◌++◌, length, Contains, Option, Some, None, ℤ, pos, negsuc, ◌+ℤ◌, ◌-ℤ◌, ◌≤ℤ◌, int_le, inl, inr, refl, sym, ap, ◌∙◌, subst, arith, slice_get, slice_index_or, bytes_eq, nat_eq, ◌<◌}
+use Rattle.std.proofs.Common.{◌≡◌, ℕ, zero, suc, Bool, true, false, not, ◌&&◌, ◌||◌, if◌then◌else◌, List, [], ◌∷◌, ◌++◌, length, Option, Some, None, ℤ, pos, negsuc, ◌+ℤ◌, ◌-ℤ◌, ◌≤ℤ◌, inl, inr, refl, sym, ap, ◌∙◌, subst, arith, slice_get, slice_index_or, nat_eq, ◌<◌}
 use Rattle.std.specs.Prelude.{codes, option_map}
 use Rattle.std.specs.Ordering.{int_eq}
 use Rattle.std.specs.List.{starts_with}
@@ -16,12 +16,12 @@ use Rattle.std.proofs.lemmas.Int.{ints}
 use Rattle.pb_base_values.proofs.Ends.{from_le}
 use Rattle.pb_base_values.proofs.Sound.{hull_sound}
 use Rattle.pb_text_meaning.specs.Syntax.{Name, same_name, Variable, Range, Sort, Struct, Alias, Spec, Term}
-use Rattle.pb_text_meaning.specs.Sorts.{carrier_by, carrier_of, carrier_within, declared, place_in, range_of}
-use Rattle.pb_text_meaning.specs.Value.{Assignment, looked_up, named_value, value}
+use Rattle.pb_text_meaning.specs.Sorts.{carrier_by, carrier_within, declared, range_of}
+use Rattle.pb_text_meaning.specs.Value.{looked_up, named_value}
 use Rattle.pb_protocol_folding.specs.Folding.{place_value}
 use Rattle.pb_protocol_meaning.specs.Syntax.{StateVariable}
 use Rattle.pb_protocol_unfolding.specs.Written.{element, element_of, spelled}
-use Rattle.pb_protocol_unfolder_terms.specs.Bounds.{either, interval, interval_by, interval_or, interval_within, is_quote, may_be_element, may_be_of, places, sort_interval, truths, variable_interval, written_interval}
+use Rattle.pb_protocol_unfolder_terms.specs.Bounds.{either, interval_among, interval_by, interval_or, interval_within, is_plain_name, is_quote, may_be_element, may_be_of, places, sort_interval, truths, variable_interval}
 use Rattle.pb_protocol_unfolder_terms.specs.Held.{ElementsMayBeOfTheirArray, Holds, VariablesHold}
 
 -- it is known between which numbers, and v is among them
@@ -91,17 +91,17 @@ either-second None j v h = h
 either-second (Some i) None v h = absurd h
 either-second (Some i) (Some j) v h = hull_sound i j v (inr h)
 
-variable-within : (spec : Spec) (ys : List StateVariable) (x : Name) (k : ℕ) (y : StateVariable) (v : Value) → k < length ys → slice_index_or ys k y ≡ y → may_be_of y x ≡ true
-    → IsIn (sort_interval spec y.sort) v → IsIn (variable_interval spec ys x) v
-variable-within spec [] x k y v within there of h = absurd (omega (arith, within))
-variable-within spec (z ∷ ys) x zero y v within there of h =
-    subst (λ (w : StateVariable). IsIn (if may_be_of w x then either (sort_interval spec w.sort) (variable_interval spec ys x) else variable_interval spec ys x) v) (sym there)
-    (subst (λ (b : Bool). IsIn (if b then either (sort_interval spec y.sort) (variable_interval spec ys x) else variable_interval spec ys x) v) (sym of)
-    (either-first (sort_interval spec y.sort) (variable_interval spec ys x) v h))
-variable-within spec (z ∷ ys) x (suc k) y v within there of h = by (may_be_of z x) (variable-within spec ys x k y v (omega (arith, within)) there of h)
+variable-within : (spec : Spec) (p : Bool) (ys : List StateVariable) (x : Name) (k : ℕ) (y : StateVariable) (v : Value) → k < length ys → slice_index_or ys k y ≡ y
+    → may_be_of p y x ≡ true → IsIn (sort_interval spec y.sort) v → IsIn (interval_among spec p ys x) v
+variable-within spec p [] x k y v within there of h = absurd (omega (arith, within))
+variable-within spec p (z ∷ ys) x zero y v within there of h =
+    subst (λ (w : StateVariable). IsIn (if may_be_of p w x then either (sort_interval spec w.sort) (interval_among spec p ys x) else interval_among spec p ys x) v) (sym there)
+    (subst (λ (b : Bool). IsIn (if b then either (sort_interval spec y.sort) (interval_among spec p ys x) else interval_among spec p ys x) v) (sym of)
+    (either-first (sort_interval spec y.sort) (interval_among spec p ys x) v h))
+variable-within spec p (z ∷ ys) x (suc k) y v within there of h = by (may_be_of p z x) (variable-within spec p ys x k y v (omega (arith, within)) there of h)
   where
-    by : (b : Bool) → IsIn (variable_interval spec ys x) v → IsIn (if b then either (sort_interval spec z.sort) (variable_interval spec ys x) else variable_interval spec ys x) v
-    by true rest = either-second (sort_interval spec z.sort) (variable_interval spec ys x) v rest
+    by : (b : Bool) → IsIn (interval_among spec p ys x) v → IsIn (if b then either (sort_interval spec z.sort) (interval_among spec p ys x) else interval_among spec p ys x) v
+    by true rest = either-second (sort_interval spec z.sort) (interval_among spec p ys x) v rest
     by false rest = rest
 
 pub variables_hold : VariablesHold
@@ -109,7 +109,7 @@ variables_hold spec ys a x y v found free there of inside =
     subst (λ (o : Option ℕ). Holds (interval_or (option_map singleton (place_value o)) (variable_interval spec ys x)) (named_value spec (looked_up a x) x)) (sym free)
     (subst (λ (o : Option Value). Holds (variable_interval spec ys x) (named_value spec o x)) (sym found)
     (in-held (variable_interval spec ys x) v
-    (variable-within spec ys x there.0 y v there.1 there.2 of (sort-within (suc (length spec.sorts)) spec y.sort v inside))))
+    (variable-within spec (is_plain_name ys x) ys x there.0 y v there.1 there.2 of (sort-within (suc (length spec.sorts)) spec y.sort v inside))))
 
 -- ---- names of elements
 
@@ -133,15 +133,19 @@ some : (n : ℕ) → nat_eq (suc n) 0 ≡ false
 some n = grind (arith, nat_tests)
 
 pub elements_may_be_of_their_array : ElementsMayBeOfTheirArray
-elements_may_be_of_their_array y ks many = by y.indices ks many
+elements_may_be_of_their_array ys y ks many other = by y.indices ks many other
   where
-    by : (is : List Variable) (ks : List Term) → length ks ≡ length is
-        → (if nat_eq (length is) 0 then same_name y.name (element_of y.name ks) else may_be_element y.name (element_of y.name ks)) ≡ true
-    by [] [] many = (bytes_eq-Decides y.name y.name).1 refl
-    by [] (k ∷ ks) many = absurd (omega (arith, many))
-    by (i ∷ is) [] many = absurd (omega (arith, many))
-    by (i ∷ is) (k ∷ ks) many =
-        ap (λ (b : Bool). if b then same_name y.name (element_of y.name (k ∷ ks)) else may_be_element y.name (element_of y.name (k ∷ ks))) (some (length is))
+    p : List Term → Bool
+    p ks = is_plain_name ys (element_of y.name ks)
+
+    by : (is : List Variable) (ks : List Term) → length ks ≡ length is → (0 < length is → p ks ≡ false)
+        → (if nat_eq (length is) 0 then same_name y.name (element_of y.name ks) else not (p ks) && may_be_element y.name (element_of y.name ks)) ≡ true
+    by [] [] many other = (bytes_eq-Decides y.name y.name).1 refl
+    by [] (k ∷ ks) many other = absurd (omega (arith, many))
+    by (i ∷ is) [] many other = absurd (omega (arith, many))
+    by (i ∷ is) (k ∷ ks) many other =
+        ap (λ (b : Bool). if b then same_name y.name (element_of y.name (k ∷ ks)) else not (p (k ∷ ks)) && may_be_element y.name (element_of y.name (k ∷ ks))) (some (length is))
+        ∙ ap (λ (b : Bool). not b && may_be_element y.name (element_of y.name (k ∷ ks))) (other (omega arith))
         ∙ ap (may_be_element y.name) (element-ends (k ∷ ks) y.name)
         ∙ ap (λ (b : Bool). b && is_quote (slice_get (y.name ++ ending (k ∷ ks)) (length y.name))) (begins y.name (ending (k ∷ ks)))
         ∙ behind y.name (spelled k ++ ending ks)

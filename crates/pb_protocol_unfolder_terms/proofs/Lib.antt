@@ -27,5 +27,6 @@ pub mod ChoosingLemmas
 pub mod ComparedLemmas
 pub mod ConditionalLemmas
 pub mod CopyLemmas
+pub mod CountLemmas
 pub mod GivenLemmas
 pub mod MeantLemmas

@@ -14,8 +14,8 @@ use Rattle.pb_protocol_folding.specs.View as tree
 use Rattle.pb_protocol_unfolding.specs.PutIn.{TermScope, applied_term, named_term, put_in, read, standing, term_of}
 use Rattle.pb_protocol_unfolder_terms.specs.declared.context.Context.{Context}
 use Rattle.pb_protocol_unfolder_terms.specs.declared.context.Definition.{Definition}
-use Rattle.pb_protocol_unfolder_terms.specs.declared.context.Meant.{Meant}
-use Rattle.pb_protocol_unfolder_terms.specs.declared.context.Meant.TheVariants as meant
+use Rattle.pb_protocol_unfolder_terms.specs.declared.meant.Meant.{Meant}
+use Rattle.pb_protocol_unfolder_terms.specs.declared.meant.Meant.TheVariants as meant
 use Rattle.pb_protocol_unfolder_terms.specs.declared.context.StateVariable.{StateVariable}
 use Rattle.pb_protocol_unfolder_terms.specs.declared.fault.UnfoldFault.{UnfoldFault}
 use Rattle.pb_protocol_unfolder_terms.specs.declared.level.Level.{Level}

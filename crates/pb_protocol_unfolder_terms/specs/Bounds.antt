@@ -61,9 +61,21 @@ is_quote (Some c) = nat_eq c 39
 abbrev pub may_be_element : Name → Name → Bool
 may_be_element array x = starts_with nat_eq x array && is_quote (slice_get x (length array))
 
--- whether a name is a state variable's, or may be that of one of its elements
-abbrev pub may_be_of : StateVariable → Name → Bool
-may_be_of y x = if nat_eq (length y.indices) 0 then same_name y.name x else may_be_element y.name x
+-- whether a name is a state variable's that has no indices
+abbrev pub is_plain_name_of : StateVariable → Name → Bool
+is_plain_name_of y x = nat_eq (length y.indices) 0 && same_name y.name x
+
+-- of one of these
+abbrev pub is_plain_name : List StateVariable → Name → Bool
+is_plain_name [] x = false
+is_plain_name (y ∷ ys) x = is_plain_name_of y x || is_plain_name ys x
+
+-- whether a name is a state variable's, or may be that of one of its elements, which it isn't where
+-- a state variable without indices has it
+abbrev pub may_be_of : Bool → StateVariable → Name → Bool
+may_be_of of_plain y x =
+    if nat_eq (length y.indices) 0 then same_name y.name x
+    else not of_plain && may_be_element y.name x
 
 -- what is either's
 abbrev pub either : Option IntegerInterval → Option IntegerInterval → Option IntegerInterval
@@ -72,11 +84,17 @@ either (Some i) None = Some i
 either (Some i) (Some j) = Some (hull i j)
 
 -- the values of each state variable that it may be of
+abbrev pub interval_among : Spec → Bool → List StateVariable → Name → Option IntegerInterval
+interval_among spec of_plain [] x = None
+interval_among spec of_plain (y ∷ ys) x =
+    if may_be_of of_plain y x
+    then either (sort_interval spec y.sort) (interval_among spec of_plain ys x)
+    else interval_among spec of_plain ys x
+
+-- those of the state variable without indices that has the name alone; where none has it, those of
+-- each array that has such an element
 abbrev pub variable_interval : Spec → List StateVariable → Name → Option IntegerInterval
-variable_interval spec [] x = None
-variable_interval spec (y ∷ ys) x =
-    if may_be_of y x then either (sort_interval spec y.sort) (variable_interval spec ys x)
-    else variable_interval spec ys x
+variable_interval spec ys x = interval_among spec (is_plain_name ys x) ys x
 
 -- ---- operators and functions, within the literals
 

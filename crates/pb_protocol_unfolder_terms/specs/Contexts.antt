@@ -13,8 +13,8 @@ use Rattle.pb_protocol_unfolding.specs.PutIn.{with_definitions}
 use Rattle.pb_protocol_unfolder_terms.specs.declared.context.Context as declared_context
 use Rattle.pb_protocol_unfolder_terms.specs.declared.context.StateVariable as declared_variable
 use Rattle.pb_protocol_unfolder_terms.specs.declared.context.Definition as declared_definition
-use Rattle.pb_protocol_unfolder_terms.specs.declared.context.Meant as declared_meant
-use Rattle.pb_protocol_unfolder_terms.specs.declared.context.Meant.TheVariants as meant
+use Rattle.pb_protocol_unfolder_terms.specs.declared.meant.Meant as declared_meant
+use Rattle.pb_protocol_unfolder_terms.specs.declared.meant.Meant.TheVariants as meant
 use Rattle.pb_protocol_unfolder_terms.specs.declared.sorts.Variable as declared_index
 use Rattle.pb_protocol_unfolder_terms.specs.declared.scope.TermScope as declared_scope
 use Rattle.pb_protocol_unfolder_terms.specs.Bounds.{IsSeenWithin, interval, intervals, sort_interval}

@@ -1,5 +1,6 @@
 -- The interval of a flat term has the term's value.
-use Rattle.std.specs.Prelude.{◌≡◌, Bool, true, false, ⊤, List, length, Contains, Option, Some, None}
+use Rattle.std.specs.Prelude.{◌≡◌, ◌<◌, Bool, true, false, ⊤, List, length, Contains, Option, Some}
+use Rattle.std.specs.Prelude.{None}
 use Rattle.pb_base_values.specs.Carrier.{Value, contains}
 use Rattle.pb_base_values.specs.Interval.{IntegerInterval, Includes}
 use Rattle.pb_text_meaning.specs.Syntax.{Name, same_name, Term, Terms, Spec}
@@ -10,7 +11,7 @@ use Rattle.pb_text_meaning.specs.declared.function.NamedFunction.TheVariants as 
 use Rattle.pb_text_meaning.specs.Value.{Assignment, looked_up, value}
 use Rattle.pb_protocol_meaning.specs.Syntax.{StateVariable}
 use Rattle.pb_protocol_unfolding.specs.Written.{element_of}
-use Rattle.pb_protocol_unfolder_terms.specs.Bounds.{interval, may_be_of}
+use Rattle.pb_protocol_unfolder_terms.specs.Bounds.{interval, is_plain_name, may_be_of}
 
 -- it is among the numbers between which something stays, as far as that is known
 abbrev pub Holds : Option IntegerInterval → Value → Type 0
@@ -61,11 +62,13 @@ abbrev pub VariablesHold : Type 0
 VariablesHold =
     (spec : Spec) (ys : List StateVariable) (a : Assignment) (x : Name) (y : StateVariable)
     (v : Value) → looked_up a x ≡ Some v → place_in (λ e. same_name e.name x) spec.sorts ≡ None →
-    Contains ys y → may_be_of y x ≡ true → contains (carrier_of spec y.sort) v ≡ true →
+    Contains ys y → may_be_of (is_plain_name ys x) y x ≡ true →
+    contains (carrier_of spec y.sort) v ≡ true →
     Holds (interval spec ys (Term.Named x)) (value spec a (Term.Named x))
 
--- an element of an array is one of those names
+-- an element of an array is one of those names, where no state variable without indices has it
 abbrev pub ElementsMayBeOfTheirArray : Type 0
 ElementsMayBeOfTheirArray =
-    (y : StateVariable) (ks : List Term) → length ks ≡ length y.indices →
-    may_be_of y (element_of y.name ks) ≡ true
+    (ys : List StateVariable) (y : StateVariable) (ks : List Term) → length ks ≡ length y.indices →
+    (0 < length y.indices → is_plain_name ys (element_of y.name ks) ≡ false) →
+    may_be_of (is_plain_name ys (element_of y.name ks)) y (element_of y.name ks) ≡ true

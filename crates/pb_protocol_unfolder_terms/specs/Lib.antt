@@ -8,6 +8,7 @@ pub mod Chains
 pub mod Operands
 pub mod Puts
 pub mod Copies
+pub mod Counts
 pub mod Deep
 pub mod Assigned
 pub mod Behind

@@ -16,8 +16,8 @@ use Rattle.pb_protocol_unfolder_terms.specs.declared.connectives.Copies as decla
 use Rattle.pb_protocol_unfolder_terms.specs.declared.context.Context as declared_context
 use Rattle.pb_protocol_unfolder_terms.specs.declared.context.Definition as declared_definition
 use Rattle.pb_protocol_unfolder_terms.specs.declared.context.StateVariable as declared_state
-use Rattle.pb_protocol_unfolder_terms.specs.declared.context.Meant as declared_meant
-use Rattle.pb_protocol_unfolder_terms.specs.declared.context.Meant.TheVariants as meant
+use Rattle.pb_protocol_unfolder_terms.specs.declared.meant.Meant as declared_meant
+use Rattle.pb_protocol_unfolder_terms.specs.declared.meant.Meant.TheVariants as meant
 use Rattle.pb_protocol_unfolder_terms.specs.declared.fault.UnfoldFault.{UnfoldFault}
 use Rattle.pb_protocol_unfolder_terms.specs.declared.scope.NameBinding as declared_binding
 use Rattle.pb_protocol_unfolder_terms.specs.declared.scope.NameBinding.TheVariants as binding

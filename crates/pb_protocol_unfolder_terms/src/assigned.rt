@@ -25,11 +25,12 @@ ghost use Rattle.pb_protocol_unfolder_terms.specs.Unfolding.{operator_count};
 
 use crate::array::{choice, choosing, chosen, equality};
 use crate::bounds::is_within;
-use crate::context::{Context, variable_at};
+use crate::context::Context;
 use crate::element::element_name;
 use crate::fault::{UnfoldError, UnfoldRule};
 use crate::form::Form;
 use crate::level::{Level, behind_all, behind_one, refused};
+use crate::meant::variable_at;
 use crate::operands::{Connected, connected_term, decides};
 use crate::pair::paired;
 use crate::scope::TermScope;

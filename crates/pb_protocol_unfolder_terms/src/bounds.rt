@@ -44,15 +44,35 @@ fn may_be_element(array: &str, name: &str) -> bool
     }
 }
 
-/// Whether a name is a state variable's, or may be that of one of its elements.
-fn may_be_of(variable: &StateVariable<'_>, name: &str) -> bool
-    ensures { result ≡ spec.may_be_of (state_variable_of variable.now) name.now }
+/// Whether a name is a state variable's that has no indices.
+fn is_plain_name_of(variable: &StateVariable<'_>, name: &str) -> bool
+    ensures { result ≡ spec.is_plain_name_of (state_variable_of variable.now) name.now }
+{
+    variable.indices.is_empty() && variable.name.text.as_str() == name
+}
+
+/// Whether a name is that of a state variable without indices.
+fn is_plain_name(variables: &[StateVariable<'_>], name: &str) -> bool
+    ensures { result ≡ spec.is_plain_name (map state_variable_of variables.now) name.now }
+{
+    for variable in variables {
+        if is_plain_name_of(variable, name) {
+            return true;
+        }
+    }
+    false
+}
+
+/// Whether a name is a state variable's, or may be that of one of its elements, which it isn't
+/// where a state variable without indices has it.
+fn may_be_of(of_plain: bool, variable: &StateVariable<'_>, name: &str) -> bool
+    ensures { result ≡ spec.may_be_of of_plain (state_variable_of variable.now) name.now }
 {
     let own = variable.name.text.as_str();
     if variable.indices.is_empty() {
         return own == name;
     }
-    may_be_element(own, name)
+    !of_plain && may_be_element(own, name)
 }
 
 /// The bounds of what is one of two, or the one that there is.
@@ -66,15 +86,17 @@ fn of_either(left: Option<Interval>, right: Option<Interval>) -> Option<Interval
     }
 }
 
-/// The bounds of a name: those of each state variable that it may be of.
+/// The bounds of a name: those of the state variable without indices that has it, or else those of
+/// each array of whose elements one may have it.
 fn bounds_of_variable(context: &Context<'_>, name: &str) -> Option<Interval>
     ensures { result ≡ spec.variable_interval (spec_in context.now)
         (map state_variable_of context.now.variables.items) name.now }
 {
+    let of_plain = is_plain_name(&context.variables, name);
     let mut bounds = None;
     for place in (0..context.variables.len()).rev() {
         let variable = &context.variables[place];
-        if may_be_of(variable, name) {
+        if may_be_of(of_plain, variable, name) {
             bounds = of_either(bounds_of_sort(context.sorts(), variable.sort), bounds);
         }
     }

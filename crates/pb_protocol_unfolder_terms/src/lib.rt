@@ -16,6 +16,7 @@ mod fault;
 mod form;
 pub mod laws;
 mod level;
+mod meant;
 mod names;
 mod operands;
 mod pair;

@@ -11,9 +11,11 @@ ghost use Rattle.pb_protocol_unfolder_terms.specs.TermFaults.{surroundings_at_st
 ghost use Rattle.pb_protocol_unfolder_terms.specs.TermFaults.{term_of_definition};
 
 use crate::context::{Context, Definition, StateVariable};
+use crate::meant::definition_counts;
 use crate::variables::variables_of;
 use pb_protocol_tree as tree;
 use std::alloc::{AllocError, Global};
+use std::collections::HashMap;
 
 fn push_group<'a>(
     alloc: Global,
@@ -80,10 +82,17 @@ impl<'a> Context<'a> {
         ensures surroundings { IfOk result
             (λ c. surroundings_in c ≡ surroundings_of (protocol_form protocol.now)) }
     {
-        let mut context = Context::of_initial(alloc, protocol);
-        context.variables = state_variables(alloc, &protocol.state)?;
-        context.definitions = definitions(alloc, &protocol.definitions)?;
-        Ok(context)
+        let variables = state_variables(alloc, &protocol.state)?;
+        let definitions = definitions(alloc, &protocol.definitions)?;
+        let counts = definition_counts(alloc, &definitions)?;
+        Ok(Context {
+            alloc,
+            declarations: &protocol.sorts,
+            ranges: &protocol.ranges,
+            variables,
+            definitions,
+            counts,
+        })
     }
 
     /// What terms of the initial state are unfolded by: no state variable and no definition.
@@ -98,6 +107,7 @@ impl<'a> Context<'a> {
             ranges: &protocol.ranges,
             variables: Vec::new(alloc),
             definitions: Vec::new(alloc),
+            counts: HashMap::new(alloc),
         }
     }
 }

@@ -15,10 +15,11 @@ ghost use Rattle.pb_protocol_unfolder_terms.specs.Unfolding.{Unfolds};
 
 use crate::applications::{unfold_application, unfold_arithmetic};
 use crate::connectives::{Chain, Quantified, unfold_operands, unfold_quantified};
-use crate::context::{Context, Meant};
+use crate::context::Context;
 use crate::fault::{UnfoldError, UnfoldRule};
 use crate::form::Form;
 use crate::level::{Level, behind_one, operated, place_of, refused};
+use crate::meant::Meant;
 use crate::names::{bare_variable, own_name, value_term};
 use crate::operands::{Connected, joined_operands};
 use crate::pair::paired;

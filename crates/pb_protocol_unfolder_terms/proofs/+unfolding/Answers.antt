@@ -36,7 +36,7 @@ use Rattle.pb_protocol_unfolder_terms.proofs.ConditionalLemmas.{IsConditional, c
 use Rattle.pb_protocol_unfolder_terms.proofs.ChoosingLemmas.{IsChoosing, choosing, choosing-without-room, first-known, known-refused, known-unfolded, known-without-room, further_values, decided-unfolded, decided-refused, first-refused, further-refused, further-unfolded}
 use Rattle.pb_protocol_unfolder_terms.proofs.CalculationLemmas.{first-operand-refused, first-calculated, operator-without-room, operand-refused, further-calculated, all-calculated}
 use Rattle.pb_protocol_unfolder_terms.proofs.CopyLemmas.{AreAllCopies, IsCopyLeft, copies-form, copy-left, tuples-written, copied-said, none-said, copies-met, copy-met}
-use Rattle.pb_protocol_unfolder_terms.specs.declared.context.Meant.TheVariants as meant
+use Rattle.pb_protocol_unfolder_terms.specs.declared.meant.Meant.TheVariants as meant
 use Rattle.pb_protocol_unfolder_terms.proofs.MeantLemmas.{applied-definition-met, applied-variable-met, argument-term-met, bare-definition-met, bare-definition-unfolded, definition-unfolded, meant-unfolded, variable-unfolded}
 use Rattle.pb_protocol_unfolder_terms.proofs.GivenLemmas.{none-unfolded, next-argument-refused, next-argument-unfolded, all-unfolded}
 use Rattle.pb_protocol_unfolder_terms.proofs.+unfolding.Goals as goal

@@ -6,8 +6,8 @@ use Rattle.pb_protocol_unfolding.specs.PutIn.{Forms, are_as_many, with_definitio
 use Rattle.pb_protocol_unfolder_terms.specs.View.{variable_of}
 use Rattle.pb_protocol_unfolder_terms.specs.Contexts.{defined_term, definition_of, terms_count}
 use Rattle.pb_protocol_unfolder_terms.proofs.ContextLemmas.{definition-there, definition-next}
-use Rattle.pb_protocol_unfolder_terms.proofs.context.definition_at.Goals as goal
-use Rattle.pb_protocol_unfolder_terms.proofs.context.definition_at.Goals.{After-is_meant}
+use Rattle.pb_protocol_unfolder_terms.proofs.meant.definition_at.Goals as goal
+use Rattle.pb_protocol_unfolder_terms.proofs.meant.definition_at.Goals.{After-is_meant}
 
 -- by the definition at hand, if it is meant, else by those before it
 definition-here : (c : After-is_meant) (sorts : Spec) (base : Forms) (ts : Terms) → terms_count ts ≡ c.args.count

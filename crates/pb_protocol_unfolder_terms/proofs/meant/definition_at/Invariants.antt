@@ -2,7 +2,7 @@ use Rattle.std.proofs.Common.{◌≡◌, map, take}
 use Rattle.pb_text_meaning.specs.Syntax as syntax
 use Rattle.pb_protocol_unfolding.specs.PutIn as spec
 use Rattle.pb_protocol_unfolder_terms.specs.Contexts.{definition_of, terms_count}
-use Rattle.pb_protocol_unfolder_terms.proofs.context.definition_at.Given as goal
+use Rattle.pb_protocol_unfolder_terms.proofs.meant.definition_at.Given as goal
 
 abbrev pub invariant-loop-place : goal.invariant-loop-place
 invariant-loop-place l =

@@ -3,7 +3,7 @@ use Rattle.std.specs.Prelude.{◌&&◌}
 use Rattle.pb_protocol_unfolding.specs.PutIn.{are_as_many}
 use Rattle.pb_protocol_unfolder_terms.specs.View.{variable_of}
 use Rattle.pb_protocol_unfolder_terms.proofs.ContextLemmas.{as-many}
-use Rattle.pb_protocol_unfolder_terms.proofs.context.is_meant.Goals as goal
+use Rattle.pb_protocol_unfolder_terms.proofs.meant.is_meant.Goals as goal
 
 pub returns-then-eq-clause-meant : goal.returns-then-eq-clause-meant
 returns-then-eq-clause-meant c = λ ts e.

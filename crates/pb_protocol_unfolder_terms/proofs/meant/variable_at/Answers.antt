@@ -5,8 +5,8 @@ use Rattle.pb_protocol_unfolding.specs.PutIn.{are_as_many, read, reads}
 use Rattle.pb_protocol_unfolder_terms.specs.View.{variable_of}
 use Rattle.pb_protocol_unfolder_terms.specs.Contexts.{state_variable_of, terms_count}
 use Rattle.pb_protocol_unfolder_terms.proofs.ContextLemmas.{variable-next}
-use Rattle.pb_protocol_unfolder_terms.proofs.context.variable_at.Goals as goal
-use Rattle.pb_protocol_unfolder_terms.proofs.context.variable_at.Goals.{After-is_meant}
+use Rattle.pb_protocol_unfolder_terms.proofs.meant.variable_at.Goals as goal
+use Rattle.pb_protocol_unfolder_terms.proofs.meant.variable_at.Goals.{After-is_meant}
 
 -- by the variable at hand, if it is meant, else by those behind it
 variable-here : (c : After-is_meant) (sorts : Spec) (ts : Terms) → terms_count ts ≡ c.args.count
