@@ -70,9 +70,10 @@ def check_words(repository, crate):
 
 
 class Trial:
-    """A crate in a copy of the repository, over the libraries that stand there, and which of its functions are proved as they are."""
+    """A crate in a copy of the repository, over the libraries that stand there, and which of its functions are proved as they are: all of them where a
+    library of exactly this crate is kept, which is so proved as a whole."""
 
-    def __init__(self, room, crate):
+    def __init__(self, room, crate, is_proved):
         self.folder = pathlib.Path(room, "crates", crate)
         # The checks are those of `rattle` itself: `rt` sums up all files below at each call, and builds libraries anew that `rt ci` made.
         os.makedirs(self.folder / "out", exist_ok=True)
@@ -81,7 +82,7 @@ class Trial:
         self.changes = {edit: changed(edit.read_text("utf-8"), self.folder) for edit in self.edits}
         # How each place that is changed may be named still.
         self.names = {place: named(*place, self.folder) for found in self.changes.values() if found for place in found[1]}
-        self.proved = self.all_proved()
+        self.proved = None if is_proved else self.all_proved()
 
     def check(self, names):
         words = [*self.words, *(word for name in names for word in ("--only", name))]
@@ -94,19 +95,23 @@ class Trial:
         """The names of the functions that are changed, where they are proved as they are: first all at once, else one by one."""
         while names := self.first_names():
             ran = self.check(names)
-            strange = STRANGE.search(ran.stdout) if ran.returncode == 2 else None
-            if not strange:
+            if not self.renamed(ran):
                 return set(names) if not ran.returncode else {name for name in names if not self.check([name]).returncode}
-            for place in self.names:
-                if self.names[place][:1] == [strange[1] or strange[2]]:
-                    self.names[place] = self.names[place][1:]
         return set()
+
+    def renamed(self, ran):
+        """Whether a check took a name for none of a function, so that the places of this name go by the next one that they may have."""
+        strange = STRANGE.search(ran.stdout) if ran.returncode == 2 else None
+        places = [place for place, names in self.names.items() if strange and names[:1] == [strange[1] or strange[2]]]
+        for place in places:
+            self.names[place] = self.names[place][1:]
+        return bool(places)
 
     def names_of(self, edit):
         """The functions that an edit changes, or none where it can't be tried by them."""
         _, places = self.changes[edit] or ({}, [])
         names = {name for place in places for name in self.names[place][:1]}
-        return names if names <= self.proved else set()
+        return names if self.proved is None or names <= self.proved else set()
 
     def together(self):
         """The edits in lists, each of edits of different functions, which one check tries. A module isn't a function, so that its edits are tried alone."""
@@ -124,17 +129,20 @@ class Trial:
 
     def checked(self, edits):
         """What a check of the functions says that these edits change, once they are made; None where they can't all be made."""
-        was, names = {}, set()
+        was = {}
         try:
             for edit in edits:
                 found = changed(edit.read_text("utf-8"), self.folder)
                 if not found:
                     return None
-                names |= self.names_of(edit)
                 for path, text in found[0].items():
                     was.setdefault(path, (self.folder / path).read_text("utf-8"))
                     (self.folder / path).write_text(text, "utf-8")
-            return self.check(sorted(names))
+            while names := set().union(*map(self.names_of, edits)):
+                ran = self.check(sorted(names))
+                if not self.renamed(ran):
+                    return ran
+            return None
         finally:
             for path, text in was.items():
                 (self.folder / path).write_text(text, "utf-8")
@@ -173,9 +181,9 @@ class Trial:
         return f"{REFUSED}: {said[0][:160]}" if said else None
 
 
-def tried(room, crate):
+def tried(room, crate, is_proved):
     """The verdicts of a crate's edits, by their names, as far as their functions decide."""
-    trial = Trial(room, crate)
+    trial = Trial(room, crate, is_proved)
     verdicts = {}
     for edit, said in trial.verdicts():
         if said:
