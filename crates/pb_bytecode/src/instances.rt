@@ -17,7 +17,7 @@ pub(crate) fn has_few_instances(equations: &[Equation]) -> bool
             return false;
         };
         total += count;
-        if total as usize > MAX_INSTANCES {
+        if total > MAX_INSTANCES as u64 {
             return false;
         }
     }

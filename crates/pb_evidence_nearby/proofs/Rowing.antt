@@ -1,5 +1,5 @@
 -- The rows of the nearest instances and of the frontier are those of a module's equations, with trees that are assumed.
-use Rattle.std.proofs.Common.{◌≡◌, ◌≢◌, ℕ, suc, ◌<◌, ◌≤◌, ◌^◌, Bool, true, false, nat_eq, not, cond, List, [], ◌∷◌, All, length, map, get_or, inl, inr, refl, sym, ap, ◌∙◌, subst, arith}
+use Rattle.std.proofs.Common.{◌≡◌, ◌≢◌, ℕ, suc, ◌<◌, ◌≤◌, Bool, true, false, nat_eq, not, cond, List, [], ◌∷◌, All, length, map, get_or, inl, inr, refl, sym, ap, ◌∙◌, subst, arith}
 use Rattle.std.specs.Prelude.{Contains, ◌==◌}
 use Rattle.std.specs.Cmp.{nat_eq_equiv}
 use Rattle.std.specs.List.{IsDistinct, AllByRecursion}
@@ -104,9 +104,6 @@ module _ (m : Contents) (x : Nearby) (is : IsNearby m x) where
 
     pub frontier_is : (b : Bool) → length (nearby_rows x) ≤ k → (leaf : Token) → leaf ≡ leaf_of (not b) → IsAround x b (row_of_tokens n (leaf ∷ []))
     frontier_is b past leaf e = inr (ap (λ (t : Token). t ∷ []) e, not_explored past)
-
-  pub short_row : (k : ℕ) → k < length (nearby_rows x) → length (get_or (nearby_rows x) k nothing).tree < 2 ^ 32
-  short_row k l = is.short (get_or (nearby_rows x) k nothing) (Contains-get_or (nearby_rows x) k nothing l)
 
   -- where nothing is left, what can be reached was found
   module _ (all : length (nearby_rows x) ≡ length (found_in x)) (trees : ℕ → Tree) (are : AreTrees m trees) where

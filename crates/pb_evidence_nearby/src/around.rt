@@ -1,40 +1,13 @@
 //! Rows for a game of the nearest instances.
-ghost use Rattle.std.specs.Prelude.{◌≡◌, ◌≤◌, ◌<◌, ◌^◌, [], ◌∷◌, All, Contains, IfOk, OnOk, length};
-ghost use Rattle.std.specs.Prelude.{map};
-ghost use Rattle.pb_fixpoint_trees.specs.Entries.{IsThere, row_there};
+ghost use Rattle.std.specs.Prelude.{◌≡◌, All, Contains, IfOk, OnOk, length};
 ghost use Rattle.pb_bytecode.specs.Contents.{Contents};
 ghost use Rattle.pb_exploration.specs.Rows.{AreExploredRows};
 ghost use Rattle.pb_evidence_nearby.specs.Nearby.{IsNearby, found_in, nearby_rows};
 ghost use Rattle.pb_evidence_nearby.specs.Around.{AddsAround, AreAssumedRows, IsAround};
 
 use crate::nearby::Nearby;
-use pb_fixpoint_trees::{IndexedRows, Place, ReadRows, Rows, Token};
+use pb_fixpoint_trees::{IndexedRows, ReadRows, Rows, Token};
 use std::alloc::{AllocError, Global};
-
-/// The places of rows that stand in one list, in their order.
-fn places_of(alloc: Global, rows: &Rows) -> Result<Vec<Place>, AllocError>
-    requires { length rows.now ≤ 2 ^ 32 }
-    ensures there { IfOk result (λ index. All (IsThere (rows.now ∷ [])) index.items) }
-    ensures rows { IfOk result (λ index. map (row_there (rows.now ∷ [])) index.items ≡ rows.now) }
-{
-    let mut index = Vec::with_capacity(alloc, rows.len())?;
-    for k in 0..rows.len() {
-        let entry = k as u32;
-        index.push(Place { list: 0, entry })?;
-    }
-    Ok(index)
-}
-
-/// Rows of one list, in their order.
-fn in_order(alloc: Global, rows: Rows) -> Result<IndexedRows, AllocError>
-    requires { length rows ≤ 2 ^ 32 }
-    ensures { IfOk result (λ indexed. indexed ≡ rows) }
-{
-    let index = places_of(alloc, &rows)?;
-    let mut lists = Vec::with_capacity(alloc, 1)?;
-    lists.push(rows)?;
-    IndexedRows::new(alloc, lists, index)
-}
 
 impl Nearby {
     /// The rows by rising number, from whose game this truth value may be shown of the initial
@@ -58,18 +31,18 @@ impl Nearby {
         for &number in &numbers {
             self.push_row(&mut rows, number, truth)?;
         }
-        in_order(alloc, rows)
+        Ok(IndexedRows::of_rows(rows))
     }
 
     /// Adds the row of an instance, or that of its leaf.
-    fn push_row(&self, rows: &mut Rows, number: u32, truth: bool) -> Result<(), AllocError>
+    fn push_row(&self, rows: &mut Rows, number: u64, truth: bool) -> Result<(), AllocError>
         requires nearby { (m : Contents) × IsNearby m self.now }
         requires found { Contains (found_in self.now) number }
         ensures { OnOk result (AddsAround self.now truth number rows.old rows.new) }
     {
         let place = self.found.place(number);
         if place < self.rows.len() {
-            rows.push(number, self.rows.tokens(place))?;
+            rows.push_row(number, &self.rows.tokens(place))?;
         } else if truth {
             rows.push(number, &[Token::No])?;
         } else {

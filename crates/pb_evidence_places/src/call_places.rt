@@ -33,7 +33,7 @@ struct NumberedCalls<'a> {
 
 impl NumberedCalls<'_> {
     /// The place of the first call by which an instance names another, where there is one.
-    fn place(&self, alloc: Global, caller: u32, called: u32) -> Result<Option<Place>, AllocError>
+    fn place(&self, alloc: Global, caller: u64, called: u64) -> Result<Option<Place>, AllocError>
         requires caller { caller < count_of self.now.layout.now }
         requires called { called < count_of self.now.layout.now }
         ensures { IfOk result (λ place. place
@@ -48,8 +48,8 @@ impl NumberedCalls<'_> {
     fn push_places(
         &self,
         alloc: Global,
-        caller: u32,
-        called: &[u32],
+        caller: u64,
+        called: &[u64],
         places: &mut Vec<Option<Place>>,
     ) -> Result<(), AllocError>
         requires caller { caller < count_of self.now.layout.now }

@@ -9,6 +9,6 @@ use crate::caller::Caller;
 #[derive(Clone, Copy)]
 pub(crate) struct Dependency<'c> {
     pub caller: &'c Caller<'c>,
-    pub number: u32,
+    pub number: u64,
     pub ghost listed: { ∥ Contains (numbers_of caller.now.line.telling.now.shown.now) number ∥₁ },
 }

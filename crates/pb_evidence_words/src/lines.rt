@@ -17,14 +17,14 @@ use std::collections::HashMap;
 /// rests on the next one alone.
 #[derive(Drop)]
 pub(crate) struct Lines {
-    pub places: HashMap<u32, usize>,
+    pub places: HashMap<u64, usize>,
     pub parents: Vec<usize>,
     pub lasts: Vec<usize>,
     pub starts: Vec<usize>,
 }
 
 /// The place of each number.
-fn places_of(alloc: Global, numbers: &[u32]) -> Result<HashMap<u32, usize>, AllocError>
+fn places_of(alloc: Global, numbers: &[u64]) -> Result<HashMap<u64, usize>, AllocError>
     requires { (i j : ℕ) → i < j → j < length numbers.now
         → slice_index numbers.now i ≢ slice_index numbers.now j }
     ensures { IfOk result (λ places. ArePlaces numbers.now places) }
@@ -37,7 +37,7 @@ fn places_of(alloc: Global, numbers: &[u32]) -> Result<HashMap<u32, usize>, Allo
 }
 
 /// The place of a number, or 0 of one that has none.
-pub(crate) fn place_in(places: &HashMap<u32, usize>, number: u32) -> usize
+pub(crate) fn place_in(places: &HashMap<u64, usize>, number: u64) -> usize
     ensures { result ≡ unwrap_or (get nat_eq places.now number) 0 }
 {
     places.get(&number).copied().unwrap_or(0)
@@ -60,7 +60,7 @@ pub(crate) fn rests_on_one(evidence: &Evidence, cuts: &[bool], line: usize) -> b
 #[derive(Clone, Copy)]
 struct IndexedEvidence<'e> {
     evidence: &'e Evidence,
-    places: &'e HashMap<u32, usize>,
+    places: &'e HashMap<u64, usize>,
     ghost lines: { HasLines evidence.now },
     ghost placed: { ArePlaces evidence.now.instances.items places.now },
 }

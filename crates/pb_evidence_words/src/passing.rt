@@ -37,7 +37,7 @@ fn is_staying(vocabulary: &Vocabulary<'_>, call: Option<&MadeCall>) -> bool
 
 impl Line<'_> {
     /// Whether an instance that the line rests on is the next line's, which comes from it.
-    fn is_next(&self, number: u32) -> bool
+    fn is_next(&self, number: u64) -> bool
         requires { Contains (numbers_of self.now.telling.now.shown.now) number }
         ensures { result ≡ ((place_of (told_by self.now).graph number == suc self.now.number)
             && not (has_edge (told_by self.now).graph self.now.number number)) }

@@ -48,7 +48,7 @@ impl<'a> Telling<'a> {
 
 impl Telling<'_> {
     /// The instance with a number.
-    pub(crate) fn instance(&self, number: u32) -> Instance
+    pub(crate) fn instance(&self, number: u64) -> Instance
         requires { number < count_of (parameters self.now.shown.now.verified.now) }
         ensures value { instance_of result ≡ shown_instance (told_of self.now.shown.now) number }
         ensures known { IsKnown self.now.shown.now (instance_of result) }
@@ -57,7 +57,7 @@ impl Telling<'_> {
     }
 
     /// Where the line of an instance stands.
-    pub(crate) fn target(&self, number: u32) -> usize
+    pub(crate) fn target(&self, number: u64) -> usize
         requires { Contains (numbers_of self.now.shown.now) number }
         ensures place { result
             ≡ place_of (graph_of self.now.shown.now.explanation.now.evidence) number }

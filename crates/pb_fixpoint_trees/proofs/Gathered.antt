@@ -3,7 +3,7 @@ use Rattle.std.proofs.Common.{◌≡◌, ℕ, suc, ◌<◌, List, [], ◌∷◌,
 use Rattle.std.proofs.lemmas.List.{get_or-map, length-map}
 use Rattle.std.proofs.lemmas.List.Elements.{All-map, All-weaker}
 use Rattle.pb_fixpoint_trees.specs.declared.Token.{Token}
-use Rattle.pb_fixpoint_trees.specs.declared.rows.Entry.{Entry}
+use Rattle.pb_fixpoint_trees.specs.declared.entry.Entry.{Entry}
 use Rattle.pb_fixpoint_trees.specs.declared.rows.Parts.{Parts}
 use Rattle.pb_fixpoint_trees.specs.declared.index.Place.{Place}
 use Rattle.pb_fixpoint_trees.specs.Row.{TokenRow, nothing}

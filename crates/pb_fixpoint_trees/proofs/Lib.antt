@@ -7,6 +7,8 @@ pub mod Lengths
 pub mod Calls
 pub mod Players
 pub mod Total
+pub mod Split
+pub mod Last
 pub mod Entries
 pub mod Gathered
 pub mod NoCut

@@ -1,11 +1,12 @@
 -- What the definitions of trees, tokens, equations and games obey.
-use Rattle.std.specs.Prelude.{◌≡◌, ℕ, ◌+◌, ◌<◌, true, List, ◌++◌, Contains, length, slice_get, Some}
+use Rattle.std.specs.Prelude.{◌≡◌, ℕ, ◌+◌, ◌<◌, true, List, ◌++◌, Contains, length, map, slice_get, Some}
 use Rattle.std.specs.List.Sorted.{IsStrictlyIncreasing}
 use Rattle.pb_fixpoint.specs.Solution.{Environment}
 use Rattle.pb_fixpoint.specs.Fixpoint.{IsSolved, Within}
 use Rattle.pb_fixpoint_trees.specs.declared.Token.{Token}
 use Rattle.pb_fixpoint_trees.specs.Tree.{Tree, tree_truth}
 use Rattle.pb_fixpoint_trees.specs.Tokens.{tree_tokens}
+use Rattle.pb_fixpoint_trees.specs.Kinds.{calls_in, kind_of}
 use Rattle.pb_fixpoint_trees.specs.Equations.{Signature, equation, numbered}
 use Rattle.pb_fixpoint_trees.specs.Rows.{Row, AreRows}
 use Rattle.pb_fixpoint_trees.specs.Game.{Vertex, game_vertices, vertex_of}
@@ -15,6 +16,11 @@ abbrev pub TokensAreOneTree : Type 0
 TokensAreOneTree =
     (x y : Tree) (after behind : List Token) → tree_tokens x ++ after ≡ tree_tokens y ++ behind
     → (x ≡ y) × (after ≡ behind)
+
+-- tokens of the same kinds that call the same numbers are the same
+abbrev pub KindsAndCallsDetermine : Type 0
+KindsAndCallsDetermine =
+    (xs ys : List Token) → map kind_of xs ≡ map kind_of ys → calls_in xs ≡ calls_in ys → xs ≡ ys
 
 abbrev pub TruthIsMonotone : Type 0
 TruthIsMonotone =

@@ -1,6 +1,7 @@
 pub mod Junctions
 pub mod Tree
 pub mod Tokens
+pub mod Kinds
 pub mod Equations
 pub mod Rows
 pub mod Players

@@ -1,32 +1,34 @@
 //! Whether tokens have a cut.
 ghost use Rattle.std.specs.Prelude.{◌≡◌, All, false};
 ghost use Rattle.std.specs.List.{list_any};
-ghost use Rattle.pb_fixpoint_trees.specs.Row.{ListHasNoCut, token_is_cut};
+ghost use Rattle.pb_fixpoint_trees.specs.Kinds.{kind_is_cut};
+ghost use Rattle.pb_fixpoint_trees.specs.Row.{ListHasNoCut};
 
-use crate::Token;
+use crate::kind::Kind;
+use crate::token_lists::TokenLists;
 
-fn is_cut(token: Token) -> bool
-    ensures { result ≡ token_is_cut token }
+fn is_cut(kind: Kind) -> bool
+    ensures { result ≡ kind_is_cut kind }
 {
-    match token {
-        Token::Cut => true,
+    match kind {
+        Kind::Cut => true,
         _ => false,
     }
 }
 
-/// Whether one of the tokens is a cut.
-pub fn any_cut(tokens: &[Token]) -> bool
-    ensures { result ≡ list_any token_is_cut tokens.now }
+/// Whether one of the kinds is a cut.
+pub(crate) fn any_cut(kinds: &[Kind]) -> bool
+    ensures { result ≡ list_any kind_is_cut kinds.now }
 {
-    tokens.iter().any(|token| is_cut(*token))
+    kinds.iter().any(|kind| is_cut(*kind))
 }
 
 /// Whether a token of one of the lists is a cut.
-pub(crate) fn any_list_has_cut(lists: &[Vec<Token>]) -> bool
+pub(crate) fn any_list_has_cut(lists: &[TokenLists]) -> bool
     ensures { result ≡ false → All ListHasNoCut lists.now }
 {
     for tokens in lists {
-        if any_cut(tokens) {
+        if tokens.any_cut() {
             return true;
         }
     }

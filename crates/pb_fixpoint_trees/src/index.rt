@@ -4,10 +4,10 @@ ghost use Rattle.pb_fixpoint_trees.specs.Row.{TokenRow};
 ghost use Rattle.pb_fixpoint_trees.specs.Entries.{IsThere, row_there};
 ghost use Rattle.pb_fixpoint_trees.specs.Order.{rows_in_order};
 
-use crate::Token;
 use crate::listed::{ListedRows, entries_there, parts_of, tokens_of};
 use crate::read_rows::ReadRows;
 use crate::rows::Rows;
+use crate::tree_tokens::TreeTokens;
 use std::alloc::{AllocError, Global};
 use std::marker::Model;
 
@@ -80,7 +80,7 @@ impl ReadRows for IndexedRows {
         }
     }
 
-    fn number(&self, place: usize) -> u32 {
+    fn number(&self, place: usize) -> u64 {
         match &self.order {
             Order::Single(rows) => rows.number(place),
             Order::Several(rows) => rows.number(place),
@@ -94,7 +94,7 @@ impl ReadRows for IndexedRows {
         }
     }
 
-    fn tokens(&self, place: usize) -> &[Token] {
+    fn tokens(&self, place: usize) -> TreeTokens<'_> {
         match &self.order {
             Order::Single(rows) => rows.tokens(place),
             Order::Several(rows) => rows.tokens(place),

@@ -7,28 +7,34 @@
 #![tactic(auto)]
 
 mod cuts;
+mod entry;
 pub mod index;
 mod junction;
+mod kind;
 mod listed;
 mod player;
 pub mod read_rows;
 pub mod reordering;
 pub mod room;
 pub mod rows;
+mod token_lists;
+mod tree_tokens;
 
 ghost use Rattle.pb_fixpoint_trees.specs.Laws.{EquationsAreSolved, GameIsTotal, RowsHaveVertices};
+ghost use Rattle.pb_fixpoint_trees.specs.Laws.{KindsAndCallsDetermine};
 ghost use Rattle.pb_fixpoint_trees.specs.Laws.{TokensAreOneTree, TruthIsMonotone};
 ghost use Rattle.pb_fixpoint_trees.specs.Examples.{EmptyBrackets, LeastWithinGreatest, NestedBrackets};
 ghost use Rattle.pb_fixpoint_trees.specs.Examples.{SelfReference};
 
-pub use cuts::any_cut;
 pub use index::{IndexedRows, Place};
 pub use junction::Junction;
+pub use kind::Kind;
 pub use player::Player;
 pub use read_rows::ReadRows;
 pub use reordering::Reordering;
 pub use room::push;
 pub use rows::Rows;
+pub use tree_tokens::TreeTokens;
 
 /// A token of a tree. The tree of an instance, with all data evaluated, is a list of these: a leaf,
 /// or an opening token, the tokens of the operands in order, and `Close`.
@@ -47,12 +53,17 @@ pub enum Token {
     /// A call with an argument outside the carrier of its parameter, a leaf that counts as false.
     Cut,
     /// A call of the instance with this number.
-    Call(u32),
+    Call(u64),
 }
 
 /// A list of tokens is at most one tree, and no tree's tokens begin another's.
 pub fn tokens_determine_tree()
     ensures { TokensAreOneTree }
+{}
+
+/// Tokens are determined by what kinds they are of and the numbers that they call.
+pub fn kinds_and_calls_determine_tokens()
+    ensures { KindsAndCallsDetermine }
 {}
 
 /// A tree that is true under an environment is true under each larger one.

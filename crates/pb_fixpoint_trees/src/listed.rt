@@ -1,14 +1,16 @@
 //! Rows whose tokens stand in several lists, in an order of their own.
-ghost use Rattle.std.specs.Prelude.{◌≡◌, All, IfOk, List, map, vec_items};
+ghost use Rattle.std.specs.Prelude.{◌≡◌, All, IfOk, List, map};
 ghost use Rattle.pb_fixpoint_trees.specs.Row.{TokenRow};
 ghost use Rattle.pb_fixpoint_trees.specs.Entries.{AreInside, IsListed, IsThere, entry_there};
 ghost use Rattle.pb_fixpoint_trees.specs.Entries.{listed_row, rows_in, tokens_in};
 
-use crate::Token;
 use crate::cuts::any_list_has_cut;
+use crate::entry::Entry;
 use crate::index::Place;
 use crate::read_rows::ReadRows;
-use crate::rows::{Entry, Parts, Rows};
+use crate::rows::{Parts, Rows};
+use crate::token_lists::TokenLists;
+use crate::tree_tokens::TreeTokens;
 use std::alloc::{AllocError, Global};
 use std::marker::Model;
 
@@ -23,17 +25,16 @@ pub(crate) struct ListedEntry {
 #[derive(Drop)]
 pub(crate) struct ListedRows {
     /// The tokens of each list.
-    pub lists: Vec<Vec<Token>>,
+    pub lists: Vec<TokenLists>,
     pub entries: Vec<ListedEntry>,
 }
 
 impl Model for ListedRows {
     ghost Value = { List TokenRow };
 
-    ghost view = { λ rows. map (listed_row (map vec_items rows.lists.items)) rows.entries.items };
+    ghost view = { λ rows. map (listed_row rows.lists.items) rows.entries.items };
 
-    ghost invariant = { λ rows. All (IsListed
-        (map vec_items rows.lists.items)) rows.entries.items };
+    ghost invariant = { λ rows. All (IsListed rows.lists.items) rows.entries.items };
 }
 
 /// The parts of each list.
@@ -67,8 +68,8 @@ pub(crate) fn entries_there(
 }
 
 /// The tokens of each list.
-pub(crate) fn tokens_of(alloc: Global, lists: Vec<Parts>) -> Result<Vec<Vec<Token>>, AllocError>
-    ensures { IfOk result (λ tokens. map vec_items tokens.items ≡ map tokens_in lists.items) }
+pub(crate) fn tokens_of(alloc: Global, lists: Vec<Parts>) -> Result<Vec<TokenLists>, AllocError>
+    ensures { IfOk result (λ tokens. tokens.items ≡ map tokens_in lists.items) }
 {
     let mut tokens = Vec::with_capacity(alloc, lists.len())?;
     for parts in lists {
@@ -84,7 +85,7 @@ impl ReadRows for ListedRows {
         self.entries.len()
     }
 
-    fn number(&self, place: usize) -> u32 {
+    fn number(&self, place: usize) -> u64 {
         self.entries[place].entry.number
     }
 
@@ -92,9 +93,9 @@ impl ReadRows for ListedRows {
         self.entries[place].entry.count as usize
     }
 
-    fn tokens(&self, place: usize) -> &[Token] {
+    fn tokens(&self, place: usize) -> TreeTokens<'_> {
         let ListedEntry { list, entry } = self.entries[place];
-        &self.lists[list as usize][entry.first..][..entry.count as usize]
+        self.lists[list as usize].tree(entry)
     }
 
     fn any_cut(&self) -> bool {

@@ -2,7 +2,7 @@
 ghost use Rattle.std.specs.Prelude.{◌≡◌, ◌<◌, ◌^◌, All, List, false, length, slice_index_or};
 ghost use Rattle.pb_fixpoint_trees.specs.Row.{HasNoCut, TokenRow, nothing};
 
-use crate::Token;
+use crate::tree_tokens::TreeTokens;
 
 /// Rows that can be read. Contracts see a list of them.
 pub trait ReadRows {
@@ -14,7 +14,7 @@ pub trait ReadRows {
         ensures { result ≡ length (rows self.now) };
 
     /// The number of a row's instance.
-    fn number(&self, place: usize) -> u32
+    fn number(&self, place: usize) -> u64
         requires { place < length (rows self.now) }
         ensures { result ≡ (slice_index_or (rows self.now) place nothing).number };
 
@@ -25,9 +25,9 @@ pub trait ReadRows {
         ensures small { result < 2 ^ 32 };
 
     /// The tokens of a row's tree, from the left.
-    fn tokens(&self, place: usize) -> &[Token]
+    fn tokens(&self, place: usize) -> TreeTokens<'_>
         requires { place < length (rows self.now) }
-        ensures { result.now ≡ (slice_index_or (rows self.now) place nothing).tree };
+        ensures { result ≡ (slice_index_or (rows self.now) place nothing).tree };
 
     /// Whether any of the tokens is a cut, by one look at each. The tokens may be more than those
     /// of the rows' trees.

@@ -3,9 +3,10 @@ ghost use Rattle.std.specs.Prelude.{◌≡◌, ◌<◌, [], ◌∷◌, ◌++◌,
 ghost use Rattle.std.specs.Prelude.{slice_index_or};
 ghost use Rattle.pb_fixpoint_trees.specs.Row.{nothing};
 
-use crate::Token;
+use crate::entry::Entry;
 use crate::room::push;
-use crate::rows::{Entry, Parts, Rows};
+use crate::rows::{Parts, Rows};
+use crate::token_lists::TokenLists;
 use std::alloc::{AllocError, Global};
 use std::marker::Model;
 
@@ -14,7 +15,7 @@ use std::marker::Model;
 #[derive(Drop)]
 pub struct Reordering {
     entries: Vec<Entry>,
-    tokens: Vec<Token>,
+    tokens: TokenLists,
     chosen: Vec<Entry>,
 }
 
@@ -26,12 +27,12 @@ impl Model for Reordering {
     ghost Value = { ChosenRows };
 
     ghost view = { λ r. record {
-      rows = map (row_at r.tokens.items) r.entries.items;
-      chosen = map (row_at r.tokens.items) r.chosen.items;
+      rows = map (row_at r.tokens) r.entries.items;
+      chosen = map (row_at r.tokens) r.chosen.items;
     } };
 
-    ghost invariant = { λ r. All (IsInside r.tokens.items) r.entries.items
-        × All (IsInside r.tokens.items) r.chosen.items };
+    ghost invariant = { λ r. All (IsInside r.tokens) r.entries.items
+        × All (IsInside r.tokens) r.chosen.items };
 }
 
 impl Reordering {
@@ -60,7 +61,7 @@ impl Reordering {
     }
 
     /// The number of the instance of a row to choose from.
-    pub fn number(&self, place: usize) -> u32
+    pub fn number(&self, place: usize) -> u64
         requires { place < length self.now.rows }
         ensures { result ≡ (slice_index_or self.now.rows place nothing).number }
     {

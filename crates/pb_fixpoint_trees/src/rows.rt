@@ -1,64 +1,38 @@
-//! Rows: reached instances with the tokens of their trees, which stand in one list.
+//! Rows: reached instances with the tokens of their trees, which stand one behind another.
 ghost use Rattle.std.specs.Prelude.{◌≡◌, ◌<◌, ◌^◌, [], ◌∷◌, ◌++◌, All, List, OnErr, OnOk};
 ghost use Rattle.std.specs.Prelude.{length, map};
 ghost use Rattle.pb_fixpoint_trees.specs.Row.{TokenRow, row_of_tokens};
 ghost use Rattle.pb_fixpoint_trees.specs.Entries.{AreInside, IsInside, row_at, rows_in};
 
 use crate::Token;
-use crate::cuts::any_cut;
+use crate::entry::Entry;
 use crate::read_rows::ReadRows;
 use crate::room::push;
+use crate::token_lists::TokenLists;
+use crate::tree_tokens::TreeTokens;
 use std::alloc::{AllocError, Global};
 use std::marker::Model;
-
-/// An instance, and where the tokens of its tree stand.
-#[derive(Clone, Copy)]
-pub struct Entry {
-    pub(crate) number: u32,
-    pub(crate) count: u32,
-    pub(crate) first: usize,
-}
 
 /// Rows in the order in which they were found. Contracts see a list of them.
 #[derive(Drop)]
 pub struct Rows {
     entries: Vec<Entry>,
-    tokens: Vec<Token>,
+    tokens: TokenLists,
 }
 
 /// The parts of some rows, which say nothing of each other by themselves.
 #[derive(Drop)]
 pub(crate) struct Parts {
     pub entries: Vec<Entry>,
-    pub tokens: Vec<Token>,
+    pub tokens: TokenLists,
 }
 
 impl Model for Rows {
     ghost Value = { List TokenRow };
 
-    ghost view = { λ rows. map (row_at rows.tokens.items) rows.entries.items };
+    ghost view = { λ rows. map (row_at rows.tokens) rows.entries.items };
 
-    ghost invariant = { λ rows. All (IsInside rows.tokens.items) rows.entries.items };
-}
-
-/// Up to so many tokens are few.
-const FEW: usize = 8;
-
-/// Adds tokens at the end: few of them one by one, which costs less than a call that copies memory.
-#[inline(always)]
-fn append(tokens: &mut Vec<Token>, more: &[Token]) -> Result<(), AllocError>
-    ensures ok { OnOk result (tokens.new.items ≡ tokens.old.items ++ more.now) }
-    ensures err { OnErr result (tokens.new.items ≡ tokens.old.items) }
-{
-    if more.len() > FEW {
-        tokens.extend_from_slice(more)?;
-        return Ok(());
-    }
-    tokens.reserve(more.len())?;
-    for token in more {
-        tokens.push_reserved(*token);
-    }
-    Ok(())
+    ghost invariant = { λ rows. All (IsInside rows.tokens) rows.entries.items };
 }
 
 impl Rows {
@@ -68,7 +42,7 @@ impl Rows {
     {
         Rows {
             entries: Vec::new(alloc),
-            tokens: Vec::new(alloc),
+            tokens: TokenLists::new(alloc),
         }
     }
 
@@ -76,19 +50,41 @@ impl Rows {
     ///
     /// # Errors
     /// Memory was refused. The rows are then as they were.
-    pub fn push(&mut self, number: u32, tokens: &[Token]) -> Result<(), AllocError>
+    pub fn push(&mut self, number: u64, tokens: &[Token]) -> Result<(), AllocError>
         requires { length tokens.now < 2 ^ 32 }
         ensures ok { OnOk result (self.new ≡ self.old ++ row_of_tokens number tokens.now ∷ []) }
         ensures err { OnErr result (self.new ≡ self.old) }
     {
-        let count = tokens.len() as u32;
         let first = self.tokens.len();
-        append(&mut self.tokens, tokens)?;
+        let first_call = self.tokens.call_count();
+        self.tokens.append(tokens)?;
         let entry = Entry {
             number,
-            count,
             first,
+            first_call,
+            count: tokens.len() as u32,
+            calls: (self.tokens.call_count() - first_call) as u32,
         };
+        push(&mut self.entries, entry)?;
+        Ok(())
+    }
+
+    /// Adds a row at the end, whose tree stands among other rows.
+    ///
+    /// # Errors
+    /// Memory was refused. The rows are then as they were.
+    pub fn push_row(&mut self, number: u64, tokens: &TreeTokens<'_>) -> Result<(), AllocError>
+        ensures ok { OnOk result (self.new ≡ self.old ++ row_of_tokens number tokens.now ∷ []) }
+        ensures err { OnErr result (self.new ≡ self.old) }
+    {
+        let entry = Entry {
+            number,
+            first: self.tokens.len(),
+            first_call: self.tokens.call_count(),
+            count: tokens.len() as u32,
+            calls: tokens.calls().len() as u32,
+        };
+        self.tokens.append_tree(tokens)?;
         push(&mut self.entries, entry)?;
         Ok(())
     }
@@ -119,7 +115,7 @@ impl ReadRows for Rows {
         self.entries.len()
     }
 
-    fn number(&self, place: usize) -> u32 {
+    fn number(&self, place: usize) -> u64 {
         self.entries[place].number
     }
 
@@ -127,13 +123,11 @@ impl ReadRows for Rows {
         self.entries[place].count as usize
     }
 
-    fn tokens(&self, place: usize) -> &[Token] {
-        let entry = self.entries[place];
-        let last = entry.first + entry.count as usize;
-        &self.tokens[entry.first..last]
+    fn tokens(&self, place: usize) -> TreeTokens<'_> {
+        self.tokens.tree(self.entries[place])
     }
 
     fn any_cut(&self) -> bool {
-        any_cut(&self.tokens)
+        self.tokens.any_cut()
     }
 }

@@ -18,3 +18,4 @@ pub mod Sizes
 pub mod Placed
 pub mod Refused
 pub mod Dense
+pub mod FoundPlaces

@@ -132,23 +132,26 @@ first_of_tree (Root c f) d = refl
 first_is : (tokens : List Token) (tree : Tree) (d : Token) → tokens ≡ tree_tokens tree → slice_get (tree_tokens tree) 0 ≡ Some (get_or tokens 0 d)
 first_is tokens tree d e = first_of_tree tree d ∙ ap (λ (xs : List Token). Some (get_or xs 0 d)) (sym e)
 
--- what stands behind the token at k of a tree, and behind its first one
+-- what stands behind the k-th token of a tree, and behind its first one
 module _ {at : ℕ → ℕ} {builder start : Builder} {behind : List Vertex} {limit : ℕ} (tokens : List Token) (tree : Tree) (spelled : tokens ≡ tree_tokens tree) (k : ℕ)
-    (begins : IsAt at start [] behind limit) (less : inner tree < start.next) (is : IsAt at builder (rest_at (k - 1) (opened tree)) behind limit) where
+    (t : Token) (there : get_or tokens (k - 1) token.And ≡ t) (begins : IsAt at start [] behind limit) (less : inner tree < start.next)
+    (is : IsAt at builder (rest_at (k - 1) (opened tree)) behind limit) where
   -- each token comes before some vertex
   some_next : 0 < builder.next
   some_next = omega (arith, begins.reaches, less, is.reaches, rest_brackets-at (k - 1) (opened tree), opened-brackets tree)
 
-  pub before_token : 1 < k → k ≤ length tokens → IsBefore at builder (rest_at (k - 1 - 1) (opened tree)) (get_or tokens (k - 1) token.And) behind limit
+  pub before_token : 1 < k → k ≤ length tokens → IsBefore at builder (rest_at (k - 1 - 1) (opened tree)) t behind limit
   before_token more within = record {
     room = some_next;
-    first = first_behind tokens tree k token.And spelled more within;
+    first = first_behind tokens tree k token.And spelled more within ∙ ap Some there;
     rest = subst (λ (fs : List Operands). IsAt at builder fs behind limit) (rest_step k (opened tree) more) is;
   }
 
-  pub before_first : k ≤ 1 → IsBeforeFirst at builder tree (get_or tokens 0 token.And) behind limit
+  pub before_first : k ≤ 1 → IsBeforeFirst at builder tree t behind limit
   before_first last = record {
     room = some_next;
-    first = first_is tokens tree token.And spelled;
+    first =
+        let none : 0 ≡ k - 1 = omega arith in
+        first_is tokens tree token.And spelled ∙ ap Some (ap (λ (i : ℕ). get_or tokens i token.And) none ∙ there);
     rest = subst (λ (fs : List Operands). IsAt at builder fs behind limit) (rest_first k (opened tree) last) is;
   }

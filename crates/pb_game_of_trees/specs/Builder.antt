@@ -4,8 +4,6 @@ use Rattle.std.specs.Prelude.{Option, None, Some, slice_get}
 use Rattle.pb_fixpoint_trees.specs.declared.Token.{Token}
 use Rattle.pb_fixpoint_trees.specs.declared.Token.TheVariants as token
 use Rattle.pb_fixpoint_trees.specs.declared.player.Player.{Player}
-use Rattle.pb_fixpoint_trees.specs.declared.junction.Junction.{Junction}
-use Rattle.pb_fixpoint_trees.specs.declared.junction.Junction.TheVariants.{Conjunction, Disjunction}
 use Rattle.pb_fixpoint_trees.specs.Tree.{Operands, End, LeafThen}
 use Rattle.pb_fixpoint_trees.specs.Tree.{BracketThen, Tree, Single, Root}
 use Rattle.pb_fixpoint_trees.specs.Tokens.{opening, leaf_token, operands_tokens, tree_tokens}

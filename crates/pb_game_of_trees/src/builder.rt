@@ -14,7 +14,7 @@ use crate::bracket::{owner, sink};
 use crate::draft::Draft;
 use crate::numbering::Numbering;
 use crate::small::{bracket_of, leaf_vertex};
-use pb_fixpoint_trees::{IndexedRows, Junction, ReadRows, Token};
+use pb_fixpoint_trees::{IndexedRows, Junction, Kind, ReadRows, Token, TreeTokens};
 use pb_game::Player;
 use std::alloc::AllocError;
 
@@ -39,15 +39,15 @@ pub(crate) struct Builder {
 
 /// How many operands of a tree may wait for their brackets: none where it is a leaf, else no more
 /// than it has tokens.
-fn most_waiting(tokens: &[Token]) -> usize
-    ensures { result ≤ length tokens.now }
+fn most_waiting(kinds: &[Kind]) -> usize
+    ensures { result ≤ length kinds.now }
 {
-    if tokens.is_empty() {
+    if kinds.is_empty() {
         return 0;
     }
-    match tokens[0] {
-        Token::And => tokens.len(),
-        Token::Or => tokens.len(),
+    match kinds[0] {
+        Kind::And => kinds.len(),
+        Kind::Or => kinds.len(),
         _ => 0,
     }
 }
@@ -59,7 +59,7 @@ fn most_waiting_of(rows: &IndexedRows, from: usize, to: usize) -> usize
 {
     let mut most: usize = 0;
     for k in from..to {
-        most = most.max(most_waiting(rows.tokens(k)));
+        most = most.max(most_waiting(rows.tokens(k).kinds()));
     }
     most
 }
@@ -209,27 +209,28 @@ impl Builder {
     pub fn put_tree(
         &mut self,
         vertices: &Numbering<'_>,
-        tokens: &[Token],
+        mut tokens: TreeTokens<'_>,
         priority: u32,
     ) -> Result<(), AllocError>
-        requires spelled { (tree : Tree) × (tokens.now ≡ tree_tokens tree)
+        requires spelled { (tree : Tree) × (tokens ≡ tree_tokens tree)
             × (inner tree < self.old.next) }
         requires before { (behind : List Vertex) × (limit : ℕ)
             × IsAt (numbered_vertex vertices.now) self.old [] behind limit }
         ensures { OnOk result ((tree : Tree) (behind : List Vertex) (limit : ℕ)
-            → tokens.now ≡ tree_tokens tree
+            → tokens.entry ≡ tree_tokens tree
             → IsAt (numbered_vertex vertices.now) self.old [] behind limit
             → HasTree (numbered_vertex vertices.now) self.new priority tree behind limit) }
     {
         if tokens.len() == ONE_LEAF {
-            let owner = owner(bracket_of(tokens[0]));
-            return self.one_edge(owner, leaf_vertex(vertices, tokens[1]), priority);
+            let owner = owner(bracket_of(tokens.take_first().unwrap()));
+            let target = leaf_vertex(vertices, tokens.take_first().unwrap());
+            return self.one_edge(owner, target, priority);
         }
-        let mut k = tokens.len();
-        while k > 1 {
-            k -= 1;
-            self.read(vertices, tokens[k])?;
+        while tokens.len() > 1 {
+            let token = tokens.take_last().unwrap();
+            self.read(vertices, token)?;
         }
-        self.read_first(vertices, tokens[0], priority)
+        let token = tokens.take_last().unwrap();
+        self.read_first(vertices, token, priority)
     }
 }

@@ -6,6 +6,7 @@ ghost use Rattle.pb_game_of_trees.specs.Held.{Hold};
 ghost use Rattle.pb_game_of_trees.specs.Numbering.{numbered_vertex};
 ghost use Rattle.pb_game_of_trees.specs.Places.{numbers};
 
+use crate::found_vertices::{FoundVertices, find_numbers};
 use crate::sorted_vertices::{SortedVertices, numbers_of_rows};
 use pb_fixpoint_trees::{IndexedRows, ReadRows};
 use pb_game::Game;
@@ -15,30 +16,36 @@ use std::alloc::{AllocError, Global};
 /// number, of which a part of the instances has few.
 const SPARSE: usize = 16;
 
+/// Up to so many numbers are searched for in their order; more of them by a hash table, which takes
+/// more memory and fewer steps.
+const FEW: usize = 65_536;
+
 /// The vertices of instances by their numbers: those of the rows, where each number has a row; else
-/// in a table of all numbers, or among those of the rows.
+/// in a table of all numbers, or among those of the rows: in their order, or by a hash table.
 #[derive(Drop)]
 pub(crate) enum Numbering<'a> {
     Dense(&'a [u32]),
     Table(Vec<u32>),
     Sorted(SortedVertices<'a>),
+    Found(FoundVertices<'a>),
 }
 
 impl Numbering<'_> {
     /// The vertex of a number; 0 where no row has it.
-    pub(crate) fn vertex(&self, number: u32) -> u32
+    pub(crate) fn vertex(&self, number: u64) -> u32
         ensures { result ≡ numbered_vertex self.now number }
     {
         match self {
             Numbering::Dense(vertices) => vertex_at(vertices, number),
             Numbering::Table(table) => vertex_at(table, number),
             Numbering::Sorted(sorted) => sorted.vertex(number),
+            Numbering::Found(found) => found.vertex(number),
         }
     }
 }
 
 /// The vertex at a number's place; 0 where there is none.
-fn vertex_at(vertices: &[u32], number: u32) -> u32
+fn vertex_at(vertices: &[u32], number: u64) -> u32
     ensures { result ≡ slice_index vertices.now number }
 {
     vertices.get(number as usize).copied().unwrap_or(0)
@@ -62,6 +69,10 @@ pub(crate) fn number_vertices<'a>(
 {
     if rows.len() == count {
         return Ok(Numbering::Dense(vertices));
+    }
+    if rows.len() < count / SPARSE && rows.len() > FEW {
+        let found = find_numbers(alloc, rows)?;
+        return Ok(Numbering::Found(FoundVertices { found, vertices }));
     }
     if rows.len() < count / SPARSE {
         let numbers = numbers_of_rows(alloc, rows)?;

@@ -8,12 +8,12 @@ use crate::Signature;
 use pb_verifier::Verified;
 use std::alloc::{AllocError, Global};
 
-/// Few equations, whose instances have numbers below 2^32.
+/// Few equations, whose instances have numbers below 2^63.
 #[derive(Drop)]
 pub struct Signatures {
     pub items: Vec<Signature>,
     pub ghost few: { vec_len items < 256 },
-    pub ghost numbered: { total (equations_of items.items) < 2 ^ 32 },
+    pub ghost numbered: { total (equations_of items.items) < 2 ^ 63 },
 }
 
 impl Signatures {

@@ -11,7 +11,7 @@ ghost use Rattle.pb_game_of_trees.specs.Places.{vertex_behind, is_closing};
 ghost use Rattle.pb_base.specs.declared.limits.TheConstants.{MAX_VERTICES};
 
 use pb_base::MAX_VERTICES;
-use pb_fixpoint_trees::{IndexedRows, ReadRows, Token};
+use pb_fixpoint_trees::{IndexedRows, Kind, ReadRows};
 use pb_game::Game;
 
 /// How many vertices a game has, and about how many edges.
@@ -21,19 +21,19 @@ pub(crate) struct Size {
     pub edges: usize,
 }
 
-fn is_closing(token: Token) -> bool
-    ensures { result ≡ is_closing token }
+fn is_closing(kind: Kind) -> bool
+    ensures { result ≡ is_closing kind }
 {
-    match token {
-        Token::Close => true,
+    match kind {
+        Kind::Close => true,
         _ => false,
     }
 }
 
-fn count_closing(tokens: &[Token]) -> usize
-    ensures { result ≡ count_by is_closing tokens.now }
+fn count_closing(kinds: &[Kind]) -> usize
+    ensures { result ≡ count_by is_closing kinds.now }
 {
-    tokens.iter().filter(|token| is_closing(**token)).count()
+    kinds.iter().filter(|kind| is_closing(**kind)).count()
 }
 
 /// How many tokens the least tree has that has a bracket inside its root.
@@ -50,7 +50,7 @@ pub(crate) fn inner_of(rows: &IndexedRows, k: usize) -> usize
         return 0;
     }
     // The root's bracket isn't inside.
-    count_closing(rows.tokens(k)).saturating_sub(1)
+    count_closing(rows.tokens(k).kinds()).saturating_sub(1)
 }
 
 /// The size of the game of these rows; none where it has more vertices than a game may have (G01).

@@ -10,7 +10,7 @@ use std::alloc::{AllocError, Global};
 /// The numbers of rows, which rise, with the rows' vertices.
 #[derive(Drop)]
 pub(crate) struct SortedVertices<'a> {
-    pub numbers: Vec<u32>,
+    pub numbers: Vec<u64>,
     pub vertices: &'a [u32],
     pub ghost rising: { IsStrictlyIncreasing numbers.items },
     pub ghost sized: { length vertices.now ≡ length numbers.items },
@@ -18,7 +18,7 @@ pub(crate) struct SortedVertices<'a> {
 
 impl SortedVertices<'_> {
     /// The vertex of a number; 0 where no row has it.
-    pub(crate) fn vertex(&self, number: u32) -> u32
+    pub(crate) fn vertex(&self, number: u64) -> u32
         ensures { result ≡ vertex_in self.now.numbers.items self.now.vertices.now number }
     {
         match self.numbers.binary_search(&number) {
@@ -28,7 +28,7 @@ impl SortedVertices<'_> {
     }
 }
 
-pub(crate) fn numbers_of_rows(alloc: Global, rows: &IndexedRows) -> Result<Vec<u32>, AllocError>
+pub(crate) fn numbers_of_rows(alloc: Global, rows: &IndexedRows) -> Result<Vec<u64>, AllocError>
     ensures { IfOk result (λ list. list.items ≡ numbers_of rows.now) }
 {
     let mut list = Vec::with_capacity(alloc, rows.len())?;

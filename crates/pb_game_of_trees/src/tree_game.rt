@@ -62,7 +62,7 @@ impl TreeGame {
         alloc: Global,
         signatures: &Signatures,
         rows: &IndexedRows,
-        initial: u32,
+        initial: u64,
     ) -> Result<TreeGame, BuildError>
         requires { RowsHaveTrees (equations_of signatures.now.items.items) rows.now initial }
         ensures game { IfOk result

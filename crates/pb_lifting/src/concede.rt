@@ -58,9 +58,9 @@ fn concede_one<B: TableBrand, G: Gate>(
         scale: &ranks.scale,
     };
     let worker = lifter.seat.worker;
-    site.lifting.gate.enter(worker, v);
+    site.lifting.gate.enter(worker, v as u64);
     ranks.raise(&mut lifter.seat, v, ranking.top());
-    site.lifting.gate.answered(worker, v, true);
+    site.lifting.gate.answered(worker, v as u64, true);
 }
 
 /// Whether a player wins a vertex by its measure.

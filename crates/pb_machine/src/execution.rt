@@ -137,7 +137,7 @@ impl Machine {
     }
 
     /// Makes the values of the instance with this number the slots. Answers its equation.
-    pub(crate) fn load(&mut self, layout: &Layout, number: u32) -> Result<usize, AllocError>
+    pub(crate) fn load(&mut self, layout: &Layout, number: u64) -> Result<usize, AllocError>
         requires { number < count_of layout.now }
         ensures { IfOk result (λ owner. slice_get (instances (carriers_of layout.now)) number
             ≡ Some (record { equation = owner; values = self.new.slots.items })) }

@@ -29,12 +29,12 @@ fn divided(number: u64, size: u64) -> (u64, u64)
 }
 
 /// Writes the values at a place among the tuples of their carriers over as many others.
-pub(crate) fn write_values(values: &mut [i64], carriers: &[Carrier], place: u32)
+pub(crate) fn write_values(values: &mut [i64], carriers: &[Carrier], place: u64)
     requires one_each { length values.old ≡ length carriers.now }
     requires below { place < tuple_count (map values_of carriers.now) }
     ensures { slice_get (tuples (map values_of carriers.now)) place ≡ Some values.new }
 {
-    let mut rest = place as u64;
+    let mut rest = place;
     for index in (0..carriers.len()).rev() {
         let carrier = &carriers[index];
         let (before, last) = divided(rest, carrier.size());

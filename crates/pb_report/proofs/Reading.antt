@@ -1,7 +1,7 @@
 -- Reading the tokens of a tree gives its truth with cut calls true.
-use Rattle.std.proofs.Common.{◌≡◌, ℕ, Bool, true, false, ◌&&◌, ◌||◌, List, [], ◌∷◌, ◌++◌, ◌≤◌, length, drop, reverse, refl, sym, ap, ◌∙◌}
+use Rattle.std.proofs.Common.{◌≡◌, ℕ, Bool, true, false, ◌&&◌, ◌||◌, List, [], ◌∷◌, ◌++◌, reverse, refl, sym, ap, ◌∙◌}
 use Rattle.std.proofs.Math.Bool.{and-true, and_assoc, or_assoc}
-use Rattle.std.proofs.lemmas.List.{append_assoc, drop_all}
+use Rattle.std.proofs.lemmas.List.{append_assoc}
 use Rattle.pb_fixpoint.specs.Solution.{Environment}
 use Rattle.pb_fixpoint_trees.specs.declared.Token.{Token}
 use Rattle.pb_fixpoint_trees.specs.declared.Token.TheVariants as token
@@ -84,12 +84,12 @@ module _ (t : Environment ℕ) where
       ∙ (read_operands f (started c) (Any false ∷ []) (token.Close ∷ []) ∙ started_truth c f)
 
   -- all tokens were read, from no open bracket on
-  pub read_to_end : (r : Reading) (tokens : List Token) (k : ℕ) (none : List Bracket) (truth : Bool) → length tokens ≤ k → none ≡ []
-      → read_on t r (drop k tokens) ≡ read t (Any false) (reverse none) tokens → truth ≡ bracket_truth r.inner
+  pub read_to_end : (r : Reading) (tokens left : List Token) (none : List Bracket) (truth : Bool) → left ≡ [] → none ≡ []
+      → read_on t r left ≡ read t (Any false) (reverse none) tokens → truth ≡ bracket_truth r.inner
       → (tree : Tree) → tokens ≡ tree_tokens tree → truth ≡ tree_truth t (uncut tree)
-  read_to_end r tokens k none truth over empty so_far is tree spelled =
+  read_to_end r tokens left none truth over empty so_far is tree spelled =
       is
-      ∙ (sym (ap (read_on t r) (drop_all k tokens over))
+      ∙ (sym (ap (read_on t r) over)
       ∙ (so_far
       ∙ (ap (λ (xs : List Bracket). read t (Any false) (reverse xs) tokens) empty
       ∙ (ap (read t (Any false) []) spelled ∙ read_tree tree))))

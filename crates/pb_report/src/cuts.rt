@@ -13,11 +13,11 @@ ghost use Rattle.pb_report.specs.Cuts as spec;
 
 use crate::tree_truth::{Named, uncut_truth};
 use pb_evidence::Evidence;
-use pb_fixpoint_trees::{IndexedRows, ReadRows, Token};
+use pb_fixpoint_trees::{IndexedRows, ReadRows, TreeTokens};
 use std::alloc::{AllocError, Global};
 
 /// The numbers of rows, in their order.
-fn numbers_of(alloc: Global, rows: &IndexedRows) -> Result<Vec<u32>, AllocError>
+fn numbers_of(alloc: Global, rows: &IndexedRows) -> Result<Vec<u64>, AllocError>
     ensures { IfOk result (λ numbers. numbers.items ≡ reached.numbers_of rows.now) }
 {
     let mut numbers = Vec::with_capacity(alloc, rows.len())?;
@@ -28,7 +28,7 @@ fn numbers_of(alloc: Global, rows: &IndexedRows) -> Result<Vec<u32>, AllocError>
 }
 
 /// Where a number stands among numbers that rise.
-fn place_of(numbers: &[u32], number: u32) -> usize
+fn place_of(numbers: &[u64], number: u64) -> usize
     requires rising { IsRising numbers.now }
     requires listed { Contains numbers.now number }
     ensures within { result < length numbers.now }
@@ -46,10 +46,10 @@ fn is_cut(
     alloc: Global,
     evidence: &Evidence,
     place: usize,
-    tokens: &[Token],
+    tokens: TreeTokens<'_>,
 ) -> Result<bool, AllocError>
     requires { place < length evidence.now.instances.items }
-    ensures { IfOk result (λ cut. (tree : Tree) → tokens.now ≡ tree_tokens tree
+    ensures { IfOk result (λ cut. (tree : Tree) → tokens.entry ≡ tree_tokens tree
         → cut ≡ spec.rests_on_cut evidence.now.truth
         (row evidence.now.places.items evidence.now.dependencies.items place) tree) }
 {

@@ -41,7 +41,7 @@ pub struct PlacedExplanation<'a> {
 #[derive(Clone, Copy)]
 struct Basis<'a> {
     verified: &'a Verified,
-    dependencies: &'a [u32],
+    dependencies: &'a [u64],
     call_places: &'a [Option<Place>],
     cut: bool,
     ghost inside: { (k : ℕ) → k < length dependencies.now

@@ -38,7 +38,7 @@ struct PlacedRows<'a> {
 #[derive(Clone, Copy)]
 struct NamedVertex {
     vertex: u32,
-    instance: Option<u32>,
+    instance: Option<u64>,
 }
 
 /// An instance's name in its quotes, and the line's end.
@@ -59,7 +59,7 @@ fn write_line_end<S: Sink>(
     writer: &mut TextWriter<'_, S>,
     verified: &Verified,
     vertex: u32,
-    number: Option<u32>,
+    number: Option<u64>,
 ) -> Result<(), E02>
     requires { IfSome number (λ n. n < count_of (parameters verified.now)) }
     ensures { Sends (name_part (name_by verified.now vertex number))
@@ -98,7 +98,7 @@ fn write_line<S: Sink>(
 impl PlacedRows<'_> {
     /// The number of the row whose vertex this is, if it is one's; `k` is the first row whose
     /// vertex is not before it.
-    fn number(&self, k: usize, vertex: u32) -> Option<u32>
+    fn number(&self, k: usize, vertex: u32) -> Option<u64>
         requires { IsAtRow self.now.vertices.now k vertex }
         ensures number { result ≡ number_in self.now.vertices.now self.now.rows.now vertex }
         ensures some { IsSome result ↔ ((k < length self.now.vertices.now)

@@ -11,7 +11,7 @@ use std::alloc::{AllocError, Global};
 #[derive(Drop)]
 pub(crate) struct InstanceMarks {
     pub marks: Vec<bool>,
-    pub numbers: Vec<u32>,
+    pub numbers: Vec<u64>,
 }
 
 impl InstanceMarks {
@@ -33,7 +33,7 @@ impl InstanceMarks {
             (length rows.now) x.marks.items x.numbers.items) }
     {
         let mut marks = vec![in alloc; false; count as usize]?;
-        let mut numbers = vec![in alloc; 0u32; count as usize]?;
+        let mut numbers = vec![in alloc; 0u64; count as usize]?;
         for k in 0..rows.len() {
             let vertex = vertices[k] as usize;
             marks[vertex] = true;

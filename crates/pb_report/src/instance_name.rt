@@ -94,7 +94,7 @@ fn write_arguments<S: Sink>(
 #[derive(Clone, Copy)]
 pub(crate) struct NumberedInstance<'a> {
     pub verified: &'a Verified,
-    pub number: u32,
+    pub number: u64,
     pub ghost inside: { number < count_of (parameters verified.now) },
 }
 
@@ -102,7 +102,7 @@ pub(crate) struct NumberedInstance<'a> {
 pub fn write_instance_name<S: Sink>(
     writer: &mut TextWriter<'_, S>,
     verified: &Verified,
-    number: u32,
+    number: u64,
 ) -> Result<(), E02>
     requires { number < count_of (parameters verified.now) }
     ensures { Sends (instance_name verified.now number) result S.Sink writer.old writer.new }

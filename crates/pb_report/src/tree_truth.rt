@@ -13,7 +13,7 @@ ghost use Rattle.pb_report.specs.Cuts.{uncut};
 ghost use Rattle.pb_report.specs.Rising.{IsRising};
 ghost use Rattle.pb_report.specs.Reading.{bracket_truth, with_operand, read_on};
 
-use pb_fixpoint_trees::Token;
+use pb_fixpoint_trees::{Token, TreeTokens};
 use std::alloc::{AllocError, Global};
 
 /// An open bracket, with the truth of its operands so far: of all of them, or of any.
@@ -47,12 +47,12 @@ impl Bracket {
 #[derive(Drop)]
 pub(crate) struct Named {
     pub value: bool,
-    pub numbers: Vec<u32>,
+    pub numbers: Vec<u64>,
     pub ghost rising: { IsRising numbers.items },
 }
 
 impl Named {
-    pub(crate) fn new(alloc: Global, value: bool, numbers: &[u32]) -> Result<Named, AllocError>
+    pub(crate) fn new(alloc: Global, value: bool, numbers: &[u64]) -> Result<Named, AllocError>
         ensures value { IfOk result (λ named. named.value ≡ value) }
         ensures numbers { IfOk result (λ named. IsPermutation numbers.now named.numbers.items) }
     {
@@ -62,7 +62,7 @@ impl Named {
     }
 
     /// The truth value of an instance.
-    fn truth(&self, number: u32) -> bool
+    fn truth(&self, number: u64) -> bool
         ensures { result ≡ exactly self.now.value self.now.numbers.items number }
     {
         self.numbers.binary_search(&number).is_ok() == self.value
@@ -128,17 +128,17 @@ impl Reading {
 /// The truth of the tree of these tokens, its cut calls being true.
 pub(crate) fn uncut_truth(
     alloc: Global,
-    tokens: &[Token],
+    mut tokens: TreeTokens<'_>,
     named: &Named,
 ) -> Result<bool, AllocError>
-    ensures { IfOk result (λ truth. (tree : Tree) → tokens.now ≡ tree_tokens tree
+    ensures { IfOk result (λ truth. (tree : Tree) → tokens.entry ≡ tree_tokens tree
         → truth ≡ tree_truth (exactly named.now.value named.now.numbers.items) (uncut tree)) }
 {
     let mut reading = Reading {
         inner: Bracket::Any(false),
         outer: Vec::new(alloc),
     };
-    for &token in tokens {
+    while let Some(token) = tokens.take_first() {
         reading.read(named, token)?;
     }
     Ok(reading.inner.truth())

@@ -155,7 +155,7 @@ carriers_got vs ws equations k v xs same is below read items =
 -- the number of an instance fits
 pub number_fits : (equations : List (List Carrier)) (k r : ℕ) (ps : List Carrier) (vs : Tuple)
     → IsWithinLimits equations → slice_get equations k ≡ Some ps → slice_get (tuples (map values_of ps)) r ≡ Some vs
-    → first_of (carriers_of equations) k + r < 4194305
+    → first_of (carriers_of equations) k + r < MAX_INSTANCES + 1
 number_fits equations k r ps vs limits at_k at_r =
     let below : first_of (carriers_of equations) k + r < count_of equations =
     slice_get_within (instances (carriers_of equations)) (first_of (carriers_of equations) k + r) (with_values k vs)

@@ -65,10 +65,16 @@ place_fits cs vs p ds ws limit reading few =
     let more : p + 1 ≤ (p + 1) * count ds = le_times (p + 1) (count ds) (some_tuples ds) in
     omega (arith, reading.below, few, more)
 
-pub next_fits : (p size q : ℕ) → p < 4194305 → size ≤ 4294967296 → q < size → p * size + q < 2 ^ 64
-next_fits p size q few small digit =
-    let product : p * size ≤ 4194305 * size = mul-le-mul_right size (omega (arith, few)) in
-    omega (arith, product, small, digit)
+-- the place with one digit more is one of the tuples' of all carriers
+pub next_fits : (cs : List Carrier) (vs : Tuple) (p : ℕ) (ds : List Carrier) (ws : Tuple) (c : Carrier) (es : List Carrier) (size q : ℕ)
+    → IsReading cs vs p ds ws → ds ≡ c ∷ es → size ≡ length (values_of c) → q < size → p * size + q < count cs
+next_fits cs vs p ds ws c es size q reading ds_is size_is digit =
+    let whole : (p + 1) * count (c ∷ es) ≤ count cs = subst (λ (fs : List Carrier). (p + 1) * count fs ≤ count cs) ds_is reading.below in
+    let sized : (p + 1) * (length (values_of c) * count es) ≤ count cs = whole in
+    let more : (p + 1) * length (values_of c) ≤ ((p + 1) * length (values_of c)) * count es = le_times ((p + 1) * length (values_of c)) (count es) (some_tuples es) in
+    let parted : (p + 1) * length (values_of c) ≡ p * length (values_of c) + length (values_of c) = omega arith in
+    let same : p * size ≡ p * length (values_of c) = ap (λ (n : ℕ). p * n) size_is in
+    omega (arith, sized, more, parted, same, size_is, digit)
 
 pub reading_ends : (cs : List Carrier) (vs : Tuple) (p : ℕ) (ds : List Carrier) (ws : Tuple) → IsReading cs vs p ds ws → (ds ≡ []) ⊎ (ws ≡ []) → slice_get (tuples (map values_of cs)) p ≡ Some vs
 reading_ends cs vs p ds ws reading ends = at_end ds ws reading ends

@@ -43,7 +43,7 @@ pub struct Layout {
     /// The carriers of each equation's parameters.
     carriers: Vec<Vec<Carrier>>,
     /// The first number of each equation, and behind these the count of all instances.
-    firsts: Vec<u32>,
+    firsts: Vec<u64>,
 }
 
 impl Model for Layout {
@@ -56,14 +56,14 @@ impl Model for Layout {
 }
 
 /// How many instances equations have; none where these are more than a layout may have.
-fn count_instances(equations: &[Vec<Carrier>]) -> Option<u32>
+fn count_instances(equations: &[Vec<Carrier>]) -> Option<u64>
     ensures fits { IsSome result ↔ (count_of (lists_of equations.now) ≤ MAX_INSTANCES) }
     ensures count { IfSome result (λ count. count ≡ count_of (lists_of equations.now)) }
 {
     let mut count = 0;
     for parameters in equations {
         count += count_tuples(parameters)?;
-        if count as usize > MAX_INSTANCES {
+        if count > MAX_INSTANCES as u64 {
             return None;
         }
     }
@@ -117,7 +117,7 @@ impl Layout {
     }
 
     /// The number of an equation's first instance.
-    pub fn first(&self, equation: usize) -> u32
+    pub fn first(&self, equation: usize) -> u64
         requires { equation < length self.now }
         ensures { result ≡ first_of (carriers_of self.now) equation }
     {
@@ -125,7 +125,7 @@ impl Layout {
     }
 
     /// How many instances an equation has.
-    pub fn size(&self, equation: usize) -> u32
+    pub fn size(&self, equation: usize) -> u64
         requires { equation < length self.now }
         ensures { result ≡ size_of (carriers_of self.now) equation }
     {
@@ -133,7 +133,7 @@ impl Layout {
     }
 
     /// How many instances there are: the numbers are those below.
-    pub fn count(&self) -> u32
+    pub fn count(&self) -> u64
         ensures count { result ≡ count_of self.now }
         ensures few { result ≤ MAX_INSTANCES }
     {
@@ -141,7 +141,7 @@ impl Layout {
     }
 
     /// The equation of the instance with this number.
-    pub fn equation_of(&self, number: u32) -> usize
+    pub fn equation_of(&self, number: u64) -> usize
         requires { number < count_of self.now }
         ensures known { result < length self.now }
         ensures owner { IsTrue (owns_number (carriers_of self.now) result number) }
@@ -151,7 +151,7 @@ impl Layout {
 
     /// An instance's number. None where there is no such instance: its equation is unknown, or its
     /// values are not one of each of the equation's carriers.
-    pub fn number(&self, instance: &Instance) -> Option<u32>
+    pub fn number(&self, instance: &Instance) -> Option<u64>
         ensures exists { IsSome result ↔ IsTrue
             (is_instance (carriers_of self.now) (instance_of instance.now)) }
         ensures place { IfSome result (λ number. slice_get (instances (carriers_of self.now)) number
@@ -164,7 +164,7 @@ impl Layout {
     }
 
     /// The instance with this number.
-    pub fn instance(&self, number: u32) -> Instance
+    pub fn instance(&self, number: u64) -> Instance
         requires { number < count_of self.now }
         ensures { slice_get (instances (carriers_of self.now)) number ≡ Some (instance_of result) }
     {

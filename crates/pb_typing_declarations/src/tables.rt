@@ -291,7 +291,7 @@ impl<'a> Tables<'a> {
 }
 
 /// So many instances and those of one more predicate variable, if they are within the limit (T12).
-fn add_instances(count: u32, parameters: &[Carrier], place: Place) -> Result<u32, TypingFault>
+fn add_instances(count: u64, parameters: &[Carrier], place: Place) -> Result<u64, TypingFault>
     requires { count ≤ MAX_INSTANCES }
     ensures { MatchResult result
         (λ sum. AddsInstances count (map values_of parameters.now) place sum)
@@ -299,7 +299,7 @@ fn add_instances(count: u32, parameters: &[Carrier], place: Place) -> Result<u32
         (map values_of parameters.now)) MAX_INSTANCES) TypingRule.Limit place)) }
 {
     match count_tuples(parameters) {
-        Some(size) if (count + size) as usize <= MAX_INSTANCES => Ok(count + size),
+        Some(size) if count + size <= MAX_INSTANCES as u64 => Ok(count + size),
         _ => Err(TypingFault {
             rule: TypingRule::Limit,
             place,

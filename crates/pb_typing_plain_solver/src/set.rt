@@ -35,9 +35,10 @@ fn numbers_of(turn: &Turn<'_>) -> Numbers
     ensures within { result.end ≤ count_of turn.now.typed.now.layout }
     ensures few { result.end ≤ MAX_INSTANCES }
 {
+    let all = turn.typed.layout.count() as usize;
     let start = turn.typed.layout.first(turn.equation) as usize;
     let end = start + turn.typed.layout.size(turn.equation) as usize;
-    let within = end <= turn.typed.layout.count() as usize;
+    let within = end <= all;
     prove!(within);
     Numbers { start, end }
 }
@@ -113,7 +114,7 @@ pub(crate) fn improve(
     let mut changed = false;
     for number in numbers.start..numbers.end {
         if truths[number] == start {
-            let holds = right_truth(turn, number as u32, slots, below);
+            let holds = right_truth(turn, number as u64, slots, below);
             if holds != start {
                 truths[number] = !start;
                 changed = true;
@@ -125,7 +126,7 @@ pub(crate) fn improve(
 
 /// The truth of an equation's right side at its instance with a number, whose values come to stand
 /// in the first slots.
-fn right_truth(turn: &Turn<'_>, number: u32, slots: &mut [i64], below: &[bool]) -> bool
+fn right_truth(turn: &Turn<'_>, number: u64, slots: &mut [i64], below: &[bool]) -> bool
     requires own { IsTrue (owns_number (carriers_of turn.now.typed.now.layout)
         turn.now.equation number) }
     requires below { length below.now ≡ count_of turn.now.typed.now.layout }

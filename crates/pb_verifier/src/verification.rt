@@ -73,7 +73,7 @@ fn initial_instance(alloc: Global, initial: &Initial) -> Result<Instance, AllocE
 }
 
 // Checks a module whose instances have this layout, and gives the number of the initial one.
-fn check(alloc: Global, module: &Module, layout: &Layout) -> Result<u32, VerifyError>
+fn check(alloc: Global, module: &Module, layout: &Layout) -> Result<u64, VerifyError>
     requires { layout.now ≡ parameters (module_contents «module».now) }
     ensures accepted { OnOk result (IsAccepted (module_contents «module».now)) }
     ensures initial { IfOk result (IsInitialNumber (module_contents «module».now)) }

@@ -17,7 +17,7 @@ use std::marker::Model;
 pub struct Verified {
     module: Module,
     layout: Layout,
-    initial: u32,
+    initial: u64,
 }
 
 impl Model for Verified {
@@ -38,7 +38,7 @@ impl Verified {
     ghost use Rattle.pb_verifier.specs.Acceptance.{RunsSafely};
 
     /// A module whose code was found to be accepted.
-    pub(crate) fn new(accepted: Module, layout: Layout, initial: u32) -> Verified
+    pub(crate) fn new(accepted: Module, layout: Layout, initial: u64) -> Verified
         requires accepted { IsVerified (module_contents accepted) layout }
         requires initial { IsInitialNumber (module_contents accepted) initial }
         ensures { result ≡ module_contents accepted }
@@ -66,7 +66,7 @@ impl Verified {
     }
 
     /// The number of the initial instance, whose truth is the module's answer.
-    pub fn initial(&self) -> u32
+    pub fn initial(&self) -> u64
         ensures number { result ≡ initial_of self.now }
         ensures inside { result < count_of (parameters self.now) }
     {

@@ -36,9 +36,9 @@ impl<'a> ProgressLines<'a> {
 }
 
 impl Gate for ProgressLines<'_> {
-    fn enter(&self, _worker: u32, _number: u32) {}
+    fn enter(&self, _worker: u32, _number: u64) {}
 
-    fn answered(&self, _worker: u32, _number: u32, got: bool) {
+    fn answered(&self, _worker: u32, _number: u64, got: bool) {
         if !got || !self.is_exploring.load(Ordering::SeqCst) {
             return;
         }

@@ -12,7 +12,7 @@ use std::thread::Threads;
 
 /// A vertex: the number of the instance whose it is, if it is one's, its owner, its priority and
 /// its successors.
-type Vertex<'a> = (Option<u32>, Player, u32, &'a [u32]);
+type Vertex<'a> = (Option<u64>, Player, u32, &'a [u32]);
 
 /// Why the instance of the first vertex behind the two sinks has its truth value.
 fn evidence_of<R: Abort + Threads + Sync>(
@@ -22,7 +22,7 @@ fn evidence_of<R: Abort + Threads + Sync>(
 ) -> Result<Option<Evidence>, Fail> {
     let mut builder = Builder::with_sinks(alloc)?;
     let mut marks = vec![in alloc; false; 2]?;
-    let mut numbers = vec![in alloc; 0u32; 2]?;
+    let mut numbers = vec![in alloc; 0u64; 2]?;
     for (instance, owner, priority, successors) in vertices.iter().copied() {
         marks.push(instance.is_some())?;
         numbers.push(instance.unwrap_or(0))?;
@@ -38,7 +38,7 @@ fn explained(
     game: &Game,
     solution: &Solution,
     marks: &[bool],
-    numbers: &[u32],
+    numbers: &[u64],
     start: u32,
 ) -> Result<Option<Evidence>, Fail> {
     let count = game.len() as usize;
@@ -60,8 +60,8 @@ fn assert_evidence<R: Abort>(
     rt: &R,
     evidence: Option<Evidence>,
     truth: bool,
-    instances: &[u32],
-    rows: &[&[u32]],
+    instances: &[u64],
+    rows: &[&[u64]],
 ) {
     match evidence {
         None => assert!(rt; false, "no evidence"),
@@ -80,7 +80,7 @@ fn assert_evidence<R: Abort>(
 
 /// The vertices of games behind the two sinks; the truth value of the first one's instance, the
 /// instances of its evidence, and what each of these rests on.
-const WORKED: [(&[Vertex], bool, &[u32], &[&[u32]]); 3] = [
+const WORKED: [(&[Vertex], bool, &[u64], &[&[u64]]); 3] = [
     // `nu X0 = X1 && X3 && X2; X1 = X2 && X0; X2 = X3; X3 = X4; X4 = false`: the shortest path to
     // the violation, X4
     (

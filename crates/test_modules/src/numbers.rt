@@ -33,7 +33,7 @@ fn two_equations(alloc: Global) -> Result<Layout, Fail> {
 
 /// Instances of these equations with their numbers: one that is outside a carrier, has too few
 /// values, or is of no equation has none.
-const NUMBERS: [(u8, &[i64], Option<u32>); 7] = [
+const NUMBERS: [(u8, &[i64], Option<u64>); 7] = [
     (0, &[0], Some(0)),
     (0, &[1], Some(1)),
     (1, &[1, 0], Some(4)),

@@ -8,7 +8,7 @@ use crate::modules::all_others;
 use crate::steps::{close, finish, give_back, mark, status, take, three_statuses};
 use pb_command_solver::{BuiltModule, build_explored};
 use pb_exploration::{Core, Event, Explored, NoGate, NotAllowed, StepError, explore};
-use pb_fixpoint_trees::{IndexedRows, ReadRows, Token};
+use pb_fixpoint_trees::{IndexedRows, Kind, ReadRows, Token};
 use pb_instances::{Marked, Seat, Status, Step, Table};
 use pb_machine::Machine;
 use pb_strategy::check;
@@ -22,18 +22,17 @@ fn event(worker: u32, step: Step) -> Event {
 
 /// Whether these are the three instances by rising number, each calling the two others.
 fn are_all_others(rows: &IndexedRows) -> bool {
-    let calls: [[u32; 2]; 3] = [[1, 2], [0, 2], [0, 1]];
+    let calls: [[u64; 2]; 3] = [[1, 2], [0, 2], [0, 1]];
+    let kinds = [Kind::And, Kind::Call, Kind::Call, Kind::Close];
     if rows.len() != 3 {
         return false;
     }
-    for (place, [low, high]) in calls.iter().copied().enumerate() {
-        let tree = [
-            Token::And,
-            Token::Call(low),
-            Token::Call(high),
-            Token::Close,
-        ];
-        if rows.number(place) != place as u32 || rows.tokens(place) != tree.as_slice() {
+    for (place, called) in calls.iter().enumerate() {
+        let tokens = rows.tokens(place);
+        if rows.number(place) != place as u64
+            || tokens.kinds() != kinds.as_slice()
+            || tokens.calls() != called.as_slice()
+        {
             return false;
         }
     }

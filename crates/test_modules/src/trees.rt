@@ -95,7 +95,7 @@ const LEAVES_THE_RANGES: &[u8] = b"PBES\x01\x00\x01\x01\x01X\
 const OUTSIDE: &[Token] = &[Token::Or, Token::Cut, Token::Close];
 
 /// Modules by name, and of one of their instances the number and the tree.
-const TREES: [(&str, &[u8], u32, &[Token]); 13] = [
+const TREES: [(&str, &[u8], u64, &[Token]); 13] = [
     ("less than one", LESS_THAN_ONE, 0, &[Token::Yes]),
     ("less than one", LESS_THAN_ONE, 1, &[Token::No]),
     ("less than one", LESS_THAN_ONE, 2, &[Token::No]),
@@ -149,7 +149,7 @@ fn tree_at(
     rt: &impl Abort,
     alloc: Global,
     verified: &Verified,
-    number: u32,
+    number: u64,
 ) -> Result<Tree, AllocError> {
     assert!(rt; number < verified.layout().count());
     run(alloc, verified, number)

@@ -23,9 +23,9 @@ impl Attempts {
 }
 
 impl Gate for Attempts {
-    fn enter(&self, _worker: u32, _number: u32) {
+    fn enter(&self, _worker: u32, _number: u64) {
         self.made.fetch_add(1);
     }
 
-    fn answered(&self, _worker: u32, _number: u32, _got: bool) {}
+    fn answered(&self, _worker: u32, _number: u64, _got: bool) {}
 }

@@ -55,13 +55,13 @@ impl Overlap {
 }
 
 impl Gate for Overlap {
-    fn enter(&self, worker: u32, _number: u32) {
+    fn enter(&self, worker: u32, _number: u64) {
         if self.begun.compare_exchange(false, true).is_ok() {
             self.hold(self.lifted(1u32.saturating_sub(worker)));
         }
     }
 
-    fn answered(&self, worker: u32, _number: u32, _got: bool) {
+    fn answered(&self, worker: u32, _number: u64, _got: bool) {
         self.lifted(worker).store(true);
     }
 }

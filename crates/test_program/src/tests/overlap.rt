@@ -95,7 +95,7 @@ impl Overlap {
 }
 
 impl Gate for Overlap {
-    fn enter(&self, worker: u32, number: u32) {
+    fn enter(&self, worker: u32, number: u64) {
         if number == 0 {
             return;
         }
@@ -105,7 +105,7 @@ impl Gate for Overlap {
         }
     }
 
-    fn answered(&self, worker: u32, number: u32, got: bool) {
+    fn answered(&self, worker: u32, number: u64, got: bool) {
         if !got {
             if number == 0 {
                 self.hold(&self.other(worker).entered);

@@ -80,11 +80,11 @@ struct Attempts {
 }
 
 impl Gate for Attempts {
-    fn enter(&self, _worker: u32, _number: u32) {
+    fn enter(&self, _worker: u32, _number: u64) {
         self.made.store(true);
     }
 
-    fn answered(&self, _worker: u32, _number: u32, _got: bool) {}
+    fn answered(&self, _worker: u32, _number: u64, _got: bool) {}
 }
 
 impl Progress for Attempts {}

@@ -29,9 +29,9 @@ fn place_of(phase: Phase) -> u32 {
 }
 
 impl Gate for Watched {
-    fn enter(&self, _worker: u32, _number: u32) {}
+    fn enter(&self, _worker: u32, _number: u64) {}
 
-    fn answered(&self, _worker: u32, _number: u32, _got: bool) {}
+    fn answered(&self, _worker: u32, _number: u64, _got: bool) {}
 }
 
 impl Progress for Watched {

@@ -15,18 +15,18 @@ const SOLVERS: [&str; 2] = ["zielonka", "lift"];
 // Sees whether a worker comes to a number that is no instance's.
 #[derive(Drop)]
 struct Lifts {
-    instances: u32,
+    instances: u64,
     seen: AtomicCell<bool>,
 }
 
 impl Gate for Lifts {
-    fn enter(&self, _worker: u32, number: u32) {
+    fn enter(&self, _worker: u32, number: u64) {
         if number >= self.instances {
             self.seen.store(true);
         }
     }
 
-    fn answered(&self, _worker: u32, _number: u32, _got: bool) {}
+    fn answered(&self, _worker: u32, _number: u64, _got: bool) {}
 }
 
 impl Progress for Lifts {}

@@ -28,7 +28,7 @@ struct Workers {
 }
 
 impl Gate for Workers {
-    fn enter(&self, worker: u32, number: u32) {
+    fn enter(&self, worker: u32, number: u64) {
         match worker {
             0 => (),
             1 => self.second.store(true),
@@ -46,7 +46,7 @@ impl Gate for Workers {
         }
     }
 
-    fn answered(&self, _worker: u32, _number: u32, _got: bool) {}
+    fn answered(&self, _worker: u32, _number: u64, _got: bool) {}
 }
 
 impl Progress for Workers {}

@@ -43,7 +43,7 @@ loop-place-preserved c = λ sigs trees initial from shown.
     let within : c.place_of.result < length rows =
     omega (arith, c.place_of.ensures.within, ap length listed, length-map rows (λ (r : TokenRow). r.number)) in
     let spelled = tokens_there sigs trees rows initial from e shown c.deref.result.now c.place_of.result (get_or e.instances.items k 0)
-    c.tokens-tokens.result.now listed within (c.place_of.ensures.there ∙ number (goal.at.loop-place-preserved c).After-index) c.tokens-tokens.ensures in
+    c.tokens-tokens.result listed within (c.place_of.ensures.there ∙ number (goal.at.loop-place-preserved c).After-index) c.tokens-tokens.ensures in
     c.in_ok-push.ensures.items
     ∙ one_more sigs trees rows initial from e shown k l c.loop-place.cuts.items c.in_ok-is_cut.field-0 (c.loop-place.invariant sigs trees initial from shown)
     (c.in_ok-is_cut.ensures (trees (get_or e.instances.items k 0)) spelled)

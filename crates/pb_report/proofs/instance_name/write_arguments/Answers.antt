@@ -1,4 +1,4 @@
-use Rattle.std.proofs.Common.{ℕ, List, ◌++◌, codes, drop, map, pos, refl, sym, ap, arith, rules}
+use Rattle.std.proofs.Common.{List, ◌++◌, codes, drop, map, pos, refl, sym, ap, arith, rules}
 use Rattle.std.proofs.lemmas.List.{drop_all}
 use Rattle.pb_sorts.specs.declared.carrier.Carrier.{Carrier}
 use Rattle.pb_bytecode.specs.Views.{sort_contents}

@@ -27,14 +27,14 @@ returns-in_err-count-clause-fits c =
     let many = above (tuple_count (map values_of c.deref.result.now)) MAX_INSTANCES c.in_err-count.ensures.fits.1 in
     refused c.from_residual.result (count_of (lists_of c.args.equations.now)) c.from_residual.ensures (omega (arith, many, ends))
 
-pub returns-then-count-gt-MAX_INSTANCES-clause-fits : goal.returns-then-count-gt-MAX_INSTANCES-clause-fits
-returns-then-count-gt-MAX_INSTANCES-clause-fits c =
-    let ends = (read (goal.at.returns-then-count-gt-MAX_INSTANCES-clause-fits c).After-deref).ends in
+pub returns-then-count-clause-fits : goal.returns-then-count-clause-fits
+returns-then-count-clause-fits c =
+    let ends = (read (goal.at.returns-then-count-clause-fits c).After-deref).ends in
     refused None (count_of (lists_of c.args.equations.now)) refl
-    (omega (arith, c.if-count-gt-MAX_INSTANCES.true, c.loop-parameters.invariant.counted, c.in_ok-count.ensures.count, ends))
+    (omega (arith, c.if-count.true, c.loop-parameters.invariant.counted, c.in_ok-count.ensures.count, ends))
 
 pub loop-parameters-preserved : goal.loop-parameters-preserved
 loop-parameters-preserved c = record {
   counted = omega (arith, c.loop-parameters.invariant.counted, c.in_ok-count.ensures.count, (read (goal.at.loop-parameters-preserved c).After-deref).next);
-  few = c.if-count-gt-MAX_INSTANCES.false;
+  few = c.if-count.false;
 }

@@ -5,10 +5,10 @@ use Rattle.pb_sorts.specs.Carrier.{values_of}
 use Rattle.pb_sorts.proofs.Counts.{too_many}
 use Rattle.pb_sorts.proofs.tuple.count_tuples.Goals as goal
 
-pub returns-then-count-clause-fits : goal.returns-then-count-clause-fits
-returns-then-count-clause-fits c =
+pub returns-then-product-clause-fits : goal.returns-then-product-clause-fits
+returns-then-product-clause-fits c =
     let loop = c.loop-carrier in
     let more : MAX_INSTANCES < tuple_count (map values_of c.args.carriers.now) =
     too_many c.args.carriers.now loop.carrier-index c.carrier-item.result loop.count MAX_INSTANCES
-    c.loop-carrier-test.true c.carrier-item.is loop.invariant.product (rw (← c.size-count.ensures.count) c.if-count.true) in
+    c.loop-carrier-test.true c.carrier-item.is loop.invariant.product (rw (← c.size.ensures.count) c.if-product.true) in
     grind (arith, more)

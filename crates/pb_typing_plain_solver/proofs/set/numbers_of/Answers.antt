@@ -13,6 +13,19 @@ prove-unreachable-requires c =
       first_of-last css,
       c.first-start.ensures,
       c.size.ensures,
-      c.count.ensures.count,
+      c.count-all.ensures.count,
       c.if-prove.true,
+    )
+
+pub overflow_add-end : goal.overflow_add-end
+overflow_add-end c =
+    let css = carriers_of c.args.turn.now.typed.now.layout in
+    omega (
+      arith,
+      first_of-before css c.args.turn.now.equation (length css) (omega (arith, length-carriers_of c.args.turn.now.typed.now.layout, c.args.turn.now.known)) (omega arith),
+      first_of-last css,
+      c.first-start.ensures,
+      c.size.ensures,
+      c.count-all.ensures.count,
+      c.count-all.ensures.few,
     )

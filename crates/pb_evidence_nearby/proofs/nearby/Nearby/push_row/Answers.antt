@@ -1,21 +1,25 @@
-use Rattle.std.proofs.Common.{Bool, not, refl, sym, ap, arith, length}
+use Rattle.std.proofs.Common.{Bool, not, refl, sym, ap, arith}
 use Rattle.pb_evidence_nearby.specs.Around.{leaf_of}
-use Rattle.pb_evidence_nearby.proofs.Rowing.{explored_is, frontier_is, short_row}
+use Rattle.pb_evidence_nearby.proofs.Rowing.{explored_is, frontier_is}
 use Rattle.pb_evidence_nearby.proofs.nearby.Nearby.push_row.Goals as goal
 
-pub push-requires : goal.push-requires
-push-requires c =
-    let x = c.args.self.now in
-    let short = short_row c.requires.nearby.0 x c.requires.nearby.1 c.place-place.result (omega (arith, c.if-place-len.true, c.len.ensures)) in
-    omega (arith, short, ap length c.tokens.ensures)
+pub returns-in_ok-push_row : goal.returns-in_ok-push_row
+returns-in_ok-push_row c =
+    let x = c.args.self.now in (
+      _,
+      refl,
+      explored_is c.requires.nearby.0 x c.requires.nearby.1 c.args.number c.place-place.result c.place-place.ensures.within c.place-place.ensures.there c.args.truth
+          (omega (arith, c.if-place-len.true, c.len.ensures)) c.tokens.result c.tokens.ensures,
+      c.in_ok-push_row.ensures.ok,
+    )
 
 pub returns-in_ok-push : goal.returns-in_ok-push
 returns-in_ok-push c =
     let x = c.args.self.now in (
       _,
       refl,
-      explored_is c.requires.nearby.0 x c.requires.nearby.1 c.args.number c.place-place.result c.place-place.ensures.within c.place-place.ensures.there c.args.truth
-          (omega (arith, c.if-place-len.true, c.len.ensures)) c.tokens.result.now c.tokens.ensures,
+      frontier_is c.requires.nearby.0 x c.requires.nearby.1 c.args.number c.place-place.result c.place-place.ensures.within c.place-place.ensures.there c.args.truth
+          (omega (arith, c.if-place-len.false, c.len.ensures)) _ (ap (λ (b : Bool). leaf_of (not b)) (sym c.if-truth.true)),
       c.in_ok-push.ensures.ok,
     )
 
@@ -25,16 +29,6 @@ returns-in_ok-push-2 c =
       _,
       refl,
       frontier_is c.requires.nearby.0 x c.requires.nearby.1 c.args.number c.place-place.result c.place-place.ensures.within c.place-place.ensures.there c.args.truth
-          (omega (arith, c.if-place-len.false, c.len.ensures)) _ (ap (λ (b : Bool). leaf_of (not b)) (sym c.if-truth.true)),
-      c.in_ok-push-2.ensures.ok,
-    )
-
-pub returns-in_ok-push-3 : goal.returns-in_ok-push-3
-returns-in_ok-push-3 c =
-    let x = c.args.self.now in (
-      _,
-      refl,
-      frontier_is c.requires.nearby.0 x c.requires.nearby.1 c.args.number c.place-place.result c.place-place.ensures.within c.place-place.ensures.there c.args.truth
           (omega (arith, c.if-place-len.false, c.len.ensures)) _ (ap (λ (b : Bool). leaf_of (not b)) (sym c.if-truth.false)),
-      c.in_ok-push-3.ensures.ok,
+      c.in_ok-push-2.ensures.ok,
     )
