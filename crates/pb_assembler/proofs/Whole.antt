@@ -7,7 +7,8 @@ use Rattle.std.proofs.lemmas.Bool.{and_parts, and_from, le-leb}
 use Rattle.std.proofs.lemmas.Option.{slice_get_within, get_or_from_slice_get}
 use Rattle.pb_base_values.specs.Carrier as carriers
 use Rattle.pb_base_values.specs.Carrier.{is_within}
-use Rattle.pb_base.specs.declared.limits.TheConstants.{MAX_STRUCTS, MAX_EQUATIONS, MAX_INSTANCES}
+use Rattle.pb_base.specs.declared.limits.TheConstants.{MAX_STRUCTS, MAX_EQUATIONS}
+use Rattle.pb_sorts.specs.declared.counting.TheConstants.{MAX_NUMBERS}
 use Rattle.pb_sorts.specs.Carrier.{values_of}
 use Rattle.pb_sorts.specs.declared.carrier.Carrier.{Carrier}
 use Rattle.pb_text_tree.specs.Form.{SpecForm, spec_form}
@@ -137,11 +138,11 @@ module _ (normal : Normal) (kept : IsKept normal) where
           (callees_fit (erase text) (counts S) counted few_here callees text.equations callees es forms all_ready known all_fields)
           text.equations callees es forms all_ready known all_fields)
 
-      instances_within : nat_le (instance_count Q) MAX_INSTANCES ≡ true
+      instances_within : nat_le (instance_count Q) MAX_NUMBERS ≡ true
       instances_within =
           let e = ap instance_count parts.equations ∙ instances_same (erase text) callees text.equations callees es declared all_ready in
           let d = (accepted-well-typed text faultless).declarations.few_instances in
-          le-leb (instance_count Q) MAX_INSTANCES (omega (arith, e, d))
+          le-leb (instance_count Q) MAX_NUMBERS (omega (arith, e, d))
 
       initial_within : fits_initial Q I ≡ true
       initial_within =

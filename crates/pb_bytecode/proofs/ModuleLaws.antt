@@ -3,8 +3,12 @@ use Rattle.std.proofs.Common.{◌≡◌, ℕ, zero, suc, ◌^◌, ◌≤◌, Boo
 use Rattle.std.specs.Prelude.{ℤ, nat_le, nat_lt, ◌==◌}
 use Rattle.std.specs.Int.{w32, w64}
 use Rattle.std.specs.List.{flat_map, list_all}
-use Rattle.std.proofs.lemmas.Bool.{and_parts, and_from, le-ltb, ltb-true, lt-ltb, eqb-true}
-use Rattle.pb_base.specs.declared.limits.TheConstants.{MAX_STRUCTS, MAX_EQUATIONS, MAX_PARAMETERS, MAX_INSTANCES, MAX_LOOP_SLOTS, MAX_INSTRUCTIONS}
+use Rattle.std.proofs.lemmas.Bool.{and_parts, and_from, le-leb, leb-true, le-ltb, ltb-true, lt-ltb, eqb-true}
+use Rattle.pb_base.specs.declared.limits.TheConstants.{MAX_STRUCTS, MAX_EQUATIONS, MAX_PARAMETERS, MAX_LOOP_SLOTS, MAX_INSTRUCTIONS}
+use Rattle.pb_sorts.specs.Counting.{instance_limit}
+use Rattle.pb_sorts.specs.declared.counting.TheConstants.{MAX_NUMBERS}
+use Rattle.pb_sorts.specs.declared.counting.Counting.{Counting}
+use Rattle.pb_sorts.specs.declared.counting.Counting.TheVariants.{Declared, Reached}
 use Rattle.pb_sorts.specs.declared.carrier.Carrier.{Carrier}
 use Rattle.pb_bytecode.specs.declared.fault.FieldFault.{FieldFault}
 use Rattle.pb_bytecode.specs.declared.fault.ModuleRule.TheVariants as rule
@@ -124,15 +128,15 @@ equation_reads v sizes =
     (λ c. record { sign = c.0.0.0.0.0.0.1; name = c.0.0.0.0.0.1; parameters = c.0.0.0.0.1; loops = c.0.0.0.1; steps = c.0.0.1; tokens = c.0.1; code = c.1 })
     (λ e. ((((((tt, e.sign), e.name), e.parameters), e.loops), e.steps), e.tokens)) (λ e. e.code) (λ e. refl) (λ c. refl) (λ c. code_reads v sizes)))))))))
 
-equations_reads : (v : Version) (sizes : List ℕ)
-    → Reads (equations_at v sizes) (Spelling.counted Spelling.equation_bytes)
+equations_reads : (limit : ℕ) (v : Version) (sizes : List ℕ)
+    → Reads (equations_at limit v sizes) (Spelling.counted Spelling.equation_bytes)
     (λ es. (is_between 1 (MAX_EQUATIONS + 1) (length es) && list_all (fits_equation v sizes) es) && nat_le
-    (instance_count es) MAX_INSTANCES)
+    (instance_count es) limit)
 unfolding equations_at
-equations_reads v sizes =
+equations_reads limit v sizes =
     after (counted_at 1 (MAX_EQUATIONS + 1) (equation_at v sizes)) (Spelling.counted Spelling.equation_bytes)
     (λ es. is_between 1 (MAX_EQUATIONS + 1) (length es) && list_all (fits_equation v sizes) es)
-    (λ es. nat_le (instance_count es) MAX_INSTANCES) rule.Limit
+    (λ es. nat_le (instance_count es) limit) rule.Limit
     (counted_reads 1 (MAX_EQUATIONS + 1) (equation_at v sizes) Spelling.equation_bytes (fits_equation v sizes) (omega arith) (equation_reads v sizes))
 
 -- ---- the mark
@@ -277,37 +281,66 @@ initial_reads es =
 abbrev sorts_fit : List SortContents → Bool
 sorts_fit sorts = is_between 0 (MAX_STRUCTS + 1) (length sorts) && list_all fits_sort sorts
 
-abbrev equations_fit : Version → List ℕ → List EquationContents → Bool
-equations_fit v sizes es = (is_between 1 (MAX_EQUATIONS + 1) (length es) && list_all (fits_equation v sizes) es) && nat_le (instance_count es) MAX_INSTANCES
+abbrev equations_fit : ℕ → Version → List ℕ → List EquationContents → Bool
+equations_fit limit v sizes es = (is_between 1 (MAX_EQUATIONS + 1) (length es) && list_all (fits_equation v sizes) es) && nat_le (instance_count es) limit
 
-pub contents_reads : Reads contents_at Spelling.spelling fits
+-- as many equations of these forms as there may be
+abbrev forms_fit : Contents → Bool
+forms_fit m = is_between 1 (MAX_EQUATIONS + 1) (length m.equations) && list_all (fits_equation m.version (counts m.sorts)) m.equations
+
+-- the limits of the format, with this one of instances
+abbrev pub fits_within : ℕ → Contents → Bool
+fits_within limit m = sorts_fit m.sorts && (forms_fit m && (nat_le (instance_count m.equations) limit && fits_initial m.equations m.initial))
+
+record FitParts (limit : ℕ) (m : Contents) : Type 0 where
+  pub sorts : sorts_fit m.sorts ≡ true
+  pub forms : forms_fit m ≡ true
+  pub few : nat_le (instance_count m.equations) limit ≡ true
+  pub initial : fits_initial m.equations m.initial ≡ true
+
+fit_parts : (limit : ℕ) (m : Contents) → fits_within limit m ≡ true → FitParts limit m
+fit_parts limit m h =
+    let few = nat_le (instance_count m.equations) limit in
+    let a = and_parts (sorts_fit m.sorts) (forms_fit m && (few && fits_initial m.equations m.initial)) h in
+    let b = and_parts (forms_fit m) (few && fits_initial m.equations m.initial) a.1 in
+    let d = and_parts few (fits_initial m.equations m.initial) b.1 in
+    record { sorts = a.0; forms = b.0; few = d.0; initial = d.1 }
+
+pub few_instances : (limit : ℕ) (m : Contents) → fits_within limit m ≡ true → instance_count m.equations ≤ limit
+few_instances limit m h = leb-true (instance_count m.equations) limit (fit_parts limit m h).few
+
+-- within another limit of instances
+pub fits_other : (limit other : ℕ) (m : Contents) → fits_within limit m ≡ true → instance_count m.equations ≤ other → fits_within other m ≡ true
+fits_other limit other m h few =
+    let parts = fit_parts limit m h in
+    and_from _ _ parts.sorts (and_from _ _ parts.forms (and_from _ _ (le-leb (instance_count m.equations) other few) parts.initial))
+
+-- the limits of the format, by which instances count
+pub fits_all : (counting : Counting) (m : Contents) → fits_within (instance_limit counting) m ≡ true → fits m ≡ true
+fits_all Declared m h = fits_other (instance_limit Declared) MAX_NUMBERS m h (let few = few_instances (instance_limit Declared) m h in omega (arith, few))
+fits_all Reached m h = h
+
+pub contents_reads : (limit : ℕ) → Reads (contents_at limit) Spelling.spelling (fits_within limit)
 unfolding contents_at
-contents_reads =
-    same_test contents_at Spelling.spelling (λ m. true && (true && (sorts_fit m.sorts && (equations_fit m.version (counts m.sorts) m.equations && fits_initial m.equations m.initial)))) fits
+contents_reads limit =
+    same_test (contents_at limit) Spelling.spelling
+    (λ m. true && (true && (sorts_fit m.sorts && (equations_fit limit m.version (counts m.sorts) m.equations && fits_initial m.equations m.initial)))) (fits_within limit)
     (λ m h.
-    let a = and_parts (sorts_fit m.sorts) (equations_fit m.version (counts m.sorts) m.equations && fits_initial m.equations m.initial) h in
-    let b = and_parts (equations_fit m.version (counts m.sorts) m.equations) (fits_initial m.equations m.initial) a.1 in
-    let d = and_parts
-    (is_between 1 (MAX_EQUATIONS + 1) (length m.equations) && list_all (fits_equation m.version (counts m.sorts))
-    m.equations) (nat_le (instance_count m.equations) MAX_INSTANCES) b.0 in
+    let a = and_parts (sorts_fit m.sorts) (equations_fit limit m.version (counts m.sorts) m.equations && fits_initial m.equations m.initial) h in
+    let b = and_parts (equations_fit limit m.version (counts m.sorts) m.equations) (fits_initial m.equations m.initial) a.1 in
+    let d = and_parts (forms_fit m) (nat_le (instance_count m.equations) limit) b.0 in
     and_from _ _ a.0 (and_from _ _ d.0 (and_from _ _ d.1 b.1)))
     (λ m h.
-    let a = and_parts (sorts_fit m.sorts)
-    ((is_between 1 (MAX_EQUATIONS + 1) (length m.equations) && list_all (fits_equation m.version (counts m.sorts))
-    m.equations) && (nat_le (instance_count m.equations) MAX_INSTANCES && fits_initial m.equations m.initial)) h in
-    let b = and_parts
-    (is_between 1 (MAX_EQUATIONS + 1) (length m.equations) && list_all (fits_equation m.version (counts m.sorts))
-    m.equations) (nat_le (instance_count m.equations) MAX_INSTANCES && fits_initial m.equations m.initial) a.1 in
-    let d = and_parts (nat_le (instance_count m.equations) MAX_INSTANCES) (fits_initial m.equations m.initial) b.1 in
-    and_from _ _ a.0 (and_from _ _ (and_from _ _ b.0 d.0) d.1))
+    let parts = fit_parts limit m h in
+    and_from _ _ parts.sorts (and_from _ _ (and_from _ _ parts.forms parts.few) parts.initial))
     (close _ _ _ (then (λ c. mark_at) (λ c u. Spelling.mark) (λ c u. true) _ (λ m. tt) (λ m. tt) _ _ (λ c. mark_reads)
     (then (λ (c : Unit {0} × Unit {0}). version_at) (λ c. Spelling.version_bytes) (λ c v. true) _ (λ m. (tt, tt)) (λ m. m.version) _ _ (λ c. version_reads)
     (then (λ (c : (Unit {0} × Unit {0}) × Version). counted_at 0 (MAX_STRUCTS + 1) sort_at)
     (λ c. Spelling.counted Spelling.sort_bytes) (λ c. sorts_fit) _ (λ m. ((tt, tt), m.version)) (λ m. m.sorts) _ _
     (λ c. counted_reads 0 (MAX_STRUCTS + 1) sort_at Spelling.sort_bytes fits_sort (omega arith) sort_reads)
-    (then (λ (c : ((Unit {0} × Unit {0}) × Version) × List SortContents). equations_at c.0.1 (counts c.1))
-    (λ c. Spelling.counted Spelling.equation_bytes) (λ c. equations_fit c.0.1 (counts c.1)) _
-    (λ m. (((tt, tt), m.version), m.sorts)) (λ m. m.equations) _ _ (λ c. equations_reads c.0.1 (counts c.1))
+    (then (λ (c : ((Unit {0} × Unit {0}) × Version) × List SortContents). equations_at limit c.0.1 (counts c.1))
+    (λ c. Spelling.counted Spelling.equation_bytes) (λ c. equations_fit limit c.0.1 (counts c.1)) _
+    (λ m. (((tt, tt), m.version), m.sorts)) (λ m. m.equations) _ _ (λ c. equations_reads limit c.0.1 (counts c.1))
     (last (λ (c : (((Unit {0} × Unit {0}) × Version) × List SortContents) × List EquationContents). initial_at c.1) (λ c. Spelling.initial_bytes) (λ c. fits_initial c.1)
     (λ c. record { version = c.0.0.0.1; sorts = c.0.0.1; equations = c.0.1; initial = c.1 })
     (λ m. ((((tt, tt), m.version), m.sorts), m.equations)) (λ m. m.initial) (λ m. refl) (λ c. refl) (λ c. initial_reads c.1)))))))
@@ -323,20 +356,20 @@ all_ended m n h = by (length m.1 == 0) refl h
     by true e g = (eqb-true _ _ e, ok_is m.0 n g)
     by false e g = absurd cc
 
-pub all_takes : (bytes : List ℕ) (n : Contents) → IsBytes bytes → all_of bytes ≡ Ok n → (bytes ≡ Spelling.spelling n) × (fits n ≡ true)
+pub all_takes : (limit : ℕ) (bytes : List ℕ) (n : Contents) → IsBytes bytes → all_of limit bytes ≡ Ok n → (bytes ≡ Spelling.spelling n) × (fits_within limit n ≡ true)
 unfolding all_of
-all_takes bytes n ok h =
-    let a = bind_ok (contents_at bytes) (λ m. ended (length m.1 == 0) m) n h in
+all_takes limit bytes n ok h =
+    let a = bind_ok (contents_at limit bytes) (λ m. ended (length m.1 == 0) m) n h in
     let e = all_ended a.0 n a.2 in
-    let t = contents_reads.takes bytes a.0 ok a.1 in
+    let t = (contents_reads limit).takes bytes a.0 ok a.1 in
     let none : a.0.1 ≡ [] = nil_from_length a.0.1 e.0 in
     let whole : bytes ≡ Spelling.spelling a.0.0 = t.parts ∙ ap (λ (r : List ℕ). Spelling.spelling a.0.0 ++ r) none ∙ append-nil (Spelling.spelling a.0.0) in
-    subst (λ (m : Contents). (bytes ≡ Spelling.spelling m) × (fits m ≡ true)) e.1 (whole, t.fits)
+    subst (λ (m : Contents). (bytes ≡ Spelling.spelling m) × (fits_within limit m ≡ true)) e.1 (whole, t.fits)
 
-pub all_again : (n : Contents) → fits n ≡ true → all_of (Spelling.spelling n) ≡ Ok n
+pub all_again : (limit : ℕ) (n : Contents) → fits_within limit n ≡ true → all_of limit (Spelling.spelling n) ≡ Ok n
 unfolding all_of
-all_again n h =
-    let read : contents_at (Spelling.spelling n) ≡ Ok (n, []) = ap contents_at (sym (append-nil (Spelling.spelling n))) ∙ contents_reads.again n [] h in
+all_again limit n h =
+    let read : contents_at limit (Spelling.spelling n) ≡ Ok (n, []) = ap (contents_at limit) (sym (append-nil (Spelling.spelling n))) ∙ (contents_reads limit).again n [] h in
     rw read refl
 
 all_left : (m : Contents × List ℕ) (e : FieldFault) → ended (length m.1 == 0) m ≡ Err e → e.left ≤ length m.1
@@ -346,21 +379,21 @@ all_left m e h = by (length m.1 == 0) h
     by true g = absurd cc
     by false g = let same : record { rule = rule.Trailing; left = length m.1 } ≡ e = cc in let z = ap (λ (f : FieldFault). f.left) same in omega arith
 
-pub all_within : (bytes : List ℕ) (e : FieldFault) → IsBytes bytes → all_of bytes ≡ Err e → e.left ≤ length bytes
+pub all_within : (limit : ℕ) (bytes : List ℕ) (e : FieldFault) → IsBytes bytes → all_of limit bytes ≡ Err e → e.left ≤ length bytes
 unfolding all_of
-all_within bytes e ok h =
-    bind_err (contents_at bytes) (λ m. ended (length m.1 == 0) m) e _ h
-    (λ f. contents_reads.within bytes e ok f)
-    (λ x good f. let s = shorter _ _ bytes x.1 (contents_reads.takes bytes x ok good) in let w = all_left x e f in omega arith)
+all_within limit bytes e ok h =
+    bind_err (contents_at limit bytes) (λ m. ended (length m.1 == 0) m) e _ h
+    (λ f. (contents_reads limit).within bytes e ok f)
+    (λ x good f. let s = shorter _ _ bytes x.1 ((contents_reads limit).takes bytes x ok good) in let w = all_left x e f in omega arith)
 
 pub one_spelling : (m n : Contents) (x y : List ℕ) → fits m ≡ true → fits n ≡ true → Spelling.spelling m ++ x ≡ Spelling.spelling n ++ y → (m ≡ n) × (x ≡ y)
 one_spelling m n x y p q h =
-    let same = ok_is (m, x) (n, y) (sym (contents_reads.again m x p) ∙ ap contents_at h ∙ contents_reads.again n y q) in
+    let same = ok_is (m, x) (n, y) (sym ((contents_reads MAX_NUMBERS).again m x p) ∙ ap (contents_at MAX_NUMBERS) h ∙ (contents_reads MAX_NUMBERS).again n y q) in
     (ap (λ (z : Contents × List ℕ). z.0) same, ap (λ (z : Contents × List ℕ). z.1) same)
 
 -- of one spelling no other module is read, and no fault met
-pub read_one : (bytes : List ℕ) (n m : Contents) → fits m ≡ true → bytes ≡ Spelling.spelling m → all_of bytes ≡ Ok n → n ≡ m
-read_one bytes n m h e read = ok_is n m (sym read ∙ ap all_of e ∙ all_again m h)
+pub read_one : (limit : ℕ) (bytes : List ℕ) (n m : Contents) → fits m ≡ true → instance_count m.equations ≤ limit → bytes ≡ Spelling.spelling m → all_of limit bytes ≡ Ok n → n ≡ m
+read_one limit bytes n m h few e read = ok_is n m (sym read ∙ ap (all_of limit) e ∙ all_again limit m (fits_other MAX_NUMBERS limit m h few))
 
-pub read_none : (bytes : List ℕ) (f : FieldFault) (m : Contents) → fits m ≡ true → bytes ≡ Spelling.spelling m → all_of bytes ≡ Err f → ⊥
-read_none bytes f m h e read = let again : all_of bytes ≡ Ok m = ap all_of e ∙ all_again m h in cc
+pub read_none : (limit : ℕ) (bytes : List ℕ) (f : FieldFault) (m : Contents) → fits m ≡ true → instance_count m.equations ≤ limit → bytes ≡ Spelling.spelling m → all_of limit bytes ≡ Err f → ⊥
+read_none limit bytes f m h few e read = let again : all_of limit bytes ≡ Ok m = ap (all_of limit) e ∙ all_again limit m (fits_other MAX_NUMBERS limit m h few) in cc

@@ -3,7 +3,8 @@
 use Rattle.std.specs.Prelude.{ℕ, ◌+◌, ◌^◌, Bool, true, false, ◌&&◌, ◌==◌, nat_le, nat_lt, List, [], ◌∷◌, length, map, Option, Some, None, unwrap_or, slice_get, ℤ, pos, negsuc, int_le}
 use Rattle.std.specs.List.{list_all}
 use Rattle.pb_base_values.specs.Carrier.{Tuple, is_within, tuple_count}
-use Rattle.pb_base.specs.declared.limits.TheConstants.{MAX_STRUCTS, MAX_ENUMERATORS, MAX_EQUATIONS, MAX_PARAMETERS, MAX_INSTANCES, MAX_LOOP_SLOTS, MAX_INSTRUCTIONS}
+use Rattle.pb_base.specs.declared.limits.TheConstants.{MAX_STRUCTS, MAX_ENUMERATORS, MAX_EQUATIONS, MAX_PARAMETERS, MAX_LOOP_SLOTS, MAX_INSTRUCTIONS}
+use Rattle.pb_sorts.specs.declared.counting.TheConstants.{MAX_NUMBERS}
 use Rattle.pb_sorts.specs.Carrier.{values_of}
 use Rattle.pb_sorts.specs.declared.carrier.Carrier.{Carrier}
 use Rattle.pb_sorts.specs.declared.carrier.Carrier.TheVariants as carrier
@@ -122,12 +123,12 @@ abbrev pub fits_initial : List EquationContents → InitialContents → Bool
 fits_initial equations i =
     is_byte i.equation && is_tuple (parameters_if_any (slice_get equations i.equation)) i.values
 
--- at most MAX_STRUCTS sorts, 1 to MAX_EQUATIONS equations, and MAX_INSTANCES instances over all
--- carriers
+-- at most MAX_STRUCTS sorts, 1 to MAX_EQUATIONS equations, and MAX_NUMBERS instances over all
+-- carriers: who reads a module may allow fewer
 abbrev pub fits : Contents → Bool
 fits m =
     (is_between 0 (MAX_STRUCTS + 1) (length m.sorts) && list_all fits_sort m.sorts)
     && ((is_between 1 (MAX_EQUATIONS + 1) (length m.equations)
     && list_all (fits_equation m.version (counts m.sorts)) m.equations)
-    && (nat_le (instance_count m.equations) MAX_INSTANCES
+    && (nat_le (instance_count m.equations) MAX_NUMBERS
     && fits_initial m.equations m.initial))

@@ -9,7 +9,7 @@ use Rattle.pb_base.specs.OrMemory.{IfFault}
 use Rattle.pb_base.specs.declared.or_memory.OrMemory.{OrMemory}
 use Rattle.pb_fixpoint.specs.declared.Sign.{Sign}
 use Rattle.pb_fixpoint.specs.declared.Sign.TheVariants.{Mu, Nu}
-use Rattle.pb_base.specs.declared.limits.TheConstants.{MAX_STRUCTS, MAX_ENUMERATORS, MAX_EQUATIONS, MAX_PARAMETERS, MAX_INSTANCES, MAX_LOOP_SLOTS}
+use Rattle.pb_base.specs.declared.limits.TheConstants.{MAX_STRUCTS, MAX_ENUMERATORS, MAX_EQUATIONS, MAX_PARAMETERS, MAX_LOOP_SLOTS}
 use Rattle.pb_sorts.specs.Carrier.{values_of}
 use Rattle.pb_sorts.specs.declared.carrier.Carrier.{Carrier}
 use Rattle.pb_sorts.specs.declared.carrier.Carrier.TheVariants as carrier
@@ -282,19 +282,20 @@ initial_at equations bytes = do
   values ← values_at (parameters_at equations e.0) e.1
   Ok (record { equation = e.0; values = values.0 }, values.1)
 
--- equations whose instances aren't too many; else the fault (B05) stands behind them
-unfoldable pub equations_at : Version → List ℕ → List ℕ → Field (List EquationContents)
-equations_at v sizes bytes = do
+-- equations with no more instances than the limit; else the fault (B05) stands behind them
+unfoldable pub equations_at : ℕ → Version → List ℕ → List ℕ → Field (List EquationContents)
+equations_at limit v sizes bytes = do
   equations ← counted_at 1 (MAX_EQUATIONS + 1) (equation_at v sizes) bytes
-  known (kept (λ es. nat_le (instance_count es) MAX_INSTANCES) equations.0) rule.Limit equations.1
+  known (kept (λ es. nat_le (instance_count es) limit) equations.0) rule.Limit equations.1
       equations.1
 
-unfoldable pub contents_at : List ℕ → Field Contents
-contents_at bytes = do
+-- a module with no more instances than the limit
+unfoldable pub contents_at : ℕ → List ℕ → Field Contents
+contents_at limit bytes = do
   mark ← mark_at bytes
   v ← version_at mark.1
   sorts ← counted_at 0 (MAX_STRUCTS + 1) sort_at v.1
-  equations ← equations_at v.0 (counts sorts.0) sorts.1
+  equations ← equations_at limit v.0 (counts sorts.0) sorts.1
   initial ← initial_at equations.0 equations.1
   Ok (
     record { version = v.0; sorts = sorts.0; equations = equations.0; initial = initial.0 },
@@ -302,7 +303,7 @@ contents_at bytes = do
   )
 
 -- all of the bytes; where some stand behind the module, B06
-unfoldable pub all_of : List ℕ → Result Contents FieldFault
-all_of bytes = do
-  m ← contents_at bytes
+unfoldable pub all_of : ℕ → List ℕ → Result Contents FieldFault
+all_of limit bytes = do
+  m ← contents_at limit bytes
   if length m.1 == 0 then Ok m.0 else Err (record { rule = rule.Trailing; left = length m.1 })

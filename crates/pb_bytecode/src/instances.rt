@@ -1,23 +1,23 @@
-//! Whether the equations of a module have no more instances than a layout may have.
-ghost use Rattle.std.specs.Prelude.{◌≡◌, map, nat_le};
+//! Whether the equations of a module have no more instances than a limit.
+ghost use Rattle.std.specs.Prelude.{◌≡◌, ◌≤◌, map, nat_le};
 ghost use Rattle.pb_bytecode.specs.Limits.{instance_count};
 ghost use Rattle.pb_bytecode.specs.Views.{equation_contents};
 
 use crate::equation::Equation;
-use pb_base::MAX_INSTANCES;
-use pb_sorts::count_tuples;
+use pb_sorts::{MAX_NUMBERS, count_tuples};
 
 /// Whether there are no more instances than the limit (B05).
-pub(crate) fn has_few_instances(equations: &[Equation]) -> bool
-    ensures { result ≡ nat_le (instance_count (map equation_contents equations.now)) MAX_INSTANCES }
+pub(crate) fn has_few_instances(equations: &[Equation], limit: u64) -> bool
+    requires { limit ≤ MAX_NUMBERS }
+    ensures { result ≡ nat_le (instance_count (map equation_contents equations.now)) limit }
 {
-    let mut total = 0;
+    let mut total: u64 = 0;
     for equation in equations {
         let Some(count) = count_tuples(&equation.parameters) else {
             return false;
         };
         total += count;
-        if total > MAX_INSTANCES as u64 {
+        if total > limit {
             return false;
         }
     }

@@ -112,7 +112,7 @@ pub fn call_places_of(
         return Ok(Vec::new(alloc));
     }
     let numbered = NumberedCalls {
-        calls: CallPlaces::new(alloc, typed)?,
+        calls: CallPlaces::new(typed),
         layout: verified.layout(),
     };
     numbered.of_evidence(alloc, &explanation.evidence)

@@ -32,8 +32,8 @@ impl<'a> Telling<'a> {
         requires { IsTellableShown shown.now }
         ensures shown { IfOk result (λ telling. telling.shown.now ≡ shown.now) }
     {
-        let calls = CallPlaces::new(alloc, shown.typed)?;
-        let steps = CallPlaces::new(alloc, shown.steps)?;
+        let calls = CallPlaces::new(shown.typed);
+        let steps = CallPlaces::new(shown.steps);
         let explanation = shown.explanation;
         let lines = Lines::new(alloc, &explanation.evidence, &explanation.cuts)?;
         Ok(Telling {

@@ -15,7 +15,9 @@ use Rattle.pb_model_meaning.specs.Satisfaction.{satisfies}
 use Rattle.pb_model_translation.specs.Names.{translation}
 use Rattle.pb_typing_declarations.specs.Faults.{IsAmong}
 use Rattle.pb_typing_rules.specs.Faults.{faults}
-use Rattle.pb_typing_rules.specs.WellTyped.{IsWellTyped}
+use Rattle.pb_typing_rules.specs.WellTyped.{IsWellTyped, IsWellTypedWithin}
+use Rattle.pb_sorts.specs.Counting.{instance_limit}
+use Rattle.pb_sorts.specs.declared.counting.Counting.TheVariants.{Reached}
 use Rattle.pb_model_tree.specs.declared.model.Property as tree
 use Rattle.pb_model_tree.specs.declared.step.Step as declared_step
 use Rattle.pb_model_tree.specs.Form.{FormulaForm, StepForm, PropertyForm, ModelForm, model_form, step_form, property_form}
@@ -37,6 +39,10 @@ use Rattle.pb_model_typing.proofs.Apart.{names_are_apart}
 pub formulas_are_decided : FormulasAreDecided
 formulas_are_decided model f e = translations_have_the_answer (erase model) f (names_are_apart model e)
 
+-- well typed means well typed by what is reached
+by-reached : (S : Spec) → IsWellTyped S → IsWellTypedWithin (instance_limit Reached) S
+by-reached S h = record { typed = h; few = h.declarations.few_instances }
+
 -- ---- the text of a formula
 
 module _ (model : ModelForm) where
@@ -46,15 +52,15 @@ module _ (model : ModelForm) where
 
   -- a fault of it, as it is in the model
   pub text-fault : (f : Place × FormulaForm) (t : SpecForm) (e x : OrMemory TypingFault) → raised (λ fault above. above ≡ fault_in_model model fault) e x
-      → t ≡ placed model f.0 f.1 → IsAmong (faults t) e → IfFault x (IsFaultFromText model f)
+      → t ≡ placed model f.0 f.1 → IsAmong (faults (instance_limit Reached) t) e → IfFault x (IsFaultFromText model f)
   text-fault f t e x made is among =
-      if_raised e x made (λ fault above same h. (fault, subst (λ (s : SpecForm). Contains (faults s) fault) is h, same)) among
+      if_raised e x made (λ fault above same h. (fault, subst (λ (s : SpecForm). Contains (faults (instance_limit Reached) s) fault) is h, same)) among
 
   -- which isn't well typed
   pub text-broken : (here : Place) (f : FormulaForm) (t : SpecForm) (e x : OrMemory TypingFault) → raised (λ fault above. above ≡ fault_in_model model fault) e x
-      → t ≡ placed model here f → IfFault e (λ _. ¬ IsWellTyped (text.erase t)) → IfFault x (λ _. ¬ HasTypedText (erase model) (erased_formula f))
+      → t ≡ placed model here f → IfFault e (λ _. ¬ IsWellTypedWithin (instance_limit Reached) (text.erase t)) → IfFault x (λ _. ¬ HasTypedText (erase model) (erased_formula f))
   text-broken here f t e x made is not =
-      if_raised e x made (λ fault above same ill typed. ill (subst (λ (S : Spec). IsWellTyped S) (sym (text-said here f t is)) typed)) not
+      if_raised e x made (λ fault above same ill typed. ill (by-reached (text.erase t) (subst (λ (S : Spec). IsWellTyped S) (sym (text-said here f t is)) typed))) not
 
 -- ---- models
 
@@ -89,10 +95,10 @@ property-decided model p t typed says =
 
 -- ---- the text in which each step stands
 
-pub steps-typed : (model : ModelForm) (t : SpecForm) → ∥ IsTypedModel model ∥₁ → t ≡ placed model model.initial.place (every_step_form model.initial.place) → (IsWellTyped (text.erase t) → ⊥) → ⊥
+pub steps-typed : (model : ModelForm) (t : SpecForm) → ∥ IsTypedModel model ∥₁ → t ≡ placed model model.initial.place (every_step_form model.initial.place) → (IsWellTypedWithin (instance_limit Reached) (text.erase t) → ⊥) → ⊥
 steps-typed model t typed says not =
     let said = text-said model model.initial.place (every_step_form model.initial.place) t says in
-    not_there typed (λ h. not (subst (λ (S : Spec). IsWellTyped S) (sym said) h.steps))
+    not_there typed (λ h. not (by-reached (text.erase t) (subst (λ (S : Spec). IsWellTyped S) (sym said) h.steps)))
 
 -- ---- the text that asks whether a step can be taken
 

@@ -2,6 +2,8 @@
 -- stands. The text of a property is checked where it is asked for.
 use Rattle.std.specs.Prelude.{◌≡◌, [], codes, Contains, ◌⊎◌}
 use Rattle.pb_fixpoint.specs.declared.Sign.TheVariants.{Nu}
+use Rattle.pb_sorts.specs.Counting.{instance_limit}
+use Rattle.pb_sorts.specs.declared.counting.Counting.TheVariants.{Reached}
 use Rattle.pb_text_tree.specs.declared.place.Place.{Place}
 use Rattle.pb_model_tree.specs.Form.{FormulaForm, PropertyForm, ModelForm}
 use Rattle.pb_model_meaning.specs.Syntax.{StepSet, Formula, Model}
@@ -37,9 +39,10 @@ placed_steps m = (m.initial.place, every_step_form m.initial.place)
 abbrev pub placed_property : PropertyForm → Place × FormulaForm
 placed_property p = (p.name.place, p.formula)
 
--- a fault of the text of a formula, at its place in the model
+-- a fault of the text of a formula, at its place in the model, where those instances count that are
+-- reached
 abbrev pub IsTextFault : ModelForm → Place × FormulaForm → TypingFault → Type 0
-IsTextFault m f fault = Contains (faults (placed m f.0 f.1)) fault
+IsTextFault m f fault = Contains (faults (instance_limit Reached) (placed m f.0 f.1)) fault
 
 -- what such a fault is in the model, at the same place
 abbrev pub IsFaultFromText : ModelForm → Place × FormulaForm → TypingFault → Type 0

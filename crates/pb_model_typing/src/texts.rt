@@ -14,12 +14,14 @@ use crate::data::error_in_model;
 use pb_fixpoint::Sign;
 use pb_model_translator::translate_formula;
 use pb_model_tree::{Formula, Modality, Model, StepSet};
+use pb_sorts::Counting;
 use pb_text_tree::{Name, Place};
-use pb_typing::{Typed, check};
+use pb_typing::{Typed, check_counting};
 use pb_typing_declarations::TypeError;
 use std::alloc::{AllocError, Global};
 
-/// The text of a formula, whose equations have their names at a place, where it is well typed.
+/// The text of a formula, whose equations have their names at a place, where it is well typed. Of
+/// its instances those count that are reached (T12).
 pub(crate) fn typed_text(
     alloc: Global,
     model: &Model,
@@ -35,7 +37,7 @@ pub(crate) fn typed_text(
         (¬ HasTypedText (model_of model.now) (formula_of formula.now)) }
 {
     let text = translate_formula(alloc, model, formula, place)?;
-    match check(alloc, text) {
+    match check_counting(alloc, text, Counting::Reached) {
         Ok(text) => Ok(text),
         Err((text, error)) => {
             drop(text);

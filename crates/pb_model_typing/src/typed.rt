@@ -17,7 +17,8 @@ use crate::rules::check_rules;
 use crate::texts::{check_steps_text, every_step, typed_text};
 use pb_model_translator::translate_formula;
 use pb_model_tree::Model;
-use pb_typing::{Typed, check};
+use pb_sorts::Counting;
+use pb_typing::{Typed, check_counting};
 use pb_typing_declarations::TypeError;
 use std::alloc::{AllocError, Global};
 
@@ -32,6 +33,8 @@ pub struct TypedModel {
 /// Accepts a model exactly where it is well typed: names are declared once and are there, what
 /// equations call stands under an even number of negations, and the text of `nu X . [true] X`, in
 /// which each step stands, is well typed.
+///
+/// States count where they are reached: a model may declare `MAX_NUMBERS` of them (T12).
 ///
 /// Recursion goes as deep as formulas and terms nest.
 ///
@@ -105,7 +108,7 @@ pub fn steps_text(alloc: Global, typed: &TypedModel) -> Result<Typed, AllocError
     let place = typed.model.initial.place;
     let formula = every_step(alloc, place)?;
     let text = translate_formula(alloc, &typed.model, &formula, place)?;
-    match check(alloc, text) {
+    match check_counting(alloc, text, Counting::Reached) {
         Ok(text) => Ok(text),
         Err((text, error)) => {
             drop(text);

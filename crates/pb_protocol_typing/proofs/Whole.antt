@@ -8,9 +8,11 @@ use Rattle.pb_base.specs.OrMemory.{IfFault, IfRefused, OnRefused}
 use Rattle.pb_text_tree.specs.Form.{SpecForm}
 use Rattle.pb_text_meaning.specs.Erase as texts
 use Rattle.pb_typing_declarations.specs.Declarations.{declaration_faults}
+use Rattle.pb_sorts.specs.Counting.{instance_limit}
+use Rattle.pb_sorts.specs.declared.counting.Counting.TheVariants.{Reached}
 use Rattle.pb_protocol_tree.specs.Form.{ProtocolForm}
 use Rattle.pb_text_meaning.specs.Syntax.{Spec}
-use Rattle.pb_protocol_typing.specs.Faults.{data_form, lists_faults, names_faults, protocol_own_faults, parts_fault, protocol_faults, signatures_of, state_of}
+use Rattle.pb_protocol_typing.specs.Faults.{data_faults, data_form, lists_faults, names_faults, protocol_own_faults, parts_fault, protocol_faults, signatures_of, state_of}
 use Rattle.pb_protocol_typing.specs.Scopes.{Signatures}
 use Rattle.pb_protocol_typing.specs.Steps.{definitions_fault}
 use Rattle.pb_typing_declarations.specs.Faults.{IsAmong}
@@ -75,15 +77,18 @@ module _ (spec : Spec) (text : ProtocolForm) where
 
 -- ---- sorts and ranges, and the rest
 
-pub declared_among : (t : SpecForm) (text : ProtocolForm) (e : OrMemory TypingFault) → t ≡ data_form text → IsAmong (declaration_faults t) e → IsAmong (protocol_faults text) e
-declared_among t text e is h =
-    among_left (declaration_faults (data_form text)) (protocol_own_faults (texts.erase (data_form text)) text) e (subst (λ (u : SpecForm). IsAmong (declaration_faults u) e) is h)
+abbrev reached_faults : SpecForm → List TypingFault
+reached_faults t = declaration_faults (instance_limit Reached) t
 
-pub all_checks : (t d : SpecForm) (text : ProtocolForm) (r : Result (Unit {0}) (OrMemory TypingFault)) → t ≡ data_form text → d ≡ t → declaration_faults t ≡ []
+pub declared_among : (t : SpecForm) (text : ProtocolForm) (e : OrMemory TypingFault) → t ≡ data_form text → IsAmong (reached_faults t) e → IsAmong (protocol_faults text) e
+declared_among t text e is h =
+    among_left (data_faults text) (protocol_own_faults (texts.erase (data_form text)) text) e (subst (λ (u : SpecForm). IsAmong (reached_faults u) e) is h)
+
+pub all_checks : (t d : SpecForm) (text : ProtocolForm) (r : Result (Unit {0}) (OrMemory TypingFault)) → t ≡ data_form text → d ≡ t → reached_faults t ≡ []
     → MatchResult r (λ _. protocol_own_faults (texts.erase d) text ≡ []) (IsAmong (protocol_own_faults (texts.erase d) text))
     → MatchResult r (λ _. protocol_faults text ≡ []) (IsAmong (protocol_faults text))
 all_checks t d text r is same clear h =
-    let clear_data : declaration_faults (data_form text) ≡ [] = subst (λ (u : SpecForm). declaration_faults u ≡ []) is clear in
+    let clear_data : data_faults text ≡ [] = subst (λ (u : SpecForm). reached_faults u ≡ []) is clear in
     let whole : protocol_faults text ≡ protocol_own_faults (texts.erase (data_form text)) text =
     ap (λ (zs : List TypingFault). zs ++ protocol_own_faults (texts.erase (data_form text)) text) clear_data in
     let own = subst (λ (u : SpecForm). MatchResult r (λ _. protocol_own_faults (texts.erase u) text ≡ []) (IsAmong (protocol_own_faults (texts.erase u) text))) (same ∙ is) h in

@@ -1,6 +1,8 @@
 -- The rules of a protocol that the check of its unfolded text can't see, and where each fails.
 use Rattle.std.specs.Prelude.{true, not, codes, List, [], ◌++◌, map, flat_map}
 use Rattle.std.specs.Prelude.{Option}
+use Rattle.pb_sorts.specs.Counting.{instance_limit}
+use Rattle.pb_sorts.specs.declared.counting.Counting.TheVariants.{Reached}
 use Rattle.pb_text_tree.specs.Form.{Named, VariableForm, SpecForm, no_arguments}
 use Rattle.pb_text_meaning.specs.Syntax.{Spec}
 use Rattle.pb_text_meaning.specs.Erase as texts
@@ -110,7 +112,11 @@ protocol_own_faults spec text =
     ++ (lists_faults spec (signatures_of spec text) text
     ++ listed (parts_fault spec (signatures_of spec text) text)))
 
+-- those of sorts and ranges, where those instances count that are reached
+abbrev pub data_faults : ProtocolForm → List TypingFault
+data_faults text = declaration_faults (instance_limit Reached) (data_form text)
+
 -- the faults of a protocol
 abbrev pub protocol_faults : ProtocolForm → List TypingFault
 protocol_faults text =
-    declaration_faults (data_form text) ++ protocol_own_faults (texts.erase (data_form text)) text
+    data_faults text ++ protocol_own_faults (texts.erase (data_form text)) text

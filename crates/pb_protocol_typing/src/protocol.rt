@@ -21,6 +21,7 @@ use crate::scope::Scope;
 use crate::signature::{Signature, Steps, state_entries, state_table, step_table};
 use crate::step::{check_definitions, initial_fault, steps_fault};
 use pb_protocol_tree::{Property, Protocol};
+use pb_sorts::Counting;
 use pb_text_tree::{Instance, Name, Spec, copy_declarations, copy_ranges};
 use pb_typing::Polarity;
 use pb_typing_declarations::{Declarations, TypeError, TypingFault};
@@ -141,7 +142,7 @@ fn check_all(alloc: Global, protocol: &Protocol) -> Result<(), TypeError>
         (IsAmong (protocol_faults (protocol_form protocol.now))) }
 {
     let text = data_text(alloc, protocol)?;
-    let declarations = Declarations::read(alloc, &text)?;
+    let declarations = Declarations::read(alloc, &text, Counting::Reached)?;
     check_own(alloc, &declarations, protocol)
 }
 

@@ -4,7 +4,8 @@ use Rattle.std.proofs.lemmas.List.{map-append, get_or_push, get_or_append_left, 
 use Rattle.std.specs.List.{slice_get}
 use Rattle.std.proofs.lemmas.Option.{get_or_from_slice_get}
 use Rattle.std.proofs.lemmas.Bool.{cases_lt}
-use Rattle.pb_base.specs.declared.limits.TheConstants.{MAX_EQUATIONS, MAX_PARAMETERS, MAX_INSTANCES}
+use Rattle.pb_base.specs.declared.limits.TheConstants.{MAX_EQUATIONS, MAX_PARAMETERS}
+use Rattle.pb_sorts.specs.declared.counting.TheConstants.{MAX_NUMBERS}
 use Rattle.pb_sorts.specs.declared.carrier.Carrier.{Carrier}
 use Rattle.pb_sorts.specs.Instance.{first_of}
 use Rattle.pb_sorts.specs.Layout.{carriers_of, count_of, lists_of, IsNumbered, IsWithinLimits}
@@ -65,7 +66,7 @@ parameters_few {A} vs k d below few =
 -- the lists are those of a layout
 pub built : {A : Type 0} (vs done : List (Vec Carrier A)) (xs ys : List ℕ) (x k : ℕ) → length vs ≤ k → k ≤ length vs → lists_of done ++ lists_of (drop k vs) ≡ lists_of vs
     → ys ≡ xs ++ x ∷ [] → length xs ≡ k → x ≡ first_of (carriers_of (lists_of vs)) k → ((j : ℕ) → j < k → get_or xs j 0 ≡ first_of (carriers_of (lists_of vs)) j)
-    → length vs ≤ MAX_EQUATIONS → All (λ (v : Vec Carrier A). vec_len v ≤ MAX_PARAMETERS) vs → count_of (lists_of vs) ≤ MAX_INSTANCES
+    → length vs ≤ MAX_EQUATIONS → All (λ (v : Vec Carrier A). vec_len v ≤ MAX_PARAMETERS) vs → count_of (lists_of vs) ≤ MAX_NUMBERS
     → IsNumbered (lists_of done) ys × IsWithinLimits (lists_of done)
 built {A} vs done xs ys x k past within so_far ys_is long x_is starts few_equations few_parameters few_instances =
     subst (λ (es : List (List Carrier)). IsNumbered es ys × IsWithinLimits es) (sym (copied_all vs done k past so_far)) (

@@ -6,7 +6,8 @@ use Rattle.std.proofs.lemmas.Option.{slice_get_within, slice_get-get_or, same_So
 use Rattle.std.proofs.lemmas.Bool.{cases_lt}
 use Rattle.pb_base_values.specs.Carrier as carriers
 use Rattle.pb_base_values.specs.Carrier.{Tuple, tuples, tuple_count, is_within}
-use Rattle.pb_base.specs.declared.limits.TheConstants.{MAX_PARAMETERS, MAX_INSTANCES}
+use Rattle.pb_base.specs.declared.limits.TheConstants.{MAX_PARAMETERS}
+use Rattle.pb_sorts.specs.declared.counting.TheConstants.{MAX_NUMBERS}
 use Rattle.pb_sorts.specs.declared.carrier.Carrier.{Carrier}
 use Rattle.pb_sorts.specs.Carrier.{values_of}
 use Rattle.pb_sorts.specs.Instance.{instances, is_instance, is_tuple_of, first_of, size_of, owns_number}
@@ -117,7 +118,7 @@ pub is_instance-at : (equations : List (List Carrier)) (k : ℕ) (ps : List Carr
 is_instance-at equations k ps vs at = ap (λ (o : Option (List carriers.Carrier)). is_tuple_of o vs) (slice_get-carriers_of equations k ps at)
 
 -- an equation's tuples are few
-pub tuples_are_few : (equations : List (List Carrier)) (k : ℕ) (ps : List Carrier) → IsWithinLimits equations → slice_get equations k ≡ Some ps → tuple_count (map values_of ps) ≤ MAX_INSTANCES
+pub tuples_are_few : (equations : List (List Carrier)) (k : ℕ) (ps : List Carrier) → IsWithinLimits equations → slice_get equations k ≡ Some ps → tuple_count (map values_of ps) ≤ MAX_NUMBERS
 tuples_are_few equations k ps limits at = omega (arith, ends_within equations k ps at, limits.few_instances)
 
 -- and so are its parameters
@@ -155,7 +156,7 @@ carriers_got vs ws equations k v xs same is below read items =
 -- the number of an instance fits
 pub number_fits : (equations : List (List Carrier)) (k r : ℕ) (ps : List Carrier) (vs : Tuple)
     → IsWithinLimits equations → slice_get equations k ≡ Some ps → slice_get (tuples (map values_of ps)) r ≡ Some vs
-    → first_of (carriers_of equations) k + r < MAX_INSTANCES + 1
+    → first_of (carriers_of equations) k + r < MAX_NUMBERS + 1
 number_fits equations k r ps vs limits at_k at_r =
     let below : first_of (carriers_of equations) k + r < count_of equations =
     slice_get_within (instances (carriers_of equations)) (first_of (carriers_of equations) k + r) (with_values k vs)

@@ -3,7 +3,8 @@
 use Rattle.std.specs.Prelude.{◌≡◌, ℕ, ◌+◌, ◌≤◌, List, map, length, slice_index, All, Vec}
 use Rattle.pb_base_values.specs.Carrier as carriers
 use Rattle.pb_sorts.specs.declared.carrier.Carrier.{Carrier}
-use Rattle.pb_base.specs.declared.limits.TheConstants.{MAX_EQUATIONS, MAX_PARAMETERS, MAX_INSTANCES}
+use Rattle.pb_base.specs.declared.limits.TheConstants.{MAX_EQUATIONS, MAX_PARAMETERS}
+use Rattle.pb_sorts.specs.declared.counting.TheConstants.{MAX_NUMBERS}
 use Rattle.pb_sorts.specs.Carrier.{values_of}
 use Rattle.pb_sorts.specs.Instance.{instances, first_of}
 
@@ -29,4 +30,4 @@ pub record IsNumbered (equations : List (List Carrier)) (firsts : List ℕ) : Ty
 pub record IsWithinLimits (equations : List (List Carrier)) : Type 0 where
   pub few_equations : length equations ≤ MAX_EQUATIONS
   pub few_parameters : All (λ parameters. length parameters ≤ MAX_PARAMETERS) equations
-  pub few_instances : count_of equations ≤ MAX_INSTANCES
+  pub few_instances : count_of equations ≤ MAX_NUMBERS

@@ -3,6 +3,7 @@ pub mod Out
 pub mod Source
 pub mod In
 pub mod Carrier
+pub mod Counting
 pub mod Instance
 pub mod Layout
 pub mod Reading

@@ -4,20 +4,23 @@ ghost use Rattle.std.specs.Prelude.{◌≡◌, ◌≤◌, ◌<◌, ◌↔◌, Al
 ghost use Rattle.std.specs.Prelude.{IsTrue, Some, length, vec_len};
 ghost use Rattle.std.specs.List.{slice_get};
 ghost use Rattle.pb_sorts.specs.declared.carrier.Carrier.{Carrier};
+ghost use Rattle.pb_sorts.specs.declared.counting.Counting.TheVariants.{Declared};
+ghost use Rattle.pb_sorts.specs.Counting.{instance_limit};
 ghost use Rattle.pb_sorts.specs.Instance.{first_of, size_of, instances, instance_of, is_instance};
 ghost use Rattle.pb_sorts.specs.Instance.{owns_number};
 ghost use Rattle.pb_sorts.specs.Layout.{IsNumbered, IsWithinLimits, carriers_of, count_of};
 ghost use Rattle.pb_sorts.specs.Layout.{lists_of};
 
 use crate::carrier::Carrier;
+use crate::counting::{Counting, MAX_NUMBERS};
 use crate::instance::Instance;
 use crate::tuple::{count_tuples, place_of_tuple, tuple_at};
-use pb_base::{Fault, MAX_EQUATIONS, MAX_INSTANCES, MAX_PARAMETERS, OrMemory};
+use pb_base::{Fault, MAX_EQUATIONS, MAX_PARAMETERS, OrMemory};
 use std::alloc::Global;
 use std::fmt;
 use std::marker::Model;
 
-/// `L02`: the carriers have more than `MAX_INSTANCES` instances.
+/// `L02`: the carriers have more instances than may be declared.
 #[derive(Clone, Copy, Debug, PartialEq, Eq)]
 pub struct TooManyInstances;
 
@@ -55,15 +58,16 @@ impl Model for Layout {
         × IsWithinLimits (lists_of layout.carriers.items) };
 }
 
-/// How many instances equations have; none where these are more than a layout may have.
-fn count_instances(equations: &[Vec<Carrier>]) -> Option<u64>
-    ensures fits { IsSome result ↔ (count_of (lists_of equations.now) ≤ MAX_INSTANCES) }
+/// How many instances equations have; none where these are more than the limit.
+fn count_instances(equations: &[Vec<Carrier>], limit: u64) -> Option<u64>
+    requires { limit ≤ MAX_NUMBERS }
+    ensures fits { IsSome result ↔ (count_of (lists_of equations.now) ≤ limit) }
     ensures count { IfSome result (λ count. count ≡ count_of (lists_of equations.now)) }
 {
     let mut count = 0;
     for parameters in equations {
         count += count_tuples(parameters)?;
-        if count > MAX_INSTANCES as u64 {
+        if count > limit {
             return None;
         }
     }
@@ -82,9 +86,29 @@ impl Layout {
             ≤ MAX_PARAMETERS) equations.now }
         ensures ok { IfOk result (λ layout. layout ≡ lists_of equations.now) }
         ensures too_many { (result ≡ Err (OrMemory.Refused (record {})))
-            ↔ (MAX_INSTANCES < count_of (lists_of equations.now)) }
+            ↔ (instance_limit Declared < count_of (lists_of equations.now)) }
     {
-        if count_instances(equations).is_none() {
+        Layout::counting(alloc, equations, Counting::Declared)
+    }
+
+    /// The layout of equations with these parameters, by which instances count.
+    ///
+    /// # Errors
+    /// `TooManyInstances` exactly where there are more than `counting.limit()`, and want of memory
+    /// where memory is refused.
+    pub fn counting(
+        alloc: Global,
+        equations: &[Vec<Carrier>],
+        counting: Counting,
+    ) -> Result<Layout, LayoutError>
+        requires equations { length equations.now ≤ MAX_EQUATIONS }
+        requires parameters { All (λ parameters. vec_len parameters
+            ≤ MAX_PARAMETERS) equations.now }
+        ensures ok { IfOk result (λ layout. layout ≡ lists_of equations.now) }
+        ensures too_many { (result ≡ Err (OrMemory.Refused (record {})))
+            ↔ (instance_limit counting < count_of (lists_of equations.now)) }
+    {
+        if count_instances(equations, counting.limit()).is_none() {
             return Err(LayoutError::Refused(TooManyInstances));
         }
         let mut carriers = Vec::with_capacity(alloc, equations.len())?;
@@ -135,7 +159,7 @@ impl Layout {
     /// How many instances there are: the numbers are those below.
     pub fn count(&self) -> u64
         ensures count { result ≡ count_of self.now }
-        ensures few { result ≤ MAX_INSTANCES }
+        ensures few { result ≤ MAX_NUMBERS }
     {
         self.firsts[self.equation_count()]
     }

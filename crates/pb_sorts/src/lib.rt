@@ -3,6 +3,7 @@
 #![tactic(auto)]
 
 pub mod carrier;
+pub mod counting;
 mod input;
 pub mod instance;
 pub mod laws;
@@ -12,6 +13,7 @@ pub mod source;
 mod tuple;
 
 pub use carrier::{Carrier, Enumeration, L01, Range};
+pub use counting::{Counting, MAX_NUMBERS};
 pub use input::{InputError, InputFault, read_input};
 pub use instance::{Instance, Tuple};
 pub use layout::{Layout, LayoutError, TooManyInstances};

@@ -5,19 +5,20 @@ ghost use Rattle.pb_base_values.specs.Carrier.{is_within, tuples, tuple_count};
 ghost use Rattle.pb_sorts.specs.Carrier.{values_of};
 
 use crate::carrier::Carrier;
+use crate::counting::MAX_NUMBERS;
 use crate::instance::Tuple;
-use pb_base::{MAX_INSTANCES, MAX_PARAMETERS};
+use pb_base::MAX_PARAMETERS;
 use std::alloc::Global;
 
 /// How many tuples carriers have; none where these are more than a layout may have.
 pub fn count_tuples(carriers: &[Carrier]) -> Option<u64>
-    ensures fits { IsSome result ↔ (tuple_count (map values_of carriers.now) ≤ MAX_INSTANCES) }
+    ensures fits { IsSome result ↔ (tuple_count (map values_of carriers.now) ≤ MAX_NUMBERS) }
     ensures count { IfSome result (λ count. count ≡ tuple_count (map values_of carriers.now)) }
 {
     let mut count: u64 = 1;
     for carrier in carriers {
         let product = count as u128 * carrier.size() as u128;
-        if product > MAX_INSTANCES as u128 {
+        if product > MAX_NUMBERS as u128 {
             return None;
         }
         count = product as u64;
@@ -27,7 +28,7 @@ pub fn count_tuples(carriers: &[Carrier]) -> Option<u64>
 
 /// The place of `values` among the tuples of `carriers`; none where they are no such tuple.
 pub(crate) fn place_of_tuple(carriers: &[Carrier], values: &[i64]) -> Option<u64>
-    requires { tuple_count (map values_of carriers.now) ≤ MAX_INSTANCES }
+    requires { tuple_count (map values_of carriers.now) ≤ MAX_NUMBERS }
     ensures exists { IsSome result ↔ IsTrue (is_within (map values_of carriers.now) values.now) }
     ensures place { IfSome result (λ place. slice_get (tuples (map values_of carriers.now)) place
         ≡ Some values.now) }

@@ -1,5 +1,6 @@
 -- A text that typing accepts has no fault in its declarations, and is well typed.
-use Rattle.std.proofs.Common.{◌≡◌, true, List, [], ◌∷◌, refl, true≢false, sym}
+use Rattle.std.proofs.Common.{◌≡◌, true, List, [], ◌∷◌, refl, true≢false, sym, arith}
+use Rattle.pb_sorts.specs.declared.counting.TheConstants.{MAX_NUMBERS}
 use Rattle.pb_text_tree.specs.Form.{SpecForm}
 use Rattle.pb_text_meaning.specs.Erase.{erase}
 use Rattle.pb_typing_declarations.specs.declared.fault.TypingFault.{TypingFault}
@@ -14,8 +15,8 @@ none : (fs : List TypingFault) → is_none fs ≡ true → fs ≡ []
 none [] e = refl
 none (f ∷ fs) e = absurd (true≢false (sym e))
 
-pub accepted-declared : (text : SpecForm) → is_faultless text ≡ true → declaration_faults text ≡ []
-accepted-declared text e = (no_parts (declaration_faults text) _ (none (faults text) e)).0
+pub accepted-declared : (text : SpecForm) → is_faultless text ≡ true → declaration_faults MAX_NUMBERS text ≡ []
+accepted-declared text e = (no_parts (declaration_faults MAX_NUMBERS text) _ (none (faults MAX_NUMBERS text) e)).0
 
 pub accepted-well-typed : (text : SpecForm) → is_faultless text ≡ true → IsWellTyped (erase text)
-accepted-well-typed text e = well_typed text (none (faults text) e)
+accepted-well-typed text e = (well_typed text (omega arith) (none (faults MAX_NUMBERS text) e)).typed

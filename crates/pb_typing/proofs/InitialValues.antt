@@ -29,7 +29,7 @@ use Rattle.pb_typing_declarations.specs.Agreement.{equation_place}
 use Rattle.pb_typing_declarations.specs.Faults.{unless, IsAmong}
 use Rattle.pb_typing_declarations.specs.View.{spec_of, text_of}
 use Rattle.pb_typing_declarations.specs.WellDeclared.{HaveEnds}
-use Rattle.pb_typing_declarations.proofs.DeclaredLaw.{declared}
+use Rattle.pb_typing_declarations.proofs.DeclaredLaw.{declared_within, within_numbers}
 use Rattle.pb_typing_declarations.proofs.Parts.{among_left, among_right, no_whole}
 use Rattle.pb_typing_rules.specs.Faults.{and_then, initial_faults, instance_faults, may_have, parameters_named, value_faults}
 use Rattle.pb_typing_rules.specs.Formula.{count, IsCalled}
@@ -200,5 +200,5 @@ initial_found d {t} {a} {c} {call} said called =
     let at = ap (λ (u : SpecForm). equation_place S u.initial.name.text) said ∙ call_placed called in
     let found = cond_some (nat_lt (initial_place S) (length S.equations)) (initial_place S) call.equation at in
     let below : initial_place S < length S.equations = ltb-true _ _ found.0 in
-    let few = (declared (text_of d) d.faultless).few_equations in
+    let few = (declared_within (text_of d) (within_numbers d.counting) d.faultless).declared.few_equations in
     (sym found.1, omega (arith, below, few, found.1))

@@ -2,6 +2,7 @@
 use Rattle.std.specs.Prelude.{◌≡◌, Bool, true, false, List, [], ◌∷◌, map}
 use Rattle.pb_sorts.specs.declared.carrier.Carrier.{Carrier}
 use Rattle.pb_sorts.specs.Layout as layouts
+use Rattle.pb_sorts.specs.declared.counting.TheConstants.{MAX_NUMBERS}
 use Rattle.pb_text_tree.specs.Form.{SpecForm}
 use Rattle.pb_text_meaning.specs.Syntax.{Equation, Spec}
 use Rattle.pb_text_meaning.specs.Formula.{carriers_of}
@@ -14,9 +15,9 @@ abbrev pub is_none : List TypingFault → Bool
 is_none [] = true
 is_none (f ∷ fs) = false
 
--- no rule fails anywhere
+-- no rule fails anywhere, where those instances count that are reached
 abbrev pub is_faultless : SpecForm → Bool
-is_faultless text = is_none (faults text)
+is_faultless text = is_none (faults MAX_NUMBERS text)
 
 -- the layout has the carriers of each equation's parameters: their values, and what they are, the
 -- Booleans, a struct by its number or a range

@@ -13,5 +13,5 @@ mod typed;
 mod value;
 
 pub use polarity::{Polarity, operand_polarity};
-pub use spec::check;
+pub use spec::{check, check_counting};
 pub use typed::Typed;

@@ -7,13 +7,15 @@ ghost use Rattle.pb_text_meaning.specs.Erase.{erase};
 ghost use Rattle.pb_typing_declarations.specs.Faults.{IsAmong};
 ghost use Rattle.pb_typing_declarations.specs.View.{text_of};
 ghost use Rattle.pb_typing_rules.specs.Faults.{faults, initial_faults, right_faults};
-ghost use Rattle.pb_typing_rules.specs.WellTyped.{IsWellTyped};
+ghost use Rattle.pb_typing_rules.specs.WellTyped.{IsWellTypedWithin};
+ghost use Rattle.pb_sorts.specs.Counting.{instance_limit};
+ghost use Rattle.pb_sorts.specs.declared.counting.Counting.TheVariants.{Declared};
 ghost use Rattle.pb_typing.specs.Checked.{IsChecked};
 
 use crate::equation::check_rights;
 use crate::initial::check_initial;
 use crate::typed::Typed;
-use pb_sorts::Layout;
+use pb_sorts::{Counting, Layout};
 use pb_text_tree::Spec;
 use pb_typing_declarations::{Declarations, TypeError};
 use pb_typing_tree::{Equation, Initial};
@@ -21,19 +23,41 @@ use std::alloc::Global;
 
 /// Accepts a text exactly where it is well typed and positive within the limits (Groote and Mousavi
 /// 2014: kinds of terms, and predicate formulas that are monotone since predicate variables stand
-/// under an even number of negations).
+/// under an even number of negations). Each declared instance counts.
 ///
 /// # Errors
 /// A refusal hands the text back with a rule that fails at its place; where several fail, any one
 /// of them. `TypeError::Memory` comes only where memory was refused.
 pub fn check(alloc: Global, spec: Spec) -> Result<Typed, (Spec, TypeError)>
     ensures kept { MatchResult result (λ typed. typed.spec ≡ spec) (λ refused. refused.0 ≡ spec) }
-    ensures accepted { OnOk result (IsWellTyped (erase (spec_form spec))) }
-    ensures fails { IfErr result (λ refused. IsAmong (faults (spec_form spec)) refused.1) }
+    ensures accepted { OnOk result
+        (IsWellTypedWithin (instance_limit Declared) (erase (spec_form spec))) }
+    ensures fails { IfErr result (λ refused.
+        IsAmong (faults (instance_limit Declared) (spec_form spec)) refused.1) }
     ensures ill_typed { IfErr result (λ refused. IfFault refused.1
-        (λ _. ¬ IsWellTyped (erase (spec_form spec)))) }
+        (λ _. ¬ IsWellTypedWithin (instance_limit Declared) (erase (spec_form spec)))) }
 {
-    match check_spec(alloc, &spec) {
+    check_counting(alloc, spec, Counting::Declared)
+}
+
+/// The same, by which instances count: where those do that are reached, a text may declare more.
+///
+/// # Errors
+/// As `check`, where `counting.limit()` instances may be declared (T12).
+pub fn check_counting(
+    alloc: Global,
+    spec: Spec,
+    counting: Counting,
+) -> Result<Typed, (Spec, TypeError)>
+    ensures kept { MatchResult result (λ typed. typed.spec ≡ spec) (λ refused. refused.0 ≡ spec) }
+    ensures accepted { OnOk result
+        (IsWellTypedWithin (instance_limit counting) (erase (spec_form spec))) }
+    ensures fails { IfErr result (λ refused.
+        IsAmong (faults (instance_limit counting) (spec_form spec)) refused.1) }
+    ensures ill_typed { IfErr result (λ refused. IfFault refused.1
+        (λ _. ¬ IsWellTypedWithin (instance_limit counting) (erase (spec_form spec)))) }
+{
+    match check_spec(alloc, &spec, counting) {
         Ok(checked) => Ok(Typed {
             spec,
             layout: checked.layout,
@@ -53,13 +77,13 @@ struct Checked {
 }
 
 /// Checks the declarations, then each right side, then the initial instance.
-fn check_spec(alloc: Global, spec: &Spec) -> Result<Checked, TypeError>
+fn check_spec(alloc: Global, spec: &Spec, counting: Counting) -> Result<Checked, TypeError>
     ensures { MatchResult result
-        (λ checked. (faults (spec_form spec.now) ≡ [])
+        (λ checked. (faults (instance_limit counting) (spec_form spec.now) ≡ [])
         × IsChecked (spec_form spec.now) checked)
-        (IsAmong (faults (spec_form spec.now))) }
+        (IsAmong (faults (instance_limit counting) (spec_form spec.now))) }
 {
-    let declarations = Declarations::read(alloc, spec)?;
+    let declarations = Declarations::read(alloc, spec, counting)?;
     check_declared(alloc, &declarations, spec)
 }
 

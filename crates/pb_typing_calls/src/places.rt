@@ -1,7 +1,7 @@
 //! The places of the calls in a typed text's right sides.
 
-ghost use Rattle.std.specs.Prelude.{◌≡◌, false, replicate};
-ghost use Rattle.pb_sorts.specs.Layout.{carriers_of, count_of};
+ghost use Rattle.std.specs.Prelude.{◌≡◌};
+ghost use Rattle.pb_sorts.specs.Layout.{carriers_of};
 
 use crate::calls::places_of_calls;
 use crate::gather::push_calls;
@@ -21,9 +21,6 @@ use std::alloc::{AllocError, Global};
 #[derive(Drop)]
 pub struct CallPlaces<'a> {
     typed: &'a Typed,
-    /// No instance holds where tests are evaluated.
-    truths: Vec<bool>,
-    pub ghost nothing_holds: { truths.items ≡ replicate (count_of typed.now.layout) false },
 }
 
 impl<'a> CallPlaces<'a> {
@@ -42,16 +39,12 @@ impl<'a> CallPlaces<'a> {
     ghost use Rattle.pb_typing_calls.specs.MadeCallView.{call_views};
     ghost use Rattle.pb_typing_calls.specs.View.{layout_of, said_by};
 
-    /// Makes ready what the places of all calls need.
-    ///
-    /// # Errors
-    /// Memory was refused.
-    pub fn new(alloc: Global, typed: &'a Typed) -> Result<CallPlaces<'a>, AllocError>
-        ensures text { IfOk result (λ places. said_by places ≡ spec_form typed.now.spec) }
-        ensures layout { IfOk result (λ places. layout_of places ≡ typed.now.layout) }
+    /// The places of a typed text's calls.
+    pub fn new(typed: &'a Typed) -> CallPlaces<'a>
+        ensures text { said_by result ≡ spec_form typed.now.spec }
+        ensures layout { layout_of result ≡ typed.now.layout }
     {
-        let truths = vec![in alloc; false; typed.layout.count() as usize]?;
-        Ok(CallPlaces { typed, truths })
+        CallPlaces { typed }
     }
 
     /// The place of the first call by which the caller's right side names the called instance;
@@ -129,7 +122,7 @@ impl<'a> CallPlaces<'a> {
             own: &[],
             environment: Environment {
                 layout: &self.typed.layout,
-                truths: &self.truths,
+                truths: &[],
             },
         };
         push_calls(&equation.right, &mut slots, &scope, &mut calls)?;
@@ -147,7 +140,7 @@ impl<'a> CallPlaces<'a> {
             called,
             environment: Environment {
                 layout: &self.typed.layout,
-                truths: &self.truths,
+                truths: &[],
             },
         }
     }

@@ -1,8 +1,7 @@
 //! Inside of which quantifiers a formula stands.
 
-ghost use Rattle.std.specs.Prelude.{◌≡◌, ◌++◌, ◌-◌, IfOk, false, replicate};
+ghost use Rattle.std.specs.Prelude.{◌≡◌, ◌++◌, ◌-◌, IfOk, []};
 ghost use Rattle.std.specs.List.{range_with_len};
-ghost use Rattle.pb_sorts.specs.Layout.{count_of};
 
 use pb_typing_values::Environment;
 use std::alloc::{AllocError, Global};
@@ -14,8 +13,7 @@ pub(crate) struct Scope<'a> {
     pub alloc: Global,
     pub own: &'a [usize],
     pub environment: Environment<'a>,
-    pub ghost nothing_holds: { environment.truths.now
-        ≡ replicate (count_of environment.layout.now) false },
+    pub ghost nothing_holds: { environment.truths.now ≡ [] },
 }
 
 /// These slots, and behind them those from `start` to `end`.

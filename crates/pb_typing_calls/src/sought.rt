@@ -1,7 +1,6 @@
 //! A call that is looked for.
 
-ghost use Rattle.std.specs.Prelude.{◌≡◌, false, replicate};
-ghost use Rattle.pb_sorts.specs.Layout.{count_of};
+ghost use Rattle.std.specs.Prelude.{◌≡◌, []};
 
 use pb_sorts::Instance;
 use pb_text_tree::Place;
@@ -13,6 +12,5 @@ pub(crate) struct Sought<'a> {
     pub place: Place,
     pub called: &'a Instance,
     pub environment: Environment<'a>,
-    pub ghost nothing_holds: { environment.truths.now
-        ≡ replicate (count_of environment.layout.now) false },
+    pub ghost nothing_holds: { environment.truths.now ≡ [] },
 }

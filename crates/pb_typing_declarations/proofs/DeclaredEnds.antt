@@ -167,9 +167,9 @@ sorts_have_ends t e =
     have_ends (erase t) (each (sort_faults (erase t)) erased_declaration (Declared (erase t))
     (λ d h. linked_of_clear (erase t) d.name d.sort (no_parts (unless (not (is_built_in d.name.text)) NameTwice d.name.place) _ h).1) t.sorts e)
 
-pub faultless_ends : (t : SpecForm) → declaration_faults t ≡ [] → HaveEnds (erase t)
-faultless_ends t e =
-    let checks = (no_parts (tables_faults t) (checks_faults t) e).1 in
+pub faultless_ends : (limit : ℕ) (t : SpecForm) → declaration_faults limit t ≡ [] → HaveEnds (erase t)
+faultless_ends limit t e =
+    let checks = (no_parts (tables_faults t) (checks_faults limit t) e).1 in
     sorts_have_ends t (no_parts (flat_map (sort_faults (erase t)) t.sorts) _ checks).0
 
 -- ---- where it is declared as it must be

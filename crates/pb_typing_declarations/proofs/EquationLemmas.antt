@@ -7,7 +7,7 @@ use Rattle.pb_sorts.specs.Carrier.{values_of}
 use Rattle.pb_sorts.specs.Layout.{lists_of}
 use Rattle.pb_base_values.specs.Carrier as carriers
 use Rattle.pb_base_values.specs.Carrier.{tuple_count}
-use Rattle.pb_base.specs.declared.limits.TheConstants.{MAX_PARAMETERS, MAX_INSTANCES}
+use Rattle.pb_base.specs.declared.limits.TheConstants.{MAX_PARAMETERS}
 use Rattle.pb_base.specs.declared.or_memory.OrMemory.{OrMemory}
 use Rattle.pb_text_tree.specs.declared.spec.Equation.{Equation}
 use Rattle.pb_text_tree.specs.Form.{equation_form}
@@ -51,16 +51,16 @@ equation_beyond (Y ∷ xs) (suc limit) X below at = equation_beyond xs limit X (
 -- ---- faults, equation by equation
 
 -- behind n instances this equation is the next one, and all faults are those from it on
-pub record IsNext (S : Spec) (E : List Equation) (k n : ℕ) (X : Equation) : Type 0 where
-  pub few : n ≤ MAX_INSTANCES
+pub record IsNext (limit : ℕ) (S : Spec) (E : List Equation) (k n : ℕ) (X : Equation) : Type 0 where
+  pub few : n ≤ limit
   pub following : drop k E ≡ X ∷ drop (k + 1) E
-  pub left : equations_faults_behind S 0 (map equation_form E) ≡ equations_faults_behind S n (map equation_form (X ∷ drop (k + 1) E))
+  pub left : equations_faults_behind limit S 0 (map equation_form E) ≡ equations_faults_behind limit S n (map equation_form (X ∷ drop (k + 1) E))
 
-module _ {S : Spec} {E : List Equation} {k n : ℕ} {X : Equation} (next : IsNext S E k n X) where
+module _ {limit : ℕ} {S : Spec} {E : List Equation} {k n : ℕ} {X : Equation} (next : IsNext limit S E k n X) where
   abbrev size : List carriers.Carrier
   size = carriers_of S (erased_equation (equation_form X)).parameters
 
-  pub in_equation : (e : OrMemory TypingFault) → IsAmong (equation_faults S (equation_form X)) e → IsAmong (equations_faults_behind S 0 (map equation_form E)) e
+  pub in_equation : (e : OrMemory TypingFault) → IsAmong (equation_faults S (equation_form X)) e → IsAmong (equations_faults_behind limit S 0 (map equation_form E)) e
   in_equation e h = among_first _ (equation_faults S (equation_form X)) _ e next.left h
 
   -- what is made of each equation by its parameters
@@ -81,23 +81,23 @@ module _ {S : Spec} {E : List Equation} {k n : ℕ} {X : Equation} (next : IsNex
     sizes_are = ap (map values_of) same ∙ has.values
 
     -- the limit in the code's words
-    limit_is : unless (stays_within MAX_INSTANCES n (n + tuple_count size)) Limit X.name.place ≡ unless (nat_le (n + tuple_count (map values_of slice)) MAX_INSTANCES) Limit X.name.place
+    limit_is : unless (stays_within limit n (n + tuple_count size)) Limit X.name.place ≡ unless (nat_le (n + tuple_count (map values_of slice)) limit) Limit X.name.place
     limit_is =
-        ap (λ (b : Bool). unless b Limit X.name.place) (stays MAX_INSTANCES n (n + tuple_count size) next.few)
-        ∙ ap (λ ds. unless (nat_le (n + tuple_count ds) MAX_INSTANCES) Limit X.name.place) (sym sizes_are)
+        ap (λ (b : Bool). unless b Limit X.name.place) (stays limit n (n + tuple_count size) next.few)
+        ∙ ap (λ ds. unless (nat_le (n + tuple_count ds) limit) Limit X.name.place) (sym sizes_are)
 
-    behind_parameters : equations_faults_behind S 0 (map equation_form E)
-        ≡ unless (stays_within MAX_INSTANCES n (n + tuple_count size)) Limit X.name.place ++ equations_faults_behind S (n + tuple_count size) (map equation_form (drop (k + 1) E))
+    behind_parameters : equations_faults_behind limit S 0 (map equation_form E)
+        ≡ unless (stays_within limit n (n + tuple_count size)) Limit X.name.place ++ equations_faults_behind limit S (n + tuple_count size) (map equation_form (drop (k + 1) E))
     behind_parameters = first_clear _ (equation_faults S (equation_form X)) _ next.left has.clear
 
-    pub in_instances : (e : OrMemory TypingFault) → IsAmong (unless (nat_le (n + tuple_count (map values_of slice)) MAX_INSTANCES) Limit X.name.place) e
-        → IsAmong (equations_faults_behind S 0 (map equation_form E)) e
+    pub in_instances : (e : OrMemory TypingFault) → IsAmong (unless (nat_le (n + tuple_count (map values_of slice)) limit) Limit X.name.place) e
+        → IsAmong (equations_faults_behind limit S 0 (map equation_form E)) e
     in_instances e h =
-        among_first _ (unless (stays_within MAX_INSTANCES n (n + tuple_count size)) Limit X.name.place) _ e behind_parameters
+        among_first _ (unless (stays_within limit n (n + tuple_count size)) Limit X.name.place) _ e behind_parameters
         (subst (λ (zs : List TypingFault). IsAmong zs e) (sym limit_is) h)
 
-    pub left_behind : {m : ℕ} → AddsInstances n (map values_of slice) X.name.place m
-        → equations_faults_behind S 0 (map equation_form E) ≡ equations_faults_behind S m (map equation_form (drop (k + 1) E))
+    pub left_behind : {m : ℕ} → AddsInstances limit n (map values_of slice) X.name.place m
+        → equations_faults_behind limit S 0 (map equation_form E) ≡ equations_faults_behind limit S m (map equation_form (drop (k + 1) E))
     left_behind adds =
         first_clear _ _ _ behind_parameters (limit_is ∙ adds.clear)
-        ∙ ap (λ (i : ℕ). equations_faults_behind S i (map equation_form (drop (k + 1) E))) (sym (adds.is ∙ ap (λ ds. n + tuple_count ds) sizes_are))
+        ∙ ap (λ (i : ℕ). equations_faults_behind limit S i (map equation_form (drop (k + 1) E))) (sym (adds.is ∙ ap (λ ds. n + tuple_count ds) sizes_are))

@@ -8,7 +8,7 @@ use Rattle.std.proofs.lemmas.List.Elements.{All-cons, All-head, All-tail, All-ni
 use Rattle.std.proofs.lemmas.Simd.{map-map}
 use Rattle.pb_text_tree.specs.declared.place.Place.{Place}
 use Rattle.pb_text_tree.specs.Form.{Named, VariableForm, EnumeratorForm, SortForm, struct, alias, SortDeclarationForm, RangeForm, EquationForm}
-use Rattle.pb_base.specs.declared.limits.TheConstants.{MAX_STRUCTS, MAX_ENUMERATORS, MAX_PARAMETERS, MAX_INSTANCES, MAX_NAME_BYTES}
+use Rattle.pb_base.specs.declared.limits.TheConstants.{MAX_STRUCTS, MAX_ENUMERATORS, MAX_PARAMETERS, MAX_NAME_BYTES}
 use Rattle.pb_text_meaning.specs.Syntax.{Variable, Enumerator, SortDeclaration, Equation, Spec}
 use Rattle.pb_text_meaning.specs.Erase.{erased_variable, erased_variables, erased_enumerator, erased_recogniser, erased_sort, erased_declaration, erased_range, erased_equation}
 use Rattle.pb_typing_declarations.specs.declared.fault.TypingRule.TheVariants.{NameTwice, Limit, UnknownSort}
@@ -85,20 +85,20 @@ equation_clear S X short few parameters =
     (limit_clear MAX_PARAMETERS (variable_names X.parameters) (omega (arith, few, same))) (variables_clear S X.parameters parameters))
 
 -- what no fault says of equations behind n instances
-pub record EquationsHold (S : Spec) (n : ℕ) (E : List EquationForm) : Type 0 where
+pub record EquationsHold (limit : ℕ) (S : Spec) (n : ℕ) (E : List EquationForm) : Type 0 where
   pub short : All ShortEquation (map erased_equation E)
   pub few : All FewParameters (map erased_equation E)
   pub parameters : All (Parameters S) (map erased_equation E)
-  pub instances : n + all_instances S (map erased_equation E) ≤ MAX_INSTANCES
+  pub instances : n + all_instances S (map erased_equation E) ≤ limit
 
-pub equations : (S : Spec) (n : ℕ) (E : List EquationForm) → HaveEnds S → n ≤ MAX_INSTANCES → equations_faults_behind S n E ≡ [] → EquationsHold S n E
-equations S n [] ends low e = record { short = All-nil ShortEquation; few = All-nil FewParameters; parameters = All-nil (Parameters S); instances = omega (arith, low) }
-equations S n (X ∷ E) ends low e =
+pub equations : {limit : ℕ} (S : Spec) (n : ℕ) (E : List EquationForm) → HaveEnds S → n ≤ limit → equations_faults_behind limit S n E ≡ [] → EquationsHold limit S n E
+equations {limit} S n [] ends low e = record { short = All-nil ShortEquation; few = All-nil FewParameters; parameters = All-nil (Parameters S); instances = omega (arith, low) }
+equations {limit} S n (X ∷ E) ends low e =
     let size = instance_count S (erased_equation X) in
     let p = no_parts (equation_faults S X) _ e in
-    let q = no_parts (unless (stays_within MAX_INSTANCES n (n + size)) Limit X.name.place) _ p.1 in
+    let q = no_parts (unless (stays_within limit n (n + size)) Limit X.name.place) _ p.1 in
     let first = equation S X ends p.0 in
-    let fits = at_most (n + size) MAX_INSTANCES (sym (stays MAX_INSTANCES n (n + size) low) ∙ holds_unless _ _ _ q.0) in
+    let fits = at_most (n + size) limit (sym (stays limit n (n + size) low) ∙ holds_unless _ _ _ q.0) in
     let rest = equations S (n + size) E ends fits q.1 in
     record {
       short = All-cons ShortEquation (erased_equation X) (map erased_equation E) first.0 rest.short;
@@ -107,16 +107,16 @@ equations S n (X ∷ E) ends low e =
       instances = omega (arith, rest.instances);
     }
 
-pub equations_clear : (S : Spec) (n : ℕ) (E : List EquationForm) → EquationsHold S n E → equations_faults_behind S n E ≡ []
-equations_clear S n [] h = refl
-equations_clear S n (X ∷ E) h =
+pub equations_clear : {limit : ℕ} (S : Spec) (n : ℕ) (E : List EquationForm) → EquationsHold limit S n E → equations_faults_behind limit S n E ≡ []
+equations_clear {limit} S n [] h = refl
+equations_clear {limit} S n (X ∷ E) h =
     let size = instance_count S (erased_equation X) in
     no_whole (equation_faults S X) _
     (equation_clear S X (All-head ShortEquation (erased_equation X) (map erased_equation E) h.short)
     (All-head FewParameters (erased_equation X) (map erased_equation E) h.few)
     (All-head (Parameters S) (erased_equation X) (map erased_equation E) h.parameters))
-    (no_whole (unless (stays_within MAX_INSTANCES n (n + size)) Limit X.name.place) _
-    (unless_holds _ _ _ (stays MAX_INSTANCES n (n + size) (omega (arith, h.instances)) ∙ at_most_true _ _ (omega (arith, h.instances))))
+    (no_whole (unless (stays_within limit n (n + size)) Limit X.name.place) _
+    (unless_holds _ _ _ (stays limit n (n + size) (omega (arith, h.instances)) ∙ at_most_true _ _ (omega (arith, h.instances))))
     (equations_clear S (n + size) E (record {
       short = All-tail ShortEquation (erased_equation X) (map erased_equation E) h.short;
       few = All-tail FewParameters (erased_equation X) (map erased_equation E) h.few;

@@ -4,7 +4,7 @@ use Rattle.std.specs.Prelude.{All, vec_len}
 use Rattle.std.proofs.lemmas.List.{length-map}
 use Rattle.std.proofs.lemmas.Bool.{leb-true}
 use Rattle.pb_sorts.specs.declared.carrier.Carrier.{Carrier}
-use Rattle.pb_base.specs.declared.limits.TheConstants.{MAX_EQUATIONS, MAX_PARAMETERS, MAX_INSTANCES}
+use Rattle.pb_base.specs.declared.limits.TheConstants.{MAX_EQUATIONS, MAX_PARAMETERS}
 use Rattle.pb_sorts.specs.Carrier.{values_of}
 use Rattle.pb_sorts.specs.Instance.{instances_from}
 use Rattle.pb_sorts.specs.Layout as layouts
@@ -28,7 +28,7 @@ Parameters = Vec Carrier Global
 
 -- ---- at most MAX_EQUATIONS lists
 
-pub few_lists : (S : Spec) (E : List EquationForm) (vs : List Parameters) → HasCarriers S 0 E (lists_of vs) → limit_faults MAX_EQUATIONS (equation_names E) ≡ [] → length vs ≤ MAX_EQUATIONS
+pub few_lists : {limit : ℕ} (S : Spec) (E : List EquationForm) (vs : List Parameters) → HasCarriers limit S 0 E (lists_of vs) → limit_faults MAX_EQUATIONS (equation_names E) ≡ [] → length vs ≤ MAX_EQUATIONS
 few_lists S E vs has clear =
     let few = few_names MAX_EQUATIONS (equation_names E) clear in
     let names = length-map E (λ (X : EquationForm). X.name) in
@@ -48,13 +48,13 @@ few_carriers (v ∷ vs) h (suc k) d below = few_carriers vs (λ j e lt. h (suc j
 
 -- ---- with few instances
 
-pub within : (S : Spec) (n : ℕ) (E : List EquationForm) → equations_faults_behind S n E ≡ [] → n ≤ MAX_INSTANCES → n + all_instances S (map erased_equation E) ≤ MAX_INSTANCES
-within S n [] e low = omega (arith, low)
-within S n (X ∷ E) e low =
+pub within : {limit : ℕ} (S : Spec) (n : ℕ) (E : List EquationForm) → equations_faults_behind limit S n E ≡ [] → n ≤ limit → n + all_instances S (map erased_equation E) ≤ limit
+within {limit} S n [] e low = omega (arith, low)
+within {limit} S n (X ∷ E) e low =
     let p = no_parts (equation_faults S X) _ e in
-    let q = no_parts (unless (stays_within MAX_INSTANCES n (n + instance_count S (erased_equation X))) Limit X.name.place) _ p.1 in
-    let first = leb-true (n + instance_count S (erased_equation X)) MAX_INSTANCES
-    (sym (stays MAX_INSTANCES n (n + instance_count S (erased_equation X)) low) ∙ holds_unless _ _ _ q.0) in
+    let q = no_parts (unless (stays_within limit n (n + instance_count S (erased_equation X))) Limit X.name.place) _ p.1 in
+    let first = leb-true (n + instance_count S (erased_equation X)) limit
+    (sym (stays limit n (n + instance_count S (erased_equation X)) low) ∙ holds_unless _ _ _ q.0) in
     let rest = within S (n + instance_count S (erased_equation X)) E q.1 first in
     omega (arith, rest)
 
@@ -64,7 +64,7 @@ counted m S (X ∷ E) =
     length-instances_from-cons m (carriers_of S X.parameters) (map (λ (Y : Equation). carriers_of S Y.parameters) E)
     ∙ ap (λ n. instance_count S X + n) (counted (suc m) S E)
 
-pub few_instances : (S : Spec) (E : List EquationForm) (ls : List (List Carrier)) → HasCarriers S 0 E ls → count_of ls ≤ MAX_INSTANCES
+pub few_instances : {limit : ℕ} (S : Spec) (E : List EquationForm) (ls : List (List Carrier)) → HasCarriers limit S 0 E ls → count_of ls ≤ limit
 few_instances S E ls has =
     let count : count_of ls ≡ all_instances S (map erased_equation E) = ap (λ css. length (instances_from 0 css)) has.values ∙ counted 0 S (map erased_equation E) in
     let low = within S 0 E has.clear (omega arith) in

@@ -1,5 +1,5 @@
 -- The faults that are found as names are gathered, and those that are found by the tables, part by part.
-use Rattle.std.proofs.Common.{◌≡◌, ◌++◌, List, [], map}
+use Rattle.std.proofs.Common.{◌≡◌, ◌++◌, ℕ, List, [], map}
 use Rattle.std.specs.Prelude.{flat_map}
 use Rattle.pb_base.specs.declared.limits.TheConstants.{MAX_EQUATIONS}
 use Rattle.pb_text_tree.specs.Form.{SpecForm}
@@ -67,28 +67,28 @@ module _ (t : SpecForm) where
   abbrev pub too_many : List TypingFault
   too_many = limit_faults MAX_EQUATIONS (equation_names t.equations)
 
-  abbrev pub equations : List TypingFault
-  equations = equations_faults_behind (erase t) 0 t.equations
+  abbrev pub equations : (limit : ℕ) → List TypingFault
+  equations limit = equations_faults_behind limit (erase t) 0 t.equations
 
-  pub in_sorts : (e : OrMemory TypingFault) → IsAmong sorts e → IsAmong (checks_faults t) e
-  in_sorts e h = among_left sorts _ e h
+  pub in_sorts : (limit : ℕ) (e : OrMemory TypingFault) → IsAmong sorts e → IsAmong (checks_faults limit t) e
+  in_sorts limit e h = among_left sorts _ e h
 
-  pub in_ranges : (e : OrMemory TypingFault) → IsAmong ranges e → IsAmong (checks_faults t) e
-  in_ranges e h = among_right sorts _ e (among_left ranges _ e h)
+  pub in_ranges : (limit : ℕ) (e : OrMemory TypingFault) → IsAmong ranges e → IsAmong (checks_faults limit t) e
+  in_ranges limit e h = among_right sorts _ e (among_left ranges _ e h)
 
-  pub in_too_many : (e : OrMemory TypingFault) → IsAmong too_many e → IsAmong (checks_faults t) e
-  in_too_many e h = among_right sorts _ e (among_right ranges _ e (among_left too_many _ e h))
+  pub in_too_many : (limit : ℕ) (e : OrMemory TypingFault) → IsAmong too_many e → IsAmong (checks_faults limit t) e
+  in_too_many limit e h = among_right sorts _ e (among_right ranges _ e (among_left too_many _ e h))
 
-  pub in_equations : (e : OrMemory TypingFault) → IsAmong equations e → IsAmong (checks_faults t) e
-  in_equations e h = among_right sorts _ e (among_right ranges _ e (among_right too_many _ e h))
+  pub in_equations : (limit : ℕ) (e : OrMemory TypingFault) → IsAmong (equations limit) e → IsAmong (checks_faults limit t) e
+  in_equations limit e h = among_right sorts _ e (among_right ranges _ e (among_right too_many _ e h))
 
-  pub checks_clear : sorts ≡ [] → ranges ≡ [] → too_many ≡ [] → equations ≡ [] → checks_faults t ≡ []
-  checks_clear a b c d = no_whole sorts _ a (no_whole ranges _ b (no_whole too_many _ c d))
+  pub checks_clear : (limit : ℕ) → sorts ≡ [] → ranges ≡ [] → too_many ≡ [] → equations limit ≡ [] → checks_faults limit t ≡ []
+  checks_clear limit a b c d = no_whole sorts _ a (no_whole ranges _ b (no_whole too_many _ c d))
 
   -- ---- where there is no fault
 
-  pub few_clear : declaration_faults t ≡ [] → too_many ≡ []
-  few_clear e =
-      let checks = (no_parts (tables_faults t) (checks_faults t) e).1 in
+  pub few_clear : (limit : ℕ) → declaration_faults limit t ≡ [] → too_many ≡ []
+  few_clear limit e =
+      let checks = (no_parts (tables_faults t) (checks_faults limit t) e).1 in
       let behind = (no_parts sorts _ checks).1 in
       (no_parts too_many _ (no_parts ranges _ behind).1).0

@@ -20,7 +20,7 @@ use Rattle.pb_typing_declarations.specs.Shapes.{End, Shaped, Unranged, Undeclare
 use Rattle.pb_typing_declarations.specs.Shapes.{base_of, is_sort, is_built_in, number_behind}
 use Rattle.pb_typing_declarations.specs.Instances.{instance_count}
 use Rattle.pb_base.specs.declared.limits.TheConstants.{MAX_STRUCTS, MAX_ENUMERATORS, MAX_EQUATIONS}
-use Rattle.pb_base.specs.declared.limits.TheConstants.{MAX_PARAMETERS, MAX_INSTANCES}
+use Rattle.pb_base.specs.declared.limits.TheConstants.{MAX_PARAMETERS}
 
 -- ---- limits
 
@@ -180,13 +180,13 @@ equation_faults spec X =
 
 -- behind so many instances: a predicate variable is as it must be, and its instances don't pass the
 -- limit (T12)
-abbrev pub equations_faults_behind : Spec → ℕ → List EquationForm → List TypingFault
-equations_faults_behind spec n [] = []
-equations_faults_behind spec n (X ∷ E) =
+abbrev pub equations_faults_behind : (limit : ℕ) → Spec → ℕ → List EquationForm → List TypingFault
+equations_faults_behind limit spec n [] = []
+equations_faults_behind limit spec n (X ∷ E) =
     equation_faults spec X
-    ++ (unless (stays_within MAX_INSTANCES n (n + instance_count spec (erased_equation X)))
+    ++ (unless (stays_within limit n (n + instance_count spec (erased_equation X)))
     Limit X.name.place
-    ++ equations_faults_behind spec (n + instance_count spec (erased_equation X)) E)
+    ++ equations_faults_behind limit spec (n + instance_count spec (erased_equation X)) E)
 
 -- ---- all
 
@@ -204,12 +204,13 @@ tables_faults text =
     ++ repeated (equation_names text.equations)))))
 
 -- what is found once all names are known
-abbrev pub checks_faults : SpecForm → List TypingFault
-checks_faults text =
+abbrev pub checks_faults : (limit : ℕ) → SpecForm → List TypingFault
+checks_faults limit text =
     flat_map (sort_faults (erase text)) text.sorts
     ++ (flat_map (range_faults (erase text)) text.ranges
     ++ (limit_faults MAX_EQUATIONS (equation_names text.equations)
-    ++ equations_faults_behind (erase text) 0 text.equations))
+    ++ equations_faults_behind limit (erase text) 0 text.equations))
 
-abbrev pub declaration_faults : SpecForm → List TypingFault
-declaration_faults text = tables_faults text ++ checks_faults text
+-- where so many instances may be declared
+abbrev pub declaration_faults : (limit : ℕ) → SpecForm → List TypingFault
+declaration_faults limit text = tables_faults text ++ checks_faults limit text

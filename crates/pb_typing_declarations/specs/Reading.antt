@@ -16,7 +16,7 @@ use Rattle.pb_typing_declarations.specs.Shapes.{range_bounds}
 use Rattle.pb_typing_declarations.specs.Shapes.{sort_shape, variable_shapes}
 use Rattle.pb_sorts.specs.declared.carrier.Range.{Range}
 use Rattle.pb_sorts.specs.declared.carrier.Carrier.{Carrier}
-use Rattle.pb_base.specs.declared.limits.TheConstants.{MAX_PARAMETERS, MAX_INSTANCES}
+use Rattle.pb_base.specs.declared.limits.TheConstants.{MAX_PARAMETERS}
 use Rattle.pb_sorts.specs.Carrier.{values_of}
 use Rattle.pb_sorts.specs.Layout as layouts
 use Rattle.pb_base_values.specs.Carrier.{tuple_count}
@@ -137,17 +137,17 @@ pub record HasParameters (S : Spec) (X : EquationForm) (carriers : List Carrier)
   pub shapes : shapes_of carriers ≡ variable_shapes S (erased_variables X.parameters)
   pub few : length carriers ≤ MAX_PARAMETERS
 
--- a sum of instances
-pub record AddsInstances (count : ℕ) (carriers : List (List ℤ)) (place : Place) (sum : ℕ)
+-- a sum of instances, within the limit
+pub record AddsInstances (limit count : ℕ) (carriers : List (List ℤ)) (place : Place) (sum : ℕ)
     : Type 0 where
-  pub clear : unless (nat_le (count + tuple_count carriers) MAX_INSTANCES) Limit place ≡ []
+  pub clear : unless (nat_le (count + tuple_count carriers) limit) Limit place ≡ []
   pub is : sum ≡ count + tuple_count carriers
-  pub few : sum ≤ MAX_INSTANCES
+  pub few : sum ≤ limit
 
 -- the carriers of equations behind n instances
-pub record HasCarriers (S : Spec) (n : ℕ) (E : List EquationForm) (carriers : List (List Carrier))
-    : Type 0 where
-  pub clear : equations_faults_behind S n E ≡ []
+pub record HasCarriers (limit : ℕ) (S : Spec) (n : ℕ) (E : List EquationForm)
+    (carriers : List (List Carrier)) : Type 0 where
+  pub clear : equations_faults_behind limit S n E ≡ []
   pub values : layouts.carriers_of carriers
       ≡ map (λ (X : Equation). carriers_of S X.parameters) (map erased_equation E)
   pub shapes : map shapes_of carriers

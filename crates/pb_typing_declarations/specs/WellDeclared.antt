@@ -2,7 +2,8 @@
 use Rattle.std.specs.Prelude.{ℕ, ◌≡◌, ◌≢◌, ◌<◌, ◌≤◌, ◌≤ℤ◌, true, false, Bool, List, [], ◌∷◌, map}
 use Rattle.std.specs.Prelude.{flat_map, length, All, AllPairs, Option, Some, None}
 use Rattle.pb_base.specs.declared.limits.TheConstants.{MAX_STRUCTS, MAX_ENUMERATORS, MAX_EQUATIONS}
-use Rattle.pb_base.specs.declared.limits.TheConstants.{MAX_PARAMETERS, MAX_INSTANCES}
+use Rattle.pb_base.specs.declared.limits.TheConstants.{MAX_PARAMETERS}
+use Rattle.pb_sorts.specs.declared.counting.TheConstants.{MAX_NUMBERS}
 use Rattle.pb_base.specs.declared.limits.TheConstants.{MAX_NAME_BYTES}
 use Rattle.pb_text_meaning.specs.Syntax.{Name, Variable, Enumerator, Sort, Struct, Alias}
 use Rattle.pb_text_meaning.specs.Syntax.{SortDeclaration, Range, Equation, Spec}
@@ -95,4 +96,9 @@ pub record IsDeclared (spec : Spec) : Type 0 where
   pub few_equations : length spec.equations ≤ MAX_EQUATIONS
   pub few_parameters : All (λ (X : Equation). length X.parameters ≤ MAX_PARAMETERS) spec.equations
   pub parameters : All (λ (X : Equation). AreVariables spec X.parameters) spec.equations
-  pub few_instances : all_instances spec spec.equations ≤ MAX_INSTANCES
+  pub few_instances : all_instances spec spec.equations ≤ MAX_NUMBERS
+
+-- it is, and declares no more instances than so many
+pub record IsDeclaredWithin (limit : ℕ) (spec : Spec) : Type 0 where
+  pub declared : IsDeclared spec
+  pub few : all_instances spec spec.equations ≤ limit

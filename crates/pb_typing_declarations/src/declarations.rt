@@ -3,6 +3,7 @@
 ghost use Rattle.std.specs.Prelude.{◌≡◌, [], MatchOption, MatchResult, IfOk, map};
 ghost use Rattle.std.specs.Option.{option_map};
 ghost use Rattle.pb_sorts.specs.Carrier.{values_of};
+ghost use Rattle.pb_sorts.specs.Counting.{instance_limit};
 ghost use Rattle.pb_sorts.specs.Layout as layouts;
 ghost use Rattle.pb_sorts.specs.Layout.{lists_of};
 ghost use Rattle.pb_text_tree.specs.Form.{spec_form, variable_forms};
@@ -23,7 +24,7 @@ use crate::fault::TypeError;
 use crate::sorts::Enumerator;
 use crate::tables::Tables;
 use crate::variables::variable_entries;
-use pb_sorts::{Carrier, Layout};
+use pb_sorts::{Carrier, Counting, Layout};
 use pb_text_tree::{Spec, Variables};
 use std::alloc::{AllocError, Global};
 
@@ -33,28 +34,42 @@ pub struct Declarations<'a> {
     tables: Tables<'a>,
     /// The carriers of each equation's parameters.
     carriers: Vec<Vec<Carrier>>,
-    pub ghost faultless: { declaration_faults (spec_form tables.spec.now) ≡ [] },
-    pub ghost carried: { HasCarriers (erase (spec_form tables.spec.now)) 0
-        (spec_form tables.spec.now).equations (lists_of carriers.items) },
+    /// Which instances count.
+    counting: Counting,
+    pub ghost faultless: { declaration_faults (instance_limit counting)
+        (spec_form tables.spec.now) ≡ [] },
+    pub ghost carried: { HasCarriers (instance_limit counting)
+        (erase (spec_form tables.spec.now)) 0 (spec_form tables.spec.now).equations
+        (lists_of carriers.items) },
 }
 
 impl<'a> Declarations<'a> {
-    ghost use Rattle.pb_typing_declarations.specs.View.{text_of, spec_of};
+    ghost use Rattle.pb_typing_declarations.specs.View.{limit_of, text_of, spec_of};
 
-    /// What a text declares.
+    /// What a text declares, by which instances count.
     ///
     /// # Errors
     /// A fault of the declarations exactly where there is one; where several rules fail, any one of
     /// them. `TypeError::Memory` comes only where memory was refused.
-    pub fn read(alloc: Global, spec: &'a Spec) -> Result<Declarations<'a>, TypeError>
+    pub fn read(
+        alloc: Global,
+        spec: &'a Spec,
+        counting: Counting,
+    ) -> Result<Declarations<'a>, TypeError>
         ensures text { IfOk result (λ declarations. text_of declarations ≡ spec_form spec.now) }
+        ensures limit { IfOk result (λ declarations. limit_of declarations
+            ≡ instance_limit counting) }
         ensures checked { MatchResult result
-            (λ _. declaration_faults (spec_form spec.now) ≡ [])
-            (IsAmong (declaration_faults (spec_form spec.now))) }
+            (λ _. declaration_faults (instance_limit counting) (spec_form spec.now) ≡ [])
+            (IsAmong (declaration_faults (instance_limit counting) (spec_form spec.now))) }
     {
         let tables = Tables::read(alloc, spec)?;
-        let carriers = tables.check(alloc)?;
-        Ok(Declarations { tables, carriers })
+        let carriers = tables.check(alloc, counting)?;
+        Ok(Declarations {
+            tables,
+            carriers,
+            counting,
+        })
     }
 
     /// The carrier of a sort; none where no such sort has values.
@@ -123,7 +138,7 @@ impl<'a> Declarations<'a> {
             ≡ map (λ (X : Equation). variable_shapes (spec_of self.now) X.parameters)
             (spec_of self.now).equations) }
     {
-        match Layout::new(alloc, &self.carriers) {
+        match Layout::counting(alloc, &self.carriers, self.counting) {
             Ok(layout) => Ok(layout),
             Err(error) => Err(error.only_memory()),
         }

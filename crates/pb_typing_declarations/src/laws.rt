@@ -1,7 +1,7 @@
 //! Laws about the definitions: the lists of faults, with places, and the relations without places
 //! agree.
 
-ghost use Rattle.std.specs.Prelude.{◌≡◌, ◌≢◌, ◌↔◌, [], List, true};
+ghost use Rattle.std.specs.Prelude.{◌≡◌, ◌≢◌, ◌≤◌, ◌↔◌, ℕ, [], List, true};
 ghost use Rattle.pb_text_tree.specs.Form.{SpecForm, VariableForm};
 ghost use Rattle.pb_text_meaning.specs.Syntax.{Name, Spec};
 ghost use Rattle.pb_text_meaning.specs.Sorts.{carrier_of};
@@ -9,11 +9,15 @@ ghost use Rattle.pb_text_meaning.specs.Erase.{erase, erased_variables};
 ghost use Rattle.pb_typing_declarations.specs.Shapes.{Unknown, end_of, shape_carrier, sort_shape};
 ghost use Rattle.pb_typing_declarations.specs.Declarations.{declaration_faults, variables_faults};
 ghost use Rattle.pb_typing_declarations.specs.WellDeclared.{AreVariables, HaveEnds, IsDeclared};
+ghost use Rattle.pb_typing_declarations.specs.WellDeclared.{IsDeclaredWithin};
+ghost use Rattle.pb_sorts.specs.declared.counting.TheConstants.{MAX_NUMBERS};
 ghost use Rattle.pb_typing_declarations.specs.WellDeclared.{has_shape};
 
-/// A text's declarations have no fault exactly where what it says is declared as it must be.
+/// A text's declarations have no fault exactly where what it says is declared as it must be, with
+/// no more instances than the limit.
 pub fn no_faults_where_declared()
-    ensures { (text : SpecForm) → (declaration_faults text ≡ []) ↔ IsDeclared (erase text) }
+    ensures { (limit : ℕ) (text : SpecForm) → limit ≤ MAX_NUMBERS
+        → (declaration_faults limit text ≡ []) ↔ IsDeclaredWithin limit (erase text) }
 {}
 
 /// Where declarations are as they must be, the chain of each declared sort has an end.

@@ -4,7 +4,9 @@ ghost use Rattle.std.specs.Prelude.{◌≡◌, ◌+◌, ◌≤◌, nat_le, [], N
 ghost use Rattle.std.specs.Prelude.{MatchResult, IfOk};
 ghost use Rattle.pb_base_values.specs.Carrier.{tuple_count};
 ghost use Rattle.pb_sorts.specs.Carrier.{values_of};
+ghost use Rattle.pb_sorts.specs.Counting.{instance_limit};
 ghost use Rattle.pb_sorts.specs.Layout.{lists_of};
+ghost use Rattle.pb_sorts.specs.declared.counting.TheConstants.{MAX_NUMBERS};
 ghost use Rattle.pb_text_tree.specs.Form.{spec_form, sort_declaration_form, range_form};
 ghost use Rattle.pb_text_tree.specs.Form.{equation_form, named};
 ghost use Rattle.pb_text_meaning.specs.Erase.{erase};
@@ -36,8 +38,8 @@ use crate::fault::{TypeError, TypingFault, TypingRule, require};
 use crate::range::range_table;
 use crate::table::table;
 use crate::variables::variable_entries;
-use pb_base::{MAX_EQUATIONS, MAX_INSTANCES, MAX_PARAMETERS};
-use pb_sorts::{Carrier, Range, count_tuples};
+use pb_base::{MAX_EQUATIONS, MAX_PARAMETERS};
+use pb_sorts::{Carrier, Counting, Range, count_tuples};
 use pb_text_tree::{Equation, Name, Place, Sort, SortDeclaration, Spec};
 use std::alloc::{AllocError, Global};
 use std::collections::HashMap;
@@ -120,17 +122,18 @@ impl<'a> Tables<'a> {
 
     /// Checks sorts, ranges and predicate variables, and hands out the carriers of each equation's
     /// parameters.
-    pub fn check(&self, alloc: Global) -> Result<Vec<Vec<Carrier>>, TypeError>
+    pub fn check(&self, alloc: Global, counting: Counting) -> Result<Vec<Vec<Carrier>>, TypeError>
         ensures { MatchResult result
-            (λ carriers. (checks_faults (spec_form self.now.spec.now) ≡ [])
-            × HasCarriers (erase (spec_form self.now.spec.now)) 0
+            (λ carriers. (checks_faults (instance_limit counting)
+            (spec_form self.now.spec.now) ≡ [])
+            × HasCarriers (instance_limit counting) (erase (spec_form self.now.spec.now)) 0
             (spec_form self.now.spec.now).equations (lists_of carriers.items))
-            (IsAmong (checks_faults (spec_form self.now.spec.now))) }
+            (IsAmong (checks_faults (instance_limit counting) (spec_form self.now.spec.now))) }
     {
         self.check_sorts(alloc, &self.spec.sorts)?;
         self.check_ranges(alloc, &self.spec.ranges)?;
         check_equation_count(&self.spec.equations)?;
-        self.carriers(alloc, &self.spec.equations)
+        self.carriers(alloc, &self.spec.equations, counting.limit())
     }
 
     fn check_sorts(&self, alloc: Global, sorts: &[SortDeclaration]) -> Result<(), TypingFault>
@@ -214,19 +217,21 @@ impl<'a> Tables<'a> {
         &self,
         alloc: Global,
         equations: &[Equation],
+        limit: u64,
     ) -> Result<Vec<Vec<Carrier>>, TypeError>
-        requires { HaveEnds (erase (spec_form self.now.spec.now)) }
+        requires ends { HaveEnds (erase (spec_form self.now.spec.now)) }
+        requires limit { limit ≤ MAX_NUMBERS }
         ensures { MatchResult result
-            (λ carriers. HasCarriers (erase (spec_form self.now.spec.now)) 0
+            (λ carriers. HasCarriers limit (erase (spec_form self.now.spec.now)) 0
             (map equation_form equations.now) (lists_of carriers.items))
-            (IsAmong (equations_faults_behind (erase (spec_form self.now.spec.now)) 0
+            (IsAmong (equations_faults_behind limit (erase (spec_form self.now.spec.now)) 0
             (map equation_form equations.now))) }
     {
         let mut carriers = Vec::new(alloc);
         let mut count = 0;
         for equation in equations {
             let parameters = self.parameters(alloc, equation)?;
-            count = add_instances(count, &parameters, equation.name.place)?;
+            count = add_instances(limit, count, &parameters, equation.name.place)?;
             carriers.push(parameters)?;
         }
         Ok(carriers)
@@ -291,15 +296,21 @@ impl<'a> Tables<'a> {
 }
 
 /// So many instances and those of one more predicate variable, if they are within the limit (T12).
-fn add_instances(count: u64, parameters: &[Carrier], place: Place) -> Result<u64, TypingFault>
-    requires { count ≤ MAX_INSTANCES }
+fn add_instances(
+    limit: u64,
+    count: u64,
+    parameters: &[Carrier],
+    place: Place,
+) -> Result<u64, TypingFault>
+    requires limit { limit ≤ MAX_NUMBERS }
+    requires few { count ≤ limit }
     ensures { MatchResult result
-        (λ sum. AddsInstances count (map values_of parameters.now) place sum)
+        (λ sum. AddsInstances limit count (map values_of parameters.now) place sum)
         (Contains (unless (nat_le (count + tuple_count
-        (map values_of parameters.now)) MAX_INSTANCES) TypingRule.Limit place)) }
+        (map values_of parameters.now)) limit) TypingRule.Limit place)) }
 {
     match count_tuples(parameters) {
-        Some(size) if count + size <= MAX_INSTANCES as u64 => Ok(count + size),
+        Some(size) if count + size <= limit => Ok(count + size),
         _ => Err(TypingFault {
             rule: TypingRule::Limit,
             place,

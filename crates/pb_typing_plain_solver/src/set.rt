@@ -6,7 +6,7 @@ ghost use Rattle.std.specs.List.{slice_get};
 ghost use Rattle.pb_text_tree.specs.Form.{spec_form};
 ghost use Rattle.pb_sorts.specs.Instance.{first_of, owns_number, size_of};
 ghost use Rattle.pb_sorts.specs.Layout.{carriers_of, count_of};
-ghost use Rattle.pb_base.specs.declared.limits.TheConstants.{MAX_INSTANCES};
+ghost use Rattle.pb_sorts.specs.declared.counting.TheConstants.{MAX_NUMBERS};
 ghost use Rattle.pb_text_meaning.specs.Erase.{erase};
 ghost use Rattle.pb_text_meaning.specs.Syntax as syntax;
 ghost use Rattle.pb_typing_values.specs.Environment.{environment_of};
@@ -33,7 +33,7 @@ fn numbers_of(turn: &Turn<'_>) -> Numbers
     ensures end { result.end ≡ first_of (carriers_of turn.now.typed.now.layout) turn.now.equation
         + size_of (carriers_of turn.now.typed.now.layout) turn.now.equation }
     ensures within { result.end ≤ count_of turn.now.typed.now.layout }
-    ensures few { result.end ≤ MAX_INSTANCES }
+    ensures few { result.end ≤ MAX_NUMBERS }
 {
     let all = turn.typed.layout.count() as usize;
     let start = turn.typed.layout.first(turn.equation) as usize;

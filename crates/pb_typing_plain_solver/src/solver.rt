@@ -1,6 +1,7 @@
 //! The nested solution, equation by equation.
 
 ghost use Rattle.std.specs.Prelude.{◌≡◌, ◌≤◌, if◌then◌else◌, true, false, length, drop, IfOk, OnOk};
+ghost use Rattle.pb_base.specs.declared.limits.TheConstants.{MAX_INSTANCES};
 ghost use Rattle.pb_fixpoint.specs.Solution.{solution};
 ghost use Rattle.pb_text_tree.specs.Form.{spec_form};
 ghost use Rattle.pb_sorts.specs.Layout.{count_of};
@@ -95,11 +96,12 @@ fn solve_from(
 ///
 /// Recursion goes as deep as there are equations, and as formulas nest. Sets of one sign are kept
 /// from one step of an outer equation to the next, so that the time grows exponentially with the
-/// number of alternations alone.
+/// number of alternations alone. A set has a truth for each declared instance.
 ///
 /// # Errors
 /// Memory was refused.
 pub fn solve(alloc: Global, typed: &Typed) -> Result<bool, AllocError>
+    requires { count_of typed.now.layout ≤ MAX_INSTANCES }
     ensures { IfOk result (λ truth. truth ≡ answer (erase (spec_form typed.now.spec))) }
 {
     let count = typed.layout.count() as usize;

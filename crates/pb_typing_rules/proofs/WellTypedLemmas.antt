@@ -1,6 +1,7 @@
 -- Whole texts: no fault exactly where what the text says is well typed.
-use Rattle.std.proofs.Common.{◌≡◌, ◌≤◌, Bool, true, false, ◌&&◌, cond, List, [], ◌∷◌, map, length, refl, sym, ◌∙◌, ap, subst, arith, Option, Some, None, true≢false}
+use Rattle.std.proofs.Common.{◌≡◌, ◌≤◌, ℕ, Bool, true, false, ◌&&◌, cond, List, [], ◌∷◌, map, length, refl, sym, ◌∙◌, ap, subst, arith, Option, Some, None, true≢false}
 use Rattle.std.specs.Prelude.{All}
+use Rattle.pb_sorts.specs.declared.counting.TheConstants.{MAX_NUMBERS}
 use Rattle.std.specs.List.{Contains}
 use Rattle.std.specs.Option.{IfSome}
 use Rattle.std.proofs.lemmas.Bool.{and_parts}
@@ -22,7 +23,7 @@ use Rattle.pb_typing_declarations.specs.WellDeclared.{HaveEnds, IsDeclared}
 use Rattle.pb_typing_rules.specs.Scope.{outermost, bound}
 use Rattle.pb_typing_rules.specs.Formula.{count, IsCalled}
 use Rattle.pb_typing_rules.specs.Faults.{instance_faults, right_faults, may_have, value_faults, parameters_named, and_then, faults}
-use Rattle.pb_typing_rules.specs.WellTyped.{AreProper, IsWellTyped}
+use Rattle.pb_typing_rules.specs.WellTyped.{AreProper, IsWellTypedWithin}
 use Rattle.pb_typing_declarations.proofs.Parts.{no_parts, no_whole, holds_unless, unless_holds}
 use Rattle.pb_typing_declarations.proofs.DeclaredEnds.{faultless_ends}
 use Rattle.pb_typing_declarations.proofs.DeclaredLaw as declaration
@@ -107,36 +108,41 @@ and_then_whole xs ys e f = ap (λ (zs : List TypingFault). and_then zs ys) e ∙
 
 -- ---- all
 
-pub well_typed : (text : SpecForm) → faults text ≡ [] → IsWellTyped (erase text)
-well_typed text e =
+pub well_typed : {limit : ℕ} (text : SpecForm) → limit ≤ MAX_NUMBERS → faults limit text ≡ [] → IsWellTypedWithin limit (erase text)
+well_typed {limit} text small e =
     let spec = erase text in
     let i = text.initial in
-    let q = no_parts (declaration_faults text) _ e in
+    let q = no_parts (declaration_faults limit text) _ e in
     let r = no_parts (right_faults spec text.equations) _ q.1 in
     let u = and_then_parts (instance_faults spec true outermost i) _ r.1 in
-    let ends = faultless_ends text q.0 in
+    let ends = faultless_ends limit text q.0 in
     let initial = instance_proper spec ends true outermost i u.0 in
-    let declared = declaration.declared text q.0 in
+    let within = declaration.declared_within text small q.0 in
+    let declared = within.declared in
     let some = equation_values spec i.name.text spec.equations (parameters_values spec declared) in
     record {
-      declarations = declared;
-      rights = rights_proper spec text.equations ends r.0;
-      initial = initial;
-      values = instance_of_clear spec i.arguments (equation_named spec.equations i.name.text) some initial.1 u.1;
+      few = within.few;
+      typed = record {
+        declarations = declared;
+        rights = rights_proper spec text.equations ends r.0;
+        initial = initial;
+        values = instance_of_clear spec i.arguments (equation_named spec.equations i.name.text) some initial.1 u.1;
+      };
     }
 
-pub faultless : (text : SpecForm) → IsWellTyped (erase text) → faults text ≡ []
-faultless text h =
+pub faultless : {limit : ℕ} (text : SpecForm) → IsWellTypedWithin limit (erase text) → faults limit text ≡ []
+faultless {limit} text within =
+    let h = within.typed in
     let spec = erase text in
     let i = text.initial in
-    no_whole (declaration_faults text) _ (declaration.faultless text h.declarations)
+    no_whole (declaration_faults limit text) _ (declaration.faultless text (record { declared = h.declarations; few = within.few }))
     (no_whole (right_faults spec text.equations) _ (rights_clear spec text.equations h.rights)
     (and_then_whole (instance_faults spec true outermost i) _ (instance_clear spec true outermost i h.initial)
     (instance_values_clear spec i.arguments (equation_named spec.equations i.name.text) h.values)))
 
 -- a fault refutes it
-pub ill_typed : (text : SpecForm) (e : OrMemory TypingFault) → IsAmong (faults text) e → IfFault e (λ _. ¬ IsWellTyped (erase text))
-ill_typed text Memory h = tt
-ill_typed text (Refused fault) h = λ typed.
+pub ill_typed : (limit : ℕ) (text : SpecForm) (e : OrMemory TypingFault) → IsAmong (faults limit text) e → IfFault e (λ _. ¬ IsWellTypedWithin limit (erase text))
+ill_typed limit text Memory h = tt
+ill_typed limit text (Refused fault) h = λ typed.
     let none : Contains [] fault = subst (λ (all : List TypingFault). Contains all fault) (faultless text typed) h in
     omega (arith, none.1)

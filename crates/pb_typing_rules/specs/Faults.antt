@@ -197,8 +197,9 @@ initial_faults spec i =
     and_then (instance_faults spec true outermost i)
     (value_faults spec i.arguments (parameters_named (equation_named spec.equations i.name.text)))
 
--- all faults of a text: of its declarations, of its right sides and of its initial instance
-abbrev pub faults : SpecForm → List TypingFault
-faults text =
-    declaration_faults text
+-- all faults of a text that may declare so many instances: of its declarations, of its right sides
+-- and of its initial instance
+abbrev pub faults : (limit : ℕ) → SpecForm → List TypingFault
+faults limit text =
+    declaration_faults limit text
     ++ (right_faults (erase text) text.equations ++ initial_faults (erase text) text.initial)

@@ -1,8 +1,9 @@
 -- Which specifications may be solved: the relation on what a text says, without places.
-use Rattle.std.specs.Prelude.{◌≡◌, true, ⊤, List, [], ◌∷◌}
+use Rattle.std.specs.Prelude.{◌≡◌, ◌≤◌, ℕ, true, ⊤, List, [], ◌∷◌}
 use Rattle.pb_text_meaning.specs.Syntax.{Formula, Equation, Spec}
 use Rattle.pb_text_meaning.specs.Value.{values}
 use Rattle.pb_text_meaning.specs.Formula.{is_instance}
+use Rattle.pb_typing_declarations.specs.Instances.{all_instances}
 use Rattle.pb_typing_declarations.specs.WellDeclared.{IsDeclared}
 use Rattle.pb_typing_rules.specs.Scope.{Scope, outermost, bound}
 use Rattle.pb_typing_rules.specs.Formula.{IsProper}
@@ -24,3 +25,8 @@ pub record IsWellTyped (spec : Spec) : Type 0 where
   pub initial : IsProper spec true outermost (Formula.Call spec.initial spec.arguments)
   pub values : is_instance spec
       (record { name = spec.initial; values = values spec [] spec.arguments }) ≡ true
+
+-- It is, and declares no more instances than so many.
+pub record IsWellTypedWithin (limit : ℕ) (spec : Spec) : Type 0 where
+  pub typed : IsWellTyped spec
+  pub few : all_instances spec spec.equations ≤ limit

@@ -143,7 +143,7 @@ fn call_truth(
         values,
     };
     match environment.layout.number(&instance) {
-        Some(number) => environment.truths[number as usize],
+        Some(number) => environment.truth(number),
         None => false,
     }
 }

@@ -5,7 +5,8 @@ use Rattle.std.specs.Prelude.{◌&&◌, nat_le, length, slice_get}
 use Rattle.std.specs.List.{list_all}
 use Rattle.std.proofs.lemmas.Bool.{and_parts}
 use Rattle.pb_base_values.specs.Carrier.{Tuple, is_within}
-use Rattle.pb_base.specs.declared.limits.TheConstants.{MAX_STRUCTS, MAX_EQUATIONS, MAX_INSTANCES}
+use Rattle.pb_base.specs.declared.limits.TheConstants.{MAX_STRUCTS, MAX_EQUATIONS}
+use Rattle.pb_sorts.specs.declared.counting.TheConstants.{MAX_NUMBERS}
 use Rattle.pb_sorts.specs.Carrier.{values_of}
 use Rattle.pb_sorts.specs.Instance.{Instance, instances, is_instance, is_tuple_of}
 use Rattle.pb_sorts.specs.Layout.{carriers_of}
@@ -27,7 +28,7 @@ initial_fits : (m : Contents) → fits m ≡ true → is_tuple_of (slice_get (ca
 initial_fits m h =
     let sorts = is_between 0 (MAX_STRUCTS + 1) (length m.sorts) && list_all fits_sort m.sorts in
     let equations = is_between 1 (MAX_EQUATIONS + 1) (length m.equations) && list_all (fits_equation m.version (counts m.sorts)) m.equations in
-    let few = nat_le (instance_count m.equations) MAX_INSTANCES in
+    let few = nat_le (instance_count m.equations) MAX_NUMBERS in
     let initial = is_tuple (parameters_if_any (slice_get m.equations m.initial.equation)) m.initial.values in
     values_fit m.equations m.initial.equation m.initial.values
     ((and_parts (is_byte m.initial.equation) initial

@@ -4,7 +4,8 @@ use Rattle.std.specs.Prelude.{All, nat_le, nat_lt, slice_get, int_le}
 use Rattle.std.specs.List.{list_all}
 use Rattle.std.proofs.lemmas.Bool.{and_parts, leb-true, ltb-true}
 use Rattle.std.proofs.lemmas.List.{length-map}
-use Rattle.pb_base.specs.declared.limits.TheConstants.{MAX_STRUCTS, MAX_EQUATIONS, MAX_PARAMETERS, MAX_INSTANCES, MAX_LOOP_SLOTS, MAX_INSTRUCTIONS}
+use Rattle.pb_base.specs.declared.limits.TheConstants.{MAX_STRUCTS, MAX_EQUATIONS, MAX_PARAMETERS, MAX_LOOP_SLOTS, MAX_INSTRUCTIONS}
+use Rattle.pb_sorts.specs.declared.counting.TheConstants.{MAX_NUMBERS}
 use Rattle.pb_sorts.specs.Layout.{count_of}
 use Rattle.pb_sorts.specs.declared.carrier.Carrier.{Carrier}
 use Rattle.pb_bytecode_program.proofs.Ints.{le_true}
@@ -35,18 +36,18 @@ above low end n h = leb-true low n (and_parts (nat_le low n) (nat_lt n end) h).0
 pub record EquationsFit (m : Contents) : Type 0 where
   pub few : is_between 1 (MAX_EQUATIONS + 1) (length m.equations) ≡ true
   pub each : list_all (fits_equation m.version (counts m.sorts)) m.equations ≡ true
-  pub instances : nat_le (instance_count m.equations) MAX_INSTANCES ≡ true
+  pub instances : nat_le (instance_count m.equations) MAX_NUMBERS ≡ true
 
 equations_fit : (m : Contents) → fits m ≡ true → EquationsFit m
 equations_fit m h =
     let a = and_parts (is_between 0 (MAX_STRUCTS + 1) (length m.sorts) && list_all fits_sort m.sorts)
     ((is_between 1 (MAX_EQUATIONS + 1) (length m.equations) && list_all (fits_equation m.version (counts m.sorts))
-    m.equations) && (nat_le (instance_count m.equations) MAX_INSTANCES && fits_initial m.equations m.initial)) h in
+    m.equations) && (nat_le (instance_count m.equations) MAX_NUMBERS && fits_initial m.equations m.initial)) h in
     let b = and_parts
     (is_between 1 (MAX_EQUATIONS + 1) (length m.equations) && list_all (fits_equation m.version (counts m.sorts))
-    m.equations) (nat_le (instance_count m.equations) MAX_INSTANCES && fits_initial m.equations m.initial) a.1 in
+    m.equations) (nat_le (instance_count m.equations) MAX_NUMBERS && fits_initial m.equations m.initial) a.1 in
     let c = and_parts (is_between 1 (MAX_EQUATIONS + 1) (length m.equations)) (list_all (fits_equation m.version (counts m.sorts)) m.equations) b.0 in
-    record { few = c.0; each = c.1; instances = (and_parts (nat_le (instance_count m.equations) MAX_INSTANCES) (fits_initial m.equations m.initial) b.1).0 }
+    record { few = c.0; each = c.1; instances = (and_parts (nat_le (instance_count m.equations) MAX_NUMBERS) (fits_initial m.equations m.initial) b.1).0 }
 
 pub record CodeFits (v : Version) (sizes : List ℕ) (e : EquationContents) : Type 0 where
   pub parameters : is_between 0 (MAX_PARAMETERS + 1) (length e.parameters) ≡ true
@@ -123,7 +124,7 @@ few_parameters v sizes (e ∷ es) h (suc k) d lt = few_parameters v sizes es (an
 pub record HasLayout (callees : List (List Carrier)) : Type 0 where
   pub equations : length callees ≤ MAX_EQUATIONS
   pub parameters : All (λ (ps : List Carrier). length ps ≤ MAX_PARAMETERS) callees
-  pub instances : count_of callees ≤ MAX_INSTANCES
+  pub instances : count_of callees ≤ MAX_NUMBERS
 
 pub has_layout : (m : Contents) → fits m ≡ true → HasLayout (parameters m)
 has_layout m h =
@@ -131,5 +132,5 @@ has_layout m h =
     record {
       equations = let a = below 1 (MAX_EQUATIONS + 1) (length m.equations) parts.few in rw length-map (omega arith);
       parameters = few_parameters m.version (counts m.sorts) m.equations parts.each;
-      instances = let a = leb-true (instance_count m.equations) MAX_INSTANCES parts.instances in omega (arith, instances_counted 0 m.equations);
+      instances = let a = leb-true (instance_count m.equations) MAX_NUMBERS parts.instances in omega (arith, instances_counted 0 m.equations);
     }

@@ -7,13 +7,13 @@ ghost use Rattle.pb_bytecode.specs.Views.{sort_contents};
 ghost use Rattle.pb_bytecode.specs.Decoded.{module_contents};
 ghost use Rattle.pb_bytecode.specs.Meaning.{parameters};
 ghost use Rattle.pb_sorts.specs.Layout.{count_of, lists_of};
+ghost use Rattle.pb_sorts.specs.declared.counting.TheConstants.{MAX_NUMBERS};
 ghost use Rattle.pb_verifier.specs.Programs.{parameters_of};
 ghost use Rattle.pb_base.specs.declared.limits.TheConstants.{MAX_EQUATIONS, MAX_PARAMETERS};
-ghost use Rattle.pb_base.specs.declared.limits.TheConstants.{MAX_INSTANCES};
 
 use pb_base::OrMemory;
 use pb_bytecode::{Equation, Module, Sort};
-use pb_sorts::{Carrier, Layout};
+use pb_sorts::{Carrier, Counting, Layout};
 use std::alloc::{AllocError, Global};
 
 /// How many enumerators each sort has.
@@ -42,14 +42,14 @@ fn parameter_carriers(
 }
 
 /// The layout of equations with these parameters, of which there are no more than a layout may
-/// have.
+/// have: how many instances may be declared was seen to when the module was made.
 fn layout_with(alloc: Global, carriers: &[Vec<Carrier>]) -> Result<Layout, AllocError>
     requires equations { length carriers.now ≤ MAX_EQUATIONS }
     requires parameters { All (λ parameters. vec_len parameters ≤ MAX_PARAMETERS) carriers.now }
-    requires instances { count_of (lists_of carriers.now) ≤ MAX_INSTANCES }
+    requires instances { count_of (lists_of carriers.now) ≤ MAX_NUMBERS }
     ensures { IfOk result (λ layout. layout ≡ lists_of carriers.now) }
 {
-    Layout::new(alloc, carriers).map_err(OrMemory::only_memory)
+    Layout::counting(alloc, carriers, Counting::Reached).map_err(OrMemory::only_memory)
 }
 
 /// The layout of a module's instances, which has no more than a layout may have.

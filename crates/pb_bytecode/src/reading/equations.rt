@@ -1,5 +1,5 @@
 //! Equations and the initial instance.
-ghost use Rattle.std.specs.Prelude.{◌≡◌, map, nat_le, sum_by};
+ghost use Rattle.std.specs.Prelude.{◌≡◌, ◌≤◌, map, nat_le, sum_by};
 ghost use Rattle.pb_bytecode.specs.Limits.{instance_count};
 ghost use Rattle.pb_bytecode.specs.Reading.{Gives, IsRead, counted_at, equation_at};
 ghost use Rattle.pb_bytecode.specs.Reading.{equations_at, initial_at, items_at, parameters_at};
@@ -17,7 +17,7 @@ use crate::instances::has_few_instances;
 use pb_base::{MAX_EQUATIONS, MAX_LOOP_SLOTS, MAX_PARAMETERS};
 use pb_bytecode_program::Version;
 use pb_fixpoint::Sign;
-use pb_sorts::Carrier;
+use pb_sorts::{Carrier, MAX_NUMBERS};
 use std::alloc::Global;
 
 /// 0 or 1; else B05.
@@ -90,14 +90,16 @@ pub(crate) fn equations_at<'a>(
     alloc: Global,
     version: Version,
     sizes: &[u8],
+    limit: u64,
     bytes: &'a [u8],
 ) -> Result<(Vec<Equation>, &'a [u8]), ReadError>
+    requires { limit ≤ MAX_NUMBERS }
     ensures { Gives (λ x. (map equation_contents x.0.items, x.1.now)) result
-        (equations_at version sizes.now bytes.now) }
+        (equations_at limit version sizes.now bytes.now) }
 {
     let (count, rest) = between_at(1, MAX_EQUATIONS + 1, bytes)?;
     let (equations, rest) = items_at(alloc, version, sizes, count, rest)?;
-    if has_few_instances(&equations) {
+    if has_few_instances(&equations, limit) {
         Ok((equations, rest))
     } else {
         Err(ReadError::Refused(fault(ModuleRule::Limit, rest)))

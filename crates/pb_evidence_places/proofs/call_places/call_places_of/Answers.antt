@@ -18,7 +18,7 @@ invariant_of-numbered c =
     record {
       same = ap carriers_of c.layout.ensures
           ∙ (same_carriers (spec_form typed.spec) typed.layout c.args.verified.now typed.laid_out c.requires.compiled
-          ∙ ap carriers_of (sym c.in_ok-new.ensures.layout));
+          ∙ ap carriers_of (sym c.new-2.ensures.layout));
     }
 
 pub of_evidence-requires-clause-callers : goal.of_evidence-requires-clause-callers
@@ -34,7 +34,7 @@ of_evidence-requires-clause-called c = λ k within called is j h.
 
 pub returns : goal.returns
 returns c =
-    let same = are_told_places (said_by c.in_ok-new.field-0) (spec_form c.args.typed.now.spec) c.in_ok-new.ensures.text
+    let same = are_told_places (said_by c.new-2.result) (spec_form c.args.typed.now.spec) c.new-2.ensures.text
     c.layout.result.now (parameters c.args.verified.now) c.layout.ensures c.args.are_told c.if-not-are_told.false in
     subst (λ (place : ℕ → ℕ → Option Place). IfOk c.of_evidence.result (λ places. AreCallPlaces place c.args.explanation.now.evidence places.items))
     same c.of_evidence.ensures

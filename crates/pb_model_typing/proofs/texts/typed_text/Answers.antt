@@ -13,7 +13,7 @@ returns-in-Ok-clause-text c = ap (λ (s : Text). spec_form s) c.in-Ok.ensures.ke
 pub returns-in-Ok-clause-typed : goal.returns-in-Ok-clause-typed
 returns-in-Ok-clause-typed c =
     let said = text-said (model_form c.args.model.now) c.args.place (formula_form c.args.formula.now) (spec_form c.in_ok-text.text) c.in_ok-text.ensures in
-    subst (λ (s : Spec). IsWellTyped s) said c.in-Ok.ensures.accepted
+    subst (λ (s : Spec). IsWellTyped s) said c.in-Ok.ensures.accepted.typed
 
 pub returns-in-Err-clause-fails : goal.returns-in-Err-clause-fails
 returns-in-Err-clause-fails c =

@@ -2,7 +2,7 @@ use Rattle.std.proofs.Common.{◌≡◌, ℕ, ◌<◌, ◌≤◌, true, false, t
 use Rattle.std.proofs.lemmas.Bool.{cases_lt}
 use Rattle.std.proofs.lemmas.Option.{none-some}
 use Rattle.pb_base_values.specs.Carrier.{tuple_count}
-use Rattle.pb_base.specs.declared.limits.TheConstants.{MAX_INSTANCES}
+use Rattle.pb_sorts.specs.declared.counting.TheConstants.{MAX_NUMBERS}
 use Rattle.pb_sorts.specs.Carrier.{values_of}
 use Rattle.pb_sorts.specs.Layout.{lists_of, count_of}
 use Rattle.pb_sorts.proofs.Equations.{equation_read, IsEquation}
@@ -14,9 +14,9 @@ above : (m n : ℕ) → (m ≤ n → false ≡ true) → n < m
 above m n fails = ⊎_elim (λ (h : n < m). h) (λ (h : m ≤ n). absurd (true≢false (sym (fails h)))) (cases_lt n m)
 
 -- too many instances, and no answer
-refused : (o : Option ℕ) (n : ℕ) → o ≡ None → MAX_INSTANCES < n → (IsSome o → n ≤ MAX_INSTANCES) × (n ≤ MAX_INSTANCES → IsSome o)
-refused None n is many = (λ h. absurd (true≢false (sym h)), λ h. absurd (omega (arith, h, many)))
-refused (Some m) n is many = absurd (none-some m (sym is))
+refused : (limit : ℕ) (o : Option ℕ) (n : ℕ) → o ≡ None → limit < n → (IsSome o → n ≤ limit) × (n ≤ limit → IsSome o)
+refused limit None n is many = (λ h. absurd (true≢false (sym h)), λ h. absurd (omega (arith, h, many)))
+refused limit (Some m) n is many = absurd (none-some m (sym is))
 
 read : (c : After-deref) → IsEquation c.args.equations.now c.loop-parameters.parameters-index c.deref.result.now
 read c = equation_read c.args.equations.now c.loop-parameters.parameters-index c.parameters-item.result c.loop-parameters-test.true c.parameters-item.is c.deref.ensures.value
@@ -24,17 +24,17 @@ read c = equation_read c.args.equations.now c.loop-parameters.parameters-index c
 pub returns-in_err-count-clause-fits : goal.returns-in_err-count-clause-fits
 returns-in_err-count-clause-fits c =
     let ends = (read (goal.at.returns-in_err-count-clause-fits c).After-deref).ends in
-    let many = above (tuple_count (map values_of c.deref.result.now)) MAX_INSTANCES c.in_err-count.ensures.fits.1 in
-    refused c.from_residual.result (count_of (lists_of c.args.equations.now)) c.from_residual.ensures (omega (arith, many, ends))
+    let many = above (tuple_count (map values_of c.deref.result.now)) MAX_NUMBERS c.in_err-count.ensures.fits.1 in
+    refused c.args.limit c.from_residual.result (count_of (lists_of c.args.equations.now)) c.from_residual.ensures (omega (arith, many, ends, c.requires))
 
-pub returns-then-count-clause-fits : goal.returns-then-count-clause-fits
-returns-then-count-clause-fits c =
-    let ends = (read (goal.at.returns-then-count-clause-fits c).After-deref).ends in
-    refused None (count_of (lists_of c.args.equations.now)) refl
-    (omega (arith, c.if-count.true, c.loop-parameters.invariant.counted, c.in_ok-count.ensures.count, ends))
+pub returns-then-count-limit-clause-fits : goal.returns-then-count-limit-clause-fits
+returns-then-count-limit-clause-fits c =
+    let ends = (read (goal.at.returns-then-count-limit-clause-fits c).After-deref).ends in
+    refused c.args.limit None (count_of (lists_of c.args.equations.now)) refl
+    (omega (arith, c.if-count-limit.true, c.loop-parameters.invariant.counted, c.in_ok-count.ensures.count, ends))
 
 pub loop-parameters-preserved : goal.loop-parameters-preserved
 loop-parameters-preserved c = record {
   counted = omega (arith, c.loop-parameters.invariant.counted, c.in_ok-count.ensures.count, (read (goal.at.loop-parameters-preserved c).After-deref).next);
-  few = c.if-count.false;
+  few = c.if-count-limit.false;
 }

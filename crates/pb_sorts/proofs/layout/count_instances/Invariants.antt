@@ -1,5 +1,4 @@
 use Rattle.std.proofs.Common.{◌≡◌, ◌≤◌}
-use Rattle.pb_base.specs.declared.limits.TheConstants.{MAX_INSTANCES}
 use Rattle.pb_sorts.specs.Instance.{first_of}
 use Rattle.pb_sorts.specs.Layout.{carriers_of, lists_of}
 use Rattle.pb_sorts.proofs.layout.count_instances.Given as goal
@@ -8,5 +7,5 @@ use Rattle.pb_sorts.proofs.layout.count_instances.Given as goal
 abbrev pub invariant-loop-parameters : goal.invariant-loop-parameters
 invariant-loop-parameters l = record {
   counted : l.count ≡ first_of (carriers_of (lists_of l.equations)) l.parameters-index;
-  few : l.count ≤ MAX_INSTANCES;
+  few : l.count ≤ l.limit;
 }

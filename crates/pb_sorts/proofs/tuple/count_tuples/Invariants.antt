@@ -1,6 +1,6 @@
 use Rattle.std.proofs.Common.{◌≡◌, ◌≤◌, ◌*◌, map, drop}
 use Rattle.pb_base_values.specs.Carrier.{tuple_count}
-use Rattle.pb_base.specs.declared.limits.TheConstants.{MAX_INSTANCES}
+use Rattle.pb_sorts.specs.declared.counting.TheConstants.{MAX_NUMBERS}
 use Rattle.pb_sorts.specs.Carrier.{values_of}
 use Rattle.pb_sorts.proofs.tuple.count_tuples.Given as goal
 
@@ -8,5 +8,5 @@ use Rattle.pb_sorts.proofs.tuple.count_tuples.Given as goal
 abbrev pub invariant-loop-carrier : goal.invariant-loop-carrier
 invariant-loop-carrier l = record {
   product : l.count * tuple_count (map values_of (drop l.carrier-index l.carriers)) ≡ tuple_count (map values_of l.carriers);
-  bound : l.count ≤ MAX_INSTANCES;
+  bound : l.count ≤ MAX_NUMBERS;
 }

@@ -12,7 +12,7 @@ use Rattle.pb_typing_declarations.specs.declared.fault.TypingFault.{TypingFault}
 use Rattle.pb_typing_declarations.specs.Entries.{shapes_of}
 use Rattle.pb_typing_declarations.specs.Faults.{IsAmong}
 use Rattle.pb_typing_declarations.specs.Shapes.{Shape, variable_shapes}
-use Rattle.pb_typing_declarations.specs.View.{spec_of, text_of}
+use Rattle.pb_typing_declarations.specs.View.{limit_of, spec_of, text_of}
 use Rattle.pb_typing_declarations.specs.WellDeclared.{HaveEnds}
 use Rattle.pb_typing_declarations.proofs.DeclaredEnds.{faultless_ends}
 use Rattle.pb_typing_rules.specs.Faults.{initial_faults}
@@ -44,7 +44,7 @@ carriers-carriers-requires c =
 
 -- what is declared without a fault has ends
 ends_of : (d : Declarations) → HaveEnds (spec_of d)
-ends_of d = faultless_ends (text_of d) d.faultless
+ends_of d = faultless_ends (limit_of d) (text_of d) d.faultless
 
 pub check_values-requires-clause-fit : goal.check_values-requires-clause-fit
 check_values-requires-clause-fit c =

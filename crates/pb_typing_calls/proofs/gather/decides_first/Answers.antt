@@ -1,6 +1,5 @@
 use Rattle.std.proofs.Common.{◌≡◌, ◌∙◌, ◌==◌, ◌&&◌, ℕ, Bool, refl, sym, ap}
 use Rattle.pb_fixpoint.specs.Solution.{Environment, empty}
-use Rattle.pb_sorts.specs.Layout.{count_of}
 use Rattle.pb_text_meaning.specs.Formula.{Instance}
 use Rattle.pb_text_meaning.specs.Syntax.{Spec}
 use Rattle.pb_typing_tree.specs.Meaning.{truth}
@@ -36,8 +35,7 @@ returns c = record {
       λ spec of.
       let s = c.args.scope.now in
       let nothing =
-      nothing-holds spec s.environment.truths.now (count_of s.environment.layout.now)
-      s.nothing_holds in
+      nothing-holds spec s.environment.truths.now s.nothing_holds in
       c.decides.ensures
       ∙ (ap (decides c.args.connective Left)
       (c.formula_truth-holds.ensures.truth spec of

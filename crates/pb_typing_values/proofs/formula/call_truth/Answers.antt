@@ -1,9 +1,6 @@
 use Rattle.std.proofs.Common.{◌≡◌, ◌<◌, ◌++◌, ◌∙◌, sym, ap, subst, arith, w64, to_z, of_z, List, ℤ, length, map, get_or, true≢false}
 use Rattle.std.proofs.lemmas.List.{length_push}
-use Rattle.std.proofs.lemmas.Option.{slice_get_within}
 use Rattle.pb_base_values.proofs.Ends.{passed_word}
-use Rattle.pb_sorts.specs.Instance.{instances}
-use Rattle.pb_sorts.specs.Layout.{carriers_of}
 use Rattle.pb_typing_tree.specs.declared.formula.Argument.{Argument}
 use Rattle.pb_typing_tree.specs.Fits.{AllFit}
 use Rattle.pb_typing_tree.specs.View.{argument_view}
@@ -47,11 +44,6 @@ loop-argument-preserved c =
       room = c.push_reserved.ensures.capacity ∙ c.loop-argument.invariant.room;
     }
 
-pub bounds-environment-number : goal.bounds-environment-number
-bounds-environment-number c =
-    let layout = c.args.environment.now.layout.now in
-    omega (arith, slice_get_within (instances (carriers_of layout)) c.in-Some.number _ c.in-Some.ensures.place, c.args.environment.now.complete)
-
 -- the values are those of all arguments
 all_taken : (c : After-loop-argument) → c.loop-argument.values.items ≡ argument_values (slots_of c.args.slots.now) c.args.arguments.now.items
 all_taken c =
@@ -62,7 +54,8 @@ all_taken c =
 
 pub returns-in-Some : goal.returns-in-Some
 returns-in-Some c = λ S laid.
-    numbered_truth laid c.args.environment.now.truths.now (slots_of c.args.slots.now) c.args.arguments.now.items c.args.equation c.requires.known
+    c.truth.ensures
+    ∙ numbered_truth laid c.args.environment.now.truths.now (slots_of c.args.slots.now) c.args.arguments.now.items c.args.equation c.requires.known
     c.loop-argument.values.items c.in-Some.number (all_taken (goal.at.returns-in-Some c).After-loop-argument) c.in-Some.ensures.place
 
 pub returns : goal.returns

@@ -14,8 +14,8 @@ use Rattle.pb_evidence_words.proofs.States.{state-known}
 use Rattle.pb_evidence_words.proofs.Told.{has-lines}
 use Rattle.pb_evidence_words.proofs.telling.Telling.new.Goals as goal
 
-pub new-requires-3 : goal.new-requires-3
-new-requires-3 c =
+pub new-requires : goal.new-requires
+new-requires c =
     let s = c.args.shown.now in
     has-lines s.verified.now c.requires.trees s.explanation.now c.requires.explanation
 
@@ -29,11 +29,11 @@ invariant_of-result c =
     let also = subst (λ (t : SpecForm). IsLayout (erase t) steps.layout) c.requires.steps.2 steps.laid_out in
     record {
       ready = record {
-        text = ∣ c.in_ok-calls.ensures.text ∣₁;
-        steps_text = ∣ c.in_ok-steps.ensures.text ∣₁;
-        layout = ap carriers_of c.in_ok-calls.ensures.layout ∙ sym whole;
+        text = ∣ c.new-calls.ensures.text ∣₁;
+        steps_text = ∣ c.new-steps.ensures.text ∣₁;
+        layout = ap carriers_of c.new-calls.ensures.layout ∙ sym whole;
         states = λ i known.
-            subst (λ (l : List (List Carrier)). is_instance (carriers_of l) (record { equation = 0; values = i.values }) ≡ true) (sym c.in_ok-steps.ensures.layout)
+            subst (λ (l : List (List Carrier)). is_instance (carriers_of l) (record { equation = 0; values = i.values }) ≡ true) (sym c.new-steps.ensures.layout)
             (state-known (model_form s.model.now) c.requires.property.0 c.requires.steps.0 c.requires.property.1 c.requires.steps.1
             typed.layout steps.layout laid also i (subst (λ css. is_instance css i ≡ true) whole known));
         evidence = has-lines s.verified.now c.requires.trees s.explanation.now c.requires.explanation;

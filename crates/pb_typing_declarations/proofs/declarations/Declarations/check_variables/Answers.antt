@@ -12,7 +12,7 @@ use Rattle.pb_typing_declarations.specs.Faults.{IsAmong}
 use Rattle.pb_typing_declarations.specs.Reading.{HasVariables}
 use Rattle.pb_typing_declarations.specs.Shapes.{variable_shapes}
 use Rattle.pb_typing_declarations.specs.Variables.{variables_of}
-use Rattle.pb_typing_declarations.specs.View.{spec_of, text_of}
+use Rattle.pb_typing_declarations.specs.View.{limit_of, spec_of, text_of}
 use Rattle.pb_typing_declarations.proofs.DeclaredEnds.{faultless_ends}
 use Rattle.pb_typing_declarations.proofs.declarations.Declarations.check_variables.Goals as goal
 use Rattle.pb_typing_declarations.proofs.declarations.Declarations.check_variables.Goals.{After-deref}
@@ -31,7 +31,7 @@ shown S xs (Ok carriers) h = h.shapes
 shown S xs (Err e) h = tt
 
 pub variable_carriers-requires : goal.variable_carriers-requires
-variable_carriers-requires c = faultless_ends (text_of c.args.self.now) c.args.self.now.faultless
+variable_carriers-requires c = faultless_ends (limit_of c.args.self.now) (text_of c.args.self.now) c.args.self.now.faultless
 
 -- the variables of the entries are those of the groups
 of_groups : (c : After-deref) (r : Result (Vec Carrier Global) (OrMemory TypingFault)) → Found (spec_of c.args.self.now) (variables_of c.deref.result.now) r

@@ -15,7 +15,7 @@ use Rattle.pb_typing_declarations.proofs.EquationLemmas.{all_pushed, one_listed,
 use Rattle.pb_typing_declarations.proofs.tables.Tables.carriers.Goals as goal
 use Rattle.pb_typing_declarations.proofs.tables.Tables.carriers.Goals.{After-equation-item}
 
-next_equation : (c : After-equation-item) → IsNext (erase (spec_form c.args.self.now.spec.now)) c.args.equations.now c.loop-equation.equation-index c.loop-equation.count c.equation-item.result
+next_equation : (c : After-equation-item) → IsNext c.args.limit (erase (spec_form c.args.self.now.spec.now)) c.args.equations.now c.loop-equation.equation-index c.loop-equation.count c.equation-item.result
 next_equation c =
     let following = drop-at c.args.equations.now c.loop-equation.equation-index c.equation-item.result c.loop-equation-test.true c.equation-item.is in
     record {
@@ -23,7 +23,7 @@ next_equation c =
       following = following;
       left =
           c.loop-equation.invariant.left
-          ∙ ap (λ (xs : List ast.Equation). equations_faults_behind (erase (spec_form c.args.self.now.spec.now)) c.loop-equation.count (map equation_form xs)) following;
+          ∙ ap (λ (xs : List ast.Equation). equations_faults_behind c.args.limit (erase (spec_form c.args.self.now.spec.now)) c.loop-equation.count (map equation_form xs)) following;
     }
 
 pub returns-in_err-parameters : goal.returns-in_err-parameters

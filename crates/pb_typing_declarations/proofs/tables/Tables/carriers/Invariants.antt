@@ -1,7 +1,7 @@
 use Rattle.std.proofs.Common.{◌≡◌, ◌≤◌, ◌++◌, List, length, drop, map}
 use Rattle.std.specs.Prelude.{All}
 use Rattle.pb_sorts.specs.declared.carrier.Carrier.{Carrier}
-use Rattle.pb_base.specs.declared.limits.TheConstants.{MAX_PARAMETERS, MAX_INSTANCES}
+use Rattle.pb_base.specs.declared.limits.TheConstants.{MAX_PARAMETERS}
 use Rattle.pb_sorts.specs.Layout as layouts
 use Rattle.pb_sorts.specs.Layout.{lists_of}
 use Rattle.pb_text_tree.specs.Form.{spec_form, equation_form}
@@ -18,8 +18,8 @@ abbrev pub invariant-loop-equation : goal.invariant-loop-equation
 invariant-loop-equation l =
     let S = erase (spec_form l.self.spec.now) in
     record {
-      few : l.count ≤ MAX_INSTANCES;
-      left : equations_faults_behind S 0 (map equation_form l.equations) ≡ equations_faults_behind S l.count (map equation_form (drop l.equation-index l.equations));
+      few : l.count ≤ l.limit;
+      left : equations_faults_behind l.limit S 0 (map equation_form l.equations) ≡ equations_faults_behind l.limit S l.count (map equation_form (drop l.equation-index l.equations));
       values : map (λ (X : Equation). carriers_of S X.parameters) (map erased_equation (map equation_form l.equations))
           ≡ layouts.carriers_of (lists_of l.carriers.items) ++ map (λ (X : Equation). carriers_of S X.parameters) (map erased_equation (map equation_form (drop l.equation-index l.equations)));
       shapes : map (λ (X : Equation). variable_shapes S X.parameters) (map erased_equation (map equation_form l.equations))

@@ -1,17 +1,17 @@
 use Rattle.std.proofs.Common.{◌≡◌, ℕ, ◌≤◌, Option, None, Some, IfSome, map, ◌∙◌, sym, arith}
 use Rattle.std.proofs.lemmas.Option.{none-some, same_Some}
 use Rattle.pb_base_values.specs.Carrier.{tuple_count}
-use Rattle.pb_base.specs.declared.limits.TheConstants.{MAX_INSTANCES}
+use Rattle.pb_sorts.specs.declared.counting.TheConstants.{MAX_NUMBERS}
 use Rattle.pb_sorts.specs.Carrier.{values_of}
 use Rattle.pb_sorts.specs.Instance.{first_of}
 use Rattle.pb_sorts.specs.Layout.{carriers_of, count_of, lists_of}
 use Rattle.pb_sorts.proofs.Equations.{equation_read, IsEquation}
 use Rattle.pb_sorts.proofs.Building.{copied_more, starts_more, length-pushed, built}
-use Rattle.pb_sorts.proofs.layout.Layout.new.Goals as goal
-use Rattle.pb_sorts.proofs.layout.Layout.new.Goals.{After-deref-in-loop-parameters, After-unwrap}
+use Rattle.pb_sorts.proofs.layout.Layout.counting.Goals as goal
+use Rattle.pb_sorts.proofs.layout.Layout.counting.Goals.{After-deref-in-loop-parameters, After-unwrap}
 
-few : (c : After-deref-in-loop-parameters) → count_of (lists_of c.args.equations.now) ≤ MAX_INSTANCES
-few c = c.count_instances.ensures.fits.0 c.if-is_none.ensures
+few : (c : After-deref-in-loop-parameters) → count_of (lists_of c.args.equations.now) ≤ MAX_NUMBERS
+few c = omega (arith, c.count_instances.ensures.fits.0 c.if-is_none.ensures, c.limit.ensures.few)
 
 read : (c : After-deref-in-loop-parameters) → IsEquation c.args.equations.now c.loop-parameters.parameters-index c.deref-in-loop-parameters.result.now
 read c =
@@ -63,4 +63,4 @@ invariant_of-result c =
     let loop = c.loop-parameters in
     built c.args.equations.now loop.carriers.items loop.firsts.items c.push-2.new.self.items loop.first
     loop.parameters-index c.loop-parameters-test.false loop.auto.parameters-index-end loop.invariant.copied
-    c.in_ok-push-3.ensures.items loop.invariant.long loop.invariant.next loop.invariant.starts c.requires.equations c.requires.parameters (c.count_instances.ensures.fits.0 c.if-is_none.ensures)
+    c.in_ok-push-3.ensures.items loop.invariant.long loop.invariant.next loop.invariant.starts c.requires.equations c.requires.parameters (omega (arith, c.count_instances.ensures.fits.0 c.if-is_none.ensures, c.limit.ensures.few))

@@ -1,7 +1,7 @@
 use Rattle.std.proofs.Common.{◌≡◌, ℕ, ◌<◌, ◌++◌, length, drop, get_or}
 use Rattle.pb_sorts.specs.Instance.{first_of}
 use Rattle.pb_sorts.specs.Layout.{carriers_of, lists_of}
-use Rattle.pb_sorts.proofs.layout.Layout.new.Given as goal
+use Rattle.pb_sorts.proofs.layout.Layout.counting.Given as goal
 
 -- the equations so far stand in both lists, and the next begins at `first`
 abbrev pub invariant-loop-parameters : goal.invariant-loop-parameters
