@@ -6,7 +6,7 @@ use Rattle.pb_fixpoint_trees.specs.Row.{TokenRow}
 use Rattle.pb_fixpoint_trees.specs.Reached.{rows_of}
 use Rattle.pb_bytecode.specs.Contents.{Contents}
 use Rattle.pb_bytecode.specs.Meaning.{AreTrees, signature_of, initial_of, answer}
-use Rattle.pb_exploration.specs.Rows.{AreExploredRows}
+use Rattle.pb_exploration_reached.specs.Rows.{AreExploredRows}
 use Rattle.pb_game.specs.Games.{vertex_count}
 use Rattle.pb_game_of_trees.specs.Explored.{IsModuleGame}
 use Rattle.pb_game_of_trees.specs.declared.tree_game.TreeGame.{TreeGame}

@@ -16,7 +16,7 @@ use Rattle.pb_evidence.specs.Assumed.{AssumedIsShown}
 use Rattle.pb_report.specs.declared.module_evidence.Explanation.{Explanation}
 use Rattle.pb_report.specs.ModuleEvidence.{Explains, IsExplanation}
 use Rattle.pb_report.proofs.Assumed.{assumed_is_explained}
-use Rattle.pb_exploration.specs.Rows.{AreExploredRows}
+use Rattle.pb_exploration_reached.specs.Rows.{AreExploredRows}
 use Rattle.pb_evidence_nearby.specs.Around.{AreAssumedRows}
 use Rattle.pb_command_solver.specs.declared.part.SolvedPart.{SolvedPart}
 use Rattle.pb_command_solver.specs.Parts.{IsSolvedPart, IsTruthIn}

@@ -4,9 +4,9 @@ use Rattle.pb_fixpoint_trees.specs.Row.{TokenRow}
 use Rattle.pb_bytecode.specs.Contents.{Contents}
 use Rattle.pb_bytecode.specs.Meaning.{initial_of}
 use Rattle.pb_machine.specs.Reachable.{Starts}
-use Rattle.pb_exploration.specs.Rows.{AreExploredRows}
+use Rattle.pb_exploration_reached.specs.Rows.{AreExploredRows}
 use Rattle.pb_game_of_trees.specs.Explored.{AreModuleRows, IsModuleTooLarge}
-use Rattle.pb_command_solver.specs.Answers.{IsTooLarge}
+use Rattle.pb_command_solver.specs.Answers.{IsTooLarge, LargeGame}
 
 pub module_rows : (m : Contents) (found rows : List TokenRow) → rows ≡ found → AreExploredRows m found → AreModuleRows m rows
 module_rows m found rows same explored = subst (AreModuleRows m) (sym same) (λ trees have.
@@ -18,5 +18,8 @@ module_rows m found rows same explored = subst (AreModuleRows m) (sym same) (λ 
 
 -- what is too large for the game of the rows is so for that of the reached instances
 pub too_large : (m : Contents) (found rows : List TokenRow) → rows ≡ found → AreExploredRows m found → IsModuleTooLarge m rows → IsTooLarge m
-too_large m found rows same explored large trees have =
-    record { rows = found; reached = explored trees have; large = subst (λ (r : List TokenRow). IsModuleTooLarge m r) same large trees have }
+too_large m found rows same explored large = LargeGame (λ trees have. record {
+  rows = found;
+  reached = explored trees have;
+  large = subst (λ (r : List TokenRow). IsModuleTooLarge m r) same large trees have;
+})

@@ -6,7 +6,8 @@ use Rattle.pb_fixpoint_trees.specs.Tree.{Tree}
 use Rattle.pb_fixpoint_trees.specs.Row.{TokenRow}
 use Rattle.pb_bytecode.specs.Contents.{Contents}
 use Rattle.pb_bytecode.specs.Meaning.{AreTrees, answer}
-use Rattle.pb_exploration.specs.Rows.{AreReached, AreExploredRows}
+use Rattle.pb_exploration_reached.specs.ManyReached.{HasManyReached}
+use Rattle.pb_exploration_reached.specs.Rows.{AreReached, AreExploredRows}
 use Rattle.pb_game.specs.declared.solver.Solver.{Solver}
 use Rattle.pb_game_of_trees.specs.Explored.{ModuleHasTrees, IsModuleGame}
 use Rattle.pb_game_of_trees.specs.declared.tree_game.TooManyVertices.{TooManyVertices}
@@ -50,13 +51,16 @@ truth_in (Shown truth) = Some truth
 truth_in (Whole answer) = Some answer.truth
 
 -- the game of the reached instances has more than 2^24 vertices
-pub record IsTooLargeUnder (m : Contents) (trees : ℕ → Tree) : Type 0 where
+pub record HasLargeGameUnder (m : Contents) (trees : ℕ → Tree) : Type 0 where
   pub rows : List TokenRow
   pub reached : AreReached m trees rows
   pub large : MAX_VERTICES < (answer_for m trees rows).vertices
 
-abbrev pub IsTooLarge : Contents → Type 0
-IsTooLarge m = (trees : ℕ → Tree) → AreTrees m trees → IsTooLargeUnder m trees
+-- More than 2^24 instances are reached, or the vertices of their game are more than that. An
+-- instance has at least one vertex there.
+pub data IsTooLarge (m : Contents) : Type 0 where
+  ManyReached : HasManyReached m MAX_VERTICES → IsTooLarge m
+  LargeGame : ((trees : ℕ → Tree) → AreTrees m trees → HasLargeGameUnder m trees) → IsTooLarge m
 
 -- what an error says of the module: of want of memory nothing, and of a fault that it is too large
 abbrev pub SaysTooLarge : Contents → OrMemory TooManyVertices → Type 0

@@ -1,6 +1,7 @@
 //! Modules whose game is built: what is solved, whether its rows are kept behind it or not.
 ghost use Rattle.std.specs.Prelude.{IfOk, MatchResult};
-ghost use Rattle.pb_exploration.specs.Rows.{AreExploredRows};
+ghost use Rattle.pb_exploration_reached.specs.Nearby.{IsNearby};
+ghost use Rattle.pb_exploration_reached.specs.Rows.{AreExploredRows};
 ghost use Rattle.pb_command_solver.specs.Answers.{IsBuiltModule, SaysTooLarge};
 ghost use Rattle.pb_command_solver.specs.Solving.{IsSolvedBy};
 
@@ -9,8 +10,10 @@ use crate::options::SolveOptions;
 use crate::progress::{Phase, Progress};
 use crate::solve;
 use crate::workers::Workers;
-use pb_exploration::{Explored, explore};
-use pb_game_of_trees::{BuildError, Solved, TreeGame, build};
+use pb_base::{MAX_INSTANCES, MAX_VERTICES};
+use pb_evidence_nearby::Nearby;
+use pb_exploration::{Explored, Limits, explore};
+use pb_game_of_trees::{BuildError, Solved, TooManyVertices, TreeGame, build};
 use pb_machine::instances_have_trees;
 use pb_verifier::Verified;
 use std::alloc::{AllocError, Global};
@@ -28,7 +31,8 @@ pub struct BuiltModule {
 /// is solved.
 ///
 /// # Errors
-/// `TooManyVertices` where the game would have more than 2^24 vertices; else `Memory`.
+/// `TooManyVertices` where the game would have more than 2^24 vertices, which may be told as soon
+/// as so many instances are reached; else `Memory`.
 pub fn build_module<R: Threads + Sync, G: Progress + Sync>(
     context: &Context<'_, R, G>,
     verified: &Verified,
@@ -37,15 +41,40 @@ pub fn build_module<R: Threads + Sync, G: Progress + Sync>(
     ensures { MatchResult result (IsBuiltModule verified.now) (SaysTooLarge verified.now) }
 {
     context.gate.begins(Phase::Exploring);
-    let explored = explore(
-        context.rt,
-        context.alloc,
-        verified,
-        workers.count,
-        context.gate,
-    )?;
+    let limits = Limits {
+        workers: workers.count,
+        instances: MAX_VERTICES,
+    };
+    let reached = explore(context.rt, context.alloc, verified, limits, context.gate)?;
+    let Some(explored) = reached else {
+        return Err(BuildError::Refused(TooManyVertices));
+    };
     context.gate.begins(Phase::Building);
     build_explored(context.alloc, verified, explored)
+}
+
+/// The same, going on from the instances nearby where one worker explores and keeps only what it
+/// finds.
+pub(crate) fn build_from<R: Threads + Sync, G: Progress + Sync>(
+    context: &Context<'_, R, G>,
+    verified: &Verified,
+    workers: Workers,
+    nearby: Nearby,
+) -> Result<BuiltModule, BuildError>
+    requires { IsNearby verified.now nearby }
+    ensures { MatchResult result (IsBuiltModule verified.now) (SaysTooLarge verified.now) }
+{
+    if verified.layout().count() <= MAX_INSTANCES as u64 {
+        drop(nearby);
+        return build_module(context, verified, workers);
+    }
+    context.gate.begins(Phase::Exploring);
+    let alloc = context.alloc;
+    let Some(rows) = nearby.explore_rest(alloc, verified, MAX_VERTICES, context.gate)? else {
+        return Err(BuildError::Refused(TooManyVertices));
+    };
+    context.gate.begins(Phase::Building);
+    build_explored(alloc, verified, Explored::of_rows(rows))
 }
 
 /// Builds the game of a module's reached instances, however they were explored: by `explore`, or by

@@ -5,7 +5,7 @@ ghost use Rattle.pb_command_solver.specs.Answers.{IsEarly, truth_in};
 
 use crate::context::Context;
 use crate::options::SolveOptions;
-use crate::part::first_part;
+use crate::part::{Rounds, first_part};
 use crate::progress::Progress;
 use pb_report::Answer;
 use pb_report::cut_calls::count_cut;
@@ -49,7 +49,7 @@ pub fn answer_early<R: Threads + Sync, G: Progress + Sync>(
 ) -> Result<Early, AllocError>
     ensures { IfOk result (IsEarly verified.now) }
 {
-    let Some(part) = first_part(context, verified, options)? else {
+    let Rounds::Enough(part) = first_part(context, verified, options)? else {
         return Ok(Early::Unknown);
     };
     if part.part.is_whole {

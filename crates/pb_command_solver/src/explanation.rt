@@ -5,9 +5,9 @@ ghost use Rattle.pb_command_solver.specs.Answers.{SaysTooLarge};
 
 use crate::context::Context;
 use crate::options::SolveOptions;
-use crate::part::first_part;
+use crate::part::{Rounds, first_part};
 use crate::progress::Progress;
-use crate::solved_module::solve_module;
+use crate::solved_module::solve_from;
 use pb_game_of_trees::BuildError;
 use pb_report::{Explanation, evidence_of};
 use pb_verifier::Verified;
@@ -15,7 +15,8 @@ use std::thread::Threads;
 
 /// Why the initial instance of a module has its truth value, as a proof graph (Cranen, Luttik and
 /// Willemse 2013), the initial instance first and the nearest before others. Where the instances
-/// nearest to it are enough, no others are explored; else it is solved as by `solve_module`.
+/// nearest to it are enough, no others are explored; else it is solved as by `solve_module`, which
+/// goes on from these where one worker explores and keeps only what it finds.
 ///
 /// # Errors
 /// `TooManyVertices` where the game would have more than 2^24 vertices, and the instances nearby
@@ -27,10 +28,11 @@ pub fn explain_module<R: Threads + Sync, G: Progress + Sync>(
 ) -> Result<Explanation, BuildError>
     ensures { MatchResult result (IsExplanation verified.now) (SaysTooLarge verified.now) }
 {
-    if let Some(part) = first_part(context, verified, options)? {
-        return Ok(part.explanation(context.alloc, verified)?);
-    }
-    match solve_module(context, verified, options) {
+    let nearby = match first_part(context, verified, options)? {
+        Rounds::Enough(part) => return Ok(part.explanation(context.alloc, verified)?),
+        Rounds::TooFew(nearby) => nearby,
+    };
+    match solve_from(context, verified, options, nearby) {
         Ok(module) => Ok(evidence_of(context.alloc, &module.solved, module.explored.rows())?),
         Err(error) => Err(error),
     }

@@ -5,14 +5,14 @@
 ghost use Rattle.std.specs.Prelude.{IfOk, IfSome};
 ghost use Rattle.pb_bytecode.specs.Contents.{Contents};
 ghost use Rattle.pb_report.specs.ModuleEvidence.{IsExplanation};
-ghost use Rattle.pb_evidence_nearby.specs.Nearby.{IsNearby};
-ghost use Rattle.pb_command_solver.specs.Parts.{IsPart, IsSolvedPart};
+ghost use Rattle.pb_exploration_reached.specs.Nearby.{IsNearby};
+ghost use Rattle.pb_command_solver.specs.Parts.{IsOfRounds, IsPart, IsSolvedPart};
 
 use crate::built_module::solve_game;
 use crate::context::Context;
 use crate::options::SolveOptions;
 use crate::progress::Progress;
-use pb_evidence_nearby::Nearby;
+use pb_evidence_nearby::{Nearby, rows_around};
 use pb_fixpoint::Sign;
 use pb_fixpoint_trees::IndexedRows;
 use pb_game_of_trees::{BuildError, Solved, build_rows};
@@ -49,12 +49,21 @@ pub(crate) struct SolvedPart {
     pub solved: Solved,
 }
 
+/// What the rounds come to.
+#[derive(Drop)]
+pub(crate) enum Rounds {
+    /// A part is enough.
+    Enough(SolvedPart),
+    /// None is, up to these instances.
+    TooFew(Nearby),
+}
+
 /// The instances nearby, from which this truth value may be shown.
 fn part_of(alloc: Global, nearby: &Nearby, truth: bool) -> Result<Part, AllocError>
     requires { (m : Contents) × IsNearby m nearby.now }
     ensures { IfOk result (λ part. (m : Contents) → IsNearby m nearby.now → IsPart m part) }
 {
-    let rows = nearby.around(alloc, truth)?;
+    let rows = rows_around(alloc, nearby, truth)?;
     let is_whole = nearby.is_whole();
     Ok(Part {
         rows,
@@ -96,15 +105,15 @@ fn shows_truth(verified: &Verified) -> bool {
     equation.sign == Sign::Mu
 }
 
-/// The first part that is enough, if any. The instances nearest to the initial one are explored
-/// breadth first on the calling thread, so that what is found is the same whatever the workers do.
-/// A round whose last instance calls too many is left out.
+/// The first part that is enough, or else what was explored. The instances nearest to the initial
+/// one are explored breadth first on the calling thread, so that what is found is the same whatever
+/// the workers do. A round whose last instance calls too many is left out.
 pub(crate) fn first_part<R: Threads + Sync, G: Progress + Sync>(
     context: &Context<'_, R, G>,
     verified: &Verified,
     options: SolveOptions,
-) -> Result<Option<SolvedPart>, AllocError>
-    ensures { IfOk result (λ found. IfSome found (IsSolvedPart verified.now)) }
+) -> Result<Rounds, AllocError>
+    ensures { IfOk result (IsOfRounds verified.now) }
 {
     let shows_truth = shows_truth(verified);
     let mut nearby = Nearby::new(context.alloc, verified)?;
@@ -119,11 +128,11 @@ pub(crate) fn first_part<R: Threads + Sync, G: Progress + Sync>(
             }
             let part = part_of(context.alloc, &nearby, truth)?;
             if let Some(found) = solve_part(context, verified, options, part)? {
-                return Ok(Some(found));
+                return Ok(Rounds::Enough(found));
             }
         }
     }
-    Ok(None)
+    Ok(Rounds::TooFew(nearby))
 }
 
 impl SolvedPart {

@@ -1,14 +1,18 @@
 //! Verified modules that are solved.
-ghost use Rattle.std.specs.Prelude.{MatchResult};
-ghost use Rattle.pb_command_solver.specs.Answers.{IsSolutionOf, SaysTooLarge};
+ghost use Rattle.std.specs.Prelude.{IfOk, MatchResult};
+ghost use Rattle.pb_bytecode.specs.Contents.{Contents};
+ghost use Rattle.pb_exploration_reached.specs.Nearby.{IsNearby};
+ghost use Rattle.pb_command_solver.specs.Answers.{IsBuiltModule, IsSolutionOf, SaysTooLarge};
 
-use crate::built_module::{BuiltModule, build_module, solve_game};
+use crate::built_module::{BuiltModule, build_from, build_module, solve_game};
 use crate::context::Context;
 use crate::options::SolveOptions;
 use crate::progress::{Phase, Progress};
+use pb_evidence_nearby::Nearby;
 use pb_exploration::Explored;
 use pb_game_of_trees::{BuildError, Solved};
 use pb_verifier::Verified;
+use std::alloc::AllocError;
 use std::thread::Threads;
 
 /// The reached instances of a module, with their solved game.
@@ -33,11 +37,40 @@ pub fn solve_module<R: Threads + Sync, G: Progress + Sync>(
         (SaysTooLarge verified.now) }
 {
     match build_module(context, verified, options.workers) {
-        Ok(BuiltModule { explored, built }) => {
-            context.gate.begins(Phase::Solving);
-            let solved = solve_game(context, built, options)?;
-            Ok(SolvedModule { explored, solved })
-        }
+        Ok(unsolved) => Ok(solve_built(context, options, unsolved)?),
         Err(error) => Err(error),
     }
+}
+
+/// Solves a verified module as `solve_module` does, going on from the instances nearby where one
+/// worker explores and keeps only what it finds.
+pub(crate) fn solve_from<R: Threads + Sync, G: Progress + Sync>(
+    context: &Context<'_, R, G>,
+    verified: &Verified,
+    options: SolveOptions,
+    nearby: Nearby,
+) -> Result<SolvedModule, BuildError>
+    requires { IsNearby verified.now nearby }
+    ensures { MatchResult result (IsSolutionOf verified.now options.solver)
+        (SaysTooLarge verified.now) }
+{
+    match build_from(context, verified, options.workers, nearby) {
+        Ok(unsolved) => Ok(solve_built(context, options, unsolved)?),
+        Err(error) => Err(error),
+    }
+}
+
+/// A module whose game is built, once that is solved.
+fn solve_built<R: Threads + Sync, G: Progress + Sync>(
+    context: &Context<'_, R, G>,
+    options: SolveOptions,
+    unsolved: BuiltModule,
+) -> Result<SolvedModule, AllocError>
+    ensures { IfOk result (λ solved. (m : Contents) → IsBuiltModule m unsolved
+        → IsSolutionOf m options.solver solved) }
+{
+    let BuiltModule { explored, built } = unsolved;
+    context.gate.begins(Phase::Solving);
+    let solved = solve_game(context, built, options)?;
+    Ok(SolvedModule { explored, solved })
 }

@@ -1,14 +1,10 @@
 -- The rows of the nearest instances and of the frontier are those of a module's equations, with trees that are assumed.
-use Rattle.std.proofs.Common.{◌≡◌, ◌≢◌, ℕ, suc, ◌<◌, ◌≤◌, Bool, true, false, nat_eq, not, cond, List, [], ◌∷◌, All, length, map, get_or, inl, inr, refl, sym, ap, ◌∙◌, subst, arith}
-use Rattle.std.specs.Prelude.{Contains, ◌==◌}
-use Rattle.std.specs.Cmp.{nat_eq_equiv}
-use Rattle.std.specs.List.{IsDistinct, AllByRecursion}
-use Rattle.std.specs.List.Sorted.{IsPermutation, IsNonDecreasing, IsStrictlyIncreasing}
-use Rattle.std.proofs.lemmas.Bool.{cases_Bool, ne_eqb, cond-true, cond-false}
+use Rattle.std.proofs.Common.{◌≡◌, ℕ, ◌<◌, ◌≤◌, Bool, true, false, not, cond, List, [], ◌∷◌, All, length, map, get_or, inl, inr, refl, sym, ap, ◌∙◌, subst, arith}
+use Rattle.std.specs.Prelude.{Contains}
+use Rattle.std.specs.List.Sorted.{IsPermutation, IsStrictlyIncreasing}
+use Rattle.std.proofs.lemmas.Bool.{cases_Bool, cond-true, cond-false}
 use Rattle.std.proofs.lemmas.List.{get_or-take, get_or-map, length-map}
 use Rattle.std.proofs.lemmas.List.Elements.{Contains-get_or}
-use Rattle.std.proofs.lemmas.List.Sorted.{Contains-permutation, IsPermutation-sym}
-use Rattle.std.proofs.lemmas.Map.Keys.{IsDistinct-IsPermutation, IsStrictlyIncreasing-from_distinct}
 use Rattle.pb_game.specs.Adjacency.{is_among}
 use Rattle.pb_game.proofs.Membership.{contains_at, contains_place}
 use Rattle.pb_fixpoint_trees.specs.declared.Token.{Token}
@@ -22,40 +18,20 @@ use Rattle.pb_bytecode.specs.Meaning.{AreTrees, parameters, signature_of, initia
 use Rattle.pb_bytecode.proofs.InstanceCounts.{count_is_total}
 use Rattle.pb_sorts.specs.Layout.{count_of}
 use Rattle.pb_machine.specs.InstanceTree.{IsTreeAt}
-use Rattle.pb_machine.specs.Reachable.{IsReachable, successors}
-use Rattle.pb_machine.specs.Reachable.IsReachable.{Starts, Follows}
+use Rattle.pb_machine.specs.Reachable.{successors}
 use Rattle.pb_machine.proofs.Successors.{tree_meant, successor_called}
 use Rattle.pb_machine.proofs.TreeCalls.{each_tree}
 use Rattle.pb_evidence.specs.AssumedGraphs.{leaf_tree, IsAssumed}
 use Rattle.pb_evidence.proofs.Proving.{test_of, contained_of}
-use Rattle.pb_exploration.specs.Rows.{AreExploredRows}
+use Rattle.pb_exploration_reached.specs.Rows.{AreExploredRows}
 use Rattle.pb_fixpoint_trees.specs.Row.{TokenRow, nothing, row_of_tokens}
 use Rattle.pb_fixpoint_trees.specs.Reached.{numbers_of, row_of, rows_of}
 use Rattle.pb_game_of_trees.specs.TreeGame.{AreRowsFrom}
 use Rattle.pb_game_of_trees.proofs.Reached.{found_row}
-use Rattle.pb_evidence_nearby.specs.declared.nearby.Nearby.{Nearby}
-use Rattle.pb_evidence_nearby.specs.Nearby.{found_in, nearby_rows, IsNearby}
+use Rattle.pb_exploration_reached.specs.declared.nearby.Nearby.{Nearby}
+use Rattle.pb_exploration_reached.specs.Nearby.{found_in, nearby_rows, IsNearby}
 use Rattle.pb_evidence_nearby.specs.Around.{leaf_of, IsAround, AreAssumedRows}
-use Rattle.pb_evidence_nearby.proofs.Finding.{one_place}
-
--- ---- distinct numbers, rising
-
-none_equal : (x : ℕ) (xs : List ℕ) → ((j : ℕ) → j < length xs → x ≢ get_or xs j 0) → AllByRecursion (λ y. (x == y) ≡ false) xs
-none_equal x [] h = tt
-none_equal x (y ∷ ys) h = (ne_eqb x y (h 0 (omega arith)), none_equal x ys (λ j l. h (suc j) (omega arith)))
-
-distinct_of : (xs : List ℕ) → ((i j : ℕ) → i < length xs → j < length xs → get_or xs i 0 ≡ get_or xs j 0 → i ≡ j) → IsDistinct (λ x y. x == y) xs
-unfolding IsDistinct
-distinct_of [] h = tt
-distinct_of (x ∷ xs) h = (
-  none_equal x xs (λ j l e. let same : 0 ≡ suc j = h 0 (suc j) (omega arith) (omega arith) e in omega arith),
-  distinct_of xs (λ i j li lj e. let same : suc i ≡ suc j = h (suc i) (suc j) (omega arith) (omega arith) e in omega arith),
-)
-
-pub rising_of : (xs ys : List ℕ) → ((i j : ℕ) → i < length xs → j < length xs → get_or xs i 0 ≡ get_or xs j 0 → i ≡ j)
-    → IsPermutation xs ys → IsNonDecreasing ys → IsStrictlyIncreasing ys
-rising_of xs ys one perm rises =
-    IsStrictlyIncreasing-from_distinct ys rises (IsDistinct-IsPermutation nat_eq nat_eq_equiv.symm xs ys perm (distinct_of xs one))
+use Rattle.pb_exploration_reached.proofs.Ordering.{numbered, numbered_back, reachable_found, row_number}
 
 -- ---- leaves
 
@@ -71,22 +47,16 @@ leaf_calls_none P false = tt
 
 module _ (m : Contents) (x : Nearby) (is : IsNearby m x) where
   one : (i j : ℕ) → i < length (found_in x) → j < length (found_in x) → get_or (found_in x) i 0 ≡ get_or (found_in x) j 0 → i ≡ j
-  one i j li lj e = one_place x.found is.found i j li lj e
+  one i j li lj e = is.hashed.apart i j li lj e
 
   count : length (numbers_of (nearby_rows x)) ≡ length (nearby_rows x)
   count = length-map (nearby_rows x) (λ (r : TokenRow). r.number)
-
-  -- the k-th row is of the k-th number
-  row_number : (k : ℕ) → k < length (nearby_rows x) → (get_or (nearby_rows x) k nothing).number ≡ get_or (found_in x) k 0
-  row_number k l =
-      sym (get_or-map (λ (r : TokenRow). r.number) (nearby_rows x) k nothing 0 l)
-      ∙ (ap (λ (ns : List ℕ). get_or ns k 0) is.first ∙ get_or-take (length (nearby_rows x)) (found_in x) k 0 l)
 
   -- where a number stands
   module _ (n k : ℕ) (below : k < length (found_in x)) (there : get_or (found_in x) k 0 ≡ n) where
     pub explored_row : k < length (nearby_rows x) → Contains (nearby_rows x) (row_of_tokens n (get_or (nearby_rows x) k nothing).tree)
     explored_row l =
-        let number : (get_or (nearby_rows x) k nothing).number ≡ n = row_number k l ∙ there in
+        let number : (get_or (nearby_rows x) k nothing).number ≡ n = row_number m x is k l ∙ there in
         subst (λ (j : ℕ). Contains (nearby_rows x) (row_of_tokens j (get_or (nearby_rows x) k nothing).tree)) number (Contains-get_or (nearby_rows x) k nothing l)
 
     pub not_explored : length (nearby_rows x) ≤ k → Contains (numbers_of (nearby_rows x)) n → ⊥
@@ -105,30 +75,9 @@ module _ (m : Contents) (x : Nearby) (is : IsNearby m x) where
     pub frontier_is : (b : Bool) → length (nearby_rows x) ≤ k → (leaf : Token) → leaf ≡ leaf_of (not b) → IsAround x b (row_of_tokens n (leaf ∷ []))
     frontier_is b past leaf e = inr (ap (λ (t : Token). t ∷ []) e, not_explored past)
 
-  -- where nothing is left, what can be reached was found
-  module _ (all : length (nearby_rows x) ≡ length (found_in x)) (trees : ℕ → Tree) (are : AreTrees m trees) where
-    call_found : (n k : ℕ) → Contains (found_in x) n → Contains (successors trees n) k → Contains (found_in x) k
-    call_found n k c called =
-        let at = contains_place (found_in x) n c in
-        let low : at.0 < length (nearby_rows x) = let w = at.1.within in omega (arith, w, all) in
-        let row = row_of_tokens n (get_or (nearby_rows x) at.0 nothing).tree in
-        let explored : Contains (nearby_rows x) row = explored_row n at.0 at.1.within at.1.there low in
-        let tree : IsTreeAt m n row.tree = subst (λ (z : TokenRow). IsTreeAt m z.number z.tree) explored.2 (is.trees explored.0 row explored.1) in
-        is.closed row explored k (successor_called m n row.tree tree trees are k called)
-
-    pub reachable_found : (n : ℕ) → IsReachable trees (initial_of m) n → Contains (found_in x) n
-    reachable_found n Starts = is.initial
-    reachable_found n (Follows k j before called) = call_found k n (reachable_found k before) called
-
   -- ---- the rows in order
 
   module _ (b : Bool) (rows : List TokenRow) (rising : IsStrictlyIncreasing (numbers_of rows)) (moved : IsPermutation (found_in x) (numbers_of rows)) (around : All (IsAround x b) rows) where
-    numbered : (n : ℕ) → Contains (found_in x) n → Contains (numbers_of rows) n
-    numbered n c = Contains-permutation (found_in x) (numbers_of rows) n moved c
-
-    numbered_back : (n : ℕ) → Contains (numbers_of rows) n → Contains (found_in x) n
-    numbered_back n c = Contains-permutation (numbers_of rows) (found_in x) n (IsPermutation-sym (found_in x) (numbers_of rows) moved) c
-
     explored_number : (r : TokenRow) → Contains (nearby_rows x) r → Contains (numbers_of (nearby_rows x)) r.number
     explored_number r c =
         let k = c.0 in
@@ -145,7 +94,7 @@ module _ (m : Contents) (x : Nearby) (is : IsNearby m x) where
       tree_of r c (inr leaf) = leaf.0 ∙ (leaf_tokens (not b) ∙ ap tree_tokens (sym (others r.number c leaf.1)))
 
       reached : (n : ℕ) → Contains (found_in x) n → plain.IsReached (rows_of assumed rows) n
-      reached n c = found_row assumed rows n (numbered n c)
+      reached n c = found_row assumed rows n (numbered x rows moved n c)
 
       calls_of : (r : TokenRow) → Contains (numbers_of rows) r.number → IsAround x b r → TreeCalls (plain.IsReached (rows_of assumed rows)) (assumed r.number)
       calls_of r c (inl explored) =
@@ -190,12 +139,12 @@ module _ (m : Contents) (x : Nearby) (is : IsNearby m x) where
                 subst (λ (z : plain.Row). TreeCalls (plain.IsReached (rows_of assumed rows)) z.tree) f.same (calls_of f.from f.listed f.is_around);
             below = λ row c.
                 let f = from_rows row c in
-                let inside = is.inside f.from.number (numbered_back f.from.number f.listed) in
+                let inside = is.inside f.from.number (numbered_back x rows moved f.from.number f.listed) in
                 let all : count_of (parameters m) ≡ total (map signature_of m.equations) = count_is_total m in
                 subst (λ (z : plain.Row). z.number < total (map signature_of m.equations)) f.same (omega (arith, inside, all));
           };
         };
-        found = numbered (initial_of m) is.initial;
+        found = numbered x rows moved (initial_of m) is.initial;
       }
 
     -- the explored rows have their own trees, and all others the leaf
@@ -225,15 +174,15 @@ module _ (m : Contents) (x : Nearby) (is : IsNearby m x) where
     are_whole all trees are =
         let from = assumed_rows trees are trees (λ n c. refl)
         (λ n c not_there. absurd (not_there
-        (let at = contains_place (found_in x) n (numbered_back n c) in
+        (let at = contains_place (found_in x) n (numbered_back x rows moved n c) in
         let l : at.0 < length (nearby_rows x) = let w = at.1.within in omega (arith, w, all) in
         let here : get_or (numbers_of (nearby_rows x)) at.0 0 ≡ n =
         ap (λ (ns : List ℕ). get_or ns at.0 0) is.first ∙ (get_or-take (length (nearby_rows x)) (found_in x) at.0 0 l ∙ at.1.there) in
         contains_at (numbers_of (nearby_rows x)) n at.0 (record { within = omega (arith, l, count); there = here })))) in
         record {
           rising = rising;
-          all = λ n r. numbered n (reachable_found all trees are n r);
-          only = λ n c. is.reachable trees are n (numbered_back n c);
+          all = λ n r. numbered x rows moved n (reachable_found m x is all trees are n r);
+          only = λ n c. is.reachable trees are n (numbered_back x rows moved n c);
           of_trees = from.are.of_trees;
           system = from.are.system;
         }

@@ -3,6 +3,7 @@ ghost use Rattle.std.specs.Prelude.{◌≡◌, IfOk};
 ghost use Rattle.pb_sorts.specs.Layout.{count_of};
 ghost use Rattle.pb_bytecode.specs.Meaning.{parameters};
 ghost use Rattle.pb_instances.specs.Explored.{IsClosedEnd};
+ghost use Rattle.pb_instances.specs.Few.{HasFewInstances};
 ghost use Rattle.pb_instances.specs.Seats.{words_of_statuses};
 
 use crate::steps::close;
@@ -18,7 +19,8 @@ fn work_branded<B: Limit>(
     alloc: Global,
     verified: &Verified,
 ) -> Result<(Result<Rows, AllocError>, Statuses), AllocError>
-    requires { B.limit ≡ count_of (parameters verified.now) }
+    requires limit { B.limit ≡ count_of (parameters verified.now) }
+    requires few { HasFewInstances verified.now }
     ensures { IfOk result (λ done. IsClosedEnd verified.now (words_of_statuses done.1)) }
 {
     let (table, mut seats) = Table::start(alloc, verified, 1)?;
@@ -49,6 +51,7 @@ pub fn work_alone(
     alloc: Global,
     verified: &Verified,
 ) -> Result<(Result<Rows, AllocError>, Statuses), AllocError>
+    requires { HasFewInstances verified.now }
     ensures { IfOk result (λ done. IsClosedEnd verified.now (words_of_statuses done.1)) }
 {
     work_branded::<Brand>(alloc, verified)

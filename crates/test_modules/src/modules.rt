@@ -1,7 +1,10 @@
 //! The module that the tests explore.
+ghost use Rattle.std.specs.Prelude.{IfOk};
+ghost use Rattle.pb_instances.specs.Few.{HasFewInstances};
+
 use pb_bytecode::decode::decode;
 use pb_verifier::{Verified, VerifyError, verify};
-use std::alloc::Global;
+use std::alloc::{AllocError, Global};
 use std::test::Fail;
 
 /// `nu X(x) = forall y: y == x || X(y)`, with x and y of a sort of three enumerators; the initial
@@ -30,10 +33,16 @@ const ALL_OTHERS: [u8; 61] = [
 /// calls the two others.
 ///
 /// # Errors
-/// Memory was refused.
-pub fn all_others(alloc: Global) -> Result<Verified, Fail> {
-    match verify(alloc, decode(alloc, &ALL_OTHERS)?) {
-        Ok(verified) => Ok(verified),
-        Err((_module, error)) => Ok(Err::<Verified, VerifyError>(error)?),
+/// Memory was refused, or there are not three instances.
+pub fn all_others(alloc: Global) -> Result<Verified, Fail>
+    ensures { IfOk result HasFewInstances }
+{
+    let verified = match verify(alloc, decode(alloc, &ALL_OTHERS)?) {
+        Ok(verified) => verified,
+        Err((_module, error)) => return Ok(Err::<Verified, VerifyError>(error)?),
+    };
+    if verified.layout().count() != 3 {
+        Err::<(), AllocError>(AllocError)?;
     }
+    Ok(verified)
 }

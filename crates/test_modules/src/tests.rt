@@ -7,7 +7,8 @@ use crate::alone::work_alone;
 use crate::modules::all_others;
 use crate::steps::{close, finish, give_back, mark, status, take, three_statuses};
 use pb_command_solver::{BuiltModule, build_explored};
-use pb_exploration::{Core, Event, Explored, NoGate, NotAllowed, StepError, explore};
+use pb_exploration::{Core, Event, Explored, Limits, NoGate, NotAllowed, StepError, explore};
+use pb_exploration_reached::explore_reached;
 use pb_fixpoint_trees::{IndexedRows, Kind, ReadRows, Token};
 use pb_instances::{Marked, Seat, Status, Step, Table};
 use pb_machine::Machine;
@@ -247,14 +248,33 @@ fn worker_without_memory(rt: HostRuntime) -> Result<(), Fail> {
     Ok(())
 }
 
-// Any number of workers finds the same rows.
+// Any number of workers finds the same rows, whatever the limit of instances.
 #[test]
 fn many_workers(rt: HostRuntime) -> Result<(), Fail> {
     let alloc = rt.alloc();
     let module = all_others(alloc)?;
     for workers in [1u32, 2, 16] {
-        let explored = explore(&rt, alloc, &module, workers, &NoGate)?;
+        let limits = Limits {
+            workers,
+            instances: 2,
+        };
+        let Some(explored) = explore(&rt, alloc, &module, limits, &NoGate)? else {
+            panic!(rt; "there is a word for each instance");
+        };
         assert!(rt; are_all_others(explored.rows()));
     }
+    Ok(())
+}
+
+// What keeps only the instances that it finds has the same rows, and ends where these are too many.
+#[test]
+fn instances_as_they_are_found(rt: HostRuntime) -> Result<(), Fail> {
+    let alloc = rt.alloc();
+    let module = all_others(alloc)?;
+    let Some(rows) = explore_reached(alloc, &module, 3, &NoGate)? else {
+        panic!(rt; "three instances are too many");
+    };
+    assert!(rt; are_all_others(&rows));
+    assert!(rt; explore_reached(alloc, &module, 2, &NoGate)?.is_none());
     Ok(())
 }

@@ -1,8 +1,7 @@
 -- Where the part is the whole, what is told is the answer.
-use Rattle.std.proofs.Common.{Option, arith, subst}
-use Rattle.std.specs.Prelude.{IfSome}
-use Rattle.pb_command_solver.specs.declared.part.SolvedPart.{SolvedPart}
-use Rattle.pb_command_solver.specs.Parts.{IsSolvedPart}
+use Rattle.std.proofs.Common.{arith, subst}
+use Rattle.pb_command_solver.specs.declared.part.Rounds.{Rounds}
+use Rattle.pb_command_solver.specs.Parts.{IsOfRounds}
 use Rattle.pb_command_solver.proofs.Answered.{count, answer_is}
 use Rattle.pb_command_solver.proofs.Parts.{game_of_all}
 use Rattle.pb_command_solver.proofs.early.answer_early.Goals as goal
@@ -10,9 +9,9 @@ use Rattle.pb_command_solver.proofs.early.answer_early.Goals as goal
 pub count_cut-cut-requires : goal.count_cut-cut-requires
 count_cut-cut-requires g c =
     let m = c.args.verified.now in
-    let is = subst (λ (o : Option SolvedPart). IfSome o (IsSolvedPart m)) c.in-Some.is c.in_ok-part.ensures in
-    let part = c.in-Some.part.part in
-    let built = c.in-Some.part.solved.built in
+    let is = subst (λ (o : Rounds). IsOfRounds m o) c.in-Enough.is c.in_ok-part.ensures in
+    let part = c.in-Enough.part.part in
+    let built = c.in-Enough.part.solved.built in
     let explored = is.part.whole c.if-part.true in
     let same = count m part.rows built explored (game_of_all m part.rows is.trees part.truth is.part.assumed built is.game explored) is.trees.0 is.trees.1 in
     omega (arith, same, built.few)
@@ -20,9 +19,9 @@ count_cut-cut-requires g c =
 pub returns-then-part : goal.returns-then-part
 returns-then-part g c =
     let m = c.args.verified.now in
-    let is = subst (λ (o : Option SolvedPart). IfSome o (IsSolvedPart m)) c.in-Some.is c.in_ok-part.ensures in
-    let part = c.in-Some.part.part in
-    let built = c.in-Some.part.solved.built in
+    let is = subst (λ (o : Rounds). IsOfRounds m o) c.in-Enough.is c.in_ok-part.ensures in
+    let part = c.in-Enough.part.part in
+    let built = c.in-Enough.part.solved.built in
     let explored = is.part.whole c.if-part.true in
     answer_is m part.rows built explored (game_of_all m part.rows is.trees part.truth is.part.assumed built is.game explored)
     c.truth.result c.instances.result c.count_cut-cut.result c.len.result

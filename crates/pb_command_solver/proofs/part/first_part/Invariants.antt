@@ -1,4 +1,4 @@
-use Rattle.pb_evidence_nearby.specs.Nearby.{IsNearby}
+use Rattle.pb_exploration_reached.specs.Nearby.{IsNearby}
 use Rattle.pb_command_solver.proofs.part.first_part.Given as goal
 
 abbrev pub invariant-loop-most : goal.invariant-loop-most
