@@ -5,9 +5,9 @@ use Rattle.std.specs.List.{list_all}
 use Rattle.std.proofs.lemmas.List.{take-map, take_min, drop_min, drop_more, drop-drop, length-drop}
 use Rattle.std.specs.Prelude.{codes}
 use Rattle.std.proofs.lemmas.Bool.{and_from, lt-ltb, le-leb}
-use Rattle.std.proofs.lemmas.List.{length-map, map-append}
+use Rattle.std.proofs.lemmas.List.{map-append}
 use Rattle.std.proofs.lemmas.List.Elements.{Contains-push}
-use Rattle.pb_base.specs.declared.limits.TheConstants.{MAX_INSTANCES}
+use Rattle.pb_protocol_packing.specs.declared.limits.TheConstants.{MAX_GROUP_VALUES}
 use Rattle.pb_base.specs.declared.or_memory.OrMemory.{OrMemory}
 use Rattle.pb_base.specs.declared.or_memory.OrMemory.TheVariants.{Refused, Memory}
 use Rattle.pb_text_tree.specs.declared.place.Place.{Place}
@@ -19,17 +19,18 @@ use Rattle.pb_model_meaning.specs.Syntax.{Model}
 use Rattle.pb_protocol_packing.specs.Packing.{Member, Group, Joined, capacity}
 use Rattle.pb_protocol_packer.specs.declared.group.Group as declared_group
 use Rattle.pb_protocol_packer.specs.Groups.{group_of, groups_in}
-use Rattle.pb_protocol_packing.specs.Groups.{cut_into_groups, named_groups, member_for, groups_of, group_sizes, names_in, all_members_for, unused_name}
+use Rattle.pb_protocol_packing.specs.Groups.{named_groups, member_for, groups_of, names_in, all_members_for, unused_name}
+use Rattle.pb_protocol_packing.specs.Sizes.{is_few, are_few, has_few, makes_few, cut_into_groups, group_sizes}
+use Rattle.pb_protocol_packing.proofs.Sizes.{few-named}
 use Rattle.pb_protocol_packer.specs.Members.{members_said}
 use Rattle.pb_protocol_groups.specs.declared.grouping.Grouping.{Grouping}
 use Rattle.pb_protocol_groups.specs.declared.members.Members.{Members}
 use Rattle.pb_protocol_groups.specs.Groups.{grouped_behind, named_variable}
 use Rattle.pb_protocol_groups.specs.declared.state_variables.StateVariable.{StateVariable}
-use Rattle.pb_protocol_groups.specs.Sizes.{is_few, are_few, has_few, makes_few}
 use Rattle.pb_protocol_groups.specs.Variables.{as_member, members_for, variable_of_state, variables_of_state}
 use Rattle.pb_protocol_groups.specs.Taken.{taken_of}
 
-drop-map : {A : Type 0} (f : A → Member) (k : ℕ) (xs : List A) → drop k (map f xs) ≡ map f (drop k xs)
+pub drop-map : {A : Type 0} (f : A → Member) (k : ℕ) (xs : List A) → drop k (map f xs) ≡ map f (drop k xs)
 drop-map f zero xs = refl
 drop-map f (suc k) [] = refl
 drop-map f (suc k) (x ∷ xs) = drop-map f k xs
@@ -47,12 +48,6 @@ cut-step m xs k first end ks within is =
     drop-map f k d ∙ ap (map f) (sym (drop_min k d) ∙ drop-drop (min k (length d)) first xs ∙ ap (λ (i : ℕ). drop i xs) e) in
     ap (λ (ps : List Member). ps ∷ cut_into_groups ks (drop k (map f d))) front ∙ ap (λ (ps : List Member). map f (take (end - first) d) ∷ cut_into_groups ks ps) back
 
-pub few-named : (cs : List (List Member)) (taken : List Name) → list_all has_few (named_groups taken cs) ≡ list_all makes_few cs
-few-named [] taken = refl
-few-named ([] ∷ cs) taken = few-named cs taken
-few-named ((p ∷ []) ∷ cs) taken = few-named cs taken
-few-named ((p ∷ r ∷ ps) ∷ cs) taken = ap (λ (b : Bool). are_few (p ∷ r ∷ ps) && b) (few-named cs _)
-
 pub members-all : (m : Model) (xs : List StateVariable) → members_for m xs ≡ map (member_for m) (variables_of_state xs)
 members-all m [] = refl
 members-all m (x ∷ xs) = ap (λ (ps : List Member). as_member m x ∷ ps) (members-all m xs)
@@ -65,17 +60,16 @@ pub record AreBehind (m : Model) (g : Grouping) (xs : List StateVariable) (sizes
   pub few : list_all makes_few (cut_into_groups sizes (members_for m (drop first xs))) ≡ list_all has_few (groups_of m)
 
 pub start : (m : Model) (g : Grouping) (xs : List StateVariable) (sizes : List ℕ) → taken_of g.names ≡ names_in m → groups_in g.groups.items ≡ [] → variables_of_state xs ≡ m.variables
-    → sizes ≡ group_sizes (length xs) → AreBehind m g xs sizes 0
+    → sizes ≡ group_sizes (members_for m xs) → AreBehind m g xs sizes 0
 start m g xs sizes taken none vars is =
     let all : members_for m xs ≡ all_members_for m = members-all m xs ∙ ap (λ (ys : List Variable). map (member_for m) ys) vars in
-    let count : length xs ≡ length m.variables = sym (length-map xs variable_of_state) ∙ ap (λ (ys : List Variable). length ys) vars in
-    let cuts : cut_into_groups sizes (members_for m xs) ≡ cut_into_groups (group_sizes (length m.variables)) (all_members_for m) =
-    ap (λ (ks : List ℕ). cut_into_groups ks (members_for m xs)) (is ∙ ap group_sizes count) ∙ ap (λ (ps : List Member). cut_into_groups (group_sizes (length m.variables)) ps) all in
+    let cuts : cut_into_groups sizes (members_for m xs) ≡ cut_into_groups (group_sizes (all_members_for m)) (all_members_for m) =
+    ap (λ (ks : List ℕ). cut_into_groups ks (members_for m xs)) is ∙ ap (λ (ps : List Member). cut_into_groups (group_sizes ps) ps) all in
     record {
       within = omega arith;
       groups = ap (λ (gs : List Group). gs ++ named_groups (taken_of g.names) (cut_into_groups sizes (members_for m xs))) none
           ∙ ap (λ (ns : List Name). named_groups ns (cut_into_groups sizes (members_for m xs))) taken ∙ ap (named_groups (names_in m)) cuts;
-      few = ap (list_all makes_few) cuts ∙ sym (few-named (cut_into_groups (group_sizes (length m.variables)) (all_members_for m)) (names_in m));
+      few = ap (list_all makes_few) cuts ∙ sym (few-named (cut_into_groups (group_sizes (all_members_for m)) (all_members_for m)) (names_in m));
     }
 
 -- the next size, and those behind it
@@ -132,9 +126,9 @@ pub makes-several : (m : Model) (xs : List StateVariable) (x : StateVariable) (y
 makes-several m xs x [] is some = absurd (some refl)
 makes-several m xs x (y ∷ ys) is some = ap (λ (zs : List StateVariable). makes_few (members_for m zs)) is ∙ sym (ap (λ (zs : List StateVariable). are_few (members_for m zs)) is)
 
-pub are-few : (ps qs : List Member) (n : ℕ) → qs ≡ ps → n ≡ capacity qs → 0 < n → n ≤ MAX_INSTANCES → are_few ps ≡ true
+pub are-few : (ps qs : List Member) (n : ℕ) → qs ≡ ps → n ≡ capacity qs → 0 < n → n ≤ MAX_GROUP_VALUES → are_few ps ≡ true
 are-few ps qs n same counted some few =
-    ap is_few (sym (ap capacity same) ∙ sym counted) ∙ and_from _ _ (lt-ltb 0 n some) (le-leb n MAX_INSTANCES few)
+    ap is_few (sym (ap capacity same) ∙ sym counted) ∙ and_from _ _ (lt-ltb 0 n some) (le-leb n MAX_GROUP_VALUES few)
 
 pub several : (m : Model) (taken new : List Name) (old made : List declared_group.Group) (e : declared_group.Group) (x : Name) (xs ys : List StateVariable) (first : StateVariable)
     → made ≡ old ++ (e ∷ []) → group_of e ≡ Joined (named_variable x) (members_for m xs) → new ≡ x ∷ taken → x ≡ unused_name taken ((variable_of_state first).name ++ codes "'")

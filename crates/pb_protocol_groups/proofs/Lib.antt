@@ -5,6 +5,7 @@ pub mod Values
 pub mod Links
 pub mod Sizes
 pub mod Cuts
+pub mod Fitting
 pub mod Places
 pub mod Bound
 pub mod Packable

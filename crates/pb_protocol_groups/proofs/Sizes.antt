@@ -3,14 +3,14 @@ use Rattle.std.proofs.Common.{◌≡◌, ℕ, zero, suc, ◌<◌, ◌≤◌, ◌
 use Rattle.std.specs.Prelude.{nat_lt, nat_le, ◌&&◌}
 use Rattle.std.proofs.Math.Nat.{mul-le-mul_left}
 use Rattle.std.proofs.lemmas.Bool.{and_from, lt-ltb, eq-eqb, lt-leb, leb-false}
-use Rattle.pb_base.specs.declared.limits.TheConstants.{MAX_INSTANCES}
+use Rattle.pb_protocol_packing.specs.declared.limits.TheConstants.{MAX_GROUP_VALUES}
 use Rattle.pb_protocol_packing.specs.Packing.{Member, capacity}
 use Rattle.pb_protocol_packer.specs.declared.member.Member as declared_member
 use Rattle.pb_protocol_packer.specs.Members.{are_weighted, member_of, members_said}
 use Rattle.std.proofs.lemmas.List.{at_drop_more}
 use Rattle.pb_model_meaning.specs.Syntax.{Model}
 use Rattle.pb_protocol_groups.specs.declared.state_variables.StateVariable.{StateVariable}
-use Rattle.pb_protocol_groups.specs.Sizes.{is_few, are_few}
+use Rattle.pb_protocol_packing.specs.Sizes.{is_few, are_few}
 use Rattle.pb_protocol_groups.specs.Variables.{as_member, members_for}
 
 -- members as the program has made them, with how many values they have together
@@ -19,19 +19,19 @@ pub record AreMembers (ps : List Member) (made : List declared_member.Member) (n
   pub weighted : are_weighted made ≡ true
   pub counted : n ≡ capacity ps
   pub some : 0 < n
-  pub few : n ≤ MAX_INSTANCES
+  pub few : n ≤ MAX_GROUP_VALUES
 
 -- ---- numbers
 
-above : (m : ℕ) → MAX_INSTANCES < m → is_few m ≡ false
-above m h = by (nat_lt 0 m) (lt-leb m MAX_INSTANCES h)
+above : (m : ℕ) → MAX_GROUP_VALUES < m → is_few m ≡ false
+above m h = by (nat_lt 0 m) (lt-leb m MAX_GROUP_VALUES h)
   where
     by : (b : Bool) {d : Bool} → d ≡ false → (b && d) ≡ false
     by true e = e
     by false e = refl
 
-is-above : (m : ℕ) → 0 < m → is_few m ≡ false → MAX_INSTANCES < m
-is-above m some h = leb-false m MAX_INSTANCES (sym (ap (λ (b : Bool). b && nat_le m MAX_INSTANCES) (lt-ltb 0 m some)) ∙ h)
+is-above : (m : ℕ) → 0 < m → is_few m ≡ false → MAX_GROUP_VALUES < m
+is-above m some h = leb-false m MAX_GROUP_VALUES (sym (ap (λ (b : Bool). b && nat_le m MAX_GROUP_VALUES) (lt-ltb 0 m some)) ∙ h)
 
 pub many-times : (s n : ℕ) → is_few s ≡ false → 0 < n → is_few (s * n) ≡ false
 many-times zero n h some = ap is_few (let e : 0 * n ≡ 0 = omega arith in e)
@@ -51,7 +51,7 @@ times-many (suc s) (suc n) h =
 -- ---- one member more
 
 pub more-members : (p : Member) (ps : List Member) (m : declared_member.Member) (made : List declared_member.Member) (n larger : ℕ) → AreMembers ps made n
-    → member_of m ≡ p → m.weight ≡ n → larger ≡ p.size * n → 0 < larger → larger ≤ MAX_INSTANCES → AreMembers (p ∷ ps) (m ∷ made) larger
+    → member_of m ≡ p → m.weight ≡ n → larger ≡ p.size * n → 0 < larger → larger ≤ MAX_GROUP_VALUES → AreMembers (p ∷ ps) (m ∷ made) larger
 more-members p ps m made n larger h is weight product some few =
     let counts : m.weight ≡ capacity (members_said made) = weight ∙ h.counted ∙ sym (ap capacity h.members) in
     let positive : 0 < m.weight = omega (arith, weight, h.some) in

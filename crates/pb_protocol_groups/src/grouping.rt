@@ -8,13 +8,15 @@ ghost use Rattle.pb_typing_declarations.specs.declared.fault.TypingRule.TheVaria
 ghost use Rattle.pb_protocol_packing.specs.Groups as packing;
 ghost use Rattle.pb_protocol_packing.specs.Groups.{named_groups};
 ghost use Rattle.pb_protocol_packing.specs.Packing.{Member};
+ghost use Rattle.pb_protocol_packing.specs.Sizes.{makes_few};
 ghost use Rattle.pb_protocol_packer.specs.Groups.{groups_in};
 ghost use Rattle.pb_protocol_packer.specs.Members as members;
-ghost use Rattle.pb_protocol_groups.specs.Sizes.{makes_few, size_faults};
+ghost use Rattle.pb_protocol_groups.specs.Sizes.{size_faults};
 ghost use Rattle.pb_protocol_groups.specs.Taken.{taken_of};
 ghost use Rattle.pb_protocol_groups.specs.Groups.{named_variable};
 ghost use Rattle.pb_protocol_groups.specs.Variables.{members_for, variable_of_state};
 
+use crate::counts::group_sizes;
 use crate::members::few_members;
 use crate::model_names::names_in;
 use crate::state_variables::{StateVariable, state_variables};
@@ -24,24 +26,6 @@ use pb_protocol_packer::{Group, Joined, Variable};
 use pb_text_tree::copy_name;
 use pb_typing_declarations::{TypeError, TypingFault, TypingRule};
 use std::alloc::{AllocError, Global};
-
-/// How many groups there are at most.
-const GROUPS: usize = 8;
-
-/// How many variables each group has: their numbers differ by one at most.
-#[tactic(auto, using(std::proofs::lemmas::List::replicate_more, std::proofs::lemmas::List::append_assoc))]
-fn group_sizes(alloc: Global, count: usize) -> Result<Vec<usize>, AllocError>
-    ensures { IfOk result (λ v. v.items ≡ packing.group_sizes count) }
-{
-    let mut sizes = Vec::new(alloc);
-    for _ in 0..count % GROUPS {
-        sizes.push(count / GROUPS + 1)?;
-    }
-    for _ in 0..GROUPS - count % GROUPS {
-        sizes.push(count / GROUPS)?;
-    }
-    Ok(sizes)
-}
 
 /// The variable that a group of several becomes.
 fn group_variable(
@@ -127,7 +111,7 @@ pub(crate) fn groups_of(alloc: Global, model: &Model) -> Result<Vec<Group>, Type
     let groups = Vec::new(alloc);
     let mut grouping = Grouping { names, groups };
     let variables = state_variables(alloc, &model.state)?;
-    let sizes = group_sizes(alloc, variables.len())?;
+    let sizes = group_sizes(alloc, model, &variables)?;
     let mut first = 0;
     for size in &sizes {
         let end = first + (variables.len() - first).min(*size);

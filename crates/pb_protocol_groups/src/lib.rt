@@ -6,6 +6,7 @@ mod bound_formulas;
 mod bound_names;
 mod bound_terms;
 mod checks;
+mod counts;
 mod end;
 mod formula_names;
 mod grouping;

@@ -1,19 +1,19 @@
 //! The variables of a group of several, and what each of them counts in the group's number.
 
 ghost use Rattle.std.specs.Prelude.{◌≡◌, ◌≤◌, ◌<◌, map, true, false, length, IfOk, MatchOption};
-ghost use Rattle.pb_base.specs.declared.limits.TheConstants.{MAX_INSTANCES};
 ghost use Rattle.pb_model_meaning.specs.Erase.{model_of};
+ghost use Rattle.pb_protocol_packing.specs.declared.limits.TheConstants.{MAX_GROUP_VALUES};
 ghost use Rattle.pb_protocol_packing.specs.Packing as packing;
+ghost use Rattle.pb_protocol_packing.specs.Sizes.{are_few, is_few};
 ghost use Rattle.pb_protocol_packer.specs.Members.{are_weighted, member_of, members_said};
 ghost use Rattle.pb_protocol_groups.specs.Ends.{carrier_at, member_at};
-ghost use Rattle.pb_protocol_groups.specs.Sizes.{are_few, is_few};
 ghost use Rattle.pb_protocol_groups.specs.Variables.{members_for, variable_of_state};
 
 use crate::end::{End, end_of};
 use crate::state_variables::StateVariable;
-use pb_base::MAX_INSTANCES;
 use pb_model_tree::Model;
 use pb_protocol_packer::{Member, Variable};
+use pb_protocol_packing::MAX_GROUP_VALUES;
 use pb_text_tree::copy_name;
 use std::alloc::{AllocError, Global};
 
@@ -24,16 +24,16 @@ pub(crate) struct Members {
     pub capacity: u32,
     ghost weighted: { are_weighted items.items ≡ true },
     ghost some: { 0 < capacity },
-    ghost few: { capacity ≤ MAX_INSTANCES },
+    ghost few: { capacity ≤ MAX_GROUP_VALUES },
     ghost counted: { capacity ≡ packing.capacity (members_said items.items) },
 }
 
 /// The number, if it isn't 0 and not above the limit.
 fn few(number: u64) -> Option<u32>
     ensures { MatchOption result (is_few number ≡ false)
-        (λ n. (n ≡ number) × (0 < n) × (n ≤ MAX_INSTANCES)) }
+        (λ n. (n ≡ number) × (0 < n) × (n ≤ MAX_GROUP_VALUES)) }
 {
-    if number == 0 || number > MAX_INSTANCES as u64 {
+    if number == 0 || number > u64::from(MAX_GROUP_VALUES) {
         return None;
     }
     Some(number as u32)

@@ -4,7 +4,7 @@ use Rattle.std.proofs.lemmas.List.{map-append}
 use Rattle.pb_text_tree.specs.Form.{Named, EnumeratorForm, SortForm, struct, alias, SortDeclarationForm}
 use Rattle.pb_text_meaning.specs.Syntax.{Name, Enumerator}
 use Rattle.pb_text_meaning.specs.Erase.{erased_declaration, erased_enumerator, erased_sort}
-use Rattle.pb_typing_declarations.specs.Declarations.{tables_faults, checks_faults, all_enumerator_forms, enumerators_of_sort, names_of_enumerator, recogniser_name}
+use Rattle.pb_typing_declarations.specs.Declarations.{tables_faults, all_enumerator_forms, enumerators_of_sort, names_of_enumerator, recogniser_name}
 use Rattle.pb_typing_declarations.proofs.Parts.{no_parts}
 use Rattle.pb_typing_declarations.proofs.ReadParts as part
 use Rattle.pb_protocol_tree.specs.Form.{ProtocolForm}
@@ -57,7 +57,7 @@ own-sorts (d ∷ ds) =
 pub enumerators_are_apart : (text : ProtocolForm) → protocol_faults text ≡ [] → AreDistinct (enumerators_in (erase text).sorts)
 enumerators_are_apart text e =
     let t = data_form text in
-    let all = no_parts (tables_faults t) (checks_faults t) (declared text e) in
+    let all = no_parts (tables_faults t) _ (declared text e) in
     let a = no_parts (part.structs t) _ all.0 in
     let b = no_parts (part.empty t) _ a.1 in
     let c = no_parts (part.data_twice t) _ b.1 in

@@ -5,13 +5,12 @@ use Rattle.pb_text_meaning.specs.Syntax.{Spec}
 use Rattle.pb_text_meaning.specs.Erase as texts
 use Rattle.pb_typing_declarations.specs.declared.fault.TypingFault.{TypingFault}
 use Rattle.pb_typing_declarations.specs.declared.fault.TypingRule.{TypingRule}
-use Rattle.pb_typing_declarations.specs.Declarations.{declaration_faults}
 use Rattle.pb_typing_declarations.proofs.Parts.{no_parts}
 use Rattle.pb_protocol_tree.specs.Form.{ProtocolForm}
 use Rattle.pb_protocol_typing.specs.Fault.{fault_unless, either_fault, first_fault, listed}
 use Rattle.pb_protocol_typing.specs.Scopes.{Signatures}
 use Rattle.pb_protocol_typing.specs.Steps.{definitions_fault, step_fault, initial_fault}
-use Rattle.pb_protocol_typing.specs.Faults.{data_form, names_faults, lists_faults, protocol_own_faults, parts_fault, protocol_faults, property_fault, outermost, signatures_of, state_of, steps_of}
+use Rattle.pb_protocol_typing.specs.Faults.{data_faults, data_form, names_faults, lists_faults, protocol_own_faults, parts_fault, protocol_faults, property_fault, outermost, signatures_of, state_of, steps_of}
 
 pub no_either : (a b : Option TypingFault) → either_fault a b ≡ None → (a ≡ None) × (b ≡ None)
 no_either None b e = (refl, e)
@@ -32,14 +31,14 @@ pub record Kept (spec : Spec) (known : Signatures) (text : ProtocolForm) : Type 
   pub initial : initial_fault spec text.variables text.initial ≡ None
   pub properties : first_fault (property_fault (steps_of spec text) (outermost spec known)) text.properties ≡ None
 
-pub declared : (text : ProtocolForm) → protocol_faults text ≡ [] → declaration_faults (data_form text) ≡ []
-declared text e = (no_parts (declaration_faults (data_form text)) (protocol_own_faults (texts.erase (data_form text)) text) e).0
+pub declared : (text : ProtocolForm) → protocol_faults text ≡ [] → data_faults text ≡ []
+declared text e = (no_parts (data_faults text) (protocol_own_faults (texts.erase (data_form text)) text) e).0
 
 pub kept : (text : ProtocolForm) → protocol_faults text ≡ [] → Kept (texts.erase (data_form text)) (signatures_of (texts.erase (data_form text)) text) text
 kept text e =
     let spec = texts.erase (data_form text) in
     let known = signatures_of spec text in
-    let own = no_parts (declaration_faults (data_form text)) (protocol_own_faults spec text) e in
+    let own = no_parts (data_faults text) (protocol_own_faults spec text) e in
     let a = no_parts (names_faults text) _ own.1 in
     let b = no_parts (listed (definitions_fault spec (state_of spec text) text.definitions)) _ a.1 in
     let c = no_parts (lists_faults spec known text) (listed (parts_fault spec known text)) b.1 in

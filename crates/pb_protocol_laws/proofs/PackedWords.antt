@@ -20,7 +20,8 @@ use Rattle.pb_protocol_packing.specs.Apart.{is_among}
 use Rattle.pb_protocol_packing.specs.Numbers.{Kind, Boolean, Enumeration, Whole, divided, rest, is_surely_within, test_of}
 use Rattle.pb_protocol_packing.specs.Said.{Scope, hidden}
 use Rattle.pb_protocol_packing.specs.Packing.{Member, Group, Alone, Joined, capacity, variable_of, digit_at, with_members, with_group, with_groups, number_after, number_of, tests_of, all_tests, where_all, joined_term, group_term, with_assignment, assignments_of, option_said, said_by, packed_step, initial_assignments, begins_with, initial_term, initial_terms, with_sorts, with_ranges}
-use Rattle.pb_protocol_packing.specs.Groups.{name_of, kind_by, kind_within, kind_of, lowest, member_for, names_in, group_sizes, cut_into_groups, unused_name, named_groups, groups_of, packed}
+use Rattle.pb_protocol_packing.specs.Groups.{name_of, kind_by, kind_within, kind_of, lowest, member_for, names_in, unused_name, named_groups, groups_of, packed}
+use Rattle.pb_protocol_packing.specs.Sizes.{group_sizes, cut_into_groups}
 use Rattle.pb_protocol_packing.specs.Groups as groups
 use Rattle.pb_protocol_laws.specs.FewValues.{HasFewValues}
 use Rattle.pb_protocol_laws.specs.SpellingLaws.{PackedModelsAreWritable, PackedFormulasAreWritable}
@@ -320,8 +321,8 @@ groups-known taken ((p ∷ r ∷ ps) ∷ cs) h few =
 
 all-known : (m : Model) → Each HasFewValues (groups_of m) → ModelWritable m → Each GroupKnown (groups_of m)
 all-known m few h =
-    groups-known (names_in m) (cut_into_groups (group_sizes (length m.variables)) (groups.all_members_for m))
-    (cut-known (group_sizes (length m.variables)) (groups.all_members_for m) (members-known m h m.variables h.variables)) few
+    groups-known (names_in m) (cut_into_groups (group_sizes (groups.all_members_for m)) (groups.all_members_for m))
+    (cut-known (group_sizes (groups.all_members_for m)) (groups.all_members_for m) (members-known m h m.variables h.variables)) few
 
 pub packed-writable : PackedModelsAreWritable
 packed-writable m few h =

@@ -1,7 +1,7 @@
 //! Groups of state variables, each with the variable that it becomes.
 
 ghost use Rattle.std.specs.Prelude.{◌≡◌, ◌≤◌, true};
-ghost use Rattle.pb_base.specs.declared.limits.TheConstants.{MAX_INSTANCES};
+ghost use Rattle.pb_protocol_packing.specs.declared.limits.TheConstants.{MAX_GROUP_VALUES};
 ghost use Rattle.pb_protocol_packing.specs.Packing as packing;
 ghost use Rattle.pb_protocol_packer.specs.Members.{are_weighted, members_said};
 
@@ -14,7 +14,7 @@ pub struct Joined {
     pub members: Vec<Member>,
     pub capacity: u32,
     ghost weighted: { are_weighted members.items ≡ true },
-    ghost few: { capacity ≤ MAX_INSTANCES },
+    ghost few: { capacity ≤ MAX_GROUP_VALUES },
     ghost counted: { capacity ≡ packing.capacity (members_said members.items) },
 }
 

@@ -1,20 +1,18 @@
 -- The groups of a model have its variables, in order, and names that nothing else has.
-use Rattle.std.proofs.Common.{◌≡◌, ℕ, zero, suc, ◌+◌, ◌-◌, ◌*◌, ◌/◌, ◌%◌, ◌<◌, ◌≤◌, Bool, true, false, true≢false, ◌||◌, inl, inr, if◌then◌else◌, List, [], ◌∷◌, ◌++◌, map, length, flat_map, take, drop, refl, sym, ap, ◌∙◌, arith, length-append, length-drop}
-use Rattle.std.specs.Prelude.{replicate, codes}
+use Rattle.std.proofs.Common.{◌≡◌, ℕ, zero, suc, ◌<◌, ◌≤◌, Bool, true, false, true≢false, ◌||◌, inl, inr, if◌then◌else◌, List, [], ◌∷◌, ◌++◌, map, length, flat_map, take, drop, refl, sym, ap, ◌∙◌, arith, length-append, length-drop}
+use Rattle.std.specs.Prelude.{codes}
 use Rattle.std.specs.List.{list_any, sum_by}
 use Rattle.std.specs.Cmp.Lexicographic.{same_text}
 use Rattle.std.proofs.lemmas.Bool.{or_cases, or_right}
-use Rattle.std.proofs.lemmas.List.{take-append-drop, length-replicate}
-use Rattle.std.proofs.lemmas.List.Sums.{sum_by-append, sum_by-cons}
-use Rattle.std.proofs.lemmas.List.Folds.{sum_by-replicate}
-use Rattle.std.proofs.Math.Nat.{mod-lt}
-use Rattle.std.proofs.lemmas.Nat.{div-add-mod'}
+use Rattle.std.proofs.lemmas.List.{take-append-drop}
+use Rattle.std.proofs.lemmas.List.Sums.{sum_by-cons}
 use Rattle.pb_text_meaning.specs.Syntax.{Name, same_name, Variable}
 use Rattle.pb_model_translation.specs.Names.{primes, longest}
 use Rattle.pb_model_translation.specs.Apart.{IsNew, AreApart, AreNew}
 use Rattle.pb_protocol_packing.specs.Packing.{Member, variable_of}
 use Rattle.pb_protocol_packing.specs.Apart.{Each, is_among, all_members, variables_of, group_variables, new_names, new_sorts, AreAllApart}
-use Rattle.pb_protocol_packing.specs.Groups.{group_sizes, cut_into_groups, named_groups, unused_name}
+use Rattle.pb_protocol_packing.specs.Groups.{named_groups, unused_name}
+use Rattle.pb_protocol_packing.specs.Sizes.{cut_into_groups}
 use Rattle.pb_protocol_packing.proofs.Lists.{each-same, each-join, each-front, each-rest, same-itself, apart-sym, neither}
 
 -- ---- a new name
@@ -174,19 +172,6 @@ cut-all [] ps h = no-places ps h
 cut-all (k ∷ ks) ps h =
     ap (λ (qs : List Member). take k ps ++ qs) (cut-all ks (drop k ps) (omega (arith, length-drop k ps, h, sum_by-cons (λ (k : ℕ). k) k ks))) ∙ take-append-drop k ps
 
-sizes-are : (r d q : ℕ) → r + d ≡ 8 → r * suc q + d * q ≡ q * 8 + r
-sizes-are r d q e = let h : (r + d) * q ≡ 8 * q = ap (λ n. n * q) e in omega (arith, h)
-
-pub total-sizes : (n : ℕ) → sum_by (λ k. k) (group_sizes n) ≡ n
-total-sizes n =
-    let r = n % 8 in
-    let q = n / 8 in
-    let less : n % 8 < 8 = mod-lt n (omega arith) in
-    sum_by-append (λ k. k) (replicate r (suc q)) (replicate (8 - r) q)
-    ∙ (ap (λ k. k + sum_by (λ k. k) (replicate (8 - r) q)) (sum_by-replicate (λ k. k) r (suc q))
-    ∙ (ap (λ k. r * suc q + k) (sum_by-replicate (λ k. k) (8 - r) q)
-    ∙ (sizes-are r (8 - r) q (omega arith) ∙ div-add-mod' n 8)))
-
 pub few-groups : (taken : List Name) (cs : List (List Member)) → length (map variable_of (named_groups taken cs)) ≤ length cs
 few-groups taken [] = omega arith
 few-groups taken ([] ∷ cs) = omega (arith, few-groups taken cs)
@@ -196,9 +181,3 @@ few-groups taken ((p ∷ r ∷ ps) ∷ cs) = omega (arith, few-groups (unused_na
 pub length-cut : (ks : List ℕ) (ps : List Member) → length (cut_into_groups ks ps) ≡ length ks
 length-cut [] ps = refl
 length-cut (k ∷ ks) ps = ap suc (length-cut ks (drop k ps))
-
-pub eight-sizes : (n : ℕ) → length (group_sizes n) ≡ 8
-eight-sizes n =
-    let less : n % 8 < 8 = mod-lt n (omega arith) in
-    length-append (replicate (n % 8) (suc (n / 8))) (replicate (8 - n % 8) (n / 8))
-    ∙ omega (arith, length-replicate (n % 8) (suc (n / 8)), length-replicate (8 - n % 8) (n / 8))

@@ -4,7 +4,6 @@ use Rattle.std.specs.Prelude.{Contains}
 use Rattle.std.specs.List.{list_all}
 use Rattle.std.specs.Cmp.Lexicographic.{same_text}
 use Rattle.std.proofs.lemmas.Bool.{and_from}
-use Rattle.std.proofs.lemmas.List.{length-map}
 use Rattle.pb_text_meaning.specs.Syntax.{Name, same_name, Variable, Term, Terms, Sort, Struct, Alias, SortDeclaration}
 use Rattle.pb_model_meaning.specs.Syntax.{Assignment, Step, Formula, Property, Model}
 use Rattle.pb_model_translation.specs.Names as names
@@ -12,12 +11,14 @@ use Rattle.pb_model_translation.specs.Apart.{IsNew, AreApart, AreNew, StepsAreNe
 use Rattle.pb_model_translation.proofs.Answer.{translations_have_the_answer}
 use Rattle.pb_protocol_packing.specs.Packing.{Member, Group, Alone, Joined, variable_of, packed_step}
 use Rattle.pb_protocol_packing.specs.Apart.{Each, is_among, all_members, variables_of, group_variables, new_names, new_sorts, enumerators_of, used_enumerators, may_bind, is_apart, all_apart, is_apart_step, is_apart_formula, IsMember, AreAllApart, HasOldSort, HasOldTarget, is_old_target, IsPacking}
-use Rattle.pb_protocol_packing.specs.Groups.{member_for, all_members_for, variable_names, term_names, all_term_names, formula_names, step_names, enumerators_in, targets_in, sort_names, names_in, group_sizes, cut_into_groups, groups_of, packed, said_formula}
+use Rattle.pb_protocol_packing.specs.Groups.{member_for, all_members_for, variable_names, term_names, all_term_names, formula_names, step_names, enumerators_in, targets_in, sort_names, names_in, groups_of, packed, said_formula}
+use Rattle.pb_protocol_packing.specs.Sizes.{group_sizes, cut_into_groups}
 use Rattle.pb_protocol_packing.specs.Packable.{all_enumerators, bound_in, all_bound_in, bound_in_formula, bound_in_step, all_variables, IsPackable}
 use Rattle.pb_protocol_packing.specs.Laws.{PropertiesStay, PackedTranslationsHaveTheAnswer, HaveFewVariables, StatesStandForStates, PackedNamesAreApart, FixpointsKeepTheirNames}
 use Rattle.pb_protocol_packing.proofs.Lists.{each-same, each-front, each-rest, each-join, each-flat, each-among, each-at}
 use Rattle.pb_protocol_packing.proofs.Places.{place-is, place-enumerators}
-use Rattle.pb_protocol_packing.proofs.Groups.{new-apart, sorts-are-names, new-all-apart, group_variables-are, each-place, is-new, after-apart, after-new, cut-all, total-sizes, few-groups, length-cut, eight-sizes}
+use Rattle.pb_protocol_packing.proofs.Groups.{new-apart, sorts-are-names, new-all-apart, group_variables-are, each-place, is-new, after-apart, after-new, cut-all, few-groups, length-cut}
+use Rattle.pb_protocol_packing.proofs.Sizes.{few-sizes, total-sizes}
 use Rattle.pb_protocol_packing.proofs.Answer.{initial-same, packed_models_satisfy_the_same}
 use Rattle.pb_protocol_packing.proofs.Successors.{steps-same}
 
@@ -156,13 +157,13 @@ each-contains P (y ∷ xs) x (suc k, below, at) each = each-contains P xs x (k, 
 
 module _ (m : Model) (able : IsPackable m) where
   abbrev chunks : List (List Member)
-  chunks = cut_into_groups (group_sizes (length m.variables)) (all_members_for m)
+  chunks = cut_into_groups (group_sizes (all_members_for m)) (all_members_for m)
 
   abbrev gs : List Group
   gs = groups_of m
 
   all-cut : flat_map (λ (c : List Member). c) chunks ≡ all_members_for m
-  all-cut = cut-all (group_sizes (length m.variables)) (all_members_for m) (omega (arith, total-sizes (length m.variables), length-map m.variables (member_for m)))
+  all-cut = cut-all (group_sizes (all_members_for m)) (all_members_for m) (omega (arith, total-sizes (all_members_for m)))
 
   variables-cut : variables_of (flat_map (λ (c : List Member). c) chunks) ≡ m.variables
   variables-cut = ap variables_of all-cut ∙ places-variables m m.variables
@@ -314,8 +315,9 @@ packed_translations_have_the_answer m p able among = translations_have_the_answe
 
 pub have_few_variables : HaveFewVariables
 have_few_variables m =
-    let few = few-groups (names_in m) (cut_into_groups (group_sizes (length m.variables)) (all_members_for m)) in
-    omega (arith, few, length-cut (group_sizes (length m.variables)) (all_members_for m), eight-sizes (length m.variables))
+    let ps = all_members_for m in
+    let few = few-groups (names_in m) (cut_into_groups (group_sizes ps) ps) in
+    omega (arith, few, length-cut (group_sizes ps) ps, few-sizes ps)
 
 pub states_stand_for_states : StatesStandForStates
 states_stand_for_states m able = (initial-same m (groups_of m) (is-packing m able), (λ A t e. steps-same m (groups_of m) (is-packing m able) A t e))

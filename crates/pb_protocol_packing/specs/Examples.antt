@@ -1,5 +1,5 @@
 -- Small models with their groups, and what packing makes of them.
-use Rattle.std.specs.Prelude.{true, false, List, [], ◌∷◌, map, codes, pos}
+use Rattle.std.specs.Prelude.{true, false, ℕ, ◌^◌, List, [], ◌∷◌, map, replicate, codes, pos}
 use Rattle.pb_text_tree.specs.declared.operator.Quantifier.TheVariants.{Exists}
 use Rattle.pb_text_meaning.specs.Syntax.{Name, Variable, Operator, Term, Terms, Struct}
 use Rattle.pb_model_meaning.specs.Syntax.{Model, StepSet, Formula}
@@ -135,3 +135,16 @@ one_moves =
     Formula.Diamond (StepSet.Only (codes "move")) (Formula.Diamond (StepSet.Only (codes "turn"))
     (Formula.Not (Formula.Data (Term.Binary Operator.Or (Term.Named (codes "a"))
     (Term.Binary Operator.Or (Term.Named (codes "b")) (Term.Named (codes "i")))))))
+
+-- ---- nine variables, of which two have too many values together
+
+abbrev pub sized : ℕ → Member
+sized n = record {
+  variable = variable k (codes "Int");
+  kind = Kind.Whole;
+  low = pos 0;
+  size = n;
+}
+
+abbrev pub wide : List Member
+wide = sized (2 ^ 16) ∷ sized (2 ^ 16) ∷ replicate 7 (sized 1)

@@ -1,8 +1,7 @@
--- The groups of a model's variables: at most eight, of consecutive variables, whose numbers differ
--- by one at most. Their names are new.
-use Rattle.std.specs.Prelude.{ℕ, zero, suc, ◌-◌, ◌/◌, ◌%◌, pos, Bool, true, false, List, []}
+-- The groups of a model's variables: at most eight, of consecutive variables. Their names are new.
+use Rattle.std.specs.Prelude.{ℕ, zero, suc, pos, Bool, true, false, List, []}
 use Rattle.std.specs.Prelude.{if◌then◌else◌}
-use Rattle.std.specs.Prelude.{◌∷◌, ◌++◌, length, map, flat_map, take, drop, replicate, Option, Some}
+use Rattle.std.specs.Prelude.{◌∷◌, ◌++◌, length, map, flat_map, Option, Some}
 use Rattle.std.specs.Prelude.{None, codes}
 use Rattle.pb_base_values.specs.Carrier.{Carrier, Value}
 use Rattle.pb_text_meaning.specs.Syntax.{Name, same_name, Variable, Enumerator, Term, Terms, Sort}
@@ -14,6 +13,7 @@ use Rattle.pb_model_translation.specs.Names.{primes, longest}
 use Rattle.pb_protocol_packing.specs.Apart.{is_among}
 use Rattle.pb_protocol_packing.specs.Numbers.{Kind, Boolean, Enumeration, Whole}
 use Rattle.pb_protocol_packing.specs.Packing.{Member, Group, Alone, Joined, packed_by, packed_formula}
+use Rattle.pb_protocol_packing.specs.Sizes.{cut_into_groups, group_sizes}
 
 -- ---- places
 
@@ -111,14 +111,6 @@ names_in m =
 
 -- ---- groups
 
--- eight numbers with the sum n that differ by one at most
-abbrev pub group_sizes : ℕ → List ℕ
-group_sizes n = replicate (n % 8) (suc (n / 8)) ++ replicate (8 - n % 8) (n / 8)
-
-abbrev pub cut_into_groups : List ℕ → List Member → List (List Member)
-cut_into_groups [] ps = []
-cut_into_groups (k ∷ ks) ps = take k ps ∷ cut_into_groups ks (drop k ps)
-
 -- the name, and where it is taken the name with more primes than any name has letters
 abbrev pub unused_name : List Name → Name → Name
 unused_name taken x = if is_among taken x then x ++ primes (suc (longest taken)) else x
@@ -135,8 +127,7 @@ named_groups taken ((p ∷ r ∷ ps) ∷ cs) =
 
 abbrev pub groups_of : Model → List Group
 groups_of m =
-    named_groups (names_in m)
-    (cut_into_groups (group_sizes (length m.variables)) (all_members_for m))
+    let ps = all_members_for m in named_groups (names_in m) (cut_into_groups (group_sizes ps) ps)
 
 -- a model over at most eight variables, and what a formula says there
 abbrev pub packed : Model → Model

@@ -1,15 +1,17 @@
 -- A packed model satisfies what the model does.
-use Rattle.std.specs.Prelude.{◌≡◌, ◌≤◌, true, false, List, length, Contains}
+use Rattle.std.specs.Prelude.{◌≡◌, ◌<◌, ◌≤◌, ◌^◌, true, false, List, length, Contains}
+use Rattle.std.specs.List.{list_all}
 use Rattle.pb_text_meaning.specs.Syntax.{Name}
 use Rattle.pb_text_meaning.specs.Meaning.{answer}
 use Rattle.pb_model_meaning.specs.Syntax.{StepSet, Formula, Property, Model}
-use Rattle.pb_model_meaning.specs.Steps.{State, is_state, initial_state, successors}
+use Rattle.pb_model_meaning.specs.Steps.{State, is_state, state_count, initial_state, successors}
 use Rattle.pb_model_meaning.specs.Satisfaction.{satisfies}
 use Rattle.pb_model_translation.specs.Names.{translation}
 use Rattle.pb_model_translation.specs.Names as names
 use Rattle.pb_model_translation.specs.Apart.{HasNamesApart}
 use Rattle.pb_protocol_packing.specs.Packing.{Group, packed_by, packed_formula}
 use Rattle.pb_protocol_packing.specs.Apart.{Each, is_among, new_names, IsPacking, is_apart_formula}
+use Rattle.pb_protocol_packing.specs.Sizes.{has_few}
 use Rattle.pb_protocol_packing.specs.Groups.{groups_of, packed, said_formula}
 use Rattle.pb_protocol_packing.specs.Unpacked.{unpacked, StandsFor, AllStandFor}
 use Rattle.pb_protocol_packing.specs.Packable.{IsPackable}
@@ -56,3 +58,9 @@ StatesStandForStates =
     ((A : StepSet) (t : State) → is_state (packed m) t ≡ true →
     AllStandFor m (packed m) (unpacked (groups_of m))
     (successors m A (unpacked (groups_of m) t)) (successors (packed m) A t))
+
+-- no group of a model with at most 2^62 states has too many values
+abbrev pub FewStatesMakeSmallGroups : Type 0
+FewStatesMakeSmallGroups =
+    (m : Model) → 0 < state_count m → state_count m ≤ 2 ^ 62 →
+    list_all has_few (groups_of m) ≡ true

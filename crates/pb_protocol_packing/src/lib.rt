@@ -1,6 +1,8 @@
 //! From a model to one with fewer state variables, and why it satisfies what the model does:
-//! definitions, in `specs/`, and laws.
+//! definitions, in `specs/`, laws, and the limit of a group.
 #![tactic(auto)]
+
+mod limits;
 
 ghost use Rattle.std.specs.Prelude.{◌≡◌, true, false, List, [], ◌∷◌, map, length, pos, codes, Some};
 ghost use Rattle.pb_base_values.specs.Carrier.{Tuple};
@@ -13,13 +15,17 @@ ghost use Rattle.pb_protocol_packing.specs.Packing.{packed_formula, tests_of, va
 ghost use Rattle.pb_protocol_packing.specs.Packing.{with_groups};
 ghost use Rattle.pb_protocol_packing.specs.Said.{said};
 ghost use Rattle.pb_protocol_packing.specs.Unpacked.{unpacked};
+ghost use Rattle.pb_protocol_packing.specs.Sizes.{group_sizes};
 ghost use Rattle.pb_protocol_packing.specs.Groups.{groups_of, packed, said_formula};
 ghost use Rattle.pb_protocol_packing.specs.Packable.{IsPackable};
 ghost use Rattle.pb_protocol_packing.specs.Laws.{PackedModelsSatisfyTheSame, PropertiesStay};
 ghost use Rattle.pb_protocol_packing.specs.Laws.{PackedTranslationsHaveTheAnswer};
 ghost use Rattle.pb_protocol_packing.specs.Laws.{HaveFewVariables, PackedNamesAreApart};
-ghost use Rattle.pb_protocol_packing.specs.Laws.{FixpointsKeepTheirNames, StatesStandForStates};
+ghost use Rattle.pb_protocol_packing.specs.Laws.{FewStatesMakeSmallGroups, FixpointsKeepTheirNames};
+ghost use Rattle.pb_protocol_packing.specs.Laws.{StatesStandForStates};
 ghost use Rattle.pb_protocol_packing.specs.Examples as example;
+
+pub use limits::MAX_GROUP_VALUES;
 
 /// A machine of three variables as one variable, as the definitions compute it.
 pub fn worked_examples()
@@ -53,13 +59,15 @@ pub fn packed_models_satisfy_the_same()
     ensures { PackedModelsSatisfyTheSame }
 {}
 
-/// Nine flags in eight groups: the first two become one variable.
+/// Nine flags in eight groups: the first two become one variable. Two variables with 2^16 values
+/// each are in two groups, the second with all that stand behind.
 pub fn worked_groups()
     ensures count { length (groups_of example.ring) ≡ 8 }
     ensures first { map variable_of (groups_of example.ring) ≡ example.ring_variables }
     ensures packed { satisfies (packed example.ring) (said_formula example.ring example.one_moves)
         ≡ true }
     ensures model { satisfies example.ring example.one_moves ≡ true }
+    ensures wide { group_sizes example.wide ≡ 1 ∷ 8 ∷ [] }
 {}
 
 /// The packed model has at most eight variables, none of which that several became has a fixpoint's
@@ -72,4 +80,10 @@ pub fn packed_models_have_the_answer()
     ensures properties { PropertiesStay }
     ensures translation { PackedTranslationsHaveTheAnswer }
     ensures states { StatesStandForStates }
+{}
+
+/// Groups of a model with at most 2^62 states, and one at least, have no more values than a group
+/// may have.
+pub fn few_states_make_small_groups()
+    ensures { FewStatesMakeSmallGroups }
 {}

@@ -75,7 +75,7 @@ some-assoc : (a b c : Bool) → (a || (b || c)) ≡ ((a || b) || c)
 some-assoc true b c = refl
 some-assoc false b c = refl
 
-any-appended : (p : Name → Bool) (xs ys : List Name) → list_any p (xs ++ ys) ≡ (list_any p xs || list_any p ys)
+pub any-appended : (p : Name → Bool) (xs ys : List Name) → list_any p (xs ++ ys) ≡ (list_any p xs || list_any p ys)
 any-appended p [] ys = refl
 any-appended p (x ∷ xs) ys = ap (λ b. p x || b) (any-appended p xs ys) ∙ some-assoc (p x) (list_any p xs) (list_any p ys)
 

@@ -1,4 +1,5 @@
 mod ApartLemmas
+mod SeenNames
 mod Chains
 mod FormulaLemmas
 mod ImpossibleLaw

@@ -24,6 +24,7 @@ use Rattle.pb_protocol_unfolder_terms.specs.declared.scope.TermScope.TheVariants
 use Rattle.pb_protocol_unfolder_terms.specs.TermFaults.{HasValues}
 use Rattle.pb_protocol_unfolder.specs.ValueScopes.{has_values}
 use Rattle.std.proofs.lemmas.Bool.{false≢true}
+use Rattle.pb_protocol_unfolder_steps.specs.declared.limits.TheConstants.{MAX_WRITTEN_STEPS}
 use Rattle.pb_protocol_unfolder_steps.specs.StepFaults.{IsTermOr, OnTerm, WithValues}
 use Rattle.pb_protocol_unfolder_steps.specs.Refusals.{IsPassedIn, element_places, instance_places}
 use Rattle.pb_protocol_unfolder.specs.declared.fault.UnfoldingFault.{UnfoldingFault}
@@ -76,7 +77,7 @@ pub elements-passed : (m : ProtocolForm) (s : StepsFault) (f : UnfoldingFault) �
 elements-passed m (steps_fault.Limit p) f gives at = subst (IsUnfoldingFault m) (sym gives) (inl at)
 elements-passed m (steps_fault.Term t) f gives at = absurd at
 
-pub instances-passed : (m : ProtocolForm) (s : StepsFault) (f : UnfoldingFault) → IsOfSteps s f → IsPassedIn 1024 (instance_places m) s → IsUnfoldingFault m f
+pub instances-passed : (m : ProtocolForm) (s : StepsFault) (f : UnfoldingFault) → IsOfSteps s f → IsPassedIn MAX_WRITTEN_STEPS (instance_places m) s → IsUnfoldingFault m f
 instances-passed m (steps_fault.Limit p) f gives at = subst (IsUnfoldingFault m) (sym gives) (inr at)
 instances-passed m (steps_fault.Term t) f gives at = absurd at
 

@@ -1,6 +1,6 @@
 //! Names that are apart: those of elements, of enumerators and of written-out steps.
 
-ghost use Rattle.std.specs.Prelude.{◌≡◌, ◌≤◌, length, map, take, MatchOption};
+ghost use Rattle.std.specs.Prelude.{◌≡◌, map, IfOk, MatchOption};
 ghost use Rattle.std.specs.List.{list_any};
 ghost use Rattle.pb_text_meaning.specs.Syntax.{same_name};
 ghost use Rattle.pb_protocol_folding.specs.Names.{AreDistinct, AreNot, enumerators_in};
@@ -9,39 +9,23 @@ ghost use Rattle.pb_protocol_unfolder.specs.Apart.{enumerator_bytes, name_bytes}
 ghost use Rattle.pb_protocol_unfolder.specs.Apart as view;
 
 use pb_text_tree::{Enumerator, Name, Sort, SortDeclaration};
-
-/// Whether a name is one of these.
-fn is_among(names: &[Name], name: &str) -> bool
-    ensures { result ≡ list_any (same_name name.now) (map name_bytes names.now) }
-{
-    for other in names {
-        if name == other.text.as_str() {
-            return true;
-        }
-    }
-    false
-}
-
-/// Whether a name is one of those in front of an index.
-fn is_before(names: &[Name], index: usize, name: &str) -> bool
-    requires { index ≤ length names.now }
-    ensures { result ≡ list_any (same_name name.now) (map name_bytes (take index names.now)) }
-{
-    let (before, _) = names.split_at(index);
-    is_among(before, name)
-}
+use std::alloc::{AllocError, Global};
+use std::collections::HashSet;
 
 /// The first name that stands in front of itself too.
-pub(crate) fn first_repeated(names: &[Name]) -> Option<usize>
-    ensures { MatchOption result (AreDistinct (map name_bytes names.now))
-        (RepeatsAt (map name_bytes names.now)) }
+pub(crate) fn first_repeated(alloc: Global, names: &[Name]) -> Result<Option<usize>, AllocError>
+    ensures { IfOk result
+        (λ found. MatchOption found (AreDistinct (map name_bytes names.now))
+        (RepeatsAt (map name_bytes names.now))) }
 {
+    let mut before = HashSet::new(alloc);
     for (index, name) in names.iter().enumerate() {
-        if is_before(names, index, name.text.as_str()) {
-            return Some(index);
+        let is_new = before.insert(name.text.as_str())?;
+        if !is_new {
+            return Ok(Some(index));
         }
     }
-    None
+    Ok(None)
 }
 
 /// Whether a name is that of an enumerator of a sort.

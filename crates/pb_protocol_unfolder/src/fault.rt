@@ -23,7 +23,7 @@ pub enum UnfoldingRule {
     /// T11: an index outside its sort, or not seen to stay in it. The place is that of the index's
     /// first token.
     Index,
-    /// T12: more than 64 elements or 1,024 steps with their values. The place is that of the name
+    /// T12: more than 64 elements or 8,192 steps with their values. The place is that of the name
     /// of the state variable or step that passes the limit.
     Count,
     /// P04: an unfolded term or formula has more than 8,192 operators, or nests too deep. The place

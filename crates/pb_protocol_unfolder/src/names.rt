@@ -57,7 +57,8 @@ pub(crate) fn check_elements(
         (map element_place elements.now)) }
 {
     let names = element_names(alloc, elements)?;
-    if let Some(index) = first_repeated(&names) {
+    let repeated = first_repeated(alloc, &names)?;
+    if let Some(index) = repeated {
         return Err(refused(UnfoldingRule::Names, elements[index].name.place));
     }
     if let Some(index) = first_taken(declarations, &names) {
@@ -79,7 +80,8 @@ pub(crate) fn check_instances(
         (map instance_place instances.now)) }
 {
     let names = instance_names(alloc, instances)?;
-    if let Some(index) = first_repeated(&names) {
+    let repeated = first_repeated(alloc, &names)?;
+    if let Some(index) = repeated {
         return Err(refused(UnfoldingRule::Names, instances[index].step.name.place));
     }
     Ok(())

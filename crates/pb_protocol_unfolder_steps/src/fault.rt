@@ -10,7 +10,7 @@ use pb_text_tree::Place;
 /// A rule that fails where a protocol's state or steps are unfolded.
 #[derive(Clone, Copy, Debug, PartialEq, Eq)]
 pub enum StepsFault {
-    /// T12: more than 64 elements or 1,024 steps. The place is that of the name of the state
+    /// T12: more than 64 elements or 8,192 steps. The place is that of the name of the state
     /// variable or step that passes the limit.
     Limit(Place),
     /// A term isn't unfolded.

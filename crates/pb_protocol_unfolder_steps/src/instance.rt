@@ -106,7 +106,7 @@ fn instances_of<'a>(
 /// All steps of a protocol with the values of their own variables, in order.
 ///
 /// # Errors
-/// There are more than 1,024 (T12, at the name of the step that passes the limit), or memory was
+/// There are more than 8,192 (T12, at the name of the step that passes the limit), or memory was
 /// refused.
 pub fn instances<'a>(alloc: Global, protocol: &'a Protocol) -> Result<Vec<Instance<'a>>, StepsError>
     ensures instances { IfOk result

@@ -10,7 +10,7 @@ use pb_text_tree::Place;
 pub const MAX_ELEMENTS: usize = 64;
 
 /// How many steps there may be, over all values of their own variables (T12).
-pub const MAX_WRITTEN_STEPS: usize = 1024;
+pub const MAX_WRITTEN_STEPS: usize = 8192;
 
 /// Checks that there are at most so many; else the limit is passed at the place.
 pub(crate) fn check_limit(count: usize, limit: usize, place: Place) -> Result<(), StepsFault>

@@ -4,4 +4,4 @@ use Rattle.pb_protocol_packing.proofs.worked_groups.Goals as goal
 
 pub returns : goal.returns
 unfolding named_function
-returns c = record { count = refl; first = refl; packed = refl; model = refl }
+returns c = record { count = refl; first = refl; packed = refl; model = refl; wide = refl }

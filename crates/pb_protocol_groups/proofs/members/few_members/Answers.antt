@@ -3,7 +3,7 @@ use Rattle.pb_base_values.specs.Carrier.{Carrier}
 use Rattle.pb_model_meaning.specs.Erase.{model_of}
 use Rattle.pb_protocol_packing.specs.Packing.{Member}
 use Rattle.pb_protocol_packer.specs.declared.member.Member as declared_member
-use Rattle.pb_protocol_groups.specs.Sizes.{is_few}
+use Rattle.pb_protocol_packing.specs.Sizes.{is_few}
 use Rattle.pb_protocol_groups.specs.Variables.{as_member, members_for, variable_of_state}
 use Rattle.pb_protocol_groups.proofs.Links.{member-at-end}
 use Rattle.pb_protocol_groups.proofs.Sizes.{AreMembers, many-times, more-members, refused-at, next-member}

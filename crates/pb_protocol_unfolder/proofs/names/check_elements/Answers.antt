@@ -13,13 +13,15 @@ use Rattle.pb_protocol_unfolder.specs.Apart.{IsTakenAt, RepeatsAt, declarations_
 use Rattle.pb_protocol_unfolder.specs.Faults.{IsElementClash}
 use Rattle.pb_protocol_unfolder.specs.Parts.{IsFaultOfElements}
 use Rattle.pb_protocol_unfolder.proofs.NameFaults.{repeated-at, taken-at, within}
+use Rattle.pb_protocol_unfolder.proofs.SeenNames.{distinct-where, repeats-where}
 use Rattle.pb_protocol_unfolder.proofs.names.check_elements.Goals.{In-Some, In-Some-first_taken}
 use Rattle.pb_protocol_unfolder.proofs.names.check_elements.Goals as goal
 
 -- ---- what is said of the names is said of those of the elements
 
 repeats : (c : In-Some) → RepeatsAt (map name_bytes c.in_ok-names.names.items) c.in-Some.index
-repeats c = subst (λ (v : List declared_name.Name). RepeatsAt (map name_bytes v) c.in-Some.index) c.deref.ensures.value c.in-Some.ensures
+repeats c =
+    repeats-where c.deref.result.now c.in_ok-names.names.items c.in_ok-repeated.repeated c.in-Some.index c.deref.ensures.value c.in-Some.is c.in_ok-repeated.ensures
 
 taken : (c : In-Some-first_taken) → IsTakenAt (enumerators_in (declarations_said c.args.declarations.now)) (map name_bytes c.in_ok-names.names.items) c.in-Some-first_taken.index
 taken c =
@@ -65,7 +67,8 @@ returns-in-Some-first_taken-clause-refused c =
 
 pub returns-clause-distinct : goal.returns-clause-distinct
 returns-clause-distinct c =
-    subst (λ (v : List Name). AreDistinct v) (ap (map name_bytes) c.deref.ensures.value ∙ c.in_ok-names.ensures) c.in_default.ensures
+    subst (λ (v : List Name). AreDistinct v) c.in_ok-names.ensures
+    (distinct-where c.deref.result.now c.in_ok-names.names.items c.in_ok-repeated.repeated c.deref.ensures.value c.in_default.is c.in_ok-repeated.ensures)
 
 pub returns-clause-untaken : goal.returns-clause-untaken
 returns-clause-untaken c =

@@ -1,7 +1,6 @@
-use Rattle.std.proofs.Common.{◌∙◌, ap, refl, sym, subst, List, map}
+use Rattle.std.proofs.Common.{refl, sym, subst, List, map}
 use Rattle.pb_base.specs.OrMemory.{IfFault}
 use Rattle.pb_base.specs.declared.or_memory.OrMemory.{OrMemory}
-use Rattle.pb_text_tree.specs.declared.name.Name as declared_name
 use Rattle.pb_text_meaning.specs.Syntax.{Name}
 use Rattle.pb_protocol_folding.specs.Names.{AreDistinct}
 use Rattle.pb_protocol_unfolding.specs.Unfolding.{instance_name}
@@ -9,15 +8,16 @@ use Rattle.pb_protocol_unfolder_steps.specs.declared.instance.Instance.{Instance
 use Rattle.pb_protocol_unfolder_steps.specs.Elements.{instance_said}
 use Rattle.pb_protocol_unfolder_steps.specs.Refusals.{instance_place}
 use Rattle.pb_protocol_unfolder.specs.declared.fault.UnfoldingFault.{UnfoldingFault}
-use Rattle.pb_protocol_unfolder.specs.Apart.{RepeatsAt, name_bytes}
+use Rattle.pb_protocol_unfolder.specs.Apart.{name_bytes}
 use Rattle.pb_protocol_unfolder.specs.Faults.{IsRepeated}
 use Rattle.pb_protocol_unfolder.specs.Parts.{IsFaultOfInstances}
 use Rattle.pb_protocol_unfolder.proofs.NameFaults.{repeated-at, within}
+use Rattle.pb_protocol_unfolder.proofs.SeenNames.{distinct-where, repeats-where}
 use Rattle.pb_protocol_unfolder.proofs.names.check_instances.Goals as goal
 
 pub bounds-instances-index : goal.bounds-instances-index
 bounds-instances-index c =
-    let repeats = subst (λ (v : List declared_name.Name). RepeatsAt (map name_bytes v) c.in-Some.index) c.deref.ensures.value c.in-Some.ensures in
+    let repeats = repeats-where c.deref.result.now c.in_ok-names.names.items c.in_ok-repeated.repeated c.in-Some.index c.deref.ensures.value c.in-Some.is c.in_ok-repeated.ensures in
     within instance_name instance_said c.args.instances.now (map name_bytes c.in_ok-names.names.items) c.in-Some.index c.in_ok-names.ensures repeats.0
 
 pub returns-in-Some-clause-refused : goal.returns-in-Some-clause-refused
@@ -27,7 +27,7 @@ returns-in-Some-clause-refused c =
     let x = c.index-instances-index.result in
     let ns = map name_bytes c.in_ok-names.names.items in
     let names = map instance_name (map instance_said is) in
-    let repeats = subst (λ (v : List declared_name.Name). RepeatsAt (map name_bytes v) i) c.deref.ensures.value c.in-Some.ensures in
+    let repeats = repeats-where c.deref.result.now c.in_ok-names.names.items c.in_ok-repeated.repeated i c.deref.ensures.value c.in-Some.is c.in_ok-repeated.ensures in
     let low = within instance_name instance_said is ns i c.in_ok-names.ensures repeats.0 in
     subst (λ (e : OrMemory UnfoldingFault). IfFault e (IsFaultOfInstances names (map instance_place is))) (sym c.refused.ensures) (
       refl,
@@ -38,4 +38,5 @@ returns-in-Some-clause-refused c =
 
 pub returns-clause-distinct : goal.returns-clause-distinct
 returns-clause-distinct c =
-    subst (λ (v : List Name). AreDistinct v) (ap (map name_bytes) c.deref.ensures.value ∙ c.in_ok-names.ensures) c.in_default.ensures
+    subst (λ (v : List Name). AreDistinct v) c.in_ok-names.ensures
+    (distinct-where c.deref.result.now c.in_ok-names.names.items c.in_ok-repeated.repeated c.deref.ensures.value c.in_default.is c.in_ok-repeated.ensures)

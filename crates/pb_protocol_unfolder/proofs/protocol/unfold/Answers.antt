@@ -12,6 +12,7 @@ use Rattle.pb_protocol_folding.specs.FoldedModels.{folded_model, folded_steps}
 use Rattle.pb_protocol_folding.specs.Names.{AreDistinct, AreNot, enumerators_in}
 use Rattle.pb_protocol_unfolding.specs.Unfolding as definitions
 use Rattle.pb_protocol_unfolding.specs.Unfolding.{name_of}
+use Rattle.pb_protocol_unfolder_steps.specs.declared.limits.TheConstants.{MAX_WRITTEN_STEPS}
 use Rattle.pb_protocol_unfolder_steps.specs.declared.instance.Instance as declared
 use Rattle.pb_protocol_unfolder_steps.specs.declared.element.Element as declared_element
 use Rattle.pb_protocol_unfolder_steps.specs.declared.step.UnfoldedSteps.{UnfoldedSteps}
@@ -75,7 +76,7 @@ new-requires c =
 
 pub unfold_steps-requires : goal.unfold_steps-requires
 unfold_steps-requires c =
-    subst (λ (xs : List declared.Instance). length xs ≤ 1024) (sym c.deref-5.ensures.value) (instances (goal.at.unfold_steps-requires c).In_ok-instances).few
+    subst (λ (xs : List declared.Instance). length xs ≤ MAX_WRITTEN_STEPS) (sym c.deref-5.ensures.value) (instances (goal.at.unfold_steps-requires c).In_ok-instances).few
 
 pub flat_model-requires-clause-left : goal.flat_model-requires-clause-left
 flat_model-requires-clause-left c =
@@ -154,7 +155,7 @@ pub returns-in_err-instances-clause-refused : goal.returns-in_err-instances-clau
 returns-in_err-instances-clause-refused c =
     let m = protocol_form c.args.protocol.now in
     refused c.from_residual-in_err-instances.result c.in_err-instances.field-0.0 (IsUnfoldingFault m) (IsUnfoldingFault m) c.from_residual-in_err-instances.ensures.1 (λ f is. is)
-    (err-raised (IsPassedIn 1024 (instance_places m)) (IsUnfoldingFault m) c.instances.result c.in_err-instances.field-0.0 c.in_err-instances.ensures.cases (instances-passed m)
+    (err-raised (IsPassedIn MAX_WRITTEN_STEPS (instance_places m)) (IsUnfoldingFault m) c.instances.result c.in_err-instances.field-0.0 c.in_err-instances.ensures.cases (instances-passed m)
     c.instances.ensures.refused)
 
 pub returns-in_err-check_elements-clause-refused : goal.returns-in_err-check_elements-clause-refused

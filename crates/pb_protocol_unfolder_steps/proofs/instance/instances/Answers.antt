@@ -3,6 +3,7 @@ use Rattle.pb_base.specs.OrMemory.{IfRefused}
 use Rattle.pb_text_tree.specs.declared.place.Place.{Place}
 use Rattle.pb_protocol_tree.specs.Form.{protocol_form}
 use Rattle.pb_protocol_unfolder_terms.specs.View.{spec_of}
+use Rattle.pb_protocol_unfolder_steps.specs.declared.limits.TheConstants.{MAX_WRITTEN_STEPS}
 use Rattle.pb_protocol_unfolder_steps.specs.Elements.{instances_of_steps}
 use Rattle.pb_protocol_unfolder_steps.specs.StepFaults.{forms_of_steps}
 use Rattle.pb_protocol_unfolder_steps.specs.Refusals.{IsPassedIn, places_of_steps}
@@ -22,7 +23,7 @@ returns-clause-instances c =
 
 pub returns-clause-refused : goal.returns-clause-refused
 returns-clause-refused c =
-    subst (λ (v : List Place). IfRefused c.instances_of.result (IsPassedIn 1024 v))
+    subst (λ (v : List Place). IfRefused c.instances_of.result (IsPassedIn MAX_WRITTEN_STEPS v))
     (ap (places_of_steps (spec_of c.sorts_of.result)) c.deref.ensures.value
     ∙ instance-places-said (spec_of c.sorts_of.result) c.args.protocol.now c.sorts_of.ensures)
     c.instances_of.ensures.refused

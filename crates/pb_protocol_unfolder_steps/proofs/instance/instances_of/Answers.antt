@@ -1,5 +1,6 @@
 use Rattle.std.proofs.Common.{◌+◌, length, refl}
 use Rattle.pb_protocol_unfolder_terms.specs.View.{spec_of}
+use Rattle.pb_protocol_unfolder_steps.specs.declared.limits.TheConstants.{MAX_WRITTEN_STEPS}
 use Rattle.pb_protocol_unfolder_steps.specs.Elements.{instances_of_step}
 use Rattle.pb_protocol_unfolder_steps.specs.Refusals.{IsPassed, IsPassedIn, instance_place, places_of_step, places_of_steps}
 use Rattle.pb_protocol_unfolder_steps.proofs.RefusalLemmas.{passed-in-all, refused}
@@ -13,7 +14,7 @@ returns-in_err-push_instances-clause-refused c =
     let now = c.loop-step.instances.items in
     let zs = instances_of_step spec a in
     let all = places_of_steps spec steps in
-    refused c.from_residual.result c.in_err-push_instances.field-0.0 (IsPassed 1024 (length now + length zs) a.name.place) (IsPassedIn 1024 all) c.from_residual.ensures.1
-    (λ f. passed-in-all instance_place (places_of_step spec) 1024 now all steps c.loop-step.step-index a a.name.place zs
+    refused c.from_residual.result c.in_err-push_instances.field-0.0 (IsPassed MAX_WRITTEN_STEPS (length now + length zs) a.name.place) (IsPassedIn MAX_WRITTEN_STEPS all) c.from_residual.ensures.1
+    (λ f. passed-in-all instance_place (places_of_step spec) MAX_WRITTEN_STEPS now all steps c.loop-step.step-index a a.name.place zs
     f c.loop-step-test.true c.step-item.is refl c.loop-step.invariant.places c.loop-step.invariant.few)
     c.in_err-push_instances.ensures.refused

@@ -1,6 +1,6 @@
 use Rattle.std.proofs.Common.{◌≡◌, ◌+◌, ◌/◌, ◌%◌, ◌++◌}
 use Rattle.std.specs.Prelude.{replicate}
-use Rattle.pb_protocol_groups.proofs.grouping.group_sizes.Given as goal
+use Rattle.pb_protocol_groups.proofs.counts.even_sizes.Given as goal
 
 abbrev pub invariant-loop : goal.invariant-loop
 invariant-loop l = l.sizes.items ≡ replicate l.counter (l.count / 8 + 1)
