@@ -19,6 +19,7 @@ use Rattle.clap.specs.declared.parser.matches.ArgMatches.{ArgMatches}
 use Rattle.clap.specs.declared.parser.matches.ArgMatches.TheViews.{out-ArgMatches, out-SubCommand}
 use Rattle.clap.proofs.OnLiterals.{clap_on_literals}
 use Rattle.pb_game.specs.declared.solver.Solver.TheVariants.{Zielonka}
+use Rattle.pb_sorts.specs.declared.counting.Counting.TheVariants.{Declared}
 use Rattle.pb_command_line.specs.declared.command.Command.{Command}
 use Rattle.pb_command_line.specs.declared.command.Command.TheVariants as command
 use Rattle.pb_command_line.specs.declared.request.Request.{Request}
@@ -26,7 +27,7 @@ use Rattle.pb_command_line.specs.declared.page.Page.TheVariants as page
 use Rattle.pb_command_line.specs.declared.request.Request.TheVariants.{Page, Check, Input}
 use Rattle.pb_command_line.specs.declared.request.Task.TheVariants as task
 use Rattle.pb_command_line.specs.Line.{command_line}
-use Rattle.pb_command_line.specs.Options.{HasOptions, IsChosenBy, IsSetBy, IsSolvingOf, IsWorkersOf}
+use Rattle.pb_command_line.specs.Options.{HasOptions, IsChosenBy, IsCountingOf, IsSetBy, IsSolvingOf, IsWorkersOf}
 use Rattle.pb_command_line.specs.declared.options.Solving.{Solving}
 use Rattle.pb_command_line.specs.declared.words.Usage.{Usage}
 use Rattle.pb_base.specs.OrMemory.{IfFault, OnRefused}
@@ -70,12 +71,15 @@ unset name = record { id = name; values = codes "false" ∷ []; count = None; so
 
 -- what it reads of a command's options where none stands
 no_option : Command → List Row
-no_option command.Solve = unset (codes "progress") ∷ []
-no_option command.Game = unset (codes "progress") ∷ []
-no_option command.Solution = unset (codes "progress") ∷ []
-no_option command.Certificate = unset (codes "progress") ∷ []
-no_option command.SolveCode = unset (codes "progress") ∷ []
-no_option command.Explain = unset (codes "progress") ∷ unset (codes "places") ∷ []
+no_option command.Solve = unset (codes "progress") ∷ unset (codes "reached") ∷ []
+no_option command.Game = unset (codes "progress") ∷ unset (codes "reached") ∷ []
+no_option command.Solution = unset (codes "progress") ∷ unset (codes "reached") ∷ []
+no_option command.Certificate = unset (codes "progress") ∷ unset (codes "reached") ∷ []
+no_option command.SolveCode = unset (codes "progress") ∷ unset (codes "reached") ∷ []
+no_option command.Explain = unset (codes "progress") ∷ unset (codes "places") ∷ unset (codes "reached") ∷ []
+no_option command.Compile = unset (codes "reached") ∷ []
+no_option command.Verify = unset (codes "reached") ∷ []
+no_option command.List = unset (codes "reached") ∷ []
 no_option command.Check = unset (codes "progress") ∷ unset (codes "status") ∷ unset (codes "counts") ∷ []
 no_option command.Why = unset (codes "progress") ∷ unset (codes "lines") ∷ []
 no_option _ = []
@@ -100,7 +104,7 @@ command_alone name command.Rule alone = absurd alone
 command_alone name command.Usage alone = refl
 command_alone name command.Version alone = refl
 
--- the request of a command alone: one worker, Zielonka's algorithm, no property and nothing more
+-- the request of a command alone: one worker, Zielonka's algorithm, what is declared counts, no property and nothing more
 plain_solving : Solving
 plain_solving = record { workers = 1; progress = false; solver = Zielonka; some = omega arith; few = omega arith }
 
@@ -109,15 +113,15 @@ no_words : Vec (String Global)
 no_words = record { ptr = null_ptr; len = 0; cap = 0; alloc = record { memory = record { seal = tt } }; items = []; ok = (refl, omega arith); small = omega arith }
 
 plain_request : (command : Command) → NeedsNoWord command → Request
-plain_request command.Solve alone = Input (task.Solve plain_solving)
-plain_request command.Game alone = Input (task.Game (record { workers = 1; progress = false; some = omega arith; few = omega arith }))
-plain_request command.Solution alone = Input (task.Solution plain_solving)
-plain_request command.Certificate alone = Input (task.Certificate plain_solving)
-plain_request command.Explain alone = Input (task.Explain (record { workers = 1; progress = false; places = false; some = omega arith; few = omega arith }))
-plain_request command.Compile alone = Input task.Compile
-plain_request command.Verify alone = Input task.Verify
-plain_request command.List alone = Input task.List
-plain_request command.SolveCode alone = Input (task.SolveCode plain_solving)
+plain_request command.Solve alone = Input (task.Solve plain_solving Declared)
+plain_request command.Game alone = Input (task.Game (record { workers = 1; progress = false; some = omega arith; few = omega arith }) Declared)
+plain_request command.Solution alone = Input (task.Solution plain_solving Declared)
+plain_request command.Certificate alone = Input (task.Certificate plain_solving Declared)
+plain_request command.Explain alone = Input (task.Explain (record { workers = 1; progress = false; places = false; some = omega arith; few = omega arith }) Declared)
+plain_request command.Compile alone = Input (task.Compile Declared)
+plain_request command.Verify alone = Input (task.Verify Declared)
+plain_request command.List alone = Input (task.List Declared)
+plain_request command.SolveCode alone = Input (task.SolveCode plain_solving Declared)
 plain_request command.Translate alone = Input (task.Translate (record { property = None; files = no_words }))
 plain_request command.Check alone = Check (record { solving = plain_solving; properties = no_words; status = false; counts = false; files = no_words })
 plain_request command.Why alone = Input (task.Why (record { workers = 1; progress = false; property = None; lines = false; files = no_words; some = omega arith; few = omega arith }))
@@ -127,6 +131,9 @@ plain_request command.Version alone = Page page.Version
 
 not_set : (word : Option (List ℕ)) → (word ≡ Some (codes "true") → ⊥) → IsSetBy word false
 not_set word untold = (λ told. absurd (cc told), λ told. absurd (untold told))
+
+declared_count : (word : Option (List ℕ)) → (word ≡ Some (codes "true") → ⊥) → IsCountingOf word Declared
+declared_count word untold = (λ reached. absurd (cc reached), λ told. absurd (untold told))
 
 not_told : {P : Type 0} → Some (codes "false") ≡ Some (codes "true") → P
 not_told told = absurd (cc told)
@@ -142,15 +149,15 @@ plain_solved rows no_workers no_solver untold = record {
 
 plain_read : (command : Command) (alone : NeedsNoWord command) → HasOptions (no_option command) (plain_request command alone)
 unfolding plain_request no_option unset no_words
-plain_read command.Solve alone = plain_solved (unset (codes "progress") ∷ []) refl refl not_told
-plain_read command.Game alone = record { workers = refl; progress = not_set _ not_told }
-plain_read command.Solution alone = plain_solved (unset (codes "progress") ∷ []) refl refl not_told
-plain_read command.Certificate alone = plain_solved (unset (codes "progress") ∷ []) refl refl not_told
-plain_read command.Explain alone = record { workers = refl; progress = not_set _ not_told; places = not_set _ not_told }
-plain_read command.Compile alone = tt
-plain_read command.Verify alone = tt
-plain_read command.List alone = tt
-plain_read command.SolveCode alone = plain_solved (unset (codes "progress") ∷ []) refl refl not_told
+plain_read command.Solve alone = (plain_solved (unset (codes "progress") ∷ unset (codes "reached") ∷ []) refl refl not_told, declared_count _ not_told)
+plain_read command.Game alone = (record { workers = refl; progress = not_set _ not_told }, declared_count _ not_told)
+plain_read command.Solution alone = (plain_solved (unset (codes "progress") ∷ unset (codes "reached") ∷ []) refl refl not_told, declared_count _ not_told)
+plain_read command.Certificate alone = (plain_solved (unset (codes "progress") ∷ unset (codes "reached") ∷ []) refl refl not_told, declared_count _ not_told)
+plain_read command.Explain alone = (record { workers = refl; progress = not_set _ not_told; places = not_set _ not_told }, declared_count _ not_told)
+plain_read command.Compile alone = declared_count _ not_told
+plain_read command.Verify alone = declared_count _ not_told
+plain_read command.List alone = declared_count _ not_told
+plain_read command.SolveCode alone = (plain_solved (unset (codes "progress") ∷ unset (codes "reached") ∷ []) refl refl not_told, declared_count _ not_told)
 plain_read command.Translate alone = record { property = refl; files = refl }
 plain_read command.Check alone =
     record {
@@ -208,30 +215,30 @@ none_named rows (Page shown) none has = refl
 none_named rows (Input (task.Translate o)) none has = ap option_to_list (has.property ∙ none.0)
 none_named rows (Check o) none has = has.properties ∙ none.1
 none_named rows (Input (task.Why o)) none has = ap option_to_list (has.property ∙ none.0)
-none_named rows (Input (task.Solve o)) none has = refl
-none_named rows (Input (task.Game o)) none has = refl
-none_named rows (Input (task.Solution o)) none has = refl
-none_named rows (Input (task.Certificate o)) none has = refl
-none_named rows (Input (task.Explain o)) none has = refl
-none_named rows (Input (task.SolveCode o)) none has = refl
-none_named rows (Input task.Compile) none has = refl
-none_named rows (Input task.Verify) none has = refl
-none_named rows (Input task.List) none has = refl
+none_named rows (Input (task.Solve o counting)) none has = refl
+none_named rows (Input (task.Game o counting)) none has = refl
+none_named rows (Input (task.Solution o counting)) none has = refl
+none_named rows (Input (task.Certificate o counting)) none has = refl
+none_named rows (Input (task.Explain o counting)) none has = refl
+none_named rows (Input (task.SolveCode o counting)) none has = refl
+none_named rows (Input (task.Compile counting)) none has = refl
+none_named rows (Input (task.Verify counting)) none has = refl
+none_named rows (Input (task.List counting)) none has = refl
 
 no_files : (rows : List Row) (request : Request) → NamesNone rows → HasOptions rows request → named_files request ≡ []
 no_files rows (Page shown) none has = refl
 no_files rows (Input (task.Translate o)) none has = has.files ∙ none.2
 no_files rows (Check o) none has = has.files ∙ none.2
 no_files rows (Input (task.Why o)) none has = has.files ∙ none.2
-no_files rows (Input (task.Solve o)) none has = refl
-no_files rows (Input (task.Game o)) none has = refl
-no_files rows (Input (task.Solution o)) none has = refl
-no_files rows (Input (task.Certificate o)) none has = refl
-no_files rows (Input (task.Explain o)) none has = refl
-no_files rows (Input (task.SolveCode o)) none has = refl
-no_files rows (Input task.Compile) none has = refl
-no_files rows (Input task.Verify) none has = refl
-no_files rows (Input task.List) none has = refl
+no_files rows (Input (task.Solve o counting)) none has = refl
+no_files rows (Input (task.Game o counting)) none has = refl
+no_files rows (Input (task.Solution o counting)) none has = refl
+no_files rows (Input (task.Certificate o counting)) none has = refl
+no_files rows (Input (task.Explain o counting)) none has = refl
+no_files rows (Input (task.SolveCode o counting)) none has = refl
+no_files rows (Input (task.Compile counting)) none has = refl
+no_files rows (Input (task.Verify counting)) none has = refl
+no_files rows (Input (task.List counting)) none has = refl
 
 no_names : (command : Command) → NeedsNoWord command → NamesNone (no_option command)
 unfolding no_option unset

@@ -1,5 +1,5 @@
 -- The command line as clap reads it.
-use Rattle.std.specs.Prelude.{◌≡◌, ℕ, false, true, List, [], ◌∷◌, Some, codes}
+use Rattle.std.specs.Prelude.{◌≡◌, ℕ, false, true, List, [], ◌∷◌, ◌++◌, Some, codes}
 use Rattle.clap.specs.declared.builder.action.ArgAction.TheVariants.{Append, SetTrue}
 use Rattle.clap.specs.declared.builder.arg.Arg.{Arg}
 use Rattle.clap.specs.declared.builder.command.Command.{Command}
@@ -58,6 +58,11 @@ abbrev pub progress_rule : Rule
 progress_rule =
     record (new_rule (codes "progress")) { long = Some (codes "progress"); action = Some SetTrue }
 
+-- `--reached`, with no word behind it
+abbrev pub reached_rule : Rule
+reached_rule =
+    record (new_rule (codes "reached")) { long = Some (codes "reached"); action = Some SetTrue }
+
 -- words after the command, any number of them
 abbrev pub files_rule : Rule
 files_rule = record (new_rule (codes "file")) { action = Some Append }
@@ -83,6 +88,10 @@ explaining_shape name =
 abbrev pub solving_shape : List ℕ → Shape
 solving_shape name =
     record (new_shape name) { rules = workers_rule ∷ progress_rule ∷ solver_rule ∷ [] }
+
+-- a command that takes `--reached` beside its other options
+abbrev pub counting_shape : Shape → Shape
+counting_shape command = record command { rules = command.rules ++ reached_rule ∷ [] }
 
 -- a command with `--property`, and files
 abbrev pub translating_shape : List ℕ → Shape
@@ -111,23 +120,29 @@ rule_shape name = record (new_shape name) { rules = number_rule ∷ [] }
 abbrev pub usage_shape : List ℕ → Shape
 usage_shape name = record (new_shape name) { rules = topic_rule ∷ [] }
 
--- the program, which needs a command, and the commands of texts
+-- the program without its commands, of which it needs one
+abbrev pub bare_program : App
+bare_program = on_top (λ s. record s { subcommand_required = true }) (new_app (codes "pbsolve"))
+
+-- the program, and the commands of texts
 abbrev pub text_commands : App
 text_commands =
-    let bare = on_top (λ s. record s { subcommand_required = true }) (new_app (codes "pbsolve")) in
-    let solve = with_subcommand bare (solving_shape (codes "solve")) in
-    let game = with_subcommand solve (exploring_shape (codes "game")) in
-    let solution = with_subcommand game (solving_shape (codes "solution")) in
-    let certificate = with_subcommand solution (solving_shape (codes "certificate")) in
-    let explain = with_subcommand certificate (explaining_shape (codes "explain")) in
-    with_subcommand explain (new_shape (codes "compile"))
+    let solve = with_subcommand bare_program (counting_shape (solving_shape (codes "solve"))) in
+    let game = with_subcommand solve (counting_shape (exploring_shape (codes "game"))) in
+    let solution = with_subcommand game (counting_shape (solving_shape (codes "solution"))) in
+    let certificate =
+    with_subcommand solution (counting_shape (solving_shape (codes "certificate"))) in
+    let explain =
+    with_subcommand certificate (counting_shape (explaining_shape (codes "explain"))) in
+    with_subcommand explain (counting_shape (new_shape (codes "compile")))
 
 -- the command line, as clap reads it
 abbrev pub command_line : App
 command_line =
-    let verify = with_subcommand text_commands (new_shape (codes "verify")) in
-    let listing = with_subcommand verify (new_shape (codes "list")) in
-    let solve_code = with_subcommand listing (solving_shape (codes "solve-code")) in
+    let verify = with_subcommand text_commands (counting_shape (new_shape (codes "verify"))) in
+    let listing = with_subcommand verify (counting_shape (new_shape (codes "list"))) in
+    let solve_code =
+    with_subcommand listing (counting_shape (solving_shape (codes "solve-code"))) in
     let translate = with_subcommand solve_code (translating_shape (codes "translate")) in
     let check = with_subcommand translate (checking_shape (codes "check")) in
     let why = with_subcommand check (showing_shape (codes "why")) in

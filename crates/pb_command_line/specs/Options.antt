@@ -4,6 +4,8 @@ use Rattle.std.specs.Str.Parse.{IsNumeral, digits_value, without_leading_plus}
 use Rattle.std.specs.Prelude.{String, Vec}
 use Rattle.std.specs.declared.alloc.Global.{Global}
 use Rattle.clap.specs.Walk.{Row, all_of, first_of}
+use Rattle.pb_sorts.specs.declared.counting.Counting.{Counting}
+use Rattle.pb_sorts.specs.declared.counting.Counting.TheVariants.{Reached}
 use Rattle.pb_game.specs.declared.solver.Solver.{Solver}
 use Rattle.pb_game.specs.declared.solver.Solver.TheVariants.{Zielonka}
 use Rattle.pb_game.specs.SolverNames.{solver_name}
@@ -39,6 +41,10 @@ IsChosenBy (Some word) solver = word ≡ solver_name solver
 -- an option without a word is set where clap reads `true`
 abbrev pub IsSetBy : Option (List ℕ) → Bool → Type 0
 IsSetBy word flag = IsTrue flag ↔ (word ≡ Some (codes "true"))
+
+-- the reached instances count exactly where clap reads `true`, and else those that are declared
+abbrev pub IsCountingOf : Option (List ℕ) → Counting → Type 0
+IsCountingOf word counting = (counting ≡ Reached) ↔ (word ≡ Some (codes "true"))
 
 -- the values that clap reads for an option, or the words after the command, in order
 abbrev pub AreWordsAt : List ℕ → List Row → Vec (String Global) Global → Type 0
@@ -83,6 +89,10 @@ pub record IsShowingOf (rows : List Row) (o : Showing) : Type 0 where
   pub lines : IsSetBy (first_of (codes "lines") rows) o.lines
   pub files : AreWordsAt (codes "file") rows o.files
 
+-- which instances count, of a command on texts or modules
+abbrev pub HasCounting : List Row → Counting → Type 0
+HasCounting rows counting = IsCountingOf (first_of (codes "reached") rows) counting
+
 -- the rule has the number that stands behind the command
 abbrev pub IsRuleOf : List Row → rules.Rule → Type 0
 IsRuleOf rows rule = option_and_then rule_of (first_of (codes "number") rows) ≡ Some rule
@@ -101,14 +111,14 @@ IsPageOf rows page.Version = ⊤
 abbrev pub HasOptions : List Row → Request → Type 0
 HasOptions rows (Page page) = IsPageOf rows page
 HasOptions rows (Check o) = IsCheckingOf rows o
-HasOptions rows (Input (Solve o)) = IsSolvingOf rows o
-HasOptions rows (Input (Game o)) = IsExploringOf rows o
-HasOptions rows (Input (Solution o)) = IsSolvingOf rows o
-HasOptions rows (Input (Certificate o)) = IsSolvingOf rows o
-HasOptions rows (Input (Explain o)) = IsExplainingOf rows o
-HasOptions rows (Input Compile) = ⊤
-HasOptions rows (Input Verify) = ⊤
-HasOptions rows (Input ListModule) = ⊤
-HasOptions rows (Input (SolveCode o)) = IsSolvingOf rows o
+HasOptions rows (Input (Solve o counting)) = IsSolvingOf rows o × HasCounting rows counting
+HasOptions rows (Input (Game o counting)) = IsExploringOf rows o × HasCounting rows counting
+HasOptions rows (Input (Solution o counting)) = IsSolvingOf rows o × HasCounting rows counting
+HasOptions rows (Input (Certificate o counting)) = IsSolvingOf rows o × HasCounting rows counting
+HasOptions rows (Input (Explain o counting)) = IsExplainingOf rows o × HasCounting rows counting
+HasOptions rows (Input (Compile counting)) = HasCounting rows counting
+HasOptions rows (Input (Verify counting)) = HasCounting rows counting
+HasOptions rows (Input (ListModule counting)) = HasCounting rows counting
+HasOptions rows (Input (SolveCode o counting)) = IsSolvingOf rows o × HasCounting rows counting
 HasOptions rows (Input (Translate o)) = IsTranslatingOf rows o
 HasOptions rows (Input (Why o)) = IsShowingOf rows o

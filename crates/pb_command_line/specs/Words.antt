@@ -29,15 +29,15 @@ words_error_of _ = Refused (record {})
 
 -- the command of a task
 abbrev pub command_of_task : Task → Command
-command_of_task (Solve o) = command.Solve
-command_of_task (Game o) = command.Game
-command_of_task (Solution o) = command.Solution
-command_of_task (Certificate o) = command.Certificate
-command_of_task (Explain o) = command.Explain
-command_of_task Compile = command.Compile
-command_of_task Verify = command.Verify
-command_of_task ListModule = command.List
-command_of_task (SolveCode o) = command.SolveCode
+command_of_task (Solve o counting) = command.Solve
+command_of_task (Game o counting) = command.Game
+command_of_task (Solution o counting) = command.Solution
+command_of_task (Certificate o counting) = command.Certificate
+command_of_task (Explain o counting) = command.Explain
+command_of_task (Compile counting) = command.Compile
+command_of_task (Verify counting) = command.Verify
+command_of_task (ListModule counting) = command.List
+command_of_task (SolveCode o counting) = command.SolveCode
 command_of_task (Translate o) = command.Translate
 command_of_task (Why o) = command.Why
 
@@ -67,15 +67,15 @@ property_names (Input task) = task_names task
 
 -- whether progress is printed
 abbrev pub task_shows_progress : Task → Bool
-task_shows_progress (Solve o) = o.progress
-task_shows_progress (Game o) = o.progress
-task_shows_progress (Solution o) = o.progress
-task_shows_progress (Certificate o) = o.progress
-task_shows_progress (Explain o) = o.progress
-task_shows_progress Compile = false
-task_shows_progress Verify = false
-task_shows_progress ListModule = false
-task_shows_progress (SolveCode o) = o.progress
+task_shows_progress (Solve o counting) = o.progress
+task_shows_progress (Game o counting) = o.progress
+task_shows_progress (Solution o counting) = o.progress
+task_shows_progress (Certificate o counting) = o.progress
+task_shows_progress (Explain o counting) = o.progress
+task_shows_progress (Compile counting) = false
+task_shows_progress (Verify counting) = false
+task_shows_progress (ListModule counting) = false
+task_shows_progress (SolveCode o counting) = o.progress
 task_shows_progress (Translate o) = false
 task_shows_progress (Why o) = o.progress
 

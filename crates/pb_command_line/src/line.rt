@@ -2,7 +2,9 @@
 ghost use Rattle.std.specs.Prelude.{◌≡◌, IfOk};
 ghost use Rattle.clap.specs.Simple.{App, Shape, app_of, new_shape, with_subcommand};
 ghost use Rattle.pb_command_line.specs.Line.{IsOwnCommand, IsOwnOption};
-ghost use Rattle.pb_command_line.specs.Line.{checking_shape, command_line, exploring_shape};
+ghost use Rattle.pb_command_line.specs.Line.{bare_program, checking_shape, command_line};
+ghost use Rattle.pb_command_line.specs.Line.{counting_shape};
+ghost use Rattle.pb_command_line.specs.Line.{exploring_shape, reached_rule};
 ghost use Rattle.pb_command_line.specs.Line.{explaining_shape, rule_shape, showing_shape};
 ghost use Rattle.pb_command_line.specs.Line.{solving_shape, translating_shape, usage_shape};
 ghost use Rattle.pb_command_line.specs.Line.{counts_rule, files_rule, lines_rule, number_rule};
@@ -87,6 +89,15 @@ fn counts_option<'a>(alloc: Global) -> Arg<'a>
         .action(ArgAction::SetTrue)
 }
 
+// The option `--reached`, with no word behind it.
+fn reached_option<'a>(alloc: Global) -> Arg<'a>
+    ensures { IsOwnOption reached_rule result }
+{
+    Arg::new(alloc, "reached")
+        .long("reached")
+        .action(ArgAction::SetTrue)
+}
+
 // The files, of which there may be any number.
 fn file_words<'a>(alloc: Global) -> Arg<'a>
     ensures { IsOwnOption files_rule result }
@@ -138,6 +149,17 @@ fn solving<'a>(alloc: Global, name: &'a str) -> Result<clap::Command<'a>, AllocE
     exploring(alloc, name)?.arg(solver_option(alloc))
 }
 
+// A command that takes `--reached` beside its other options.
+fn counting<'a>(
+    alloc: Global,
+    command: Result<clap::Command<'a>, AllocError>,
+) -> Result<clap::Command<'a>, AllocError>
+    ensures { (shape : Shape) → IfOk command.entry (IsOwnCommand shape)
+        → IfOk result (IsOwnCommand (counting_shape shape)) }
+{
+    command?.arg(reached_option(alloc))
+}
+
 // A command that takes the name of a property, and files.
 fn translating<'a>(alloc: Global, name: &'a str) -> Result<clap::Command<'a>, AllocError>
     ensures { IfOk result (IsOwnCommand (translating_shape name.now)) }
@@ -184,6 +206,13 @@ fn usage<'a>(alloc: Global, name: &'a str) -> Result<clap::Command<'a>, AllocErr
     plain(alloc, name).arg(topic_word(alloc))
 }
 
+// The program without its commands, of which it needs one.
+fn bare_program<'a>(alloc: Global) -> clap::Command<'a>
+    ensures { app_of result ≡ bare_program }
+{
+    clap::Command::new(alloc, "pbsolve").subcommand_required(true)
+}
+
 // A command line with one more command, where memory was refused for neither: so a line of many
 // commands has one way out, here.
 fn with<'a>(
@@ -201,16 +230,16 @@ fn with<'a>(
 pub(crate) fn command_line<'a>(alloc: Global) -> Result<clap::Command<'a>, AllocError>
     ensures { IfOk result (λ c. app_of c ≡ command_line) }
 {
-    let line = Ok(clap::Command::new(alloc, "pbsolve").subcommand_required(true));
-    let line = with(line, solving(alloc, "solve"));
-    let line = with(line, exploring(alloc, "game"));
-    let line = with(line, solving(alloc, "solution"));
-    let line = with(line, solving(alloc, "certificate"));
-    let line = with(line, explaining(alloc, "explain"));
-    let line = with(line, Ok(plain(alloc, "compile")));
-    let line = with(line, Ok(plain(alloc, "verify")));
-    let line = with(line, Ok(plain(alloc, "list")));
-    let line = with(line, solving(alloc, "solve-code"));
+    let line = Ok(bare_program(alloc));
+    let line = with(line, counting(alloc, solving(alloc, "solve")));
+    let line = with(line, counting(alloc, exploring(alloc, "game")));
+    let line = with(line, counting(alloc, solving(alloc, "solution")));
+    let line = with(line, counting(alloc, solving(alloc, "certificate")));
+    let line = with(line, counting(alloc, explaining(alloc, "explain")));
+    let line = with(line, counting(alloc, Ok(plain(alloc, "compile"))));
+    let line = with(line, counting(alloc, Ok(plain(alloc, "verify"))));
+    let line = with(line, counting(alloc, Ok(plain(alloc, "list"))));
+    let line = with(line, counting(alloc, solving(alloc, "solve-code")));
     let line = with(line, translating(alloc, "translate"));
     let line = with(line, checking(alloc, "check"));
     let line = with(line, showing(alloc, "why"));

@@ -14,6 +14,7 @@ ghost use Rattle.pb_command_line.specs.declared.options.Exploring.{Exploring};
 ghost use Rattle.pb_command_line.specs.declared.options.Showing.{Showing};
 ghost use Rattle.pb_command_line.specs.declared.options.Solving.{Solving};
 ghost use Rattle.pb_command_line.specs.Options.{AreWordsAt, IsCheckingOf, IsChosenBy};
+ghost use Rattle.pb_command_line.specs.Options.{IsCountingOf};
 ghost use Rattle.pb_command_line.specs.Options.{IsExplainingOf};
 ghost use Rattle.pb_command_line.specs.Options.{IsExploringOf, IsRuleOf, IsSetBy, IsShowingOf};
 ghost use Rattle.pb_command_line.specs.Options.{IsSolvingOf, IsTranslatingOf, IsUsageOf};
@@ -26,6 +27,7 @@ use clap::ArgMatches;
 use pb_base::OrMemory;
 use pb_command_rules::Rule;
 use pb_game::Solver;
+use pb_sorts::Counting;
 use std::alloc::{AllocError, Global};
 
 // The word of an option, the first where there are several.
@@ -73,6 +75,18 @@ fn is_set(options: &ArgMatches, name: &str) -> bool
     ensures { IsSetBy (first_of name.now (rows_of (found_of options.now))) result }
 {
     word_of(options, name) == Some("true")
+}
+
+/// Which instances count against the limit: the reached ones where the option says so, and else all
+/// that are declared.
+pub(crate) fn counting_of(options: &ArgMatches) -> Counting
+    ensures { IsCountingOf (first_of (codes "reached") (rows_of (found_of options.now))) result }
+{
+    if is_set(options, "reached") {
+        Counting::Reached
+    } else {
+        Counting::Declared
+    }
 }
 
 // The property that a command is told of.

@@ -3,6 +3,7 @@ ghost use Rattle.std.specs.Prelude.{◌≡◌, map, string_bytes};
 
 use crate::options::{Checking, Explaining, Exploring, Showing, Solving, Translating};
 use crate::page::Page;
+use pb_sorts::Counting;
 
 /// What the program is asked.
 #[derive(Drop)]
@@ -52,18 +53,19 @@ impl Request {
     }
 }
 
-/// What is asked of an input but for verdicts: a command, with the options that it takes.
+/// What is asked of an input but for verdicts: a command, with the options that it takes; where the
+/// input is a text or a module, also which of its instances count against the limit.
 #[derive(Drop)]
 pub enum Task {
-    Solve(Solving),
-    Game(Exploring),
-    Solution(Solving),
-    Certificate(Solving),
-    Explain(Explaining),
-    Compile,
-    Verify,
-    List,
-    SolveCode(Solving),
+    Solve(Solving, Counting),
+    Game(Exploring, Counting),
+    Solution(Solving, Counting),
+    Certificate(Solving, Counting),
+    Explain(Explaining, Counting),
+    Compile(Counting),
+    Verify(Counting),
+    List(Counting),
+    SolveCode(Solving, Counting),
     Translate(Translating),
     Why(Showing),
 }
@@ -76,14 +78,14 @@ impl Task {
         ensures { result ≡ task_shows_progress self.now }
     {
         match self {
-            Task::Solve(options) => options.progress,
-            Task::Game(options) => options.progress,
-            Task::Solution(options) => options.progress,
-            Task::Certificate(options) => options.progress,
-            Task::Explain(options) => options.progress,
-            Task::SolveCode(options) => options.progress,
+            Task::Solve(options, _) => options.progress,
+            Task::Game(options, _) => options.progress,
+            Task::Solution(options, _) => options.progress,
+            Task::Certificate(options, _) => options.progress,
+            Task::Explain(options, _) => options.progress,
+            Task::SolveCode(options, _) => options.progress,
             Task::Why(options) => options.progress,
-            Task::Compile | Task::Verify | Task::List => false,
+            Task::Compile(_) | Task::Verify(_) | Task::List(_) => false,
             Task::Translate(_) => false,
         }
     }

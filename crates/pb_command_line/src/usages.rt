@@ -77,73 +77,94 @@ Input: a model\n\
 Output: a property as a text: the one that is named, or the first\n\
 --property NAME: only this property; check accepts the option more than once\n";
 
-pub const SOLVE_USAGE: &str = "pbsolve solve [--workers N] [--solver NAME] [--progress] < \
-INPUT\n\
+pub const SOLVE_USAGE: &str = "pbsolve solve [--workers N] [--solver NAME] [--reached] \
+[--progress] < INPUT\n\
 Input: a text\n\
 Output: the report\n\
 --workers N: explore by at most N threads, 1 to 16 (1 if not given); the output\n  \
 is the same\n\
 --solver NAME: solve the game by this algorithm: zielonka (if not given) or lift\n\
+--reached: count only the instances that are reached, as memory holds them: up\n  \
+to 2^62 may be declared over all ranges (2^22, reached or not, if not given)\n\
 --progress: print lines about long work on standard error: after each 2^18\n  \
 instances explored, and when building, solving and checking begin\n";
 
-pub const GAME_USAGE: &str = "pbsolve game [--workers N] [--progress] < INPUT\n\
+pub const GAME_USAGE: &str = "pbsolve game [--workers N] [--reached] [--progress] < INPUT\n\
 Input: a text\n\
 Output: the parity game of the reached instances, for PGSolver or oink\n\
 --workers N: explore by at most N threads, 1 to 16 (1 if not given); the output\n  \
 is the same\n\
+--reached: count only the instances that are reached, as memory holds them: up\n  \
+to 2^62 may be declared over all ranges (2^22, reached or not, if not given)\n\
 --progress: print lines about long work on standard error: after each 2^18\n  \
 instances explored, and when building, solving and checking begin\n";
 
 pub const CERTIFICATE_USAGE: &str = "pbsolve certificate [--workers N] [--solver NAME] \
-[--progress] < INPUT\n\
+[--reached] [--progress]\n  \
+< INPUT\n\
 Input: a text\n\
 Output: who wins the game of the reached instances, and by which strategies\n\
 --workers N: explore by at most N threads, 1 to 16 (1 if not given); the output\n  \
 is the same\n\
 --solver NAME: solve the game by this algorithm: zielonka (if not given) or lift\n\
+--reached: count only the instances that are reached, as memory holds them: up\n  \
+to 2^62 may be declared over all ranges (2^22, reached or not, if not given)\n\
 --progress: print lines about long work on standard error: after each 2^18\n  \
 instances explored, and when building, solving and checking begin\n";
 
-pub const SOLUTION_USAGE: &str = "pbsolve solution [--workers N] [--solver NAME] [--progress] < \
-INPUT\n\
+pub const SOLUTION_USAGE: &str = "pbsolve solution [--workers N] [--solver NAME] [--reached] \
+[--progress] < INPUT\n\
 Input: a text\n\
 Output: whether each reached instance is true\n\
 --workers N: explore by at most N threads, 1 to 16 (1 if not given); the output\n  \
 is the same\n\
 --solver NAME: solve the game by this algorithm: zielonka (if not given) or lift\n\
+--reached: count only the instances that are reached, as memory holds them: up\n  \
+to 2^62 may be declared over all ranges (2^22, reached or not, if not given)\n\
 --progress: print lines about long work on standard error: after each 2^18\n  \
 instances explored, and when building, solving and checking begin\n";
 
-pub const EXPLAIN_USAGE: &str = "pbsolve explain [--workers N] [--places] [--progress] < INPUT\n\
+pub const EXPLAIN_USAGE: &str = "pbsolve explain [--workers N] [--places] [--reached] \
+[--progress] < INPUT\n\
 Input: a text\n\
 Output: evidence for the answer, from part of the instances where that is enough\n\
 --workers N: explore by at most N threads, 1 to 16 (1 if not given); the output\n  \
 is the same\n\
 --places: after each instance that a line names print @ and the position of its\n  \
 call in the text\n\
+--reached: count only the instances that are reached, as memory holds them: up\n  \
+to 2^62 may be declared over all ranges (2^22, reached or not, if not given)\n\
 --progress: print lines about long work on standard error: after each 2^18\n  \
 instances explored, and when building, solving and checking begin\n";
 
-pub const COMPILE_USAGE: &str = "pbsolve compile < INPUT\n\
+pub const COMPILE_USAGE: &str = "pbsolve compile [--reached] < INPUT\n\
 Input: a text\n\
-Output: its compiled module, in bytes\n";
+Output: its compiled module, in bytes\n\
+--reached: count only the instances that are reached, as memory holds them: up\n  \
+to 2^62 may be declared over all ranges (2^22, reached or not, if not given)\n";
 
-pub const VERIFY_USAGE: &str = "pbsolve verify < INPUT\n\
+pub const VERIFY_USAGE: &str = "pbsolve verify [--reached] < INPUT\n\
 Input: a module\n\
-Output: accepted\n";
+Output: accepted\n\
+--reached: count only the instances that are reached, as memory holds them: up\n  \
+to 2^62 may be declared over all ranges (2^22, reached or not, if not given)\n";
 
-pub const LIST_USAGE: &str = "pbsolve list < INPUT\n\
+pub const LIST_USAGE: &str = "pbsolve list [--reached] < INPUT\n\
 Input: a module, accepted or not\n\
-Output: its listing\n";
+Output: its listing\n\
+--reached: count only the instances that are reached, as memory holds them: up\n  \
+to 2^62 may be declared over all ranges (2^22, reached or not, if not given)\n";
 
 pub const SOLVE_CODE_USAGE: &str = "pbsolve solve-code [--workers N] [--solver NAME] \
-[--progress] < INPUT\n\
+[--reached] [--progress]\n  \
+< INPUT\n\
 Input: a module\n\
 Output: the report\n\
 --workers N: explore by at most N threads, 1 to 16 (1 if not given); the output\n  \
 is the same\n\
 --solver NAME: solve the game by this algorithm: zielonka (if not given) or lift\n\
+--reached: count only the instances that are reached, as memory holds them: up\n  \
+to 2^62 may be declared over all ranges (2^22, reached or not, if not given)\n\
 --progress: print lines about long work on standard error: after each 2^18\n  \
 instances explored, and when building, solving and checking begin\n";
 

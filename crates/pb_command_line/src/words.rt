@@ -1,5 +1,5 @@
 //! The words of the command line.
-ghost use Rattle.std.specs.Prelude.{◌≡◌, ℕ, List, [], map, IfOk};
+ghost use Rattle.std.specs.Prelude.{◌≡◌, ℕ, List, [], map, IfOk, MatchOption, IsSomeAnd, None};
 ghost use Rattle.clap.specs.Faults.{fault_of};
 ghost use Rattle.clap.specs.Matches.{found_of};
 ghost use Rattle.clap.specs.Walk.{rows_of};
@@ -18,13 +18,14 @@ use crate::command::Command;
 use crate::line::command_line;
 use crate::page::Page;
 use crate::read::{
-    checking_of, explaining_of, exploring_of, rule_of, showing_of, solving_of, translating_of,
-    usage_of,
+    checking_of, counting_of, explaining_of, exploring_of, rule_of, showing_of, solving_of,
+    translating_of, usage_of,
 };
 use crate::request::{Request, Task};
 use clap::error::ErrorKind;
 use clap::{ArgMatches, Error};
 use pb_base::{Fault, OrMemory};
+use pb_sorts::Counting;
 use std::alloc::Global;
 use std::convert::AsStr;
 
@@ -48,6 +49,22 @@ fn words_error(error: Error) -> WordsError
     }
 }
 
+// What a command asks with options that could be read, and by which instances count.
+fn counted<T, F: FnOnce(T, Counting) -> Task>(
+    options: Option<T>,
+    counting: Counting,
+    task: F,
+) -> Option<Task>
+    requires { F.IsAlwaysCallable task }
+    ensures { MatchOption options (result ≡ None)
+        (λ read. IsSomeAnd result (F.post task read counting)) }
+{
+    match options {
+        Some(options) => Some(task(options, counting)),
+        None => None,
+    }
+}
+
 // What a command asks with its options. Each command that takes options needs some that can be
 // read.
 fn request_for(alloc: Global, command: Command, options: &ArgMatches) -> Result<Request, WordsError>
@@ -56,16 +73,17 @@ fn request_for(alloc: Global, command: Command, options: &ArgMatches) -> Result<
     ensures none { OnRefused result ((request : Request) → command_of request ≡ command
         → HasOptions (rows_of (found_of options.now)) request → ⊥) }
 {
+    let counting = counting_of(options);
     let task = match command {
-        Command::Solve => solving_of(options).map(Task::Solve),
-        Command::Game => exploring_of(options).map(Task::Game),
-        Command::Solution => solving_of(options).map(Task::Solution),
-        Command::Certificate => solving_of(options).map(Task::Certificate),
-        Command::Explain => explaining_of(options).map(Task::Explain),
-        Command::Compile => Some(Task::Compile),
-        Command::Verify => Some(Task::Verify),
-        Command::List => Some(Task::List),
-        Command::SolveCode => solving_of(options).map(Task::SolveCode),
+        Command::Solve => counted(solving_of(options), counting, Task::Solve),
+        Command::Game => counted(exploring_of(options), counting, Task::Game),
+        Command::Solution => counted(solving_of(options), counting, Task::Solution),
+        Command::Certificate => counted(solving_of(options), counting, Task::Certificate),
+        Command::Explain => counted(explaining_of(options), counting, Task::Explain),
+        Command::Compile => Some(Task::Compile(counting)),
+        Command::Verify => Some(Task::Verify(counting)),
+        Command::List => Some(Task::List(counting)),
+        Command::SolveCode => counted(solving_of(options), counting, Task::SolveCode),
         Command::Translate => Some(Task::Translate(translating_of(alloc, options)?)),
         Command::Check => return Ok(Request::Check(checking_of(alloc, options)?)),
         Command::Why => Some(Task::Why(showing_of(alloc, options)?)),

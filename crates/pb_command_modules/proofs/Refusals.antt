@@ -9,6 +9,7 @@ use Rattle.pb_command_faults.specs.declared.solve_fault.SolveFault.{SolveFault}
 use Rattle.pb_command_faults.specs.declared.solve_fault.SolveFault.TheVariants as solve_fault
 use Rattle.pb_command_faults.specs.Errors.{IfInputRefused, joins_into}
 use Rattle.pb_command_faults.proofs.HandedUp.{refused_up}
+use Rattle.pb_sorts.specs.declared.counting.Counting.{Counting}
 use Rattle.pb_bytecode.specs.Contents.{Contents}
 use Rattle.pb_game_of_trees.specs.declared.tree_game.TooManyVertices.{TooManyVertices}
 use Rattle.pb_command_solver.specs.Answers.{IsTooLarge}
@@ -17,37 +18,37 @@ use Rattle.pb_command_modules.specs.Refusals.{IsRefusedModule, IsUnlisted, IsUnv
 
 -- ---- from a command to those that do more
 
-pub unlisted : (bytes : List ℕ) (f : SolveFault) → IsUnlisted bytes f → IsUnverified bytes f
-unlisted bytes (solve_fault.Acceptance fault) h = absurd h
-unlisted bytes solve_fault.TooManyVertices h = h
-unlisted bytes solve_fault.NoProperty h = h
-unlisted bytes (solve_fault.Property fault) h = h
-unlisted bytes (solve_fault.Text fault) h = h
-unlisted bytes (solve_fault.Typing fault) h = h
-unlisted bytes (solve_fault.Limit excess) h = h
-unlisted bytes (solve_fault.Module fault) h = h
+pub unlisted : (counting : Counting) (bytes : List ℕ) (f : SolveFault) → IsUnlisted counting bytes f → IsUnverified counting bytes f
+unlisted counting bytes (solve_fault.Acceptance fault) h = absurd h
+unlisted counting bytes solve_fault.TooManyVertices h = h
+unlisted counting bytes solve_fault.NoProperty h = h
+unlisted counting bytes (solve_fault.Property fault) h = h
+unlisted counting bytes (solve_fault.Text fault) h = h
+unlisted counting bytes (solve_fault.Typing fault) h = h
+unlisted counting bytes (solve_fault.Limit excess) h = h
+unlisted counting bytes (solve_fault.Module fault) h = h
 
-pub unverified : (bytes : List ℕ) (f : SolveFault) → IsUnverified bytes f → IsRefusedBytes bytes f
-unverified bytes solve_fault.TooManyVertices h = absurd h
-unverified bytes solve_fault.NoProperty h = h
-unverified bytes (solve_fault.Property fault) h = h
-unverified bytes (solve_fault.Text fault) h = h
-unverified bytes (solve_fault.Typing fault) h = h
-unverified bytes (solve_fault.Limit excess) h = h
-unverified bytes (solve_fault.Module fault) h = h
-unverified bytes (solve_fault.Acceptance fault) h = h
+pub unverified : (counting : Counting) (bytes : List ℕ) (f : SolveFault) → IsUnverified counting bytes f → IsRefusedBytes counting bytes f
+unverified counting bytes solve_fault.TooManyVertices h = absurd h
+unverified counting bytes solve_fault.NoProperty h = h
+unverified counting bytes (solve_fault.Property fault) h = h
+unverified counting bytes (solve_fault.Text fault) h = h
+unverified counting bytes (solve_fault.Typing fault) h = h
+unverified counting bytes (solve_fault.Limit excess) h = h
+unverified counting bytes (solve_fault.Module fault) h = h
+unverified counting bytes (solve_fault.Acceptance fault) h = h
 
 -- ---- what is refused of a module is refused of the bytes that spell it
 
-pub module_of_code_refused : (bytes : List ℕ) (m : Contents) → IsModuleOfCode bytes m → (f : SolveFault) → IsRefusedModule m f → IsRefusedBytes bytes f
-module_of_code_refused bytes m of_code solve_fault.TooManyVertices h = (m, of_code, h)
-module_of_code_refused bytes m of_code solve_fault.NoProperty h = absurd h
-module_of_code_refused bytes m of_code (solve_fault.Property fault) h = absurd h
-module_of_code_refused bytes m of_code (solve_fault.Text fault) h = absurd h
-module_of_code_refused bytes m of_code (solve_fault.Typing fault) h = absurd h
-module_of_code_refused bytes m of_code (solve_fault.Limit excess) h = absurd h
-module_of_code_refused bytes m of_code (solve_fault.Module fault) h = absurd h
-module_of_code_refused bytes m of_code (solve_fault.Acceptance fault) h = absurd h
+pub module_of_code_refused : (counting : Counting) (bytes : List ℕ) (m : Contents) → IsModuleOfCode counting bytes m → (f : SolveFault) → IsRefusedModule m f → IsRefusedBytes counting bytes f
+module_of_code_refused counting bytes m of_code solve_fault.TooManyVertices h = (m, of_code, h)
+module_of_code_refused counting bytes m of_code solve_fault.NoProperty h = absurd h
+module_of_code_refused counting bytes m of_code (solve_fault.Property fault) h = absurd h
+module_of_code_refused counting bytes m of_code (solve_fault.Text fault) h = absurd h
+module_of_code_refused counting bytes m of_code (solve_fault.Typing fault) h = absurd h
+module_of_code_refused counting bytes m of_code (solve_fault.Limit excess) h = absurd h
+module_of_code_refused counting bytes m of_code (solve_fault.Module fault) h = absurd h
+module_of_code_refused counting bytes m of_code (solve_fault.Acceptance fault) h = absurd h
 
 -- where `?` hands up a module's refusal
 pub too_large_up : {T : Type 0} (m : Contents) (e : OrMemory TooManyVertices) (r : Result T SolveError) → IfFault e (λ _. IsTooLarge m)

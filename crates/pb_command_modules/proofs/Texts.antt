@@ -4,7 +4,7 @@ use Rattle.pb_text_tree.specs.declared.place.Place.{Place}
 use Rattle.pb_fixpoint_trees.specs.Tree.{Tree}
 use Rattle.pb_fixpoint_trees.specs.Row.{TokenRow}
 use Rattle.pb_bytecode.specs.Contents.{Contents}
-use Rattle.pb_exploration.specs.Rows.{AreExploredRows}
+use Rattle.pb_exploration_reached.specs.Rows.{AreExploredRows}
 use Rattle.pb_game.specs.Certificates.{IsCertificate}
 use Rattle.pb_game.specs.declared.certificate.Solution.{Solution}
 use Rattle.pb_game_of_trees.specs.Explored.{IsModuleGame}

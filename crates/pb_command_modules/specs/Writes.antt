@@ -1,12 +1,13 @@
 -- Which text is written: of a verified module, and of the module that bytes spell.
 use Rattle.std.specs.Prelude.{◌≡◌, ℕ, List, Option, codes}
 use Rattle.pb_text_tree.specs.declared.place.Place.{Place}
+use Rattle.pb_sorts.specs.declared.counting.Counting.{Counting}
 use Rattle.pb_fixpoint_trees.specs.Tree.{Tree}
 use Rattle.pb_fixpoint_trees.specs.Row.{TokenRow}
 use Rattle.pb_bytecode.specs.Contents.{Contents}
 use Rattle.pb_bytecode.specs.Listing.{listing}
 use Rattle.pb_bytecode.specs.Meaning.{AreTrees}
-use Rattle.pb_exploration.specs.Rows.{AreReached}
+use Rattle.pb_exploration_reached.specs.Rows.{AreReached}
 use Rattle.pb_evidence.specs.declared.Evidence.{Evidence}
 use Rattle.pb_report.specs.ModuleEvidence.{IsModuleEvidence, module_evidence_text}
 use Rattle.pb_report.specs.ModuleTexts.{module_game_text, module_solution_text}
@@ -48,17 +49,18 @@ WritesEvidence m place written =
     (e : Evidence) × IsModuleEvidence m e
     × IsTextOfTrees m (λ trees. module_evidence_text m trees place e) written
 
--- ---- of the module that bytes spell
+-- ---- of the module that bytes spell, by which instances count against the limit
 
 -- `verify`
-abbrev pub WritesAcceptance : List ℕ → List ℕ → Type 0
-WritesAcceptance bytes written =
-    (m : Contents) × IsModuleOfCode bytes m × (written ≡ codes "accepted\n")
+abbrev pub WritesAcceptance : Counting → List ℕ → List ℕ → Type 0
+WritesAcceptance counting bytes written =
+    (m : Contents) × IsModuleOfCode counting bytes m × (written ≡ codes "accepted\n")
 
 -- `list`
-abbrev pub WritesListing : List ℕ → List ℕ → Type 0
-WritesListing bytes written = (m : Contents) × Spell bytes m × (written ≡ listing m)
+abbrev pub WritesListing : Counting → List ℕ → List ℕ → Type 0
+WritesListing counting bytes written =
+    (m : Contents) × Spell counting bytes m × (written ≡ listing m)
 
 -- `solve-code`
-abbrev pub WritesAnswer : List ℕ → List ℕ → Type 0
-WritesAnswer bytes written = IsReportOf (IsAnswerOfCode bytes) written
+abbrev pub WritesAnswer : Counting → List ℕ → List ℕ → Type 0
+WritesAnswer counting bytes written = IsReportOf (IsAnswerOfCode counting bytes) written

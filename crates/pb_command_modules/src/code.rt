@@ -11,33 +11,37 @@ use crate::delivery::deliver;
 use crate::module::write_report;
 use pb_base::OrMemory;
 use pb_bytecode::Module;
-use pb_bytecode::decode::decode;
+use pb_bytecode::decode::decode_counting;
 use pb_bytecode::list::list;
 use pb_command_faults::{SolveError, SolveFault};
 use pb_command_solver::{Context, Progress, SolveOptions};
 use pb_report::Answer;
-use pb_sorts::Sink;
+use pb_sorts::{Counting, Sink};
 use pb_verifier::{Verified, verify};
 use std::alloc::Global;
 use std::thread::Threads;
 
-// The module that bytes spell.
-fn decoded(alloc: Global, bytes: &[u8]) -> Result<Module, OrMemory<SolveFault>>
-    ensures module { IfOk result (λ m. Spell bytes.now (module_contents m)) }
-    ensures refused { IfRefused result (IsUnlisted bytes.now) }
+// The module that bytes spell, by which instances count.
+fn decoded(alloc: Global, bytes: &[u8], counting: Counting) -> Result<Module, OrMemory<SolveFault>>
+    ensures module { IfOk result (λ m. Spell counting bytes.now (module_contents m)) }
+    ensures refused { IfRefused result (IsUnlisted counting bytes.now) }
 {
-    match decode(alloc, bytes) {
+    match decode_counting(alloc, bytes, counting) {
         Ok(module) => Ok(module),
         Err(error) => Err(error.raise()),
     }
 }
 
 // The module that bytes spell, verified.
-fn verified_code(alloc: Global, bytes: &[u8]) -> Result<Verified, OrMemory<SolveFault>>
-    ensures module { IfOk result (IsModuleOfCode bytes.now) }
-    ensures refused { IfRefused result (IsUnverified bytes.now) }
+fn verified_code(
+    alloc: Global,
+    bytes: &[u8],
+    counting: Counting,
+) -> Result<Verified, OrMemory<SolveFault>>
+    ensures module { IfOk result (IsModuleOfCode counting bytes.now) }
+    ensures refused { IfRefused result (IsUnverified counting bytes.now) }
 {
-    let module = decoded(alloc, bytes)?;
+    let module = decoded(alloc, bytes, counting)?;
     match verify(alloc, module) {
         Ok(verified) => Ok(verified),
         Err((_module, error)) => Err(error.raise()),
@@ -46,7 +50,7 @@ fn verified_code(alloc: Global, bytes: &[u8]) -> Result<Verified, OrMemory<Solve
 
 /// Answers a module, given by its bytes, and writes the report: the truth of its initial instance
 /// in the nested fixpoint solution of its equations, whose right sides are the trees with which the
-/// runs of its code end.
+/// runs of its code end. Which instances count, `counting` says.
 ///
 /// # Errors
 /// `Module` says what is wrong with the bytes and where, `Acceptance` which rule the code breaks
@@ -54,40 +58,52 @@ fn verified_code(alloc: Global, bytes: &[u8]) -> Result<Verified, OrMemory<Solve
 pub fn solve_code<R: Threads + Sync, G: Progress + Sync, S: Sink>(
     context: &Context<'_, R, G>,
     bytes: &[u8],
+    counting: Counting,
     options: SolveOptions,
     writer: &mut S,
 ) -> Result<Answer, SolveError>
-    ensures { ReportsOrRefuses (IsAnswerOfCode bytes.now) (IsRefusedBytes bytes.now) result
-        S.Sink writer.old writer.new }
+    ensures { ReportsOrRefuses (IsAnswerOfCode counting bytes.now)
+        (IsRefusedBytes counting bytes.now) result S.Sink writer.old writer.new }
 {
-    let verified = verified_code(context.alloc, bytes)?;
+    let verified = verified_code(context.alloc, bytes, counting)?;
     write_report(context, &verified, options, writer)
 }
 
-/// Verifies a module, given by its bytes, and writes `accepted` and a line feed.
+/// Verifies a module, given by its bytes, by which instances count, and writes `accepted` and a
+/// line feed.
 ///
 /// # Errors
 /// `Module` says what is wrong with the bytes and where, `Acceptance` which rule the code breaks
 /// and where; `Memory` comes where a request for memory was refused, and `Write` where the text
 /// could not be written whole.
-pub fn verify_code<S: Sink>(alloc: Global, bytes: &[u8], writer: &mut S) -> Result<(), SolveError>
-    ensures { DeliversOrRefuses (WritesAcceptance bytes.now) (IsUnverified bytes.now) result
-        S.Sink writer.old writer.new }
+pub fn verify_code<S: Sink>(
+    alloc: Global,
+    bytes: &[u8],
+    counting: Counting,
+    writer: &mut S,
+) -> Result<(), SolveError>
+    ensures { DeliversOrRefuses (WritesAcceptance counting bytes.now)
+        (IsUnverified counting bytes.now) result S.Sink writer.old writer.new }
 {
-    let _verified = verified_code(alloc, bytes)?;
+    let _verified = verified_code(alloc, bytes, counting)?;
     deliver(b"accepted\n", writer)
 }
 
-/// Lists a module, given by its bytes, whose code need not be accepted.
+/// Lists a module, given by its bytes, by which instances count; its code need not be accepted.
 ///
 /// # Errors
 /// `Module` says what is wrong with the bytes and where; `Memory` comes where a request for memory
 /// was refused, and `Write` where the listing could not be written whole.
-pub fn list_code<S: Sink>(alloc: Global, bytes: &[u8], writer: &mut S) -> Result<(), SolveError>
-    ensures { DeliversOrRefuses (WritesListing bytes.now) (IsUnlisted bytes.now) result
-        S.Sink writer.old writer.new }
+pub fn list_code<S: Sink>(
+    alloc: Global,
+    bytes: &[u8],
+    counting: Counting,
+    writer: &mut S,
+) -> Result<(), SolveError>
+    ensures { DeliversOrRefuses (WritesListing counting bytes.now) (IsUnlisted counting bytes.now)
+        result S.Sink writer.old writer.new }
 {
-    let module = decoded(alloc, bytes)?;
+    let module = decoded(alloc, bytes, counting)?;
     let listing = list(alloc, &module)?;
     deliver(listing.as_slice(), writer)
 }

@@ -2,6 +2,7 @@
 use Rattle.std.specs.Prelude.{◌≡◌, ℕ, List, IfOk, Result}
 use Rattle.pb_base.specs.OrMemory.{IfRefused}
 use Rattle.pb_base.specs.declared.or_memory.OrMemory.{OrMemory}
+use Rattle.pb_sorts.specs.declared.counting.Counting.{Counting}
 use Rattle.pb_text_tree.specs.Form.{SpecForm, spec_form}
 use Rattle.pb_typing.specs.declared.typed.Typed.{Typed}
 use Rattle.pb_bytecode.specs.Contents.{Contents}
@@ -9,14 +10,15 @@ use Rattle.pb_bytecode.specs.Decoded.{module_contents}
 use Rattle.pb_bytecode.specs.Meaning.{parameters}
 use Rattle.pb_bytecode.specs.declared.module.Module.{Module}
 use Rattle.pb_command_faults.specs.declared.solve_fault.SolveFault.{SolveFault}
-use Rattle.pb_command_texts.specs.Answers.{IsReadText, IsModuleOfForm, IsModuleOfText}
+use Rattle.pb_command_texts.specs.Answers.{IsReadText, IsWellTypedBy, IsModuleOfForm, IsModuleOfText}
 use Rattle.pb_command_texts.specs.Refusals.{IsRefused, IsUncompiled, IsUncompiledForm}
 
--- the bytes say a text that is well typed, or they are refused
-pub record ReadsText (bytes : List ℕ) (result : Result Typed (OrMemory SolveFault))
-    : Type 0 where
+-- the bytes say a text that is well typed, by which instances count, or they are refused
+pub record ReadsText (counting : Counting) (bytes : List ℕ)
+    (result : Result Typed (OrMemory SolveFault)) : Type 0 where
   pub read : IfOk result (λ typed. IsReadText bytes (spec_form typed.spec))
-  pub refused : IfRefused result (IsUncompiled bytes)
+  pub typed : IfOk result (λ typed. IsWellTypedBy counting (spec_form typed.spec))
+  pub refused : IfRefused result (IsUncompiled counting bytes)
 
 -- a text that is well typed has this module, with its layout, or its code exceeds a limit
 pub record CompilesText (typed : Typed) (result : Result Module (OrMemory SolveFault))
@@ -32,7 +34,7 @@ pub record VerifiesForm (text : SpecForm) (result : Result Contents (OrMemory So
   pub refused : IfRefused result (IsUncompiledForm text)
 
 -- so it is with the text that the bytes say, or they are refused
-pub record VerifiesText (bytes : List ℕ) (result : Result Contents (OrMemory SolveFault))
-    : Type 0 where
-  pub «module» : IfOk result (IsModuleOfText bytes)
-  pub refused : IfRefused result (IsRefused bytes)
+pub record VerifiesText (counting : Counting) (bytes : List ℕ)
+    (result : Result Contents (OrMemory SolveFault)) : Type 0 where
+  pub «module» : IfOk result (IsModuleOfText counting bytes)
+  pub refused : IfRefused result (IsRefused counting bytes)

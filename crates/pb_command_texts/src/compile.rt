@@ -5,7 +5,7 @@ ghost use Rattle.pb_command_texts.specs.Compilation.{CompilesText, ReadsText, Ve
 ghost use Rattle.pb_command_texts.specs.Writes.{WritesModule, WritesOfModule};
 ghost use Rattle.pb_command_texts.specs.Refusals.{IsUncompiled};
 
-use crate::short_input::ShortInput;
+use crate::text_input::TextInput;
 use pb_assembler::compile;
 use pb_base::OrMemory;
 use pb_bytecode::Module;
@@ -18,15 +18,15 @@ use pb_typing::Typed;
 use pb_verifier::{Verified, verify, verify_laid_out};
 use std::alloc::Global;
 
-// What a text says, which is well typed.
-pub(crate) fn typed(alloc: Global, input: ShortInput<'_>) -> Result<Typed, OrMemory<SolveFault>>
-    ensures { ReadsText input.entry.bytes.now result }
+// What a text says, which is well typed by which instances count.
+pub(crate) fn typed(alloc: Global, text: TextInput<'_>) -> Result<Typed, OrMemory<SolveFault>>
+    ensures { ReadsText text.entry.counting text.entry.input.bytes.now result }
 {
-    let spec = match pb_text::parse(alloc, input.bytes) {
+    let spec = match pb_text::parse(alloc, text.input.bytes) {
         Ok(spec) => spec,
         Err(error) => return Err(error.raise()),
     };
-    match pb_typing::check(alloc, spec) {
+    match pb_typing::check_counting(alloc, spec, text.counting) {
         Ok(typed) => Ok(typed),
         Err((_spec, error)) => Err(error.raise()),
     }
@@ -68,11 +68,11 @@ pub fn verified_laid_out(alloc: Global, typed: Typed) -> Result<Verified, OrMemo
 // The module of a text, verified.
 pub(crate) fn verified_text(
     alloc: Global,
-    input: ShortInput<'_>,
+    text: TextInput<'_>,
 ) -> Result<Verified, OrMemory<SolveFault>>
-    ensures { VerifiesText input.entry.bytes.now result }
+    ensures { VerifiesText text.entry.counting text.entry.input.bytes.now result }
 {
-    let typed = typed(alloc, input)?;
+    let typed = typed(alloc, text)?;
     verified_laid_out(alloc, typed)
 }
 
@@ -84,13 +84,15 @@ pub(crate) fn verified_text(
 /// could not be written whole.
 pub fn compile_text<S: Sink>(
     alloc: Global,
-    input: ShortInput<'_>,
+    text: TextInput<'_>,
     writer: &mut S,
 ) -> Result<(), SolveError>
-    ensures { DeliversOrRefuses (WritesOfModule WritesModule input.entry.bytes.now)
-        (IsUncompiled input.entry.bytes.now) result S.Sink writer.old writer.new }
+    ensures { DeliversOrRefuses
+        (WritesOfModule text.entry.counting WritesModule text.entry.input.bytes.now)
+        (IsUncompiled text.entry.counting text.entry.input.bytes.now)
+        result S.Sink writer.old writer.new }
 {
-    let typed = typed(alloc, input)?;
+    let typed = typed(alloc, text)?;
     let module = compiled(alloc, &typed)?;
     let spelled = encode(alloc, &module)?;
     deliver(spelled.as_slice(), writer)

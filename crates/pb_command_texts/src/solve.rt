@@ -1,7 +1,8 @@
 //! From texts to answers.
 ghost use Rattle.std.specs.Prelude.{ℕ, List};
 ghost use Rattle.pb_text_tree.specs.Form.{spec_form};
-ghost use Rattle.pb_command_texts.specs.Answers.{IsAnswer, IsReadText};
+ghost use Rattle.pb_sorts.specs.declared.counting.Counting.{Counting};
+ghost use Rattle.pb_command_texts.specs.Answers.{IsAnswer, IsReadText, IsWellTypedBy};
 ghost use Rattle.pb_command_modules.specs.Delivery.{DeliversOrRefuses, ReportsOrRefuses};
 ghost use Rattle.pb_command_texts.specs.Explained.{IsExplained};
 ghost use Rattle.pb_command_texts.specs.Refusals.{IsRefused};
@@ -11,7 +12,7 @@ ghost use Rattle.pb_command_texts.specs.Writes.{DeliversTextEvidence, WritesOfMo
 use crate::compile::{typed, verified_text};
 use crate::explained::{ExplainedText, explained_typed};
 use crate::options::ExplainOptions;
-use crate::short_input::ShortInput;
+use crate::text_input::TextInput;
 use pb_command_faults::SolveError;
 use pb_command_modules::{
     write_certificate, write_evidence, write_game, write_report, write_solution,
@@ -25,7 +26,8 @@ use std::thread::Threads;
 
 /// Answers a text: reads it, checks it, compiles it to a module, explores that by so many workers,
 /// solves the game of what they reached by the solver that is asked for, and writes the report once
-/// the answer is known. The bytes are the same with any number of workers and either solver.
+/// the answer is known. The bytes are the same with any number of workers and either solver, and
+/// whichever instances count, where so many may be declared.
 ///
 /// The text is that of a fixpoint equation system (Groote and Willemse 2005; Groote and Mousavi
 /// 2014), and the answer is the truth of its initial instance in the nested fixpoint solution.
@@ -38,16 +40,17 @@ use std::thread::Threads;
 /// could not be written whole. No other error comes.
 pub fn solve_text<R: Threads + Sync, G: Progress + Sync, S: Sink>(
     context: &Context<'_, R, G>,
-    input: ShortInput<'_>,
+    text: TextInput<'_>,
     options: SolveOptions,
     writer: &mut S,
 ) -> Result<Answer, SolveError>
     // The answer is the truth of the initial instance in the solution of what the text says, and is
     // reported; nothing is written before it is known; and what a refusal says of the text.
-    ensures { ReportsOrRefuses (IsAnswer input.entry.bytes.now) (IsRefused input.entry.bytes.now)
+    ensures { ReportsOrRefuses (IsAnswer text.entry.counting text.entry.input.bytes.now)
+        (IsRefused text.entry.counting text.entry.input.bytes.now)
         result S.Sink writer.old writer.new }
 {
-    let verified = verified_text(context.alloc, input)?;
+    let verified = verified_text(context.alloc, text)?;
     write_report(context, &verified, options, writer)
 }
 
@@ -57,14 +60,16 @@ pub fn solve_text<R: Threads + Sync, G: Progress + Sync, S: Sink>(
 /// As with `solve_text`.
 pub fn game_of<R: Threads + Sync, G: Progress + Sync, S: Sink>(
     context: &Context<'_, R, G>,
-    input: ShortInput<'_>,
+    text: TextInput<'_>,
     workers: Workers,
     writer: &mut S,
 ) -> Result<(), SolveError>
-    ensures { DeliversOrRefuses (WritesOfModule WritesGame input.entry.bytes.now)
-        (IsRefused input.entry.bytes.now) result S.Sink writer.old writer.new }
+    ensures { DeliversOrRefuses
+        (WritesOfModule text.entry.counting WritesGame text.entry.input.bytes.now)
+        (IsRefused text.entry.counting text.entry.input.bytes.now)
+        result S.Sink writer.old writer.new }
 {
-    let verified = verified_text(context.alloc, input)?;
+    let verified = verified_text(context.alloc, text)?;
     write_game(context, &verified, workers, writer)
 }
 
@@ -76,14 +81,16 @@ pub fn game_of<R: Threads + Sync, G: Progress + Sync, S: Sink>(
 /// As with `solve_text`.
 pub fn solution_of<R: Threads + Sync, G: Progress + Sync, S: Sink>(
     context: &Context<'_, R, G>,
-    input: ShortInput<'_>,
+    text: TextInput<'_>,
     options: SolveOptions,
     writer: &mut S,
 ) -> Result<(), SolveError>
-    ensures { DeliversOrRefuses (WritesOfModule WritesSolution input.entry.bytes.now)
-        (IsRefused input.entry.bytes.now) result S.Sink writer.old writer.new }
+    ensures { DeliversOrRefuses
+        (WritesOfModule text.entry.counting WritesSolution text.entry.input.bytes.now)
+        (IsRefused text.entry.counting text.entry.input.bytes.now)
+        result S.Sink writer.old writer.new }
 {
-    let verified = verified_text(context.alloc, input)?;
+    let verified = verified_text(context.alloc, text)?;
     write_solution(context, &verified, options, writer)
 }
 
@@ -98,14 +105,16 @@ pub fn solution_of<R: Threads + Sync, G: Progress + Sync, S: Sink>(
 /// As with `solve_text`.
 pub fn certificate_of<R: Threads + Sync, G: Progress + Sync, S: Sink>(
     context: &Context<'_, R, G>,
-    input: ShortInput<'_>,
+    text: TextInput<'_>,
     options: SolveOptions,
     writer: &mut S,
 ) -> Result<(), SolveError>
-    ensures { DeliversOrRefuses (WritesOfModule WritesCertificate input.entry.bytes.now)
-        (IsRefused input.entry.bytes.now) result S.Sink writer.old writer.new }
+    ensures { DeliversOrRefuses
+        (WritesOfModule text.entry.counting WritesCertificate text.entry.input.bytes.now)
+        (IsRefused text.entry.counting text.entry.input.bytes.now)
+        result S.Sink writer.old writer.new }
 {
-    let verified = verified_text(context.alloc, input)?;
+    let verified = verified_text(context.alloc, text)?;
     write_certificate(context, &verified, options, writer)
 }
 
@@ -118,8 +127,10 @@ fn write_explained<S: Sink>(
     writer: &mut S,
 ) -> Result<(), SolveError>
     requires { IsExplained explained.now }
-    ensures { (bytes : List ℕ) → IsReadText bytes (spec_form explained.now.typed.spec)
-        → DeliversTextEvidence places bytes result S.Sink writer.old writer.new }
+    ensures { (counting : Counting) (bytes : List ℕ)
+        → IsReadText bytes (spec_form explained.now.typed.spec)
+        → IsWellTypedBy counting (spec_form explained.now.typed.spec)
+        → DeliversTextEvidence counting places bytes result S.Sink writer.old writer.new }
 {
     let verified = &explained.verified;
     named_instances_are_called();
@@ -145,14 +156,14 @@ fn write_explained<S: Sink>(
 /// As with `solve_text`.
 pub fn explain_text<R: Threads + Sync, G: Progress + Sync, S: Sink>(
     context: &Context<'_, R, G>,
-    input: ShortInput<'_>,
+    text: TextInput<'_>,
     options: ExplainOptions,
     writer: &mut S,
 ) -> Result<(), SolveError>
-    ensures { DeliversTextEvidence options.places input.entry.bytes.now result
-        S.Sink writer.old writer.new }
+    ensures { DeliversTextEvidence text.entry.counting options.places text.entry.input.bytes.now
+        result S.Sink writer.old writer.new }
 {
-    let typed = typed(context.alloc, input)?;
+    let typed = typed(context.alloc, text)?;
     let explained = explained_typed(context, typed, options.workers)?;
     write_explained(context.alloc, &explained, options.places, writer)
 }

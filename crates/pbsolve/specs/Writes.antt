@@ -15,15 +15,17 @@ use Rattle.pb_command_models.specs.Why.{IsUnshown, WritesWhy}
 
 -- the command writes this text for the bytes
 abbrev pub Writes : Task → List ℕ → List ℕ → Type 0
-Writes (task.Solve o) bytes written = WritesTextReport bytes written
-Writes (task.Game o) bytes written = WritesOfModule WritesGame bytes written
-Writes (task.Solution o) bytes written = WritesOfModule WritesSolution bytes written
-Writes (task.Certificate o) bytes written = WritesOfModule WritesCertificate bytes written
-Writes (task.Explain o) bytes written = WritesTextEvidence o.places bytes written
-Writes task.Compile bytes written = WritesOfModule WritesModule bytes written
-Writes task.Verify bytes written = WritesAcceptance bytes written
-Writes task.List bytes written = WritesListing bytes written
-Writes (task.SolveCode o) bytes written = WritesAnswer bytes written
+Writes (task.Solve o counting) bytes written = WritesTextReport counting bytes written
+Writes (task.Game o counting) bytes written = WritesOfModule counting WritesGame bytes written
+Writes (task.Solution o counting) bytes written =
+    WritesOfModule counting WritesSolution bytes written
+Writes (task.Certificate o counting) bytes written =
+    WritesOfModule counting WritesCertificate bytes written
+Writes (task.Explain o counting) bytes written = WritesTextEvidence counting o.places bytes written
+Writes (task.Compile counting) bytes written = WritesOfModule counting WritesModule bytes written
+Writes (task.Verify counting) bytes written = WritesAcceptance counting bytes written
+Writes (task.List counting) bytes written = WritesListing counting bytes written
+Writes (task.SolveCode o counting) bytes written = WritesAnswer counting bytes written
 Writes (task.Translate o) bytes written =
     IsTranslation (option_map string_bytes o.property) bytes written
 Writes (task.Why o) bytes written =
@@ -31,14 +33,14 @@ Writes (task.Why o) bytes written =
 
 -- what a fault says of the bytes for which the text was to be written
 abbrev pub IsRefusedFor : Task → List ℕ → SolveFault → Type 0
-IsRefusedFor (task.Solve o) = IsRefused
-IsRefusedFor (task.Game o) = IsRefused
-IsRefusedFor (task.Solution o) = IsRefused
-IsRefusedFor (task.Certificate o) = IsRefused
-IsRefusedFor (task.Explain o) = IsRefused
-IsRefusedFor task.Compile = IsUncompiled
-IsRefusedFor task.Verify = IsUnverified
-IsRefusedFor task.List = IsUnlisted
-IsRefusedFor (task.SolveCode o) = IsRefusedBytes
+IsRefusedFor (task.Solve o counting) = IsRefused counting
+IsRefusedFor (task.Game o counting) = IsRefused counting
+IsRefusedFor (task.Solution o counting) = IsRefused counting
+IsRefusedFor (task.Certificate o counting) = IsRefused counting
+IsRefusedFor (task.Explain o counting) = IsRefused counting
+IsRefusedFor (task.Compile counting) = IsUncompiled counting
+IsRefusedFor (task.Verify counting) = IsUnverified counting
+IsRefusedFor (task.List counting) = IsUnlisted counting
+IsRefusedFor (task.SolveCode o counting) = IsRefusedBytes counting
 IsRefusedFor (task.Translate o) = IsUntranslated (option_map string_bytes o.property)
 IsRefusedFor (task.Why o) = IsUnshown (option_map string_bytes o.property)

@@ -17,8 +17,8 @@ pub use pb_command_models::{
 pub use pb_command_modules::{bytes_spell_one_module, list_code, solve_code, verify_code};
 pub use pb_command_solver::{Context, SolveOptions, Workers};
 pub use pb_command_texts::{
-    ExplainOptions, ShortInput, certificate_of, compile_text, explain_text, game_of, solution_of,
-    solve_text,
+    ExplainOptions, ShortInput, TextInput, certificate_of, compile_text, explain_text, game_of,
+    solution_of, solve_text, texts_keep_their_answers,
 };
 pub use program::{run, tell_fault};
 pub use streams::Streams;

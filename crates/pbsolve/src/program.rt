@@ -24,8 +24,8 @@ use pb_command_models::{WhyOptions, check_text, translate_text, why_text};
 use pb_command_modules::{deliver, list_code, solve_code, verify_code};
 use pb_command_solver::{Context, Progress, Workers};
 use pb_command_texts::{
-    ExplainOptions, ShortInput, certificate_of, compile_text, explain_text, game_of, solution_of,
-    solve_options, solve_text,
+    ExplainOptions, ShortInput, TextInput, certificate_of, compile_text, explain_text, game_of,
+    solution_of, solve_options, solve_text,
 };
 use pb_sorts::{InputError, Sink, Source, put, read_input};
 use std::alloc::Global;
@@ -42,30 +42,52 @@ fn task_answer<R: Threads + Sync, G: Progress + Sync, O: Sink>(
     ensures { AnswersTask task.now input.entry.bytes.now result O.Sink out.old out.new }
 {
     match task {
-        Task::Solve(options) => {
-            solve_text(context, input, solve_options(*options), out)?;
+        Task::Solve(options, counting) => {
+            let counting = *counting;
+            let text = TextInput { input, counting };
+            solve_text(context, text, solve_options(*options), out)?;
             Ok(())
         }
-        Task::Game(options) => {
+        Task::Game(options, counting) => {
+            let counting = *counting;
             let workers = Workers {
                 count: options.workers,
             };
-            game_of(context, input, workers, out)
+            game_of(context, TextInput { input, counting }, workers, out)
         }
-        Task::Solution(options) => solution_of(context, input, solve_options(*options), out),
-        Task::Certificate(options) => certificate_of(context, input, solve_options(*options), out),
-        Task::Explain(options) => {
+        Task::Solution(options, counting) => {
+            let counting = *counting;
+            let text = TextInput { input, counting };
+            solution_of(context, text, solve_options(*options), out)
+        }
+        Task::Certificate(options, counting) => {
+            let counting = *counting;
+            let text = TextInput { input, counting };
+            certificate_of(context, text, solve_options(*options), out)
+        }
+        Task::Explain(options, counting) => {
+            let counting = *counting;
+            let text = TextInput { input, counting };
             let workers = Workers {
                 count: options.workers,
             };
             let places = options.places;
-            explain_text(context, input, ExplainOptions { workers, places }, out)
+            explain_text(context, text, ExplainOptions { workers, places }, out)
         }
-        Task::Compile => compile_text(context.alloc, input, out),
-        Task::Verify => verify_code(context.alloc, input.bytes, out),
-        Task::List => list_code(context.alloc, input.bytes, out),
-        Task::SolveCode(options) => {
-            solve_code(context, input.bytes, solve_options(*options), out)?;
+        Task::Compile(counting) => {
+            let counting = *counting;
+            compile_text(context.alloc, TextInput { input, counting }, out)
+        }
+        Task::Verify(counting) => verify_code(context.alloc, input.bytes, *counting, out),
+        Task::List(counting) => list_code(context.alloc, input.bytes, *counting, out),
+        Task::SolveCode(options, counting) => {
+            solve_code(
+                context,
+                input.bytes,
+                *counting,
+                solve_options(*options),
+                out,
+            )?;
             Ok(())
         }
         Task::Translate(options) => {

@@ -83,8 +83,8 @@ B04 byte 22\n";
 
 pub const B05_WORDS: &str = "B05: a field out of its limit: a count, a name, a carrier, a sign; \
 more than\n  \
-2^22 instances. Place: where the field begins; for instances the byte after\n  \
-the equations\n\
+2^22 instances, or 2^62 with --reached. Place: where the field begins; for\n  \
+instances the byte after the equations\n\
 $ echo 50424553010001020158000002000000000000000200050000 | xxd -r -p | pbsolve verify\n\
 B05 byte 7\n";
 

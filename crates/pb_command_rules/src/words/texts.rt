@@ -263,11 +263,12 @@ one range\n\
 enumerator's, name): use a range\n\
 - a predicate variable's or enumerator's name of more than 64 bytes (that name):\n  \
 shorten it\n\
-- more than 2^22 instances, of all equations together (the equation with which\n  \
-they are too many): narrow ranges\n\
+- more than 2^22 instances, of all equations together; more than 2^62 with\n  \
+--reached (the equation with which they are too many): --reached, or narrow\n  \
+ranges\n\
 In a model also: more than 1,024 assignments in a step; written out, more than\n  \
-1,024 steps or 64 state variables, by their elements; of a property's text,\n  \
-more than 64 equations or 2^22 instances; more than 2^22 states. Place: the\n  \
+8,192 steps or 64 state variables, by their elements; of a property's text,\n  \
+more than 64 equations or 2^62 instances; more than 2^62 states. Place: the\n  \
 step's, the variable's name; the property's name; init\n\
 What to do: see \"Limits\" in docs/MANUAL.md\n\
 $ printf '%%range Int 0 4194304\\npbes nu X(n: Int) = X(n); init X(0);' | pbsolve solve\n\

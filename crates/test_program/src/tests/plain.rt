@@ -1,5 +1,6 @@
 //! The chain against the plain solver, which computes the nested solution as it is defined.
 use super::asked;
+use pb_base::MAX_INSTANCES;
 use std::alloc::Global;
 use std::test::Fail;
 
@@ -34,6 +35,9 @@ fn plain_line(alloc: Global, text: &str) -> Option<&'static [u8]> {
     let Ok(typed) = pb_typing::check(alloc, spec) else {
         return None;
     };
+    if typed.layout.count() > MAX_INSTANCES as u64 {
+        return None;
+    }
     match pb_typing_plain_solver::solve(alloc, &typed) {
         Ok(true) => Some(b"answer true\n"),
         Ok(false) => Some(b"answer false\n"),

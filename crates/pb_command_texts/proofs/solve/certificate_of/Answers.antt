@@ -9,18 +9,18 @@ use Rattle.pb_command_texts.proofs.solve.certificate_of.Goals as goal
 
 pub returns-in_err-verified : goal.returns-in_err-verified
 returns-in_err-verified g c = (
-  (nothing_written g.S.Sink _ (WritesOfModule WritesCertificate c.args.input.bytes.now) c.args.writer.now
+  (nothing_written g.S.Sink _ (WritesOfModule c.args.text.counting WritesCertificate c.args.text.input.bytes.now) c.args.writer.now
       c.in_err-verified.field-0.0 c.from_residual.result c.from_residual.ensures.1),
-  (let P = IsRefused c.args.input.bytes.now in
+  (let P = IsRefused c.args.text.counting c.args.text.input.bytes.now in
       handed_up P P (λ f h. h) c.in_err-verified.field-0.0 c.from_residual.result c.in_err-verified.ensures.refused c.from_residual.ensures.1),
 )
 
 pub returns : goal.returns
 returns g c = (
   (let m = c.in_ok-verified.verified in
-      less_delivered g.S.Sink (WritesCertificate m) (WritesOfModule WritesCertificate c.args.input.bytes.now)
+      less_delivered g.S.Sink (WritesCertificate m) (WritesOfModule c.args.text.counting WritesCertificate c.args.text.input.bytes.now)
       (λ text h. (m, c.in_ok-verified.ensures.«module», h)) c.args.writer.now c.write_certificate.new.writer c.write_certificate.result c.write_certificate.ensures.0),
-  (if_input_refused (IsRefusedModule c.in_ok-verified.verified) (IsRefused c.args.input.bytes.now)
-      (module_of_text_refused c.args.input.bytes.now c.in_ok-verified.verified c.in_ok-verified.ensures.«module»)
+  (if_input_refused (IsRefusedModule c.in_ok-verified.verified) (IsRefused c.args.text.counting c.args.text.input.bytes.now)
+      (module_of_text_refused c.args.text.counting c.args.text.input.bytes.now c.in_ok-verified.verified c.in_ok-verified.ensures.«module»)
       c.write_certificate.result c.write_certificate.ensures.1),
 )

@@ -13,18 +13,20 @@ use Rattle.pb_command_texts.proofs.solve.solve_text.Goals as goal
 
 pub returns-in_err-verified : goal.returns-in_err-verified
 returns-in_err-verified g c =
-    let bytes = c.args.input.bytes.now in
+    let counting = c.args.text.counting in
+    let bytes = c.args.text.input.bytes.now in
     let made = c.from_residual.ensures.1 in
-    let P = IsRefused bytes in
-    unreported g.S.Sink _ (IsAnswer bytes) P c.args.writer.now c.args.writer.now c.from_residual.result made (
-      (nothing_written g.S.Sink _ (WritesTextReport bytes) c.args.writer.now c.in_err-verified.field-0.0 c.from_residual.result made),
+    let P = IsRefused counting bytes in
+    unreported g.S.Sink _ (IsAnswer counting bytes) P c.args.writer.now c.args.writer.now c.from_residual.result made (
+      (nothing_written g.S.Sink _ (WritesTextReport counting bytes) c.args.writer.now c.in_err-verified.field-0.0 c.from_residual.result made),
       (handed_up P P (λ f h. h) c.in_err-verified.field-0.0 c.from_residual.result c.in_err-verified.ensures.refused made),
     )
 
 pub returns : goal.returns
 returns g c =
-    let bytes = c.args.input.bytes.now in
+    let counting = c.args.text.counting in
+    let bytes = c.args.text.input.bytes.now in
     let m = c.in_ok-verified.verified in
     let of_text = c.in_ok-verified.ensures.«module» in
-    reported g.S.Sink (IsAnswerOf m) (IsAnswer bytes) (text_answer bytes m of_text) (IsRefusedModule m) (IsRefused bytes) (module_of_text_refused bytes m of_text)
+    reported g.S.Sink (IsAnswerOf m) (IsAnswer counting bytes) (text_answer counting bytes m of_text) (IsRefusedModule m) (IsRefused counting bytes) (module_of_text_refused counting bytes m of_text)
     c.args.writer.now c.write_report.new.writer c.write_report.result c.write_report.ensures

@@ -32,21 +32,21 @@ write_evidence-requires g c =
     record { explanation = c.requires.explains; places = (told, call_places g (goal.at.write_evidence-requires g c).After-deref) }
 
 pub returns-in_err-call_places : goal.returns-in_err-call_places
-returns-in_err-call_places g c bytes read = (
-  nothing_in_want g.S.Sink (WritesTextEvidence c.args.places bytes) c.args.writer.now c.from_residual.result c.from_residual.ensures.1,
-  wanting_up (IsRefused bytes) c.from_residual.result c.from_residual.ensures.1,
+returns-in_err-call_places g c counting bytes read typed = (
+  nothing_in_want g.S.Sink (WritesTextEvidence counting c.args.places bytes) c.args.writer.now c.from_residual.result c.from_residual.ensures.1,
+  wanting_up (IsRefused counting bytes) c.from_residual.result c.from_residual.ensures.1,
 )
 
 pub returns : goal.returns
-returns g c bytes read =
+returns g c counting bytes read typed =
     let explained = c.args.explained.now in
     let text = spec_form explained.typed.spec in
     let m = explained.verified in
     let place = told_place c.args.places text (parameters m) in
     let are = call_places g (goal.at.returns g c).After-deref in
-    let of_text = of_bytes bytes text m read c.requires.of_text in (
-      less_delivered g.S.Sink (WritesEvidence m place) (WritesTextEvidence c.args.places bytes)
-          (text_evidence c.named_instances_are_called.ensures bytes text m read c.requires.of_text c.args.places)
+    let of_text = of_bytes counting bytes text m read typed c.requires.of_text in (
+      less_delivered g.S.Sink (WritesEvidence m place) (WritesTextEvidence counting c.args.places bytes)
+          (text_evidence c.named_instances_are_called.ensures counting bytes text m read typed c.requires.of_text c.args.places)
           c.args.writer.now c.write_evidence.new.writer c.write_evidence.result (c.write_evidence.ensures place are).0,
-      if_input_refused (IsRefusedModule m) (IsRefused bytes) (module_of_text_refused bytes m of_text) c.write_evidence.result (c.write_evidence.ensures place are).1,
+      if_input_refused (IsRefusedModule m) (IsRefused counting bytes) (module_of_text_refused counting bytes m of_text) c.write_evidence.result (c.write_evidence.ensures place are).1,
     )

@@ -34,3 +34,25 @@ returns-in-Translate g c = record {
       c.name_of.ensures c.translate_text.ensures.text.1);
   named = search rules;
 }
+
+-- what evidence shows is of the instances that count
+pub returns-in-Explain : goal.returns-in-Explain
+returns-in-Explain g c = record {
+  written =
+      subst (λ (t : Task). Delivers (Writes t c.args.input.bytes.now) c.explain_text.result g.O.Sink c.args.out.now c.explain_text.new.writer)
+      (sym c.in-Explain.is) c.explain_text.ensures.0;
+  refused =
+      subst (λ (t : Task). IfInputRefused c.explain_text.result (IsRefusedFor t c.args.input.bytes.now))
+      (sym c.in-Explain.is) c.explain_text.ensures.1;
+  named = search rules;
+}
+
+-- and what the answer to a module is refused by
+pub returns-in_err-solve_code-in-SolveCode : goal.returns-in_err-solve_code-in-SolveCode
+returns-in_err-solve_code-in-SolveCode g c = record {
+  written = search rules;
+  refused =
+      subst (λ (t : Task). IfInputRefused c.from_residual-in_err-solve_code-in-SolveCode.result (IsRefusedFor t c.args.input.bytes.now))
+      (sym c.in-SolveCode.is) (search rules);
+  named = search rules;
+}
