@@ -8,8 +8,34 @@ from generated_terms import DECLARATIONS, KIND, VALUES, Terms
 
 # What stands in `val(..)` as a test: it begins as a formula might, or has a connective or a quantifier.
 IN_VAL = re.compile(r"^[(!-]|^(true|false)|&&|\|\||=>|forall|exists")
+# Lines of a model's text that declare its state, are a step and give its initial state.
+STATE, STEP, INIT = re.compile(r"^state (.*);$", re.M), re.compile(r"^  (s\d+(?:\(.*?\))?): (.*) -> (.*);$", re.M), re.compile(r"^init (.*);$", re.M)
 # A state that a step led to outside the ranges, the formula that holds there whatever the ranges are, and the one that doesn't.
 OUTSIDE, TRUE, FALSE = None, ("true",), ("false",)
+
+
+def widened(text, generator, bits):
+    """A model with variables of so many bits together beside its own: each step moves some of them round in three values, which lie far apart, so
+    that far more states are declared and few more are reached. No property names them, so that its verdict is what it was."""
+    wide = []
+    while bits > 0:
+        taken = min(bits, 9 + generator.below(21))
+        stride = max(1, (1 << taken) // 3)
+        wide.append((f"w{len(wide)}", f"Wide{len(wide)}", stride, generator.below(stride)))
+        bits -= taken
+    declared = "".join(f"sort {sort} = Nat;\n%range {sort} 0 {3 * stride - 1}\n" for _, sort, stride, _ in wide)
+
+    def step(found):
+        name, guard, assigned = found.groups()
+        name_of, _, stride, value = generator.one_of(wide)
+        moved = [it for it in wide if generator.below(2)]
+        more = [f"{it} := ({it} + {by}) mod {3 * by}" for it, _, by, _ in moved]
+        all_assigned = ", ".join(([] if assigned == "skip" else [assigned]) + more) or "skip"
+        return f"  {name}: {name_of} mod {stride} == {value} && ({guard}) -> {all_assigned};"
+
+    text = STATE.sub(lambda found: f"state {found[1]}, {', '.join(f'{name}: {sort}' for name, sort, _, _ in wide)};", text, count=1)
+    text = INIT.sub(lambda found: f"init {found[1]}, {', '.join(str(value) for *_, value in wide)};", text, count=1)
+    return STEP.sub(step, text).replace(DECLARATIONS, DECLARATIONS + declared, 1)
 
 
 class Model:

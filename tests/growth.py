@@ -6,7 +6,7 @@
 Each family is solved, or checked as a model, at a size and at twice that size. Counted are turns of loops (`turns.c`, compiled by the toolchain's own
 clang), which are the same in each run on each machine: a jump to what stands before it, as `llvm-objdump` finds them, is a breakpoint. What the
 program takes for a text of one equation, or a model of one step, is taken off. The second count is to be at most GROWTH times the first: twice the
-size may take twice the turns, and a tenth more."""
+size may take twice the turns, and a tenth more. Where only what is declared doubles, and not what is reached, it is 1.15 times."""
 import collections
 import concurrent.futures
 import os
@@ -28,8 +28,8 @@ MOST = 600_000
 OVER = 99
 SOLVE, CHECK = ("solve", "--workers", "1"), ("check", "--workers", "1")
 IDLE = {SOLVE: "pbes nu X = X; init X;", CHECK: "model state b: Bool; step s: b -> skip; init true; property p = b;"}
-# A family with the size at which it is counted first, the command and its options, and the status that it has.
-Family = collections.namedtuple("Family", "name text size command options status")
+# A family with the size at which it is counted first, the command and its options, the status that it has, and its own bound in place of GROWTH.
+Family = collections.namedtuple("Family", "name text size command options status growth")
 JUMP = re.compile(r"^ *([0-9a-f]+): ((?:[0-9a-f]{2} )+) *\tj\w+\t0x([0-9a-f]+)", re.M)
 
 
@@ -84,10 +84,10 @@ def grown(turns, idle, family):
     first, status = turns.count(family.text(family.size), words, MOST)
     if status != family.status:
         return (first, 0), f"over {MOST}" if status == OVER else f"status {status}"
-    allowed = idle + int(GROWTH * (first - idle))
+    allowed = idle + int(family.growth * (first - idle))
     second, status = turns.count(family.text(2 * family.size), words, allowed)
     if status != family.status:
-        return (first, second), f"more than {GROWTH} times" if status == OVER else f"status {status}"
+        return (first, second), f"more than {family.growth} times" if status == OVER else f"status {status}"
     return (first, second), None
 
 
@@ -95,9 +95,9 @@ def families():
     """All that have a size at which they are counted."""
     for name, text, size, _, options in FAMILIES + GAMES:
         if size is not None:
-            yield Family(name, text, size, SOLVE, options, 0)
-    for name, text, size, status in MODELS:
-        yield Family(name, text, size, CHECK, (), status)
+            yield Family(name, text, size, SOLVE, options, 0, GROWTH)
+    for name, text, size, status, growth in MODELS:
+        yield Family(name, text, size, CHECK, (), status, growth or GROWTH)
 
 
 def main():

@@ -28,10 +28,31 @@ def names_of_definitions(size):
     return f"model state b: Bool;\ndefine {defined};\nstep s: {' && '.join(names)} -> skip;\ninit true;\nproperty p = true;\n"
 
 
-# The name of each, the family, the size at which turns of loops are counted first, and the status: 1 where the model is refused.
+def counted(count, last, stride):
+    """A counter beside a number up to `last` that goes round by a stride: `count` states are reached, and `last` times as many declared."""
+    return (
+        f"sort Count = Nat; Wide = Nat;\n%range Count 0 {count}\n%range Wide 0 {last}\nmodel state n: Count, w: Wide;\n"
+        f"step s: n < {count} -> n := n + 1, w := (w + {stride}) mod {last + 1};\ninit 0, 0;\nproperty p = always w != {last};\n"
+    )
+
+
+def far_apart(size):
+    """So many reached states, whose numbers differ by one stride: that which keeps multiples together when they are multiplied, as Fibonacci's do."""
+    return counted(size, (1 << 31) - 2, 701_408_733)
+
+
+def declared(size):
+    """The same reached states, of more and more that are declared: two to this power for each."""
+    return counted(400, (1 << size) - 1, 1)
+
+
+# The name of each, the family, the size at which turns of loops are counted first, the status, 1 where the model is refused, and how many times as
+# many turns twice the size may take: as growth.py says where that is None.
 MODELS = (
-    ("indices that double", lambda size: doubled_indices(size, ("a", "b")), 14, 1),
-    ("indices of one value that double", lambda size: doubled_indices(size, ("a",)), 14, 1),
-    ("names of nine variables", names_of_nine_variables, 400, 0),
-    ("names of definitions", names_of_definitions, 400, 0),
+    ("indices that double", lambda size: doubled_indices(size, ("a", "b")), 14, 1, None),
+    ("indices of one value that double", lambda size: doubled_indices(size, ("a",)), 14, 1, None),
+    ("names of nine variables", names_of_nine_variables, 400, 0, None),
+    ("names of definitions", names_of_definitions, 400, 0, None),
+    ("reached states far apart", far_apart, 400, 0, None),
+    ("declared states", declared, 15, 0, 1.15),
 )
