@@ -13,6 +13,8 @@ import sys
 
 EDITS = "tests/wrong_bodies"
 SUMS = f"{EDITS}/SUMS"
+# Crates whose edits were not tried since what they hang on changed last: each run of the gate tries them, until `.ci/wrong_bodies` has.
+UNTRIED = f"{EDITS}/UNTRIED"
 # A comment, and what no bracket of code stands in: a text, a character.
 TOKEN = re.compile(r"""(//[^\n]*)|\bb?r(#*)".*?"\2|b?"(?:\\.|[^"\\])*"|b?'(?:\\(?:x\w\w|u\{\w+\}|.)|[^\\'\n])'""", re.S)
 BRACKET = re.compile(r"[][(){};]")
@@ -128,8 +130,16 @@ class Repository:
         known = [crate for crate in self.with_edits() if crate in lines and crate in self.crates]
         return [crate for crate in known if re.fullmatch(rf"{crate} {self.sum_of(crate)} \d{{4}}-\d\d-\d\d", lines[crate])]
 
+    def untried(self):
+        """The crates that UNTRIED names."""
+        path = self.root / UNTRIED
+        return path.read_text("utf-8").split() if path.is_file() else []
+
     def write(self, sums, date):
-        """Writes the lines of crates, each with its sum, and takes out those of crates without edits."""
+        """Writes the lines of crates, each with its sum, and takes out those of crates without edits; and takes the crates out of UNTRIED."""
+        left = [crate for crate in self.untried() if crate not in sums]
+        if left != self.untried():
+            (self.root / UNTRIED).write_text("".join(f"{crate}\n" for crate in left), "utf-8")
         lines = {**self.written(), **{crate: f"{crate} {total} {date}" for crate, total in sums.items()}}
         (self.root / SUMS).write_text("".join(f"{lines[crate]}\n" for crate in self.with_edits() if crate in lines), "utf-8")
 
@@ -137,7 +147,9 @@ class Repository:
         """What is wrong with the lines, each with what to do."""
         lines, crates, current = self.written(), self.with_edits(), self.current()
         yield from (f"{EDITS}/{crate}: crates.txt has no such crate" for crate in crates if crate not in self.crates)
-        for crate in sorted(set(crates).intersection(self.crates).difference(current)):
+        untried = self.untried()
+        yield from (f"{UNTRIED}: {crate} isn't to be tried" for crate in untried if crate in current or crate not in crates)
+        for crate in sorted(set(crates).intersection(self.crates).difference(current, untried)):
             flaw = f"the line of {crate} isn't current" if crate in lines else f"no line of {crate}"
             yield f"{SUMS}: {flaw}: .ci/wrong_bodies {crate} tries its edits, and writes the line where each is refused"
         yield from (f"{SUMS}: {crate} has no edits: .ci/wrong_bodies takes the line out" for crate in sorted(set(lines).difference(crates)))
