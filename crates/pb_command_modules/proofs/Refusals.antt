@@ -40,7 +40,7 @@ unverified counting bytes (solve_fault.Acceptance fault) h = h
 
 -- ---- what is refused of a module is refused of the bytes that spell it
 
-pub module_of_code_refused : (counting : Counting) (bytes : List ℕ) (m : Contents) → IsModuleOfCode counting bytes m → (f : SolveFault) → IsRefusedModule m f → IsRefusedBytes counting bytes f
+pub module_of_code_refused : (counting : Counting) (bytes : List ℕ) (m : Contents) → IsModuleOfCode counting bytes m → (f : SolveFault) → IsRefusedModule counting m f → IsRefusedBytes counting bytes f
 module_of_code_refused counting bytes m of_code solve_fault.TooManyVertices h = (m, of_code, h)
 module_of_code_refused counting bytes m of_code solve_fault.NoProperty h = absurd h
 module_of_code_refused counting bytes m of_code (solve_fault.Property fault) h = absurd h
@@ -51,7 +51,8 @@ module_of_code_refused counting bytes m of_code (solve_fault.Module fault) h = a
 module_of_code_refused counting bytes m of_code (solve_fault.Acceptance fault) h = absurd h
 
 -- where `?` hands up a module's refusal
-pub too_large_up : {T : Type 0} (m : Contents) (e : OrMemory TooManyVertices) (r : Result T SolveError) → IfFault e (λ _. IsTooLarge m)
-    → IsErrAnd r (joins_into (λ _ above. above ≡ solve_fault.TooManyVertices) e) → IfInputRefused r (IsRefusedModule m)
-too_large_up m e r large made =
-    refused_up (λ _ above. above ≡ solve_fault.TooManyVertices) (λ _. IsTooLarge m) (IsRefusedModule m) (λ f above same h. subst (IsRefusedModule m) (sym same) h) e r large made
+pub too_large_up : {T : Type 0} (counting : Counting) (m : Contents) (e : OrMemory TooManyVertices) (r : Result T SolveError) → IfFault e (λ _. IsTooLarge counting m)
+    → IsErrAnd r (joins_into (λ _ above. above ≡ solve_fault.TooManyVertices) e) → IfInputRefused r (IsRefusedModule counting m)
+too_large_up counting m e r large made =
+    refused_up (λ _ above. above ≡ solve_fault.TooManyVertices) (λ _. IsTooLarge counting m) (IsRefusedModule counting m)
+    (λ f above same h. subst (IsRefusedModule counting m) (sym same) h) e r large made

@@ -29,4 +29,4 @@ HoldsOfOne P = (m n : Contents) → P m → P n → m ≡ n
 pub record IsAnswerOfCode (counting : Counting) (bytes : List ℕ) (a : Answer) : Type 0 where
   pub contents : Contents
   pub of_code : IsModuleOfCode counting bytes contents
-  pub answered : IsAnswerOf contents a
+  pub answered : IsAnswerOf counting contents a

@@ -13,10 +13,10 @@ use Rattle.pb_command_modules.specs.Answers.{IsModuleOfCode, Spell}
 abbrev pub IsUnaccepted : Counting → List ℕ → Type 0
 IsUnaccepted counting bytes = (m : Contents) × Spell counting bytes m × (¬ IsAccepted m)
 
--- what a fault says of a verified module
-abbrev pub IsRefusedModule : Contents → SolveFault → Type 0
-IsRefusedModule m solve_fault.TooManyVertices = IsTooLarge m
-IsRefusedModule m fault = ⊥
+-- what a fault says of a verified module, by which instances count
+abbrev pub IsRefusedModule : Counting → Contents → SolveFault → Type 0
+IsRefusedModule counting m solve_fault.TooManyVertices = IsTooLarge counting m
+IsRefusedModule counting m fault = ⊥
 
 -- What a fault says of the bytes of each command, by which instances count against the limit. Where
 -- it says ⊥ the command has no such fault.
@@ -35,5 +35,5 @@ IsUnverified counting bytes fault = IsUnlisted counting bytes fault
 -- `solve-code`: the module isn't verified, or has too large a game
 abbrev pub IsRefusedBytes : Counting → List ℕ → SolveFault → Type 0
 IsRefusedBytes counting bytes solve_fault.TooManyVertices =
-    (m : Contents) × IsModuleOfCode counting bytes m × IsTooLarge m
+    (m : Contents) × IsModuleOfCode counting bytes m × IsTooLarge counting m
 IsRefusedBytes counting bytes fault = IsUnverified counting bytes fault

@@ -24,9 +24,9 @@ IsTextOfReached m text written =
     (trees : ℕ → Tree) → AreTrees m trees
     → (rows : List TokenRow) × AreReached m trees rows × (written ≡ text trees rows)
 
--- the report of its answer
-abbrev pub WritesReport : Contents → List ℕ → Type 0
-WritesReport m written = IsReportOf (IsAnswerOf m) written
+-- the report of its answer, by which instances count
+abbrev pub WritesReport : Counting → Contents → List ℕ → Type 0
+WritesReport counting m written = IsReportOf (IsAnswerOf counting m) written
 
 -- the text of the game of its reached instances
 abbrev pub WritesGame : Contents → List ℕ → Type 0

@@ -66,7 +66,7 @@ pub fn solve_code<R: Threads + Sync, G: Progress + Sync, S: Sink>(
         (IsRefusedBytes counting bytes.now) result S.Sink writer.old writer.new }
 {
     let verified = verified_code(context.alloc, bytes, counting)?;
-    write_report(context, &verified, options, writer)
+    write_report(context, &verified, counting, options, writer)
 }
 
 /// Verifies a module, given by its bytes, by which instances count, and writes `accepted` and a

@@ -23,7 +23,7 @@ use pb_report::evidence_text::evidence_text;
 use pb_report::game_text::game_text;
 use pb_report::solution_text::solution_text;
 use pb_report::{Answer, Explanation, PlacedExplanation, report};
-use pb_sorts::Sink;
+use pb_sorts::{Counting, Sink};
 use pb_verifier::Verified;
 use std::alloc::Global;
 use std::thread::Threads;
@@ -31,18 +31,20 @@ use std::thread::Threads;
 /// Answers a module, and writes the report of the answer once it is known.
 ///
 /// # Errors
-/// `TooManyVertices` comes where the game would have more than 2^24 vertices, `Memory` where a
-/// request for memory was refused, and `Write` where the text could not be written whole.
+/// `TooManyVertices` comes where the game would have more vertices than it may have, by which
+/// instances count, `Memory` where a request for memory was refused, and `Write` where the text
+/// could not be written whole.
 pub fn write_report<R: Threads + Sync, G: Progress + Sync, S: Sink>(
     context: &Context<'_, R, G>,
     verified: &Verified,
+    counting: Counting,
     options: SolveOptions,
     writer: &mut S,
 ) -> Result<Answer, SolveError>
-    ensures { ReportsOrRefuses (IsAnswerOf verified.now) (IsRefusedModule verified.now) result
-        S.Sink writer.old writer.new }
+    ensures { ReportsOrRefuses (IsAnswerOf counting verified.now)
+        (IsRefusedModule counting verified.now) result S.Sink writer.old writer.new }
 {
-    let answer = answer_module(context, verified, options)?;
+    let answer = answer_module(context, verified, counting, options)?;
     report(context.alloc, &answer, writer)?;
     Ok(answer)
 }
@@ -54,12 +56,14 @@ pub fn write_report<R: Threads + Sync, G: Progress + Sync, S: Sink>(
 pub fn write_game<R: Threads + Sync, G: Progress + Sync, S: Sink>(
     context: &Context<'_, R, G>,
     verified: &Verified,
+    counting: Counting,
     workers: Workers,
     writer: &mut S,
 ) -> Result<(), SolveError>
-    ensures { DeliversOfModule WritesGame verified.now result S.Sink writer.old writer.new }
+    ensures { DeliversOfModule counting WritesGame verified.now result
+        S.Sink writer.old writer.new }
 {
-    let module = build_module(context, verified, workers)?;
+    let module = build_module(context, verified, counting, workers)?;
     let reached = module.explored.rows();
     game_text(context.alloc, verified, &module.built, reached, writer)?;
     Ok(())
@@ -72,12 +76,14 @@ pub fn write_game<R: Threads + Sync, G: Progress + Sync, S: Sink>(
 pub fn write_solution<R: Threads + Sync, G: Progress + Sync, S: Sink>(
     context: &Context<'_, R, G>,
     verified: &Verified,
+    counting: Counting,
     options: SolveOptions,
     writer: &mut S,
 ) -> Result<(), SolveError>
-    ensures { DeliversOfModule WritesSolution verified.now result S.Sink writer.old writer.new }
+    ensures { DeliversOfModule counting WritesSolution verified.now result
+        S.Sink writer.old writer.new }
 {
-    let module = solve_module(context, verified, options)?;
+    let module = solve_module(context, verified, counting, options)?;
     let reached = module.explored.rows();
     solution_text(context.alloc, verified, &module.solved, reached, writer)?;
     Ok(())
@@ -91,12 +97,14 @@ pub fn write_solution<R: Threads + Sync, G: Progress + Sync, S: Sink>(
 pub fn write_certificate<R: Threads + Sync, G: Progress + Sync, S: Sink>(
     context: &Context<'_, R, G>,
     verified: &Verified,
+    counting: Counting,
     options: SolveOptions,
     writer: &mut S,
 ) -> Result<(), SolveError>
-    ensures { DeliversOfModule WritesCertificate verified.now result S.Sink writer.old writer.new }
+    ensures { DeliversOfModule counting WritesCertificate verified.now result
+        S.Sink writer.old writer.new }
 {
-    let module = solve_module(context, verified, options)?;
+    let module = solve_module(context, verified, counting, options)?;
     let game = &module.solved.built.game;
     let certificate = module.solved.certified.solution();
     certificate_text(context.alloc, game, certificate, writer)?;
@@ -106,18 +114,20 @@ pub fn write_certificate<R: Threads + Sync, G: Progress + Sync, S: Sink>(
 /// Why the initial instance of a module has its truth value.
 ///
 /// # Errors
-/// `TooManyVertices` comes where the game would have more than 2^24 vertices; memory was refused.
+/// `TooManyVertices` comes where the game would have more vertices than it may have, by which
+/// instances count; memory was refused.
 pub fn explained<R: Threads + Sync, G: Progress + Sync>(
     context: &Context<'_, R, G>,
     verified: &Verified,
+    counting: Counting,
     workers: Workers,
 ) -> Result<Explanation, OrMemory<SolveFault>>
     ensures explanation { IfOk result (IsExplanation verified.now) }
-    ensures refused { IfRefused result (IsRefusedModule verified.now) }
+    ensures refused { IfRefused result (IsRefusedModule counting verified.now) }
 {
     let solver = Solver::Zielonka;
     let options = SolveOptions { workers, solver };
-    match explain_module(context, verified, options) {
+    match explain_module(context, verified, counting, options) {
         Ok(explanation) => Ok(explanation),
         Err(error) => Err(error.raise()),
     }

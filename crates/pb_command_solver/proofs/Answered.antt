@@ -4,12 +4,14 @@ use Rattle.pb_fixpoint_trees.specs.Tree.{Tree}
 use Rattle.pb_fixpoint_trees.specs.Rows as plain
 use Rattle.pb_fixpoint_trees.specs.Row.{TokenRow}
 use Rattle.pb_fixpoint_trees.specs.Reached.{rows_of}
+use Rattle.pb_sorts.specs.declared.counting.Counting.{Counting}
 use Rattle.pb_bytecode.specs.Contents.{Contents}
 use Rattle.pb_bytecode.specs.Meaning.{AreTrees, signature_of, initial_of, answer}
 use Rattle.pb_exploration_reached.specs.Rows.{AreExploredRows}
 use Rattle.pb_game.specs.Games.{vertex_count}
 use Rattle.pb_game_of_trees.specs.Explored.{IsModuleGame}
 use Rattle.pb_game_of_trees.specs.declared.tree_game.TreeGame.{TreeGame}
+use Rattle.pb_game_of_trees.specs.VertexLimit.{vertex_limit}
 use Rattle.pb_game_of_trees.specs.TreeGame.{AreRowsFrom}
 use Rattle.pb_game_of_trees.specs.Held.{Hold}
 use Rattle.pb_game_of_trees.proofs.Reached.{AreReached, found_row, reached_of}
@@ -19,7 +21,6 @@ use Rattle.pb_report.proofs.ReachedGames.{same_length}
 use Rattle.pb_command_solver.specs.Answers.{IsAnswerOf}
 use Rattle.pb_command_solver.specs.Parts.{IsTruthIn}
 use Rattle.pb_command_solver.proofs.Rows.{module_rows}
-use Rattle.pb_base.specs.declared.limits.TheConstants.{MAX_VERTICES}
 
 module _ (m : Contents) (rows : List TokenRow) (built : TreeGame) (explored : AreExploredRows m rows) (game : IsModuleGame m rows built) where
   from : (trees : ℕ → Tree) → AreTrees m trees → AreRowsFrom (map signature_of m.equations) trees rows (initial_of m)
@@ -34,11 +35,11 @@ module _ (m : Contents) (rows : List TokenRow) (built : TreeGame) (explored : Ar
   pub count : (trees : ℕ → Tree) → AreTrees m trees → length built.vertices.items ≡ length rows
   count trees have = same_length m rows built trees (rows_of trees rows) (initial_of m) (are trees have) (game trees have)
 
-  pub answer_is : (truth : Bool) (instances cut vertices : ℕ) → IsTruthIn built truth → instances ≡ length built.vertices.items
+  pub answer_is : (counting : Counting) (truth : Bool) (instances cut vertices : ℕ) → IsTruthIn built truth → instances ≡ length built.vertices.items
       → ((reached : List plain.Row) → Hold rows reached → cut ≡ cut_count reached)
-      → vertices ≡ vertex_count built.game → vertices ≤ MAX_VERTICES
-      → IsAnswerOf m (record { truth = truth; instances = instances; cut = cut; vertices = vertices })
-  answer_is t n c v is_truth is_count is_cut is_size few trees have =
+      → vertices ≡ vertex_count built.game → vertices ≤ vertex_limit counting
+      → IsAnswerOf counting m (record { truth = truth; instances = instances; cut = cut; vertices = vertices })
+  answer_is counting t n c v is_truth is_count is_cut is_size few trees have =
       let reached = rows_of trees rows in
       let is = game trees have in
       let truth = is_truth (map signature_of m.equations) trees reached (initial_of m) is (found trees have) in

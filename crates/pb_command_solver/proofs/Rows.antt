@@ -1,6 +1,7 @@
 -- The rows that exploration hands over are those from which a game is built.
 use Rattle.std.proofs.Common.{◌≡◌, List, sym, subst}
 use Rattle.pb_fixpoint_trees.specs.Row.{TokenRow}
+use Rattle.pb_sorts.specs.declared.counting.Counting.{Counting}
 use Rattle.pb_bytecode.specs.Contents.{Contents}
 use Rattle.pb_bytecode.specs.Meaning.{initial_of}
 use Rattle.pb_machine.specs.Reachable.{Starts}
@@ -17,9 +18,9 @@ module_rows m found rows same explored = subst (AreModuleRows m) (sym same) (λ 
     })
 
 -- what is too large for the game of the rows is so for that of the reached instances
-pub too_large : (m : Contents) (found rows : List TokenRow) → rows ≡ found → AreExploredRows m found → IsModuleTooLarge m rows → IsTooLarge m
-too_large m found rows same explored large = LargeGame (λ trees have. record {
+pub too_large : (counting : Counting) (m : Contents) (found rows : List TokenRow) → rows ≡ found → AreExploredRows m found → IsModuleTooLarge counting m rows → IsTooLarge counting m
+too_large counting m found rows same explored large = LargeGame (λ trees have. record {
   rows = found;
   reached = explored trees have;
-  large = subst (λ (r : List TokenRow). IsModuleTooLarge m r) same large trees have;
+  large = subst (λ (r : List TokenRow). IsModuleTooLarge counting m r) same large trees have;
 })

@@ -3,13 +3,14 @@ use Rattle.std.specs.Prelude.{◌≡◌, ◌⊎◌, ℕ, Bool, true, List, map}
 use Rattle.pb_fixpoint_trees.specs.Tree.{Tree}
 use Rattle.pb_fixpoint_trees.specs.Equations.{Signature, solved}
 use Rattle.pb_fixpoint_trees.specs.Rows.{Row, IsReached}
+use Rattle.pb_sorts.specs.declared.counting.Counting.{Counting}
 use Rattle.pb_bytecode.specs.Contents.{Contents}
 use Rattle.pb_bytecode.specs.Meaning.{signature_of, initial_of}
 use Rattle.pb_exploration_reached.specs.Nearby.{IsNearby}
 use Rattle.pb_exploration_reached.specs.Rows.{AreExploredRows}
 use Rattle.pb_game_of_trees.specs.declared.tree_game.TreeGame.{TreeGame}
 use Rattle.pb_game_of_trees.specs.Explored.{ModuleHasTrees}
-use Rattle.pb_game_of_trees.specs.TreeGame.{IsGameOf, IsTreeGame}
+use Rattle.pb_game_of_trees.specs.TreeGame.{KeepsVertexLimit, IsGameOf, IsTreeGame}
 use Rattle.pb_evidence_nearby.specs.Around.{AreAssumedRows}
 use Rattle.pb_command_solver.specs.declared.part.Part.{Part}
 use Rattle.pb_command_solver.specs.declared.part.Rounds.{Rounds}
@@ -37,7 +38,8 @@ pub record IsSolvedPart (m : Contents) (s : SolvedPart) : Type 0 where
   pub game : IsGameOf (map signature_of m.equations) s.part.rows (initial_of m) s.solved.built
   pub enough : (s.part.is_whole ≡ true) ⊎ IsTruthIn s.solved.built s.part.truth
 
--- a part that is enough, or instances nearby that none of the parts was larger than
-abbrev pub IsOfRounds : Contents → Rounds → Type 0
-IsOfRounds m (Enough s) = IsSolvedPart m s
-IsOfRounds m (TooFew nearby) = IsNearby m nearby
+-- a part that is enough, whose game has no more vertices than it may have, or instances nearby that
+-- none of the parts was larger than
+abbrev pub IsOfRounds : Counting → Contents → Rounds → Type 0
+IsOfRounds counting m (Enough s) = IsSolvedPart m s × KeepsVertexLimit counting s.solved.built
+IsOfRounds counting m (TooFew nearby) = IsNearby m nearby

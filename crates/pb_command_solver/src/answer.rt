@@ -9,24 +9,28 @@ use crate::progress::{Phase, Progress};
 use pb_game_of_trees::BuildError;
 use pb_report::Answer;
 use pb_report::cut_calls::count_cut;
+use pb_sorts::Counting;
 use pb_verifier::Verified;
 use std::thread::Threads;
 
 /// Answers a verified module, which is solved as by `solve_module`: the truth of the initial
 /// instance in the nested solution of the module's equations (Groote and Willemse 2005), how many
-/// instances were reached, how many of these meet a cut, and how many vertices the game has. The
-/// trees of the instances go before their game is solved, so that this takes less memory.
+/// instances were reached, how many of these meet a cut, and how many vertices the game has. Which
+/// instances count against the limit of vertices, `counting` says. The trees of the instances go
+/// before their game is solved, so that this takes less memory.
 ///
 /// # Errors
 /// As with `solve_module`.
 pub fn answer_module<R: Threads + Sync, G: Progress + Sync>(
     context: &Context<'_, R, G>,
     verified: &Verified,
+    counting: Counting,
     options: SolveOptions,
 ) -> Result<Answer, BuildError>
-    ensures { MatchResult result (IsAnswerOf verified.now) (SaysTooLarge verified.now) }
+    ensures { MatchResult result (IsAnswerOf counting verified.now)
+        (SaysTooLarge counting verified.now) }
 {
-    match build_module(context, verified, options.workers) {
+    match build_module(context, verified, counting, options.workers) {
         Ok(BuiltModule { explored, built }) => {
             let cut = count_cut(explored.rows());
             drop(explored);

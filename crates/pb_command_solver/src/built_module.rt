@@ -10,11 +10,12 @@ use crate::options::SolveOptions;
 use crate::progress::{Phase, Progress};
 use crate::solve;
 use crate::workers::Workers;
-use pb_base::{MAX_INSTANCES, MAX_VERTICES};
+use pb_base::MAX_INSTANCES;
 use pb_evidence_nearby::Nearby;
 use pb_exploration::{Explored, Limits, explore};
-use pb_game_of_trees::{BuildError, Solved, TooManyVertices, TreeGame, build};
+use pb_game_of_trees::{BuildError, Solved, TooManyVertices, TreeGame, build, vertex_limit};
 use pb_machine::instances_have_trees;
+use pb_sorts::Counting;
 use pb_verifier::Verified;
 use std::alloc::{AllocError, Global};
 use std::thread::Threads;
@@ -31,26 +32,28 @@ pub struct BuiltModule {
 /// is solved.
 ///
 /// # Errors
-/// `TooManyVertices` where the game would have more than 2^24 vertices, which may be told as soon
-/// as so many instances are reached; else `Memory`.
+/// `TooManyVertices` where the game would have more vertices than `vertex_limit` has, by which
+/// instances count, which may be told as soon as so many instances are reached; else `Memory`.
 pub fn build_module<R: Threads + Sync, G: Progress + Sync>(
     context: &Context<'_, R, G>,
     verified: &Verified,
+    counting: Counting,
     workers: Workers,
 ) -> Result<BuiltModule, BuildError>
-    ensures { MatchResult result (IsBuiltModule verified.now) (SaysTooLarge verified.now) }
+    ensures { MatchResult result (IsBuiltModule counting verified.now)
+        (SaysTooLarge counting verified.now) }
 {
     context.gate.begins(Phase::Exploring);
     let limits = Limits {
         workers: workers.count,
-        instances: MAX_VERTICES,
+        instances: vertex_limit(counting),
     };
     let reached = explore(context.rt, context.alloc, verified, limits, context.gate)?;
     let Some(explored) = reached else {
         return Err(BuildError::Refused(TooManyVertices));
     };
     context.gate.begins(Phase::Building);
-    build_explored(context.alloc, verified, explored)
+    build_explored(context.alloc, verified, counting, explored)
 }
 
 /// The same, going on from the instances nearby where one worker explores and keeps only what it
@@ -58,23 +61,26 @@ pub fn build_module<R: Threads + Sync, G: Progress + Sync>(
 pub(crate) fn build_from<R: Threads + Sync, G: Progress + Sync>(
     context: &Context<'_, R, G>,
     verified: &Verified,
+    counting: Counting,
     workers: Workers,
     nearby: Nearby,
 ) -> Result<BuiltModule, BuildError>
     requires { IsNearby verified.now nearby }
-    ensures { MatchResult result (IsBuiltModule verified.now) (SaysTooLarge verified.now) }
+    ensures { MatchResult result (IsBuiltModule counting verified.now)
+        (SaysTooLarge counting verified.now) }
 {
     if verified.layout().count() <= MAX_INSTANCES as u64 {
         drop(nearby);
-        return build_module(context, verified, workers);
+        return build_module(context, verified, counting, workers);
     }
     context.gate.begins(Phase::Exploring);
     let alloc = context.alloc;
-    let Some(rows) = nearby.explore_rest(alloc, verified, MAX_VERTICES, context.gate)? else {
+    let most = vertex_limit(counting);
+    let Some(rows) = nearby.explore_rest(alloc, verified, most, context.gate)? else {
         return Err(BuildError::Refused(TooManyVertices));
     };
     context.gate.begins(Phase::Building);
-    build_explored(alloc, verified, Explored::of_rows(rows))
+    build_explored(alloc, verified, counting, Explored::of_rows(rows))
 }
 
 /// Builds the game of a module's reached instances, however they were explored: by `explore`, or by
@@ -85,13 +91,15 @@ pub(crate) fn build_from<R: Threads + Sync, G: Progress + Sync>(
 pub fn build_explored(
     alloc: Global,
     verified: &Verified,
+    counting: Counting,
     explored: Explored,
 ) -> Result<BuiltModule, BuildError>
     requires { AreExploredRows verified.now explored }
-    ensures { MatchResult result (IsBuiltModule verified.now) (SaysTooLarge verified.now) }
+    ensures { MatchResult result (IsBuiltModule counting verified.now)
+        (SaysTooLarge counting verified.now) }
 {
     instances_have_trees(verified);
-    match build(alloc, verified, explored.rows()) {
+    match build(alloc, verified, explored.rows(), counting) {
         Ok(built) => Ok(BuiltModule { explored, built }),
         Err(error) => Err(error),
     }

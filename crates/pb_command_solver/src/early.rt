@@ -9,6 +9,7 @@ use crate::part::{Rounds, first_part};
 use crate::progress::Progress;
 use pb_report::Answer;
 use pb_report::cut_calls::count_cut;
+use pb_sorts::Counting;
 use pb_verifier::Verified;
 use std::alloc::AllocError;
 use std::thread::Threads;
@@ -45,11 +46,12 @@ impl Early {
 pub fn answer_early<R: Threads + Sync, G: Progress + Sync>(
     context: &Context<'_, R, G>,
     verified: &Verified,
+    counting: Counting,
     options: SolveOptions,
 ) -> Result<Early, AllocError>
-    ensures { IfOk result (IsEarly verified.now) }
+    ensures { IfOk result (IsEarly counting verified.now) }
 {
-    let Rounds::Enough(part) = first_part(context, verified, options)? else {
+    let Rounds::Enough(part) = first_part(context, verified, counting, options)? else {
         return Ok(Early::Unknown);
     };
     if part.part.is_whole {

@@ -10,6 +10,7 @@ use crate::progress::Progress;
 use crate::solved_module::solve_from;
 use pb_game_of_trees::BuildError;
 use pb_report::{Explanation, evidence_of};
+use pb_sorts::Counting;
 use pb_verifier::Verified;
 use std::thread::Threads;
 
@@ -19,20 +20,22 @@ use std::thread::Threads;
 /// goes on from these where one worker explores and keeps only what it finds.
 ///
 /// # Errors
-/// `TooManyVertices` where the game would have more than 2^24 vertices, and the instances nearby
-/// are not enough; else `Memory`.
+/// `TooManyVertices` where the game would have more vertices than `vertex_limit` has, by which
+/// instances count, and the instances nearby are not enough; else `Memory`.
 pub fn explain_module<R: Threads + Sync, G: Progress + Sync>(
     context: &Context<'_, R, G>,
     verified: &Verified,
+    counting: Counting,
     options: SolveOptions,
 ) -> Result<Explanation, BuildError>
-    ensures { MatchResult result (IsExplanation verified.now) (SaysTooLarge verified.now) }
+    ensures { MatchResult result (IsExplanation verified.now)
+        (SaysTooLarge counting verified.now) }
 {
-    let nearby = match first_part(context, verified, options)? {
+    let nearby = match first_part(context, verified, counting, options)? {
         Rounds::Enough(part) => return Ok(part.explanation(context.alloc, verified)?),
         Rounds::TooFew(nearby) => nearby,
     };
-    match solve_from(context, verified, options, nearby) {
+    match solve_from(context, verified, counting, options, nearby) {
         Ok(module) => Ok(evidence_of(context.alloc, &module.solved, module.explored.rows())?),
         Err(error) => Err(error),
     }

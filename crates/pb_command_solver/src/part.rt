@@ -6,6 +6,7 @@ ghost use Rattle.std.specs.Prelude.{IfOk, IfSome};
 ghost use Rattle.pb_bytecode.specs.Contents.{Contents};
 ghost use Rattle.pb_report.specs.ModuleEvidence.{IsExplanation};
 ghost use Rattle.pb_exploration_reached.specs.Nearby.{IsNearby};
+ghost use Rattle.pb_game_of_trees.specs.TreeGame.{KeepsVertexLimit};
 ghost use Rattle.pb_command_solver.specs.Parts.{IsOfRounds, IsPart, IsSolvedPart};
 
 use crate::built_module::solve_game;
@@ -18,6 +19,7 @@ use pb_fixpoint_trees::IndexedRows;
 use pb_game_of_trees::{BuildError, Solved, build_rows};
 use pb_machine::instances_have_trees;
 use pb_report::{Explanation, evidence_of_rows};
+use pb_sorts::Counting;
 use pb_verifier::Verified;
 use std::alloc::{AllocError, Global};
 use std::thread::Threads;
@@ -76,14 +78,17 @@ fn part_of(alloc: Global, nearby: &Nearby, truth: bool) -> Result<Part, AllocErr
 fn solve_part<R: Threads + Sync, G: Progress + Sync>(
     context: &Context<'_, R, G>,
     verified: &Verified,
+    counting: Counting,
     options: SolveOptions,
     part: Part,
 ) -> Result<Option<SolvedPart>, AllocError>
     requires { IsPart verified.now part }
-    ensures { IfOk result (λ found. IfSome found (IsSolvedPart verified.now)) }
+    ensures enough { IfOk result (λ found. IfSome found (IsSolvedPart verified.now)) }
+    ensures few { IfOk result
+        (λ found. IfSome found (λ s. KeepsVertexLimit counting s.solved.built)) }
 {
     instances_have_trees(verified);
-    let built = match build_rows(context.alloc, verified, &part.rows) {
+    let built = match build_rows(context.alloc, verified, &part.rows, counting) {
         Ok(built) => built,
         Err(BuildError::Refused(_)) => return Ok(None),
         Err(BuildError::Memory) => return Err(AllocError),
@@ -111,9 +116,10 @@ fn shows_truth(verified: &Verified) -> bool {
 pub(crate) fn first_part<R: Threads + Sync, G: Progress + Sync>(
     context: &Context<'_, R, G>,
     verified: &Verified,
+    counting: Counting,
     options: SolveOptions,
 ) -> Result<Rounds, AllocError>
-    ensures { IfOk result (IsOfRounds verified.now) }
+    ensures { IfOk result (IsOfRounds counting verified.now) }
 {
     let shows_truth = shows_truth(verified);
     let mut nearby = Nearby::new(context.alloc, verified)?;
@@ -127,7 +133,7 @@ pub(crate) fn first_part<R: Threads + Sync, G: Progress + Sync>(
                 continue;
             }
             let part = part_of(context.alloc, &nearby, truth)?;
-            if let Some(found) = solve_part(context, verified, options, part)? {
+            if let Some(found) = solve_part(context, verified, counting, options, part)? {
                 return Ok(Rounds::Enough(found));
             }
         }

@@ -1,5 +1,6 @@
 //! Verified modules that are solved.
 ghost use Rattle.std.specs.Prelude.{IfOk, MatchResult};
+ghost use Rattle.pb_sorts.specs.declared.counting.Counting.{Counting};
 ghost use Rattle.pb_bytecode.specs.Contents.{Contents};
 ghost use Rattle.pb_exploration_reached.specs.Nearby.{IsNearby};
 ghost use Rattle.pb_command_solver.specs.Answers.{IsBuiltModule, IsSolutionOf, SaysTooLarge};
@@ -11,6 +12,7 @@ use crate::progress::{Phase, Progress};
 use pb_evidence_nearby::Nearby;
 use pb_exploration::Explored;
 use pb_game_of_trees::{BuildError, Solved};
+use pb_sorts::Counting;
 use pb_verifier::Verified;
 use std::alloc::AllocError;
 use std::thread::Threads;
@@ -27,16 +29,18 @@ pub struct SolvedModule {
 /// each attempt of a worker to take an instance, and to lift a vertex, and each part of the work.
 ///
 /// # Errors
-/// `TooManyVertices` where the game would have more than 2^24 vertices; else `Memory`.
+/// `TooManyVertices` where the game would have more vertices than `vertex_limit` has, by which
+/// instances count; else `Memory`.
 pub fn solve_module<R: Threads + Sync, G: Progress + Sync>(
     context: &Context<'_, R, G>,
     verified: &Verified,
+    counting: Counting,
     options: SolveOptions,
 ) -> Result<SolvedModule, BuildError>
-    ensures { MatchResult result (IsSolutionOf verified.now options.solver)
-        (SaysTooLarge verified.now) }
+    ensures { MatchResult result (IsSolutionOf counting verified.now options.solver)
+        (SaysTooLarge counting verified.now) }
 {
-    match build_module(context, verified, options.workers) {
+    match build_module(context, verified, counting, options.workers) {
         Ok(unsolved) => Ok(solve_built(context, options, unsolved)?),
         Err(error) => Err(error),
     }
@@ -47,14 +51,15 @@ pub fn solve_module<R: Threads + Sync, G: Progress + Sync>(
 pub(crate) fn solve_from<R: Threads + Sync, G: Progress + Sync>(
     context: &Context<'_, R, G>,
     verified: &Verified,
+    counting: Counting,
     options: SolveOptions,
     nearby: Nearby,
 ) -> Result<SolvedModule, BuildError>
     requires { IsNearby verified.now nearby }
-    ensures { MatchResult result (IsSolutionOf verified.now options.solver)
-        (SaysTooLarge verified.now) }
+    ensures { MatchResult result (IsSolutionOf counting verified.now options.solver)
+        (SaysTooLarge counting verified.now) }
 {
-    match build_from(context, verified, options.workers, nearby) {
+    match build_from(context, verified, counting, options.workers, nearby) {
         Ok(unsolved) => Ok(solve_built(context, options, unsolved)?),
         Err(error) => Err(error),
     }
@@ -66,8 +71,8 @@ fn solve_built<R: Threads + Sync, G: Progress + Sync>(
     options: SolveOptions,
     unsolved: BuiltModule,
 ) -> Result<SolvedModule, AllocError>
-    ensures { IfOk result (λ solved. (m : Contents) → IsBuiltModule m unsolved
-        → IsSolutionOf m options.solver solved) }
+    ensures { IfOk result (λ solved. (counting : Counting) (m : Contents)
+        → IsBuiltModule counting m unsolved → IsSolutionOf counting m options.solver solved) }
 {
     let BuiltModule { explored, built } = unsolved;
     context.gate.begins(Phase::Solving);

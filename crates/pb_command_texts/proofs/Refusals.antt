@@ -44,28 +44,28 @@ form_uncompiled counting bytes text read typed (solve_fault.Module fault) h = ab
 form_uncompiled counting bytes text read typed (solve_fault.Acceptance fault) h = absurd h
 
 -- and what isn't compiled isn't explained
-pub form_unexplained : (text : SpecForm) (f : SolveFault) → IsUncompiledForm text f → IsUnexplainedForm text f
-form_unexplained text (solve_fault.Limit excess) h = h
-form_unexplained text solve_fault.TooManyVertices h = absurd h
-form_unexplained text solve_fault.NoProperty h = absurd h
-form_unexplained text (solve_fault.Property fault) h = absurd h
-form_unexplained text (solve_fault.Text fault) h = absurd h
-form_unexplained text (solve_fault.Typing fault) h = absurd h
-form_unexplained text (solve_fault.Module fault) h = absurd h
-form_unexplained text (solve_fault.Acceptance fault) h = absurd h
+pub form_unexplained : (counting : Counting) (text : SpecForm) (f : SolveFault) → IsUncompiledForm text f → IsUnexplainedForm counting text f
+form_unexplained counting text (solve_fault.Limit excess) h = h
+form_unexplained counting text solve_fault.TooManyVertices h = absurd h
+form_unexplained counting text solve_fault.NoProperty h = absurd h
+form_unexplained counting text (solve_fault.Property fault) h = absurd h
+form_unexplained counting text (solve_fault.Text fault) h = absurd h
+form_unexplained counting text (solve_fault.Typing fault) h = absurd h
+form_unexplained counting text (solve_fault.Module fault) h = absurd h
+form_unexplained counting text (solve_fault.Acceptance fault) h = absurd h
 
-pub module_unexplained : (text : SpecForm) (m : Contents) → IsModuleOfForm text m → (f : SolveFault) → IsRefusedModule m f → IsUnexplainedForm text f
-module_unexplained text m of_text solve_fault.TooManyVertices h = (m, of_text, h)
-module_unexplained text m of_text (solve_fault.Limit excess) h = absurd h
-module_unexplained text m of_text solve_fault.NoProperty h = absurd h
-module_unexplained text m of_text (solve_fault.Property fault) h = absurd h
-module_unexplained text m of_text (solve_fault.Text fault) h = absurd h
-module_unexplained text m of_text (solve_fault.Typing fault) h = absurd h
-module_unexplained text m of_text (solve_fault.Module fault) h = absurd h
-module_unexplained text m of_text (solve_fault.Acceptance fault) h = absurd h
+pub module_unexplained : (counting : Counting) (text : SpecForm) (m : Contents) → IsModuleOfForm text m → (f : SolveFault) → IsRefusedModule counting m f → IsUnexplainedForm counting text f
+module_unexplained counting text m of_text solve_fault.TooManyVertices h = (m, of_text, h)
+module_unexplained counting text m of_text (solve_fault.Limit excess) h = absurd h
+module_unexplained counting text m of_text solve_fault.NoProperty h = absurd h
+module_unexplained counting text m of_text (solve_fault.Property fault) h = absurd h
+module_unexplained counting text m of_text (solve_fault.Text fault) h = absurd h
+module_unexplained counting text m of_text (solve_fault.Typing fault) h = absurd h
+module_unexplained counting text m of_text (solve_fault.Module fault) h = absurd h
+module_unexplained counting text m of_text (solve_fault.Acceptance fault) h = absurd h
 
 pub unexplained : (counting : Counting) (bytes : List ℕ) (text : SpecForm) → IsReadText bytes text → IsWellTypedBy counting text → (f : SolveFault)
-    → IsUnexplainedForm text f → IsRefused counting bytes f
+    → IsUnexplainedForm counting text f → IsRefused counting bytes f
 unexplained counting bytes text read typed (solve_fault.Limit excess) h =
     uncompiled counting bytes (solve_fault.Limit excess) (form_uncompiled counting bytes text read typed (solve_fault.Limit excess) h)
 unexplained counting bytes text read typed solve_fault.TooManyVertices h = (h.0, of_bytes counting bytes text h.0 read typed h.1, h.2)
@@ -103,7 +103,7 @@ refused_texts counting bytes text (Err (or_memory.Refused f)) read typed h = unc
 
 -- ---- what is refused of a module is refused of the input that it is the module of
 
-pub module_of_text_refused : (counting : Counting) (bytes : List ℕ) (m : Contents) → IsModuleOfText counting bytes m → (f : SolveFault) → IsRefusedModule m f → IsRefused counting bytes f
+pub module_of_text_refused : (counting : Counting) (bytes : List ℕ) (m : Contents) → IsModuleOfText counting bytes m → (f : SolveFault) → IsRefusedModule counting m f → IsRefused counting bytes f
 module_of_text_refused counting bytes m of_text solve_fault.TooManyVertices h = (m, of_text, h)
 module_of_text_refused counting bytes m of_text solve_fault.NoProperty h = absurd h
 module_of_text_refused counting bytes m of_text (solve_fault.Property fault) h = absurd h

@@ -12,7 +12,7 @@ pub of_bytes : (counting : Counting) (bytes : List ℕ) (text : SpecForm) (m : C
     → IsModuleOfText counting bytes m
 of_bytes counting bytes text m read typed made = record { text = text; read = read; typed = typed; of_text = made }
 
-pub text_answer : (counting : Counting) (bytes : List ℕ) (m : Contents) → IsModuleOfText counting bytes m → (a : Answer) → IsAnswerOf m a → IsAnswer counting bytes a
+pub text_answer : (counting : Counting) (bytes : List ℕ) (m : Contents) → IsModuleOfText counting bytes m → (a : Answer) → IsAnswerOf counting m a → IsAnswer counting bytes a
 text_answer counting bytes m of_text a answered = let some = of_text.of_text.trees in record {
   text = of_text.text;
   read = of_text.read;

@@ -56,7 +56,7 @@ pub record IsAnswer (counting : Counting) (bytes : List ℕ) (a : Answer) : Type
   pub solved : a.truth ≡ answer (erase text)
   pub contents : Contents
   pub of_text : IsModuleOfText counting bytes contents
-  pub counted : IsAnswerOf contents a
+  pub counted : IsAnswerOf counting contents a
 
 -- Evidence for the answer to a text: what it says is well typed, its initial instance has this
 -- truth in the solution, and of the module of what it says it shows that.

@@ -39,11 +39,11 @@ abbrev pub IsUncompiledForm : SpecForm → SolveFault → Type 0
 IsUncompiledForm text (solve_fault.Limit excess) = IsFirstExcess (erase text) excess
 IsUncompiledForm text fault = ⊥
 
--- and of the module of one that is explained
-abbrev pub IsUnexplainedForm : SpecForm → SolveFault → Type 0
-IsUnexplainedForm text solve_fault.TooManyVertices =
-    (m : Contents) × IsModuleOfForm text m × IsTooLarge m
-IsUnexplainedForm text fault = IsUncompiledForm text fault
+-- and of the module of one that is explained, by which instances count
+abbrev pub IsUnexplainedForm : Counting → SpecForm → SolveFault → Type 0
+IsUnexplainedForm counting text solve_fault.TooManyVertices =
+    (m : Contents) × IsModuleOfForm text m × IsTooLarge counting m
+IsUnexplainedForm counting text fault = IsUncompiledForm text fault
 
 -- What a fault says of the text of each command, by which instances count against the limit. Where
 -- it says ⊥ the command has no such fault.
@@ -59,5 +59,5 @@ IsUncompiled counting bytes fault = ⊥
 -- has too large a game
 abbrev pub IsRefused : Counting → List ℕ → SolveFault → Type 0
 IsRefused counting bytes solve_fault.TooManyVertices =
-    (m : Contents) × IsModuleOfText counting bytes m × IsTooLarge m
+    (m : Contents) × IsModuleOfText counting bytes m × IsTooLarge counting m
 IsRefused counting bytes fault = IsUncompiled counting bytes fault

@@ -35,9 +35,9 @@ use std::thread::Threads;
 ///
 /// # Errors
 /// `Text` and `Typing` say which rule the text breaks and where, `Limit` which limit of the machine
-/// the code of which equation exceeds. `TooManyVertices` comes where the game would have more than
-/// 2^24 vertices, `Memory` where a request for memory was refused, and `Write` where the report
-/// could not be written whole. No other error comes.
+/// the code of which equation exceeds. `TooManyVertices` comes where the game would have more
+/// vertices than it may have, by which instances count, `Memory` where a request for memory was
+/// refused, and `Write` where the report could not be written whole. No other error comes.
 pub fn solve_text<R: Threads + Sync, G: Progress + Sync, S: Sink>(
     context: &Context<'_, R, G>,
     text: TextInput<'_>,
@@ -51,7 +51,7 @@ pub fn solve_text<R: Threads + Sync, G: Progress + Sync, S: Sink>(
         result S.Sink writer.old writer.new }
 {
     let verified = verified_text(context.alloc, text)?;
-    write_report(context, &verified, options, writer)
+    write_report(context, &verified, text.counting, options, writer)
 }
 
 /// Writes the parity game of a text's reached instances, in the form that PGSolver reads.
@@ -70,7 +70,7 @@ pub fn game_of<R: Threads + Sync, G: Progress + Sync, S: Sink>(
         result S.Sink writer.old writer.new }
 {
     let verified = verified_text(context.alloc, text)?;
-    write_game(context, &verified, workers, writer)
+    write_game(context, &verified, text.counting, workers, writer)
 }
 
 /// Writes the truth of each reached instance of a text in its solution: a line for each, by rising
@@ -91,7 +91,7 @@ pub fn solution_of<R: Threads + Sync, G: Progress + Sync, S: Sink>(
         result S.Sink writer.old writer.new }
 {
     let verified = verified_text(context.alloc, text)?;
-    write_solution(context, &verified, options, writer)
+    write_solution(context, &verified, text.counting, options, writer)
 }
 
 /// Writes a certificate of the game that `game_of` writes: for each vertex its winner, and the
@@ -115,7 +115,7 @@ pub fn certificate_of<R: Threads + Sync, G: Progress + Sync, S: Sink>(
         result S.Sink writer.old writer.new }
 {
     let verified = verified_text(context.alloc, text)?;
-    write_certificate(context, &verified, options, writer)
+    write_certificate(context, &verified, text.counting, options, writer)
 }
 
 // Writes the evidence of a text that is explained, with the places of its calls where they are
@@ -164,6 +164,6 @@ pub fn explain_text<R: Threads + Sync, G: Progress + Sync, S: Sink>(
         result S.Sink writer.old writer.new }
 {
     let typed = typed(context.alloc, text)?;
-    let explained = explained_typed(context, typed, options.workers)?;
+    let explained = explained_typed(context, typed, text.counting, options.workers)?;
     write_explained(context.alloc, &explained, options.places, writer)
 }

@@ -5,7 +5,8 @@ use Rattle.std.specs.Prelude.{◌∷◌, ◌==◌}
 use Rattle.std.specs.List.{list_any}
 use Rattle.std.specs.List.Sorted.{IsStrictlyIncreasing}
 use Rattle.pb_fixpoint_trees.specs.declared.player.Player.{Player}
-use Rattle.pb_base.specs.declared.limits.TheConstants.{MAX_VERTICES, MAX_PRIORITIES}
+use Rattle.pb_base.specs.declared.limits.TheConstants.{MAX_PRIORITIES}
+use Rattle.pb_game.specs.declared.limits.TheConstants.{MAX_GAME_VERTICES}
 
 -- the items of vertex v
 abbrev pub row : List ℕ → List ℕ → ℕ → List ℕ
@@ -40,7 +41,7 @@ greatest_of (x ∷ xs) = max x (greatest_of xs)
 -- with its predecessors
 pub record IsFlatGame (owners : List Player) (priorities : List ℕ) (greatest : ℕ)
     (places successors predecessor_places predecessors : List ℕ) : Type 0 where
-  pub small : length owners ≤ MAX_VERTICES
+  pub small : length owners ≤ MAX_GAME_VERTICES
   pub priority : length priorities ≡ length owners
   pub maximum : greatest ≡ greatest_of priorities
   pub few : greatest < MAX_PRIORITIES

@@ -6,7 +6,8 @@ use Rattle.pb_game.specs.declared.Game.{Game}
 use Rattle.pb_fixpoint_trees.specs.declared.player.Player.{Player}
 use Rattle.pb_fixpoint_trees.specs.declared.player.Player.TheVariants.{Even}
 use Rattle.pb_game.specs.Adjacency.{row, greatest_of}
-use Rattle.pb_base.specs.declared.limits.TheConstants.{MAX_VERTICES, MAX_PRIORITIES}
+use Rattle.pb_base.specs.declared.limits.TheConstants.{MAX_PRIORITIES}
+use Rattle.pb_game.specs.declared.limits.TheConstants.{MAX_GAME_VERTICES}
 
 -- how many vertices there are; they are the numbers below
 unfoldable pub vertex_count : Game → ℕ
@@ -41,7 +42,7 @@ HasEdge g v u = Contains (successors_of g v) u
 
 -- What holds of each game. Module `proofs/Laws` proves it for every value of the type.
 pub record IsGame (g : Game) : Type 0 where
-  pub small : vertex_count g ≤ MAX_VERTICES
+  pub small : vertex_count g ≤ MAX_GAME_VERTICES
   pub greatest : (v : ℕ) → v < vertex_count g → priority_of g v ≤ greatest_priority g
   pub few_priorities : priority_count g ≤ MAX_PRIORITIES
   pub successor : (v : ℕ) → v < vertex_count g → (u : ℕ) × HasEdge g v u

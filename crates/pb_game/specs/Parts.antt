@@ -9,8 +9,9 @@ use Rattle.pb_game.specs.declared.parts.GameFault.TheVariants.{TooManyVertices, 
 use Rattle.pb_game.specs.Adjacency.{row}
 use Rattle.pb_game.specs.Games.{vertex_count, owner_of, priority_of, successors_of}
 use Rattle.pb_base.specs.declared.limits.TheConstants.{MAX_VERTICES, MAX_PRIORITIES}
+use Rattle.pb_game.specs.declared.limits.TheConstants.{MAX_GAME_VERTICES}
 
--- G01: vertices within their limit
+-- G01: vertices within the limit of parts that a caller gives
 abbrev pub HasFewVertices : Parts → Type 0
 HasFewVertices p = length p.owners.items ≤ MAX_VERTICES
 
@@ -38,7 +39,7 @@ HasFewPriorities p = All (λ priority. priority < MAX_PRIORITIES) p.priorities.i
 
 -- parts that make a game
 pub record AreGame (p : Parts) : Type 0 where
-  pub few : HasFewVertices p
+  pub few : length p.owners.items ≤ MAX_GAME_VERTICES
   pub priorities : HasPriorities p
   pub places : HasPlaces p
   pub successors : HasSuccessors p

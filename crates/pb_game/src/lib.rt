@@ -8,6 +8,7 @@
 
 mod adjacency;
 mod certificate;
+mod limits;
 mod parts;
 mod predecessors;
 mod solver;
@@ -16,10 +17,11 @@ ghost use Rattle.std.specs.Prelude.{◌≡◌, ℕ, ◌<◌, ◌≤◌, length, 
 ghost use Rattle.std.specs.Prelude.{Contains, ◌↔◌};
 ghost use Rattle.pb_base.specs.OrMemory.{IfRefused};
 ghost use Rattle.pb_game.specs.Adjacency.{IsFlatGame};
-ghost use Rattle.pb_base.specs.declared.limits.TheConstants.{MAX_VERTICES};
+ghost use Rattle.pb_game.specs.declared.limits.TheConstants.{MAX_GAME_VERTICES};
 
 use adjacency::row_of;
 pub use certificate::{CertificateRule, Flaw, Solution};
+pub use limits::MAX_GAME_VERTICES;
 pub use parts::{GameError, GameFault, Parts};
 pub use pb_fixpoint_trees::Player;
 use predecessors::{Predecessors, transpose};
@@ -44,7 +46,7 @@ pub struct Game {
 impl Game {
     ghost use Rattle.pb_game.specs.Games.{vertex_count, owner_of, priority_of, greatest_priority};
     ghost use Rattle.pb_game.specs.Games.{successors_of, predecessors_of, HasEdge, IsGame};
-    ghost use Rattle.pb_game.specs.Parts.{AreGame, IsGameOfParts, Refuses};
+    ghost use Rattle.pb_game.specs.Parts.{AreGame, HasFewVertices, IsGameOfParts, Refuses};
 
     /// The game of these parts.
     ///
@@ -54,6 +56,7 @@ impl Game {
     pub fn from_parts(alloc: Global, parts: Parts) -> Result<Game, GameError>
         ensures game { IfOk result (λ game. IsGameOfParts parts game) }
         ensures well_formed { IfOk result (λ game. IsGame game) }
+        ensures few { IfOk result (λ _. HasFewVertices parts) }
         ensures refused { IfRefused result (Refuses parts) }
     {
         parts.check()?;
@@ -88,7 +91,7 @@ impl Game {
     #[tactic(auto, unfolding(crate::specs::Games::vertex_count))]
     pub fn len(&self) -> u32
         ensures value { result ≡ vertex_count self.now }
-        ensures small { result ≤ MAX_VERTICES }
+        ensures small { result ≤ MAX_GAME_VERTICES }
     {
         self.owners.len() as u32
     }

@@ -69,7 +69,8 @@ impl fmt::Display for GameFault {
 }
 
 impl Parts {
-    ghost use Rattle.pb_game.specs.Parts.{AreGame, HasPlaces, HasSuccessors, Refuses};
+    ghost use Rattle.pb_game.specs.Parts.{AreGame, HasFewVertices, HasPlaces, HasSuccessors};
+    ghost use Rattle.pb_game.specs.Parts.{Refuses};
 
     /// Tests that the parts make a game.
     ///
@@ -78,6 +79,7 @@ impl Parts {
     /// The first fault, in the order of [`GameFault`]'s variants.
     pub(crate) fn check(&self) -> Result<(), GameFault>
         ensures ok { IfOk result (λ _. AreGame self.now) }
+        ensures few { IfOk result (λ _. HasFewVertices self.now) }
         ensures refused { IfErr result (Refuses self.now) }
     {
         if self.owners.len() > MAX_VERTICES {

@@ -9,7 +9,7 @@ use Rattle.pb_fixpoint_trees.specs.Game.{Vertex, vertex_of, priority_from, row_v
 use Rattle.pb_fixpoint_trees.specs.Laws.{GameIsTotal}
 use Rattle.pb_fixpoint_trees.specs.Row.{TokenRow}
 use Rattle.pb_fixpoint_trees.specs.Reached.{numbers_of, row_of, rows_of, AreRowsOf}
-use Rattle.pb_base.specs.declared.limits.TheConstants.{MAX_VERTICES}
+use Rattle.pb_game.specs.declared.limits.TheConstants.{MAX_GAME_VERTICES}
 use Rattle.pb_game_of_trees.specs.Held.{Hold}
 use Rattle.pb_game_of_trees.specs.declared.levels.Level.{Level}
 use Rattle.pb_game_of_trees.specs.Draft.{MakeGame}
@@ -56,8 +56,11 @@ module _ {signatures : List Signature} {trees : ℕ → Tree} {rows : List Token
   pub size_is : length (game_vertices signatures (rows_of trees rows)) ≡ vertex_behind (rows_of trees rows) 2
   size_is = omega (arith, length-row_vertices (vertex_of reached) (priority_from 0 signatures) reached 2)
 
+  pub few_vertices : {size limit : ℕ} → IsSizeOf rows size → size ≤ limit → length (game_vertices signatures (rows_of trees rows)) ≤ limit
+  few_vertices size small = omega (arith, size_is, small, size reached hold)
+
   -- the vertices of rows in a game of this size
-  pub few_places : {size : ℕ} {vertices : List ℕ} → IsSizeOf rows size → size ≤ MAX_VERTICES → ArePlacesOf rows vertices → length vertices ≤ MAX_VERTICES
+  pub few_places : {size limit : ℕ} {vertices : List ℕ} → IsSizeOf rows size → size ≤ limit → ArePlacesOf rows vertices → length vertices ≤ limit
   few_places size small places =
       omega (arith, ap length (places reached hold), length-vertices_from reached 2, fewer_rows reached 2, small, size reached hold)
 
@@ -78,9 +81,9 @@ module _ {signatures : List Signature} {trees : ℕ → Tree} {rows : List Token
       let same = ap (λ (m : ℕ). vertex_of reached m) number in
       omega (arith, same, vertex_from-at reached 2 k are.rising l, vertices_from-below reached 2 k 0 l, size_is)
 
-  pub makes_game : {size : ℕ} → GameIsTotal → length signatures < 256 → IsSizeOf rows size → size ≤ MAX_VERTICES → MakeGame (game_vertices signatures (rows_of trees rows))
+  pub makes_game : {size : ℕ} → GameIsTotal → length signatures < 256 → IsSizeOf rows size → size ≤ MAX_GAME_VERTICES → MakeGame (game_vertices signatures (rows_of trees rows))
   makes_game total_game few size small =
-      let fits : vertex_behind reached 2 ≤ MAX_VERTICES = omega (arith, size reached hold, small) in
+      let fits : vertex_behind reached 2 ≤ MAX_GAME_VERTICES = omega (arith, size reached hold, small) in
       record {
         few = omega (arith, size_is, fits);
         each = total_game signatures trees reached of.system;

@@ -6,7 +6,8 @@ use Rattle.pb_fixpoint_trees.specs.Equations.{Signature}
 use Rattle.pb_fixpoint_trees.specs.Rows.{Row}
 use Rattle.pb_fixpoint_trees.specs.Row.{TokenRow}
 use Rattle.pb_fixpoint_trees.specs.Reached.{rows_of, AreRowsOf}
-use Rattle.pb_base.specs.declared.limits.TheConstants.{MAX_VERTICES}
+use Rattle.pb_sorts.specs.declared.counting.Counting.{Counting}
+use Rattle.pb_game_of_trees.specs.VertexLimit.{vertex_limit}
 use Rattle.pb_base.specs.OrMemory.{OnRefused}
 use Rattle.pb_base.specs.declared.or_memory.OrMemory.{OrMemory}
 use Rattle.pb_base.specs.declared.or_memory.OrMemory.TheVariants.{Refused, Memory}
@@ -18,49 +19,53 @@ use Rattle.pb_game_of_trees.specs.Places.{vertex_behind, IsSizeOf}
 use Rattle.pb_game_of_trees.specs.TreeGame.{HasTooManyVertices, IsRefusedExactly}
 use Rattle.pb_game_of_trees.proofs.Built.{hold, size_is}
 
--- the vertices of the rows would be too many
-abbrev pub Exceeds : List TokenRow → Type 0
-Exceeds rows = (plain : List Row) → Hold rows plain → MAX_VERTICES < vertex_behind plain 2
+-- the vertices of the rows would be more than the limit
+abbrev pub Exceeds : ℕ → List TokenRow → Type 0
+Exceeds limit rows = (plain : List Row) → Hold rows plain → limit < vertex_behind plain 2
 
--- they are no more than a game may have
-abbrev pub Fits : List TokenRow → Type 0
-Fits rows = (plain : List Row) → Hold rows plain → vertex_behind plain 2 ≤ MAX_VERTICES
+-- they are no more than that
+abbrev pub Fits : ℕ → List TokenRow → Type 0
+Fits limit rows = (plain : List Row) → Hold rows plain → vertex_behind plain 2 ≤ limit
 
 -- what is not laid out is refused exactly where it is too large
-abbrev pub IsLaidExactly : Result Laid (OrMemory TooManyVertices) → List TokenRow → Type 0
-IsLaidExactly result rows = (plain : List Row) → Hold rows plain → (result ≡ Err (Refused (record {}))) ↔ (MAX_VERTICES < vertex_behind plain 2)
+abbrev pub IsLaidExactly : ℕ → Result Laid (OrMemory TooManyVertices) → List TokenRow → Type 0
+IsLaidExactly limit result rows = (plain : List Row) → Hold rows plain → (result ≡ Err (Refused (record {}))) ↔ (limit < vertex_behind plain 2)
 
-pub rightly_refused : {rows : List TokenRow} → Exceeds rows → IsLaidExactly (Err (Refused (record {}))) rows
+pub rightly_refused : {limit : ℕ} {rows : List TokenRow} → Exceeds limit rows → IsLaidExactly limit (Err (Refused (record {}))) rows
 rightly_refused exceeds = λ plain hold. (λ _. exceeds plain hold, λ _. refl)
 
-pub not_laid : {result : Result Laid (OrMemory TooManyVertices)} {rows : List TokenRow} → (result ≡ Err (Refused (record {})) → ⊥) → Fits rows → IsLaidExactly result rows
+pub not_laid : {limit : ℕ} {result : Result Laid (OrMemory TooManyVertices)} {rows : List TokenRow} → (result ≡ Err (Refused (record {})) → ⊥) → Fits limit rows → IsLaidExactly limit result rows
 not_laid other fits = λ plain hold. (λ e. absurd (other e), λ more. absurd (omega (arith, more, fits plain hold)))
 
 -- the game is refused where its rows are
-pub refused_alike : {signatures : List Signature} {rows : List TokenRow} {laid : Result Laid (OrMemory TooManyVertices)} {result : Result TreeGame (OrMemory TooManyVertices)}
-    {fault error : OrMemory TooManyVertices} → laid ≡ Err fault → result ≡ Err error → error ≡ fault → IsLaidExactly laid rows → IsRefusedExactly result signatures rows
-refused_alike {signatures} {rows} e r same exactly = λ trees of. (
-  λ refused. omega (arith, (exactly (rows_of trees rows) (hold of)).0 cc, size_is of),
-  λ more. let refused = (exactly (rows_of trees rows) (hold of)).1 (omega (arith, more, size_is of)) in cc,
+pub refused_alike : (counting : Counting) {limit : ℕ} → limit ≡ vertex_limit counting → {signatures : List Signature} {rows : List TokenRow}
+    {laid : Result Laid (OrMemory TooManyVertices)} {result : Result TreeGame (OrMemory TooManyVertices)}
+    {fault error : OrMemory TooManyVertices} → laid ≡ Err fault → result ≡ Err error → error ≡ fault → IsLaidExactly limit laid rows →
+    IsRefusedExactly counting result signatures rows
+refused_alike counting at {signatures} {rows} e r same exactly = λ trees of. (
+  λ refused. omega (arith, at, (exactly (rows_of trees rows) (hold of)).0 cc, size_is of),
+  λ more. let refused = (exactly (rows_of trees rows) (hold of)).1 (omega (arith, at, more, size_is of)) in cc,
 )
 
-pub not_refused : {result : Result TreeGame (OrMemory TooManyVertices)} {signatures : List Signature} {rows : List TokenRow} →
-    (result ≡ Err (Refused (record {})) → ⊥) → {size : ℕ} → IsSizeOf rows size → size ≤ MAX_VERTICES → IsRefusedExactly result signatures rows
-not_refused {result} {signatures} {rows} other {size} is small = λ trees of. (
+pub not_refused : (counting : Counting) {limit : ℕ} → limit ≡ vertex_limit counting →
+    {result : Result TreeGame (OrMemory TooManyVertices)} {signatures : List Signature} {rows : List TokenRow} →
+    (result ≡ Err (Refused (record {})) → ⊥) → {size : ℕ} → IsSizeOf rows size → size ≤ limit → IsRefusedExactly counting result signatures rows
+not_refused counting at {result} {signatures} {rows} other {size} is small = λ trees of. (
   λ e. absurd (other e),
-  λ more. absurd (omega (arith, more, small, is (rows_of trees rows) (hold of), size_is of)),
+  λ more. absurd (omega (arith, at, more, small, is (rows_of trees rows) (hold of), size_is of)),
 )
 
 -- nor is it where memory is wanted for what comes behind the rows
-pub not_for_memory : (result : Result TreeGame (OrMemory TooManyVertices)) {signatures : List Signature} {rows : List TokenRow} → IsErrAnd result (λ error. error ≡ Memory) →
-    {size : ℕ} → IsSizeOf rows size → size ≤ MAX_VERTICES → IsRefusedExactly result signatures rows
-not_for_memory (Ok built) is = absurd is
-not_for_memory (Err error) is = not_refused (λ e. cc)
+pub not_for_memory : (counting : Counting) {limit : ℕ} → limit ≡ vertex_limit counting → (result : Result TreeGame (OrMemory TooManyVertices)) {signatures : List Signature}
+    {rows : List TokenRow} → IsErrAnd result (λ error. error ≡ Memory) →
+    {size : ℕ} → IsSizeOf rows size → size ≤ limit → IsRefusedExactly counting result signatures rows
+not_for_memory counting at (Ok built) is = absurd is
+not_for_memory counting at (Err error) is = not_refused counting at (λ e. cc)
 
-pub too_large : (signatures : List Signature) (rows : List TokenRow)
-    (result : Result TreeGame (OrMemory TooManyVertices)) → IsRefusedExactly result signatures rows
+pub too_large : (counting : Counting) (signatures : List Signature) (rows : List TokenRow)
+    (result : Result TreeGame (OrMemory TooManyVertices)) → IsRefusedExactly counting result signatures rows
     → OnRefused result ((trees : ℕ → Tree) → AreRowsOf signatures trees rows
-    → HasTooManyVertices signatures trees rows)
-too_large signatures rows (Ok built) exactly = tt
-too_large signatures rows (Err Memory) exactly = tt
-too_large signatures rows (Err (Refused fault)) exactly = λ trees are. (exactly trees are).0 refl
+    → HasTooManyVertices counting signatures trees rows)
+too_large counting signatures rows (Ok built) exactly = tt
+too_large counting signatures rows (Err Memory) exactly = tt
+too_large counting signatures rows (Err (Refused fault)) exactly = λ trees are. (exactly trees are).0 refl

@@ -5,7 +5,8 @@ use Rattle.std.specs.List.{flat_map}
 use Rattle.pb_fixpoint_trees.specs.Game.{Vertex}
 use Rattle.pb_fixpoint_trees.specs.Laws.{IsGameVertex}
 use Rattle.pb_fixpoint_trees.specs.declared.player.Player.{Player}
-use Rattle.pb_base.specs.declared.limits.TheConstants.{MAX_VERTICES, MAX_PRIORITIES}
+use Rattle.pb_base.specs.declared.limits.TheConstants.{MAX_PRIORITIES}
+use Rattle.pb_game.specs.declared.limits.TheConstants.{MAX_GAME_VERTICES}
 use Rattle.pb_game.specs.declared.parts.Parts.{Parts}
 use Rattle.pb_game_of_trees.specs.declared.draft.Draft.{Draft}
 
@@ -44,6 +45,6 @@ pub record ArePartsOf (parts : Parts) (vertices : List Vertex) : Type 0 where
 
 -- the vertices are those of a game, with priorities within their limit
 pub record MakeGame (vertices : List Vertex) : Type 0 where
-  pub few : length vertices ≤ MAX_VERTICES
+  pub few : length vertices ≤ MAX_GAME_VERTICES
   pub each : (v : ℕ) (x : Vertex) → slice_get vertices v ≡ Some x → IsGameVertex (length vertices) x
   pub low : (v : ℕ) (x : Vertex) → slice_get vertices v ≡ Some x → x.priority < MAX_PRIORITIES

@@ -4,6 +4,7 @@ use Rattle.std.specs.Prelude.{ℕ, List, map}
 use Rattle.pb_fixpoint_trees.specs.Tree.{Tree}
 use Rattle.pb_fixpoint_trees.specs.Row.{TokenRow}
 use Rattle.pb_fixpoint_trees.specs.Reached.{rows_of}
+use Rattle.pb_sorts.specs.declared.counting.Counting.{Counting}
 use Rattle.pb_bytecode.specs.Contents.{Contents}
 use Rattle.pb_bytecode.specs.Meaning.{AreTrees, signature_of, initial_of}
 use Rattle.pb_game_of_trees.specs.declared.tree_game.TreeGame.{TreeGame}
@@ -26,9 +27,9 @@ IsModuleGame m rows built =
     (trees : ℕ → Tree) → AreTrees m trees
     → IsTreeGame (map signature_of m.equations) trees (rows_of trees rows) (initial_of m) built
 
--- with whichever trees its instances have, the game of the module's rows has more vertices than a
--- game may have
-abbrev pub IsModuleTooLarge : Contents → List TokenRow → Type 0
-IsModuleTooLarge m rows =
+-- with whichever trees its instances have, the game of the module's rows has more vertices than it
+-- may have
+abbrev pub IsModuleTooLarge : Counting → Contents → List TokenRow → Type 0
+IsModuleTooLarge counting m rows =
     (trees : ℕ → Tree) → AreTrees m trees
-    → HasTooManyVertices (map signature_of m.equations) trees rows
+    → HasTooManyVertices counting (map signature_of m.equations) trees rows

@@ -6,5 +6,6 @@ pub mod Levels
 pub mod Held
 pub mod Places
 pub mod Numbering
+pub mod VertexLimit
 pub mod TreeGame
 pub mod Explored

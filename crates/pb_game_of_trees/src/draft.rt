@@ -4,7 +4,7 @@
 ghost use Rattle.std.specs.Prelude.{◌≡◌, ◌∷◌, ◌-◌, ◌≤◌, All, IfOk, OnOk, List, [], map, reverse};
 ghost use Rattle.pb_fixpoint_trees.specs.Game.{Vertex, rising};
 ghost use Rattle.pb_game_of_trees.specs.Draft.{IsDraft, ArePartsOf};
-ghost use Rattle.pb_base.specs.declared.limits.TheConstants.{MAX_VERTICES};
+ghost use Rattle.pb_game.specs.declared.limits.TheConstants.{MAX_GAME_VERTICES};
 
 use crate::falling::push_falling;
 use pb_fixpoint_trees::push;
@@ -23,7 +23,7 @@ pub(crate) struct Draft {
 impl Draft {
     /// No vertices, with room for so many and their edges.
     pub fn with_capacity(alloc: Global, vertices: usize, edges: usize) -> Result<Draft, AllocError>
-        requires { vertices ≤ MAX_VERTICES }
+        requires { vertices ≤ MAX_GAME_VERTICES }
         ensures { IfOk result (λ draft. IsDraft draft []) }
     {
         let mut sums = Vec::with_capacity(alloc, vertices + 1)?;

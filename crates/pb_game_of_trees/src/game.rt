@@ -5,13 +5,14 @@ ghost use Rattle.pb_fixpoint_trees.specs.Tree.{Tree};
 ghost use Rattle.pb_fixpoint_trees.specs.Reached.{AreRowsOf};
 ghost use Rattle.pb_bytecode.specs.Meaning.{signature_of, initial_of};
 ghost use Rattle.pb_game_of_trees.specs.TreeGame.{RowsHaveTrees, IsGameOf};
-ghost use Rattle.pb_game_of_trees.specs.TreeGame.{HasTooManyVertices};
+ghost use Rattle.pb_game_of_trees.specs.TreeGame.{KeepsVertexLimit, HasTooManyVertices};
 ghost use Rattle.pb_game_of_trees.specs.Explored.{ModuleHasTrees, AreModuleRows, IsModuleGame};
 ghost use Rattle.pb_game_of_trees.specs.Explored.{IsModuleTooLarge};
 
 use crate::signatures::Signatures;
 use crate::{BuildError, TreeGame};
 use pb_fixpoint_trees::IndexedRows;
+use pb_sorts::Counting;
 use pb_verifier::Verified;
 use std::alloc::Global;
 
@@ -19,33 +20,43 @@ use std::alloc::Global;
 /// own, or others that are assumed.
 ///
 /// # Errors
-/// `TooManyVertices` where the game would have more than 2^24 vertices; else `Memory`.
+/// `TooManyVertices` where the game would have more vertices than `vertex_limit` has, by which
+/// instances count; else `Memory`.
 pub fn build_rows(
     alloc: Global,
     verified: &Verified,
     rows: &IndexedRows,
+    counting: Counting,
 ) -> Result<TreeGame, BuildError>
     requires { RowsHaveTrees (map signature_of verified.now.equations) rows.now
         (initial_of verified.now) }
     ensures game { IfOk result (IsGameOf (map signature_of verified.now.equations) rows.now
         (initial_of verified.now)) }
+    ensures few { IfOk result (KeepsVertexLimit counting) }
     ensures too_many { OnRefused result ((trees : ℕ → Tree)
         → AreRowsOf (map signature_of verified.now.equations) trees rows.now
-        → HasTooManyVertices (map signature_of verified.now.equations) trees rows.now) }
+        → HasTooManyVertices counting (map signature_of verified.now.equations) trees rows.now) }
 {
     let signatures = Signatures::of_module(alloc, verified)?;
-    TreeGame::build(alloc, &signatures, rows, verified.initial())
+    TreeGame::build(alloc, &signatures, rows, verified.initial(), counting)
 }
 
 /// The game of the reached instances of a module.
 ///
 /// # Errors
-/// `TooManyVertices` where the game would have more than 2^24 vertices; else `Memory`.
-pub fn build(alloc: Global, verified: &Verified, rows: &IndexedRows) -> Result<TreeGame, BuildError>
+/// `TooManyVertices` where the game would have more vertices than `vertex_limit` has, by which
+/// instances count; else `Memory`.
+pub fn build(
+    alloc: Global,
+    verified: &Verified,
+    rows: &IndexedRows,
+    counting: Counting,
+) -> Result<TreeGame, BuildError>
     requires trees { ModuleHasTrees verified.now }
     requires rows { AreModuleRows verified.now rows.now }
     ensures game { IfOk result (IsModuleGame verified.now rows.now) }
-    ensures too_many { OnRefused result (IsModuleTooLarge verified.now rows.now) }
+    ensures few { IfOk result (KeepsVertexLimit counting) }
+    ensures too_many { OnRefused result (IsModuleTooLarge counting verified.now rows.now) }
 {
-    build_rows(alloc, verified, rows)
+    build_rows(alloc, verified, rows, counting)
 }

@@ -4,11 +4,10 @@ ghost use Rattle.pb_base.specs.declared.or_memory.OrMemory.TheVariants.{Refused}
 ghost use Rattle.pb_fixpoint_trees.specs.Rows.{Row as plain_row};
 ghost use Rattle.pb_game_of_trees.specs.Held.{Hold};
 ghost use Rattle.pb_game_of_trees.specs.Places.{IsSizeOf, ArePlacesOf, vertex_behind, vertices_from};
-ghost use Rattle.pb_base.specs.declared.limits.TheConstants.{MAX_VERTICES};
+ghost use Rattle.pb_game.specs.declared.limits.TheConstants.{MAX_GAME_VERTICES};
 
 use crate::size::{Size, inner_of, size_of};
 use crate::tree_game::{BuildError, TooManyVertices};
-use pb_base::MAX_VERTICES;
 use pb_fixpoint_trees::{IndexedRows, ReadRows, push};
 use std::alloc::{AllocError, Global};
 
@@ -20,14 +19,16 @@ pub(crate) struct Laid {
 }
 
 /// The vertices of the rows' trees lie side by side, behind the two sinks. None where they are more
-/// than a game may have (G01).
-fn lay_rows(alloc: Global, rows: &IndexedRows) -> Result<Option<Laid>, AllocError>
+/// than the limit (G01).
+fn lay_rows(alloc: Global, rows: &IndexedRows, limit: usize) -> Result<Option<Laid>, AllocError>
+    requires sinks { 2 ≤ limit }
+    requires few { limit ≤ MAX_GAME_VERTICES }
     ensures laid { IfOk result (λ found. (plain : List plain_row) → Hold rows.now plain
-        → MatchOption found (MAX_VERTICES < vertex_behind plain 2)
+        → MatchOption found (limit < vertex_behind plain 2)
         (λ laid. (laid.size.vertices ≡ vertex_behind plain 2)
         × (laid.vertices.items ≡ vertices_from plain 2))) }
     ensures small { IfOk result (λ found. IfSome found
-        (λ laid. laid.size.vertices ≤ MAX_VERTICES)) }
+        (λ laid. laid.size.vertices ≤ limit)) }
 {
     let mut vertices = Vec::with_capacity(alloc, rows.len())?;
     let mut next = 2;
@@ -36,7 +37,7 @@ fn lay_rows(alloc: Global, rows: &IndexedRows) -> Result<Option<Laid>, AllocErro
         let inner = inner_of(rows, k);
         push(&mut vertices, next as u32)?;
         next += inner + 1;
-        if next > MAX_VERTICES {
+        if next > limit {
             return Ok(None);
         }
         edges = edges.saturating_add(rows.tree_len(k).saturating_sub(inner + 1).max(1));
@@ -50,17 +51,19 @@ fn lay_rows(alloc: Global, rows: &IndexedRows) -> Result<Option<Laid>, AllocErro
 
 /// The same, with the error of a game that has too many vertices: that is found without the vertex
 /// of each row too, where there is no memory for these.
-pub(crate) fn laid_rows(alloc: Global, rows: &IndexedRows) -> Result<Laid, BuildError>
+pub(crate) fn laid_rows(alloc: Global, rows: &IndexedRows, limit: usize) -> Result<Laid, BuildError>
+    requires sinks { 2 ≤ limit }
+    requires few { limit ≤ MAX_GAME_VERTICES }
     ensures size { IfOk result (λ laid. IsSizeOf rows.now laid.size.vertices) }
     ensures vertices { IfOk result (λ laid. ArePlacesOf rows.now laid.vertices.items) }
-    ensures small { IfOk result (λ laid. laid.size.vertices ≤ MAX_VERTICES) }
+    ensures small { IfOk result (λ laid. laid.size.vertices ≤ limit) }
     ensures too_many { (plain : List plain_row) → Hold rows.now plain
-        → (result ≡ Err (Refused (record {}))) ↔ (MAX_VERTICES < vertex_behind plain 2) }
+        → (result ≡ Err (Refused (record {}))) ↔ (limit < vertex_behind plain 2) }
 {
-    match lay_rows(alloc, rows) {
+    match lay_rows(alloc, rows, limit) {
         Ok(None) => Err(BuildError::Refused(TooManyVertices)),
         Ok(Some(laid)) => Ok(laid),
-        Err(AllocError) => match size_of(rows) {
+        Err(AllocError) => match size_of(rows, limit) {
             None => Err(BuildError::Refused(TooManyVertices)),
             Some(_) => Err(BuildError::Memory),
         },

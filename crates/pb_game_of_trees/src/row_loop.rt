@@ -7,7 +7,7 @@ ghost use Rattle.pb_game_of_trees.specs.Draft.{IsDraft};
 ghost use Rattle.pb_game_of_trees.specs.Levels.{priority_in};
 ghost use Rattle.pb_game_of_trees.specs.Numbering.{numbered_vertex};
 ghost use Rattle.pb_game_of_trees.specs.Places.{vertex_behind};
-ghost use Rattle.pb_base.specs.declared.limits.TheConstants.{MAX_VERTICES};
+ghost use Rattle.pb_game.specs.declared.limits.TheConstants.{MAX_GAME_VERTICES};
 
 use crate::builder::Builder;
 use crate::draft::Draft;
@@ -26,7 +26,7 @@ pub(crate) fn draft_of(
     vertices: &Numbering<'_>,
     size: Size,
 ) -> Result<Draft, AllocError>
-    requires small { size.vertices ≤ MAX_VERTICES }
+    requires small { size.vertices ≤ MAX_GAME_VERTICES }
     requires rows { (plain : List plain_row) × Hold rows.now plain
         × (size.vertices ≡ vertex_behind plain 2) }
     ensures { IfOk result (λ draft. (plain : List plain_row) → Hold rows.now plain

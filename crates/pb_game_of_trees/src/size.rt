@@ -8,9 +8,8 @@ ghost use Rattle.pb_fixpoint_trees.specs.Game.{inner};
 ghost use Rattle.pb_fixpoint_trees.specs.Row.{nothing};
 ghost use Rattle.pb_game_of_trees.specs.Held.{Hold};
 ghost use Rattle.pb_game_of_trees.specs.Places.{vertex_behind, is_closing};
-ghost use Rattle.pb_base.specs.declared.limits.TheConstants.{MAX_VERTICES};
+ghost use Rattle.pb_game.specs.declared.limits.TheConstants.{MAX_GAME_VERTICES};
 
-use pb_base::MAX_VERTICES;
 use pb_fixpoint_trees::{IndexedRows, Kind, ReadRows};
 use pb_game::Game;
 
@@ -53,19 +52,21 @@ pub(crate) fn inner_of(rows: &IndexedRows, k: usize) -> usize
     count_closing(rows.tokens(k).kinds()).saturating_sub(1)
 }
 
-/// The size of the game of these rows; none where it has more vertices than a game may have (G01).
-pub(crate) fn size_of(rows: &IndexedRows) -> Option<Size>
+/// The size of the game of these rows; none where it has more vertices than the limit (G01).
+pub(crate) fn size_of(rows: &IndexedRows, limit: usize) -> Option<Size>
+    requires sinks { 2 ≤ limit }
+    requires few { limit ≤ MAX_GAME_VERTICES }
     ensures size { (plain : List plain_row) → Hold rows.now plain
-        → MatchOption result (MAX_VERTICES < vertex_behind plain 2)
+        → MatchOption result (limit < vertex_behind plain 2)
         (λ size. size.vertices ≡ vertex_behind plain 2) }
-    ensures small { IfSome result (λ size. size.vertices ≤ MAX_VERTICES) }
+    ensures small { IfSome result (λ size. size.vertices ≤ limit) }
 {
     let mut vertices = 2;
     let mut edges: usize = 2;
     for k in 0..rows.len() {
         let inner = inner_of(rows, k);
         vertices += inner + 1;
-        if vertices > MAX_VERTICES {
+        if vertices > limit {
             return None;
         }
         edges = edges.saturating_add(rows.tree_len(k).saturating_sub(inner + 1).max(1));

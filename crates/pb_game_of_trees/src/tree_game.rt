@@ -1,10 +1,11 @@
 //! The game of a system's reached instances.
 ghost use Rattle.std.specs.Prelude.{◌≡◌, ◌≤◌, ◌<◌, All, vec_len};
-ghost use Rattle.pb_base.specs.declared.limits.TheConstants.{MAX_VERTICES};
+ghost use Rattle.pb_game.specs.declared.limits.TheConstants.{MAX_GAME_VERTICES};
 ghost use Rattle.pb_game.specs.Games.{vertex_count};
 
 use crate::finished::game_of;
 use crate::levels::{Levels, count_instances};
+use crate::limit::vertex_limit;
 use crate::numbering::number_vertices;
 use crate::places::{Laid, laid_rows};
 use crate::row_loop::draft_of;
@@ -12,10 +13,12 @@ use crate::signatures::Signatures;
 use pb_base::{Fault, OrMemory};
 use pb_fixpoint_trees::IndexedRows;
 use pb_game::Game;
+use pb_sorts::Counting;
 use std::alloc::Global;
 use std::fmt;
 
-/// The game would have more than 2^24 vertices. It shows as `G01`.
+/// The game would have more vertices than it may have: than 2^24 where declared instances count,
+/// and than 2^30 where those that are reached count. It shows as `G01`.
 #[derive(Clone, Copy, Debug, PartialEq, Eq)]
 pub struct TooManyVertices;
 
@@ -42,7 +45,7 @@ pub struct TreeGame {
     pub vertices: Vec<u32>,
     /// The vertex of the initial instance.
     pub start: u32,
-    pub ghost few: { vec_len vertices ≤ MAX_VERTICES },
+    pub ghost few: { vec_len vertices ≤ MAX_GAME_VERTICES },
     pub ghost inside: { start < vertex_count game },
     pub ghost rows_inside: { All (λ v. v < vertex_count game) vertices.items },
 }
@@ -50,27 +53,31 @@ pub struct TreeGame {
 impl TreeGame {
     ghost use Rattle.std.specs.Prelude.{IfOk, length};
     ghost use Rattle.pb_game_of_trees.specs.Equations.{equations_of};
-    ghost use Rattle.pb_game_of_trees.specs.TreeGame.{RowsHaveTrees, IsGameOf, IsRefusedExactly};
+    ghost use Rattle.pb_game_of_trees.specs.TreeGame.{RowsHaveTrees, KeepsVertexLimit, IsGameOf};
+    ghost use Rattle.pb_game_of_trees.specs.TreeGame.{IsRefusedExactly};
 
     /// The game of the reached instances of these equations, where `initial` is one of them. How
     /// many vertices it has is found before the game is made: with the vertex of each row, or
     /// without, where there is no memory for these.
     ///
     /// # Errors
-    /// `TooManyVertices` exactly where there would be more than 2^24; else `Memory`.
+    /// `TooManyVertices` exactly where there would be more than `vertex_limit` has, by which
+    /// instances count; else `Memory`.
     pub fn build(
         alloc: Global,
         signatures: &Signatures,
         rows: &IndexedRows,
         initial: u64,
+        counting: Counting,
     ) -> Result<TreeGame, BuildError>
         requires { RowsHaveTrees (equations_of signatures.now.items.items) rows.now initial }
         ensures game { IfOk result
             (IsGameOf (equations_of signatures.now.items.items) rows.now initial) }
-        ensures too_many { IsRefusedExactly result (equations_of signatures.now.items.items)
-            rows.now }
+        ensures few { IfOk result (KeepsVertexLimit counting) }
+        ensures too_many { IsRefusedExactly counting result
+            (equations_of signatures.now.items.items) rows.now }
     {
-        let Laid { size, vertices } = laid_rows(alloc, rows)?;
+        let Laid { size, vertices } = laid_rows(alloc, rows, vertex_limit(counting))?;
         let numbers = count_instances(signatures) as usize;
         let numbering = number_vertices(alloc, rows, &vertices, numbers)?;
         let levels = Levels::new(alloc, signatures)?;

@@ -24,6 +24,6 @@ returns g c =
     let bytes = c.args.bytes.now in
     let m = c.in_ok-verified.verified in
     let of_code = c.in_ok-verified.ensures.«module» in
-    reported g.S.Sink (IsAnswerOf m) (IsAnswerOfCode counting bytes) (λ answer is. record { contents = m; of_code = of_code; answered = is })
-    (IsRefusedModule m) (IsRefusedBytes counting bytes) (module_of_code_refused counting bytes m of_code)
+    reported g.S.Sink (IsAnswerOf counting m) (IsAnswerOfCode counting bytes) (λ answer is. record { contents = m; of_code = of_code; answered = is })
+    (IsRefusedModule counting m) (IsRefusedBytes counting bytes) (module_of_code_refused counting bytes m of_code)
     c.args.writer.now c.write_report.new.writer c.write_report.result c.write_report.ensures

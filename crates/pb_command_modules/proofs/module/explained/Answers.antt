@@ -6,5 +6,5 @@ use Rattle.pb_command_modules.proofs.module.explained.Goals as goal
 
 pub returns-in-Err-clause-refused : goal.returns-in-Err-clause-refused
 returns-in-Err-clause-refused g c =
-    if_raised c.in-Err.error c.raise.result c.raise.ensures (λ _ above same large. subst (IsRefusedModule c.args.verified.now) (sym same) large)
+    if_raised c.in-Err.error c.raise.result c.raise.ensures (λ _ above same large. subst (IsRefusedModule c.args.counting c.args.verified.now) (sym same) large)
     c.in-Err.ensures

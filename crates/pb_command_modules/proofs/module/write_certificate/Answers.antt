@@ -19,7 +19,7 @@ certificate_text-requires g c =
 pub returns-in_err-module : goal.returns-in_err-module
 returns-in_err-module g c = (
   (nothing_written g.S.Sink _ (WritesCertificate c.args.verified.now) c.args.writer.now c.in_err-module.field-0.0 c.from_residual.result c.from_residual.ensures.1),
-  (too_large_up c.args.verified.now c.in_err-module.field-0.0 c.from_residual.result c.in_err-module.ensures c.from_residual.ensures.1),
+  (too_large_up c.args.counting c.args.verified.now c.in_err-module.field-0.0 c.from_residual.result c.in_err-module.ensures c.from_residual.ensures.1),
 )
 
 -- the text of the certificate that is lent is one of the module
@@ -37,7 +37,7 @@ returns-in_err-certificate_text g c = (
       sent_up g.S.Sink _ (WritesCertificate c.args.verified.now) text c.args.writer.now c.certificate_text.new.sink
       c.certificate_text.result c.in_err-certificate_text.field-0.0 c.from_residual-in_err-certificate_text.result c.certificate_text.ensures
       c.in_err-certificate_text.was c.from_residual-in_err-certificate_text.ensures.1),
-  (failed_up (IsRefusedModule c.args.verified.now) c.in_err-certificate_text.field-0.0 c.from_residual-in_err-certificate_text.result
+  (failed_up (IsRefusedModule c.args.counting c.args.verified.now) c.in_err-certificate_text.field-0.0 c.from_residual-in_err-certificate_text.result
       c.from_residual-in_err-certificate_text.ensures.1),
 )
 

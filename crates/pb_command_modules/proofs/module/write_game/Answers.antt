@@ -14,7 +14,7 @@ game_text-requires-clause-rows g c = module_rows _ _ _ c.rows-reached.ensures c.
 pub returns-in_err-module : goal.returns-in_err-module
 returns-in_err-module g c = (
   (nothing_written g.S.Sink _ (WritesGame c.args.verified.now) c.args.writer.now c.in_err-module.field-0.0 c.from_residual.result c.from_residual.ensures.1),
-  (too_large_up c.args.verified.now c.in_err-module.field-0.0 c.from_residual.result c.in_err-module.ensures c.from_residual.ensures.1),
+  (too_large_up c.args.counting c.args.verified.now c.in_err-module.field-0.0 c.from_residual.result c.in_err-module.ensures c.from_residual.ensures.1),
 )
 
 pub returns-in_err-game_text : goal.returns-in_err-game_text
@@ -24,7 +24,7 @@ returns-in_err-game_text g c = (
       (text_of_reached m c.in_ok-module.«module».explored c.rows-reached.result.now c.rows-reached.ensures c.in_ok-module.ensures.explored (module_game_text m))
       c.args.writer.now c.game_text.new.sink
       c.game_text.result c.in_err-game_text.field-0.0 c.from_residual-in_err-game_text.result c.game_text.ensures c.in_err-game_text.was c.from_residual-in_err-game_text.ensures.1),
-  (failed_up (IsRefusedModule c.args.verified.now) c.in_err-game_text.field-0.0 c.from_residual-in_err-game_text.result c.from_residual-in_err-game_text.ensures.1),
+  (failed_up (IsRefusedModule c.args.counting c.args.verified.now) c.in_err-game_text.field-0.0 c.from_residual-in_err-game_text.result c.from_residual-in_err-game_text.ensures.1),
 )
 
 pub returns : goal.returns

@@ -14,9 +14,9 @@ pub returns-in_err-answer : goal.returns-in_err-answer
 returns-in_err-answer g c =
     let m = c.args.verified.now in
     let made = c.from_residual.ensures.1 in
-    unreported g.S.Sink _ (IsAnswerOf m) (IsRefusedModule m) c.args.writer.now c.args.writer.now c.from_residual.result made (
-      (nothing_written g.S.Sink _ (WritesReport m) c.args.writer.now c.in_err-answer.field-0.0 c.from_residual.result made),
-      (too_large_up m c.in_err-answer.field-0.0 c.from_residual.result c.in_err-answer.ensures made),
+    unreported g.S.Sink _ (IsAnswerOf c.args.counting m) (IsRefusedModule c.args.counting m) c.args.writer.now c.args.writer.now c.from_residual.result made (
+      (nothing_written g.S.Sink _ (WritesReport c.args.counting m) c.args.writer.now c.in_err-answer.field-0.0 c.from_residual.result made),
+      (too_large_up c.args.counting m c.in_err-answer.field-0.0 c.from_residual.result c.in_err-answer.ensures made),
     )
 
 pub returns-in_err-report : goal.returns-in_err-report
@@ -24,11 +24,11 @@ returns-in_err-report g c =
     let m = c.args.verified.now in
     let answer = c.in_ok-answer.answer in
     let made = c.from_residual-in_err-report.ensures.1 in
-    unreported g.S.Sink _ (IsAnswerOf m) (IsRefusedModule m) c.args.writer.now c.report.new.sink c.from_residual-in_err-report.result made (
-      (sent_up g.S.Sink (λ (t : List ℕ). t ≡ report_text answer) (WritesReport m) (λ text is. (answer, c.in_ok-answer.ensures, is))
+    unreported g.S.Sink _ (IsAnswerOf c.args.counting m) (IsRefusedModule c.args.counting m) c.args.writer.now c.report.new.sink c.from_residual-in_err-report.result made (
+      (sent_up g.S.Sink (λ (t : List ℕ). t ≡ report_text answer) (WritesReport c.args.counting m) (λ text is. (answer, c.in_ok-answer.ensures, is))
           c.args.writer.now c.report.new.sink c.report.result c.in_err-report.field-0.0 c.from_residual-in_err-report.result
           c.report.ensures c.in_err-report.was made),
-      (failed_up (IsRefusedModule m) c.in_err-report.field-0.0 c.from_residual-in_err-report.result made),
+      (failed_up (IsRefusedModule c.args.counting m) c.in_err-report.field-0.0 c.from_residual-in_err-report.result made),
     )
 
 pub returns : goal.returns

@@ -14,7 +14,7 @@ solution_text-requires-clause-rows g c = module_rows _ _ _ c.rows-reached.ensure
 pub returns-in_err-module : goal.returns-in_err-module
 returns-in_err-module g c = (
   (nothing_written g.S.Sink _ (WritesSolution c.args.verified.now) c.args.writer.now c.in_err-module.field-0.0 c.from_residual.result c.from_residual.ensures.1),
-  (too_large_up c.args.verified.now c.in_err-module.field-0.0 c.from_residual.result c.in_err-module.ensures c.from_residual.ensures.1),
+  (too_large_up c.args.counting c.args.verified.now c.in_err-module.field-0.0 c.from_residual.result c.in_err-module.ensures c.from_residual.ensures.1),
 )
 
 pub returns-in_err-solution_text : goal.returns-in_err-solution_text
@@ -25,7 +25,7 @@ returns-in_err-solution_text g c = (
       c.args.writer.now c.solution_text.new.sink
       c.solution_text.result c.in_err-solution_text.field-0.0 c.from_residual-in_err-solution_text.result c.solution_text.ensures
       c.in_err-solution_text.was c.from_residual-in_err-solution_text.ensures.1),
-  (failed_up (IsRefusedModule c.args.verified.now) c.in_err-solution_text.field-0.0 c.from_residual-in_err-solution_text.result c.from_residual-in_err-solution_text.ensures.1),
+  (failed_up (IsRefusedModule c.args.counting c.args.verified.now) c.in_err-solution_text.field-0.0 c.from_residual-in_err-solution_text.result c.from_residual-in_err-solution_text.ensures.1),
 )
 
 pub returns : goal.returns

@@ -17,9 +17,9 @@ pub returns-in_ok-solved-in-Ok : goal.returns-in_ok-solved-in-Ok
 returns-in_ok-solved-in-Ok g c =
     let e = c.in-Ok.ensures in
     let kept = c.in_ok-solved-in-Ok.ensures.built in
-    answer_is c.args.verified.now _ _ e.explored e.game c.truth.result c.instances.result c.count_cut-cut.result c.len.result
+    answer_is c.args.verified.now _ _ e.explored e.game c.args.counting c.truth.result c.instances.result c.count_cut-cut.result c.len.result
     (subst (λ x. IsTruthIn x c.truth.result) kept c.truth.ensures.meaning)
     (c.instances.ensures ∙ ap (λ (x : TreeGame). length x.vertices.items) kept)
     (λ reached hold. c.count_cut-cut.ensures reached (subst (λ rs. Hold rs reached) (sym c.rows.ensures) hold))
     (c.len.ensures.value ∙ ap (λ (x : TreeGame). vertex_count x.game) kept)
-    c.len.ensures.small
+    (omega (arith, c.len.ensures.value, ap (λ (x : TreeGame). vertex_count x.game) kept, e.few))

@@ -7,4 +7,4 @@ build-requires-clause-rows c = module_rows _ _ _ c.rows.ensures c.requires
 
 pub returns-in-Err : goal.returns-in-Err
 returns-in-Err c =
-    if_fault c.in-Err.error (λ _ large. too_large _ _ _ c.rows.ensures c.requires large) c.in-Err.ensures.too_many
+    if_fault c.in-Err.error (λ _ large. too_large _ _ _ _ c.rows.ensures c.requires large) c.in-Err.ensures.too_many

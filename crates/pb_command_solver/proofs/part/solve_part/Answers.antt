@@ -1,7 +1,7 @@
 use Rattle.std.proofs.Common.{inl, inr, map, sym, subst}
 use Rattle.pb_bytecode.specs.Meaning.{signature_of, initial_of}
 use Rattle.pb_game_of_trees.specs.declared.tree_game.TreeGame.{TreeGame}
-use Rattle.pb_game_of_trees.specs.TreeGame.{IsGameOf}
+use Rattle.pb_game_of_trees.specs.TreeGame.{KeepsVertexLimit, IsGameOf}
 use Rattle.pb_command_solver.specs.Parts.{IsTruthIn}
 use Rattle.pb_command_solver.proofs.Parts.{some_rows, same_of}
 use Rattle.pb_command_solver.proofs.part.solve_part.Goals as goal
@@ -11,8 +11,8 @@ pub build_rows-requires : goal.build_rows-requires
 build_rows-requires g c =
     some_rows c.args.verified.now c.args.part.rows c.instances_have_trees.ensures c.args.part.truth c.requires.assumed
 
-pub returns : goal.returns
-returns g c =
+pub returns-clause-enough : goal.returns-clause-enough
+returns-clause-enough g c =
     let m = c.args.verified.now in
     let part = c.args.part in
     let solved = c.in_ok-solved.solved in
@@ -25,3 +25,6 @@ returns g c =
         | else-truth-part-via-else-truth-part w ↦ inr (subst (IsTruthIn solved.built) (same_of c.truth.result part.truth w.if-truth-part.false) c.truth.ensures.meaning)
       ];
     }
+
+pub returns-clause-few : goal.returns-clause-few
+returns-clause-few g c = subst (KeepsVertexLimit c.args.counting) (sym c.in_ok-solved.ensures.built) c.in-Ok.ensures.few

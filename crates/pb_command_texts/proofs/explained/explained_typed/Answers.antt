@@ -13,7 +13,7 @@ returns-in_err-verified g c = record {
   explained = search rules;
   refused =
       let text = spec_form c.args.typed.spec in
-      handed_on (IsUncompiledForm text) (IsUnexplainedForm text) (form_unexplained text)
+      handed_on (IsUncompiledForm text) (IsUnexplainedForm c.args.counting text) (form_unexplained c.args.counting text)
       c.in_err-verified.field-0.0 c.from_residual.result c.in_err-verified.ensures.refused c.from_residual.ensures.1;
 }
 
@@ -24,7 +24,7 @@ returns-in_err-explanation g c = record {
   refused =
       let text = spec_form c.args.typed.spec in
       let m = c.in_ok-verified.verified in
-      handed_on (IsRefusedModule m) (IsUnexplainedForm text) (module_unexplained text m c.in_ok-verified.ensures.«module»)
+      handed_on (IsRefusedModule c.args.counting m) (IsUnexplainedForm c.args.counting text) (module_unexplained c.args.counting text m c.in_ok-verified.ensures.«module»)
       c.in_err-explanation.field-0.0 c.from_residual-in_err-explanation.result c.in_err-explanation.ensures.refused c.from_residual-in_err-explanation.ensures.1;
 }
 

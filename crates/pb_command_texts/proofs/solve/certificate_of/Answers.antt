@@ -20,7 +20,7 @@ returns g c = (
   (let m = c.in_ok-verified.verified in
       less_delivered g.S.Sink (WritesCertificate m) (WritesOfModule c.args.text.counting WritesCertificate c.args.text.input.bytes.now)
       (λ text h. (m, c.in_ok-verified.ensures.«module», h)) c.args.writer.now c.write_certificate.new.writer c.write_certificate.result c.write_certificate.ensures.0),
-  (if_input_refused (IsRefusedModule c.in_ok-verified.verified) (IsRefused c.args.text.counting c.args.text.input.bytes.now)
+  (if_input_refused (IsRefusedModule c.args.text.counting c.in_ok-verified.verified) (IsRefused c.args.text.counting c.args.text.input.bytes.now)
       (module_of_text_refused c.args.text.counting c.args.text.input.bytes.now c.in_ok-verified.verified c.in_ok-verified.ensures.«module»)
       c.write_certificate.result c.write_certificate.ensures.1),
 )

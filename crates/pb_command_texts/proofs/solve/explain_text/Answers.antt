@@ -27,7 +27,7 @@ returns-in_err-explained g c = (
       let bytes = c.args.text.input.bytes.now in
       let typed = c.in_ok-typed.typed in
       let text = spec_form typed.spec in
-      handed_up (IsUnexplainedForm text) (IsRefused counting bytes) (unexplained counting bytes text c.in_ok-typed.ensures.read c.in_ok-typed.ensures.typed)
+      handed_up (IsUnexplainedForm counting text) (IsRefused counting bytes) (unexplained counting bytes text c.in_ok-typed.ensures.read c.in_ok-typed.ensures.typed)
       c.in_err-explained.field-0.0 c.from_residual-in_err-explained.result c.in_err-explained.ensures.refused c.from_residual-in_err-explained.ensures.1),
 )
 

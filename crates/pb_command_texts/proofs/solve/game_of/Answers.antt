@@ -20,7 +20,7 @@ returns g c = (
   (let m = c.in_ok-verified.verified in
       less_delivered g.S.Sink (WritesGame m) (WritesOfModule c.args.text.counting WritesGame c.args.text.input.bytes.now)
       (λ text h. (m, c.in_ok-verified.ensures.«module», h)) c.args.writer.now c.write_game.new.writer c.write_game.result c.write_game.ensures.0),
-  (if_input_refused (IsRefusedModule c.in_ok-verified.verified) (IsRefused c.args.text.counting c.args.text.input.bytes.now)
+  (if_input_refused (IsRefusedModule c.args.text.counting c.in_ok-verified.verified) (IsRefused c.args.text.counting c.args.text.input.bytes.now)
       (module_of_text_refused c.args.text.counting c.args.text.input.bytes.now c.in_ok-verified.verified c.in_ok-verified.ensures.«module»)
       c.write_game.result c.write_game.ensures.1),
 )

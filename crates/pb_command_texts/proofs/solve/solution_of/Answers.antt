@@ -20,7 +20,7 @@ returns g c = (
   (let m = c.in_ok-verified.verified in
       less_delivered g.S.Sink (WritesSolution m) (WritesOfModule c.args.text.counting WritesSolution c.args.text.input.bytes.now)
       (λ text h. (m, c.in_ok-verified.ensures.«module», h)) c.args.writer.now c.write_solution.new.writer c.write_solution.result c.write_solution.ensures.0),
-  (if_input_refused (IsRefusedModule c.in_ok-verified.verified) (IsRefused c.args.text.counting c.args.text.input.bytes.now)
+  (if_input_refused (IsRefusedModule c.args.text.counting c.in_ok-verified.verified) (IsRefused c.args.text.counting c.args.text.input.bytes.now)
       (module_of_text_refused c.args.text.counting c.args.text.input.bytes.now c.in_ok-verified.verified c.in_ok-verified.ensures.«module»)
       c.write_solution.result c.write_solution.ensures.1),
 )

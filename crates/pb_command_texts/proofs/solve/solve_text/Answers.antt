@@ -28,5 +28,6 @@ returns g c =
     let bytes = c.args.text.input.bytes.now in
     let m = c.in_ok-verified.verified in
     let of_text = c.in_ok-verified.ensures.«module» in
-    reported g.S.Sink (IsAnswerOf m) (IsAnswer counting bytes) (text_answer counting bytes m of_text) (IsRefusedModule m) (IsRefused counting bytes) (module_of_text_refused counting bytes m of_text)
+    reported g.S.Sink (IsAnswerOf counting m) (IsAnswer counting bytes) (text_answer counting bytes m of_text)
+    (IsRefusedModule counting m) (IsRefused counting bytes) (module_of_text_refused counting bytes m of_text)
     c.args.writer.now c.write_report.new.writer c.write_report.result c.write_report.ensures

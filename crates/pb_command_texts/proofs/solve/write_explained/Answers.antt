@@ -47,6 +47,7 @@ returns g c counting bytes read typed =
     let of_text = of_bytes counting bytes text m read typed c.requires.of_text in (
       less_delivered g.S.Sink (WritesEvidence m place) (WritesTextEvidence counting c.args.places bytes)
           (text_evidence c.named_instances_are_called.ensures counting bytes text m read typed c.requires.of_text c.args.places)
-          c.args.writer.now c.write_evidence.new.writer c.write_evidence.result (c.write_evidence.ensures place are).0,
-      if_input_refused (IsRefusedModule m) (IsRefused counting bytes) (module_of_text_refused counting bytes m of_text) c.write_evidence.result (c.write_evidence.ensures place are).1,
+          c.args.writer.now c.write_evidence.new.writer c.write_evidence.result (c.write_evidence.ensures counting place are).0,
+      if_input_refused (IsRefusedModule counting m) (IsRefused counting bytes) (module_of_text_refused counting bytes m of_text)
+          c.write_evidence.result (c.write_evidence.ensures counting place are).1,
     )

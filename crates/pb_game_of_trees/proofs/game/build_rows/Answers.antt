@@ -8,5 +8,5 @@ build-requires c = rw (c.in_ok-signatures.ensures, c.initial.ensures.number) c.r
 
 pub returns-clause-too_many : goal.returns-clause-too_many
 returns-clause-too_many c =
-    too_large _ _ c.build.result
-    (subst (λ s. IsRefusedExactly c.build.result s c.args.rows.now) c.in_ok-signatures.ensures c.build.ensures.too_many)
+    too_large _ _ _ c.build.result
+    (subst (λ s. IsRefusedExactly c.args.counting c.build.result s c.args.rows.now) c.in_ok-signatures.ensures c.build.ensures.too_many)

@@ -18,8 +18,8 @@ loop-k-preserved c =
           ∙ l.invariant.pushed plain hold));
     }
 
-pub returns-then-next-gt-MAX_VERTICES-clause-laid : goal.returns-then-next-gt-MAX_VERTICES-clause-laid
-returns-then-next-gt-MAX_VERTICES-clause-laid c = λ plain hold. omega (
+pub returns-then-next-limit-clause-laid : goal.returns-then-next-limit-clause-laid
+returns-then-next-limit-clause-laid c = λ plain hold. omega (
   arith,
   next_fits c.args.rows.now plain c.loop-k.k c.loop-k.next c.inner_of-inner.result hold (omega arith) c.inner_of-inner.ensures.inner,
   c.loop-k.invariant.counted plain hold,

@@ -2,8 +2,8 @@ use Rattle.std.proofs.Common.{◌∙◌, arith}
 use Rattle.pb_game_of_trees.proofs.Rows.{vertex_behind-more, next_fits}
 use Rattle.pb_game_of_trees.proofs.size.size_of.Goals as goal
 
-pub returns-then-vertices-gt-MAX_VERTICES-clause-size : goal.returns-then-vertices-gt-MAX_VERTICES-clause-size
-returns-then-vertices-gt-MAX_VERTICES-clause-size c = λ plain hold. omega (
+pub returns-then-vertices-limit-clause-size : goal.returns-then-vertices-limit-clause-size
+returns-then-vertices-limit-clause-size c = λ plain hold. omega (
   arith,
   next_fits c.args.rows.now plain c.loop-k.k c.loop-k.vertices c.inner_of-inner.result hold (omega arith) c.inner_of-inner.ensures.inner,
   c.loop-k.invariant.counted plain hold,

@@ -13,7 +13,7 @@ use Rattle.pb_fixpoint_trees.proofs.Total.{game_is_total}
 use Rattle.pb_game_of_trees.proofs.Reached.{found_row}
 use Rattle.pb_game_of_trees.proofs.Vertices.{IsTable, table_at, vertices_are}
 use Rattle.pb_game_of_trees.proofs.Refused.{refused_alike, not_for_memory, not_refused}
-use Rattle.pb_game_of_trees.proofs.Built.{are, hold, count_vertices, rows_numbered, rows_sized, built, makes_game, few_places, places_below, start_below}
+use Rattle.pb_game_of_trees.proofs.Built.{are, hold, count_vertices, rows_numbered, rows_sized, built, makes_game, few_vertices, few_places, places_below, start_below}
 use Rattle.pb_game_of_trees.proofs.tree_game.TreeGame.build.Goals.{After-vertex-start}
 use Rattle.pb_game_of_trees.proofs.tree_game.TreeGame.build.Goals as goal
 
@@ -53,7 +53,7 @@ game_of-requires c =
       _,
       c.into_parts.ensures _ (drafted (goal.at.game_of-requires c).After-vertex-start from),
       makes_game from.are game_is_total (omega (arith, length-map c.args.signatures.now.items.items plain, c.args.signatures.now.few))
-          c.in_ok-size.ensures.size c.in_ok-size.ensures.small,
+          c.in_ok-size.ensures.size (omega (arith, c.in_ok-size.ensures.small, c.vertex_limit.ensures.small)),
     )
 
 pub invariant_of-result : goal.invariant_of-result
@@ -63,7 +63,7 @@ invariant_of-result c =
     let has = c.in_ok-game.ensures _ (c.into_parts.ensures _ (drafted called from)) in
     let places = c.in_ok-size.ensures.vertices in
     record {
-      few = omega (arith, c.in_ok-size.field-0.vertices.ok.0, few_places from.are c.in_ok-size.ensures.size c.in_ok-size.ensures.small places);
+      few = omega (arith, c.in_ok-size.field-0.vertices.ok.0, few_places from.are c.in_ok-size.ensures.size c.in_ok-size.ensures.small places, c.vertex_limit.ensures.small);
       inside = omega (arith, starts called from, start_below from.are c.args.initial from.found, has.count);
       rows_inside = λ k d l. omega (arith, places_below from.are places k d l, has.count);
     }
@@ -77,28 +77,34 @@ returns-clause-game c = λ trees from.
       start = starts called from;
     }
 
+pub returns-clause-few : goal.returns-clause-few
+returns-clause-few c =
+    let from = c.requires.1 in
+    let has = c.in_ok-game.ensures _ (c.into_parts.ensures _ (drafted (goal.at.returns-clause-few c).After-vertex-start from)) in
+    omega (arith, few_vertices from.are c.in_ok-size.ensures.size c.in_ok-size.ensures.small, c.vertex_limit.ensures.limit, has.count)
+
 -- ---- the error
 
 pub returns-in_err-size-clause-too_many : goal.returns-in_err-size-clause-too_many
 returns-in_err-size-clause-too_many c =
     let h = err_from_is_err_and c.from_residual.result c.from_residual.ensures.1 in
-    refused_alike c.in_err-size.was h.1 (let same = h.2 in cc) c.laid_rows.ensures.too_many
+    refused_alike c.args.counting c.vertex_limit.ensures.limit c.in_err-size.was h.1 (let same = h.2 in cc) c.laid_rows.ensures.too_many
 
 pub returns-in_err-numbering-clause-too_many : goal.returns-in_err-numbering-clause-too_many
 returns-in_err-numbering-clause-too_many c =
-    not_for_memory c.from_residual-in_err-numbering.result c.from_residual-in_err-numbering.ensures.1 c.in_ok-size.ensures.size c.in_ok-size.ensures.small
+    not_for_memory c.args.counting c.vertex_limit.ensures.limit c.from_residual-in_err-numbering.result c.from_residual-in_err-numbering.ensures.1 c.in_ok-size.ensures.size c.in_ok-size.ensures.small
 
 pub returns-in_err-levels-clause-too_many : goal.returns-in_err-levels-clause-too_many
 returns-in_err-levels-clause-too_many c =
-    not_for_memory c.from_residual-in_err-levels.result c.from_residual-in_err-levels.ensures.1 c.in_ok-size.ensures.size c.in_ok-size.ensures.small
+    not_for_memory c.args.counting c.vertex_limit.ensures.limit c.from_residual-in_err-levels.result c.from_residual-in_err-levels.ensures.1 c.in_ok-size.ensures.size c.in_ok-size.ensures.small
 
 pub returns-in_err-draft-clause-too_many : goal.returns-in_err-draft-clause-too_many
 returns-in_err-draft-clause-too_many c =
-    not_for_memory c.from_residual-in_err-draft.result c.from_residual-in_err-draft.ensures.1 c.in_ok-size.ensures.size c.in_ok-size.ensures.small
+    not_for_memory c.args.counting c.vertex_limit.ensures.limit c.from_residual-in_err-draft.result c.from_residual-in_err-draft.ensures.1 c.in_ok-size.ensures.size c.in_ok-size.ensures.small
 
 pub returns-in_err-game-clause-too_many : goal.returns-in_err-game-clause-too_many
 returns-in_err-game-clause-too_many c =
-    not_for_memory c.from_residual-in_err-game.result c.from_residual-in_err-game.ensures.1 c.in_ok-size.ensures.size c.in_ok-size.ensures.small
+    not_for_memory c.args.counting c.vertex_limit.ensures.limit c.from_residual-in_err-game.result c.from_residual-in_err-game.ensures.1 c.in_ok-size.ensures.size c.in_ok-size.ensures.small
 
 pub returns-clause-too_many : goal.returns-clause-too_many
-returns-clause-too_many c = not_refused (λ e. cc) c.in_ok-size.ensures.size c.in_ok-size.ensures.small
+returns-clause-too_many c = not_refused c.args.counting c.vertex_limit.ensures.limit (λ e. cc) c.in_ok-size.ensures.size c.in_ok-size.ensures.small
