@@ -12,6 +12,7 @@ use pb_exploration_reached::explore_reached;
 use pb_fixpoint_trees::{IndexedRows, Kind, ReadRows, Token};
 use pb_instances::{Marked, Seat, Status, Step, Table};
 use pb_machine::Machine;
+use pb_sorts::Counting;
 use pb_strategy::check;
 use pb_verifier::Verified;
 use std::process::Abort;
@@ -213,7 +214,7 @@ fn one_worker(rt: HostRuntime) -> Result<(), Fail> {
     }
     let gathered = Explored::gather(alloc, &module, &statuses)?;
     assert!(rt; are_all_others(gathered.rows()));
-    let BuiltModule { built, .. } = build_explored(alloc, &module, gathered)?;
+    let BuiltModule { built, .. } = build_explored(alloc, &module, Counting::Declared, gathered)?;
     let solution = pb_zielonka::solve(&rt, alloc, &built.game)?;
     match check(&built.game, &solution) {
         Ok(checked) => assert!(rt; checked.truth(built.start)),
