@@ -1,0 +1,10 @@
+mod Valuations
+mod Successors
+mod Paths
+mod Stretches
+mod Rounds
+mod Loops
+mod UnsettledLemmas
+mod PutOffFairlyLemmas
+mod FairRunsLemmas
+mod UnreactiveLemmas

@@ -1,0 +1,4 @@
+mod Tests
+mod Called
+mod Contrary
+mod Whole

@@ -1,0 +1,4 @@
+pub mod Calls
+pub mod Negation
+pub mod Laws
+pub mod Examples

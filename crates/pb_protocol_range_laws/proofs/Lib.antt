@@ -1,0 +1,5 @@
+mod Unfolded
+mod Folded
+mod Packed
+mod Plain
+mod Verdicts
