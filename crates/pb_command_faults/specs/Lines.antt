@@ -13,7 +13,7 @@ use Rattle.pb_bytecode.specs.declared.fault.ModuleFault.{ModuleFault}
 use Rattle.pb_verifier.specs.FaultText as code_fault
 use Rattle.pb_verifier.specs.declared.verify_error.CodeFault.{CodeFault}
 use Rattle.pb_command_faults.specs.declared.property_fault.PropertyExcess.{PropertyExcess}
-use Rattle.pb_command_faults.specs.declared.property_fault.PropertyExcess.TheVariants.{Text, Code, Game}
+use Rattle.pb_command_faults.specs.declared.property_fault.PropertyExcess.TheVariants.{Text, Code, Game, NegationText, NegationTyping}
 use Rattle.pb_command_faults.specs.declared.property_fault.PropertyFault.{PropertyFault}
 use Rattle.pb_command_faults.specs.declared.fault.ProgramFault.{ProgramFault}
 use Rattle.pb_command_faults.specs.declared.fault.ProgramFault.TheVariants.{U01, U02, E01, E02, M01}
@@ -47,11 +47,14 @@ text_line fault = line_at (text_rule_number fault.rule) fault.place
 abbrev pub typing_line : TypingFault → List ℕ
 typing_line fault = line_at (rule_number fault.rule) fault.place
 
--- what of a property of a model is too large, and where its name stands
+-- what of a property of a model is too large, or which rule its negation breaks, and where its name
+-- stands
 abbrev pub property_rule : PropertyExcess → List ℕ
 property_rule Text = codes "T12"
 property_rule (Code limit) = limit_number limit
 property_rule Game = codes "G01"
+property_rule (NegationText rule) = text_rule_number rule
+property_rule (NegationTyping rule) = rule_number rule
 
 abbrev pub property_line : PropertyFault → List ℕ
 property_line fault = line_at (property_rule fault.excess) fault.place

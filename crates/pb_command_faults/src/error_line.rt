@@ -32,7 +32,8 @@ pub(crate) fn placed_line(number: &str, place: Place) -> Line
         .end()
 }
 
-fn text_rule_number(rule: TextRule) -> &'static str
+// The number of a rule of texts.
+pub(crate) fn text_rule_number(rule: TextRule) -> &'static str
     ensures { result.now ≡ text_rule_number rule }
 {
     match rule {

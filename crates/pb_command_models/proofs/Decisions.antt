@@ -1,38 +1,35 @@
 -- What is found of a property, by its text and by that of its negation.
 use Rattle.std.proofs.Common.{◌≡◌, ◌∙◌, ℕ, zero, suc, ◌<◌, ◌≤◌, ◌+◌, true, false, Bool, List, [], ◌∷◌, Option, Some, length, refl, sym, ap, subst, inl, inr, arith}
-use Rattle.std.specs.Prelude.{◌⊎◌, IfSome, Ok, Err, option_map, if◌then◌else◌}
+use Rattle.std.specs.Prelude.{◌⊎◌, Contains, IfSome, Ok, Err, if◌then◌else◌}
 use Rattle.std.specs.List.{All, slice_get}
 use Rattle.std.proofs.lemmas.List.Elements.{All-nil, All-cons, All-weaker}
-use Rattle.std.proofs.lemmas.Option.{slice_get-map, slice_get_within}
-use Rattle.pb_model_tree.specs.Form.{ModelForm, PropertyForm, model_form}
+use Rattle.std.proofs.lemmas.Option.{slice_get_within}
+use Rattle.pb_bytecode.specs.Contents.{Contents}
+use Rattle.pb_model_tree.specs.Form.{ModelForm, PropertyForm}
 use Rattle.pb_protocol_tree.specs.Form as protocol_form
 use Rattle.pb_protocol_tree.specs.Form.{ProtocolForm}
-use Rattle.pb_protocol_meaning.specs.Erase.{erase, erased_formula}
-use Rattle.pb_protocol_meaning.specs.Satisfaction as protocol_meaning
-use Rattle.pb_protocol_meaning.specs.Syntax.{Protocol}
-use Rattle.pb_protocol_negation.specs.Negated.{negated, negated_property, negated_protocol}
-use Rattle.pb_protocol_negation.specs.Laws.{NegationsErase, SatisfactionIsKept}
 use Rattle.pb_protocol_laws.specs.Solved.{AreSameProperties, IsSameProperty}
 use Rattle.pb_report.specs.declared.answer.Answer.{Answer}
 use Rattle.pb_command_faults.specs.declared.property_fault.PropertyExcess.{PropertyExcess}
 use Rattle.pb_model_properties.specs.declared.verdicts.Verdict.{Verdict}
 use Rattle.pb_model_properties.specs.declared.verdicts.Verdict.TheVariants.{True, False, Unknown}
-use Rattle.pb_model_properties.specs.declared.solved.SolvedModel.{SolvedModel}
-use Rattle.pb_model_properties.specs.Negations.{IsNegatedModelOf}
+use Rattle.pb_model_properties.specs.Negations.{HasPropertyAt}
 use Rattle.pb_model_properties.specs.Asked.{asked_from, asked_places, is_asked}
 use Rattle.pb_model_properties.specs.Said.{protocol_satisfies, tree_satisfies, IsModelFor, IsModelOf, IsTheReading}
-use Rattle.pb_command_models.proofs.PropertyVerdicts.{some_at}
+use Rattle.pb_command_models.proofs.Negations.{large_negation}
+use Rattle.pb_command_models.proofs.Orders.{of_item}
 use Rattle.pb_command_models.specs.declared.finding.Finding.{Finding}
 use Rattle.pb_command_models.specs.declared.finding.Finding.TheVariants.{Decided, Refused, Shown}
 use Rattle.pb_command_models.specs.declared.finding.PropertyFinding.{PropertyFinding}
 use Rattle.pb_command_models.specs.declared.outcome.Outcome.{Outcome}
 use Rattle.pb_command_models.specs.declared.outcome.Outcome.TheVariants as outcome
 use Rattle.pb_command_models.specs.declared.property_module.PropertyModule.{PropertyModule}
+use Rattle.pb_command_models.specs.declared.property_module.PropertyModule.TheVariants as property_module
 use Rattle.pb_command_faults.specs.declared.solve_fault.SolveFault.{SolveFault}
 use Rattle.pb_command_faults.specs.declared.solve_fault.SolveFault.TheVariants as solve_fault
-use Rattle.pb_command_models.specs.Models.{HasModel, IsFinding, IsPropertyFound, IsPropertyAnswer, IsShown, IsTooLargeNegation, IsTooLargeProperty, IsUnexplained, NeedsNegation}
-use Rattle.pb_command_models.specs.Outcomes.{HasNegation, IsDecision, IsDeniedAt, IsNegationAt, IsOutcome, IsPropertyModule, IsShownAt, OfModule, verdict_in}
-use Rattle.pb_command_models.specs.Why.{IsVerdict}
+use Rattle.pb_command_models.specs.Models.{HasLargeNegation, HasModel, IsFinding, IsPropertyAnswer, IsPropertyFound, IsShown, IsTooLargeNegation, IsTooLargeProperty, IsUnexplained, NeedsNegation}
+use Rattle.pb_command_models.specs.Outcomes.{IsDecision, IsDecisionBy, IsDeniedAt, IsNegationAt, IsNegationModule, IsOutcome, IsShownAt, OfModule, verdict_in}
+use Rattle.pb_command_models.specs.Why.{IsUnexplainedOf, IsVerdict}
 
 -- the bytes that are kept say what they said
 pub still_has : {new old : List ℕ} (P : ModelForm → Type 0) → new ≡ old → HasModel old P → HasModel new P
@@ -64,63 +61,11 @@ same_lengths P m [] (x ∷ qs) same = absurd same
 same_lengths P m (p ∷ ps) [] same = absurd same
 same_lengths P m (p ∷ ps) (x ∷ qs) same = ap suc (same_lengths P m ps qs same.1)
 
--- what the bytes say is one protocol
-same_reading : (bytes : List ℕ) (p q : ProtocolForm) → IsTheReading bytes p → IsTheReading bytes q → q ≡ p
-same_reading bytes p q of_p of_q = of_p.only _ _ q of_q.reading
-
--- ---- negations
-
--- the model of the negations satisfies a property exactly where the protocol satisfies that property's negation
-module _ (erased : NegationsErase) (kept : SatisfactionIsKept) (protocol : ProtocolForm) (negations : ModelForm) (are_for : IsModelFor (negated_protocol protocol) negations) where
-  negated_at : (k : ℕ) (p : protocol_form.PropertyForm) → slice_get protocol.properties k ≡ Some p
-      → slice_get (negated_protocol protocol).properties k ≡ Some (negated_property p)
-  negated_at k p at = slice_get-map negated_property protocol.properties k ∙ ap (option_map negated_property) at
-
-  told_negation : (k : ℕ) (p : protocol_form.PropertyForm) (n : PropertyForm) → slice_get protocol.properties k ≡ Some p
-      → slice_get negations.properties k ≡ Some n → tree_satisfies negations n.formula ≡ protocol_satisfies protocol (negated p.formula)
-  told_negation k p n at there =
-      let same = same_at (negated_protocol protocol) negations (negated_protocol protocol).properties negations.properties k n are_for.solved.properties there in
-      let both : Some same.0 ≡ Some (negated_property p) = sym same.1 ∙ negated_at k p at in
-      let is : same.0 ≡ negated_property p = cc both in
-      let f = erased_formula (negated p.formula) in
-      let of_negated : tree_satisfies negations n.formula ≡ protocol_meaning.satisfies (erase (negated_protocol protocol)) f =
-      same.2.satisfied ∙ ap (λ (x : protocol_form.PropertyForm). protocol_meaning.satisfies (erase (negated_protocol protocol)) (erased_formula x.formula)) is in
-      let of_protocol : protocol_meaning.satisfies (erase (negated_protocol protocol)) f ≡ protocol_meaning.satisfies (erase protocol) f =
-      ap (λ (m : Protocol). protocol_meaning.satisfies m f) (erased protocol) ∙ kept (erase protocol) f in
-      of_negated ∙ of_protocol
-
--- the negations that were read are those of the protocol that the bytes say
-pub same_negations : (bytes : List ℕ) (protocol : ProtocolForm) → IsTheReading bytes protocol → (solved : SolvedModel) → IsNegatedModelOf bytes solved
-    → IsModelFor (negated_protocol protocol) (model_form solved.typed.model)
-same_negations bytes protocol read solved is =
-    subst (λ (p : ProtocolForm). IsModelFor (negated_protocol p) (model_form solved.typed.model)) (same_reading bytes protocol is.protocol read is.read) is.told.is_for
-
--- a property of the model has a negation at its place
-pub negation_within : (protocol : ProtocolForm) (model negations : ModelForm) → IsModelFor protocol model → IsModelFor (negated_protocol protocol) negations
-    → (k : ℕ) → k < length model.properties → k < length negations.properties
-negation_within protocol model negations is_for are_for k within =
-    let some = some_at model.properties k within in
-    let same = same_at protocol model protocol.properties model.properties k some.0 is_for.solved.properties some.1 in
-    let negated : slice_get (negated_protocol protocol).properties k ≡ Some (negated_property same.0) =
-    slice_get-map negated_property protocol.properties k ∙ ap (option_map negated_property) same.1 in
-    let there = solved_at (negated_protocol protocol) negations (negated_protocol protocol).properties negations.properties k (negated_property same.0) are_for.solved.properties negated in
-    slice_get_within negations.properties k there.0 there.1
-
--- the module is that of the negation of the property at the place
-pub negation_at : NegationsErase → SatisfactionIsKept → (bytes : List ℕ) (other : ProtocolForm) → IsTheReading bytes other
-    → (model : ModelForm) → IsModelFor (negated_protocol other) model
-    → (place : ℕ) (q : PropertyForm) → slice_get model.properties place ≡ Some q → (compiled : PropertyModule) → IsPropertyModule model q compiled → IsNegationAt bytes place compiled
-negation_at erased kept bytes other other_read model other_for place q there compiled is = λ protocol read p stands.
-    let is_for : IsModelFor (negated_protocol protocol) model =
-    subst (λ (x : ProtocolForm). IsModelFor (negated_protocol x) model) (same_reading bytes protocol other read other_read) other_for in
-    record {
-      model = model;
-      is_for = is_for;
-      negation = q;
-      stands = there;
-      of_negation = is;
-      says = told_negation erased kept protocol model is_for place p q stands there;
-    }
+-- a property of the model stands there in the protocol
+pub has_property : (bytes : List ℕ) (model : ModelForm) → IsModelOf bytes model → (k : ℕ) → k < length model.properties → HasPropertyAt bytes k
+has_property bytes model said k within =
+    let same = same_lengths said.protocol model said.protocol.properties model.properties said.is_for.solved.properties in
+    (said.protocol, said.read, omega (arith, within, same))
 
 -- ---- what is found
 
@@ -143,7 +88,7 @@ module _ (counts : Bool) (protocol : ProtocolForm) (model : ModelForm) (is_for :
 
   found_by : (finding : Finding)
       → ((p : protocol_form.PropertyForm) → slice_get protocol.properties place ≡ Some p → IsSameProperty protocol model p q
-      → IsFinding counts protocol p model q place finding)
+      → IsFinding counts protocol p model q finding)
       → IsPropertyFound counts protocol model (record { place = place; finding = finding })
   found_by finding h = record {
     asked = asked_here.0;
@@ -173,29 +118,40 @@ module _ (counts : Bool) (protocol : ProtocolForm) (model : ModelForm) (is_for :
     pub found_false : a.truth ≡ false → a.cut ≡ 0 → IsPropertyFound counts protocol model (record { place = place; finding = Decided False a })
     found_false truth cut = found_by (Decided False a) (λ p stands same. ((told_answer p false same truth, inl cut), answered))
 
-    module _ (bytes : List ℕ) (read : IsTheReading bytes protocol) (compiled : PropertyModule) (is_negation : IsNegationAt bytes place compiled)
-        (truth : a.truth ≡ false) (cut : 0 < a.cut) where
-      negation_here : (p : protocol_form.PropertyForm) → slice_get protocol.properties place ≡ Some p → HasNegation protocol place p compiled
-      negation_here p stands = is_negation protocol read p stands
+    module _ (bytes : List ℕ) (read : IsTheReading bytes protocol) (truth : a.truth ≡ false) (cut : 0 < a.cut) where
+      needs : (p : protocol_form.PropertyForm) → IsSameProperty protocol model p q → NeedsNegation protocol p model q
+      needs p same = (told_answer p false same truth, (a, answered, cut))
+
+      -- by the module of the negation, which isn't refused
+      module _ (m : Contents) (is_negation : IsNegationAt bytes place (property_module.Verified m)) where
+        abbrev negation_here : (p : protocol_form.PropertyForm) → slice_get protocol.properties place ≡ Some p → IsNegationModule protocol p (property_module.Verified m)
+        negation_here p stands = is_negation protocol read p stands
+
+        found_open : (finding : Finding) → OfModule (property_module.Verified m) (λ n x. IsDecision n x a finding)
+            → IsPropertyFound counts protocol model (record { place = place; finding = finding })
+        found_open (Refused excess) decides = found_by (Refused excess) (λ p stands same.
+            let n = negation_here p stands in
+            inr (needs p same, large_negation protocol p n.model n.is_for n.negation n.first excess (decides n.model n.negation n.holds.0)))
+        found_open (Shown b) decides = let n = negation_here asked_here.0 asked_here.1 in absurd (decides n.model n.negation n.holds.0)
+        found_open (Decided True b) decides = let n = negation_here asked_here.0 asked_here.1 in absurd (decides n.model n.negation n.holds.0)
+        found_open (Decided False b) decides = found_by (Decided False b) (λ p stands same.
+            let n = negation_here p stands in
+            let decided = decides n.model n.negation n.holds.0 in
+            subst (λ (x : Answer). IsFinding counts protocol p model q (Decided False x)) (sym decided.0)
+            ((told_answer p false same truth, inr (sym n.holds.1 ∙ decided.1)), answered))
+        found_open (Decided Unknown b) decides = found_by (Decided Unknown b) (λ p stands same.
+            let n = negation_here p stands in
+            let decided = decides n.model n.negation n.holds.0 in
+            subst (λ (x : Answer). IsFinding counts protocol p model q (Decided Unknown x)) (sym decided.0)
+            ((told_answer p false same truth, sym n.holds.1 ∙ decided.1, cut), answered))
 
       -- by what the negation decides
-      pub found_open : (finding : Finding) → OfModule compiled (λ m x. IsDecision m x a finding)
+      pub found_decided : (compiled : PropertyModule) → IsNegationAt bytes place compiled → (finding : Finding) → IsDecisionBy compiled a finding
           → IsPropertyFound counts protocol model (record { place = place; finding = finding })
-      found_open (Refused excess) decides = found_by (Refused excess) (λ p stands same.
-          let n = negation_here p stands in
-          inr ((told_answer p false same truth, (a, answered, cut)), (n.model, n.is_for, (n.negation, n.stands, decides n.model n.negation n.of_negation))))
-      found_open (Shown b) decides = let n = negation_here asked_here.0 asked_here.1 in absurd (decides n.model n.negation n.of_negation)
-      found_open (Decided True b) decides = let n = negation_here asked_here.0 asked_here.1 in absurd (decides n.model n.negation n.of_negation)
-      found_open (Decided False b) decides = found_by (Decided False b) (λ p stands same.
-          let n = negation_here p stands in
-          let decided = decides n.model n.negation n.of_negation in
-          subst (λ (x : Answer). IsFinding counts protocol p model q place (Decided False x)) (sym decided.0)
-          ((told_answer p false same truth, inr (sym n.says ∙ decided.1)), answered))
-      found_open (Decided Unknown b) decides = found_by (Decided Unknown b) (λ p stands same.
-          let n = negation_here p stands in
-          let decided = decides n.model n.negation n.of_negation in
-          subst (λ (x : Answer). IsFinding counts protocol p model q place (Decided Unknown x)) (sym decided.0)
-          ((told_answer p false same truth, sym n.says ∙ decided.1, cut), answered))
+      found_decided (property_module.Verified m) is_negation finding decides = found_open m is_negation finding decides
+      found_decided (property_module.TooLarge excess) is_negation finding decides =
+          subst (λ (f : Finding). IsPropertyFound counts protocol model (record { place = place; finding = f })) (sym decides)
+          (found_by (Refused excess) (λ p stands same. inr (needs p same, is_negation protocol read p stands)))
 
   -- ---- by what is shown
 
@@ -213,21 +169,21 @@ module _ (counts : Bool) (protocol : ProtocolForm) (model : ModelForm) (is_for :
       (uncounted, subst (λ (y : protocol_form.PropertyForm). IsShown protocol y.formula b) is shown))
 
 -- the negation is satisfied
-pub denied_at : (bytes : List ℕ) (place : ℕ) (compiled : PropertyModule) → IsNegationAt bytes place compiled
-    → OfModule compiled (λ m q. true ≡ tree_satisfies m q.formula) → IsDeniedAt bytes place
-denied_at bytes place compiled is_negation truth = λ protocol read p stands.
-    let n = is_negation protocol read p stands in
-    sym n.says ∙ sym (truth n.model n.negation n.of_negation)
+pub denied_at : (bytes : List ℕ) (place : ℕ) (compiled : PropertyModule) (m : Contents) → compiled ≡ property_module.Verified m → IsNegationAt bytes place compiled
+    → OfModule (property_module.Verified m) (λ n q. true ≡ tree_satisfies n q.formula) → IsDeniedAt bytes place
+denied_at bytes place compiled m is is_negation truth = λ protocol read p stands.
+    let n : IsNegationModule protocol p (property_module.Verified m) = subst (IsNegationModule protocol p) is (is_negation protocol read p stands) in
+    sym n.holds.1 ∙ sym (truth n.model n.negation n.holds.0)
 
 -- ---- what is told of it
 
 -- the verdict that is found is one
 pub found_verdict : (protocol : ProtocolForm) (model : ModelForm) (place : ℕ) (p : protocol_form.PropertyForm) (q : PropertyForm)
-    → slice_get protocol.properties place ≡ Some p → slice_get model.properties place ≡ Some q → (finding : Finding) → IsFinding false protocol p model q place finding
+    → slice_get protocol.properties place ≡ Some p → slice_get model.properties place ≡ Some q → (finding : Finding) → IsFinding false protocol p model q finding
     → (v : Verdict) → verdict_in finding ≡ Ok v → IsVerdict protocol p.formula model q v
 found_verdict protocol model place p q stands at (Decided True a) h v is = let same : True ≡ v = cc is in subst (IsVerdict protocol p.formula model q) same h.0
 found_verdict protocol model place p q stands at (Decided Unknown a) h v is =
-    let same : Unknown ≡ v = cc is in subst (IsVerdict protocol p.formula model q) same (h.0.0, h.0.1, (a, h.1, h.0.2))
+    let same : Unknown ≡ v = cc is in subst (IsVerdict protocol p.formula model q) same (h.0.0, h.0.1, inl (a, h.1, h.0.2))
 found_verdict protocol model place p q stands at (Decided False a) h v is =
     let same : False ≡ v = cc is in
     subst (IsVerdict protocol p.formula model q) same (h.0.0, elim h.0.1 [ inl uncut ↦ inr (a, h.1, uncut) | inr denied ↦ inl denied ])
@@ -239,35 +195,45 @@ found_verdict protocol model place p q stands at (Refused excess) h v is = absur
 -- what is found of the properties at a place
 pub finding_at : (counts : Bool) (protocol : ProtocolForm) (model : ModelForm) (place : ℕ) (finding : Finding) → IsPropertyFound counts protocol model (record { place = place; finding = finding })
     → (p : protocol_form.PropertyForm) (q : PropertyForm) → slice_get protocol.properties place ≡ Some p → slice_get model.properties place ≡ Some q
-    → IsFinding counts protocol p model q place finding
+    → IsFinding counts protocol p model q finding
 finding_at counts protocol model place finding found p q stands at =
     let both : Some found.asked ≡ Some p = sym found.stands ∙ stands in
     let is : found.asked ≡ p = cc both in
     let both_solved : Some found.solved ≡ Some q = sym found.in_model ∙ at in
     let is_solved : found.solved ≡ q = cc both_solved in
-    subst (λ (x : protocol_form.PropertyForm). IsFinding counts protocol x model q place finding) is
-    (subst (λ (x : PropertyForm). IsFinding counts protocol found.asked model x place finding) is_solved found.finding)
+    subst (λ (x : protocol_form.PropertyForm). IsFinding counts protocol x model q finding) is
+    (subst (λ (x : PropertyForm). IsFinding counts protocol found.asked model x finding) is_solved found.finding)
 
 -- what is too large for one is a fault of the property
 pub found_unexplained : (bytes : List ℕ) (model : ModelForm) (said : IsModelOf bytes model) (place : ℕ) (q : PropertyForm) → slice_get model.properties place ≡ Some q
     → (finding : Finding) → IsPropertyFound false said.protocol model (record { place = place; finding = finding }) → (excess : PropertyExcess) → verdict_in finding ≡ Err excess
-    → (f : SolveFault) → f ≡ solve_fault.Property (record { excess = excess; place = q.name.place }) → IsUnexplained bytes f
-found_unexplained bytes model said place q at (Decided v a) found excess is f same = absurd (cc is)
-found_unexplained bytes model said place q at (Shown b) found excess is f same = absurd (cc is)
-found_unexplained bytes model said place q at (Refused other) found excess is f same =
+    → IsTooLargeProperty model q excess ⊎ HasLargeNegation said.protocol model q place excess
+found_unexplained bytes model said place q at (Decided v a) found excess is = absurd (cc is)
+found_unexplained bytes model said place q at (Shown b) found excess is = absurd (cc is)
+found_unexplained bytes model said place q at (Refused other) found excess is =
     let is_excess : other ≡ excess = cc is in
     let p = found.asked in
     let large = finding_at false said.protocol model place (Refused other) found p q found.stands at in
-    let here : IsTooLargeProperty model q excess ⊎ (NeedsNegation said.protocol p model q × IsTooLargeNegation said.protocol place excess) =
-    subst (λ (x : PropertyExcess). IsTooLargeProperty model q x ⊎ (NeedsNegation said.protocol p model q × IsTooLargeNegation said.protocol place x)) is_excess large in
-    subst (IsUnexplained bytes) (sym same) (record {
+    let here : IsTooLargeProperty model q excess ⊎ (NeedsNegation said.protocol p model q × IsTooLargeNegation said.protocol p excess) =
+    subst (λ (x : PropertyExcess). IsTooLargeProperty model q x ⊎ (NeedsNegation said.protocol p model q × IsTooLargeNegation said.protocol p x)) is_excess large in
+    elim here [ inl own ↦ inl own | inr needed ↦ inr (p, found.stands, inl needed.0, needed.1) ]
+
+-- so the property isn't explained, whichever names it is asked for by
+pub large_unexplained : (bytes : List ℕ) (model : ModelForm) (said : IsModelOf bytes model) (place : ℕ) (q : PropertyForm) → slice_get model.properties place ≡ Some q
+    → (excess : PropertyExcess) → IsTooLargeProperty model q excess ⊎ HasLargeNegation said.protocol model q place excess
+    → (f : SolveFault) → f ≡ solve_fault.Property (record { excess = excess; place = q.name.place }) → IsUnexplainedOf bytes model place f
+large_unexplained bytes model said place q at excess large f same = λ names x there asked.
+    let both : Some x ≡ Some q = sym there ∙ at in
+    let is : x ≡ q = cc both in
+    subst (IsUnexplained names bytes) (sym same) (record {
       model = model;
       said = said;
       index = place;
       property = q;
-      asked = at;
+      at = at;
+      asked = subst (λ (y : PropertyForm). is_asked names y ≡ true) is asked;
       stands = refl;
-      large = elim here [ inl own ↦ inl own | inr needed ↦ inr (p, found.stands, needed.0, needed.1) ];
+      large = large;
     })
 
 -- ---- places
@@ -290,3 +256,37 @@ pub found_within : (counts : Bool) (protocol : ProtocolForm) (model : ModelForm)
 found_within counts protocol model bound long fs all =
     All-weaker (IsPropertyFound counts protocol model) (λ found. found.place < bound)
     (λ found is. let within = slice_get_within model.properties found.place is.solved is.in_model in omega (arith, within, long)) fs all
+
+-- what is said of those at places from one on: each is at least the first, and the property there is asked for
+abbrev IsAskedFrom : List (List ℕ) → ℕ → List PropertyForm → ℕ → Type 0
+IsAskedFrom names first ps k = (first ≤ k) × ((j : ℕ) (p : PropertyForm) → k ≡ first + j → slice_get ps j ≡ Some p → is_asked names p ≡ true)
+
+asked_next : (names : List (List ℕ)) (first : ℕ) (x : PropertyForm) (ps : List PropertyForm) (k : ℕ) → IsAskedFrom names (first + 1) ps k → IsAskedFrom names first (x ∷ ps) k
+asked_next names first x ps k (above, asked) = (omega (arith, above), among)
+  where
+    among : (j : ℕ) (p : PropertyForm) → k ≡ first + j → slice_get (x ∷ ps) j ≡ Some p → is_asked names p ≡ true
+    among zero p e at = absurd (omega (arith, above, e))
+    among (suc j) p e at = asked j p (omega (arith, e)) at
+
+-- one property more, before others
+asked_before : (names : List (List ℕ)) (first : ℕ) (x : PropertyForm) (ps : List PropertyForm) → All (IsAskedFrom names first (x ∷ ps)) (asked_from (first + 1) names ps)
+    → All (IsAskedFrom names first (x ∷ ps)) (asked_from first names (x ∷ ps))
+asked_before names first x ps rest = go (is_asked names x) refl
+  where
+    here : is_asked names x ≡ true → (j : ℕ) (p : PropertyForm) → first ≡ first + j → slice_get (x ∷ ps) j ≡ Some p → is_asked names p ≡ true
+    here is zero p e at = let same : x ≡ p = cc at in subst (λ (y : PropertyForm). is_asked names y ≡ true) same is
+    here is (suc j) p e at = absurd (omega (arith, e))
+
+    go : (b : Bool) → is_asked names x ≡ b → All (IsAskedFrom names first (x ∷ ps)) (if b then first ∷ asked_from (first + 1) names ps else asked_from (first + 1) names ps)
+    go true is = All-cons (IsAskedFrom names first (x ∷ ps)) first (asked_from (first + 1) names ps) (omega arith, here is) rest
+    go false is = rest
+
+asked_all : (names : List (List ℕ)) (first : ℕ) (ps : List PropertyForm) → All (IsAskedFrom names first ps) (asked_from first names ps)
+asked_all names first [] = All-nil (IsAskedFrom names first [])
+asked_all names first (x ∷ ps) =
+    asked_before names first x ps
+    (All-weaker (IsAskedFrom names (first + 1) ps) (IsAskedFrom names first (x ∷ ps)) (asked_next names first x ps) (asked_from (first + 1) names ps) (asked_all names (first + 1) ps))
+
+-- the property at a place that is asked for is
+pub asked_at : (names : List (List ℕ)) (ps : List PropertyForm) (k : ℕ) (p : PropertyForm) → Contains (asked_places names ps) k → slice_get ps k ≡ Some p → is_asked names p ≡ true
+asked_at names ps k p (i, within, is) at = (of_item (IsAskedFrom names 0 ps) (asked_places names ps) i k (asked_all names 0 ps) within (sym is)).1 k p (omega arith) at

@@ -1,6 +1,7 @@
 -- What of a property is too large, by the fault of its text or of that text's module.
 use Rattle.std.proofs.Common.{◌≡◌, refl, subst}
 use Rattle.std.specs.Prelude.{None, Result, Ok, Err, IfOk}
+use Rattle.pb_sorts.specs.declared.counting.Counting.TheVariants.{Reached}
 use Rattle.pb_text_tree.specs.Form.{SpecForm}
 use Rattle.pb_model_tree.specs.Form.{ModelForm, PropertyForm}
 use Rattle.pb_bytecode.specs.Contents.{Contents}
@@ -40,7 +41,7 @@ has_excess x (solve_fault.Property fault) h none = absurd h
 has_excess x solve_fault.NoProperty h none = absurd h
 
 -- the module's game is too large
-pub large_game : (model : ModelForm) (p : PropertyForm) (x : SpecForm) → IsTextOf model p x → (m : Contents) → IsModuleOfForm x m → IsTooLarge m → IsTooLargeProperty model p Game
+pub large_game : (model : ModelForm) (p : PropertyForm) (x : SpecForm) → IsTextOf model p x → (m : Contents) → IsModuleOfForm x m → IsTooLarge Reached m → IsTooLargeProperty model p Game
 large_game model p x text m of_text large = record { text = x; of_property = text; contents = m; of_text = of_text; large = large }
 
 -- an answer of which less is asked

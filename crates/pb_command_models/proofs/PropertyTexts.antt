@@ -1,23 +1,23 @@
 -- The text of a property that isn't well typed: it is too large, or the model is refused.
-use Rattle.std.proofs.Common.{◌≡◌, ℕ, true, false, Some, refl, sym, subst}
-use Rattle.std.specs.Prelude.{Contains, IfOk, Result, Ok, Err}
+use Rattle.std.proofs.Common.{◌≡◌, ◌∙◌, ℕ, true, false, Some, refl, sym, ap, subst}
+use Rattle.std.specs.Prelude.{IfOk, Result, Ok, Err}
 use Rattle.std.specs.List.{slice_get}
 use Rattle.pb_model_tree.specs.Form.{PropertyForm, model_form}
+use Rattle.pb_typing_declarations.specs.declared.fault.TypingFault.{TypingFault}
 use Rattle.pb_typing_declarations.specs.declared.fault.TypingRule.{TypingRule}
 use Rattle.pb_typing_declarations.specs.declared.fault.TypingRule.TheVariants as rule
 use Rattle.pb_model_faults.specs.declared.ModelFault.{ModelFault}
 use Rattle.pb_model_faults.specs.declared.ModelFault.TheVariants as model_fault
 use Rattle.pb_model_properties.specs.declared.solved.SolvedModel.{SolvedModel}
-use Rattle.pb_model_properties.specs.Refusals.{IsRefusedText, told_places}
+use Rattle.pb_model_properties.specs.Refusals.{IsRefusedText}
 use Rattle.pb_base.specs.OrMemory.{IfFault, IfRefused}
 use Rattle.pb_base.specs.declared.or_memory.OrMemory.{OrMemory}
 use Rattle.pb_base.specs.declared.or_memory.OrMemory.TheVariants as or_memory
 use Rattle.pb_command_faults.specs.Errors.{fault_of_model}
 use Rattle.pb_command_faults.specs.declared.solve_fault.SolveFault.{SolveFault}
 use Rattle.pb_model_properties.specs.Refusals.{is_limit, is_limit_rule}
-use Rattle.pb_command_models.proofs.PropertyVerdicts.{contains_at}
 use Rattle.pb_command_models.specs.Models.{IsOverTextLimit}
-use Rattle.pb_command_models.specs.Outcomes.{IsFault, IsPropertyText, IsTextAt, IsUntyped}
+use Rattle.pb_command_models.specs.Outcomes.{IsFault, IsPropertyText, IsTextAt, IsUntypedAt, IsUntypedText}
 use Rattle.pb_command_models.specs.declared.property_text.AskedText.{AskedText}
 use Rattle.pb_command_models.specs.declared.property_text.PropertyText.TheVariants as property_text
 
@@ -38,7 +38,12 @@ limit_rule rule.QuantifierInData e = absurd (cc e)
 
 module _ (solved : SolvedModel) (p : PropertyForm) where
   over_limit : (fault : ModelFault) → is_limit fault ≡ true → IsRefusedText solved p fault → IsOverTextLimit (model_form solved.typed.model) p
-  over_limit (model_fault.Typing fault) limit h = (fault, told_places solved.names, limit_rule fault.rule limit, h)
+  over_limit (model_fault.Typing fault) limit h = record {
+    ill_typed = h.ill_typed;
+    fault = h.broken;
+    fails = h.fails;
+    limit = sym (ap (λ (f : TypingFault). f.rule) h.told) ∙ limit_rule fault.rule limit;
+  }
   over_limit (model_fault.Text fault) limit h = absurd h
   over_limit model_fault.NoProperty limit h = absurd h
 
@@ -48,18 +53,17 @@ module _ (solved : SolvedModel) (p : PropertyForm) where
   text_over_limit (or_memory.Refused fault) is limit h = over_limit fault limit h
   text_over_limit or_memory.Memory is limit h = absurd is
 
-  untyped_by : (fault : ModelFault) → Contains (model_form solved.typed.model).properties p → is_limit fault ≡ false → IsRefusedText solved p fault
-      → IsUntyped (model_form solved.typed.model) (fault_of_model fault)
-  untyped_by (model_fault.Typing fault) among other h = (other, (p, told_places solved.names, among, h))
-  untyped_by (model_fault.Text fault) among other h = absurd h
-  untyped_by model_fault.NoProperty among other h = absurd h
+  untyped_by : (fault : ModelFault) → is_limit fault ≡ false → IsRefusedText solved p fault → IsUntypedText solved p (fault_of_model fault)
+  untyped_by (model_fault.Typing fault) other h = (other, h)
+  untyped_by (model_fault.Text fault) other h = absurd h
+  untyped_by model_fault.NoProperty other h = absurd h
 
-  -- by another the model is
-  pub text_untyped : (error : OrMemory ModelFault) (made : SolveFault) → Contains (model_form solved.typed.model).properties p → IsFault error
+  -- by another it isn't well typed
+  text_untyped : (error : OrMemory ModelFault) (made : SolveFault) → IsFault error
       → IfFault error (λ fault. made ≡ fault_of_model fault) → IfFault error (λ fault. is_limit fault ≡ false) → IfFault error (IsRefusedText solved p)
-      → IsUntyped (model_form solved.typed.model) made
-  text_untyped (or_memory.Refused fault) made among is same other h = subst (IsUntyped (model_form solved.typed.model)) (sym same) (untyped_by fault among other h)
-  text_untyped or_memory.Memory made among is same other h = absurd is
+      → IsUntypedText solved p made
+  text_untyped (or_memory.Refused fault) made is same other h = subst (IsUntypedText solved p) (sym same) (untyped_by fault other h)
+  text_untyped or_memory.Memory made is same other h = absurd is
 
   module _ (place : ℕ) (at : slice_get (model_form solved.typed.model).properties place ≡ Some p) (error : OrMemory ModelFault) where
     pub large_text : {E : Type 0} (r : Result AskedText E)
@@ -74,8 +78,7 @@ module _ (solved : SolvedModel) (p : PropertyForm) where
 
     pub untyped_text : {A : Type 0} (r : Result A (OrMemory SolveFault))
         → IfRefused r (λ made. IfFault error (λ fault. made ≡ fault_of_model fault) × IsFault error × IfFault error (λ fault. is_limit fault ≡ false))
-        → IfFault error (IsRefusedText solved p) → IfRefused r (IsUntyped (model_form solved.typed.model))
+        → IfFault error (IsRefusedText solved p) → IfRefused r (IsUntypedAt solved place)
     untyped_text (Ok x) made h = tt
     untyped_text (Err or_memory.Memory) made h = tt
-    untyped_text (Err (or_memory.Refused fault)) made h =
-        text_untyped error fault (contains_at (model_form solved.typed.model).properties place p at) made.1 made.0 made.2 h
+    untyped_text (Err (or_memory.Refused fault)) made h = (p, at, text_untyped error fault made.1 made.0 made.2 h)

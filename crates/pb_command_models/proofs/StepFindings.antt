@@ -17,7 +17,7 @@ use Rattle.pb_model_faults.specs.declared.ModelFault.{ModelFault}
 use Rattle.pb_model_faults.specs.declared.ModelFault.TheVariants as model_fault
 use Rattle.pb_model_properties.specs.declared.solved.SolvedModel.{SolvedModel}
 use Rattle.pb_model_properties.specs.Reached.{name_of_step, reached_property}
-use Rattle.pb_model_properties.specs.Refusals.{IsRefusedText, told_places}
+use Rattle.pb_model_properties.specs.Refusals.{IsRefusedText}
 use Rattle.pb_model_properties.specs.Said.{tree_satisfies}
 use Rattle.pb_report.specs.declared.answer.Answer.{Answer}
 use Rattle.pb_command_models.specs.declared.outcome.Outcome.{Outcome}
@@ -60,24 +60,24 @@ module _ (solved : SolvedModel) where
   large_step place error (Err e) made h = tt
 
   untyped_by : (a : StepForm) (fault : ModelFault) → Contains (model_form solved.typed.model).steps a → is_limit fault ≡ false
-      → IsRefusedText solved (reached_property (model_form solved.typed.model) a) fault → IsUntypedStep (model_form solved.typed.model) (fault_of_model fault)
-  untyped_by a (model_fault.Typing fault) among other h = (other, (a, told_places solved.names, among, h))
+      → IsRefusedText solved (reached_property (model_form solved.typed.model) a) fault → IsUntypedStep solved (fault_of_model fault)
+  untyped_by a (model_fault.Typing fault) among other h = (other, (a, among, h))
   untyped_by a (model_fault.Text fault) among other h = absurd h
   untyped_by a model_fault.NoProperty among other h = absurd h
 
   untyped_told : (place : ℕ) (error : OrMemory ModelFault) (made : SolveFault) → place < length (model_form solved.typed.model).steps → IsFault error
       → IfFault error (λ fault. made ≡ fault_of_model fault) → IfFault error (λ fault. is_limit fault ≡ false) → IfFault error (IsRefusedStep place)
-      → IsUntypedStep (model_form solved.typed.model) made
+      → IsUntypedStep solved made
   untyped_told place (or_memory.Refused fault) made below is same other h =
       let steps = (model_form solved.typed.model).steps in
       let some = some_step steps place below in
-      subst (IsUntypedStep (model_form solved.typed.model)) (sym same) (untyped_by some.0 fault (contains_step steps place some.0 some.1) other (h some.0 some.1))
+      subst (IsUntypedStep solved) (sym same) (untyped_by some.0 fault (contains_step steps place some.0 some.1) other (h some.0 some.1))
   untyped_told place or_memory.Memory made below is same other h = absurd is
 
   -- or breaks another rule
   pub untyped_step : {A : Type 0} (place : ℕ) (error : OrMemory ModelFault) (r : Result A (OrMemory SolveFault)) → place < length (model_form solved.typed.model).steps
       → IfRefused r (λ made. IfFault error (λ fault. made ≡ fault_of_model fault) × IsFault error × IfFault error (λ fault. is_limit fault ≡ false)) → IfFault error (IsRefusedStep place)
-      → IfRefused r (IsUntypedStep (model_form solved.typed.model))
+      → IfRefused r (IsUntypedStep solved)
   untyped_step place error r below made h = if_refused r (λ fault was. untyped_told place error fault below was.1 was.0 was.2 h) made
 
 -- ---- what is found of the step at a place

@@ -1,6 +1,7 @@
 -- What the truth of the module of a property's text says of the property.
 use Rattle.std.proofs.Common.{◌≡◌, ◌∙◌, Bool, subst}
 use Rattle.std.specs.Prelude.{Result, Ok, Err, IfOk, IfSome}
+use Rattle.pb_sorts.specs.declared.counting.Counting.TheVariants.{Reached}
 use Rattle.pb_bytecode.specs.Contents.{Contents}
 use Rattle.pb_model_tree.specs.Form.{ModelForm, PropertyForm}
 use Rattle.pb_model_properties.specs.Said.{tree_satisfies}
@@ -20,7 +21,7 @@ module _ (compiled : PropertyModule) (m : Contents) (same : compiled ≡ propert
       is some.0 some.1 ∙ ((text.2.says some.0 some.1).answer ∙ text.1.decides)
 
   -- what is told of the module early is told of the property
-  pub property_early : {E : Type 0} (r : Result Early E) → IfOk r (IsEarly m)
+  pub property_early : {E : Type 0} (r : Result Early E) → IfOk r (IsEarly Reached m)
       → IfOk r (λ e. (model : ModelForm) (p : PropertyForm) → IsPropertyModule model p compiled → IsEarlyOf model p e)
   property_early (Ok early.Unknown) is = λ model p h. tt
   property_early (Ok (early.Shown b)) is = property_truth b is
@@ -28,6 +29,9 @@ module _ (compiled : PropertyModule) (m : Contents) (same : compiled ≡ propert
       let text = subst (IsPropertyModule model p) same h in
       property_verdict model p text.0 text.1 m text.2 a is
   property_early (Err e) is = tt
+
+  pub known_early : (e : Early) → IsEarly Reached m e → (model : ModelForm) (p : PropertyForm) → IsPropertyModule model p compiled → IsEarlyOf model p e
+  known_early e is = property_early {E = Unit {0}} (Ok e) is
 
 -- the truth that is told is the property's
 pub told_truth : (A : ModelForm → PropertyForm → Type 0) (e : Early) → ((model : ModelForm) (p : PropertyForm) → A model p → IsEarlyOf model p e)

@@ -1,12 +1,12 @@
 -- What is found of the properties of a model, and what a fault says of the model that bytes say.
 use Rattle.std.specs.Prelude.{◌≡◌, ◌⊎◌, ◌<◌, ◌&&◌, not, ℕ, Bool, true, false, List, [], ◌∷◌, ◌++◌}
-use Rattle.std.specs.Prelude.{if◌then◌else◌, Option, Some, Contains, length, map, string_bytes}
+use Rattle.std.specs.Prelude.{if◌then◌else◌, Option, Some, None, Contains, map, string_bytes}
 use Rattle.std.specs.Prelude.{IfOk, Result, String}
 use Rattle.std.specs.declared.alloc.Global.{Global}
 use Rattle.std.specs.List.{All, list_any, slice_get}
 use Rattle.std.specs.Option.{option_map_or}
-use Rattle.pb_base.specs.OrMemory.{IfRefused}
-use Rattle.pb_base.specs.declared.or_memory.OrMemory.{OrMemory}
+use Rattle.pb_sorts.specs.declared.counting.Counting.TheVariants.{Reached}
+use Rattle.pb_text.specs.declared.error.TextFault.{TextFault}
 use Rattle.pb_text_tree.specs.declared.place.Place.{Place}
 use Rattle.pb_text_tree.specs.Form.{SpecForm}
 use Rattle.pb_text_meaning.specs.Erase.{erase}
@@ -16,29 +16,40 @@ use Rattle.pb_assembler_measures.specs.Excess.{IsFirstExcess}
 use Rattle.pb_assembler_measures.specs.declared.compile_error.Excess.{Excess}
 use Rattle.pb_bytecode.specs.declared.limit.Limit.{Limit}
 use Rattle.pb_bytecode.specs.Contents.{Contents}
+use Rattle.pb_bytecode.specs.Meaning.{AreTrees}
+use Rattle.pb_evidence.specs.declared.Evidence.{Evidence}
+use Rattle.pb_fixpoint_trees.specs.Tree.{Tree}
 use Rattle.pb_model_tree.specs.Form.{ModelForm, PropertyForm, StepForm, model_form, property_form}
 use Rattle.pb_model_tree.specs.declared.model.Property.{Property}
-use Rattle.pb_protocol_negation.specs.Negated.{negated, negated_protocol}
+use Rattle.pb_model_meaning.specs.Erase as model_text
+use Rattle.pb_model_meaning.specs.Erase.{erased_formula}
+use Rattle.pb_model_typing.specs.Texts.{HasTypedText, IsFaultFromText, placed_property}
+use Rattle.pb_protocol_negation.specs.Negated.{negated}
 use Rattle.pb_model_faults.specs.declared.ModelFault.TheVariants as model_fault
 use Rattle.pb_model_properties.specs.declared.solved.SolvedModel.{SolvedModel}
 use Rattle.pb_model_properties.specs.declared.verdicts.Verdict.{Verdict}
 use Rattle.pb_model_properties.specs.declared.verdicts.Verdict.TheVariants.{True, False, Unknown}
-use Rattle.pb_model_properties.specs.Asked.{asked_places, have_properties}
-use Rattle.pb_model_properties.specs.Negations.{IsRefusedNegation}
+use Rattle.pb_model_properties.specs.Asked.{asked_places, have_properties, is_asked}
+use Rattle.pb_model_properties.specs.Made.{step_name_places}
+use Rattle.pb_model_properties.specs.Negations.{with_negation}
 use Rattle.pb_model_properties.specs.Reached.{reached_property}
 use Rattle.pb_model_properties.specs.Refusals.{is_limit_rule}
-use Rattle.pb_model_properties.specs.Refusals.{IsIllTypedText, IsRefusedModelText}
+use Rattle.pb_model_properties.specs.Refusals.{IsIllTypedText, IsRefusedModelText, IsRefusedProtocol}
 use Rattle.pb_model_properties.specs.Refusals.{IsRefusedModelType, LacksProperty, LacksTranslation}
 use Rattle.pb_protocol_tree.specs.Form as protocol_form
 use Rattle.pb_protocol_tree.specs.Form.{ProtocolForm}
 use Rattle.pb_model_properties.specs.Said.{protocol_satisfies, tree_satisfies, IsModelFor, IsModelOf}
-use Rattle.pb_model_properties.specs.Said.{IsTextOf, IsTheReading}
+use Rattle.pb_model_properties.specs.Said.{IsTextOf}
 use Rattle.pb_model_properties.specs.Verdicts.{count_lines, cut_line, refused_line, verdict_line}
 use Rattle.pb_report.specs.declared.answer.Answer.{Answer}
+use Rattle.pb_report.specs.Cuts.{cuts_of}
+use Rattle.pb_report.specs.ModuleEvidence.{IsModuleEvidence}
 use Rattle.pb_command_solver.specs.Answers.{IsAnswerOf, IsTooLarge}
 use Rattle.pb_command_faults.specs.Lines.{property_rule}
 use Rattle.pb_command_faults.specs.declared.property_fault.PropertyExcess.{PropertyExcess}
 use Rattle.pb_command_faults.specs.declared.property_fault.PropertyExcess.TheVariants.{Text, Code, Game}
+use Rattle.pb_command_faults.specs.declared.property_fault.PropertyExcess.TheVariants.{NegationText}
+use Rattle.pb_command_faults.specs.declared.property_fault.PropertyExcess.TheVariants.{NegationTyping}
 use Rattle.pb_command_faults.specs.declared.solve_fault.SolveFault.{SolveFault}
 use Rattle.pb_command_faults.specs.declared.solve_fault.SolveFault.TheVariants as solve_fault
 use Rattle.pb_command_line.specs.declared.options.Checking.{Checking}
@@ -59,7 +70,7 @@ pub record IsPropertyAnswer (model : ModelForm) (p : PropertyForm) (a : Answer) 
   pub of_property : IsTextOf model p text
   pub contents : Contents
   pub of_text : IsModuleOfForm text contents
-  pub counted : IsAnswerOf contents a
+  pub counted : IsAnswerOf Reached contents a
 
 -- the property's text has an equation whose code exceeds a limit, and the first limit that the
 -- first such one exceeds is this
@@ -76,19 +87,22 @@ pub record HasLargeGame (model : ModelForm) (p : PropertyForm) : Type 0 where
   pub of_property : IsTextOf model p text
   pub contents : Contents
   pub of_text : IsModuleOfForm text contents
-  pub large : IsTooLarge contents
+  pub large : IsTooLarge Reached contents
 
--- the property's text passes a limit of texts
-abbrev pub IsOverTextLimit : ModelForm → PropertyForm → Type 0
-IsOverTextLimit model p =
-    (fault : TypingFault) × (steps : List Place) × (fault.rule ≡ rule.Limit)
-    × IsIllTypedText model steps p fault
+-- the property's text isn't well typed, and passes a limit of texts
+pub record IsOverTextLimit (model : ModelForm) (p : PropertyForm) : Type 0 where
+  pub ill_typed : ¬ HasTypedText (model_text.erase model) (erased_formula p.formula)
+  pub fault : TypingFault
+  pub fails : IsFaultFromText model (placed_property p) fault
+  pub limit : fault.rule ≡ rule.Limit
 
 -- what of the property is too large
 abbrev pub IsTooLargeProperty : ModelForm → PropertyForm → PropertyExcess → Type 0
 IsTooLargeProperty model p Text = IsOverTextLimit model p
 IsTooLargeProperty model p (Code limit) = IsOverModelLimit model p limit
 IsTooLargeProperty model p Game = HasLargeGame model p
+IsTooLargeProperty model p (NegationText rule) = ⊥
+IsTooLargeProperty model p (NegationTyping rule) = ⊥
 
 -- The verdict on a property of a protocol, where so many reached instances of its text call one
 -- outside the ranges. Where it is unknown, neither the property nor its negation is satisfied: what
@@ -102,12 +116,35 @@ IsVerdictOn protocol f cut Unknown =
     (protocol_satisfies protocol f ≡ false) × (protocol_satisfies protocol (negated f) ≡ false)
     × (0 < cut)
 
--- the negation of the property at the place is too large in this way
-abbrev pub IsTooLargeNegation : ProtocolForm → ℕ → PropertyExcess → Type 0
-IsTooLargeNegation protocol place excess =
-    (model : ModelForm) × IsModelFor (negated_protocol protocol) model
-    × ((q : PropertyForm) × (slice_get model.properties place ≡ Some q)
-    × IsTooLargeProperty model q excess)
+-- the model is solved in the place of the protocol with the negation of the property p alone, and
+-- that is its property q, of which P holds
+pub record HasNegation (protocol : ProtocolForm) (p : protocol_form.PropertyForm)
+    (P : ModelForm → PropertyForm → Type 0) : Type 0 where
+  pub model : ModelForm
+  pub is_for : IsModelFor (with_negation protocol p) model
+  pub negation : PropertyForm
+  pub first : slice_get model.properties 0 ≡ Some negation
+  pub holds : P model negation
+
+-- the text of the negation q isn't well typed by the fault
+abbrev pub IsIllTypedNegation : ProtocolForm → protocol_form.PropertyForm → TypingFault → Type 0
+IsIllTypedNegation protocol p fault =
+    HasNegation protocol p
+    (λ model q. IsIllTypedText model (step_name_places (with_negation protocol p)) q fault)
+
+-- The negation of the property p is refused, alone in the protocol: it can't be written out, or it
+-- breaks a rule of typing, or something of its text is too large.
+abbrev pub IsTooLargeNegation :
+    ProtocolForm → protocol_form.PropertyForm → PropertyExcess → Type 0
+IsTooLargeNegation protocol p (NegationText rule) =
+    (fault : TextFault) × (fault.rule ≡ rule)
+    × IsRefusedProtocol (with_negation protocol p) (model_fault.Text fault)
+IsTooLargeNegation protocol p (NegationTyping rule) =
+    (fault : TypingFault) × (fault.rule ≡ rule)
+    × (IsRefusedProtocol (with_negation protocol p) (model_fault.Typing fault)
+    ⊎ IsIllTypedNegation protocol p fault)
+IsTooLargeNegation protocol p excess =
+    HasNegation protocol p (λ model q. IsTooLargeProperty model q excess)
 
 -- what is shown of a property of a protocol: that it is satisfied; or that its negation is, so that
 -- it isn't
@@ -124,18 +161,35 @@ NeedsNegation protocol p model q =
     (protocol_satisfies protocol p.formula ≡ false)
     × ((answer : Answer) × IsPropertyAnswer model q answer × (0 < answer.cut))
 
+-- with whichever trees the module's instances have, this is whether a line of the evidence rests on
+-- a cut call
+abbrev pub RestOnCut : Contents → Evidence → Bool → Type 0
+RestOnCut m e rests =
+    (trees : ℕ → Tree) → AreTrees m trees → list_any (λ cut. cut) (cuts_of trees e) ≡ rests
+
+-- evidence of the text's module shows that the property isn't satisfied, and rests on a cut call
+pub record IsShownByCut (model : ModelForm) (p : PropertyForm) : Type 0 where
+  pub fails : tree_satisfies model p.formula ≡ false
+  pub text : SpecForm
+  pub of_property : IsTextOf model p text
+  pub contents : Contents
+  pub of_text : IsModuleOfForm text contents
+  pub evidence : Evidence
+  pub shown : IsModuleEvidence contents evidence
+  pub rests : RestOnCut contents evidence true
+
 -- what is found of the property p of the protocol, which is q of the model that is solved in its
 -- place: the verdict on it; or, where counts aren't asked for, what is shown of it; or that its
--- text is too large, or its negation's where the verdict needs that
+-- text is too large; or its negation is refused, where the verdict needs that
 abbrev pub IsFinding : Bool → ProtocolForm → protocol_form.PropertyForm → ModelForm → PropertyForm →
-    ℕ → Finding → Type 0
-IsFinding counts protocol p model q place (Decided verdict answer) =
+    Finding → Type 0
+IsFinding counts protocol p model q (Decided verdict answer) =
     IsVerdictOn protocol p.formula answer.cut verdict × IsPropertyAnswer model q answer
-IsFinding counts protocol p model q place (Shown truth) =
+IsFinding counts protocol p model q (Shown truth) =
     (counts ≡ false) × IsShown protocol p.formula truth
-IsFinding counts protocol p model q place (Refused excess) =
+IsFinding counts protocol p model q (Refused excess) =
     IsTooLargeProperty model q excess
-    ⊎ (NeedsNegation protocol p model q × IsTooLargeNegation protocol place excess)
+    ⊎ (NeedsNegation protocol p model q × IsTooLargeNegation protocol p excess)
 
 -- the model that is solved in the place of a protocol
 abbrev pub solved_form : SolvedModel → ModelForm
@@ -145,10 +199,6 @@ solved_form solved = model_form solved.typed.model
 abbrev pub HasModel : List ℕ → (ModelForm → Type 0) → Type 0
 HasModel bytes P = (model : ModelForm) × IsModelOf bytes model × P model
 
--- that has a property at the place
-abbrev pub HasPropertyAt : List ℕ → ℕ → Type 0
-HasPropertyAt bytes place = HasModel bytes (λ model. place < length model.properties)
-
 -- what is found of the property at its place
 pub record IsPropertyFound (counts : Bool) (protocol : ProtocolForm) (model : ModelForm)
     (found : PropertyFinding)
@@ -157,7 +207,7 @@ pub record IsPropertyFound (counts : Bool) (protocol : ProtocolForm) (model : Mo
   pub stands : slice_get protocol.properties found.place ≡ Some asked
   pub solved : PropertyForm
   pub in_model : slice_get model.properties found.place ≡ Some solved
-  pub finding : IsFinding counts protocol asked model solved found.place found.finding
+  pub finding : IsFinding counts protocol asked model solved found.finding
 
 -- this is found of the property at the place, where the bytes say a protocol in whose place a model
 -- is solved that P holds of
@@ -265,42 +315,54 @@ fault_of_property place solve_fault.TooManyVertices =
     solve_fault.Property (record { excess = Game; place = place })
 fault_of_property place fault = fault
 
--- the verdict on the property at the place needs its negation, which is too large in this way
+-- the verdict on the property at the place needs its negation, or what shows it does, and that is
+-- refused in this way
 abbrev pub HasLargeNegation : ProtocolForm → ModelForm → PropertyForm → ℕ → PropertyExcess → Type 0
 HasLargeNegation protocol model q place excess =
     (p : protocol_form.PropertyForm) × (slice_get protocol.properties place ≡ Some p)
-    × NeedsNegation protocol p model q × IsTooLargeNegation protocol place excess
+    × (NeedsNegation protocol p model q ⊎ IsShownByCut model q)
+    × IsTooLargeNegation protocol p excess
 
--- a property of the model, whose name stands at the place, is too large in this way, or its
--- negation is, which the verdict needs
-pub record HasTooLarge (bytes : List ℕ) (place : Place) (excess : PropertyExcess) : Type 0 where
+-- the names by which one property is asked for, which may be named
+abbrev pub asked_by : Option (List ℕ) → List (List ℕ)
+asked_by None = []
+asked_by (Some name) = name ∷ []
+
+-- a property of the model that is asked for by these names, whose own name stands at the place, is
+-- too large in this way, or its negation is refused, which its verdict needs or what shows it
+pub record HasTooLarge (names : List (List ℕ)) (bytes : List ℕ) (place : Place)
+    (excess : PropertyExcess) : Type 0 where
   pub model : ModelForm
   pub said : IsModelOf bytes model
   pub index : ℕ
   pub property : PropertyForm
-  pub asked : slice_get model.properties index ≡ Some property
+  pub at : slice_get model.properties index ≡ Some property
+  pub asked : is_asked names property ≡ true
   pub stands : property.name.place ≡ place
   pub large : IsTooLargeProperty model property excess
       ⊎ HasLargeNegation said.protocol model property index excess
 
--- the text of a property of the model isn't well typed, by another rule than that of limits
-abbrev pub HasIllTyped : ModelForm → TypingFault → Type 0
-HasIllTyped model fault =
+-- the text of a property of the model that is asked for isn't well typed, by another rule than that
+-- of limits, where the steps stand at these places
+abbrev pub HasIllTyped : List (List ℕ) → List Place → ModelForm → TypingFault → Type 0
+HasIllTyped names steps model fault =
     (is_limit_rule fault.rule ≡ false)
-    × ((p : PropertyForm) × (steps : List Place) × Contains model.properties p
+    × ((p : PropertyForm) × Contains model.properties p × (is_asked names p ≡ true)
     × IsIllTypedText model steps p fault)
 
 -- so it is with the text that asks whether a step of the model can be taken
-abbrev pub HasIllTypedStep : ModelForm → TypingFault → Type 0
-HasIllTypedStep model fault =
+abbrev pub HasIllTypedStep : List Place → ModelForm → TypingFault → Type 0
+HasIllTypedStep steps model fault =
     (is_limit_rule fault.rule ≡ false)
-    × ((a : StepForm) × (steps : List Place) × Contains model.steps a
+    × ((a : StepForm) × Contains model.steps a
     × IsIllTypedText model steps (reached_property model a) fault)
 
-abbrev pub IsIllTypedModel : List ℕ → TypingFault → Type 0
-IsIllTypedModel bytes fault =
+-- the bytes say no model, or one with such a property
+abbrev pub IsIllTypedModel : List (List ℕ) → List ℕ → TypingFault → Type 0
+IsIllTypedModel names bytes fault =
     IsRefusedModelType bytes fault
-    ⊎ ((model : ModelForm) × IsModelOf bytes model × HasIllTyped model fault)
+    ⊎ ((model : ModelForm) × (said : IsModelOf bytes model)
+    × HasIllTyped names (step_name_places said.protocol) model fault)
 
 -- `translate`: the bytes say no model that is well typed, or one that has no property of the name,
 -- or one whose text isn't well typed
@@ -312,58 +374,36 @@ IsUntranslated name bytes (solve_fault.Typing fault) =
 IsUntranslated name bytes solve_fault.NoProperty = LacksProperty name bytes
 IsUntranslated name bytes fault = ⊥
 
--- the text of the negation of a property isn't well typed
-abbrev pub HasIllTypedNegation : List ℕ → TypingFault → Type 0
-HasIllTypedNegation bytes fault =
-    (protocol : ProtocolForm) × IsTheReading bytes protocol
-    × ((model : ModelForm) × IsModelFor (negated_protocol protocol) model × HasIllTyped model fault)
-
--- so it is with a step of the model that is solved in the protocol's place
-abbrev pub HasIllTypedSteps : List ℕ → TypingFault → Type 0
-HasIllTypedSteps bytes fault =
-    (model : ModelForm) × IsModelOf bytes model × HasIllTypedStep model fault
-
--- the negations of the properties are refused by the fault, or the text of one isn't well typed
-abbrev pub IsUnnegated : List ℕ → SolveFault → Type 0
-IsUnnegated bytes (solve_fault.Text fault) = IsRefusedNegation bytes (model_fault.Text fault)
-IsUnnegated bytes (solve_fault.Typing fault) =
-    IsRefusedNegation bytes (model_fault.Typing fault) ⊎ HasIllTypedNegation bytes fault
-IsUnnegated bytes fault = ⊥
+-- counts are asked for, and so it is with a step of the model that is solved for the protocol
+abbrev pub HasIllTypedSteps : Bool → List ℕ → TypingFault → Type 0
+HasIllTypedSteps counts bytes fault =
+    (counts ≡ true)
+    × ((model : ModelForm) × (said : IsModelOf bytes model)
+    × HasIllTypedStep (step_name_places said.protocol) model fault)
 
 -- The property at the place is looked at, where P holds of the model: the input keeps its bytes,
--- what is found of the property is so, and nothing is only where the negations are refused.
-pub record FindsProperty (P : ModelForm → Type 0) (counts : Bool) (place : ℕ) (old new : List ℕ)
-    (result : Result Finding (OrMemory SolveFault)) : Type 0 where
+-- and what is found of the property is so.
+pub record FindsProperty {E : Type 0} (P : ModelForm → Type 0) (counts : Bool) (place : ℕ)
+    (old new : List ℕ) (result : Result Finding E) : Type 0 where
   pub same : new ≡ old
   pub found : IfOk result (IsFoundWhere P counts old place)
-  pub refused : IfRefused result (IsUnnegated old)
 
--- the bytes say no model, or one with a property whose text isn't well typed; or so it is with the
--- negations
-abbrev pub IsUntold : List ℕ → SolveFault → Type 0
-IsUntold bytes (solve_fault.Text fault) =
-    IsRefusedModelText bytes fault ⊎ IsUnnegated bytes (solve_fault.Text fault)
-IsUntold bytes (solve_fault.Typing fault) =
-    IsIllTypedModel bytes fault ⊎ IsUnnegated bytes (solve_fault.Typing fault)
-IsUntold bytes fault = ⊥
+-- the text of a property that is asked for is refused, also where it passes a limit
+abbrev pub HasRefusedProperty : List (List ℕ) → List ℕ → TypingFault → Type 0
+HasRefusedProperty names bytes fault =
+    (model : ModelForm) × (said : IsModelOf bytes model)
+    × ((p : PropertyForm) × Contains model.properties p × (is_asked names p ≡ true)
+    × IsIllTypedText model (step_name_places said.protocol) p fault)
 
--- the text of a property is refused, also where it passes a limit
-abbrev pub HasRefusedProperty : List ℕ → TypingFault → Type 0
-HasRefusedProperty bytes fault =
-    (model : ModelForm) × IsModelOf bytes model
-    × ((p : PropertyForm) × (steps : List Place) × Contains model.properties p
-    × IsIllTypedText model steps p fault)
-
--- `why`: so it is, or something of a property or of its negation is too large
-abbrev pub IsUnexplained : List ℕ → SolveFault → Type 0
-IsUnexplained bytes (solve_fault.Property fault) = HasTooLarge bytes fault.place fault.excess
-IsUnexplained bytes (solve_fault.Typing fault) =
-    IsUntold bytes (solve_fault.Typing fault) ⊎ HasRefusedProperty bytes fault
-IsUnexplained bytes fault = IsUntold bytes fault
-
--- so it is with whatever bytes that say a protocol in whose place the model is solved
-abbrev pub WhereUnexplained : ModelForm → SolveFault → Type 0
-WhereUnexplained model fault = (bytes : List ℕ) → IsModelOf bytes model → IsUnexplained bytes fault
+-- `why`: the bytes say no model, or the text of a property that is asked for is refused, or
+-- something of it or of its negation is too large
+abbrev pub IsUnexplained : List (List ℕ) → List ℕ → SolveFault → Type 0
+IsUnexplained names bytes (solve_fault.Property fault) =
+    HasTooLarge names bytes fault.place fault.excess
+IsUnexplained names bytes (solve_fault.Text fault) = IsRefusedModelText bytes fault
+IsUnexplained names bytes (solve_fault.Typing fault) =
+    IsRefusedModelType bytes fault ⊎ HasRefusedProperty names bytes fault
+IsUnexplained names bytes fault = ⊥
 
 -- the model has no property of one of the names
 abbrev pub LacksProperties : List (List ℕ) → List ℕ → Type 0
@@ -371,10 +411,11 @@ LacksProperties names bytes =
     (model : ModelForm) × IsModelOf bytes model
     × (have_properties names model.properties ≡ false)
 
--- `check`: so it is, or the model has no property of a name, or one whose steps are asked for by a
--- text that isn't well typed
-abbrev pub IsUnchecked : List (List ℕ) → List ℕ → SolveFault → Type 0
-IsUnchecked names bytes (solve_fault.Typing fault) =
-    IsUntold bytes (solve_fault.Typing fault) ⊎ HasIllTypedSteps bytes fault
-IsUnchecked names bytes solve_fault.NoProperty = LacksProperties names bytes
-IsUnchecked names bytes fault = IsUntold bytes fault
+-- `check`: the bytes say no model, or the text of a property that is asked for isn't well typed; or
+-- the model has no property of a name, or a step that is asked for by a text that isn't well typed
+abbrev pub IsUnchecked : Checking → List ℕ → SolveFault → Type 0
+IsUnchecked options bytes (solve_fault.Typing fault) =
+    IsIllTypedModel (asked_names options) bytes fault ⊎ HasIllTypedSteps options.counts bytes fault
+IsUnchecked options bytes solve_fault.NoProperty = LacksProperties (asked_names options) bytes
+IsUnchecked options bytes (solve_fault.Text fault) = IsRefusedModelText bytes fault
+IsUnchecked options bytes fault = ⊥

@@ -1,20 +1,20 @@
 -- What becomes of the texts of properties, and of those of their negations.
-use Rattle.std.specs.Prelude.{◌≡◌, ◌<◌, ⊤, ℕ, Bool, true, false, List, Option, Some, None, IfSome, IsSome}
-use Rattle.std.specs.Prelude.{Result, Ok, Err, IfOk, Vec, length, map}
+use Rattle.std.specs.Prelude.{◌≡◌, ◌<◌, ⊤, ℕ, Bool, true, false, List, Option, Some, None, IfSome}
+use Rattle.std.specs.Prelude.{◌==◌, Contains, Result, Ok, Err, IfOk, OnOk, Vec, length, map}
 use Rattle.std.specs.declared.alloc.Global.{Global}
 use Rattle.std.specs.List.{All, slice_get}
 use Rattle.pb_text_tree.specs.Form.{SpecForm, spec_form}
-use Rattle.pb_typing.specs.declared.typed.Typed.{Typed}
 use Rattle.pb_model_tree.specs.Form.{ModelForm, PropertyForm}
-use Rattle.pb_protocol_negation.specs.Negated.{negated, negated_protocol}
+use Rattle.pb_protocol_negation.specs.Negated.{negated}
 use Rattle.pb_protocol_tree.specs.Form as protocol_form
 use Rattle.pb_protocol_tree.specs.Form.{ProtocolForm}
 use Rattle.pb_model_properties.specs.declared.solved.SolvedModel.{SolvedModel}
 use Rattle.pb_model_properties.specs.declared.verdicts.Verdict.{Verdict}
 use Rattle.pb_model_properties.specs.declared.verdicts.Verdict.TheVariants.{True, False, Unknown}
-use Rattle.pb_model_properties.specs.Negations.{IsNegatedModelOf, IsRefusedNegation}
-use Rattle.pb_model_properties.specs.Refusals.{is_limit}
-use Rattle.pb_model_properties.specs.Said.{protocol_satisfies, tree_satisfies, IsModelFor, IsModelOf}
+use Rattle.pb_model_properties.specs.Negations.{IsNegationOf, IsRefusedNegation}
+use Rattle.pb_model_properties.specs.Refusals.{is_limit, is_limit_rule, told_places}
+use Rattle.pb_model_properties.specs.Refusals.{IsIllTypedText}
+use Rattle.pb_model_properties.specs.Said.{protocol_satisfies, tree_satisfies, IsModelOf}
 use Rattle.pb_model_properties.specs.Said.{IsTextOf, IsTheReading}
 use Rattle.pb_report.specs.declared.answer.Answer.{Answer}
 use Rattle.pb_command_solver.specs.declared.early.Early.{Early}
@@ -26,6 +26,8 @@ use Rattle.pb_model_faults.specs.declared.ModelFault.{ModelFault}
 use Rattle.pb_model_faults.specs.declared.ModelFault.TheVariants as model_fault
 use Rattle.pb_command_faults.specs.declared.property_fault.PropertyExcess.{PropertyExcess}
 use Rattle.pb_command_faults.specs.declared.property_fault.PropertyExcess.TheVariants.{Code}
+use Rattle.pb_command_faults.specs.declared.property_fault.PropertyExcess.TheVariants.{NegationText}
+use Rattle.pb_command_faults.specs.declared.property_fault.PropertyExcess.TheVariants.{NegationTyping}
 use Rattle.pb_command_faults.specs.Errors.{fault_of_model}
 use Rattle.pb_command_faults.specs.declared.solve_fault.SolveFault.{SolveFault}
 use Rattle.pb_command_faults.specs.declared.solve_fault.SolveFault.TheVariants as solve_fault
@@ -44,9 +46,11 @@ use Rattle.pb_command_models.specs.declared.property_text.PropertyText.{Property
 use Rattle.pb_command_models.specs.declared.property_text.PropertyText.TheVariants as property_text
 use Rattle.pb_command_texts.specs.Answers.{IsModuleOfForm}
 use Rattle.pb_command_texts.specs.Explained.{IsExplained}
-use Rattle.pb_command_models.specs.Models.{FindsProperty, HasIllTyped, IsPropertyFound, IsOverTextLimit}
-use Rattle.pb_command_models.specs.Models.{IsPropertyAnswer, IsShown, IsTooLargeProperty, IsUnnegated}
-use Rattle.pb_command_models.specs.Models.{WhereUnexplained, verdict_of}
+use Rattle.pb_command_models.specs.declared.negation.Negation.{Negation}
+use Rattle.pb_command_models.specs.Models.{FindsProperty, HasNegation, IsOverTextLimit}
+use Rattle.pb_command_models.specs.Models.{IsPropertyAnswer, IsPropertyFound, IsShown}
+use Rattle.pb_command_models.specs.Models.{IsTooLargeNegation, IsTooLargeProperty, solved_form}
+use Rattle.pb_command_models.specs.Models.{verdict_of}
 
 -- ---- texts
 
@@ -75,31 +79,33 @@ pub record AreFoundByTexts (counts : Bool) (bytes : List ℕ) (texts : List Aske
   pub found : (model : ModelForm) (said : IsModelOf bytes model) → All (IsTextAt model) texts
       → All (IsPropertyFound counts said.protocol model) findings
 
--- What is found of the properties of these texts is so, of the protocol that the bytes say; nothing
--- is only where the negations are refused.
-pub record FindsByTexts (counts : Bool) (bytes : List ℕ) (texts : List AskedText)
-    (result : Result (Vec PropertyFinding Global) (OrMemory SolveFault)) : Type 0 where
-  pub found : IfOk result (λ findings. AreFoundByTexts counts bytes texts findings.items)
-  pub refused : IfRefused result (IsUnnegated bytes)
+-- the text of the property isn't well typed, by another rule than that of limits
+abbrev pub IsUntypedText : SolvedModel → PropertyForm → SolveFault → Type 0
+IsUntypedText solved p (solve_fault.Typing fault) =
+    (is_limit_rule fault.rule ≡ false)
+    × IsIllTypedText (solved_form solved) (told_places solved.names) p fault
+IsUntypedText solved p fault = ⊥
 
--- the text of a property of the model isn't well typed
-abbrev pub IsUntyped : ModelForm → SolveFault → Type 0
-IsUntyped model (solve_fault.Typing fault) = HasIllTyped model fault
-IsUntyped model fault = ⊥
+-- so it is with the property at a place
+abbrev pub IsUntypedAt : SolvedModel → ℕ → SolveFault → Type 0
+IsUntypedAt solved place fault =
+    (p : PropertyForm) × (slice_get (solved_form solved).properties place ≡ Some p)
+    × IsUntypedText solved p fault
 
 -- the text of the property at the place, or that it isn't well typed
-pub record AsksProperty (model : ModelForm) (index : ℕ)
+pub record AsksProperty (solved : SolvedModel) (index : ℕ)
     (result : Result AskedText (OrMemory SolveFault)) : Type 0 where
   pub place : IfOk result (λ asked. asked.place ≡ index)
-  pub text : IfOk result (IsTextAt model)
-  pub refused : IfRefused result (IsUntyped model)
+  pub text : IfOk result (IsTextAt (solved_form solved))
+  pub refused : IfRefused result (IsUntypedAt solved index)
 
 -- so it is with those at the places, in order
-pub record AsksProperties (model : ModelForm) (indices : List ℕ)
+pub record AsksProperties (solved : SolvedModel) (indices : List ℕ)
     (result : Result (Vec AskedText Global) (OrMemory SolveFault)) : Type 0 where
   pub places : IfOk result (λ texts. map (λ (asked : AskedText). asked.place) texts.items ≡ indices)
-  pub texts : IfOk result (λ texts. All (IsTextAt model) texts.items)
-  pub refused : IfRefused result (IsUntyped model)
+  pub texts : IfOk result (λ texts. All (IsTextAt (solved_form solved)) texts.items)
+  pub refused : IfRefused result
+      (λ fault. (place : ℕ) × Contains indices place × IsUntypedAt solved place fault)
 
 -- of a text that isn't well typed by this error: that it is too large where a limit is passed; else
 -- it is refused
@@ -163,14 +169,14 @@ pub record IsOutcomeAt (model : ModelForm) (asked : AskedOutcome) : Type 0 where
   pub outcome : IsOutcome model property asked.outcome
 
 -- what is found of the property at its place, by the module of its text
-abbrev pub FindsByModule : AskedModule → Bool → (old new : List ℕ)
-    → Result Finding (OrMemory SolveFault) → Type 0
+abbrev pub FindsByModule : {E : Type 0} → AskedModule → Bool → (old new : List ℕ)
+    → Result Finding E → Type 0
 FindsByModule asked counts old new result =
     FindsProperty (λ model. IsModuleAt model asked) counts asked.place old new result
 
 -- and by what becomes of its text
-abbrev pub FindsByOutcome : AskedOutcome → Bool → (old new : List ℕ)
-    → Result Finding (OrMemory SolveFault) → Type 0
+abbrev pub FindsByOutcome : {E : Type 0} → AskedOutcome → Bool → (old new : List ℕ)
+    → Result Finding E → Type 0
 FindsByOutcome asked counts old new result =
     FindsProperty (λ model. IsOutcomeAt model asked) counts asked.place old new result
 
@@ -192,42 +198,63 @@ verdict_in (Refused excess) = Err excess
 
 -- ---- negations
 
--- the negations of the properties of the protocol that the bytes say, where they were read
-abbrev pub AreNegations : List ℕ → Option SolvedModel → Type 0
-AreNegations bytes negations = IfSome negations (IsNegatedModelOf bytes)
+-- a known negation is that of the property at the place
+abbrev pub is_of : ℕ → Option Negation → Bool
+is_of place None = false
+is_of place (Some known) = known.place == place
 
--- The module is that of the negation of the property p, at the place: of a property of the negated
--- protocol's model, which its tree satisfies exactly where the protocol satisfies that negation.
-pub record HasNegation (protocol : ProtocolForm) (place : ℕ) (p : protocol_form.PropertyForm)
-    (compiled : PropertyModule) : Type 0 where
-  pub model : ModelForm
-  pub is_for : IsModelFor (negated_protocol protocol) model
-  pub negation : PropertyForm
-  pub stands : slice_get model.properties place ≡ Some negation
-  pub of_negation : IsPropertyModule model negation compiled
-  pub says :
-      tree_satisfies model negation.formula ≡ protocol_satisfies protocol (negated p.formula)
+-- a known negation is that of a property of the protocol that the bytes say
+abbrev pub IsNegation : List ℕ → Option Negation → Type 0
+IsNegation bytes known = IfSome known (λ n. IsNegationOf bytes n.place n.solved)
+
+-- The negation of the property at the place is known, or that is refused.
+pub record ReadsNegation (bytes : List ℕ) (place : ℕ) (known : Option Negation)
+    (result : Result (Unit {0}) (OrMemory ModelFault)) : Type 0 where
+  pub read : IsNegation bytes known
+  pub there : OnOk result (is_of place known ≡ true)
+  pub refused : IfRefused result (IsRefusedNegation bytes place)
+
+-- The input keeps its bytes, and the model is that of the negation of the property at the place, or
+-- that is refused.
+pub record TakesNegation (place : ℕ) (old new : List ℕ)
+    (result : Result SolvedModel (OrMemory ModelFault)) : Type 0 where
+  pub same : new ≡ old
+  pub taken : IfOk result (IsNegationOf old place)
+  pub refused : IfRefused result (IsRefusedNegation old place)
+
+-- a rule that is broken, and no property that isn't there
+abbrev pub IsRule : ModelFault → Type 0
+IsRule (model_fault.Text fault) = ⊤
+IsRule (model_fault.Typing fault) = ⊤
+IsRule model_fault.NoProperty = ⊥
+
+-- how a negation is refused by the fault of a rule
+abbrev pub IsExcessBy : ModelFault → PropertyExcess → Type 0
+IsExcessBy (model_fault.Text fault) excess = excess ≡ NegationText fault.rule
+IsExcessBy (model_fault.Typing fault) excess = excess ≡ NegationTyping fault.rule
+IsExcessBy model_fault.NoProperty excess = ⊥
+
+-- The module is that of the negation of the property p, alone in the protocol, which its model
+-- satisfies exactly where the protocol satisfies that negation; or the negation is refused so.
+abbrev pub IsNegationModule :
+    ProtocolForm → protocol_form.PropertyForm → PropertyModule → Type 0
+IsNegationModule protocol p (property_module.Verified m) =
+    HasNegation protocol p (λ model q. IsPropertyModule model q (property_module.Verified m)
+    × (tree_satisfies model q.formula ≡ protocol_satisfies protocol (negated p.formula)))
+IsNegationModule protocol p (property_module.TooLarge excess) =
+    IsTooLargeNegation protocol p excess
 
 -- so of the property at the place, of the protocol that the bytes say
 abbrev pub IsNegationAt : List ℕ → ℕ → PropertyModule → Type 0
 IsNegationAt bytes place compiled =
     (protocol : ProtocolForm) → IsTheReading bytes protocol → (p : protocol_form.PropertyForm)
-    → slice_get protocol.properties place ≡ Some p → HasNegation protocol place p compiled
+    → slice_get protocol.properties place ≡ Some p → IsNegationModule protocol p compiled
 
--- The negations are read, where they weren't, or the protocol of the negations is refused.
-pub record ReadsNegations (bytes : List ℕ) (negations : Option SolvedModel)
-    (result : Result (Unit {0}) (OrMemory ModelFault)) : Type 0 where
-  pub read : AreNegations bytes negations
-  pub some : IfOk result (λ _. IsSome negations)
-  pub refused : IfRefused result (IsRefusedNegation bytes)
-
--- The input keeps its bytes, and the module is that of the negation of the property at the place,
--- or the negations are refused.
-pub record FindsNegation (place : ℕ) (old new : List ℕ)
-    (result : Result PropertyModule (OrMemory SolveFault)) : Type 0 where
+-- The input keeps its bytes, and the module is that of the negation of the property at the place.
+pub record FindsNegation {E : Type 0} (place : ℕ) (old new : List ℕ)
+    (result : Result PropertyModule E) : Type 0 where
   pub same : new ≡ old
   pub compiled : IfOk result (IsNegationAt old place)
-  pub refused : IfRefused result (IsUnnegated old)
 
 -- the protocol that the bytes say satisfies the negation of the property at the place
 abbrev pub IsDeniedAt : List ℕ → ℕ → Type 0
@@ -262,10 +289,11 @@ IsDecision model q answer (Decided Unknown a) =
 IsDecision model q answer (Shown b) = ⊥
 IsDecision model q answer (Refused excess) = IsTooLargeProperty model q excess
 
--- so it is with the negation that has this module
+-- so it is with the negation that has this module; one that is refused refuses the property
 abbrev pub IsDecisionBy : PropertyModule → Answer → Finding → Type 0
-IsDecisionBy negation answer finding =
-    OfModule negation (λ model q. IsDecision model q answer finding)
+IsDecisionBy (property_module.Verified m) answer finding =
+    OfModule (property_module.Verified m) (λ model q. IsDecision model q answer finding)
+IsDecisionBy (property_module.TooLarge excess) answer finding = finding ≡ Refused excess
 
 -- ---- explained texts
 
@@ -286,14 +314,29 @@ abbrev pub IsExplainedIn : ModelForm → ℕ → ExplainedText → Type 0
 IsExplainedIn model place explained =
     (place < length model.properties) × IsExplainedAt model place explained
 
--- the text of the property at the place is explained, or the model isn't
-pub record ExplainsProperty (model : ModelForm) (place : ℕ)
+-- what a fault says of the text of the property: it isn't well typed, or something of it is too
+-- large, which is told at the property's name
+abbrev pub IsUnexplainedText : SolvedModel → PropertyForm → SolveFault → Type 0
+IsUnexplainedText solved q (solve_fault.Typing fault) =
+    IsIllTypedText (solved_form solved) (told_places solved.names) q fault
+IsUnexplainedText solved q (solve_fault.Property fault) =
+    (q.name.place ≡ fault.place) × IsTooLargeProperty (solved_form solved) q fault.excess
+IsUnexplainedText solved q fault = ⊥
+
+-- so it is with the property at a place
+abbrev pub IsUnexplainedAt : SolvedModel → ℕ → SolveFault → Type 0
+IsUnexplainedAt solved place fault =
+    (q : PropertyForm) × (slice_get (solved_form solved).properties place ≡ Some q)
+    × IsUnexplainedText solved q fault
+
+-- the text of the property at the place is explained, or it is refused
+pub record ExplainsProperty (solved : SolvedModel) (place : ℕ)
     (result : Result ExplainedText (OrMemory SolveFault)) : Type 0 where
-  pub explained : IfOk result (IsExplainedAt model place)
-  pub refused : IfRefused result (WhereUnexplained model)
+  pub explained : IfOk result (IsExplainedAt (solved_form solved) place)
+  pub refused : IfRefused result (IsUnexplainedAt solved place)
 
 -- what is found of the property at the place, whose text is explained
-abbrev pub FindsExplained : ExplainedText → ℕ → (old new : List ℕ)
-    → Result Finding (OrMemory SolveFault) → Type 0
+abbrev pub FindsExplained : {E : Type 0} → ExplainedText → ℕ → (old new : List ℕ)
+    → Result Finding E → Type 0
 FindsExplained explained place old new result =
     FindsProperty (λ model. IsExplainedIn model place explained) false place old new result

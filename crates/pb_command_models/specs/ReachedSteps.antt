@@ -8,6 +8,7 @@ use Rattle.pb_base.specs.declared.or_memory.OrMemory.{OrMemory}
 use Rattle.pb_model_tree.specs.Form.{ModelForm, StepForm}
 use Rattle.pb_model_words.specs.Vocabulary.{Vocabulary}
 use Rattle.pb_model_properties.specs.Reached.{name_of_step, reached_property}
+use Rattle.pb_model_properties.specs.Refusals.{told_places}
 use Rattle.pb_model_properties.specs.Said.{tree_satisfies}
 use Rattle.pb_model_properties.specs.Verdicts.{refused_line, unreached_line}
 use Rattle.pb_model_properties.specs.Words.{impossible_in, words_in}
@@ -23,7 +24,8 @@ use Rattle.pb_command_models.specs.declared.step_finding.StepFinding.TheVariants
 use Rattle.pb_command_models.specs.declared.property_module.PropertyModule.{PropertyModule}
 use Rattle.pb_command_models.specs.declared.property_text.AskedText.{AskedText}
 use Rattle.pb_command_models.specs.declared.property_text.PropertyText.{PropertyText}
-use Rattle.pb_command_models.specs.Models.{HasIllTypedStep, IsTooLargeProperty, status_of_findings}
+use Rattle.pb_command_models.specs.Models.{HasIllTypedStep, IsTooLargeProperty, solved_form}
+use Rattle.pb_command_models.specs.Models.{status_of_findings}
 use Rattle.pb_command_models.specs.Outcomes.{IsPropertyModule, IsPropertyText}
 
 -- ---- what is found of a step
@@ -121,18 +123,21 @@ IsFoundByModule compiled finding =
     → IsFoundOfStep model step finding
 
 -- the text of a step isn't well typed
-abbrev pub IsUntypedStep : ModelForm → SolveFault → Type 0
-IsUntypedStep model (solve_fault.Typing fault) = HasIllTypedStep model fault
-IsUntypedStep model fault = ⊥
+abbrev pub IsUntypedStep : SolvedModel → SolveFault → Type 0
+IsUntypedStep solved (solve_fault.Typing fault) =
+    HasIllTypedStep (told_places solved.names) (solved_form solved) fault
+IsUntypedStep solved fault = ⊥
 
 -- the text that asks so is this, or it isn't well typed
-pub record AsksStep (model : ModelForm) (place : ℕ)
+pub record AsksStep (solved : SolvedModel) (place : ℕ)
     (result : Result AskedText (OrMemory SolveFault)) : Type 0 where
-  pub text : IfOk result (λ asked. IsStepText model place asked.text)
-  pub refused : IfRefused result (IsUntypedStep model)
+  pub text : IfOk result (λ asked. IsStepText (solved_form solved) place asked.text)
+  pub refused : IfRefused result (IsUntypedStep solved)
 
--- what is found of each step, where counts are asked for, or a text that asks so isn't well typed
-pub record FindsSteps (counts : Bool) (model : ModelForm)
+-- What is found of each step, where counts are asked for, or a text that asks so isn't well typed.
+-- Without counts nothing is refused.
+pub record FindsSteps (counts : Bool) (solved : SolvedModel)
     (result : Result (Vec StepFinding Global) (OrMemory SolveFault)) : Type 0 where
-  pub found : IfOk result (λ findings. AreStepsFoundWhere counts model findings.items)
-  pub refused : IfRefused result (IsUntypedStep model)
+  pub found : IfOk result
+      (λ findings. AreStepsFoundWhere counts (solved_form solved) findings.items)
+  pub refused : IfRefused result (λ fault. (counts ≡ true) × IsUntypedStep solved fault)

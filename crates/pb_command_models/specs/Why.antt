@@ -14,7 +14,7 @@ use Rattle.pb_sorts.specs.declared.sink.Sink.{Ghosts}
 use Rattle.pb_fixpoint_trees.specs.Tree.{Tree}
 use Rattle.pb_bytecode.specs.Contents.{Contents}
 use Rattle.pb_bytecode.specs.Meaning.{parameters}
-use Rattle.pb_model_tree.specs.Form.{FormulaForm, ModelForm, PropertyForm, StepForm, model_form}
+use Rattle.pb_model_tree.specs.Form.{ModelForm, PropertyForm, StepForm, model_form}
 use Rattle.pb_model_meaning.specs.Erase.{erase, erased_step}
 use Rattle.pb_model_meaning.specs.Steps.{State, is_state}
 use Rattle.pb_protocol_negation.specs.Negated.{negated}
@@ -31,13 +31,16 @@ use Rattle.pb_model_words.specs.View.{vocabulary_of}
 use Rattle.pb_model_words.specs.Vocabulary.{Vocabulary}
 use Rattle.pb_typing_calls.specs.MadeCalls.{MadeCall, calls_at}
 use Rattle.pb_model_translation.specs.Placed.{placed, every_step_form}
-use Rattle.pb_model_properties.specs.Asked.{IsAskedAt}
+use Rattle.pb_model_properties.specs.Asked.{IsAskedAt, is_asked}
 use Rattle.pb_model_properties.specs.Made.{said_where}
 use Rattle.pb_model_properties.specs.Refusals.{LacksProperty}
-use Rattle.pb_model_properties.specs.Said.{protocol_satisfies, tree_satisfies, IsModelOf, IsTextOf}
+use Rattle.pb_model_properties.specs.Negations.{with_negation}
+use Rattle.pb_model_properties.specs.Said.{protocol_satisfies, tree_satisfies}
+use Rattle.pb_model_properties.specs.Said.{IsModelFor, IsModelOf, IsTextOf}
 use Rattle.pb_model_properties.specs.declared.solved.SolvedModel.{SolvedModel}
 use Rattle.pb_model_properties.specs.declared.verdicts.Verdict.{Verdict}
 use Rattle.pb_model_properties.specs.declared.verdicts.Verdict.TheVariants as verdict
+use Rattle.pb_model_properties.specs.declared.verdicts.Verdict.TheVariants.{False}
 use Rattle.pb_model_properties.specs.Verdicts.{verdict_line}
 use Rattle.pb_model_properties.specs.Words.{words_in, words_of}
 use Rattle.pb_evidence.specs.declared.Evidence.{Evidence}
@@ -47,8 +50,8 @@ use Rattle.pb_report.specs.Cuts.{cuts_of}
 use Rattle.pb_report.specs.ModuleTexts.{IsTextOfTrees}
 use Rattle.pb_evidence_words.specs.Tellable.{IsTellable}
 use Rattle.pb_evidence_words.specs.InstanceLines.{instance_lines}
-use Rattle.pb_evidence_words.specs.Ready.{told_of}
-use Rattle.pb_evidence_words.specs.WhyText.{Told, why_lines, with_cuts}
+use Rattle.pb_evidence_words.specs.Ready.{truth_told}
+use Rattle.pb_evidence_words.specs.WhyText.{Told, why_lines}
 use Rattle.pb_command_faults.specs.declared.solve_error.SolveError.{SolveError}
 use Rattle.pb_command_faults.specs.declared.solve_fault.SolveFault.{SolveFault}
 use Rattle.pb_command_faults.specs.declared.solve_fault.SolveFault.TheVariants as solve_fault
@@ -56,11 +59,13 @@ use Rattle.pb_command_modules.specs.Delivery.{DeliversOrRefuses}
 use Rattle.pb_command_texts.specs.Answers.{IsModuleOfForm}
 use Rattle.pb_report.specs.ModuleEvidence.{IsModuleEvidence}
 use Rattle.pb_evidence_words.specs.declared.shown.Shown.{Shown}
-use Rattle.pb_command_texts.specs.declared.explained.ExplainedText.{ExplainedText}
 use Rattle.pb_command_models.specs.declared.explained_finding.Asked.{Asked}
 use Rattle.pb_command_models.specs.declared.told.ShownParts.{ShownParts}
 use Rattle.pb_command_models.specs.declared.told.ToldVerdict.{ToldVerdict}
-use Rattle.pb_command_models.specs.Models.{IsPropertyAnswer, IsUnexplained, solved_form}
+use Rattle.pb_command_models.specs.declared.told.Explained.{Explained}
+use Rattle.pb_command_models.specs.Models.{IsPropertyAnswer, IsShownByCut, IsUnexplained, RestOnCut}
+use Rattle.pb_command_models.specs.Models.{asked_by, solved_form}
+use Rattle.pb_command_models.specs.Outcomes.{IsExplainedIn}
 
 -- Each call of a property's text at a state is a step of the model: that at whose name it stands,
 -- with the call's own values, at which its guard is true, to the state that the call names. Where
@@ -111,14 +116,15 @@ abbrev pub steps_of : ModelForm → SpecForm
 steps_of model = placed model model.initial.place (every_step_form model.initial.place)
 
 -- what evidence of the module of a text of a model shows in its words, every step being called in
--- `steps`
-abbrev pub shown_by : Vocabulary → SpecForm → SpecForm → Contents → (ℕ → Tree) → Evidence → Told
-shown_by vocabulary text steps m trees e = record {
+-- `steps`: of the property whose text it is; or, where it is denied, of that whose negation's it is
+abbrev pub shown_by :
+    Vocabulary → Bool → SpecForm → SpecForm → Contents → (ℕ → Tree) → Evidence → Told
+shown_by vocabulary denied text steps m trees e = record {
   vocabulary = vocabulary;
   text = text;
   steps = steps;
   layout = parameters m;
-  truth = e.truth;
+  truth = truth_told denied e.truth;
   graph = graph_of e;
   cuts = cuts_of trees e;
 }
@@ -129,7 +135,8 @@ explanation_lines instances shown = if instances then instance_lines shown else 
 
 -- The verdict on the property p of the protocol, which is q of the model that is solved in its
 -- place. It is false, and not unknown, where the negation is satisfied, or where no reached
--- instance of the property's text calls one outside the ranges.
+-- instance of the property's text calls one outside the ranges. Where it is unknown one does: some
+-- are counted, or evidence rests on one.
 abbrev pub IsVerdict :
     ProtocolForm → protocol_form.FormulaForm → ModelForm → PropertyForm → Verdict → Type 0
 IsVerdict protocol f model q verdict.True = protocol_satisfies protocol f ≡ true
@@ -139,7 +146,7 @@ IsVerdict protocol f model q verdict.False =
     ⊎ ((a : Answer) × IsPropertyAnswer model q a × (a.cut ≡ 0)))
 IsVerdict protocol f model q verdict.Unknown =
     (protocol_satisfies protocol f ≡ false) × (protocol_satisfies protocol (negated f) ≡ false)
-    × ((a : Answer) × IsPropertyAnswer model q a × (0 < a.cut))
+    × (((a : Answer) × IsPropertyAnswer model q a × (0 < a.cut)) ⊎ IsShownByCut model q)
 
 abbrev pub is_true_verdict : Verdict → Bool
 is_true_verdict verdict.True = true
@@ -152,11 +159,11 @@ told_text always name verdict lines =
     verdict_line name verdict ++ (if always || not (is_true_verdict verdict) then lines else [])
 
 -- the text tells a verdict, and shows it by the lines that the module's trees say
-abbrev pub IsToldText : (instances always : Bool) → Vocabulary → List ℕ → Verdict
+abbrev pub IsToldText : (instances always denied : Bool) → Vocabulary → List ℕ → Verdict
     → (text steps : SpecForm) → Contents → Evidence → List ℕ → Type 0
-IsToldText instances always words name verdict text steps m e told =
+IsToldText instances always denied words name verdict text steps m e told =
     IsTextOfTrees m (λ trees. told_text always name verdict
-    (explanation_lines instances (shown_by words text steps m trees e))) told
+    (explanation_lines instances (shown_by words denied text steps m trees e))) told
 
 -- these parts of what is shown can be told
 abbrev pub AreTellable : ShownParts → Type 0
@@ -168,32 +175,48 @@ AreTellable parts =
 -- the text tells a verdict on the property of a name, with what is shown; with these parts of it
 abbrev pub IsToldShown : ToldVerdict → List ℕ → Shown → List ℕ → Type 0
 IsToldShown telling name shown told =
-    IsTextOfTrees shown.verified.now (λ trees. told_text telling.always name telling.verdict
-    (explanation_lines telling.lines
-    (with_cuts (cuts_of trees shown.explanation.now.evidence) (told_of shown)))) told
+    IsToldText telling.lines telling.always shown.denied (vocabulary_of shown.vocabulary.now) name
+    telling.verdict (spec_form shown.typed.now.spec) (spec_form shown.steps.now.spec)
+    shown.verified.now shown.explanation.now.evidence told
 
 abbrev pub IsToldOf : ToldVerdict → Vocabulary → List ℕ → ShownParts → String Global → Type 0
 IsToldOf telling words name parts told =
-    IsToldText telling.lines telling.always words name telling.verdict
+    IsToldText telling.lines telling.always parts.denied words name telling.verdict
     (spec_form parts.explained.now.typed.spec) (spec_form parts.steps.now.spec)
     parts.explained.now.verified parts.explained.now.explanation.evidence (string_bytes told)
 
--- the text tells a verdict on the property at the place, whose text is explained, in the words of
--- the model
-abbrev pub IsToldThere : ToldVerdict → SolvedModel → ℕ → ExplainedText → String Global → Type 0
-IsToldThere telling solved place explained told =
-    (q : PropertyForm) → slice_get (solved_form solved).properties place ≡ Some q
-    → IsToldText telling.lines telling.always (words_in solved) q.name.text telling.verdict
-    (spec_form explained.typed.spec) (steps_of (solved_form solved)) explained.verified
-    explained.explanation.evidence (string_bytes told)
+-- the text tells a verdict by a text that is explained, of the property of a name or, where it is
+-- denied, of its negation, in the words of the model
+abbrev pub IsToldThere : ToldVerdict → Explained → String Global → Type 0
+IsToldThere telling shown told =
+    IsToldText telling.lines telling.always shown.denied (words_in shown.solved.now) shown.name.now
+    telling.verdict (spec_form shown.explained.now.typed.spec)
+    (steps_of (solved_form shown.solved.now)) shown.explained.now.verified
+    shown.explained.now.explanation.evidence (string_bytes told)
 
--- The verdict on a property of the protocol is told. What shows whether the model satisfies it, by
--- lines of instances or in these words, is evidence of the module of the property's text.
-pub record IsVerdictTold (instances always : Bool) (words : Vocabulary) (protocol : ProtocolForm)
-    (model : ModelForm) (p : protocol_form.PropertyForm) (q : PropertyForm) (told : List ℕ)
-    : Type 0 where
-  pub verdict : Verdict
-  pub of_verdict : IsVerdict protocol p.formula model q verdict
+-- the text is of a property of the model
+abbrev pub IsExplainedThere : Explained → Type 0
+IsExplainedThere shown =
+    (place : ℕ) × IsExplainedIn (solved_form shown.solved.now) place shown.explained.now
+
+-- it is that of the property at the place, which has the name
+pub record IsOwnText (shown : Explained) (place : ℕ) : Type 0 where
+  pub explained : IsExplainedIn (solved_form shown.solved.now) place shown.explained.now
+  pub own : shown.denied ≡ false
+  pub name : (q : PropertyForm) → slice_get (solved_form shown.solved.now).properties place ≡ Some q
+      → q.name.text ≡ shown.name.now
+
+-- how a verdict is told where this is asked
+abbrev pub telling_of : Verdict → Asked → ToldVerdict
+telling_of verdict asked =
+    record { verdict = verdict; always = asked.always; lines = asked.options.lines }
+
+-- The verdict on the property of a name is told. What shows it, by lines of instances or in these
+-- words, is evidence of the module of the text of the property q of the model: of the property, or,
+-- where it is denied, of its negation. No line of what shows a false verdict rests on a call that
+-- leaves the ranges.
+pub record IsToldBy (instances always denied : Bool) (words : Vocabulary) (model : ModelForm)
+    (q : PropertyForm) (name : List ℕ) (verdict : Verdict) (told : List ℕ) : Type 0 where
   pub text : SpecForm
   pub of_property : IsTextOf model q text
   pub contents : Contents
@@ -201,8 +224,32 @@ pub record IsVerdictTold (instances always : Bool) (words : Vocabulary) (protoco
   pub evidence : Evidence
   pub shown : IsModuleEvidence contents evidence
   pub exact : evidence.truth ≡ tree_satisfies model q.formula
-  pub printed : IsToldText instances always words q.name.text verdict text (steps_of model)
+  pub within : verdict ≡ False → RestOnCut contents evidence false
+  pub printed : IsToldText instances always denied words name verdict text (steps_of model)
       contents evidence told
+
+-- The verdict on the property p of a name is false, and told by its negation alone in the protocol:
+-- that is satisfied, which is shown in the words of the model that is solved in its place.
+pub record IsDenialTold (instances always : Bool) (protocol : ProtocolForm)
+    (p : protocol_form.PropertyForm) (name : List ℕ) (told : List ℕ) : Type 0 where
+  pub model : ModelForm
+  pub is_for : IsModelFor (with_negation protocol p) model
+  pub negation : PropertyForm
+  pub first : slice_get model.properties 0 ≡ Some negation
+  pub satisfied : tree_satisfies model negation.formula ≡ true
+  pub printed : IsToldBy instances always true
+      (words_of (with_negation protocol p) model is_for.made) model negation name False told
+
+-- The verdict on a property of the protocol is told, in these words, by its own text; or, where it
+-- is false and evidence of its own text rests on a call that leaves the ranges, by its negation.
+pub record IsVerdictTold (instances always : Bool) (words : Vocabulary) (protocol : ProtocolForm)
+    (model : ModelForm) (p : protocol_form.PropertyForm) (q : PropertyForm) (told : List ℕ)
+    : Type 0 where
+  pub verdict : Verdict
+  pub of_verdict : IsVerdict protocol p.formula model q verdict
+  pub shown : IsToldBy instances always false words model q q.name.text verdict told
+      ⊎ ((verdict ≡ False) × IsShownByCut model q
+      × IsDenialTold instances always protocol p q.name.text told)
 
 -- the property that is asked for is told in the words of the model, of the protocol in whose place
 -- that is solved
@@ -215,14 +262,19 @@ IsToldAsked asked solved protocol told =
     (solved_form solved) p q
     told
 
--- The input keeps its bytes, and the property that is asked for is told, or the model isn't
--- explained.
+-- the property at the place isn't explained by this fault, whichever names it is asked for by
+abbrev pub IsUnexplainedOf : List ℕ → ModelForm → ℕ → SolveFault → Type 0
+IsUnexplainedOf bytes model place fault =
+    (names : List (List ℕ)) (q : PropertyForm) → slice_get model.properties place ≡ Some q
+    → is_asked names q ≡ true → IsUnexplained names bytes fault
+
+-- The input keeps its bytes, and the property that is asked for is told, or it isn't explained.
 pub record TellsProperty (asked : Asked) (solved : SolvedModel) (old new : List ℕ)
     (result : Result (String Global) (OrMemory SolveFault)) : Type 0 where
   pub same : new ≡ old
   pub told : IfOk result (λ told. (said : IsModelOf old (solved_form solved))
       → IsToldAsked asked solved said.protocol (string_bytes told))
-  pub refused : IfRefused result (IsUnexplained old)
+  pub refused : IfRefused result (IsUnexplainedOf old (solved_form solved) asked.place)
 
 -- each of these properties, which are those of the model, is told, in order, and shown where the
 -- verdict isn't true
@@ -269,13 +321,13 @@ WritesWhy instances name bytes written =
 -- the model isn't explained, or it has no property of the name
 abbrev pub IsUnshown : Option (List ℕ) → List ℕ → SolveFault → Type 0
 IsUnshown name bytes solve_fault.NoProperty = LacksProperty name bytes
-IsUnshown name bytes fault = IsUnexplained bytes fault
+IsUnshown name bytes fault = IsUnexplained (asked_by name) bytes fault
 
 -- all properties are told, or the model isn't explained
 pub record TellsAll (instances : Bool) (bytes : List ℕ) (solved : SolvedModel)
     (result : Result (String Global) (OrMemory SolveFault)) : Type 0 where
   pub told : IfOk result (λ lines. TellWhere instances None bytes solved (string_bytes lines))
-  pub refused : IfRefused result (IsUnexplained bytes)
+  pub refused : IfRefused result (IsUnexplained [] bytes)
 
 -- the property of a name is told, or all are where none is named; for want of one only where one is
 pub record TellsAsked (instances : Bool) (property : Option (Bor (List ℕ))) (bytes : List ℕ)

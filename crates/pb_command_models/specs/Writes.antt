@@ -59,11 +59,11 @@ pub record ReportsVerdicts (options : Checking) (bytes : List ℕ)
     (result : Result CheckReport (OrMemory SolveFault)) : Type 0 where
   pub report : IfOk result
       (λ report. WritesVerdicts options bytes report.status (string_bytes report.lines))
-  pub refused : IfRefused result (IsUnchecked (asked_names options) bytes)
+  pub refused : IfRefused result (IsUnchecked options bytes)
 
 -- the lines go out, with the status that is answered, or the model is refused
 abbrev pub DeliversVerdicts : {S : Type 0} → Checking → List ℕ → Result Status SolveError →
     Ghosts S → (old new : S) → Type 0
 DeliversVerdicts options bytes result sink old new =
-    DeliversOrRefuses (WithStatus result (WritesVerdicts options bytes))
-    (IsUnchecked (asked_names options) bytes) result sink old new
+    DeliversOrRefuses (WithStatus result (WritesVerdicts options bytes)) (IsUnchecked options bytes)
+    result sink old new

@@ -19,7 +19,7 @@ use pb_model_properties::{asked_of, read_protocol};
 use pb_sorts::Sink;
 use std::thread::Threads;
 
-// The lines that tell what is found, and how the run ends.
+// The lines of what is found, and how the run ends.
 #[derive(Drop)]
 struct CheckReport {
     lines: String,
@@ -63,9 +63,10 @@ fn checked_report<R: Threads + Sync, G: Progress + Sync>(
 ///
 /// It is `true` where the protocol satisfies the property, and `false` where it doesn't, whatever
 /// lies outside the ranges: because no reached instance of its text calls one outside, or because
-/// the protocol satisfies the negation. Else it is `unknown`, and a line behind it says how many
-/// instances call one outside. It is `refused`, by the number of a rule, where a text is too large.
-/// Where counts are asked for, three lines behind each verdict tell them, and behind all a line
+/// the protocol satisfies the negation. Else it is `unknown`, and the next line has the number of
+/// instances that call one outside. It is `refused`, by the number of a rule, where its text is too
+/// large, or where the verdict needs its negation and that is refused.
+/// Where counts are asked for, three lines with them follow each verdict, and after all a line
 /// names each step that can be taken in no reached state: those of the model, then those of the
 /// protocol that come to none in it.
 ///
@@ -76,10 +77,10 @@ fn checked_report<R: Threads + Sync, G: Progress + Sync>(
 /// that this is, there is no more to do.
 ///
 /// # Errors
-/// `Text` and `Typing` say which rule the model breaks, or the text of a property that is asked for
-/// or of its negation, or one that asks for a step, but for that of limits, and where. `NoProperty`
-/// comes exactly where the model has no property of a name. Others are as with `solve_text`, but
-/// for `Limit` and `TooManyVertices`.
+/// `Text` and `Typing` say which rule the model breaks, or the text of a property that is asked
+/// for, or, where counts are asked for, one that asks for a step, but for that of limits, and
+/// where. `NoProperty` comes exactly where the model has no property of a name. Others are as with
+/// `solve_text`, but for `Limit` and `TooManyVertices`.
 pub fn check_text<R: Threads + Sync, G: Progress + Sync, S: Sink>(
     context: &Context<'_, R, G>,
     input: ShortInput<'_>,

@@ -1,22 +1,22 @@
 //! What is found of properties, by what becomes of their texts and of those of their negations.
 ghost use Rattle.std.specs.Prelude.{◌≡◌, Bool, true, IfOk};
 ghost use Rattle.std.specs.List.{All};
-ghost use Rattle.pb_command_models.specs.Models.{HasModel, HasPropertyAt};
-ghost use Rattle.pb_command_models.specs.Outcomes.{FindsByModule, FindsByOutcome, FindsByTexts};
+ghost use Rattle.pb_model_properties.specs.Negations.{HasPropertyAt};
+ghost use Rattle.pb_command_models.specs.Models.{HasModel};
+ghost use Rattle.pb_command_models.specs.Outcomes.{AreFoundByTexts, FindsByModule, FindsByOutcome};
 ghost use Rattle.pb_command_models.specs.Outcomes.{IsDecisionBy, IsDeniedAt, IsModuleAt, IsOutcomeAt};
 ghost use Rattle.pb_command_models.specs.Outcomes.{IsTextAt};
 
 use crate::finding::{Finding, PropertyFinding};
-use crate::negation::{InputWithNegations, negation_module};
-use crate::outcome::{AskedOutcome, Outcome, early_of, early_truth, outcome_of};
+use crate::negation::{InputWithNegation, negation_module};
+use crate::outcome::{AskedOutcome, Outcome, answered, early_of, outcome_of};
 use crate::property_module::{AskedModule, PropertyModule, asked_module};
 use crate::property_text::AskedText;
-use pb_base::OrMemory;
-use pb_command_faults::SolveFault;
-use pb_command_solver::{Context, Early, Progress, SolveOptions};
+use pb_command_solver::{Context, Early, Progress, SolveOptions, answer_early};
 use pb_command_texts::ShortInput;
 use pb_model_properties::Verdict;
 use pb_report::Answer;
+use pb_sorts::Counting;
 use std::alloc::AllocError;
 use std::thread::Threads;
 
@@ -27,14 +27,14 @@ pub(crate) struct DecisionOptions {
     pub counts: bool,
 }
 
-/// Whether the instances nearest to the initial one of the negation's text show that this is
-/// satisfied. They don't where the negation is refused.
+/// Whether the instances nearest to the initial one of the negation's text show that the negation
+/// is satisfied. They don't where it is refused.
 ///
 /// # Errors
 /// Memory was refused.
 pub(crate) fn is_denied<R: Threads + Sync, G: Progress + Sync>(
     context: &Context<'_, R, G>,
-    input: &mut InputWithNegations<'_>,
+    input: &mut InputWithNegation<'_>,
     place: usize,
     options: SolveOptions,
 ) -> Result<bool, AllocError>
@@ -42,13 +42,13 @@ pub(crate) fn is_denied<R: Threads + Sync, G: Progress + Sync>(
     ensures same { input.new ≡ input.old }
     ensures denied { IfOk result (λ denied. denied ≡ true → IsDeniedAt input.old place) }
 {
-    match negation_module(context.alloc, input, place) {
-        Ok(negation) => match early_truth(context, &negation, options)? {
-            Some(true) => Ok(true),
-            _ => Ok(false),
-        },
-        Err(OrMemory::Refused(_)) => Ok(false),
-        Err(OrMemory::Memory) => Err(AllocError),
+    let PropertyModule::Verified(verified) = negation_module(context.alloc, input, place)? else {
+        return Ok(false);
+    };
+    let early = answer_early(context, &verified, Counting::Reached, options)?;
+    match early.truth() {
+        Some(true) => Ok(true),
+        _ => Ok(false),
     }
 }
 
@@ -61,7 +61,11 @@ fn decision<R: Threads + Sync, G: Progress + Sync>(
 ) -> Result<Finding, AllocError>
     ensures { IfOk result (IsDecisionBy negation.now answer) }
 {
-    match outcome_of(context, negation, options)? {
+    let verified = match negation {
+        PropertyModule::TooLarge(excess) => return Ok(Finding::Refused(*excess)),
+        PropertyModule::Verified(verified) => verified,
+    };
+    match answered(context, verified, options)? {
         Outcome::TooLarge(excess) => Ok(Finding::Refused(excess)),
         Outcome::Answered(second) => {
             let verdict = if second.truth {
@@ -78,13 +82,13 @@ fn decision<R: Threads + Sync, G: Progress + Sync>(
 /// verdict needs it.
 ///
 /// # Errors
-/// `Text` and `Typing` where the negations are refused, or the text of this one isn't well typed.
+/// Memory was refused.
 pub(crate) fn decided<R: Threads + Sync, G: Progress + Sync>(
     context: &Context<'_, R, G>,
-    input: &mut InputWithNegations<'_>,
+    input: &mut InputWithNegation<'_>,
     asked: AskedOutcome,
     options: SolveOptions,
-) -> Result<Finding, OrMemory<SolveFault>>
+) -> Result<Finding, AllocError>
     requires { HasModel input.now (λ model. IsOutcomeAt model asked) }
     ensures { (counts : Bool) → FindsByOutcome asked counts input.old input.new result }
 {
@@ -98,7 +102,7 @@ pub(crate) fn decided<R: Threads + Sync, G: Progress + Sync>(
                 return Ok(Finding::Decided(Verdict::False, answer));
             }
             let negation = negation_module(context.alloc, input, asked.place)?;
-            Ok(decision(context, &negation, answer, options)?)
+            decision(context, &negation, answer, options)
         }
     }
 }
@@ -106,10 +110,10 @@ pub(crate) fn decided<R: Threads + Sync, G: Progress + Sync>(
 // What is found of a property, by all instances of its text.
 fn decided_by_all<R: Threads + Sync, G: Progress + Sync>(
     context: &Context<'_, R, G>,
-    input: &mut InputWithNegations<'_>,
+    input: &mut InputWithNegation<'_>,
     asked: &AskedModule,
     options: SolveOptions,
-) -> Result<Finding, OrMemory<SolveFault>>
+) -> Result<Finding, AllocError>
     requires { HasModel input.now (λ model. IsModuleAt model asked.now) }
     ensures { (counts : Bool) → FindsByModule asked.now counts input.old input.new result }
 {
@@ -124,10 +128,10 @@ fn decided_by_all<R: Threads + Sync, G: Progress + Sync>(
 // it isn't satisfied, those of its negation's.
 fn finding_by<R: Threads + Sync, G: Progress + Sync>(
     context: &Context<'_, R, G>,
-    input: &mut InputWithNegations<'_>,
+    input: &mut InputWithNegation<'_>,
     asked: &AskedModule,
     options: DecisionOptions,
-) -> Result<Finding, OrMemory<SolveFault>>
+) -> Result<Finding, AllocError>
     requires { HasModel input.now (λ model. IsModuleAt model asked.now) }
     ensures { FindsByModule asked.now options.counts input.old input.new result }
 {
@@ -156,17 +160,18 @@ fn finding_by<R: Threads + Sync, G: Progress + Sync>(
 /// What is found of each property, by its text.
 ///
 /// # Errors
-/// `Text` and `Typing` where the negations are refused, or the text of one isn't well typed.
+/// Memory was refused.
 pub(crate) fn findings_of<R: Threads + Sync, G: Progress + Sync>(
     context: &Context<'_, R, G>,
     input: ShortInput<'_>,
     texts: Vec<AskedText>,
     options: DecisionOptions,
-) -> Result<Vec<PropertyFinding>, OrMemory<SolveFault>>
+) -> Result<Vec<PropertyFinding>, AllocError>
     requires { HasModel input.bytes.now (λ model. All (IsTextAt model) texts.items) }
-    ensures { FindsByTexts options.counts input.entry.bytes.now texts.items result }
+    ensures { IfOk result (λ findings.
+        AreFoundByTexts options.counts input.entry.bytes.now texts.items findings.items) }
 {
-    let mut asked_input = InputWithNegations::new(input);
+    let mut asked_input = InputWithNegation::new(input);
     let mut findings = Vec::new(context.alloc);
     'texts: for asked in texts {
         let made = asked_module(context.alloc, asked)?;

@@ -4,14 +4,13 @@ ghost use Rattle.pb_command_models.specs.Outcomes.{FindsExplained, IsExplainedIn
 
 use crate::decision::{decided, is_denied};
 use crate::finding::Finding;
-use crate::negation::InputWithNegations;
+use crate::negation::InputWithNegation;
 use crate::options::WhyOptions;
 use crate::outcome::{AskedOutcome, answered};
-use pb_base::OrMemory;
-use pb_command_faults::SolveFault;
 use pb_command_solver::{Context, Progress, SolveOptions};
 use pb_command_texts::ExplainedText;
 use pb_game::Solver;
+use std::alloc::AllocError;
 use std::thread::Threads;
 
 /// The property at a place is told with these options; it is shown always, or where the verdict
@@ -26,13 +25,13 @@ pub(crate) struct Asked {
 /// What is found of the property at a place whose text is explained: as `check_text` finds it.
 ///
 /// # Errors
-/// `Text` and `Typing` where the negations are refused, or the text of this one isn't well typed.
+/// Memory was refused.
 pub(crate) fn explained_finding<R: Threads + Sync, G: Progress + Sync>(
     context: &Context<'_, R, G>,
-    input: &mut InputWithNegations<'_>,
+    input: &mut InputWithNegation<'_>,
     explained: &ExplainedText,
     asked: Asked,
-) -> Result<Finding, OrMemory<SolveFault>>
+) -> Result<Finding, AllocError>
     requires { HasModel input.now (λ model. IsExplainedIn model asked.place explained.now) }
     ensures { FindsExplained explained.now asked.place input.old input.new result }
 {

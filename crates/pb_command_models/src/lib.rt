@@ -3,6 +3,7 @@
 
 mod check;
 mod decision;
+mod denial;
 mod explained;
 mod explained_finding;
 mod finding;

@@ -7,6 +7,7 @@ use pb_base::OrMemory;
 use pb_command_faults::PropertyExcess;
 use pb_command_solver::{Context, Early, Progress, SolveOptions, answer_early, answer_module};
 use pb_report::Answer;
+use pb_sorts::Counting;
 use pb_verifier::Verified;
 use std::alloc::AllocError;
 use std::thread::Threads;
@@ -38,7 +39,12 @@ pub(crate) fn early_of<R: Threads + Sync, G: Progress + Sync>(
 {
     match property {
         PropertyModule::TooLarge(_) => Ok(Early::Unknown),
-        PropertyModule::Verified(verified) => answer_early(context, verified, options),
+        PropertyModule::Verified(verified) => answer_early(
+            context,
+            verified,
+            Counting::Reached,
+            options,
+        ),
     }
 }
 
@@ -69,7 +75,7 @@ pub(crate) fn answered<R: Threads + Sync, G: Progress + Sync>(
 ) -> Result<Outcome, AllocError>
     ensures { IfOk result (IsOutcomeBy (PropertyModule.Verified verified.now)) }
 {
-    match answer_module(context, verified, options) {
+    match answer_module(context, verified, Counting::Reached, options) {
         Ok(answer) => Ok(Outcome::Answered(answer)),
         Err(OrMemory::Refused(_)) => Ok(Outcome::TooLarge(PropertyExcess::Game)),
         Err(OrMemory::Memory) => Err(AllocError),

@@ -1,7 +1,6 @@
 //! The texts of the properties that are asked for.
 ghost use Rattle.std.specs.Prelude.{◌≡◌, ◌<◌, length};
 ghost use Rattle.std.specs.List.{All};
-ghost use Rattle.pb_command_models.specs.Models.{solved_form};
 ghost use Rattle.pb_command_models.specs.Outcomes.{AsksProperties, AsksProperty, AsksUntyped};
 
 use pb_base::OrMemory;
@@ -52,7 +51,7 @@ pub(crate) fn asked_text(
     place: usize,
 ) -> Result<AskedText, OrMemory<SolveFault>>
     requires { place < length solved.now.typed.model.properties.items }
-    ensures { AsksProperty (solved_form solved.now) place result }
+    ensures { AsksProperty solved.now place result }
 {
     match text_at(alloc, solved, place) {
         Ok(typed) => Ok(AskedText {
@@ -73,7 +72,7 @@ pub(crate) fn asked_texts(
     places: &[usize],
 ) -> Result<Vec<AskedText>, OrMemory<SolveFault>>
     requires { All (λ place. place < length solved.now.typed.model.properties.items) places.now }
-    ensures { AsksProperties (solved_form solved.now) places.now result }
+    ensures { AsksProperties solved.now places.now result }
 {
     let mut texts = Vec::new(alloc);
     for place in places {

@@ -1,7 +1,6 @@
 //! Which steps of a model can be taken in a reached state. The guard of one that can't is true in
 //! none, which mostly is a mistake.
 ghost use Rattle.std.specs.Prelude.{◌<◌, length, IfOk};
-ghost use Rattle.pb_command_models.specs.Models.{solved_form};
 ghost use Rattle.pb_command_models.specs.ReachedSteps.{AsksStep, FindsSteps, IsFoundByModule};
 
 use crate::outcome::{Outcome, early_truth, outcome_of};
@@ -24,7 +23,7 @@ fn step_text(
     step: usize,
 ) -> Result<AskedText, OrMemory<SolveFault>>
     requires { step < length solved.now.typed.model.steps.items }
-    ensures { AsksStep (solved_form solved.now) step result }
+    ensures { AsksStep solved.now step result }
 {
     match reached_text_at(alloc, solved, step) {
         Ok(typed) => Ok(AskedText {
@@ -64,7 +63,7 @@ pub(crate) fn steps_on<R: Threads + Sync, G: Progress + Sync>(
     solved: &SolvedModel,
     options: &Checking,
 ) -> Result<Vec<StepFinding>, OrMemory<SolveFault>>
-    ensures { FindsSteps options.now.counts (solved_form solved.now) result }
+    ensures { FindsSteps options.now.counts solved.now result }
 {
     let mut findings = Vec::new(context.alloc);
     if !options.counts {

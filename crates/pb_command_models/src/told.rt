@@ -1,18 +1,29 @@
-//! What is told of the property at a place: the verdict, and what shows it.
-ghost use Rattle.std.specs.Prelude.{◌≡◌, ◌<◌, IfOk, length, string_bytes};
-ghost use Rattle.pb_model_properties.specs.Said.{IsModelOf};
+//! The report on the property at a place: the verdict, and its evidence. That is evidence of the
+//! property's own text; but where a line of it rests on a call outside the ranges, it shows that
+//! the property isn't satisfied within them, and no more. Then the negation decides, and a verdict
+//! that is false has evidence that the negation is satisfied, of which no line rests on such a
+//! call.
+ghost use Rattle.std.specs.Prelude.{◌≡◌, ◌<◌, IfOk, Some, length, string_bytes};
+ghost use Rattle.std.specs.Prelude.{true, false};
+ghost use Rattle.std.specs.List.{list_any, slice_get};
+ghost use Rattle.pb_base.specs.declared.or_memory.OrMemory.TheVariants as or_memory;
+ghost use Rattle.pb_command_faults.specs.declared.solve_fault.SolveFault.TheVariants as solve_fault;
+ghost use Rattle.pb_model_tree.specs.Form.{PropertyForm};
+ghost use Rattle.pb_model_properties.specs.Words.{IsToldModelOf};
 ghost use Rattle.pb_model_words.specs.View.{vocabulary_of};
 ghost use Rattle.pb_command_models.specs.Models.{solved_form};
-ghost use Rattle.pb_command_models.specs.Outcomes.{IsExplainedAt, verdict_in};
+ghost use Rattle.pb_command_models.specs.Outcomes.{verdict_in};
 ghost use Rattle.pb_evidence_words.specs.Tellable.{IsTellableShown};
-ghost use Rattle.pb_command_models.specs.Why.{AreTellable, IsToldOf, IsToldShown, IsToldThere};
-ghost use Rattle.pb_command_models.specs.Why.{TellsProperty, is_true_verdict};
+ghost use Rattle.pb_command_models.specs.Why.{AreTellable, IsExplainedThere, IsOwnText, IsToldOf};
+ghost use Rattle.pb_command_models.specs.Why.{IsToldShown, IsToldThere, TellsProperty};
+ghost use Rattle.pb_command_models.specs.Why.{is_true_verdict, telling_of};
 
+use crate::denial::explained_negation;
 use crate::explained::explained_at;
 use crate::explained_finding::{Asked, explained_finding};
 use crate::finding::Finding;
 use crate::finding_lines::verdict_of;
-use crate::negation::InputWithNegations;
+use crate::negation::InputWithNegation;
 use crate::property_faults::name_place;
 use pb_base::OrMemory;
 use pb_command_faults::{PropertyExcess, PropertyFault, SolveFault};
@@ -23,12 +34,12 @@ use pb_model_properties::{SolvedModel, Verdict, push_verdict, words_of};
 use pb_model_tree::Model;
 use pb_model_typing::steps_text;
 use pb_model_words::Vocabulary;
+use pb_report::Explanation;
 use pb_typing::Typed;
 use std::alloc::{AllocError, Global};
 use std::thread::Threads;
 
-// A verdict as it is told: whether what shows it always stands behind it, and whether by lines of
-// instances.
+// How a verdict is reported: whether evidence always follows it, and whether by lines of instances.
 #[derive(Clone, Copy, PartialEq, Eq)]
 struct ToldVerdict {
     verdict: Verdict,
@@ -36,7 +47,7 @@ struct ToldVerdict {
     lines: bool,
 }
 
-// The verdict that is found, or what is too large for one.
+// The verdict of a finding, or what is too large for one.
 fn verdict_in(finding: Finding) -> Result<Verdict, PropertyExcess>
     ensures { result ≡ verdict_in finding }
 {
@@ -57,7 +68,7 @@ fn is_true(verdict: Verdict) -> bool
     }
 }
 
-// The verdict on a property, and behind it what shows it.
+// The verdict on a property, followed by evidence.
 fn told(
     alloc: Global,
     telling: ToldVerdict,
@@ -79,16 +90,17 @@ fn told(
     Ok(told)
 }
 
-// What is shown, but for the words in which it is told.
+// What is explained, but for the vocabulary of the report.
 #[derive(Clone, Copy)]
 struct ShownParts<'a> {
     model: &'a Model,
     steps: &'a Typed,
     explained: &'a ExplainedText,
+    denied: bool,
 }
 
-// The same, in these words. A vocabulary can't be lent beside what is lent already, so that what is
-// shown is put together here.
+// The report of these parts in this vocabulary, which can't be lent beside what is lent already: so
+// they are joined here.
 fn told_in(
     alloc: Global,
     telling: ToldVerdict,
@@ -108,65 +120,157 @@ fn told_in(
         steps: parts.steps,
         verified: &explained.verified,
         explanation: &explained.explanation,
-        denied: false,
+        denied: parts.denied,
     };
     told(alloc, telling, name, &shown)
 }
 
-// What is told of the property at a place, whose text is explained.
+// The explained text of the property of a name or, where that is denied, of its negation: a text of
+// the model beside it.
+#[derive(Clone, Copy)]
+struct Explained<'a> {
+    name: &'a str,
+    solved: &'a SolvedModel,
+    explained: &'a ExplainedText,
+    denied: bool,
+}
+
+// The verdict on a property, followed by the evidence of a text.
 fn explained_told(
     alloc: Global,
-    solved: &SolvedModel,
-    explained: &ExplainedText,
-    place: usize,
     telling: ToldVerdict,
+    shown: &Explained<'_>,
 ) -> Result<String, AllocError>
-    requires within { place < length solved.now.typed.model.properties.items }
-    requires explained { IsExplainedAt (solved_form solved.now) place explained.now }
-    ensures { IfOk result (IsToldThere telling solved.now place explained.now) }
+    requires { IsExplainedThere shown.now }
+    ensures { IfOk result (IsToldThere telling shown.now) }
 {
-    let model = &solved.typed;
+    let model = &shown.solved.typed;
     let steps = steps_text(alloc, model)?;
-    let vocabulary = words_of(alloc, solved)?;
+    let vocabulary = words_of(alloc, shown.solved)?;
     let parts = ShownParts {
         model: &model.model,
         steps: &steps,
-        explained,
+        explained: shown.explained,
+        denied: shown.denied,
     };
-    let name = &model.model.properties[place].name.text;
-    told_in(alloc, telling, name, &vocabulary, &parts)
+    told_in(alloc, telling, shown.name, &vocabulary, &parts)
 }
 
-/// What is told of the property at a place.
+// How a verdict is reported for this request.
+fn telling_of(verdict: Verdict, asked: Asked) -> ToldVerdict
+    ensures { result ≡ telling_of verdict asked }
+{
+    ToldVerdict {
+        verdict,
+        always: asked.always,
+        lines: asked.options.lines,
+    }
+}
+
+// Whether a line of the evidence rests on a call outside the ranges.
+fn rests_on_cut(explanation: &Explanation) -> bool
+    ensures { result ≡ list_any (λ cut. cut) explanation.now.cuts.items }
+{
+    explanation.cuts.iter().any(|cut| *cut)
+}
+
+// The error of the property at a place that is refused in this way.
+fn refused_property(
+    solved: &SolvedModel,
+    place: usize,
+    excess: PropertyExcess,
+) -> OrMemory<SolveFault>
+    requires { place < length solved.now.typed.model.properties.items }
+    ensures { (q : PropertyForm)
+        → slice_get (solved_form solved.now).properties place ≡ Some q
+        → result ≡ or_memory.Refused
+        (solve_fault.Property (record { excess = excess; place = q.name.place })) }
+{
+    let place = name_place(&solved.typed, place);
+    SolveFault::Property(PropertyFault { excess, place }).into()
+}
+
+// The report on the property at a place by its own evidence, of which no line rests on a call
+// outside the ranges. The verdict is that of `check_text`.
+fn own_told<R: Threads + Sync, G: Progress + Sync>(
+    context: &Context<'_, R, G>,
+    input: &mut InputWithNegation<'_>,
+    shown: &Explained<'_>,
+    asked: Asked,
+) -> Result<String, OrMemory<SolveFault>>
+    requires said { IsToldModelOf input.now shown.now.solved.now }
+    requires own { IsOwnText shown.now asked.place }
+    requires within { list_any (λ cut. cut) shown.now.explained.now.explanation.cuts.items ≡ false }
+    ensures { TellsProperty asked shown.now.solved.now input.old input.new result }
+{
+    let finding = explained_finding(context, input, shown.explained, asked)?;
+    match verdict_in(finding) {
+        Err(excess) => Err(refused_property(shown.solved, asked.place, excess)),
+        Ok(verdict) => {
+            let telling = telling_of(verdict, asked);
+            Ok(explained_told(context.alloc, telling, shown)?)
+        }
+    }
+}
+
+// The report on a property of whose own evidence a line rests on such a call. The negation decides:
+// where it is satisfied, the verdict is false, by its evidence.
+fn cut_told<R: Threads + Sync, G: Progress + Sync>(
+    context: &Context<'_, R, G>,
+    input: &mut InputWithNegation<'_>,
+    shown: &Explained<'_>,
+    asked: Asked,
+) -> Result<String, OrMemory<SolveFault>>
+    requires said { IsToldModelOf input.now shown.now.solved.now }
+    requires own { IsOwnText shown.now asked.place }
+    requires cut { list_any (λ cut. cut) shown.now.explained.now.explanation.cuts.items ≡ true }
+    ensures { TellsProperty asked shown.now.solved.now input.old input.new result }
+{
+    let denial = match explained_negation(context, input, asked) {
+        Ok(denial) => denial,
+        Err(OrMemory::Memory) => return Err(OrMemory::Memory),
+        Err(OrMemory::Refused(excess)) => {
+            return Err(refused_property(shown.solved, asked.place, excess));
+        }
+    };
+    if !denial.explained.explanation.evidence.truth {
+        let telling = telling_of(Verdict::Unknown, asked);
+        return Ok(explained_told(context.alloc, telling, shown)?);
+    }
+    let denied = Explained {
+        name: shown.name,
+        solved: &denial.solved,
+        explained: &denial.explained,
+        denied: true,
+    };
+    let telling = telling_of(Verdict::False, asked);
+    Ok(explained_told(context.alloc, telling, &denied)?)
+}
+
+/// The report on the property at a place.
 ///
 /// # Errors
-/// `Property` where something of it or of its negation is too large; `Typing` where the text of one
-/// of the two isn't well typed. `Text` and `Typing` come too where the negations are refused.
+/// `Property` where something of it is too large, or where the verdict or its evidence needs the
+/// negation and that is refused; `Typing` where its text isn't well typed.
 pub(crate) fn told_at<R: Threads + Sync, G: Progress + Sync>(
     context: &Context<'_, R, G>,
-    input: &mut InputWithNegations<'_>,
+    input: &mut InputWithNegation<'_>,
     solved: &SolvedModel,
     asked: Asked,
 ) -> Result<String, OrMemory<SolveFault>>
-    requires said { IsModelOf input.now (solved_form solved.now) }
+    requires said { IsToldModelOf input.now solved.now }
     requires within { asked.place < length solved.now.typed.model.properties.items }
     ensures { TellsProperty asked solved.now input.old input.new result }
 {
     let explained = explained_at(context, solved, asked.place, asked.options)?;
-    let finding = explained_finding(context, input, &explained, asked)?;
-    match verdict_in(finding) {
-        Err(excess) => {
-            let place = name_place(&solved.typed, asked.place);
-            Err(SolveFault::Property(PropertyFault { excess, place }).into())
-        }
-        Ok(verdict) => {
-            let telling = ToldVerdict {
-                verdict,
-                always: asked.always,
-                lines: asked.options.lines,
-            };
-            let alloc = context.alloc;
-            Ok(explained_told(alloc, solved, &explained, asked.place, telling)?)
-        }
+    let shown = Explained {
+        name: &solved.typed.model.properties[asked.place].name.text,
+        solved,
+        explained: &explained,
+        denied: false,
+    };
+    if rests_on_cut(&explained.explanation) {
+        return cut_told(context, input, &shown, asked);
     }
+    own_told(context, input, &shown, asked)
 }

@@ -1,13 +1,12 @@
-//! Why the properties of a model hold or don't: the verdicts, with the steps that show them.
+//! Why the properties of a model hold or don't: the verdicts, with the steps of their evidence.
 ghost use Rattle.std.specs.Prelude.{◌≡◌, Err, IsSome, option_copied};
 ghost use Rattle.pb_command_faults.specs.declared.solve_fault.SolveFault.TheVariants.{NoProperty};
-ghost use Rattle.pb_model_properties.specs.Said.{IsModelOf};
-ghost use Rattle.pb_command_models.specs.Models.{solved_form};
+ghost use Rattle.pb_model_properties.specs.Words.{IsToldModelOf};
 ghost use Rattle.pb_command_models.specs.Why.{DeliversWhy, IsToldFaithfully, TellsAll, TellsAsked};
 
 use crate::explained_finding::Asked;
 use crate::laws::told_calls_are_steps;
-use crate::negation::InputWithNegations;
+use crate::negation::InputWithNegation;
 use crate::options::WhyOptions;
 use crate::told::told_at;
 use pb_base::OrMemory;
@@ -19,17 +18,17 @@ use pb_model_properties::{SolvedModel, place_of, read_protocol};
 use pb_sorts::Sink;
 use std::thread::Threads;
 
-// What is told of all properties.
+// The reports on all properties.
 fn all_told<R: Threads + Sync, G: Progress + Sync>(
     context: &Context<'_, R, G>,
     input: ShortInput<'_>,
     solved: &SolvedModel,
     options: WhyOptions,
 ) -> Result<String, OrMemory<SolveFault>>
-    requires { IsModelOf input.bytes.now (solved_form solved.now) }
+    requires { IsToldModelOf input.bytes.now solved.now }
     ensures { TellsAll options.lines input.entry.bytes.now solved.now result }
 {
-    let mut asked_input = InputWithNegations::new(input);
+    let mut asked_input = InputWithNegation::new(input);
     let mut lines = String::new(context.alloc);
     for place in 0..solved.typed.model.properties.len() {
         let asked = Asked {
@@ -43,7 +42,7 @@ fn all_told<R: Threads + Sync, G: Progress + Sync>(
     Ok(lines)
 }
 
-// What is told of the property of a name, or of all where none is named.
+// The report on the property of a name, or on all where none is named.
 fn asked_told<R: Threads + Sync, G: Progress + Sync>(
     context: &Context<'_, R, G>,
     input: ShortInput<'_>,
@@ -51,7 +50,7 @@ fn asked_told<R: Threads + Sync, G: Progress + Sync>(
     property: Option<&str>,
     options: WhyOptions,
 ) -> Result<String, OrMemory<SolveFault>>
-    requires { IsModelOf input.bytes.now (solved_form solved.now) }
+    requires { IsToldModelOf input.bytes.now solved.now }
     ensures { TellsAsked options.lines property.entry input.entry.bytes.now solved.now result }
 {
     match property {
@@ -64,33 +63,36 @@ fn asked_told<R: Threads + Sync, G: Progress + Sync>(
                 always: true,
                 options,
             };
-            told_at(context, &mut InputWithNegations::new(input), solved, asked)
+            told_at(context, &mut InputWithNegation::new(input), solved, asked)
         }
         None => all_told(context, input, solved, options),
     }
 }
 
-/// Tells why the properties of a model hold or don't, in the model's own words. Without a name it
-/// writes for each property, in order, the line of the verdict on it, as `check_text` does, and
-/// behind that of each that isn't true what shows it: lines of evidence, with the steps that lead
-/// from one to another. With a name it does so for that property alone, whatever the verdict is.
+/// Reports why the properties of a model hold or don't, in the model's own words. Without a name it
+/// writes for each property, in order, the line of the verdict on it, as `check_text` does,
+/// followed where that isn't true by lines of evidence, with the steps that lead from one to
+/// another. With a name it does so for that property alone, whatever the verdict is.
 ///
-/// Where the verdict is unknown, what is shown is why the property isn't satisfied within the
-/// ranges.
+/// No line below a verdict that is false rests on a call outside the ranges: the evidence is that
+/// of the property's text where none of its lines does, and else evidence that the negation is
+/// satisfied, which has the same names at the same places. Where the verdict is unknown, the
+/// evidence is that the property isn't satisfied within the ranges.
 ///
 /// Where lines of instances are asked for, these show the verdict in place of words: each names an
 /// instance and those that it rests on, as with `explain_text`, and the steps that lead to them.
 ///
-/// Each property's text is explained as `explain_text` does with a text. Where the protocol doesn't
-/// satisfy the property, the text of its negation is solved, and where that isn't satisfied either,
-/// the property's own, for the calls outside the ranges. A call of
-/// that text, which leads from one line to another, is a move of the model: `calls_are_moves` of
-/// `pb_model_runs` says so. By its `every_step_is_called` no step can be taken where the text of
-/// every step makes no call.
+/// Each property's text is explained as `explain_text` does with a text. Where a line of its
+/// evidence rests on a call outside the ranges, the text of the negation is explained too; else,
+/// where the protocol doesn't satisfy the property, the verdict is found as `check_text` finds it.
+/// A call of such a text, which leads from one line to another, is a move of the model:
+/// `calls_are_moves` of `pb_model_runs` says so. By its `every_step_is_called` no step can be taken
+/// where the text of every step makes no call.
 ///
 /// # Errors
 /// `NoProperty` comes exactly where the model has no property of the name, and `Property` where
-/// something of a property or of its negation is too large. Others are as with `check_text`.
+/// something of a property that is asked for is too large, or its negation is refused, which the
+/// verdict or its evidence needs. Others are as with `check_text`, of the property of the name.
 pub fn why_text<R: Threads + Sync, G: Progress + Sync, S: Sink>(
     context: &Context<'_, R, G>,
     input: ShortInput<'_>,

@@ -1,8 +1,8 @@
--- The model that is solved in the place of a negated protocol.
-use Rattle.std.proofs.Common.{◌≡◌, ◌∙◌, ℕ, zero, suc, true, not, ◌&&◌, List, [], ◌∷◌, ◌++◌, Some, map, refl, sym, ap, ap₂, subst, inr, arith}
-use Rattle.std.specs.Prelude.{Contains, Result, Ok, Err, IfOk}
+-- The model that is solved in the place of a protocol with the negation of one property alone.
+use Rattle.std.proofs.Common.{◌≡◌, ◌∙◌, ℕ, zero, suc, ◌<◌, length, not, ◌&&◌, List, [], ◌∷◌, ◌++◌, Some, map, refl, sym, ap, ap₂, subst, arith}
+use Rattle.std.specs.Prelude.{Contains, Result, Ok, Err, IfOk, option_map}
 use Rattle.std.specs.List.{list_all, slice_get}
-use Rattle.std.proofs.lemmas.List.Elements.{Contains-append_left, Contains-append_right, Contains-push}
+use Rattle.std.proofs.lemmas.Option.{slice_get-map, slice_get_within, get_or_from_slice_get}
 use Rattle.pb_base.specs.OrMemory.{IfRefused}
 use Rattle.pb_base.specs.declared.or_memory.OrMemory.{OrMemory}
 use Rattle.pb_base.specs.declared.or_memory.OrMemory.TheVariants.{Refused, Memory}
@@ -10,17 +10,22 @@ use Rattle.pb_text_tree.specs.declared.place.Place.{Place}
 use Rattle.pb_text_tree.specs.declared.operator.Connective.TheVariants as connective
 use Rattle.pb_text_printer.specs.Sayable.{Each}
 use Rattle.pb_model_tree.specs.declared.formula.Modality.TheVariants as modality
+use Rattle.pb_model_tree.specs.Form as flat
+use Rattle.pb_model_tree.specs.Form.{ModelForm, model_form}
 use Rattle.pb_model_runs.specs.Exact.{are_apart, is_among}
 use Rattle.pb_model_spelling.specs.Protocols.{FormulaWritable, PropertyWritable, ProtocolWritable}
 use Rattle.pb_model_places.specs.Apart.{formula_places, protocol_stands_apart, step_places}
 use Rattle.pb_protocol_tree.specs.Form.{FormulaForm, PropertyForm, ProtocolForm}
 use Rattle.pb_protocol_meaning.specs.Erase.{erase, erased_formula, erased_property}
-use Rattle.pb_protocol_negation.specs.Negated.{negated, negated_property, negated_protocol}
+use Rattle.pb_protocol_negation.specs.Negated.{negated, negated_property}
+use Rattle.pb_protocol_negation.specs.Laws.{SatisfactionIsKept}
+use Rattle.pb_protocol_laws.specs.Solved.{AreSameProperties, IsSameProperty}
 use Rattle.pb_model_faults.specs.declared.ModelFault.{ModelFault}
+use Rattle.pb_model_faults.specs.declared.ModelFault.TheVariants as model_fault
 use Rattle.pb_model_properties.specs.declared.solved.SolvedModel.{SolvedModel}
-use Rattle.pb_model_properties.specs.Negations.{IsNegatedModelOf, IsRefusedNegation}
-use Rattle.pb_model_properties.specs.Refusals.{IsRefusedProtocol}
-use Rattle.pb_model_properties.specs.Said.{IsTheReading}
+use Rattle.pb_model_properties.specs.Negations.{HasPropertyAt, IsNegationOf, IsRefusedNegation, with_negation}
+use Rattle.pb_model_properties.specs.Refusals.{IsRefusedProtocol, IsUnread}
+use Rattle.pb_model_properties.specs.Said.{protocol_satisfies, tree_satisfies, IsModelFor, IsTheReading}
 use Rattle.pb_model_properties.specs.Solvable.{CanBeSolved}
 use Rattle.pb_model_properties.specs.Words.{IsToldModel}
 
@@ -38,21 +43,10 @@ kept_places (FormulaForm.modal k p A f) = kept_places f
 kept_places (FormulaForm.fixpoint sign p x f) = ap (λ (ps : List Place). p ∷ ps) (kept_places f)
 kept_places (FormulaForm.quantified q p xs f) = kept_places f
 
--- a property of it is the negation of one of the protocol's
-negation_of_some : (ps : List PropertyForm) (n : PropertyForm) → Contains (map negated_property ps) n → (p : PropertyForm) × Contains ps p × (n ≡ negated_property p)
-negation_of_some [] n among = absurd (omega (arith, among.1))
-negation_of_some (p ∷ ps) n (zero, below, at) = (p, Contains-append_left (p ∷ []) ps p (Contains-push [] p), sym at)
-negation_of_some (p ∷ ps) n (suc k, below, at) =
-    let found = negation_of_some ps n (k, omega (arith, below), at) in
-    (found.0, Contains-append_right (p ∷ []) ps found.0 found.1, found.2)
-
-apart_negated : (protocol : ProtocolForm) → ((p : PropertyForm) → Contains protocol.properties p → protocol_stands_apart protocol p.formula ≡ true)
-    → (n : PropertyForm) → Contains (negated_protocol protocol).properties n → protocol_stands_apart (negated_protocol protocol) n.formula ≡ true
-apart_negated protocol apart n among =
-    let from = negation_of_some protocol.properties n among in
-    let steps = step_places protocol.steps in
-    ap (λ (x : PropertyForm). protocol_stands_apart (negated_protocol protocol) x.formula) from.2
-    ∙ (ap (λ (ps : List Place). are_apart steps && list_all (λ p. not (is_among steps p)) ps) (kept_places from.0.formula) ∙ apart from.0 from.1)
+-- the one element
+only : (p x : PropertyForm) → Contains (p ∷ []) x → x ≡ p
+only p x (zero, below, at) = sym at
+only p x (suc k, below, at) = absurd (omega (arith, below))
 
 -- ---- its words
 
@@ -69,46 +63,96 @@ formula_negated (FormulaForm.modal modality.Diamond p A f) h = formula_negated f
 formula_negated (FormulaForm.fixpoint sign p x f) h = (h.0, formula_negated f h.1)
 formula_negated (FormulaForm.quantified q p xs f) h = (h.0, formula_negated f h.1)
 
-properties_negated : (ps : List PropertyForm) → Each PropertyWritable (map erased_property ps) → Each PropertyWritable (map erased_property (map negated_property ps))
-properties_negated [] h = h
-properties_negated (p ∷ ps) (h, hs) = ((h.0, formula_negated p.formula h.1), properties_negated ps hs)
+-- what holds of each holds of the one at a place
+each_at : {X : Type 0} (P : X → Type 0) (xs : List X) (k : ℕ) (x : X) → Each P xs → slice_get xs k ≡ Some x → P x
+each_at P [] k x h at = absurd (cc at)
+each_at P (y ∷ xs) zero x h at = let is : y ≡ x = cc at in subst P is h.0
+each_at P (y ∷ xs) (suc k) x h at = each_at P xs k x h.1 at
 
-words_negated : (protocol : ProtocolForm) → ProtocolWritable (erase protocol) → ProtocolWritable (erase (negated_protocol protocol))
-words_negated protocol h = record {
-  sorts = h.sorts;
-  ranges = h.ranges;
-  variables = h.variables;
-  definitions = h.definitions;
-  steps = h.steps;
-  initial = h.initial;
-  properties = properties_negated protocol.properties h.properties;
-}
+module _ (protocol : ProtocolForm) (place : ℕ) (p : PropertyForm) (stands : slice_get protocol.properties place ≡ Some p) where
+  among : Contains protocol.properties p
+  among = (place, slice_get_within protocol.properties place p stands, get_or_from_slice_get protocol.properties place p p stands)
 
--- ---- what can be solved
+  words_negated : ProtocolWritable (erase protocol) → ProtocolWritable (erase (with_negation protocol p))
+  words_negated h =
+      let here : slice_get (map erased_property protocol.properties) place ≡ Some (erased_property p) =
+      slice_get-map erased_property protocol.properties place ∙ ap (option_map erased_property) stands in
+      let written = each_at PropertyWritable (map erased_property protocol.properties) place (erased_property p) h.properties here in
+      record {
+        sorts = h.sorts;
+        ranges = h.ranges;
+        variables = h.variables;
+        definitions = h.definitions;
+        steps = h.steps;
+        initial = h.initial;
+        properties = ((written.0, formula_negated p.formula written.1), tt);
+      }
 
-first_negated : (ps : List PropertyForm) → (p : PropertyForm) × (slice_get ps 0 ≡ Some p) → (p : PropertyForm) × (slice_get (map negated_property ps) 0 ≡ Some p)
-first_negated [] (p, at) = absurd (cc at)
-first_negated (p ∷ ps) first = (negated_property p, refl)
+  -- ---- what can be solved
 
-pub negated_solvable : (protocol : ProtocolForm) → CanBeSolved protocol → CanBeSolved (negated_protocol protocol)
-negated_solvable protocol is = record {
-  writable = words_negated protocol is.writable;
-  first = first_negated protocol.properties is.first;
-  apart = apart_negated protocol is.apart;
-  numbered = λ n m g line count among steps goes.
-      let from = negation_of_some protocol.properties n among in
-      is.numbered from.0 m g line count from.1 steps
-      (λ q here. subst (λ (ps : List Place). Contains ps q) (ap (λ (x : PropertyForm). formula_places x.formula) from.2 ∙ kept_places from.0.formula) (goes q here));
-}
+  pub negation_solvable : CanBeSolved protocol → CanBeSolved (with_negation protocol p)
+  negation_solvable is = record {
+    writable = words_negated is.writable;
+    first = (negated_property p, refl);
+    apart = λ n one.
+        let steps = step_places protocol.steps in
+        ap (λ (x : PropertyForm). protocol_stands_apart (with_negation protocol p) x.formula) (only (negated_property p) n one)
+        ∙ (ap (λ (ps : List Place). are_apart steps && list_all (λ q. not (is_among steps q)) ps) (kept_places p.formula) ∙ is.apart p among);
+    numbered = λ n m g line count one steps goes.
+        is.numbered p m g line count among steps
+        (λ q here. subst (λ (ps : List Place). Contains ps q)
+        (ap (λ (x : PropertyForm). formula_places x.formula) (only (negated_property p) n one) ∙ kept_places p.formula) (goes q here));
+  }
 
--- ---- of bytes
+  -- ---- what it satisfies
 
-module _ (bytes : List ℕ) (protocol n : ProtocolForm) (read : IsTheReading bytes protocol) (is : n ≡ negated_protocol protocol) where
-  pub negated_model : (r : Result SolvedModel (OrMemory ModelFault)) → IfOk r (IsToldModel n) → IfOk r (IsNegatedModelOf bytes)
-  negated_model (Ok x) h = record { protocol = protocol; read = read; told = subst (λ (m : ProtocolForm). IsToldModel m x) is h }
-  negated_model (Err e) h = tt
+  first_same : (P : ProtocolForm) (m : ModelForm) (x : PropertyForm) (qs : List flat.PropertyForm) (q : flat.PropertyForm)
+      → AreSameProperties P m (x ∷ []) qs → slice_get qs 0 ≡ Some q → IsSameProperty P m x q
+  first_same P m x [] q same at = absurd same
+  first_same P m x (y ∷ qs) q same at = let is : y ≡ q = cc at in subst (IsSameProperty P m x) is same.0
 
-  pub negated_refused : (r : Result SolvedModel (OrMemory ModelFault)) → IfRefused r (IsRefusedProtocol n) → IfRefused r (IsRefusedNegation bytes)
-  negated_refused (Ok x) h = tt
-  negated_refused (Err (Refused f)) h = inr (protocol, read, subst (λ (m : ProtocolForm). IsRefusedProtocol m f) is h)
-  negated_refused (Err Memory) h = tt
+  negation_says : SatisfactionIsKept → (m : ModelForm) → IsModelFor (with_negation protocol p) m → (q : flat.PropertyForm) → slice_get m.properties 0 ≡ Some q
+      → tree_satisfies m q.formula ≡ protocol_satisfies protocol (negated p.formula)
+  negation_says kept m is_for q at =
+      (first_same (with_negation protocol p) m (negated_property p) m.properties q is_for.solved.properties at).satisfied
+      ∙ kept (erase protocol) (erased_property (negated_property p) ∷ []) (erased_formula (negated p.formula))
+
+  -- ---- of bytes
+
+  module _ (bytes : List ℕ) (read : IsTheReading bytes protocol) (n : ProtocolForm) (is : n ≡ with_negation protocol p) where
+    negation_of : SatisfactionIsKept → (x : SolvedModel) → IsToldModel n x → IsNegationOf bytes place x
+    negation_of kept x h =
+        let told = subst (λ (m : ProtocolForm). IsToldModel m x) is h in
+        let first = told.is_for.first in
+        record {
+          protocol = protocol;
+          read = read;
+          property = p;
+          stands = stands;
+          told = told;
+          negation = first.0;
+          first = first.1;
+          says = negation_says kept (model_form x.typed.model) told.is_for first.0 first.1;
+        }
+
+    pub negation_model : SatisfactionIsKept → (r : Result SolvedModel (OrMemory ModelFault)) → IfOk r (IsToldModel n) → IfOk r (IsNegationOf bytes place)
+    negation_model kept (Ok x) h = negation_of kept x h
+    negation_model kept (Err e) h = tt
+
+    pub negation_refused : (r : Result SolvedModel (OrMemory ModelFault)) → IfRefused r (IsRefusedProtocol n) → IfRefused r (IsRefusedNegation bytes place)
+    negation_refused (Ok x) h = tt
+    negation_refused (Err (Refused f)) h =
+        record { protocol = protocol; read = read; property = p; stands = stands; refused = subst (λ (m : ProtocolForm). IsRefusedProtocol m f) is h }
+    negation_refused (Err Memory) h = tt
+
+-- what the bytes say is read
+pub was_read : (bytes : List ℕ) (place : ℕ) (fault : ModelFault) → HasPropertyAt bytes place → IsUnread bytes fault → ⊥
+was_read bytes place (model_fault.Text fault) has h = h.0 has.0 has.1.reading
+was_read bytes place (model_fault.Typing fault) has h = h
+was_read bytes place model_fault.NoProperty has h = h
+
+-- what is made of an element stands at each place within
+pub made_at : {X Y : Type 0} (form : X → Y) (items : List X) (k : ℕ) → k < length items → (y : Y) × (slice_get (map form items) k ≡ Some y)
+made_at form [] k less = absurd (omega (arith, less))
+made_at form (x ∷ items) zero less = (form x, refl)
+made_at form (x ∷ items) (suc k) less = made_at form items k (omega (arith, less))

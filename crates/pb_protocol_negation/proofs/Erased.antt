@@ -11,10 +11,10 @@ use Rattle.pb_protocol_meaning.specs.Syntax.{StepSet, Formula, Property, Protoco
 use Rattle.pb_protocol_meaning.specs.Erase.{erase, erased_formula, erased_property, erased_steps, joined, modal}
 use Rattle.pb_protocol_meaning.specs.Satisfaction.{satisfies}
 use Rattle.pb_protocol_negation.specs.Dual.{dual_sign, dual_quantifier, dual_modality}
-use Rattle.pb_protocol_negation.specs.Negation.{negation, negation_of}
+use Rattle.pb_protocol_negation.specs.Negation.{negation, negation_of, with_negations}
 use Rattle.pb_protocol_negation.specs.Negated.{negated, negated_connection, negated_property}
 use Rattle.pb_protocol_negation.specs.Laws.{NegationsErase, FormulasErase, NegatedPropertiesTell}
-use Rattle.pb_protocol_negation.proofs.WithNegations.{satisfaction_is_kept}
+use Rattle.pb_protocol_negation.proofs.OtherProperties.{satisfaction_is_kept}
 
 connected-erases : (c : Connective) (p : Place) (f g : FormulaForm) (a b : Formula) → erased_formula f ≡ negation a → erased_formula g ≡ negation b →
     erased_formula (negated_connection c p f g) ≡ negation (joined c a b)
@@ -54,5 +54,5 @@ negations_erase text =
 pub negated_properties_tell : NegatedPropertiesTell
 negated_properties_tell text f =
     ap (λ (m : Protocol). satisfies m (erased_formula (negated f))) (negations_erase text)
-    ∙ satisfaction_is_kept (erase text) (erased_formula (negated f))
+    ∙ satisfaction_is_kept (erase text) (with_negations (erase text)).properties (erased_formula (negated f))
     ∙ ap (satisfies (erase text)) (formulas_erase f)

@@ -1,6 +1,6 @@
 mod Opposed
 mod NeverBoth
-mod WithNegations
+mod OtherProperties
 pub mod Erased
 mod OneWithoutCuts
 mod WiderRanges

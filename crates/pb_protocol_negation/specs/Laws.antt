@@ -1,8 +1,8 @@
 -- What the negation says of a property.
-use Rattle.std.specs.Prelude.{◌≡◌, true, false, not, []}
+use Rattle.std.specs.Prelude.{◌≡◌, true, false, not, List, []}
 use Rattle.pb_model_meaning.specs.Satisfaction.{States}
 use Rattle.pb_protocol_tree.specs.Form.{FormulaForm, ProtocolForm}
-use Rattle.pb_protocol_meaning.specs.Syntax.{Formula, Protocol}
+use Rattle.pb_protocol_meaning.specs.Syntax.{Formula, Property, Protocol}
 use Rattle.pb_protocol_meaning.specs.Erase.{erase, erased_formula}
 use Rattle.pb_protocol_meaning.specs.Satisfaction.{satisfies}
 use Rattle.pb_protocol_unfolding.specs.Positive.{HasPositiveCalls}
@@ -33,12 +33,13 @@ NegationsErase = (text : ProtocolForm) → erase (negated_protocol text) ≡ wit
 abbrev pub FormulasErase : Type 0
 FormulasErase = (f : FormulaForm) → erased_formula (negated f) ≡ negation (erased_formula f)
 
--- it satisfies what the protocol does
+-- what a protocol satisfies doesn't depend on its properties
 abbrev pub SatisfactionIsKept : Type 0
 SatisfactionIsKept =
-    (m : Protocol) (f : Formula) → satisfies (with_negations m) f ≡ satisfies m f
+    (m : Protocol) (properties : List Property) (f : Formula) →
+    satisfies (record m { properties = properties }) f ≡ satisfies m f
 
--- so a property of it is true exactly where that of the protocol fails
+-- so a property of a negated protocol is true exactly where that of the protocol fails
 abbrev pub NegatedPropertiesTell : Type 0
 NegatedPropertiesTell =
     (text : ProtocolForm) (f : FormulaForm) →

@@ -37,8 +37,9 @@ pub fn negations_are_positive()
     ensures { NegationsArePositive }
 {}
 
-/// A negated protocol says the protocol with the negations of its properties; it satisfies what the
-/// protocol does, so a property of it is true exactly where that of the protocol fails.
+/// A negated protocol says the protocol with the negations of its properties. What a protocol
+/// satisfies doesn't depend on its properties, so a property of the negated one is true exactly
+/// where that of the protocol fails.
 pub fn negations_erase()
     ensures protocols { NegationsErase }
     ensures formulas { FormulasErase }

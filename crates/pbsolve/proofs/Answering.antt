@@ -1,11 +1,12 @@
 -- What an error of the words, of an input or of a command becomes, and what it leaves.
-use Rattle.std.proofs.Common.{◌≡◌, ◌≢◌, ℕ, false, List, Option, Result, Ok, Err, IfErr, IsErrAnd, refl, subst, sym}
+use Rattle.std.proofs.Common.{◌≡◌, ◌≢◌, ℕ, true, false, List, Option, Result, Ok, Err, IfErr, IsErrAnd, refl, subst, sym}
 use Rattle.pb_sorts.specs.declared.sink.Sink.{Ghosts}
 use Rattle.pb_sorts.specs.declared.source.Source.{Ghosts as ReaderGhosts}
 use Rattle.pb_sorts.specs.Source.{IsLongerThan}
 use Rattle.pb_sorts.specs.declared.input.InputFault.{InputFault}
 use Rattle.pb_sorts.specs.declared.input.InputFault.TheVariants.{Failed, TooLong}
 use Rattle.pb_base.specs.declared.limits.TheConstants.{MAX_INPUT_BYTES}
+use Rattle.pb_base.specs.OrMemory.{IfFault}
 use Rattle.pb_base.specs.declared.or_memory.OrMemory.{OrMemory}
 use Rattle.pb_base.specs.declared.or_memory.OrMemory.TheVariants.{Refused, Memory}
 use Rattle.pb_command_faults.specs.declared.fault.ProgramFault.TheVariants as fault
@@ -23,7 +24,7 @@ use Rattle.pbsolve.specs.declared.run_error.RunError.TheVariants.{ProgramFault}
 use Rattle.pbsolve.specs.Endings.{IsRefusedInput}
 use Rattle.pbsolve.specs.Errors.{run_error_of_input, run_error_of_solving, run_error_of_words}
 use Rattle.pbsolve.specs.Program.{FailsReading, LeavesReader, is_write_fault}
-use Rattle.pbsolve.specs.Requests.{OfInput, RefusesBytes}
+use Rattle.pbsolve.specs.Requests.{OfInput, RefusesBytes, reads_input}
 
 -- what holds of a model without the property holds where that is told
 pub by_property : (P : Type 0) (e : SolveError) → (e ≡ solve_error.Refused NoProperty → P) → run_error_of_solving e ≡ ProgramFault fault.U01 → P
@@ -38,12 +39,12 @@ by_property P (solve_error.Refused TooManyVertices) f h = absurd (cc h)
 by_property P solve_error.Memory f h = absurd (cc h)
 by_property P (solve_error.Write failed) f h = absurd (cc h)
 
--- too long an input is refused whatever is asked
-pub input_refused : (request : Request) (known : Option (List ℕ)) (e : OrMemory InputFault)
+-- too long an input is refused whatever is asked of it
+pub input_refused : (request : Request) (known : Option (List ℕ)) (e : OrMemory InputFault) → IfFault e (λ _. reads_input request ≡ true)
     → (e ≡ Refused TooLong → IsLongerThan MAX_INPUT_BYTES known) → IsRefusedInput request known (run_error_of_input e)
-input_refused request known (Refused Failed) long = tt
-input_refused request known (Refused TooLong) long = long refl
-input_refused request known Memory long = tt
+input_refused request known (Refused Failed) reads long = reads
+input_refused request known (Refused TooLong) reads long = (reads, long refl)
+input_refused request known Memory reads long = tt
 
 -- no error of an input is one of the words
 pub input_is_no_usage : (e : OrMemory InputFault) → run_error_of_input e ≡ ProgramFault fault.U01 → ⊥

@@ -34,7 +34,7 @@ own_error TooManyVertices other = refl
 pub unanswered : (request : Request) (known : KnownFiles) (name : List ℕ) (e : RunError) (report : FileReport)
     → IsRefusedInput request (known.contents name) e → (is_lost_file e ≡ true → known.has_failed name ≡ true) → IsRefusal e report
     → IsFileOutcome request known (outcome_form name report)
-unanswered request known name (ProgramFault U02) report h lost is = inr (inr (inl (h, is.status, is.diagnostics)), is.written)
+unanswered request known name (ProgramFault U02) report h lost is = inr (inr (inl (h.1, is.status, is.diagnostics)), is.written)
 unanswered request known name (ProgramFault U01) report h lost is = inr (inl (NoProperty, h, is.status, is.diagnostics), is.written)
 unanswered request known name (ProgramFault E01) report h lost is = inr (inr (inr (lost refl, is.status, is.diagnostics)), is.written)
 unanswered request known name (ProgramFault E02) report h lost is = absurd (cc is.alone)

@@ -4,6 +4,7 @@ use Rattle.std.specs.Prelude.{◌≡◌, ◌≢◌, ◌≤◌, ◌⊎◌, ◌∷
 use Rattle.std.specs.Prelude.{Bool, Option, Result, Err, IfErr, IfOk, OnOk, true, false}
 use Rattle.std.specs.declared.alloc.Global.{Global}
 use Rattle.pb_base.specs.declared.limits.TheConstants.{MAX_INPUT_BYTES}
+use Rattle.pb_base.specs.OrMemory.{OnRefused}
 use Rattle.pb_base.specs.declared.or_memory.OrMemory.{OrMemory}
 use Rattle.pb_base.specs.declared.or_memory.OrMemory.TheVariants as or_memory
 use Rattle.pb_sorts.specs.declared.input.InputFault.{InputFault}
@@ -20,9 +21,7 @@ use Rattle.pb_command_faults.specs.declared.solve_fault.SolveFault.TheVariants.{
 use Rattle.pb_command_faults.specs.Errors.{IfInputRefused}
 use Rattle.pb_command_line.specs.Words.{AskNothing, AskPlainly, HaveFault, property_names}
 use Rattle.pb_command_line.specs.Words.{task_names}
-use Rattle.pb_command_line.specs.declared.page.Page.{Page}
 use Rattle.pb_command_line.specs.declared.request.Request.{Request}
-use Rattle.pb_command_line.specs.declared.request.Request.TheVariants as request_for
 use Rattle.pb_command_line.specs.declared.request.Task.{Task}
 use Rattle.pb_command_modules.specs.Delivery.{Delivers}
 use Rattle.pbsolve.specs.declared.run_error.RunError.{RunError}
@@ -40,12 +39,12 @@ use Rattle.pbsolve.specs.Program.{AnswersBy, AnswersWords, AskOfInput, BeginsAns
 use Rattle.pbsolve.specs.Program.{IsRefusedBy, IsUnanswered, Known, LeavesReader, AskForFiles}
 use Rattle.pbsolve.specs.Program.{Tells, TellsRefusal, WritesDiagnostics, is_write_fault}
 use Rattle.pbsolve.specs.Requests.{Answers, IsInputOf, OfInput, RefusesBytes, error_line_of}
-use Rattle.pbsolve.specs.Requests.{status_of}
+use Rattle.pbsolve.specs.Requests.{reads_input, status_of}
 
 -- ---- the parts
 
 -- The bytes by which a request is answered are read, or reading failed, or there are too many. For
--- a page none is read.
+-- a page none is read, so that nothing of an input refuses it.
 pub record ReadsInput {R : Type 0} (request : Request) (source : ReaderGhosts R) (old new : R)
     (result : Result (Vec ℕ Global) (OrMemory InputFault)) : Type 0 where
   pub input : IfOk result (λ input. IsInputOf request (source.left old) input.items)
@@ -57,7 +56,8 @@ pub record ReadsInput {R : Type 0} (request : Request) (source : ReaderGhosts R)
       source.has_failed new ≡ source.has_failed old)
   pub too_long : result ≡ Err (or_memory.Refused input_fault.TooLong) →
       IsLongerThan MAX_INPUT_BYTES (source.left old)
-  pub unread : (page : Page) → request ≡ request_for.Page page → new ≡ old
+  pub unread : (new ≡ old) ⊎ (reads_input request ≡ true)
+  pub refused : OnRefused result (reads_input request ≡ true)
 
 -- What a task asks of the bytes is written, or they are refused: for want of a property only where
 -- one is named.
@@ -84,10 +84,11 @@ WithEnd result IsWritten written =
 
 -- what an error says of the bytes of an input, of which so much is known
 abbrev pub IsRefusedInput : Request → Option (List ℕ) → RunError → Type 0
-IsRefusedInput request known (run_error.ProgramFault U02) = IsLongerThan MAX_INPUT_BYTES known
+IsRefusedInput request known (run_error.ProgramFault U02) =
+    (reads_input request ≡ true) × IsLongerThan MAX_INPUT_BYTES known
 IsRefusedInput request known (run_error.ProgramFault U01) =
     OfInput request known (λ r bytes. RefusesBytes r bytes NoProperty)
-IsRefusedInput request known (run_error.ProgramFault E01) = Unit {0}
+IsRefusedInput request known (run_error.ProgramFault E01) = reads_input request ≡ true
 IsRefusedInput request known (run_error.ProgramFault E02) = Unit {0}
 IsRefusedInput request known (run_error.ProgramFault M01) = Unit {0}
 IsRefusedInput request known (run_error.Refused fault) =
@@ -101,6 +102,7 @@ pub record EndsInput {R S : Type 0} (request : Request) (source : ReaderGhosts R
       OfInput request (source.left reader) (λ r bytes. Answers r bytes end text)
       × (diagnostics ≡ []))) result sink old new
   pub read : OnOk result (source.has_failed read_on ≡ source.has_failed reader)
+  pub unread : (read_on ≡ reader) ⊎ (reads_input request ≡ true)
   pub refused : IfErr result (IsRefusedInput request (source.left reader))
   pub left : IfErr result (λ e. LeavesReader e source reader read_on)
   pub named : result ≡ Err (run_error.ProgramFault U01) → property_names request ≢ []
@@ -201,8 +203,8 @@ known_by source reader shelf old new =
 
 -- What the words ask for is answered, or the error is why it isn't: a fault of theirs, which is
 -- seen before a byte is read, the input, the reader or the writer. Of files each is answered, and
--- only a refused request for memory or a failed write is an error. Where files are read, standard
--- input isn't.
+-- only a refused request for memory or a failed write is an error. Standard input is read only
+-- where the words ask for something of it: not where files are, and not for a page.
 pub record AttemptsAnswer {R F O : Type 0} (words : List (List ℕ)) (source : ReaderGhosts R)
     (reader read_on : R) (shelf : FileGhosts F) (files files_on : F) (sink : Ghosts O)
     (old new : O) (result : Result Ended RunError)
@@ -211,6 +213,7 @@ pub record AttemptsAnswer {R F O : Type 0} (words : List (List ℕ)) (source : R
       (WithEnd result (AnswersWords words (known_by source reader shelf files files_on)))
       result sink old new
   pub read : OnOk result (source.has_failed read_on ≡ source.has_failed reader)
+  pub unread : (read_on ≡ reader) ⊎ AskOfInput words
   pub asked : AskPlainly words → (result ≢ Err (run_error.ProgramFault U01))
       × IfOk result (λ ended. ended.status ≢ status.Usage)
   pub unasked : AskNothing words → IsUnanswered result

@@ -1,5 +1,5 @@
 -- How a request is answered for the bytes of one input.
-use Rattle.std.specs.Prelude.{◌≡◌, ◌≤◌, ℕ, List, [], Option, length}
+use Rattle.std.specs.Prelude.{◌≡◌, ◌≤◌, ℕ, Bool, true, false, List, [], Option, length}
 use Rattle.pb_sorts.specs.Source.{IsWhole}
 use Rattle.pb_base.specs.declared.limits.TheConstants.{MAX_INPUT_BYTES}
 use Rattle.pb_command_faults.specs.Errors.{fault_line}
@@ -12,7 +12,7 @@ use Rattle.pb_command_line.specs.declared.request.Request.{Request}
 use Rattle.pb_command_line.specs.declared.request.Request.TheVariants.{Page, Check, Input}
 use Rattle.pb_command_line.specs.declared.status.Status.{Status}
 use Rattle.pb_command_line.specs.declared.status.Status.TheVariants.{Answered, Refused, Usage, OutOfMemory, Failed}
-use Rattle.pb_command_models.specs.Models.{IsUnchecked, asked_names}
+use Rattle.pb_command_models.specs.Models.{IsUnchecked}
 use Rattle.pb_command_models.specs.Writes.{WritesVerdicts}
 use Rattle.pbsolve.specs.Writes.{IsRefusedFor, Writes}
 use Rattle.pbsolve.specs.declared.run_error.RunError.{RunError}
@@ -35,6 +35,12 @@ abbrev pub error_line_of : RunError → List ℕ
 error_line_of (run_error.ProgramFault f) = lines.line_of f
 error_line_of (run_error.Refused fault) = fault_line fault
 
+-- the request is answered of an input, and not by a page
+abbrev pub reads_input : Request → Bool
+reads_input (Page page) = false
+reads_input (Check options) = true
+reads_input (Input task) = true
+
 -- the bytes that are read for a request: none for a page, and else the whole input, of at most so
 -- many bytes as the program takes
 abbrev pub IsInputOf : Request → Option (List ℕ) → List ℕ → Type 0
@@ -51,7 +57,7 @@ Answers (Input task) bytes status written = (status ≡ Answered) × Writes task
 -- the request refuses the bytes by this fault
 abbrev pub RefusesBytes : Request → List ℕ → SolveFault → Type 0
 RefusesBytes (Page page) bytes fault = ⊥
-RefusesBytes (Check options) bytes fault = IsUnchecked (asked_names options) bytes fault
+RefusesBytes (Check options) bytes fault = IsUnchecked options bytes fault
 RefusesBytes (Input task) bytes fault = IsRefusedFor task bytes fault
 
 -- P holds of the request and of the bytes that are read for it, where these are known

@@ -4,8 +4,8 @@ ghost use Rattle.std.specs.Prelude.{option_copied, option_map, string_bytes};
 ghost use Rattle.pb_command_faults.specs.Lines.{line_of};
 ghost use Rattle.pb_command_line.specs.Words.{HaveFault, AskNothing, AskPlainly};
 ghost use Rattle.pb_command_line.specs.Status.{code_of};
-ghost use Rattle.pbsolve.specs.Program.{AskForFiles, LackProperty, Tells, WritesDiagnostics};
-ghost use Rattle.pbsolve.specs.Program.{is_answer};
+ghost use Rattle.pbsolve.specs.Program.{AskForFiles, AskOfInput, LackProperty, Tells};
+ghost use Rattle.pbsolve.specs.Program.{WritesDiagnostics, is_answer};
 ghost use Rattle.pbsolve.specs.Requests.{error_line_of, fault_status, status_of};
 ghost use Rattle.pbsolve.specs.Endings.{AnswersRequest, AnswersTask, AttemptsAnswer, EndsInput};
 ghost use Rattle.pbsolve.specs.Endings.{FailsRun, IsAnswered, IsRefusedRun, IsWrongRun};
@@ -286,8 +286,11 @@ pub fn run<
         IsAnswered (map S.text words.now) end R.Source F.NamedFiles O.Sink E.Sink
         streams.old streams.new × (streams.new.error ≡ streams.old.error) }
 
-    // But for status 4 no read of standard input failed, and no file but for statuses 3 and 4.
+    // Standard input is read only where something is asked of it, and not for a rule, the usage or
+    // the version. But for status 4 no read of it failed, and no file but for statuses 3 and 4.
     // Files are read only where the words name some, and then standard input isn't.
+    ensures unread { (streams.new.input ≡ streams.old.input)
+        ⊎ AskOfInput (map S.text words.now) }
     ensures read { result ≢ 4 → R.has_failed streams.new.input ≡ R.has_failed streams.old.input }
     ensures files_read { result ≢ 3 → result ≢ 4 → (name : List ℕ) →
         F.has_failed streams.new.files name ≡ F.has_failed streams.old.files name }

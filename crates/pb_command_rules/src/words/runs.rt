@@ -203,8 +203,9 @@ $ echo 50424553010001000158000001000000010000000200210000 | xxd -r -p | pbsolve 
 V16 equation 0 place 0\n";
 
 pub const G01_WORDS: &str = "G01: the game of the reached instances has more than 2^24 \
-vertices: 2, one for\n  \
-each instance, and one for each bracket inside a right side\n\
+vertices, or, in a\n  \
+model and with --reached, more than 2^30: 2, one for each instance, and one\n  \
+for each bracket inside a right side\n\
 In a model also: an equation of a property's text, or its game, is too large:\n  \
 C05 line 8 column 10. Place: the property's name\n\
 What to do: fewer instances, or flatter right sides: a quantifier or a || inside\n  \

@@ -91,8 +91,10 @@ In a model also: [, <, the bracket of fair, mu, nu, forall and exists open a\n  
 level each; a step, a definition, init and a property may have 8,192 operators\n  \
 each, and so may a term or a formula with its quantifiers and definitions\n  \
 written out, with those of each index that isn't written as a value, also\n  \
-where it is decided; definitions that use others may nest 200 levels. Place:\n  \
-the token; the use, the quantifier or the operator that passes it\n\
+where it is decided, and the negation of a property, in which a ! stands\n  \
+before each test, and which refuses that property alone (NAME refused P04);\n  \
+definitions that use others may nest 200 levels. Place: the token; the use,\n  \
+the quantifier or the operator that passes it\n\
 What to do: split the equation: give a part an equation of its own with the same\n  \
 sign, directly after it\n\
 $ python3 -c \"print('pbes nu X = ' + 'X && ' * 8193 + 'X; init X;')\" | pbsolve solve\n\

@@ -1,5 +1,5 @@
 -- What is told is written.
-use Rattle.std.proofs.Common.{◌≡◌, ◌∙◌, ℕ, List, Result, Ok, Err, IsErrAnd, map, refl, sym, subst, string_bytes}
+use Rattle.std.proofs.Common.{◌≡◌, ◌∙◌, ℕ, List, Result, Ok, Err, IsErrAnd, refl, sym, subst}
 use Rattle.pb_command_faults.specs.Errors.{IfInputFault, IfInputRefused}
 use Rattle.pb_command_faults.specs.declared.solve_error.SolveError.{SolveError}
 use Rattle.pb_command_faults.specs.declared.solve_error.SolveError.TheVariants as solve_error
@@ -17,13 +17,13 @@ pub returns-in_err-report-clause-verdicts : goal.returns-in_err-report-clause-ve
 returns-in_err-report-clause-verdicts g c = (
   (nothing_written g.S.Sink _ (WithStatus c.from_residual.result (WritesVerdicts c.args.options.now c.args.input.bytes.now)) c.args.writer.now
       c.in_err-report.field-0.0 c.from_residual.result c.from_residual.ensures.1),
-  (let P = IsUnchecked (map string_bytes c.args.options.now.properties.items) c.args.input.bytes.now in
+  (let P = IsUnchecked c.args.options.now c.args.input.bytes.now in
       handed_up P P (λ f h. h) c.in_err-report.field-0.0 c.from_residual.result c.in_err-report.ensures.refused c.from_residual.ensures.1),
 )
 
 pub returns-in_err-report-clause-named : goal.returns-in_err-report-clause-named
 returns-in_err-report-clause-named g c =
-    lacked_names (map string_bytes c.args.options.now.properties.items) c.args.input.bytes.now c.from_residual.result (returns-in_err-report-clause-verdicts g c).1
+    lacked_names c.args.options.now c.args.input.bytes.now c.from_residual.result (returns-in_err-report-clause-verdicts g c).1
 
 -- a failed write says nothing of the model
 written_up : {T : Type 0} (P : SolveFault → Type 0) (r : Result T SolveError) (e : SolveError) → IsErrAnd r (λ x. x ≡ e) → e ≡ solve_error.Write (record {})
@@ -42,7 +42,7 @@ returns-in_err-deliver-clause-verdicts g c = (
         no_status (λ (s : Status). s ≡ report.status) _ r c.from_residual-in_err-deliver.ensures.1,
         subst (verdicts report.status) (sym (is ∙ c.as_bytes.ensures.value)) c.in_ok-report.ensures.report,
       )) c.args.writer.now c.deliver.new.writer r c.in_err-deliver.field-0.0 c.from_residual-in_err-deliver.ensures.1 c.in_err-deliver.ensures.text),
-  (written_up (IsUnchecked (map string_bytes c.args.options.now.properties.items) c.args.input.bytes.now) c.from_residual-in_err-deliver.result
+  (written_up (IsUnchecked c.args.options.now c.args.input.bytes.now) c.from_residual-in_err-deliver.result
       c.in_err-deliver.field-0.0 c.from_residual-in_err-deliver.ensures.1 c.in_err-deliver.ensures.failed),
 )
 

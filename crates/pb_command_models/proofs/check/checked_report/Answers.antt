@@ -1,5 +1,6 @@
 -- What is found is told, or the model is refused.
 use Rattle.std.proofs.Common.{◌≡◌, ◌∙◌, ◌++◌, ◌<◌, ℕ, List, Result, Ok, Err, IsErrAnd, length, map, sym, ap, subst, string_bytes}
+use Rattle.std.specs.Prelude.{Contains}
 use Rattle.std.specs.List.{All}
 use Rattle.std.proofs.lemmas.List.{length-map}
 use Rattle.pb_base.specs.OrMemory.{IfFault}
@@ -12,13 +13,13 @@ use Rattle.pb_model_tree.specs.declared.model.Property.{Property}
 use Rattle.pb_model_words.specs.Vocabulary.{Vocabulary}
 use Rattle.pb_model_properties.specs.Asked.{asked_places}
 use Rattle.pb_model_properties.specs.Words.{impossible_in, words_in, words_of}
-use Rattle.pb_command_models.specs.Models.{asked_names, found_lines, ArePropertiesFound, IsUnchecked}
+use Rattle.pb_command_models.specs.Models.{found_lines, ArePropertiesFound, IsUnchecked}
 use Rattle.pb_command_models.specs.ReachedSteps.{impossible_lines, status_of_checked, step_lines}
 use Rattle.pb_command_models.specs.Writes.{ReportsVerdicts}
 use Rattle.pb_command_models.specs.declared.check.CheckReport.{CheckReport}
 use Rattle.pb_command_models.specs.declared.finding.PropertyFinding.{PropertyFinding}
 use Rattle.pb_command_models.specs.declared.step_finding.StepFinding.{StepFinding}
-use Rattle.pb_command_models.proofs.Checked.{model_untold, names_unchecked, step_unchecked, text_untold, unnegated_untold, untold_unchecked}
+use Rattle.pb_command_models.proofs.Checked.{model_unchecked, names_unchecked, step_unchecked, text_unchecked}
 use Rattle.pb_command_models.proofs.Decisions.{found_within, places_within}
 use Rattle.pb_command_models.proofs.check.checked_report.Given.{Over}
 use Rattle.pb_command_models.proofs.check.checked_report.Goals as goal
@@ -46,9 +47,9 @@ returns-in-Err-asked_of g c = record {
   report = tt;
   refused =
       let bytes = c.args.input.bytes.now in
-      let names = map string_bytes c.args.options.now.properties.items in
+      let options = c.args.options.now in
       if_raised c.in-Err-asked_of.error c.raise-in-Err-asked_of.result c.raise-in-Err-asked_of.ensures
-      (λ fault above same h. subst (IsUnchecked names bytes) (sym same) (names_unchecked bytes names (model_form c.in-Ok.solved.typed.model) c.in-Ok.ensures.model.said fault h))
+      (λ fault above same h. subst (IsUnchecked options bytes) (sym same) (names_unchecked bytes options (model_form c.in-Ok.solved.typed.model) c.in-Ok.ensures.model.said fault h))
       (rw c.deref.ensures.value at rw c.deref-2.ensures.value at c.in-Err-asked_of.ensures.refused);
 }
 
@@ -57,31 +58,29 @@ returns-in-Err g c = record {
   report = tt;
   refused =
       let bytes = c.args.input.bytes.now in
-      let names = asked_names c.args.options.now in
+      let options = c.args.options.now in
       if_raised c.in-Err.error c.raise.result c.raise.ensures
-      (λ fault above same h. subst (IsUnchecked names bytes) (sym same) (untold_unchecked bytes names _ (model_untold bytes fault h)))
+      (λ fault above same h. subst (IsUnchecked options bytes) (sym same) (model_unchecked bytes options fault h))
       c.in-Err.ensures.refused;
 }
 
 -- where an error is handed up, the model is refused by its fault
 handed : {options : Checking} {bytes : List ℕ} (e : OrMemory SolveFault) (r : Result CheckReport (OrMemory SolveFault)) → IsErrAnd r (λ x. x ≡ e)
-    → IfFault e (IsUnchecked (asked_names options) bytes) → ReportsVerdicts options bytes r
+    → IfFault e (IsUnchecked options bytes) → ReportsVerdicts options bytes r
 handed e (Ok x) made h = absurd made
-handed {options} {bytes} e (Err x) made h = record { report = tt; refused = subst (λ (y : OrMemory SolveFault). IfFault y (IsUnchecked (asked_names options) bytes)) (sym made) h }
+handed {options} {bytes} e (Err x) made h = record { report = tt; refused = subst (λ (y : OrMemory SolveFault). IfFault y (IsUnchecked options bytes)) (sym made) h }
 
 pub returns-in_err-texts : goal.returns-in_err-texts
-returns-in_err-texts g c = handed c.in_err-texts.field-0.0 c.from_residual.result c.from_residual.ensures.1 (if_fault c.in_err-texts.field-0.0
-    (λ fault h. untold_unchecked c.args.input.bytes.now (asked_names c.args.options.now) fault
-    (text_untold c.args.input.bytes.now (model_form c.in-Ok.solved.typed.model) c.in-Ok.ensures.model.said fault h)) c.in_err-texts.ensures.refused)
-
-pub returns-in_err-findings : goal.returns-in_err-findings
-returns-in_err-findings g c = handed c.in_err-findings.field-0.0 c.from_residual-in_err-findings.result c.from_residual-in_err-findings.ensures.1
-    (if_fault c.in_err-findings.field-0.0 (λ fault h. untold_unchecked c.args.input.bytes.now (asked_names c.args.options.now) fault (unnegated_untold c.args.input.bytes.now fault h))
-    c.in_err-findings.ensures.refused)
+returns-in_err-texts g c =
+    let options = c.args.options.now in
+    let solved = c.in-Ok.solved in
+    handed c.in_err-texts.field-0.0 c.from_residual.result c.from_residual.ensures.1 (if_fault c.in_err-texts.field-0.0
+    (λ fault h. text_unchecked c.args.input.bytes.now solved c.in-Ok.ensures.model options h.0
+    (subst (λ (ks : List ℕ). Contains ks h.0) (asked g (goal.at.returns-in_err-texts g c).After-deref-3) h.1) fault h.2) c.in_err-texts.ensures.refused)
 
 pub returns-in_err-steps : goal.returns-in_err-steps
 returns-in_err-steps g c = handed c.in_err-steps.field-0.0 c.from_residual-in_err-steps.result c.from_residual-in_err-steps.ensures.1 (if_fault c.in_err-steps.field-0.0
-    (step_unchecked c.args.input.bytes.now (asked_names c.args.options.now) (model_form c.in-Ok.solved.typed.model) c.in-Ok.ensures.model.said) c.in_err-steps.ensures.refused)
+    (step_unchecked c.args.input.bytes.now c.in-Ok.solved c.in-Ok.ensures.model c.args.options.now) c.in_err-steps.ensures.refused)
 
 pub lines_of-requires : goal.lines_of-requires
 lines_of-requires g c =
@@ -89,7 +88,7 @@ lines_of-requires g c =
     let items = model.properties.items in
     let said = c.in-Ok.ensures.model.said in
     let within = found_within c.args.options.now.counts said.protocol (model_form model) (length items) (length-map items property_form)
-    c.in_ok-findings.findings.items (c.in_ok-findings.ensures.found.found (model_form model) said c.in_ok-texts.ensures.texts) in
+    c.in_ok-findings.findings.items (c.in_ok-findings.ensures.found (model_form model) said c.in_ok-texts.ensures.texts) in
     subst (λ (ps : List Property). All (λ (x : PropertyFinding). x.place < length ps) c.deref-5.result.now) (sym c.deref-4.ensures.value)
     (subst (All (λ (x : PropertyFinding). x.place < length items)) (sym c.deref-5.ensures.value) within)
 
@@ -103,8 +102,8 @@ returns g c =
     let findings = c.in_ok-findings.findings.items in
     let steps = c.in_ok-steps.steps.items in
     let found : ArePropertiesFound counts said.protocol model (map string_bytes c.args.options.now.properties.items) findings = record {
-      places = c.in_ok-findings.ensures.found.places ∙ (c.in_ok-texts.ensures.places ∙ asked g (goal.at.returns g c).After-deref-3);
-      found = c.in_ok-findings.ensures.found.found model said c.in_ok-texts.ensures.texts;
+      places = c.in_ok-findings.ensures.places ∙ (c.in_ok-texts.ensures.places ∙ asked g (goal.at.returns g c).After-deref-3);
+      found = c.in_ok-findings.ensures.found model said c.in_ok-texts.ensures.texts;
     } in
     let tells = c.args.options.now.status in
     let status = c.status_of_checked-status.ensures ∙ (ap (λ fs. status_of_checked tells fs c.deref-8.result.now) c.deref-7.ensures.value

@@ -25,5 +25,4 @@ returns g c counts =
     record {
       same = finds.same;
       found = ok_more _ _ (λ finding h model said at. h model said (outcome_at model c.args.asked.now at c.in_ok-outcome.outcome c.in_ok-outcome.ensures)) c.decided.result finds.found;
-      refused = finds.refused;
     }

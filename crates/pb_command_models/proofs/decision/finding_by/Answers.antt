@@ -9,7 +9,7 @@ use Rattle.pb_report.specs.declared.answer.Answer.{Answer}
 use Rattle.pb_command_models.specs.Outcomes.{IsEarlyOf, IsModuleAt, IsOutcomeAt, OfModule}
 use Rattle.pb_command_models.specs.declared.outcome.Outcome.TheVariants as outcome
 use Rattle.pb_command_models.specs.declared.property_module.AskedModule.{AskedModule}
-use Rattle.pb_command_models.proofs.Decisions.{found_shown, shown_false, shown_true}
+use Rattle.pb_command_models.proofs.Decisions.{found_shown, has_property, shown_false, shown_true}
 use Rattle.pb_command_models.proofs.Tellings.{ok_more}
 use Rattle.pb_command_models.proofs.decision.finding_by.Goals as goal
 
@@ -28,7 +28,8 @@ module _ (model : ModelForm) (asked : AskedModule) (at : IsModuleAt model asked)
 pub is_denied-requires-after_bounds : goal.is_denied-requires-after_bounds
 is_denied-requires-after_bounds g c κs within =
     let at = c.requires.2 in
-    (c.requires.0, c.requires.1, slice_get_within c.requires.0.properties c.args.asked.now.place at.property at.stands)
+    has_property c.args.input.now c.requires.0 c.requires.1 c.args.asked.now.place
+    (slice_get_within c.requires.0.properties c.args.asked.now.place at.property at.stands)
 
 pub decided-requires-after_bounds : goal.decided-requires-after_bounds
 decided-requires-after_bounds g c κs within =
@@ -48,7 +49,6 @@ returns-in-Whole g c =
       same = finds.same;
       found = ok_more _ _ (λ finding h model said at. h model said
           (answer_here model c.args.asked.now at c.in_ok-early_of.field-0 c.in_ok-early_of.ensures c.in-Whole.answer c.in-Whole.is)) c.decided.result finds.found;
-      refused = finds.refused;
     }
 
 pub returns-in-Shown-true : goal.returns-in-Shown-true
@@ -61,7 +61,6 @@ returns-in-Shown-true g c =
           let truth = truth_here model c.args.asked.now at c.in_ok-early_of.field-0 c.in_ok-early_of.ensures true c.in-Shown-true.field-0 c.in-Shown-true.is c.in-Shown-true.field-0-test in
           found_shown counts said.protocol model said.is_for place at.property at.stands true c.if-options.false
           (shown_true counts said.protocol model said.is_for place at.property at.stands truth);
-      refused = tt;
     }
 
 pub returns-then-denied : goal.returns-then-denied
@@ -74,11 +73,10 @@ returns-then-denied g c =
           let truth = truth_here model c.args.asked.now at c.in_ok-early_of.field-0 c.in_ok-early_of.ensures false c.in-Shown-false.field-0 c.in-Shown-false.is c.in-Shown-false.field-0-test in
           found_shown counts said.protocol model said.is_for place at.property at.stands false c.if-options.false
           (shown_false counts said.protocol model said.is_for place at.property at.stands c.args.input.now said.read (c.in_ok-denied-in-Shown-false.ensures.denied c.if-denied.true) truth);
-      refused = tt;
     }
 
 pub returns-else-denied : goal.returns-else-denied
 returns-else-denied g c =
     let finds = c.decided_by_all-in-Shown-false.ensures c.args.options.counts in
     let same = c.is_denied.ensures.same in
-    record { same = finds.same ∙ same; found = rw same at finds.found; refused = rw same at finds.refused }
+    record { same = finds.same ∙ same; found = rw same at finds.found }

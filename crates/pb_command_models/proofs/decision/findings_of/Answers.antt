@@ -1,15 +1,14 @@
 -- One more is found.
-use Rattle.std.proofs.Common.{rules, ◌≡◌, ◌∙◌, ◌++◌, ◌∷◌, ℕ, [], length, map, ap, refl, sym}
+use Rattle.std.proofs.Common.{◌≡◌, ◌∙◌, ◌++◌, ◌∷◌, ℕ, [], length, map, ap, refl, sym}
 use Rattle.std.specs.List.{All}
 use Rattle.std.proofs.lemmas.Iterator.Adapters.{YieldsList-from_vec}
 use Rattle.std.proofs.lemmas.Iterator.Consumers.{YieldsList-turn, YieldsList-end}
 use Rattle.std.proofs.lemmas.List.{map-id, map_push}
-use Rattle.pb_command_faults.proofs.HandedUp.{handed_on}
 use Rattle.pb_model_properties.specs.Said.{IsModelOf}
 use Rattle.pb_model_tree.specs.Form.{ModelForm}
 use Rattle.pb_command_models.specs.declared.finding.PropertyFinding.{PropertyFinding}
 use Rattle.pb_command_models.specs.declared.property_text.AskedText.{AskedText}
-use Rattle.pb_command_models.specs.Models.{IsPropertyFound, IsUnnegated}
+use Rattle.pb_command_models.specs.Models.{IsPropertyFound}
 use Rattle.pb_command_models.specs.Outcomes.{IsTextAt}
 use Rattle.pb_command_models.proofs.Decisions.{still_has}
 use Rattle.pb_command_models.proofs.Orders.{all_pushed, of_item}
@@ -31,15 +30,6 @@ finding_by-requires-after_bounds g c κs within =
     let given = c.requires in
     let at = text_taken g (goal.at.finding_by-requires-after_bounds g c).In-Some given.0 given.2 in
     still_has _ c.texts.invariant.same (given.0, given.1, c.in_ok-made.ensures.compiled given.0 at)
-
-pub returns-in_err-finding : goal.returns-in_err-finding
-returns-in_err-finding g c = record {
-  found = search rules;
-  refused =
-      let P = IsUnnegated c.args.input.bytes.now in
-      handed_on P P (λ f h. h) c.in_err-finding.field-0.0 c.from_residual-in_err-finding.result (rw c.texts.invariant.same at c.in_err-finding.ensures.refused)
-      c.from_residual-in_err-finding.ensures.1;
-}
 
 module _ (g : Over) (c : In_ok-push g) where
   -- one place more is found
@@ -81,12 +71,9 @@ texts-preserved g c =
     }
 
 pub returns : goal.returns
-returns g c = record {
-  found =
-      let given = c.into_iter-asked-iterator.ensures.into_iter_gives in
-      let ended = YieldsList-end (YieldsList-from_vec {s = c.into_iter-asked-iterator.result} c.args.texts.items given.0 (given.1 ∙ c.args.texts.ok.0))
-      c.texts.yielded c.texts.asked-iterator c.texts.yielded_by _ c.next.new.self c.in-None.is c.next.ensures.steps in
-      let all : c.texts.yielded ≡ c.args.texts.items = sym (map-id c.texts.yielded) ∙ ended.0 in
-      record { places = c.texts.invariant.places ∙ ap (map (λ (a : AskedText). a.place)) all; found = c.texts.invariant.found };
-  refused = tt;
-}
+returns g c =
+    let given = c.into_iter-asked-iterator.ensures.into_iter_gives in
+    let ended = YieldsList-end (YieldsList-from_vec {s = c.into_iter-asked-iterator.result} c.args.texts.items given.0 (given.1 ∙ c.args.texts.ok.0))
+    c.texts.yielded c.texts.asked-iterator c.texts.yielded_by _ c.next.new.self c.in-None.is c.next.ensures.steps in
+    let all : c.texts.yielded ≡ c.args.texts.items = sym (map-id c.texts.yielded) ∙ ended.0 in
+    record { places = c.texts.invariant.places ∙ ap (map (λ (a : AskedText). a.place)) all; found = c.texts.invariant.found }

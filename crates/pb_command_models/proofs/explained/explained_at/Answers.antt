@@ -1,37 +1,33 @@
 -- The text of the property at the place is explained, or the model isn't.
-use Rattle.std.proofs.Common.{subst, sym, inr}
-use Rattle.std.specs.Prelude.{Contains}
+use Rattle.std.proofs.Common.{subst, sym}
 use Rattle.pb_base.proofs.Faults.{if_raised}
 use Rattle.pb_text_tree.specs.Form.{spec_form}
 use Rattle.pb_model_tree.specs.Form.{PropertyForm, model_form, property_form}
 use Rattle.pb_command_faults.specs.Errors.{fault_of_model}
-use Rattle.pb_model_properties.specs.Refusals.{IsRefusedText, told_places}
+use Rattle.pb_model_properties.specs.Refusals.{IsRefusedText}
 use Rattle.pb_model_faults.specs.declared.ModelFault.{ModelFault}
 use Rattle.pb_model_faults.specs.declared.ModelFault.TheVariants as model_fault
 use Rattle.pb_model_properties.specs.declared.solved.SolvedModel.{SolvedModel}
 use Rattle.pb_model_properties.specs.Said.{IsTextOf}
 use Rattle.pb_typing.specs.declared.typed.Typed.{Typed}
-use Rattle.pb_command_models.specs.Models.{WhereUnexplained}
-use Rattle.pb_command_models.proofs.PropertyVerdicts.{contains_at, some_property, text_at_place, unexplained_property}
+use Rattle.pb_command_models.specs.Outcomes.{IsUnexplainedAt, IsUnexplainedText}
+use Rattle.pb_command_models.proofs.PropertyVerdicts.{some_property, text_at_place, unexplained_property}
 use Rattle.pb_command_models.proofs.explained.explained_at.Goals as goal
 
--- a model with a property whose text isn't well typed isn't explained
-text_unexplained : (solved : SolvedModel) (p : PropertyForm) → Contains (model_form solved.typed.model).properties p → (fault : ModelFault) → IsRefusedText solved p fault
-    → WhereUnexplained (model_form solved.typed.model) (fault_of_model fault)
-text_unexplained solved p among (model_fault.Typing fault) h = λ bytes said. inr (model_form solved.typed.model, said, (p, told_places solved.names, among, h))
-text_unexplained solved p among (model_fault.Text fault) h = absurd h
-text_unexplained solved p among model_fault.NoProperty h = absurd h
+-- a text that isn't well typed isn't explained
+refused_text : (solved : SolvedModel) (p : PropertyForm) (fault : ModelFault) → IsRefusedText solved p fault → IsUnexplainedText solved p (fault_of_model fault)
+refused_text solved p (model_fault.Typing fault) h = h
+refused_text solved p (model_fault.Text fault) h = absurd h
+refused_text solved p model_fault.NoProperty h = absurd h
 
 pub returns-in-Err : goal.returns-in-Err
 returns-in-Err g c = record {
   explained = tt;
   refused =
       let solved = c.args.solved.now in
-      let model = model_form solved.typed.model in
       let some = some_property property_form solved.typed.model.properties.items c.args.place c.requires in
       if_raised c.in-Err.error c.raise.result c.raise.ensures
-      (λ fault above same h. subst (WhereUnexplained model) (sym same)
-      (text_unexplained solved some.0 (contains_at model.properties c.args.place some.0 some.1) fault (h some.0 some.1)))
+      (λ fault above same h. (some.0, some.1, subst (IsUnexplainedText solved some.0) (sym same) (refused_text solved some.0 fault (h some.0 some.1))))
       c.in-Err.ensures.refused;
 }
 
@@ -39,13 +35,15 @@ pub returns-in-Err-explained_typed : goal.returns-in-Err-explained_typed
 returns-in-Err-explained_typed g c = record {
   explained = tt;
   refused =
-      let model = model_form c.args.solved.now.typed.model in
+      let solved = c.args.solved.now in
+      let model = model_form solved.typed.model in
+      let place = c.args.place in
       let text = spec_form c.in-Ok.typed.spec in
-      let some = some_property property_form c.args.solved.now.typed.model.properties.items c.args.place c.requires in
-      let at = text_at_place model c.args.place text some c.in-Ok.ensures.text in
+      let some = some_property property_form solved.typed.model.properties.items place c.requires in
+      let at = text_at_place model place text some c.in-Ok.ensures.text in
       if_raised c.in-Err-explained_typed.error c.error_of_property.result c.error_of_property.ensures
-      (λ fault above same h. subst (WhereUnexplained model) (sym same)
-      (unexplained_property model c.args.place text at c.name_place-here.result (c.name_place-here.ensures at.property at.stands) fault h))
+      (λ fault above same h. subst (IsUnexplainedAt solved place) (sym same)
+      (unexplained_property solved place text at c.name_place-here.result (c.name_place-here.ensures at.property at.stands) fault h))
       c.in-Err-explained_typed.ensures.refused;
 }
 

@@ -6,13 +6,13 @@ use Rattle.pb_command_models.specs.Outcomes.{IsExplainedAt, IsOutcome, IsOutcome
 use Rattle.pb_command_texts.specs.declared.explained.ExplainedText.{ExplainedText}
 use Rattle.pb_command_models.specs.declared.outcome.Outcome.{Outcome}
 use Rattle.pb_command_models.specs.declared.property_module.PropertyModule.TheVariants as property_module
-use Rattle.pb_command_models.proofs.Decisions.{found_shown, still_has, shown_false, shown_true}
+use Rattle.pb_command_models.proofs.Decisions.{found_shown, has_property, still_has, shown_false, shown_true}
 use Rattle.pb_command_models.proofs.PropertyVerdicts.{some_at}
 use Rattle.pb_command_models.proofs.Tellings.{explained_truth, ok_more}
 use Rattle.pb_command_models.proofs.explained_finding.explained_finding.Goals as goal
 
 pub is_denied-requires-after_bounds : goal.is_denied-requires-after_bounds
-is_denied-requires-after_bounds g c κs within = (c.requires.0, c.requires.1, c.requires.2.0)
+is_denied-requires-after_bounds g c κs within = has_property c.args.input.now c.requires.0 c.requires.1 c.args.asked.place c.requires.2.0
 
 -- what becomes of the module becomes of the property at the place
 outcome_at : (model : ModelForm) (e : ExplainedText) (place : ℕ) → place < length model.properties → IsExplainedAt model place e
@@ -30,7 +30,6 @@ returns-then-explained g c = record {
       found_shown false said.protocol model said.is_for c.args.asked.place some.0 some.1 true refl
       (shown_true false said.protocol model said.is_for c.args.asked.place some.0 some.1
       (sym c.if-explained.true ∙ explained_truth model some.0 c.args.explained.now (at some.0 some.1)));
-  refused = tt;
 }
 
 pub returns-then-denied : goal.returns-then-denied
@@ -41,7 +40,6 @@ returns-then-denied g c = record {
       found_shown false said.protocol model said.is_for c.args.asked.place some.0 some.1 false refl
       (shown_false false said.protocol model said.is_for c.args.asked.place some.0 some.1 c.args.input.now said.read (c.in_ok-denied.ensures.denied c.if-denied.true)
       (sym c.if-explained.false ∙ explained_truth model some.0 c.args.explained.now (at some.0 some.1)));
-  refused = tt;
 }
 
 pub decided-requires-after_bounds : goal.decided-requires-after_bounds
@@ -57,5 +55,4 @@ returns g c =
       same = finds.same ∙ same;
       found = ok_more _ _ (λ finding h model said (within, at). h model said
           (outcome_at model c.args.explained.now c.args.asked.place within at c.in_ok-outcome.outcome c.in_ok-outcome.ensures)) c.decided.result (rw same at finds.found);
-      refused = rw same at finds.refused;
     }

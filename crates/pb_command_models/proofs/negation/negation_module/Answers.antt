@@ -1,63 +1,60 @@
--- The negation stands at the place of the property.
-use Rattle.std.proofs.Common.{rules, ◌≡◌, ℕ, Some, subst, sym, arith}
-use Rattle.std.specs.List.{slice_get}
-use Rattle.std.proofs.lemmas.List.{length-map}
-use Rattle.pb_base.proofs.Faults.{if_raised}
-use Rattle.pb_command_faults.proofs.HandedUp.{handed_on}
-use Rattle.pb_model_tree.specs.Form.{model_form, property_form}
-use Rattle.pb_protocol_negation.specs.Negated.{negated_protocol}
-use Rattle.pb_model_properties.specs.Said.{IsModelFor}
-use Rattle.pb_command_models.specs.Models.{IsUnnegated}
-use Rattle.pb_command_models.specs.Outcomes.{AreNegations, IsUntyped}
-use Rattle.pb_command_models.proofs.Checked.{negations_unnegated, text_unnegated}
-use Rattle.pb_command_models.proofs.Decisions.{negation_at, negation_within, same_negations}
+-- The module of the negation that is known, or how it is refused.
+use Rattle.std.proofs.Common.{rules, Result, subst, sym}
+use Rattle.std.specs.Prelude.{IfOk}
+use Rattle.std.specs.declared.alloc.AllocError.{AllocError}
+use Rattle.pb_model_tree.specs.Form.{model_form}
+use Rattle.pb_model_properties.specs.Negations.{IsNegationOf}
+use Rattle.pb_command_models.specs.Outcomes.{IsNegationAt, IsRule}
+use Rattle.pb_command_models.specs.declared.property_module.PropertyModule.{PropertyModule}
+use Rattle.pb_command_models.proofs.Known.{first_within, known_negation}
+use Rattle.pb_command_models.proofs.Negations.{negation_ill_typed, negation_module, negation_refused, refused_rule, text_rule}
+use Rattle.pb_command_models.proofs.Tellings.{ok_more}
 use Rattle.pb_command_models.proofs.negation.negation_module.Goals as goal
-use Rattle.pb_command_models.proofs.negation.negation_module.Goals.{In-Some}
+use Rattle.pb_command_models.proofs.negation.negation_module.Goals.{In-Some, in-Ok-text_at, in-Err-Memory-text_at, in-Err-Refused-text_at}
 
--- what was read is a model of the negations
-model_negated : (c : In-Some) → IsModelFor (negated_protocol c.requires.1.protocol) (model_form c.in-Some.read.typed.model)
-model_negated c =
-    let read = subst (AreNegations c.input.inside.input.bytes.now) c.in-Some.is c.in-Ok.ensures.read in
-    same_negations c.args.input.now c.requires.1.protocol c.requires.1.read c.in-Some.read (subst (λ bs. AreNegations bs (Some c.in-Some.read)) c.input.view_is read)
+-- the negation that is known is that of the property at the place
+known : (c : In-Some) → IsNegationOf c.args.input.now c.args.place c.in-Some.negation.solved
+known c =
+    let read = rw c.input.view_is at c.in-Ok.ensures.read in
+    known_negation c.args.input.now c.args.place _ c.in-Some.negation c.in-Some.is read c.in-Ok.ensures.there
 
-pub asked_text-requires : goal.asked_text-requires
-asked_text-requires c =
-    let said = c.requires.1 in
-    let is_for = model_negated (goal.at.asked_text-requires c).In-Some in
-    let there = negation_within said.protocol c.requires.0 (model_form c.in-Some.read.typed.model) said.is_for is_for c.args.place c.requires.2 in
-    let long = length-map c.in-Some.read.typed.model.properties.items property_form in
-    omega (arith, there, long)
+pub excess_by-requires : goal.excess_by-requires
+excess_by-requires c = subst IsRule (sym c.in-Err-Refused.fault-is)
+    (refused_rule c.args.input.now c.args.place c.in-Err-Refused.fault (rw c.input.view_is at rw c.in-Err-Refused.field-0-is at c.in-Err-Refused.ensures.refused))
 
-pub returns-in-Err : goal.returns-in-Err
-returns-in-Err c = record {
+pub excess_by-requires-in-Err-Refused-text_at : goal.excess_by-requires-in-Err-Refused-text_at
+excess_by-requires-in-Err-Refused-text_at c =
+    let of = known (goal.at.excess_by-requires-in-Err-Refused-text_at c).In-Some in
+    subst IsRule (sym c.in-Err-Refused-text_at.fault-is)
+    (text_rule c.in-Some.negation.solved of.negation c.in-Err-Refused-text_at.fault
+    ((rw c.in-Err-Refused-text_at.field-0-is at c.in-Err-Refused-text_at.ensures.refused) of.negation of.first))
+
+pub text_at-requires : goal.text_at-requires
+text_at-requires c = first_within c.args.input.now c.args.place c.in-Some.negation.solved (known (goal.at.text_at-requires c).In-Some)
+
+pub returns-in-Err-Refused : goal.returns-in-Err-Refused
+returns-in-Err-Refused c = record {
   same = search rules;
-  compiled = tt;
-  refused =
-      if_raised c.in-Err.error c.raise.result c.raise.ensures
-      (λ fault above same h. subst (IsUnnegated c.args.input.now) (sym same) (negations_unnegated c.args.input.now fault h)) (rw c.input.view_is at c.in-Err.ensures.refused);
-}
-
-pub returns-in_err-asked : goal.returns-in_err-asked
-returns-in_err-asked c = record {
-  same = search rules;
-  compiled = search rules;
-  refused =
-      let bytes = c.args.input.now in
-      let model = model_form c.in-Some.read.typed.model in
-      let is_for = model_negated (goal.at.returns-in_err-asked c).In-Some in
-      handed_on (IsUntyped model) (IsUnnegated bytes) (text_unnegated bytes c.requires.1.protocol c.requires.1.read model is_for)
-      c.in_err-asked.field-0.0 c.from_residual.result c.in_err-asked.ensures.refused c.from_residual.ensures.1;
+  compiled = negation_refused c.args.input.now c.args.place c.in-Err-Refused.fault c.excess_by.result
+      (rw c.input.view_is at rw c.in-Err-Refused.field-0-is at c.in-Err-Refused.ensures.refused)
+      (rw c.in-Err-Refused.fault-is at c.excess_by.ensures);
 }
 
 pub returns : goal.returns
 returns c = record {
   same = search rules;
   compiled =
-      let is_for = model_negated (goal.at.returns c).In-Some in
-      let model = model_form c.in-Some.read.typed.model in
-      let at = c.in_ok-asked.ensures.text in
-      let there = subst (λ (k : ℕ). slice_get model.properties k ≡ Some at.property) c.in_ok-asked.ensures.place at.stands in
-      negation_at c.negations_erase.ensures.protocols c.negations_erase.ensures.satisfaction c.args.input.now c.requires.1.protocol c.requires.1.read model is_for
-      c.args.place at.property there c.in_ok-compiled.compiled (c.in_ok-compiled.ensures model at.property at.text);
-  refused = tt;
+      let bytes = c.args.input.now in
+      let place = c.args.place in
+      let solved = c.in-Some.negation.solved in
+      let of = known (goal.at.returns c).In-Some in
+      let P = λ (r : Result PropertyModule AllocError). IfOk r (IsNegationAt bytes place) in
+      elim c.match-text_at.branch [
+        | in-Ok-text_at w ↦ subst P (sym w.result-is) (ok_more _ _ (λ compiled made. negation_module bytes place solved of compiled
+            (made (model_form solved.typed.model) of.negation (w.in-Ok-text_at.ensures.text of.negation of.first))) w.property_module.result w.property_module.ensures)
+        | in-Err-Memory-text_at w ↦ subst P (sym w.result-is) tt
+        | in-Err-Refused-text_at w ↦ subst P (sym w.result-is) (negation_ill_typed bytes place solved of w.in-Err-Refused-text_at.fault w.excess_by-in-Err-Refused-text_at.result
+            ((rw w.in-Err-Refused-text_at.field-0-is at w.in-Err-Refused-text_at.ensures.refused) of.negation of.first)
+            (rw w.in-Err-Refused-text_at.fault-is at w.excess_by-in-Err-Refused-text_at.ensures))
+      ];
 }

@@ -1,8 +1,9 @@
 -- What is found of one more step.
-use Rattle.std.proofs.Common.{◌≡◌, ◌∙◌, ◌+◌, ℕ, [], ◌∷◌, ap, length, length-append, arith, rules}
+use Rattle.std.proofs.Common.{◌≡◌, ◌∙◌, ◌+◌, ℕ, true, [], ◌∷◌, ap, length, length-append, arith, rules}
 use Rattle.std.proofs.lemmas.List.{length-map}
 use Rattle.pb_model_tree.specs.Form.{model_form, step_form}
-use Rattle.pb_command_models.specs.ReachedSteps.{AreStepsFound}
+use Rattle.pb_command_faults.proofs.HandedUp.{handed_on}
+use Rattle.pb_command_models.specs.ReachedSteps.{AreStepsFound, IsUntypedStep}
 use Rattle.pb_command_models.proofs.StepFindings.{module_of_step, nothing_found, step_pushed}
 use Rattle.pb_command_models.proofs.reached_steps.steps_on.Goals as goal
 
@@ -44,3 +45,15 @@ returns g c = record {
       search rules;
   refused = tt;
 }
+
+pub returns-in_err-asked : goal.returns-in_err-asked
+returns-in_err-asked g c = record {
+  found = search rules;
+  refused =
+      let solved = c.args.solved.now in
+      handed_on (IsUntypedStep solved) (λ fault. (c.args.options.now.counts ≡ true) × IsUntypedStep solved fault) (λ fault h. (counted, h))
+      c.in_err-asked.field-0.0 c.from_residual.result c.in_err-asked.ensures.refused c.from_residual.ensures.1;
+}
+  where
+    counted : c.args.options.now.counts ≡ true
+    counted = c.if-not-options.false

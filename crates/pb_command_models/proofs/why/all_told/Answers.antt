@@ -1,11 +1,11 @@
 -- Each turn tells one property more.
-use Rattle.std.proofs.Common.{rules, ◌∙◌, ℕ, ◌<◌, ◌≤◌, List, ◌++◌, length, string_bytes, ap, sym, subst, arith}
+use Rattle.std.proofs.Common.{rules, ◌∙◌, ℕ, ◌<◌, ◌≤◌, List, [], ◌++◌, length, string_bytes, ap, refl, sym, subst, arith}
 use Rattle.std.proofs.lemmas.List.{length-map}
 use Rattle.pb_model_tree.specs.Form.{model_form, property_form}
-use Rattle.pb_model_properties.specs.Said.{IsModelOf}
-use Rattle.pb_model_properties.specs.Words.{words_in}
+use Rattle.pb_model_properties.specs.Words.{words_in, IsToldModelOf}
 use Rattle.pb_command_faults.proofs.HandedUp.{handed_on}
 use Rattle.pb_command_models.specs.Models.{IsUnexplained}
+use Rattle.pb_command_models.specs.Why.{IsUnexplainedOf}
 use Rattle.pb_command_models.proofs.Decisions.{same_at, same_lengths}
 use Rattle.pb_command_models.proofs.PropertyVerdicts.{some_property}
 use Rattle.pb_command_models.proofs.Tellings.{all_are_told, next_told}
@@ -33,14 +33,19 @@ loop-place-preserved g c =
     }
 
 pub told_at-requires-clause-said : goal.told_at-requires-clause-said
-told_at-requires-clause-said g c κs within = subst (λ bs. IsModelOf bs (model_form c.args.solved.now.typed.model)) (sym c.loop-place.invariant.same) c.requires
+told_at-requires-clause-said g c κs within = subst (λ bs. IsToldModelOf bs c.args.solved.now) (sym c.loop-place.invariant.same) c.requires
 
 pub returns-in_err-told : goal.returns-in_err-told
 returns-in_err-told g c = record {
   told = search rules;
   refused =
-      let P = IsUnexplained c.args.input.bytes.now in
-      handed_on P P (λ f h. h) c.in_err-told.field-0.0 c.from_residual.result (rw c.loop-place.invariant.same at c.in_err-told.ensures.refused) c.from_residual.ensures.1;
+      let bytes = c.args.input.bytes.now in
+      let model = c.args.solved.now.typed.model in
+      let place = c.loop-place.place in
+      let within : place < length model.properties.items = omega (arith, c.len-place-end.ensures, c.loop-place-test.true, model.properties.ok.0) in
+      let some = some_property property_form model.properties.items place within in
+      handed_on (IsUnexplainedOf bytes (model_form model) place) (IsUnexplained [] bytes) (λ f h. h [] some.0 some.1 refl)
+      c.in_err-told.field-0.0 c.from_residual.result (rw c.loop-place.invariant.same at c.in_err-told.ensures.refused) c.from_residual.ensures.1;
 }
 
 pub returns : goal.returns

@@ -4,9 +4,10 @@ use Rattle.std.specs.Prelude.{option_copied}
 use Rattle.pb_model_tree.specs.Form.{model_form}
 use Rattle.pb_model_words.specs.Vocabulary.{Vocabulary}
 use Rattle.pb_model_properties.specs.Words.{words_of}
+use Rattle.pb_command_models.specs.Models.{asked_by}
 use Rattle.pb_command_models.specs.Why.{IsUnshown, TellAsked, WritesWhy}
 use Rattle.pb_command_modules.proofs.Deliveries.{less_delivered, nothing_written, only_write}
-use Rattle.pb_command_models.proofs.Checked.{model_untold, untold_unexplained}
+use Rattle.pb_command_models.proofs.Checked.{model_unexplained}
 use Rattle.pb_command_models.proofs.Tellings.{missed, no_name, never_missed_model, unshown}
 use Rattle.pb_command_faults.proofs.HandedUp.{handed_up, refused_up}
 use Rattle.pb_model_properties.specs.Refusals.{IsRefusedModel}
@@ -20,7 +21,7 @@ returns-in_err-solved-clause-told g c = (
   (let name = option_copied c.args.property in
       let bytes = c.args.input.bytes.now in
       refused_up (λ f above. above ≡ fault_of_model f) (IsRefusedModel bytes) (IsUnshown name bytes)
-      (λ f above same h. subst (IsUnshown name bytes) (sym same) (unshown name bytes (fault_of_model f) (untold_unexplained bytes (fault_of_model f) (model_untold bytes f h))))
+      (λ f above same h. subst (IsUnshown name bytes) (sym same) (unshown name bytes (fault_of_model f) (model_unexplained bytes (asked_by name) f h)))
       c.in_err-solved.field-0.0 c.from_residual.result c.in_err-solved.ensures.refused c.from_residual.ensures.1),
 )
 

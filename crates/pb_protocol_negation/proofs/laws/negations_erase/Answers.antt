@@ -1,5 +1,5 @@
 use Rattle.pb_protocol_negation.proofs.Erased.{negations_erase, formulas_erase, negated_properties_tell}
-use Rattle.pb_protocol_negation.proofs.WithNegations.{satisfaction_is_kept}
+use Rattle.pb_protocol_negation.proofs.OtherProperties.{satisfaction_is_kept}
 use Rattle.pb_protocol_negation.proofs.laws.negations_erase.Goals as goal
 
 pub returns : goal.returns

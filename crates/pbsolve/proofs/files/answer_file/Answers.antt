@@ -2,6 +2,7 @@
 use Rattle.std.proofs.Common.{◌≡◌, ◌≢◌, ◌≤◌, ℕ, length, [], true, false, List, Option, Result, Ok, Err, ap, refl, rules, subst, sym}
 use Rattle.std.specs.Prelude.{IfOk}
 use Rattle.pb_base.specs.declared.limits.TheConstants.{MAX_INPUT_BYTES}
+use Rattle.pb_base.specs.OrMemory.{IfFault}
 use Rattle.pb_base.specs.declared.or_memory.OrMemory.{OrMemory}
 use Rattle.pb_base.specs.declared.or_memory.OrMemory.TheVariants as or_memory
 use Rattle.pb_sorts.specs.Source.{IsWhole}
@@ -24,7 +25,7 @@ use Rattle.pbsolve.specs.declared.run_error.RunError.{RunError}
 use Rattle.pbsolve.specs.Endings.{IsRefusedInput, LeavesFiles, is_lost_file}
 use Rattle.pbsolve.specs.Errors.{run_error_of_input, run_error_of_solving}
 use Rattle.pbsolve.specs.Program.{is_write_fault}
-use Rattle.pbsolve.specs.Requests.{Answers, IsInputOf, OfInput, RefusesBytes}
+use Rattle.pbsolve.specs.Requests.{Answers, IsInputOf, OfInput, RefusesBytes, reads_input}
 use Rattle.pbsolve.proofs.Answering.{answer_refused, handed, input_refused, input_unwritten, left_up}
 use Rattle.pbsolve.proofs.files.answer_file.Given.{Over}
 use Rattle.pbsolve.proofs.files.answer_file.Goals as goal
@@ -69,6 +70,15 @@ input_of_file (Page page) known bytes named short whole = absurd (named refl)
 input_of_file (Check options) known bytes named short whole = (short, whole)
 input_of_file (Input task) known bytes named short whole = (short, whole)
 
+named_reads : (request : Request) → request_files request ≢ [] → reads_input request ≡ true
+named_reads (Page page) named = absurd (named refl)
+named_reads (Check options) named = refl
+named_reads (Input task) named = refl
+
+whatever_fault : {P : Type 0} (e : OrMemory InputFault) → P → IfFault e (λ _. P)
+whatever_fault (or_memory.Refused fault) p = p
+whatever_fault or_memory.Memory p = tt
+
 module _ (g : Over) (c : After-as_slice-bytes g) where
   -- the bytes that were read are those of the request
   of_file : (P : Request → List ℕ → Type 0) → P c.args.request.now c.as_slice-bytes.result.now
@@ -99,7 +109,8 @@ returns-in_err-input g c =
     let name = c.args.name.now in
     record {
       written = left_nothing is_write_fault g.O.Sink (WithStatus r (AnswersFileBytes c.args.request.now known)) c.args.out.now r error made (input_unwritten failure);
-      refused = handed (IsRefusedInput c.args.request.now known) r error made (input_refused c.args.request.now known failure (λ same. c.in_err-input.ensures.too_long (ap Err same)));
+      refused = handed (IsRefusedInput c.args.request.now known) r error made
+          (input_refused c.args.request.now known failure (whatever_fault failure (named_reads c.args.request.now c.requires.named)) (λ same. c.in_err-input.ensures.too_long (ap Err same)));
       lost = handed (λ e. is_lost_file e ≡ true → shelf.has_failed read name ≡ true) r error made
           (input_lost (shelf.has_failed read name ≡ true) failure (λ same. c.in_err-input.ensures.failed (ap Err same)));
       answered = search rules;

@@ -44,7 +44,9 @@ returns-in_err-input g c =
     record {
       written = left_nothing is_write_fault g.O.Sink (WithEnd r (AnswersInput c.args.request.now known)) c.args.out.now r error made (input_unwritten failure);
       read = search rules;
-      refused = handed (IsRefusedInput c.args.request.now known) r error made (input_refused c.args.request.now known failure (λ same. c.in_err-input.ensures.too_long (ap Err same)));
+      unread = c.in_err-input.ensures.unread;
+      refused = handed (IsRefusedInput c.args.request.now known) r error made
+          (input_refused c.args.request.now known failure c.in_err-input.ensures.refused (λ same. c.in_err-input.ensures.too_long (ap Err same)));
       left = handed (λ e. LeavesReader e source c.args.reader.now c.input_for.new.reader) r error made
           (input_leaves source c.args.reader.now c.input_for.new.reader failure (λ same. c.in_err-input.ensures.failed (ap Err same)) c.in_err-input.ensures.err_failed);
       named = λ is. absurd (input_is_no_usage failure (cc (sym is_made.1, sym is_made.2, is)));
@@ -66,6 +68,7 @@ returns-in_err-status g c =
           (λ text h. (h.0, [], no_status (λ (e : Ended). (e.status ≡ h.0) × (e.diagnostics.items ≡ [])) _ r made, (of_input g at (λ q bytes. Answers q bytes h.0 text) h.2, refl)))
           c.args.out.now c.answer.new.out failure (left g.O.Sink answer c.args.out.now c.answer.new.out c.answer.result failure c.in_err-status.was c.answer.ensures.written) r made;
       read = search rules;
+      unread = c.in_ok-input.ensures.unread;
       refused = handed (IsRefusedInput request known) r error made
           (answer_refused request known failure (of_input g at (λ q bytes. IfInputFault failure (RefusesBytes q bytes)) c.in_err-status.ensures.refused));
       left = handed (λ e. LeavesReader e g.R.Source c.args.reader.now c.input_for.new.reader) r error made
@@ -92,6 +95,7 @@ returns g c =
           )) c.args.out.now c.answer.new.out
           (delivered g.O.Sink answer c.args.out.now c.answer.new.out c.answer.result status c.in_ok-status.was c.answer.ensures.written);
       read = c.in_ok-input.ensures.read;
+      unread = c.in_ok-input.ensures.unread;
       refused = tt;
       left = tt;
       named = λ is. absurd (cc is);

@@ -1,4 +1,4 @@
--- A protocol with negations satisfies what the protocol does: nothing but its properties differs.
+-- A protocol with other properties satisfies what the protocol does: nothing else differs.
 use Rattle.std.proofs.Common.{◌≡◌, Bool, not, ◌&&◌, ◌||◌, List, [], ◌∷◌, map, filter, flat_map, refl, ap, ◌∙◌, Some, None}
 use Rattle.std.specs.Prelude.{Option}
 use Rattle.std.specs.List.{list_any, list_all}
@@ -11,16 +11,15 @@ use Rattle.pb_text_meaning.specs.Formula.{carriers_of}
 use Rattle.pb_text_meaning.specs.Value.{Assignment, quantified}
 use Rattle.pb_model_meaning.specs.Steps.{State}
 use Rattle.pb_model_meaning.specs.Satisfaction.{States, Valuation, with_set, no_sets}
-use Rattle.pb_protocol_meaning.specs.Syntax.{Step, StepSet, Formula, Protocol}
+use Rattle.pb_protocol_meaning.specs.Syntax.{Step, StepSet, Formula, Property, Protocol}
 use Rattle.pb_protocol_meaning.specs.Meaning.{no_functions, meaning}
 use Rattle.pb_protocol_meaning.specs.Steps.{data_of, is_state, initial_state, is_enabled, next_state, fits, has_step, successors}
 use Rattle.pb_protocol_meaning.specs.Satisfaction.{state_count, holds_at, satisfying}
-use Rattle.pb_protocol_negation.specs.Negation.{with_negations}
 use Rattle.pb_protocol_negation.specs.Laws.{SatisfactionIsKept}
 
-module _ (m : Protocol) where
+module _ (m : Protocol) (properties : List Property) where
   abbrev w : Protocol
-  w = with_negations m
+  w = record m { properties = properties }
 
   fits-same : (c : Assignment) (xs : List (Option Term)) (vs : Tuple) → fits w c xs vs ≡ fits m c xs vs
   fits-same c [] [] = refl
@@ -79,5 +78,5 @@ module _ (m : Protocol) where
       fun_ext (λ s. ap (λ (p : Assignment → Bool). quantified (data_of m) q xs p c) (fun_ext (λ d. ap (λ (S : States). S s) (satisfying-same f V d))))
 
 pub satisfaction_is_kept : SatisfactionIsKept
-satisfaction_is_kept m f =
-    ap (λ (S : States). is_state m (initial_state m) && S (initial_state m)) (satisfying-same m f no_sets [])
+satisfaction_is_kept m properties f =
+    ap (λ (S : States). is_state m (initial_state m) && S (initial_state m)) (satisfying-same m properties f no_sets [])
