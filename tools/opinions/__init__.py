@@ -1,0 +1,1 @@
+"""What the scripts share that bring models to other model checkers and back, for second opinions."""
