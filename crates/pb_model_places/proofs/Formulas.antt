@@ -146,7 +146,7 @@ keeps-connections Node Bound node bound = keeps-connected (connected_by FormulaF
 
 -- ---- words
 
-keeps-word : {W : Type 0} (of : List ℕ → Option W) → Keeps [] (λ (word : W × Place). word.1 ∷ []) (Word of)
+pub keeps-word : {W : Type 0} (of : List ℕ → Option W) → Keeps [] (λ (word : W × Place). word.1 ∷ []) (Word of)
 keeps-word of s word z h =
     let a = keeps-one k.Name s h.0 z h.1 in
     record { front = a.front; tokens = a.tokens; among = λ p e. a.among p (subst (λ q. Contains (q ∷ []) p) h.3 e) }

@@ -44,10 +44,11 @@ none-numbered line n p some =
     let same = (Decides-eqb q.0.column p.column).0 (and_parts (q.0.line == p.line) (q.0.column == p.column) q.2).1 in omega (arith, first, same, some))
 
 pub numbered-steps-stand-apart : NumberedStepsStandApart
-numbered-steps-stand-apart bytes m p n g line count reading among steps goes =
+numbered-steps-stand-apart bytes t p n g line count reading among steps goes =
     rw steps (both-true (are_apart (lines_from line count)) _ (lines-apart line count)
     (all-of (λ q. not (is_among (lines_from line count) q)) (model.formula_places g) (λ q here.
-    none-numbered line count q (read-places-have-columns bytes m q reading (inr (of-some property_places m.properties p q among (goes q here)))))))
+    none-numbered line count q (read-places-have-columns bytes t q reading
+    (inr (of-some property_places t.protocol.properties p q among (goes q here)))))))
 
 pub places-tell-steps : PlacesTellSteps
 places-tell-steps m p i c apart names within made = tells-just-the-step m p.name.place p.formula i c names apart within made

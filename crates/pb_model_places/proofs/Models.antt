@@ -10,8 +10,8 @@ use Rattle.pb_text_lexer.specs.declared.kind.Kind.TheVariants as k
 use Rattle.pb_text_lexer.specs.declared.language.Language.TheVariants.{Model}
 use Rattle.pb_text_lexer.specs.Grammar.{State}
 use Rattle.pb_text_lexer.specs.Tokens.{Tok}
-use Rattle.pb_protocol_tree.specs.Form.{StepForm, PropertyForm, ProtocolForm}
-use Rattle.pb_model_text.specs.Grammar.{IsInitialState, IsModel}
+use Rattle.pb_protocol_tree.specs.Form.{StepForm, PropertyForm, ProtocolForm, ModelTextForm}
+use Rattle.pb_model_text.specs.Models.{IsInitialState, IsModel}
 use Rattle.pb_typing_calls.specs.Calls.{same_place}
 use Rattle.pb_text.specs.Parsing.{depth_limit, operator_limit}
 use Rattle.pb_model_runs.proofs.Elements.{both-true, some_of, of-some, in-left, in-right}
@@ -20,7 +20,7 @@ use Rattle.pb_model_places.proofs.Tokens.{false-of, parts-apart, first-apart, se
 use Rattle.pb_model_places.specs.Apart.{formula_places, step_places, property_places, protocol_stands_apart, ReadProtocolsStandApart, ReadPlacesHaveColumns}
 use Rattle.pb_model_places.proofs.Keeping.{joined-took, Took, places_of, skips-one, keeps-counted}
 use Rattle.pb_model_places.proofs.Formulas.{no_places}
-use Rattle.pb_model_places.proofs.Steps.{skips-sorts, skips-state, skips-definitions, keeps-steps, skips-initial, keeps-properties, known}
+use Rattle.pb_model_places.proofs.Steps.{skips-constants, skips-sorts, skips-state, skips-definitions, keeps-steps, skips-initial, keeps-properties, known}
 
 pub all-of : {A : Type 0} (t : A → Bool) (xs : List A) → ((x : A) → Contains xs x → t x ≡ true) → list_all t xs ≡ true
 all-of t [] h = refl
@@ -40,17 +40,19 @@ record TookModel (tokens : List Tok) (m : ProtocolForm) : Type 0 where
 then : (s m z : State) → Took s m [] [] → Took m z [] [] → Took s z [] []
 then s m z a b = joined-took s m z [] [] [] a b (λ p e. e)
 
-took-model : (ranges : List RangeForm) (depth : ℕ) (s : State) (m : ProtocolForm) (z : State) (end : Tok) → z.tokens ≡ end ∷ [] → IsModel ranges depth s m z → TookModel s.tokens m
-took-model ranges depth s m z end ends h =
-    let b = h.3 in let c = b.3 in let d = c.3 in let e = d.3 in let f = e.3 in let g = f.3 in let i = g.3 in let j = i.3 in
-    let before = then s e.1 f.1 (then s d.1 e.1 (then s c.1 d.1 (then s b.1 c.1 (then s h.1 b.1 (skips-sorts s h.0 h.1 h.2) (skips-one k.Model h.1 b.0 b.1 b.2))
-    (skips-one k.State b.1 c.0 c.1 c.2)) (skips-state depth c.1 d.0 d.1 d.2)) (skips-one k.Semicolon d.1 e.0 e.1 e.2)) (skips-definitions depth e.1 f.0 f.1 f.2) in
+took-model : (ranges : List RangeForm) (depth : ℕ) (s : State) (t : ModelTextForm) (z : State) (end : Tok) → z.tokens ≡ end ∷ [] → IsModel ranges depth s t z → TookModel s.tokens t.protocol
+took-model ranges depth s t z end ends h =
+    let a = h.3 in let b = a.3 in let c = b.3 in let d = c.3 in let e = d.3 in let f = e.3 in let g = f.3 in let i = g.3 in let j = i.3 in
+    let headers = then s h.1 a.1 (skips-constants depth s h.0 h.1 h.2) (skips-sorts depth h.1 a.0 a.1 a.2) in
+    let words = then s b.1 c.1 (then s a.1 b.1 headers (skips-one k.Model a.1 b.0 b.1 b.2)) (skips-one k.State b.1 c.0 c.1 c.2) in
+    let variables = then s d.1 e.1 (then s c.1 d.1 words (skips-state depth c.1 d.0 d.1 d.2)) (skips-one k.Semicolon d.1 e.0 e.1 e.2) in
+    let before = then s e.1 f.1 variables (skips-definitions depth e.1 f.0 f.1 f.2) in
     let steps = keeps-steps depth f.1 g.0 g.1 g.2 in
     let initial = keeps-counted no_places (IsInitialState depth) (skips-initial depth) g.1 i.0 i.1 i.2 in
     let behind = joined-took g.1 i.1 j.1 [] (flat_map property_places j.0) (flat_map property_places j.0) initial (keeps-properties depth i.1 j.0 j.1 j.2) (λ p q. q) in
     let last_tokens : j.1.tokens ≡ end ∷ [] = ap (λ (v : State). v.tokens) (sym j.3.1) ∙ ends in
-    let same_steps : m.steps ≡ g.0 = ap (λ (v : ProtocolForm). v.steps) j.3.0 in
-    let same_properties : m.properties ≡ j.0 = ap (λ (v : ProtocolForm). v.properties) j.3.0 in
+    let same_steps : t.protocol.steps ≡ g.0 = ap (λ (v : ModelTextForm). v.protocol.steps) j.3.0 in
+    let same_properties : t.protocol.properties ≡ j.0 = ap (λ (v : ModelTextForm). v.protocol.properties) j.3.0 in
     record {
       before = before.front;
       steps = steps.front;
@@ -80,11 +82,11 @@ stand-apart m p tokens ts end are apart took among =
     (took.among_behind q (of-some property_places m.properties p q among here)) (same-turned r.0 q r.2))))
 
 pub read-protocols-stand-apart : ReadProtocolsStandApart
-read-protocols-stand-apart bytes m p reading among =
+read-protocols-stand-apart bytes t p reading among =
     let says = reading.says in
     let apart = tokens-apart Model bytes reading.tokens reading.ranges reading.cut in
-    stand-apart m p reading.tokens apart.0 apart.1 apart.2 apart.3
-    (took-model reading.ranges depth_limit (record { tokens = reading.tokens; operators = operator_limit }) m (record { tokens = says.1 ∷ []; operators = says.0 }) says.1 refl says.2) among
+    stand-apart t.protocol p reading.tokens apart.0 apart.1 apart.2 apart.3
+    (took-model reading.ranges depth_limit (record { tokens = reading.tokens; operators = operator_limit }) t (record { tokens = says.1 ∷ []; operators = says.0 }) says.1 refl says.2) among
 
 -- a place of the steps' names, or where properties go on, is a token's
 of-tokens : (m : ProtocolForm) (tokens ts : List Tok) (end : Tok) (p : Place) → tokens ≡ ts ++ end ∷ [] → TookModel tokens m
@@ -100,8 +102,8 @@ of-tokens m tokens ts end p are took e =
     ]))
 
 pub read-places-have-columns : ReadPlacesHaveColumns
-read-places-have-columns bytes m p reading e =
+read-places-have-columns bytes t p reading e =
     let says = reading.says in
     let columns = token-columns Model bytes reading.tokens reading.ranges reading.cut in
-    columns.3 p (of-tokens m reading.tokens columns.0 columns.1 p columns.2
-    (took-model reading.ranges depth_limit (record { tokens = reading.tokens; operators = operator_limit }) m (record { tokens = says.1 ∷ []; operators = says.0 }) says.1 refl says.2) e)
+    columns.3 p (of-tokens t.protocol reading.tokens columns.0 columns.1 p columns.2
+    (took-model reading.ranges depth_limit (record { tokens = reading.tokens; operators = operator_limit }) t (record { tokens = says.1 ∷ []; operators = says.0 }) says.1 refl says.2) e)

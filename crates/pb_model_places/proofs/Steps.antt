@@ -6,24 +6,45 @@ use Rattle.std.proofs.lemmas.List.{map-append}
 use Rattle.pb_text_tree.specs.declared.place.Place.{Place}
 use Rattle.pb_text_lexer.specs.declared.kind.Kind.{Kind}
 use Rattle.pb_text_lexer.specs.declared.kind.Kind.TheVariants as k
-use Rattle.pb_text_lexer.specs.Grammar.{State, Is, One, last, more, CountedApart}
+use Rattle.pb_text_lexer.specs.Grammar.{State, Reads, Is, One, last, more, CountedApart}
 use Rattle.pb_text_lexer.specs.LeftGrammar.{Extended}
 use Rattle.pb_text_lexer.specs.Tokens.{Tok}
-use Rattle.pb_text_terms.specs.Grammar.{Name, Placed, IsTerm}
-use Rattle.pb_text_formulas.specs.Grammar.{Plain, Enumerator, SortBy, SortDecl, SortPart, SortParts}
+use Rattle.pb_text_tree.specs.Form.{Named, TermForm}
+use Rattle.pb_text_terms.specs.Grammar.{Name, Placed, Equated, IsUnary, IsTerm}
+use Rattle.pb_text_formulas.specs.Grammar.{Plain, Enumerator}
 use Rattle.pb_text.specs.Grammar.{Declared}
 use Rattle.pb_protocol_tree.specs.Form.{StepForm}
-use Rattle.pb_model_text.specs.Grammar.{Indexed, StateGroup, StateVariables, IsDefinition, DefinedBy, Definitions, IsAssignment, AssignedBy, Assigned, IsStep, Steps, IsInitialState, IsFormula, IsProperty, Properties}
+use Rattle.pb_model_text.specs.Grammar.{Beginning, IsFormula, Word}
+use Rattle.pb_model_text.specs.Models.{const_of, IsConstant, ConstantPart, Constants, IsBound, Greatest, UpTo, SortNamed, SortBehind, SortWithin, SortBy, IsSort, SortPart, Sorts}
+use Rattle.pb_model_text.specs.Models.{Indexed, StateGroup, StateVariables, IsDefinition, DefinedBy, Definitions, IsAssigned, IsCopies, AssignmentBy, IsAssignment, SomeAssigned, AssignedBy, Assigned, IsStep, Steps, IsInitialState, IsProperty, Properties}
 use Rattle.pb_typing_calls.specs.Calls.{same_place}
 use Rattle.pb_model_runs.proofs.Elements.{both-true, either_of, some_of, in-left, in-right, in-either}
 use Rattle.pb_model_runs.specs.Exact.{is_among, are_apart}
 use Rattle.pb_model_places.specs.Apart.{formula_places, step_places, property_places}
 use Rattle.pb_model_places.proofs.Tokens.{false-of, parts-apart, second-apart}
-use Rattle.pb_model_places.proofs.Keeping.{Keeps, Skips, places_of, no-place, keeps-nothing, keeps-is, skips-is, keeps-bind, skip, skips-one, keeps-first, keeps-extended, keeps-placed, keeps-counted, keeps-series, skips-series}
-use Rattle.pb_model_places.proofs.Terms.{skips-name, named_at, keeps-name, skips-variables, skips-term}
-use Rattle.pb_model_places.proofs.Formulas.{no_places, skips-instance, keeps-formula}
+use Rattle.pb_model_places.proofs.Keeping.{Keeps, Skips, places_of, no-place, keeps-nothing, keeps-is, skips-is, keeps-bind, skips-of, skip, skips-one, keeps-first, keeps-extended, keeps-placed, keeps-counted, keeps-series, skips-series}
+use Rattle.pb_model_places.proofs.Terms.{name_places, skips-name, named_at, keeps-name, skips-variables, keeps-equated, keeps-unary, skips-term}
+use Rattle.pb_model_places.proofs.Formulas.{no_places, skips-instance, keeps-formula, keeps-word}
 
 -- ---- what stands before the steps
+
+skips-beginning : {X : Type 0} (kind : Kind) (R : Reads X) → Skips R → Skips (Beginning kind R)
+skips-beginning kind R r s y z h = r s y z h.1
+
+skips-constant : (depth : ℕ) → Skips (IsConstant depth)
+skips-constant depth =
+    skip _ _ [] no_places skips-name (λ name. skip _ _ [] no_places (skips-one k.Is) (λ is.
+    skip _ _ [] no_places (keeps-placed no_places (IsTerm depth) (skips-term depth)) (λ value. skips-is _)))
+
+skips-constant-part : (depth : ℕ) → Skips (ConstantPart depth)
+skips-constant-part depth =
+    skip _ _ [] no_places (skips-of (Word const_of) (λ word. word.1 ∷ []) (keeps-word const_of)) (λ word.
+    skip _ _ [] no_places (skips-series (IsConstant depth) (One k.Comma) _ _ (skips-constant depth) (skips-one k.Comma)) (λ constants.
+    skip _ _ [] no_places (skips-one k.Semicolon) (λ semicolon. skips-is _)))
+
+pub skips-constants : (depth : ℕ) → Skips (Constants depth)
+skips-constants depth =
+    keeps-extended [] no_places _ _ (skips-is []) (skip _ _ [] no_places (skips-is []) (λ none. keeps-counted no_places (ConstantPart depth) (skips-constant-part depth)))
 
 skips-enumerator : Skips Enumerator
 skips-enumerator =
@@ -31,24 +52,56 @@ skips-enumerator =
     keeps-extended [] no_places _ _ plain (skip _ _ [] no_places plain (λ x.
     skip _ _ [] no_places (skips-one k.Question) (λ question. skip _ _ [] no_places skips-name (λ name. skips-is _))))
 
-skips-sort-by : (kind : Kind) → Skips (SortBy kind)
-skips-sort-by k.Struct =
+skips-bound : (depth : ℕ) → Skips (IsBound depth)
+skips-bound depth =
+    keeps-placed no_places (Equated (IsUnary depth)) (skips-of (Equated (IsUnary depth)) name_places (keeps-equated (IsUnary depth) (keeps-unary depth)))
+
+skips-greatest : (depth : ℕ) → Skips (Greatest depth)
+skips-greatest depth =
+    skip _ _ [] no_places (skips-one k.Period) (λ first_period. skip _ _ [] no_places (skips-one k.Period) (λ second_period.
+    skip _ _ [] no_places (skips-bound depth) (λ high. skip _ _ [] no_places (skips-one k.Semicolon) (λ semicolon. skips-is _))))
+
+skips-up-to : (depth : ℕ) (name : Named) (low : Place × TermForm) → Skips (UpTo depth name low)
+skips-up-to depth name low = skip _ _ [] no_places (skips-greatest depth) (λ high. skips-is _)
+
+skips-sort-named : (name : Named) (x : TermForm) → Skips (SortNamed name x)
+skips-sort-named name (TermForm.name target) = skip _ _ [] no_places (skips-one k.Semicolon) (λ semicolon. skips-is _)
+skips-sort-named name _ = keeps-nothing [] no_places
+
+skips-sort-behind : (depth : ℕ) (name : Named) (low : Place × TermForm) (kind : Kind) → Skips (SortBehind depth name low kind)
+skips-sort-behind depth name low k.Semicolon = skips-sort-named name low.1
+skips-sort-behind depth name low k.Period = skips-up-to depth name low
+skips-sort-behind depth name low _ = keeps-nothing [] no_places
+
+skips-sort-within : (depth : ℕ) (name : Named) (kind : Kind) → Skips (SortWithin depth name kind)
+skips-sort-within depth name kind =
+    skip _ _ [] no_places (skips-beginning kind (IsBound depth) (skips-bound depth)) (λ low. skips-up-to depth name low)
+
+skips-sort-by : (depth : ℕ) (name : Named) (kind : Kind) → Skips (SortBy depth name kind)
+skips-sort-by depth name k.Struct =
     skip _ _ [] no_places (skips-one k.Struct) (λ word. skip _ _ [] no_places (skips-series Enumerator (One k.Bar) _ _ skips-enumerator (skips-one k.Bar)) (λ enumerators.
     skip _ _ [] no_places (skips-one k.Semicolon) (λ semicolon. skips-is _)))
-skips-sort-by k.Name = skip _ _ [] no_places skips-name (λ target. skip _ _ [] no_places (skips-one k.Semicolon) (λ semicolon. skips-is _))
-skips-sort-by _ = keeps-nothing [] no_places
+skips-sort-by depth name k.Name =
+    skip _ _ [] no_places (skips-beginning k.Name (IsBound depth) (skips-bound depth)) (λ first.
+    keeps-first [] no_places (SortBehind depth name first) (skips-sort-behind depth name first))
+skips-sort-by depth name k.Number = skips-sort-within depth name k.Number
+skips-sort-by depth name k.Minus = skips-sort-within depth name k.Minus
+skips-sort-by depth name k.Open = skips-sort-within depth name k.Open
+skips-sort-by depth name _ = keeps-nothing [] no_places
 
-skips-sort : Skips SortDecl
-skips-sort =
-    skip _ _ [] no_places skips-name (λ name. skip _ _ [] no_places (skips-one k.Is) (λ is. skip _ _ [] no_places (keeps-first [] no_places SortBy skips-sort-by) (λ sort. skips-is _)))
+skips-sort : (depth : ℕ) → Skips (IsSort depth)
+skips-sort depth =
+    skip _ _ [] no_places skips-name (λ name. skip _ _ [] no_places (skips-one k.Is) (λ is. keeps-first [] no_places (SortBy depth name) (skips-sort-by depth name)))
 
-skips-sort-part : Skips SortPart
-skips-sort-part =
-    skip _ _ [] no_places (skips-one k.Sort) (λ word. skip _ _ [] no_places (skips-series SortDecl (Is {X = Unit {0}} tt) _ _ skips-sort (skips-is tt)) (λ declarations. skips-is _))
+skips-sort-part : (depth : ℕ) → Skips (SortPart depth)
+skips-sort-part depth =
+    skip _ _ [] no_places (skips-one k.Sort) (λ word.
+    skip _ _ [] no_places (skips-series (CountedApart (IsSort depth)) (Is {X = Unit {0}} tt) _ _ (keeps-counted no_places (IsSort depth) (skips-sort depth)) (skips-is tt)) (λ sorts. skips-is _))
 
-pub skips-sorts : Skips SortParts
-skips-sorts =
-    keeps-extended [] no_places _ _ (skips-is []) (skip _ _ [] no_places (skips-is []) (λ none. skips-series SortPart (Is {X = Unit {0}} tt) _ _ skips-sort-part (skips-is tt)))
+pub skips-sorts : (depth : ℕ) → Skips (Sorts depth)
+skips-sorts depth =
+    keeps-extended [] no_places _ _ (skips-is [])
+    (skip _ _ [] no_places (skips-is []) (λ none. skips-series (SortPart depth) (Is {X = Unit {0}} tt) _ _ (skips-sort-part depth) (skips-is tt)))
 
 -- ---- steps
 
@@ -89,16 +142,33 @@ skips-defined-by depth _ = keeps-nothing [] no_places
 pub skips-definitions : (depth : ℕ) → Skips (Definitions depth)
 skips-definitions depth = keeps-first [] no_places (DefinedBy depth) (skips-defined-by depth)
 
-skips-assignment : (depth : ℕ) → Skips (IsAssignment depth)
-skips-assignment depth =
+skips-alone : (depth : ℕ) → Skips (IsAssigned depth)
+skips-alone depth =
     skip _ _ [] no_places (skips-instance depth) (λ assigned. skip _ _ [] no_places (skips-one k.Assign) (λ assign.
     skip _ _ [] no_places (keeps-placed no_places (IsTerm depth) (skips-term depth)) (λ value. skips-is _)))
 
-skips-assigned-by : (depth : ℕ) (kind : Kind) → Skips (AssignedBy depth kind)
-skips-assigned-by depth k.Skip = skip _ _ [] no_places (skips-one k.Skip) (λ word. skip _ _ [] no_places (skips-one k.Semicolon) (λ semicolon. skips-is _))
-skips-assigned-by depth k.Name =
+skips-copies : Skips IsCopies
+skips-copies =
+    skip _ _ [] no_places (skips-one k.Forall) (λ word. skip _ _ [] no_places skips-variables (λ variables.
+    skip _ _ [] no_places (skips-one k.Period) (λ period. skips-is _)))
+
+skips-assignment-by : (depth : ℕ) (kind : Kind) → Skips (AssignmentBy depth kind)
+skips-assignment-by depth k.Name = skips-alone depth
+skips-assignment-by depth k.Forall = skip _ _ [] no_places skips-copies (λ copies. skip _ _ [] no_places (skips-alone depth) (λ assigned. skips-is _))
+skips-assignment-by depth _ = keeps-nothing [] no_places
+
+skips-assignment : (depth : ℕ) → Skips (IsAssignment depth)
+skips-assignment depth = keeps-first [] no_places (AssignmentBy depth) (skips-assignment-by depth)
+
+skips-some-assigned : (depth : ℕ) → Skips (SomeAssigned depth)
+skips-some-assigned depth =
     skip _ _ [] no_places (skips-series (IsAssignment depth) (One k.Comma) _ _ (skips-assignment depth) (skips-one k.Comma)) (λ assignments.
     skip _ _ [] no_places (skips-one k.Semicolon) (λ semicolon. skips-is _))
+
+skips-assigned-by : (depth : ℕ) (kind : Kind) → Skips (AssignedBy depth kind)
+skips-assigned-by depth k.Skip = skip _ _ [] no_places (skips-one k.Skip) (λ word. skip _ _ [] no_places (skips-one k.Semicolon) (λ semicolon. skips-is _))
+skips-assigned-by depth k.Name = skips-beginning k.Name (SomeAssigned depth) (skips-some-assigned depth)
+skips-assigned-by depth k.Forall = skips-beginning k.Forall (SomeAssigned depth) (skips-some-assigned depth)
 skips-assigned-by depth _ = keeps-nothing [] no_places
 
 skips-assigned : (depth : ℕ) → Skips (Assigned depth)

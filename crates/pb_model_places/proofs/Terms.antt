@@ -9,7 +9,7 @@ use Rattle.pb_text_lexer.specs.Grammar.{Reads, ◌>>=◌, Is, Nothing, One, Firs
 use Rattle.pb_text_lexer.specs.LeftGrammar.{OperatorOf, Link, Links, Linked, grouped, Comparison}
 use Rattle.pb_text_lexer.specs.Tokens.{Tok}
 use Rattle.pb_text_terms.specs.Operators.{connected_by, compared_by, computed_by, is_order, is_equality, is_additive, is_times, is_division}
-use Rattle.pb_text_terms.specs.Grammar.{Name, Group, Variables, QuantifiedBy, Placed, Arguments, Instance, applied, Begun, Product, Sum, Ordered, Equated, Connections, IsUnary, IsTerm}
+use Rattle.pb_text_terms.specs.Grammar.{Name, Group, Variables, QuantifiedBy, BoundBy, Placed, Arguments, Instance, applied, Begun, Product, Sum, Ordered, Equated, Connections, IsUnary, IsTerm}
 use Rattle.pb_model_runs.proofs.Elements.{in-left}
 use Rattle.pb_model_places.proofs.Keeping.{Keeps, Skips, no-place, keeps-nothing, keeps-is, skips-is, keeps-one, keeps-bind, skips-of, skip, skips-one, keeps-first, keeps-extended, keeps-either, keeps-placed, skips-series, keeps-connected}
 
@@ -115,7 +115,7 @@ keeps-compared test Item item =
 pub keeps-equated : (Unary : Reads TermForm) → Keeps [] name_places Unary → Keeps [] name_places (Equated Unary)
 keeps-equated Unary unary = keeps-compared is_equality (Ordered Unary) (keeps-compared is_order (Sum Unary) (keeps-sum Unary unary))
 
--- ---- quantifiers
+-- ---- quantifiers and counting
 
 keeps-quantified-by : (Body : Reads TermForm) → Skips Body → (kind : Kind) → Keeps [] name_places (QuantifiedBy TermForm.quantified Body kind)
 keeps-quantified-by Body body k.Forall =
@@ -126,10 +126,18 @@ keeps-quantified-by Body body k.Exists =
     skip _ _ [] name_places (skips-one k.Period) (λ period. skip _ _ [] name_places body (λ x. keeps-is [] name_places _ (λ p e. e)))))
 keeps-quantified-by Body body _ = keeps-nothing [] name_places
 
+keeps-bound-by : (Body : Reads TermForm) → Skips Body → (kind : Kind) → Keeps [] name_places (BoundBy Body kind)
+keeps-bound-by Body body k.Count =
+    skip _ _ [] name_places (skips-one k.Count) (λ word. skip _ _ [] name_places skips-variables (λ variables.
+    skip _ _ [] name_places (skips-one k.Period) (λ period. skip _ _ [] name_places body (λ x. keeps-is [] name_places _ (λ p e. e)))))
+keeps-bound-by Body body k.Forall = keeps-quantified-by Body body k.Forall
+keeps-bound-by Body body k.Exists = keeps-quantified-by Body body k.Exists
+keeps-bound-by Body body _ = keeps-nothing [] name_places
+
 keeps-connections : (Unary Body : Reads TermForm) → Keeps [] name_places Unary → Skips Body → Keeps [] name_places (Connections Unary Body)
 keeps-connections Unary Body unary body =
     keeps-connected (connected_by TermForm.connected) _ _ name_places (λ kind x t y p e. no-place p e) (keeps-equated Unary unary)
-    (keeps-first [] name_places (QuantifiedBy TermForm.quantified Body) (keeps-quantified-by Body body))
+    (keeps-first [] name_places (BoundBy Body) (keeps-bound-by Body body))
 
 mutual
   pub keeps-unary : (depth : ℕ) → Keeps [] name_places (IsUnary depth)

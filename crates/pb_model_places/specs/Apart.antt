@@ -6,6 +6,7 @@ use Rattle.pb_sorts.specs.Instance.{Instance}
 use Rattle.pb_text_tree.specs.declared.place.Place.{Place}
 use Rattle.pb_model_tree.specs.Form as flat
 use Rattle.pb_protocol_tree.specs.Form.{FormulaForm, StepForm, PropertyForm, ProtocolForm}
+use Rattle.pb_protocol_tree.specs.Form.{ModelTextForm}
 use Rattle.pb_model_text.specs.Parsing.{IsModelReading}
 use Rattle.pb_model_meaning.specs.Erase.{erase, erased_step}
 use Rattle.pb_model_meaning.specs.Steps.{is_state}
@@ -45,8 +46,8 @@ protocol_stands_apart m f =
 
 abbrev pub ReadProtocolsStandApart : Type 0
 ReadProtocolsStandApart =
-    (bytes : List ℕ) (m : ProtocolForm) (p : PropertyForm) → IsModelReading bytes m →
-    Contains m.properties p → protocol_stands_apart m p.formula ≡ true
+    (bytes : List ℕ) (t : ModelTextForm) (p : PropertyForm) → IsModelReading bytes t →
+    Contains t.protocol.properties p → protocol_stands_apart t.protocol p.formula ≡ true
 
 -- so does a model whose steps and formula have the places of a protocol's
 abbrev pub KeptPlacesStandApart : Type 0
@@ -58,9 +59,9 @@ KeptPlacesStandApart =
 -- the names of a protocol's steps, and where its properties go on, stand at columns from 1 on
 abbrev pub ReadPlacesHaveColumns : Type 0
 ReadPlacesHaveColumns =
-    (bytes : List ℕ) (m : ProtocolForm) (p : Place) → IsModelReading bytes m →
-    Contains (step_places m.steps) p ⊎ Contains (flat_map property_places m.properties) p →
-    0 < p.column
+    (bytes : List ℕ) (t : ModelTextForm) (p : Place) → IsModelReading bytes t →
+    Contains (step_places t.protocol.steps) p
+    ⊎ Contains (flat_map property_places t.protocol.properties) p → 0 < p.column
 
 -- so many places from a line on, each on a line of its own, at column 0
 abbrev pub lines_from : ℕ → ℕ → List Place
@@ -71,8 +72,9 @@ lines_from line (suc n) = record { line = line; column = 0 } ∷ lines_from (suc
 -- is one of a property of a protocol that was read.
 abbrev pub NumberedStepsStandApart : Type 0
 NumberedStepsStandApart =
-    (bytes : List ℕ) (m : ProtocolForm) (p : PropertyForm) (n : flat.ModelForm)
-    (g : flat.FormulaForm) (line count : ℕ) → IsModelReading bytes m → Contains m.properties p →
+    (bytes : List ℕ) (t : ModelTextForm) (p : PropertyForm) (n : flat.ModelForm)
+    (g : flat.FormulaForm) (line count : ℕ) → IsModelReading bytes t →
+    Contains t.protocol.properties p →
     model.step_places n.steps ≡ lines_from line count →
     ((q : Place) → Contains (model.formula_places g) q → Contains (formula_places p.formula) q) →
     model.stand_apart n g ≡ true

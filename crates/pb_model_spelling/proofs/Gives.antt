@@ -1,14 +1,32 @@
 -- What is read of the tokens of a model, and that such tokens are left, through each word of the grammar.
-use Rattle.std.proofs.Common.{ℕ, List, [], ◌∷◌, sym, subst, inl, inr}
+use Rattle.std.proofs.Common.{◌≡◌, ℕ, Bool, true, List, [], ◌∷◌, sym, subst, inl, inr}
 use Rattle.pb_text_lexer.specs.declared.kind.Kind.{Kind}
+use Rattle.pb_text_lexer.specs.declared.kind.Kind.TheVariants as k
+use Rattle.pb_text_lexer.specs.Bytes.{is_name, WritesNumber}
 use Rattle.pb_text_lexer.specs.Tokens.{Tok}
 use Rattle.pb_text_lexer.specs.Grammar.{State, Reads, ◌>>=◌, Is, Nothing, One, by_first, First, last, more, CountedApart}
 use Rattle.pb_text_lexer.specs.OpenGrammar.{Chained, last as last_operand, more as more_operands, Either}
-use Rattle.pb_text_lexer.specs.LeftGrammar.{Extended, Listed}
+use Rattle.pb_text_lexer.specs.LeftGrammar.{OperatorOf, Extended, Link, Links, Linked, LeftChain, UnmixedChain, Comparison, Listed, grouped}
 use Rattle.pb_text_terms.specs.Grammar.{Name, Placed}
+use Rattle.pb_model_text.specs.Grammar.{Beginning}
 use Rattle.pb_text_tree.specs.declared.place.Place.{Place}
-use Rattle.pb_text_printer.specs.Sayable.{EachOf, IsName}
-use Rattle.pb_text_printer.proofs.SaidLemmas.{AreLexical, EachReadingIs, one-said, operator-said, name-said, each-of}
+use Rattle.pb_text_printer.specs.Sayable.{Each, EachOf, IsName}
+use Rattle.pb_text_printer.proofs.SaidLemmas.{each-of}
+
+-- ---- tokens as a model is cut into them, of which some may count
+
+pub record IsLexical (t : Tok) : Type 0 where
+  pub name : t.kind ≡ k.Name → is_name t.text ≡ true
+  pub number : t.kind ≡ k.Number → WritesNumber t.text
+
+abbrev pub AreLexical : List Tok → Type 0
+AreLexical [] = Unit {0}
+AreLexical (t ∷ ts) = IsLexical t × AreLexical ts
+
+pub lexical_behind : (ts us : List Tok) (t : Tok) → ts ≡ t ∷ us → AreLexical ts → IsLexical t × AreLexical us
+lexical_behind ts us t e h = subst AreLexical e h
+
+-- ---- what is read
 
 -- of lexical tokens something is read of which P holds, and lexical tokens are left
 abbrev pub Gives : {X : Type 0} → (X → Type 0) → Reads X → Type 0
@@ -16,10 +34,6 @@ Gives {X} P R = (s : State) (x : X) (z : State) → R s x z → AreLexical s.tok
 
 abbrev pub Any : {X : Type 0} → X → Type 0
 Any x = Unit {0}
-
--- what is known of texts
-pub gives_said : {X : Type 0} (P : X → Type 0) (n : X → ℕ) (R : Reads X) → EachReadingIs R P n → Gives P R
-gives_said P n R said s x z r h = let found = said s z x h r in (found.says, found.rest)
 
 pub gives_as : {X : Type 0} (P Q : X → Type 0) (R : Reads X) → ((x : X) → P x → Q x) → Gives P R → Gives Q R
 gives_as P Q R turn gives s x z r h = let found = gives s x z r h in (turn x found.0, found.1)
@@ -36,14 +50,20 @@ gives_then P Q R S first next s y z r h =
     next r.0 one.0 r.1 y z r.3 one.1
 
 pub gives_one : (kind : Kind) → Gives Any (One kind)
-gives_one kind s t z r h = (tt, (one-said kind s z t h r).rest)
+gives_one kind s t z r h = (tt, (lexical_behind s.tokens z.tokens t r.0 h).1)
+
+-- an operator that passes a test
+pub gives_operator : (test : Kind → Bool) → Gives Any (OperatorOf test)
+gives_operator test s t z r h = (tt, (lexical_behind s.tokens z.tokens t r.0 h).1)
 
 -- behind one token
 pub gives_behind : {Y : Type 0} (kind : Kind) (Q : Y → Type 0) (S : Tok → Reads Y) → ((t : Tok) → Gives Q (S t)) → Gives Q (One kind >>= S)
 gives_behind kind Q S next = gives_then Any Q (One kind) S (gives_one kind) (λ t u. next t)
 
 pub gives_name : Gives IsName Name
-gives_name = gives_said IsName _ Name name-said
+gives_name s x z (t, m, r, is) h =
+    let lexical = lexical_behind s.tokens m.tokens t r.0 h in
+    gives_is IsName (record { place = t.place; text = t.text }) (lexical.0.name r.1) m x z is lexical.1
 
 pub gives_first : {X : Type 0} (P : X → Type 0) (R : Kind → Reads X) → ((kind : Kind) → Gives P (R kind)) → Gives P (First R)
 gives_first {X} P R each s x z r h = by_tokens s.tokens r
@@ -79,6 +99,43 @@ pub gives_chained : {X : Type 0} (P : X → Type 0) (kind : Kind) (join : X → 
 gives_chained P kind join Closed Open joins closed opened s x z (last_operand r) h = opened s _ z r h
 gives_chained P kind join Closed Open joins closed opened s x z (more_operands {m = m} {o = o} {x = a} {y = b} {t = t} r p rs) h =
     let one = closed s a m r h in
-    let two = operator-said kind m o t one.1 p in
-    let three = gives_chained P kind join Closed Open joins closed opened o b z rs two.rest in
+    let two = lexical_behind m.tokens o.tokens t p.0 one.1 in
+    let three = gives_chained P kind join Closed Open joins closed opened o b z rs two.1 in
     (joins a t b one.0 three.0, three.1)
+
+pub gives_beginning : {X : Type 0} (kind : Kind) (P : X → Type 0) (R : Reads X) → Gives P R → Gives P (Beginning kind R)
+gives_beginning kind P R gives s x z r h = gives s x z r.1 h
+
+-- ---- operators
+
+links_given : {X : Type 0} (P : X → Type 0) (test : Kind → Bool) (Item : Reads X) → Gives P Item → Gives (EachOf (λ (l : Tok × X). P l.1)) (Links test Item)
+links_given {X} P test Item item =
+    let Q : (Tok × X) → Type 0 = λ l. P l.1 in
+    gives_listed Q (Link test Item) (Is {X = Unit {0}} tt)
+    (gives_then Any Q (OperatorOf test) _ (gives_operator test) (λ t u. gives_then P Q Item _ item (λ x h. gives_is Q (t, x) h))) (gives_is Any tt tt)
+
+grouped_has : {X : Type 0} (P : X → Type 0) (join : X → Tok → X → X) → ((x : X) (t : Tok) (y : X) → P x → P y → P (join x t y))
+    → (x : X) (links : List (Tok × X)) → P x → Each (λ (l : Tok × X). P l.1) links → P (grouped join x links)
+grouped_has P join joins x [] h each = h
+grouped_has P join joins x (l ∷ links) h each = grouped_has P join joins (join x l.0 l.1) links (joins x l.0 l.1 h each.0) each.1
+
+linked_given : {X : Type 0} (P : X → Type 0) (test : Kind → Bool) (join : X → Tok → X → X) (Item : Reads X) → ((x : X) (t : Tok) (y : X) → P x → P y → P (join x t y)) → Gives P Item
+    → (x : X) → P x → Gives P (Linked test join Item x)
+linked_given {X} P test join Item joins item x h =
+    gives_then _ P (Links test Item) _ (links_given P test Item item) (λ links each.
+    gives_is P (grouped join x links) (grouped_has P join joins x links h (each-of (λ (l : Tok × X). P l.1) links each)))
+
+pub gives_left : {X : Type 0} (P : X → Type 0) (test : Kind → Bool) (join : X → Tok → X → X) (Item : Reads X) → ((x : X) (t : Tok) (y : X) → P x → P y → P (join x t y)) → Gives P Item
+    → Gives P (LeftChain test join Item)
+gives_left P test join Item joins item = gives_extended P Item (Linked test join Item) item (linked_given P test join Item joins item)
+
+pub gives_unmixed : {X : Type 0} (P : X → Type 0) (test other : Kind → Bool) (join : X → Tok → X → X) (Item : Reads X) → ((x : X) (t : Tok) (y : X) → P x → P y → P (join x t y))
+    → Gives P Item → Gives P (UnmixedChain test other join Item)
+gives_unmixed P test other join Item joins item =
+    gives_extended P Item _ item (λ x h.
+    gives_either P (Linked test join Item x) (Linked other join Item x) (linked_given P test join Item joins item x h) (linked_given P other join Item joins item x h))
+
+pub gives_comparison : {X : Type 0} (P : X → Type 0) (test : Kind → Bool) (join : X → Tok → X → X) (Item : Reads X) → ((x : X) (t : Tok) (y : X) → P x → P y → P (join x t y)) → Gives P Item
+    → Gives P (Comparison test join Item)
+gives_comparison P test join Item joins item =
+    gives_extended P Item _ item (λ x h. gives_then Any P (OperatorOf test) _ (gives_operator test) (λ t u. gives_then P P Item _ item (λ y g. gives_is P (join x t y) (joins x t y h g))))

@@ -5,6 +5,7 @@ mod Depths
 mod Words
 mod OfSayable
 mod Gives
+mod DataWords
 mod SortWords
 mod Ranges
 mod Translated

@@ -13,7 +13,7 @@ use Rattle.pb_text_lexer.specs.Tokens.{Tok}
 use Rattle.pb_text_lexer.proofs.LanguagePieceLemmas.{token-takes}
 use Rattle.pb_text_lexer.proofs.NameLemmas.{name-of-texts, token-spelled}
 use Rattle.pb_text_printer.proofs.CutLemmas.{letter-piece}
-use Rattle.pb_text_printer.proofs.SaidLemmas.{IsLexical, AreLexical}
+use Rattle.pb_model_spelling.proofs.Gives.{IsLexical, AreLexical}
 use Rattle.std.proofs.lemmas.Bool.{and_parts}
 use Rattle.pb_model_spelling.proofs.Words.{spelled_word}
 

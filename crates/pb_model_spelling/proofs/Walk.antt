@@ -22,14 +22,13 @@ use Rattle.pb_text_terms.specs.Grammar.{Placed, arguments_of, Arguments, Instanc
 use Rattle.pb_text_terms.specs.Grammar as terms
 use Rattle.pb_text.specs.Grammar.{Declared}
 use Rattle.pb_text.specs.Parsing.{depth_limit}
-use Rattle.pb_text_meaning.specs.Erase.{erased_term, erased_arguments, erased_variables}
+use Rattle.pb_text_meaning.specs.Erase.{erased_term, erased_arguments, erased_variables, erased_declaration}
 use Rattle.pb_text_printer.specs.Sayable.{Each, EachOf, operators, AreVariables, IsSayable, RangeSayable}
-use Rattle.pb_text_printer.proofs.SaidLemmas.{AreLexical, variables-said, each-of}
-use Rattle.pb_text_printer.proofs.SaidTerm.{term-said}
+use Rattle.pb_text_printer.proofs.SaidLemmas.{each-of}
 use Rattle.pb_model_tree.specs.declared.formula.Modality.{Modality}
 use Rattle.pb_model_tree.specs.declared.formula.Modality.TheVariants as modality
 use Rattle.pb_model_tree.specs.Form.{InitialForm}
-use Rattle.pb_protocol_tree.specs.Form.{StepSetForm, FormulaForm, StateVariableForm, DefinitionForm, AssignmentForm, StepForm, PropertyForm, ProtocolForm}
+use Rattle.pb_protocol_tree.specs.Form.{ConstantForm, CopiesForm, ModelTextForm, StepSetForm, FormulaForm, StateVariableForm, DefinitionForm, AssignmentForm, StepForm, PropertyForm, ProtocolForm}
 use Rattle.pb_protocol_meaning.specs.Erase.{erased_formula, erased_state_variable, erased_definition, erased_assignment, erased_step, erased_property, erase}
 use Rattle.pb_model_text.specs.declared.word.Prefix.{Prefix}
 use Rattle.pb_model_text.specs.declared.word.Prefix.TheVariants as prefix
@@ -38,61 +37,23 @@ use Rattle.pb_model_text.specs.declared.word.Leading.TheVariants as leading
 use Rattle.pb_model_text.specs.declared.word.Infix.{Infix}
 use Rattle.pb_model_text.specs.declared.word.Infix.TheVariants as between
 use Rattle.pb_model_text.specs.Words.{fairly_of, infix_of, fair, unfair_to, unfair_to_others, prefixed, infixed}
-use Rattle.pb_model_text.specs.Grammar.{IsInstance, SetBegun, united_by, IsSet, IsStepSet, atom_of, FixpointNames, is_bound, Beginning, Atom, Modal, Begun, Binding, FixpointBy, Fixpoint, Binder, Connections, Word, leading_within, Wordless, LedBy, Led, Worded, Joined, Others, most_others, IsProcesses, Fair, within, within_fair, IsPlain, IsFair, IsFormula, Indexed, of_sort, StateGroup, StateVariables, IsDefinition, DefinedBy, Definitions, IsAssignment, AssignedBy, Assigned, IsStep, Steps, IsInitialState, IsProperty, Properties, IsModel}
-use Rattle.pb_model_spelling.specs.Writable.{IsWord, VariableWritable, TermWritable, AllWritable}
-use Rattle.pb_model_spelling.specs.Protocols.{FormulaWritable, PropertyWritable, StateVariableWritable, DefinitionWritable, AssignmentWritable, StepWritable, ProtocolWritable}
-use Rattle.pb_model_spelling.specs.Laws.{ReadProtocolsAreWritable, ReadProtocolsHaveProperties}
-use Rattle.pb_model_spelling.proofs.Gives.{Gives, Any, gives_said, gives_as, gives_is, gives_nothing, gives_then, gives_one, gives_behind, gives_name, gives_first, gives_listed, gives_own, gives_either, gives_extended, gives_placed, gives_chained}
-use Rattle.pb_model_spelling.proofs.OfSayable.{term_writable, variables_writable, ranges_writable}
+use Rattle.pb_model_text.specs.Grammar.{IsInstance, SetBegun, united_by, IsSet, IsStepSet, atom_of, FixpointNames, is_bound, Beginning, Atom, Modal, Begun, Binding, FixpointBy, Fixpoint, Binder, Connections, Word, leading_within, Wordless, LedBy, Led, Worded, Joined, Others, most_others, IsProcesses, Fair, within, within_fair, IsPlain, IsFair, IsFormula}
+use Rattle.pb_model_text.specs.Models.{const_of, IsConstant, ConstantPart, Constants, DeclaredSort, declaration_in, bounds_in, IsAssigned, IsCopies, AssignmentBy, SomeAssigned}
+use Rattle.pb_model_text.specs.Models.{Indexed, of_sort, StateGroup, StateVariables, IsDefinition, DefinedBy, Definitions, IsAssignment, AssignedBy, Assigned, IsStep, Steps, IsInitialState, IsProperty, Properties, IsModel}
+use Rattle.pb_model_spelling.specs.Writable.{IsWord, VariableWritable, DeclarationWritable}
+use Rattle.pb_model_spelling.specs.Protocols.{ConstantWritable, BoundsWritable, ModelTextWritable, AllDataWritable, FormulaWritable, PropertyWritable, StateVariableWritable, DefinitionWritable, AssignmentWritable, StepWritable, ProtocolWritable}
+use Rattle.pb_model_spelling.specs.Laws.{ReadModelsAreWritable, ReadModelsHaveProperties}
+use Rattle.pb_model_spelling.proofs.Gives.{AreLexical, Gives, Any, gives_as, gives_is, gives_nothing, gives_then, gives_one, gives_behind, gives_name, gives_first, gives_listed, gives_own, gives_either, gives_extended, gives_placed, gives_chained, gives_beginning}
+use Rattle.pb_model_spelling.proofs.DataWords.{HasData, term_given, unary_given, equated_given, variables_given, arguments_writable, InstanceHasWords, instance_over}
+use Rattle.pb_model_spelling.proofs.OfSayable.{ranges_writable}
 use Rattle.pb_model_spelling.proofs.Ranges.{ranges_of_models_are_said}
-use Rattle.pb_model_spelling.proofs.SortWords.{each_kept, each_kept-append, sorts_given}
+use Rattle.pb_model_spelling.proofs.SortWords.{SortHasWords, each_kept, each_kept-append, each_more, sorts_given}
 use Rattle.pb_model_spelling.proofs.Tokens.{tokens_of_models_are_lexical}
-
-abbrev HasData : TermForm → Type 0
-HasData x = TermWritable (erased_term x)
 
 abbrev HasWords : FormulaForm → Type 0
 HasWords f = FormulaWritable (erased_formula f)
 
--- ---- data
-
-term_given : (depth : ℕ) → Gives HasData (IsTerm depth)
-term_given depth = gives_as (λ x. IsSayable x true depth) HasData (IsTerm depth) (λ x. term_writable x true depth) (gives_said _ operators (IsTerm depth) (term-said depth))
-
--- what has no connective is a term
-equated_is_term : (depth : ℕ) (s z : State) (x : TermForm) → Equated (IsUnary depth) s x z → IsTerm depth s x z
-equated_is_term zero s z x r = last_operand (last_operand (last_operand (inl r)))
-equated_is_term (suc depth) s z x r = last_operand (last_operand (last_operand (inl r)))
-
-equated_given : (depth : ℕ) → Gives HasData (Equated (IsUnary depth))
-equated_given depth s x z r h = term_given depth s x z (equated_is_term depth s z x r) h
-
-unary_given : (depth : ℕ) → Gives HasData (IsUnary depth)
-unary_given depth s x z r h = equated_given depth s x z (inl (inl (inl (inl r)))) h
-
-variables_given : Gives (λ vs. EachOf VariableWritable (erased_variables vs)) Variables
-variables_given = gives_as AreVariables _ Variables variables_writable (gives_said AreVariables _ Variables variables-said)
-
-arguments_writable : (values : List (Place × TermForm)) → Each (λ (a : Place × TermForm). HasData a.1) values → AllWritable (erased_arguments (arguments_of values))
-arguments_writable [] h = tt
-arguments_writable (a ∷ values) h = (h.0, arguments_writable values h.1)
-
-abbrev ArgumentsHaveWords : ArgumentForms → Type 0
-ArgumentsHaveWords xs = AllWritable (erased_arguments xs)
-
-arguments_given : (Term : Reads TermForm) → Gives HasData Term → Gives ArgumentsHaveWords (Arguments Term)
-arguments_given Term term =
-    gives_behind k.Open ArgumentsHaveWords _ (λ o.
-    gives_then _ ArgumentsHaveWords _ _ (gives_listed (λ (a : Place × TermForm). HasData a.1) (Placed Term) (One k.Comma) (gives_placed HasData Term term) (gives_one k.Comma)) (λ xs h.
-    gives_behind k.Close ArgumentsHaveWords _ (λ c. gives_is ArgumentsHaveWords _ (arguments_writable xs (each-of (λ (a : Place × TermForm). HasData a.1) xs h)))))
-
-abbrev InstanceHasWords : InstanceForm → Type 0
-InstanceHasWords i = IsWord i.name.text × AllWritable (erased_arguments i.arguments)
-
-instance_over : (Term : Reads TermForm) → Gives HasData Term → Gives InstanceHasWords (Instance Term)
-instance_over Term term =
-    gives_extended InstanceHasWords _ _ (gives_then _ InstanceHasWords _ _ gives_name (λ n h. gives_is InstanceHasWords _ (h, tt)))
-    (λ i h. gives_then ArgumentsHaveWords InstanceHasWords _ _ (arguments_given Term term) (λ xs g. gives_is InstanceHasWords _ (h.0, g)))
+-- ---- instances
 
 instance_given : (depth : ℕ) → Gives InstanceHasWords (IsInstance depth)
 instance_given zero = instance_over Nothing (gives_nothing HasData)
@@ -125,9 +86,6 @@ mutual
   steps_given zero = union_given (First (SetBegun Nothing Nothing (IsInstance zero))) (first_set Nothing Nothing zero (gives_nothing Any) (gives_nothing Any))
   steps_given (suc depth) =
       union_given (First (SetBegun (IsSet depth) (IsStepSet depth) (IsInstance (suc depth)))) (first_set (IsSet depth) (IsStepSet depth) (suc depth) (set_given depth) (steps_given depth))
-
-beginning_given : {X : Type 0} (P : X → Type 0) (kind : Kind) (R : Reads X) → Gives P R → Gives P (Beginning kind R)
-beginning_given P kind R gives s x z r h = gives s x z r.1 h
 
 atom_given : (made : Place → TermForm → FormulaForm) (Unary : Reads TermForm) → ((p : Place) (x : TermForm) → HasData x → HasWords (made p x)) → Gives HasData (Equated Unary)
     → Gives HasWords (Atom made Unary)
@@ -170,9 +128,9 @@ module _ (scope : FixpointNames) (Node Formula : Reads FormulaForm) (Unary : Rea
   begun_given k.True = gives_behind k.True HasWords _ (λ w. gives_is HasWords _ tt)
   begun_given k.False = gives_behind k.False HasWords _ (λ w. gives_is HasWords _ tt)
   begun_given k.Val = gives_behind k.Val HasWords _ (λ w. gives_then HasData HasWords _ _ unary (λ x h. gives_is HasWords _ h))
-  begun_given k.Name = beginning_given HasWords k.Name _ (atom_given (atom_of scope) Unary (atom_words scope) equated)
-  begun_given k.Number = beginning_given HasWords k.Number _ (atom_given FormulaForm.«data» Unary (λ p x h. h) equated)
-  begun_given k.Minus = beginning_given HasWords k.Minus _ (atom_given FormulaForm.«data» Unary (λ p x h. h) equated)
+  begun_given k.Name = gives_beginning k.Name HasWords _ (atom_given (atom_of scope) Unary (atom_words scope) equated)
+  begun_given k.Number = gives_beginning k.Number HasWords _ (atom_given FormulaForm.«data» Unary (λ p x h. h) equated)
+  begun_given k.Minus = gives_beginning k.Minus HasWords _ (atom_given FormulaForm.«data» Unary (λ p x h. h) equated)
   begun_given _ = gives_nothing HasWords
 
   first_formula : Gives HasWords (First (Begun scope Node Formula Unary Sets))
@@ -407,19 +365,42 @@ definitions_given depth = gives_first DefinitionsHaveWords (DefinedBy depth) (de
 abbrev AssignmentHasWords : AssignmentForm → Type 0
 AssignmentHasWords a = AssignmentWritable (erased_assignment a)
 
-assignment_given : (depth : ℕ) → Gives AssignmentHasWords (IsAssignment depth)
-assignment_given depth =
+-- an assignment alone, and one for all values of variables
+assigned_given-alone : (depth : ℕ) → Gives AssignmentHasWords (IsAssigned depth)
+assigned_given-alone depth =
     gives_then InstanceHasWords AssignmentHasWords _ _ (instance_given depth) (λ i g. gives_behind k.Assign AssignmentHasWords _ (λ t.
-    gives_then _ AssignmentHasWords _ _ (gives_placed HasData (IsTerm depth) (term_given depth)) (λ x h. gives_is AssignmentHasWords _ (g.0, g.1, h))))
+    gives_then _ AssignmentHasWords _ _ (gives_placed HasData (IsTerm depth) (term_given depth)) (λ x h. gives_is AssignmentHasWords _ (tt, g.0, g.1, h))))
+
+abbrev CopiesHaveWords : CopiesForm → Type 0
+CopiesHaveWords c = Each VariableWritable (erased_variables c.variables)
+
+copies_given : Gives CopiesHaveWords IsCopies
+copies_given =
+    gives_behind k.Forall CopiesHaveWords _ (λ w. gives_then _ CopiesHaveWords _ _ variables_given (λ vs h.
+    gives_behind k.Period CopiesHaveWords _ (λ p. gives_is CopiesHaveWords _ (each-of VariableWritable (erased_variables vs) h))))
+
+assignment_by : (depth : ℕ) (kind : Kind) → Gives AssignmentHasWords (AssignmentBy depth kind)
+assignment_by depth k.Name = assigned_given-alone depth
+assignment_by depth k.Forall =
+    gives_then CopiesHaveWords AssignmentHasWords _ _ copies_given (λ c words.
+    gives_then AssignmentHasWords AssignmentHasWords _ _ (assigned_given-alone depth) (λ a h. gives_is AssignmentHasWords _ (words, h.1, h.2, h.3)))
+assignment_by depth _ = gives_nothing AssignmentHasWords
+
+assignment_given : (depth : ℕ) → Gives AssignmentHasWords (IsAssignment depth)
+assignment_given depth = gives_first AssignmentHasWords (AssignmentBy depth) (assignment_by depth)
 
 abbrev AssignmentsHaveWords : List AssignmentForm → Type 0
 AssignmentsHaveWords bs = Each AssignmentWritable (map erased_assignment bs)
 
-assigned_by : (depth : ℕ) (kind : Kind) → Gives AssignmentsHaveWords (AssignedBy depth kind)
-assigned_by depth k.Skip = gives_behind k.Skip AssignmentsHaveWords _ (λ w. gives_behind k.Semicolon AssignmentsHaveWords _ (λ s. gives_is AssignmentsHaveWords [] tt))
-assigned_by depth k.Name =
+some_assigned : (depth : ℕ) → Gives AssignmentsHaveWords (SomeAssigned depth)
+some_assigned depth =
     gives_then (EachOf AssignmentHasWords) AssignmentsHaveWords _ _ (gives_listed AssignmentHasWords (IsAssignment depth) (One k.Comma) (assignment_given depth) (gives_one k.Comma)) (λ bs h.
     gives_behind k.Semicolon AssignmentsHaveWords _ (λ s. gives_is AssignmentsHaveWords bs (each_kept erased_assignment AssignmentWritable bs (each-of AssignmentHasWords bs h))))
+
+assigned_by : (depth : ℕ) (kind : Kind) → Gives AssignmentsHaveWords (AssignedBy depth kind)
+assigned_by depth k.Skip = gives_behind k.Skip AssignmentsHaveWords _ (λ w. gives_behind k.Semicolon AssignmentsHaveWords _ (λ s. gives_is AssignmentsHaveWords [] tt))
+assigned_by depth k.Name = gives_beginning k.Name AssignmentsHaveWords _ (some_assigned depth)
+assigned_by depth k.Forall = gives_beginning k.Forall AssignmentsHaveWords _ (some_assigned depth)
 assigned_by depth _ = gives_nothing AssignmentsHaveWords
 
 assigned_given : (depth : ℕ) → Gives AssignmentsHaveWords (Assigned depth)
@@ -438,7 +419,7 @@ steps_of_model : (depth : ℕ) → Gives (EachOf StepHasWords) (Steps depth)
 steps_of_model depth = gives_listed StepHasWords _ (Is {X = Unit {0}} tt) (gives_own StepHasWords (IsStep depth) (step_given depth)) (gives_is Any tt tt)
 
 abbrev InitialHasWords : InitialForm → Type 0
-InitialHasWords i = AllWritable (erased_arguments i.values)
+InitialHasWords i = AllDataWritable (erased_arguments i.values)
 
 initial_given : (depth : ℕ) → Gives InitialHasWords (IsInitialState depth)
 initial_given depth =
@@ -458,12 +439,39 @@ property_given depth =
 properties_given : (depth : ℕ) → Gives (EachOf PropertyHasWords) (Properties depth)
 properties_given depth = gives_listed PropertyHasWords _ (Is {X = Unit {0}} tt) (gives_own PropertyHasWords (IsProperty depth) (property_given depth)) (gives_is Any tt tt)
 
--- ---- whole protocols
+-- ---- constants and sorts
 
-model_words : (ranges : List RangeForm) (depth : ℕ) (s z : State) (model : ProtocolForm) → Each RangeSayable ranges → IsModel ranges depth s model z → AreLexical s.tokens
-    → ProtocolWritable (erase model)
-model_words ranges depth s z model bounds (sorts, a, r, (w, b, q, (state, c, t, (vs, d, v, (semicolon, e, p, (defined, f, o, (steps, g, n, (initial, i, m, (properties, j, l, is))))))))) h =
-    let one = sorts_given s sorts a r h in
+constant_given : (depth : ℕ) → Gives ConstantWritable (IsConstant depth)
+constant_given depth =
+    gives_then _ ConstantWritable _ _ gives_name (λ n w. gives_behind k.Is ConstantWritable _ (λ i.
+    gives_then _ ConstantWritable _ _ (gives_placed HasData (IsTerm depth) (term_given depth)) (λ x h. gives_is ConstantWritable _ w)))
+
+abbrev ConstantsHaveWords : List ConstantForm → Type 0
+ConstantsHaveWords cs = Each ConstantWritable cs
+
+constants_given : (depth : ℕ) → Gives ConstantsHaveWords (Constants depth)
+constants_given depth =
+    gives_extended ConstantsHaveWords (Is []) _ (gives_is ConstantsHaveWords [] tt) (λ none u.
+    gives_own ConstantsHaveWords (ConstantPart depth) (gives_then Any ConstantsHaveWords _ _ (word_given const_of) (λ w v.
+    gives_then (EachOf ConstantWritable) ConstantsHaveWords _ _ (gives_listed ConstantWritable (IsConstant depth) (One k.Comma) (constant_given depth) (gives_one k.Comma)) (λ cs h.
+    gives_behind k.Semicolon ConstantsHaveWords _ (λ s. gives_is ConstantsHaveWords cs (each-of ConstantWritable cs h))))))
+
+declarations_have_words : (ds : List DeclaredSort) → Each SortHasWords ds → Each DeclarationWritable (map erased_declaration (map declaration_in ds))
+declarations_have_words [] h = tt
+declarations_have_words (d ∷ ds) h = (h.0.0, declarations_have_words ds h.1)
+
+bounds_have_words : (ds : List DeclaredSort) → Each SortHasWords ds → Each BoundsWritable (flat_map bounds_in ds)
+bounds_have_words [] h = tt
+bounds_have_words (d ∷ ds) h = each_more BoundsWritable (bounds_in d) (flat_map bounds_in ds) h.0.1 (bounds_have_words ds h.1)
+
+-- ---- whole texts of models
+
+model_words : (ranges : List RangeForm) (depth : ℕ) (s z : State) (model : ModelTextForm) → Each RangeSayable ranges → IsModel ranges depth s model z → AreLexical s.tokens
+    → ModelTextWritable model
+model_words ranges depth s z model bounds
+    (constants, k0, u, (sorts, a, r, (w, b, q, (state, c, t, (vs, d, v, (semicolon, e, p, (defined, f, o, (steps, g, n, (initial, i, m, (properties, j, l, is)))))))))) h =
+    let zero = constants_given depth s constants k0 u h in
+    let one = sorts_given depth k0 sorts a r zero.1 in
     let two = gives_one k.Model a w b q one.1 in
     let three = gives_one k.State b state c t two.1 in
     let four = state_given depth c vs d v three.1 in
@@ -472,17 +480,21 @@ model_words ranges depth s z model bounds (sorts, a, r, (w, b, q, (state, c, t, 
     let seven = steps_of_model depth f steps g n six.1 in
     let eight = gives_own InitialHasWords (IsInitialState depth) (initial_given depth) g initial i m seven.1 in
     let nine = properties_given depth i properties j l eight.1 in
-    subst (λ (v : ProtocolForm). ProtocolWritable (erase v)) (sym is.0) (record {
-      sorts = one.0;
-      ranges = ranges_writable ranges bounds;
-      variables = four.0;
-      definitions = six.0;
-      steps = each_kept erased_step StepWritable steps (each-of StepHasWords steps seven.0);
-      initial = eight.0;
-      properties = each_kept erased_property PropertyWritable properties (each-of PropertyHasWords properties nine.0);
+    subst ModelTextWritable (sym is.0) (record {
+      constants = zero.0;
+      bounds = bounds_have_words sorts one.0;
+      protocol = record {
+        sorts = declarations_have_words sorts one.0;
+        ranges = ranges_writable ranges bounds;
+        variables = four.0;
+        definitions = six.0;
+        steps = each_kept erased_step StepWritable steps (each-of StepHasWords steps seven.0);
+        initial = eight.0;
+        properties = each_kept erased_property PropertyWritable properties (each-of PropertyHasWords properties nine.0);
+      };
     })
 
-pub reading_words : ReadProtocolsAreWritable
+pub reading_words : ReadModelsAreWritable
 reading_words bytes model is =
     model_words is.ranges depth_limit _ _ model (ranges_of_models_are_said bytes is.tokens is.ranges is.cut) is.says.2 (tokens_of_models_are_lexical bytes is.tokens is.ranges is.cut)
 
@@ -492,12 +504,13 @@ first_of_series : {X T : Type 0} (Item : Reads X) (Between : Reads T) (s z : Sta
 first_of_series Item Between s z xs (last {x = x} r) = (x, refl)
 first_of_series Item Between s z xs (more {x = x} r b rest) = (x, refl)
 
-abbrev HasProperty : ProtocolForm → Type 0
-HasProperty model = (p : PropertyForm) × (slice_get model.properties 0 ≡ Some p)
+abbrev HasProperty : ModelTextForm → Type 0
+HasProperty model = (p : PropertyForm) × (slice_get model.protocol.properties 0 ≡ Some p)
 
-model_has_property : (ranges : List RangeForm) (depth : ℕ) (s z : State) (model : ProtocolForm) → IsModel ranges depth s model z → HasProperty model
-model_has_property ranges depth s z model (sorts, a, r, (w, b, q, (state, c, t, (vs, d, v, (semicolon, e, p, (defined, f, o, (steps, g, n, (initial, i, m, (properties, j, l, is))))))))) =
+model_has_property : (ranges : List RangeForm) (depth : ℕ) (s z : State) (model : ModelTextForm) → IsModel ranges depth s model z → HasProperty model
+model_has_property ranges depth s z model
+    (constants, k0, u, (sorts, a, r, (w, b, q, (state, c, t, (vs, d, v, (semicolon, e, p, (defined, f, o, (steps, g, n, (initial, i, m, (properties, j, l, is)))))))))) =
     subst HasProperty (sym is.0) (first_of_series _ _ i j properties l)
 
-pub has_property : ReadProtocolsHaveProperties
+pub has_property : ReadModelsHaveProperties
 has_property bytes model is = model_has_property is.ranges depth_limit _ _ model is.says.2

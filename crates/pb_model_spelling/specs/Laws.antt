@@ -8,10 +8,9 @@ use Rattle.pb_text_tree.specs.Form.{SpecForm}
 use Rattle.pb_model_meaning.specs.Syntax.{Formula, Model}
 use Rattle.pb_model_text.specs.Parsing.{IsModelReading}
 use Rattle.pb_model_translation.specs.Names.{translation}
-use Rattle.pb_protocol_meaning.specs.Erase.{erase}
-use Rattle.pb_protocol_tree.specs.Form.{PropertyForm, ProtocolForm}
+use Rattle.pb_protocol_tree.specs.Form.{PropertyForm, ModelTextForm}
 use Rattle.pb_model_spelling.specs.Writable.{CanBeSaid, IsWord, ModalWritable, ModelWritable}
-use Rattle.pb_model_spelling.specs.Protocols.{ProtocolWritable}
+use Rattle.pb_model_spelling.specs.Protocols.{ModelTextWritable}
 
 -- A tree that says what a formula of a model is translated to can be said within some levels and
 -- operators, where model and formula have words.
@@ -20,17 +19,16 @@ TranslationsCanBeSaid =
     (model : Model) (f : Formula) (x : SpecForm) → ModelWritable model → ModalWritable f →
     text.erase x ≡ translation model f → CanBeSaid x
 
--- a protocol that was read has words
-abbrev pub ReadProtocolsAreWritable : Type 0
-ReadProtocolsAreWritable =
-    (bytes : List ℕ) (protocol : ProtocolForm) → IsModelReading bytes protocol →
-    ProtocolWritable (erase protocol)
+-- the text of a model that was read has words
+abbrev pub ReadModelsAreWritable : Type 0
+ReadModelsAreWritable =
+    (bytes : List ℕ) (text : ModelTextForm) → IsModelReading bytes text → ModelTextWritable text
 
--- a protocol that was read has a property
-abbrev pub ReadProtocolsHaveProperties : Type 0
-ReadProtocolsHaveProperties =
-    (bytes : List ℕ) (protocol : ProtocolForm) → IsModelReading bytes protocol →
-    (p : PropertyForm) × (slice_get protocol.properties 0 ≡ Some p)
+-- and a property
+abbrev pub ReadModelsHaveProperties : Type 0
+ReadModelsHaveProperties =
+    (bytes : List ℕ) (text : ModelTextForm) → IsModelReading bytes text →
+    (p : PropertyForm) × (slice_get text.protocol.properties 0 ≡ Some p)
 
 -- a name with a prime and any bytes of names behind it is one, as those of elements
 abbrev pub PrimedNamesAreWords : Type 0

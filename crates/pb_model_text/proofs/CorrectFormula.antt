@@ -1,6 +1,6 @@
 -- Formulas are read rightly.
 use Rattle.std.specs.Prelude.{codes, is_some}
-use Rattle.std.proofs.Common.{◌≡◌, ℕ, zero, suc, ◌≤◌, Bool, true, false, cond, ◌&&◌, ◌||◌, Option, Some, None, List, [], ◌∷◌, refl, sym, ap, ◌∙◌, subst, arith, ◌⊎◌, inl, inr}
+use Rattle.std.proofs.Common.{◌≡◌, ℕ, zero, suc, ◌≤◌, Bool, true, false, cond, ◌&&◌, ◌||◌, Option, Some, None, List, [], ◌∷◌, refl, ap, ◌∙◌, arith, ◌⊎◌, inl, inr}
 use Rattle.std.specs.Str.Parse.{digits_value}
 use Rattle.pb_text_tree.specs.declared.place.Place.{Place}
 use Rattle.pb_text_tree.specs.Form.{TermForm, no_arguments}
@@ -27,7 +27,8 @@ use Rattle.pb_text_lexer.proofs.CorrectPlain.{Always, anywhere, then-plain, leaf
 use Rattle.pb_text_lexer.proofs.CorrectLeft.{unless_next-answers, unless_next-correct, going-alike-answers, extended-correct}
 use Rattle.pb_text_lexer.proofs.CorrectEither.{Not, IsBelow, connects, connected-correct}
 use Rattle.pb_text_terms.specs.Grammar.{Name, Instance, applied, Placed, Equated, IsUnary, IsTerm}
-use Rattle.pb_text_terms.specs.Operators.{connected_by, is_quantifier, is_equality, is_order, is_additive, is_times, is_division}
+use Rattle.pb_text_terms.specs.Operators as operators
+use Rattle.pb_text_terms.specs.Operators.{connected_by, is_equality, is_order, is_additive, is_times, is_division}
 use Rattle.pb_text_terms.specs.Reading.{is_open, with_place, equated, unary}
 use Rattle.pb_text_terms.proofs.CorrectVariable.{head-kind-is, head-limited, said-correct, stops-at-kind}
 use Rattle.pb_text_terms.proofs.CorrectOperators.{equated_goes, equateds, unary_goes}
@@ -45,7 +46,7 @@ use Rattle.pb_model_text.proofs.CorrectWords.{HasWord, word-correct, word-then-a
 use Rattle.pb_model_text.proofs.CorrectFair.{no-bracket, processes-correct}
 use Rattle.pb_model_text.proofs.CorrectFair as fair_sets
 use Rattle.pb_model_text.proofs.CorrectStepSets.{sets_go, readable-sets, step_set-correct}
-use Rattle.pb_model_text.proofs.CorrectBeginning.{beginning-answers}
+use Rattle.pb_model_text.proofs.CorrectBeginning.{begins, beginning-answers}
 use Rattle.pb_model_text.proofs.CorrectBinder.{binders, binder-starts, binder-correct, binder-last}
 
 -- what goes on with a node: what goes on with data
@@ -69,20 +70,20 @@ no-name = refl
 
 -- ---- data
 
-equated-some : (d : ℕ) (s : State) (y : TermForm) (z : State) → Equated (IsUnary d) s y z → Passes (λ kind. true) s.tokens
-equated-some d s y z r = some-token-of s.tokens (terms.node-starts d s y z r)
+pub equated-some : (d : ℕ) (s : State) (y : TermForm) (z : State) → Equated (IsUnary d) s y z → Passes (λ kind. true) s.tokens
+equated-some d s y z r = some-token-of (Not operators.is_binder) s.tokens (terms.node-starts d s y z r)
   where
-    some-token-of : (ts : List Tok) → Passes (Not is_quantifier) ts → Passes (λ kind. true) ts
-    some-token-of [] h = h
-    some-token-of (t ∷ ts) h = refl
+    some-token-of : (test : Kind → Bool) (ts : List Tok) → Passes test ts → Passes (λ kind. true) ts
+    some-token-of test [] h = h
+    some-token-of test (t ∷ ts) h = refl
 
 -- what begins with one token, and is an operand of data
-unary-with : (kind : Kind) (level : ℕ) (t : Tok) → Free (λ d. terms.kinds d kind) level (t ∷ []) → Free IsUnary level (t ∷ [])
+pub unary-with : (kind : Kind) (level : ℕ) (t : Tok) → Free (λ d. terms.kinds d kind) level (t ∷ []) → Free IsUnary level (t ∷ [])
 unary-with kind level t a =
     free-to (λ d. terms.kinds d kind) IsUnary (λ x. x) level level
     (λ s x z r. terms.to-unary level s x z (to-first (terms.kinds level) kind s.tokens s.operators x z (terms.starts (deeper IsUnary level) (deeper IsTerm level) kind s x z r) r)) (t ∷ []) a
 
-free-name : (level : ℕ) (t : Tok) → t.kind ≡ k.Name → Free IsUnary level (t ∷ [])
+pub free-name : (level : ℕ) (t : Tok) → t.kind ≡ k.Name → Free IsUnary level (t ∷ [])
 free-name level t is =
     unary-with k.Name level t (
     free-then (λ d. Instance (deeper IsTerm d)) (λ found d. Is (applied found.name found.arguments)) level (t ∷ [])
@@ -93,13 +94,13 @@ free-name level t is =
     (λ name. readable-is (record { name = name; arguments = no_arguments }) level)))
     (λ found. readable-is (applied found.name found.arguments) level))
 
-free-number : (level : ℕ) (t : Tok) → t.kind ≡ k.Number → Free IsUnary level (t ∷ [])
+pub free-number : (level : ℕ) (t : Tok) → t.kind ≡ k.Number → Free IsUnary level (t ∷ [])
 free-number level t is =
     unary-with k.Number level t (
     free-then (λ d. One k.Number) (λ token d. Is (TermForm.number token.place (digits_value 10 token.text))) level (t ∷ []) (free-one k.Number level t is)
     (λ token. readable-is (TermForm.number token.place (digits_value 10 token.text)) level))
 
-free-minus : (level : ℕ) (t : Tok) → t.kind ≡ k.Minus → Free IsUnary (suc level) (t ∷ [])
+pub free-minus : (level : ℕ) (t : Tok) → t.kind ≡ k.Minus → Free IsUnary (suc level) (t ∷ [])
 free-minus level t is =
     unary-with k.Minus (suc level) t (
     free-then (λ d. One k.Minus) (λ sign d. grammar.◌>>=◌ (deeper IsUnary d) (λ operand. Is (TermForm.negative sign.place operand))) (suc level) (t ∷ []) (free-one k.Minus (suc level) t is)
@@ -199,10 +200,6 @@ module _ (scope : FixpointNames) where
   from-formula : (d : ℕ) (s : State) (y : FormulaForm) (z : State) → IsFormula scope d s y z → connecteds d s y z
   from-formula zero s y z r = r
   from-formula (suc d) s y z r = r
-
-  begins : (kind : Kind) (ts : List Tok) → is_last kind ≡ false → head_kind ts ≡ kind → HeadIs kind ts
-  begins kind [] other e = let no : is_last k.End ≡ false = subst (λ (v : Kind). is_last v ≡ false) (sym e) other in cc
-  begins kind (t ∷ ts) other e = e
 
   starts : (d : ℕ) (kind : Kind) (s : State) (y : FormulaForm) (z : State) → kinds d kind s y z → HeadIs kind s.tokens
   starts d k.Not s y z r = head-at k.Not s.tokens r.1.tokens r.0 r.2.0 r.2.1

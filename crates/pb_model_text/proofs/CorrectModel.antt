@@ -1,102 +1,42 @@
 -- Steps, properties and whole models are read rightly.
-use Rattle.std.proofs.Common.{◌≡◌, ℕ, suc, Bool, false, List, [], ◌∷◌, refl, ap, ◌⊎◌, inl, inr}
+use Rattle.std.specs.Prelude.{flat_map}
+use Rattle.std.proofs.Common.{◌≡◌, ℕ, Bool, false, List, [], ◌∷◌, map, refl, sym, ap, subst, inl, inr}
 use Rattle.pb_text_tree.specs.Form.{RangeForm}
-use Rattle.pb_protocol_tree.specs.Form.{AssignmentForm, StepForm, PropertyForm, ProtocolForm}
+use Rattle.pb_protocol_tree.specs.Form.{StepForm, PropertyForm, ModelTextForm}
 use Rattle.pb_text_lexer.specs.declared.kind.Kind.{Kind}
 use Rattle.pb_text_lexer.specs.declared.kind.Kind.TheVariants as k
 use Rattle.pb_text_lexer.specs.Kinds.{same_kind}
-use Rattle.pb_text_lexer.specs.Grammar.{State, Reads, Is, One, CountedApart}
-use Rattle.pb_text_lexer.specs.Grammar as grammar
+use Rattle.pb_text_lexer.specs.Grammar.{State, One, CountedApart}
 use Rattle.pb_text_lexer.specs.LeftGrammar.{Listed}
-use Rattle.pb_text_lexer.specs.Steps.{take_token, expect, kind}
-use Rattle.pb_text_lexer.proofs.Correct.{Stops, never, Answering, Correct, HeadIs, then-correct, take-correct, expect-correct}
-use Rattle.pb_text_lexer.proofs.CorrectFamilies.{Nowhere, first-correct, own-correct}
-use Rattle.pb_text_lexer.proofs.CorrectSeries.{going, Passes, head-at}
-use Rattle.pb_text_lexer.proofs.CorrectPlain.{Always, anywhere, then-plain, nothing-correct}
+use Rattle.pb_text_lexer.specs.Tokens.{Tok}
+use Rattle.pb_text_lexer.specs.Steps.{expect}
+use Rattle.pb_text_lexer.proofs.Correct.{Stops, never, Correct, HeadIs, then-correct, expect-correct}
+use Rattle.pb_text_lexer.proofs.CorrectFamilies.{own-correct}
+use Rattle.pb_text_lexer.proofs.CorrectSeries.{going, Passes, stops-at, head-at}
+use Rattle.pb_text_lexer.proofs.CorrectPlain.{Always, anywhere, then-plain}
 use Rattle.pb_text_terms.specs.Grammar.{Name, Placed, arguments_of, IsTerm}
-use Rattle.pb_text_terms.specs.Reading.{name, instance, is_open, with_place, argument_list, term}
+use Rattle.pb_text_terms.specs.Reading.{name, is_open, with_place, argument_list, term}
 use Rattle.pb_text_terms.proofs.CorrectVariable.{name-correct, commas, listed-correct, stops-at-kind, said-correct}
-use Rattle.pb_text_terms.proofs.CorrectOperators.{unary_goes, term_goes, comma-apart, list_goes}
-use Rattle.pb_text_terms.proofs.CorrectInstance.{placed-correct}
+use Rattle.pb_text_terms.proofs.CorrectOperators.{term_goes, comma-apart, list_goes}
 use Rattle.pb_text_terms.proofs.CorrectTerm.{term-correct}
-use Rattle.pb_text_terms.proofs.TermStarts.{deeper-some}
-use Rattle.pb_text_formulas.specs.Grammar.{SortParts}
-use Rattle.pb_text_formulas.specs.Reading.{is_name_kind, sort_parts}
+use Rattle.pb_text_formulas.specs.Reading.{is_name_kind}
 use Rattle.pb_text.specs.Reading.{parameters}
-use Rattle.pb_text_formulas.proofs.CorrectSorts.{passes-kind, token-correct, many-correct, parts_go, sort_parts-correct}
+use Rattle.pb_text_formulas.specs.Reading.{is_sort}
+use Rattle.pb_text_formulas.proofs.CorrectSorts.{sort-apart, passes-kind, token-correct, many-correct}
 use Rattle.pb_text.proofs.CorrectText.{parameters_of, parameters-correct}
-use Rattle.pb_model_text.specs.Grammar.{IsFormula, IsInstance, StateVariables, Definitions, IsAssignment, AssignedBy, Assigned, IsStep, Steps, IsInitialState, IsProperty, Properties, IsModel}
-use Rattle.pb_model_text.specs.Reading.{is_property, formula, state_variables, definitions, assignment, assignments, assigned_by, assigned, step_parts, steps, initial_parts, initial, property_parts, property, properties, model}
-use Rattle.pb_model_text.specs.Reading as reading
-use Rattle.pb_model_text.proofs.CorrectInstances.{instance-correct, instance-starts}
+use Rattle.pb_model_text.specs.Grammar.{IsFormula}
+use Rattle.pb_model_text.specs.Models.{Constants, DeclaredSort, Sorts, declaration_in, bounds_in}
+use Rattle.pb_model_text.specs.Models.{StateVariables, Definitions, Assigned, IsStep, Steps, IsInitialState, IsProperty, Properties, IsModel}
+use Rattle.pb_model_text.specs.Reading.{is_property, formula}
+use Rattle.pb_model_text.specs.ModelReading.{constants, sorts, state_variables, definitions, assignments, assigned, step_parts, steps, initial_parts, initial, property_parts, property, properties, model}
+use Rattle.pb_model_text.specs.ModelReading as reading
 use Rattle.pb_model_text.proofs.CorrectState.{state_variables-correct, definitions-correct}
 use Rattle.pb_model_text.proofs.CorrectFormula.{formula_goes, formulas-correct}
+use Rattle.pb_model_text.proofs.CorrectAssigned.{placed_term-correct, semicolon-stops, assigned-correct}
+use Rattle.pb_model_text.proofs.CorrectConstants.{constants_go, constants-correct}
+use Rattle.pb_model_text.proofs.CorrectSorts.{sorts_go, parts-start, sorts-correct}
 
 -- ---- steps
-
-placed_term-correct : (depth : ℕ) → Correct Always (with_place (term depth)) (λ d. Placed (IsTerm d)) term_goes depth
-placed_term-correct depth = placed-correct IsTerm term_goes depth (λ d s y z r. deeper-some (suc d) s y z r) (term depth) (term-correct depth)
-
-assign-stops : unary_goes k.Assign ≡ false
-unfolding same_kind
-assign-stops = refl
-
-assignment-correct : (depth : ℕ) → Correct Always (assignment depth) IsAssignment term_goes depth
-unfolding assignment
-assignment-correct depth =
-    then-correct IsInstance _ unary_goes term_goes depth
-    (λ d x m y z r over. stops-at-kind unary_goes k.Assign assign-stops m.tokens r.1.tokens r.0 r.2.0 r.2.1) Always
-    (instance depth) _ (instance-correct depth) (λ target. anywhere (Stops unary_goes) _ _ term_goes depth (
-    then-plain (λ d. One k.Assign) _ term_goes depth
-    Always (expect k.Assign) _ (expect-correct k.Assign depth refl) (λ assign.
-    said-correct (λ d. Placed (IsTerm d))
-    (λ value. record { variable = target.name; index = target.arguments; place = value.0; value = value.1 })
-    term_goes depth Always (with_place (term depth)) (placed_term-correct depth))))
-
-assignments-correct : (depth : ℕ) → Correct Always (assignments depth) (λ d. Listed (IsAssignment d) (One k.Comma)) list_goes depth
-assignments-correct depth = listed-correct IsAssignment term_goes depth comma-apart (assignment depth) (assignment-correct depth)
-
-semicolon-stops : list_goes k.Semicolon ≡ false
-unfolding same_kind
-semicolon-stops = refl
-
--- what is assigned, by the first token
-abbrev assigned-kinds : ℕ → Kind → Reads (List AssignmentForm)
-assigned-kinds d = AssignedBy d
-
-assigned-starts : (d : ℕ) (kind : Kind) (s : State) (y : List AssignmentForm) (z : State) → assigned-kinds d kind s y z → HeadIs kind s.tokens
-assigned-starts d k.Skip s y z r = head-at k.Skip s.tokens r.1.tokens r.0 r.2.0 r.2.1
-assigned-starts d k.Name s y z r = at r.0 s r.1 r.2
-  where
-    at : (xs : List AssignmentForm) (s z : State) → Listed (IsAssignment d) (One k.Comma) s xs z → HeadIs k.Name s.tokens
-    at xs s z (grammar.last q) = instance-starts d s q.0 q.1 q.2
-    at xs s z (grammar.more q b rest) = instance-starts d s q.0 q.1 q.2
-assigned-starts d _ s y z r = absurd r
-
-module _ (depth : ℕ) where
-  none-assigned : Correct (HeadIs k.Skip) (assigned_by depth k.Skip) (λ d. assigned-kinds d k.Skip) never depth
-  unfolding assigned_by
-  none-assigned =
-      then-plain (λ d. One k.Skip) (λ skip d. grammar.◌>>=◌ (One k.Semicolon) (λ semicolon. Is [])) never depth (HeadIs k.Skip) take_token _ (take-correct k.Skip depth refl)
-      (λ skip. token-correct k.Semicolon depth [] refl)
-
-  some-assigned : Correct (HeadIs k.Name) (assigned_by depth k.Name) (λ d. assigned-kinds d k.Name) never depth
-  unfolding assigned_by
-  some-assigned =
-      anywhere (HeadIs k.Name) _ (λ d. assigned-kinds d k.Name) never depth (
-      then-correct (λ d. Listed (IsAssignment d) (One k.Comma)) _ list_goes never depth
-      (λ d x m y z r over. stops-at-kind list_goes k.Semicolon semicolon-stops m.tokens r.1.tokens r.0 r.2.0 r.2.1) Always (assignments depth) _ (assignments-correct depth)
-      (λ found. anywhere (Stops list_goes) _ _ never depth (token-correct k.Semicolon depth found refl)))
-
-  assigned-each : (kind : Kind) → Answering (HeadIs kind) (assigned_by depth kind) (λ d. assigned-kinds d kind) never depth ⊎ Nowhere (assigned_by depth kind) (λ d. assigned-kinds d kind)
-  unfolding assigned_by
-  assigned-each k.Skip = inl none-assigned.answers
-  assigned-each k.Name = inl some-assigned.answers
-  assigned-each kind = inr nothing-correct
-
-  assigned-correct : Correct Always (assigned depth) Assigned never depth
-  unfolding assigned
-  assigned-correct = first-correct assigned-kinds never depth assigned-starts (assigned_by depth) assigned-each k.Skip none-assigned.here none-assigned.some
 
 colon-stops : going never is_open k.Colon ≡ false
 unfolding same_kind
@@ -192,7 +132,7 @@ properties-correct depth =
 
 -- ---- the whole model
 
-model-stops : parts_go k.Model ≡ false
+model-stops : sorts_go k.Model ≡ false
 unfolding same_kind
 model-stops = refl
 
@@ -208,13 +148,33 @@ pub end-stops : properties_go k.End ≡ false
 unfolding same_kind
 end-stops = refl
 
+-- where sorts and `model` follow, no name does
+sorts-stop-constants : (d : ℕ) (s m : State) (x : List DeclaredSort) → Sorts d s x m → HeadIs k.Model m.tokens → Stops constants_go s.tokens
+unfolding same_kind
+sorts-stop-constants d s m x (inl r) head = stops m.tokens s.tokens (ap (λ (v : State). v.tokens) r.1) head
+  where
+    at : (kind : Kind) → kind ≡ k.Model → constants_go kind ≡ false
+    at kind e = subst (λ (v : Kind). constants_go v ≡ false) (sym e) refl
+
+    stops : (ts us : List Tok) → ts ≡ us → HeadIs k.Model ts → Stops constants_go us
+    stops ts us e h = subst (λ (v : List Tok). Stops constants_go v) e (here ts h)
+      where
+        here : (ts : List Tok) → HeadIs k.Model ts → Stops constants_go ts
+        here [] h = refl
+        here (t ∷ ts) h = at t.kind h
+sorts-stop-constants d s m x (inr r) head =
+    subst (λ (v : State). Stops constants_go v.tokens) r.2.1 (stops-at constants_go is_sort r.1.tokens sort-apart (parts-start d r.1 x m r.3))
+
 module _ (ranges : List RangeForm) (depth : ℕ) where
   pub model-correct : Correct Always (model ranges depth) (IsModel ranges) properties_go depth
   unfolding model
   model-correct =
-      then-correct (λ d. SortParts) _ parts_go properties_go depth
-      (λ d x m y z r over. stops-at-kind parts_go k.Model model-stops m.tokens r.1.tokens r.0 r.2.0 r.2.1) Always
-      sort_parts _ (sort_parts-correct depth) (λ sorts. anywhere (Stops parts_go) _ _ properties_go depth (
+      then-correct Constants _ constants_go properties_go depth
+      (λ d x m y z r over. let q = r.3 in sorts-stop-constants d m r.1 r.0 r.2 (head-at k.Model r.1.tokens q.1.tokens q.0 q.2.0 q.2.1)) Always
+      (constants depth) _ (constants-correct depth) (λ its_constants. anywhere (Stops constants_go) _ _ properties_go depth (
+      then-correct Sorts _ sorts_go properties_go depth
+      (λ d x m y z r over. stops-at-kind sorts_go k.Model model-stops m.tokens r.1.tokens r.0 r.2.0 r.2.1) Always
+      (sorts depth) _ (sorts-correct depth) (λ its_sorts. anywhere (Stops sorts_go) _ _ properties_go depth (
       then-plain (λ d. One k.Model) _ properties_go depth
       Always (expect k.Model) _ (expect-correct k.Model depth refl) (λ word.
       then-plain (λ d. One k.State) _ properties_go depth
@@ -234,27 +194,35 @@ module _ (ranges : List RangeForm) (depth : ℕ) where
       Always (initial depth) _ (initial-correct depth) (λ start.
       said-correct Properties
       (λ asked. record {
-        sorts = sorts;
-        ranges = ranges;
-        variables = own;
-        definitions = defined;
-        steps = found;
-        initial =
-            start;
-        properties = asked;
-      }) properties_go depth Always (properties depth) (properties-correct depth))))))))))))
+        constants = its_constants;
+        bounds = flat_map bounds_in its_sorts;
+        protocol = record {
+          sorts = map declaration_in its_sorts;
+          ranges = ranges;
+          variables = own;
+          definitions = defined;
+          steps = found;
+          initial = start;
+          properties = asked;
+        };
+      }) properties_go depth Always (properties depth) (properties-correct depth))))))))))))))
 
--- the same with other range lines
-pub other-ranges : (rs us : List RangeForm) (d : ℕ) (s : State) (y : ProtocolForm) (z : State) → IsModel us d s y z → IsModel rs d s (record y { ranges = rs }) z
+abbrev pub with_ranges : List RangeForm → ModelTextForm → ModelTextForm
+with_ranges rs y = record { constants = y.constants; bounds = y.bounds; protocol = record y.protocol { ranges = rs } }
+
+-- the same with other range lines: as before, one part deeper (constants before sorts)
+pub other-ranges : (rs us : List RangeForm) (d : ℕ) (s : State) (y : ModelTextForm) (z : State) → IsModel us d s y z → IsModel rs d s (with_ranges rs y) z
 other-ranges rs us d s y z r =
     let p = r.3 in
-    let e = p.3 in
+    let h = p.3 in
+    let e = h.3 in
     let i = e.3 in
     let n = i.3 in
     let c = n.3 in
     let b = c.3 in
     let a = b.3 in
-    let v = a.3 in (
+    let v = a.3 in
+    let w = v.3 in (
       r.0,
       r.1,
       r.2,
@@ -263,22 +231,45 @@ other-ranges rs us d s y z r =
         p.1,
         p.2,
         (
-          e.0,
-          e.1,
-          e.2,
+          h.0,
+          h.1,
+          h.2,
           (
-            i.0,
-            i.1,
-            i.2,
+            e.0,
+            e.1,
+            e.2,
             (
-              n.0,
-              n.1,
-              n.2,
+              i.0,
+              i.1,
+              i.2,
               (
-                c.0,
-                c.1,
-                c.2,
-                (b.0, b.1, b.2, (a.0, a.1, a.2, (v.0, v.1, v.2, (ap (λ (w : ProtocolForm). record w { ranges = rs }) v.3.0, v.3.1)))),
+                n.0,
+                n.1,
+                n.2,
+                (
+                  c.0,
+                  c.1,
+                  c.2,
+                  (
+                    b.0,
+                    b.1,
+                    b.2,
+                    (
+                      a.0,
+                      a.1,
+                      a.2,
+                      (
+                        v.0,
+                        v.1,
+                        v.2,
+                        (
+                          ap (with_ranges rs) w.0,
+                          w.1,
+                        ),
+                      ),
+                    ),
+                  ),
+                ),
               ),
             ),
           ),
@@ -287,7 +278,7 @@ other-ranges rs us d s y z r =
     )
 
 -- its ranges are those
-pub ranges-are : (rs : List RangeForm) (d : ℕ) (s : State) (y : ProtocolForm) (z : State) → IsModel rs d s y z → y ≡ record y { ranges = rs }
+pub ranges-are : (rs : List RangeForm) (d : ℕ) (s : State) (y : ModelTextForm) (z : State) → IsModel rs d s y z → y ≡ with_ranges rs y
 ranges-are rs d s y z r =
-    let e : y.ranges ≡ rs = ap (λ (v : ProtocolForm). v.ranges) r.3.3.3.3.3.3.3.3.3.0 in
-    ap (λ (v : List RangeForm). record y { ranges = v }) e
+    let e : y.protocol.ranges ≡ rs = ap (λ (v : ModelTextForm). v.protocol.ranges) r.3.3.3.3.3.3.3.3.3.3.0 in
+    ap (λ (v : List RangeForm). with_ranges v y) e

@@ -22,8 +22,8 @@ use Rattle.pb_text_formulas.specs.Reading.{is_name_kind}
 use Rattle.pb_text_formulas.proofs.CorrectSorts.{passes-kind, token-correct, many-correct}
 use Rattle.pb_text.specs.Reading.{parameters}
 use Rattle.pb_text.proofs.CorrectText.{parameters_of, parameters-correct}
-use Rattle.pb_model_text.specs.Grammar.{Indexed, of_sort, StateGroup, StateVariables, IsDefinition, DefinedBy, Definitions}
-use Rattle.pb_model_text.specs.Reading.{indexed_name, indexed_names, state_group, state_groups, state_variables, definition_parts, definition, definition_list, defined_by, definitions}
+use Rattle.pb_model_text.specs.Models.{Indexed, of_sort, StateGroup, StateVariables, IsDefinition, DefinedBy, Definitions}
+use Rattle.pb_model_text.specs.ModelReading.{indexed_name, indexed_names, state_group, state_groups, state_variables, definition_parts, definition, definition_list, defined_by, definitions}
 
 -- ---- the state
 

@@ -61,11 +61,11 @@ module _ (sets : Step StepSetForm) (s : State) where
 
 -- ---- the word behind the sets
 
-some-unit : (o : Option (Unit {0})) → is_some o ≡ true → o ≡ Some tt
+pub some-unit : (o : Option (Unit {0})) → is_some o ≡ true → o ≡ Some tt
 some-unit None on = cc
 some-unit (Some u) on = refl
 
-no-unit : (o : Option (Unit {0})) → is_some o ≡ false → o ≡ None
+pub no-unit : (o : Option (Unit {0})) → is_some o ≡ false → o ≡ None
 no-unit None other = refl
 no-unit (Some u) other = cc
 

@@ -9,7 +9,11 @@ pub mod CorrectBinder
 pub mod CorrectWords
 pub mod CorrectFair
 pub mod CorrectFormula
+pub mod CorrectAssigned
+pub mod CorrectConstants
+pub mod CorrectSorts
 pub mod CorrectModel
+pub mod SortLemmas
 pub mod StateLemmas
 pub mod InstanceLemmas
 pub mod StepSetLemmas

@@ -8,9 +8,9 @@ use Rattle.pb_protocol_tree.specs.declared.protocol.StateVariables.{StateVariabl
 use Rattle.pb_protocol_tree.specs.Form.{StateVariableForm, state_variable_form, state_variables_form}
 use Rattle.pb_text_lexer.specs.declared.fault.Refusal.{Refusal}
 use Rattle.pb_text_lexer.specs.Grammar.{State}
-use Rattle.pb_model_text.specs.Grammar.{of_sort}
+use Rattle.pb_model_text.specs.Models.{of_sort}
 use Rattle.pb_model_text.specs.Links.{indexed}
-use Rattle.pb_model_text.specs.Reading.{state_groups, state_variables}
+use Rattle.pb_model_text.specs.ModelReading.{state_groups, state_variables}
 
 pub variables-of-sort : (sort : Name) (xs : List StateVariable) → map (of_sort (named sort)) (map indexed xs) ≡ map (state_variable_form sort) xs
 variables-of-sort sort [] = refl

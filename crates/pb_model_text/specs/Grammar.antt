@@ -1,33 +1,27 @@
--- The grammar of models, one production for each row (this project's own; the modal mu-calculus
--- with data as in Groote and Mousavi 2014). Sorts, variables and data terms are those of texts.
--- What a model says is a protocol: arrays and definitions stand in it as they are written.
+-- The grammar of sets of steps and formulas, one production for each row (this project's own; the
+-- modal mu-calculus with data as in Groote and Mousavi 2014). Data terms are those of texts.
 use Rattle.std.specs.Prelude.{◌≡◌, ℕ, zero, suc, Bool, true, false, if◌then◌else◌, List, [], ◌∷◌}
-use Rattle.std.specs.Prelude.{◌++◌, map, flat_map, codes, ◌&&◌, not, Option, Some, None}
+use Rattle.std.specs.Prelude.{◌++◌, codes, ◌&&◌, not, Option, Some, None}
 use Rattle.std.specs.Str.{bytes_eq}
 use Rattle.pb_fixpoint.specs.declared.Sign.{Sign}
 use Rattle.pb_fixpoint.specs.declared.Sign.TheVariants as sign
 use Rattle.pb_text_tree.specs.declared.place.Place.{Place}
-use Rattle.pb_text_tree.specs.Form.{Named, VariableForm, TermForm, InstanceForm, RangeForm}
+use Rattle.pb_text_tree.specs.Form.{Named, TermForm, InstanceForm}
 use Rattle.pb_text_tree.specs.Form.{ArgumentForms, no_arguments, argument}
 use Rattle.pb_text_lexer.specs.declared.kind.Kind.{Kind}
 use Rattle.pb_text_lexer.specs.declared.kind.Kind.TheVariants as k
-use Rattle.pb_text_lexer.specs.Grammar.{Reads, ◌>>=◌, Is, Nothing, One, First, CountedApart}
+use Rattle.pb_text_lexer.specs.Grammar.{Reads, ◌>>=◌, Is, Nothing, One, First}
 use Rattle.pb_text_lexer.specs.Kinds.{same_kind}
 use Rattle.pb_text_lexer.specs.OpenGrammar.{Chained, Connected, Either}
-use Rattle.pb_text_lexer.specs.LeftGrammar.{Extended, Listed}
+use Rattle.pb_text_lexer.specs.LeftGrammar.{Extended}
 use Rattle.pb_text_lexer.specs.Steps.{head_kind}
 use Rattle.pb_text_lexer.specs.Tokens.{Tok}
 use Rattle.pb_text_terms.specs.Operators.{connected_by}
-use Rattle.pb_text_terms.specs.Grammar.{Name, Quantified, Instance, Placed, arguments_of}
+use Rattle.pb_text_terms.specs.Grammar.{Name, Quantified, Instance, Placed}
 use Rattle.pb_text_terms.specs.Grammar.{Equated, IsUnary, IsTerm}
-use Rattle.pb_text_formulas.specs.Grammar.{SortParts}
-use Rattle.pb_text.specs.Grammar.{Declared}
 use Rattle.pb_model_tree.specs.declared.formula.Modality.{Modality}
 use Rattle.pb_model_tree.specs.declared.formula.Modality.TheVariants as modality
-use Rattle.pb_model_tree.specs.Form.{InitialForm}
-use Rattle.pb_protocol_tree.specs.Form.{StepValueForm, StepSetForm, FormulaForm, StateVariableForm}
-use Rattle.pb_protocol_tree.specs.Form.{DefinitionForm, AssignmentForm, StepForm, PropertyForm}
-use Rattle.pb_protocol_tree.specs.Form.{ProtocolForm}
+use Rattle.pb_protocol_tree.specs.Form.{StepValueForm, StepSetForm, FormulaForm}
 use Rattle.pb_model_text.specs.declared.word.Leading.{Leading}
 use Rattle.pb_model_text.specs.declared.word.Leading.TheVariants as leading
 use Rattle.pb_model_text.specs.Words.{leading_of, infix_of, fairly_of, is_word}
@@ -339,155 +333,3 @@ abbrev mutual
 -- what may stand behind `!`, a modality's brackets, and a word between two operands
 abbrev pub IsNode : FixpointNames → ℕ → Reads FormulaForm
 IsNode scope depth = Worded scope (IsFair scope depth) (IsPlain scope depth)
-
--- ---- the state and definitions
-
--- a state variable's name with its indices
-abbrev pub Indexed : ℕ → Reads (Named × List VariableForm)
-Indexed depth = do
-  name ← Name
-  indices ← Extended (Is []) (λ none. Declared depth)
-  Is (name, indices)
-
--- state variables whose values are of one sort
-abbrev pub of_sort : Named → Named × List VariableForm → StateVariableForm
-of_sort sort x = record { name = x.0; indices = x.1; sort = sort }
-
-abbrev pub StateGroup : ℕ → Reads (List StateVariableForm)
-StateGroup depth = do
-  variables ← Listed (Indexed depth) (One k.Comma)
-  colon ← One k.Colon
-  sort ← Name
-  Is (map (of_sort sort) variables)
-
--- state variables, each with its indices and its sort
-abbrev pub StateVariables : ℕ → Reads (List StateVariableForm)
-StateVariables depth = do
-  groups ← Listed (StateGroup depth) (One k.Comma)
-  Is (flat_map (λ group. group) groups)
-
--- a name with parameters, and the term that it stands for
-abbrev pub IsDefinition : ℕ → Reads DefinitionForm
-IsDefinition depth = do
-  name ← Name
-  parameters ← Extended (Is []) (λ none. Declared depth)
-  is ← One k.Is
-  term ← IsTerm depth
-  semicolon ← One k.Semicolon
-  Is (record { name = name; parameters = parameters; term = term })
-
--- What stands behind the state, up to `step`: definitions, one or more, each with all the operators
--- that are allowed, or none.
-abbrev pub DefinedBy : ℕ → Kind → Reads (List DefinitionForm)
-DefinedBy depth k.Step = do
-  step ← One k.Step
-  Is []
-DefinedBy depth k.Define = do
-  define ← One k.Define
-  definitions ← Listed (CountedApart (IsDefinition depth)) (Is {X = Unit {0}} tt)
-  step ← One k.Step
-  Is definitions
-DefinedBy depth _ = Nothing
-
-abbrev pub Definitions : ℕ → Reads (List DefinitionForm)
-Definitions depth = First (DefinedBy depth)
-
--- ---- steps, the initial state, properties
-
--- a state variable, with its index, and the term whose value it gets, with the place of its first
--- token
-abbrev pub IsAssignment : ℕ → Reads AssignmentForm
-IsAssignment depth = do
-  assigned ← IsInstance depth
-  assign ← One k.Assign
-  value ← Placed (IsTerm depth)
-  Is (record {
-    variable = assigned.name;
-    index = assigned.arguments;
-    place = value.0;
-    value = value.1;
-  })
-
--- what is assigned, up to `;`: nothing, or one assignment or more
-abbrev pub AssignedBy : ℕ → Kind → Reads (List AssignmentForm)
-AssignedBy depth k.Skip = do
-  skip ← One k.Skip
-  semicolon ← One k.Semicolon
-  Is []
-AssignedBy depth k.Name = do
-  assignments ← Listed (IsAssignment depth) (One k.Comma)
-  semicolon ← One k.Semicolon
-  Is assignments
-AssignedBy depth _ = Nothing
-
-abbrev pub Assigned : ℕ → Reads (List AssignmentForm)
-Assigned depth = First (AssignedBy depth)
-
--- a name with variables of its own, a guard and what is assigned
-abbrev pub IsStep : ℕ → Reads StepForm
-IsStep depth = do
-  name ← Name
-  variables ← Extended (Is []) (λ none. Declared depth)
-  colon ← One k.Colon
-  guard ← IsTerm depth
-  arrow ← One k.Arrow
-  assignments ← Assigned depth
-  Is (record { name = name; variables = variables; guard = guard; assignments = assignments })
-
--- one step or more, each with all the operators that are allowed
-abbrev pub Steps : ℕ → Reads (List StepForm)
-Steps depth = Listed (CountedApart (IsStep depth)) (Is {X = Unit {0}} tt)
-
--- the values of the state variables, in order
-abbrev pub IsInitialState : ℕ → Reads InitialForm
-IsInitialState depth = do
-  word ← One k.Init
-  values ← Listed (Placed (IsTerm depth)) (One k.Comma)
-  semicolon ← One k.Semicolon
-  Is (record { place = word.place; values = arguments_of values })
-
-abbrev pub IsProperty : ℕ → Reads PropertyForm
-IsProperty depth = do
-  word ← One k.Property
-  name ← Name
-  is ← One k.Is
-  formula ← IsFormula [] depth
-  semicolon ← One k.Semicolon
-  Is (record { name = name; formula = formula })
-
--- one property or more, each with all the operators that are allowed
-abbrev pub Properties : ℕ → Reads (List PropertyForm)
-Properties depth = Listed (CountedApart (IsProperty depth)) (Is {X = Unit {0}} tt)
-
--- ---- models
-
--- The ranges are those of the range lines, which stand among the tokens as white space.
-abbrev pub IsModel : List RangeForm → ℕ → Reads ProtocolForm
-IsModel ranges depth = do
-  sorts ← SortParts
-  model ← One k.Model
-  state ← One k.State
-  variables ← StateVariables depth
-  semicolon ← One k.Semicolon
-  definitions ← Definitions depth
-  steps ← Steps depth
-  initial ← CountedApart (IsInitialState depth)
-  properties ← Properties depth
-  Is (record {
-    sorts = sorts;
-    ranges = ranges;
-    variables = variables;
-    definitions = definitions;
-    steps = steps;
-    initial = initial;
-    properties = properties;
-  })
-
--- The tokens are this model, and then the end. So many levels may open; each definition, each step,
--- the initial state and each property may have so many operators.
-abbrev pub IsModelText : ℕ → ℕ → List Tok → List RangeForm → ProtocolForm → Type 0
-IsModelText depth operators tokens ranges model =
-    (m : ℕ) × (end : Tok)
-    × IsModel ranges depth (record { tokens = tokens; operators = operators }) model
-    (record { tokens = end ∷ []; operators = m })
-    × (end.kind ≡ k.End)

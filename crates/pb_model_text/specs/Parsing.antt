@@ -2,7 +2,7 @@
 use Rattle.std.specs.Prelude.{◌≡◌, ℕ, suc, true, List, [], ◌∷◌, ◌++◌}
 use Rattle.pb_text_tree.specs.declared.place.Place.{Place}
 use Rattle.pb_text_tree.specs.Form.{RangeForm}
-use Rattle.pb_protocol_tree.specs.Form.{ProtocolForm}
+use Rattle.pb_protocol_tree.specs.Form.{ModelTextForm}
 use Rattle.pb_text_lexer.specs.declared.fault.ReadingRule.TheVariants as refused
 use Rattle.pb_text_lexer.specs.declared.fault.ReadingRule as token_rule
 use Rattle.pb_text_lexer.specs.declared.kind.Kind.{Kind}
@@ -16,32 +16,32 @@ use Rattle.pb_text.specs.declared.error.TextRule.{TextRule}
 use Rattle.pb_text.specs.declared.error.TextRule.TheVariants as rule
 use Rattle.pb_text.specs.declared.error.TextFault.{TextFault}
 use Rattle.pb_text.specs.Parsing.{depth_limit, operator_limit}
-use Rattle.pb_model_text.specs.Grammar.{IsModelText}
+use Rattle.pb_model_text.specs.Models.{IsModelText}
 
--- The bytes are this model: so many levels may open, and each definition, each step, the initial
--- state and each property may have so many operators.
+-- The bytes are this model: so many levels may open, and the constants, each sort, each definition,
+-- each step, the initial state and each property may have so many operators.
 pub record IsModelReadingWithin (depth operators : ℕ) (bytes : List ℕ)
-    (x : ProtocolForm) : Type 0 where
+    (x : ModelTextForm) : Type 0 where
   pub tokens : List Tok
   pub ranges : List RangeForm
   pub cut : IsCutIn Model bytes tokens ranges
   pub says : IsModelText depth operators tokens ranges x
 
 -- the bytes are this model, within the limits of texts
-abbrev pub IsModelReading : List ℕ → ProtocolForm → Type 0
+abbrev pub IsModelReading : List ℕ → ModelTextForm → Type 0
 IsModelReading bytes x = IsModelReadingWithin depth_limit operator_limit bytes x
 
 -- bytes are at most one model, places included, whatever the limits
 abbrev pub AtMostOneModelReading : Type 0
 AtMostOneModelReading =
-    (bytes : List ℕ) (d n e m : ℕ) (x y : ProtocolForm) → IsModelReadingWithin d n bytes x →
+    (bytes : List ℕ) (d n e m : ℕ) (x y : ModelTextForm) → IsModelReadingWithin d n bytes x →
     IsModelReadingWithin e m bytes y → x ≡ y
 
 -- some model begins with these tokens, where so many levels may open, and so many operators come
 pub record BeginsModel (depth operators : ℕ) (tokens : List Tok) : Type 0 where
   pub tail : List Tok
   pub ranges : List RangeForm
-  pub model : ProtocolForm
+  pub model : ModelTextForm
   pub says : IsModelText depth operators (tokens ++ tail) ranges model
 
 -- with one level and one operator more than the limits allow
@@ -69,7 +69,7 @@ pub record IsModelRefusal
   pub stands : next.place ≡ place
   pub limited : broken ≡ refused.Limit → is_limited next.kind ≡ true
   pub none :
-      (d n : ℕ) (tail : List Tok) (ranges : List RangeForm) (x : ProtocolForm) →
+      (d n : ℕ) (tail : List Tok) (ranges : List RangeForm) (x : ModelTextForm) →
       WithinLimits broken depth_limit operator_limit d n →
       IsModelText d n (front ++ next ∷ tail) ranges x → ⊥
   pub goes_on : BeginsNextModel (front ++ going_on broken next)
@@ -96,4 +96,4 @@ IsFirstModelFault bytes fault = IsFirstModelFaultBy fault.rule bytes fault.place
 
 -- the bytes say no model within the limits
 abbrev pub NoModelReading : List ℕ → Type 0
-NoModelReading bytes = (x : ProtocolForm) → IsModelReading bytes x → ⊥
+NoModelReading bytes = (x : ModelTextForm) → IsModelReading bytes x → ⊥

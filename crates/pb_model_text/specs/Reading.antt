@@ -1,36 +1,32 @@
--- Reading a model, as a function.
+-- Reading sets of steps and formulas, as functions.
 use Rattle.std.specs.Prelude.{ℕ, zero, suc, Bool, true, false, if◌then◌else◌, ◌||◌}
 use Rattle.std.specs.Prelude.{List, [], ◌∷◌}
-use Rattle.std.specs.Prelude.{length, map, flat_map, Option, Some, None}
+use Rattle.std.specs.Prelude.{length, map, Option, Some, None}
 use Rattle.std.specs.Borrow.{Bor}
 use Rattle.pb_fixpoint.specs.declared.Sign.{Sign}
 use Rattle.pb_fixpoint.specs.declared.Sign.TheVariants as sign
 use Rattle.pb_text_tree.specs.declared.operator.Connective.{Connective}
 use Rattle.pb_text_tree.specs.declared.operator.Connective.TheVariants as connective
 use Rattle.pb_text_tree.specs.declared.place.Place.{Place}
-use Rattle.pb_text_tree.specs.Form.{Named, VariableForm, TermForm, InstanceForm, RangeForm}
+use Rattle.pb_text_tree.specs.Form.{TermForm, InstanceForm}
 use Rattle.pb_text_lexer.specs.declared.fault.ReadingRule.TheVariants.{Unexpected, Limit}
 use Rattle.pb_text_lexer.specs.declared.kind.Kind.{Kind}
 use Rattle.pb_text_lexer.specs.declared.kind.Kind.TheVariants as k
 use Rattle.pb_text_lexer.specs.Kinds.{same_kind}
-use Rattle.pb_text_lexer.specs.Steps.{Step, alone, ◌>>=◌, pure, peek, refuse, take_token, expect}
+use Rattle.pb_text_lexer.specs.Steps.{Step, ◌>>=◌, pure, peek, refuse, take_token, expect}
 use Rattle.pb_text_lexer.specs.Steps.{connected, chain, conjunction, disjunction, either}
-use Rattle.pb_text_lexer.specs.Steps.{extended, unless_next, listed, nothing_between}
+use Rattle.pb_text_lexer.specs.Steps.{extended, unless_next}
 use Rattle.pb_text_lexer.specs.Tokens.{Tok}
 use Rattle.pb_text_terms.specs.Operators.{connected_by, is_equality, is_order, is_additive}
 use Rattle.pb_text_terms.specs.Operators.{is_times, is_division, is_quantifier}
-use Rattle.pb_text_terms.specs.Grammar.{arguments_of}
-use Rattle.pb_text_terms.specs.Reading.{name, is_comma, is_open, with_place, argument_list, equated}
-use Rattle.pb_text_terms.specs.Reading.{unary, term, instance, quantified}
-use Rattle.pb_text_formulas.specs.Reading.{is_name_kind, sort_parts}
-use Rattle.pb_text.specs.Reading.{parameters}
+use Rattle.pb_text_terms.specs.Reading.{name, is_comma, is_open, with_place, equated}
+use Rattle.pb_text_terms.specs.Reading.{unary, instance, quantified}
+use Rattle.pb_text_formulas.specs.Reading.{is_name_kind}
 use Rattle.pb_model_tree.specs.declared.formula.Modality.{Modality}
 use Rattle.pb_model_tree.specs.declared.formula.Modality.TheVariants as modality
-use Rattle.pb_model_tree.specs.Form.{InitialForm}
-use Rattle.pb_protocol_tree.specs.Form.{StepSetForm, FormulaForm, StateVariableForm, DefinitionForm}
-use Rattle.pb_protocol_tree.specs.Form.{AssignmentForm, StepForm, PropertyForm, ProtocolForm}
+use Rattle.pb_protocol_tree.specs.Form.{StepSetForm, FormulaForm}
 use Rattle.pb_model_text.specs.Grammar.{set_of, united_by, begins_word, FixpointNames, atom_of}
-use Rattle.pb_model_text.specs.Grammar.{within, within_fair, leading_within, most_others, of_sort}
+use Rattle.pb_model_text.specs.Grammar.{within, within_fair, leading_within, most_others}
 use Rattle.pb_model_text.specs.declared.word.Leading.{Leading}
 use Rattle.pb_model_text.specs.declared.word.Leading.TheVariants as leading
 use Rattle.pb_model_text.specs.Words.{fairly_of, infix_of, no_deadlock, fair, prefixed, infixed}
@@ -368,166 +364,3 @@ operand connective.Implies scope depth = level connective.Or scope depth
 -- the names of a scope, as the code keeps it
 abbrev pub names_of : List (Bor (List ℕ)) → FixpointNames
 names_of = map (λ name. name.now)
-
--- ---- the state and definitions
-
-unfoldable pub indexed_name : ℕ → Step (Named × List VariableForm)
-indexed_name depth = do
-  found ← name
-  indices ← parameters depth
-  pure (found, indices)
-
-abbrev pub indexed_names : ℕ → Step (List (Named × List VariableForm))
-indexed_names depth =
-    λ s. listed (indexed_name depth) is_comma take_token (suc (length s.tokens)) s
-
-unfoldable pub state_group : ℕ → Step (List StateVariableForm)
-state_group depth = do
-  found ← indexed_names depth
-  colon ← expect k.Colon
-  sort ← name
-  pure (map (of_sort sort) found)
-
-abbrev pub state_groups : ℕ → Step (List (List StateVariableForm))
-state_groups depth =
-    λ s. listed (state_group depth) is_comma take_token (suc (length s.tokens)) s
-
-unfoldable pub state_variables : ℕ → Step (List StateVariableForm)
-state_variables depth = do
-  found ← state_groups depth
-  pure (flat_map (λ group. group) found)
-
-unfoldable pub definition_parts : ℕ → Step DefinitionForm
-definition_parts depth = do
-  found ← name
-  its_parameters ← parameters depth
-  is ← expect k.Is
-  body ← term depth
-  semicolon ← expect k.Semicolon
-  pure (record { name = found; parameters = its_parameters; term = body })
-
--- a definition with all the operators that are allowed
-unfoldable pub definition : ℕ → Step DefinitionForm
-definition depth = alone (definition_parts depth)
-
-abbrev pub definition_list : ℕ → Step (List DefinitionForm)
-definition_list depth =
-    λ s. listed (definition depth) is_name_kind nothing_between (suc (length s.tokens)) s
-
-unfoldable pub defined_by : ℕ → Kind → Step (List DefinitionForm)
-defined_by depth k.Step = do
-  step ← take_token
-  pure []
-defined_by depth k.Define = do
-  define ← take_token
-  found ← definition_list depth
-  step ← expect k.Step
-  pure found
-defined_by depth _ = refuse Unexpected
-
-unfoldable pub definitions : ℕ → Step (List DefinitionForm)
-definitions depth = peek >>= defined_by depth
-
--- ---- steps, the initial state, properties
-
-unfoldable pub assignment : ℕ → Step AssignmentForm
-assignment depth = do
-  target ← instance depth
-  assign ← expect k.Assign
-  value ← with_place (term depth)
-  pure (record {
-    variable = target.name;
-    index = target.arguments;
-    place = value.0;
-    value = value.1;
-  })
-
-abbrev pub assignments : ℕ → Step (List AssignmentForm)
-assignments depth = λ s. listed (assignment depth) is_comma take_token (suc (length s.tokens)) s
-
-unfoldable pub assigned_by : ℕ → Kind → Step (List AssignmentForm)
-assigned_by depth k.Skip = do
-  skip ← take_token
-  semicolon ← expect k.Semicolon
-  pure []
-assigned_by depth k.Name = do
-  found ← assignments depth
-  semicolon ← expect k.Semicolon
-  pure found
-assigned_by depth _ = refuse Unexpected
-
-unfoldable pub assigned : ℕ → Step (List AssignmentForm)
-assigned depth = peek >>= assigned_by depth
-
-unfoldable pub step_parts : ℕ → Step StepForm
-step_parts depth = do
-  found ← name
-  own ← parameters depth
-  colon ← expect k.Colon
-  guard ← term depth
-  arrow ← expect k.Arrow
-  its_assignments ← assigned depth
-  pure (record { name = found; variables = own; guard = guard; assignments = its_assignments })
-
--- a step with all the operators that are allowed
-unfoldable pub step : ℕ → Step StepForm
-step depth = alone (step_parts depth)
-
-abbrev pub steps : ℕ → Step (List StepForm)
-steps depth = λ s. listed (step depth) is_name_kind nothing_between (suc (length s.tokens)) s
-
-unfoldable pub initial_parts : ℕ → Step InitialForm
-initial_parts depth = do
-  word ← expect k.Init
-  values ← argument_list (term depth)
-  semicolon ← expect k.Semicolon
-  pure (record { place = word.place; values = arguments_of values })
-
-unfoldable pub initial : ℕ → Step InitialForm
-initial depth = alone (initial_parts depth)
-
-unfoldable pub property_parts : ℕ → Step PropertyForm
-property_parts depth = do
-  word ← expect k.Property
-  found ← name
-  is ← expect k.Is
-  x ← formula [] depth
-  semicolon ← expect k.Semicolon
-  pure (record { name = found; formula = x })
-
-unfoldable pub property : ℕ → Step PropertyForm
-property depth = alone (property_parts depth)
-
-abbrev pub properties : ℕ → Step (List PropertyForm)
-properties depth =
-    λ s. listed (property depth) is_property nothing_between (suc (length s.tokens)) s
-
--- ---- models
-
-unfoldable pub model : List RangeForm → ℕ → Step ProtocolForm
-model ranges depth = do
-  sorts ← sort_parts
-  model ← expect k.Model
-  state ← expect k.State
-  its_variables ← state_variables depth
-  semicolon ← expect k.Semicolon
-  its_definitions ← definitions depth
-  found ← steps depth
-  start ← initial depth
-  asked ← properties depth
-  pure (record {
-    sorts = sorts;
-    ranges = ranges;
-    variables = its_variables;
-    definitions = its_definitions;
-    steps = found;
-    initial = start;
-    properties = asked;
-  })
-
--- and nothing behind it
-unfoldable pub whole_model : List RangeForm → ℕ → Step ProtocolForm
-whole_model ranges depth = do
-  found ← model ranges depth
-  last ← peek
-  if same_kind last k.End then pure found else refuse Unexpected

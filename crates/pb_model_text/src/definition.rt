@@ -6,7 +6,7 @@ ghost use Rattle.pb_text_lexer.specs.Steps.{Gives};
 ghost use Rattle.pb_text_terms.specs.Readers.{ReadsSome};
 ghost use Rattle.pb_text.specs.Parsing.{depth_limit};
 ghost use Rattle.pb_protocol_tree.specs.Form.{definition_form};
-ghost use Rattle.pb_model_text.specs.Reading as reading;
+ghost use Rattle.pb_model_text.specs.ModelReading as reading;
 
 use pb_base::{MAX_DEPTH, both};
 use pb_protocol_tree::Definition;
@@ -19,7 +19,7 @@ use pb_text_terms::variable::name;
 use std::alloc::Global;
 
 /// A name with its parameters, `=`, a term and `;`.
-#[tactic(auto, unfolding(crate::specs::Reading::definition_parts))]
+#[tactic(auto, unfolding(crate::specs::ModelReading::definition_parts))]
 fn definition_parts(input: &mut Input<'_>, alloc: Global) -> Result<Definition, ReadingError>
     ensures { ReadsSome definition_form (reading.definition_parts depth_limit)
         input.old result input.new }
@@ -37,7 +37,7 @@ fn definition_parts(input: &mut Input<'_>, alloc: Global) -> Result<Definition, 
 }
 
 /// A definition, with all the operators that one may have.
-#[tactic(auto, unfolding(crate::specs::Reading::definition))]
+#[tactic(auto, unfolding(crate::specs::ModelReading::definition))]
 fn definition(input: &mut Input<'_>, alloc: Global) -> Result<Definition, ReadingError>
     ensures { ReadsSome definition_form (reading.definition depth_limit)
         input.old result input.new }
@@ -65,7 +65,7 @@ fn definition_list(input: &mut Input<'_>, alloc: Global) -> Result<Vec<Definitio
 
 /// `define`, definitions and `step`.
 #[inline(never)]
-#[tactic(auto, unfolding(crate::specs::Reading::defined_by))]
+#[tactic(auto, unfolding(crate::specs::ModelReading::defined_by))]
 fn some_defined(input: &mut Input<'_>, alloc: Global) -> Result<Vec<Definition>, ReadingError>
     requires { spec.kind input.old ≡ Kind.Define }
     ensures { Gives (λ v. map definition_form v.items)
@@ -78,7 +78,7 @@ fn some_defined(input: &mut Input<'_>, alloc: Global) -> Result<Vec<Definition>,
 }
 
 /// `define` with definitions, if there are any, and `step`.
-#[tactic(auto, unfolding(crate::specs::Reading::definitions, crate::specs::Reading::defined_by))]
+#[tactic(auto, unfolding(crate::specs::ModelReading::definitions, crate::specs::ModelReading::defined_by))]
 pub fn definitions(input: &mut Input<'_>, alloc: Global) -> Result<Vec<Definition>, ReadingError>
     ensures { Gives (λ v. map definition_form v.items)
         (reading.definitions depth_limit input.old) result input.new }

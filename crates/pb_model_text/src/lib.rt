@@ -1,12 +1,15 @@
 //! Reads the text of a model and its properties into its syntax tree.
 //!
-//! `specs/Grammar.antt` is the grammar, a relation between tokens and what they say.
-//! `specs/Reading.antt` is the same as a function, which the code computes; no public clause cites
-//! it. `specs/Parsing.antt` has what `parse_model` ensures. Sorts, variables and data terms are
-//! read as in texts, by the same functions, and errors have the numbers of texts.
+//! `specs/Grammar.antt` and `specs/Models.antt` are the grammar, a relation between tokens and what
+//! they say. `specs/Reading.antt` and `specs/ModelReading.antt` are the same as a function, which
+//! the code computes; no public clause cites it. `specs/Parsing.antt` has what `parse_model`
+//! ensures. Enumerators, variables and data terms are read as in texts, by the same functions, and
+//! errors have the numbers of texts.
 #![tactic(auto)]
 
+mod assignment;
 mod atom;
+mod constant;
 mod definition;
 mod fixpoint;
 mod formula;
@@ -19,6 +22,7 @@ mod node;
 mod pattern;
 mod processes;
 mod scope;
+mod sort;
 mod state;
 mod step;
 mod step_set;

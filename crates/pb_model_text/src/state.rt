@@ -5,7 +5,7 @@ ghost use Rattle.pb_text_terms.specs.Readers.{ReadsSome};
 ghost use Rattle.pb_text.specs.Parsing.{depth_limit};
 ghost use Rattle.pb_protocol_tree.specs.Form.{state_variables_form};
 ghost use Rattle.pb_model_text.specs.Links.{indexed};
-ghost use Rattle.pb_model_text.specs.Reading as reading;
+ghost use Rattle.pb_model_text.specs.ModelReading as reading;
 
 use pb_protocol_tree::{StateVariable, StateVariables};
 use pb_text::system::parameters;
@@ -16,7 +16,7 @@ use pb_text_terms::variable::name;
 use std::alloc::Global;
 
 /// A name, with indices in brackets where it is an array.
-#[tactic(auto, unfolding(crate::specs::Reading::indexed_name))]
+#[tactic(auto, unfolding(crate::specs::ModelReading::indexed_name))]
 fn state_variable(input: &mut Input<'_>, alloc: Global) -> Result<StateVariable, ReadingError>
     ensures { ReadsSome indexed (reading.indexed_name depth_limit) input.old result input.new }
 {
@@ -42,7 +42,7 @@ fn variable_list(input: &mut Input<'_>, alloc: Global) -> Result<Vec<StateVariab
 }
 
 /// State variables with commas between them, a colon and their sort.
-#[tactic(auto, unfolding(crate::specs::Reading::state_group))]
+#[tactic(auto, unfolding(crate::specs::ModelReading::state_group))]
 fn state_group(input: &mut Input<'_>, alloc: Global) -> Result<StateVariables, ReadingError>
     ensures { ReadsSome state_variables_form (reading.state_group depth_limit)
         input.old result input.new }

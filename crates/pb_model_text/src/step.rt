@@ -1,4 +1,4 @@
-//! Reads steps: their names, variables, guards and assignments.
+//! Reads steps: their names, variables, guards and what they assign.
 
 ghost use Rattle.std.specs.Prelude.{◌≡◌, map};
 ghost use Rattle.pb_text_lexer.specs.Steps as spec;
@@ -6,67 +6,22 @@ ghost use Rattle.pb_text_lexer.specs.Steps.{Gives};
 ghost use Rattle.pb_text_terms.specs.Readers.{ReadsSome};
 ghost use Rattle.pb_text.specs.Parsing.{depth_limit};
 ghost use Rattle.pb_protocol_tree.specs.Form.{assignment_form, step_form};
-ghost use Rattle.pb_model_text.specs.Reading as reading;
+ghost use Rattle.pb_model_text.specs.ModelReading as reading;
 
+use crate::assignment::some_assigned;
 use pb_base::{MAX_DEPTH, both};
 use pb_protocol_tree::{Assignment, Step};
 use pb_text::system::parameters;
 use pb_text_lexer::fault::{ReadingError, ReadingRule};
 use pb_text_lexer::input::Input;
 use pb_text_lexer::kind::{Kind, same_kind};
-use pb_text_terms::term::{instance, term};
+use pb_text_terms::term::term;
 use pb_text_terms::variable::name;
-use pb_text_tree::Argument;
 use std::alloc::Global;
-
-/// A state variable, with its index where it is an array, `:=` and the term whose value it gets.
-#[tactic(auto, unfolding(crate::specs::Reading::assignment))]
-fn assignment(input: &mut Input<'_>, alloc: Global) -> Result<Assignment, ReadingError>
-    ensures { ReadsSome assignment_form (reading.assignment depth_limit)
-        input.old result input.new }
-{
-    let assigned = instance(input, alloc, MAX_DEPTH as u32)?;
-    input.expect(Kind::Assign)?;
-    let place = input.place();
-    let term = term(input, alloc, MAX_DEPTH as u32)?;
-    Ok(Assignment {
-        variable: assigned.name,
-        index: assigned.arguments,
-        value: Argument { place, term },
-    })
-}
-
-/// Assignments with commas between them.
-fn assignments(input: &mut Input<'_>, alloc: Global) -> Result<Vec<Assignment>, ReadingError>
-    ensures { ReadsSome (λ v. map assignment_form v.items) (reading.assignments depth_limit)
-        input.old result input.new }
-{
-    let mut assignments = Vec::with_capacity(alloc, 1)?;
-    'assignments: loop {
-        let assignment = assignment(input, alloc)?;
-        assignments.push(assignment)?;
-        if !same_kind(input.kind(), Kind::Comma) {
-            return Ok(assignments);
-        }
-        input.take();
-    }
-}
-
-/// Assignments and `;`.
-#[inline(never)]
-#[tactic(auto, unfolding(crate::specs::Reading::assigned_by))]
-fn some_assigned(input: &mut Input<'_>, alloc: Global) -> Result<Vec<Assignment>, ReadingError>
-    ensures { ReadsSome (λ v. map assignment_form v.items)
-        (reading.assigned_by depth_limit Kind.Name) input.old result input.new }
-{
-    let assignments = assignments(input, alloc)?;
-    input.expect(Kind::Semicolon)?;
-    Ok(assignments)
-}
 
 /// `skip` and `;`: no assignments.
 #[inline(never)]
-#[tactic(auto, unfolding(crate::specs::Reading::assigned_by))]
+#[tactic(auto, unfolding(crate::specs::ModelReading::assigned_by))]
 fn none_assigned(input: &mut Input<'_>, alloc: Global) -> Result<Vec<Assignment>, ReadingError>
     requires { spec.kind input.old ≡ Kind.Skip }
     ensures { ReadsSome (λ v. map assignment_form v.items)
@@ -78,20 +33,20 @@ fn none_assigned(input: &mut Input<'_>, alloc: Global) -> Result<Vec<Assignment>
 }
 
 /// `skip`, or assignments, and `;`.
-#[tactic(auto, unfolding(crate::specs::Reading::assigned, crate::specs::Reading::assigned_by))]
+#[tactic(auto, unfolding(crate::specs::ModelReading::assigned, crate::specs::ModelReading::assigned_by))]
 fn assigned(input: &mut Input<'_>, alloc: Global) -> Result<Vec<Assignment>, ReadingError>
     ensures { ReadsSome (λ v. map assignment_form v.items) (reading.assigned depth_limit)
         input.old result input.new }
 {
     match input.kind() {
         Kind::Skip => none_assigned(input, alloc),
-        Kind::Name => some_assigned(input, alloc),
+        Kind::Name | Kind::Forall => some_assigned(input, alloc),
         _ => Err(ReadingError::Refused(input.refuse(ReadingRule::Unexpected))),
     }
 }
 
 /// A name with its variables, `:`, a guard, `->`, what is assigned and `;`.
-#[tactic(auto, unfolding(crate::specs::Reading::step_parts))]
+#[tactic(auto, unfolding(crate::specs::ModelReading::step_parts))]
 fn step_parts(input: &mut Input<'_>, alloc: Global) -> Result<Step, ReadingError>
     ensures { ReadsSome step_form (reading.step_parts depth_limit) input.old result input.new }
 {
@@ -110,7 +65,7 @@ fn step_parts(input: &mut Input<'_>, alloc: Global) -> Result<Step, ReadingError
 }
 
 /// A step, with all the operators that one may have.
-#[tactic(auto, unfolding(crate::specs::Reading::step))]
+#[tactic(auto, unfolding(crate::specs::ModelReading::step))]
 fn step(input: &mut Input<'_>, alloc: Global) -> Result<Step, ReadingError>
     ensures { ReadsSome step_form (reading.step depth_limit) input.old result input.new }
 {

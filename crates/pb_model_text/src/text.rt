@@ -3,13 +3,13 @@
 ghost use Rattle.pb_base.specs.declared.limits.TheConstants.{MAX_INPUT_BYTES};
 ghost use Rattle.std.specs.Prelude.{◌≡◌, ◌≤◌, ℕ, length, IfOk};
 ghost use Rattle.pb_base.specs.OrMemory.{IfRefused, OnRefused};
-ghost use Rattle.pb_protocol_tree.specs.Form.{ProtocolForm, protocol_form};
+ghost use Rattle.pb_protocol_tree.specs.Form.{ModelTextForm, model_text_form};
 ghost use Rattle.pb_model_text.specs.Parsing.{IsModelReading, IsModelReadingWithin, NoModelReading};
 ghost use Rattle.pb_model_text.specs.Parsing.{IsFirstModelFault};
 
 use crate::model::whole;
 use pb_base::{MAX_OPERATORS, OrMemory};
-use pb_protocol_tree::Protocol;
+use pb_protocol_tree::ModelText;
 use pb_text::error::TextError;
 use pb_text_lexer::input::Input;
 use pb_text_lexer::language::Language;
@@ -26,14 +26,14 @@ use std::alloc::Global;
 /// with which no model goes on, `TextRule::LimitExceeded` (P04) at a token that goes past a limit.
 /// Lines and columns count from 1, columns in bytes; the end of the text stands where its next byte
 /// would.
-pub fn parse_model(alloc: Global, bytes: &[u8]) -> Result<Protocol, TextError>
+pub fn parse_model(alloc: Global, bytes: &[u8]) -> Result<ModelText, TextError>
     requires { length bytes.now ≤ MAX_INPUT_BYTES }
     // It is what the bytes say, within the limits, places included.
-    ensures reading { IfOk result (λ m. IsModelReading bytes.now (protocol_form m)) }
+    ensures reading { IfOk result (λ m. IsModelReading bytes.now (model_text_form m)) }
     // They say nothing else, within any limits.
     ensures only { IfOk result
-        (λ m. (d n : ℕ) (x : ProtocolForm) → IsModelReadingWithin d n bytes.now x
-        → x ≡ protocol_form m) }
+        (λ m. (d n : ℕ) (x : ModelTextForm) → IsModelReadingWithin d n bytes.now x
+        → x ≡ model_text_form m) }
     // Only where they say nothing within the limits, or memory runs out, is there no model.
     ensures refused { OnRefused result (NoModelReading bytes.now) }
     // The fault stands at its place, and nothing that is no token stands before it. Some model
@@ -44,6 +44,6 @@ pub fn parse_model(alloc: Global, bytes: &[u8]) -> Result<Protocol, TextError>
 {
     let mut input = Input::new(Language::Model, bytes, MAX_OPERATORS as u32);
     let mut model = whole(&mut input, alloc).map_err(OrMemory::raise)?;
-    model.ranges = ranges(alloc, Language::Model, bytes)?;
+    model.protocol.ranges = ranges(alloc, Language::Model, bytes)?;
     Ok(model)
 }

@@ -1,6 +1,6 @@
 -- What a protocol's syntax tree says, without boxes and vectors. A chain of operators is folded to
 -- nested binary nodes, and each variable stands with its sort.
-use Rattle.std.specs.Prelude.{Bool, List, [], ◌∷◌, map, flat_map}
+use Rattle.std.specs.Prelude.{Bool, List, [], ◌∷◌, map, flat_map, Option, Some, None}
 use Rattle.pb_fixpoint.specs.declared.Sign.{Sign}
 use Rattle.pb_text_tree.specs.declared.place.Place.{Place}
 use Rattle.pb_text_tree.specs.declared.name.Name as declared_name
@@ -21,6 +21,7 @@ use Rattle.pb_protocol_tree.specs.declared.step_set.StepSet.{more_of-StepSetLink
 use Rattle.pb_protocol_tree.specs.declared.formula.Formula as formula
 use Rattle.pb_protocol_tree.specs.declared.formula.Formula.{Formula, Row_of-Link, end_of-Link}
 use Rattle.pb_protocol_tree.specs.declared.formula.Formula.{more_of-Link}
+use Rattle.pb_protocol_tree.specs.declared.step.Copies as declared_copies
 use Rattle.pb_protocol_tree.specs.declared.step.Assignment as declared_assignment
 use Rattle.pb_protocol_tree.specs.declared.step.Step as declared_step
 use Rattle.pb_protocol_tree.specs.declared.protocol.StateVariable as declared_variable
@@ -28,6 +29,9 @@ use Rattle.pb_protocol_tree.specs.declared.protocol.StateVariables as declared_v
 use Rattle.pb_protocol_tree.specs.declared.protocol.Definition as declared_definition
 use Rattle.pb_protocol_tree.specs.declared.protocol.Property as declared_property
 use Rattle.pb_protocol_tree.specs.declared.protocol.Protocol as declared_protocol
+use Rattle.pb_protocol_tree.specs.declared.header.Constant as declared_constant
+use Rattle.pb_protocol_tree.specs.declared.header.Bounds as declared_bounds
+use Rattle.pb_protocol_tree.specs.declared.header.ModelText as declared_text
 
 -- ---- sets of steps and formulas
 
@@ -68,8 +72,14 @@ pub record DefinitionForm : Type 0 where
   pub parameters : List VariableForm
   pub term : TermForm
 
+-- the variables of a `forall` before an assignment, which stands at the place
+pub record CopiesForm : Type 0 where
+  pub place : Place
+  pub variables : List VariableForm
+
 -- what is assigned, with the place of its first token
 pub record AssignmentForm : Type 0 where
+  pub copies : Option CopiesForm
   pub variable : Named
   pub index : ArgumentForms
   pub place : Place
@@ -93,6 +103,27 @@ pub record ProtocolForm : Type 0 where
   pub steps : List StepForm
   pub initial : InitialForm
   pub properties : List PropertyForm
+
+-- ---- texts
+
+-- a whole number's name, and the term whose value it is, with the place of its first token
+pub record ConstantForm : Type 0 where
+  pub name : Named
+  pub place : Place
+  pub value : TermForm
+
+-- the bounds of a sort's values, each with the place of its first token
+pub record BoundsForm : Type 0 where
+  pub sort : Named
+  pub low_place : Place
+  pub low : TermForm
+  pub high_place : Place
+  pub high : TermForm
+
+pub record ModelTextForm : Type 0 where
+  pub constants : List ConstantForm
+  pub bounds : List BoundsForm
+  pub protocol : ProtocolForm
 
 -- ---- what the parts of a tree say
 
@@ -155,8 +186,21 @@ definition_form d = record {
   term = term_form d.term;
 }
 
+abbrev pub copies_form : declared_copies.Copies → CopiesForm
+copies_form c = record { place = c.place; variables = variable_forms c.variables.items }
+
+abbrev pub copies_said : Option declared_copies.Copies → Option CopiesForm
+copies_said None = None
+copies_said (Some c) = Some (copies_form c)
+
+-- the variables before an assignment, of which there are none where there is no `forall`
+abbrev pub copied_variables : Option CopiesForm → List VariableForm
+copied_variables None = []
+copied_variables (Some c) = c.variables
+
 abbrev pub assignment_form : declared_assignment.Assignment → AssignmentForm
 assignment_form a = record {
+  copies = copies_said a.copies;
   variable = named a.variable;
   index = argument_forms a.index.items;
   place = a.value.place;
@@ -183,4 +227,27 @@ protocol_form m = record {
   steps = map step_form m.steps.items;
   initial = initial_form m.initial;
   properties = map property_form m.properties.items;
+}
+
+abbrev pub constant_form : declared_constant.Constant → ConstantForm
+constant_form c = record {
+  name = named c.name;
+  place = c.value.place;
+  value = term_form c.value.term;
+}
+
+abbrev pub bounds_form : declared_bounds.Bounds → BoundsForm
+bounds_form b = record {
+  sort = named b.sort;
+  low_place = b.low.place;
+  low = term_form b.low.term;
+  high_place = b.high.place;
+  high = term_form b.high.term;
+}
+
+abbrev pub model_text_form : declared_text.ModelText → ModelTextForm
+model_text_form t = record {
+  constants = map constant_form t.constants.items;
+  bounds = map bounds_form t.bounds.items;
+  protocol = protocol_form t.protocol;
 }

@@ -4,12 +4,14 @@
 //! each other.
 //!
 //! Names, variables, sorts, ranges and data terms are those of texts: `x(t)` is an application,
-//! whether x is an array, a definition or a function. What a model without these forms shares with
-//! a protocol is that of `pb_model_tree`.
+//! whether x is an array, a definition or a function, and counting is one too
+//! (`pb_text_counting`). What a model without these forms shares with a protocol is that of
+//! `pb_model_tree`.
 #![tactic(auto)]
 
 pub mod formula;
 mod formula_copy;
+pub mod header;
 pub mod protocol;
 pub mod step;
 pub mod step_set;
@@ -17,7 +19,8 @@ mod step_set_copy;
 
 pub use formula::{Formula, Link};
 pub use formula_copy::copy_formula;
+pub use header::{Bounds, Constant, ModelText};
 pub use protocol::{Definition, Property, Protocol, StateVariable, StateVariables};
-pub use step::{Assignment, Step};
+pub use step::{Assignment, Copies, Step};
 pub use step_set::{StepSet, StepSetLink, StepValue};
 pub use step_set_copy::copy_step_set;

@@ -104,7 +104,7 @@ bar-apart : (kind : Kind) → is_bar kind ≡ true → going never is_question k
 unfolding same_kind
 bar-apart kind h = subst (λ (v : Kind). going never is_question v ≡ false) (sym (kind-same kind k.Bar h)) refl
 
-enumerators-correct : (depth : ℕ) → Correct Always enumerators (λ d. Listed Enumerator (One k.Bar)) (going (going never is_question) is_bar) depth
+pub enumerators-correct : (depth : ℕ) → Correct Always enumerators (λ d. Listed Enumerator (One k.Bar)) (going (going never is_question) is_bar) depth
 enumerators-correct depth = record {
   answers = λ s ended u.
       series-correct (λ d. Enumerator) (λ d. One k.Bar) (λ x. x ∷ []) (λ x t xs. x ∷ xs) (going never is_question) is_bar depth bar-apart
@@ -193,7 +193,7 @@ sort_part-correct depth =
 part-starts : (d : ℕ) (s : State) (x : List SortDeclarationForm) (z : State) → SortPart s x z → Passes is_sort s.tokens
 part-starts d s x z r = passes-kind k.Sort s.tokens r.1.tokens r.0 r.2.0 r.2.1
 
-sort-apart : (kind : Kind) → is_sort kind ≡ true → going never is_name_kind kind ≡ false
+pub sort-apart : (kind : Kind) → is_sort kind ≡ true → going never is_name_kind kind ≡ false
 unfolding same_kind
 sort-apart kind h = subst (λ (v : Kind). going never is_name_kind v ≡ false) (sym (kind-same kind k.Sort h)) refl
 

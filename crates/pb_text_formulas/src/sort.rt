@@ -36,7 +36,7 @@ fn enumerator(input: &mut Input<'_>, alloc: Global) -> Result<Enumerator, Readin
 }
 
 /// Enumerators with `|` between them.
-fn enumerators(input: &mut Input<'_>, alloc: Global) -> Result<Vec<Enumerator>, ReadingError>
+pub fn enumerators(input: &mut Input<'_>, alloc: Global) -> Result<Vec<Enumerator>, ReadingError>
     ensures { ReadsSome (λ v. map enumerator_form v.items) reading.enumerators
         input.old result input.new }
 {

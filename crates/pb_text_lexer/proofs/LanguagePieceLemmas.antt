@@ -1,6 +1,8 @@
 -- What a piece of a text of either language takes: some of the bytes that there are, which are ASCII
 -- and on one line where they are a token.
-use Rattle.std.proofs.Common.{◌≡◌, ℕ, ◌+◌, ◌<◌, ◌≤◌, Bool, true, false, cond, ◌==◌, ◌&&◌, List, [], ◌∷◌, length, take, refl, sym, ap, ◌∙◌, arith, subst, Option, Some, None}
+use Rattle.std.proofs.Common.{◌≡◌, ℕ, ◌+◌, ◌<◌, ◌≤◌, Bool, true, false, cond, ◌==◌, ◌&&◌, List, [], ◌∷◌, length, take, drop, refl, sym, ap, ◌∙◌, arith, subst, Option, Some, None}
+use Rattle.std.specs.Prelude.{codes}
+use Rattle.std.specs.Str.{bytes_eq}
 use Rattle.std.proofs.lemmas.List.{length-take-le}
 use Rattle.std.proofs.lemmas.Bool.{and_parts}
 use Rattle.std.specs.Str.{IsAscii}
@@ -13,7 +15,7 @@ use Rattle.pb_text_lexer.specs.declared.piece.Piece.{Piece}
 use Rattle.pb_text_lexer.specs.declared.piece.Piece.TheVariants.{Blank, Token, Stop}
 use Rattle.pb_text_lexer.specs.Bytes.{first_byte, is_letter, is_name_byte, name_bytes, kind_among}
 use Rattle.pb_text_lexer.specs.Lexing.{past, piece, piece_in, or_piece}
-use Rattle.pb_text_lexer.specs.ModelPieces.{model_words, reserved_word, model_word, model_pair, model_piece}
+use Rattle.pb_text_lexer.specs.ModelPieces.{model_words, reserved_word, model_word, model_pair, model_piece, counts, word_piece}
 use Rattle.pb_text_lexer.proofs.PieceLemmas.{TakesOf, Takes, IsPlain, pick, plain-ascii, plain-past, letter-plain, name-plain, front-plain, front-fits, is_special, is_plain, special-last, special-number, NotLast, among-not-last, plain-is, piece-takes}
 
 -- so does a piece that there may be
@@ -54,11 +56,21 @@ reserved-takes : (kind : Kind) (n : ℕ) (bs : List ℕ) → is_special kind ≡
 reserved-takes k.Name n bs plain some le text = record { is = tt }
 reserved-takes kind n bs plain some le text = record { is = record { is = (some, le, special-last kind plain, text, (λ q. absurd (special-number kind plain q))) } }
 
-word-takes : (n : ℕ) (bs : List ℕ) → 0 < n → n ≤ length bs → IsPlain (take n bs) → TakesSome (model_word (take n bs)) bs
+model-word-takes : (n : ℕ) (bs : List ℕ) → 0 < n → n ≤ length bs → IsPlain (take n bs) → TakesSome (model_word (take n bs)) bs
 unfolding model_word
-word-takes n bs some le text =
+model-word-takes n bs some le text =
     subst (λ (m : ℕ). TakesSome (reserved_word m (kind_among model_words (take n bs))) bs) (sym (length-take-le n bs le))
     (reserved-takes (kind_among model_words (take n bs)) n bs (among-not-last model_words (take n bs) refl).is some le text)
+
+-- `count` is a token as those words are
+count-takes : (n : ℕ) (bs : List ℕ) → 0 < n → n ≤ length bs → IsPlain (take n bs) → TakesSome (Some (Token k.Count (length (take n bs)))) bs
+count-takes n bs some le text =
+    subst (λ (m : ℕ). TakesSome (reserved_word m k.Count) bs) (sym (length-take-le n bs le)) (reserved-takes k.Count n bs refl some le text)
+
+word-takes : (n : ℕ) (bs behind : List ℕ) → 0 < n → n ≤ length bs → IsPlain (take n bs) → TakesSome (word_piece (take n bs) behind) bs
+unfolding word_piece
+word-takes n bs behind some le text =
+    pick (λ v. TakesSome v bs) (bytes_eq (take n bs) (codes "count") && counts behind) _ _ (λ e. count-takes n bs some le text) (λ e. model-word-takes n bs some le text)
 
 model-takes : (bs : List ℕ) → TakesSome (model_piece bs) bs
 unfolding model_piece
@@ -67,7 +79,7 @@ model-takes (b ∷ bs) =
     pick (λ v. TakesSome v (b ∷ bs)) (b == 91) _ _ (λ e. record { is = one-byte k.OpenSquare 91 b bs refl e refl }) (λ e.
     pick (λ v. TakesSome v (b ∷ bs)) (b == 93) _ _ (λ e. record { is = one-byte k.CloseSquare 93 b bs refl e refl }) (λ e.
     pick (λ v. TakesSome v (b ∷ bs)) (is_letter b) _ _
-    (λ e. word-takes (1 + length (name_bytes bs)) (b ∷ bs) (let q : 0 < 1 + length (name_bytes bs) = omega arith in q)
+    (λ e. word-takes (1 + length (name_bytes bs)) (b ∷ bs) (drop (1 + length (name_bytes bs)) (b ∷ bs)) (let q : 0 < 1 + length (name_bytes bs) = omega arith in q)
     (front-fits is_name_byte b bs) (front-plain is_name_byte b bs name-plain (letter-plain b e)))
     (λ e. pair-takes b bs)))
 

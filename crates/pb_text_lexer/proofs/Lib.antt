@@ -15,3 +15,4 @@ pub mod CorrectLeft
 pub mod CorrectLeftChains
 pub mod LoopLemmas
 pub mod WordLemmas
+pub mod BlankLemmas

@@ -1,5 +1,7 @@
 -- The tokens of a text of either language that are names are spelled as names.
-use Rattle.std.proofs.Common.{◌≡◌, ℕ, suc, ◌+◌, Bool, true, false, cond, ◌==◌, ◌&&◌, List, [], ◌∷◌, length, take, refl, sym, ap, ◌∙◌, arith, subst, Option, Some, None}
+use Rattle.std.proofs.Common.{◌≡◌, ℕ, suc, ◌+◌, Bool, true, false, cond, ◌==◌, ◌&&◌, List, [], ◌∷◌, length, take, drop, refl, sym, ap, ◌∙◌, arith, subst, Option, Some, None}
+use Rattle.std.specs.Prelude.{codes}
+use Rattle.std.specs.Str.{bytes_eq}
 use Rattle.std.specs.List.{prefix_len, list_all}
 use Rattle.std.specs.Char.{is_ascii_digit}
 use Rattle.std.proofs.lemmas.List.Folds.{length-prefix_len}
@@ -16,7 +18,7 @@ use Rattle.pb_text_lexer.specs.Kinds.{same_kind}
 use Rattle.pb_text_lexer.specs.Bytes.{first_byte, is_blank, line, is_letter, is_name_byte, name_bytes, digits, value_within, kind_among}
 use Rattle.pb_text_lexer.specs.RangeLines.{behind_range, is_wrong}
 use Rattle.pb_text_lexer.specs.Lexing.{piece, piece_in, or_piece, number, number_of, largest_number, symbol, one_byte_among, one_byte_symbols, two_bytes_among, two_byte_symbols}
-use Rattle.pb_text_lexer.specs.ModelPieces.{model_words, model_piece, model_word, model_pair, reserved_word}
+use Rattle.pb_text_lexer.specs.ModelPieces.{model_words, model_piece, model_word, model_pair, reserved_word, counts, word_piece}
 use Rattle.pb_text_lexer.proofs.PieceLemmas.{pick, none-first, none-rest}
 
 -- what a piece says of the bytes that it takes
@@ -120,9 +122,14 @@ reserved-no-name : (n : ℕ) (kind : Kind) → HasNoName (reserved_word n kind)
 reserved-no-name n k.Name = record { is = tt }
 reserved-no-name n _ = record { is = λ e. cc }
 
-word-no-name : (word : List ℕ) → HasNoName (model_word word)
+model-no-name : (word : List ℕ) → HasNoName (model_word word)
 unfolding model_word
-word-no-name word = reserved-no-name (length word) (kind_among model_words word)
+model-no-name word = reserved-no-name (length word) (kind_among model_words word)
+
+word-no-name : (word behind : List ℕ) → HasNoName (word_piece word behind)
+unfolding word_piece
+word-no-name word behind =
+    pick HasNoName (bytes_eq word (codes "count") && counts behind) _ _ (λ e. record { is = λ q. cc }) (λ e. model-no-name word)
 
 pair-no-name : (a : ℕ) (b : Option ℕ) → HasNoName (model_pair a b)
 pair-no-name a None = record { is = tt }
@@ -136,7 +143,7 @@ piece-no-name [] = record { is = tt }
 piece-no-name (b ∷ bs) =
     pick HasNoName (b == 91) _ _ (λ e. record { is = λ q. cc }) (λ e.
     pick HasNoName (b == 93) _ _ (λ f. record { is = λ q. cc }) (λ f.
-    pick HasNoName (is_letter b) _ _ (λ g. word-no-name (take (1 + length (name_bytes bs)) (b ∷ bs))) (λ g. pair-no-name b (first_byte bs))))
+    pick HasNoName (is_letter b) _ _ (λ g. word-no-name (take (1 + length (name_bytes bs)) (b ∷ bs)) (drop (1 + length (name_bytes bs)) (b ∷ bs))) (λ g. pair-no-name b (first_byte bs))))
 
 of-texts : (v : Option Piece) (w : Piece) (kind : Kind) (n : ℕ) → NoName v → or_piece v w ≡ Token kind n → kind ≡ k.Name → w ≡ Token kind n
 of-texts None w kind n other e is = e

@@ -19,6 +19,9 @@ first_byte (b ∷ bs) = Some b
 abbrev pub is_blank : ℕ → Bool
 is_blank b = b == 32 || b == 9 || b == 10 || b == 13
 
+abbrev pub blanks : List ℕ → List ℕ
+blanks = take_while is_blank
+
 abbrev pub name_bytes : List ℕ → List ℕ
 name_bytes = take_while is_name_byte
 

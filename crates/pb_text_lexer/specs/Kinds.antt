@@ -24,6 +24,7 @@ is_limited k.OpenSquare = true
 is_limited k.Minus = true
 is_limited k.Forall = true
 is_limited k.Exists = true
+is_limited k.Count = true
 is_limited k.Mu = true
 is_limited k.Nu = true
 is_limited k.And = true

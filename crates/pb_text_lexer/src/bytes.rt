@@ -13,6 +13,15 @@ pub fn is_blank(b: u8) -> bool
     b == b' ' || b == b'\t' || b == b'\n' || b == b'\r'
 }
 
+/// How many bytes of white space stand at the front.
+#[inline(always)]
+pub(crate) fn blanks_len(bytes: &[u8]) -> usize
+    ensures value { result ≡ length (spec.blanks bytes.now) }
+    ensures fits { result ≤ length bytes.now }
+{
+    bytes.iter().take_while(|b| is_blank(**b)).count()
+}
+
 /// How many bytes at the front a name may have.
 #[inline(always)]
 pub fn name_len(bytes: &[u8]) -> usize

@@ -49,6 +49,8 @@ pub enum Kind {
     Define,
     /// `skip`
     Skip,
+    /// `count`, where it counts: of models alone.
+    Count,
     /// A word that is reserved and used nowhere.
     Reserved,
     /// `==`

@@ -21,7 +21,7 @@ use Rattle.pb_text_lexer.specs.Steps.{head_place}
 use Rattle.pb_text_lexer.proofs.Correct.{st}
 use Rattle.pb_text_lexer.proofs.CorrectFamilies.{deeper}
 use Rattle.pb_text_terms.specs.Operators.{is_equality, is_order, comparison_of, compared_by, arithmetic_of, computed_by}
-use Rattle.pb_text_terms.specs.Grammar.{Placed, Instance, arguments_of, applied, Begun, Product, Sum, Ordered, Equated, Quantified, IsUnary, IsTerm}
+use Rattle.pb_text_terms.specs.Grammar.{Placed, Instance, arguments_of, applied, Begun, Product, Sum, Ordered, Equated, QuantifiedBy, Quantified, BoundBy, Bound, IsUnary, IsTerm}
 use Rattle.pb_text_printer.specs.declared.level.Level.{Level}
 use Rattle.pb_text_printer.specs.declared.level.Level.TheVariants as level
 use Rattle.pb_text_printer.specs.Unplaced.{nowhere, unplaced_name, unplaced_term, unplaced_arguments, unplaced_instance}
@@ -52,7 +52,7 @@ BelowAt level.Unary d = IsUnary d
 BelowAt _ d = Equated (IsUnary d)
 
 abbrev QuantifiedAt : ℕ → Reads TermForm
-QuantifiedAt d = Quantified TermForm.quantified (TermBelow d)
+QuantifiedAt d = Bound (TermBelow d)
 
 abbrev LevelAt : Level → Bool → ℕ → Reads TermForm
 LevelAt = levels.LevelAt TermForm.connected BelowAt QuantifiedAt
@@ -389,10 +389,26 @@ connects-back c p x y first second ends d h =
     (put (needs_no_brackets x (term_side c) false) (term_words x) false) (put (needs_no_brackets y (connective_level c) ends) (term_words y) ends) d
     (put-back x (term_side c) false d first h.0) (put-back y (connective_level c) ends d second h.1)
 
+-- a quantifier is read as one
+to-bound : (Body : Reads TermForm) (s : State) (x : TermForm) (z : State) → Quantified TermForm.quantified Body s x z → Bound Body s x z
+to-bound Body s x z h = by s.tokens h
+  where
+    each : (kind : Kind) → QuantifiedBy TermForm.quantified Body kind s x z → BoundBy Body kind s x z
+    each k.Count h = absurd h
+    each k.Forall h = h
+    each k.Exists h = h
+    each _ h = absurd h
+
+    by : (ts : List Tok) → grammar.by_first (QuantifiedBy TermForm.quantified Body) ts s x z → grammar.by_first (BoundBy Body) ts s x z
+    by [] h = h
+    by (t ∷ ts) h = each t.kind h
+
 quantifies-back : (q : Quantifier) (p : Place) (vars : List VariableForm) (x : TermForm) → PlainBack x → PlainBack (TermForm.quantified q p vars x)
 quantifies-back q p vars x plain ends zero h = absurd h.1
 quantifies-back q p vars x plain ends (suc d) h =
-    quantified-back TermForm.quantified (IsTerm d) unplaced_term operators (λ q p vars ws x y e f o. cc) q p vars x (term_words x true) h.0 (whole-back x d plain h.1)
+    λ s r a b e w.
+    let back = quantified-back TermForm.quantified (IsTerm d) unplaced_term operators (λ q p vars ws x y e f o. cc) q p vars x (term_words x true) h.0 (whole-back x d plain h.1) s r a b e w in
+    record { said = back.said; reads = to-bound (IsTerm d) (st s a) back.said (st r b) back.reads; same = back.same }
 
 application-back : (f : Named) (xs : ArgumentForms) → ArgumentsBack xs → PlainBack (TermForm.application f xs)
 application-back f no_arguments back ends d h = absurd h.1

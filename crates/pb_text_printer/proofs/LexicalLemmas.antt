@@ -3,6 +3,7 @@ use Rattle.std.proofs.Common.{◌≡◌, ℕ, suc, ◌+◌, Bool, true, false, c
 use Rattle.std.specs.List.{prefix_len, take_while}
 use Rattle.std.proofs.lemmas.List.Folds.{length-prefix_len}
 use Rattle.std.specs.Char.{is_ascii_digit}
+use Rattle.std.specs.Str.{bytes_eq}
 use Rattle.std.specs.Str.Parse.{digits_value}
 use Rattle.std.proofs.lemmas.Bool.{and_from}
 use Rattle.pb_text_tree.specs.declared.place.Place.{Place}
@@ -12,7 +13,7 @@ use Rattle.pb_text_lexer.specs.declared.kind.Kind.TheVariants as k
 use Rattle.pb_text_lexer.specs.declared.piece.Piece.{Piece}
 use Rattle.pb_text_lexer.specs.declared.piece.Piece.TheVariants.{Token}
 use Rattle.pb_text_lexer.specs.Kinds.{same_kind}
-use Rattle.pb_text_lexer.specs.Bytes.{is_blank, line, is_letter, is_name_byte, name_bytes, digits, word_kind, is_name}
+use Rattle.pb_text_lexer.specs.Bytes.{is_blank, line, is_letter, is_name_byte, name_bytes, digits, kind_among, reserved, word_kind, is_name}
 use Rattle.pb_text_lexer.specs.RangeLines.{behind_range, is_wrong}
 use Rattle.pb_text_lexer.specs.Lexing.{Cuts, none, blank, token, piece, number, number_of, largest_number, symbol, one_byte_among, one_byte_symbols, two_bytes_among, two_byte_symbols, first_byte, start, past, IsCut}
 use Rattle.pb_text_lexer.specs.Tokens.{Tok, token_at}
@@ -113,14 +114,90 @@ piece-names p (b ∷ bs) =
 token-names : (p : Place) (bs : List ℕ) (kind : Kind) (n : ℕ) → piece p bs ≡ Token kind n → kind ≡ k.Name → is_name (take n bs) ≡ true
 token-names p bs kind n e = (subst (λ (v : Piece). Names v bs) e (piece-names p bs)).is
 
+-- ---- no piece counts
+
+abbrev is_count : Kind → Bool
+is_count k.Count = true
+is_count _ = false
+
+not-count : (kind : Kind) → is_count kind ≡ false → kind ≡ k.Count → ⊥
+not-count kind h e = let p : is_count kind ≡ true = ap is_count e in cc
+
+abbrev PlainOf : Piece → Type 0
+PlainOf (Token kind n) = is_count kind ≡ false
+PlainOf _ = Unit {0}
+
+record Plain (v : Piece) : Type 0 where
+  is : PlainOf v
+
+record PlainKind (kind : Kind) : Type 0 where
+  is : is_count kind ≡ false
+
+abbrev none_count : List (ℕ × Kind) → Bool
+none_count [] = true
+none_count (entry ∷ entries) = cond (is_count entry.1) false (none_count entries)
+
+abbrev no_pair_count : List (ℕ × ℕ × Kind) → Bool
+no_pair_count [] = true
+no_pair_count (entry ∷ entries) = cond (is_count entry.2) false (no_pair_count entries)
+
+abbrev no_word_count : List (List ℕ × Kind) → Bool
+no_word_count [] = true
+no_word_count (entry ∷ entries) = cond (is_count entry.1) false (no_word_count entries)
+
+among-plain : (table : List (List ℕ × Kind)) (word : List ℕ) → no_word_count table ≡ true → PlainKind (kind_among table word)
+among-plain [] word h = record { is = refl }
+among-plain (entry ∷ entries) word h =
+    pick PlainKind (bytes_eq entry.0 word) entry.1 (kind_among entries word) (λ e. record { is = none-first (is_count entry.1) (no_word_count entries) h })
+    (λ e. among-plain entries word (none-rest (is_count entry.1) (no_word_count entries) h))
+
+word-plain : (word : List ℕ) → is_count (word_kind word) ≡ false
+unfolding word_kind
+word-plain word = (among-plain reserved word refl).is
+
+one-plain : (table : List (ℕ × Kind)) (a : ℕ) → none_count table ≡ true → Plain (one_byte_among table a)
+one-plain [] a h = record { is = tt }
+one-plain (entry ∷ entries) a h =
+    pick Plain (a == entry.0) (Token entry.1 1) (one_byte_among entries a) (λ e. record { is = none-first (is_count entry.1) (none_count entries) h })
+    (λ e. one-plain entries a (none-rest (is_count entry.1) (none_count entries) h))
+
+two-plain : (table : List (ℕ × ℕ × Kind)) (a b : ℕ) → no_pair_count table ≡ true → Plain (two_bytes_among table a b)
+two-plain [] a b h = one-plain one_byte_symbols a refl
+two-plain (entry ∷ entries) a b h =
+    pick Plain (a == entry.0 && b == entry.1) (Token entry.2 2) (two_bytes_among entries a b) (λ e. record { is = none-first (is_count entry.2) (no_pair_count entries) h })
+    (λ e. two-plain entries a b (none-rest (is_count entry.2) (no_pair_count entries) h))
+
+symbol-plain : (a : ℕ) (bs : List ℕ) → Plain (symbol a (first_byte bs))
+unfolding symbol
+symbol-plain a [] = one-plain one_byte_symbols a refl
+symbol-plain a (b ∷ bs) = two-plain two_byte_symbols a b refl
+
+number-plain : (ds : List ℕ) → Plain (number ds)
+unfolding number
+number-plain ds =
+    pick (λ v. Plain (number_of (length ds) v)) (nat_lt largest_number (digits_value 10 ds)) None (Some (digits_value 10 ds)) (λ e. record { is = tt }) (λ e. record { is = refl })
+
+piece-plain : (p : Place) (bs : List ℕ) → Plain (piece p bs)
+unfolding piece
+piece-plain p [] = record { is = tt }
+piece-plain p (b ∷ bs) =
+    pick Plain (is_blank b) _ _ (λ e. record { is = tt }) (λ e.
+    pick Plain (b == 37) _ _ (λ e. pick Plain (p.column == 1 && is_wrong (behind_range (line bs))) _ _ (λ e. record { is = tt }) (λ e. record { is = tt })) (λ e.
+    pick Plain (is_letter b) _ _ (λ e. record { is = word-plain (take (1 + length (name_bytes bs)) (b ∷ bs)) }) (λ e.
+    pick Plain (b == 48) _ _ (λ e. record { is = refl }) (λ e.
+    pick Plain (is_ascii_digit b) _ _ (λ e. number-plain (take (1 + length (digits bs)) (b ∷ bs))) (λ e. symbol-plain b bs)))))
+
+token-plain : (p : Place) (bs : List ℕ) (kind : Kind) (n : ℕ) → piece p bs ≡ Token kind n → kind ≡ k.Count → ⊥
+token-plain p bs kind n e = not-count kind (subst Plain e (piece-plain p bs)).is
+
 cuts-lexical : (p q : Place) (bs rest : List ℕ) (ts us : List Tok) (rs : List RangeForm) → Cuts p bs ts rs q rest → AreLexical us → AreLexical (ts ++ us)
 cuts-lexical p q bs rest ts us rs none h = h
 cuts-lexical p q bs rest ts us rs (blank {rs = ss} {n = n} f c) h = cuts-lexical (past p (take n bs)) q (drop n bs) rest ts us ss c h
 cuts-lexical p q bs rest ts us rs (token {ts = vs} {kind = kind} {n = n} f c) h =
     let takes = token-takes p bs kind n (sym f) in
-    (record { name = token-names p bs kind n f; number = takes.4 }, cuts-lexical (past p (take n bs)) q (drop n bs) rest vs us rs c h)
+    (record { name = token-names p bs kind n f; number = takes.4; plain = token-plain p bs kind n f }, cuts-lexical (past p (take n bs)) q (drop n bs) rest vs us rs c h)
 
 -- the tokens of a text
 pub cut-lexical : (bytes : List ℕ) (tokens : List Tok) (ranges : List RangeForm) → IsCut bytes tokens ranges → AreLexical tokens
 cut-lexical bytes tokens ranges (ts, q, c, e) =
-    subst (λ (v : List Tok). AreLexical v) (sym e) (cuts-lexical start q bytes [] ts (token_at q k.End [] ∷ []) ranges c (record { name = λ h. cc; number = λ h. cc }, tt))
+    subst (λ (v : List Tok). AreLexical v) (sym e) (cuts-lexical start q bytes [] ts (token_at q k.End [] ∷ []) ranges c (record { name = λ h. cc; number = λ h. cc; plain = λ h. cc }, tt))

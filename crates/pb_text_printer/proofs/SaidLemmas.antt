@@ -15,11 +15,12 @@ use Rattle.pb_text_lexer.proofs.Correct.{st}
 use Rattle.pb_text_terms.specs.Grammar.{Name, Group, Variables, Binding, QuantifiedBy, Quantified}
 use Rattle.pb_text_printer.specs.Sayable.{Each, EachOf, IsName, AreNames, AreVariables}
 
--- ---- tokens as a text is cut into them
+-- ---- tokens as a text is cut into them: none counts
 
 pub record IsLexical (t : Tok) : Type 0 where
   pub name : t.kind ≡ k.Name → is_name t.text ≡ true
   pub number : t.kind ≡ k.Number → WritesNumber t.text
+  pub plain : t.kind ≡ k.Count → ⊥
 
 abbrev pub AreLexical : List Tok → Type 0
 AreLexical [] = Unit {0}
@@ -160,7 +161,7 @@ module _ {X : Type 0} (made : Quantifier → Place → List VariableForm → X �
       let a = h.count in let d = g.count in let u = f.count in let v = same q p vars inner in
       finish Q n (made q p vars inner) x s w z e.0 e.1 (record { says = bound q p vars inner h.says f.says; rest = f.rest; count = omega arith })
 
-  quantified-by-said : (kind : Kind) → EachReadingIs (QuantifiedBy made Body kind) Q n
+  pub quantified-by-said : (kind : Kind) → EachReadingIs (QuantifiedBy made Body kind) Q n
   quantified-by-said k.Forall s z x lex (t, m, r, b) =
       let h = one-said k.Forall s m t lex r in let f = binding-said Forall t.place m z x h.rest b in
       let a = h.count in let u = f.count in

@@ -5,20 +5,21 @@ use Rattle.std.proofs.lemmas.Bool.{or_right}
 use Rattle.pb_text_tree.specs.declared.place.Place.{Place}
 use Rattle.pb_text_tree.specs.declared.operator.Arithmetic.{Arithmetic}
 use Rattle.pb_text_tree.specs.declared.operator.Arithmetic.TheVariants as arithmetic
-use Rattle.pb_text_tree.specs.Form.{Named, TermForm, ArgumentForms, no_arguments, argument, InstanceForm}
+use Rattle.pb_text_tree.specs.declared.operator.Quantifier.{Quantifier}
+use Rattle.pb_text_tree.specs.Form.{Named, VariableForm, TermForm, ArgumentForms, no_arguments, argument, InstanceForm}
 use Rattle.pb_text_lexer.specs.declared.kind.Kind.{Kind}
 use Rattle.pb_text_lexer.specs.declared.kind.Kind.TheVariants as k
 use Rattle.pb_text_lexer.specs.Tokens.{Tok}
 use Rattle.pb_text_lexer.specs.Grammar.{State, Reads, Is, Nothing, One, First, last, more}
 use Rattle.pb_text_lexer.specs.LeftGrammar.{Link, Listed, Linked, Comparison, grouped}
 use Rattle.pb_text_terms.specs.Operators.{is_equality, is_order, comparison_of, compared_by, is_additive, is_times, is_division, arithmetic_of, computed_by}
-use Rattle.pb_text_terms.specs.Grammar.{Placed, arguments_of, Arguments, Instance, applied, Begun, Product, Sum, Ordered, Equated, Quantified, Connections, IsUnary, IsTerm}
+use Rattle.pb_text_terms.specs.Grammar.{Placed, arguments_of, Arguments, Instance, applied, Begun, Product, Sum, Ordered, Equated, BoundBy, Bound, Connections, IsUnary, IsTerm}
 use Rattle.pb_text_printer.specs.declared.level.Level.{Level}
 use Rattle.pb_text_printer.specs.declared.level.Level.TheVariants as level
 use Rattle.pb_text_printer.specs.Words.{fits, needs_no_brackets, goes_on, arithmetic_side, arithmetic_word}
-use Rattle.pb_text_printer.specs.Sayable.{Each, EachOf, operators, list_operators, IsPut, IsName, IsSayable, AreSayable, MoreSayable, SomeSayable, InstanceSayable}
+use Rattle.pb_text_printer.specs.Sayable.{Each, EachOf, AreVariables, operators, list_operators, IsPut, IsName, IsSayable, AreSayable, MoreSayable, SomeSayable, InstanceSayable}
 use Rattle.pb_text_printer.proofs.SayableLemmas.{term-bends, puts, puts-bracketed, needs_no_brackets-whole, term-looser, term-freer}
-use Rattle.pb_text_printer.proofs.SaidLemmas.{Said, EachReadingIs, one-said, operator_of-said, finish, first-said, total, listed-said, comma-said, nothing-said, name-said, quantified-said}
+use Rattle.pb_text_printer.proofs.SaidLemmas.{Said, EachReadingIs, one-said, operator_of-said, finish, first-said, total, listed-said, comma-said, nothing-said, name-said, quantified-by-said}
 use Rattle.pb_text_printer.proofs.SaidConnected.{connected-said}
 
 -- what can be said of a term where a level is asked for
@@ -317,11 +318,22 @@ equated-said d Unary unary =
 
 -- ---- whole terms
 
+-- a quantifier over a body; no token of a text counts
+bound-said : (Body : Reads TermForm) (P Q : TermForm → Type 0) → EachReadingIs Body P operators
+    → ((q : Quantifier) (p : Place) (vars : List VariableForm) (x : TermForm) → AreVariables vars → P x → Q (TermForm.quantified q p vars x)) → EachReadingIs (Bound Body) Q operators
+bound-said Body P Q body made = first-said (BoundBy Body) Q operators by
+  where
+    by : (kind : Kind) → EachReadingIs (BoundBy Body kind) Q operators
+    by k.Count s z x lex (t, m, r, b) = absurd ((one-said k.Count s m t lex r).says.plain r.1)
+    by k.Forall s z x lex h = quantified-by-said TermForm.quantified Body P Q operators body made (λ q p vars x. refl) k.Forall s z x lex h
+    by k.Exists s z x lex h = quantified-by-said TermForm.quantified Body P Q operators body made (λ q p vars x. refl) k.Exists s z x lex h
+    by _ s z x lex h = absurd h
+
 connections-said : (d : ℕ) (Unary Body : Reads TermForm) → EachReadingIs Unary (λ x. At d x level.Unary false) operators
-    → EachReadingIs (Quantified TermForm.quantified Body) (λ x. At d x level.Equality true) operators
+    → EachReadingIs (Bound Body) (λ x. At d x level.Equality true) operators
     → EachReadingIs (Connections Unary Body) (λ x. IsSayable x true d) operators
 connections-said d Unary Body unary quantifier s z x lex r =
-    let h = connected-said TermForm.connected (Equated Unary) (Quantified TermForm.quantified Body) (At d) operators level.Equality
+    let h = connected-said TermForm.connected (Equated Unary) (Bound Body) (At d) operators level.Equality
     (equated-said d Unary unary) quantifier (λ x l h. term-freer x l true d h) (λ x l m ends e h. term-looser x l m ends d e h) refl
     (λ p x y ends h g. (h, g)) (λ p x y ends h g. (h, g)) (λ p x y ends h g. (h, g)) (λ c p x y. refl) s z x lex r in
     record { says = subst (λ (b : Bool). IsPut b (IsSayable x) true d) (needs_no_brackets-whole x) h.says; rest = h.rest; count = h.count }
@@ -335,7 +347,7 @@ mutual
   -- a term that is read can be said within as many levels
   pub term-said : (d : ℕ) → EachReadingIs (IsTerm d) (λ x. IsSayable x true d) operators
   term-said zero = connections-said zero (First (Begun Nothing Nothing)) Nothing (first-said (Begun Nothing Nothing) (λ x. At zero x level.Unary false) operators begun-none)
-      (quantified-said TermForm.quantified Nothing (λ x. ⊥) (λ x. At zero x level.Equality true) operators (λ s z x lex h. absurd h) (λ q p vars x h g. absurd g) (λ q p vars x. refl))
+      (bound-said Nothing (λ x. ⊥) (λ x. At zero x level.Equality true) (λ s z x lex h. absurd h) (λ q p vars x h g. absurd g))
   term-said (suc d) = connections-said (suc d) (First (Begun (IsUnary d) (IsTerm d))) (IsTerm d)
       (first-said (Begun (IsUnary d) (IsTerm d)) (λ x. At (suc d) x level.Unary false) operators (begun-said d (IsUnary d) (IsTerm d) (unary-said d) (term-said d)))
-      (quantified-said TermForm.quantified (IsTerm d) (λ x. IsSayable x true d) (λ x. At (suc d) x level.Equality true) operators (term-said d) (λ q p vars x h g. (h, g)) (λ q p vars x. refl))
+      (bound-said (IsTerm d) (λ x. IsSayable x true d) (λ x. At (suc d) x level.Equality true) (term-said d) (λ q p vars x h g. (h, g)))

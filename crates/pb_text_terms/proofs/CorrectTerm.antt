@@ -1,4 +1,4 @@
--- Reading terms is right at any number of levels: signs, brackets, numbers and constants, connectives and quantifiers.
+-- Reading terms is right at any number of levels: signs, brackets, numbers and constants, connectives, quantifiers and counting.
 use Rattle.std.proofs.Common.{◌≡◌, ℕ, zero, suc, ◌≤◌, true, false, [], ◌∷◌, refl, ◌∙◌, arith, ◌⊎◌, inl, inr}
 use Rattle.std.specs.Str.Parse.{digits_value}
 use Rattle.pb_text_tree.specs.declared.place.Place.{Place}
@@ -18,10 +18,11 @@ use Rattle.pb_text_lexer.proofs.CorrectSeries.{Passes}
 use Rattle.pb_text_lexer.proofs.CorrectPlain.{Always, anywhere, then-plain, is-correct, nothing-correct}
 use Rattle.pb_text_lexer.proofs.CorrectLeft.{unless_next-correct}
 use Rattle.pb_text_lexer.proofs.CorrectEither.{connected-correct}
-use Rattle.pb_text_terms.specs.Operators.{connected_by, is_quantifier}
+use Rattle.pb_text_terms.specs.Operators.{connected_by, is_binder}
 use Rattle.pb_text_terms.specs.Grammar.{Instance, applied, Equated, IsUnary, IsTerm}
-use Rattle.pb_text_terms.specs.Reading.{is_open, instance, closed, begun, equated, unary, term, quantified}
-use Rattle.pb_text_terms.proofs.CorrectVariable.{head-kind-is, head-limited, said-correct, stops-at-kind, quantified-correct, quantified-last}
+use Rattle.pb_text_terms.specs.Reading.{is_open, instance, closed, begun, equated, unary, term, bound}
+use Rattle.pb_text_terms.proofs.CorrectVariable.{head-kind-is, head-limited, said-correct, stops-at-kind}
+use Rattle.pb_text_terms.proofs.CorrectBound.{bound-correct, bound-last}
 use Rattle.pb_text_terms.proofs.CorrectOperators.{below-connectives, equated_goes, equateds, term-closes, term_goes, unary_goes}
 use Rattle.pb_text_terms.proofs.TermStarts.{connecteds, from-term, from-unary, kinds, node-starts, quantified-starts, quantifieds, readable-term, readable-true, readable-unary, starts, to-term, to-unary}
 use Rattle.pb_text_terms.proofs.CorrectInstance.{inner-term, instance-last, instance-over, instances}
@@ -138,22 +139,22 @@ module _ (depth : ℕ) (right-unary : Correct Always (unary depth) IsUnary unary
 
 -- ---- connectives and quantifiers
 
-connections-correct : (depth : ℕ) (n q : Step TermForm) → Correct Always n (λ d. Equated (IsUnary d)) equated_goes depth → Answering (Passes is_quantifier) q quantifieds term_goes depth
-    → Correct Always (step.connected (connected_by TermForm.connected) is_quantifier n q) IsTerm term_goes depth
+connections-correct : (depth : ℕ) (n q : Step TermForm) → Correct Always n (λ d. Equated (IsUnary d)) equated_goes depth → Answering (Passes is_binder) q quantifieds term_goes depth
+    → Correct Always (step.connected (connected_by TermForm.connected) is_binder n q) IsTerm term_goes depth
 connections-correct depth n q right-n right-q =
-    alike-correct Always (step.connected (connected_by TermForm.connected) is_quantifier n q) connecteds IsTerm term_goes depth to-term from-term
-    (connected-correct (connected_by TermForm.connected) (λ d. Equated (IsUnary d)) quantifieds equated_goes is_quantifier depth below-connectives node-starts quantified-starts n q right-n right-q)
+    alike-correct Always (step.connected (connected_by TermForm.connected) is_binder n q) connecteds IsTerm term_goes depth to-term from-term
+    (connected-correct (connected_by TermForm.connected) (λ d. Equated (IsUnary d)) quantifieds equated_goes is_binder depth below-connectives node-starts quantified-starts n q right-n right-q)
 
 term-last : Correct Always (term 0) IsTerm term_goes 0
 term-last =
-    connections-correct 0 (equated (unary 0)) (quantified TermForm.quantified (refuse Limit) (refuse Limit)) (equateds (unary 0) IsUnary 0 unary-last)
-    (quantified-last TermForm.quantified IsTerm term_goes (readable-term 0) (refuse Limit))
+    connections-correct 0 (equated (unary 0)) (bound (refuse Limit) (refuse Limit)) (equateds (unary 0) IsUnary 0 unary-last)
+    (bound-last (refuse Limit))
 
 term-over : (depth : ℕ) → Correct Always (unary (suc depth)) IsUnary unary_goes (suc depth) → Correct Always (term depth) IsTerm term_goes depth
     → Correct Always (term (suc depth)) IsTerm term_goes (suc depth)
 term-over depth right-unary right-term =
-    connections-correct (suc depth) (equated (unary (suc depth))) (quantified TermForm.quantified take_token (term depth)) (equateds (unary (suc depth)) IsUnary (suc depth) right-unary)
-    (quantified-correct TermForm.quantified IsTerm term_goes depth (term depth) right-term).answers
+    connections-correct (suc depth) (equated (unary (suc depth))) (bound take_token (term depth)) (equateds (unary (suc depth)) IsUnary (suc depth) right-unary)
+    (bound-correct depth (term depth) right-term).answers
 
 record AreCorrect (depth : ℕ) : Type 0 where
   units : Correct Always (unary depth) IsUnary unary_goes depth

@@ -107,18 +107,18 @@ pub head-limited : (kind : Kind) (ts : List Tok) → HeadIs kind ts → is_limit
 head-limited kind ts h lim = ap is_limited (head-kind-is kind ts h) ∙ lim
 
 module _ {X : Type 0} (made : Quantifier → Place → List VariableForm → X → X) (fam : Family X) (g : Kind → Bool) where
-  abbrev kinds : ℕ → Kind → Reads X
+  abbrev pub kinds : ℕ → Kind → Reads X
   kinds d kind = QuantifiedBy made (deeper fam d) kind
 
-  starts : (d : ℕ) (kind : Kind) (s : State) (y : X) (z : State) → kinds d kind s y z → HeadIs kind s.tokens
+  pub starts : (d : ℕ) (kind : Kind) (s : State) (y : X) (z : State) → kinds d kind s y z → HeadIs kind s.tokens
   starts d k.Forall s y z r = head-at k.Forall s.tokens r.1.tokens r.0 r.2.0 r.2.1
   starts d k.Exists s y z r = head-at k.Exists s.tokens r.1.tokens r.0 r.2.0 r.2.1
   starts d _ s y z r = absurd r
 
-  abbrev bodies : (List VariableForm → X → X) → List VariableForm → Family X
+  abbrev pub bodies : (List VariableForm → X → X) → List VariableForm → Family X
   bodies bound found d = grammar.◌>>=◌ (One k.Period) (λ period. grammar.◌>>=◌ (deeper fam d) (λ body. Is (bound found body)))
 
-  binding-correct : (bound : List VariableForm → X → X) (depth : ℕ) (p : Step X) → Correct Always p fam g depth
+  pub binding-correct : (bound : List VariableForm → X → X) (depth : ℕ) (p : Step X) → Correct Always p fam g depth
       → Correct Always (binding bound p) (λ d. Binding bound (deeper fam d)) g (suc depth)
   binding-correct bound depth p right =
       then-correct (λ d. Variables) (bodies bound) commas g (suc depth) (λ d x m y z r over. stops-at-kind commas k.Period period-ends m.tokens r.1.tokens r.0 r.2.0 r.2.1)
@@ -127,19 +127,19 @@ module _ {X : Type 0} (made : Quantifier → Place → List VariableForm → X �
       Always (expect k.Period) _ (expect-correct k.Period (suc depth) refl) (λ period.
       said-correct (deeper fam) (λ body. bound found body) g (suc depth) Always p (deeper-correct Always p fam g depth right))))
 
-  forall-correct : (depth : ℕ) (p : Step X) → Correct Always p fam g depth
+  pub forall-correct : (depth : ℕ) (p : Step X) → Correct Always p fam g depth
       → Correct (HeadIs k.Forall) (quantified_by made take_token p (quantifier_of k.Forall)) (λ d. kinds d k.Forall) g (suc depth)
   forall-correct depth p right =
       then-plain (λ d. One k.Forall) (λ word d. Binding (made Forall word.place) (deeper fam d)) g (suc depth) (HeadIs k.Forall) take_token (λ word. binding (made Forall word.place) p)
       (take-correct k.Forall (suc depth) refl) (λ word. binding-correct (made Forall word.place) depth p right)
 
-  exists-correct : (depth : ℕ) (p : Step X) → Correct Always p fam g depth
+  pub exists-correct : (depth : ℕ) (p : Step X) → Correct Always p fam g depth
       → Correct (HeadIs k.Exists) (quantified_by made take_token p (quantifier_of k.Exists)) (λ d. kinds d k.Exists) g (suc depth)
   exists-correct depth p right =
       then-plain (λ d. One k.Exists) (λ word d. Binding (made Exists word.place) (deeper fam d)) g (suc depth) (HeadIs k.Exists) take_token (λ word. binding (made Exists word.place) p)
       (take-correct k.Exists (suc depth) refl) (λ word. binding-correct (made Exists word.place) depth p right)
 
-  at-each : (depth : ℕ) (p : Step X) → Correct Always p fam g depth → (kind : Kind)
+  pub at-each : (depth : ℕ) (p : Step X) → Correct Always p fam g depth → (kind : Kind)
       → Answering (HeadIs kind) (quantified_by made take_token p (quantifier_of kind)) (λ d. kinds d kind) g (suc depth)
       ⊎ Nowhere (quantified_by made take_token p (quantifier_of kind)) (λ d. kinds d kind)
   at-each depth p right k.Forall = inl (forall-correct depth p right).answers
@@ -162,7 +162,7 @@ module _ {X : Type 0} (made : Quantifier → Place → List VariableForm → X �
   no-level _ is d s y w le r = absurd r
 
   -- where a level may open, a body goes on behind variables
-  readable-binding : (bound : List VariableForm → X → X) (level : ℕ) → Readable fam level → Readable (λ d. Binding bound (deeper fam d)) (suc level)
+  pub readable-binding : (bound : List VariableForm → X → X) (level : ℕ) → Readable fam level → Readable (λ d. Binding bound (deeper fam d)) (suc level)
   readable-binding bound level some =
       free-then (λ d. Variables) (bodies bound) (suc level) [] (variables-correct level).some
       (λ found. free-then (λ d. One k.Period) (λ period d. grammar.◌>>=◌ (deeper fam d) (λ body. Is (bound found body))) (suc level) [] (readable-one k.Period (suc level))
@@ -178,11 +178,11 @@ module _ {X : Type 0} (made : Quantifier → Place → List VariableForm → X �
       free-then (λ d. One k.Exists) (λ word d. Binding (made Exists word.place) (deeper fam d)) (suc level) (t ∷ []) (free-one k.Exists (suc level) t is)
       (λ word. readable-binding (made Exists word.place) level some)
 
-  readable-forall : (level : ℕ) → Readable fam level → Readable (λ d. kinds d k.Forall) (suc level)
+  pub readable-forall : (level : ℕ) → Readable fam level → Readable (λ d. kinds d k.Forall) (suc level)
   readable-forall level some =
       readable-free (λ d. kinds d k.Forall) (suc level) (some-token k.Forall ∷ []) (free-forall level some (some-token k.Forall) refl)
 
-  at-last : Readable fam 0 → (p : Step X) (kind : Kind)
+  pub at-last : Readable fam 0 → (p : Step X) (kind : Kind)
       → Answering (HeadIs kind) (quantified_by made (refuse Limit) p (quantifier_of kind)) (λ d. kinds d kind) g 0
       ⊎ Nowhere (quantified_by made (refuse Limit) p (quantifier_of kind)) (λ d. kinds d kind)
   at-last some p k.Forall =

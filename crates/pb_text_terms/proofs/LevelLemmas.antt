@@ -28,7 +28,7 @@ use Rattle.pb_text_terms.specs.declared.level.Relation.TheVariants as relation
 use Rattle.pb_text_terms.specs.declared.level.Operator.{Operator}
 use Rattle.pb_text_terms.specs.declared.level.Operator.TheVariants as o
 use Rattle.pb_text_terms.specs.Levels.{operator_of_token, level_of, operand_level, rank, may_quantify, is_related}
-use Rattle.pb_text_terms.specs.Operators.{symbol_kind, is_times, is_division, is_additive, is_order, is_equality, is_quantifier, compared_by}
+use Rattle.pb_text_terms.specs.Operators.{symbol_kind, is_times, is_division, is_additive, is_order, is_equality, is_binder, compared_by}
 use Rattle.pb_text_terms.specs.Reading.{begun, unary, lowest, sum, ordered, equated, operand, operations, is_among, is_mixed, at, below, term, quantified_term}
 use Rattle.pb_text_terms.proofs.TermLemmas.{lowest-is}
 use Rattle.pb_text_terms.proofs.ReadLemmas.{left-alone, left-fails, begun-at, lowest-node, sum-first-fails, sum-alone, sum-fails, sum-read, product-first-fails, product-alone, times-fail, times-mixed, times-read, division-fails, division-mixed, division-read, equated-first-fails}
@@ -184,15 +184,16 @@ related-stands r k.Equal h = let is : r ≡ relation.Equality = cc in subst (λ 
 related-stands r k.NotEqual h = let is : r ≡ relation.Equality = cc in subst (λ v. is_related v k.NotEqual ≡ true) (sym is) refl
 related-stands r _ h = absurd (let no : ⊥ = cc in no)
 
--- ---- a quantifier begins no term of operators
+-- ---- a quantifier or `count` begins no term of operators
 
-quantifier-begins : (e : Step Tok) (u t : Step TermForm) (kind : Kind) → is_quantifier kind ≡ true → begun e u t kind ≡ refuse Unexpected
+quantifier-begins : (e : Step Tok) (u t : Step TermForm) (kind : Kind) → is_binder kind ≡ true → begun e u t kind ≡ refuse Unexpected
+quantifier-begins e u t k.Count h = refl
 quantifier-begins e u t k.Forall h = refl
 quantifier-begins e u t k.Exists h = refl
 quantifier-begins e u t _ h = absurd (let no : ⊥ = cc in no)
 
 module _ (depth : ℕ) where
-  quantifier-fails : (s : State) → is_quantifier (kind s) ≡ true → unary depth s ≡ Err (refusal Unexpected s.tokens)
+  quantifier-fails : (s : State) → is_binder (kind s) ≡ true → unary depth s ≡ Err (refusal Unexpected s.tokens)
   quantifier-fails s h =
       begun-at depth s (kind s) refl ∙ ap (λ p. p s) (quantifier-begins (enter depth) (below unary depth) (below term depth) (kind s) h)
 
@@ -209,10 +210,10 @@ module _ (depth : ℕ) where
   first-fails l.Disjunction s bad low fails = absurd (let f : 7 < 5 = low in let no : ⊥ = omega arith in no)
   first-fails l.Implication s bad low fails = absurd (let f : 8 < 5 = low in let no : ⊥ = omega arith in no)
 
-  pub begins-plain : (m : Level) (s s1 : State) (x : TermForm) → rank m < 5 → at m depth s ≡ Ok (x, s1) → is_quantifier (kind s) ≡ false
-  begins-plain m s s1 x low reads = by (is_quantifier (kind s)) refl
+  pub begins-plain : (m : Level) (s s1 : State) (x : TermForm) → rank m < 5 → at m depth s ≡ Ok (x, s1) → is_binder (kind s) ≡ false
+  begins-plain m s s1 x low reads = by (is_binder (kind s)) refl
     where
-      by : (v : Bool) → is_quantifier (kind s) ≡ v → is_quantifier (kind s) ≡ false
+      by : (v : Bool) → is_binder (kind s) ≡ v → is_binder (kind s) ≡ false
       by true is = let fails = first-fails m s (refusal Unexpected s.tokens) low (quantifier-fails s is) in absurd (let no : ⊥ = cc in no)
       by false is = is
 
@@ -237,7 +238,7 @@ module _ (depth : ℕ) where
   alone l.Implication s s1 x reads other =
       chain-alone Implies (operand TermForm.connected Implies (lowest depth)) (length s.tokens) s s1 x reads (not-symbol Implies (kind s1) other)
 
-  fails : (m : Level) (s : State) (bad : Refusal) → (rank m ≡ 5 → is_quantifier (kind s) ≡ false) → at (tighter m) depth s ≡ Err bad → at m depth s ≡ Err bad
+  fails : (m : Level) (s : State) (bad : Refusal) → (rank m ≡ 5 → is_binder (kind s) ≡ false) → at (tighter m) depth s ≡ Err bad → at m depth s ≡ Err bad
   unfolding ordered equated
   fails l.Unary s bad plain reads = reads
   fails l.Product s bad plain reads = product-first-fails (unary depth) s bad reads
@@ -262,7 +263,7 @@ module _ (depth : ℕ) where
       (λ q is same. let r : rank (level_of q) ≡ rank high = ap rank same in none q is (omega arith) (omega arith))
 
   pub fails-up : (n : ℕ) (low high : Level) (s : State) (bad : Refusal) → rank high ≡ n + rank low
-      → (rank low < 5 → 5 ≤ rank high → is_quantifier (kind s) ≡ false) → at low depth s ≡ Err bad → at high depth s ≡ Err bad
+      → (rank low < 5 → 5 ≤ rank high → is_binder (kind s) ≡ false) → at low depth s ≡ Err bad → at high depth s ≡ Err bad
   fails-up zero low high s bad e plain reads = subst (λ v. at v depth s ≡ Err bad) (same-rank low high (omega arith)) reads
   fails-up (suc n) low high s bad e plain reads =
       let less : rank (tighter high) ≡ n + rank low = tighter-rank high (n + rank low) (omega arith) in
@@ -290,23 +291,23 @@ module _ (depth : ℕ) where
 
   -- ---- a first operand
 
-  plain-first : (high : Level) (s : State) → (may_quantify high && is_quantifier (kind s)) ≡ false → 5 ≤ rank high → is_quantifier (kind s) ≡ false
-  plain-first high s other le = ap (λ v. v && is_quantifier (kind s)) (sym (may-rank high le)) ∙ other
+  plain-first : (high : Level) (s : State) → (may_quantify high && is_binder (kind s)) ≡ false → 5 ≤ rank high → is_binder (kind s) ≡ false
+  plain-first high s other le = ap (λ v. v && is_binder (kind s)) (sym (may-rank high le)) ∙ other
 
-  pub lowest-quantified : (s : State) → is_quantifier (kind s) ≡ true → lowest depth s ≡ quantified_term depth s
+  pub lowest-quantified : (s : State) → is_binder (kind s) ≡ true → lowest depth s ≡ quantified_term depth s
   lowest-quantified s is = ap (λ p. p s) (lowest-is depth) ∙ rw is refl
 
-  pub quantified-fails : (high : Level) (s : State) (bad : Refusal) → (may_quantify high && is_quantifier (kind s)) ≡ true → quantified_term depth s ≡ Err bad → at high depth s ≡ Err bad
+  pub quantified-fails : (high : Level) (s : State) (bad : Refusal) → (may_quantify high && is_binder (kind s)) ≡ true → quantified_term depth s ≡ Err bad → at high depth s ≡ Err bad
   quantified-fails high s bad is fails =
-      let both = and_parts (may_quantify high) (is_quantifier (kind s)) is in
+      let both = and_parts (may_quantify high) (is_binder (kind s)) is in
       let le = rank-may high both.0 in
       fails-up (rank high - 5) l.Quantified high s bad (let g : rank high ≡ rank high - 5 + 5 = omega arith in g)
       (λ a b. absurd (let f : 5 < 5 = a in let no : ⊥ = omega arith in no)) (lowest-quantified s both.1 ∙ fails)
 
-  pub first-fails-as : (high : Level) (s : State) (bad : Refusal) → (may_quantify high && is_quantifier (kind s)) ≡ false → unary depth s ≡ Err bad → at high depth s ≡ Err bad
+  pub first-fails-as : (high : Level) (s : State) (bad : Refusal) → (may_quantify high && is_binder (kind s)) ≡ false → unary depth s ≡ Err bad → at high depth s ≡ Err bad
   first-fails-as high s bad other reads = fails-up (rank high) l.Unary high s bad (let g : rank high ≡ rank high + 0 = omega arith in g) (λ a b. plain-first high s other b) reads
 
-  pub first-or-fails : (high : Level) (s z : State) (r : Result Term (OrMemory Refusal)) → (may_quantify high && is_quantifier (kind s)) ≡ false
+  pub first-or-fails : (high : Level) (s z : State) (r : Result Term (OrMemory Refusal)) → (may_quantify high && is_binder (kind s)) ≡ false
       → ((q : Operator) → operator_of_token (kind z) ≡ Some q → 0 < rank (level_of q) → rank high < rank (level_of q))
       → Gives term_form (unary depth s) r z → Gives term_form (at high depth s) r z
   first-or-fails high s z (Ok x) other none reads = skips-to l.Unary high s z (term_form x) (let g : 0 ≤ rank high = omega arith in g) none reads

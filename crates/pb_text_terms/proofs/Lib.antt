@@ -10,4 +10,5 @@ pub mod CorrectVariable
 pub mod CorrectOperators
 pub mod TermStarts
 pub mod CorrectInstance
+pub mod CorrectBound
 pub mod CorrectTerm

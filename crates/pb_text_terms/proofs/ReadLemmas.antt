@@ -20,9 +20,9 @@ use Rattle.pb_text_lexer.specs.Tokens.{Tok}
 use Rattle.pb_text_lexer.proofs.TokenLemmas.{kind-same}
 use Rattle.pb_text_terms.specs.declared.operator.Operators.{Operators}
 use Rattle.pb_text_terms.specs.declared.operator.Operators.TheVariants.{Additive, Times, Division}
-use Rattle.pb_text_terms.specs.Operators.{computed_by, arithmetic_of, is_connective, is_times, is_division, is_additive, is_order, is_equality, is_operator, is_quantifier, compared_by}
+use Rattle.pb_text_terms.specs.Operators.{computed_by, arithmetic_of, is_connective, is_times, is_division, is_additive, is_order, is_equality, is_operator, is_binder, compared_by}
 use Rattle.pb_text_terms.specs.Grammar.{arguments_of, applied}
-use Rattle.pb_text_terms.specs.Reading.{name, with_place, closed, is_open, is_among, operation, operations, numeral, product, sum, ordered, unary, begun, lowest, equated, term, below, instance, argument_list, argument_pair}
+use Rattle.pb_text_terms.specs.Reading.{name, with_place, closed, is_open, is_among, operation, operations, numeral, product, sum, ordered, unary, begun, lowest, equated, term, below, instance, argument_list, argument_pair, quantifier_of, quantified_by, bound_by}
 use Rattle.pb_text_terms.proofs.TermLemmas.{unary-is, lowest-is}
 
 -- ---- a comparison
@@ -287,9 +287,16 @@ pub unary-other : (depth : ℕ) (s : State) → kind s ≢ k.Not → kind s ≢ 
 unary-other depth s a b c d e f g =
     begun-at depth s (kind s) refl ∙ ap (λ p. p s) (begun-other (enter depth) (below unary depth) (below term depth) (kind s) a b c d e f g)
 
--- ---- no quantifier
+-- ---- quantifiers
 
-pub lowest-node : (depth : ℕ) (s : State) → is_quantifier (kind s) ≡ false → lowest depth s ≡ equated (unary depth) s
+-- what doesn't count is a quantifier
+pub bound-at : (enter : Step Tok) (body : Step TermForm) (kind : Kind) → same_kind kind k.Count ≡ false
+    → bound_by enter body kind ≡ quantified_by TermForm.quantified enter body (quantifier_of kind)
+unfolding same_kind
+bound-at enter body k.Count h = let q : true ≡ false = h in absurd (let no : ⊥ = cc in no)
+bound-at enter body _ h = refl
+
+pub lowest-node : (depth : ℕ) (s : State) → is_binder (kind s) ≡ false → lowest depth s ≡ equated (unary depth) s
 lowest-node depth s other = ap (λ p. p s) (lowest-is depth) ∙ rw other refl
 
 -- ---- operands that are read first

@@ -11,8 +11,8 @@ use Rattle.pb_text_lexer.proofs.Correct.{st, Family, never, readable-is, readabl
 use Rattle.pb_text_lexer.proofs.CorrectFamilies.{readable-first, deeper}
 use Rattle.pb_text_lexer.proofs.CorrectSeries.{Passes, head-at}
 use Rattle.pb_text_lexer.proofs.CorrectEither.{Not}
-use Rattle.pb_text_terms.specs.Operators.{connected_by, is_quantifier}
-use Rattle.pb_text_terms.specs.Grammar.{Instance, Begun, Equated, QuantifiedBy, Quantified, IsUnary, IsTerm}
+use Rattle.pb_text_terms.specs.Operators.{connected_by, is_binder}
+use Rattle.pb_text_terms.specs.Grammar.{Instance, Begun, Equated, BoundBy, Bound, IsUnary, IsTerm}
 
 -- ---- what a term begins with
 
@@ -74,11 +74,11 @@ starts U T k.False s y z r = head-at k.False s.tokens r.1.tokens r.0 r.2.0 r.2.1
 starts U T k.Name s y z r = instance-starts T s r.0 r.1 r.2
 starts U T _ s y z r = absurd r
 
--- no quantifier begins a sign's operand
-unary-starts : (d : ℕ) (s : State) (y : TermForm) (z : State) → IsUnary d s y z → Passes (Not is_quantifier) s.tokens
+-- no quantifier and no `count` begins a sign's operand
+unary-starts : (d : ℕ) (s : State) (y : TermForm) (z : State) → IsUnary d s y z → Passes (Not is_binder) s.tokens
 unary-starts d s y z r = at s.tokens s.operators (from-unary d s y z r)
   where
-    plain : (kind : Kind) (s : State) → kinds d kind s y z → Not is_quantifier kind ≡ true
+    plain : (kind : Kind) (s : State) → kinds d kind s y z → Not is_binder kind ≡ true
     plain k.Not s r = refl
     plain k.Minus s r = refl
     plain k.Open s r = refl
@@ -88,25 +88,26 @@ unary-starts d s y z r = at s.tokens s.operators (from-unary d s y z r)
     plain k.Name s r = refl
     plain _ s r = absurd r
 
-    at : (ts : List Tok) (n : ℕ) → First (kinds d) (st ts n) y z → Passes (Not is_quantifier) ts
+    at : (ts : List Tok) (n : ℕ) → First (kinds d) (st ts n) y z → Passes (Not is_binder) ts
     at [] n r = r
     at (t ∷ ts) n r = plain t.kind (st (t ∷ ts) n) r
 
-pub node-starts : (d : ℕ) (s : State) (y : TermForm) (z : State) → Equated (IsUnary d) s y z → Passes (Not is_quantifier) s.tokens
-node-starts d = equated-starts (λ s. Passes (Not is_quantifier) s.tokens) (IsUnary d) (unary-starts d)
+pub node-starts : (d : ℕ) (s : State) (y : TermForm) (z : State) → Equated (IsUnary d) s y z → Passes (Not is_binder) s.tokens
+node-starts d = equated-starts (λ s. Passes (Not is_binder) s.tokens) (IsUnary d) (unary-starts d)
 
 abbrev pub quantifieds : Family TermForm
-quantifieds d = Quantified TermForm.quantified (deeper IsTerm d)
+quantifieds d = Bound (deeper IsTerm d)
 
-pub quantified-starts : (d : ℕ) (s : State) (y : TermForm) (z : State) → quantifieds d s y z → Passes is_quantifier s.tokens
+pub quantified-starts : (d : ℕ) (s : State) (y : TermForm) (z : State) → quantifieds d s y z → Passes is_binder s.tokens
 quantified-starts d s y z r = at s.tokens s.operators r
   where
-    plain : (kind : Kind) (s : State) → QuantifiedBy TermForm.quantified (deeper IsTerm d) kind s y z → is_quantifier kind ≡ true
+    plain : (kind : Kind) (s : State) → BoundBy (deeper IsTerm d) kind s y z → is_binder kind ≡ true
+    plain k.Count s r = refl
     plain k.Forall s r = refl
     plain k.Exists s r = refl
     plain _ s r = absurd r
 
-    at : (ts : List Tok) (n : ℕ) → quantifieds d (st ts n) y z → Passes is_quantifier ts
+    at : (ts : List Tok) (n : ℕ) → quantifieds d (st ts n) y z → Passes is_binder ts
     at [] n r = r
     at (t ∷ ts) n r = plain t.kind (st (t ∷ ts) n) r
 
@@ -124,8 +125,8 @@ from-term (suc d) s y z r = r
 -- a term has at least one token
 term-some : (d : ℕ) (s : State) (y : TermForm) (z : State) → IsTerm d s y z → Passes (λ kind. true) s.tokens
 term-some d s y z r =
-    connected-starts Some (connected_by TermForm.connected) (Equated (IsUnary d)) (quantifieds d) (λ s y z r. some-of (Not is_quantifier) s.tokens (node-starts d s y z r))
-    (λ s y z r. some-of is_quantifier s.tokens (quantified-starts d s y z r)) s y z (from-term d s y z r)
+    connected-starts Some (connected_by TermForm.connected) (Equated (IsUnary d)) (quantifieds d) (λ s y z r. some-of (Not is_binder) s.tokens (node-starts d s y z r))
+    (λ s y z r. some-of is_binder s.tokens (quantified-starts d s y z r)) s y z (from-term d s y z r)
 
 pub deeper-some : (d : ℕ) (s : State) (y : TermForm) (z : State) → deeper IsTerm d s y z → Passes (λ kind. true) s.tokens
 deeper-some zero s y z r = absurd r

@@ -7,6 +7,7 @@ use Rattle.pb_text_tree.specs.declared.place.Place.{Place}
 use Rattle.pb_text_tree.specs.declared.operator.Quantifier.{Quantifier}
 use Rattle.pb_text_tree.specs.declared.operator.Quantifier.TheVariants.{Forall, Exists}
 use Rattle.pb_text_tree.specs.Form.{Named, VariableForm, TermForm, ArgumentForms, no_arguments, argument, InstanceForm}
+use Rattle.pb_text_counting.specs.Counting.{counted}
 use Rattle.pb_text_lexer.specs.declared.kind.Kind.{Kind}
 use Rattle.pb_text_lexer.specs.declared.kind.Kind.TheVariants as k
 use Rattle.pb_text_lexer.specs.Grammar.{Reads, ◌>>=◌, Is, Nothing, One, First}
@@ -139,13 +140,23 @@ Ordered Unary = Comparison is_order compared_by (Sum Unary)
 abbrev pub Equated : Reads TermForm → Reads TermForm
 Equated Unary = Comparison is_equality compared_by (Ordered Unary)
 
--- The connectives, at whose right end a quantifier over Body may stand.
+-- a quantifier with its variables, over its body, or `count`, which is an operand of neither
+-- arithmetic nor a comparison where no bracket stands around it
+abbrev pub BoundBy : Reads TermForm → Kind → Reads TermForm
+BoundBy Body k.Count = do
+  word ← One k.Count
+  Binding (counted word.place) Body
+BoundBy Body kind = QuantifiedBy TermForm.quantified Body kind
+
+abbrev pub Bound : Reads TermForm → Reads TermForm
+Bound Body = First (BoundBy Body)
+
+-- The connectives, at whose right end a quantifier over Body may stand, or counting.
 abbrev pub Connections : Reads TermForm → Reads TermForm → Reads TermForm
 Connections Unary Body =
-    Connected (connected_by TermForm.connected) (Equated Unary)
-    (Quantified TermForm.quantified Body)
+    Connected (connected_by TermForm.connected) (Equated Unary) (Bound Body)
 
--- So many levels may open: each sign, bracket and quantifier opens one.
+-- So many levels may open: each sign, bracket, quantifier and `count` opens one.
 abbrev mutual
   pub IsUnary : ℕ → Reads TermForm
   IsUnary zero = First (Begun Nothing Nothing)

@@ -43,6 +43,11 @@ is_quantifier k.Forall = true
 is_quantifier k.Exists = true
 is_quantifier _ = false
 
+-- what binds variables in data: a quantifier, or `count` of models
+abbrev pub is_binder : Kind → Bool
+is_binder k.Count = true
+is_binder kind = is_quantifier kind
+
 -- ---- comparisons
 
 abbrev pub is_equality : Kind → Bool

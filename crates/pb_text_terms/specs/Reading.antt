@@ -9,6 +9,7 @@ use Rattle.pb_text_tree.specs.declared.operator.Connective.TheVariants.{And, Or,
 use Rattle.pb_text_tree.specs.declared.operator.Quantifier.{Quantifier}
 use Rattle.pb_text_tree.specs.declared.operator.Quantifier.TheVariants.{Forall, Exists}
 use Rattle.pb_text_tree.specs.Form.{Named, VariableForm, TermForm, ArgumentForms, no_arguments, InstanceForm, term_form}
+use Rattle.pb_text_counting.specs.Counting.{counted}
 use Rattle.pb_text_lexer.specs.declared.fault.ReadingRule.TheVariants.{Unexpected, Limit}
 use Rattle.pb_text_lexer.specs.declared.kind.Kind.{Kind}
 use Rattle.pb_text_lexer.specs.declared.kind.Kind.TheVariants as k
@@ -19,7 +20,7 @@ use Rattle.pb_text_terms.specs.declared.operator.Operators.{Operators}
 use Rattle.pb_text_terms.specs.declared.operator.Operators.TheVariants.{Additive, Times, Division}
 use Rattle.pb_text_terms.specs.declared.level.Level.{Level}
 use Rattle.pb_text_terms.specs.declared.level.Level.TheVariants as l
-use Rattle.pb_text_terms.specs.Operators.{symbol_kind, connected_by, is_quantifier, is_equality, is_order, compared_by, is_additive, is_times, is_division, arithmetic_of, computed_by}
+use Rattle.pb_text_terms.specs.Operators.{symbol_kind, connected_by, is_binder, is_equality, is_order, compared_by, is_additive, is_times, is_division, arithmetic_of, computed_by}
 use Rattle.pb_text_terms.specs.Grammar.{arguments_of, applied}
 
 -- ---- names, variables, quantifiers
@@ -176,10 +177,18 @@ ordered unary = comparison is_order compared_by (sum unary)
 unfoldable pub equated : Step TermForm → Step TermForm
 equated unary = comparison is_equality compared_by (ordered unary)
 
--- One expression, or a quantifier over a body. The first step takes a token that opens a level.
+-- a quantifier over a body, or counting, by the first token. The first step takes a token that
+-- opens a level.
+abbrev pub bound_by : Step Tok → Step TermForm → Kind → Step TermForm
+bound_by enter body k.Count = enter >>= (λ word. binding (counted word.place) body)
+bound_by enter body kind = quantified_by TermForm.quantified enter body (quantifier_of kind)
+
+abbrev pub bound : Step Tok → Step TermForm → Step TermForm
+bound enter body = peek >>= bound_by enter body
+
+-- One expression, or one of these. The first step takes a token that opens a level.
 abbrev pub lowest_over : Step Tok → Step TermForm → Step TermForm → Step TermForm
-lowest_over enter unary body =
-    either is_quantifier (equated unary) (quantified TermForm.quantified enter body)
+lowest_over enter unary body = either is_binder (equated unary) (bound enter body)
 
 -- what a chain of the connective is made of, over what `&&` connects
 abbrev pub operand : {X : Type 0} → (Connective → Place → X → X → X) → Connective → Step X → Step X
@@ -236,5 +245,9 @@ below p (suc depth) = p depth
 abbrev pub instance : ℕ → Step InstanceForm
 instance depth = instance_of (enter depth) (below term depth)
 
+abbrev pub quantifier_term : ℕ → Step TermForm
+quantifier_term depth = quantified TermForm.quantified (enter depth) (below term depth)
+
+-- the same, or counting
 abbrev pub quantified_term : ℕ → Step TermForm
-quantified_term depth = quantified TermForm.quantified (enter depth) (below term depth)
+quantified_term depth = bound (enter depth) (below term depth)

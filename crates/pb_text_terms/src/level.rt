@@ -5,7 +5,7 @@ ghost use Rattle.std.specs.Prelude.{◌≡◌, ◌<◌, ◌≤◌, ◌&&◌, Som
 ghost use Rattle.pb_text_terms.specs.Levels as spec;
 ghost use Rattle.pb_text_terms.specs.Operators as operators;
 
-use crate::operator::{Operators, is_equality, is_order, is_quantifier};
+use crate::operator::{Operators, is_binder, is_equality, is_order};
 use pb_text_lexer::kind::Kind;
 use pb_text_tree::Connective;
 
@@ -127,15 +127,15 @@ fn rank(level: Level) -> u32
     }
 }
 
-/// Whether a token is a quantifier with which terms of a level may begin.
+/// Whether a token binds variables, and terms of a level may begin with it.
 pub fn begins_quantified(level: Level, kind: Kind) -> bool
-    ensures { result ≡ (spec.may_quantify level && operators.is_quantifier kind) }
+    ensures { result ≡ (spec.may_quantify level && operators.is_binder kind) }
 {
     let may_quantify = matches!(
         level,
         Level::Quantified | Level::Conjunction | Level::Disjunction | Level::Implication
     );
-    may_quantify && is_quantifier(kind)
+    may_quantify && is_binder(kind)
 }
 
 /// The operator of a token, if it is one of these levels.

@@ -4,7 +4,7 @@ ghost use Rattle.std.specs.Prelude.{◌≡◌};
 ghost use Rattle.pb_text_terms.specs.Operators as spec;
 ghost use Rattle.pb_text_terms.specs.Reading as reading;
 
-use pb_text_lexer::kind::Kind;
+use pb_text_lexer::kind::{Kind, same_kind};
 use pb_text_tree::{Arithmetic, Comparison, Connective, Quantifier};
 
 /// The token of a connective.
@@ -23,6 +23,13 @@ pub fn is_connective(kind: Kind) -> bool
     ensures { result ≡ spec.is_connective kind }
 {
     matches!(kind, Kind::And | Kind::Or | Kind::Implies)
+}
+
+/// Whether a token binds variables in data: a quantifier, or `count`.
+pub fn is_binder(kind: Kind) -> bool
+    ensures { result ≡ spec.is_binder kind }
+{
+    same_kind(kind, Kind::Count) || is_quantifier(kind)
 }
 
 /// The quantifier of a token, if it is one.

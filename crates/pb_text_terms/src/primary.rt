@@ -14,9 +14,10 @@ use crate::operator::quantifier;
 use crate::term::term_at;
 use crate::variable::variables;
 use pb_base::both;
+use pb_text_counting::counted;
 use pb_text_lexer::fault::{ReadingError, ReadingRule};
 use pb_text_lexer::input::Input;
-use pb_text_lexer::kind::Kind;
+use pb_text_lexer::kind::{Kind, same_kind};
 use pb_text_tree::Term;
 use std::alloc::Global;
 
@@ -79,15 +80,26 @@ fn bracketed(input: &mut Input<'_>, alloc: Global, depth: u32) -> Result<Term, R
     Ok(closed(input, inner)?)
 }
 
+/// `count`, its variables and its body.
+#[cycle(terms)]
+#[inline(never)]
+fn counting(input: &mut Input<'_>, alloc: Global, depth: u32) -> Result<Term, ReadingError>
+    requires { steps.kind input.old ≡ Kind.Count }
+    ensures { ReadsSome term_form (reading.quantified_term depth) input.old result input.new }
+{
+    let place = input.enter(depth)?.place;
+    let variables = variables(input, alloc)?;
+    let (variables, _) = both(variables, input.expect(Kind::Period))?;
+    let body = term_at(input, alloc, depth - 1, Level::Implication);
+    let (variables, body) = both(variables, body)?;
+    Ok(counted(alloc, place, variables, body)?)
+}
+
 /// A quantifier, its variables and its body.
 #[cycle(terms)]
 #[inline(never)]
-pub(crate) fn quantified(
-    input: &mut Input<'_>,
-    alloc: Global,
-    depth: u32,
-) -> Result<Term, ReadingError>
-    ensures { ReadsSome term_form (reading.quantified_term depth) input.old result input.new }
+fn quantifying(input: &mut Input<'_>, alloc: Global, depth: u32) -> Result<Term, ReadingError>
+    ensures { ReadsSome term_form (reading.quantifier_term depth) input.old result input.new }
 {
     let Some(quantifier) = quantifier(input.kind()) else {
         return Err(ReadingError::Refused(input.refuse(ReadingRule::Unexpected)));
@@ -103,4 +115,20 @@ pub(crate) fn quantified(
         variables,
         body,
     })
+}
+
+/// A quantifier or `count`, its variables and its body.
+#[cycle(terms)]
+pub(crate) fn quantified(
+    input: &mut Input<'_>,
+    alloc: Global,
+    depth: u32,
+) -> Result<Term, ReadingError>
+    ensures { ReadsSome term_form (reading.quantified_term depth) input.old result input.new }
+{
+    if same_kind(input.kind(), Kind::Count) {
+        counting(input, alloc, depth)
+    } else {
+        quantifying(input, alloc, depth)
+    }
 }

@@ -5,18 +5,18 @@ use Rattle.pb_base.proofs.Faults.{if_fault}
 use Rattle.pb_text_tree.specs.Form.{TermForm, instance_form, named, term_form, term_links, arithmetic_links}
 use Rattle.pb_text_lexer.specs.declared.kind.Kind.TheVariants as k
 use Rattle.pb_text_lexer.specs.Kinds.{same_kind}
-use Rattle.pb_text_lexer.specs.Steps.{kind}
+use Rattle.pb_text_lexer.specs.Steps.{kind, enter}
 use Rattle.pb_text_lexer.specs.Tokens.{tok}
 use Rattle.pb_text_lexer.proofs.LoopLemmas.{resumed-first, resumed-more, resumed-end, resumed-operator-fails, resumed-operand-fails}
 use Rattle.pb_text_terms.specs.declared.level.Level.{Level}
 use Rattle.pb_text_terms.specs.declared.level.Operator.TheVariants.{Arithmetic, Connective}
 use Rattle.pb_text_terms.specs.Levels.{operator_of_token, level_of, operand_level, rank, may_quantify, is_related}
-use Rattle.pb_text_terms.specs.Operators.{symbol_kind, is_quantifier, arithmetic_of}
-use Rattle.pb_text_terms.specs.Reading.{term, with_place, is_comma, is_open, operation, operations, is_among, is_mixed, at}
-use Rattle.pb_text_terms.proofs.ReaderLemmas.{refused, refuses, fails-on, error-on, error-is, as-read, known}
+use Rattle.pb_text_terms.specs.Operators.{symbol_kind, is_binder, arithmetic_of}
+use Rattle.pb_text_terms.specs.Reading.{term, below, with_place, is_comma, is_open, operation, operations, is_among, is_mixed, at}
+use Rattle.pb_text_terms.proofs.ReaderLemmas.{read-as, refused, refuses, fails-on, error-on, error-is, as-read, known}
 use Rattle.pb_text_terms.proofs.PairLemmas.{fails-where, reads-where, on-ok-where, known-exactly}
 use Rattle.pb_text_terms.proofs.ListLemmas.{listed-fails, listed-ends, listed-goes-on}
-use Rattle.pb_text_terms.proofs.ReadLemmas.{operation-fails, operation-operand-fails, operation-read, arguments-is, begun-at, inner-fails, name-is, unary-other, placed-fails, placed-read}
+use Rattle.pb_text_terms.proofs.ReadLemmas.{bound-at, operation-fails, operation-operand-fails, operation-read, arguments-is, begun-at, inner-fails, name-is, unary-other, placed-fails, placed-read}
 use Rattle.pb_text_terms.proofs.LevelLemmas.{may-above, skips-to, before-operator, operator-fails, lowest-quantified, quantified-fails, first-fails-as, first-or-fails, connects}
 use Rattle.pb_text_terms.proofs.LevelLemmas.{calculation-fails, calculation-mixed, calculation-read, connection-is}
 use Rattle.pb_text_terms.proofs.TermSteps.{IsOpened, read-at, opened-fails, opened-closes}
@@ -159,6 +159,11 @@ primary::bracketed-returns-in_err-inner t c =
     fails-on c.from_residual-in_err-inner.result c.from_residual-in_err-inner.ensures.1 c.in_err-inner.ensures
     (λ bad e. inner-fails c.args.depth c.args.input.now c.enter.new.self (tok c.in_ok-enter.field-0) bad
     c.in_ok-enter.ensures.deeper c.requires c.in_ok-enter.ensures.reads e)
+
+pub primary::quantified-returns-else-same_kind : goal.primary::quantified-returns-else-same_kind
+primary::quantified-returns-else-same_kind t c =
+    let other : same_kind (kind c.args.input.now) k.Count ≡ false = search rules in
+    read-as (ap (λ p. p c.args.input.now) (bound-at (enter c.args.depth) (below term c.args.depth) (kind c.args.input.now) other)) (omega arith) c.quantifying.ensures
 
 pub primary::unary-returns-in_ok-number-in-Number : goal.primary::unary-returns-in_ok-number-in-Number
 primary::unary-returns-in_ok-number-in-Number t c = as-read (begun-at c.args.depth c.args.input.now k.Number (search rules)) c.in_ok-number-in-Number.ensures
@@ -343,7 +348,7 @@ term::term_at-returns-in_err-whole t c =
 
 pub term::term_at-returns-then-begins_quantified : goal.term::term_at-returns-then-begins_quantified
 term::term_at-returns-then-begins_quantified t c = record {
-  reads = let both = and_parts (may_quantify c.args.limit) (is_quantifier (kind c.args.input.now)) (search rules) in
+  reads = let both = and_parts (may_quantify c.args.limit) (is_binder (kind c.args.input.now)) (search rules) in
       c.operated.ensures.reads c.args.input.now (record { reads = lowest-quantified c.args.depth c.args.input.now both.1 ∙ c.in_ok-whole.ensures.reads; fewer = λ q. c.in_ok-whole.ensures.fewer });
   fewer = search rules;
 }

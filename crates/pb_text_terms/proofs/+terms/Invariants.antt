@@ -26,7 +26,13 @@ abbrev pub decreases-primary::bracketed : goal.decreases-primary::bracketed
 decreases-primary::bracketed l = l.depth * 64
 
 abbrev pub decreases-primary::quantified : goal.decreases-primary::quantified
-decreases-primary::quantified l = l.depth * 64
+decreases-primary::quantified l = l.depth * 64 + 1
+
+abbrev pub decreases-primary::quantifying : goal.decreases-primary::quantifying
+decreases-primary::quantifying l = l.depth * 64
+
+abbrev pub decreases-primary::counting : goal.decreases-primary::counting
+decreases-primary::counting l = l.depth * 64
 
 abbrev pub decreases-instance::instance : goal.decreases-instance::instance
 decreases-instance::instance l = l.depth * 64

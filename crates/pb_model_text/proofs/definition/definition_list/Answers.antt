@@ -4,7 +4,7 @@ use Rattle.pb_base.proofs.Faults.{if_fault}
 use Rattle.pb_text_lexer.specs.Steps.{kind, nothing_between}
 use Rattle.pb_text_terms.proofs.ReaderLemmas.{error-is}
 use Rattle.pb_text_terms.proofs.ListLemmas.{listed-none, listed-fails, listed-ends, listed-goes-on}
-use Rattle.pb_model_text.specs.Reading.{definition}
+use Rattle.pb_model_text.specs.ModelReading.{definition}
 use Rattle.pb_text_formulas.specs.Reading.{is_name_kind}
 use Rattle.pb_model_text.proofs.definition.definition_list.Goals as goal
 

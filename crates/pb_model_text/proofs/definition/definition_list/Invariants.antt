@@ -2,7 +2,7 @@ use Rattle.std.proofs.Common.{length, map, vec_len}
 use Rattle.pb_protocol_tree.specs.Form.{definition_form}
 use Rattle.pb_text_lexer.specs.Steps.{nothing_between}
 use Rattle.pb_text_terms.proofs.ListLemmas.{IsListed}
-use Rattle.pb_model_text.specs.Reading.{definition, definition_list}
+use Rattle.pb_model_text.specs.ModelReading.{definition, definition_list}
 use Rattle.pb_text_formulas.specs.Reading.{is_name_kind}
 use Rattle.pb_model_text.proofs.definition.definition_list.Given as goal
 

@@ -4,7 +4,8 @@ use Rattle.pb_base.proofs.Faults.{if_fault}
 use Rattle.pb_text_lexer.specs.Steps.{kind, nothing_between}
 use Rattle.pb_text_terms.proofs.ReaderLemmas.{error-is}
 use Rattle.pb_text_terms.proofs.ListLemmas.{listed-none, listed-fails, listed-ends, listed-goes-on}
-use Rattle.pb_model_text.specs.Reading.{is_property, property}
+use Rattle.pb_model_text.specs.Reading.{is_property}
+use Rattle.pb_model_text.specs.ModelReading.{property}
 use Rattle.pb_model_text.proofs.model.properties.Goals as goal
 
 pub properties-init : goal.properties-init

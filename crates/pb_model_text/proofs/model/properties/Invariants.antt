@@ -2,7 +2,8 @@ use Rattle.std.proofs.Common.{length, map, vec_len}
 use Rattle.pb_protocol_tree.specs.Form.{property_form}
 use Rattle.pb_text_lexer.specs.Steps.{nothing_between}
 use Rattle.pb_text_terms.proofs.ListLemmas.{IsListed}
-use Rattle.pb_model_text.specs.Reading.{is_property, properties, property}
+use Rattle.pb_model_text.specs.Reading.{is_property}
+use Rattle.pb_model_text.specs.ModelReading.{properties, property}
 use Rattle.pb_model_text.proofs.model.properties.Given as goal
 
 abbrev pub invariant-properties : goal.invariant-properties

@@ -1,5 +1,5 @@
 use Rattle.std.proofs.Common.{rules, ap, Ok}
-use Rattle.pb_model_text.specs.Reading.{state_group}
+use Rattle.pb_model_text.specs.ModelReading.{state_group}
 use Rattle.pb_model_text.proofs.StateLemmas.{variables-of-sort}
 use Rattle.pb_model_text.proofs.state.state_group.Goals as goal
 

@@ -3,7 +3,7 @@ use Rattle.pb_protocol_tree.specs.Form.{state_variables_form}
 use Rattle.pb_text_lexer.specs.Steps.{take_token}
 use Rattle.pb_text_terms.specs.Reading.{is_comma}
 use Rattle.pb_text_terms.proofs.ListLemmas.{IsListed}
-use Rattle.pb_model_text.specs.Reading.{state_group, state_groups}
+use Rattle.pb_model_text.specs.ModelReading.{state_group, state_groups}
 use Rattle.pb_model_text.proofs.state.state_variables.Given as goal
 
 abbrev pub invariant-groups : goal.invariant-groups

@@ -3,7 +3,7 @@ use Rattle.pb_model_text.specs.Links.{indexed}
 use Rattle.pb_text_lexer.specs.Steps.{take_token}
 use Rattle.pb_text_terms.specs.Reading.{is_comma}
 use Rattle.pb_text_terms.proofs.ListLemmas.{IsListed}
-use Rattle.pb_model_text.specs.Reading.{indexed_name, indexed_names}
+use Rattle.pb_model_text.specs.ModelReading.{indexed_name, indexed_names}
 use Rattle.pb_model_text.proofs.state.variable_list.Given as goal
 
 abbrev pub invariant-variables : goal.invariant-variables

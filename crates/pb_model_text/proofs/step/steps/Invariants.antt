@@ -2,7 +2,7 @@ use Rattle.std.proofs.Common.{length, map, vec_len}
 use Rattle.pb_protocol_tree.specs.Form.{step_form}
 use Rattle.pb_text_lexer.specs.Steps.{nothing_between}
 use Rattle.pb_text_terms.proofs.ListLemmas.{IsListed}
-use Rattle.pb_model_text.specs.Reading.{step, steps}
+use Rattle.pb_model_text.specs.ModelReading.{step, steps}
 use Rattle.pb_text_formulas.specs.Reading.{is_name_kind}
 use Rattle.pb_model_text.proofs.step.steps.Given as goal
 

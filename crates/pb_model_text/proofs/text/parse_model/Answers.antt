@@ -19,11 +19,19 @@ returns-in_err-model-clause-stands c =
 pub returns-clause-reading : goal.returns-clause-reading
 returns-clause-reading c =
     let read = answered c.args.bytes.now c.new-input.result c.whole.result c.whole.new.input c.new-input.ensures c.whole.ensures in
-    is-reading model_syntax c.args.bytes.now _ (ranged model_syntax c.args.bytes.now c.in_ok-model.model (record c.in_ok-model.model { ranges = c.in_ok-model-2.field-0 })
+    is-reading model_syntax c.args.bytes.now _ (ranged model_syntax c.args.bytes.now c.in_ok-model.model (record c.in_ok-model.model {
+      protocol = record c.in_ok-model.model.protocol {
+        ranges = c.in_ok-model-2.field-0;
+      };
+    })
     (said model_syntax c.args.bytes.now c.whole.result read c.in_ok-model.model c.in_ok-model.ensures.cases) c.in_ok-model-2.ensures refl)
 
 pub returns-clause-only : goal.returns-clause-only
 returns-clause-only c =
     let read = answered c.args.bytes.now c.new-input.result c.whole.result c.whole.new.input c.new-input.ensures c.whole.ensures in
-    only-reading model_syntax c.args.bytes.now _ (ranged model_syntax c.args.bytes.now c.in_ok-model.model (record c.in_ok-model.model { ranges = c.in_ok-model-2.field-0 })
+    only-reading model_syntax c.args.bytes.now _ (ranged model_syntax c.args.bytes.now c.in_ok-model.model (record c.in_ok-model.model {
+      protocol = record c.in_ok-model.model.protocol {
+        ranges = c.in_ok-model-2.field-0;
+      };
+    })
     (said model_syntax c.args.bytes.now c.whole.result read c.in_ok-model.model c.in_ok-model.ensures.cases) c.in_ok-model-2.ensures refl)
